@@ -1,0 +1,110 @@
+//! The real files, and standard input under the name `-`. It tells counts alone.
+ghost use Rattle.std.specs.Prelude.{ℕ};
+ghost use Rattle.fx_base.specs.Store.{WithinLimit};
+
+use crate::{Fetched, Kept, Role, Store, Tallies, Text};
+use std::alloc::Global;
+use std::fs::File;
+use std::io::{ErrorKind, Read};
+use std::rt::Files;
+use std::{fs, io, str};
+
+/// Files of the system, through the runtime. A name that is no UTF-8 can't be opened, which is a fault.
+#[derive(Drop)]
+pub struct FileStore<R: Files + Input> {
+    rt: R,
+    counts: Tallies,
+}
+
+impl<R: Files + Input> FileStore<R> {
+    pub fn new(rt: R) -> FileStore<R> {
+        FileStore {
+            rt,
+            counts: Tallies::new(),
+        }
+    }
+
+    fn read_named(&self, alloc: Global, name: &Text, limit: u64) -> Fetched
+        ensures { WithinLimit limit result }
+    {
+        if name.as_slice() == b"-".as_slice() {
+            return read_within(alloc, &mut self.rt.reader(), limit);
+        }
+        let path = match str::from_utf8(name.as_slice()) {
+            Ok(path) => path,
+            Err(_) => return Fetched::Failed,
+        };
+        match File::open(&self.rt, path) {
+            Ok(mut file) => read_within(alloc, &mut file, limit),
+            Err(error) => failure(error),
+        }
+    }
+}
+
+/// What a failure to open or to read is answered by.
+fn failure(error: io::Error) -> Fetched
+    ensures { (limit : ℕ) → WithinLimit limit result }
+{
+    match error.kind() {
+        ErrorKind::NotFound => Fetched::Absent,
+        ErrorKind::OutOfMemory => Fetched::Memory,
+        _ => Fetched::Failed,
+    }
+}
+
+/// Reads to the end, in pieces, and stops past the limit.
+fn read_within<I: Read>(alloc: Global, input: &mut I, limit: u64) -> Fetched
+    ensures { WithinLimit limit result }
+{
+    let mut text = Text::new(alloc);
+    let mut piece = [0u8; 4096];
+    for _ in 0..u64::MAX {
+        let n = match input.read(&mut piece) {
+            Ok(n) => n,
+            Err(error) => return failure(error),
+        };
+        if n == 0 {
+            return Fetched::Got(text);
+        }
+        if n as u64 > limit - text.len() as u64 {
+            return Fetched::TooLong;
+        }
+        if text.append(&piece[..n]).is_err() {
+            return Fetched::Memory;
+        }
+    }
+    Fetched::Failed
+}
+
+impl<R: Files + Input> Store for FileStore<R> {
+    ghost use Rattle.std.specs.Prelude.{None};
+    ghost use Rattle.fx_base.specs.Tallies.{tally_of};
+
+    ghost files = { λ _. None };
+
+    ghost counts = { λ s. tally_of s.counts };
+
+    fn fetch(&mut self, alloc: Global, role: Role, name: &Text, limit: u64) -> Fetched {
+        let fetched = self.read_named(alloc, name, limit);
+        match &fetched {
+            Fetched::Absent => self.counts.miss(role),
+            Fetched::TooLong => self.counts.overrun(role),
+            Fetched::Failed => self.counts.fault(role),
+            Fetched::Got(_) | Fetched::Memory => {}
+        }
+        fetched
+    }
+
+    fn keep(&mut self, name: &Text, text: &Text) -> Kept {
+        let written = match str::from_utf8(name.as_slice()) {
+            Ok(path) => fs::write(&self.rt, path, text.as_slice()).is_ok(),
+            Err(_) => false,
+        };
+        if written {
+            Kept::Done
+        } else {
+            self.counts.fault_of_keep();
+            Kept::Failed
+        }
+    }
+}

@@ -1,0 +1,37 @@
+//! Standard output or standard error. It tells its count alone.
+use crate::tally::raised;
+use crate::{Put, Sink};
+
+/// A stream that is printed to, with the count of its faults.
+#[derive(Drop)]
+pub struct StdSink<P: Print> {
+    to: P,
+    faults: u64,
+}
+
+impl<P: Print> StdSink<P> {
+    pub fn new(to: P) -> StdSink<P> {
+        StdSink { to, faults: 0 }
+    }
+}
+
+impl<P: Print> Sink for StdSink<P> {
+    ghost use Rattle.std.specs.Prelude.{None};
+
+    ghost taken = { λ _. None };
+
+    ghost faults = { λ s. s.faults };
+
+    fn put(&mut self, piece: &[u8]) -> Put {
+        if piece.is_empty() {
+            return Put::Took(0);
+        }
+        match self.to.write_some(piece) {
+            Ok(n) if n > 0 => Put::Took(n),
+            _ => {
+                self.faults = raised(self.faults);
+                Put::Failed
+            }
+        }
+    }
+}
