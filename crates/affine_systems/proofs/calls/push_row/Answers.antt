@@ -1,0 +1,30 @@
+use Rattle.std.proofs.Common.{◌≡◌, ◌∙◌, ◌++◌, ◌∷◌, [], List, ap₂, sym, subst}
+use Rattle.std.proofs.lemmas.Result.{IfOk-weaker}
+use Rattle.affine_systems.specs.declared.row.Row.{Row}
+use Rattle.affine_systems.specs.declared.row.System.{System}
+use Rattle.affine_systems.specs.Rows.{system, AllRows}
+use Rattle.affine_systems.specs.Given.{IsGiven}
+use Rattle.affine_systems.specs.Tidy.{tidy}
+use Rattle.affine_systems.specs.Laws.{KeepsCommonPoints, AddsNoCommonPoint}
+use Rattle.affine_systems.proofs.RenameSteps.{common_keeps, common_adds_none, fits_given, given_append}
+use Rattle.affine_systems.proofs.calls.push_row.Goals as goal
+
+pub tidied-requires : goal.tidied-requires
+tidied-requires c =
+    let e : c.push.new.self.items ≡ c.args.sys.now.rows ++ c.args.row.now ∷ []
+    = c.in_ok-push.ensures.items ∙ ap₂ (λ (rs : List Row) r. rs ++ r ∷ []) (c.in_ok-rows.ensures ∙ c.as_slice.ensures) c.in_ok-copy_row.ensures in
+    record { given = subst (λ (rs : List Row). AllRows IsGiven rs) (sym e) (given_append c.args.sys.now.rows (c.args.row.now ∷ []) (fits_given c.args.sys.now.rows c.requires.fits) (c.requires.row, tt)) }
+
+pub returns-clause-keeps : goal.returns-clause-keeps
+returns-clause-keeps c =
+    let e : c.push.new.self.items ≡ c.args.sys.now.rows ++ c.args.row.now ∷ []
+    = c.in_ok-push.ensures.items ∙ ap₂ (λ (rs : List Row) r. rs ++ r ∷ []) (c.in_ok-rows.ensures ∙ c.as_slice.ensures) c.in_ok-copy_row.ensures in
+    IfOk-weaker c.tidied.result (λ (t : System). t ≡ tidy (system c.push.new.self.items c.args.sys.now.weak)) (KeepsCommonPoints c.args.sys.now.rows (c.args.row.now ∷ []))
+    (λ t h. common_keeps c.args.sys.now.rows (c.args.row.now ∷ []) c.push.new.self.items c.args.sys.now.weak t e h) c.tidied.ensures.defined
+
+pub returns-clause-adds_none : goal.returns-clause-adds_none
+returns-clause-adds_none c =
+    let e : c.push.new.self.items ≡ c.args.sys.now.rows ++ c.args.row.now ∷ []
+    = c.in_ok-push.ensures.items ∙ ap₂ (λ (rs : List Row) r. rs ++ r ∷ []) (c.in_ok-rows.ensures ∙ c.as_slice.ensures) c.in_ok-copy_row.ensures in
+    IfOk-weaker c.tidied.result (λ (t : System). t ≡ tidy (system c.push.new.self.items c.args.sys.now.weak)) (AddsNoCommonPoint c.args.sys.now.rows (c.args.row.now ∷ []))
+    (λ t h. common_adds_none c.args.sys.now.rows (c.args.row.now ∷ []) c.push.new.self.items c.args.sys.now.weak t e h) c.tidied.ensures.defined

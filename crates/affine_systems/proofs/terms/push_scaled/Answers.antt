@@ -1,0 +1,28 @@
+use Rattle.std.proofs.Common.{◌≡◌, ◌∙◌, ◌++◌, ◌<◌, ◌^◌, ◌*ℤ◌, [], pos, sym, ap, subst, get_or, SFits, to_z, of_z, to_z-of_z, rules, unsigned_abs}
+use Rattle.std.specs.Int.{w128}
+use Rattle.affine_systems.specs.declared.row.Var.TheVariants.{Cell}
+use Rattle.affine_systems.specs.Terms.{term, term_before, add_terms}
+use Rattle.affine_systems.proofs.Merges.{small_at, scaled_more, scaled_all}
+use Rattle.affine_systems.proofs.terms.push_scaled.Goals as goal
+
+pub scale-requires-clause-number : goal.scale-requires-clause-number
+scale-requires-clause-number c =
+    let x = (get_or c.args.terms.now c.loop-t.t-index (term (Cell 0) (pos 0))).factor in
+    let f : SFits w128 x = search rules in
+    subst (λ z. unsigned_abs z < 2 ^ 62) (sym (to_z-of_z f)) (small_at c.args.terms.now c.loop-t.t-index (term (Cell 0) (pos 0)) c.requires.small c.loop-t-test.true)
+
+pub loop-t-preserved : goal.loop-t-preserved
+loop-t-preserved c =
+    let t = get_or c.args.terms.now c.loop-t.t-index (term (Cell 0) (pos 0)) in
+    let f : SFits w128 t.factor = search rules in
+    let g : SFits w128 c.scale.result = search rules in
+    let p = to_z w128 (of_z w128 c.args.p) in
+    let e : to_z w128 (of_z w128 c.scale.result) ≡ p *ℤ t.factor
+    = to_z-of_z g ∙ (c.scale.ensures.value ∙ ap (λ x. p *ℤ x) (to_z-of_z f)) in
+    scaled_more c.loop-t.out.items c.push_term.new.out.items p c.args.terms.now (c.args.out.now.items ++ add_terms p c.args.terms.now []) c.loop-t.t-index (term (Cell 0) (pos 0))
+    c.loop-t-test.true c.requires.small.0 (c.in_ok-push_term.ensures ∙ ap (λ z. c.loop-t.out.items ++ term_before t.var z []) e) c.loop-t.invariant
+
+pub returns : goal.returns
+returns c =
+    scaled_all c.loop-t.out.items (to_z w128 (of_z w128 c.args.p)) c.args.terms.now (c.args.out.now.items ++ add_terms (to_z w128 (of_z w128 c.args.p)) c.args.terms.now []) c.loop-t.t-index c.loop-t-test.false c.loop-t.invariant
+    ∙ ap (λ z. c.args.out.now.items ++ add_terms z c.args.terms.now []) (to_z-of_z c.ranges.p)

@@ -1,0 +1,10 @@
+pub mod Terms
+pub mod Rows
+pub mod Points
+pub mod Normal
+pub mod Items
+pub mod Tidy
+pub mod Eliminate
+pub mod Calls
+pub mod Given
+pub mod Laws

@@ -1,0 +1,117 @@
+//! Opposite at-most rows: two that leave one number become an equal row.
+ghost use Rattle.std.specs.Prelude.{◌≡◌, ◌+ℤ◌, ℕ, true, IfOk};
+ghost use Rattle.affine_systems.specs.Given.{IsSmallRow, ItemsSmall};
+ghost use Rattle.affine_systems.specs.Items.{next_made as next_made_is};
+ghost use Rattle.affine_systems.specs.Tidy.{are_opposite as are_opposite_is, merged_row as merged_row_is, against as against_is, faced as faced_is, faced_all as faced_all_is};
+
+use crate::Row;
+use crate::false_rows::{copy_item, copy_row, false_item, next_made};
+use crate::items::Item;
+use crate::normal::last_is_negative;
+use crate::order::are_opposite;
+use std::alloc::{AllocError as Memory, Global};
+use std::cmp::Ordering;
+
+/// The side of two opposite rows whose last factor is positive, as an equal row.
+fn merged_row(alloc: Global, row: &Row, other: &Row) -> Result<Row, Memory>
+    ensures { IfOk result (λ r. r ≡ merged_row_is row.now other.now) }
+{
+    let side = if last_is_negative(row.terms.as_slice()) {
+        other
+    } else {
+        row
+    };
+    let copy = copy_row(alloc, side)?;
+    Ok(Row {
+        equal: true,
+        terms: copy.terms,
+        bound: copy.bound,
+    })
+}
+
+/// The sum of two small bounds.
+fn total(row: &Row, other: &Row) -> i128
+    requires one { IsSmallRow row.now }
+    requires two { IsSmallRow other.now }
+    ensures { result ≡ row.now.bound +ℤ other.now.bound }
+{
+    row.bound + other.bound
+}
+
+/// An item whose opposite is another; `made` is the number of a new item.
+fn against(alloc: Global, made: u64, item: &Item, other: &Item) -> Result<Item, Memory>
+    requires one { IsSmallRow item.now.row }
+    requires two { IsSmallRow other.now.row }
+    ensures { IfOk result (λ i. i ≡ against_is made item.now other.now) }
+{
+    match total(&item.row, &other.row).cmp(&0) {
+        Ordering::Less => Ok(false_item(alloc)),
+        Ordering::Equal => Ok(Item {
+            row: merged_row(alloc, &item.row, &other.row)?,
+            originals: item.originals.union(other.originals),
+            made,
+        }),
+        Ordering::Greater => copy_item(alloc, item),
+    }
+}
+
+#[tactic(auto, using(crate::proofs::ItemSteps::faced_loop))]
+/// An item against its opposite among others.
+fn faced(alloc: Global, made: u64, item: &Item, items: &[Item]) -> Result<Item, Memory>
+    requires one { IsSmallRow item.now.row }
+    requires each { ItemsSmall items.now }
+    ensures { IfOk result (λ i. i ≡ faced_is made item.now items.now) }
+{
+    for other in items {
+        if are_opposite(&item.row, &other.row) {
+            return against(alloc, made, item, other);
+        }
+    }
+    copy_item(alloc, item)
+}
+
+#[tactic(auto, using(crate::proofs::ItemSteps::stays_loop))]
+/// Whether an item has no opposite among others, or one that leaves it as it is.
+fn stays(item: &Item, items: &[Item]) -> bool
+    requires one { IsSmallRow item.now.row }
+    requires each { ItemsSmall items.now }
+    ensures { result ≡ true → (n : ℕ) → faced_is n item.now items.now ≡ item.now }
+{
+    for other in items {
+        if are_opposite(&item.row, &other.row) {
+            return total(&item.row, &other.row) > 0;
+        }
+    }
+    true
+}
+
+#[tactic(auto, using(crate::proofs::ItemSteps::all_stay_loop))]
+/// Whether each item stays as it is. Each looks at all items.
+fn all_stay(items: &[Item]) -> bool
+    requires { ItemsSmall items.now }
+    ensures { result ≡ true → (n : ℕ) → faced_all_is n items.now items.now ≡ items.now }
+{
+    for item in items {
+        if !stays(item, items) {
+            return false;
+        }
+    }
+    true
+}
+
+/// Each item against its opposite.
+pub fn face_all(alloc: Global, items: Vec<Item>) -> Result<Vec<Item>, Memory>
+    requires { ItemsSmall items.items }
+    ensures { IfOk result (λ v. v.items ≡ faced_all_is (next_made_is items.items) items.items items.items) }
+{
+    if all_stay(items.as_slice()) {
+        return Ok(items);
+    }
+    let made = next_made(items.as_slice(), items.len())?;
+    let mut out = Vec::new(alloc);
+    for i in 0..items.len() {
+        let item = faced(alloc, made + i as u64, &items[i], items.as_slice())?;
+        out.push(item)?;
+    }
+    Ok(out)
+}

@@ -1,0 +1,91 @@
+//! Rows with their originals, as elimination carries them.
+
+use crate::Row;
+pub use crate::elimination::eliminate_item;
+pub use crate::false_rows::{any_false, copy_item, copy_row};
+pub use crate::systems::{copy_rows, items_of, rows_of};
+pub use crate::tidying::tidy_items;
+use fx_lists::List;
+
+/// A set of numbers below 512.
+#[derive(Clone, Copy, PartialEq, Eq, Debug)]
+pub struct Originals {
+    pub words: [u128; 4],
+}
+
+impl Originals {
+    ghost use Rattle.std.specs.Prelude.{◌≡◌, ◌<◌};
+    ghost use Rattle.affine_systems.specs.Items.{no_originals, only_original, original_count, joined};
+
+    pub fn none() -> Originals
+        ensures { result ≡ no_originals }
+    {
+        Originals { words: [0; 4] }
+    }
+
+    /// The set of one number.
+    pub fn only(number: u32) -> Originals
+        requires { number < 512 }
+        ensures { result ≡ only_original number }
+    {
+        let bit = 1 << (number % 128);
+        let word = number / 128;
+        Originals {
+            words: [
+                if word == 0 { bit } else { 0 },
+                if word == 1 { bit } else { 0 },
+                if word == 2 { bit } else { 0 },
+                if word == 3 { bit } else { 0 },
+            ],
+        }
+    }
+
+    /// How many numbers there are.
+    pub fn len(self) -> u32
+        ensures { result ≡ original_count self }
+    {
+        let words = self.words;
+        words[0].count_ones()
+            + words[1].count_ones()
+            + words[2].count_ones()
+            + words[3].count_ones()
+    }
+
+    /// The numbers of both.
+    pub fn union(self, other: Originals) -> Originals
+        ensures { result ≡ joined self other }
+    {
+        let a = self.words;
+        let b = other.words;
+        Originals {
+            words: [a[0] | b[0], a[1] | b[1], a[2] | b[2], a[3] | b[3]],
+        }
+    }
+}
+
+/// A row, the rows that it came from, and the number of its making: of two equal rows the one made first is kept.
+#[derive(Clone, PartialEq, Eq, Debug, Drop)]
+pub struct Item {
+    pub row: Row,
+    pub originals: Originals,
+    pub made: u64,
+}
+
+pub type Items = List<Item>;
+
+/// Rows in order, and whether one was lost.
+#[derive(Clone, Debug, Drop)]
+pub struct Tidied {
+    pub items: Items,
+    pub lost: bool,
+}
+
+/// Rows without a variable; whether each point of them has its origin, whether a row was lost, and whether lower and
+/// upper rows were paired.
+#[derive(Clone, Debug, Drop)]
+pub struct Eliminated {
+    pub items: Items,
+    pub exact: bool,
+    pub lost: bool,
+    pub paired: bool,
+}

@@ -1,0 +1,24 @@
+//! Rows over whole numbers: normal form, tidying, elimination, and what these keep of the integer points.
+#![tactic(auto)]
+
+mod calls;
+mod elimination;
+mod facing;
+mod false_rows;
+mod normal;
+mod order;
+mod pivots;
+mod row;
+mod rows;
+mod sorting;
+mod systems;
+pub mod terms;
+mod tidying;
+
+pub use calls::{eliminate, meet, push_row, rename, substitute, tidy};
+pub use normal::normalise;
+pub use row::{Elim, Norm, Row, Rows, System, Term, Terms, Var, Vars};
+
+pub mod items;
+#[cfg(test)]
+mod tests;

@@ -1,0 +1,177 @@
+//! The normal form of a row.
+ghost use Rattle.std.specs.Prelude.{true, false, neg_ℤ, [], ◌≡◌, ◌<◌, List, pos, if◌then◌else◌};
+ghost use Rattle.std.specs.Int.{int_div_euclid};
+ghost use Rattle.affine_systems.specs.Terms.{negated_terms, Ascends};
+ghost use Rattle.affine_systems.specs.Given.{IsNormal};
+ghost use Rattle.affine_systems.specs.Rows.{row as row_of};
+ghost use Rattle.affine_systems.specs.Normal.{gcd as gcd_is, divisor as divisor_is, is_small as is_small_number, are_small as are_small_factors, last_is_negative as last_factor_is_negative, start_of as start_is, divided, normal, turned_divided, without_terms as without_terms_is, Answers};
+
+use crate::{Norm, Row, Term, Terms};
+
+#[tactic(auto, using(crate::proofs::GcdSteps::gcd_step, crate::proofs::GcdSteps::gcd_end))]
+/// The greatest common divisor.
+fn gcd(a: u128, b: u128) -> u128
+    ensures { result ≡ gcd_is a b }
+{
+    let mut x = a;
+    let mut y = b;
+    while y != 0 {
+        let rest = x % y;
+        x = y;
+        y = rest;
+    }
+    x
+}
+
+#[tactic(auto, using(crate::proofs::GcdSteps::divisor_loop))]
+/// What a row is divided by; at least 1.
+fn divisor(terms: &[Term], start: u128) -> u128
+    ensures defined { result ≡ divisor_is terms.now start }
+    ensures positive { 0 < result }
+{
+    let mut g = start;
+    for t in terms {
+        g = gcd(t.factor.unsigned_abs(), g);
+        if g == 1 {
+            return 1;
+        }
+    }
+    g.max(1)
+}
+
+#[tactic(auto, using(crate::proofs::ExactLaws::div_one))]
+/// The quotient rounded down.
+fn floor_div(z: i128, g: u128) -> i128
+    requires { 0 < g }
+    ensures { result ≡ int_div_euclid z (pos g) }
+{
+    if g == 1 {
+        z
+    } else if z >= 0 {
+        (z.unsigned_abs() / g) as i128
+    } else {
+        -1 - ((z.unsigned_abs() - 1) / g) as i128
+    }
+}
+
+#[tactic(auto, unfolding(crate::specs::Normal::is_small))]
+/// Whether a number is below 2^62 in magnitude.
+fn is_small(z: i128) -> bool
+    ensures { result ≡ is_small_number z }
+{
+    z.unsigned_abs() < 1 << 62
+}
+
+/// Whether the last factor is negative.
+pub fn last_is_negative(terms: &[Term]) -> bool
+    ensures { result ≡ last_factor_is_negative terms.now }
+{
+    match terms.last() {
+        Some(t) => t.factor < 0,
+        None => false,
+    }
+}
+
+/// The factors divided, each rounded down.
+fn divide(terms: &mut Terms, g: u128)
+    requires { 0 < g }
+    ensures { terms.new ≡ divided g terms.old }
+{
+    for i in 0..terms.len() {
+        let t = terms.as_slice()[i];
+        let factor = floor_div(t.factor, g);
+        terms.set(i, Term { var: t.var, factor });
+    }
+}
+
+#[tactic(auto, using(crate::proofs::Factors::negation_small))]
+/// A number with its sign turned.
+pub fn turn(z: i128) -> i128
+    requires { is_small_number z ≡ true }
+    ensures { result ≡ neg_ℤ z }
+{
+    -z
+}
+
+/// The factors with their signs turned.
+fn negate(terms: &mut Terms)
+    requires { are_small_factors terms.now ≡ true }
+    ensures { terms.new ≡ negated_terms terms.old }
+{
+    for i in 0..terms.len() {
+        let t = terms.as_slice()[i];
+        let factor = turn(t.factor);
+        terms.set(i, Term { var: t.var, factor });
+    }
+}
+
+#[tactic(auto, using(crate::proofs::Factors::are_small_divided_loop))]
+/// Whether all factors are small once they are divided.
+fn are_small_divided(terms: &[Term], g: u128) -> bool
+    requires { 0 < g }
+    ensures { result ≡ are_small_factors (divided g terms.now) }
+{
+    for t in terms {
+        if !is_small(floor_div(t.factor, g)) {
+            return false;
+        }
+    }
+    true
+}
+
+/// The answer for a row without terms.
+fn without_terms(equal: bool, bound: i128) -> Norm
+    ensures { Answers (without_terms_is equal bound) result (row_of equal [] bound) (row_of equal [] bound) }
+{
+    let holds = if equal { bound == 0 } else { bound >= 0 };
+    if holds { Norm::True } else { Norm::False }
+}
+
+#[tactic(auto, using(crate::proofs::RowSteps::turned_is))]
+/// Divides a row, and makes the last factor of an equal row positive.
+fn divide_row(row: &mut Row, g: u128)
+    requires positive { 0 < g }
+    requires factors { are_small_factors (divided g row.now.terms) ≡ true }
+    requires bound { is_small_number (int_div_euclid row.now.bound (pos g)) ≡ true }
+    ensures { row.new ≡ turned_divided g row.old }
+{
+    divide(&mut row.terms, g);
+    row.bound = floor_div(row.bound, g);
+    if row.equal && last_is_negative(row.terms.as_slice()) {
+        negate(&mut row.terms);
+        row.bound = turn(row.bound);
+    }
+}
+
+/// Where the gcd of the factors starts.
+fn start_of(rational: bool, bound: i128) -> u128
+    ensures { result ≡ start_is rational bound }
+{
+    if rational { bound.unsigned_abs() } else { 0 }
+}
+
+/// The normal form; that of a rational row is never rounded. The row stays where it is not kept.
+pub fn normalise_as(rational: bool, row: &mut Row) -> Norm
+    ensures { Answers (normal rational row.old) result row.old row.new }
+{
+    if row.terms.is_empty() {
+        return without_terms(row.equal, row.bound);
+    }
+    let g = divisor(row.terms.as_slice(), start_of(rational, row.bound));
+    if row.equal && row.bound.unsigned_abs() % g != 0 {
+        return Norm::False;
+    }
+    if !is_small(floor_div(row.bound, g)) || !are_small_divided(row.terms.as_slice(), g) {
+        return Norm::TooBig;
+    }
+    divide_row(row, g);
+    Norm::Kept
+}
+
+/// The normal form. The row stays where it is not kept. Takes no memory.
+pub fn normalise(row: &mut Row) -> Norm
+    ensures defined { Answers (normal false row.old) result row.old row.new }
+    ensures gives { result ≡ Norm.Kept → Ascends row.old.terms → IsNormal row.new }
+{
+    normalise_as(false, row)
+}
