@@ -1,0 +1,24 @@
+//! The grammar of expressions: the tree at the front of a stripped statement.
+#![tactic(auto)]
+
+mod at;
+mod build;
+mod constants;
+mod expr;
+mod laws;
+mod names;
+mod numbers;
+mod operators;
+mod unread;
+
+pub use at::{At, Notes, before};
+pub use build::unary;
+pub use constants::{constant, constant_at};
+pub use expr::{expression, variable};
+pub use laws::{depth_is_enough, grammar_has_no_depth};
+pub use names::name_at;
+pub use numbers::{digit_first, label_at, literal, number, number_first, skip_digits};
+pub use unread::{Reading, Unread};
+
+#[cfg(test)]
+mod tests;

@@ -1,0 +1,58 @@
+//! Names.
+ghost use Rattle.std.specs.Prelude.{◌≡◌, ℕ};
+ghost use Rattle.f77_exprs.specs.State.{state, GivesAs};
+ghost use Rattle.f77_exprs.specs.Lexical.{in_name, letter_first, skip_name, name_at};
+
+use crate::at::before;
+use crate::unread::Reading;
+use crate::{At, Notes, Unread};
+use fx_lists::Text;
+use std::alloc::Global;
+
+fn in_name(c: u8) -> bool
+    ensures { result ≡ in_name c }
+{
+    c.is_ascii_uppercase() || c.is_ascii_digit() || c == b'_'
+}
+
+fn letter_first(text: &[u8]) -> bool
+    ensures { result ≡ letter_first text.now }
+{
+    match text {
+        [] => false,
+        [c, ..] => c.is_ascii_uppercase(),
+    }
+}
+
+/// What is left after the characters of a name.
+fn skip_name(text: &[u8]) -> &[u8]
+    ensures { result.now ≡ skip_name text.now }
+{
+    let mut rest = text;
+    while let [c, more @ ..] = rest {
+        if !in_name(*c) {
+            return rest;
+        }
+        rest = more;
+    }
+    rest
+}
+
+/// A name: a letter, and letters, digits and `_` behind it. More than 31 of them are noted.
+#[tactic(auto, unfolding(crate::specs::Lexical::name_at))]
+pub fn name_at(alloc: Global, at: At<'_>) -> Reading<'_, Text>
+    ensures { GivesAs (λ n. n) result (name_at (state at.entry)) }
+{
+    if !letter_first(at.rest) {
+        return Err(Unread::Syntax);
+    }
+    let rest = skip_name(at.rest);
+    let front = before(at.rest, rest);
+    let name = Text::from_bytes(alloc, front)?;
+    let notes = Notes {
+        real: at.notes.real,
+        big: at.notes.big,
+        long: at.notes.long || front.len() > 31,
+    };
+    Ok((name, At { rest, notes }))
+}

@@ -1,0 +1,42 @@
+//! Words at the front of a text.
+
+ghost use Rattle.std.specs.Prelude.{◌≡◌};
+ghost use Rattle.f77_forms.specs.Words.{behind, slice_now, begins, is_letter, is_digit};
+
+/// What stands behind a word at the front, or `None` where the text begins otherwise.
+#[tactic(auto, using(crate::proofs::WordLemmas::behind_end))]
+pub fn behind<'a>(word: &[u8], text: &'a [u8]) -> Option<&'a [u8]>
+    ensures { slice_now result ≡ behind word.now text.now }
+{
+    let mut rest = text;
+    for w in word {
+        match rest {
+            [c, more @ ..] => {
+                if *c != *w {
+                    return None;
+                }
+                rest = more;
+            }
+            [] => return None,
+        }
+    }
+    Some(rest)
+}
+
+pub fn begins(word: &[u8], text: &[u8]) -> bool
+    ensures { result ≡ begins word.now text.now }
+{
+    behind(word, text).is_some()
+}
+
+pub fn is_letter(c: u8) -> bool
+    ensures { result ≡ is_letter c }
+{
+    c >= b'A' && c <= b'Z'
+}
+
+pub fn is_digit(c: u8) -> bool
+    ensures { result ≡ is_digit c }
+{
+    c >= b'0' && c <= b'9'
+}

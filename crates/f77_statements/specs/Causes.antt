@@ -1,0 +1,28 @@
+-- Why a statement is refused: the lowest cause.
+use Rattle.std.specs.Prelude.{ℕ, List, [], ◌∷◌, Option, Some, None, Result, Ok, Err, if◌then◌else◌}
+use Rattle.f77_exprs.specs.declared.at.Notes.{Notes}
+use Rattle.f77_exprs.specs.State.{State}
+use Rattle.f77_statements.specs.declared.refusal.Cause.{Cause}
+use Rattle.f77_statements.specs.declared.refusal.Cause.TheVariants.{Syntax, OutOfProfile, RealConstant, NumberTooBig, NameTooLong}
+
+-- the numbers by which causes are reported
+abbrev pub number_of : Cause → ℕ
+number_of Syntax = 10
+number_of (OutOfProfile keyword) = 11
+number_of RealConstant = 12
+number_of NumberTooBig = 13
+number_of NameTooLong = 14
+
+-- the lowest cause that was noted
+abbrev pub noted : {A : Type 0} → Notes → A → Result A Cause
+noted n a = if n.real then Err RealConstant else if n.big then Err NumberTooBig else if n.long then Err NameTooLong else Ok a
+
+-- nothing may be left
+abbrev pub finished : {A : Type 0} → List ℕ → Notes → A → Result A Cause
+finished [] n a = noted n a
+finished (c ∷ cs) n a = Err Syntax
+
+-- what a reading of the whole statement gives
+abbrev pub verdict : {A : Type 0} → Option (A × State) → Result A Cause
+verdict None = Err Syntax
+verdict (Some r) = finished r.1.rest r.1.notes r.0

@@ -1,0 +1,130 @@
+//! The first lines of modules, IF and DO.
+ghost use Rattle.std.specs.Prelude.{◌≡◌, ◌≤◌, ℕ, length, option_map, IfOk};
+ghost use Rattle.f77_ast.specs.Plain.{expr_tree};
+ghost use Rattle.f77_ast.specs.PlainStmt.{maybe_tree};
+ghost use Rattle.f77_exprs.specs.State.{state, GivesAs, GivesExpr};
+ghost use Rattle.f77_statements.specs.Phrases.{phrase_tree, do_tree};
+ghost use Rattle.f77_statements.specs.Statements.{program_statement, subroutine_statement, test, block_if_statement, else_if_statement, terminal, some_step, step, range, do_statement};
+
+use crate::lists::{maybe_enclosed, past_comma};
+use crate::parts::Names;
+use crate::phrase::{DoHead, Phrase};
+use f77_ast::Expr;
+use f77_exprs::{At, Reading, digit_first, expression, label_at, name_at};
+use std::alloc::Global;
+
+#[tactic(auto, unfolding(crate::specs::Statements::program_statement))]
+pub fn program_statement(alloc: Global, at: At<'_>) -> Reading<'_, Phrase>
+    ensures { GivesAs phrase_tree result (program_statement (state at.entry)) }
+{
+    let at = at.need_word(b"PROGRAM")?;
+    let (name, at) = name_at(alloc, at)?;
+    Ok((Phrase::Program(name), at))
+}
+
+/// `SUBROUTINEn[([d,..])]`
+#[tactic(auto, unfolding(crate::specs::Statements::subroutine_statement))]
+pub fn subroutine_statement(alloc: Global, at: At<'_>) -> Reading<'_, Phrase>
+    ensures { GivesAs phrase_tree result (subroutine_statement (state at.entry)) }
+{
+    let at = at.need_word(b"SUBROUTINE")?;
+    let (name, at) = name_at(alloc, at)?;
+    let (dummies, at) = maybe_enclosed::<Names>(alloc, at)?;
+    Ok((Phrase::Subroutine(name, dummies), at))
+}
+
+/// A test behind its opening parenthesis.
+#[tactic(auto, unfolding(crate::specs::Statements::test, crate::specs::Lists::ending))]
+pub fn test(alloc: Global, at: At<'_>) -> Reading<'_, Expr>
+    ensures defined { GivesExpr result (test (state at.entry)) }
+    ensures shorter { IfOk result (λ x. length x.1.rest.now ≤ length at.entry.rest.now) }
+{
+    let (tree, at) = expression(alloc, at)?;
+    let at = at.need_word(b")")?;
+    Ok((tree, at))
+}
+
+/// `IF(e)THEN`
+#[tactic(auto, unfolding(crate::specs::Statements::block_if_statement))]
+pub fn block_if_statement(alloc: Global, at: At<'_>) -> Reading<'_, Phrase>
+    ensures { GivesAs phrase_tree result (block_if_statement (state at.entry)) }
+{
+    let at = at.need_word(b"IF(")?;
+    let (tree, at) = test(alloc, at)?;
+    let at = at.need_word(b"THEN")?;
+    Ok((Phrase::BlockIf(tree), at))
+}
+
+/// `ELSEIF(e)THEN`
+#[tactic(auto, unfolding(crate::specs::Statements::else_if_statement))]
+pub fn else_if_statement(alloc: Global, at: At<'_>) -> Reading<'_, Phrase>
+    ensures { GivesAs phrase_tree result (else_if_statement (state at.entry)) }
+{
+    let at = at.need_word(b"ELSEIF(")?;
+    let (tree, at) = test(alloc, at)?;
+    let at = at.need_word(b"THEN")?;
+    Ok((Phrase::ElseIf(tree), at))
+}
+
+/// The label of the last statement of a DO and a comma, neither of which need be there.
+#[tactic(auto, unfolding(crate::specs::Statements::terminal))]
+fn terminal(at: At<'_>) -> Reading<'_, Option<u32>>
+    ensures { GivesAs (λ l. l) result (terminal (state at.entry)) }
+{
+    if digit_first(at.rest) {
+        let (label, at) = label_at(at)?;
+        Ok((Some(label), past_comma(at)))
+    } else {
+        Ok((None, at))
+    }
+}
+
+#[tactic(auto, unfolding(crate::specs::Statements::some_step))]
+fn some_step(alloc: Global, at: At<'_>) -> Reading<'_, Option<Expr>>
+    ensures { GivesAs maybe_tree result (some_step (state at.entry)) }
+{
+    let (step, at) = expression(alloc, at)?;
+    Ok((Some(step), at))
+}
+
+/// The step behind a comma, which need not be there.
+#[tactic(auto, unfolding(crate::specs::Statements::step))]
+fn step(alloc: Global, at: At<'_>) -> Reading<'_, Option<Expr>>
+    ensures { GivesAs maybe_tree result (step (state at.entry)) }
+{
+    match at.take_word(b",") {
+        None => Ok((None, at)),
+        Some(rest) => some_step(alloc, rest),
+    }
+}
+
+/// The index of a DO and its values.
+#[tactic(auto, unfolding(crate::specs::Statements::range))]
+fn range<'a>(alloc: Global, label: Option<u32>, at: At<'a>) -> Reading<'a, Phrase>
+    ensures { GivesAs phrase_tree result (range label (state at.entry)) }
+{
+    let (index, at) = name_at(alloc, at)?;
+    let at = at.need_word(b"=")?;
+    let (first, at) = expression(alloc, at)?;
+    let at = at.need_word(b",")?;
+    let (last, at) = expression(alloc, at)?;
+    let (step, at) = step(alloc, at)?;
+    let head = DoHead {
+        label,
+        index,
+        first,
+        last,
+        step,
+    };
+    Ok((Phrase::Do(head), at))
+}
+
+/// `DO[l[,]]i=e,e[,e]`
+#[tactic(auto, unfolding(crate::specs::Statements::do_statement))]
+pub fn do_statement(alloc: Global, at: At<'_>) -> Reading<'_, Phrase>
+    ensures { GivesAs phrase_tree result (do_statement (state at.entry)) }
+{
+    let at = at.need_word(b"DO")?;
+    let (label, at) = terminal(at)?;
+    range(alloc, label, at)
+}

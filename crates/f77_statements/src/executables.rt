@@ -1,0 +1,181 @@
+//! Executable statements that open and close no block.
+ghost use Rattle.std.specs.Prelude.{◌≡◌, ℕ};
+ghost use Rattle.f77_ast.specs.PlainStmt.{what_tree};
+ghost use Rattle.f77_exprs.specs.State.{state, GivesAs};
+ghost use Rattle.f77_statements.specs.Executables.{assignment, call_statement, goto_statement, continue_statement, return_statement, five_digits, message, stop_text, stop_statement, print_statement, written, write_statement, read_listed, read_left, read_statement};
+
+use crate::lists::{items_left, maybe_enclosed, maybe_listed};
+use crate::parts::{Expressions, Variables};
+use f77_ast::What;
+use f77_exprs::{
+    At, Reading, Unread, before, constant, digit_first, expression, label_at, name_at, skip_digits,
+    variable,
+};
+use fx_lists::Text;
+use std::alloc::Global;
+
+/// `v=e`
+#[tactic(auto, using(f77_ast::proofs::PlainlyStmt::what_cases), unfolding(crate::specs::Executables::assignment))]
+pub fn assignment(alloc: Global, at: At<'_>) -> Reading<'_, What>
+    ensures { GivesAs what_tree result (assignment (state at.entry)) }
+{
+    let (left, at) = variable(alloc, at)?;
+    let at = at.need_word(b"=")?;
+    let (value, at) = expression(alloc, at)?;
+    Ok((What::Assign(left, value), at))
+}
+
+/// `CALLn[([a,..])]`
+#[tactic(auto, using(f77_ast::proofs::PlainlyStmt::what_cases), unfolding(crate::specs::Executables::call_statement))]
+pub fn call_statement(alloc: Global, at: At<'_>) -> Reading<'_, What>
+    ensures { GivesAs what_tree result (call_statement (state at.entry)) }
+{
+    let at = at.need_word(b"CALL")?;
+    let (name, at) = name_at(alloc, at)?;
+    let (actuals, at) = maybe_enclosed::<Expressions>(alloc, at)?;
+    Ok((What::Call(name, actuals), at))
+}
+
+/// `GOTOl`
+#[tactic(auto, using(f77_ast::proofs::PlainlyStmt::what_cases), unfolding(crate::specs::Executables::goto_statement))]
+pub fn goto_statement(_alloc: Global, at: At<'_>) -> Reading<'_, What>
+    ensures { GivesAs what_tree result (goto_statement (state at.entry)) }
+{
+    let at = at.need_word(b"GOTO")?;
+    let (label, at) = label_at(at)?;
+    Ok((What::Goto(label), at))
+}
+
+#[tactic(auto, using(f77_ast::proofs::PlainlyStmt::what_cases), unfolding(crate::specs::Executables::continue_statement))]
+pub fn continue_statement(_alloc: Global, at: At<'_>) -> Reading<'_, What>
+    ensures { GivesAs what_tree result (continue_statement (state at.entry)) }
+{
+    let at = at.need_word(b"CONTINUE")?;
+    Ok((What::Continue, at))
+}
+
+#[tactic(auto, using(f77_ast::proofs::PlainlyStmt::what_cases), unfolding(crate::specs::Executables::return_statement))]
+pub fn return_statement(_alloc: Global, at: At<'_>) -> Reading<'_, What>
+    ensures { GivesAs what_tree result (return_statement (state at.entry)) }
+{
+    let at = at.need_word(b"RETURN")?;
+    Ok((What::Return, at))
+}
+
+/// Up to five digits, as they are written.
+#[tactic(auto, unfolding(crate::specs::Executables::five_digits))]
+fn five_digits(alloc: Global, at: At<'_>) -> Reading<'_, Option<Text>>
+    ensures { GivesAs (λ t. t) result (five_digits (state at.entry)) }
+{
+    if !digit_first(at.rest) {
+        return Err(Unread::Syntax);
+    }
+    let rest = skip_digits(at.rest);
+    let digits = before(at.rest, rest);
+    if digits.len() > 5 {
+        return Err(Unread::Syntax);
+    }
+    let text = Text::from_bytes(alloc, digits)?;
+    let notes = at.notes;
+    Ok((Some(text), At { rest, notes }))
+}
+
+/// A character constant behind its first apostrophe, with all its apostrophes as `text` has them.
+#[tactic(auto, unfolding(crate::specs::Executables::message))]
+fn message<'a>(alloc: Global, text: &'a [u8], at: At<'a>) -> Reading<'a, Option<Text>>
+    ensures { GivesAs (λ t. t) result (message text.now (state at.entry)) }
+{
+    let (_, rest) = constant(alloc, at.rest)?;
+    let message = Text::from_bytes(alloc, before(text, rest))?;
+    let notes = at.notes;
+    Ok((Some(message), At { rest, notes }))
+}
+
+/// Nothing, up to five digits, or a character constant.
+#[tactic(auto, unfolding(crate::specs::Executables::stop_text))]
+fn stop_text(alloc: Global, at: At<'_>) -> Reading<'_, Option<Text>>
+    ensures { GivesAs (λ t. t) result (stop_text (state at.entry)) }
+{
+    match at.rest {
+        [] => Ok((None, at)),
+        [_, ..] => match at.take_word(b"'") {
+            Some(rest) => message(alloc, at.rest, rest),
+            None => five_digits(alloc, at),
+        },
+    }
+}
+
+#[tactic(auto, using(f77_ast::proofs::PlainlyStmt::what_cases), unfolding(crate::specs::Executables::stop_statement))]
+pub fn stop_statement(alloc: Global, at: At<'_>) -> Reading<'_, What>
+    ensures { GivesAs what_tree result (stop_statement (state at.entry)) }
+{
+    let at = at.need_word(b"STOP")?;
+    let (text, at) = stop_text(alloc, at)?;
+    Ok((What::Stop(text), at))
+}
+
+/// `PRINT*[,list]`
+#[tactic(auto, using(f77_ast::proofs::PlainlyStmt::what_cases), unfolding(crate::specs::Executables::print_statement))]
+pub fn print_statement(alloc: Global, at: At<'_>) -> Reading<'_, What>
+    ensures { GivesAs what_tree result (print_statement (state at.entry)) }
+{
+    let at = at.need_word(b"PRINT*")?;
+    let (items, at) = maybe_listed::<Expressions>(alloc, at)?;
+    Ok((What::Print(items), at))
+}
+
+/// The list of a WRITE, which is read as PRINT.
+#[tactic(auto, using(f77_ast::proofs::PlainlyStmt::what_cases), unfolding(crate::specs::Executables::written))]
+fn written(alloc: Global, at: At<'_>) -> Reading<'_, What>
+    ensures { GivesAs what_tree result (written (state at.entry)) }
+{
+    let (items, at) = items_left::<Expressions>(alloc, at)?;
+    Ok((What::Print(items), at))
+}
+
+/// `WRITE(*,*)[list]` and `WRITE(6,*)[list]`
+#[tactic(auto, unfolding(crate::specs::Executables::write_statement))]
+pub fn write_statement(alloc: Global, at: At<'_>) -> Reading<'_, What>
+    ensures { GivesAs what_tree result (write_statement (state at.entry)) }
+{
+    if let Some(rest) = at.take_word(b"WRITE(*,*)") {
+        return written(alloc, rest);
+    }
+    if let Some(rest) = at.take_word(b"WRITE(6,*)") {
+        return written(alloc, rest);
+    }
+    Err(Unread::Syntax)
+}
+
+#[tactic(auto, using(f77_ast::proofs::PlainlyStmt::what_cases), unfolding(crate::specs::Executables::read_listed))]
+fn read_listed(alloc: Global, at: At<'_>) -> Reading<'_, What>
+    ensures { GivesAs what_tree result (read_listed (state at.entry)) }
+{
+    let (items, at) = maybe_listed::<Variables>(alloc, at)?;
+    Ok((What::Read(items), at))
+}
+
+#[tactic(auto, using(f77_ast::proofs::PlainlyStmt::what_cases), unfolding(crate::specs::Executables::read_left))]
+fn read_left(alloc: Global, at: At<'_>) -> Reading<'_, What>
+    ensures { GivesAs what_tree result (read_left (state at.entry)) }
+{
+    let (items, at) = items_left::<Variables>(alloc, at)?;
+    Ok((What::Read(items), at))
+}
+
+/// `READ*[,list]`, `READ(*,*)[list]` and `READ(5,*)[list]`
+#[tactic(auto, unfolding(crate::specs::Executables::read_statement))]
+pub fn read_statement(alloc: Global, at: At<'_>) -> Reading<'_, What>
+    ensures { GivesAs what_tree result (read_statement (state at.entry)) }
+{
+    if let Some(rest) = at.take_word(b"READ*") {
+        return read_listed(alloc, rest);
+    }
+    if let Some(rest) = at.take_word(b"READ(*,*)") {
+        return read_left(alloc, rest);
+    }
+    if let Some(rest) = at.take_word(b"READ(5,*)") {
+        return read_left(alloc, rest);
+    }
+    Err(Unread::Syntax)
+}

@@ -1,0 +1,159 @@
+//! Lists of what a rule reads.
+ghost use Rattle.std.specs.Prelude.{◌≡◌, ℕ, [], length, map, option_map, codes};
+ghost use Rattle.f77_exprs.specs.State.{state, take_word, GivesAs};
+ghost use Rattle.f77_exprs.specs.Grammar.{more_by, items_by, items, comma};
+ghost use Rattle.f77_statements.specs.Lists.{past_comma, ending, items_left, enclosed, maybe_enclosed, maybe_listed};
+
+use f77_exprs::{At, Reading};
+use fx_lists::List;
+use std::alloc::Global;
+
+/// A rule of the grammar, as a type without values that is named by what the rule reads.
+pub trait Rule {
+    ghost use Rattle.f77_exprs.specs.State.{Reader};
+
+    type Value: Drop;
+
+    ghost Tree: { Type 0 };
+
+    ghost tree: { Self.Value → Tree };
+
+    ghost rule: { Reader Tree };
+
+    fn read<'a>(alloc: Global, at: At<'a>) -> Reading<'a, Self::Value>
+        ensures { GivesAs tree result (rule (state at.entry)) };
+}
+
+/// What stands between two items of a list.
+pub trait Separator {
+    ghost use Rattle.f77_exprs.specs.Grammar.{Between};
+
+    ghost between: { Between };
+
+    /// Where the next item begins.
+    fn next<'a>(at: At<'a>) -> Option<At<'a>>
+        ensures { option_map state result ≡ between (state at.entry) };
+}
+
+pub enum Comma {}
+
+impl Separator for Comma {
+    ghost between = { comma };
+
+    fn next<'a>(at: At<'a>) -> Option<At<'a>> {
+        at.take_word(b",")
+    }
+}
+
+/// What follows a comma, which need not be there.
+pub fn past_comma(at: At<'_>) -> At<'_>
+    ensures { state result ≡ past_comma (state at.entry) }
+{
+    match at.take_word(b",") {
+        None => at,
+        Some(rest) => rest,
+    }
+}
+
+/// Further items behind those that were found.
+#[tactic(auto, using(f77_exprs::proofs::Chains::items_steps))]
+pub fn more<'a, R: Rule, S: Separator>(
+    alloc: Global,
+    found: List<R::Value>,
+    at: At<'a>,
+) -> Reading<'a, List<R::Value>>
+    ensures { GivesAs (map R.tree) result
+        (more_by S.between R.rule (length at.entry.rest.now) (map R.tree found) (state at.entry)) }
+{
+    let mut found = found;
+    let mut at = at;
+    let mut turns = at.rest.len();
+    while turns > 0 {
+        match S::next(at) {
+            None => return Ok((found, at)),
+            Some(rest) => {
+                let (item, rest) = R::read(alloc, rest)?;
+                found.push(item)?;
+                at = rest;
+                turns -= 1;
+            }
+        }
+    }
+    Ok((found, at))
+}
+
+/// One or more items with a separator between them.
+#[tactic(auto, unfolding(f77_exprs::specs::Grammar::items_by))]
+pub fn items_by<'a, R: Rule, S: Separator>(alloc: Global, at: At<'a>) -> Reading<'a, List<R::Value>>
+    ensures { GivesAs (map R.tree) result (items_by S.between R.rule (state at.entry)) }
+{
+    let (first, at) = R::read(alloc, at)?;
+    let mut found = List::new(alloc);
+    found.push(first)?;
+    more::<R, S>(alloc, found, at)
+}
+
+/// One or more items with commas between them.
+pub fn items<'a, R: Rule>(alloc: Global, at: At<'a>) -> Reading<'a, List<R::Value>>
+    ensures { GivesAs (map R.tree) result (items R.rule (state at.entry)) }
+{
+    items_by::<R, Comma>(alloc, at)
+}
+
+/// Items, and a word behind them.
+#[tactic(auto, unfolding(crate::specs::Lists::ending))]
+pub fn items_before<'a, R: Rule>(
+    alloc: Global,
+    word: &[u8],
+    at: At<'a>,
+) -> Reading<'a, List<R::Value>>
+    ensures { GivesAs (map R.tree) result (ending word.now (items R.rule) (state at.entry)) }
+{
+    let (found, at) = items::<R>(alloc, at)?;
+    let at = at.need_word(word)?;
+    Ok((found, at))
+}
+
+/// Items up to the end of the statement, and none at its end.
+#[tactic(auto, unfolding(crate::specs::Lists::items_left))]
+pub fn items_left<'a, R: Rule>(alloc: Global, at: At<'a>) -> Reading<'a, List<R::Value>>
+    ensures { GivesAs (map R.tree) result (items_left R.rule (state at.entry)) }
+{
+    match at.rest {
+        [] => Ok((List::new(alloc), at)),
+        [_, ..] => items::<R>(alloc, at),
+    }
+}
+
+/// Items behind their opening parenthesis, of which there may be none.
+#[tactic(auto, unfolding(crate::specs::Lists::enclosed))]
+fn enclosed<'a, R: Rule>(alloc: Global, at: At<'a>) -> Reading<'a, List<R::Value>>
+    ensures { GivesAs (map R.tree) result (enclosed R.rule (state at.entry)) }
+{
+    match at.take_word(b")") {
+        Some(rest) => Ok((List::new(alloc), rest)),
+        None => items_before::<R>(alloc, b")", at),
+    }
+}
+
+/// Items in parentheses, which need not be there.
+#[tactic(auto, unfolding(crate::specs::Lists::maybe_enclosed))]
+pub fn maybe_enclosed<'a, R: Rule>(alloc: Global, at: At<'a>) -> Reading<'a, List<R::Value>>
+    ensures { GivesAs (map R.tree) result (maybe_enclosed R.rule (state at.entry)) }
+{
+    match at.take_word(b"(") {
+        None => Ok((List::new(alloc), at)),
+        Some(rest) => enclosed::<R>(alloc, rest),
+    }
+}
+
+/// Items behind a comma, which need not be there.
+#[tactic(auto, unfolding(crate::specs::Lists::maybe_listed))]
+pub fn maybe_listed<'a, R: Rule>(alloc: Global, at: At<'a>) -> Reading<'a, List<R::Value>>
+    ensures { GivesAs (map R.tree) result (maybe_listed R.rule (state at.entry)) }
+{
+    match at.take_word(b",") {
+        None => Ok((List::new(alloc), at)),
+        Some(rest) => items::<R>(alloc, rest),
+    }
+}

@@ -1,0 +1,17 @@
+-- Lemmas on labels.
+use Rattle.std.proofs.Common.{◌≡◌, ℕ, suc, zero, ◌<◌, ◌≤◌, ◌+◌, ◌*◌, ◌^◌, arith, add-one}
+use Rattle.std.proofs.Math.Nat.{pow-succ'}
+
+pub power-more : (i : ℕ) → 10 ^ (i + 1) ≡ 10 * 10 ^ i
+power-more i = rw add-one (pow-succ' 10 i)
+
+-- a label has at most five digits
+pub power-small : (i : ℕ) → i < 5 → 10 ^ i ≤ 10000
+power-small zero h = omega arith
+power-small (suc zero) h = omega arith
+power-small (suc (suc zero)) h = omega arith
+power-small (suc (suc (suc zero))) h = omega arith
+power-small (suc (suc (suc (suc zero)))) h = omega arith
+power-small (suc (suc (suc (suc (suc n))))) h = absurd (omega arith)
+
+pub ruleset digit_steps = (power-more, power-small)

@@ -1,0 +1,17 @@
+//! Fixed form: the statements and comments of a text, or the first line that breaks the form.
+#![tactic(auto)]
+
+mod cards;
+mod fault;
+mod label;
+mod line;
+mod progress;
+mod read;
+mod strip;
+mod text_lines;
+
+pub use line::{Line, Lines, ReadRefusal};
+pub use read::statements;
+
+#[cfg(test)]
+mod tests;

@@ -1,0 +1,72 @@
+//! The characters that columns give to a statement.
+
+ghost use Rattle.std.specs.Prelude.{◌≡◌, ◌++◌, IfOk, OnOk};
+ghost use Rattle.std.specs.List.{list_all, list_any};
+ghost use Rattle.fixed_form.specs.Characters.{is_space, is_tab, is_allowed, folded};
+ghost use Rattle.fixed_form.specs.Body.{stripped, quoted_behind, quoted_after, has_tab};
+
+use fx_lists::Text;
+use std::alloc::AllocError as Memory;
+
+fn folded(b: u8) -> u8
+    ensures { result ≡ folded b }
+{
+    if b >= b'a' && b <= b'z' { b - 32 } else { b }
+}
+
+fn quoted_behind(quoted: bool, b: u8) -> bool
+    ensures { result ≡ quoted_behind quoted b }
+{
+    if b == b'\'' { !quoted } else { quoted }
+}
+
+/// Appends the columns, without blanks and in capitals outside constants, and says whether a constant is open behind them.
+pub fn strip(body: &mut Text, quoted: bool, columns: &[u8]) -> Result<bool, Memory>
+    ensures ok { OnOk result (body.new ≡ body.old ++ stripped quoted columns.now) }
+    ensures quoted { IfOk result (λ q. q ≡ quoted_after quoted columns.now) }
+{
+    let mut inside = quoted;
+    for b in columns {
+        if inside {
+            body.push(*b)?;
+        } else if *b != b' ' {
+            body.push(folded(*b))?;
+        }
+        inside = quoted_behind(inside, *b);
+    }
+    Ok(inside)
+}
+
+/// Whether a tab stands outside constants.
+pub fn has_tab(quoted: bool, columns: &[u8]) -> bool
+    ensures { result ≡ has_tab quoted columns.now }
+{
+    let mut inside = quoted;
+    for b in columns {
+        if *b == b'\t' && !inside {
+            return true;
+        }
+        inside = quoted_behind(inside, *b);
+    }
+    false
+}
+
+pub fn all_allowed(columns: &[u8]) -> bool
+    ensures { result ≡ list_all is_allowed columns.now }
+{
+    columns
+        .iter()
+        .all(|b| (*b >= b' ' && *b <= b'~') || *b == b'\t')
+}
+
+pub fn any_tab(columns: &[u8]) -> bool
+    ensures { result ≡ list_any is_tab columns.now }
+{
+    columns.iter().any(|b| *b == b'\t')
+}
+
+pub fn all_spaces(columns: &[u8]) -> bool
+    ensures { result ≡ list_all is_space columns.now }
+{
+    columns.iter().all(|b| *b == b' ')
+}
