@@ -1,0 +1,4 @@
+pub mod ExprText
+pub mod StatementText
+pub mod DeclText
+pub mod Layout
