@@ -1,0 +1,12 @@
+mod Example
+pub mod FormLaws
+pub mod ValueLaws
+pub mod ApplyLaws
+pub mod StatementLaws
+pub mod RunLaws
+pub mod TransformerLaws
+pub mod NumbersLaws
+pub mod TextLaws
+pub mod SmallLaws
+pub mod RowLaws
+pub mod ListLaws

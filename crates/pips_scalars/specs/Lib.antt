@@ -1,0 +1,7 @@
+pub mod Affine
+pub mod Transformers
+pub mod Preconditions
+pub mod SystemText
+pub mod Claim
+pub mod TransformerClaim
+pub mod Numbers

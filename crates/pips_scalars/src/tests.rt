@@ -1,0 +1,123 @@
+//! Texts of systems, and each call with ample memory.
+use crate::{
+    Affine, Variables, affine_of, apply, no_rows, post, precondition_line, preconditions,
+    statement_transformer, system_text,
+};
+use affine_systems::{Row, System, Term, Var};
+use f77_ast::{BinaryOp, Expr, Stmt, What};
+use fx_lists::{List, Text};
+use std::alloc::{AllocError as Memory, Global};
+use std::test::Fail;
+
+fn name(alloc: Global, s: &[u8]) -> Result<Expr, Memory> {
+    Ok(Expr::Name(Text::from_bytes(alloc, s)?))
+}
+
+/// `2*I-7`
+fn form(alloc: Global) -> Result<Expr, Memory> {
+    let i = Box::new(alloc, name(alloc, b"I")?)?;
+    let two = Box::new(alloc, Expr::Int(2))?;
+    let product = Box::new(alloc, Expr::Binary(BinaryOp::Mul, two, i))?;
+    let seven = Box::new(alloc, Expr::Int(7))?;
+    Ok(Expr::Binary(BinaryOp::Sub, product, seven))
+}
+
+fn assign(alloc: Global, id: u32, left: &[u8], right: Expr) -> Result<Stmt, Memory> {
+    Ok(Stmt {
+        id,
+        label: None,
+        what: What::Assign(name(alloc, left)?, right),
+    })
+}
+
+/// `J=2*I-7` and `I=4`
+fn body(alloc: Global) -> Result<List<Stmt>, Memory> {
+    let mut body = List::new(alloc);
+    body.push(assign(alloc, 1, b"J", form(alloc)?)?)?;
+    body.push(assign(alloc, 2, b"I", Expr::Int(4))?)?;
+    Ok(body)
+}
+
+/// The system of one row over `I` and `J`, as text.
+fn written(alloc: Global, equal: bool, terms: &[Term], bound: i128) -> Result<Text, Memory> {
+    let mut names = List::new(alloc);
+    names.push(Text::from_bytes(alloc, b"I")?)?;
+    names.push(Text::from_bytes(alloc, b"J")?)?;
+    let mut rows = List::new(alloc);
+    rows.push(Row {
+        equal,
+        terms: List::from_slice(alloc, terms)?,
+        bound,
+    })?;
+    system_text(alloc, names.as_slice(), &System { rows, weak: true })
+}
+
+fn term(var: Var, factor: i128) -> Term {
+    Term { var, factor }
+}
+
+#[test]
+fn writes_equal_rows(rt: HostRuntime) -> Result<(), Fail> {
+    let alloc = rt.alloc();
+    let one = written(alloc, true, &[term(Var::Cell(1), 1)], -5)?;
+    assert_eq!(rt; one.as_slice(), b"{I+5==0} WEAK".as_slice());
+    let two = written(
+        alloc,
+        true,
+        &[term(Var::Cell(1), -2), term(Var::Exit(2), 3)],
+        9,
+    )?;
+    assert_eq!(rt; two.as_slice(), b"{3*J'==2*I+9} WEAK".as_slice());
+    Ok(())
+}
+
+#[test]
+fn writes_rows_at_most(rt: HostRuntime) -> Result<(), Fail> {
+    let alloc = rt.alloc();
+    let one = written(alloc, false, &[term(Var::Cell(1), -1)], -1)?;
+    assert_eq!(rt; one.as_slice(), b"{1<=I} WEAK".as_slice());
+    let never = written(alloc, false, &[], -1)?;
+    assert_eq!(rt; never.as_slice(), b"{FALSE} WEAK".as_slice());
+    Ok(())
+}
+
+#[test]
+fn ample(rt: HostRuntime) -> Result<(), Fail> {
+    let alloc = rt.alloc();
+    let body = body(alloc)?;
+    let variables = Variables::of_body(alloc, &body)?;
+    let list = preconditions(alloc, &variables, &body)?;
+    let last = list.get(1).ok_or("two statements")?;
+    let line = precondition_line(alloc, variables.names(), last)?;
+    assert_eq!(rt; line.as_slice(), b"C> P {2*I==J+7}".as_slice());
+    Ok(())
+}
+
+#[test]
+fn ample_steps(rt: HostRuntime) -> Result<(), Fail> {
+    let alloc = rt.alloc();
+    let body = body(alloc)?;
+    let variables = Variables::of_body(alloc, &body)?;
+    let first = body.get(0).ok_or("a statement")?;
+    let t = statement_transformer(alloc, &variables, &first.what)?;
+    let p = no_rows(alloc);
+    let q = apply(alloc, &t, &p)?;
+    let same = post(alloc, &variables, first, &p)?;
+    assert!(rt; q == same);
+    Ok(())
+}
+
+#[test]
+fn ample_form(rt: HostRuntime) -> Result<(), Fail> {
+    let alloc = rt.alloc();
+    let variables = Variables::of_body(alloc, &body(alloc)?)?;
+    let form = affine_of(alloc, &variables, &form(alloc)?)?;
+    let terms = List::from_slice(alloc, &[term(Var::Cell(2), 2)])?;
+    assert!(rt;
+        form == Some(Affine {
+            terms,
+            constant: -7
+        })
+    );
+    Ok(())
+}
