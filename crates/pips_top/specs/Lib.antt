@@ -1,0 +1,14 @@
+pub mod Characters
+pub mod StraightExprs
+pub mod StraightLines
+pub mod Straight
+pub mod Written
+pub mod Made
+pub mod Words
+pub mod Codes
+pub mod Status
+pub mod Answer
+pub mod Run
+pub mod Reads
+pub mod LineTrees
+pub mod Progress

@@ -1,0 +1,64 @@
+//! What a run replies, before anything is written.
+ghost use Rattle.std.specs.Prelude.{◌≡◌};
+ghost use Rattle.fx_base.specs.declared.store.Role.TheVariants.{Input};
+ghost use Rattle.fx_base.specs.Store.{OnlyCounts};
+ghost use Rattle.pips_top.specs.Run.{RepliesBy, StopsOr};
+
+use crate::Status;
+use crate::make::{Made, make};
+use crate::status::{naming_line, refusal_line, usage_line};
+use crate::words::input_of;
+use fx_base::{Fetched, Role, Store, Text, Words};
+use std::alloc::{AllocError as Memory, Global};
+
+/// The text to be written, or a status with its line. `NoMemory` has a line that takes no memory.
+pub enum Reply {
+    Writing(Text),
+    Stopping(Status, Text),
+    NoMemory,
+}
+
+/// A status with its line, where there is memory for it.
+fn stopping(status: Status, line: Result<Text, Memory>) -> Reply
+    ensures { StopsOr status line result }
+{
+    match line {
+        Ok(line) => Reply::Stopping(status, line),
+        Err(_) => Reply::NoMemory,
+    }
+}
+
+/// Fetches INPUT, reads it, and makes what is to be written.
+pub fn reply_to<F: Store>(alloc: Global, words: &Words, files: &mut F) -> Reply
+    ensures answer { RepliesBy words.now (F.files files.old) (F.counts files.old Input) (F.counts files.new Input) result }
+    ensures files { F.files files.new ≡ F.files files.old }
+    ensures counts { OnlyCounts (F.counts files.old) (F.counts files.new) Input }
+{
+    let name = match input_of(alloc, words) {
+        Ok(Some(name)) => name,
+        Ok(None) => return stopping(Status::Usage, usage_line(alloc)),
+        Err(_) => return Reply::NoMemory,
+    };
+    match files.fetch(alloc, Role::Input, &name, 1_048_576) {
+        Fetched::Got(text) => match make(alloc, &text) {
+            Ok(Made::Writes(text)) => Reply::Writing(text),
+            Ok(Made::Refuses(line, code)) => {
+                stopping(Status::Refused(line, code), refusal_line(alloc, line, code))
+            }
+            Err(_) => Reply::NoMemory,
+        },
+        Fetched::Absent => stopping(
+            Status::NoInput,
+            naming_line(alloc, b"pips: no input ", &name),
+        ),
+        Fetched::TooLong => stopping(
+            Status::TooLong,
+            naming_line(alloc, b"pips: too long ", &name),
+        ),
+        Fetched::Failed => stopping(
+            Status::ReadFault,
+            naming_line(alloc, b"pips: cannot read ", &name),
+        ),
+        Fetched::Memory => Reply::NoMemory,
+    }
+}

@@ -1,0 +1,370 @@
+//! Runs over stores and sinks in memory, as tables.
+use crate::{Status, run};
+use fx_base::{List, MemSink, MemStore, Text, Words};
+use std::alloc::{AllocError, Global};
+use std::test::Fail;
+
+/// What a run left on its sinks, and how it ended.
+#[derive(Drop)]
+struct Left {
+    status: Status,
+    out: MemSink,
+    err: MemSink,
+}
+
+/// Calls that fail: of the store, of out and of err, and the bytes that out takes in a call.
+#[derive(Clone, Copy)]
+struct Failing {
+    store: u64,
+    out: u64,
+    err: u64,
+    piece: usize,
+}
+
+const NEVER: u64 = 1_000_000;
+
+const NOTHING: Failing = Failing {
+    store: NEVER,
+    out: NEVER,
+    err: NEVER,
+    piece: 4096,
+};
+
+fn one(alloc: Global, call: u64) -> Result<List<u64>, AllocError> {
+    let mut calls = List::new(alloc);
+    calls.push(call)?;
+    Ok(calls)
+}
+
+fn words_of(alloc: Global, words: &[&str]) -> Result<Words, AllocError> {
+    let mut list = List::new(alloc);
+    for word in words {
+        list.push(Text::from_bytes(alloc, word.as_bytes())?)?;
+    }
+    Ok(list)
+}
+
+/// Runs with `p.f` held.
+fn ended(alloc: Global, words: &[&str], held: &[u8], failing: Failing) -> Result<Left, AllocError> {
+    let mut files = MemStore::new(alloc, one(alloc, failing.store)?);
+    files.hold(
+        &Text::from_bytes(alloc, b"p.f")?,
+        &Text::from_bytes(alloc, held)?,
+    )?;
+    let mut out = MemSink::new(alloc, failing.piece.max(1), one(alloc, failing.out)?);
+    out.room(4_000_000)?;
+    let mut err = MemSink::new(alloc, 5, one(alloc, failing.err)?);
+    err.room(200)?;
+    let words = words_of(alloc, words)?;
+    let status = run(alloc, &words, &mut files, &mut out, &mut err);
+    Ok(Left { status, out, err })
+}
+
+#[derive(Drop)]
+struct Case {
+    shows: &'static str,
+    held: &'static str,
+    status: Status,
+    out: &'static str,
+    err: &'static str,
+}
+
+#[test]
+fn texts(rt: HostRuntime) -> Result<(), Fail> {
+    let alloc = rt.alloc();
+    for case in [
+        Case {
+            shows: "the smallest program",
+            held: "      PROGRAM P\n      I=1\n      I=I+1\n      PRINT *,I\n      END\n",
+            status: Status::Done,
+            out: "      PROGRAM P\nC> P {}\n      I = 1\nC> P {I==1}\n      I = I+1\nC> P {I==2}\n      PRINT *,I\n      END\n",
+            err: "",
+        },
+        Case {
+            shows: "without PROGRAM",
+            held: "      I=1\n      END\n",
+            status: Status::Done,
+            out: "C> P {}\n      I = 1\n      END\n",
+            err: "",
+        },
+        Case {
+            shows: "the empty text",
+            held: "",
+            status: Status::Refused(1, 50),
+            out: "",
+            err: "pips: line 1: 50 NoMain\n",
+        },
+        Case {
+            shows: "a missing END",
+            held: "      PROGRAM P\n      I=1\n      I=I+1\n      PRINT *,I\n",
+            status: Status::Refused(4, 10),
+            out: "",
+            err: "pips: line 4: 10 Syntax\n",
+        },
+        Case {
+            shows: "a bad line in the middle",
+            held: "      PROGRAM P\n      I=(1\n      END\n",
+            status: Status::Refused(2, 10),
+            out: "",
+            err: "pips: line 2: 10 Syntax\n",
+        },
+        Case {
+            shows: "END before the last line",
+            held: "      I=1\n      END\n      I=2\n      END\n",
+            status: Status::Refused(2, 10),
+            out: "",
+            err: "pips: line 2: 10 Syntax\n",
+        },
+        Case {
+            shows: "PROGRAM after the first line",
+            held: "      I=1\n      PROGRAM P\n      END\n",
+            status: Status::Refused(2, 10),
+            out: "",
+            err: "pips: line 2: 10 Syntax\n",
+        },
+        Case {
+            shows: "text in the columns of the label",
+            held: "10    I=1\n      END\n",
+            status: Status::Refused(1, 10),
+            out: "",
+            err: "pips: line 1: 10 Syntax\n",
+        },
+        Case {
+            shows: "CRs, and a last line without LF",
+            held: "      I=1\r\r\n      END\r",
+            status: Status::Done,
+            out: "C> P {}\n      I = 1\n      END\n",
+            err: "",
+        },
+        Case {
+            shows: "columns past 72, lower case, blanks inside words",
+            held: "      i n t = 1                                                         +X\n      P R I N T * , i N t , - 2 * k\n      E N d\n",
+            status: Status::Done,
+            out: "C> P {}\n      INT = 1\nC> P {INT==1}\n      PRINT *,INT,-2*K\n      END\n",
+            err: "",
+        },
+        Case {
+            shows: "a name of 31 characters",
+            held: "      IXXXXXXXXXXXXXXXXXXXXXXXXXXXXXX=1\n      END\n",
+            status: Status::Done,
+            out: "C> P {}\n      IXXXXXXXXXXXXXXXXXXXXXXXXXXXXXX = 1\n      END\n",
+            err: "",
+        },
+        Case {
+            shows: "a name of 32 characters",
+            held: "      IXXXXXXXXXXXXXXXXXXXXXXXXXXXXXXX=1\n      END\n",
+            status: Status::Refused(1, 10),
+            out: "",
+            err: "pips: line 1: 10 Syntax\n",
+        },
+        Case {
+            shows: "the largest number",
+            held: "      I=2147483647\n      END\n",
+            status: Status::Done,
+            out: "C> P {}\n      I = 2147483647\n      END\n",
+            err: "",
+        },
+        Case {
+            shows: "a number past it",
+            held: "      I=2147483648\n      END\n",
+            status: Status::Refused(1, 10),
+            out: "",
+            err: "pips: line 1: 10 Syntax\n",
+        },
+        Case {
+            shows: "zeros before a number, signs",
+            held: "      I=-007+J-2*K\n      PRINT*\n      END\n",
+            status: Status::Done,
+            out: "C> P {}\n      I = -7+J-2*K\nC> P {I+2*K+7==J}\n      PRINT *\n      END\n",
+            err: "",
+        },
+        Case {
+            shows: "a statement of 68 characters is cut at 66",
+            held: "      I=12+12+12+12+12+12+12+12+12+12+12+12+12+12+12+12+12+12+12+12+12+1\n      END\n",
+            status: Status::Done,
+            out: "C> P {}\n      I = 12+12+12+12+12+12+12+12+12+12+12+12+12+12+12+12+12+12+12+12+12\n     &+1\n      END\n",
+            err: "",
+        },
+        Case {
+            shows: "claims: values, and variables that shift",
+            held: "      I=2*J+1\n      J=J-I\n      K=3\n      I=I+K\n      J=-J\n      PRINT *,J\n      END\n",
+            status: Status::Done,
+            out: "C> P {}\n      I = 2*J+1\nC> P {2*J+1==I}\n      J = J-I\nC> P {I+2*J+1==0}\n      K = 3\nC> P {K==3, I+2*J+1==0}\n      I = I+K\nC> P {K==3, I+2*J==2}\n      J = -J\nC> P {K==3, 2*J+2==I}\n      PRINT *,J\n      END\n",
+            err: "",
+        },
+        Case {
+            shows: "claims: what forgets a variable, and a fact that outlives it",
+            held: "      I=3\n      J=I\n      K=J-2*L\n      I=2*I-I\n      L=2*I+1\n      J=K-K\n      PRINT *,J\n      END\n",
+            status: Status::Done,
+            out: "C> P {}\n      I = 3\nC> P {I==3}\n      J = I\nC> P {I==3, J==3}\n      K = J-2*L\nC> P {I==3, J==3, K+2*L==3}\n      I = 2*I-I\nC> P {I==3, J==3, K+2*L==3}\n      L = 2*I+1\nC> P {I==3, J==3, L==7}\n      J = K-K\nC> P {I==3, J==0, L==7}\n      PRINT *,J\n      END\n",
+            err: "",
+        },
+        Case {
+            shows: "claims: factors and numbers past the limit of a row",
+            held: "      I=2147483647*J\n      J=2147483647*I\n      K=2147483647*J\n      L=2147483647*K\n      PRINT *,L\n      END\n",
+            status: Status::Done,
+            out: "C> P {}\n      I = 2147483647*J\nC> P {2147483647*J==I}\n      J = 2147483647*I\nC> P {J==2147483647*I}\n      K = 2147483647*J\nC> P {J==2147483647*I, K==4611686014132420609*I}\n      L = 2147483647*K\nC> P {J==2147483647*I, K==4611686014132420609*I} WEAK\n      PRINT *,L\n      END\n",
+            err: "",
+        },
+        Case {
+            shows: "claims: what has no image in whole numbers",
+            held: "      I=2*I+1\n      J=I\n      I=I-I\n      I=-J\n      K=-2147483647-1\n      PRINT *,I\n      END\n",
+            status: Status::Done,
+            out: "C> P {}\n      I = 2*I+1\nC> P {}\n      J = I\nC> P {J==I}\n      I = I-I\nC> P {I==0}\n      I = -J\nC> P {I+J==0}\n      K = -2147483647-1\nC> P {K+2147483648==0, I+J==0}\n      PRINT *,I\n      END\n",
+            err: "",
+        },
+        Case {
+            shows: "claims: equal and opposite rows",
+            held: "      I=J\n      J=I\n      K=I-J\n      J=K\n      I=J+0*I\n      PRINT *,I\n      END\n",
+            status: Status::Done,
+            out: "C> P {}\n      I = J\nC> P {J==I}\n      J = I\nC> P {J==I}\n      K = I-J\nC> P {K==0, J==I}\n      J = K\nC> P {J==0, K==0}\n      I = J+0*I\nC> P {I==0, J==0, K==0}\n      PRINT *,I\n      END\n",
+            err: "",
+        },
+    ] {
+        let ended = ended(alloc, &["p.f"], case.held.as_bytes(), NOTHING)?;
+        let shows = case.shows;
+        assert_eq!(rt; ended.status, case.status, "{shows}");
+        assert_eq!(rt; ended.out.bytes(), case.out.as_bytes(), "out of {shows}");
+        assert_eq!(rt; ended.err.bytes(), case.err.as_bytes(), "err of {shows}");
+    }
+    Ok(())
+}
+
+const SMALL: &[u8] = b"      I=1\n      END\n";
+
+#[test]
+fn words(rt: HostRuntime) -> Result<(), Fail> {
+    let alloc = rt.alloc();
+    let usage =
+        b"usage: pips [--show all|bare|why] [--base NAME] [--verify] [--session] [--generate N] [INPUT]\n";
+    for (words, status, err) in [
+        (
+            ["q.f"].as_slice(),
+            Status::NoInput,
+            b"pips: no input q.f\n".as_slice(),
+        ),
+        (&[], Status::NoInput, b"pips: no input -\n"),
+        (&["-"], Status::NoInput, b"pips: no input -\n"),
+        (&["-x"], Status::Usage, usage),
+        (&["p.f", "p.f"], Status::Usage, usage),
+        (&[""], Status::NoInput, b"pips: no input \n"),
+    ] {
+        let ended = ended(alloc, words, SMALL, NOTHING)?;
+        assert_eq!(rt; ended.status, status, "{words:?}");
+        assert_eq!(rt; ended.out.bytes(), b"".as_slice(), "out of {words:?}");
+        assert_eq!(rt; ended.err.bytes(), err, "err of {words:?}");
+    }
+    Ok(())
+}
+
+#[test]
+fn failures(rt: HostRuntime) -> Result<(), Fail> {
+    let alloc = rt.alloc();
+    let text = b"C> P {}\n      I = 1\n      END\n";
+    let cannot_read = b"pips: cannot read p.f\n".as_slice();
+    let cannot_write = b"pips: cannot write\n".as_slice();
+    for (failing, status, out, err) in [
+        (
+            Failing {
+                store: 0,
+                ..NOTHING
+            },
+            Status::ReadFault,
+            0,
+            cannot_read,
+        ),
+        (
+            Failing { out: 0, ..NOTHING },
+            Status::WriteFault,
+            0,
+            cannot_write,
+        ),
+        (
+            Failing {
+                out: 2,
+                piece: 7,
+                ..NOTHING
+            },
+            Status::WriteFault,
+            14,
+            cannot_write,
+        ),
+        (
+            Failing {
+                out: 5,
+                piece: 7,
+                ..NOTHING
+            },
+            Status::Done,
+            30,
+            b"",
+        ),
+        (
+            Failing {
+                store: 0,
+                err: 0,
+                ..NOTHING
+            },
+            Status::ReadFault,
+            0,
+            b"",
+        ),
+        (
+            Failing {
+                out: 0,
+                err: 2,
+                ..NOTHING
+            },
+            Status::WriteFault,
+            0,
+            b"pips: cann",
+        ),
+    ] {
+        let ended = ended(alloc, &["p.f"], SMALL, failing)?;
+        assert_eq!(rt; ended.status, status);
+        assert_eq!(rt;
+            ended.out.bytes(),
+            text.get(..out).unwrap_or(b""),
+            "out at {out}"
+        );
+        assert_eq!(rt; ended.err.bytes(), err, "err at {out}");
+    }
+    Ok(())
+}
+
+#[test]
+fn limits(rt: HostRuntime) -> Result<(), Fail> {
+    let alloc = rt.alloc();
+    let mut held = Vec::new(alloc);
+    for _ in 0..511 {
+        held.extend_from_slice(b"      I=1")?;
+        held.resize(held.len().saturating_add(2038), b' ')?;
+        held.push(b'\n')?;
+    }
+    held.extend_from_slice(b"      END")?;
+    held.resize(1_048_577, b' ')?;
+    assert_eq!(rt; held.len(), 1_048_577);
+    let longer = ended(alloc, &["p.f"], held.as_slice(), NOTHING)?;
+    assert_eq!(rt; longer.status, Status::TooLong);
+    assert_eq!(rt; longer.err.bytes(), b"pips: too long p.f\n".as_slice());
+    let whole = ended(
+        alloc,
+        &["p.f"],
+        held.get(..1_048_576).unwrap_or(b""),
+        NOTHING,
+    )?;
+    assert_eq!(rt; whole.status, Status::Done);
+    Ok(())
+}
+
+#[test]
+fn ample(rt: HostRuntime) -> Result<(), Fail> {
+    let alloc = rt.alloc();
+    let ended = ended(alloc, &["p.f"], SMALL, NOTHING)?;
+    assert_eq!(rt; ended.status, Status::Done);
+    assert_eq!(rt;
+        ended.out.bytes(),
+        b"C> P {}\n      I = 1\n      END\n".as_slice()
+    );
+    Ok(())
+}
