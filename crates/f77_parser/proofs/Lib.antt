@@ -1,0 +1,3 @@
+pub mod StatementLemmas
+pub mod SoFarLemmas
+pub mod SizeLemmas

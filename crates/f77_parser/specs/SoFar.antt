@@ -1,0 +1,139 @@
+-- What the statements of a module made so far.
+use Rattle.std.specs.Prelude.{ℕ, ◌+◌, Bool, false, nat_eq, List, [], ◌∷◌, ◌++◌, map, Option, Some, None, if◌then◌else◌}
+use Rattle.f77_ast.specs.declared.places.Part.{Part}
+use Rattle.f77_ast.specs.declared.places.Part.TheVariants as parts
+use Rattle.f77_ast.specs.declared.places.Spot.{Spot}
+use Rattle.f77_ast.specs.Trees.{ExprTree, StmtTree, stmt, WhatTree, block_if, logical_if, do_loop, ArmTree, arm, no_else, otherwise, LoopTree, loop}
+use Rattle.f77_ast.specs.DeclTrees.{DeclTree}
+use Rattle.f77_ast.specs.PlainStmt.{maybe_tree, arm_tree, stmt_tree, stmts_of, arms_of}
+use Rattle.f77_ast.specs.PlainDecl.{decl_tree}
+use Rattle.f77_statements.specs.Phrases.{DoTree, do_tree}
+use Rattle.f77_parser.specs.declared.progress.Heading.{Heading}
+use Rattle.f77_parser.specs.declared.progress.Opening.{Opening}
+use Rattle.f77_parser.specs.declared.progress.Opening.TheVariants.{Loop, Branches}
+use Rattle.f77_parser.specs.declared.progress.Around.{Around}
+use Rattle.f77_parser.specs.declared.progress.Progress.{Progress}
+
+-- what opened a block: a DO, or a block IF with its parts that are closed and the test of the open one, none in its ELSE
+pub data OpeningTree : Type 0 where
+  opening_loop : DoTree → OpeningTree
+  branches : List ArmTree → Option ExprTree → OpeningTree
+
+-- an open block, with what stands before it in its list
+pub record AroundTree : Type 0 where
+  pub id : ℕ
+  pub label : Option ℕ
+  pub before : List StmtTree
+  pub opening : OpeningTree
+
+-- the heading, the specifications, the number of executable statements, where statements stood, the open list, and the
+-- open blocks around it, the innermost first
+pub record SoFar : Type 0 where
+  pub heading : Heading
+  pub decls : List DeclTree
+  pub count : ℕ
+  pub spots : List Spot
+  pub list : List StmtTree
+  pub around : List AroundTree
+
+-- ---- the same of the program's values
+
+abbrev pub opening_tree : Opening → OpeningTree
+opening_tree (Loop d) = opening_loop (do_tree d)
+opening_tree (Branches arms test) = branches (map arm_tree arms) (maybe_tree test)
+
+abbrev pub around_tree : Around → AroundTree
+around_tree a = record { id = a.id; label = a.label; before = map stmt_tree a.before; opening = opening_tree a.opening }
+
+abbrev pub so_far : Progress → SoFar
+so_far p = record {
+  heading = p.heading;
+  decls = map decl_tree p.decls;
+  count = p.count;
+  spots = p.spots;
+  list = map stmt_tree p.list;
+  around = map around_tree p.around;
+}
+
+-- ---- statements
+
+abbrev pub spot : Part → ℕ → List (List ℕ) → Spot
+spot part first comments = record { part = part; first = first; comments = comments }
+
+-- a statement stood at a line
+unfoldable pub with_spot : Part → ℕ → List (List ℕ) → SoFar → SoFar
+with_spot part first comments p = record p { spots = p.spots ++ spot part first comments ∷ [] }
+
+-- the next executable statement stands in the open list
+unfoldable pub stated : ℕ → Option ℕ → List (List ℕ) → WhatTree → SoFar → SoFar
+stated first label comments w p =
+    with_spot (parts.Stmt (p.count + 1)) first comments
+    (record p { count = p.count + 1; list = p.list ++ stmt (p.count + 1) label w ∷ [] })
+
+-- a logical IF and the statement in it, which has the number after its own and no comments
+unfoldable pub conditioned : ℕ → Option ℕ → List (List ℕ) → ExprTree → WhatTree → SoFar → SoFar
+conditioned first label comments test w p =
+    with_spot (parts.Stmt (p.count + 1 + 1)) first []
+    (with_spot (parts.Stmt (p.count + 1)) first comments
+    (record p {
+      count = p.count + 1 + 1;
+      list = p.list ++ stmt (p.count + 1) label (logical_if test (stmt (p.count + 1 + 1) None w)) ∷ [];
+    }))
+
+-- ---- blocks
+
+-- the next executable statement opens a block
+unfoldable pub entered : ℕ → Option ℕ → List (List ℕ) → OpeningTree → SoFar → SoFar
+entered first label comments opening p =
+    with_spot (parts.Stmt (p.count + 1)) first comments
+    (record p {
+      count = p.count + 1;
+      list = [];
+      around = record { id = p.count + 1; label = label; before = p.list; opening = opening } ∷ p.around;
+    })
+
+abbrev pub loop_of : DoTree → List StmtTree → LoopTree
+loop_of d list = loop d.index d.first d.last d.step (stmts_of list)
+
+-- a block with all that stands in it, this being its last list
+abbrev pub what_of : OpeningTree → List StmtTree → WhatTree
+what_of (opening_loop d) list = do_loop (loop_of d list)
+what_of (branches arms (Some test)) list = block_if (arms_of (arms ++ arm test (stmts_of list) ∷ [])) no_else
+what_of (branches arms None) list = block_if (arms_of arms) (otherwise (stmts_of list))
+
+abbrev pub behind : AroundTree → List StmtTree → List StmtTree
+behind a list = a.before ++ stmt a.id a.label (what_of a.opening list) ∷ []
+
+-- a block ends, and these are open around it
+abbrev pub left_one : AroundTree → List AroundTree → SoFar → SoFar
+left_one a others p = record p { list = behind a p.list; around = others }
+
+abbrev pub is_label : ℕ → Option ℕ → Bool
+is_label l None = false
+is_label l (Some m) = nat_eq m l
+
+-- a DO that a statement with this label ends
+abbrev pub is_loop_to : ℕ → OpeningTree → Bool
+is_loop_to l (opening_loop d) = is_label l d.label
+is_loop_to l (branches arms test) = false
+
+-- of these open blocks the innermost DOs with this label end: several may share their last statement
+abbrev pub ended_by : ℕ → List AroundTree → SoFar → SoFar
+ended_by l [] p = p
+ended_by l (a ∷ others) p = if is_loop_to l a.opening then ended_by l others (left_one a others p) else p
+
+-- the innermost open DOs with this label end
+abbrev pub ending : ℕ → SoFar → SoFar
+ending l p = ended_by l p.around p
+
+abbrev pub ended_at : Option ℕ → SoFar → SoFar
+ended_at None p = p
+ended_at (Some l) p = ending l p
+
+abbrev pub closed_from : List AroundTree → ℕ → List (List ℕ) → SoFar → SoFar
+closed_from [] first comments p = p
+closed_from (a ∷ others) first comments p = with_spot (parts.Close a.id) first comments (left_one a others p)
+
+-- the innermost block ends at a statement of its own
+abbrev pub closed : ℕ → List (List ℕ) → SoFar → SoFar
+closed first comments p = closed_from p.around first comments p

@@ -1,0 +1,33 @@
+//! Why a text has no modules.
+ghost use Rattle.std.specs.Prelude.{◌≡◌};
+ghost use Rattle.f77_parser.specs.declared.refusal.ParseRefusal.TheVariants.{Memory};
+
+use fx_lists::Text;
+use std::alloc::{AllocError, AllocFailed};
+use thiserror::Error;
+
+/// Why there are no modules.
+#[derive(Debug, Drop, Error)]
+pub enum ParseRefusal {
+    /// The first line of the statement, from 1, the number of the cause, 10 to 23, and for 11 the keyword.
+    #[error("line {0}: {1}")]
+    At(u32, u32, Text),
+    #[error("out of memory")]
+    Memory,
+}
+
+impl From<AllocError> for ParseRefusal {
+    ghost from_gives = { λ _ e. e ≡ Memory };
+
+    fn from(_e: AllocError) -> ParseRefusal {
+        ParseRefusal::Memory
+    }
+}
+
+impl<T: Drop> From<AllocFailed<T>> for ParseRefusal {
+    ghost from_gives = { λ _ e. e ≡ Memory };
+
+    fn from(_e: AllocFailed<T>) -> ParseRefusal {
+        ParseRefusal::Memory
+    }
+}

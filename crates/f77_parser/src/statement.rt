@@ -1,0 +1,115 @@
+//! The statements of a text, each by itself.
+ghost use Rattle.std.specs.Prelude.{◌≡◌, ◌<◌, ◌^◌, [], length, IfOk, map, sum_by};
+ghost use Rattle.f77_statements.specs.Phrases.{phrase_tree};
+ghost use Rattle.f77_parser.specs.Gives.{Gives};
+ghost use Rattle.f77_parser.specs.Statements.{statement_tree, keyword_of, refused, statement_of, all_read, mark_of, marks_of, length_of};
+
+use crate::refusal::ParseRefusal;
+use crate::role::role_of;
+use f77_statements::{Cause, Phrase, Refusal, phrase_of};
+use f77_structure::{Mark, is_deep};
+use fixed_form::Line;
+use fx_lists::{List, Text};
+use std::alloc::{AllocError as Memory, Global};
+
+/// A statement that was read by itself.
+#[derive(Debug, Drop)]
+pub struct Statement {
+    /// The number of its first line, from 1.
+    pub first: u32,
+    pub label: Option<u32>,
+    /// Whether its parentheses stand too deep in one another.
+    pub deep: bool,
+    /// The comments before it.
+    pub comments: List<Text>,
+    pub phrase: Phrase,
+}
+
+impl Statement {
+    /// The statement as far as structure asks.
+    fn mark(&self) -> Mark
+        ensures { result ≡ mark_of (statement_tree self.now) }
+    {
+        Mark {
+            line: self.first,
+            label: self.label,
+            role: role_of(&self.phrase),
+            deep: self.deep,
+        }
+    }
+}
+
+/// A copy of texts.
+#[tactic(auto, using(crate::proofs::StatementLemmas::copies))]
+pub fn copy_texts(texts: &List<Text>) -> Result<List<Text>, Memory>
+    ensures { IfOk result (λ copy. copy ≡ texts.now) }
+{
+    texts.clone()
+}
+
+/// The keyword that the profile leaves out.
+fn keyword_of(alloc: Global, cause: Cause) -> Result<Text, Memory>
+    ensures { IfOk result (λ keyword. keyword ≡ keyword_of cause) }
+{
+    match cause {
+        Cause::OutOfProfile(refused) => Text::from_bytes(alloc, refused.keyword().as_bytes()),
+        Cause::Syntax | Cause::RealConstant | Cause::NumberTooBig | Cause::NameTooLong => {
+            Ok(Text::new(alloc))
+        }
+    }
+}
+
+fn refused(alloc: Global, line: u32, cause: Cause) -> ParseRefusal
+    ensures { Gives statement_tree (Err result) (Err (refused line cause)) }
+{
+    match keyword_of(alloc, cause) {
+        Ok(keyword) => ParseRefusal::At(line, cause.number(), keyword),
+        Err(_) => ParseRefusal::Memory,
+    }
+}
+
+/// One statement, by its body.
+fn statement_of(alloc: Global, line: &Line) -> Result<Statement, ParseRefusal>
+    requires { length line.now.body < 2 ^ 28 }
+    ensures { Gives statement_tree result (statement_of line.now) }
+{
+    match phrase_of(alloc, &line.body) {
+        Err(Refusal::Memory) => Err(ParseRefusal::Memory),
+        Err(Refusal::Because(cause)) => Err(refused(alloc, line.first, cause)),
+        Ok(phrase) => Ok(Statement {
+            first: line.first,
+            label: line.label,
+            deep: is_deep(line.body.as_slice()),
+            comments: copy_texts(&line.comments)?,
+            phrase,
+        }),
+    }
+}
+
+/// All statements, or the first that is refused.
+pub fn all_read(alloc: Global, lines: &[Line]) -> Result<List<Statement>, ParseRefusal>
+    requires { sum_by length_of lines.now < 2 ^ 28 }
+    ensures { Gives (map statement_tree) result (all_read [] lines.now) }
+{
+    let mut done = List::new(alloc);
+    let mut rest = lines;
+    while let [line, more @ ..] = rest {
+        match statement_of(alloc, line) {
+            Ok(statement) => done.push(statement)?,
+            Err(refusal) => return Err(refusal),
+        }
+        rest = more;
+    }
+    Ok(done)
+}
+
+/// The statements of a module as far as structure asks.
+pub fn marks_of(alloc: Global, statements: &[Statement]) -> Result<List<Mark>, Memory>
+    ensures { IfOk result (λ marks. marks ≡ marks_of (map statement_tree statements.now)) }
+{
+    let mut marks = List::new(alloc);
+    for statement in statements {
+        marks.push(statement.mark())?;
+    }
+    Ok(marks)
+}

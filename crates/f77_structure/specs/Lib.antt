@@ -1,0 +1,11 @@
+pub mod Lists
+pub mod Faults
+pub mod Marks
+pub mod Order
+pub mod Opens
+pub mod Blocks
+pub mod Terminals
+pub mod Steps
+pub mod Jumps
+pub mod Checks
+pub mod Depth

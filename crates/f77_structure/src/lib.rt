@@ -1,0 +1,23 @@
+//! The structure of a module: from its statements, each as far as structure asks, to its first fault.
+#![tactic(auto)]
+
+mod blocks;
+mod check;
+mod depth;
+mod fault;
+mod jumps;
+mod mark;
+mod open;
+mod order;
+mod stack;
+mod steps;
+mod terminals;
+
+pub use check::fault_of;
+pub use depth::is_deep;
+pub use fault::{Fault, Found};
+pub use mark::{Action, Mark, Role};
+pub use stack::{Stack, stack_of};
+
+#[cfg(test)]
+mod tests;

@@ -1,0 +1,148 @@
+//! The order of the statements of a module, how many there are, and their labels.
+ghost use Rattle.std.specs.Prelude.{◌≡◌, ◌<◌, ◌≤◌, ◌+◌, ◌*◌, ◌^◌, length, IfOk};
+ghost use Rattle.f77_structure.specs.Order.{is_out_of_order, is_main_after, labelled, ordered, order_of, has_label};
+
+use crate::fault::{Fault, Found, noted};
+use crate::mark::{Mark, Role, label_in, returns_in, statements_in};
+use fx_lists::List;
+use std::alloc::{AllocError as Memory, Global};
+
+/// How many executable statements a module may have.
+pub const MOST_STATEMENTS: usize = 4096;
+
+/// The statements of a module so far.
+#[derive(Debug, Drop)]
+pub struct Order {
+    /// Whether there was a statement.
+    pub begun: bool,
+    /// Whether the module is a main program, as far as it was read.
+    pub main: bool,
+    /// How many executable statements there were.
+    pub count: usize,
+    /// Their labels.
+    pub labels: List<u32>,
+    pub found: Option<Found>,
+}
+
+/// Whether the module is still a main program.
+fn is_main_after(begun: bool, main: bool, role: Role) -> bool
+    ensures { result ≡ is_main_after begun main role }
+{
+    match role {
+        Role::Subroutine => begun && main,
+        Role::Program
+        | Role::Specification
+        | Role::Plain(_)
+        | Role::LogicalIf(_)
+        | Role::BlockIf
+        | Role::ElseIf
+        | Role::Else
+        | Role::EndIf
+        | Role::Do(_)
+        | Role::EndDo
+        | Role::End => main,
+    }
+}
+
+/// Whether a statement stands where it may not.
+fn is_out_of_order(begun: bool, main: bool, count: usize, role: Role) -> bool
+    ensures { result ≡ is_out_of_order begun main count role }
+{
+    match role {
+        Role::Program | Role::Subroutine => begun,
+        Role::Specification => 0 < count,
+        Role::Plain(_)
+        | Role::LogicalIf(_)
+        | Role::BlockIf
+        | Role::ElseIf
+        | Role::Else
+        | Role::EndIf
+        | Role::Do(_)
+        | Role::EndDo
+        | Role::End => main && returns_in(role),
+    }
+}
+
+fn has_label(labels: &[u32], label: u32) -> bool
+    ensures { result ≡ has_label label labels.now }
+{
+    labels.iter().any(|l| *l == label)
+}
+
+/// The label of an executable statement.
+fn labelled(order: Order, line: u32, label: Option<u32>) -> Result<Order, Memory>
+    ensures { IfOk result (λ o. o ≡ labelled line label order) }
+{
+    match label {
+        None => Ok(order),
+        Some(label) => {
+            let Order {
+                begun,
+                main,
+                count,
+                mut labels,
+                found,
+            } = order;
+            let twice = count <= MOST_STATEMENTS && has_label(labels.as_slice(), label);
+            let found = noted(twice, line, Fault::LabelTwice, found);
+            labels.push(label)?;
+            Ok(Order {
+                begun,
+                main,
+                count,
+                labels,
+                found,
+            })
+        }
+    }
+}
+
+/// One statement more.
+#[tactic(auto, unfolding(crate::specs::Order::ordered))]
+fn ordered(order: Order, mark: Mark) -> Result<Order, Memory>
+    requires { order.count + 2 < 2 ^ 64 }
+    ensures defined { IfOk result (λ o. o ≡ ordered mark order) }
+    ensures grows { IfOk result (λ o. o.count ≤ order.count + 2) }
+{
+    let order = labelled(order, mark.line, label_in(mark))?;
+    let Order {
+        begun,
+        main,
+        count,
+        labels,
+        found,
+    } = order;
+    let found = noted(mark.deep, mark.line, Fault::TooDeep, found);
+    let stray = is_out_of_order(begun, main, count, mark.role);
+    let found = noted(stray, mark.line, Fault::StrayPart, found);
+    let new = count + statements_in(mark);
+    let many = count <= MOST_STATEMENTS && MOST_STATEMENTS < new;
+    let found = noted(many, mark.line, Fault::TooManyStatements, found);
+    Ok(Order {
+        begun: true,
+        main: is_main_after(begun, main, mark.role),
+        count: new,
+        labels,
+        found,
+    })
+}
+
+/// The first fault of the order, the number and the labels of the statements of a module. Labels are sought one after
+/// another, each among those of the module, of which there are few.
+pub fn order_fault(alloc: Global, marks: &[Mark]) -> Result<Option<Found>, Memory>
+    ensures { IfOk result (λ found. found ≡ order_of marks.now) }
+{
+    let mut order = Order {
+        begun: false,
+        main: true,
+        count: 0,
+        labels: List::new(alloc),
+        found: None,
+    };
+    let mut rest = marks;
+    while let [mark, more @ ..] = rest {
+        order = ordered(order, *mark)?;
+        rest = more;
+    }
+    Ok(order.found)
+}
