@@ -1,1 +1,4 @@
 pub mod TextLemmas
+pub mod PageLemmas
+pub mod AddedLemmas
+pub mod ModuleLemmas

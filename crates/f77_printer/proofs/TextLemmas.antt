@@ -59,7 +59,7 @@ joined_by-map f text [] = refl
 joined_by-map f text (x ∷ xs) = ap (λ t. text (f x) ++ t) (others_by-map f text xs)
 
 -- what is left of a list of parts
-next_part : {A : Type 0} (xs : List A) (i : ℕ) (x : A) → i < length xs → x ≡ get_or xs i x → drop i xs ≡ x ∷ drop (i + 1) xs
+pub next_part : {A : Type 0} (xs : List A) (i : ℕ) (x : A) → i < length xs → x ≡ get_or xs i x → drop i xs ≡ x ∷ drop (i + 1) xs
 next_part xs i x h e =
     let d : drop i xs ≡ get_or xs i x ∷ drop (i + 1) xs = rw (add-one, drop-cons xs i x) in
     d ∙ ap (λ y. y ∷ drop (i + 1) xs) (sym e)

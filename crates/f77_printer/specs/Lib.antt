@@ -2,3 +2,9 @@ pub mod ExprText
 pub mod StatementText
 pub mod DeclText
 pub mod Layout
+pub mod PageText
+pub mod AddedText
+pub mod ModuleText
+pub mod Here
+pub mod Pages
+pub mod Lines

@@ -39,7 +39,7 @@ fn write_high(alloc: Global, out: &mut Text, high: &Option<Expr>) -> Result<(), 
 }
 
 /// What is written of a part of a specification statement.
-trait Written {
+pub trait Written {
     ghost use Rattle.std.specs.Prelude.{List, ℕ};
 
     ghost text: { Self → List ℕ };
@@ -51,7 +51,11 @@ trait Written {
 
 /// Parts joined by commas.
 #[tactic(auto, using(crate::proofs::TextLemmas::joined_steps))]
-fn write_joined<T: Written>(alloc: Global, out: &mut Text, parts: &List<T>) -> Result<(), Memory>
+pub fn write_joined<T: Written>(
+    alloc: Global,
+    out: &mut Text,
+    parts: &List<T>,
+) -> Result<(), Memory>
     ensures { OnOk result (out.new ≡ out.old ++ joined_by T.text parts.now) }
 {
     let mut is_first = true;

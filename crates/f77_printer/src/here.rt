@@ -1,0 +1,34 @@
+//! Parts of a module as they are written.
+ghost use Rattle.std.specs.Prelude.{◌≡◌};
+ghost use Rattle.f77_printer.specs.PageText.{is_part};
+ghost use Rattle.f77_printer.specs.Here.{here_part};
+
+use f77_ast::{Part, StmtId};
+
+/// A part, with a place among any number of them.
+#[derive(Clone, Copy)]
+pub enum Here {
+    Title,
+    Decl(usize),
+    Stmt(StmtId),
+    ElseIf(StmtId, usize),
+    Else(StmtId),
+    Close(StmtId),
+    End,
+}
+
+/// Whether a part is this one.
+pub fn stands_at(here: Here, part: Part) -> bool
+    ensures { result ≡ is_part (here_part here) part }
+{
+    match (here, part) {
+        (Here::Title, Part::Title) => true,
+        (Here::Decl(n), Part::Decl(m)) => n == m as usize,
+        (Here::Stmt(i), Part::Stmt(j)) => i == j,
+        (Here::ElseIf(i, n), Part::ElseIf(j, m)) => i == j && n == m as usize,
+        (Here::Else(i), Part::Else(j)) => i == j,
+        (Here::Close(i), Part::Close(j)) => i == j,
+        (Here::End, Part::End) => true,
+        _ => false,
+    }
+}
