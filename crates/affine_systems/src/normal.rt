@@ -1,5 +1,5 @@
 //! The normal form of a row.
-ghost use Rattle.std.specs.Prelude.{true, false, neg_ℤ, [], ◌≡◌, ◌<◌, List, pos, if◌then◌else◌};
+ghost use Rattle.std.specs.Prelude.{true, false, neg_ℤ, [], ◌≡◌, ◌<◌, ◌/◌, List, pos, if◌then◌else◌};
 ghost use Rattle.std.specs.Int.{int_div_euclid};
 ghost use Rattle.affine_systems.specs.Terms.{negated_terms, Ascends};
 ghost use Rattle.affine_systems.specs.Given.{IsNormal};
@@ -9,13 +9,31 @@ ghost use Rattle.affine_systems.specs.Normal.{gcd as gcd_is, divisor as divisor_
 use crate::{Norm, Row, Term, Terms};
 
 #[tactic(auto, using(crate::proofs::GcdSteps::gcd_step, crate::proofs::GcdSteps::gcd_end))]
-/// The greatest common divisor.
+/// The greatest common divisor of numbers of one word.
+fn word_gcd(a: u64, b: u64) -> u64
+    ensures { result ≡ gcd_is a b }
+{
+    let mut x = a;
+    let mut y = b;
+    while y != 0 {
+        let rest = x % y;
+        x = y;
+        y = rest;
+    }
+    x
+}
+
+#[tactic(auto, using(crate::proofs::GcdSteps::gcd_step, crate::proofs::GcdSteps::gcd_end))]
+/// The greatest common divisor. From where both numbers have one word, division is faster.
 fn gcd(a: u128, b: u128) -> u128
     ensures { result ≡ gcd_is a b }
 {
     let mut x = a;
     let mut y = b;
     while y != 0 {
+        if x < 1 << 64 && y < 1 << 64 {
+            return word_gcd(x as u64, y as u64) as u128;
+        }
         let rest = x % y;
         x = y;
         y = rest;
@@ -39,6 +57,18 @@ fn divisor(terms: &[Term], start: u128) -> u128
     g.max(1)
 }
 
+/// The quotient. Division is faster where both numbers have one word.
+fn quotient(n: u128, g: u128) -> u128
+    requires { 0 < g }
+    ensures { result ≡ n / g }
+{
+    if n < 1 << 64 && g < 1 << 64 {
+        (n as u64 / g as u64) as u128
+    } else {
+        n / g
+    }
+}
+
 #[tactic(auto, using(crate::proofs::ExactLaws::div_one))]
 /// The quotient rounded down.
 fn floor_div(z: i128, g: u128) -> i128
@@ -48,9 +78,9 @@ fn floor_div(z: i128, g: u128) -> i128
     if g == 1 {
         z
     } else if z >= 0 {
-        (z.unsigned_abs() / g) as i128
+        quotient(z.unsigned_abs(), g) as i128
     } else {
-        -1 - ((z.unsigned_abs() - 1) / g) as i128
+        -1 - quotient(z.unsigned_abs() - 1, g) as i128
     }
 }
 

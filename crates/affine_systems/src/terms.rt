@@ -76,7 +76,7 @@ pub fn combined(alloc: Global, p: i128, ts: &[Term], q: i128, us: &[Term]) -> Re
     requires second { AreSmall us.now }
     ensures { IfOk result (λ terms. terms ≡ combined_terms p ts.now q us.now) }
 {
-    let mut out = Vec::new(alloc);
+    let mut out = Vec::with_capacity(alloc, ts.len().max(us.len()))?;
     let mut i = 0;
     let mut j = 0;
     while i < ts.len() && j < us.len() {

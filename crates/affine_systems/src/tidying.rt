@@ -28,7 +28,7 @@ fn normal_items(
     ensures items { IfOk result (λ r. r.0.items ≡ normal_items_is rational items.items) }
     ensures lost { IfOk result (λ r. r.1 ≡ any_too_big rational items.items) }
 {
-    let mut out = Vec::new(alloc);
+    let mut out = Vec::with_capacity(alloc, items.len())?;
     let mut lost = false;
     while let Some(mut item) = items.pop() {
         match normalise_as(rational, &mut item.row) {

@@ -3,8 +3,8 @@ use Rattle.affine_systems.specs.Normal.{Kept, Always, Never, TooBig, normal}
 use Rattle.affine_systems.proofs.ItemSteps.{normalised_step, reverse_pushed, answers_kept, answers_true, answers_false, answers_too_big}
 use Rattle.affine_systems.proofs.tidying.normal_items.Goals as goal
 
-pub loop-item-preserved-in-Continue-1 : goal.loop-item-preserved-in-Continue-1
-loop-item-preserved-in-Continue-1 c =
+pub loop-item-preserved-in-Continue-branch-2 : goal.loop-item-preserved-in-Continue-branch-2
+loop-item-preserved-in-Continue-branch-2 c =
     normalised_step c.args.rational c.loop-item.items.items c.pop.new.self.items c.loop-item.out.items c.push.new.self.items c.args.items.items c.loop-item.lost c.loop-item.lost c.in-Some.item (Kept c.normalise_as.new.row)
     c.in-Some.ensures.items (answers_kept (normal c.args.rational c.in-Some.item.row) c.in-Some.item.row c.normalise_as.new.row c.in-Kept.ensures)
     (reverse_pushed c.loop-item.out.items c.push.new.self.items _ c.in_ok-push-in-Kept.ensures.items) refl c.loop-item.invariant

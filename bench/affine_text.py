@@ -1,0 +1,36 @@
+"""Cases as text: one call a line, its variables, and behind each `;` a system; and what another program answers.
+
+The other program is a folder with `affine.py` and `model.py`, which compute the same definitions in Python: rows are
+`Row(equal, terms, bound)`, systems `System(rows, weak)`, and a variable is its kind (0 to 3) and its number.
+"""
+import importlib
+import os
+import sys
+
+KINDS = 'cxpa'
+
+
+def other_program(folder):
+    sys.path.insert(0, os.path.abspath(folder))
+    return importlib.import_module('affine'), importlib.import_module('model')
+
+
+def var_text(var):
+    return f'{KINDS[var[0]]}{var[1]}'
+
+
+def row_text(row):
+    terms = ''.join(f'{factor} {var_text(var)} ' for var, factor in row.terms)
+    return f'{terms}{"==" if row.equal else "<="} {row.bound}'
+
+
+def system_text(sys_):
+    return ('weak ' if sys_.weak else '') + ' , '.join(row_text(row) for row in sys_.rows)
+
+
+def case_text(call, variables=(), systems=()):
+    return ' '.join([call] + [var_text(v) for v in variables]) + ''.join(f' ; {s}' for s in systems)
+
+
+def exact_text(exact, sys_):
+    return ('exact' if exact else 'not exact') + f' ; {system_text(sys_)}'

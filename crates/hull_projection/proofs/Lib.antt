@@ -1,0 +1,9 @@
+pub mod RefuteLaws
+pub mod CleanLaws
+pub mod ProjectLaws
+pub mod FitLaws
+pub mod VarSteps
+pub mod TurnSteps
+pub mod RefuteSteps
+pub mod CleanSteps
+pub mod Example

@@ -1,0 +1,37 @@
+-- What the calls say of the points, for every point.
+use Rattle.std.specs.Prelude.{◌≡◌, ◌⊎◌, true, List, [], ◌∷◌}
+use Rattle.affine_systems.specs.declared.row.Var.{Var}
+use Rattle.affine_systems.specs.declared.row.Row.{Row}
+use Rattle.affine_systems.specs.declared.row.System.{System}
+use Rattle.affine_systems.specs.Points.{Point, Holds, HoldsAll}
+use Rattle.affine_systems.specs.Laws.{Lacks}
+use Rattle.hull_projection.specs.declared.projection.Shadow.{Shadow}
+
+-- no point is one of all rows
+abbrev pub HasNoPoint : List Row → Type 0
+HasNoPoint rs = (p : Point) → HoldsAll p rs → ⊥
+
+-- the row holds at each point of the rows
+abbrev pub HoldsThroughout : List Row → Row → Type 0
+HoldsThroughout rs r = (p : Point) → HoldsAll p rs → Holds p r
+
+-- a variable is one of the list
+abbrev pub IsOneOf : Var → List Var → Type 0
+IsOneOf w [] = ⊥
+IsOneOf w (v ∷ vs) = (w ≡ v) ⊎ IsOneOf w vs
+
+-- the second point differs from the first at these variables alone
+abbrev pub DiffersAt : List Var → Point → Point → Type 0
+DiffersAt vs p q = (w : Var) → (IsOneOf w vs → ⊥) → q w ≡ p w
+
+-- a point of s, with any numbers at the variables, is a point of the shadow
+abbrev pub ProjectsPoints : System → List Var → Shadow → Type 0
+ProjectsPoints s vs t = (p q : Point) → DiffersAt vs p q → HoldsAll p s.rows → HoldsAll q t.system.rows
+
+-- where it is exact, a point of the shadow is one of s with some numbers at the variables
+abbrev pub ExtendsPoints : System → List Var → Shadow → Type 0
+ExtendsPoints s vs t = t.exact ≡ true → (p : Point) → HoldsAll p t.system.rows → (q : Point) × DiffersAt vs p q × HoldsAll q s.rows
+
+-- no row has any of the variables
+abbrev pub LacksAll : List Var → List Row → Type 0
+LacksAll vs rs = (w : Var) → IsOneOf w vs → Lacks w rs

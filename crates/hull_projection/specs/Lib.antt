@@ -1,0 +1,5 @@
+pub mod Variables
+pub mod Refute
+pub mod Clean
+pub mod Project
+pub mod Laws

@@ -1,0 +1,115 @@
+//! Elimination of one variable after another, without the rows that come from too many originals.
+use affine_systems::Var;
+use affine_systems::items::{Item, Items, Originals, eliminate_item};
+use fx_lists::List;
+use std::alloc::{AllocError as Memory, Global};
+
+/// What eliminations left: the rows, whether one was lost, and how many eliminations were by pairs. A row that is
+/// dropped for its originals is not lost.
+#[derive(Debug, Drop)]
+pub struct Left {
+    pub items: Items,
+    pub lost: bool,
+    pub pairs: usize,
+}
+
+ghost use Rattle.std.specs.Prelude.{◌≡◌, ◌+◌, ◌<◌, ◌≤◌, ◌^◌, length, false, IfOk};
+ghost use Rattle.affine_systems.specs.Given.{ItemsFit};
+ghost use Rattle.affine_systems.specs.Eliminate.{eliminate_item as eliminate_item_is};
+ghost use Rattle.hull_projection.specs.Refute.{numbered as numbered_is, with_originals as with_originals_is, has_few as has_few_is, with_few as with_few_is, all_left as all_left_is, left_after, eliminate_all as eliminate_all_is};
+
+/// An at-most row as the original with a number; an equal row is none.
+fn numbered(item: Item, number: u32) -> Item
+    requires { number < 512 }
+    ensures { result ≡ numbered_is number item }
+{
+    let originals = if item.row.equal {
+        Originals::none()
+    } else {
+        Originals::only(number)
+    };
+    Item {
+        row: item.row,
+        originals,
+        made: number as u64,
+    }
+}
+
+/// The at-most rows as originals, numbered from 0.
+fn with_originals(alloc: Global, items: Items) -> Result<Items, Memory>
+    requires { length items ≤ 512 }
+    ensures { IfOk result (λ is. is ≡ with_originals_is 0 items) }
+{
+    let mut items = items.into_vec();
+    let mut out = Vec::new(alloc);
+    while let Some(item) = items.pop() {
+        let number = items.as_slice().len();
+        out.push(numbered(item, number as u32))?;
+    }
+    out.reverse();
+    Ok(List::from_vec(out))
+}
+
+/// Before the first elimination: the at-most rows are originals.
+pub fn all_left(alloc: Global, items: Items) -> Result<Left, Memory>
+    requires { length items ≤ 512 }
+    ensures { IfOk result (λ s. s ≡ all_left_is items) }
+{
+    Ok(Left {
+        items: with_originals(alloc, items)?,
+        lost: false,
+        pairs: 0,
+    })
+}
+
+/// Whether it has at most `pairs` + 1 originals.
+fn has_few(item: &Item, pairs: usize) -> bool
+    ensures { result ≡ has_few_is pairs item.now }
+{
+    item.originals.len().saturating_sub(1) as usize <= pairs
+}
+
+/// The rows with at most `pairs` + 1 originals.
+fn with_few(pairs: usize, items: Items) -> Items
+    ensures { result ≡ with_few_is pairs items }
+{
+    let mut items = items.into_vec();
+    items.retain(|item| has_few(item, pairs));
+    List::from_vec(items)
+}
+
+/// One variable less, without the rows that then come from too many originals.
+fn eliminate_more(alloc: Global, rational: bool, v: Var, left: Left) -> Result<Left, Memory>
+    requires fits { ItemsFit rational left.items }
+    requires room { left.pairs + 1 < 2 ^ 64 }
+    ensures defined { IfOk result (λ s. s ≡ left_after left (eliminate_item_is rational v left.items)) }
+    ensures gives { IfOk result (λ s. ItemsFit rational s.items) }
+    ensures pairs { IfOk result (λ s. s.pairs ≤ left.pairs + 1) }
+{
+    let e = eliminate_item(alloc, rational, v, left.items)?;
+    let pairs = if e.paired { left.pairs + 1 } else { left.pairs };
+    Ok(Left {
+        items: with_few(pairs, e.items),
+        lost: left.lost || e.lost,
+        pairs,
+    })
+}
+
+/// What is left without the variables. After k eliminations by pairs, rows from more than k + 1 originals are dropped.
+pub fn eliminate_all(
+    alloc: Global,
+    rational: bool,
+    left: Left,
+    vars: &[Var],
+) -> Result<Left, Memory>
+    requires fits { ItemsFit rational left.items }
+    requires first { left.pairs ≡ 0 }
+    ensures defined { IfOk result (λ s. s ≡ eliminate_all_is rational left vars.now) }
+    ensures gives { IfOk result (λ s. ItemsFit rational s.items) }
+{
+    let mut left = left;
+    for v in vars {
+        left = eliminate_more(alloc, rational, *v, left)?;
+    }
+    Ok(left)
+}

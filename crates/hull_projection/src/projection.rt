@@ -1,0 +1,91 @@
+//! Projection: variables are eliminated in ascending order, and the rest is cleaned.
+
+use crate::cleaning::cleaned;
+use crate::variables::in_order;
+use affine_systems::items::copy_rows;
+use affine_systems::{System, Var, Vars, eliminate};
+use fx_lists::List;
+use std::alloc::{AllocError as Memory, Global};
+
+/// A system without some variables. Where it is `exact`, each point of it extends to one of the system that it came
+/// from.
+#[derive(Clone, PartialEq, Eq, Debug, Drop)]
+pub struct Shadow {
+    pub system: System,
+    pub exact: bool,
+}
+
+ghost use Rattle.std.specs.Prelude.{◌≡◌, true, IfOk};
+ghost use Rattle.affine_systems.specs.Rows.{AllRows};
+ghost use Rattle.affine_systems.specs.Given.{IsSmallRow, Fits};
+ghost use Rattle.affine_systems.specs.Eliminate.{eliminate as eliminate_is};
+ghost use Rattle.hull_projection.specs.Project.{shadow, shadow_after, eliminate_each as eliminate_each_is, cleaned_shadow, project as project_is};
+ghost use Rattle.hull_projection.specs.Laws.{ProjectsPoints, ExtendsPoints, LacksAll};
+
+/// One variable less.
+fn eliminate_more(alloc: Global, s: Shadow, v: Var) -> Result<Shadow, Memory>
+    requires { Fits s.system }
+    ensures defined { IfOk result (λ t. t ≡ shadow_after s (eliminate_is s.system v)) }
+    ensures gives { IfOk result (λ t. Fits t.system) }
+{
+    let e = eliminate(alloc, &s.system, v)?;
+    Ok(Shadow {
+        system: e.system,
+        exact: s.exact && e.exact,
+    })
+}
+
+/// The variables eliminated in turn.
+fn eliminate_each(alloc: Global, s: Shadow, vars: &[Var]) -> Result<Shadow, Memory>
+    requires { Fits s.system }
+    ensures defined { IfOk result (λ t. t ≡ eliminate_each_is s vars.now) }
+    ensures gives { IfOk result (λ t. Fits t.system) }
+{
+    let mut s = s;
+    for v in vars {
+        s = eliminate_more(alloc, s, *v)?;
+    }
+    Ok(s)
+}
+
+/// The shadow with its system cleaned.
+fn cleaned_system(alloc: Global, s: Shadow) -> Result<Shadow, Memory>
+    requires { AllRows IsSmallRow s.system.rows }
+    ensures { IfOk result (λ t. t ≡ cleaned_shadow s) }
+{
+    let Shadow { system, exact } = s;
+    let System { rows, weak } = system;
+    let rows = cleaned(alloc, rows)?;
+    Ok(Shadow {
+        system: System { rows, weak },
+        exact,
+    })
+}
+
+/// The system before the first elimination.
+fn whole(alloc: Global, sys: &System) -> Result<Shadow, Memory>
+    ensures { IfOk result (λ t. t ≡ shadow sys.now true) }
+{
+    Ok(Shadow {
+        system: System {
+            rows: List::from_vec(copy_rows(alloc, sys.rows.as_slice())?),
+            weak: sys.weak,
+        },
+        exact: true,
+    })
+}
+
+/// The system without the variables, cleaned. Exact where each elimination was.
+pub fn project(alloc: Global, sys: &System, vars: &Vars) -> Result<Shadow, Memory>
+    requires fits { Fits sys.now }
+    ensures defined { IfOk result (λ s. s ≡ project_is sys.now vars.now) }
+    ensures gives { IfOk result (λ s. Fits s.system) }
+    ensures gone { IfOk result (λ s. LacksAll vars.now s.system.rows) }
+    ensures keeps { IfOk result (ProjectsPoints sys.now vars.now) }
+    ensures exact { IfOk result (ExtendsPoints sys.now vars.now) }
+{
+    let order = in_order(alloc, vars.as_slice())?;
+    let start = whole(alloc, sys)?;
+    let left = eliminate_each(alloc, start, order.as_slice())?;
+    cleaned_system(alloc, left)
+}
