@@ -3,35 +3,25 @@
 
     python3 bench/straight.py [PATH_TO_PIPS]
 
-Each line: the case, the bytes in and out, the seconds (the least of three) and the greatest memory in MiB.
+Each line: the case, the bytes in and out, the processor seconds (the least of three) and the greatest memory in MiB. A program has at most 4,096
+statements, so that the larger ones have longer statements.
 """
-import os
 import random
-import resource
-import subprocess
 import sys
-import tempfile
-import time
 
-TOP = os.path.dirname(os.path.dirname(os.path.abspath(__file__)))
+from measure import binary_of, folded, report
 
 
-def lines_of_size(size):
-    """Assignments and PRINTs over four variables, up to a size in bytes."""
+def of_size(size):
+    """Up to 4,000 assignments and PRINTs over four variables, up to a size in bytes."""
     pick = random.Random(size)
-    names = ['I', 'J', 'K', 'N']
-    lines, left = ['      PROGRAM P\n'], size - 26
-    while True:
-        kind = pick.randrange(4)
-        name, other = pick.choice(names), pick.choice(names)
-        text = (f'{name}={pick.randrange(1000)}', f'{name}={other}+{pick.randrange(9)}', f'{name}=2*{other}-1',
-                f'PRINT *,{name},{other}')[kind]
-        line = '      ' + text + '\n'
-        if len(line) > left:
-            break
-        lines.append(line)
-        left -= len(line)
-    return ''.join(lines) + '      END\n'
+    names = ['INDEX', 'KOUNT', 'LENGTH', 'NUMBER']
+    text = '      PROGRAM P\n'
+    for left in range(min(4000, size // 40), 0, -1):
+        room = (size - 10 - len(text)) // left - 20
+        terms = [f'{pick.randrange(1, 9)}*{pick.choice(names)}' for _ in range(max(1, room * 60 // 66 // 9))]
+        text += folded(pick.choice(names) + '=' + '+'.join(terms) if pick.randrange(2) else 'PRINT *,' + ','.join(terms))
+    return text + '      END\n'
 
 
 def assignments(count, variables):
@@ -45,29 +35,12 @@ def assignments(count, variables):
     return '      PROGRAM P\n' + ''.join(lines) + '      END\n'
 
 
-def measured(binary, text):
-    with tempfile.TemporaryDirectory() as place:
-        path = os.path.join(place, 'p.f')
-        with open(path, 'w') as f:
-            f.write(text)
-        best = None
-        for _ in range(3):
-            start = time.monotonic()
-            done = subprocess.run([binary, path], stdout=subprocess.PIPE, stderr=subprocess.PIPE)
-            seconds = time.monotonic() - start
-            if done.returncode != 0:
-                sys.exit(f'status {done.returncode}: {done.stderr.decode()}')
-            best = seconds if best is None else min(best, seconds)
-    return len(done.stdout), best, resource.getrusage(resource.RUSAGE_CHILDREN).ru_maxrss / 1024
-
-
 def main(words):
-    binary = os.path.abspath(words[0]) if words else os.path.join(TOP, 'crates', 'pips', 'out', 'pips')
-    cases = [(f'straight {size // 1024} KiB', lines_of_size(size)) for size in (65536, 262144, 1048576)]
-    cases += [(f'{count} assignments, 20 variables', assignments(count, 20)) for count in (1024, 2048, 4096)]
-    for name, text in cases:
-        out, seconds, memory = measured(binary, text)
-        print(f'{name}: in {len(text)}, out {out}, {seconds:.3f} s, {memory:.0f} MiB')
+    binary = binary_of(words)
+    for size in (65536, 262144, 1048576):
+        report(f'straight {size // 1024} KiB', binary, of_size(size))
+    for count in (1024, 2048, 4096):
+        report(f'{count} assignments, 20 variables', binary, assignments(count, 20))
 
 
 if __name__ == '__main__':

@@ -1,10 +1,10 @@
 //! Texts of systems, and each call with ample memory.
 use crate::{
-    Affine, Variables, affine_of, apply, no_rows, post, precondition_line, preconditions,
-    statement_transformer, system_text,
+    Affine, Variables, affine_of, apply, is_straight, no_rows, post, precondition_line,
+    preconditions, statement_transformer, system_text,
 };
 use affine_systems::{Row, System, Term, Var};
-use f77_ast::{BinaryOp, Expr, Stmt, What};
+use f77_ast::{BinaryOp, Decl, Expr, Module, Stmt, What};
 use fx_lists::{List, Text};
 use std::alloc::{AllocError as Memory, Global};
 use std::test::Fail;
@@ -119,5 +119,27 @@ fn ample_form(rt: HostRuntime) -> Result<(), Fail> {
             constant: -7
         })
     );
+    Ok(())
+}
+
+/// A straight program is a main program, without specifications.
+#[test]
+fn ample_straight(rt: HostRuntime) -> Result<(), Fail> {
+    let alloc = rt.alloc();
+    for (main, saves) in [(true, false), (true, true), (false, false)] {
+        let mut decls = List::new(alloc);
+        if saves {
+            decls.push(Decl::Save(List::new(alloc)))?;
+        }
+        let program = Module {
+            name: Text::from_bytes(alloc, b"P")?,
+            main,
+            titled: true,
+            dummies: List::new(alloc),
+            decls,
+            body: body(alloc)?,
+        };
+        assert_eq!(rt; is_straight(&program), main && !saves);
+    }
     Ok(())
 }

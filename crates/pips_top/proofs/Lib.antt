@@ -1,6 +1,3 @@
-pub mod ExprLemmas
-pub mod LineLemmas
-pub mod ProgressLemmas
-pub mod WrittenLemmas
-pub mod StraightLaws
+pub mod Joining
 pub mod Soundness
+pub mod Stopping

@@ -1,64 +1,92 @@
--- What is written is the text of a program whose preconditions hold, and what the definitions answer.
-use Rattle.std.proofs.Common.{◌≡◌, ℕ, ◌≤◌, List, length, take, ap, sym, ◌∙◌, refl, subst, Option, Some, None, IsSomeAnd, arith}
+-- What is written is the text of a program whose claims hold, and what the definitions answer.
+use Rattle.std.proofs.Common.{◌≡◌, ℕ, ◌≤◌, List, [], ◌∷◌, length, take, ap, sym, ◌∙◌, refl, subst, Bool, true, false, Option, Some, None, IsSomeAnd, IfSome, Result, Ok, Err, if◌then◌else◌, arith}
 use Rattle.std.proofs.lemmas.Grind.{common_steps}
 use Rattle.fx_base.specs.Files.{Files, bytes_of}
-use Rattle.pips_top.specs.Answer.{Answer, answer, answer_named, answer_held}
 use Rattle.fx_base.specs.Sink.{appended}
-use Rattle.fx_base.specs.declared.store.Fetched.TheVariants as fetched
+use Rattle.fx_base.specs.declared.tally.Tally.{Tally}
 use Rattle.fx_base.specs.declared.store.Role.TheVariants.{Input}
-use Rattle.f77_ast.specs.DeclTrees.{ModuleTree}
+use Rattle.f77_ast.specs.DeclTrees.{ModuleTree, ParsedTree}
+use Rattle.f77_ast.specs.Straight.{is_straight}
+use Rattle.f77_parser.specs.Gives.{Refused}
+use Rattle.pips_scalars.specs.Claim.{PreconditionsHold}
 use Rattle.pips_scalars.proofs.RunLaws.{preconditions_hold}
-use Rattle.pips_top.specs.Straight.{Reading, accepted, refused, reading}
-use Rattle.pips_top.specs.Written.{written}
+use Rattle.pips_top.specs.Answer.{Answer, answer, answer_asked, answer_held}
+use Rattle.pips_top.specs.Claimed.{ClaimsHold, if_alone}
 use Rattle.pips_top.specs.Made.{made, made_of, input_limit}
-use Rattle.pips_top.specs.Run.{Outside, Asked, Defines, CausedBy, Claims, SoundBy}
+use Rattle.pips_top.specs.Reading.{reading}
+use Rattle.pips_top.specs.Run.{Outside, Defines, DefinesFor, CausedBy, WritesFor, BeginsFor, SoundBy}
+use Rattle.pips_top.specs.Words.{asked}
+use Rattle.pips_top.specs.Written.{written}
 use Rattle.pips_top.specs.declared.make.Made.TheVariants.{Writes}
 use Rattle.pips_top.specs.declared.status.Status.{Status}
-use Rattle.pips_top.specs.declared.status.Status.TheVariants.{Done, Refused, Usage, NoInput, TooLong, ReadFault, WriteFault, BadBase, StaleBase, BaseFault, Memory}
-use Rattle.pips_top.proofs.StraightLaws.{reading-straight}
+use Rattle.pips_top.specs.declared.status.Status.TheVariants as status
+use Rattle.pips_top.specs.declared.status.Status.TheVariants.{Done, Usage, NoInput, TooLong, ReadFault, WriteFault, BadBase, StaleBase, BaseFault, Memory}
+use Rattle.pips_top.specs.declared.words.Request.{Request}
+use Rattle.pips_top.specs.declared.words.Show.{Show}
+use Rattle.pips_top.specs.declared.words.Show.TheVariants.{All, Bare, Why}
 
--- a text that is to be written is that of a program
-made_from : (r : Reading) (text : List ℕ) → made_of r ≡ Writes text → (m : ModuleTree) × (r ≡ accepted m) × (text ≡ written m)
-made_from (accepted m) text e = (m, refl, cc)
-made_from (refused line code) text e = cc
+-- a text that is to be written is that of a program that was read
+made_from : (show : Show) (r : Result (List ParsedTree) Refused) (text : List ℕ) → made_of show r ≡ Writes text
+    → (ms : List ParsedTree) × (r ≡ Ok ms) × (text ≡ written show ms)
+made_from show (Ok ms) text e = (ms, refl, cc)
+made_from show (Err r) text e = cc
 
-claims_of : (words : List (List ℕ)) (old new : Outside) (bytes : List ℕ) (m : ModuleTree)
-    → Asked words old.files (old.counts Input) (new.counts Input) (fetched.Got bytes) → reading bytes ≡ accepted m → Claims words old new m
-claims_of words old new bytes m asked e = (bytes, asked, e, preconditions_hold m (reading-straight bytes m e))
+straight_holds : (m : ModuleTree) (b : Bool) → is_straight m ≡ b → IfSome (if b then Some m else None) PreconditionsHold
+straight_holds m true e = preconditions_hold m e
+straight_holds m false e = tt
 
-pub sound_from : (words : List (List ℕ)) (old new : Outside) (status : Status) → CausedBy words old new status → SoundBy words old new status
-sound_from words old new Done (text, (bytes, asked, e), out) =
-    let p = made_from (reading bytes) text e in
-    (p.0, claims_of words old new bytes p.0 asked p.1, out ∙ ap (appended old.out) p.2)
-sound_from words old new WriteFault (text, (bytes, asked, e), rose, (n, within, out)) =
-    let p = made_from (reading bytes) text e in
-    (p.0, claims_of words old new bytes p.0 asked p.1, (n, subst (λ t. n ≤ length t) p.2 within, out ∙ ap (λ t. appended old.out (take n t)) p.2))
-sound_from words old new (Refused line code) cause = tt
-sound_from words old new Usage cause = tt
-sound_from words old new NoInput cause = tt
-sound_from words old new TooLong cause = tt
-sound_from words old new ReadFault cause = tt
-sound_from words old new (BadBase code) cause = tt
-sound_from words old new StaleBase cause = tt
-sound_from words old new BaseFault cause = tt
-sound_from words old new Memory cause = tt
+alone_holds : (ms : List ParsedTree) → IfSome (if_alone ms) PreconditionsHold
+alone_holds [] = tt
+alone_holds (m ∷ []) = straight_holds m.module_read (is_straight m.module_read) refl
+alone_holds (m ∷ n ∷ ms) = tt
 
-answers_held : (held : Option (List ℕ)) (bytes text : List ℕ) → length bytes ≤ input_limit → held ≡ Some bytes → made bytes ≡ Writes text
-    → answer_held held ≡ record { status = Done; out = text }
-answers_held None bytes text within found e = cc
-answers_held (Some own) bytes text within found e = grind (arith, common_steps)
+claims_hold : (show : Show) (ms : List ParsedTree) → ClaimsHold show ms
+claims_hold All ms = alone_holds ms
+claims_hold Bare ms = tt
+claims_hold Why ms = tt
 
-answers_named : (named : Option (List ℕ)) (held : Files) (bytes text : List ℕ)
-    → IsSomeAnd named (λ name. (length bytes ≤ input_limit) × (bytes_of held name ≡ Some bytes)) → made bytes ≡ Writes text
-    → answer_named named held ≡ record { status = Done; out = text }
-answers_named None held bytes text found e = elim found [ ]
-answers_named (Some name) held bytes text (within, found) e = answers_held (bytes_of held name) bytes text within found e
+writes_for : (old new : Outside) (text : List ℕ) (o : Option Request) → IsSomeAnd o (DefinesFor old.files (old.counts Input) (new.counts Input) text)
+    → new.out ≡ appended old.out text → IsSomeAnd o (WritesFor old new)
+writes_for old new text None d out = elim d [ ]
+writes_for old new text (Some r) (bytes, got, e) out =
+    let p = made_from r.show (reading bytes) text e in
+    (p.0, (bytes, got, p.1, claims_hold r.show p.0), out ∙ ap (appended old.out) p.2)
+
+begins_for : (old new : Outside) (text : List ℕ) (o : Option Request) → IsSomeAnd o (DefinesFor old.files (old.counts Input) (new.counts Input) text)
+    → (n : ℕ) → n ≤ length text → new.out ≡ appended old.out (take n text) → IsSomeAnd o (BeginsFor old new)
+begins_for old new text None d n within out = elim d [ ]
+begins_for old new text (Some r) (bytes, got, e) n within out =
+    let p = made_from r.show (reading bytes) text e in
+    (p.0, (bytes, got, p.1, claims_hold r.show p.0), (n, subst (λ t. n ≤ length t) p.2 within, out ∙ ap (λ t. appended old.out (take n t)) p.2))
+
+pub sound_from : (words : List (List ℕ)) (old new : Outside) (s : Status) (line : List ℕ) → CausedBy words old new s line → SoundBy words old new s
+sound_from words old new Done line (text, defines, out, told) = writes_for old new text (asked words) defines out
+sound_from words old new WriteFault line (text, defines, rose, (n, within, out), told) = begins_for old new text (asked words) defines n within out
+sound_from words old new (status.Refused at code) line cause = tt
+sound_from words old new Usage line cause = tt
+sound_from words old new NoInput line cause = tt
+sound_from words old new TooLong line cause = tt
+sound_from words old new ReadFault line cause = tt
+sound_from words old new (BadBase code) line cause = tt
+sound_from words old new StaleBase line cause = tt
+sound_from words old new BaseFault line cause = tt
+sound_from words old new Memory line cause = tt
+
+answers_held : (show : Show) (held : Option (List ℕ)) (bytes text : List ℕ) → length bytes ≤ input_limit → held ≡ Some bytes → made show bytes ≡ Writes text
+    → answer_held show held ≡ record { status = Done; out = text }
+answers_held show None bytes text within found e = cc
+answers_held show (Some own) bytes text within found e = grind (arith, common_steps)
+
+answers_asked : (o : Option Request) (held : Files) (old new : Tally) (text : List ℕ) → IsSomeAnd o (DefinesFor (Some held) old new text)
+    → answer_asked o held ≡ record { status = Done; out = text }
+answers_asked None held old new text d = elim d [ ]
+answers_asked (Some r) held old new text (bytes, got, e) = answers_held r.show (bytes_of held r.input) bytes text got.0 got.1 e
 
 -- a run that has written the whole text ends as the definitions say
-pub defined_from : (words : List (List ℕ)) (old new : Outside) → CausedBy words old new Done → (held : Files) → old.files ≡ Some held
+pub defined_from : (words : List (List ℕ)) (old new : Outside) (line : List ℕ) → CausedBy words old new Done line → (held : Files) → old.files ≡ Some held
     → (Done ≡ (answer words held).status) × (new.out ≡ appended old.out (answer words held).out)
-defined_from words old new (text, defines, out) held is =
+defined_from words old new line (text, defines, out, told) held is =
     let d : Defines words (Some held) (old.counts Input) (new.counts Input) text =
     subst (λ f. Defines words f (old.counts Input) (new.counts Input) text) is defines in
-    let a : answer words held ≡ record { status = Done; out = text } = answers_named _ held d.0 text d.1 d.2 in
+    let a : answer words held ≡ record { status = Done; out = text } = answers_asked (asked words) held (old.counts Input) (new.counts Input) text d in
     (sym (ap (λ (b : Answer). b.status) a), out ∙ sym (ap (λ (b : Answer). appended old.out b.out) a))

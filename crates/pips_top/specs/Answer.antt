@@ -2,11 +2,13 @@
 use Rattle.std.specs.Prelude.{ℕ, List, [], length, nat_lt, Option, Some, None, if◌then◌else◌}
 use Rattle.fx_base.specs.Files.{Files, bytes_of}
 use Rattle.pips_top.specs.Made.{made, input_limit}
-use Rattle.pips_top.specs.Words.{input_name}
+use Rattle.pips_top.specs.Words.{asked}
 use Rattle.pips_top.specs.declared.make.Made.{Made}
 use Rattle.pips_top.specs.declared.make.Made.TheVariants.{Writes, Refuses}
 use Rattle.pips_top.specs.declared.status.Status.{Status}
 use Rattle.pips_top.specs.declared.status.Status.TheVariants.{Done, Refused, Usage, NoInput, TooLong}
+use Rattle.pips_top.specs.declared.words.Request.{Request}
+use Rattle.pips_top.specs.declared.words.Show.{Show}
 
 -- the status, and the bytes on out
 pub record Answer : Type 0 where
@@ -19,15 +21,15 @@ silent s = record { status = s; out = [] }
 
 abbrev pub answer_made : Made → Answer
 answer_made (Writes text) = record { status = Done; out = text }
-answer_made (Refuses line code) = silent (Refused line code)
+answer_made (Refuses line code keyword) = silent (Refused line code)
 
-abbrev pub answer_held : Option (List ℕ) → Answer
-answer_held None = silent NoInput
-answer_held (Some bytes) = if nat_lt input_limit (length bytes) then silent TooLong else answer_made (made bytes)
+abbrev pub answer_held : Show → Option (List ℕ) → Answer
+answer_held show None = silent NoInput
+answer_held show (Some bytes) = if nat_lt input_limit (length bytes) then silent TooLong else answer_made (made show bytes)
 
-abbrev pub answer_named : Option (List ℕ) → Files → Answer
-answer_named None held = silent Usage
-answer_named (Some name) held = answer_held (bytes_of held name)
+abbrev pub answer_asked : Option Request → Files → Answer
+answer_asked None held = silent Usage
+answer_asked (Some request) held = answer_held request.show (bytes_of held request.input)
 
 abbrev pub answer : List (List ℕ) → Files → Answer
-answer words held = answer_named (input_name words) held
+answer words held = answer_asked (asked words) held

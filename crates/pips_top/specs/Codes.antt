@@ -1,5 +1,18 @@
 -- The names of the codes of refusals.
-use Rattle.std.specs.Prelude.{ℕ, List, [], nat_eq, codes, if◌then◌else◌}
+use Rattle.std.specs.Prelude.{ℕ, List, [], ◌∷◌, nat_eq, codes, if◌then◌else◌}
+
+abbrev pub named_in : List (ℕ × List ℕ) → ℕ → List ℕ
+named_in [] code = []
+named_in (entry ∷ others) code = if nat_eq code entry.0 then entry.1 else named_in others code
+
+abbrev pub code_names : List (ℕ × List ℕ)
+code_names =
+    (1, codes "NonAscii") ∷ (2, codes "Tab") ∷ (3, codes "BadLabelField") ∷ (4, codes "ContinuationFirst")
+    ∷ (5, codes "TooManyContinuations") ∷ (6, codes "NoEnd")
+    ∷ (10, codes "Syntax") ∷ (11, codes "OutOfProfile") ∷ (12, codes "RealConstant") ∷ (13, codes "NumberTooBig") ∷ (14, codes "NameTooLong")
+    ∷ (15, codes "UnclosedDo") ∷ (16, codes "UnclosedIf") ∷ (17, codes "StrayPart") ∷ (18, codes "BadTerminal") ∷ (19, codes "LabelTwice")
+    ∷ (20, codes "LabelMissing") ∷ (21, codes "JumpIntoBlock") ∷ (22, codes "TooManyStatements") ∷ (23, codes "TooDeep")
+    ∷ (50, codes "NoMain") ∷ []
 
 abbrev pub code_name : ℕ → List ℕ
-code_name code = if nat_eq code 10 then codes "Syntax" else if nat_eq code 50 then codes "NoMain" else []
+code_name code = named_in code_names code

@@ -1,7 +1,5 @@
-pub mod Characters
-pub mod StraightExprs
-pub mod StraightLines
-pub mod Straight
+pub mod Reading
+pub mod Claimed
 pub mod Written
 pub mod Made
 pub mod Words
@@ -9,6 +7,3 @@ pub mod Codes
 pub mod Status
 pub mod Answer
 pub mod Run
-pub mod Reads
-pub mod LineTrees
-pub mod Progress

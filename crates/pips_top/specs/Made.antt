@@ -1,7 +1,10 @@
 -- What becomes of a text: it is refused, or the written program.
-use Rattle.std.specs.Prelude.{ℕ, List}
-use Rattle.pips_top.specs.Straight.{Reading, accepted, refused, reading}
+use Rattle.std.specs.Prelude.{ℕ, List, Result, Ok, Err}
+use Rattle.f77_ast.specs.DeclTrees.{ParsedTree}
+use Rattle.f77_parser.specs.Gives.{Refused}
+use Rattle.pips_top.specs.Reading.{reading}
 use Rattle.pips_top.specs.Written.{written}
+use Rattle.pips_top.specs.declared.words.Show.{Show}
 use Rattle.pips_top.specs.declared.make.Made.{Made}
 use Rattle.pips_top.specs.declared.make.Made.TheVariants.{Writes, Refuses}
 
@@ -9,9 +12,9 @@ use Rattle.pips_top.specs.declared.make.Made.TheVariants.{Writes, Refuses}
 abbrev pub input_limit : ℕ
 input_limit = 1048576
 
-abbrev pub made_of : Reading → Made
-made_of (accepted m) = Writes (written m)
-made_of (refused line code) = Refuses line code
+abbrev pub made_of : Show → Result (List ParsedTree) Refused → Made
+made_of show (Ok ms) = Writes (written show ms)
+made_of show (Err r) = Refuses r.line r.code r.keyword
 
-abbrev pub made : List ℕ → Made
-made bytes = made_of (reading bytes)
+abbrev pub made : Show → List ℕ → Made
+made show bytes = made_of show (reading bytes)

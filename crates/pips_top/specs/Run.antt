@@ -1,5 +1,5 @@
 -- What a run answers, by its words and by what it finds outside, and what it leaves there.
-use Rattle.std.specs.Prelude.{◌≡◌, ℕ, ◌≤◌, ◌⊎◌, List, length, take, Option, Some, None, IsSomeAnd, Result, Ok, Err, Bool, true, false}
+use Rattle.std.specs.Prelude.{◌≡◌, ℕ, ◌≤◌, ◌⊎◌, List, [], length, take, codes, Option, Some, None, IsSomeAnd, Result, Ok, Err, Bool, true, false}
 use Rattle.std.specs.declared.alloc.AllocError.{AllocError}
 use Rattle.fx_base.specs.Counts.{Rose}
 use Rattle.fx_base.specs.Files.{Files}
@@ -11,13 +11,15 @@ use Rattle.fx_base.specs.declared.store.Role.TheVariants.{Input, Base}
 use Rattle.fx_base.specs.declared.store.Fetched.{Fetched}
 use Rattle.fx_base.specs.declared.store.Fetched.TheVariants as fetched
 use Rattle.pips_top.specs.Made.{made, input_limit}
-use Rattle.f77_ast.specs.DeclTrees.{ModuleTree}
-use Rattle.pips_scalars.specs.Claim.{PreconditionsHold}
-use Rattle.pips_top.specs.Straight.{accepted, reading}
+use Rattle.f77_ast.specs.DeclTrees.{ParsedTree}
+use Rattle.pips_top.specs.Reading.{reading}
+use Rattle.pips_top.specs.Claimed.{ClaimsHold}
 use Rattle.pips_top.specs.Written.{written}
-use Rattle.pips_top.specs.Words.{input_name}
-use Rattle.pips_top.specs.Status.{line_of}
+use Rattle.pips_top.specs.Words.{asked}
+use Rattle.pips_top.specs.Status.{naming, refusal_line, usage_line}
 use Rattle.pips_top.specs.Answer.{answer}
+use Rattle.pips_top.specs.declared.words.Request.{Request}
+use Rattle.pips_top.specs.declared.make.Made.{Made}
 use Rattle.pips_top.specs.declared.make.Made.TheVariants.{Writes, Refuses}
 use Rattle.pips_top.specs.declared.reply.Reply.{Reply}
 use Rattle.pips_top.specs.declared.reply.Reply.TheVariants.{Writing, Stopping, NoMemory}
@@ -34,32 +36,44 @@ pub record Outside : Type 0 where
   pub err_faults : ℕ
 
 -- INPUT was fetched, with this answer
-abbrev pub Asked : List (List ℕ) → Option Files → Tally → Tally → Fetched → Type 0
-Asked words files old new answer = IsSomeAnd (input_name words) (λ name. FetchedBy files old new name input_limit answer)
+abbrev pub Answered : Request → Option Files → Tally → Tally → Fetched → Type 0
+Answered r files old new answer = FetchedBy files old new r.input input_limit answer
 
 -- the words name an input whose bytes make this text
-abbrev pub Defines : List (List ℕ) → Option Files → Tally → Tally → List ℕ → Type 0
-Defines words files old new text = (bytes : List ℕ) × Asked words files old new (fetched.Got bytes) × (made bytes ≡ Writes text)
+abbrev pub DefinesFor : Option Files → Tally → Tally → List ℕ → Request → Type 0
+DefinesFor files old new text r = (bytes : List ℕ) × Answered r files old new (fetched.Got bytes) × (made r.show bytes ≡ Writes text)
 
--- each status that comes before writing, with its cause
-abbrev pub StopsBy : List (List ℕ) → Option Files → Tally → Tally → Status → Type 0
-StopsBy words files old new Done = ⊥
-StopsBy words files old new (Refused line code) =
-    (bytes : List ℕ) × Asked words files old new (fetched.Got bytes) × (made bytes ≡ Refuses line code)
-StopsBy words files old new Usage = input_name words ≡ None
-StopsBy words files old new NoInput = Asked words files old new fetched.Absent
-StopsBy words files old new TooLong = Asked words files old new fetched.TooLong
-StopsBy words files old new ReadFault = Asked words files old new fetched.Failed
-StopsBy words files old new WriteFault = ⊥
-StopsBy words files old new (BadBase code) = ⊥
-StopsBy words files old new StaleBase = ⊥
-StopsBy words files old new BaseFault = ⊥
-StopsBy words files old new Memory = Unit {0}
+abbrev pub Defines : List (List ℕ) → Option Files → Tally → Tally → List ℕ → Type 0
+Defines words files old new text = IsSomeAnd (asked words) (DefinesFor files old new text)
+
+-- the words name an input whose bytes are refused
+abbrev pub RefusesFor : Option Files → Tally → Tally → ℕ → ℕ → List ℕ → Request → Type 0
+RefusesFor files old new at code text r =
+    (bytes : List ℕ) × (keyword : List ℕ) × Answered r files old new (fetched.Got bytes) × (made r.show bytes ≡ Refuses at code keyword)
+    × (text ≡ refusal_line at code keyword)
+
+-- the words name an input that is not got
+abbrev pub LacksFor : Option Files → Tally → Tally → Fetched → List ℕ → List ℕ → Request → Type 0
+LacksFor files old new answer start text r = Answered r files old new answer × (text ≡ naming start r.input)
+
+-- each status that comes before writing, with its cause and its line on err
+abbrev pub StopsBy : List (List ℕ) → Option Files → Tally → Tally → Status → List ℕ → Type 0
+StopsBy words files old new Done text = ⊥
+StopsBy words files old new (Refused at code) text = IsSomeAnd (asked words) (RefusesFor files old new at code text)
+StopsBy words files old new Usage text = (asked words ≡ None) × (text ≡ usage_line)
+StopsBy words files old new NoInput text = IsSomeAnd (asked words) (LacksFor files old new fetched.Absent (codes "pips: no input ") text)
+StopsBy words files old new TooLong text = IsSomeAnd (asked words) (LacksFor files old new fetched.TooLong (codes "pips: too long ") text)
+StopsBy words files old new ReadFault text = IsSomeAnd (asked words) (LacksFor files old new fetched.Failed (codes "pips: cannot read ") text)
+StopsBy words files old new WriteFault text = ⊥
+StopsBy words files old new (BadBase code) text = ⊥
+StopsBy words files old new StaleBase text = ⊥
+StopsBy words files old new BaseFault text = ⊥
+StopsBy words files old new Memory text = text ≡ codes "pips: out of memory\n"
 
 -- what is to be written, or the status with its line
 abbrev pub RepliesBy : List (List ℕ) → Option Files → Tally → Tally → Reply → Type 0
 RepliesBy words files old new (Writing text) = Defines words files old new text
-RepliesBy words files old new (Stopping status line) = StopsBy words files old new status × (line ≡ line_of words status)
+RepliesBy words files old new (Stopping status line) = StopsBy words files old new status line
 RepliesBy words files old new NoMemory = Unit {0}
 
 -- the status with its line where there was memory for it
@@ -67,30 +81,45 @@ abbrev pub StopsOr : Status → Result (List ℕ) AllocError → Reply → Type 
 StopsOr status (Ok line) reply = reply ≡ Stopping status line
 StopsOr status (Err error) reply = reply ≡ NoMemory
 
+-- what was made is to be written, or its refusal with its line
+abbrev pub RepliesTo : Made → Reply → Type 0
+RepliesTo m (Writing text) = m ≡ Writes text
+RepliesTo m (Stopping status line) = (at : ℕ) × (code : ℕ) × (keyword : List ℕ) × (m ≡ Refuses at code keyword) × (status ≡ Refused at code) × (line ≡ refusal_line at code keyword)
+RepliesTo m NoMemory = Unit {0}
+
 -- the whole text was appended, or its first n bytes where the count rose
 abbrev pub Gains : Option (List ℕ) → Option (List ℕ) → ℕ → ℕ → List ℕ → Type 0
 Gains old new before after text =
     (new ≡ appended old text) ⊎ ((n : ℕ) × (n ≤ length text) × (new ≡ appended old (take n text)) × Rose before after)
 
--- each status with its cause, and what out gained
-abbrev pub CausedBy : List (List ℕ) → Outside → Outside → Status → Type 0
-CausedBy words old new Done =
-    (text : List ℕ) × Defines words old.files (old.counts Input) (new.counts Input) text × (new.out ≡ appended old.out text)
-CausedBy words old new WriteFault =
+-- each status with its cause and its line on err, and what out gained
+abbrev pub CausedBy : List (List ℕ) → Outside → Outside → Status → List ℕ → Type 0
+CausedBy words old new Done line =
+    (text : List ℕ) × Defines words old.files (old.counts Input) (new.counts Input) text × (new.out ≡ appended old.out text) × (line ≡ [])
+CausedBy words old new WriteFault line =
     (text : List ℕ) × Defines words old.files (old.counts Input) (new.counts Input) text × Rose old.out_faults new.out_faults
-    × ((n : ℕ) × (n ≤ length text) × (new.out ≡ appended old.out (take n text)))
-CausedBy words old new status = StopsBy words old.files (old.counts Input) (new.counts Input) status × (new.out ≡ old.out)
+    × ((n : ℕ) × (n ≤ length text) × (new.out ≡ appended old.out (take n text))) × (line ≡ codes "pips: cannot write\n")
+CausedBy words old new status line = StopsBy words old.files (old.counts Input) (new.counts Input) status line × (new.out ≡ old.out)
 
--- a program was read from INPUT, and each of its preconditions holds at each arrival of its statement, in each of its runs
-abbrev pub Claims : List (List ℕ) → Outside → Outside → ModuleTree → Type 0
-Claims words old new m =
-    (bytes : List ℕ) × Asked words old.files (old.counts Input) (new.counts Input) (fetched.Got bytes) × (reading bytes ≡ accepted m) × PreconditionsHold m
+-- a program was read from INPUT, and what is claimed of it is true of every run
+abbrev pub ClaimsFor : Outside → Outside → List ParsedTree → Request → Type 0
+ClaimsFor old new ms r =
+    (bytes : List ℕ) × Answered r old.files (old.counts Input) (new.counts Input) (fetched.Got bytes) × (reading bytes ≡ Ok ms) × ClaimsHold r.show ms
 
--- what was written is such a program's text, or a prefix of it
+-- out gained that program's text
+abbrev pub WritesFor : Outside → Outside → Request → Type 0
+WritesFor old new r = (ms : List ParsedTree) × ClaimsFor old new ms r × (new.out ≡ appended old.out (written r.show ms))
+
+-- or a prefix of it
+abbrev pub BeginsFor : Outside → Outside → Request → Type 0
+BeginsFor old new r =
+    (ms : List ParsedTree) × ClaimsFor old new ms r
+    × ((n : ℕ) × (n ≤ length (written r.show ms)) × (new.out ≡ appended old.out (take n (written r.show ms))))
+
+-- what was written is the text of a program that was read, or a prefix of it, and its claims hold
 abbrev pub SoundBy : List (List ℕ) → Outside → Outside → Status → Type 0
-SoundBy words old new Done = (m : ModuleTree) × Claims words old new m × (new.out ≡ appended old.out (written m))
-SoundBy words old new WriteFault =
-    (m : ModuleTree) × Claims words old new m × ((n : ℕ) × (n ≤ length (written m)) × (new.out ≡ appended old.out (take n (written m))))
+SoundBy words old new Done = IsSomeAnd (asked words) (WritesFor old new)
+SoundBy words old new WriteFault = IsSomeAnd (asked words) (BeginsFor old new)
 SoundBy words old new status = Unit {0}
 
 -- no fault was counted
@@ -109,9 +138,11 @@ is_settled status = true
 
 -- a run, from the outside as it began to the outside as it ended
 pub record Runs (words : List (List ℕ)) (old new : Outside) (status : Status) : Type 0 where
-  pub cause : CausedBy words old new status
+  -- the line on err, and why the status came
+  pub line : List ℕ
+  pub cause : CausedBy words old new status line
+  pub err : Gains old.err new.err old.err_faults new.err_faults line
   pub sound : SoundBy words old new status
-  pub err : Gains old.err new.err old.err_faults new.err_faults (line_of words status)
   pub files : new.files ≡ old.files
   pub counts : OnlyCounts old.counts new.counts Input
   pub out_faults : old.out_faults ≤ new.out_faults

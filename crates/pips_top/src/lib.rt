@@ -1,10 +1,11 @@
 //! All that the program does, over a store and two sinks.
 #![tactic(auto)]
 
+mod claims;
 mod make;
+mod reading;
 mod reply;
 mod status;
-mod straight;
 #[cfg(test)]
 mod tests;
 mod top;

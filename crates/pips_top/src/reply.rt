@@ -1,13 +1,14 @@
 //! What a run replies, before anything is written.
-ghost use Rattle.std.specs.Prelude.{◌≡◌};
+ghost use Rattle.std.specs.Prelude.{◌≡◌, ◌≤◌, length};
 ghost use Rattle.fx_base.specs.declared.store.Role.TheVariants.{Input};
 ghost use Rattle.fx_base.specs.Store.{OnlyCounts};
-ghost use Rattle.pips_top.specs.Run.{RepliesBy, StopsOr};
+ghost use Rattle.pips_top.specs.Made.{input_limit, made};
+ghost use Rattle.pips_top.specs.Run.{RepliesBy, RepliesTo, StopsOr};
 
 use crate::Status;
 use crate::make::{Made, make};
 use crate::status::{naming_line, refusal_line, usage_line};
-use crate::words::input_of;
+use crate::words::{Show, request_of};
 use fx_base::{Fetched, Role, Store, Text, Words};
 use std::alloc::{AllocError as Memory, Global};
 
@@ -28,36 +29,46 @@ fn stopping(status: Status, line: Result<Text, Memory>) -> Reply
     }
 }
 
+/// Reads a text that was fetched, and makes what is to be written.
+fn reply_with(alloc: Global, show: Show, text: &Text) -> Reply
+    requires { length text.now ≤ input_limit }
+    ensures { RepliesTo (made show text.now) result }
+{
+    match make(alloc, show, text) {
+        Ok(Made::Writes(text)) => Reply::Writing(text),
+        Ok(Made::Refuses(line, code, keyword)) => stopping(
+            Status::Refused(line, code),
+            refusal_line(alloc, line, code, &keyword),
+        ),
+        Err(_) => Reply::NoMemory,
+    }
+}
+
 /// Fetches INPUT, reads it, and makes what is to be written.
 pub fn reply_to<F: Store>(alloc: Global, words: &Words, files: &mut F) -> Reply
     ensures answer { RepliesBy words.now (F.files files.old) (F.counts files.old Input) (F.counts files.new Input) result }
     ensures files { F.files files.new ≡ F.files files.old }
     ensures counts { OnlyCounts (F.counts files.old) (F.counts files.new) Input }
 {
-    let name = match input_of(alloc, words) {
-        Ok(Some(name)) => name,
+    let request = match request_of(alloc, words) {
+        Ok(Some(request)) => request,
         Ok(None) => return stopping(Status::Usage, usage_line(alloc)),
         Err(_) => return Reply::NoMemory,
     };
-    match files.fetch(alloc, Role::Input, &name, 1_048_576) {
-        Fetched::Got(text) => match make(alloc, &text) {
-            Ok(Made::Writes(text)) => Reply::Writing(text),
-            Ok(Made::Refuses(line, code)) => {
-                stopping(Status::Refused(line, code), refusal_line(alloc, line, code))
-            }
-            Err(_) => Reply::NoMemory,
-        },
+    let name = &request.input;
+    match files.fetch(alloc, Role::Input, name, 1_048_576) {
+        Fetched::Got(text) => reply_with(alloc, request.show, &text),
         Fetched::Absent => stopping(
             Status::NoInput,
-            naming_line(alloc, b"pips: no input ", &name),
+            naming_line(alloc, b"pips: no input ", name),
         ),
         Fetched::TooLong => stopping(
             Status::TooLong,
-            naming_line(alloc, b"pips: too long ", &name),
+            naming_line(alloc, b"pips: too long ", name),
         ),
         Fetched::Failed => stopping(
             Status::ReadFault,
-            naming_line(alloc, b"pips: cannot read ", &name),
+            naming_line(alloc, b"pips: cannot read ", name),
         ),
         Fetched::Memory => Reply::NoMemory,
     }

@@ -1,7 +1,7 @@
 //! How a run ended, its exit number, and its line on err.
-ghost use Rattle.std.specs.Prelude.{◌≡◌, ◌++◌, codes, IfOk};
+ghost use Rattle.std.specs.Prelude.{◌≡◌, ◌++◌, IfOk, OnOk};
 ghost use Rattle.pips_top.specs.Codes.{code_name};
-ghost use Rattle.pips_top.specs.Status.{number_of, refusal_line};
+ghost use Rattle.pips_top.specs.Status.{keyword_text, naming, number_of, refusal_line, usage_line};
 
 use fx_base::Text;
 use std::alloc::{AllocError as Memory, Global};
@@ -46,7 +46,7 @@ impl Status {
 
 /// The line of Usage.
 pub fn usage_line(alloc: Global) -> Result<Text, Memory>
-    ensures { IfOk result (λ line. line ≡ codes "usage: pips [--show all|bare|why] [--base NAME] [--verify] [--session] [--generate N] [INPUT]\n") }
+    ensures { IfOk result (λ line. line ≡ usage_line) }
 {
     Text::from_bytes(
         alloc,
@@ -56,7 +56,7 @@ pub fn usage_line(alloc: Global) -> Result<Text, Memory>
 
 /// Words, a name and the end of the line.
 pub fn naming_line(alloc: Global, words: &[u8], name: &Text) -> Result<Text, Memory>
-    ensures { IfOk result (λ line. line ≡ words.now ++ name.now ++ codes "\n") }
+    ensures { IfOk result (λ line. line ≡ naming words.now name.now) }
 {
     let mut line = Text::from_bytes(alloc, words)?;
     line.append(name.as_slice())?;
@@ -69,17 +69,54 @@ fn code_name(code: u32) -> &'static str
     ensures { result.now ≡ code_name code }
 {
     match code {
+        1 => "NonAscii",
+        2 => "Tab",
+        3 => "BadLabelField",
+        4 => "ContinuationFirst",
+        5 => "TooManyContinuations",
+        6 => "NoEnd",
         10 => "Syntax",
+        11 => "OutOfProfile",
+        12 => "RealConstant",
+        13 => "NumberTooBig",
+        14 => "NameTooLong",
+        15 => "UnclosedDo",
+        16 => "UnclosedIf",
+        17 => "StrayPart",
+        18 => "BadTerminal",
+        19 => "LabelTwice",
+        20 => "LabelMissing",
+        21 => "JumpIntoBlock",
+        22 => "TooManyStatements",
+        23 => "TooDeep",
         50 => "NoMain",
         _ => "",
     }
 }
 
-/// The line of a refusal: its line, its code and the code's name.
-pub fn refusal_line(alloc: Global, line: u32, code: u32) -> Result<Text, Memory>
-    ensures { IfOk result (λ text. text ≡ refusal_line line code) }
+/// A keyword behind a blank, where there is one.
+fn write_keyword(out: &mut Text, keyword: &[u8]) -> Result<(), Memory>
+    ensures { OnOk result (out.new ≡ out.old ++ keyword_text keyword.now) }
+{
+    match keyword {
+        [] => Ok(()),
+        [_, ..] => {
+            out.push(b' ')?;
+            out.append(keyword)
+        }
+    }
+}
+
+/// The line of a refusal: its line, its code, the code's name, and the keyword of what is outside the profile, where
+/// there is one.
+#[tactic(auto, using(crate::proofs::Joining::text_steps))]
+pub fn refusal_line(alloc: Global, line: u32, code: u32, keyword: &Text) -> Result<Text, Memory>
+    ensures { IfOk result (λ text. text ≡ refusal_line line code keyword.now) }
 {
     let name = code_name(code);
-    let text = format!(in alloc; "pips: line {line}: {code} {name}\n")?;
-    Text::from_bytes(alloc, text.as_bytes())
+    let start = format!(in alloc; "pips: line {line}: {code} {name}")?;
+    let mut text = Text::from_bytes(alloc, start.as_bytes())?;
+    write_keyword(&mut text, keyword.as_slice())?;
+    text.push(b'\n')?;
+    Ok(text)
 }

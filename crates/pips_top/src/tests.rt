@@ -2,6 +2,7 @@
 use crate::{Status, run};
 use fx_base::{List, MemSink, MemStore, Text, Words};
 use std::alloc::{AllocError, Global};
+use std::process::Abort;
 use std::test::Fail;
 
 /// What a run left on its sinks, and how it ended.
@@ -69,6 +70,17 @@ struct Case {
     err: &'static str,
 }
 
+/// Runs a case, and compares all that it leaves.
+fn holds(rt: &impl Abort, alloc: Global, case: &Case) -> Result<(), AllocError> {
+    let ended = ended(alloc, &["p.f"], case.held.as_bytes(), NOTHING)?;
+    let shows = case.shows;
+    assert_eq!(rt; ended.status, case.status, "{shows}");
+    assert_eq!(rt; ended.out.bytes(), case.out.as_bytes(), "out of {shows}");
+    assert_eq!(rt; ended.err.bytes(), case.err.as_bytes(), "err of {shows}");
+    Ok(())
+}
+
+/// Programs that are read, and what is written of them.
 #[test]
 fn texts(rt: HostRuntime) -> Result<(), Fail> {
     let alloc = rt.alloc();
@@ -86,48 +98,6 @@ fn texts(rt: HostRuntime) -> Result<(), Fail> {
             status: Status::Done,
             out: "C> P {}\n      I = 1\n      END\n",
             err: "",
-        },
-        Case {
-            shows: "the empty text",
-            held: "",
-            status: Status::Refused(1, 50),
-            out: "",
-            err: "pips: line 1: 50 NoMain\n",
-        },
-        Case {
-            shows: "a missing END",
-            held: "      PROGRAM P\n      I=1\n      I=I+1\n      PRINT *,I\n",
-            status: Status::Refused(4, 10),
-            out: "",
-            err: "pips: line 4: 10 Syntax\n",
-        },
-        Case {
-            shows: "a bad line in the middle",
-            held: "      PROGRAM P\n      I=(1\n      END\n",
-            status: Status::Refused(2, 10),
-            out: "",
-            err: "pips: line 2: 10 Syntax\n",
-        },
-        Case {
-            shows: "END before the last line",
-            held: "      I=1\n      END\n      I=2\n      END\n",
-            status: Status::Refused(2, 10),
-            out: "",
-            err: "pips: line 2: 10 Syntax\n",
-        },
-        Case {
-            shows: "PROGRAM after the first line",
-            held: "      I=1\n      PROGRAM P\n      END\n",
-            status: Status::Refused(2, 10),
-            out: "",
-            err: "pips: line 2: 10 Syntax\n",
-        },
-        Case {
-            shows: "text in the columns of the label",
-            held: "10    I=1\n      END\n",
-            status: Status::Refused(1, 10),
-            out: "",
-            err: "pips: line 1: 10 Syntax\n",
         },
         Case {
             shows: "CRs, and a last line without LF",
@@ -151,25 +121,11 @@ fn texts(rt: HostRuntime) -> Result<(), Fail> {
             err: "",
         },
         Case {
-            shows: "a name of 32 characters",
-            held: "      IXXXXXXXXXXXXXXXXXXXXXXXXXXXXXXX=1\n      END\n",
-            status: Status::Refused(1, 10),
-            out: "",
-            err: "pips: line 1: 10 Syntax\n",
-        },
-        Case {
             shows: "the largest number",
             held: "      I=2147483647\n      END\n",
             status: Status::Done,
             out: "C> P {}\n      I = 2147483647\n      END\n",
             err: "",
-        },
-        Case {
-            shows: "a number past it",
-            held: "      I=2147483648\n      END\n",
-            status: Status::Refused(1, 10),
-            out: "",
-            err: "pips: line 1: 10 Syntax\n",
         },
         Case {
             shows: "zeros before a number, signs",
@@ -186,46 +142,183 @@ fn texts(rt: HostRuntime) -> Result<(), Fail> {
             err: "",
         },
         Case {
-            shows: "claims: values, and variables that shift",
+            shows: "a label and a comment",
+            held: "C before\n10    CONTINUE\n* at the end\n      END\n",
+            status: Status::Done,
+            out: "C before\nC> P {}\n10    CONTINUE\n* at the end\n      END\n",
+            err: "",
+        },
+        Case {
+            shows: "a loop has no claims",
+            held: "      PROGRAM P\n      I=1\n      DO 10 K=1,2\n10    CONTINUE\n      END\n",
+            status: Status::Done,
+            out: "      PROGRAM P\n      I = 1\n      DO K = 1,2\n10    CONTINUE\n      END DO\n      END\n",
+            err: "",
+        },
+        Case {
+            shows: "a subroutine beside it, and no claims",
+            held: "c first\n      I=1\n      END\n      SUBROUTINE S(K)\n      K=1\n      END\nc last\n",
+            status: Status::Done,
+            out: "c first\n      I = 1\n      END\n      SUBROUTINE S(K)\n      K = 1\n      END\nc last\n",
+            err: "",
+        },
+    ] {
+        holds(&rt, alloc, &case)?;
+    }
+    Ok(())
+}
+
+/// Preconditions of straight programs.
+#[test]
+fn claims(rt: HostRuntime) -> Result<(), Fail> {
+    let alloc = rt.alloc();
+    for case in [
+        Case {
+            shows: "values, and variables that shift",
             held: "      I=2*J+1\n      J=J-I\n      K=3\n      I=I+K\n      J=-J\n      PRINT *,J\n      END\n",
             status: Status::Done,
             out: "C> P {}\n      I = 2*J+1\nC> P {2*J+1==I}\n      J = J-I\nC> P {I+2*J+1==0}\n      K = 3\nC> P {K==3, I+2*J+1==0}\n      I = I+K\nC> P {K==3, I+2*J==2}\n      J = -J\nC> P {K==3, 2*J+2==I}\n      PRINT *,J\n      END\n",
             err: "",
         },
         Case {
-            shows: "claims: what forgets a variable, and a fact that outlives it",
+            shows: "what forgets a variable, and a fact that outlives it",
             held: "      I=3\n      J=I\n      K=J-2*L\n      I=2*I-I\n      L=2*I+1\n      J=K-K\n      PRINT *,J\n      END\n",
             status: Status::Done,
             out: "C> P {}\n      I = 3\nC> P {I==3}\n      J = I\nC> P {I==3, J==3}\n      K = J-2*L\nC> P {I==3, J==3, K+2*L==3}\n      I = 2*I-I\nC> P {I==3, J==3, K+2*L==3}\n      L = 2*I+1\nC> P {I==3, J==3, L==7}\n      J = K-K\nC> P {I==3, J==0, L==7}\n      PRINT *,J\n      END\n",
             err: "",
         },
         Case {
-            shows: "claims: factors and numbers past the limit of a row",
+            shows: "factors and numbers past the limit of a row",
             held: "      I=2147483647*J\n      J=2147483647*I\n      K=2147483647*J\n      L=2147483647*K\n      PRINT *,L\n      END\n",
             status: Status::Done,
             out: "C> P {}\n      I = 2147483647*J\nC> P {2147483647*J==I}\n      J = 2147483647*I\nC> P {J==2147483647*I}\n      K = 2147483647*J\nC> P {J==2147483647*I, K==4611686014132420609*I}\n      L = 2147483647*K\nC> P {J==2147483647*I, K==4611686014132420609*I} WEAK\n      PRINT *,L\n      END\n",
             err: "",
         },
         Case {
-            shows: "claims: what has no image in whole numbers",
+            shows: "what has no image in whole numbers",
             held: "      I=2*I+1\n      J=I\n      I=I-I\n      I=-J\n      K=-2147483647-1\n      PRINT *,I\n      END\n",
             status: Status::Done,
             out: "C> P {}\n      I = 2*I+1\nC> P {}\n      J = I\nC> P {J==I}\n      I = I-I\nC> P {I==0}\n      I = -J\nC> P {I+J==0}\n      K = -2147483647-1\nC> P {K+2147483648==0, I+J==0}\n      PRINT *,I\n      END\n",
             err: "",
         },
         Case {
-            shows: "claims: equal and opposite rows",
+            shows: "equal and opposite rows",
             held: "      I=J\n      J=I\n      K=I-J\n      J=K\n      I=J+0*I\n      PRINT *,I\n      END\n",
             status: Status::Done,
             out: "C> P {}\n      I = J\nC> P {J==I}\n      J = I\nC> P {J==I}\n      K = I-J\nC> P {K==0, J==I}\n      J = K\nC> P {J==0, K==0}\n      I = J+0*I\nC> P {I==0, J==0, K==0}\n      PRINT *,I\n      END\n",
             err: "",
         },
     ] {
-        let ended = ended(alloc, &["p.f"], case.held.as_bytes(), NOTHING)?;
-        let shows = case.shows;
-        assert_eq!(rt; ended.status, case.status, "{shows}");
-        assert_eq!(rt; ended.out.bytes(), case.out.as_bytes(), "out of {shows}");
-        assert_eq!(rt; ended.err.bytes(), case.err.as_bytes(), "err of {shows}");
+        holds(&rt, alloc, &case)?;
+    }
+    Ok(())
+}
+
+/// Texts that are refused, the passes in order.
+#[test]
+fn refusals(rt: HostRuntime) -> Result<(), Fail> {
+    let alloc = rt.alloc();
+    for case in [
+        Case {
+            shows: "the empty text",
+            held: "",
+            status: Status::Refused(1, 50),
+            out: "",
+            err: "pips: line 1: 50 NoMain\n",
+        },
+        Case {
+            shows: "no main program",
+            held: "      SUBROUTINE S\n      END\n",
+            status: Status::Refused(1, 50),
+            out: "",
+            err: "pips: line 1: 50 NoMain\n",
+        },
+        Case {
+            shows: "a missing END",
+            held: "      PROGRAM P\n      I=1\n      I=I+1\n      PRINT *,I\n",
+            status: Status::Refused(4, 6),
+            out: "",
+            err: "pips: line 4: 6 NoEnd\n",
+        },
+        Case {
+            shows: "a tab",
+            held: "      PROGRAM P\n\tI=1\n      END\n",
+            status: Status::Refused(2, 2),
+            out: "",
+            err: "pips: line 2: 2 Tab\n",
+        },
+        Case {
+            shows: "statements behind the last END",
+            held: "      I=1\n      END\n      I=2\n",
+            status: Status::Refused(3, 6),
+            out: "",
+            err: "pips: line 3: 6 NoEnd\n",
+        },
+        Case {
+            shows: "an open parenthesis",
+            held: "      PROGRAM P\n      I=(1\n      END\n",
+            status: Status::Refused(2, 10),
+            out: "",
+            err: "pips: line 2: 10 Syntax\n",
+        },
+        Case {
+            shows: "a keyword outside the profile",
+            held: "      PROGRAM P\n      REAL X\n      END\n",
+            status: Status::Refused(2, 11),
+            out: "",
+            err: "pips: line 2: 11 OutOfProfile REAL\n",
+        },
+        Case {
+            shows: "a real constant",
+            held: "      PROGRAM P\n      I=1.5\n      END\n",
+            status: Status::Refused(2, 12),
+            out: "",
+            err: "pips: line 2: 12 RealConstant\n",
+        },
+        Case {
+            shows: "a number past the largest",
+            held: "      I=2147483648\n      END\n",
+            status: Status::Refused(1, 13),
+            out: "",
+            err: "pips: line 1: 13 NumberTooBig\n",
+        },
+        Case {
+            shows: "a name of 32 characters",
+            held: "      IXXXXXXXXXXXXXXXXXXXXXXXXXXXXXXX=1\n      END\n",
+            status: Status::Refused(1, 14),
+            out: "",
+            err: "pips: line 1: 14 NameTooLong\n",
+        },
+        Case {
+            shows: "PROGRAM after the first line",
+            held: "      I=1\n      PROGRAM P\n      END\n",
+            status: Status::Refused(2, 17),
+            out: "",
+            err: "pips: line 2: 17 StrayPart\n",
+        },
+        Case {
+            shows: "ELSE without IF",
+            held: "      PROGRAM P\n      ELSE\n      END\n",
+            status: Status::Refused(2, 17),
+            out: "",
+            err: "pips: line 2: 17 StrayPart\n",
+        },
+        Case {
+            shows: "a label that is missing",
+            held: "      PROGRAM P\n      GO TO 10\n      END\n",
+            status: Status::Refused(2, 20),
+            out: "",
+            err: "pips: line 2: 20 LabelMissing\n",
+        },
+        Case {
+            shows: "lines come before statements, and these before structure",
+            held: "      ELSE\n      I=(1\n\tI=1\n      END\n",
+            status: Status::Refused(3, 2),
+            out: "",
+            err: "pips: line 3: 2 Tab\n",
+        },
+    ] {
+        holds(&rt, alloc, &case)?;
     }
     Ok(())
 }
@@ -247,6 +340,15 @@ fn words(rt: HostRuntime) -> Result<(), Fail> {
         (&["-"], Status::NoInput, b"pips: no input -\n"),
         (&["-x"], Status::Usage, usage),
         (&["p.f", "p.f"], Status::Usage, usage),
+        (&["--show"], Status::Usage, usage),
+        (&["--show", "loud", "p.f"], Status::Usage, usage),
+        (&["p.f", "--show", "all"], Status::Usage, usage),
+        (
+            &["--show", "why", "q.f"],
+            Status::NoInput,
+            b"pips: no input q.f\n",
+        ),
+        (&["--show", "bare"], Status::NoInput, b"pips: no input -\n"),
         (&[""], Status::NoInput, b"pips: no input \n"),
     ] {
         let ended = ended(alloc, words, SMALL, NOTHING)?;
@@ -366,5 +468,21 @@ fn ample(rt: HostRuntime) -> Result<(), Fail> {
         ended.out.bytes(),
         b"C> P {}\n      I = 1\n      END\n".as_slice()
     );
+    Ok(())
+}
+
+/// `bare` and `why` write no claims.
+#[test]
+fn shows(rt: HostRuntime) -> Result<(), Fail> {
+    let alloc = rt.alloc();
+    for (show, out) in [
+        ("all", "C> P {}\n      I = 1\n      END\n"),
+        ("bare", "      I = 1\n      END\n"),
+        ("why", "      I = 1\n      END\n"),
+    ] {
+        let ended = ended(alloc, &["--show", show, "p.f"], SMALL, NOTHING)?;
+        assert_eq!(rt; ended.status, Status::Done, "{show}");
+        assert_eq!(rt; ended.out.bytes(), out.as_bytes(), "{show}");
+    }
     Ok(())
 }

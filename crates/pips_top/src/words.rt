@@ -1,9 +1,24 @@
 //! The words after the program's name.
 ghost use Rattle.std.specs.Prelude.{◌≡◌, IfOk};
-ghost use Rattle.pips_top.specs.Words.{input_name, is_option_word};
+ghost use Rattle.pips_top.specs.Words.{asked, input_among, is_option_word, show_named, shown_among};
 
 use fx_base::{Text, Words};
 use std::alloc::{AllocError as Memory, Global};
+
+/// What is written beside the program: directives, obstacles and claims; directives alone; or directives and obstacles.
+#[derive(Clone, Copy, Debug, PartialEq, Eq)]
+pub enum Show {
+    All,
+    Bare,
+    Why,
+}
+
+/// What the words ask for. INPUT is `-` for standard input.
+#[derive(Debug, Drop)]
+pub struct Request {
+    pub show: Show,
+    pub input: Text,
+}
 
 /// Whether a word begins with `-` and is longer.
 fn is_option(word: &[u8]) -> bool
@@ -15,19 +30,63 @@ fn is_option(word: &[u8]) -> bool
     }
 }
 
-/// The name of INPUT, `-` where no word is given.
-pub fn input_of(alloc: Global, words: &Words) -> Result<Option<Text>, Memory>
-    ensures { IfOk result (λ name. name ≡ input_name words.now) }
+/// At most one INPUT.
+fn input_among(alloc: Global, show: Show, words: &[Text]) -> Result<Option<Request>, Memory>
+    ensures { IfOk result (λ request. request ≡ input_among show words.now) }
 {
-    match words.as_slice() {
-        [] => Ok(Some(Text::from_bytes(alloc, b"-")?)),
+    match words {
+        [] => Ok(Some(Request {
+            show,
+            input: Text::from_bytes(alloc, b"-")?,
+        })),
         [word] => {
             if is_option(word.as_slice()) {
-                Ok(None)
-            } else {
-                Ok(Some(word.clone()?))
+                return Ok(None);
             }
+            Ok(Some(Request {
+                show,
+                input: word.clone()?,
+            }))
         }
         _ => Ok(None),
+    }
+}
+
+fn show_named(word: &[u8]) -> Option<Show>
+    ensures { result ≡ show_named word.now }
+{
+    if word == b"all".as_slice() {
+        Some(Show::All)
+    } else if word == b"bare".as_slice() {
+        Some(Show::Bare)
+    } else if word == b"why".as_slice() {
+        Some(Show::Why)
+    } else {
+        None
+    }
+}
+
+/// The words behind `--show`: its value, and at most one INPUT.
+fn shown_among(alloc: Global, words: &[Text]) -> Result<Option<Request>, Memory>
+    ensures { IfOk result (λ request. request ≡ shown_among words.now) }
+{
+    match words {
+        [] => Ok(None),
+        [value, others @ ..] => match show_named(value.as_slice()) {
+            None => Ok(None),
+            Some(show) => input_among(alloc, show, others),
+        },
+    }
+}
+
+/// What the words ask for, or None where they are refused.
+pub fn request_of(alloc: Global, words: &Words) -> Result<Option<Request>, Memory>
+    ensures { IfOk result (λ request. request ≡ asked words.now) }
+{
+    match words.as_slice() {
+        [word, others @ ..] if word.as_slice() == b"--show".as_slice() => {
+            shown_among(alloc, others)
+        }
+        all => input_among(alloc, Show::All, all),
     }
 }

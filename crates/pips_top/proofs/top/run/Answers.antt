@@ -1,7 +1,9 @@
-use Rattle.std.proofs.Common.{rules, inl, refl}
-use Rattle.pips_top.specs.Run.{CausedBy, Outside}
+use Rattle.std.proofs.Common.{rules, ℕ, List, [], codes, inl, refl}
+use Rattle.fx_base.specs.declared.store.Role.TheVariants.{Input}
+use Rattle.pips_top.specs.Run.{CausedBy, Outside, StopsBy}
 use Rattle.pips_top.specs.declared.status.Status.TheVariants.{Done, WriteFault}
 use Rattle.pips_top.proofs.Soundness.{sound_from, defined_from}
+use Rattle.pips_top.proofs.Stopping.{stop_caused, stop_defined, stop_complete}
 use Rattle.pips_top.proofs.top.run.Goals as goal
 
 pub returns-in-All : goal.returns-in-All
@@ -22,16 +24,17 @@ returns-in-All g c =
       err = g.E.Sink.taken c.args.err.now;
       err_faults = g.E.Sink.faults c.args.err.now;
     } in
-    let cause : CausedBy c.args.words.now old new Done = search rules in
+    let cause : CausedBy c.args.words.now old new Done [] = search rules in
     record {
+      line = [];
       cause = cause;
-      sound = sound_from c.args.words.now old new Done cause;
       err = search rules;
+      sound = sound_from c.args.words.now old new Done [] cause;
       files = search rules;
       counts = search rules;
       out_faults = search rules;
       err_faults = search rules;
-      defined = λ held is settled. defined_from c.args.words.now old new cause held is;
+      defined = λ held is settled. defined_from c.args.words.now old new [] cause held is;
       complete = λ held is done none. inl refl;
     }
 
@@ -53,15 +56,53 @@ returns-in-Writing g c =
       err = g.E.Sink.taken c.tell.new.err;
       err_faults = g.E.Sink.faults c.tell.new.err;
     } in
-    let cause : CausedBy c.args.words.now old new WriteFault = search rules in
+    let line : List ℕ = codes "pips: cannot write\n" in
+    let cause : CausedBy c.args.words.now old new WriteFault line = search rules in
     record {
+      line = line;
       cause = cause;
-      sound = sound_from c.args.words.now old new WriteFault cause;
       err = search rules;
+      sound = sound_from c.args.words.now old new WriteFault line cause;
       files = search rules;
       counts = search rules;
       out_faults = search rules;
       err_faults = search rules;
       defined = λ held is settled. cc;
       complete = λ held is done none. elim (none.out cause.2) [ ];
+    }
+
+pub returns-in-Stopping : goal.returns-in-Stopping
+returns-in-Stopping g c =
+    let old : Outside = record {
+      files = g.F.Store.files c.args.files.now;
+      counts = g.F.Store.counts c.args.files.now;
+      out = g.O.Sink.taken c.args.out.now;
+      out_faults = g.O.Sink.faults c.args.out.now;
+      err = g.E.Sink.taken c.args.err.now;
+      err_faults = g.E.Sink.faults c.args.err.now;
+    } in
+    let new : Outside = record {
+      files = g.F.Store.files c.reply_to.new.files;
+      counts = g.F.Store.counts c.reply_to.new.files;
+      out = g.O.Sink.taken c.args.out.now;
+      out_faults = g.O.Sink.faults c.args.out.now;
+      err = g.E.Sink.taken c.tell-in-Stopping.new.err;
+      err_faults = g.E.Sink.faults c.tell-in-Stopping.new.err;
+    } in
+    let words = c.args.words.now in
+    let status = c.in-Stopping.status in
+    let line = c.in-Stopping.line in
+    let stops : StopsBy words old.files (old.counts Input) (new.counts Input) status line = c.in-Stopping.ensures.answer in
+    let cause : CausedBy words old new status line = stop_caused words old new status line stops refl in
+    record {
+      line = line;
+      cause = cause;
+      err = search rules;
+      sound = sound_from words old new status line cause;
+      files = search rules;
+      counts = search rules;
+      out_faults = search rules;
+      err_faults = search rules;
+      defined = stop_defined words old new status line stops refl;
+      complete = stop_complete words old new status line stops;
     }

@@ -1,0 +1,43 @@
+#!/usr/bin/env python3
+"""Makes the cases of crates/pips_cases: its `stdin`, and its `stdout` by another program's answers.
+
+    python3 bench/pips_cases.py FOLDER STAGE
+
+FOLDER has the other program, a module `pips` with `answer(words, files, stage)`, which gives the number of the status, the bytes on
+out and on err, and the files afterwards.
+"""
+import os
+import sys
+
+from programs import by_hand, random_programs
+
+TOP = os.path.dirname(os.path.dirname(os.path.abspath(__file__)))
+
+
+def status_text(number, err):
+    if number == 0:
+        return 'Done'
+    words = err.split()
+    return f'Refused({words[2].rstrip(":")}, {words[3]})' if number == 1 else f'status {number}'
+
+
+def main(folder, stage):
+    sys.path.insert(0, folder)
+    import pips
+    cases = by_hand() + random_programs(200)
+    given, wanted, done = [], [], 0
+    for words, program in cases:
+        number, out, err, _ = pips.answer(words.split() + ['p.f'], {'p.f': program.encode('latin-1')}, stage)
+        out, err = (x if isinstance(x, str) else x.decode('latin-1') for x in (out, err))
+        given.append(program + f'=={" " if words else ""}{words}\n')
+        wanted.append(f'== {status_text(number, err)}\n{out}{err}')
+        done += number == 0
+    place = os.path.join(TOP, 'crates', 'pips_cases')
+    for name, texts in (('stdin', given), ('stdout', wanted)):
+        with open(os.path.join(place, name), 'w') as f:
+            f.write(''.join(texts))
+    print(f'{len(cases)} programs, {done} of them accepted')
+
+
+if __name__ == '__main__':
+    main(*sys.argv[1:])

@@ -1,9 +1,0 @@
-use Rattle.std.proofs.Common.{◌≡◌, length}
-use Rattle.pips_top.specs.StraightExprs.{skip_digits}
-use Rattle.pips_top.proofs.straight.characters.skip_digits.Given as goal
-
-abbrev pub invariant-loop-rest : goal.invariant-loop-rest
-invariant-loop-rest l = skip_digits l.rest ≡ skip_digits l.text
-
-abbrev pub decreases-loop-rest : goal.decreases-loop-rest
-decreases-loop-rest l = length l.rest
