@@ -6,6 +6,7 @@
 FOLDER has the other program (see affine_text.py). Random systems have up to 6 variables, 12 rows and factors to 50, and
 some have numbers near 2^62. Among them are systems that would be refuted but for the drop of rows by their originals.
 """
+import concurrent.futures
 import os
 import random
 import sys
@@ -159,6 +160,52 @@ class Maker:
         _, given, sys_ = self.tidied(10)
         return case_text('clean', (), [system_text(given)]), system_text(self.affine.clean(sys_))
 
+    def pair(self, most=7):
+        """Two systems over the same variables."""
+        names = self.names()[:4]
+        size = self.pick.choice([1, 2, 3, 3, 6, 10, 50, None])
+
+        def one():
+            if size is None:
+                rows = self.rows(names, None, 4)
+            else:
+                rows = self.pick.choice([self.rows, self.feasible, self.feasible])(names, size, most)
+            return self.model.System(tuple(rows), self.pick.random() < 0.1)
+        return one(), one()
+
+    def hull(self):
+        a, b = self.pair()
+        joined = self.affine.hull(self.affine.tidy(a), self.affine.tidy(b))
+        return case_text('hull', (), [system_text(a), system_text(b)]), system_text(joined)
+
+    def minus(self):
+        a, b = self.pair(5)
+        if self.pick.random() < 0.4:
+            b = self.model.System(b.rows[:1], b.weak)
+        left, exact = self.affine.minus(self.affine.tidy(a), self.affine.tidy(b))
+        text = exact_text(exact, left) if left is not None else 'nothing' if exact else 'not exact'
+        return case_text('minus', (), [system_text(a), system_text(b)]), text
+
+    def turn(self, cell):
+        """A row on how a turn changes a cell."""
+        step = self.pick.choice([-2, -1, 0, 1, 1, 1, 2, 3])
+        exit_ = self.model.Exit(cell[1])
+        equal = self.pick.random() < 0.6
+        sign = 1 if equal else self.pick.choice([-1, 1])
+        return self.affine.row_of(equal, [(exit_, sign), (cell, -sign)], step)
+
+    def closure(self):
+        cells = [self.model.Cell(n) for n in sorted(self.pick.sample(range(6), self.pick.randint(1, 3)))]
+        names = cells + [self.model.Exit(c[1]) for c in cells] + self.pick.choice([[], [self.model.Phi(1)], [self.model.Aux(3)], [self.model.Cell(9)]])
+        size = self.pick.choice([1, 1, 2, 3, 6, None])
+        rows = [self.turn(c) for c in cells if self.pick.random() < 0.9]
+        more = self.pick.choice([self.rows, self.feasible, self.feasible])(names, size or 3, 5) if size else self.rows(names, None, 3)
+        given = self.model.System(tuple(rows + more), self.pick.random() < 0.1)
+        changes = cells if self.pick.random() < 0.8 else cells + cells[:1]
+        self.pick.shuffle(changes)
+        return (case_text('closure', changes, [system_text(given)]),
+                system_text(self.affine.closure(sorted(set(changes)), self.affine.tidy(given))))
+
     def wide(self, lows, ups):
         """An elimination with more than 512 pairs."""
         v, w = self.model.Cell(0), self.model.Cell(1)
@@ -175,6 +222,12 @@ NAMED = [
     ('refuted ; 1 c0 -2 c1 == 0 , 1 c0 -2 c2 == 1', 'yes'),
     ('project c0 ; -1 c0 <= -1 , 1 c0 <= 4 , -2 c0 1 p1 == 0', 'not exact ; -1 p1 <= -2 , 1 p1 <= 8'),
     ('eliminate c0 ; -2 c0 1 c1 <= 0 , 3 c0 -1 c2 <= 0', 'not exact ; 3 c1 -2 c2 <= 0'),
+    ('hull ; 1 c0 == 1 ; 1 c0 == 5', '-1 c0 <= -1 , 1 c0 <= 5'),
+    ('minus ; -1 c0 <= -1 , 1 c0 <= 9 ; 1 c0 == 1', 'exact ; -1 c0 <= -2 , 1 c0 <= 9'),
+    ('minus ; -1 c0 <= -1 , 1 c0 <= 9 ; 1 c0 == 4', 'not exact ; -1 c0 <= -1 , 1 c0 <= 9'),
+    ('minus ; 1 c0 == 1 ; 1 c0 <= 1', 'nothing'),
+    ('closure c0 ; -1 c0 1 x0 == 1', '1 c0 -1 x0 <= 0'),
+    ('closure c0 ; 1 c0 <= 3 , -1 c0 <= -5', '-1 c0 1 x0 == 0'),
     # no point, not even a rational one, which the drop by originals does not let be seen
     ('refuted ; -2 c1 -2 c2 <= 4 , -2 c0 1 c2 <= -2 , -1 c0 -1 c1 -1 c2 <= 0 , -1 c0 1 c1 -1 c2 <= -1 , '
      '1 c0 -2 c1 1 c2 <= 2 , 3 c0 1 c1 <= 2', 'no'),
@@ -182,6 +235,9 @@ NAMED = [
 
 COUNTS = [('normalise', 150), ('tidy', 350), ('push_row', 120), ('meet', 120), ('rename', 80), ('substitute', 120),
           ('eliminate', 350), ('project', 300), ('refuted', 350), ('entails', 200), ('clean', 200)]
+
+# Slower calls, in batches of 50 that are made at the same time.
+BATCHES = [('hull', 20), ('minus', 20), ('closure', 20)]
 
 
 def dropped(affine, model, seed, want):
@@ -200,19 +256,36 @@ def dropped(affine, model, seed, want):
     return [(case_text('refuted', (), [system_text(sys_)]), 'no') for sys_ in found[:want]]
 
 
+def batch(folder, seed, call, number):
+    affine, model = other_program(folder)
+    maker = Maker(affine, model, f'{seed} {call} {number}')
+    found = []
+    while len(found) < 50:
+        case = getattr(maker, call)()
+        if len(case[0]) + len(case[1]) < 240:   # longer ones are left out: the files would grow too large
+            found.append(case)
+    return found
+
+
+def batches(folder, seed):
+    with concurrent.futures.ProcessPoolExecutor() as pool:
+        jobs = [pool.submit(batch, folder, seed, call, k) for call, count in BATCHES for k in range(count)]
+        return [case for job in jobs for case in job.result()]
+
+
 def main(words):
     affine, model = other_program(words[0])
     seed = int(words[1]) if len(words) > 1 else 1
 
     maker = Maker(affine, model, seed)
     cases = NAMED + [getattr(maker, call)() for call, count in COUNTS for _ in range(count)]
-    cases += [maker.wide(24, 26), maker.wide(2, 300)] + dropped(affine, model, seed, 8)
+    cases += [maker.wide(24, 26), maker.wide(2, 300)] + dropped(affine, model, seed, 8) + batches(words[0], seed)
     place = os.path.join(TOP, 'crates', 'affine_cases')
     for name, column in (('stdin', 0), ('stdout', 1)):
         with open(os.path.join(place, name), 'w') as out:
             out.write(''.join(case[column] + '\n' for case in cases))
     answers = [answer for _, answer in cases]
-    counts = {word: sum(a.startswith(word) for a in answers) for word in ('yes', 'no', 'exact', 'not exact', 'too big')}
+    counts = {word: sum(a.startswith(word) for a in answers) for word in ('yes', 'no', 'exact', 'not exact', 'nothing', 'too big')}
     counts['weak'] = sum('weak ' in a for a in answers)
     counts['false'] = sum(a.removeprefix('weak ').removeprefix('exact ; ') == '<= -1' for a in answers)
     print(f'{len(cases)} cases, seed {seed}: {counts}')

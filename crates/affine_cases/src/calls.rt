@@ -3,14 +3,14 @@ ghost use Rattle.std.specs.Prelude.{◌≡◌, IfOk, IfSome};
 ghost use Rattle.affine_systems.specs.Given.{Fits, IsGiven, IsNormal};
 
 use crate::case::{Case, Trouble, case_of};
-use crate::given::{fitting, is_row};
+use crate::given::{are_cells, fitting, is_row};
 use crate::written::{exact_text, row_text, system_text, truth_text};
 use affine_systems::terms::factor_of;
 use affine_systems::{
     Norm, Row, System, Var, eliminate, meet, normalise, push_row, rename, substitute,
 };
 use fx_lists::List;
-use hull_projection::{clean, entails, project, refuted};
+use hull_projection::{Minus, clean, closure, entails, hull, minus, project, refuted};
 use std::alloc::{AllocError, Global};
 
 /// The tidied system at a place among those of a case.
@@ -139,6 +139,31 @@ fn cleaned(alloc: Global, case: &Case) -> Result<String, Trouble> {
     Ok(system_text(alloc, &clean(alloc, &sys)?)?)
 }
 
+fn hulled(alloc: Global, case: &Case) -> Result<String, Trouble> {
+    let one = system_at(alloc, case, 0)?;
+    let other = system_at(alloc, case, 1)?;
+    Ok(system_text(alloc, &hull(alloc, &one, &other)?)?)
+}
+
+fn subtracted(alloc: Global, case: &Case) -> Result<String, Trouble> {
+    let one = system_at(alloc, case, 0)?;
+    let other = system_at(alloc, case, 1)?;
+    let Minus { system, exact } = minus(alloc, &one, &other)?;
+    let text = match system {
+        Some(sys) => exact_text(alloc, exact, &sys)?,
+        None => String::from_str(alloc, if exact { "nothing" } else { "not exact" })?,
+    };
+    Ok(text)
+}
+
+fn closed(alloc: Global, case: &Case) -> Result<String, Trouble> {
+    let sys = system_at(alloc, case, 0)?;
+    if !are_cells(case.vars.as_slice()) {
+        return Err(Trouble::Malformed);
+    }
+    Ok(system_text(alloc, &closure(alloc, &case.vars, &sys)?)?)
+}
+
 fn called(alloc: Global, line: &str) -> Result<String, Trouble> {
     let case = case_of(alloc, line)?;
     match line.split_whitespace().next() {
@@ -153,6 +178,9 @@ fn called(alloc: Global, line: &str) -> Result<String, Trouble> {
         Some("refuted") => is_refuted(alloc, &case),
         Some("entails") => is_entailed(alloc, &case),
         Some("clean") => cleaned(alloc, &case),
+        Some("hull") => hulled(alloc, &case),
+        Some("minus") => subtracted(alloc, &case),
+        Some("closure") => closed(alloc, &case),
         _ => Err(Trouble::Malformed),
     }
 }

@@ -2,6 +2,7 @@
 ghost use Rattle.std.specs.Prelude.{◌≡◌, ◌<◌, ◌^◌, true, unsigned_abs, IfOk, IfSome};
 ghost use Rattle.affine_systems.specs.Rows.{AllRows};
 ghost use Rattle.affine_systems.specs.Given.{IsGiven, Fits};
+ghost use Rattle.hull_projection.specs.Closure.{IsCell, AreCells};
 ghost use Rattle.affine_cases.specs.Given.{IsGivenTerm, IsBeforeFirst, AreGiven};
 
 use affine_systems::{Row, System, Term, Var, tidy};
@@ -56,6 +57,28 @@ pub fn are_rows(rows: &[Row]) -> bool
 {
     for row in rows {
         if !is_row(row) {
+            return false;
+        }
+    }
+    true
+}
+
+fn is_cell(v: Var) -> bool
+    ensures { result ≡ true → IsCell v }
+{
+    match v {
+        Var::Cell(_) => true,
+        Var::Exit(_) => false,
+        Var::Phi(_) => false,
+        Var::Aux(_) => false,
+    }
+}
+
+pub fn are_cells(vars: &[Var]) -> bool
+    ensures { result ≡ true → AreCells vars.now }
+{
+    for v in vars {
+        if !is_cell(*v) {
             return false;
         }
     }

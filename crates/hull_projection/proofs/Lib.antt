@@ -2,7 +2,16 @@ pub mod RefuteLaws
 pub mod CleanLaws
 pub mod ProjectLaws
 pub mod FitLaws
+pub mod VarLaws
+pub mod LiftLaws
+pub mod HullLaws
+pub mod MinusLaws
+pub mod ClosureLaws
+pub mod GivenLaws
 pub mod VarSteps
+pub mod FreshSteps
+pub mod HullSteps
+pub mod PartSteps
 pub mod TurnSteps
 pub mod RefuteSteps
 pub mod CleanSteps

@@ -26,7 +26,7 @@ use Rattle.hull_projection.proofs.CleanLaws.{clean_same, clean_fits}
 
 -- ---- which variables an ordered list has
 
-with_var-has : (u v : Var) (ws : List Var) → IsOneOf u (v ∷ ws) → IsOneOf u (with_var v ws)
+pub with_var-has : (u v : Var) (ws : List Var) → IsOneOf u (v ∷ ws) → IsOneOf u (with_var v ws)
 with_var-has u v [] h = h
 with_var-has u v (w ∷ ws) h =
     if_cases (IsOneOf u) (var_eq v w) (w ∷ ws) (if var_lt v w then v ∷ w ∷ ws else w ∷ with_var v ws)
@@ -55,38 +55,38 @@ with_vars-from u ws [] h = inl h
 with_vars-from u ws (v ∷ vs) h =
     ⊎_elim (λ k. ⊎_elim (λ i. inr (inl i)) (λ i. inl i) (with_var-from u v ws k)) (λ k. inr (inr k)) (with_vars-from u (with_var v ws) vs h)
 
-in_order-has : (u : Var) (vs : List Var) → IsOneOf u vs → IsOneOf u (in_order vs)
+pub in_order-has : (u : Var) (vs : List Var) → IsOneOf u vs → IsOneOf u (in_order vs)
 in_order-has u vs h = with_vars-has u [] vs (inr h)
 
-in_order-from : (u : Var) (vs : List Var) → IsOneOf u (in_order vs) → IsOneOf u vs
+pub in_order-from : (u : Var) (vs : List Var) → IsOneOf u (in_order vs) → IsOneOf u vs
 in_order-from u vs h = ⊎_elim (λ k. absurd k) (λ k. k) (with_vars-from u [] vs h)
 
 -- ---- no point is lost
 
-each_holds : (p : Point) (s : Shadow) (vs : List Var) → HoldsAll p s.system.rows → HoldsAll p (eliminate_each s vs).system.rows
+pub each_holds : (p : Point) (s : Shadow) (vs : List Var) → HoldsAll p s.system.rows → HoldsAll p (eliminate_each s vs).system.rows
 each_holds p s [] h = h
 each_holds p s (v ∷ vs) h = each_holds p (shadow_after s (eliminate s.system v)) vs (eliminate_holds p s.system v h)
 
 -- ---- the variables are gone
 
-each_nil : (u : Point) (s : Shadow) (vs : List Var) → RowsNil u s.system.rows → RowsNil u (eliminate_each s vs).system.rows
+pub each_nil : (u : Point) (s : Shadow) (vs : List Var) → RowsNil u s.system.rows → RowsNil u (eliminate_each s vs).system.rows
 each_nil u s [] h = h
 each_nil u s (v ∷ vs) h = each_nil u (shadow_after s (eliminate s.system v)) vs (eliminate_nil u s.system v h)
 
-each_lacks : (w : Var) (s : Shadow) (vs : List Var) → IsOneOf w vs → RowsNil (only w) (eliminate_each s vs).system.rows
+pub each_lacks : (w : Var) (s : Shadow) (vs : List Var) → IsOneOf w vs → RowsNil (only w) (eliminate_each s vs).system.rows
 each_lacks w s [] h = absurd h
 each_lacks w s (v ∷ vs) (inl e) =
     each_nil (only w) (shadow_after s (eliminate s.system v)) vs (subst (λ (x : Var). RowsNil (only x) (eliminate s.system v).system.rows) (sym e) (eliminate_lacks s.system v))
 each_lacks w s (v ∷ vs) (inr h) = each_lacks w (shadow_after s (eliminate s.system v)) vs h
 
-cleaned_nil : (u : Point) (front rs : List Row) → RowsNil u rs → RowsNil u (cleaned_behind front rs)
+pub cleaned_nil : (u : Point) (front rs : List Row) → RowsNil u rs → RowsNil u (cleaned_behind front rs)
 cleaned_nil u front [] h = tt
 cleaned_nil u front (r ∷ rs) h =
     let after = cleaned_behind (front ++ r ∷ []) rs in
     let ih = cleaned_nil u (front ++ r ∷ []) rs h.1 in
     if_cases (RowsNil u) (is_spare (front ++ after) r) after (r ∷ after) (λ e. ih) (λ e. (h.0, ih))
 
-project_nil : (w : Var) (s : System) (vs : List Var) → IsOneOf w vs → RowsNil (only w) (project s vs).system.rows
+pub project_nil : (w : Var) (s : System) (vs : List Var) → IsOneOf w vs → RowsNil (only w) (project s vs).system.rows
 project_nil w s vs h = cleaned_nil (only w) [] (eliminate_each (shadow s true) (in_order vs)).system.rows (each_lacks w (shadow s true) (in_order vs) (in_order-has w vs h))
 
 nil_lacks : (w : Var) (rs : List Row) → RowsNil (only w) rs → Lacks w rs
@@ -102,7 +102,7 @@ value-agree : (p q : Point) (ts : List Term) → ((w : Var) → q w ≡ p w) →
 value-agree p q [] e = refl
 value-agree p q (t ∷ ts) e = λ i. (t.factor *ℤ sym (e t.var) i) +ℤ value-agree p q ts e i
 
-all-agree : (p q : Point) (rs : List Row) → ((w : Var) → q w ≡ p w) → HoldsAll p rs → HoldsAll q rs
+pub all-agree : (p q : Point) (rs : List Row) → ((w : Var) → q w ≡ p w) → HoldsAll p rs → HoldsAll q rs
 all-agree p q [] e h = tt
 all-agree p q (r ∷ rs) e h = (subst (λ (x : ℤ). Meets r.equal x r.bound) (value-agree p q r.terms e) h.0, all-agree p q rs e h.1)
 

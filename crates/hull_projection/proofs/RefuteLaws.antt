@@ -18,7 +18,7 @@ use Rattle.affine_systems.proofs.TidyLaws.{HoldsItems, any_false-true, items_fro
 use Rattle.affine_systems.proofs.ElimLaws.{tidied_holds, keep_holds, eliminate_item_holds}
 use Rattle.affine_systems.proofs.CallLaws.{append_all}
 
-originals_hold : (p : Point) (n : ℕ) (is : List Item) → HoldsItems p is → HoldsItems p (with_originals n is)
+pub originals_hold : (p : Point) (n : ℕ) (is : List Item) → HoldsItems p is → HoldsItems p (with_originals n is)
 originals_hold p n [] h = tt
 originals_hold p n (i ∷ is) h = (h.0, originals_hold p (suc n) is h.1)
 

@@ -1,11 +1,13 @@
 -- What the calls say of the points, for every point.
-use Rattle.std.specs.Prelude.{◌≡◌, ◌⊎◌, true, List, [], ◌∷◌}
+use Rattle.std.specs.Prelude.{◌≡◌, ◌⊎◌, ℕ, true, false, List, [], ◌∷◌, MatchOption}
 use Rattle.affine_systems.specs.declared.row.Var.{Var}
 use Rattle.affine_systems.specs.declared.row.Row.{Row}
 use Rattle.affine_systems.specs.declared.row.System.{System}
 use Rattle.affine_systems.specs.Points.{Point, Holds, HoldsAll}
 use Rattle.affine_systems.specs.Laws.{Lacks}
 use Rattle.hull_projection.specs.declared.projection.Shadow.{Shadow}
+use Rattle.hull_projection.specs.declared.parts.Minus.{Minus}
+use Rattle.hull_projection.specs.Turns.{Store, between, Joined}
 
 -- no point is one of all rows
 abbrev pub HasNoPoint : List Row → Type 0
@@ -35,3 +37,21 @@ ExtendsPoints s vs t = t.exact ≡ true → (p : Point) → HoldsAll p t.system.
 -- no row has any of the variables
 abbrev pub LacksAll : List Var → List Row → Type 0
 LacksAll vs rs = (w : Var) → IsOneOf w vs → Lacks w rs
+
+-- a point of either is a point of the hull
+abbrev pub HasBoth : System → System → System → Type 0
+HasBoth a b s = (p : Point) → HoldsAll p a.rows ⊎ HoldsAll p b.rows → HoldsAll p s.rows
+
+-- a point of a that is none of b is a point of the difference
+abbrev pub HasOutside : System → System → Minus → Type 0
+HasOutside a b m = (p : Point) → HoldsAll p a.rows → (HoldsAll p b.rows → ⊥) → MatchOption m.system ⊥ (λ s. HoldsAll p s.rows)
+
+-- where it is exact and no row was lost, it has no other points
+abbrev pub HasNothingElse : System → System → Minus → Type 0
+HasNothingElse a b m =
+    m.exact ≡ true →
+    MatchOption m.system (Unit {0}) (λ s. s.weak ≡ false → (p : Point) → HoldsAll p s.rows → HoldsAll p a.rows × (HoldsAll p b.rows → ⊥))
+
+-- each pair of stores that any number of turns joins is in the closure
+abbrev pub HasTurns : System → System → Type 0
+HasTurns t c = (n : ℕ) (p : Point) (s w : Store) → Joined n t s w → HoldsAll (between p s w) c.rows

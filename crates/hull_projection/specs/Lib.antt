@@ -2,4 +2,9 @@ pub mod Variables
 pub mod Refute
 pub mod Clean
 pub mod Project
+pub mod Fresh
+pub mod Hull
+pub mod Minus
+pub mod Closure
+pub mod Turns
 pub mod Laws

@@ -63,7 +63,7 @@ pub fn above(alloc: Global, row: &Row) -> Result<Row, Memory>
 }
 
 /// The row that says that the sum is below the bound.
-fn below(alloc: Global, row: &Row) -> Result<Row, Memory>
+pub fn below(alloc: Global, row: &Row) -> Result<Row, Memory>
     requires { IsSmallRow row.now }
     ensures { IfOk result (λ r. r ≡ below_is row.now) }
 {

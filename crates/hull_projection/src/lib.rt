@@ -1,15 +1,26 @@
-//! Projection, refutation, entailment and cleaning of systems of rows.
+//! Projection, refutation, entailment, cleaning, hull, difference and closure of systems of rows.
 #![tactic(auto)]
 
 mod cleaning;
+mod closing;
+mod difference;
 mod elimination;
 mod entailment;
+mod fresh;
+mod hulls;
+mod lifting;
+mod parts;
 mod projection;
 mod refutation;
+mod turns;
 mod variables;
 
 pub use cleaning::clean;
+pub use closing::closure;
+pub use difference::minus;
 pub use entailment::entails;
+pub use hulls::hull;
+pub use parts::Minus;
 pub use projection::{Shadow, project};
 pub use refutation::refuted;
 

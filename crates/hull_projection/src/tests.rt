@@ -2,9 +2,9 @@
 ghost use Rattle.std.specs.Prelude.{◌≡◌, ◌<◌, ◌^◌, unsigned_abs, IfOk};
 ghost use Rattle.affine_systems.specs.Given.{IsGiven, IsNormal, Fits};
 
-use crate::{Shadow, clean, entails, project, refuted};
+use crate::{Minus, Shadow, clean, closure, entails, hull, minus, project, refuted};
 use affine_systems::terms::push_term;
-use affine_systems::{Norm, Row, System, Var, normalise, push_row};
+use affine_systems::{Norm, Row, System, Var, normalise, push_row, rename};
 use fx_lists::List;
 use std::alloc::{AllocError as Memory, Global};
 use std::test::Fail;
@@ -183,6 +183,105 @@ fn projected(rt: HostRuntime) -> Result<(), Fail> {
 }
 
 #[test]
+fn hulls(rt: HostRuntime) -> Result<(), Fail> {
+    let alloc = rt.alloc();
+    let cases: [(&str, &[Small], &[Small], &[Small]); 3] = [
+        (
+            "two points",
+            &[(true, [1, 0, 0], 1)],
+            &[(true, [1, 0, 0], 5)],
+            &[(false, [-1, 0, 0], -1), (false, [1, 0, 0], 5)],
+        ),
+        (
+            "one refuted",
+            &[(false, [0, 0, 0], -1)],
+            &[(true, [1, 0, 0], 5)],
+            &[(true, [1, 0, 0], 5)],
+        ),
+        (
+            "nothing in common",
+            &[(false, [1, 0, 0], 1)],
+            &[(false, [0, 1, 0], 1)],
+            &[],
+        ),
+    ];
+    for (name, one, other, want) in cases {
+        let got = hull(alloc, &system(alloc, one)?, &system(alloc, other)?)?;
+        assert_eq!(rt; got, exactly(alloc, want)?, "{name}");
+    }
+    Ok(())
+}
+
+#[test]
+fn differences(rt: HostRuntime) -> Result<(), Fail> {
+    let alloc = rt.alloc();
+    let range: [Small; 2] = [(false, [-1, 0, 0], -1), (false, [1, 0, 0], 9)];
+    let cases: [(&str, &[Small], &[Small], bool); 3] = [
+        (
+            "the first of a range",
+            &[(true, [1, 0, 0], 1)],
+            &[(false, [-1, 0, 0], -2), (false, [1, 0, 0], 9)],
+            true,
+        ),
+        (
+            "one in the middle",
+            &[(true, [1, 0, 0], 4)],
+            &[(false, [-1, 0, 0], -1), (false, [1, 0, 0], 9)],
+            false,
+        ),
+        (
+            "none of the range",
+            &[(true, [1, 0, 0], 10)],
+            &[(false, [-1, 0, 0], -1), (false, [1, 0, 0], 9)],
+            true,
+        ),
+    ];
+    let sys = system(alloc, &range)?;
+    for (name, other, want, exact) in cases {
+        let want = Minus {
+            system: Some(exactly(alloc, want)?),
+            exact,
+        };
+        assert_eq!(rt; minus(alloc, &sys, &system(alloc, other)?)?, want, "{name}");
+    }
+    let all = minus(alloc, &sys, &system(alloc, &[(false, [1, 0, 0], 9)])?)?;
+    assert!(rt; all.system.is_none() && all.exact, "nothing is left");
+    Ok(())
+}
+
+/// The rows with J as the exit of I.
+fn turn(alloc: Global, rows: &[Small]) -> Result<System, Memory>
+    ensures { IfOk result Fits }
+{
+    rename(alloc, &system(alloc, rows)?, J, Var::Exit(0))
+}
+
+#[test]
+fn closures(rt: HostRuntime) -> Result<(), Fail> {
+    let alloc = rt.alloc();
+    let changes = List::from_slice(alloc, &[I])?;
+    let cases: [(&str, &[Small], &[Small]); 3] = [
+        (
+            "counts up",
+            &[(true, [-1, 1, 0], 1)],
+            &[(false, [1, -1, 0], 0)],
+        ),
+        ("stays", &[(true, [-1, 1, 0], 0)], &[(true, [-1, 1, 0], 0)]),
+        (
+            "no turn",
+            &[(false, [0, 0, 0], -1)],
+            &[(true, [-1, 1, 0], 0)],
+        ),
+    ];
+    for (name, body, want) in cases {
+        let body = turn(alloc, body)?;
+        let want = turn(alloc, want)?;
+        assert_eq!(rt; closure(alloc, &changes, &body)?, want, "{name}");
+    }
+    Ok(())
+}
+
+#[test]
 fn ample(rt: HostRuntime) -> Result<(), Fail> {
     let alloc = rt.alloc();
     let sys = system(alloc, &[(false, [1, 0, 0], 1), (false, [1, 1, 0], 5)])?;
@@ -193,5 +292,11 @@ fn ample(rt: HostRuntime) -> Result<(), Fail> {
     let vars = List::from_slice(alloc, &[I])?;
     let left = project(alloc, &sys, &vars)?;
     assert_eq!(rt; left.system, exactly(alloc, &[])?);
+    assert_eq!(rt; hull(alloc, &sys, &sys)?, sys);
+    assert!(rt; minus(alloc, &sys, &sys)?.system.is_none(), "nothing");
+    assert_eq!(rt;
+        closure(alloc, &vars, &system(alloc, &[])?)?,
+        exactly(alloc, &[])?
+    );
     Ok(())
 }

@@ -1,0 +1,6 @@
+use Rattle.std.proofs.Common.{◌≡◌, ◌++◌, map, take}
+use Rattle.hull_projection.specs.Hull.{rest_scaled}
+use Rattle.hull_projection.proofs.lifting.push_rest.Given as goal
+
+abbrev pub invariant-loop-row : goal.invariant-loop-row
+invariant-loop-row l = l.out.items ≡ l.fn.out.items ++ map (rest_scaled l.first l.vars) (take l.row-index l.rows)

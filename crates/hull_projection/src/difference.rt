@@ -1,0 +1,41 @@
+//! The difference of two systems: the first with each negation of a row of the second.
+ghost use Rattle.std.specs.Prelude.{◌≡◌, IfOk, IfSome};
+ghost use Rattle.affine_systems.specs.Given.{Fits};
+ghost use Rattle.hull_projection.specs.Minus.{minus as minus_is};
+ghost use Rattle.hull_projection.specs.Laws.{HasOutside, HasNothingElse};
+
+use crate::hulls::{copy_system, either};
+use crate::parts::{Minus, joined_parts, parts};
+use crate::refutation::refuted;
+use affine_systems::{System, meet};
+use std::alloc::{AllocError as Memory, Global};
+
+fn difference(alloc: Global, one: &System, other: &System) -> Result<Minus, Memory>
+    requires fits { Fits one.now }
+    requires other_fits { Fits other.now }
+    ensures defined { IfOk result (λ m. m ≡ minus_is one.now other.now) }
+    ensures gives { IfOk result (λ m. IfSome m.system Fits) }
+{
+    let both = meet(alloc, one, other)?;
+    if refuted(alloc, &both)? {
+        return Ok(Minus {
+            system: Some(copy_system(alloc, one)?),
+            exact: true,
+        });
+    }
+    let parts = parts(alloc, one, other.rows.as_slice())?;
+    joined_parts(alloc, parts, either(one.weak, other.weak))
+}
+
+/// The points of the first system outside the second. One system for each negation of a row of the second, and a hull
+/// for each but the first; where the two have no point in common, the first as it stands.
+pub fn minus(alloc: Global, one: &System, other: &System) -> Result<Minus, Memory>
+    requires fits { Fits one.now }
+    requires other_fits { Fits other.now }
+    ensures defined { IfOk result (λ m. m ≡ minus_is one.now other.now) }
+    ensures gives { IfOk result (λ m. IfSome m.system Fits) }
+    ensures keeps { IfOk result (HasOutside one.now other.now) }
+    ensures exact { IfOk result (HasNothingElse one.now other.now) }
+{
+    difference(alloc, one, other)
+}
