@@ -15,23 +15,23 @@ use Rattle.f77_modules_back.proofs.TreeLists.{list_of, stmts_of-list_of}
 use Rattle.f77_modules_back.proofs.TreeBack.{so, list_back}
 
 -- the title of a module
-abbrev heading_of : ModuleTree → Heading
+abbrev pub heading_of : ModuleTree → Heading
 heading_of m = record { name = m.name; main = m.main; titled = m.titled; dummies = m.dummies }
 
-title_by : (main titled : Bool) (m : ModuleTree) → m.main ≡ main → m.titled ≡ titled → TitleFits main titled m.name m.dummies
+pub title_by : (main titled : Bool) (m : ModuleTree) → m.main ≡ main → m.titled ≡ titled → TitleFits main titled m.name m.dummies
     → all_made (title_cards m) nothing_stated ≡ so (heading_of m) [] 0 [] []
 unfolding with_spot
 title_by true true m e f fits = rw (e, f, fits) refl
 title_by true false m e f fits = rw (e, f, fits.alone, fits.unnamed) refl
 title_by false titled m e f fits = let g = f ∙ fits in rw (e, g) refl
 
-decls_back : (h : Heading) (done : List DeclTree) (place : ℕ) (ds : List DeclTree) → all_made (decl_cards place ds) (so h done 0 [] []) ≡ so h (done ++ ds) 0 [] []
+pub decls_back : (h : Heading) (done : List DeclTree) (place : ℕ) (ds : List DeclTree) → all_made (decl_cards place ds) (so h done 0 [] []) ≡ so h (done ++ ds) 0 [] []
 unfolding with_spot
 decls_back h done place [] = ap (λ x. so h x 0 [] []) (sym (append-nil done))
 decls_back h done place (d ∷ ds) =
     decls_back h (done ++ d ∷ []) (place + 1) ds ∙ ap (λ x. so h x 0 [] []) (append_assoc done (d ∷ []) ds)
 
-made : (m : ModuleTree) → IsWell m → all_made (statements_of m) nothing_stated ≡ so (heading_of m) m.decls (last_in 0 m.body) (list_of m.body) []
+pub made : (m : ModuleTree) → IsWell m → all_made (statements_of m) nothing_stated ≡ so (heading_of m) m.decls (last_in 0 m.body) (list_of m.body) []
 unfolding statements_of with_spot
 made m well =
     let h = heading_of m in

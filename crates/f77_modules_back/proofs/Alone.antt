@@ -1,5 +1,5 @@
 -- Of the statements of a module only the last is END.
-use Rattle.std.proofs.Common.{◌≡◌, ℕ, ◌+◌, Bool, true, false, List, [], ◌∷◌, ◌++◌, map, refl, sym, ap, ◌∙◌, append_assoc}
+use Rattle.std.proofs.Common.{◌≡◌, ℕ, ◌+◌, Bool, true, false, List, [], ◌∷◌, ◌++◌, map, refl, sym, ap, ◌∙◌, append_assoc, append-nil}
 use Rattle.std.specs.Prelude.{Option, None, ◌||◌, not, if◌then◌else◌}
 use Rattle.f77_ast.specs.declared.places.Part.TheVariants as parts
 use Rattle.f77_ast.specs.Trees.{ExprTree, StmtTree, stmt, WhatTree, assign, do_loop, call, goto, continue, return, stop, print, read, arm, ArmTrees, no_arms, more_arms, ElseTree, no_else, otherwise, loop, StmtTrees, no_stmts, more_stmts}
@@ -14,7 +14,7 @@ use Rattle.f77_parser.specs.Modules as modules
 use Rattle.f77_structure.specs.Lists.{is_none_of}
 use Rattle.f77_round_trip.specs.Formed.{Each}
 use Rattle.f77_modules_back.specs.Cards.{Card, card, cards_of, cards_by, part_cards, else_cards, cards_in, title_of, title_cards, decl_cards, statements_of}
-use Rattle.f77_modules_back.specs.Laws.{of_statement, of_card, ReadAlone}
+use Rattle.f77_modules_back.specs.Laws.{of_statement, of_card, ReadAlone, ReadNext}
 use Rattle.f77_modules_back.proofs.Again.{built_again}
 use Rattle.f77_modules_back.proofs.Kept.{Each-append}
 
@@ -83,10 +83,11 @@ title_inside false m = tt
 
 -- ---- up to END
 
--- what the statements so far and these make
-abbrev Wholly : List (List ℕ) → List ParsedTree → List StatementTree → List StatementTree → Type 0
-Wholly closing done begun ss =
-    modules_from closing done begun ss ≡ and_then (modules.module_read closing (begun ++ ss)) (λ p. modules_from closing (done ++ p ∷ []) [] [])
+-- what the statements so far and these make, before others
+abbrev Wholly : List (List ℕ) → List ParsedTree → List StatementTree → List StatementTree → List StatementTree → Type 0
+Wholly closing done begun ss more =
+    modules_from closing done begun (ss ++ more)
+    ≡ and_then (modules.module_read (closing_at (is_none_of more) closing) (begun ++ ss)) (λ p. modules_from closing (done ++ p ∷ []) [] more)
 
 chosen : {A : Type 0} (v w : Bool) (x y : A) → v ≡ w → (if v then x else y) ≡ (if w then x else y)
 chosen v w x y e = ap (λ b. if b then x else y) e
@@ -101,35 +102,39 @@ none-left : (ss : List StatementTree) → map of_statement ss ≡ [] → ss ≡ 
 none-left [] h = refl
 none-left (s ∷ ss) h = absurd (some-first (of_statement s) (map of_statement ss) (sym h))
 
-wholly : (cs : List Card) (end : Card) (closing : List (List ℕ)) (done : List ParsedTree) (begun ss : List StatementTree) → AllInside cs → end.phrase ≡ end_module
-    → map of_statement ss ≡ map of_card (cs ++ end ∷ []) → Wholly closing done begun ss
-wholly [] end closing done begun [] i e h = absurd (some-first _ _ h)
-wholly (c ∷ cs) end closing done begun [] i e h = absurd (some-first _ _ h)
-wholly [] end closing done begun (s ∷ ss) i e h =
+wholly : (cs : List Card) (end : Card) (closing : List (List ℕ)) (done : List ParsedTree) (begun ss more : List StatementTree) → AllInside cs → end.phrase ≡ end_module
+    → map of_statement ss ≡ map of_card (cs ++ end ∷ []) → Wholly closing done begun ss more
+wholly [] end closing done begun [] more i e h = absurd (some-first _ _ h)
+wholly (c ∷ cs) end closing done begun [] more i e h = absurd (some-first _ _ h)
+wholly [] end closing done begun (s ∷ ss) more i e h =
     let f = first-same (of_statement s) (of_card end) (map of_statement ss) [] h in
     let last : ends_module s.phrase ≡ true = ap (λ x. ends_module x.phrase) f.0 ∙ ap ends_module e in
     let none = none-left ss f.1 in
     chosen (ends_module s.phrase) true
-    (and_then (modules.module_read (closing_at (is_none_of ss) closing) (begun ++ s ∷ [])) (λ p. modules_from closing (done ++ p ∷ []) [] ss))
-    (modules_from closing done (begun ++ s ∷ []) ss) last
-    ∙ ap (λ x. and_then (modules.module_read (closing_at (is_none_of x) closing) (begun ++ s ∷ [])) (λ p. modules_from closing (done ++ p ∷ []) [] x)) none
-    ∙ ap (λ x. and_then (modules.module_read closing (begun ++ s ∷ x)) (λ p. modules_from closing (done ++ p ∷ []) [] [])) (sym none)
-wholly (c ∷ cs) end closing done begun (s ∷ ss) i e h =
+    (and_then (modules.module_read (closing_at (is_none_of (ss ++ more)) closing) (begun ++ s ∷ [])) (λ p. modules_from closing (done ++ p ∷ []) [] (ss ++ more)))
+    (modules_from closing done (begun ++ s ∷ []) (ss ++ more)) last
+    ∙ ap (λ x. and_then (modules.module_read (closing_at (is_none_of (x ++ more)) closing) (begun ++ s ∷ [])) (λ p. modules_from closing (done ++ p ∷ []) [] (x ++ more))) none
+    ∙ ap (λ x. and_then (modules.module_read (closing_at (is_none_of more) closing) (begun ++ s ∷ x)) (λ p. modules_from closing (done ++ p ∷ []) [] more)) (sym none)
+wholly (c ∷ cs) end closing done begun (s ∷ ss) more i e h =
     let f = first-same (of_statement s) (of_card c) (map of_statement ss) (map of_card (cs ++ end ∷ [])) h in
     let inside : ends_module s.phrase ≡ false = ap (λ x. ends_module x.phrase) f.0 ∙ i.first in
     chosen (ends_module s.phrase) false
-    (and_then (modules.module_read (closing_at (is_none_of ss) closing) (begun ++ s ∷ [])) (λ p. modules_from closing (done ++ p ∷ []) [] ss))
-    (modules_from closing done (begun ++ s ∷ []) ss) inside
-    ∙ wholly cs end closing done (begun ++ s ∷ []) ss i.others e f.1
-    ∙ ap (λ x. and_then (modules.module_read closing x) (λ p. modules_from closing (done ++ p ∷ []) [] [])) (append_assoc begun (s ∷ []) ss)
+    (and_then (modules.module_read (closing_at (is_none_of (ss ++ more)) closing) (begun ++ s ∷ [])) (λ p. modules_from closing (done ++ p ∷ []) [] (ss ++ more)))
+    (modules_from closing done (begun ++ s ∷ []) (ss ++ more)) inside
+    ∙ wholly cs end closing done (begun ++ s ∷ []) ss more i.others e f.1
+    ∙ ap (λ x. and_then (modules.module_read (closing_at (is_none_of more) closing) x) (λ p. modules_from closing (done ++ p ∷ []) [] more)) (append_assoc begun (s ∷ []) ss)
 
-pub read_alone : ReadAlone
+pub read_next : ReadNext
 unfolding statements_of
-read_alone m closing ss well written h =
+read_next m closing done ss more written h =
     let title = title_cards m in let decls = decl_cards 0 m.decls in let body = cards_in m.body in
     let inside = join (title ++ decls) body (join title decls (title_inside (m.titled || not m.main) m) (decls_inside 0 m.decls)) (list_inside m.body) in
-    record {
-      alone = wholly (title ++ decls ++ body) (card parts.End None end_module) closing [] [] ss inside refl written
-          ∙ ap (λ f. and_then (unless_faulty f (built closing ss)) (λ p. modules_from closing (p ∷ []) [] [])) h;
-      same = built_again m closing ss well written;
-    }
+    let own = closing_at (is_none_of more) closing in
+    wholly (title ++ decls ++ body) (card parts.End None end_module) closing done [] ss more inside refl written
+    ∙ ap (λ f. and_then (unless_faulty f (built own ss)) (λ p. modules_from closing (done ++ p ∷ []) [] more)) h
+
+pub read_alone : ReadAlone
+read_alone m closing ss well written h = record {
+  alone = ap (modules_from closing [] []) (sym (append-nil ss)) ∙ read_next m closing [] ss [] written h;
+  same = built_again m closing ss well written;
+}

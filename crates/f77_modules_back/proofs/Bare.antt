@@ -66,7 +66,7 @@ unfolding with_spot stated
 continued-same f g l cs ds p q h =
     ending-same l (stated f (Some l) cs continue p) (stated g (Some l) ds continue q) (ap (λ x. bare (stated 0 (Some l) [] continue x)) h)
 
-with_phrase-bare : (f : ℕ) (label : Option ℕ) (cs : List (List ℕ)) (phrase : PhraseTree) (p : SoFar)
+pub with_phrase-bare : (f : ℕ) (label : Option ℕ) (cs : List (List ℕ)) (phrase : PhraseTree) (p : SoFar)
     → bare (with_phrase f label cs phrase p) ≡ bare (with_phrase 0 label [] phrase (bare p))
 unfolding with_spot stated conditioned entered
 with_phrase-bare f label cs (program n) p = refl

@@ -1,19 +1,19 @@
-mod Bare
-mod TreeLists
-mod TreeBack
-mod Again
-mod PageSteps
-mod TreePages
-mod ModulePages
-mod Calm
-mod Steady
-mod Counting
-mod Counted
-mod Matched
-mod Well
-mod Kept
-mod Alone
-mod Stepping
-mod Setting
-mod Nested
-mod Steps
+pub mod Bare
+pub mod TreeLists
+pub mod TreeBack
+pub mod Again
+pub mod PageSteps
+pub mod TreePages
+pub mod ModulePages
+pub mod Calm
+pub mod Steady
+pub mod Counting
+pub mod Counted
+pub mod Matched
+pub mod Well
+pub mod Kept
+pub mod Alone
+pub mod Stepping
+pub mod Setting
+pub mod Nested
+pub mod Steps

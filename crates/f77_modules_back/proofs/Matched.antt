@@ -43,7 +43,7 @@ label-same : (l : ℕ) (t : Option ℕ) → is_label l t ≡ opens.is_label l t
 label-same l None = refl
 label-same l (Some m) = refl
 
-loop-same : (l : ℕ) (o : OpeningTree) → is_loop_to l o ≡ ends_at l (kind_of o)
+pub loop-same : (l : ℕ) (o : OpeningTree) → is_loop_to l o ≡ ends_at l (kind_of o)
 loop-same l (opening_loop d) = label-same l d.label
 loop-same l (branches arms (Some test)) = refl
 loop-same l (branches arms None) = refl

@@ -59,7 +59,7 @@ judged-by : (s r : Bool) (line : ℕ) (found : Option Found)
 judged-by true r line found h = (noted-none _ _ _ _ h).1
 judged-by false r line found h = (noted-none _ _ _ _ h).1
 
-judged-found : (spans : List Span) (landings : List Landing) (js : List Jump) (found : Option Found) → all_judged spans landings js found ≡ None → found ≡ None
+pub judged-found : (spans : List Span) (landings : List Landing) (js : List Jump) (found : Option Found) → all_judged spans landings js found ≡ None → found ≡ None
 judged-found spans landings [] found h = h
 judged-found spans landings (j ∷ js) found h =
     judged-by (stands landings j.label) (reaches spans landings j) j.line found (judged-found spans landings js (judged spans landings j found) h)

@@ -24,7 +24,7 @@ abbrev pub Keeps : List AroundTree → Type 0
 Keeps a = (l : ℕ) (p : SoFar) → ended_by l a p ≡ p
 
 -- an open block
-abbrev block : ℕ → Option ℕ → List StmtTree → OpeningTree → AroundTree
+abbrev pub block : ℕ → Option ℕ → List StmtTree → OpeningTree → AroundTree
 block id label before opening = record { id = id; label = label; before = before; opening = opening }
 
 -- what ends a block IF, whatever parts are done and open
@@ -60,7 +60,7 @@ conditioned-made h ds n l a id (Some m) e (stmt inner lab w) k i b =
 mutual
   unfolding with_spot entered
 
-  stmt_back : (h : Heading) (ds : List DeclTree) (n : ℕ) (l : List StmtTree) (a : List AroundTree) (s : StmtTree)
+  pub stmt_back : (h : Heading) (ds : List DeclTree) (n : ℕ) (l : List StmtTree) (a : List AroundTree) (s : StmtTree)
       → Keeps a → IsNumbered n s → all_made (cards_of s) (so h ds n l a) ≡ so h ds (last_of n s) (l ++ s ∷ []) a
   stmt_back h ds n l a (stmt id label w) k i = what_back h ds n l a id label w k i.number i.below
 

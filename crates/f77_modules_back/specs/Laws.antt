@@ -1,13 +1,14 @@
 -- What is written of a module makes it again.
 use Rattle.std.specs.Prelude.{◌≡◌, ℕ, ◌≤◌, List, [], ◌∷◌, map, ◌++◌, Option, Some, None, Ok}
 use Rattle.f77_ast.specs.declared.places.Places.{Places}
-use Rattle.f77_ast.specs.DeclTrees.{ModuleTree}
+use Rattle.f77_ast.specs.DeclTrees.{ModuleTree, ParsedTree}
 use Rattle.f77_statements.specs.Phrases.{PhraseTree, end_module}
 use Rattle.f77_structure.specs.Steps.{blocks_of}
 use Rattle.f77_structure.specs.Checks.{fault_of}
+use Rattle.f77_structure.specs.Lists.{is_none_of}
 use Rattle.f77_parser.specs.Statements.{StatementTree, marks_of}
 use Rattle.f77_parser.specs.Building.{built}
-use Rattle.f77_parser.specs.Modules.{modules_from}
+use Rattle.f77_parser.specs.Modules.{closing_at, modules_from}
 use Rattle.f77_printer.specs.declared.added.Added.{Added}
 use Rattle.f77_printer.specs.PageText.{lines_text}
 use Rattle.f77_printer.specs.AddedText.{added_text}
@@ -79,6 +80,11 @@ pub record OneModule (m : ModuleTree) (closing : List (List ℕ)) (ss : List Sta
 
 abbrev pub ReadAlone : Type 0
 ReadAlone = (m : ModuleTree) (closing : List (List ℕ)) (ss : List StatementTree) → IsWell m → AreWritten m ss → fault_of (marks_of ss) ≡ None → OneModule m closing ss
+
+-- before others they are read as that module, and the others behind it; the last module has the comments at the end
+abbrev pub ReadNext : Type 0
+ReadNext = (m : ModuleTree) (closing : List (List ℕ)) (done : List ParsedTree) (ss more : List StatementTree) → AreWritten m ss → fault_of (marks_of ss) ≡ None
+    → modules_from closing done [] (ss ++ more) ≡ modules_from closing (done ++ built (closing_at (is_none_of more) closing) ss ∷ []) [] more
 
 -- in a module without a fault at most 64 blocks stand in one another
 abbrev pub BuiltNested : Type 0

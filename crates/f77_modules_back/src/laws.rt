@@ -1,5 +1,5 @@
 //! Laws of building a module from what was written of it.
-ghost use Rattle.f77_modules_back.specs.Laws.{BlocksAgain, BuiltAgain, BuiltNested, BuiltWell, CardsRead, ReadAlone, WrittenByCards};
+ghost use Rattle.f77_modules_back.specs.Laws.{BlocksAgain, BuiltAgain, BuiltNested, BuiltWell, CardsRead, ReadAlone, ReadNext, WrittenByCards};
 
 /// The statements that are written of a module make it again.
 #[tactic(auto, using(crate::proofs::Again::built_again))]
@@ -30,6 +30,11 @@ pub fn cards_read()
 /// The statements that are written of a module are read as one module, which is that one, where no fault is found in them.
 pub fn read_alone()
     ensures { ReadAlone }
+{}
+
+/// Before others they are read as that module, and then the others are read.
+pub fn read_next()
+    ensures { ReadNext }
 {}
 
 /// The text of a module is that of its statements, each behind its comments and the lines that are added before it.

@@ -4,7 +4,8 @@
 mod laws;
 
 pub use laws::{
-    blocks_again, built_again, built_nested, built_well, cards_read, read_alone, written_by_cards,
+    blocks_again, built_again, built_nested, built_well, cards_read, read_alone, read_next,
+    written_by_cards,
 };
 
 #[cfg(test)]

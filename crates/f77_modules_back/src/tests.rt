@@ -1,6 +1,7 @@
 //! The laws, each called once.
 use crate::{
-    blocks_again, built_again, built_nested, built_well, cards_read, read_alone, written_by_cards,
+    blocks_again, built_again, built_nested, built_well, cards_read, read_alone, read_next,
+    written_by_cards,
 };
 use std::test::Fail;
 
@@ -12,6 +13,7 @@ fn ample(_rt: HostRuntime) -> Result<(), Fail> {
     blocks_again();
     cards_read();
     read_alone();
+    read_next();
     written_by_cards();
     Ok(())
 }

@@ -1,6 +1,6 @@
-mod Characters
-mod Readings
-mod Names
+pub mod Characters
+pub mod Readings
+pub mod Names
 mod Numbers
 mod Constants
 mod Behind
@@ -10,7 +10,7 @@ mod Items
 mod Operands
 mod Levels
 mod ReadBack
-mod Lists
+pub mod Lists
 mod Formation
 mod Balanced
 mod Stripping
@@ -21,12 +21,12 @@ mod Forms
 mod WhatForms
 mod ListsBack
 mod WhatBack
-mod StopFormed
+pub mod StopFormed
 mod WhatFormed
 mod HeadBack
 mod TitleBack
 mod PhraseFormed
-mod Verdicts
+pub mod Verdicts
 mod EntityBack
 mod SmallParts
 mod DeclBack
@@ -34,7 +34,7 @@ mod Chained
 mod CommonBack
 mod DataBack
 mod PartsFormed
-mod TypedFormed
+pub mod TypedFormed
 mod DeclFormed
 mod DeclPhrases
 mod Weighing

@@ -1,0 +1,5 @@
+mod Tally
+mod Standing
+mod Adding
+mod Reading
+pub mod Writing

@@ -1,0 +1,11 @@
+mod Labels
+mod Sources
+mod Read
+mod SpotsKept
+mod CardsFit
+mod Rows
+mod RowsBack
+mod Standing
+mod SameText
+mod Faultless
+mod Whole
