@@ -1,0 +1,20 @@
+//! The types and shapes of expressions and statements, the values of PARAMETER names, and the dimensions of arrays.
+#![tactic(auto)]
+
+mod dimensions;
+mod expressions;
+mod parameters;
+mod sizes;
+mod sort;
+mod statements;
+mod targets;
+
+pub use dimensions::{dimensions_of, shapes_judged};
+pub use expressions::{element_judged, expr_judged, subscripts_judged};
+pub use parameters::{decl_line, parameters_valued};
+pub use sizes::{Dimensions, Size};
+pub use sort::{Sort, sort_of};
+pub use statements::list_judged;
+
+#[cfg(test)]
+mod tests;

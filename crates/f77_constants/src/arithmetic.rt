@@ -1,0 +1,63 @@
+//! Operators on numbers of 32 bits; None is an overflow or a division by zero. LOGICAL values are 1 and 0.
+ghost use Rattle.std.specs.Prelude.{◌≡◌};
+ghost use Rattle.f77_ast.specs.Numbers.{binary_number, is_true, power, quotient, unary_number};
+ghost use Rattle.f77_ast.specs.Store.{truth};
+
+use f77_ast::{BinaryOp, UnaryOp};
+
+fn truth(b: bool) -> Option<i32>
+    ensures { result ≡ Some (truth b) }
+{
+    Some(if b { 1 } else { 0 })
+}
+
+pub fn unary_number(op: UnaryOp, n: i32) -> Option<i32>
+    ensures { result ≡ unary_number op n }
+{
+    match op {
+        UnaryOp::Plus => Some(n),
+        UnaryOp::Minus => n.checked_neg(),
+        UnaryOp::Not => truth(n == 0),
+    }
+}
+
+/// Rounded toward zero.
+fn quotient(m: i32, n: i32) -> Option<i32>
+    ensures { result ≡ quotient m n }
+{
+    m.checked_div(n)
+}
+
+/// A negative power is one over the positive one, which may overflow first.
+fn power(m: i32, n: i32) -> Option<i32>
+    ensures { result ≡ power m n }
+{
+    let raised = m.checked_pow(n.unsigned_abs())?;
+    if n < 0 {
+        quotient(1, raised)
+    } else {
+        Some(raised)
+    }
+}
+
+pub fn binary_number(op: BinaryOp, m: i32, n: i32) -> Option<i32>
+    ensures { result ≡ binary_number op m n }
+{
+    match op {
+        BinaryOp::Add => m.checked_add(n),
+        BinaryOp::Sub => m.checked_sub(n),
+        BinaryOp::Mul => m.checked_mul(n),
+        BinaryOp::Div => quotient(m, n),
+        BinaryOp::Pow => power(m, n),
+        BinaryOp::Eq => truth(m == n),
+        BinaryOp::Ne => truth(m != n),
+        BinaryOp::Lt => truth(m < n),
+        BinaryOp::Le => truth(m <= n),
+        BinaryOp::Gt => truth(m > n),
+        BinaryOp::Ge => truth(m >= n),
+        BinaryOp::And => truth(m != 0 && n != 0),
+        BinaryOp::Or => truth(m != 0 || n != 0),
+        BinaryOp::Eqv => truth((m != 0) == (n != 0)),
+        BinaryOp::Neqv => truth((m != 0) != (n != 0)),
+    }
+}

@@ -1,0 +1,8 @@
+use Rattle.std.proofs.Common.{◌≡◌, drop, map}
+use Rattle.f77_ast.specs.PlainDecl.{entity_tree}
+use Rattle.f77_names.specs.Declaring.{shaped_entities}
+use Rattle.f77_names.specs.Views.{told_tree}
+use Rattle.f77_names.proofs.declare.Told.tell_bounds.Given as goal
+
+abbrev pub invariant-loop-entity : goal.invariant-loop-entity
+invariant-loop-entity l = shaped_entities l.sight.arrays.now (map entity_tree (drop l.entity-index l.entity-items)) l.line (told_tree l.self) ≡ shaped_entities l.sight.arrays.now (map entity_tree l.entity-items) l.line (told_tree l.fn.self)

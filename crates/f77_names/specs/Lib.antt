@@ -1,0 +1,11 @@
+pub mod Refusals
+pub mod Lines
+pub mod Kinds
+pub mod Functions
+pub mod Entries
+pub mod Appearing
+pub mod Declaring
+pub mod Tables
+pub mod Words
+pub mod Index
+pub mod Views

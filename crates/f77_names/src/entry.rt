@@ -1,0 +1,119 @@
+//! What a module says of a name.
+ghost use Rattle.std.specs.Prelude.{◌≡◌, is_some, true};
+ghost use Rattle.f77_names.specs.Entries.{entry_tree, fresh, or_this, with_value};
+ghost use Rattle.f77_names.specs.Words.{was_said, with_word};
+
+use f77_ast::Scalar;
+use f77_constants::Constant;
+use f77_symbols::Bound;
+use fx_lists::{List, Text};
+
+/// Bounds, and the line of the statement that gives them.
+#[derive(Debug, Drop)]
+pub struct Shape {
+    pub line: u32,
+    pub bounds: List<Bound>,
+}
+
+/// A name, and the line where it is first: its number among the dummies, its declared type, its bounds, the line of its
+/// COMMON statement, whether it is a PARAMETER and its value, and whether it is in SAVE and in DATA. Of two declarations
+/// the first counts.
+#[derive(Debug, Drop)]
+pub struct Entry {
+    pub name: Text,
+    pub line: u32,
+    pub dummy: Option<u32>,
+    pub scalar: Option<Scalar>,
+    pub shape: Option<Shape>,
+    pub common: Option<u32>,
+    pub parameter: bool,
+    pub value: Option<Constant>,
+    pub saved: bool,
+    pub initial: bool,
+}
+
+/// One thing that is said of a name.
+#[derive(Debug, Drop)]
+pub enum Word {
+    /// Its number among the dummies.
+    Dummy(u32),
+    Type(Scalar),
+    Bounds(Shape),
+    /// The line of its COMMON statement.
+    Common(u32),
+    Parameter,
+    /// The value of a PARAMETER.
+    Value(Constant),
+    Saved,
+    Initial,
+}
+
+/// The first one stays; whether there was one.
+pub fn keep_first<T: Drop>(slot: &mut Option<T>, new: T) -> bool
+    ensures first { slot.new ≡ or_this slot.old new }
+    ensures twice { result ≡ is_some slot.old }
+{
+    if slot.is_some() {
+        return true;
+    }
+    *slot = Some(new);
+    false
+}
+
+/// Whether it was so before.
+fn make_true(flag: &mut bool) -> bool
+    ensures now { flag.new ≡ true }
+    ensures before { result ≡ flag.old }
+{
+    let before = *flag;
+    *flag = true;
+    before
+}
+
+impl Entry {
+    /// A name of which nothing more is said.
+    pub fn new(name: Text, line: u32) -> Entry
+        ensures { entry_tree result ≡ fresh name line }
+    {
+        Entry {
+            name,
+            line,
+            dummy: None,
+            scalar: None,
+            shape: None,
+            common: None,
+            parameter: false,
+            value: None,
+            saved: false,
+            initial: false,
+        }
+    }
+
+    /// A new value of a PARAMETER.
+    fn set_value(&mut self, value: Constant) -> bool
+        ensures entry { entry_tree self.new ≡ with_value value (entry_tree self.old) }
+        ensures twice { result ≡ is_some self.old.value }
+    {
+        let before = self.value.is_some();
+        self.value = Some(value);
+        before
+    }
+
+    /// Says one thing more; whether such a thing was said before. Of a dummy, a type, bounds and COMMON the first counts.
+    #[tactic(auto, using(crate::proofs::EntryLaws::words))]
+    pub fn say(&mut self, word: Word) -> bool
+        ensures entry { entry_tree self.new ≡ with_word word (entry_tree self.old) }
+        ensures twice { result ≡ was_said word (entry_tree self.old) }
+    {
+        match word {
+            Word::Dummy(number) => keep_first(&mut self.dummy, number),
+            Word::Type(scalar) => keep_first(&mut self.scalar, scalar),
+            Word::Bounds(shape) => keep_first(&mut self.shape, shape),
+            Word::Common(line) => keep_first(&mut self.common, line),
+            Word::Parameter => make_true(&mut self.parameter),
+            Word::Value(value) => self.set_value(value),
+            Word::Saved => make_true(&mut self.saved),
+            Word::Initial => make_true(&mut self.initial),
+        }
+    }
+}

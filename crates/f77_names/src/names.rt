@@ -1,0 +1,149 @@
+//! The names of a module in order of first appearance.
+ghost use Rattle.std.specs.Prelude.{◌≡◌, ◌<◌, [], IfOk, IfSome, List, length, map};
+ghost use Rattle.std.specs.Option.{option_map};
+ghost use Rattle.f77_names.specs.Entries.{changed, entry_tree, find, has_shape, place_in, seen, with_value};
+ghost use Rattle.f77_names.specs.Words.{was_said_of, with_word};
+
+use crate::{Entry, Word};
+use f77_constants::{Constant, Constants};
+use fx_lists::Text;
+use std::alloc::{AllocError as Memory, Global};
+use std::collections::HashMap;
+use std::marker::Model;
+
+/// The names of a module, counted from 0. A name is looked up in constant time.
+#[derive(Drop)]
+pub struct Names {
+    entries: Vec<Entry>,
+    places: HashMap<Vec<u8>, usize>,
+}
+
+impl Model for Names {
+    ghost use Rattle.std.specs.Prelude.{List, map};
+    ghost use Rattle.f77_names.specs.declared.entry.Entry.{Entry};
+    ghost use Rattle.f77_names.specs.Entries.{entry_tree};
+    ghost use Rattle.f77_names.specs.Index.{ArePlaces};
+    ghost use Rattle.f77_ast.specs.contracts.expr.Expr as expr;
+    ghost use Rattle.std.specs.Coded.{codes};
+
+    ghost Value = { List Entry };
+
+    ghost coded = { Prim.hlevel (codes, expr.the_row.coded) };
+
+    ghost view = { λ n. n.entries.items };
+
+    ghost invariant = { λ n. ArePlaces (map entry_tree n.entries.items) n.places };
+}
+
+impl Names {
+    /// No names. Takes no memory.
+    #[tactic(auto, unfolding(crate::specs::Entries::place_in))]
+    pub fn new(alloc: Global) -> Names
+        ensures { result ≡ [] }
+    {
+        Names {
+            entries: Vec::new(alloc),
+            places: HashMap::new(alloc),
+        }
+    }
+
+    pub fn as_slice(&self) -> &[Entry]
+        ensures { result.now ≡ self.now }
+    {
+        self.entries.as_slice()
+    }
+
+    /// The names alone. Takes no memory.
+    pub fn into_entries(self) -> Vec<Entry>
+        ensures { result.items ≡ self }
+    {
+        let Names { entries, .. } = self;
+        entries
+    }
+
+    fn look_up(&self, name: &Text) -> Option<usize>
+        ensures { result ≡ place_in (map entry_tree self.now) name.now }
+    {
+        self.places.get(name.as_slice()).copied()
+    }
+
+    /// The place of a name, from 0.
+    pub fn place(&self, name: &Text) -> Option<usize>
+        ensures place { result ≡ place_in (map entry_tree self.now) name.now }
+        ensures within { IfSome result (λ at. at < length self.now) }
+    {
+        self.look_up(name)
+    }
+
+    pub fn find(&self, name: &Text) -> Option<&Entry>
+        ensures { option_map (λ e. entry_tree e.now) result ≡ find name.now (map entry_tree self.now) }
+    {
+        match self.place(name) {
+            None => None,
+            Some(at) => Some(&self.entries[at]),
+        }
+    }
+
+    pub fn is_array(&self, name: &Text) -> bool
+        ensures { result ≡ has_shape name.now (map entry_tree self.now) }
+    {
+        match self.find(name) {
+            None => false,
+            Some(entry) => entry.shape.is_some(),
+        }
+    }
+
+    /// Adds a name at the end, unless it is there.
+    pub fn see(&mut self, alloc: Global, name: &Text, line: u32) -> Result<(), Memory>
+        ensures { IfOk result (λ _. map entry_tree self.new ≡ seen name.now line (map entry_tree self.old)) }
+    {
+        if self.place(name).is_some() {
+            return Ok(());
+        }
+        let at = self.entries.len();
+        let key = Vec::from_slice(alloc, name.as_slice())?;
+        self.entries.push(Entry::new(name.clone()?, line))?;
+        match self.places.insert(key, at) {
+            Ok(_) => Ok(()),
+            Err(_) => {
+                let _ = self.entries.pop();
+                Err(Memory)
+            }
+        }
+    }
+
+    /// One thing more is said of a name; whether such a thing was said before. A name that is not there gets none.
+    pub fn say(&mut self, name: &Text, word: Word) -> bool
+        ensures entries { map entry_tree self.new ≡ changed name.now (with_word word) (map entry_tree self.old) }
+        ensures twice { result ≡ was_said_of word name.now (map entry_tree self.old) }
+    {
+        match self.place(name) {
+            None => false,
+            Some(at) => {
+                let entry = &mut self.entries[at];
+                entry.say(word)
+            }
+        }
+    }
+
+    /// A PARAMETER gets its value.
+    pub fn set_value(&mut self, name: &Text, value: Constant)
+        ensures { map entry_tree self.new ≡ changed name.now (with_value value) (map entry_tree self.old) }
+    {
+        let _ = self.say(name, Word::Value(value));
+    }
+}
+
+impl Constants for Names {
+    ghost use Rattle.std.specs.Prelude.{map};
+    ghost use Rattle.f77_names.specs.Entries.{entry_tree, value_among};
+
+    ghost value_in = { λ n. value_among (map entry_tree n) };
+
+    fn value(&self, name: &Text) -> Option<Constant> {
+        match self.find(name) {
+            None => None,
+            Some(entry) => entry.value,
+        }
+    }
+}

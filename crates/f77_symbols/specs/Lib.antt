@@ -1,0 +1,4 @@
+pub mod Symbols
+pub mod Index
+pub mod Units
+pub mod Shared

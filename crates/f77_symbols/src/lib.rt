@@ -1,0 +1,17 @@
+//! The table of symbols of a module, and which variables share storage.
+#![tactic(auto)]
+
+mod overlap;
+mod symbol;
+mod symbols;
+mod units;
+mod variable;
+
+pub use overlap::{overlaps, sharing_is_of_units};
+pub use symbol::{Bound, InitialRun, Place, Symbol};
+pub use symbols::{Symbols, unit_of};
+pub use units::units_of;
+pub use variable::{Unit, Variable};
+
+#[cfg(test)]
+mod tests;

@@ -1,0 +1,149 @@
+//! The symbols of a module, by their numbers and by their names.
+ghost use Rattle.std.specs.Prelude.{◌≡◌, ◌≤◌, ◌-◌, ◌+◌, ◌++◌, ◌∷◌, [], length, map, slice_get, Some, IfOk, OnOk, OnErr, List, ℕ, Option};
+ghost use Rattle.std.specs.Option.{option_copied};
+ghost use Rattle.f77_constants.specs.declared.constant.Constant.{Constant};
+ghost use Rattle.f77_symbols.specs.Symbols.{number_from, symbol_tree, value_in, constant_at};
+ghost use Rattle.f77_symbols.specs.Shared.{numbered, place_at};
+ghost use Rattle.f77_symbols.specs.Index.{names_of};
+
+use crate::{Place, Symbol};
+use f77_ast::Scalar;
+use f77_constants::{Constant, Constants};
+use fx_lists::{List, Text};
+use std::alloc::{AllocError as Memory, Global};
+use std::collections::HashMap;
+use std::marker::Model;
+
+/// Symbols in order of first appearance, dummies first, numbered from 1. A name is looked up in constant time.
+#[derive(Drop)]
+pub struct Symbols {
+    list: List<Symbol>,
+    numbers: HashMap<Vec<u8>, u32>,
+}
+
+impl Model for Symbols {
+    ghost use Rattle.std.specs.Prelude.{List};
+    ghost use Rattle.f77_symbols.specs.declared.symbol.Symbol.{Symbol};
+    ghost use Rattle.f77_symbols.specs.Index.{AreNumbers, names_of};
+    ghost use Rattle.f77_ast.specs.contracts.expr.Expr as expr;
+    ghost use Rattle.std.specs.Coded.{codes};
+
+    ghost Value = { List Symbol };
+
+    ghost coded = { Prim.hlevel (codes, expr.the_row.coded) };
+
+    ghost view = { λ s. s.list };
+
+    ghost invariant = { λ s. AreNumbers (names_of s.list) s.numbers };
+}
+
+impl Symbols {
+    /// No symbols. Takes no memory.
+    pub fn new(alloc: Global) -> Symbols
+        ensures { result ≡ [] }
+    {
+        Symbols {
+            list: List::new(alloc),
+            numbers: HashMap::new(alloc),
+        }
+    }
+
+    /// Adds a symbol at the end. A name that is there keeps its number.
+    pub fn push(&mut self, alloc: Global, symbol: Symbol) -> Result<(), Memory>
+        ensures ok { OnOk result (self.new ≡ self.old ++ symbol ∷ []) }
+        ensures err { OnErr result (self.new ≡ self.old) }
+    {
+        if self.number(&symbol.name).is_some() {
+            self.list.push(symbol)?;
+            return Ok(());
+        }
+        let number = next_number(self.list.len())?;
+        let key = Vec::from_slice(alloc, symbol.name.as_slice())?;
+        self.list.push(symbol)?;
+        match self.numbers.insert(key, number) {
+            Ok(_) => Ok(()),
+            Err(_) => {
+                let _ = self.list.pop();
+                Err(Memory)
+            }
+        }
+    }
+
+    pub fn as_slice(&self) -> &[Symbol]
+        ensures { result.now ≡ self.now }
+    {
+        self.list.as_slice()
+    }
+
+    pub fn len(&self) -> usize
+        ensures { result ≡ length self.now }
+    {
+        self.list.len()
+    }
+
+    /// The symbol with a number, from 1.
+    pub fn symbol(&self, number: u32) -> Option<&Symbol>
+        ensures { option_copied result ≡ numbered self.now number }
+    {
+        if number == 0 {
+            return None;
+        }
+        self.list.get(number as usize - 1)
+    }
+
+    /// The number of a name, from 1.
+    pub fn number(&self, name: &Text) -> Option<u32>
+        ensures { result ≡ number_from 1 (names_of self.now) name.now }
+    {
+        self.numbers.get(name.as_slice()).copied()
+    }
+}
+
+/// The number after so many.
+fn next_number(count: usize) -> Result<u32, Memory>
+    ensures { IfOk result (λ n. n ≡ count + 1) }
+{
+    if count < u32::MAX as usize {
+        Ok(count as u32 + 1)
+    } else {
+        Err(Memory)
+    }
+}
+
+/// The constant of a symbol, where it is one.
+fn constant_at(symbol: &Symbol) -> Option<Constant>
+    ensures { result ≡ constant_at (symbol_tree symbol.now) }
+{
+    match (&symbol.place, symbol.scalar) {
+        (Place::Constant(value), Scalar::Int) => i32::try_from(*value).ok().map(Constant::Int),
+        (Place::Constant(value), Scalar::Log) => Some(Constant::Log(*value != 0)),
+        (Place::Local(..) | Place::Dummy(_) | Place::Block(..), _) => None,
+    }
+}
+
+impl Constants for Symbols {
+    ghost use Rattle.std.specs.Prelude.{map};
+    ghost use Rattle.f77_symbols.specs.Symbols.{symbol_tree, value_in};
+
+    ghost value_in = { λ s. value_in (map symbol_tree s) };
+
+    fn value(&self, name: &Text) -> Option<Constant> {
+        match self.number(name) {
+            None => None,
+            Some(number) => match self.symbol(number) {
+                None => None,
+                Some(symbol) => constant_at(symbol),
+            },
+        }
+    }
+}
+
+/// The place of a symbol. Takes no memory.
+pub fn unit_of(symbols: &Symbols, cell: u32) -> &Place
+    requires from_one { 1 ≤ cell }
+    requires is_symbol { cell ≤ length symbols.now }
+    ensures { place_at (map symbol_tree symbols.now) cell ≡ Some result.now }
+{
+    let symbol = &symbols.list.as_slice()[cell as usize - 1];
+    &symbol.place
+}
