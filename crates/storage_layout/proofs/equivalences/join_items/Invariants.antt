@@ -1,0 +1,9 @@
+use Rattle.std.proofs.Common.{◌≡◌, drop, map}
+use Rattle.f77_ast.specs.Plain.{expr_tree}
+use Rattle.f77_names.specs.Views.{table_tree}
+use Rattle.storage_layout.specs.Equivalences.{items_joined}
+use Rattle.storage_layout.proofs.equivalences.join_items.Given as goal
+
+abbrev pub invariant-loop-item : goal.invariant-loop-item
+invariant-loop-item l =
+    items_joined (table_tree l.table) (map expr_tree (drop l.item-index l.items)) l.group ≡ items_joined (table_tree l.table) (map expr_tree l.items) l.initial.group

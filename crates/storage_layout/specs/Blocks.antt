@@ -1,0 +1,91 @@
+-- COMMON blocks: the variables of a block lie one behind the other (ANSI X3.9-1978 §8.3.2).
+use Rattle.std.specs.Prelude.{ℕ, ◌+◌, Bool, true, pos, List, [], ◌∷◌, ◌++◌, slice_get, slice_set, Option, Some, None, if◌then◌else◌}
+use Rattle.f77_ast.specs.DeclTrees.{EntityTree, CommonTree, DeclTree}
+use Rattle.f77_ast.specs.DeclTrees as decl
+use Rattle.f77_ast.specs.Places.{Dim, total_size}
+use Rattle.f77_symbols.specs.Symbols.{number_from}
+use Rattle.f77_names.specs.Entries.{EntryTree, find, place_in}
+use Rattle.f77_names.specs.Tables.{NameTable}
+use Rattle.f77_checks.specs.Dimensions.{dims_in}
+use Rattle.storage_groups.specs.declared.seat.Home.TheVariants.{Block}
+use Rattle.storage_groups.specs.declared.seat.Seat.{Seat}
+use Rattle.storage_groups.specs.Seats.{is_block}
+use Rattle.storage_layout.specs.declared.blocks.Laid.{Laid}
+
+-- ---- names and sizes
+
+-- the place of a name among the names, from 0
+abbrev pub place_of : NameTable → List ℕ → Option ℕ
+place_of t x = place_in t.entries x
+
+-- a variable whose dimensions are not known counts as one unit
+abbrev pub units_by : Option (List Dim) → ℕ
+units_by None = 1
+units_by (Some ds) = total_size ds
+
+abbrev pub units_of_entry : NameTable → Option EntryTree → ℕ
+units_of_entry t None = 1
+units_of_entry t (Some e) = units_by (dims_in t e)
+
+abbrev pub units_of : NameTable → List ℕ → ℕ
+units_of t x = units_of_entry t (find x t.entries)
+
+-- ---- blocks
+
+abbrev pub block_number : List (List ℕ) → List ℕ → Option ℕ
+block_number names x = number_from 0 names x
+
+-- the blocks in order of first appearance
+abbrev pub with_block : List ℕ → Option ℕ → Laid → Laid
+with_block x None l = record { seats = l.seats; names = l.names ++ x ∷ []; sizes = l.sizes ++ 0 ∷ [] }
+with_block x (Some n) l = l
+
+abbrev pub sits_in_block : Option Seat → Bool
+sits_in_block None = true
+sits_in_block (Some s) = is_block s.home
+
+-- so many units behind those that a block has
+abbrev pub put_at : ℕ → ℕ → ℕ → Option ℕ → Laid → Laid
+put_at units place n None l = l
+put_at units place n (Some size) l = record {
+  seats = slice_set l.seats place (record { home = Block n; offset = pos size });
+  names = l.names;
+  sizes = slice_set l.sizes n (size + units);
+}
+
+abbrev pub put_there : ℕ → ℕ → Option ℕ → Laid → Laid
+put_there units place None l = l
+put_there units place (Some n) l = put_at units place n (slice_get l.sizes n) l
+
+-- a name that is in a block stays there: that it is named twice is refused elsewhere
+abbrev pub member_put : NameTable → List ℕ → EntityTree → Option ℕ → Laid → Laid
+member_put t block e None l = l
+member_put t block e (Some place) l =
+    if sits_in_block (slice_get l.seats place) then l
+    else put_there (units_of t e.name) place (block_number l.names block) l
+
+abbrev pub members_put : NameTable → List ℕ → List EntityTree → Laid → Laid
+members_put t block [] l = l
+members_put t block (e ∷ es) l = members_put t block es (member_put t block e (place_of t e.name) l)
+
+abbrev pub part_put : NameTable → CommonTree → Laid → Laid
+part_put t c l = members_put t c.block c.members (with_block c.block (block_number l.names c.block) l)
+
+abbrev pub parts_put : NameTable → List CommonTree → Laid → Laid
+parts_put t [] l = l
+parts_put t (c ∷ cs) l = parts_put t cs (part_put t c l)
+
+abbrev pub decl_put : NameTable → DeclTree → Laid → Laid
+decl_put t (decl.common cs) l = parts_put t cs l
+decl_put t (decl.implicit ps) l = l
+decl_put t (decl.integer es) l = l
+decl_put t (decl.logical es) l = l
+decl_put t (decl.dimension es) l = l
+decl_put t (decl.parameter ss) l = l
+decl_put t (decl.equivalence gs) l = l
+decl_put t (decl.save is) l = l
+decl_put t (decl.initial gs) l = l
+
+abbrev pub decls_put : NameTable → List DeclTree → Laid → Laid
+decls_put t [] l = l
+decls_put t (d ∷ ds) l = decls_put t ds (decl_put t d l)

@@ -1,0 +1,86 @@
+-- Items of EQUIVALENCE and DATA: names and elements with constant subscripts (ANSI X3.9-1978 §8.2.3, §9.2).
+use Rattle.std.specs.Prelude.{ℕ, Bool, true, false, ℤ, List, [], ◌∷◌, Option, Some, None}
+use Rattle.f77_ast.specs.Trees.{ExprTree, ExprTrees}
+use Rattle.f77_ast.specs.Trees as tree
+use Rattle.f77_ast.specs.Places.{Dim, position}
+use Rattle.f77_constants.specs.declared.constant.Constant.TheVariants.{Int, Log}
+use Rattle.f77_constants.specs.declared.constant.Worth.{Worth}
+use Rattle.f77_constants.specs.declared.constant.Worth.TheVariants.{Is, Faults, Varies}
+use Rattle.f77_names.specs.declared.refusal.Cause.TheVariants.{NotAnArray}
+use Rattle.f77_names.specs.declared.refusal.Refusal.{Refusal}
+use Rattle.f77_names.specs.Refusals.{noted}
+use Rattle.f77_names.specs.Entries.{EntryTree, find, has_shape}
+use Rattle.f77_names.specs.Tables.{NameTable}
+use Rattle.f77_checks.specs.Expressions.{expr_judged, subscripts_judged}
+use Rattle.f77_checks.specs.Dimensions.{dims_in, worth_in}
+
+abbrev pub item_name : ExprTree → Option (List ℕ)
+item_name (tree.name x) = Some x
+item_name (tree.element x es) = Some x
+item_name (tree.int n) = None
+item_name (tree.log b) = None
+item_name (tree.paren e) = None
+item_name (tree.unary o e) = None
+item_name (tree.binary o a b) = None
+item_name (tree.chars x) = None
+
+-- ---- what is asked of subscripts
+
+abbrev pub element_fault : Bool → NameTable → List ℕ → ExprTrees → ℕ → Option Refusal
+element_fault true t x es line = expr_judged t (tree.element x es) line None
+element_fault false t x es line = noted true line NotAnArray (subscripts_judged t es line None)
+
+-- the first refusal of an item alone; an array may stand whole
+abbrev pub item_fault : NameTable → ExprTree → ℕ → Option Refusal
+item_fault t (tree.element x es) line = element_fault (has_shape x t.entries) t x es line
+item_fault t (tree.name x) line = None
+item_fault t (tree.int n) line = None
+item_fault t (tree.log b) line = None
+item_fault t (tree.paren e) line = None
+item_fault t (tree.unary o e) line = None
+item_fault t (tree.binary o a b) line = None
+item_fault t (tree.chars x) line = None
+
+-- the first of two refusals
+abbrev pub both : Option Refusal → Option Refusal → Option Refusal
+both None found = found
+both (Some r) found = noted true r.line r.cause found
+
+-- the first refusal, also of these items
+abbrev pub items_judged : NameTable → List ExprTree → ℕ → Option Refusal → Option Refusal
+items_judged t [] line found = found
+items_judged t (i ∷ is) line found = items_judged t is line (both (item_fault t i line) found)
+
+-- ---- positions
+
+abbrev pub with_number : Worth → Option (List ℤ) → Option (List ℤ)
+with_number w None = None
+with_number (Is (Int n)) (Some ns) = Some (n ∷ ns)
+with_number (Is (Log b)) (Some ns) = None
+with_number Faults (Some ns) = None
+with_number Varies (Some ns) = None
+
+-- the numbers of constant subscripts
+abbrev pub numbers_of : NameTable → ExprTrees → Option (List ℤ)
+numbers_of t tree.no_exprs = Some []
+numbers_of t (tree.more_exprs e es) = with_number (worth_in t e) (numbers_of t es)
+
+abbrev pub position_at : Option (List Dim) → Option (List ℤ) → Option ℕ
+position_at None ns = None
+position_at (Some ds) None = None
+position_at (Some ds) (Some ns) = position ds ns
+
+abbrev pub element_position : NameTable → Option EntryTree → ExprTrees → Option ℕ
+element_position t None es = None
+element_position t (Some e) es = position_at (dims_in t e) (numbers_of t es)
+
+-- the unit of an item in its variable, from 0; none where a subscript is not constant, faults or is out of bounds
+abbrev pub item_position : NameTable → ExprTree → Option ℕ
+item_position t (tree.name x) = Some 0
+item_position t (tree.element x es) = element_position t (find x t.entries) es
+item_position t (tree.int n) = None
+item_position t (tree.log b) = None
+item_position t (tree.paren e) = None
+item_position t (tree.unary o e) = None
+item_position t (tree.binary o a b) = None
+item_position t (tree.chars x) = None

@@ -1,0 +1,195 @@
+//! The table of symbols of a module, or its first refusal.
+ghost use Rattle.std.specs.Prelude.{◌≡◌, IfOk, map};
+ghost use Rattle.f77_ast.specs.PlainDecl.{decl_tree, module_tree, parsed_tree};
+ghost use Rattle.f77_symbols.specs.Symbols.{number_from};
+ghost use Rattle.f77_symbols.specs.Index.{names_of};
+ghost use Rattle.f77_names.specs.Views.{line_in, table_tree};
+ghost use Rattle.f77_checks.specs.Views.{valued_tree};
+ghost use Rattle.storage_layout.specs.Gives.{Gives};
+ghost use Rattle.storage_layout.specs.Symbols.{after_laid, after_shared, after_valued, answered, filled, laid, laid_out, shared, symbols_at, symbols_of};
+
+use crate::LayoutRefusal;
+use crate::blocks::Laid;
+use crate::equivalences::{Grouping, Shared};
+use crate::initials::Filled;
+use crate::layout::Layout;
+use crate::numbers::as_number;
+use crate::table::is_save_all;
+use f77_ast::{Decl, Module, Parsed};
+use f77_checks::{list_judged, parameters_valued, shapes_judged};
+use f77_names::{LineTable, NameTable, Refusal, table_of};
+use f77_symbols::Symbols;
+use fx_lists::{List, Text};
+use std::alloc::{AllocError as Memory, Global};
+use storage_groups::Groups;
+
+/// Where the names lie after COMMON.
+#[tactic(auto, unfolding(crate::specs::Symbols::laid))]
+fn laid_of(alloc: Global, table: &NameTable, decls: &[Decl]) -> Result<Laid, Memory>
+    ensures { IfOk result (λ l. l ≡ laid (table_tree table.now) (map decl_tree decls.now)) }
+{
+    let count = as_number(table.names.as_slice().len())?;
+    let mut laid = Laid {
+        seats: Groups::alone(alloc, count)?,
+        names: List::new(alloc),
+        sizes: List::new(alloc),
+    };
+    laid.put_decls(alloc, table, decls)?;
+    Ok(laid)
+}
+
+/// Where they lie after EQUIVALENCE.
+#[tactic(auto, unfolding(crate::specs::Symbols::shared))]
+fn shared_of(
+    alloc: Global,
+    table: &NameTable,
+    lines: &LineTable,
+    decls: &[Decl],
+    seats: Groups,
+    found: Option<Refusal>,
+) -> Result<Shared, Memory>
+    ensures { IfOk result
+        (λ s. s ≡ shared (table_tree table.now) (line_in lines.now) (map decl_tree decls.now) seats found) }
+{
+    let group = Grouping {
+        seats,
+        anchor: None,
+        clash: false,
+    };
+    let mut shared = Shared {
+        group,
+        found,
+        late: None,
+    };
+    shared.share_decls(alloc, table, lines, decls)?;
+    Ok(shared)
+}
+
+/// The values of DATA.
+#[tactic(auto, unfolding(crate::specs::Symbols::filled))]
+fn filled_of(
+    alloc: Global,
+    table: &NameTable,
+    seats: &Groups,
+    lines: &LineTable,
+    decls: &[Decl],
+    found: Option<Refusal>,
+) -> Result<Filled, Memory>
+    ensures { IfOk result
+        (λ f. f ≡ filled (table_tree table.now) seats.now (line_in lines.now) (map decl_tree decls.now) found) }
+{
+    let mut filled = Filled {
+        pieces: List::new(alloc),
+        stretches: List::new(alloc),
+        found,
+    };
+    filled.fill_decls(alloc, table, seats, lines, decls)?;
+    Ok(filled)
+}
+
+/// The first refusal, or the symbols.
+#[tactic(auto, unfolding(crate::specs::Symbols::answered))]
+fn answered(
+    alloc: Global,
+    table: &NameTable,
+    decls: &[Decl],
+    names: &List<Text>,
+    seats: &Groups,
+    late: Option<Refusal>,
+    filled: &Filled,
+) -> Result<Symbols, LayoutRefusal>
+    ensures { Gives result
+        (answered (table_tree table.now) (map decl_tree decls.now) names.now seats.now late filled.now) }
+{
+    match (filled.found, late) {
+        (Some(refusal), _) | (None, Some(refusal)) => {
+            Err(LayoutRefusal::At(refusal.line, refusal.cause.number()))
+        }
+        (None, None) => {
+            let save_all = is_save_all(decls);
+            let layout = Layout::of(alloc, table, seats, names, &filled.pieces, save_all)?;
+            Ok(layout.symbols_in(alloc)?)
+        }
+    }
+}
+
+/// Lays EQUIVALENCE and DATA out.
+#[tactic(auto, unfolding(crate::specs::Symbols::after_laid, crate::specs::Symbols::after_shared))]
+fn after_laid(
+    alloc: Global,
+    table: &NameTable,
+    lines: &LineTable,
+    decls: &[Decl],
+    found: Option<Refusal>,
+    laid: Laid,
+) -> Result<Symbols, LayoutRefusal>
+    ensures { Gives result
+        (after_laid (table_tree table.now) (line_in lines.now) (map decl_tree decls.now) found laid) }
+{
+    let Laid {
+        seats,
+        names,
+        sizes: _,
+    } = laid;
+    let shared = shared_of(alloc, table, lines, decls, seats, found)?;
+    let seats = &shared.group.seats;
+    let filled = filled_of(alloc, table, seats, lines, decls, shared.found)?;
+    answered(alloc, table, decls, &names, seats, shared.late, &filled)
+}
+
+/// Lays COMMON, EQUIVALENCE and DATA out, in this order. Refusals of EQUIVALENCE come after all others.
+#[tactic(auto, unfolding(crate::specs::Symbols::laid_out))]
+fn laid_out(
+    alloc: Global,
+    table: &NameTable,
+    lines: &LineTable,
+    decls: &[Decl],
+    found: Option<Refusal>,
+) -> Result<Symbols, LayoutRefusal>
+    ensures { Gives result
+        (laid_out (table_tree table.now) (line_in lines.now) (map decl_tree decls.now) found) }
+{
+    let laid = laid_of(alloc, table, decls)?;
+    after_laid(alloc, table, lines, decls, found, laid)
+}
+
+/// The names and the first refusal are known: bounds, statements, storage.
+#[tactic(auto, unfolding(crate::specs::Symbols::after_valued, crate::specs::Symbols::checked))]
+fn after_valued(
+    alloc: Global,
+    lines: &LineTable,
+    module: &Module,
+    table: &NameTable,
+    found: Option<Refusal>,
+) -> Result<Symbols, LayoutRefusal>
+    ensures { Gives result
+        (after_valued (line_in lines.now) (module_tree «module».now) (valued_tree table.now found)) }
+{
+    let found = shapes_judged(table, found);
+    let found = list_judged(table, lines, &module.body, 0, found)?;
+    laid_out(alloc, table, lines, module.decls.as_slice(), found)
+}
+
+fn symbols_at(alloc: Global, lines: &LineTable, module: &Module) -> Result<Symbols, LayoutRefusal>
+    ensures { Gives result (symbols_at (line_in lines.now) (module_tree «module».now)) }
+{
+    let (mut table, found) = table_of(alloc, lines, module)?;
+    let found = parameters_valued(&mut table, lines, &module.decls, found)?;
+    after_valued(alloc, lines, module, &table, found)
+}
+
+/// The symbols of a module that was read, or its first refusal: the earliest line, then the lowest code, where 35 and 36 come
+/// after all others.
+pub fn symbols(alloc: Global, parsed: &Parsed) -> Result<Symbols, LayoutRefusal>
+    ensures { Gives result (symbols_of (parsed_tree parsed.now)) }
+{
+    let lines = LineTable::of(alloc, parsed.places.spots.as_slice())?;
+    symbols_at(alloc, &lines, &parsed.module)
+}
+
+/// The number of the symbol of a name, from 1. Takes no memory.
+pub fn place(symbols: &Symbols, name: &Text) -> Option<u32>
+    ensures { result ≡ number_from 1 (names_of symbols.now) name.now }
+{
+    symbols.number(name)
+}

@@ -1,0 +1,169 @@
+//! The symbols of a module, from what was laid out.
+ghost use Rattle.std.specs.Prelude.{◌≡◌, ℕ, [], None, is_some, map, nat_eq};
+ghost use Rattle.std.specs.HashMap.{get};
+ghost use Rattle.f77_names.specs.Entries.{entry_tree};
+ghost use Rattle.storage_groups.specs.declared.seat.Home.TheVariants.{Own};
+ghost use Rattle.storage_groups.specs.Seats.{lowest_from};
+ghost use Rattle.storage_layout.specs.Groups.{groups_from, some_keeps};
+
+use crate::deals::Piece;
+use crate::numbering::{Numbering, kept_groups};
+use crate::numbers::as_count;
+use crate::runs::initial_of;
+use crate::table::{bounds_in, scalar_of};
+use f77_names::{Entry, NameTable};
+use f77_symbols::{Place, Symbol, Symbols};
+use fx_lists::{List, Text};
+use std::alloc::{AllocError as Memory, Global};
+use std::collections::HashMap;
+use storage_groups::{Groups, Home, Seat};
+
+/// What was laid out; the groups of locals, those that are kept, and the lowest offset of each.
+#[derive(Drop)]
+pub struct Layout<'a> {
+    pub table: &'a NameTable,
+    pub seats: &'a Groups,
+    pub names: &'a List<Text>,
+    pub pieces: &'a List<Piece>,
+    pub save_all: bool,
+    groups: Numbering,
+    kept: HashMap<u32, bool>,
+    lows: HashMap<u32, i64>,
+    ghost numbered: { groups ≡ groups_from 0 (map entry_tree table.now.names) seats.now [] },
+    ghost keeping: { (h : ℕ) → is_some (get nat_eq kept h) ≡ some_keeps h 0 (map entry_tree table.now.names) seats.now },
+    ghost least: { (h : ℕ) → get nat_eq lows h ≡ lowest_from None (Own h) seats.now },
+}
+
+impl<'a> Layout<'a> {
+    ghost use Rattle.std.specs.Prelude.{◌≡◌, IfOk};
+    ghost use Rattle.f77_symbols.specs.Symbols.{symbol_tree};
+    ghost use Rattle.f77_names.specs.Entries.{entry_tree};
+    ghost use Rattle.storage_groups.specs.Seats.{lowest};
+    ghost use Rattle.storage_layout.specs.Table.{entry_place, group_in, home_place, is_kept, is_kept_at, is_saved, place_in, symbol_of, symbols_in};
+    ghost use Rattle.storage_layout.specs.Groups.{some_keeps};
+    ghost use Rattle.storage_layout.specs.Views.{layout_of, layout_tree};
+
+    pub fn of(
+        alloc: Global,
+        table: &'a NameTable,
+        seats: &'a Groups,
+        names: &'a List<Text>,
+        pieces: &'a List<Piece>,
+        save_all: bool,
+    ) -> Result<Layout<'a>, Memory>
+        ensures { IfOk result
+            (λ l. layout_tree l ≡ layout_of table.now seats.now names.now pieces.now save_all) }
+    {
+        let entries = table.names.as_slice();
+        let groups = Numbering::of(alloc, entries, seats)?;
+        let kept = kept_groups(alloc, entries, seats)?;
+        let lows = seats.lows(alloc)?;
+        Ok(Layout {
+            table,
+            seats,
+            names,
+            pieces,
+            save_all,
+            groups,
+            kept,
+            lows,
+        })
+    }
+
+    fn group(&self, began: u32) -> u32
+        ensures { result ≡ group_in (layout_tree self.now) began }
+    {
+        self.groups.number(began).unwrap_or(0)
+    }
+
+    fn low(&self, began: u32) -> i64
+        ensures { result ≡ lowest self.now.seats.now (Own began) }
+    {
+        self.lows.get(&began).copied().unwrap_or(0)
+    }
+
+    fn home_place(&self, alloc: Global, offset: i64, home: Home) -> Result<Place, Memory>
+        ensures { IfOk result (λ p. p ≡ home_place (layout_tree self.now) offset home) }
+    {
+        match home {
+            Home::Block(number) => {
+                let name = match self.names.get(number as usize) {
+                    None => Text::new(alloc),
+                    Some(name) => name.clone()?,
+                };
+                Ok(Place::Block(name, as_count(offset)))
+            }
+            Home::Own(began) => match offset.checked_sub(self.low(began)) {
+                None => Err(Memory),
+                Some(behind) => Ok(Place::Local(self.group(began), as_count(behind))),
+            },
+        }
+    }
+
+    fn place_in(&self, alloc: Global, seat: Option<Seat>) -> Result<Place, Memory>
+        ensures { IfOk result (λ p. p ≡ place_in (layout_tree self.now) seat) }
+    {
+        match seat {
+            None => Ok(Place::Local(0, 0)),
+            Some(seat) => self.home_place(alloc, seat.offset, seat.home),
+        }
+    }
+
+    fn entry_place(&self, alloc: Global, entry: &Entry, seat: Option<Seat>) -> Result<Place, Memory>
+        ensures { IfOk result (λ p. p ≡ entry_place (layout_tree self.now) (entry_tree entry.now) seat) }
+    {
+        match (entry.value, entry.dummy) {
+            (Some(value), _) => Ok(Place::Constant(i64::from(value.number()))),
+            (None, Some(number)) => Ok(Place::Dummy(number)),
+            (None, None) => self.place_in(alloc, seat),
+        }
+    }
+
+    fn is_kept(&self, home: Home) -> bool
+        ensures { result ≡ is_kept (layout_tree self.now) home }
+    {
+        match home {
+            Home::Block(_) => false,
+            Home::Own(began) => self.save_all || self.kept.get(&began).is_some(),
+        }
+    }
+
+    fn is_saved(&self, entry: &Entry, seat: Option<Seat>) -> bool
+        ensures { result ≡ is_saved (layout_tree self.now) (entry_tree entry.now) seat }
+    {
+        if entry.value.is_some() || entry.dummy.is_some() {
+            return false;
+        }
+        match seat {
+            None => false,
+            Some(seat) => self.is_kept(seat.home),
+        }
+    }
+
+    fn symbol_of(&self, alloc: Global, place: usize, entry: &Entry) -> Result<Symbol, Memory>
+        ensures { IfOk result
+            (λ s. symbol_tree s ≡ symbol_of (layout_tree self.now) place (entry_tree entry.now)) }
+    {
+        let seat = self.seats.seat(place);
+        Ok(Symbol {
+            name: entry.name.clone()?,
+            scalar: scalar_of(self.table.entry_kind(entry)),
+            bounds: bounds_in(alloc, &entry.shape)?,
+            place: self.entry_place(alloc, entry, seat)?,
+            saved: self.is_saved(entry, seat),
+            initial: initial_of(alloc, entry.initial, place, self.pieces.as_slice())?,
+        })
+    }
+
+    /// The symbols of the names.
+    #[tactic(auto, using(f77_ast::proofs::PlainlyDecl::decl_lists))]
+    pub fn symbols_in(&self, alloc: Global) -> Result<Symbols, Memory>
+        ensures { IfOk result (λ ss. map symbol_tree ss ≡ symbols_in (layout_tree self.now)) }
+    {
+        let mut symbols = Symbols::new(alloc);
+        for (place, entry) in self.table.names.as_slice().iter().enumerate() {
+            symbols.push(alloc, self.symbol_of(alloc, place, entry)?)?;
+        }
+        Ok(symbols)
+    }
+}

@@ -1,0 +1,145 @@
+//! The storage groups of locals, numbered in the order of their first symbols.
+ghost use Rattle.std.specs.Prelude.{◌≡◌, ◌+◌, ◌||◌, ℕ, IfOk, OnOk, [], is_some, map, nat_eq, slice_get};
+ghost use Rattle.std.specs.HashMap.{get};
+ghost use Rattle.f77_names.specs.Entries.{entry_tree};
+ghost use Rattle.storage_layout.specs.Groups.{groups_from, index_from, keeps, some_keeps, with_entry, with_group};
+
+use f77_names::Entry;
+use fx_lists::List;
+use std::alloc::{AllocError as Memory, Global};
+use std::collections::HashMap;
+use std::marker::Model;
+use storage_groups::{Groups, Home, Seat};
+
+/// Groups by the numbers of the variables that they began with; a group is looked up in constant time.
+#[derive(Drop)]
+pub struct Numbering {
+    began: List<u32>,
+    numbers: HashMap<u32, u32>,
+}
+
+impl Model for Numbering {
+    ghost use Rattle.std.specs.Prelude.{◌≡◌, List, ℕ, nat_eq};
+    ghost use Rattle.std.specs.HashMap.{get};
+    ghost use Rattle.std.specs.Coded.{coded_list, coded_ℕ};
+    ghost use Rattle.storage_layout.specs.Groups.{index_from};
+
+    ghost Value = { List ℕ };
+
+    ghost coded = { coded_list coded_ℕ };
+
+    ghost view = { λ n. n.began };
+
+    ghost invariant = { λ n. (h : ℕ) → get nat_eq n.numbers h ≡ index_from 1 n.began h };
+}
+
+/// The number after so many.
+fn next_number(count: usize) -> Result<u32, Memory>
+    ensures { IfOk result (λ n. n ≡ count + 1) }
+{
+    if count < u32::MAX as usize {
+        Ok(count as u32 + 1)
+    } else {
+        Err(Memory)
+    }
+}
+
+impl Numbering {
+    fn new(alloc: Global) -> Numbering
+        ensures { result ≡ [] }
+    {
+        Numbering {
+            began: List::new(alloc),
+            numbers: HashMap::new(alloc),
+        }
+    }
+
+    /// The number of a group, from 1.
+    pub fn number(&self, began: u32) -> Option<u32>
+        ensures { result ≡ index_from 1 self.now began }
+    {
+        self.numbers.get(&began).copied()
+    }
+
+    /// Adds a group at the end unless it is there.
+    fn add(&mut self, began: u32) -> Result<(), Memory>
+        ensures { OnOk result (self.new ≡ with_group began self.old) }
+    {
+        if self.number(began).is_some() {
+            return Ok(());
+        }
+        let number = next_number(self.began.len())?;
+        self.began.push(began)?;
+        match self.numbers.insert(began, number) {
+            Ok(_) => Ok(()),
+            Err(_) => {
+                let _ = self.began.pop();
+                Err(Memory)
+            }
+        }
+    }
+
+    fn add_entry(&mut self, entry: &Entry, seat: Option<Seat>) -> Result<(), Memory>
+        ensures { OnOk result (self.new ≡ with_entry (entry_tree entry.now) seat self.old) }
+    {
+        if entry.dummy.is_some() || entry.parameter {
+            return Ok(());
+        }
+        match seat {
+            None => Ok(()),
+            Some(seat) => match seat.home {
+                Home::Block(_) => Ok(()),
+                Home::Own(began) => self.add(began),
+            },
+        }
+    }
+
+    /// The groups of the locals among these names.
+    #[tactic(auto, using(f77_ast::proofs::PlainlyDecl::decl_lists))]
+    pub fn of(alloc: Global, entries: &[Entry], seats: &Groups) -> Result<Numbering, Memory>
+        ensures { IfOk result (λ n. n ≡ groups_from 0 (map entry_tree entries.now) seats.now []) }
+    {
+        let mut numbering = Numbering::new(alloc);
+        for (place, entry) in entries.iter().enumerate() {
+            numbering.add_entry(entry, seats.seat(place))?;
+        }
+        Ok(numbering)
+    }
+}
+
+#[tactic(auto, using(crate::proofs::KeptLaws::kept_steps))]
+fn keep(kept: &mut HashMap<u32, bool>, entry: &Entry, seat: Option<Seat>) -> Result<(), Memory>
+    ensures { OnOk result
+        ((h : ℕ) → is_some (get nat_eq kept.new h) ≡ (is_some (get nat_eq kept.old h) || keeps h (entry_tree entry.now) seat)) }
+{
+    if !(entry.saved || entry.initial) {
+        return Ok(());
+    }
+    match seat {
+        None => Ok(()),
+        Some(seat) => match seat.home {
+            Home::Block(_) => Ok(()),
+            Home::Own(began) => match kept.insert(began, true) {
+                Ok(_) => Ok(()),
+                Err(_) => Err(Memory),
+            },
+        },
+    }
+}
+
+/// The groups of which a variable is in SAVE or in DATA.
+#[tactic(auto, using(crate::proofs::KeptLaws::twice_steps))]
+pub fn kept_groups(
+    alloc: Global,
+    entries: &[Entry],
+    seats: &Groups,
+) -> Result<HashMap<u32, bool>, Memory>
+    ensures { IfOk result
+        (λ m. (h : ℕ) → is_some (get nat_eq m h) ≡ some_keeps h 0 (map entry_tree entries.now) seats.now) }
+{
+    let mut kept = HashMap::new(alloc);
+    for (place, entry) in entries.iter().enumerate() {
+        keep(&mut kept, entry, seats.seat(place))?;
+    }
+    Ok(kept)
+}

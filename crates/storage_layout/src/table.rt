@@ -1,0 +1,109 @@
+//! The table of symbols, from what was laid out.
+ghost use Rattle.std.specs.Prelude.{◌≡◌, ℕ, IfOk, [], None, is_some, map, nat_eq, slice_get};
+ghost use Rattle.std.specs.HashMap.{get};
+ghost use Rattle.std.specs.List.{list_any};
+ghost use Rattle.f77_ast.specs.Places.{as_count};
+ghost use Rattle.f77_ast.specs.PlainDecl.{decl_tree};
+ghost use Rattle.f77_symbols.specs.Symbols.{bound_tree, symbol_tree};
+ghost use Rattle.f77_names.specs.Entries.{entry_tree, maybe_shape};
+ghost use Rattle.storage_groups.specs.declared.seat.Home.TheVariants.{Own};
+ghost use Rattle.storage_groups.specs.Seats.{lowest_from};
+ghost use Rattle.storage_layout.specs.Groups.{groups_from, some_keeps};
+ghost use Rattle.storage_layout.specs.Table.{bounds_in, is_empty, is_save_all, scalar_of};
+ghost use Rattle.f77_ast.specs.PlainStmt.{maybe_tree};
+
+use crate::deals::Piece;
+use crate::numbering::{Numbering, kept_groups};
+use f77_ast::{Decl, Expr, SaveItem, Scalar, copy_expr};
+use f77_names::{Entry, Kind, NameTable, Shape};
+use f77_symbols::Bound;
+use fx_lists::{List, Text};
+use std::alloc::{AllocError as Memory, Global};
+use std::collections::HashMap;
+use storage_groups::Groups;
+
+fn is_save(decl: &Decl) -> bool
+    ensures { result ≡ is_save_all (decl_tree decl.now) }
+{
+    match decl {
+        Decl::Save(items) => is_empty(items.as_slice()),
+        Decl::Implicit(_)
+        | Decl::Integer(_)
+        | Decl::Logical(_)
+        | Decl::Dimension(_)
+        | Decl::Parameter(_)
+        | Decl::Common(_)
+        | Decl::Equivalence(_)
+        | Decl::Data(_) => false,
+    }
+}
+
+fn is_empty(items: &[SaveItem]) -> bool
+    ensures { result ≡ is_empty items.now }
+{
+    match items {
+        [] => true,
+        [_, ..] => false,
+    }
+}
+
+/// Whether there is a SAVE alone.
+#[tactic(auto, using(f77_ast::proofs::PlainlyDecl::decl_lists))]
+pub fn is_save_all(decls: &[Decl]) -> bool
+    ensures { result ≡ list_any is_save_all (map decl_tree decls.now) }
+{
+    for decl in decls {
+        if is_save(decl) {
+            return true;
+        }
+    }
+    false
+}
+
+pub fn scalar_of(kind: Kind) -> Scalar
+    ensures { result ≡ scalar_of kind }
+{
+    match kind {
+        Kind::Int | Kind::Real => Scalar::Int,
+        Kind::Log => Scalar::Log,
+    }
+}
+
+fn copy_maybe(alloc: Global, e: &Option<Expr>) -> Result<Option<Expr>, Memory>
+    ensures { IfOk result (λ r. maybe_tree r ≡ maybe_tree e.now) }
+{
+    match e {
+        None => Ok(None),
+        Some(e) => Ok(Some(copy_expr(alloc, e)?)),
+    }
+}
+
+fn copy_bound(alloc: Global, bound: &Bound) -> Result<Bound, Memory>
+    ensures { IfOk result (λ b. bound_tree b ≡ bound_tree bound.now) }
+{
+    Ok(Bound {
+        low: copy_expr(alloc, &bound.low)?,
+        high: copy_maybe(alloc, &bound.high)?,
+    })
+}
+
+#[tactic(auto, using(f77_ast::proofs::PlainlyDecl::decl_lists))]
+fn copy_bounds(alloc: Global, bounds: &[Bound]) -> Result<List<Bound>, Memory>
+    ensures { IfOk result (λ bs. map bound_tree bs ≡ map bound_tree bounds.now) }
+{
+    let mut copied = List::new(alloc);
+    for bound in bounds {
+        copied.push(copy_bound(alloc, bound)?)?;
+    }
+    Ok(copied)
+}
+
+/// The bounds of a name, none of a scalar.
+pub fn bounds_in(alloc: Global, shape: &Option<Shape>) -> Result<List<Bound>, Memory>
+    ensures { IfOk result (λ bs. map bound_tree bs ≡ bounds_in (maybe_shape shape.now)) }
+{
+    match shape {
+        None => Ok(List::new(alloc)),
+        Some(shape) => copy_bounds(alloc, shape.bounds.as_slice()),
+    }
+}
