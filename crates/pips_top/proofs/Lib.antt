@@ -1,3 +1,4 @@
 pub mod Joining
 pub mod Soundness
 pub mod Stopping
+pub mod SymbolLaws

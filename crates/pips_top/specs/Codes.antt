@@ -12,6 +12,9 @@ code_names =
     ∷ (10, codes "Syntax") ∷ (11, codes "OutOfProfile") ∷ (12, codes "RealConstant") ∷ (13, codes "NumberTooBig") ∷ (14, codes "NameTooLong")
     ∷ (15, codes "UnclosedDo") ∷ (16, codes "UnclosedIf") ∷ (17, codes "StrayPart") ∷ (18, codes "BadTerminal") ∷ (19, codes "LabelTwice")
     ∷ (20, codes "LabelMissing") ∷ (21, codes "JumpIntoBlock") ∷ (22, codes "TooManyStatements") ∷ (23, codes "TooDeep")
+    ∷ (30, codes "RealName") ∷ (31, codes "DeclaredTwice") ∷ (32, codes "BadDimension") ∷ (33, codes "BadParameter")
+    ∷ (34, codes "CommonTwice") ∷ (35, codes "EquivalenceClash") ∷ (36, codes "EquivalenceExtendsBack") ∷ (37, codes "InitialMismatch")
+    ∷ (38, codes "SubscriptCount") ∷ (39, codes "TypeMismatch") ∷ (40, codes "AssignToConstant") ∷ (41, codes "NotAnArray")
     ∷ (50, codes "NoMain") ∷ []
 
 abbrev pub code_name : ℕ → List ℕ

@@ -323,6 +323,66 @@ fn refusals(rt: HostRuntime) -> Result<(), Fail> {
     Ok(())
 }
 
+/// Texts that are refused for their symbols: behind structure, module by module, and before the want of a main program.
+#[test]
+fn symbols(rt: HostRuntime) -> Result<(), Fail> {
+    let alloc = rt.alloc();
+    for case in [
+        Case {
+            shows: "a real name",
+            held: "      PROGRAM P\n      X=1\n      END\n",
+            status: Status::Refused(2, 30),
+            out: "",
+            err: "pips: line 2: 30 RealName\n",
+        },
+        Case {
+            shows: "a name that is declared twice",
+            held: "      PROGRAM P\n      LOGICAL I,I\n      END\n",
+            status: Status::Refused(2, 31),
+            out: "",
+            err: "pips: line 2: 31 DeclaredTwice\n",
+        },
+        Case {
+            shows: "a block that begins before its first unit",
+            held: "      COMMON /B/ I\n      INTEGER J(5)\n      EQUIVALENCE (I,J(2))\n      END\n",
+            status: Status::Refused(3, 36),
+            out: "",
+            err: "pips: line 3: 36 EquivalenceExtendsBack\n",
+        },
+        Case {
+            shows: "one that does not",
+            held: "      COMMON /B/ I\n      INTEGER J(5)\n      EQUIVALENCE (I,J(1))\n      END\n",
+            status: Status::Done,
+            out: "      COMMON /B/ I\n      INTEGER J(5)\n      EQUIVALENCE (I,J(1))\n      END\n",
+            err: "",
+        },
+        Case {
+            shows: "a function that is assigned, in a program of assignments alone",
+            held: "      MAX=3\n      END\n",
+            status: Status::Refused(1, 40),
+            out: "",
+            err: "pips: line 1: 40 AssignToConstant\n",
+        },
+        Case {
+            shows: "structure comes before symbols",
+            held: "      X=1\n      ELSE\n      END\n",
+            status: Status::Refused(2, 17),
+            out: "",
+            err: "pips: line 2: 17 StrayPart\n",
+        },
+        Case {
+            shows: "the second module, and no main program",
+            held: "      SUBROUTINE S\n      END\n      SUBROUTINE T\n      I=.TRUE.\n      END\n",
+            status: Status::Refused(4, 39),
+            out: "",
+            err: "pips: line 4: 39 TypeMismatch\n",
+        },
+    ] {
+        holds(&rt, alloc, &case)?;
+    }
+    Ok(())
+}
+
 const SMALL: &[u8] = b"      I=1\n      END\n";
 
 #[test]
