@@ -47,25 +47,23 @@ class Maker:
     def size(self):
         return self.pick.choice([1, 2, 3, 3, 6, 10, 50, 50, None])
 
-    def feasible(self, names, size, most=12):
-        """Rows around a point, so that more is left to eliminate."""
+    def around(self, names, size, least, most, equal, slack):
+        """At least so many rows around a point; `slack` moves the bound of each away from what the row has there."""
         at = {v: self.pick.randint(-9, 9) for v in names}
         rows = []
-        for _ in range(self.pick.randint(2, most)):
-            row = self.row(names, size, equal=0.15)
+        for _ in range(self.pick.randint(least, most)):
+            row = self.row(names, size, equal=equal)
             value = sum(f * at[v] for v, f in row.terms)
-            rows.append(row._replace(bound=value + (0 if row.equal else self.pick.randint(0, 6))))
+            rows.append(row._replace(bound=value + slack(row.equal)))
         return rows
+
+    def feasible(self, names, size, most=12):
+        """Rows that hold at a point, so that more is left to eliminate."""
+        return self.around(names, size, 2, most, 0.15, lambda equal: 0 if equal else self.pick.randint(0, 6))
 
     def thin(self, names, size, most=12):
         """Rows around no point: most have none, some by a little."""
-        at = {v: self.pick.randint(-9, 9) for v in names}
-        rows = []
-        for _ in range(self.pick.randint(3, most)):
-            row = self.row(names, size, equal=0.1)
-            value = sum(f * at[v] for v, f in row.terms)
-            rows.append(row._replace(bound=value - self.pick.randint(-2, 1)))
-        return rows
+        return self.around(names, size, 3, most, 0.1, lambda equal: -self.pick.randint(-2, 1))
 
     def system(self, most=12):
         names = self.names()
