@@ -1,2 +1,4 @@
 pub mod AloneLaws
 pub mod MoveLaws
+pub mod LowestLaws
+pub mod BlockLaws

@@ -2,10 +2,12 @@
 #![tactic(auto)]
 
 mod groups;
+mod laws;
 mod moves;
 mod seat;
 
 pub use groups::Groups;
+pub use laws::{blocks_stay, blocks_take_groups, lowest_is_least, lowest_is_reached};
 pub use seat::{Home, Seat};
 
 #[cfg(test)]

@@ -1,6 +1,7 @@
 mod Example
-pub mod NumberLaws
+pub mod BlockLaws
 pub mod NumberingLaws
-pub mod DealLaws
 pub mod KeptLaws
+pub mod EarlyLaws
+pub mod OffsetLaws
 pub mod AnswerLaws

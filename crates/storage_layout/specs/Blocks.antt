@@ -2,35 +2,13 @@
 use Rattle.std.specs.Prelude.{ℕ, ◌+◌, Bool, true, pos, List, [], ◌∷◌, ◌++◌, slice_get, slice_set, Option, Some, None, if◌then◌else◌}
 use Rattle.f77_ast.specs.DeclTrees.{EntityTree, CommonTree, DeclTree}
 use Rattle.f77_ast.specs.DeclTrees as decl
-use Rattle.f77_ast.specs.Places.{Dim, total_size}
 use Rattle.f77_symbols.specs.Symbols.{number_from}
-use Rattle.f77_names.specs.Entries.{EntryTree, find, place_in}
 use Rattle.f77_names.specs.Tables.{NameTable}
-use Rattle.f77_checks.specs.Dimensions.{dims_in}
 use Rattle.storage_groups.specs.declared.seat.Home.TheVariants.{Block}
 use Rattle.storage_groups.specs.declared.seat.Seat.{Seat}
 use Rattle.storage_groups.specs.Seats.{is_block}
+use Rattle.storage_initial.specs.Units.{place_of, units_of}
 use Rattle.storage_layout.specs.declared.blocks.Laid.{Laid}
-
--- ---- names and sizes
-
--- the place of a name among the names, from 0
-abbrev pub place_of : NameTable → List ℕ → Option ℕ
-place_of t x = place_in t.entries x
-
--- a variable whose dimensions are not known counts as one unit
-abbrev pub units_by : Option (List Dim) → ℕ
-units_by None = 1
-units_by (Some ds) = total_size ds
-
-abbrev pub units_of_entry : NameTable → Option EntryTree → ℕ
-units_of_entry t None = 1
-units_of_entry t (Some e) = units_by (dims_in t e)
-
-abbrev pub units_of : NameTable → List ℕ → ℕ
-units_of t x = units_of_entry t (find x t.entries)
-
--- ---- blocks
 
 abbrev pub block_number : List (List ℕ) → List ℕ → Option ℕ
 block_number names x = number_from 0 names x

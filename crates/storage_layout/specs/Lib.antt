@@ -1,9 +1,8 @@
 pub mod Blocks
-pub mod Items
 pub mod Equivalences
-pub mod Initials
 pub mod Groups
 pub mod Table
 pub mod Symbols
 pub mod Gives
 pub mod Views
+pub mod Laws

@@ -13,10 +13,10 @@ use Rattle.storage_groups.specs.declared.seat.Seat.{Seat}
 use Rattle.storage_groups.specs.Seats.{alone_from}
 use Rattle.storage_layout.specs.declared.blocks.Laid.{Laid}
 use Rattle.storage_layout.specs.declared.equivalences.Shared.{Shared}
-use Rattle.storage_layout.specs.declared.initials.Filled.{Filled}
+use Rattle.storage_initial.specs.declared.initials.Filled.{Filled}
 use Rattle.storage_layout.specs.Blocks.{decls_put}
 use Rattle.storage_layout.specs.Equivalences.{decls_shared}
-use Rattle.storage_layout.specs.Initials.{decls_filled}
+use Rattle.storage_initial.specs.Initials.{decls_filled, unfilled}
 use Rattle.storage_layout.specs.Table.{Layout, is_save_all, symbols_in}
 
 -- ---- the storage of the names: each alone, then COMMON, then EQUIVALENCE, then DATA
@@ -32,9 +32,6 @@ unshared ss found = record { group = record { seats = ss; anchor = None; clash =
 
 unfoldable pub shared : NameTable → LineTable → List DeclTree → List Seat → Option Refusal → Shared
 shared t at ds ss found = decls_shared t at ds 0 (unshared ss found)
-
-abbrev pub unfilled : Option Refusal → Filled
-unfilled found = record { pieces = []; stretches = []; found = found }
 
 unfoldable pub filled : NameTable → List Seat → LineTable → List DeclTree → Option Refusal → Filled
 filled t ss at ds found = decls_filled t ss at ds 0 (unfilled found)

@@ -11,9 +11,7 @@ ghost use Rattle.storage_layout.specs.Symbols.{after_laid, after_shared, after_v
 use crate::LayoutRefusal;
 use crate::blocks::Laid;
 use crate::equivalences::{Grouping, Shared};
-use crate::initials::Filled;
 use crate::layout::Layout;
-use crate::numbers::as_number;
 use crate::table::is_save_all;
 use f77_ast::{Decl, Module, Parsed};
 use f77_checks::{list_judged, parameters_valued, shapes_judged};
@@ -22,6 +20,7 @@ use f77_symbols::Symbols;
 use fx_lists::{List, Text};
 use std::alloc::{AllocError as Memory, Global};
 use storage_groups::Groups;
+use storage_initial::{Filled, as_number};
 
 /// Where the names lie after COMMON.
 #[tactic(auto, unfolding(crate::specs::Symbols::laid))]
@@ -78,11 +77,7 @@ fn filled_of(
     ensures { IfOk result
         (λ f. f ≡ filled (table_tree table.now) seats.now (line_in lines.now) (map decl_tree decls.now) found) }
 {
-    let mut filled = Filled {
-        pieces: List::new(alloc),
-        stretches: List::new(alloc),
-        found,
-    };
+    let mut filled = Filled::new(alloc, found);
     filled.fill_decls(alloc, table, seats, lines, decls)?;
     Ok(filled)
 }

@@ -4,13 +4,12 @@ ghost use Rattle.f77_ast.specs.PlainDecl.{common_tree, decl_tree, entity_tree};
 ghost use Rattle.f77_symbols.specs.Symbols.{number_from};
 ghost use Rattle.f77_names.specs.Views.{table_tree};
 
-use crate::numbers::{as_number, as_offset, sum};
-use crate::units::units_of;
 use f77_ast::{CommonPart, Decl, Entity};
 use f77_names::NameTable;
 use fx_lists::{List, Text};
 use std::alloc::{AllocError as Memory, Global};
 use storage_groups::{Groups, Home, Seat};
+use storage_initial::{as_number, as_offset, sum, units_of};
 
 /// Where the names lie, by their places; the blocks in order of first appearance, and how many units each has so far.
 #[derive(Drop)]
@@ -20,7 +19,8 @@ pub struct Laid {
     pub sizes: List<u64>,
 }
 
-#[tactic(auto, using(crate::proofs::NumberLaws::place_steps))]
+/// Goes over the blocks: COMMON takes the time of its variables times its blocks.
+#[tactic(auto, using(crate::proofs::BlockLaws::place_steps))]
 fn block_number(names: &[Text], name: &Text) -> Option<usize>
     ensures { result ≡ number_from 0 names.now name.now }
 {
@@ -33,7 +33,8 @@ fn block_number(names: &[Text], name: &Text) -> Option<usize>
 }
 
 impl Laid {
-    ghost use Rattle.storage_layout.specs.Blocks.{block_number, decl_put, decls_put, member_put, members_put, part_put, parts_put, place_of, put_at, put_there, sits_in_block, with_block};
+    ghost use Rattle.storage_initial.specs.Units.{place_of};
+    ghost use Rattle.storage_layout.specs.Blocks.{block_number, decl_put, decls_put, member_put, members_put, part_put, parts_put, put_at, put_there, sits_in_block, with_block};
 
     /// A block is added at the end unless it is there.
     fn add_block(&mut self, block: &Text) -> Result<(), Memory>

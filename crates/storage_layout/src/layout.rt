@@ -6,10 +6,7 @@ ghost use Rattle.storage_groups.specs.declared.seat.Home.TheVariants.{Own};
 ghost use Rattle.storage_groups.specs.Seats.{lowest_from};
 ghost use Rattle.storage_layout.specs.Groups.{groups_from, some_keeps};
 
-use crate::deals::Piece;
 use crate::numbering::{Numbering, kept_groups};
-use crate::numbers::as_count;
-use crate::runs::initial_of;
 use crate::table::{bounds_in, scalar_of};
 use f77_names::{Entry, NameTable};
 use f77_symbols::{Place, Symbol, Symbols};
@@ -17,6 +14,7 @@ use fx_lists::{List, Text};
 use std::alloc::{AllocError as Memory, Global};
 use std::collections::HashMap;
 use storage_groups::{Groups, Home, Seat};
+use storage_initial::{Piece, as_count, initial_of};
 
 /// What was laid out; the groups of locals, those that are kept, and the lowest offset of each.
 #[derive(Drop)]

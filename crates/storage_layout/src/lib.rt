@@ -3,23 +3,15 @@
 
 mod answer;
 mod blocks;
-mod deals;
 mod equivalences;
-mod initials;
-mod items;
+mod laws;
 mod layout;
 mod numbering;
-mod numbers;
-mod positions;
 mod refusal;
-mod runs;
-mod stretches;
 mod table;
-mod targets;
-mod units;
-mod values;
 
 pub use answer::{place, symbols};
+pub use laws::tables_keep_offsets;
 pub use refusal::LayoutRefusal;
 
 #[cfg(test)]

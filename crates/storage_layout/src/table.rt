@@ -1,26 +1,17 @@
 //! The table of symbols, from what was laid out.
-ghost use Rattle.std.specs.Prelude.{◌≡◌, ℕ, IfOk, [], None, is_some, map, nat_eq, slice_get};
-ghost use Rattle.std.specs.HashMap.{get};
+ghost use Rattle.std.specs.Prelude.{◌≡◌, IfOk, map};
 ghost use Rattle.std.specs.List.{list_any};
-ghost use Rattle.f77_ast.specs.Places.{as_count};
 ghost use Rattle.f77_ast.specs.PlainDecl.{decl_tree};
-ghost use Rattle.f77_symbols.specs.Symbols.{bound_tree, symbol_tree};
-ghost use Rattle.f77_names.specs.Entries.{entry_tree, maybe_shape};
-ghost use Rattle.storage_groups.specs.declared.seat.Home.TheVariants.{Own};
-ghost use Rattle.storage_groups.specs.Seats.{lowest_from};
-ghost use Rattle.storage_layout.specs.Groups.{groups_from, some_keeps};
+ghost use Rattle.f77_symbols.specs.Symbols.{bound_tree};
+ghost use Rattle.f77_names.specs.Entries.{maybe_shape};
 ghost use Rattle.storage_layout.specs.Table.{bounds_in, is_empty, is_save_all, scalar_of};
 ghost use Rattle.f77_ast.specs.PlainStmt.{maybe_tree};
 
-use crate::deals::Piece;
-use crate::numbering::{Numbering, kept_groups};
 use f77_ast::{Decl, Expr, SaveItem, Scalar, copy_expr};
-use f77_names::{Entry, Kind, NameTable, Shape};
+use f77_names::{Kind, Shape};
 use f77_symbols::Bound;
-use fx_lists::{List, Text};
+use fx_lists::List;
 use std::alloc::{AllocError as Memory, Global};
-use std::collections::HashMap;
-use storage_groups::Groups;
 
 fn is_save(decl: &Decl) -> bool
     ensures { result ≡ is_save_all (decl_tree decl.now) }

@@ -1,0 +1,4 @@
+pub mod Units
+pub mod Items
+pub mod Initials
+pub mod Runs
