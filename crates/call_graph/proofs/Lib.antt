@@ -1,0 +1,6 @@
+pub mod ActualLaws
+pub mod TableLaws
+pub mod OrderLaws
+pub mod SizeLaws
+pub mod LinkLaws
+pub mod CycleLaws

@@ -1,0 +1,13 @@
+use Rattle.std.proofs.Common.{◌≡◌, ◌+◌, ◌≤◌, length, map}
+use Rattle.f77_ast.specs.PlainDecl.{parsed_tree}
+use Rattle.call_graph.specs.Modules.{twice_from}
+use Rattle.call_graph.proofs.modules.name_twice.Given as goal
+
+abbrev pub invariant-loop-rest : goal.invariant-loop-rest
+invariant-loop-rest l = record {
+  same : twice_from l.place l.names (map parsed_tree l.rest) ≡ twice_from 0 l.names (map parsed_tree l.fn.modules);
+  room : l.place + length l.rest ≤ 64;
+}
+
+abbrev pub decreases-loop-rest : goal.decreases-loop-rest
+decreases-loop-rest l = length l.rest

@@ -1,0 +1,12 @@
+pub mod Faults
+pub mod Modules
+pub mod Actuals
+pub mod Calls
+pub mod Callees
+pub mod Recursion
+pub mod Tables
+pub mod Order
+pub mod Blocks
+pub mod Sizes
+pub mod Links
+pub mod Laws

@@ -1,0 +1,114 @@
+//! How many modules there are, their names, and their main program.
+ghost use Rattle.std.specs.Prelude.{◌≡◌, ◌≤◌, length, map};
+ghost use Rattle.f77_ast.specs.PlainDecl.{parsed_tree};
+ghost use Rattle.call_graph.specs.Modules.{module_line, statement_line, is_statement, too_many, is_place, twice_from, main_twice, no_main};
+
+use crate::refusal::{Cause, Fault};
+use f77_ast::{Parsed, Part, Spot, StmtId};
+use fx_lists::List;
+use tracked_cells::Names;
+
+/// The first line of a module.
+fn module_line(parsed: &Parsed) -> u32
+    ensures { result ≡ module_line (parsed_tree parsed.now) }
+{
+    match parsed.places.spots.as_slice() {
+        [] => 0,
+        [spot, ..] => spot.first,
+    }
+}
+
+fn is_statement(part: Part, id: StmtId) -> bool
+    ensures { result ≡ is_statement id part }
+{
+    match part {
+        Part::Stmt(own) => own == id,
+        Part::Title
+        | Part::Decl(_)
+        | Part::ElseIf(..)
+        | Part::Else(_)
+        | Part::Close(_)
+        | Part::End => { false }
+    }
+}
+
+/// The line of an executable statement.
+pub fn statement_line(spots: &[Spot], id: StmtId) -> u32
+    ensures { result ≡ statement_line id spots.now }
+{
+    let mut rest = spots;
+    while let [spot, more @ ..] = rest {
+        if is_statement(spot.part, id) {
+            return spot.first;
+        }
+        rest = more;
+    }
+    0
+}
+
+/// A module past those that a program may have.
+pub fn too_many(modules: &List<Parsed>) -> Option<Fault>
+    ensures { result ≡ too_many (map parsed_tree modules.now) }
+{
+    let extra = modules.get(64)?;
+    Some(Fault::At(64, module_line(extra), Cause::TooManyModules))
+}
+
+fn is_place(place: u32, found: Option<u32>) -> bool
+    ensures { result ≡ is_place place found }
+{
+    match found {
+        None => false,
+        Some(other) => other == place,
+    }
+}
+
+/// A second module of one name.
+pub fn name_twice(modules: &List<Parsed>, names: &Names) -> Option<Fault>
+    requires { length modules.now ≤ 64 }
+    ensures { result ≡ twice_from 0 names.now (map parsed_tree modules.now) }
+{
+    let mut place = 0u32;
+    let mut rest = modules.as_slice();
+    while let [parsed, more @ ..] = rest {
+        if !is_place(place, names.place(&parsed.module.name)) {
+            return Some(Fault::At(place, module_line(parsed), Cause::ModuleTwice));
+        }
+        place += 1;
+        rest = more;
+    }
+    None
+}
+
+/// A second main program.
+pub fn main_twice(modules: &List<Parsed>) -> Option<Fault>
+    requires { length modules.now ≤ 64 }
+    ensures { result ≡ main_twice (map parsed_tree modules.now) }
+{
+    let mut place = 0u32;
+    let mut found = false;
+    let mut rest = modules.as_slice();
+    while let [parsed, more @ ..] = rest {
+        if parsed.module.main && found {
+            return Some(Fault::At(place, module_line(parsed), Cause::TwoMains));
+        }
+        found = found || parsed.module.main;
+        place += 1;
+        rest = more;
+    }
+    None
+}
+
+/// No main program.
+pub fn no_main(modules: &List<Parsed>) -> Option<Fault>
+    ensures { result ≡ no_main (map parsed_tree modules.now) }
+{
+    let mut rest = modules.as_slice();
+    while let [parsed, more @ ..] = rest {
+        if parsed.module.main {
+            return None;
+        }
+        rest = more;
+    }
+    Some(Fault::NoMain)
+}

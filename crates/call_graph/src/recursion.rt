@@ -1,0 +1,164 @@
+//! Whether calls lead back to where they came from.
+ghost use Rattle.std.specs.Prelude.{◌≡◌, ◌≤◌, false, length, map, IfOk, [], slice_index_or};
+ghost use Rattle.std.specs.List.{list_any};
+ghost use Rattle.f77_ast.specs.PlainDecl.{parsed_tree};
+ghost use Rattle.call_graph.specs.Recursion.{reaches, cyclic_in, cyclic_fault, cyclic_from};
+ghost use Rattle.call_graph.specs.Tables.{cell, longer_cell, row_from, longer, table_after};
+
+use crate::calls::Calls;
+use crate::modules::statement_line;
+use crate::refusal::{Cause, Fault};
+use f77_ast::{Parsed, StmtId};
+use fx_lists::List;
+use std::alloc::{AllocError as Memory, Global};
+use tracked_cells::Names;
+
+/// For each module, whether it leads to each.
+type Table = List<List<bool>>;
+
+fn at(row: &List<bool>, to: u32) -> bool
+    ensures { result ≡ slice_index_or row.now to false }
+{
+    row.get(to as usize).copied().unwrap_or(false)
+}
+
+fn cell(table: &Table, from: u32, to: u32) -> bool
+    ensures { result ≡ cell table.now from to }
+{
+    match table.get(from as usize) {
+        None => false,
+        Some(row) => at(row, to),
+    }
+}
+
+/// Whether one of these modules leads to a module.
+fn some_leads(table: &Table, callees: &List<u32>, to: u32) -> bool
+    ensures { result ≡ list_any (λ c. cell table.now c to) callees.now }
+{
+    callees.as_slice().iter().any(|c| cell(table, *c, to))
+}
+
+/// Whether a module leads to another by one call more than the table has.
+fn leads(table: &Table, callees: &List<u32>, from: u32, to: u32) -> bool
+    ensures { result ≡ longer_cell table.now callees.now from to }
+{
+    from == to || some_leads(table, callees, to)
+}
+
+/// To which modules one leads by one call more than the table has.
+#[tactic(auto, using(crate::proofs::TableLaws::row_steps))]
+fn longer_row(
+    alloc: Global,
+    table: &Table,
+    size: u32,
+    from: u32,
+    callees: &List<u32>,
+) -> Result<List<bool>, Memory>
+    ensures { IfOk result (λ row. row ≡ row_from table.now callees.now from 0 size) }
+{
+    let mut row = List::new(alloc);
+    for to in 0..size {
+        row.push(leads(table, callees, from, to))?;
+    }
+    Ok(row)
+}
+
+/// The table for one call more.
+fn longer(alloc: Global, table: &Table, callees: &List<List<u32>>) -> Result<Table, Memory>
+    requires { length callees.now ≤ 64 }
+    ensures { IfOk result (λ t. t ≡ longer callees.now table.now) }
+{
+    let size = callees.len() as u32;
+    let mut rows = List::new(alloc);
+    let mut from = 0u32;
+    let mut rest = callees.as_slice();
+    while let [called, more @ ..] = rest {
+        rows.push(longer_row(alloc, table, size, from, called)?)?;
+        from += 1;
+        rest = more;
+    }
+    Ok(rows)
+}
+
+/// Whether each module leads to each.
+#[tactic(auto, using(crate::proofs::TableLaws::table_steps))]
+fn table_of(alloc: Global, callees: &List<List<u32>>) -> Result<Table, Memory>
+    requires { length callees.now ≤ 64 }
+    ensures { IfOk result (λ t. t ≡ table_after (length callees.now) callees.now []) }
+{
+    let mut table = List::new(alloc);
+    for _round in 0..callees.len() {
+        table = longer(alloc, &table, callees)?;
+    }
+    Ok(table)
+}
+
+/// The number of the first CALL whose callee leads to its caller.
+fn cyclic_in(table: &Table, names: &Names, caller: u32, calls: &Calls) -> Option<StmtId>
+    ensures { result ≡ cyclic_in (λ c. cell table.now c caller) names.now calls.now }
+{
+    let mut rest = calls.as_slice();
+    while let [call, more @ ..] = rest {
+        if let Some(place) = names.place(&call.callee) {
+            if cell(table, place, caller) {
+                return Some(call.at);
+            }
+        }
+        rest = more;
+    }
+    None
+}
+
+/// Recursion at a CALL of a module.
+fn cyclic_fault(caller: u32, parsed: &Parsed, at: StmtId) -> Fault
+    ensures { result ≡ cyclic_fault caller (parsed_tree parsed.now) at }
+{
+    let line = statement_line(parsed.places.spots.as_slice(), at);
+    Fault::At(caller, line, Cause::Recursion)
+}
+
+/// The first CALL whose callee leads to its caller.
+fn cyclic_from(
+    table: &Table,
+    names: &Names,
+    modules: &List<Parsed>,
+    calls: &List<Calls>,
+) -> Option<Fault>
+    requires { length modules.now ≤ 64 }
+    ensures { result ≡ cyclic_from (cell table.now) 0 (map parsed_tree modules.now) calls.now names.now }
+{
+    let mut caller = 0u32;
+    let mut rest = modules.as_slice();
+    let mut others = calls.as_slice();
+    while let [parsed, more @ ..] = rest {
+        match others {
+            [] => return None,
+            [own, later @ ..] => {
+                if let Some(at) = cyclic_in(table, names, caller, own) {
+                    return Some(cyclic_fault(caller, parsed, at));
+                }
+                others = later;
+            }
+        }
+        caller += 1;
+        rest = more;
+    }
+    None
+}
+
+/// The first CALL that lies on a cycle of calls.
+pub fn recursion(
+    alloc: Global,
+    names: &Names,
+    modules: &List<Parsed>,
+    calls: &List<Calls>,
+    callees: &List<List<u32>>,
+) -> Result<Option<Fault>, Memory>
+    requires few { length modules.now ≤ 64 }
+    requires few_callees { length callees.now ≤ 64 }
+    requires one_each { length calls.now ≡ length callees.now }
+    ensures { IfOk result (λ f. f ≡ cyclic_from (reaches callees.now) 0 (map parsed_tree modules.now) calls.now names.now) }
+{
+    let table = table_of(alloc, callees)?;
+    Ok(cyclic_from(&table, names, modules, calls))
+}

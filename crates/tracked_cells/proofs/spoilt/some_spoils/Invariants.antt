@@ -1,0 +1,11 @@
+use Rattle.std.proofs.Common.{◌≡◌, length, map}
+use Rattle.f77_symbols.specs.Symbols.{symbol_tree}
+use Rattle.tracked_cells.specs.Untracked.{some_spoils}
+use Rattle.tracked_cells.proofs.spoilt.some_spoils.Given as goal
+
+abbrev pub invariant-loop-rest : goal.invariant-loop-rest
+invariant-loop-rest l =
+    some_spoils l.rest (map (map symbol_tree) l.others) l.at ≡ some_spoils l.fn.names (map (map symbol_tree) l.fn.tables) l.at
+
+abbrev pub decreases-loop-rest : goal.decreases-loop-rest
+decreases-loop-rest l = length l.rest

@@ -1,0 +1,35 @@
+-- Units of blocks that may not be tracked: some module has there something else than one INTEGER scalar that is in no EQUIVALENCE.
+use Rattle.std.specs.Prelude.{ℕ, Bool, false, ◌||◌, List, [], ◌∷◌, map, filter, if◌then◌else◌}
+use Rattle.f77_ast.specs.DeclTrees.{ParsedTree}
+use Rattle.f77_symbols.specs.declared.symbol.Place.{Place}
+use Rattle.f77_symbols.specs.declared.symbol.Place.TheVariants.{Block}
+use Rattle.f77_symbols.specs.declared.variable.Unit.{Unit as BlockUnit}
+use Rattle.f77_symbols.specs.Symbols.{SymbolTree}
+use Rattle.tracked_cells.specs.Equivalences.{equivalenced}
+use Rattle.tracked_cells.specs.Standing.{spoils}
+use Rattle.tracked_cells.specs.Scalars.{all_scalars}
+
+-- some module, of those with these names in their EQUIVALENCEs and these symbols, spoils a unit
+abbrev pub some_spoils : List (List (List ℕ)) → List (List SymbolTree) → Place → Bool
+some_spoils [] sss at = false
+some_spoils (names ∷ more) [] at = false
+some_spoils (names ∷ more) (ss ∷ sss) at = spoils names ss at || some_spoils more sss at
+
+-- the names in the EQUIVALENCEs of each module
+abbrev pub all_equivalenced : List ParsedTree → List (List (List ℕ))
+all_equivalenced ps = map (λ p. equivalenced p.module_read) ps
+
+abbrev pub begin_of : BlockUnit → Place
+begin_of u = Block u.block u.offset
+
+-- a unit, if some module spoils it
+abbrev pub one_spoilt : List (List (List ℕ)) → List (List SymbolTree) → BlockUnit → List BlockUnit
+one_spoilt names sss u = if some_spoils names sss (begin_of u) then u ∷ [] else []
+
+-- the units that some module spoils
+abbrev pub spoilt : List (List (List ℕ)) → List (List SymbolTree) → List BlockUnit → List BlockUnit
+spoilt names sss us = filter (λ u. some_spoils names sss (begin_of u)) us
+
+-- the units at which some module has an INTEGER scalar, and which some module spoils
+abbrev pub untracked_of : List ParsedTree → List (List SymbolTree) → List BlockUnit
+untracked_of ps sss = spoilt (all_equivalenced ps) sss (all_scalars sss [])

@@ -1,0 +1,104 @@
+//! Lists of names.
+ghost use Rattle.std.specs.Prelude.{◌≡◌, ◌++◌, ◌∷◌, [], map, slice_get, IfOk};
+ghost use Rattle.std.specs.Option.{option_copied};
+ghost use Rattle.f77_ast.specs.PlainDecl.{parsed_tree};
+ghost use Rattle.f77_symbols.specs.Symbols.{number_from};
+ghost use Rattle.tracked_cells.specs.Names.{names_of};
+
+use f77_ast::Parsed;
+use fx_lists::{List, Text};
+use std::alloc::{AllocError as Memory, Global};
+use std::collections::HashMap;
+use std::marker::Model;
+
+/// Names at their places, from 0. The first place of a name is found in constant time.
+#[derive(Drop)]
+pub struct Names {
+    names: List<Text>,
+    places: HashMap<Vec<u8>, u32>,
+}
+
+impl Model for Names {
+    ghost use Rattle.std.specs.Prelude.{List, ℕ};
+    ghost use Rattle.tracked_cells.specs.Names.{ArePlaces};
+
+    ghost Value = { List (List ℕ) };
+
+    ghost view = { λ n. n.names };
+
+    ghost invariant = { λ n. ArePlaces n.names n.places };
+}
+
+impl Names {
+    /// No names. Takes no memory.
+    pub fn new(alloc: Global) -> Names
+        ensures { result ≡ [] }
+    {
+        Names {
+            names: List::new(alloc),
+            places: HashMap::new(alloc),
+        }
+    }
+
+    /// The first place of a name.
+    pub fn place(&self, name: &Text) -> Option<u32>
+        ensures { result ≡ number_from 0 self.now name.now }
+    {
+        self.places.get(name.as_slice()).copied()
+    }
+
+    /// The name at a place.
+    pub fn name(&self, place: u32) -> Option<&Text>
+        ensures { option_copied result ≡ slice_get self.now place }
+    {
+        self.names.get(place as usize)
+    }
+
+    pub fn names(&self) -> &[Text]
+        ensures { result.now ≡ self.now }
+    {
+        self.names.as_slice()
+    }
+
+    /// Adds a name at the end.
+    pub fn push(&mut self, alloc: Global, name: &Text) -> Result<(), Memory>
+        ensures { IfOk result (λ _. self.new ≡ self.old ++ name.now ∷ []) }
+    {
+        if self.place(name).is_some() {
+            self.names.push(name.clone()?)?;
+            return Ok(());
+        }
+        let place = place_after(self.names.len())?;
+        let key = Vec::from_slice(alloc, name.as_slice())?;
+        self.names.push(name.clone()?)?;
+        match self.places.insert(key, place) {
+            Ok(_) => Ok(()),
+            Err(_) => {
+                let _ = self.names.pop();
+                Err(Memory)
+            }
+        }
+    }
+
+    /// The names of modules in the order of the text.
+    pub fn of(alloc: Global, modules: &List<Parsed>) -> Result<Names, Memory>
+        ensures { IfOk result (λ names. names ≡ names_of (map parsed_tree modules.now)) }
+    {
+        let mut names = Names::new(alloc);
+        for parsed in modules.as_slice() {
+            names.push(alloc, &parsed.module.name)?;
+        }
+        Ok(names)
+    }
+}
+
+/// The place after so many.
+fn place_after(count: usize) -> Result<u32, Memory>
+    ensures { IfOk result (λ n. n ≡ count) }
+{
+    if count < u32::MAX as usize {
+        Ok(count as u32)
+    } else {
+        Err(Memory)
+    }
+}

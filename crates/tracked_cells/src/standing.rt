@@ -1,0 +1,132 @@
+//! Which variables stand at a unit.
+ghost use Rattle.std.specs.Prelude.{◌≡◌, map};
+ghost use Rattle.std.specs.List.{list_any};
+ghost use Rattle.f77_symbols.specs.Symbols.{symbol_tree};
+ghost use Rattle.tracked_cells.specs.Standing.{has_bounds, is_int_scalar, is_plain, reaches, group_has, block_has, place_has, stands_at, spoils_at, two_at, spoils};
+
+use crate::names::Names;
+use f77_ast::Scalar;
+use f77_symbols::{Place, Symbol, Symbols, units_of};
+use fx_lists::Text;
+
+/// Whether a symbol is an array.
+pub fn has_bounds(symbol: &Symbol) -> bool
+    ensures { result ≡ has_bounds (symbol_tree symbol.now).bounds }
+{
+    match symbol.bounds.as_slice() {
+        [] => false,
+        [_, ..] => true,
+    }
+}
+
+/// Whether a symbol is of type INTEGER and no array.
+pub fn is_int_scalar(symbol: &Symbol) -> bool
+    ensures { result ≡ is_int_scalar (symbol_tree symbol.now) }
+{
+    match symbol.scalar {
+        Scalar::Int => !has_bounds(symbol),
+        Scalar::Log => false,
+    }
+}
+
+/// Whether it is an INTEGER scalar and none of these names.
+pub fn is_plain(names: &Names, symbol: &Symbol) -> bool
+    ensures { result ≡ is_plain names.now (symbol_tree symbol.now) }
+{
+    is_int_scalar(symbol) && names.place(&symbol.name).is_none()
+}
+
+/// Whether so many units from an offset on have this one among them.
+fn reaches(offset: u64, units: u64, unit: u64) -> bool
+    ensures { result ≡ reaches offset units unit }
+{
+    offset <= unit && unit < offset.saturating_add(units)
+}
+
+fn group_has(group: u32, offset: u64, units: u64, at: &Place) -> bool
+    ensures { result ≡ group_has group offset units at.now }
+{
+    match at {
+        Place::Local(other, unit) => group == *other && reaches(offset, units, *unit),
+        Place::Dummy(_) | Place::Block(..) | Place::Constant(_) => false,
+    }
+}
+
+fn block_has(block: &Text, offset: u64, units: u64, at: &Place) -> bool
+    ensures { result ≡ block_has block.now offset units at.now }
+{
+    match at {
+        Place::Block(other, unit) => *block == *other && reaches(offset, units, *unit),
+        Place::Local(..) | Place::Dummy(_) | Place::Constant(_) => false,
+    }
+}
+
+/// Whether so many units from a place on have the one at which another begins.
+fn place_has(place: &Place, units: u64, at: &Place) -> bool
+    ensures { result ≡ place_has place.now units at.now }
+{
+    match place {
+        Place::Local(group, offset) => group_has(*group, *offset, units, at),
+        Place::Block(block, offset) => block_has(block, *offset, units, at),
+        Place::Dummy(_) | Place::Constant(_) => false,
+    }
+}
+
+fn stands_at(table: &Symbols, at: &Place, symbol: &Symbol) -> bool
+    ensures { result ≡ stands_at (map symbol_tree table.now) at.now (symbol_tree symbol.now) }
+{
+    place_has(&symbol.place, units_of(table, symbol), at)
+}
+
+fn spoils_at(names: &Names, table: &Symbols, at: &Place, symbol: &Symbol) -> bool
+    ensures { result ≡ spoils_at names.now (map symbol_tree table.now) at.now (symbol_tree symbol.now) }
+{
+    stands_at(table, at, symbol) && !is_plain(names, symbol)
+}
+
+fn some_other(names: &Names, table: &Symbols, at: &Place) -> bool
+    ensures { result ≡ list_any (spoils_at names.now (map symbol_tree table.now) at.now) (map symbol_tree table.now) }
+{
+    let mut rest = table.as_slice();
+    while let [symbol, more @ ..] = rest {
+        if spoils_at(names, table, at, symbol) {
+            return true;
+        }
+        rest = more;
+    }
+    false
+}
+
+fn some_at(table: &Symbols, at: &Place, symbols: &[Symbol]) -> bool
+    ensures { result ≡ list_any (stands_at (map symbol_tree table.now) at.now) (map symbol_tree symbols.now) }
+{
+    let mut rest = symbols;
+    while let [symbol, more @ ..] = rest {
+        if stands_at(table, at, symbol) {
+            return true;
+        }
+        rest = more;
+    }
+    false
+}
+
+fn two_at(table: &Symbols, at: &Place) -> bool
+    ensures { result ≡ two_at (map symbol_tree table.now) at.now (map symbol_tree table.now) }
+{
+    let mut rest = table.as_slice();
+    while let [symbol, more @ ..] = rest {
+        if stands_at(table, at, symbol) {
+            return some_at(table, at, more);
+        }
+        rest = more;
+    }
+    false
+}
+
+/// Whether a module has, at the unit at which a place begins, a variable that is no INTEGER scalar or is one of these names, or
+/// two variables.
+pub fn spoils(names: &Names, table: &Symbols, at: &Place) -> bool
+    ensures { result ≡ spoils names.now (map symbol_tree table.now) at.now }
+{
+    some_other(names, table, at) || two_at(table, at)
+}

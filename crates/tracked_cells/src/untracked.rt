@@ -1,0 +1,28 @@
+//! The units of blocks at which an INTEGER scalar stands and which may not be tracked.
+ghost use Rattle.std.specs.Prelude.{◌≡◌, map, IfOk};
+ghost use Rattle.f77_ast.specs.PlainDecl.{parsed_tree};
+ghost use Rattle.f77_symbols.specs.Symbols.{symbol_tree};
+ghost use Rattle.tracked_cells.specs.Untracked.{untracked_of};
+
+use crate::equivalences::all_equivalenced;
+use crate::scalars::{all_scalars, listed};
+use crate::spoilt::spoilt;
+use f77_ast::Parsed;
+use f77_symbols::{Symbols, Unit};
+use fx_lists::List;
+use std::alloc::{AllocError as Memory, Global};
+
+/// The units, by block and offset, at which some module has an INTEGER scalar, and some module has a variable that is none, or
+/// stands in an EQUIVALENCE, or is not the only one there. In time of the number of units times that of symbols.
+pub fn untracked_of(
+    alloc: Global,
+    modules: &List<Parsed>,
+    tables: &List<Symbols>,
+) -> Result<List<Unit>, Memory>
+    ensures { IfOk result (λ units. units ≡ untracked_of (map parsed_tree modules.now) (map (map symbol_tree) tables.now)) }
+{
+    let names = all_equivalenced(alloc, modules)?;
+    let units = all_scalars(alloc, tables)?;
+    let keys = listed(alloc, units)?;
+    spoilt(alloc, &names, tables, keys.as_slice())
+}
