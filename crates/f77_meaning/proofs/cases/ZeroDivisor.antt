@@ -1,0 +1,51 @@
+-- zero_divisor.f: a zero divisor: fault 1
+use Rattle.std.proofs.Common.{◌≡◌, ℕ, List, [], ◌∷◌, None, false, refl, pos}
+use Rattle.std.specs.Prelude.{codes}
+use Rattle.f77_ast.specs.declared.expr.BinaryOp.TheVariants as binary_op
+use Rattle.f77_ast.specs.declared.decl.Scalar.TheVariants as scalar
+use Rattle.f77_ast.specs.Plain.{exprs_of}
+use Rattle.f77_ast.specs.Trees.{int, name, binary, stmt, assign, print}
+use Rattle.f77_ast.specs.Store.{Int, Content, content}
+use Rattle.f77_ast.specs.Faults.{Arithmetic}
+use Rattle.f77_ast.specs.Steps.{Faulty, Value}
+use Rattle.f77_ast.specs.Runs.{Broke}
+use Rattle.f77_symbols.specs.declared.symbol.Place.TheVariants as place
+use Rattle.call_graph.specs.declared.graph.Graph.{Graph}
+use Rattle.f77_meaning.specs.Areas.{Area, group, unit_at}
+use Rattle.f77_meaning.specs.Modules.{Known}
+use Rattle.f77_meaning.specs.Linked.{numbering}
+use Rattle.f77_meaning.proofs.CaseWords.{symbol, main_module, graph, stmts_of, Arrives, Reads, Writes, Prints, ending, end_of, seen_in}
+
+abbrev module_p : Known
+module_p = main_module (codes "P")
+    (stmts_of (stmt 1 None (assign (name (codes "K")) (int (pos 0))) ∷ stmt 2 None (print (exprs_of ((binary binary_op.Div (int (pos 7)) (int (pos 2))) ∷ (name (codes "K")) ∷ []))) ∷ stmt 3 None (assign (name (codes "I")) (binary binary_op.Div (int (pos 1)) (name (codes "K")))) ∷ stmt 4 None (print (exprs_of ((name (codes "I")) ∷ []))) ∷ []))
+    (symbol (codes "K") scalar.Int [] (place.Local 1 0) false [] ∷
+    symbol (codes "I") scalar.Int [] (place.Local 2 0) false [] ∷
+    [])
+
+abbrev modules : List Known
+modules = module_p ∷ []
+
+abbrev links : Graph
+links = graph ((codes "P") ∷ []) [] []
+
+abbrev input : List Content
+input = []
+
+abbrev at : Area → ℕ → ℕ
+at a o = unit_at (numbering modules links) a o
+
+ends : end_of modules links 5 input ≡ ending (Broke (Faulty Arithmetic)) []
+ends = refl
+
+sees : seen_in modules links 5 input ≡
+    Arrives (codes "P") 0
+    ∷ Arrives (codes "P") 1
+    ∷ Writes (at (group (codes "P") 1) 0) (content Int (pos 0))
+    ∷ Arrives (codes "P") 2
+    ∷ Reads (at (group (codes "P") 1) 0)
+    ∷ Prints (Value (content Int (pos 3)) ∷ Value (content Int (pos 0)) ∷ [])
+    ∷ Arrives (codes "P") 3
+    ∷ Reads (at (group (codes "P") 1) 0)
+    ∷ []
+sees = refl

@@ -1,0 +1,5 @@
+use Rattle.f77_meaning.proofs.CommonCellLaws.{common_cells_are_cells}
+use Rattle.f77_meaning.proofs.laws.common_cells_are_cells.Goals as goal
+
+pub returns : goal.returns
+returns c = common_cells_are_cells

@@ -1,0 +1,9 @@
+pub mod Areas
+pub mod Modules
+pub mod Linked
+pub mod Occurrences
+pub mod Accesses
+pub mod Claims
+pub mod Claimed
+pub mod StraightRuns
+pub mod Laws
