@@ -68,6 +68,54 @@ DAMAGED = [statements if statements[-1] == 'END' else statements + ['END'] for s
     ['I=1', 'X=J(1)', 'Y=2'], ['I(1)=.TRUE.'], ['X=1', 'END', 'SUBROUTINE S', 'I=.TRUE.'], ['X=1', 'ELSE'], ['X=1', 'END', 'SUBROUTINE S', 'GO TO 10'],
     ['COMMON I', 'INTEGER J(3)', 'EQUIVALENCE (I,J(2))', 'END', 'SUBROUTINE S', 'X=1'],
 ]]
+# whole programs with one fault of their links or more, by the codes that they are for
+UNLINKED = [
+    # none: a CALL before its module and behind it, all that an array and a scalar take, and modules that are never called
+    ['CALL S(I,J)', 'END', 'SUBROUTINE T', 'END', 'SUBROUTINE S(K,L)', 'CALL T', 'K=L', 'END'],
+    ['INTEGER I(2)', 'CALL S(I,I(1))', 'CALL S(I(2),2*I(1))', 'CALL S(I,J)', 'CALL S(I,(J))', 'END', 'SUBROUTINE S(J,K)', 'INTEGER J(*)', 'END'],
+    ['LOGICAL L(2),M', 'CALL S(L,M)', 'CALL S(L(1),.NOT.L(2))', 'CALL S(L,I.EQ.1)', 'END', 'SUBROUTINE S(J,K)', 'LOGICAL J(2),K', 'END'],
+    ['SUBROUTINE S', 'CALL T', 'CALL U', 'END', 'SUBROUTINE T', 'CALL U', 'END', 'SUBROUTINE U', 'END', 'END'],
+    ['COMMON /B/ I,J(3)', 'CALL S', 'END', 'SUBROUTINE S', 'COMMON /B/ I(2)', 'END'],
+    # 50, before what is wrong with CALLs
+    ['SUBROUTINE S', 'END'], ['SUBROUTINE S', 'CALL S', 'END'], ['SUBROUTINE S', 'CALL T', 'END'],
+    # 51, before what is wrong with CALLs
+    ['PROGRAM P', 'END', 'PROGRAM Q', 'END'], ['END', 'PROGRAM Q', 'END'], ['PROGRAM P', 'END', 'END'], ['CALL T', 'END', 'PROGRAM Q', 'END'],
+    ['PROGRAM P', 'END', 'PROGRAM Q', 'END', 'PROGRAM R', 'END'],
+    # 52, before two main programs and before none
+    ['PROGRAM P', 'END', 'SUBROUTINE S', 'END', 'SUBROUTINE S', 'END'], ['PROGRAM P', 'END', 'SUBROUTINE P', 'END'], ['END', 'END'],
+    ['PROGRAM P', 'END', 'PROGRAM P', 'END'], ['PROGRAM P', 'END', 'PROGRAM Q', 'END', 'SUBROUTINE Q', 'END'],
+    ['SUBROUTINE S', 'END', 'SUBROUTINE S', 'END'], ['SUBROUTINE S', 'END', 'END', 'SUBROUTINE T', 'END', 'SUBROUTINE T', 'END', 'SUBROUTINE S', 'END'],
+    # 53
+    ['CALL S', 'END'], ['I=1', 'CALL S(I)', 'END'], ['PROGRAM P', 'CALL P', 'END'], ['PROGRAM P', 'END', 'SUBROUTINE S', 'CALL P', 'END'],
+    ['PROGRAM P', 'END', 'SUBROUTINE S', 'CALL P(1)', 'END'], ['DO I=1,2', 'IF (I.EQ.1) CALL T', 'END DO', 'END'], ['I=MOD(5,3)', 'CALL MOD(5,3)', 'END'],
+    ['IF (I.EQ.1) THEN', 'I=2', 'ELSE IF (I.EQ.2) THEN', 'CALL T', 'ELSE', 'CALL U', 'END IF', 'END', 'SUBROUTINE U', 'END'],
+    # 54
+    ['CALL S', 'END', 'SUBROUTINE S(I)', 'END'], ['CALL S(1,2)', 'END', 'SUBROUTINE S(I)', 'END'], ['CALL S(1)', 'END', 'SUBROUTINE S', 'END'],
+    ['CALL S(.TRUE.)', 'END', 'SUBROUTINE S(I,J)', 'END'],
+    # 55: types, then arrays and scalars
+    ['LOGICAL L', 'CALL S(L)', 'END', 'SUBROUTINE S(I)', 'END'], ['CALL S(I)', 'END', 'SUBROUTINE S(L)', 'LOGICAL L', 'END'],
+    ['CALL S(I.EQ.1)', 'END', 'SUBROUTINE S(I)', 'END'], ['CALL S(2,MAX(I,J))', 'END', 'SUBROUTINE S(I,L)', 'LOGICAL L', 'END'],
+    ['LOGICAL L(2)', 'CALL S(L)', 'END', 'SUBROUTINE S(J)', 'INTEGER J(2)', 'END'], ['LOGICAL L(2)', 'CALL S(L(1))', 'END', 'SUBROUTINE S(J)', 'END'],
+    ['PARAMETER (N=1)', 'CALL S(N)', 'END', 'SUBROUTINE S(L)', 'LOGICAL L', 'END'],
+    ['CALL S(I)', 'END', 'SUBROUTINE S(J)', 'INTEGER J(2)', 'END'], ['CALL S(1)', 'END', 'SUBROUTINE S(J)', 'INTEGER J(2)', 'END'],
+    ['INTEGER I(2)', 'CALL S((I(1)))', 'END', 'SUBROUTINE S(J)', 'INTEGER J(2)', 'END'], ['PARAMETER (N=1)', 'CALL S(N)', 'END', 'SUBROUTINE S(J)', 'INTEGER J(2)', 'END'],
+    ['INTEGER I(2)', 'CALL S(I)', 'END', 'SUBROUTINE S(J)', 'END'], ['INTEGER I(2)', 'CALL S(1,I)', 'END', 'SUBROUTINE S(J,K)', 'END'],
+    # 56: by one module, by two, by three, by its first CALL in the text
+    ['CALL S', 'END', 'SUBROUTINE S', 'CALL S', 'END'], ['SUBROUTINE S', 'CALL T', 'END', 'SUBROUTINE T', 'CALL S', 'END', 'END'],
+    ['CALL S', 'END', 'SUBROUTINE T', 'CALL U', 'END', 'SUBROUTINE S', 'CALL T', 'END', 'SUBROUTINE U', 'CALL S', 'END'],
+    ['CALL S', 'END', 'SUBROUTINE S', 'CALL V', 'CALL T', 'END', 'SUBROUTINE T', 'CALL T', 'END', 'SUBROUTINE V', 'END'],
+    # the first CALL that does not fit, and before recursion
+    ['CALL S(.TRUE.)', 'CALL S', 'CALL T', 'END', 'SUBROUTINE S(I)', 'END'], ['CALL S', 'CALL T', 'CALL S(.TRUE.)', 'END', 'SUBROUTINE S(I)', 'END'],
+    ['CALL S', 'END', 'SUBROUTINE S', 'CALL S', 'END', 'SUBROUTINE T', 'CALL S(1)', 'END'], ['SUBROUTINE S', 'CALL S', 'END', 'CALL S(1)', 'END'],
+    # symbols come before links
+    ['PROGRAM P', 'CALL S', 'END', 'PROGRAM P', 'X=1', 'END'], ['SUBROUTINE S', 'END', 'SUBROUTINE S', 'I(1)=2', 'END'],
+]
+# what makes a program that links one that does not: modules that are added
+UNLINKING = [
+    ['SUBROUTINE S', 'END'], ['PROGRAM Q', 'END'], ['SUBROUTINE R', 'CALL R', 'END'], ['SUBROUTINE R', 'CALL Q1', 'END', 'SUBROUTINE Q1', 'CALL R', 'END'],
+    ['SUBROUTINE R', 'CALL S(1)', 'END'], ['SUBROUTINE R', 'CALL U(I)', 'END'], ['SUBROUTINE R', 'CALL U(1,2)', 'END'], ['SUBROUTINE R', 'CALL T(I,1)', 'END'],
+    ['SUBROUTINE R', 'CALL Q2', 'END'], ['SUBROUTINE R', 'INTEGER J(2)', 'CALL T(J,J)', 'END'],
+]
 COMMENTS = ['C a comment', '* star', 'c> kept, since it is small', 'C> dropped', 'C$OMP PARALLEL DO', '! bang', '', '   ', 'C' + 'x' * 80, '*\tTab']
 
 
@@ -168,6 +216,8 @@ class Maker:
             lines += self.module(title)
         for statements in CALLED:
             lines += [part for text in statements for part in line(text)]
+        for statements in self.pick.sample(UNLINKING, self.pick.choice([1, 1, 2])) if self.chance(.12) else []:
+            lines += [part for text in statements for part in line(text)]
         lines += self.comments()
         if self.chance(.1):
             del lines[self.pick.randrange(len(lines))]
@@ -215,7 +265,10 @@ def by_hand():
         of('      I=1', '     1+2', 'C inside', '     &+3', '      END'), of('      END', 'C behind', '      SUBROUTINE S', 'C in it', '      END', 'C at the end'),
     ]
     shown = [(words, program) for words in ('--show all', '--show bare', '--show why', '') for program in (whole('I=1', 'PRINT *,I', 'END'), whole('LOGICAL L', 'L=.TRUE.', 'END'))]
-    return [('--show bare', p) for p in forms + structure + comments + [whole(*statements) for statements in DAMAGED]] + shown
+    many = [whole(*titles, *[s for k in range(count) for s in (f'SUBROUTINE S{k % names}', 'END')])
+            for titles, count, names in ((['END'], 63, 99), (['END'], 64, 99), ([], 65, 99), (['PROGRAM S3', 'END', 'END'], 65, 7), (['END'], 63, 62))]
+    faulty = [whole(*statements) for statements in DAMAGED + UNLINKED]
+    return [('--show bare', p) for p in forms + structure + comments + faulty + many] + shown
 
 
 def random_programs(count, seed=1):

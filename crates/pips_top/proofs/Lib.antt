@@ -1,4 +1,5 @@
 pub mod Joining
+pub mod LinkLaws
 pub mod Soundness
 pub mod Stopping
 pub mod SymbolLaws

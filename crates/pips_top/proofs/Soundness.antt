@@ -13,6 +13,7 @@ use Rattle.pips_scalars.proofs.RunLaws.{preconditions_hold}
 use Rattle.pips_top.specs.Answer.{Answer, answer, answer_asked, answer_held}
 use Rattle.pips_top.specs.Claimed.{ClaimsHold, if_alone}
 use Rattle.pips_top.specs.Made.{made, made_of, input_limit}
+use Rattle.pips_top.specs.Program.{ProgramTree}
 use Rattle.pips_top.specs.Reading.{reading}
 use Rattle.pips_top.specs.Run.{Outside, Defines, DefinesFor, CausedBy, WritesFor, BeginsFor, SoundBy}
 use Rattle.pips_top.specs.Words.{asked}
@@ -26,9 +27,9 @@ use Rattle.pips_top.specs.declared.words.Show.{Show}
 use Rattle.pips_top.specs.declared.words.Show.TheVariants.{All, Bare, Why}
 
 -- a text that is to be written is that of a program that was read
-made_from : (show : Show) (r : Result (List ParsedTree) Refused) (text : List ℕ) → made_of show r ≡ Writes text
-    → (ms : List ParsedTree) × (r ≡ Ok ms) × (text ≡ written show ms)
-made_from show (Ok ms) text e = (ms, refl, cc)
+made_from : (show : Show) (r : Result ProgramTree Refused) (text : List ℕ) → made_of show r ≡ Writes text
+    → (p : ProgramTree) × (r ≡ Ok p) × (text ≡ written show p.modules)
+made_from show (Ok p) text e = (p, refl, cc)
 made_from show (Err r) text e = cc
 
 straight_holds : (m : ModuleTree) (b : Bool) → is_straight m ≡ b → IfSome (if b then Some m else None) PreconditionsHold
@@ -50,14 +51,14 @@ writes_for : (old new : Outside) (text : List ℕ) (o : Option Request) → IsSo
 writes_for old new text None d out = elim d [ ]
 writes_for old new text (Some r) (bytes, got, e) out =
     let p = made_from r.show (reading bytes) text e in
-    (p.0, (bytes, got, p.1, claims_hold r.show p.0), out ∙ ap (appended old.out) p.2)
+    (p.0, (bytes, got, p.1, claims_hold r.show p.0.modules), out ∙ ap (appended old.out) p.2)
 
 begins_for : (old new : Outside) (text : List ℕ) (o : Option Request) → IsSomeAnd o (DefinesFor old.files (old.counts Input) (new.counts Input) text)
     → (n : ℕ) → n ≤ length text → new.out ≡ appended old.out (take n text) → IsSomeAnd o (BeginsFor old new)
 begins_for old new text None d n within out = elim d [ ]
 begins_for old new text (Some r) (bytes, got, e) n within out =
     let p = made_from r.show (reading bytes) text e in
-    (p.0, (bytes, got, p.1, claims_hold r.show p.0), (n, subst (λ t. n ≤ length t) p.2 within, out ∙ ap (λ t. appended old.out (take n t)) p.2))
+    (p.0, (bytes, got, p.1, claims_hold r.show p.0.modules), (n, subst (λ t. n ≤ length t) p.2 within, out ∙ ap (λ t. appended old.out (take n t)) p.2))
 
 pub sound_from : (words : List (List ℕ)) (old new : Outside) (s : Status) (line : List ℕ) → CausedBy words old new s line → SoundBy words old new s
 sound_from words old new Done line (text, defines, out, told) = writes_for old new text (asked words) defines out

@@ -15,7 +15,8 @@ code_names =
     ∷ (30, codes "RealName") ∷ (31, codes "DeclaredTwice") ∷ (32, codes "BadDimension") ∷ (33, codes "BadParameter")
     ∷ (34, codes "CommonTwice") ∷ (35, codes "EquivalenceClash") ∷ (36, codes "EquivalenceExtendsBack") ∷ (37, codes "InitialMismatch")
     ∷ (38, codes "SubscriptCount") ∷ (39, codes "TypeMismatch") ∷ (40, codes "AssignToConstant") ∷ (41, codes "NotAnArray")
-    ∷ (50, codes "NoMain") ∷ []
+    ∷ (50, codes "NoMain") ∷ (51, codes "TwoMains") ∷ (52, codes "ModuleTwice") ∷ (53, codes "NoSuchModule") ∷ (54, codes "ArgumentCount")
+    ∷ (55, codes "ArgumentType") ∷ (56, codes "Recursion") ∷ (57, codes "TooManyModules") ∷ []
 
 abbrev pub code_name : ℕ → List ℕ
 code_name code = named_in code_names code

@@ -1,7 +1,7 @@
 -- What becomes of a text: it is refused, or the written program.
 use Rattle.std.specs.Prelude.{ℕ, List, Result, Ok, Err}
-use Rattle.f77_ast.specs.DeclTrees.{ParsedTree}
 use Rattle.f77_parser.specs.Gives.{Refused}
+use Rattle.pips_top.specs.Program.{ProgramTree}
 use Rattle.pips_top.specs.Reading.{reading}
 use Rattle.pips_top.specs.Written.{written}
 use Rattle.pips_top.specs.declared.words.Show.{Show}
@@ -12,8 +12,8 @@ use Rattle.pips_top.specs.declared.make.Made.TheVariants.{Writes, Refuses}
 abbrev pub input_limit : ℕ
 input_limit = 1048576
 
-abbrev pub made_of : Show → Result (List ParsedTree) Refused → Made
-made_of show (Ok ms) = Writes (written show ms)
+abbrev pub made_of : Show → Result ProgramTree Refused → Made
+made_of show (Ok p) = Writes (written show p.modules)
 made_of show (Err r) = Refuses r.line r.code r.keyword
 
 abbrev pub made : Show → List ℕ → Made

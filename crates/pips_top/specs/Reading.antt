@@ -1,42 +1,68 @@
--- What reading a text gives: its modules, or its first refusal.
-use Rattle.std.specs.Prelude.{ℕ, Bool, false, ◌||◌, List, [], ◌∷◌, Result, Ok, Err, if◌then◌else◌}
+-- What reading a text gives: its program, or its first refusal.
+use Rattle.std.specs.Prelude.{ℕ, List, [], ◌∷◌, Result, Ok, Err}
 use Rattle.fixed_form.specs.declared.line.Lines.{Lines}
 use Rattle.fixed_form.specs.Reading as lines
 use Rattle.f77_ast.specs.DeclTrees.{ParsedTree}
 use Rattle.f77_parser.specs.Gives.{Refused, and_then}
 use Rattle.f77_parser.specs.Modules.{parse_of}
+use Rattle.f77_parser.specs.declared.refusal.ParseRefusal.{ParseRefusal}
+use Rattle.f77_parser.specs.declared.refusal.ParseRefusal.TheVariants as parse
 use Rattle.f77_symbols.specs.Symbols.{SymbolTree}
 use Rattle.f77_names.specs.declared.refusal.Refusal.{Refusal}
-use Rattle.f77_names.specs.Refusals.{number_of}
+use Rattle.f77_names.specs.Refusals as symbol
 use Rattle.storage_layout.specs.Symbols.{symbols_of}
+use Rattle.call_graph.specs.declared.graph.Graph.{Graph}
+use Rattle.call_graph.specs.declared.refusal.Fault.{Fault}
+use Rattle.call_graph.specs.declared.refusal.Fault.TheVariants.{NoMain, At}
+use Rattle.call_graph.specs.declared.refusal.LinkRefusal.{LinkRefusal}
+use Rattle.call_graph.specs.declared.refusal.LinkRefusal.TheVariants as unlinked
+use Rattle.call_graph.specs.Faults as link
+use Rattle.call_graph.specs.Links.{link_of}
+use Rattle.pips_top.specs.Program.{ProgramTree}
 
--- the lines of a text, with the line and the code of a refusal; only what is outside the profile has a keyword
+-- refused at a line of the text; only what is outside the profile has a keyword
+abbrev pub refused_at : ℕ → ℕ → Refused
+refused_at line code = record { line = line; code = code; keyword = [] }
+
+-- the lines of a text, with the line and the code of a refusal
 abbrev pub lines_or : Result Lines (ℕ × ℕ) → Result Lines Refused
 lines_or (Ok read) = Ok read
-lines_or (Err at) = Err (record { line = at.0; code = at.1; keyword = [] })
+lines_or (Err at) = Err (refused_at at.0 at.1)
 
 -- a table of symbols, with the line and the code of a refusal
 abbrev pub table_or : Result (List SymbolTree) Refusal → Result (List SymbolTree) Refused
 table_or (Ok table) = Ok table
-table_or (Err r) = Err (record { line = r.line; code = number_of r.cause; keyword = [] })
+table_or (Err r) = Err (refused_at r.line (symbol.number_of r.cause))
 
 -- the table of symbols of each module, or the first refusal: modules in the order of the text
 abbrev pub tables_of : List ParsedTree → Result (List (List SymbolTree)) Refused
 tables_of [] = Ok []
 tables_of (m ∷ ms) = and_then (table_or (symbols_of m)) (λ t. and_then (tables_of ms) (λ ts. Ok (t ∷ ts)))
 
--- the modules, where each has its table
-unfoldable pub with_symbols : List ParsedTree → Result (List ParsedTree) Refused
-with_symbols ms = and_then (tables_of ms) (λ ts. Ok ms)
+-- the line and the code of what is wrong with links: a line is one of the text in whichever module it stands, and the want of a main
+-- program, which has no place, is refused at line 1
+abbrev pub refused_for : Fault → Refused
+refused_for NoMain = refused_at 1 50
+refused_for (At place line cause) = refused_at line (link.number_of cause)
 
-abbrev pub has_main : List ParsedTree → Bool
-has_main [] = false
-has_main (m ∷ ms) = m.module_read.main || has_main ms
+-- the same of what linking returns
+abbrev pub in_reading : LinkRefusal → ParseRefusal
+in_reading unlinked.NoMain = parse.At 1 50 []
+in_reading (unlinked.At place line code) = parse.At line code []
+in_reading unlinked.Memory = parse.Memory
 
--- code 50 at line 1 where there is no main program
-abbrev pub with_main : List ParsedTree → Result (List ParsedTree) Refused
-with_main ms = if has_main ms then Ok ms else Err (record { line = 1; code = 50; keyword = [] })
+abbrev pub graph_or : Result Graph Fault → Result Graph Refused
+graph_or (Ok graph) = Ok graph
+graph_or (Err fault) = Err (refused_for fault)
+
+-- modules and their tables, where they link
+abbrev pub linked_by : List ParsedTree → List (List SymbolTree) → Result Graph Refused → Result ProgramTree Refused
+linked_by ms ts found = and_then found (λ g. Ok (record { modules = ms; tables = ts; graph = g }))
+
+-- the program of modules: their symbols, then their links
+unfoldable pub program_of : List ParsedTree → Result ProgramTree Refused
+program_of ms = and_then (tables_of ms) (λ ts. linked_by ms ts (graph_or (link_of ms ts)))
 
 -- pass by pass: lines, then statements and structure, then symbols, then links
-unfoldable pub reading : List ℕ → Result (List ParsedTree) Refused
-reading text = and_then (and_then (and_then (lines_or (lines.reading text)) parse_of) with_symbols) with_main
+unfoldable pub reading : List ℕ → Result ProgramTree Refused
+reading text = and_then (and_then (lines_or (lines.reading text)) parse_of) program_of

@@ -11,7 +11,7 @@ use Rattle.fx_base.specs.declared.store.Role.TheVariants.{Input, Base}
 use Rattle.fx_base.specs.declared.store.Fetched.{Fetched}
 use Rattle.fx_base.specs.declared.store.Fetched.TheVariants as fetched
 use Rattle.pips_top.specs.Made.{made, input_limit}
-use Rattle.f77_ast.specs.DeclTrees.{ParsedTree}
+use Rattle.pips_top.specs.Program.{ProgramTree}
 use Rattle.pips_top.specs.Reading.{reading}
 use Rattle.pips_top.specs.Claimed.{ClaimsHold}
 use Rattle.pips_top.specs.Written.{written}
@@ -102,19 +102,19 @@ CausedBy words old new WriteFault line =
 CausedBy words old new status line = StopsBy words old.files (old.counts Input) (new.counts Input) status line × (new.out ≡ old.out)
 
 -- a program was read from INPUT, and what is claimed of it is true of every run
-abbrev pub ClaimsFor : Outside → Outside → List ParsedTree → Request → Type 0
-ClaimsFor old new ms r =
-    (bytes : List ℕ) × Answered r old.files (old.counts Input) (new.counts Input) (fetched.Got bytes) × (reading bytes ≡ Ok ms) × ClaimsHold r.show ms
+abbrev pub ClaimsFor : Outside → Outside → ProgramTree → Request → Type 0
+ClaimsFor old new p r =
+    (bytes : List ℕ) × Answered r old.files (old.counts Input) (new.counts Input) (fetched.Got bytes) × (reading bytes ≡ Ok p) × ClaimsHold r.show p.modules
 
 -- out gained that program's text
 abbrev pub WritesFor : Outside → Outside → Request → Type 0
-WritesFor old new r = (ms : List ParsedTree) × ClaimsFor old new ms r × (new.out ≡ appended old.out (written r.show ms))
+WritesFor old new r = (p : ProgramTree) × ClaimsFor old new p r × (new.out ≡ appended old.out (written r.show p.modules))
 
 -- or a prefix of it
 abbrev pub BeginsFor : Outside → Outside → Request → Type 0
 BeginsFor old new r =
-    (ms : List ParsedTree) × ClaimsFor old new ms r
-    × ((n : ℕ) × (n ≤ length (written r.show ms)) × (new.out ≡ appended old.out (take n (written r.show ms))))
+    (p : ProgramTree) × ClaimsFor old new p r
+    × ((n : ℕ) × (n ≤ length (written r.show p.modules)) × (new.out ≡ appended old.out (take n (written r.show p.modules))))
 
 -- what was written is the text of a program that was read, or a prefix of it, and its claims hold
 abbrev pub SoundBy : List (List ℕ) → Outside → Outside → Status → Type 0

@@ -3,6 +3,7 @@
 
 mod claims;
 mod make;
+mod program;
 mod reading;
 mod reply;
 mod status;

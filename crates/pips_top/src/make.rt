@@ -23,7 +23,7 @@ pub fn make(alloc: Global, show: Show, text: &Text) -> Result<Made, Memory>
     ensures { IfOk result (λ m. m ≡ made show text.now) }
 {
     match read(alloc, text) {
-        Ok(modules) => Ok(Made::Writes(write_program(alloc, show, &modules)?)),
+        Ok(program) => Ok(Made::Writes(write_program(alloc, show, &program.modules)?)),
         Err(ParseRefusal::At(line, code, keyword)) => Ok(Made::Refuses(line, code, keyword)),
         Err(ParseRefusal::Memory) => Err(Memory),
     }

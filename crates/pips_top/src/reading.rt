@@ -1,17 +1,21 @@
 //! Reading a text, pass by pass.
-ghost use Rattle.std.specs.Prelude.{◌≡◌, ◌≤◌, length, map};
+ghost use Rattle.std.specs.Prelude.{◌≡◌, ◌≤◌, length, map, IfOk};
 ghost use Rattle.f77_ast.specs.PlainDecl.{parsed_tree};
 ghost use Rattle.f77_parser.specs.Gives.{Gives};
 ghost use Rattle.f77_symbols.specs.Symbols.{symbol_tree};
 ghost use Rattle.storage_layout.specs.Symbols.{symbols_of};
+ghost use Rattle.call_graph.specs.Links.{link_of};
 ghost use Rattle.pips_top.specs.Made.{input_limit};
-ghost use Rattle.pips_top.specs.Reading.{has_main, reading, table_or, with_symbols};
+ghost use Rattle.pips_top.specs.Program.{program_tree};
+ghost use Rattle.pips_top.specs.Reading.{graph_or, in_reading, program_of, reading, table_or, tables_of};
 
+use crate::program::Program;
+use call_graph::{Graph, LinkRefusal, link};
 use f77_ast::Parsed;
 use f77_parser::{ModuleTrees, ParseRefusal, parse};
 use f77_symbols::Symbols;
 use fixed_form::{ReadRefusal, statements};
-use fx_base::Text;
+use fx_base::{List, Text};
 use std::alloc::Global;
 use storage_layout::{LayoutRefusal, symbols};
 
@@ -29,38 +33,75 @@ fn table_of(alloc: Global, parsed: &Parsed) -> Result<Symbols, ParseRefusal>
     }
 }
 
-/// The modules again, where each has a table of symbols, or the refusal of the first that has none. The tables are dropped.
+/// The symbols of each module, or the refusal of the first that has none.
 #[tactic(auto, using(crate::proofs::SymbolLaws::symbol_steps))]
-fn with_symbols(alloc: Global, modules: ModuleTrees) -> Result<ModuleTrees, ParseRefusal>
-    ensures { Gives (map parsed_tree) result (with_symbols (map parsed_tree modules)) }
+fn tables_of(alloc: Global, modules: &ModuleTrees) -> Result<List<Symbols>, ParseRefusal>
+    ensures gives { Gives (map (map symbol_tree)) result (tables_of (map parsed_tree modules.now)) }
+    ensures one_each { IfOk result (λ tables. length modules.now ≡ length tables) }
 {
+    let mut tables = List::new(alloc);
     for parsed in modules.as_slice() {
         match table_of(alloc, parsed) {
-            Ok(_) => {}
+            Ok(table) => tables.push(table)?,
             Err(refusal) => return Err(refusal),
         }
     }
-    Ok(modules)
+    Ok(tables)
 }
 
-/// Whether there is a main program.
-fn has_main(modules: &[Parsed]) -> bool
-    ensures { result ≡ has_main (map parsed_tree modules.now) }
+/// A refusal of links as one of reading. The line is one of the text, in whichever module it stands.
+fn in_reading(alloc: Global, refusal: LinkRefusal) -> ParseRefusal
+    ensures { result ≡ in_reading refusal }
 {
-    for parsed in modules {
-        if parsed.module.main {
-            return true;
-        }
+    match refusal {
+        LinkRefusal::NoMain => ParseRefusal::At(1, 50, Text::new(alloc)),
+        LinkRefusal::At(_, line, code) => ParseRefusal::At(line, code, Text::new(alloc)),
+        LinkRefusal::Memory => ParseRefusal::Memory,
     }
-    false
 }
 
-/// The modules of a text, or its first refusal: that of the earliest pass, and in a pass the earliest line with the lowest
-/// code. Structure and symbols go module by module, and of symbols 35 and 36 come last in their module.
+/// The links of modules, or their refusal as one of reading.
+fn graph_of(
+    alloc: Global,
+    modules: &ModuleTrees,
+    tables: &List<Symbols>,
+) -> Result<Graph, ParseRefusal>
+    requires one_each { length modules.now ≡ length tables.now }
+    ensures { Gives (λ g. g) result (graph_or (link_of (map parsed_tree modules.now) (map (map symbol_tree) tables.now))) }
+{
+    match link(alloc, modules, tables) {
+        Ok(graph) => Ok(graph),
+        Err(refusal) => Err(in_reading(alloc, refusal)),
+    }
+}
+
+/// The program of modules: their symbols, then their links.
+#[tactic(auto, unfolding(crate::specs::Reading::program_of))]
+fn program_of(alloc: Global, modules: ModuleTrees) -> Result<Program, ParseRefusal>
+    ensures { Gives program_tree result (program_of (map parsed_tree modules)) }
+{
+    let tables = match tables_of(alloc, &modules) {
+        Ok(tables) => tables,
+        Err(refusal) => return Err(refusal),
+    };
+    let graph = match graph_of(alloc, &modules, &tables) {
+        Ok(graph) => graph,
+        Err(refusal) => return Err(refusal),
+    };
+    Ok(Program {
+        modules,
+        tables,
+        graph,
+    })
+}
+
+/// The program of a text, or its first refusal: that of the earliest pass, and in a pass the earliest line with the lowest
+/// code. Structure and symbols go module by module, and of symbols 35 and 36 come last in their module. Of links the number of
+/// modules, their names and their main program come first, then the arguments of CALLs, then recursion.
 #[tactic(auto, using(f77_parser::proofs::SizeLemmas::short_texts), unfolding(crate::specs::Reading::reading))]
-pub fn read(alloc: Global, text: &Text) -> Result<ModuleTrees, ParseRefusal>
+pub fn read(alloc: Global, text: &Text) -> Result<Program, ParseRefusal>
     requires { length text.now ≤ input_limit }
-    ensures { Gives (map parsed_tree) result (reading text.now) }
+    ensures { Gives program_tree result (reading text.now) }
 {
     let lines = match statements(alloc, text) {
         Ok(lines) => lines,
@@ -73,12 +114,5 @@ pub fn read(alloc: Global, text: &Text) -> Result<ModuleTrees, ParseRefusal>
         Ok(modules) => modules,
         Err(refusal) => return Err(refusal),
     };
-    let modules = match with_symbols(alloc, modules) {
-        Ok(modules) => modules,
-        Err(refusal) => return Err(refusal),
-    };
-    if !has_main(modules.as_slice()) {
-        return Err(ParseRefusal::At(1, 50, Text::new(alloc)));
-    }
-    Ok(modules)
+    program_of(alloc, modules)
 }

@@ -102,6 +102,13 @@ fn code_name(code: u32) -> &'static str
         40 => "AssignToConstant",
         41 => "NotAnArray",
         50 => "NoMain",
+        51 => "TwoMains",
+        52 => "ModuleTwice",
+        53 => "NoSuchModule",
+        54 => "ArgumentCount",
+        55 => "ArgumentType",
+        56 => "Recursion",
+        57 => "TooManyModules",
         _ => "",
     }
 }

@@ -383,6 +383,207 @@ fn symbols(rt: HostRuntime) -> Result<(), Fail> {
     Ok(())
 }
 
+/// Texts that are refused for their links, which come behind the symbols of all modules; a line is one of the whole text.
+#[test]
+fn links(rt: HostRuntime) -> Result<(), Fail> {
+    let alloc = rt.alloc();
+    for case in [
+        Case {
+            shows: "subroutines that are called, one before it is written",
+            held: "      CALL S(I,J)\n      END\n      SUBROUTINE T\n      END\n      SUBROUTINE S(K,L)\n      INTEGER L\n      CALL T\n      K=L\n      END\n",
+            status: Status::Done,
+            out: "      CALL S(I,J)\n      END\n      SUBROUTINE T\n      END\n      SUBROUTINE S(K,L)\n      INTEGER L\n      CALL T\n      K = L\n      END\n",
+            err: "",
+        },
+        Case {
+            shows: "a name that stands twice",
+            held: "      PROGRAM P\n      END\n      SUBROUTINE S\n      END\n      SUBROUTINE S\n      END\n",
+            status: Status::Refused(5, 52),
+            out: "",
+            err: "pips: line 5: 52 ModuleTwice\n",
+        },
+        Case {
+            shows: "a subroutine with the name of the main program",
+            held: "      PROGRAM P\n      END\n      SUBROUTINE P\n      END\n",
+            status: Status::Refused(3, 52),
+            out: "",
+            err: "pips: line 3: 52 ModuleTwice\n",
+        },
+        Case {
+            shows: "two main programs",
+            held: "      PROGRAM P\n      END\n      SUBROUTINE S\n      END\n      PROGRAM Q\n      END\n",
+            status: Status::Refused(5, 51),
+            out: "",
+            err: "pips: line 5: 51 TwoMains\n",
+        },
+        Case {
+            shows: "a name that stands twice comes before two main programs",
+            held: "      PROGRAM P\n      END\n      PROGRAM Q\n      END\n      SUBROUTINE P\n      END\n",
+            status: Status::Refused(5, 52),
+            out: "",
+            err: "pips: line 5: 52 ModuleTwice\n",
+        },
+        Case {
+            shows: "no main program comes before CALLs",
+            held: "      SUBROUTINE S\n      CALL T\n      END\n",
+            status: Status::Refused(1, 50),
+            out: "",
+            err: "pips: line 1: 50 NoMain\n",
+        },
+        Case {
+            shows: "two main programs come before CALLs",
+            held: "      CALL T\n      END\n      PROGRAM Q\n      END\n",
+            status: Status::Refused(3, 51),
+            out: "",
+            err: "pips: line 3: 51 TwoMains\n",
+        },
+        Case {
+            shows: "a CALL of what is not there",
+            held: "      I=1\n      CALL S(I)\n      END\n",
+            status: Status::Refused(2, 53),
+            out: "",
+            err: "pips: line 2: 53 NoSuchModule\n",
+        },
+        Case {
+            shows: "a CALL of the main program",
+            held: "      PROGRAM P\n      END\n      SUBROUTINE S\n      CALL P\n      END\n",
+            status: Status::Refused(4, 53),
+            out: "",
+            err: "pips: line 4: 53 NoSuchModule\n",
+        },
+        Case {
+            shows: "an argument that is missing",
+            held: "      CALL S\n      END\n      SUBROUTINE S(I)\n      END\n",
+            status: Status::Refused(1, 54),
+            out: "",
+            err: "pips: line 1: 54 ArgumentCount\n",
+        },
+        Case {
+            shows: "an argument too many",
+            held: "      CALL S(1,2)\n      END\n      SUBROUTINE S(I)\n      END\n",
+            status: Status::Refused(1, 54),
+            out: "",
+            err: "pips: line 1: 54 ArgumentCount\n",
+        },
+        Case {
+            shows: "a LOGICAL for an INTEGER",
+            held: "      LOGICAL L\n      CALL S(L)\n      END\n      SUBROUTINE S(I)\n      END\n",
+            status: Status::Refused(2, 55),
+            out: "",
+            err: "pips: line 2: 55 ArgumentType\n",
+        },
+        Case {
+            shows: "an expression of the wrong type",
+            held: "      CALL S(I.EQ.1)\n      END\n      SUBROUTINE S(I)\n      END\n",
+            status: Status::Refused(1, 55),
+            out: "",
+            err: "pips: line 1: 55 ArgumentType\n",
+        },
+        Case {
+            shows: "a variable for an array",
+            held: "      CALL S(I)\n      END\n      SUBROUTINE S(J)\n      INTEGER J(2)\n      END\n",
+            status: Status::Refused(1, 55),
+            out: "",
+            err: "pips: line 1: 55 ArgumentType\n",
+        },
+        Case {
+            shows: "an expression for an array",
+            held: "      CALL S(1)\n      END\n      SUBROUTINE S(J)\n      INTEGER J(2)\n      END\n",
+            status: Status::Refused(1, 55),
+            out: "",
+            err: "pips: line 1: 55 ArgumentType\n",
+        },
+        Case {
+            shows: "a whole array for a variable",
+            held: "      INTEGER I(2)\n      CALL S(I)\n      END\n      SUBROUTINE S(J)\n      END\n",
+            status: Status::Refused(2, 55),
+            out: "",
+            err: "pips: line 2: 55 ArgumentType\n",
+        },
+        Case {
+            shows: "an array of LOGICALs for one of INTEGERs",
+            held: "      LOGICAL L(2)\n      CALL S(L)\n      END\n      SUBROUTINE S(J)\n      INTEGER J(2)\n      END\n",
+            status: Status::Refused(2, 55),
+            out: "",
+            err: "pips: line 2: 55 ArgumentType\n",
+        },
+        Case {
+            shows: "an array or an element for an array, an element or an expression for a variable",
+            held: "      INTEGER I(2)\n      CALL S(I,I(1))\n      CALL S(I(2),2*I(1))\n      END\n      SUBROUTINE S(J,K)\n      INTEGER J(*)\n      END\n",
+            status: Status::Done,
+            out: "      INTEGER I(2)\n      CALL S(I,I(1))\n      CALL S(I(2),2*I(1))\n      END\n      SUBROUTINE S(J,K)\n      INTEGER J(*)\n      END\n",
+            err: "",
+        },
+        Case {
+            shows: "the first CALL of the text that does not fit",
+            held: "      CALL S(.TRUE.)\n      CALL S\n      CALL T\n      END\n      SUBROUTINE S(I)\n      END\n",
+            status: Status::Refused(1, 55),
+            out: "",
+            err: "pips: line 1: 55 ArgumentType\n",
+        },
+        Case {
+            shows: "a CALL in a logical IF in a loop",
+            held: "      DO I=1,2\n      IF (I.EQ.1) CALL T\n      END DO\n      END\n",
+            status: Status::Refused(2, 53),
+            out: "",
+            err: "pips: line 2: 53 NoSuchModule\n",
+        },
+        Case {
+            shows: "a subroutine that calls itself",
+            held: "      CALL S\n      END\n      SUBROUTINE S\n      CALL S\n      END\n",
+            status: Status::Refused(4, 56),
+            out: "",
+            err: "pips: line 4: 56 Recursion\n",
+        },
+        Case {
+            shows: "recursion through three modules, by its first CALL in the text",
+            held: "      CALL S\n      END\n      SUBROUTINE T\n      CALL U\n      END\n      SUBROUTINE S\n      CALL T\n      END\n      SUBROUTINE U\n      CALL S\n      END\n",
+            status: Status::Refused(4, 56),
+            out: "",
+            err: "pips: line 4: 56 Recursion\n",
+        },
+        Case {
+            shows: "a CALL that does not fit comes before recursion",
+            held: "      CALL S\n      END\n      SUBROUTINE S\n      CALL S\n      END\n      SUBROUTINE T\n      CALL S(1)\n      END\n",
+            status: Status::Refused(7, 54),
+            out: "",
+            err: "pips: line 7: 54 ArgumentCount\n",
+        },
+        Case {
+            shows: "symbols come before links",
+            held: "      PROGRAM P\n      CALL S\n      END\n      PROGRAM P\n      X=1\n      END\n",
+            status: Status::Refused(5, 30),
+            out: "",
+            err: "pips: line 5: 30 RealName\n",
+        },
+    ] {
+        holds(&rt, alloc, &case)?;
+    }
+    Ok(())
+}
+
+/// A main program, and so many subroutines of two lines.
+fn with_subroutines(alloc: Global, count: usize) -> Result<Text, AllocError> {
+    let mut text = Text::from_bytes(alloc, b"      END\n")?;
+    for number in 0..count {
+        let lines = format!(in alloc; "      SUBROUTINE S{number}\n      END\n")?;
+        text.append(lines.as_bytes())?;
+    }
+    Ok(text)
+}
+
+/// 64 modules are read, and a 65th is refused at its first line.
+#[test]
+fn modules(rt: HostRuntime) -> Result<(), Fail> {
+    let alloc = rt.alloc();
+    for (count, status) in [(63, Status::Done), (64, Status::Refused(128, 57))] {
+        let text = with_subroutines(alloc, count)?;
+        let ended = ended(alloc, &["p.f"], text.as_slice(), NOTHING)?;
+        assert_eq!(rt; ended.status, status, "{count} subroutines");
+    }
+    Ok(())
+}
+
 const SMALL: &[u8] = b"      I=1\n      END\n";
 
 #[test]

@@ -1,0 +1,13 @@
+//! What reading a text gives.
+use call_graph::Graph;
+use f77_parser::ModuleTrees;
+use f77_symbols::Symbols;
+use fx_base::List;
+
+/// The modules of a text, the symbols of each, and their links.
+#[derive(Drop)]
+pub struct Program {
+    pub modules: ModuleTrees,
+    pub tables: List<Symbols>,
+    pub graph: Graph,
+}
