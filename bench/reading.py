@@ -40,7 +40,8 @@ def written(lines):
 
 def of_size(size):
     pick = random.Random(size)
-    texts, left = ['      PROGRAM P\n      END\n'], size - 26
+    first = '      PROGRAM P\n      END\n      SUBROUTINE S(A,N)\n      INTEGER A(*)\n      END\n'
+    texts, left = [first], size - len(first)
     while True:
         text = written(module(pick, f'S{len(texts)}', 800))
         if len(text) > left:
