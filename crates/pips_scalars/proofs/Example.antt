@@ -13,7 +13,7 @@ use Rattle.affine_systems.specs.Normal.{gcd, divisor, is_small}
 use Rattle.affine_systems.specs.Tidy.{turn_limit}
 use Rattle.std.specs.Fmt.{digits}
 use Rattle.pips_scalars.specs.Preconditions.{preconditions}
-use Rattle.pips_scalars.specs.SystemText.{precondition_line}
+use Rattle.system_text.specs.SystemText.{precondition_line}
 
 abbrev main_of : StmtTrees → ModuleTree
 main_of body = record { name = codes "MAIN"; main = true; titled = false; dummies = []; decls = []; body = body }

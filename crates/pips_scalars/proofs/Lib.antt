@@ -6,7 +6,6 @@ pub mod StatementLaws
 pub mod RunLaws
 pub mod TransformerLaws
 pub mod NumbersLaws
-pub mod TextLaws
 pub mod SmallLaws
 pub mod RowLaws
 pub mod ListLaws

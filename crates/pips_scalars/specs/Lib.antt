@@ -1,7 +1,6 @@
 pub mod Affine
 pub mod Transformers
 pub mod Preconditions
-pub mod SystemText
 pub mod Claim
 pub mod TransformerClaim
 pub mod Numbers

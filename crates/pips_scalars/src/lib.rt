@@ -6,7 +6,6 @@ mod conditions;
 mod forms;
 mod statement;
 mod straight;
-mod text;
 mod transformer;
 mod variables;
 
@@ -18,7 +17,6 @@ pub use conditions::{apply, post, preconditions};
 pub use forms::affine_of;
 pub use statement::{no_rows, statement_transformer};
 pub use straight::is_straight;
-pub use text::{precondition_line, system_text};
 pub use transformer::Transformer;
 pub use variables::Variables;
 

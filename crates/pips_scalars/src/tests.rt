@@ -1,9 +1,9 @@
-//! Texts of systems, and each call with ample memory.
+//! Each call with ample memory.
 use crate::{
-    Affine, Variables, affine_of, apply, is_straight, no_rows, post, precondition_line,
-    preconditions, statement_transformer, system_text,
+    Affine, Variables, affine_of, apply, is_straight, no_rows, post, preconditions,
+    statement_transformer,
 };
-use affine_systems::{Row, System, Term, Var};
+use affine_systems::{Term, Var};
 use f77_ast::{BinaryOp, Decl, Expr, Module, Stmt, What};
 use fx_lists::{List, Text};
 use std::alloc::{AllocError as Memory, Global};
@@ -38,47 +38,8 @@ fn body(alloc: Global) -> Result<List<Stmt>, Memory> {
     Ok(body)
 }
 
-/// The system of one row over `I` and `J`, as text.
-fn written(alloc: Global, equal: bool, terms: &[Term], bound: i128) -> Result<Text, Memory> {
-    let mut names = List::new(alloc);
-    names.push(Text::from_bytes(alloc, b"I")?)?;
-    names.push(Text::from_bytes(alloc, b"J")?)?;
-    let mut rows = List::new(alloc);
-    rows.push(Row {
-        equal,
-        terms: List::from_slice(alloc, terms)?,
-        bound,
-    })?;
-    system_text(alloc, names.as_slice(), &System { rows, weak: true })
-}
-
 fn term(var: Var, factor: i128) -> Term {
     Term { var, factor }
-}
-
-#[test]
-fn writes_equal_rows(rt: HostRuntime) -> Result<(), Fail> {
-    let alloc = rt.alloc();
-    let one = written(alloc, true, &[term(Var::Cell(1), 1)], -5)?;
-    assert_eq!(rt; one.as_slice(), b"{I+5==0} WEAK".as_slice());
-    let two = written(
-        alloc,
-        true,
-        &[term(Var::Cell(1), -2), term(Var::Exit(2), 3)],
-        9,
-    )?;
-    assert_eq!(rt; two.as_slice(), b"{3*J'==2*I+9} WEAK".as_slice());
-    Ok(())
-}
-
-#[test]
-fn writes_rows_at_most(rt: HostRuntime) -> Result<(), Fail> {
-    let alloc = rt.alloc();
-    let one = written(alloc, false, &[term(Var::Cell(1), -1)], -1)?;
-    assert_eq!(rt; one.as_slice(), b"{1<=I} WEAK".as_slice());
-    let never = written(alloc, false, &[], -1)?;
-    assert_eq!(rt; never.as_slice(), b"{FALSE} WEAK".as_slice());
-    Ok(())
 }
 
 #[test]
@@ -88,8 +49,12 @@ fn ample(rt: HostRuntime) -> Result<(), Fail> {
     let variables = Variables::of_body(alloc, &body)?;
     let list = preconditions(alloc, &variables, &body)?;
     let last = list.get(1).ok_or("two statements")?;
-    let line = precondition_line(alloc, variables.names(), last)?;
-    assert_eq!(rt; line.as_slice(), b"C> P {2*I==J+7}".as_slice());
+    let row = last.rows.get(0).ok_or("a row")?;
+    assert_eq!(rt;
+        row.terms.as_slice(),
+        [term(Var::Cell(1), -1), term(Var::Cell(2), 2)].as_slice()
+    );
+    assert_eq!(rt; row.bound, 7);
     Ok(())
 }
 

@@ -7,7 +7,7 @@ use Rattle.f77_ast.specs.Straight.{is_straight, variables}
 use Rattle.f77_printer.specs.declared.added.Added.{Added}
 use Rattle.pips_scalars.specs.Claim.{PreconditionsHold}
 use Rattle.pips_scalars.specs.Preconditions.{preconditions}
-use Rattle.pips_scalars.specs.SystemText.{precondition_line}
+use Rattle.system_text.specs.SystemText.{precondition_line}
 use Rattle.pips_top.specs.declared.words.Show.{Show}
 use Rattle.pips_top.specs.declared.words.Show.TheVariants.{All, Bare, Why}
 

@@ -11,8 +11,9 @@ use f77_ast::{Module, Stmt};
 use f77_parser::ModuleTrees;
 use f77_printer::Added;
 use fx_base::List;
-use pips_scalars::{Variables, is_straight, no_rows, post, precondition_line};
+use pips_scalars::{Variables, is_straight, no_rows, post};
 use std::alloc::{AllocError as Memory, Global};
+use system_text::precondition_line;
 
 /// The line of the precondition of each statement. Each is analysed once.
 #[tactic(auto, using(crate::proofs::Joining::claim_steps))]

@@ -4,7 +4,7 @@ use Rattle.std.proofs.Math.Seq.{drop-cons}
 use Rattle.std.specs.Prelude.{if◌then◌else◌, codes}
 use Rattle.affine_systems.specs.declared.row.Term.{Term}
 use Rattle.affine_systems.specs.declared.row.Row.{Row}
-use Rattle.pips_scalars.specs.SystemText.{Bytes, each_after, has_sign, term_text, term_texts, rest_text, joined, row_text}
+use Rattle.system_text.specs.SystemText.{Bytes, each_after, has_sign, term_text, term_texts, rest_text, joined, row_text, name_at}
 
 -- one piece more
 pub rest_text-piece : (any : Bool) (out x : Bytes) (xs : List Bytes) → ((out ++ (if any then codes "+" else [])) ++ x) ++ rest_text true xs ≡ out ++ rest_text any (x ∷ xs)
@@ -35,3 +35,8 @@ pub rows-drop : (names : List Bytes) (rs : List Row) (i : ℕ) (d : Row) → i <
 rows-drop names rs i d h = rw (add-one, drop-cons rs i d)
 
 pub ruleset row_steps = (left_of-piece, left_of-end, rows-drop, append-nil, append_assoc)
+
+pub cells-drop : (names : List Bytes) (cs : List ℕ) (i d : ℕ) → i < length cs → map (name_at names) (drop i cs) ≡ name_at names (get_or cs i d) ∷ map (name_at names) (drop (i + 1) cs)
+cells-drop names cs i d h = rw (add-one, drop-cons cs i d)
+
+pub ruleset cell_steps = (left_of-piece, left_of-end, cells-drop, append-nil, append_assoc)

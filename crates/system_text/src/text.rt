@@ -1,6 +1,6 @@
 //! How systems are written.
 ghost use Rattle.std.specs.Prelude.{◌≡◌, ◌++◌, ◌∷◌, [], map, if◌then◌else◌, IfOk, List, ℕ, codes, decimal, unsigned_abs};
-ghost use Rattle.pips_scalars.specs.SystemText.{rest_text, name_at, var_text, term_text, has_sign, term_texts, bound_text, side_text, each_after, row_side, row_text, is_never as is_never_row, are_never as are_never_rows, rows_text, system_text as written_system, precondition_line as written_line, weak_text, joined};
+ghost use Rattle.system_text.specs.SystemText.{rest_text, name_at, var_text, term_text, has_sign, term_texts, bound_text, side_text, each_after, row_side, row_text, is_never as is_never_row, are_never as are_never_rows, rows_text, system_text as written_system, precondition_line as written_line, transformer_line as written_transformer, cells_text, weak_text, joined};
 
 use affine_systems::{Row, System, Term, Var};
 use fx_lists::Text;
@@ -187,6 +187,39 @@ pub fn precondition_line(alloc: Global, names: &[Text], system: &System) -> Resu
     ensures { IfOk result (λ text. text ≡ written_line names.now system.now) }
 {
     let mut out = Vec::from_slice(alloc, b"C> P ")?;
+    put_system(&mut out, names, system)?;
+    Ok(Text::from_vec(out))
+}
+
+/// Names with `,` between them.
+#[tactic(auto, using(crate::proofs::TextLaws::cell_steps))]
+fn put_cells(out: &mut Vec<u8>, names: &[Text], cells: &[u32]) -> Result<(), Memory>
+    ensures { IfOk result (λ _. out.new.items ≡ out.old.items ++ cells_text names.now cells.now) }
+{
+    let mut any = false;
+    for cell in cells {
+        if any {
+            out.extend_from_slice(b",")?;
+        }
+        out.extend_from_slice(name_of(names, *cell))?;
+        any = true;
+    }
+    Ok(())
+}
+
+/// The line of a transformer: the cells that may change, and how those before and those after are related.
+#[tactic(auto, using(std::proofs::Common::append_assoc))]
+pub fn transformer_line(
+    alloc: Global,
+    names: &[Text],
+    cells: &[u32],
+    system: &System,
+) -> Result<Text, Memory>
+    ensures { IfOk result (λ text. text ≡ written_transformer names.now cells.now system.now) }
+{
+    let mut out = Vec::from_slice(alloc, b"C> T ")?;
+    put_cells(&mut out, names, cells)?;
+    out.extend_from_slice(b" ")?;
     put_system(&mut out, names, system)?;
     Ok(Text::from_vec(out))
 }

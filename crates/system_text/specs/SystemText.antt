@@ -85,3 +85,11 @@ system_text names s = codes "{" ++ (rows_text names s.rows ++ (codes "}" ++ weak
 -- the line before a statement
 abbrev pub precondition_line : List Bytes → System → Bytes
 precondition_line names s = codes "C> P " ++ system_text names s
+
+-- the names of cells
+abbrev pub cells_text : List Bytes → List ℕ → Bytes
+cells_text names cs = joined (codes ",") (map (name_at names) cs)
+
+-- the line of what may change and how, before a statement
+abbrev pub transformer_line : List Bytes → List ℕ → System → Bytes
+transformer_line names cs s = codes "C> T " ++ (cells_text names cs ++ (codes " " ++ system_text names s))
