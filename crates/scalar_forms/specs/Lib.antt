@@ -1,0 +1,5 @@
+pub mod Forms
+pub mod Scalars
+pub mod Comparisons
+pub mod Conditions
+pub mod Claims

@@ -1,0 +1,3 @@
+pub mod Renaming
+pub mod Fresh
+pub mod Laws

@@ -1,0 +1,24 @@
+//! What stands for a variable.
+ghost use Rattle.std.specs.Prelude.{◌≡◌};
+ghost use Rattle.system_renaming.specs.Renaming.{renamed_by};
+
+use affine_systems::Var;
+
+/// A variable and what stands for it.
+#[derive(Clone, Copy, PartialEq, Eq, Debug)]
+pub struct Naming {
+    pub from: Var,
+    pub to: Var,
+}
+
+/// What stands for a variable: what the first naming of it says, or itself. Looks at each naming before that.
+pub fn renamed(names: &[Naming], v: Var) -> Var
+    ensures { result ≡ renamed_by names.now v }
+{
+    for n in names {
+        if v.is_same(n.from) {
+            return n.to;
+        }
+    }
+    v
+}

@@ -1,0 +1,46 @@
+//! Rows added to a system together.
+ghost use Rattle.std.specs.Prelude.{◌≡◌, IfOk};
+ghost use Rattle.affine_systems.specs.Rows.{AllRows};
+ghost use Rattle.affine_systems.specs.Given.{IsGiven, Fits};
+ghost use Rattle.affine_systems.specs.Laws.{KeepsCommonPoints, AddsNoCommonPoint};
+ghost use Rattle.system_renaming.specs.Renaming.{push_rows as push_rows_is, of_rows as of_rows_is};
+
+use affine_systems::items::copy_rows;
+use affine_systems::{Row, System, tidy};
+use fx_lists::List;
+use std::alloc::{AllocError as Memory, Global};
+
+/// The system of rows, tidied.
+pub fn of_rows(alloc: Global, rows: Vec<Row>) -> Result<System, Memory>
+    requires { AllRows IsGiven rows.items }
+    ensures defined { IfOk result (λ s. s ≡ of_rows_is rows.items) }
+    ensures gives { IfOk result Fits }
+{
+    tidy(
+        alloc,
+        &System {
+            rows: List::from_vec(rows),
+            weak: false,
+        },
+    )
+}
+
+/// The rows of a system and others, tidied.
+pub fn push_rows(alloc: Global, sys: &System, mut more: Vec<Row>) -> Result<System, Memory>
+    requires fits { Fits sys.now }
+    requires rows { AllRows IsGiven more.items }
+    ensures defined { IfOk result (λ s. s ≡ push_rows_is sys.now more.items) }
+    ensures gives { IfOk result Fits }
+    ensures keeps { IfOk result (KeepsCommonPoints sys.now.rows more.items) }
+    ensures adds_none { IfOk result (AddsNoCommonPoint sys.now.rows more.items) }
+{
+    let mut rows = copy_rows(alloc, sys.rows.as_slice())?;
+    rows.append(&mut more)?;
+    tidy(
+        alloc,
+        &System {
+            rows: List::from_vec(rows),
+            weak: sys.weak,
+        },
+    )
+}

@@ -1,0 +1,10 @@
+pub mod CellSteps
+pub mod CellLaws
+pub mod HalfLaws
+pub mod RuleLaws
+pub mod ElsewhereLaws
+pub mod TurnLaws
+pub mod LoopLaws
+pub mod AllLaws
+pub mod ArmSteps
+pub mod GivenSteps
