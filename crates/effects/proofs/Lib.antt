@@ -1,0 +1,3 @@
+mod NameLaws
+pub mod ListLaws
+mod CalleeLaws

@@ -1,0 +1,9 @@
+use Rattle.std.proofs.Common.{◌≡◌, [], drop, map}
+use Rattle.f77_ast.specs.Plain.{expr_trees}
+use Rattle.f77_symbols.specs.Symbols.{symbol_tree}
+use Rattle.effects.specs.Reads.{with_named}
+use Rattle.effects.proofs.reads.items_named.Given as goal
+
+abbrev pub invariant-loop-e : goal.invariant-loop-e
+invariant-loop-e l =
+    with_named (expr_trees (drop l.e-index l.e-items)) (map symbol_tree l.symbols) l.all ≡ with_named (expr_trees l.e-items) (map symbol_tree l.symbols) []

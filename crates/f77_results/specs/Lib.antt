@@ -1,0 +1,3 @@
+pub mod Variables
+pub mod Effects
+pub mod Summaries

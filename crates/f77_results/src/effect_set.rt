@@ -1,0 +1,67 @@
+//! What a statement may read and write.
+ghost use Rattle.std.specs.Prelude.{◌≡◌, ◌||◌, IfOk};
+ghost use Rattle.f77_results.specs.Effects.{no_effect, unite};
+
+use crate::variables::{add_copies, union};
+use f77_symbols::Variable;
+use fx_lists::List;
+use std::alloc::{AllocError as Memory, Global};
+
+/// The variables that may be read and written, in order, whether input is read or output written, and whether a STOP may be
+/// reached.
+#[derive(Debug, PartialEq, Eq, Drop)]
+pub struct EffectSet {
+    pub reads: List<Variable>,
+    pub writes: List<Variable>,
+    pub io: bool,
+    pub stops: bool,
+}
+
+impl EffectSet {
+    /// No effects. Takes no memory.
+    pub fn none(alloc: Global) -> EffectSet
+        ensures { result ≡ no_effect }
+    {
+        EffectSet {
+            reads: List::new(alloc),
+            writes: List::new(alloc),
+            io: false,
+            stops: false,
+        }
+    }
+}
+
+fn copied(alloc: Global, variables: &List<Variable>) -> Result<List<Variable>, Memory>
+    ensures { IfOk result (λ copy. copy ≡ variables.now) }
+{
+    let mut made = List::new(alloc);
+    add_copies(&mut made, variables.as_slice())?;
+    Ok(made)
+}
+
+pub fn copy_effect(alloc: Global, effect: &EffectSet) -> Result<EffectSet, Memory>
+    ensures { IfOk result (λ copy. copy ≡ effect.now) }
+{
+    let reads = copied(alloc, &effect.reads)?;
+    let writes = copied(alloc, &effect.writes)?;
+    Ok(EffectSet {
+        reads,
+        writes,
+        io: effect.io,
+        stops: effect.stops,
+    })
+}
+
+/// The effects of both.
+pub fn unite(alloc: Global, a: &EffectSet, b: &EffectSet) -> Result<EffectSet, Memory>
+    ensures { IfOk result (λ both. both ≡ unite a.now b.now) }
+{
+    let reads = union(alloc, &a.reads, &b.reads)?;
+    let writes = union(alloc, &a.writes, &b.writes)?;
+    Ok(EffectSet {
+        reads,
+        writes,
+        io: a.io || b.io,
+        stops: a.stops || b.stops,
+    })
+}

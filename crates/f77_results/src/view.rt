@@ -1,0 +1,12 @@
+//! A module among others.
+use call_graph::Graph;
+use f77_ast::Module;
+use f77_symbols::Symbols;
+
+/// A module of a program with its symbols, and the graph of the program.
+#[derive(Drop)]
+pub struct View<'a> {
+    pub module: &'a Module,
+    pub symbols: &'a Symbols,
+    pub graph: &'a Graph,
+}
