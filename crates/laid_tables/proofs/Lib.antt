@@ -1,0 +1,14 @@
+pub mod StatementRefusals
+pub mod NameRefusals
+pub mod KeptNames
+pub mod Marks
+pub mod DummiesTold
+pub mod Values
+pub mod Answers
+pub mod DummyLaws
+pub mod EntryLaws
+pub mod EquivalenceLaws
+pub mod JudgedShapes
+pub mod FoundNames
+pub mod ShapeLaws
+pub mod ConstantLaws

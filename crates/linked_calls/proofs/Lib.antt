@@ -1,0 +1,10 @@
+pub mod ActualLaws
+pub mod CallLaws
+pub mod RankLaws
+pub mod EdgeLaws
+pub mod BelowLaws
+pub mod AskLaws
+pub mod BindLaws
+pub mod LockLaws
+pub mod ReadLaws
+pub mod OwnedLaws

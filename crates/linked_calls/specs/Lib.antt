@@ -1,0 +1,4 @@
+pub mod Calls
+pub mod Below
+pub mod Activations
+pub mod Owned

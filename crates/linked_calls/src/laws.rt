@@ -1,0 +1,70 @@
+//! Laws of CALLs and of what they enter.
+ghost use Rattle.linked_calls.specs.Calls.{CallsFit, CallsAreRead, DummiesAreTracked};
+ghost use Rattle.linked_calls.specs.Below.{CallsLeadDown, CallsLeadOn, CommonIsShared};
+ghost use Rattle.linked_calls.specs.Activations.{PlacesAreBound, SharedCellsAreLocked, CommonNamesAreCommon};
+ghost use Rattle.linked_calls.specs.Owned.{OwnOfCalled, DummiesOffLocals, VariablesKeepOff, ExpressionsKeepOff};
+
+/// Each CALL has a subroutine of its name, whose dummies take its actuals, each for each.
+pub fn calls_fit()
+    ensures { CallsFit }
+{}
+
+/// No actual is an element of what is no array, or a constant array.
+pub fn calls_are_read()
+    ensures { CallsAreRead }
+{}
+
+/// An INTEGER scalar that is a dummy is a tracked cell.
+pub fn dummies_are_tracked()
+    ensures { DummiesAreTracked }
+{}
+
+/// What is called never leads back to its caller.
+pub fn calls_lead_down()
+    ensures { CallsLeadDown }
+{}
+
+/// A module reaches what those that it calls reach.
+pub fn calls_lead_on()
+    ensures { CallsLeadOn }
+{}
+
+/// The units of COMMON of what is called are units of COMMON of the caller.
+pub fn common_is_shared()
+    ensures { CommonIsShared }
+{}
+
+/// A unit of a variable in COMMON is one of its module's units of COMMON.
+pub fn common_names_are_common()
+    ensures { CommonNamesAreCommon }
+{}
+
+/// Where a module is entered its dummies lie at their actuals, and its other names where they lay.
+pub fn places_are_bound()
+    ensures { PlacesAreBound }
+{}
+
+/// A tracked cell shares its unit with another variable of its module only where dummies reach it doubly, and it is locked.
+pub fn shared_cells_are_locked()
+    ensures { SharedCellsAreLocked }
+{}
+
+/// The units that are own to what a module calls, or below it, are so to the module.
+pub fn own_of_called()
+    ensures { OwnOfCalled }
+{}
+
+/// Dummies that lie at no own units of their module, or below it, lie at no unit of its locals.
+pub fn dummies_off_locals()
+    ensures { DummiesOffLocals }
+{}
+
+/// Then the variables of the module lie at no own units of what it calls, or below that.
+pub fn variables_keep_off()
+    ensures { VariablesKeepOff }
+{}
+
+/// Nor do its expressions that are actuals.
+pub fn expressions_keep_off()
+    ensures { ExpressionsKeepOff }
+{}
