@@ -1,0 +1,10 @@
+mod Sources
+mod Ordered
+mod Numbers
+mod Dummies
+mod Names
+mod Bounds
+mod Fitting
+mod Whole
+mod Tables
+mod Runs
