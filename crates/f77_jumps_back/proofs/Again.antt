@@ -3,13 +3,14 @@ use Rattle.std.proofs.Common.{◌≡◌, ℕ, zero, suc, ◌+◌, true, false, L
 use Rattle.std.specs.Prelude.{None, ◌&&◌, ◌||◌}
 use Rattle.std.proofs.lemmas.Bool.Decides.{nat_tests}
 use Rattle.f77_ast.specs.DeclTrees.{ModuleTree}
+use Rattle.f77_statements.specs.Phrases.{end_module}
 use Rattle.f77_ast.specs.PlainStmt.{stmts_of}
 use Rattle.f77_structure.specs.declared.open.End.TheVariants as ends
 use Rattle.f77_structure.specs.declared.blocks.Blocks.{Blocks}
 use Rattle.f77_structure.specs.declared.blocks.Landing.{Landing}
 use Rattle.f77_structure.specs.Opens.{contains}
 use Rattle.f77_structure.specs.Jumps.{all_judged}
-use Rattle.f77_structure.specs.Checks.{block_fault}
+use Rattle.f77_structure.specs.Checks.{block_fault, fault_of}
 use Rattle.f77_structure.specs.Steps.{by_role, stepped, all_stepped, nothing_open, blocks_of}
 use Rattle.f77_parser.specs.Roles.{role_of}
 use Rattle.f77_parser.specs.Statements.{StatementTree, mark_of, marks_of}
@@ -95,6 +96,19 @@ none-faulty : (b : Blocks) (x : Outline) → Shown b x → b.found ≡ None → 
 none-faulty b x s e r =
     let P : List Landing → Type 0 = λ ls. AllReach ls x.goings in
     ap (all_judged b.spans b.landings b.jumps) e ∙ reach-judged s.at b.spans b.landings b.jumps x.goings s.shown.jumps (subst P (sym s.shown.landings) r)
+
+-- in a module that is read each GO TO reaches its label
+pub all_reach_there : (closing : List (List ℕ)) (begun : List StatementTree) (s : StatementTree) → s.phrase ≡ end_module → Each IsStatement (begun ++ s ∷ []) → fault_of (marks_of (begun ++ s ∷ [])) ≡ None
+    → (let x = outline_in (built closing (begun ++ s ∷ [])).module_read.body nothing_outlined in AllReach x.landings x.goings)
+unfolding built
+all_reach_there closing begun s e i h =
+    let rs = begun ++ s ∷ [] in
+    let f = no-fault (marks_of rs) h in
+    let p = all_stated rs nothing_stated in
+    let read = all-stand rs 0 nothing_stated nothing_open (all-alone rs i) tt nothing-shown f.2 in
+    let same = body-outline p (all-closed begun s 0 nothing_stated nothing_open e i nothing-goes f.2) in
+    let P : Outline → Type 0 = λ x. AllReach x.landings x.goings in
+    subst P same (all-reach (blocks_of (marks_of rs)) (outline_so p) read f.1)
 
 pub jumps_again : JumpsAgain
 unfolding built

@@ -1,10 +1,10 @@
 mod Places
-mod Outlines
-mod TreeOutlines
+pub mod Outlines
+pub mod TreeOutlines
 mod SoFarOutlines
-mod Shown
+pub mod Shown
 mod Standing
-mod Reached
+pub mod Reached
 mod Phrases
 mod Written
 pub mod Again

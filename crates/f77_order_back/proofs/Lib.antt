@@ -1,4 +1,4 @@
-mod Tally
+pub mod Tally
 mod Standing
 mod Adding
 mod Reading

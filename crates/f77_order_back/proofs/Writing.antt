@@ -17,13 +17,14 @@ use Rattle.f77_structure.specs.Faults.{noted}
 use Rattle.f77_structure.specs.Marks.{statements_in, returns_in}
 use Rattle.f77_structure.specs.Order.{is_main_after, is_out_of_order, has_label, labelled, passes_most, counted, ordered, all_ordered, nothing_ordered}
 use Rattle.f77_structure.specs.Steps.{nothing_open}
+use Rattle.f77_structure.specs.Checks.{fault_of}
 use Rattle.f77_parser.specs.Roles.{role_of}
 use Rattle.f77_parser.specs.Statements.{StatementTree, marks_of}
 use Rattle.f77_parser.specs.SoFar.{SoFar}
 use Rattle.f77_parser.specs.Building.{all_stated, nothing_stated, built}
 use Rattle.f77_round_trip.specs.Formed.{Each}
 use Rattle.f77_modules_back.specs.Cards.{Card, card, cards_in, title_cards, decl_cards, statements_of}
-use Rattle.f77_modules_back.specs.Laws.{Labelled, of_statement, of_card}
+use Rattle.f77_modules_back.specs.Laws.{Labelled, of_statement, of_card, IsStatement}
 use Rattle.f77_modules_back.proofs.Steady.{no-fault}
 use Rattle.f77_modules_back.proofs.Kept.{Each-append}
 use Rattle.f77_modules_back.proofs.Well.{nothing-goes, all-closed}
@@ -199,6 +200,22 @@ body-follows p o e r at b =
       behind = Each-append IsBehind body end (subst Behind here r.behind) (record { first = tt; others = tt });
       found = b.found;
     })
+
+-- a module that is read has at most 4,096 statements
+pub few_stand : (closing : List (List ℕ)) (begun : List StatementTree) (s : StatementTree) → s.phrase ≡ end_module → Each IsStatement (begun ++ s ∷ []) → fault_of (marks_of (begun ++ s ∷ [])) ≡ None
+    → count_of (cards_in (built closing (begun ++ s ∷ [])).module_read.body) ≤ 4096
+unfolding built
+few_stand closing begun s e i h =
+    let read = begun ++ s ∷ [] in
+    let p = all_stated read nothing_stated in
+    let o = all_ordered (marks_of read) nothing_ordered in
+    let none = no-fault (marks_of read) h in
+    let r = all-ordered read 0 nothing_stated nothing_open nothing_ordered i nothing-goes none.2 nothing-ordered none.0 in
+    let closed = all-closed begun s 0 nothing_stated nothing_open e i nothing-goes none.2 in
+    let body = cards_in (stmts_of p.list) in
+    let here = ap (λ xs. around_cards xs ++ body) closed in
+    let Few : ℕ → Type 0 = λ n. n ≤ 4096 in
+    subst Few (sym (sym (ap count_of here) ∙ r.count)) r.few
 
 pub order_again : OrderAgain
 unfolding built statements_of

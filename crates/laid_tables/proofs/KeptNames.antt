@@ -143,7 +143,7 @@ module _ (P : List EntryTree → Type 0) (more : (x : List ℕ) (line : ℕ) (es
   blocks_keep [] line t d = d
   blocks_keep (c ∷ cs) line t d = blocks_keep cs line (members_told fs c.members line t) (members_keep c.members line t d)
 
-  settings_keep : (ss : List SettingTree) (line : ℕ) (t : Told) → P t.entries → P (settings_told fs ss line t).entries
+  pub settings_keep : (ss : List SettingTree) (line : ℕ) (t : Told) → P t.entries → P (settings_told fs ss line t).entries
   settings_keep [] line t d = d
   settings_keep (s ∷ ss) line t d =
       settings_keep ss line (setting_told fs s line t) (expr_keeps s.value line (changed s.name as_parameter (seen s.name line t.entries)) (said s.name Parameter (seen s.name line t.entries) (more s.name line t.entries d)))

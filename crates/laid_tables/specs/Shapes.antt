@@ -27,7 +27,7 @@ abbrev pub is_given : ExprTrees → Type 0
 is_given tree.no_exprs = ⊥
 is_given (tree.more_exprs e es) = Unit {0}
 
--- a bare name is none of an array, and none of a function
+-- a bare name is none of an array
 abbrev pub StandsBare : List SymbolTree → List ℕ → Type 0
 StandsBare ss x = (bounds_of (symbol_named ss x) ≡ [])
 

@@ -125,7 +125,7 @@ module _ (ps : List ParsedTree) (sss : List (List SymbolTree)) (g : Graph) (l : 
   module_level : (i : ℕ) (p : ParsedTree) → slice_get ps i ≡ Some p → level p.module_read.name ≡ rank (order_of css) i
   module_level i p e = ap (ranked (order_of css)) (place_of_name ps sss g l.links i p e)
 
-  stands : (i : ℕ) (p : ParsedTree) → slice_get ps i ≡ Some p → holds (order_of css) i ≡ true
+  pub stands : (i : ℕ) (p : ParsedTree) → slice_get ps i ≡ Some p → holds (order_of css) i ≡ true
   stands i p e = let within = slice_within ps i p e in (in_order ps sss g l.many l.links).2 i (omega (arith, within, length-css))
 
   pub level_below : (i : ℕ) (p : ParsedTree) → slice_get ps i ≡ Some p → level p.module_read.name < length ps

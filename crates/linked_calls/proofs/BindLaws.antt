@@ -127,8 +127,9 @@ dummy_asks d p ms at h e = go d.bounds ms refl h
     go [] (n ∷ ns) q m = absurd m
     go (b ∷ bs) [] q m = absurd m
     go (b ∷ bs) (n ∷ ns) q m =
+        let some : d.bounds ≡ [] → ⊥ = λ z. (let w = sym q ∙ z in cc) in
         asks_then (Within d p) (Bound d p at) (array_place p d.tag (n ∷ ns)) (λ r. Done (put at d.symbol r)) (array_asks d p (n ∷ ns))
-        (λ r x. record { binds = subst (Binds d p) (sym (put_there at d.symbol r)) (binds_array x.first x.extent x.tag); others = λ v k. put_elsewhere at d.symbol v r k })
+        (λ r x. record { binds = subst (Binds d p) (sym (put_there at d.symbol r)) (binds_array some x.first x.extent x.tag); others = λ v k. put_elsewhere at d.symbol v r k })
 
 -- all of them
 record AllBound (ds : List Dummy) (ps : List Place) (at at' : Places) : Type 0 where

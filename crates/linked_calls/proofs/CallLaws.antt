@@ -20,6 +20,7 @@ use Rattle.laid_tables.proofs.DummyLaws.{dummies_come_first}
 use Rattle.laid_tables.proofs.EquivalenceLaws.{dummies_stand_alone}
 use Rattle.linked_cells.specs.Programs.{IsLinked, IsModule, IsCell}
 use Rattle.linked_calls.specs.Calls.{AreLaidOut, CallFits, EachCall, CallsOf, CallsIn, ArmCalls, OneArm, ElseCalls, LoopCalls, CallsFit, DummiesAreTracked}
+use Rattle.linked_calls.specs.Below.{HasCall, CallsAreListed}
 use Rattle.linked_calls.proofs.ActualLaws.{args_from}
 
 -- ---- what stands among the CALLs of a module
@@ -115,6 +116,9 @@ module _ (ss : List SymbolTree) where
       loop_calls (tree.loop index first last step body) cs all = list_calls body cs all
 
 -- ---- CALLs that link
+
+pub calls_are_listed : CallsAreListed
+calls_are_listed p ss = list_calls ss (λ n x es. HasCall p ss x) p.module_read.body [] (λ n x es h. record { at = h.0; call = the_call n x es ss; is_call = h.1; is_named = refl })
 
 pub calls_fit : CallsFit
 calls_fit ps sss g l laid i p ss m = list_calls ss (λ n x es. CallFits ps sss ss x es) p.module_read.body [] fit

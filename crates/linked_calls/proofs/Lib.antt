@@ -5,6 +5,9 @@ pub mod EdgeLaws
 pub mod BelowLaws
 pub mod AskLaws
 pub mod BindLaws
+pub mod LyingLaws
 pub mod LockLaws
 pub mod ReadLaws
 pub mod OwnedLaws
+pub mod LendLaws
+pub mod KeepLaws

@@ -1,29 +1,28 @@
 -- What is lent to a module is none of its own units, nor of those of what it reaches.
-use Rattle.std.proofs.Common.{◌≡◌, ℕ, zero, suc, Bool, true, false, List, length, Option, Some, None, refl, sym, ap, ◌∙◌, subst}
+use Rattle.std.proofs.Common.{◌≡◌, ℕ, Bool, true, false, List, length, Some, refl, sym, ap, ◌∙◌, subst}
 use Rattle.std.specs.Prelude.{slice_get}
 use Rattle.std.proofs.lemmas.Slice.Eq.{bytes_eq-Decides}
 use Rattle.f77_ast.specs.DeclTrees.{ParsedTree}
 use Rattle.f77_ast.specs.Places.{Place as RunPlace, Places}
 use Rattle.f77_ast.specs.Calls.{in_place}
-use Rattle.f77_symbols.specs.declared.symbol.Place.{Place}
 use Rattle.f77_symbols.specs.declared.symbol.Place.TheVariants as place
 use Rattle.f77_symbols.specs.Symbols.{SymbolTree}
 use Rattle.f77_symbols.specs.Shared.{symbol_at}
 use Rattle.call_graph.specs.declared.graph.Graph.{Graph}
-use Rattle.f77_meaning.specs.Areas.{Area, block, group, own, unit_at}
+use Rattle.f77_meaning.specs.Areas.{block, group, own, unit_at}
 use Rattle.f77_meaning.specs.Modules.{known_of, fixed, dummies_from}
 use Rattle.f77_meaning.specs.Laws.{area_of}
 use Rattle.f77_meaning.proofs.ModuleLaws.{names_meet}
 use Rattle.linked_cells.specs.Programs.{IsLinked, IsModule, known}
 use Rattle.linked_cells.specs.Laws.{units, IsOfLocal}
-use Rattle.linked_cells.proofs.ModuleLaws.{declared, area_known, names_tell_modules}
+use Rattle.linked_cells.proofs.ModuleLaws.{declared, area_known}
 use Rattle.linked_cells.proofs.OwnUnitLaws.{own_units_are_no_names, own_units_differ}
 use Rattle.linked_cells.proofs.LocalLaws.{locals_stay_inside}
 use Rattle.linked_calls.specs.Below.{leads_to, HasCall}
-use Rattle.linked_calls.specs.Activations.{is_dummy, Entered, KeepOffLocals}
+use Rattle.linked_calls.specs.Activations.{Entered}
 use Rattle.linked_calls.specs.Owned.{IsOwn, of_local, of_expression, IsOwnBelow, DummiesKeepOff, OwnOfCalled, DummiesOffLocals, VariablesKeepOff, ExpressionsKeepOff}
 use Rattle.linked_calls.proofs.BelowLaws.{at_once, never_back, lead_on}
-use Rattle.linked_calls.proofs.LockLaws.{VariableOf, variable_of, Lying, lying_dummy, lying_local, lying_common, lying}
+use Rattle.linked_calls.proofs.LyingLaws.{variable_of, Lying, lying_dummy, lying_local, lying_common, lying}
 
 pub own_of_called : OwnOfCalled
 own_of_called ps sss g l i p ss m x u c o = record { at = o.at; parsed = o.parsed; table = o.table; is_module = o.is_module; reached = lead_on ps sss g l i p ss m x o.parsed.module_read.name c o.reached; is_own = o.is_own }

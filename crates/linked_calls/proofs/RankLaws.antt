@@ -39,7 +39,7 @@ rank_in (x ∷ xs) rest c h = go (nat_eq x c) h (rank_in xs rest c)
     go true i ih = omega arith
     go false i ih = let less = ih i in omega (arith, less)
 
-all_hold : (f : ℕ → Bool) (cs : List ℕ) (c : ℕ) → list_all f cs ≡ true → holds cs c ≡ true → f c ≡ true
+pub all_hold : (f : ℕ → Bool) (cs : List ℕ) (c : ℕ) → list_all f cs ≡ true → holds cs c ≡ true → f c ≡ true
 all_hold f [] c a h = cc
 all_hold f (x ∷ xs) c a h = go (nat_eq x c) refl h (all_hold f xs c (and_parts (f x) (list_all f xs) a).1)
   where

@@ -12,7 +12,7 @@ use Rattle.f77_symbols.specs.Symbols.{SymbolTree}
 use Rattle.f77_symbols.specs.Shared.{symbol_at}
 use Rattle.call_graph.specs.declared.graph.Graph.{Graph}
 use Rattle.f77_meaning.specs.Areas.{group}
-use Rattle.f77_meaning.specs.Modules.{names, known_of, fixed, dummies_from}
+use Rattle.f77_meaning.specs.Modules.{tag_of, names, known_of, fixed, dummies_from}
 use Rattle.f77_meaning.specs.Linked.{is_common}
 use Rattle.f77_meaning.specs.Laws.{area_of}
 use Rattle.linked_cells.specs.Programs.{IsLinked, IsModule, IsCell, known}
@@ -23,7 +23,7 @@ use Rattle.linked_cells.specs.Laws.{units}
 -- a dummy that has this place lies at its actual's: a scalar at the first unit, an array from there on and no further than the actual
 pub data Binds (d : Dummy) (actual place : Place) : Type 0 where
   binds_scalar : d.bounds ≡ [] → place ≡ scalar_place actual.first d.tag → Binds d actual place
-  binds_array : place.first ≡ actual.first → place.extent ≤ actual.extent → place.tag ≡ d.tag → Binds d actual place
+  binds_array : (d.bounds ≡ [] → ⊥) → place.first ≡ actual.first → place.extent ≤ actual.extent → place.tag ≡ d.tag → Binds d actual place
 
 -- each dummy with the actual at its place
 abbrev pub AllBind : List Dummy → List Place → Places → Type 0
@@ -63,3 +63,8 @@ abbrev pub CommonNamesAreCommon : Type 0
 CommonNamesAreCommon = (ps : List ParsedTree) (sss : List (List SymbolTree)) (g : Graph) → IsLinked ps sss g → (i : ℕ) (p : ParsedTree) (ss : List SymbolTree) → IsModule ps sss i p ss →
     (n u : ℕ) (s : SymbolTree) (b : List ℕ) (o : ℕ) → symbol_at ss n ≡ Some s → s.place ≡ Block b o → in_place (fixed (units ps sss g) (known p ss) n) u ≡ true →
     is_common (known_of ps sss) g p.module_read.name u ≡ true
+
+-- a variable without bounds lies as a scalar of its type
+abbrev pub ScalarsLie : Type 0
+ScalarsLie = (ps : List ParsedTree) (sss : List (List SymbolTree)) (g : Graph) (p : ParsedTree) (ss : List SymbolTree) (qs : List Place) (at : Places) → Entered (dummies_from 1 ss) qs (fixed (units ps sss g) (known p ss)) at →
+    (x : List ℕ) (v : ℕ) (s : SymbolTree) → names ss x ≡ Variable v → symbol_at ss v ≡ Some s → s.bounds ≡ [] → at v ≡ scalar_place (at v).first (tag_of s.scalar)

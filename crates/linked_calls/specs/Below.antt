@@ -8,6 +8,7 @@ use Rattle.call_graph.specs.Calls.{calls_of}
 use Rattle.f77_meaning.specs.Modules.{known_of}
 use Rattle.f77_meaning.specs.Linked.{reaches, is_common}
 use Rattle.linked_cells.specs.Programs.{IsLinked, IsModule}
+use Rattle.linked_calls.specs.Calls.{EachCall}
 
 -- a module is another, or reaches it by calls
 abbrev pub leads_to : List ParsedTree → List (List SymbolTree) → Graph → List ℕ → List ℕ → Type 0
@@ -19,6 +20,10 @@ pub record HasCall (p : ParsedTree) (ss : List SymbolTree) (x : List ℕ) : Type
   pub call : Called
   pub is_call : slice_get (calls_of p ss) at ≡ Some call
   pub is_named : call.callee ≡ x
+
+-- so has each CALL of its statements
+abbrev pub CallsAreListed : Type 0
+CallsAreListed = (p : ParsedTree) (ss : List SymbolTree) → EachCall (λ n x es. HasCall p ss x) p.module_read.body
 
 -- what is called never leads back
 abbrev pub CallsLeadDown : Type 0

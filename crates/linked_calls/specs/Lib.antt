@@ -2,3 +2,4 @@ pub mod Calls
 pub mod Below
 pub mod Activations
 pub mod Owned
+pub mod Lending

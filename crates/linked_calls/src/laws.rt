@@ -1,7 +1,8 @@
 //! Laws of CALLs and of what they enter.
 ghost use Rattle.linked_calls.specs.Calls.{CallsFit, CallsAreRead, DummiesAreTracked};
-ghost use Rattle.linked_calls.specs.Below.{CallsLeadDown, CallsLeadOn, CommonIsShared};
-ghost use Rattle.linked_calls.specs.Activations.{PlacesAreBound, SharedCellsAreLocked, CommonNamesAreCommon};
+ghost use Rattle.linked_calls.specs.Below.{CallsAreListed, CallsLeadDown, CallsLeadOn, CommonIsShared};
+ghost use Rattle.linked_calls.specs.Activations.{PlacesAreBound, SharedCellsAreLocked, CommonNamesAreCommon, ScalarsLie};
+ghost use Rattle.linked_calls.specs.Lending.{ActualsLend, CalledKeepOff};
 ghost use Rattle.linked_calls.specs.Owned.{OwnOfCalled, DummiesOffLocals, VariablesKeepOff, ExpressionsKeepOff};
 
 /// Each CALL has a subroutine of its name, whose dummies take its actuals, each for each.
@@ -17,6 +18,11 @@ pub fn calls_are_read()
 /// An INTEGER scalar that is a dummy is a tracked cell.
 pub fn dummies_are_tracked()
     ensures { DummiesAreTracked }
+{}
+
+/// Each CALL of the statements of a module is among its CALLs.
+pub fn calls_are_listed()
+    ensures { CallsAreListed }
 {}
 
 /// What is called never leads back to its caller.
@@ -67,4 +73,19 @@ pub fn variables_keep_off()
 /// Nor do its expressions that are actuals.
 pub fn expressions_keep_off()
     ensures { ExpressionsKeepOff }
+{}
+
+/// A variable without bounds lies as a scalar of its type.
+pub fn scalars_lie()
+    ensures { ScalarsLie }
+{}
+
+/// Where actuals are evaluated each lends a variable, an element with the rest of its array, or the unit where its value was put.
+pub fn actuals_lend()
+    ensures { ActualsLend }
+{}
+
+/// Where the dummies of a module keep off the own units below it, those of what it calls keep off the ones below that.
+pub fn called_keep_off()
+    ensures { CalledKeepOff }
 {}

@@ -1,10 +1,10 @@
-mod Sources
-mod Ordered
-mod Numbers
+pub mod Sources
+pub mod Ordered
+pub mod Numbers
 mod Dummies
 mod Names
 mod Bounds
 mod Fitting
-mod Whole
-mod Tables
+pub mod Whole
+pub mod Tables
 mod Runs

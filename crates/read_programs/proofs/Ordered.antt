@@ -53,7 +53,7 @@ abbrev mutual
 abbrev pub AllFormed : List Card → Type 0
 AllFormed cs = Each (Held AnyLabel IsPhrase) cs
 
-split : (xs ys : List Card) → AllFormed (xs ++ ys) → AllFormed xs × AllFormed ys
+pub split : (xs ys : List Card) → AllFormed (xs ++ ys) → AllFormed xs × AllFormed ys
 split [] ys h = (tt, h)
 split (x ∷ xs) ys h = let r = split xs ys h.others in (record { first = h.first; others = r.0 }, r.1)
 

@@ -62,7 +62,7 @@ kind = record {
   labelled = tt;
 }
 
-is_built : (closing : List (List ℕ)) (begun : List StatementTree) (s : StatementTree) → s.phrase ≡ end_module → Each IsStatement (begun ++ s ∷ []) → fault_of (marks_of (begun ++ s ∷ [])) ≡ None → IsBuilt (built closing (begun ++ s ∷ []))
+pub is_built : (closing : List (List ℕ)) (begun : List StatementTree) (s : StatementTree) → s.phrase ≡ end_module → Each IsStatement (begun ++ s ∷ []) → fault_of (marks_of (begun ++ s ∷ [])) ≡ None → IsBuilt (built closing (begun ++ s ∷ []))
 is_built closing begun s e i f = record {
   well = built_well closing begun s e i f;
   formed = all_held AnyLabel IsPhrase IsPhrase kind closing (begun ++ s ∷ []) (each-map IsStatement (Stated AnyLabel IsPhrase) (begun ++ s ∷ []) (λ x h. (tt, h)) i);
@@ -98,38 +98,47 @@ ends-module (do_head d) h = cc
 ends-module end_do h = cc
 ends-module end_module h = refl
 
-faultless-on : (f : Option Found) (q : ParsedTree) (k : ParsedTree → Result (List ParsedTree) Refused) (ps : List ParsedTree) → and_then (unless_faulty f q) k ≡ Ok ps
-    → (f ≡ None → k q ≡ Ok ps → Each IsBuilt ps) → Each IsBuilt ps
-faultless-on None q k ps h g = g refl h
-faultless-on (Some f) q k ps h g = cc
+-- of a module that goes up to its END, of statements that the grammar gives, without a fault
+abbrev pub OfBuilt : (ParsedTree → Type 0) → Type 0
+OfBuilt P = (closing : List (List ℕ)) (begun : List StatementTree) (s : StatementTree) → s.phrase ≡ end_module → Each IsStatement (begun ++ s ∷ []) → fault_of (marks_of (begun ++ s ∷ [])) ≡ None → P (built closing (begun ++ s ∷ []))
 
-choice-on : (b : Bool) (x y : Result (List ParsedTree) Refused) (ps : List ParsedTree) → (if b then x else y) ≡ Ok ps
-    → (b ≡ true → x ≡ Ok ps → Each IsBuilt ps) → (y ≡ Ok ps → Each IsBuilt ps) → Each IsBuilt ps
-choice-on true x y ps h f g = f refl h
-choice-on false x y ps h f g = g h
+module _ (P : ParsedTree → Type 0) (one : OfBuilt P) where
+  faultless-on : (f : Option Found) (q : ParsedTree) (k : ParsedTree → Result (List ParsedTree) Refused) (ps : List ParsedTree) → and_then (unless_faulty f q) k ≡ Ok ps
+      → (f ≡ None → k q ≡ Ok ps → Each P ps) → Each P ps
+  faultless-on None q k ps h g = g refl h
+  faultless-on (Some f) q k ps h g = cc
 
-all-go : (closing : List (List ℕ)) (ss : List StatementTree) (done ps : List ParsedTree) (begun : List StatementTree) → Each IsBuilt done → Each IsStatement begun → Each IsStatement ss
-    → modules_from closing done begun ss ≡ Ok ps → Each IsBuilt ps
-all-go closing [] done ps begun d b i h = let same : done ≡ ps = cc in subst (Each IsBuilt) same d
-all-go closing (s ∷ ss) done ps begun d b i h =
-    let whole = begun ++ s ∷ [] in
-    let own = closing_at (is_none_of ss) closing in
-    let more : Each IsStatement whole = Each-append IsStatement begun (s ∷ []) b (record { first = i.first; others = tt }) in
-    choice-on (ends_module s.phrase)
-    (and_then (unless_faulty (fault_of (marks_of whole)) (built own whole)) (λ p. modules_from closing (done ++ p ∷ []) [] ss)) (modules_from closing done whole ss) ps h
-    (λ e g. faultless-on (fault_of (marks_of whole)) (built own whole) (λ p. modules_from closing (done ++ p ∷ []) [] ss) ps g
-    (λ f x. all-go closing ss (done ++ built own whole ∷ []) ps []
-    (Each-append IsBuilt done (built own whole ∷ []) d (record { first = is_built own begun s (ends-module s.phrase e) more f; others = tt })) tt i.others x))
-    (λ g. all-go closing ss done ps whole d more i.others g)
+  choice-on : (b : Bool) (x y : Result (List ParsedTree) Refused) (ps : List ParsedTree) → (if b then x else y) ≡ Ok ps
+      → (b ≡ true → x ≡ Ok ps → Each P ps) → (y ≡ Ok ps → Each P ps) → Each P ps
+  choice-on true x y ps h f g = f refl h
+  choice-on false x y ps h f g = g h
+
+  all-go : (closing : List (List ℕ)) (ss : List StatementTree) (done ps : List ParsedTree) (begun : List StatementTree) → Each P done → Each IsStatement begun → Each IsStatement ss
+      → modules_from closing done begun ss ≡ Ok ps → Each P ps
+  all-go closing [] done ps begun d b i h = let same : done ≡ ps = cc in subst (Each P) same d
+  all-go closing (s ∷ ss) done ps begun d b i h =
+      let whole = begun ++ s ∷ [] in
+      let own = closing_at (is_none_of ss) closing in
+      let more : Each IsStatement whole = Each-append IsStatement begun (s ∷ []) b (record { first = i.first; others = tt }) in
+      choice-on (ends_module s.phrase)
+      (and_then (unless_faulty (fault_of (marks_of whole)) (built own whole)) (λ p. modules_from closing (done ++ p ∷ []) [] ss)) (modules_from closing done whole ss) ps h
+      (λ e g. faultless-on (fault_of (marks_of whole)) (built own whole) (λ p. modules_from closing (done ++ p ∷ []) [] ss) ps g
+      (λ f x. all-go closing ss (done ++ built own whole ∷ []) ps []
+      (Each-append P done (built own whole ∷ []) d (record { first = one own begun s (ends-module s.phrase e) more f; others = tt })) tt i.others x))
+      (λ g. all-go closing ss done ps whole d more i.others g)
 
 -- ---- lines
 
-then-on : (r : Result (List StatementTree) Refused) (closing : List (List ℕ)) (ps : List ParsedTree) → ((ss : List StatementTree) → r ≡ Ok ss → Each IsStatement ss)
-    → and_then r (λ ss. modules_from closing [] [] ss) ≡ Ok ps → Each IsBuilt ps
-then-on (Ok ss) closing ps i h = all-go closing ss [] ps [] tt tt (i ss refl) h
-then-on (Err e) closing ps i h = cc
+module _ (P : ParsedTree → Type 0) (one : OfBuilt P) where
+  then-on : (r : Result (List StatementTree) Refused) (closing : List (List ℕ)) (ps : List ParsedTree) → ((ss : List StatementTree) → r ≡ Ok ss → Each IsStatement ss)
+      → and_then r (λ ss. modules_from closing [] [] ss) ≡ Ok ps → Each P ps
+  then-on (Ok ss) closing ps i h = all-go P one closing ss [] ps [] tt tt (i ss refl) h
+  then-on (Err e) closing ps i h = cc
 
--- the modules of lines
+  -- then it holds of the modules of lines
+  pub all_of : (lines : Lines) (ps : List ParsedTree) → parse_of lines ≡ Ok ps → Each P ps
+  unfolding parse_of
+  all_of lines ps h = then-on (all_read [] lines.lines) lines.closing ps (λ ss e. all-formed lines.lines [] ss tt e) h
+
 pub all_built : (lines : Lines) (ps : List ParsedTree) → parse_of lines ≡ Ok ps → Each IsBuilt ps
-unfolding parse_of
-all_built lines ps h = then-on (all_read [] lines.lines) lines.closing ps (λ ss e. all-formed lines.lines [] ss tt e) h
+all_built lines ps h = all_of IsBuilt is_built lines ps h

@@ -13,7 +13,7 @@ as_many [] (ss ∷ sss) t = absurd t
 as_many (p ∷ ps) [] t = absurd t
 as_many (p ∷ ps) (ss ∷ sss) t = ap suc (as_many ps sss t.1)
 
-laid_out : (ps : List ParsedTree) (sss : List (List SymbolTree)) → AreTables ps sss → (i : ℕ) (p : ParsedTree) (ss : List SymbolTree) → slice_get ps i ≡ Some p → slice_get sss i ≡ Some ss → symbols_of p ≡ Ok ss
+pub laid_out : (ps : List ParsedTree) (sss : List (List SymbolTree)) → AreTables ps sss → (i : ℕ) (p : ParsedTree) (ss : List SymbolTree) → slice_get ps i ≡ Some p → slice_get sss i ≡ Some ss → symbols_of p ≡ Ok ss
 laid_out [] sss t i p ss e f = cc
 laid_out (q ∷ ps) [] t i p ss e f = absurd t
 laid_out (q ∷ ps) (rs ∷ sss) t zero p ss e f =

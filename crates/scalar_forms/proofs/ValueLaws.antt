@@ -139,17 +139,21 @@ module _ (w : Names) (k : Scalars) (tracked : ℕ → Bool) (at : Places) (s : S
   name_leads (Variable v) Q go = read_leads (at v).tag (at v).first Q (go (s (at v).first) refl)
   name_leads Function Q go = tt
 
+  -- what has a value is no function
+  no_function : (x : List ℕ) (c : Content) → IsRead (w x) c → w x ≡ Function → ⊥
+  no_function x c r e = subst (λ (m : Meant). IsRead m c) e r
+
   name_worthy : (x : List ℕ) (c : Content) → IsRead (w x) c → (o : Option Known) → k.value x ≡ o → Worthy (named_worth o) c.number
   name_worthy x c r None e = tt
   name_worthy x c r (Some d) e =
-      let q : c ≡ content_of d = subst (λ (m : Meant). IsRead m c) (agrees.constants x d e) r in
+      let q : c ≡ content_of d = subst (λ (m : Meant). IsRead m c) (agrees.constants x d e (no_function x c r)) r in
       ap (λ (b : Content). b.number) q ∙ content_number d
 
   cell_means : (x : List ℕ) (c : Content) → IsRead (w x) c → (o : Option ℕ) → k.cell x ≡ o → M (cell_form o) c.number
   cell_means x c r None e = tt
   cell_means x c r (Some v) e =
       let a = agrees.cells x v e in
-      let q : c ≡ s (at v).first = subst (λ (m : Meant). IsRead m c) a.0 r in
+      let q : c ≡ s (at v).first = subst (λ (m : Meant). IsRead m c) (a.0 (no_function x c r)) r in
       let n : c.number ≡ (s (at v).first).number = ap (λ (b : Content). b.number) q in
       λ p st. (let h = st v a.1 in omega (arith, ints, h, n))
 

@@ -49,10 +49,10 @@ abbrev pub content_of : Constant → Content
 content_of (constant.Int n) = content Int n
 content_of (constant.Log b) = content Log (truth b)
 
--- names stand in a run for what they are taken for: constants for their values, cells for tracked variables
+-- names stand in a run for what they are taken for: constants for their values, cells for tracked variables; or for functions, which have no value
 pub record Agrees (w : Names) (k : Scalars) (tracked : ℕ → Bool) : Type 0 where
-  pub constants : (x : List ℕ) (c : Constant) → k.value x ≡ Some c → w x ≡ meant.Constant (content_of c)
-  pub cells : (x : List ℕ) (n : ℕ) → k.cell x ≡ Some n → (w x ≡ Variable n) × (tracked n ≡ true)
+  pub constants : (x : List ℕ) (c : Constant) → k.value x ≡ Some c → (w x ≡ meant.Function → ⊥) → w x ≡ meant.Constant (content_of c)
+  pub cells : (x : List ℕ) (n : ℕ) → k.cell x ≡ Some n → ((w x ≡ meant.Function → ⊥) → w x ≡ Variable n) × (tracked n ≡ true)
 
 -- of each expression that is evaluated without a fault
 abbrev pub FormsHold : Type 0
