@@ -1,0 +1,107 @@
+-- Steps over the statements of a list, the arms of an IF, and the body of a DO.
+use Rattle.std.proofs.Common.{◌≡◌, ℕ, ◌+◌, ◌<◌, false, List, [], ◌∷◌, ◌++◌, Option, Result, Ok, Err, IfOk, length, drop, get_or, append_assoc, ap, ap₂, sym, subst, ◌∙◌}
+use Rattle.std.proofs.lemmas.List.Elements.{All-push}
+use Rattle.affine_systems.specs.declared.row.System.{System}
+use Rattle.affine_systems.specs.Given.{Fits}
+use Rattle.f77_ast.specs.declared.stmt.Stmt.{Stmt}
+use Rattle.f77_ast.specs.declared.stmt.Arm.{Arm, out-Arm}
+use Rattle.f77_ast.specs.Trees.{ExprTree, StmtTrees, ArmTrees, LoopTree}
+use Rattle.f77_ast.specs.Trees as tree
+use Rattle.f77_ast.specs.Plain.{expr_tree}
+use Rattle.f77_ast.specs.PlainStmt.{stmt_tree, stmt_trees, arm_trees}
+use Rattle.f77_ast.proofs.PlainlyStmt.{stmt_trees-drop, arm_trees-drop_at}
+use Rattle.f77_results.specs.declared.results.At.{At}
+use Rattle.transformer_rules.specs.declared.transformer.Transformer.{Transformer}
+use Rattle.transformer_rules.specs.declared.loop_parts.LoopParts.{LoopParts}
+use Rattle.transformer_rules.specs.Loops.{turn, at_turn, after_loop}
+use Rattle.transformers.specs.Scopes.{ScopeTree}
+use Rattle.transformers.specs.Lists.{list_at}
+use Rattle.transformers.specs.Loops.{loop_parts}
+use Rattle.transformers.specs.Statement.{at}
+use Rattle.preconditions.specs.Statement.{Found, EachFits, AllFit, parts_of, each_turn, done, if_true, if_false, past_arms, after_arms, after_list, after_loop_of, at_stmt, at_all, at_arms, at_list, at_loop}
+
+-- ---- one more
+
+pub each_pushed : (old new : List (At System)) (n : ℕ) (p : System) → new ≡ old ++ at n p ∷ [] → EachFits old → Fits p → EachFits new
+each_pushed old new n p e h k = subst EachFits (sym e) (All-push (λ (a : At System). Fits a.value) old (at n p) h k)
+
+pub all_pushed : (old new : List System) (s : System) → new ≡ old ++ s ∷ [] → AllFit old → Fits s → AllFit new
+all_pushed old new s e h k = subst AllFit (sym e) (All-push Fits old s h k)
+
+-- what holds of no result holds of any
+pub whichever : {A E P : Type 0} (r : Result A E) → P → IfOk r (λ _. P)
+whichever (Ok a) p = p
+whichever (Err e) p = tt
+
+-- ---- a list of statements
+
+stmt_at : (ss : List Stmt) (i : ℕ) (s : Stmt) → i < length ss → s ≡ get_or ss i s → stmt_trees (drop i ss) ≡ tree.more_stmts (stmt_tree s) (stmt_trees (drop (i + 1) ss))
+stmt_at ss i s l g = stmt_trees-drop ss i s l ∙ ap (λ (x : Stmt). tree.more_stmts (stmt_tree x) (stmt_trees (drop (i + 1) ss))) (sym g)
+
+pub same_added : (m : ScopeTree) (t : Found) (p : System) (old new : List (At System)) (ss : List Stmt) (i : ℕ) (s : Stmt) → i < length ss → s ≡ get_or ss i s → new ≡ old ++ at_stmt (stmt_tree s) m t p → new ++ at_all (stmt_trees (drop (i + 1) ss)) m t p ≡ old ++ at_all (stmt_trees (drop i ss)) m t p
+same_added m t p old new ss i s l g f =
+    let rest : List (At System) = at_all (stmt_trees (drop (i + 1) ss)) m t p in
+    ap (λ (xs : List (At System)). xs ++ rest) f
+    ∙ (append_assoc old (at_stmt (stmt_tree s) m t p) rest
+    ∙ ap (λ (xs : List (At System)). old ++ xs) (sym (ap (λ (xs : StmtTrees). at_all xs m t p) (stmt_at ss i s l g))))
+
+-- ---- the arms of an IF
+
+pub arm_value : (m : ScopeTree) (p q : System) (xs : List Arm) (i : ℕ) (a : Arm) → i < length xs → a ≡ get_or xs i a → q ≡ if_false m (expr_tree (out-Arm a).test) p → past_arms (arm_trees (drop (i + 1) xs)) m q ≡ past_arms (arm_trees (drop i xs)) m p
+arm_value m p q xs i a l g e =
+    ap (λ (x : System). past_arms (arm_trees (drop (i + 1) xs)) m x) e ∙ sym (ap (λ (ys : ArmTrees). past_arms ys m p) (arm_trees-drop_at xs i a l g))
+
+-- q holds where the test is true, r at the end of the arm, and s where the test is false
+pub arm_end : (m : ScopeTree) (t : Found) (p q r s : System) (old new : List System) (xs : List Arm) (i : ℕ) (a : Arm) → i < length xs → a ≡ get_or xs i a → q ≡ if_true m (expr_tree (out-Arm a).test) p → r ≡ after_list false (stmt_trees (out-Arm a).body) m t q → s ≡ if_false m (expr_tree (out-Arm a).test) p → new ≡ old ++ r ∷ [] → new ++ after_arms (arm_trees (drop (i + 1) xs)) m t s ≡ old ++ after_arms (arm_trees (drop i xs)) m t p
+arm_end m t p q r s old new xs i a l g e f h k =
+    let rest : System → List System = λ (x : System). after_arms (arm_trees (drop (i + 1) xs)) m t x in
+    let test = expr_tree (out-Arm a).test in
+    let end : r ≡ after_list false (stmt_trees (out-Arm a).body) m t (if_true m test p) = f ∙ ap (λ (x : System). after_list false (stmt_trees (out-Arm a).body) m t x) e in
+    ap (λ (ys : List System). ys ++ rest s) k
+    ∙ (append_assoc old (r ∷ []) (rest s)
+    ∙ (ap₂ (λ (x y : System). old ++ x ∷ rest y) end h
+    ∙ ap (λ (ys : List System). old ++ ys) (sym (ap (λ (ys : ArmTrees). after_arms ys m t p) (arm_trees-drop_at xs i a l g)))))
+
+pub arm_added : (m : ScopeTree) (t : Found) (p q s : System) (old new : List (At System)) (xs : List Arm) (i : ℕ) (a : Arm) → i < length xs → a ≡ get_or xs i a → q ≡ if_true m (expr_tree (out-Arm a).test) p → s ≡ if_false m (expr_tree (out-Arm a).test) p → new ≡ old ++ at_list false (stmt_trees (out-Arm a).body) m t q → new ++ at_arms (arm_trees (drop (i + 1) xs)) m t s ≡ old ++ at_arms (arm_trees (drop i xs)) m t p
+arm_added m t p q s old new xs i a l g e h k =
+    let rest : System → List (At System) = λ (x : System). at_arms (arm_trees (drop (i + 1) xs)) m t x in
+    let here : System → List (At System) = λ (x : System). at_list false (stmt_trees (out-Arm a).body) m t x in
+    ap (λ (ys : List (At System)). ys ++ rest s) k
+    ∙ (append_assoc old (here q) (rest s)
+    ∙ (ap₂ (λ (x y : System). old ++ (here x ++ rest y)) e h
+    ∙ ap (λ (ys : List (At System)). old ++ ys) (sym (ap (λ (ys : ArmTrees). at_arms ys m t p) (arm_trees-drop_at xs i a l g)))))
+
+-- ---- a DO: e holds at the beginning of each turn, q at the end of its body, and r after it
+
+turn_is : (l : LoopTree) (m : ScopeTree) (t : Found) (p e : System) (once : Transformer) (parts : LoopParts) → parts ≡ parts_of l m t → once ≡ turn parts → e ≡ at_turn parts once p → e ≡ each_turn l m t p
+turn_is l m t p e once parts a b c =
+    c ∙ (ap (λ (o : Transformer). at_turn parts o p) b ∙ ap (λ (ps : LoopParts). at_turn ps (turn ps) p) a)
+
+done_is : (l : LoopTree) (m : ScopeTree) (t : Found) (p q r : System) (once : Transformer) (parts : LoopParts) → parts ≡ parts_of l m t → once ≡ turn parts → r ≡ after_loop parts once p q → r ≡ done l m t p q
+done_is l m t p q r once parts a b c =
+    c ∙ (ap (λ (o : Transformer). after_loop parts o p q) b ∙ ap (λ (ps : LoopParts). after_loop ps (turn ps) p q) a)
+
+parts_are : (l : LoopTree) (m : ScopeTree) (t : Found) (index : List ℕ) (first last : ExprTree) (step : Option ExprTree) (body : StmtTrees) (x : Transformer) (parts : LoopParts) → l ≡ tree.loop index first last step body → x ≡ list_at t false body → parts ≡ loop_parts m l x → parts ≡ parts_of l m t
+parts_are l m t index first last step body x parts e f g =
+    let s = tree.loop index first last step body in
+    g ∙ (ap (λ (k : LoopTree). loop_parts m k x) e ∙ (ap (loop_parts m s) f ∙ sym (ap (λ (k : LoopTree). parts_of k m t) e)))
+
+pub loop_value : (l : LoopTree) (m : ScopeTree) (t : Found) (p e q r : System) (index : List ℕ) (first last : ExprTree) (step : Option ExprTree) (body : StmtTrees) (x once : Transformer) (parts : LoopParts) → l ≡ tree.loop index first last step body → x ≡ list_at t false body → parts ≡ loop_parts m l x → once ≡ turn parts → e ≡ at_turn parts once p → q ≡ after_list false body m t e → r ≡ after_loop parts once p q → r ≡ after_loop_of l m t p
+loop_value l m t p e q r index first last step body x once parts is a b c d f g =
+    let s = tree.loop index first last step body in
+    let same : parts ≡ parts_of l m t = parts_are l m t index first last step body x parts is a b in
+    let begin : e ≡ each_turn l m t p = turn_is l m t p e once parts same c d in
+    let end : q ≡ after_list false body m t (each_turn l m t p) = f ∙ ap (λ (y : System). after_list false body m t y) begin in
+    done_is l m t p q r once parts same c g
+    ∙ (ap (λ (y : System). done l m t p y) end
+    ∙ (ap (λ (k : LoopTree). done k m t p (after_list false body m t (each_turn k m t p))) is
+    ∙ sym (ap (λ (k : LoopTree). after_loop_of k m t p) is)))
+
+pub loop_added : (l : LoopTree) (m : ScopeTree) (t : Found) (p e : System) (index : List ℕ) (first last : ExprTree) (step : Option ExprTree) (body : StmtTrees) (x once : Transformer) (parts : LoopParts) (old new : List (At System)) → l ≡ tree.loop index first last step body → x ≡ list_at t false body → parts ≡ loop_parts m l x → once ≡ turn parts → e ≡ at_turn parts once p → new ≡ old ++ at_list false body m t e → new ≡ old ++ at_loop l m t p
+loop_added l m t p e index first last step body x once parts old new is a b c d f =
+    let same : parts ≡ parts_of l m t = parts_are l m t index first last step body x parts is a b in
+    let begin : e ≡ each_turn l m t p = turn_is l m t p e once parts same c d in
+    f
+    ∙ (ap (λ (y : System). old ++ at_list false body m t y) begin
+    ∙ (ap (λ (k : LoopTree). old ++ at_list false body m t (each_turn k m t p)) is
+    ∙ sym (ap (λ (k : LoopTree). old ++ at_loop k m t p) is)))

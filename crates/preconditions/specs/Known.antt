@@ -1,0 +1,16 @@
+-- What is known around a statement.
+use Rattle.transformers.specs.Scopes.{ScopeTree, scope_tree}
+use Rattle.transformers.specs.Given.{ResultsFit}
+use Rattle.transformers.specs.Lists.{transformer_at}
+use Rattle.preconditions.specs.declared.statement.Known.{Known}
+use Rattle.preconditions.specs.Statement.{Found}
+
+abbrev pub scope_in : Known → ScopeTree
+scope_in k = scope_tree k.scope.now.symbols.now k.scope.now.tracked.now
+
+-- the transformer of the statement of each number
+abbrev pub found_in : Known → Found
+found_in k = transformer_at k.own.now
+
+abbrev pub KnownFits : Known → Type 0
+KnownFits k = ResultsFit k.own.now

@@ -1,0 +1,4 @@
+pub mod Statement
+pub mod Known
+pub mod Entry
+pub mod Modules

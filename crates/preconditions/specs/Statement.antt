@@ -1,0 +1,167 @@
+-- What holds of the tracked cells where statements begin and after their normal ends (ANSI X3.9-1978 §7.1). In what follows `t` has the
+-- transformer of the statement of each number.
+use Rattle.std.specs.Prelude.{ℕ, Bool, true, false, List, [], ◌∷◌, ◌++◌, All, if◌then◌else◌}
+use Rattle.affine_systems.specs.declared.row.System.{System}
+use Rattle.affine_systems.specs.Given.{Fits}
+use Rattle.affine_systems.specs.Calls.{meet}
+use Rattle.hull_projection.specs.Hull.{hull}
+use Rattle.f77_ast.specs.Trees.{ExprTree, StmtTree, WhatTree, ArmTree, ArmTrees, ElseTree, LoopTree, StmtTrees}
+use Rattle.f77_ast.specs.Trees as tree
+use Rattle.f77_results.specs.declared.results.At.{At}
+use Rattle.scalar_forms.specs.Conditions.{nothing, condition_of}
+use Rattle.transformer_rules.specs.declared.transformer.Transformer.{Transformer}
+use Rattle.transformer_rules.specs.declared.loop_parts.LoopParts.{LoopParts}
+use Rattle.transformer_rules.specs.Transformers.{apply, without}
+use Rattle.transformer_rules.specs.Loops.{turn, at_turn, after_loop}
+use Rattle.transformers.specs.Scopes.{ScopeTree}
+use Rattle.transformers.specs.Jumps.{unstructured}
+use Rattle.transformers.specs.Lists.{list_at}
+use Rattle.transformers.specs.Loops.{loop_parts}
+use Rattle.transformers.specs.Statement.{at}
+
+-- ---- pieces
+
+abbrev pub Found : Type 0
+Found = ℕ → Transformer
+
+-- what holds at each statement is a system that calls take
+abbrev pub EachFits : List (At System) → Type 0
+EachFits as' = All (λ (a : At System). Fits a.value) as'
+
+abbrev pub AllFit : List System → Type 0
+AllFit ss = All Fits ss
+
+-- hulls from left to right
+abbrev pub hull_from : System → List System → System
+hull_from s [] = s
+hull_from s (r ∷ rs) = hull_from (hull s r) rs
+
+-- what holds where one of some does
+abbrev pub some_holds : List System → System
+some_holds [] = nothing
+some_holds (s ∷ ss) = hull_from s ss
+
+-- a test is true, or false, where p holds
+abbrev pub if_true : ScopeTree → ExprTree → System → System
+if_true m e p = meet p (condition_of m.scalars e).yes
+
+abbrev pub if_false : ScopeTree → ExprTree → System → System
+if_false m e p = meet p (condition_of m.scalars e).no
+
+-- the parts of a DO
+abbrev pub parts_of : LoopTree → ScopeTree → Found → LoopParts
+parts_of (tree.loop index first last step body) m t = loop_parts m (tree.loop index first last step body) (list_at t false body)
+
+-- at the beginning of each turn of a DO, where p holds before it
+abbrev pub each_turn : LoopTree → ScopeTree → Found → System → System
+each_turn l m t p = let parts = parts_of l m t in at_turn parts (turn parts) p
+
+-- after it, where q holds at the end of its body
+abbrev pub done : LoopTree → ScopeTree → Found → System → System → System
+done l m t p q = let parts = parts_of l m t in after_loop parts (turn parts) p q
+
+-- in a list that does not run from the first statement to the last: what it changes is not known
+abbrev pub throughout : Bool → StmtTrees → Found → System → System
+throughout whole body t p = without (list_at t whole body).cells p
+
+-- where the test of an arm is false, and where those of all arms are
+abbrev pub past_arm : ArmTree → ScopeTree → System → System
+past_arm (tree.arm e body) m p = if_false m e p
+
+abbrev pub past_arms : ArmTrees → ScopeTree → System → System
+past_arms tree.no_arms m p = p
+past_arms (tree.more_arms a rest) m p = past_arms rest m (past_arm a m p)
+
+-- ---- after a normal end, where p holds before
+
+abbrev mutual
+  pub after : StmtTree → ScopeTree → Found → System → System
+  after (tree.stmt n label w) m t p = after_what w n m t p
+
+  pub after_what : WhatTree → ℕ → ScopeTree → Found → System → System
+  after_what (tree.assign a b) n m t p = apply (t n) p
+  after_what (tree.block_if arms other) n m t p = some_holds (after_arms arms m t p ++ after_else other m t (past_arms arms m p) ∷ [])
+  after_what (tree.logical_if e s) n m t p = some_holds (after s m t (if_true m e p) ∷ if_false m e p ∷ [])
+  after_what (tree.do_loop l) n m t p = after_loop_of l m t p
+  after_what (tree.call x es) n m t p = apply (t n) p
+  after_what (tree.goto l) n m t p = apply (t n) p
+  after_what tree.continue n m t p = apply (t n) p
+  after_what tree.return n m t p = apply (t n) p
+  after_what (tree.stop text) n m t p = apply (t n) p
+  after_what (tree.print es) n m t p = apply (t n) p
+  after_what (tree.read es) n m t p = apply (t n) p
+
+  -- after statements one after another
+  pub after_each : StmtTrees → ScopeTree → Found → System → System
+  after_each tree.no_stmts m t p = p
+  after_each (tree.more_stmts s rest) m t p = after_each rest m t (after s m t p)
+
+  -- after each of the arms of an IF, where the tests above it are false
+  pub after_arms : ArmTrees → ScopeTree → Found → System → List System
+  after_arms tree.no_arms m t p = []
+  after_arms (tree.more_arms a rest) m t p = after_arm a m t p ∷ after_arms rest m t (past_arm a m p)
+
+  pub after_arm : ArmTree → ScopeTree → Found → System → System
+  after_arm (tree.arm e body) m t p = if unstructured false body then throughout false body t (if_true m e p) else after_each body m t (if_true m e p)
+
+  pub after_else : ElseTree → ScopeTree → Found → System → System
+  after_else tree.no_else m t p = p
+  after_else (tree.otherwise body) m t p = if unstructured false body then throughout false body t p else after_each body m t p
+
+  pub after_loop_of : LoopTree → ScopeTree → Found → System → System
+  after_loop_of (tree.loop index first last step body) m t p =
+      done (tree.loop index first last step body) m t p
+      (if unstructured false body then throughout false body t (each_turn (tree.loop index first last step body) m t p)
+      else after_each body m t (each_turn (tree.loop index first last step body) m t p))
+
+-- ---- where each statement begins, in the order of the text
+
+abbrev mutual
+  pub at_stmt : StmtTree → ScopeTree → Found → System → List (At System)
+  at_stmt (tree.stmt n label w) m t p = at n p ∷ at_parts w m t p
+
+  pub at_parts : WhatTree → ScopeTree → Found → System → List (At System)
+  at_parts (tree.assign a b) m t p = []
+  at_parts (tree.block_if arms other) m t p = at_arms arms m t p ++ at_else other m t (past_arms arms m p)
+  at_parts (tree.logical_if e s) m t p = at_stmt s m t (if_true m e p)
+  at_parts (tree.do_loop l) m t p = at_loop l m t p
+  at_parts (tree.call x es) m t p = []
+  at_parts (tree.goto l) m t p = []
+  at_parts tree.continue m t p = []
+  at_parts tree.return m t p = []
+  at_parts (tree.stop text) m t p = []
+  at_parts (tree.print es) m t p = []
+  at_parts (tree.read es) m t p = []
+
+  pub at_each : StmtTrees → ScopeTree → Found → System → List (At System)
+  at_each tree.no_stmts m t p = []
+  at_each (tree.more_stmts s rest) m t p = at_stmt s m t p ++ at_each rest m t (after s m t p)
+
+  -- of a list where the same holds throughout
+  pub at_all : StmtTrees → ScopeTree → Found → System → List (At System)
+  at_all tree.no_stmts m t p = []
+  at_all (tree.more_stmts s rest) m t p = at_stmt s m t p ++ at_all rest m t p
+
+  pub at_arms : ArmTrees → ScopeTree → Found → System → List (At System)
+  at_arms tree.no_arms m t p = []
+  at_arms (tree.more_arms a rest) m t p = at_arm a m t p ++ at_arms rest m t (past_arm a m p)
+
+  pub at_arm : ArmTree → ScopeTree → Found → System → List (At System)
+  at_arm (tree.arm e body) m t p =
+      if unstructured false body then at_all body m t (throughout false body t (if_true m e p)) else at_each body m t (if_true m e p)
+
+  pub at_else : ElseTree → ScopeTree → Found → System → List (At System)
+  at_else tree.no_else m t p = []
+  at_else (tree.otherwise body) m t p = if unstructured false body then at_all body m t (throughout false body t p) else at_each body m t p
+
+  pub at_loop : LoopTree → ScopeTree → Found → System → List (At System)
+  at_loop (tree.loop index first last step body) m t p =
+      if unstructured false body then at_all body m t (throughout false body t (each_turn (tree.loop index first last step body) m t p))
+      else at_each body m t (each_turn (tree.loop index first last step body) m t p)
+
+-- a list; `whole` says that it is the body of the module
+abbrev pub after_list : Bool → StmtTrees → ScopeTree → Found → System → System
+after_list whole body m t p = if unstructured whole body then throughout whole body t p else after_each body m t p
+
+abbrev pub at_list : Bool → StmtTrees → ScopeTree → Found → System → List (At System)
+at_list whole body m t p = if unstructured whole body then at_all body m t (throughout whole body t p) else at_each body m t p

@@ -1,0 +1,15 @@
+//! What holds of tracked cells where modules are entered and where their statements begin.
+#![tactic(auto)]
+
+mod entry;
+mod modules;
+mod site_entry;
+mod sites;
+mod statement;
+
+pub use entry::entry_from;
+pub use modules::preconditions;
+pub use sites::{CallSites, Site};
+
+#[cfg(test)]
+mod tests;

@@ -1,0 +1,348 @@
+//! What holds of the tracked cells where statements begin and after their normal ends.
+ghost use Rattle.std.specs.Prelude.{◌≡◌, [], ◌∷◌, ◌++◌, IfOk, OnOk};
+ghost use Rattle.affine_systems.specs.Given.{Fits};
+ghost use Rattle.f77_ast.specs.Plain.{expr_tree};
+ghost use Rattle.f77_ast.specs.PlainStmt.{stmt_tree, stmt_trees, what_tree, loop_tree, arm_trees};
+ghost use Rattle.hull_projection.specs.Hull.{hull};
+ghost use Rattle.transformer_rules.specs.Transformers.{apply};
+ghost use Rattle.transformers.specs.Statement.{at as at_is};
+ghost use Rattle.preconditions.specs.Statement.{after as after_is, after_what as after_what_is, after_each as after_each_is, after_list as after_list_is, after_arms as after_arms_is, after_loop_of, past_arms, if_true, if_false, hull_from, some_holds as some_holds_is, throughout as throughout_is, at_stmt, at_parts, at_each, at_all, at_list, at_arms, at_loop, AllFit, EachFits};
+ghost use Rattle.preconditions.specs.Known.{scope_in, found_in, KnownFits};
+
+use affine_systems::{System, meet};
+use f77_ast::{Arm, Expr, Loop, Stmt, StmtId, What};
+use f77_results::At;
+use fx_lists::List;
+use hull_projection::hull;
+use scalar_forms::{condition_of, nothing};
+use std::alloc::{AllocError as Memory, Global};
+use transformer_rules::{Transformer, after_loop, apply, at_turn, turn, unchanging, without};
+use transformers::{Scope, is_unstructured, list_at, loop_parts, value_at};
+
+/// What is known around a statement: what its module is looked at with, and the transformers of its statements.
+#[derive(Drop)]
+pub struct Known<'a> {
+    pub scope: &'a Scope<'a>,
+    pub own: &'a List<At<Transformer>>,
+}
+
+/// What holds where statements begin, in the order of the text.
+pub type Found = List<At<System>>;
+
+/// A copy.
+fn copy_system(s: &System) -> Result<System, Memory>
+    requires { Fits s.now }
+    ensures value { IfOk result (λ t. t ≡ s.now) }
+    ensures gives { IfOk result Fits }
+{
+    Ok(s.clone()?)
+}
+
+/// Adds what holds where the statement of a number begins.
+fn push_found(at: &mut Found, id: StmtId, p: &System) -> Result<(), Memory>
+    requires before { Fits p.now }
+    requires found { EachFits at.old }
+    ensures added { OnOk result (at.new ≡ at.old ++ at_is id p.now ∷ []) }
+    ensures fits { OnOk result (EachFits at.new) }
+{
+    let value = copy_system(p)?;
+    at.push(At { id, value })?;
+    Ok(())
+}
+
+/// What holds where a test is true, and where it is false.
+#[derive(Drop)]
+struct Sides {
+    yes: System,
+    no: System,
+}
+
+fn both_sides(alloc: Global, known: &Known<'_>, test: &Expr, p: &System) -> Result<Sides, Memory>
+    requires { Fits p.now }
+    ensures yes { IfOk result (λ r. r.yes ≡ if_true (scope_in known.now) (expr_tree test.now) p.now) }
+    ensures no { IfOk result (λ r. r.no ≡ if_false (scope_in known.now) (expr_tree test.now) p.now) }
+    ensures gives { IfOk result (λ r. Fits r.yes × Fits r.no) }
+{
+    let condition = condition_of(alloc, known.scope.symbols, known.scope.tracked, test)?;
+    Ok(Sides {
+        yes: meet(alloc, p, &condition.yes)?,
+        no: meet(alloc, p, &condition.no)?,
+    })
+}
+
+/// After a statement without parts.
+#[tactic(auto, using(crate::proofs::StatementLaws::results_found))]
+fn applied(alloc: Global, known: &Known<'_>, id: StmtId, p: &System) -> Result<System, Memory>
+    requires known { KnownFits known.now }
+    requires before { Fits p.now }
+    ensures value { IfOk result (λ q. q ≡ apply (found_in known.now id) p.now) }
+    ensures gives { IfOk result Fits }
+{
+    match value_at(known.own, id) {
+        None => apply(alloc, &unchanging(alloc), p),
+        Some(t) => apply(alloc, t, p),
+    }
+}
+
+/// The hulls of a system and more, from left to right.
+#[tactic(auto, using(crate::proofs::Steps::hull_loop))]
+fn hull_with(alloc: Global, first: System, more: &[System]) -> Result<System, Memory>
+    requires first { Fits first }
+    requires more { AllFit more.now }
+    ensures value { IfOk result (λ q. q ≡ hull_from first more.now) }
+    ensures gives { IfOk result Fits }
+{
+    let mut hulls = first;
+    for s in more {
+        hulls = hull(alloc, &hulls, s)?;
+    }
+    Ok(hulls)
+}
+
+/// The hulls, from left to right.
+fn some_holds(alloc: Global, all: &[System]) -> Result<System, Memory>
+    requires { AllFit all.now }
+    ensures value { IfOk result (λ q. q ≡ some_holds_is all.now) }
+    ensures gives { IfOk result Fits }
+{
+    match all {
+        [] => nothing(alloc),
+        [first, more @ ..] => {
+            let first = copy_system(first)?;
+            hull_with(alloc, first, more)
+        }
+    }
+}
+
+/// After a block IF with these ends.
+fn after_some(alloc: Global, mut ends: Vec<System>, last: System) -> Result<System, Memory>
+    requires ends { AllFit ends.items }
+    requires last { Fits last }
+    ensures value { IfOk result (λ q. q ≡ some_holds_is (ends.items ++ last ∷ [])) }
+    ensures gives { IfOk result Fits }
+{
+    ends.push(last)?;
+    some_holds(alloc, ends.as_slice())
+}
+
+/// In a list that does not run from the first statement to the last.
+fn throughout(
+    alloc: Global,
+    known: &Known<'_>,
+    list: &List<Stmt>,
+    whole: bool,
+    p: &System,
+) -> Result<System, Memory>
+    requires known { KnownFits known.now }
+    requires before { Fits p.now }
+    ensures value { IfOk result (λ q. q ≡ throughout_is whole (stmt_trees list.now) (found_in known.now) p.now) }
+    ensures gives { IfOk result Fits }
+{
+    let t = list_at(alloc, list, whole, known.own)?;
+    without(alloc, t.cells.as_slice(), p)
+}
+
+/// After a statement, where `p` holds before. What holds where it and its parts begin is added to what was found.
+#[cycle(preconditions)]
+#[tactic(auto, using(crate::proofs::StatementLaws::part_calls))]
+fn after(
+    alloc: Global,
+    known: &Known<'_>,
+    s: &Stmt,
+    p: System,
+    at: &mut Found,
+) -> Result<System, Memory>
+    requires known { KnownFits known.now }
+    requires before { Fits p }
+    requires found { EachFits at.old }
+    ensures value { IfOk result (λ q. q ≡ after_is (stmt_tree s.now) (scope_in known.now) (found_in known.now) p) }
+    ensures gives { IfOk result Fits }
+    ensures added { IfOk result (λ _. at.new ≡ at.old ++ at_stmt (stmt_tree s.now) (scope_in known.now) (found_in known.now) p) }
+    ensures fits { IfOk result (λ _. EachFits at.new) }
+{
+    push_found(at, s.id, &p)?;
+    after_what(alloc, known, &s.what, s.id, p, at)
+}
+
+/// After what a statement of this number does.
+#[cycle(preconditions)]
+#[tactic(auto, using(crate::proofs::StatementLaws::part_calls))]
+fn after_what(
+    alloc: Global,
+    known: &Known<'_>,
+    what: &What,
+    id: StmtId,
+    p: System,
+    at: &mut Found,
+) -> Result<System, Memory>
+    requires known { KnownFits known.now }
+    requires before { Fits p }
+    requires found { EachFits at.old }
+    ensures value { IfOk result (λ q. q ≡ after_what_is (what_tree what.now) id (scope_in known.now) (found_in known.now) p) }
+    ensures gives { IfOk result Fits }
+    ensures added { IfOk result (λ _. at.new ≡ at.old ++ at_parts (what_tree what.now) (scope_in known.now) (found_in known.now) p) }
+    ensures fits { IfOk result (λ _. EachFits at.new) }
+{
+    match what {
+        What::If(arms, other) => {
+            let mut ends = Vec::new(alloc);
+            let before = after_arms(alloc, known, arms, p, &mut ends, at)?;
+            match other {
+                None => after_some(alloc, ends, before),
+                Some(body) => {
+                    let last = after_list(alloc, known, body, false, before, at)?;
+                    after_some(alloc, ends, last)
+                }
+            }
+        }
+        What::LogicalIf(test, inner) => {
+            let tests = both_sides(alloc, known, test, &p)?;
+            let done = after(alloc, known, inner, tests.yes, at)?;
+            hull(alloc, &done, &tests.no)
+        }
+        What::Do(l) => after_do(alloc, known, l, &p, at),
+        What::Assign(..)
+        | What::Call(..)
+        | What::Goto(_)
+        | What::Continue
+        | What::Return
+        | What::Stop(_)
+        | What::Print(_)
+        | What::Read(_) => applied(alloc, known, id, &p),
+    }
+}
+
+/// After a list; `whole` says that it is the body of the module.
+#[cycle(preconditions)]
+#[tactic(auto, using(crate::proofs::StatementLaws::list_cases))]
+pub fn after_list(
+    alloc: Global,
+    known: &Known<'_>,
+    list: &List<Stmt>,
+    whole: bool,
+    p: System,
+    at: &mut Found,
+) -> Result<System, Memory>
+    requires known { KnownFits known.now }
+    requires before { Fits p }
+    requires found { EachFits at.old }
+    ensures value { IfOk result (λ q. q ≡ after_list_is whole (stmt_trees list.now) (scope_in known.now) (found_in known.now) p) }
+    ensures gives { IfOk result Fits }
+    ensures added { IfOk result (λ _. at.new ≡ at.old ++ at_list whole (stmt_trees list.now) (scope_in known.now) (found_in known.now) p) }
+    ensures fits { IfOk result (λ _. EachFits at.new) }
+{
+    if is_unstructured(alloc, list, whole)? {
+        let all = throughout(alloc, known, list, whole, &p)?;
+        at_each_the_same(alloc, known, list, &all, at)?;
+        Ok(all)
+    } else {
+        after_each(alloc, known, list, p, at)
+    }
+}
+
+/// Adds what holds in the statements of a list where the same holds before each.
+#[cycle(preconditions)]
+#[tactic(auto, using(crate::proofs::StatementLaws::statement_calls))]
+fn at_each_the_same(
+    alloc: Global,
+    known: &Known<'_>,
+    list: &List<Stmt>,
+    p: &System,
+    at: &mut Found,
+) -> Result<(), Memory>
+    requires known { KnownFits known.now }
+    requires before { Fits p.now }
+    requires found { EachFits at.old }
+    ensures added { IfOk result (λ _. at.new ≡ at.old ++ at_all (stmt_trees list.now) (scope_in known.now) (found_in known.now) p.now) }
+    ensures fits { IfOk result (λ _. EachFits at.new) }
+{
+    for s in list.as_slice() {
+        let same = copy_system(p)?;
+        let _ = after(alloc, known, s, same, at)?;
+    }
+    Ok(())
+}
+
+/// After statements one after another.
+#[cycle(preconditions)]
+#[tactic(auto, using(crate::proofs::StatementLaws::statement_calls))]
+fn after_each(
+    alloc: Global,
+    known: &Known<'_>,
+    list: &List<Stmt>,
+    p: System,
+    at: &mut Found,
+) -> Result<System, Memory>
+    requires known { KnownFits known.now }
+    requires before { Fits p }
+    requires found { EachFits at.old }
+    ensures value { IfOk result (λ q. q ≡ after_each_is (stmt_trees list.now) (scope_in known.now) (found_in known.now) p) }
+    ensures gives { IfOk result Fits }
+    ensures added { IfOk result (λ _. at.new ≡ at.old ++ at_each (stmt_trees list.now) (scope_in known.now) (found_in known.now) p) }
+    ensures fits { IfOk result (λ _. EachFits at.new) }
+{
+    let mut holds = p;
+    for s in list.as_slice() {
+        holds = after(alloc, known, s, holds, at)?;
+    }
+    Ok(holds)
+}
+
+/// Adds to some ends what holds after each of the arms of a block IF, with the tests above it false, and gives what holds where the
+/// tests of all are false.
+#[cycle(preconditions)]
+#[tactic(auto, using(crate::proofs::StatementLaws::arm_calls))]
+fn after_arms(
+    alloc: Global,
+    known: &Known<'_>,
+    arms: &List<Arm>,
+    p: System,
+    ends: &mut Vec<System>,
+    at: &mut Found,
+) -> Result<System, Memory>
+    requires known { KnownFits known.now }
+    requires before { Fits p }
+    requires ends { AllFit ends.old.items }
+    requires found { EachFits at.old }
+    ensures value { IfOk result (λ q. q ≡ past_arms (arm_trees arms.now) (scope_in known.now) p) }
+    ensures gives { IfOk result Fits }
+    ensures ends { IfOk result (λ _. ends.new.items ≡ ends.old.items ++ after_arms_is (arm_trees arms.now) (scope_in known.now) (found_in known.now) p) }
+    ensures ends_fit { IfOk result (λ _. AllFit ends.new.items) }
+    ensures added { IfOk result (λ _. at.new ≡ at.old ++ at_arms (arm_trees arms.now) (scope_in known.now) (found_in known.now) p) }
+    ensures fits { IfOk result (λ _. EachFits at.new) }
+{
+    let mut before = p;
+    for arm in arms.as_slice() {
+        let tests = both_sides(alloc, known, &arm.test, &before)?;
+        let end = after_list(alloc, known, &arm.body, false, tests.yes, at)?;
+        ends.push(end)?;
+        before = tests.no;
+    }
+    Ok(before)
+}
+
+/// After a DO.
+#[cycle(preconditions)]
+#[tactic(auto, using(crate::proofs::StatementLaws::body_calls))]
+fn after_do(
+    alloc: Global,
+    known: &Known<'_>,
+    l: &Loop,
+    p: &System,
+    at: &mut Found,
+) -> Result<System, Memory>
+    requires known { KnownFits known.now }
+    requires before { Fits p.now }
+    requires found { EachFits at.old }
+    ensures value { IfOk result (λ q. q ≡ after_loop_of (loop_tree l.now) (scope_in known.now) (found_in known.now) p.now) }
+    ensures gives { IfOk result Fits }
+    ensures added { IfOk result (λ _. at.new ≡ at.old ++ at_loop (loop_tree l.now) (scope_in known.now) (found_in known.now) p.now) }
+    ensures fits { IfOk result (λ _. EachFits at.new) }
+{
+    let body = list_at(alloc, &l.body, false, known.own)?;
+    let parts = loop_parts(alloc, known.scope, l, body)?;
+    let once = turn(alloc, &parts)?;
+    let each = at_turn(alloc, &parts, &once, p)?;
+    let end = after_list(alloc, known, &l.body, false, each, at)?;
+    after_loop(alloc, &parts, &once, p, &end)
+}

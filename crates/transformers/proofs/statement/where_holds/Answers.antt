@@ -1,0 +1,9 @@
+use Rattle.std.proofs.Common.{◌≡◌, IfOk, subst}
+use Rattle.transformer_rules.specs.declared.transformer.Transformer.{Transformer}
+use Rattle.transformer_rules.specs.Transformers.{followed}
+use Rattle.transformers.proofs.statement.where_holds.Goals as goal
+
+pub returns-clause-defined : goal.returns-clause-defined
+returns-clause-defined c =
+    let P : Transformer → Type 0 = λ x. IfOk c.then.result (λ t. t ≡ followed x c.args.does.now) in
+    subst P c.test.ensures.defined c.then.ensures.defined

@@ -1,0 +1,230 @@
+//! The transformer of a list, from those of its statements.
+ghost use Rattle.std.specs.Prelude.{◌≡◌, [], ◌∷◌, ◌++◌, IfOk, OnOk, option_copied};
+ghost use Rattle.affine_systems.specs.Given.{Fits};
+ghost use Rattle.f77_ast.specs.PlainStmt.{stmt_trees};
+ghost use Rattle.f77_symbols.specs.Shared.{numbered};
+ghost use Rattle.transformer_rules.specs.Transformers.{AllFit};
+ghost use Rattle.transformers.specs.Given.{ResultsFit};
+ghost use Rattle.transformers.specs.Lists.{first_at, value_at as value_at_is, transformer_at as transformer_at_is, followed_by, in_order as in_order_is, in_any_order as in_any_order_is, list_of as list_of_is, list_at as list_at_is};
+
+use crate::is_unstructured;
+use f77_ast::{Stmt, StmtId};
+use f77_results::{At, View};
+use f77_symbols::Unit;
+use fx_lists::List;
+use scalar_forms::no_rows;
+use std::alloc::{AllocError as Memory, Global};
+use transformer_rules::{Transformer, joined_cells, joined_units, then, unchanging};
+
+/// A copy.
+pub fn copy_unit(unit: &Unit) -> Result<Unit, Memory>
+    ensures { IfOk result (λ u. u ≡ unit.now) }
+{
+    Ok(Unit {
+        block: unit.block.clone()?,
+        offset: unit.offset,
+    })
+}
+
+#[tactic(auto, using(crate::proofs::Steps::lists))]
+fn copy_units(alloc: Global, units: &[Unit]) -> Result<List<Unit>, Memory>
+    ensures { IfOk result (λ us. us ≡ units.now) }
+{
+    let mut out = List::new(alloc);
+    let mut rest = units;
+    while let [unit, more @ ..] = rest {
+        out.push(copy_unit(unit)?)?;
+        rest = more;
+    }
+    Ok(out)
+}
+
+/// A copy.
+pub fn copy_transformer(alloc: Global, t: &Transformer) -> Result<Transformer, Memory>
+    ensures { IfOk result (λ c. c ≡ t.now) }
+{
+    Ok(Transformer {
+        cells: List::from_slice(alloc, t.cells.as_slice())?,
+        foreign: copy_units(alloc, t.foreign.as_slice())?,
+        system: t.system.clone()?,
+    })
+}
+
+/// Adds a transformer.
+#[tactic(auto, using(crate::proofs::Steps::fitting))]
+pub fn push_transformer(all: &mut Vec<Transformer>, t: Transformer) -> Result<(), Memory>
+    requires all { AllFit all.old.items }
+    requires t { Fits t.system }
+    ensures items { OnOk result (all.new.items ≡ all.old.items ++ t ∷ []) }
+    ensures gives { OnOk result (AllFit all.new.items) }
+{
+    all.push(t)?;
+    Ok(())
+}
+
+/// After another, one after the other, from left to right.
+fn followed_by(
+    alloc: Global,
+    first: Transformer,
+    all: &[Transformer],
+) -> Result<Transformer, Memory>
+    requires first { Fits first.system }
+    requires all { AllFit all.now }
+    ensures defined { IfOk result (λ t. t ≡ followed_by first all.now) }
+    ensures gives { IfOk result (λ t. Fits t.system) }
+{
+    let mut whole = first;
+    let mut rest = all;
+    while let [t, more @ ..] = rest {
+        whole = then(alloc, &whole, t)?;
+        rest = more;
+    }
+    Ok(whole)
+}
+
+/// One after the other, from left to right.
+fn in_order(alloc: Global, all: &[Transformer]) -> Result<Transformer, Memory>
+    requires { AllFit all.now }
+    ensures defined { IfOk result (λ t. t ≡ in_order_is all.now) }
+    ensures gives { IfOk result (λ t. Fits t.system) }
+{
+    match all {
+        [] => Ok(unchanging(alloc)),
+        [first, more @ ..] => {
+            let first = copy_transformer(alloc, first)?;
+            followed_by(alloc, first, more)
+        }
+    }
+}
+
+/// Each any number of times, in any order. Each cell is looked up among those before it.
+fn in_any_order(alloc: Global, all: &[Transformer]) -> Result<Transformer, Memory>
+    ensures defined { IfOk result (λ t. t ≡ in_any_order_is all.now) }
+    ensures gives { IfOk result (λ t. Fits t.system) }
+{
+    let mut cells = List::new(alloc);
+    let mut foreign = List::new(alloc);
+    let mut rest = all;
+    while let [t, more @ ..] = rest {
+        cells = joined_cells(alloc, cells.as_slice(), t.cells.as_slice())?;
+        foreign = joined_units(alloc, foreign.as_slice(), t.foreign.as_slice())?;
+        rest = more;
+    }
+    Ok(Transformer {
+        cells,
+        foreign,
+        system: no_rows(alloc),
+    })
+}
+
+/// The transformer of a list whose statements have these.
+pub fn list_of(
+    alloc: Global,
+    list: &List<Stmt>,
+    whole: bool,
+    all: &[Transformer],
+) -> Result<Transformer, Memory>
+    requires { AllFit all.now }
+    ensures defined { IfOk result (λ t. t ≡ list_of_is whole (stmt_trees list.now) all.now) }
+    ensures gives { IfOk result (λ t. Fits t.system) }
+{
+    if is_unstructured(alloc, list, whole)? {
+        in_any_order(alloc, all)
+    } else {
+        in_order(alloc, all)
+    }
+}
+
+fn first_at<T>(all: &[At<T>], id: StmtId) -> Option<&T>
+    ensures { option_copied result ≡ first_at id all.now }
+{
+    let mut rest = all;
+    while let [at, more @ ..] = rest {
+        if at.id == id {
+            return Some(&at.value);
+        }
+        rest = more;
+    }
+    None
+}
+
+/// The result at the place of a number, from 1.
+fn at_place<T>(all: &List<At<T>>, id: StmtId) -> Option<&At<T>>
+    ensures { option_copied result ≡ numbered all.now id }
+{
+    if id == 0 {
+        return None;
+    }
+    all.get(id as usize - 1)
+}
+
+/// The result at the statement of a number: the one at its place, where that is its own; otherwise the first with this number is
+/// looked for.
+pub fn value_at<T>(all: &List<At<T>>, id: StmtId) -> Option<&T>
+    ensures { option_copied result ≡ value_at_is all.now id }
+{
+    match at_place(all, id) {
+        None => first_at(all.as_slice(), id),
+        Some(at) => {
+            if at.id == id {
+                Some(&at.value)
+            } else {
+                first_at(all.as_slice(), id)
+            }
+        }
+    }
+}
+
+/// A copy of the transformer of a statement; of one without a result, that which changes nothing.
+pub fn transformer_at(
+    alloc: Global,
+    all: &List<At<Transformer>>,
+    id: StmtId,
+) -> Result<Transformer, Memory>
+    requires { ResultsFit all.now }
+    ensures defined { IfOk result (λ t. t ≡ transformer_at_is all.now id) }
+    ensures gives { IfOk result (λ t. Fits t.system) }
+{
+    match value_at(all, id) {
+        None => Ok(unchanging(alloc)),
+        Some(t) => copy_transformer(alloc, t),
+    }
+}
+
+/// The transformer of a list whose statements have these results.
+#[tactic(auto, using(crate::proofs::Steps::lists))]
+pub fn list_at(
+    alloc: Global,
+    list: &List<Stmt>,
+    whole: bool,
+    at: &List<At<Transformer>>,
+) -> Result<Transformer, Memory>
+    requires { ResultsFit at.now }
+    ensures defined { IfOk result (λ t. t ≡ list_at_is (transformer_at_is at.now) whole (stmt_trees list.now)) }
+    ensures gives { IfOk result (λ t. Fits t.system) }
+{
+    let mut all = Vec::new(alloc);
+    let mut rest = list.as_slice();
+    while let [s, more @ ..] = rest {
+        let t = transformer_at(alloc, at, s.id)?;
+        push_transformer(&mut all, t)?;
+        rest = more;
+    }
+    list_of(alloc, list, whole, all.as_slice())
+}
+
+/// The transformer of a list of a module, from the results at its statements; `whole` says that it is the body. Nothing is known
+/// of what a list changes, of which a statement is led to by a GO TO in it, or which is left early by a RETURN.
+pub fn list_transformer(
+    alloc: Global,
+    _view: &View<'_>,
+    list: &List<Stmt>,
+    whole: bool,
+    at: &List<At<Transformer>>,
+) -> Result<Transformer, Memory>
+    requires { ResultsFit at.now }
+    ensures defined { IfOk result (λ t. t ≡ list_at_is (transformer_at_is at.now) whole (stmt_trees list.now)) }
+    ensures gives { IfOk result (λ t. Fits t.system) }
+{
+    list_at(alloc, list, whole, at)
+}

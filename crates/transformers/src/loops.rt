@@ -1,0 +1,57 @@
+//! The parts of a DO.
+ghost use Rattle.std.specs.Prelude.{◌≡◌, map, IfOk};
+ghost use Rattle.affine_systems.specs.Given.{Fits};
+ghost use Rattle.f77_ast.specs.PlainStmt.{loop_tree, maybe_tree};
+ghost use Rattle.f77_symbols.specs.Symbols.{symbol_tree, value_in};
+ghost use Rattle.transformer_rules.specs.Loops.{LoopFits};
+ghost use Rattle.transformers.specs.Scopes.{scope_tree};
+ghost use Rattle.transformers.specs.Loops.{counting as counting_is, step_of as step_of_is, number_in, loop_parts as loop_parts_is};
+
+use crate::Scope;
+use f77_ast::{Expr, Loop};
+use f77_constants::{Constant, Worth, worth_of};
+use f77_symbols::Symbols;
+use scalar_forms::{affine_of, is_cell};
+use std::alloc::{AllocError as Memory, Global};
+use transformer_rules::{LoopParts, Transformer};
+
+fn counting(worth: Worth) -> Option<i32>
+    ensures { result ≡ counting_is worth }
+{
+    match worth {
+        Worth::Is(Constant::Int(n)) => { if n == 0 { None } else { Some(n) } }
+        Worth::Is(Constant::Log(_)) | Worth::Faults | Worth::Varies => None,
+    }
+}
+
+/// The step: 1 where none was written; none where it is no constant, or 0.
+fn step_of(symbols: &Symbols, step: &Option<Expr>) -> Option<i32>
+    ensures { result ≡ step_of_is (value_in (map symbol_tree symbols.now)) (maybe_tree step.now) }
+{
+    match step {
+        None => Some(1),
+        Some(step) => counting(worth_of(step, symbols)),
+    }
+}
+
+/// A DO whose body has this transformer.
+pub fn loop_parts(
+    alloc: Global,
+    scope: &Scope<'_>,
+    l: &Loop,
+    body: Transformer,
+) -> Result<LoopParts, Memory>
+    requires { Fits body.system }
+    ensures defined { IfOk result (λ parts. parts ≡ loop_parts_is (scope_tree scope.now.symbols.now scope.now.tracked.now) (loop_tree l.now) body) }
+    ensures fits { IfOk result LoopFits }
+{
+    let index = scope.symbols.number(&l.index).unwrap_or(0);
+    Ok(LoopParts {
+        index,
+        tracked: is_cell(scope.tracked, index),
+        step: step_of(scope.symbols, &l.step),
+        first: affine_of(alloc, scope.symbols, scope.tracked, &l.first)?,
+        last: affine_of(alloc, scope.symbols, scope.tracked, &l.last)?,
+        body,
+    })
+}
