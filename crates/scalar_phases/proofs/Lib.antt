@@ -1,0 +1,4 @@
+pub mod ModuleLaws
+pub mod ScopeLaws
+pub mod SiteLaws
+pub mod PhaseLaws

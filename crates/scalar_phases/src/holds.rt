@@ -1,0 +1,178 @@
+//! What holds where statements begin, callers before callees.
+ghost use Rattle.std.specs.Prelude.{◌≡◌, ◌++◌, ◌∷◌, [], ℕ, List, All, map, reverse, length, IfOk};
+ghost use Rattle.affine_systems.specs.Given.{Fits};
+ghost use Rattle.f77_ast.specs.PlainDecl.{parsed_tree};
+ghost use Rattle.f77_symbols.specs.Symbols.{symbol_tree};
+ghost use Rattle.f77_meaning.specs.Modules.{known_of};
+ghost use Rattle.transformers.specs.Lists.{transformer_at};
+ghost use Rattle.preconditions.specs.Statement.{EachFits};
+ghost use Rattle.preconditions.specs.Entry.{entry_of as entry_of_is, sites_in, AllSitesFit};
+ghost use Rattle.preconditions.specs.Modules.{preconditions_of};
+ghost use Rattle.scalar_phases.specs.Phases.{scope_of, caller_of, list_sites, analysis_of as analysis_of_is, analyses_from, analyses as analyses_is};
+ghost use Rattle.scalar_phases.specs.Views.{known_in, known, found_tree, analysis_tree, OwnFits, FoundFits, AnalysisFits, sites_for, SitesFit};
+
+use crate::Found;
+use crate::found::found_in;
+use crate::program::Program;
+use crate::sites::Sites;
+use crate::walk::{Caller, add_list};
+use affine_systems::System;
+use call_graph::Graph;
+use f77_ast::Parsed;
+use f77_results::{Results, View};
+use f77_symbols::Symbols;
+use fx_lists::List;
+use preconditions::{CallSites, entry_from, preconditions};
+use std::alloc::{AllocError as Memory, Global};
+use tracked_cells::Names;
+use transformer_rules::Transformer;
+
+/// What the analyses say of a module.
+#[derive(Drop)]
+pub struct Analysis<'a> {
+    pub found: Found<'a>,
+    pub holds: Results<System>,
+}
+
+/// What holds where a module is entered, from these CALLs.
+fn entry_with(alloc: Global, view: &View<'_>, calls: &CallSites<System>) -> Result<System, Memory>
+    requires { AllSitesFit (sites_in calls.now) }
+    ensures defined { IfOk result (λ s. s ≡ entry_of_is (known_in view.now).read.main (scope_of view.now.graph.now.untracked (known_in view.now)) (sites_in calls.now)) }
+    ensures gives { IfOk result Fits }
+{
+    entry_from(alloc, view, calls)
+}
+
+/// What holds where a module is entered, from the CALLs of it.
+fn entry_of(alloc: Global, view: &View<'_>, sites: &Sites) -> Result<System, Memory>
+    requires { SitesFit sites.now }
+    ensures defined { IfOk result (λ s. s ≡ entry_of_is (known_in view.now).read.main (scope_of view.now.graph.now.untracked (known_in view.now)) (sites_for sites.now (known_in view.now).read.name)) }
+    ensures gives { IfOk result Fits }
+{
+    match sites.of(&view.module.name) {
+        None => entry_with(alloc, view, &CallSites::new(alloc)),
+        Some(calls) => entry_with(alloc, view, calls),
+    }
+}
+
+/// What holds where the statements of a module begin, from what they do and from what holds where it is entered.
+fn holds_of(
+    alloc: Global,
+    view: &View<'_>,
+    own: &Results<Transformer>,
+    entry: &System,
+) -> Result<Results<System>, Memory>
+    requires own { OwnFits own.now }
+    requires entry { Fits entry.now }
+    ensures defined { IfOk result (λ r. r ≡ preconditions_of (known_in view.now).read.body (scope_of view.now.graph.now.untracked (known_in view.now)) (transformer_at own.now.at) entry.now) }
+    ensures gives { IfOk result (λ r. EachFits r.at) }
+{
+    preconditions(alloc, view, own, entry)
+}
+
+/// What the analyses say of a module, from the CALLs of it in those before it.
+fn analysis_of<'a>(
+    alloc: Global,
+    graph: &Graph,
+    found: Found<'a>,
+    sites: &Sites,
+) -> Result<Analysis<'a>, Memory>
+    requires found { FoundFits found }
+    requires sites { SitesFit sites.now }
+    ensures defined { IfOk result (λ a. analysis_tree a ≡ analysis_of_is graph.now.untracked (sites_for sites.now (found_tree found.entry).known.read.name) (found_tree found.entry)) }
+    ensures gives { IfOk result AnalysisFits }
+{
+    let view = View {
+        module: found.module,
+        symbols: found.symbols,
+        graph,
+    };
+    let entry = entry_of(alloc, &view, sites)?;
+    let holds = holds_of(alloc, &view, &found.own, &entry)?;
+    Ok(Analysis { found, holds })
+}
+
+/// Adds the CALLs of a module that was looked at.
+fn add_sites(graph: &Graph, analysis: &Analysis<'_>, sites: &mut Sites) -> Result<(), Memory>
+    requires analysis { AnalysisFits analysis.now }
+    requires sites { SitesFit sites.old }
+    ensures added { IfOk result (λ _. (x : List ℕ) → sites_for sites.new x ≡ sites_for sites.old x ++ list_sites (analysis_tree analysis.now).found.known.read.body (caller_of graph.now.untracked (analysis_tree analysis.now)) x) }
+    ensures fits { IfOk result (λ _. SitesFit sites.new) }
+{
+    let view = View {
+        module: analysis.found.module,
+        symbols: analysis.found.symbols,
+        graph,
+    };
+    let caller = Caller {
+        view: &view,
+        holds: &analysis.holds.at,
+    };
+    add_list(&caller, &analysis.found.module.body, sites)
+}
+
+/// Adds what the analyses say of a module behind those of its callers, and its CALLs to theirs.
+#[tactic(auto, using(crate::proofs::PhaseLaws::one_more))]
+fn add_analysis<'a>(
+    alloc: Global,
+    graph: &Graph,
+    found: Found<'a>,
+    sites: &mut Sites,
+    all: &mut Vec<Analysis<'a>>,
+) -> Result<(), Memory>
+    requires found { FoundFits found }
+    requires sites { SitesFit sites.old }
+    requires all { All AnalysisFits all.old.items }
+    ensures added { IfOk result (λ _. map analysis_tree all.new.items ≡ map analysis_tree all.old.items ++ analysis_of_is graph.now.untracked (sites_for sites.old (found_tree found.entry).known.read.name) (found_tree found.entry) ∷ []) }
+    ensures sites { IfOk result (λ _. let a = analysis_of_is graph.now.untracked (sites_for sites.old (found_tree found.entry).known.read.name) (found_tree found.entry) in (x : List ℕ) → sites_for sites.new x ≡ sites_for sites.old x ++ list_sites a.found.known.read.body (caller_of graph.now.untracked a) x) }
+    ensures fits { IfOk result (λ _. SitesFit sites.new) }
+    ensures gives { IfOk result (λ _. All AnalysisFits all.new.items) }
+{
+    let analysis = analysis_of(alloc, graph, found, sites)?;
+    add_sites(graph, &analysis, sites)?;
+    all.push(analysis)?;
+    Ok(())
+}
+
+/// What holds in modules, the last of them first.
+#[tactic(auto, using(crate::proofs::PhaseLaws::analysis_steps))]
+fn all_from<'a>(
+    alloc: Global,
+    graph: &Graph,
+    mut left: Vec<Found<'a>>,
+) -> Result<Vec<Analysis<'a>>, Memory>
+    requires { All FoundFits left.items }
+    ensures defined { IfOk result (λ all. map analysis_tree all.items ≡ analyses_from graph.now.untracked [] (reverse (map found_tree left.entry.items))) }
+    ensures gives { IfOk result (λ all. All AnalysisFits all.items) }
+{
+    let mut sites = Sites::new(alloc);
+    let mut all = Vec::new(alloc);
+    while let Some(found) = left.pop() {
+        add_analysis(alloc, graph, found, &mut sites, &mut all)?;
+    }
+    Ok(all)
+}
+
+/// The analyses of tracked cells of the modules of a program, each with its table, linked by this graph: what the statements of each module do,
+/// and what holds where they begin. Each module comes behind those that may call it.
+#[tactic(auto, using(crate::proofs::ModuleLaws::named))]
+pub fn analyses<'a>(
+    alloc: Global,
+    modules: &'a List<Parsed>,
+    tables: &'a List<Symbols>,
+    graph: &'a Graph,
+) -> Result<Vec<Analysis<'a>>, Memory>
+    requires one_each { length modules.now ≡ length tables.now }
+    ensures defined { IfOk result (λ all. map analysis_tree all.items ≡ analyses_is (known_of (map parsed_tree modules.now) (map (map symbol_tree) tables.now)) graph.now) }
+    ensures gives { IfOk result (λ all. All AnalysisFits all.items) }
+{
+    let names = Names::of(alloc, modules)?;
+    let program = Program {
+        modules,
+        tables,
+        graph,
+        names,
+    };
+    let found = found_in(alloc, &program)?;
+    all_from(alloc, graph, found)
+}

@@ -1,0 +1,14 @@
+//! The analyses of tracked cells over all modules of a program.
+#![tactic(auto)]
+
+mod found;
+mod holds;
+mod program;
+mod sites;
+mod walk;
+
+pub use found::Found;
+pub use holds::{Analysis, analyses};
+
+#[cfg(test)]
+mod tests;

@@ -1,0 +1,37 @@
+//! The modules of a program by their names.
+ghost use Rattle.std.specs.Prelude.{◌≡◌, IfSome, option_map};
+ghost use Rattle.scalar_phases.specs.Phases.{module_of as module_of_is};
+ghost use Rattle.scalar_phases.specs.Views.{known_in, modules_in, IsNamed};
+
+use call_graph::Graph;
+use f77_ast::Parsed;
+use f77_results::View;
+use f77_symbols::Symbols;
+use fx_lists::{List, Text};
+use tracked_cells::Names;
+
+/// The modules of a program, their symbols, the graph of their links, and their names.
+#[derive(Drop)]
+pub struct Program<'a> {
+    pub modules: &'a List<Parsed>,
+    pub tables: &'a List<Symbols>,
+    pub graph: &'a Graph,
+    pub names: Names,
+}
+
+/// The module of a name, the first one in the text.
+#[tactic(auto, using(crate::proofs::ModuleLaws::modules))]
+pub fn module_of<'a>(program: &Program<'a>, name: &Text) -> Option<View<'a>>
+    requires { IsNamed program.now }
+    ensures module { option_map known_in result ≡ module_of_is (modules_in program.now) name.now }
+    ensures graph { IfSome result (λ v. v.graph.now ≡ program.now.graph.now) }
+{
+    let place = program.names.place(name)? as usize;
+    let parsed = program.modules.get(place)?;
+    let symbols = program.tables.get(place)?;
+    Some(View {
+        module: &parsed.module,
+        symbols,
+        graph: program.graph,
+    })
+}
