@@ -1,0 +1,4 @@
+pub mod Scenes
+pub mod Bindings
+pub mod Entries
+pub mod Laws

@@ -1,0 +1,11 @@
+pub mod DummyLaws
+pub mod NameLaws
+pub mod UnitLaws
+pub mod CellFacts
+pub mod Saneness
+pub mod CallLists
+pub mod Subscripts
+pub mod SiteLaws
+pub mod Modules
+pub mod Programs
+pub mod Whole

@@ -1,0 +1,6 @@
+mod Members
+mod Sizes
+mod Steps
+mod Insides
+mod Leading
+mod Whole

@@ -1,0 +1,11 @@
+pub mod EntryNames
+pub mod LogicalLaws
+pub mod LiteralLaws
+pub mod IntegerLaws
+pub mod DataLaws
+pub mod AgreeLaws
+pub mod TargetLaws
+pub mod NumberLaws
+pub mod CalleeLaws
+pub mod ThroughoutLaws
+pub mod MainLaws

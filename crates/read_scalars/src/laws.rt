@@ -1,0 +1,61 @@
+//! The laws of programs that are read.
+ghost use Rattle.read_scalars.specs.Laws.{LogicalsAreTruths, IntegersFit, ReadDataLies, NamesAgree, MainsAreAlone, ReadMainsHold};
+
+use f77_meaning::{common_cells_are_alone, linked_have_blocks};
+use laid_data::laid_data_lies;
+use laid_tables::bodies_are_shaped;
+use linked_cells::cells_are_scalars;
+use linked_scopes::{cells_begin, flags_tell_cells};
+use read_programs::{modules_are_read, numbers_go_up, programs_are_linked};
+use scalar_runs::main_holds;
+
+/// The number of a LOGICAL constant is 0 or 1.
+pub fn logicals_are_truths()
+    ensures { LogicalsAreTruths }
+{}
+
+/// That of an INTEGER constant has 32 bits.
+pub fn integers_fit()
+    ensures { IntegersFit }
+{}
+
+/// DATA gives values to units of locals alone, and to none past their ends.
+pub fn read_data_lies()
+    ensures { ReadDataLies }
+{
+    integers_fit();
+    laid_data_lies();
+}
+
+/// Names stand in runs for what they are taken for in forms, or for functions.
+pub fn names_agree()
+    ensures { NamesAgree }
+{
+    logicals_are_truths();
+}
+
+/// A main program that calls no module is such as the law on its runs asks.
+pub fn mains_are_alone()
+    ensures { MainsAreAlone }
+{
+    names_agree();
+    read_data_lies();
+    modules_are_read();
+    numbers_go_up();
+    programs_are_linked();
+    bodies_are_shaped();
+    flags_tell_cells();
+    cells_are_scalars();
+    cells_begin();
+    common_cells_are_alone();
+    linked_have_blocks();
+}
+
+/// In every run of a program whose main program calls no module, up to the first fault: at each arrival of a statement of the main
+/// program its precondition holds, and its transformer holds of the arrival and the normal end.
+pub fn read_mains_hold()
+    ensures { ReadMainsHold }
+{
+    mains_are_alone();
+    main_holds();
+}
