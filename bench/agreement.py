@@ -1,11 +1,13 @@
 #!/usr/bin/env python3
-"""Compares the built program with another one on random texts: the status, and each byte on out and on err.
+"""Compares the built program with another one on random texts: the status, and each byte on out and on err. What is written is given to the
+built program again, with the same words, and has to come out as it is.
 
-    python3 bench/agreement.py FOLDER STAGE COUNT [PATH_TO_PIPS]
+    python3 bench/agreement.py FOLDER STAGE COUNT [PATH_TO_PIPS [PROFILE..]]
 
 FOLDER has the other program, a module `pips` with `answer(words, files, stage)`, and a module `programs` with `make(seed, profile)`, which
-gives a text first, for each of its PROFILES. Half of the texts are damaged at one place or two. Prints how many were accepted, and by which
-codes the others were refused; the texts that differ are written to the folder for temporary files.
+gives a text first, for each of its PROFILES. Half of the texts are damaged at one place or two; with profiles, which are taken in turn, all
+are as they were made, and all is shown. Prints how many were accepted, and by which codes the others were refused; the texts that differ are
+written to the folder for temporary files.
 """
 import importlib.util
 import os
@@ -162,24 +164,37 @@ def texts(programs, count):
         yield ['--show', pick.choice(['all', 'bare', 'why'])], '\n'.join(lines) + '\n'
 
 
+def whole_texts(programs, count, profiles):
+    """The same of these profiles, undamaged."""
+    for seed in range(count):
+        yield ['--show', 'all'], programs.make(seed, profiles[seed % len(profiles)])[0]
+
+
 def as_bytes(x):
     return x.encode('latin-1') if isinstance(x, str) else x
 
 
-def differs(binary, place, words, text, wanted):
+def answer(binary, place, words, text):
     path = os.path.join(place, 'p.f')
     with open(path, 'wb') as f:
-        f.write(text.encode('latin-1'))
+        f.write(text)
     done = subprocess.run([binary, *words, 'p.f'], cwd=place, stdout=subprocess.PIPE, stderr=subprocess.PIPE)
-    return (done.returncode, done.stdout, done.stderr) != wanted
+    return done.returncode, done.stdout, done.stderr
 
 
-def main(folder, stage, count, *binary):
-    binary = binary_of(binary)
+def differs(binary, place, words, text, wanted):
+    if answer(binary, place, words, text.encode('latin-1')) != wanted:
+        return True
+    return wanted[0] == 0 and answer(binary, place, words, wanted[1]) != wanted
+
+
+def main(folder, stage, count, *others):
+    binary, profiles = binary_of(others[:1]), others[1:]
     pips, programs = module_of(folder, 'pips'), module_of(folder, 'programs')
     codes, differing = Counter(), 0
+    given = whole_texts(programs, int(count), profiles) if profiles else texts(programs, int(count))
     with tempfile.TemporaryDirectory() as place:
-        for number, (words, text) in enumerate(texts(programs, int(count))):
+        for number, (words, text) in enumerate(given):
             status, out, err, _ = pips.answer(words + ['p.f'], {'p.f': text.encode('latin-1')}, stage)
             wanted = (status, as_bytes(out), as_bytes(err))
             codes[int(wanted[2].split()[3]) if status == 1 else f'status {status}' if status else 'accepted'] += 1

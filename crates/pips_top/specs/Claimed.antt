@@ -1,49 +1,43 @@
--- Which claims are written: the preconditions of a straight program, where all is to be shown.
-use Rattle.std.specs.Prelude.{ℕ, List, [], ◌∷◌, Option, Some, None, IfSome, if◌then◌else◌}
-use Rattle.affine_systems.specs.declared.row.System.{System}
-use Rattle.f77_ast.specs.Trees.{StmtTrees, stmt, no_stmts, more_stmts}
-use Rattle.f77_ast.specs.DeclTrees.{ModuleTree, ParsedTree}
-use Rattle.f77_ast.specs.Straight.{is_straight, variables}
+-- What is said of the modules of a program, the lines that say it, and what it claims of every run.
+use Rattle.std.specs.Prelude.{ℕ, ◌^◌, ◌<◌, List, [], ◌∷◌, Option, Some, None, bytes_eq, if◌then◌else◌}
 use Rattle.f77_printer.specs.declared.added.Added.{Added}
-use Rattle.pips_scalars.specs.Claim.{PreconditionsHold}
-use Rattle.pips_scalars.specs.Preconditions.{preconditions}
-use Rattle.system_text.specs.SystemText.{precondition_line}
+use Rattle.f77_meaning.specs.Modules.{known_of, symbol_names}
+use Rattle.f77_meaning.specs.Linked.{room_for}
+use Rattle.f77_meaning.specs.Claimed.{InEveryRun}
+use Rattle.scalar_lines.specs.ScalarLines.{scalar_lines_of}
+use Rattle.scalar_phases.specs.Phases.{Analysis, analyses}
+use Rattle.whole_analyses.specs.Claims.{AnalysesHold}
+use Rattle.pips_top.specs.Program.{ProgramTree}
 use Rattle.pips_top.specs.declared.words.Show.{Show}
 use Rattle.pips_top.specs.declared.words.Show.TheVariants.{All, Bare, Why}
 
--- a line for each statement; names are those of the variables, from number 1
-abbrev pub claim_lines : List (List ℕ) → StmtTrees → List System → List Added
-claim_lines names no_stmts ps = []
-claim_lines names (more_stmts s others) [] = []
-claim_lines names (more_stmts (stmt id label what) others) (p ∷ ps) =
-    record { before = id; line = precondition_line names p } ∷ claim_lines names others ps
+-- the analyses of tracked cells of all modules, where all is to be shown
+abbrev pub said_of : Show → ProgramTree → List Analysis
+said_of All p = analyses (known_of p.modules p.tables) p.graph
+said_of Bare p = []
+said_of Why p = []
 
-abbrev pub claims_of : ModuleTree → List Added
-claims_of m = claim_lines (variables m.body) m.body (preconditions m)
+-- the analysis of the module of a name
+abbrev pub analysis_for : List Analysis → List ℕ → Option Analysis
+analysis_for [] x = None
+analysis_for (a ∷ as') x = if bytes_eq a.found.known.read.name x then Some a else analysis_for as' x
 
-abbrev pub if_straight : ModuleTree → Option ModuleTree
-if_straight m = if is_straight m then Some m else None
+abbrev pub lines_of : Option Analysis → List Added
+lines_of None = []
+lines_of (Some a) = scalar_lines_of a.found.known.read.main a.found.known.read.body (symbol_names a.found.known.symbols) a.found.own a.holds
 
--- the straight program, where it is one and nothing else
-abbrev pub if_alone : List ParsedTree → Option ModuleTree
-if_alone [] = None
-if_alone (m ∷ []) = if_straight m.module_read
-if_alone (m ∷ n ∷ ms) = None
+-- the lines that are added to the module of a name
+abbrev pub lines_for : List Analysis → List ℕ → List Added
+lines_for as' x = lines_of (analysis_for as' x)
 
--- the program whose preconditions are written
-abbrev pub claimed : Show → List ParsedTree → Option ModuleTree
-claimed All ms = if_alone ms
-claimed Bare ms = None
-claimed Why ms = None
+-- what is said is true of every run, up to its end or its first fault
+abbrev pub ClaimsHold : Show → ProgramTree → Type 0
+ClaimsHold All p = InEveryRun (known_of p.modules p.tables) p.graph (AnalysesHold p.graph (analyses (known_of p.modules p.tables) p.graph))
+ClaimsHold Bare p = Unit {0}
+ClaimsHold Why p = Unit {0}
 
-abbrev pub lines_or_none : Option ModuleTree → List Added
-lines_or_none None = []
-lines_or_none (Some m) = claims_of m
-
--- the lines that are added to a program
-abbrev pub added_to : Show → List ParsedTree → List Added
-added_to show ms = lines_or_none (claimed show ms)
-
--- what is written is true of every run
-abbrev pub ClaimsHold : Show → List ParsedTree → Type 0
-ClaimsHold show ms = IfSome (claimed show ms) PreconditionsHold
+-- where something is said, the units of the program's variables have numbers of 64 bits
+abbrev pub HasRoom : Show → ProgramTree → Type 0
+HasRoom All p = room_for (known_of p.modules p.tables) < 2 ^ 64
+HasRoom Bare p = Unit {0}
+HasRoom Why p = Unit {0}

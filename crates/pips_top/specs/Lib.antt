@@ -1,6 +1,7 @@
 pub mod Program
 pub mod Reading
 pub mod Claimed
+pub mod Laws
 pub mod Written
 pub mod Made
 pub mod Words

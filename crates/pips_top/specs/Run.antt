@@ -10,7 +10,7 @@ use Rattle.fx_base.specs.declared.store.Role.{Role}
 use Rattle.fx_base.specs.declared.store.Role.TheVariants.{Input, Base}
 use Rattle.fx_base.specs.declared.store.Fetched.{Fetched}
 use Rattle.fx_base.specs.declared.store.Fetched.TheVariants as fetched
-use Rattle.pips_top.specs.Made.{made, input_limit}
+use Rattle.pips_top.specs.Made.{made, input_limit, IsTextOf}
 use Rattle.pips_top.specs.Program.{ProgramTree}
 use Rattle.pips_top.specs.Reading.{reading}
 use Rattle.pips_top.specs.Claimed.{ClaimsHold}
@@ -19,8 +19,8 @@ use Rattle.pips_top.specs.Words.{asked}
 use Rattle.pips_top.specs.Status.{naming, refusal_line, usage_line}
 use Rattle.pips_top.specs.Answer.{answer}
 use Rattle.pips_top.specs.declared.words.Request.{Request}
-use Rattle.pips_top.specs.declared.make.Made.{Made}
-use Rattle.pips_top.specs.declared.make.Made.TheVariants.{Writes, Refuses}
+use Rattle.pips_top.specs.declared.words.Show.{Show}
+use Rattle.pips_top.specs.declared.make.Made.TheVariants.{Refuses}
 use Rattle.pips_top.specs.declared.reply.Reply.{Reply}
 use Rattle.pips_top.specs.declared.reply.Reply.TheVariants.{Writing, Stopping, NoMemory}
 use Rattle.pips_top.specs.declared.status.Status.{Status}
@@ -41,7 +41,7 @@ Answered r files old new answer = FetchedBy files old new r.input input_limit an
 
 -- the words name an input whose bytes make this text
 abbrev pub DefinesFor : Option Files → Tally → Tally → List ℕ → Request → Type 0
-DefinesFor files old new text r = (bytes : List ℕ) × Answered r files old new (fetched.Got bytes) × (made r.show bytes ≡ Writes text)
+DefinesFor files old new text r = (bytes : List ℕ) × Answered r files old new (fetched.Got bytes) × IsTextOf r.show bytes text
 
 abbrev pub Defines : List (List ℕ) → Option Files → Tally → Tally → List ℕ → Type 0
 Defines words files old new text = IsSomeAnd (asked words) (DefinesFor files old new text)
@@ -82,10 +82,10 @@ StopsOr status (Ok line) reply = reply ≡ Stopping status line
 StopsOr status (Err error) reply = reply ≡ NoMemory
 
 -- what was made is to be written, or its refusal with its line
-abbrev pub RepliesTo : Made → Reply → Type 0
-RepliesTo m (Writing text) = m ≡ Writes text
-RepliesTo m (Stopping status line) = (at : ℕ) × (code : ℕ) × (keyword : List ℕ) × (m ≡ Refuses at code keyword) × (status ≡ Refused at code) × (line ≡ refusal_line at code keyword)
-RepliesTo m NoMemory = Unit {0}
+abbrev pub RepliesTo : Show → List ℕ → Reply → Type 0
+RepliesTo show bytes (Writing text) = IsTextOf show bytes text
+RepliesTo show bytes (Stopping status line) = (at : ℕ) × (code : ℕ) × (keyword : List ℕ) × (made show bytes ≡ Refuses at code keyword) × (status ≡ Refused at code) × (line ≡ refusal_line at code keyword)
+RepliesTo show bytes NoMemory = Unit {0}
 
 -- the whole text was appended, or its first n bytes where the count rose
 abbrev pub Gains : Option (List ℕ) → Option (List ℕ) → ℕ → ℕ → List ℕ → Type 0
@@ -104,17 +104,17 @@ CausedBy words old new status line = StopsBy words old.files (old.counts Input) 
 -- a program was read from INPUT, and what is claimed of it is true of every run
 abbrev pub ClaimsFor : Outside → Outside → ProgramTree → Request → Type 0
 ClaimsFor old new p r =
-    (bytes : List ℕ) × Answered r old.files (old.counts Input) (new.counts Input) (fetched.Got bytes) × (reading bytes ≡ Ok p) × ClaimsHold r.show p.modules
+    (bytes : List ℕ) × Answered r old.files (old.counts Input) (new.counts Input) (fetched.Got bytes) × (reading bytes ≡ Ok p) × ClaimsHold r.show p
 
 -- out gained that program's text
 abbrev pub WritesFor : Outside → Outside → Request → Type 0
-WritesFor old new r = (p : ProgramTree) × ClaimsFor old new p r × (new.out ≡ appended old.out (written r.show p.modules))
+WritesFor old new r = (p : ProgramTree) × ClaimsFor old new p r × (new.out ≡ appended old.out (written r.show p))
 
 -- or a prefix of it
 abbrev pub BeginsFor : Outside → Outside → Request → Type 0
 BeginsFor old new r =
     (p : ProgramTree) × ClaimsFor old new p r
-    × ((n : ℕ) × (n ≤ length (written r.show p.modules)) × (new.out ≡ appended old.out (take n (written r.show p.modules))))
+    × ((n : ℕ) × (n ≤ length (written r.show p)) × (new.out ≡ appended old.out (take n (written r.show p))))
 
 -- what was written is the text of a program that was read, or a prefix of it, and its claims hold
 abbrev pub SoundBy : List (List ℕ) → Outside → Outside → Status → Type 0

@@ -1,55 +1,74 @@
-//! The claims that are written before statements.
-ghost use Rattle.std.specs.Prelude.{◌≡◌, IfOk, map};
-ghost use Rattle.f77_ast.specs.PlainDecl.{module_tree, parsed_tree};
-ghost use Rattle.f77_ast.specs.PlainStmt.{stmt_trees};
-ghost use Rattle.f77_ast.specs.Straight.{numbered};
-ghost use Rattle.pips_scalars.specs.Preconditions.{entry, list_preconditions};
-ghost use Rattle.pips_top.specs.Claimed.{added_to, claim_lines, claims_of};
+//! What is said of modules: the analyses of their tracked cells, and the lines that say it.
+ghost use Rattle.std.specs.Prelude.{◌≡◌, List, length, map, IfOk, option_copied, option_map};
+ghost use Rattle.scalar_phases.specs.Views.{analysis_tree};
+ghost use Rattle.pips_top.specs.Claimed.{HasRoom, analysis_for, lines_for, said_of};
+ghost use Rattle.pips_top.specs.Program.{program_tree};
 
+use crate::program::Program;
 use crate::words::Show;
-use f77_ast::{Module, Stmt};
-use f77_parser::ModuleTrees;
+use call_graph::Graph;
 use f77_printer::Added;
-use fx_base::List;
-use pips_scalars::{Variables, is_straight, no_rows, post};
+use f77_results::View;
+use fx_base::{List, Text};
+use scalar_lines::scalar_lines;
+use scalar_phases::{Analysis, analyses};
 use std::alloc::{AllocError as Memory, Global};
-use system_text::precondition_line;
+use unit_room::has_room;
 
-/// The line of the precondition of each statement. Each is analysed once.
-#[tactic(auto, using(crate::proofs::Joining::claim_steps))]
-fn claim_lines(
+/// What is said of the modules of a program: for `All` the analyses of their tracked cells. It fails as without memory where the units of a program
+/// of which something is said have no numbers of 64 bits.
+pub fn said_of<'a>(
     alloc: Global,
-    variables: &Variables,
-    body: &List<Stmt>,
-) -> Result<List<Added>, Memory>
-    ensures { IfOk result (λ lines. lines ≡ claim_lines variables.now (stmt_trees body.now) (list_preconditions (stmt_trees body.now) (numbered variables.now) entry)) }
+    show: Show,
+    program: &'a Program,
+) -> Result<Vec<Analysis<'a>>, Memory>
+    requires one_each { length program.now.modules ≡ length program.now.tables }
+    ensures defined { IfOk result (λ all. map analysis_tree all.items ≡ said_of show (program_tree program.now)) }
+    ensures room { IfOk result (λ _. HasRoom show (program_tree program.now)) }
 {
-    let mut lines = List::new(alloc);
-    let mut p = no_rows(alloc);
-    for statement in body.as_slice() {
-        let line = precondition_line(alloc, variables.names(), &p)?;
-        lines.push(Added {
-            before: statement.id,
-            line,
-        })?;
-        p = post(alloc, variables, statement, &p)?;
+    match show {
+        Show::All => {
+            if !has_room(&program.tables) {
+                return Err(Memory);
+            }
+            analyses(alloc, &program.modules, &program.tables, &program.graph)
+        }
+        Show::Bare | Show::Why => Ok(Vec::new(alloc)),
     }
-    Ok(lines)
 }
 
-fn claims_of(alloc: Global, program: &Module) -> Result<List<Added>, Memory>
-    ensures { IfOk result (λ lines. lines ≡ claims_of (module_tree program.now)) }
+#[tactic(auto, using(crate::proofs::Joining::analysis_steps))]
+/// The analysis of the module of a name, looked for among all, of which there are at most 64.
+fn analysis_for<'s, 'a>(all: &'s [Analysis<'a>], name: &Text) -> Option<&'s Analysis<'a>>
+    ensures { option_map analysis_tree (option_copied result) ≡ analysis_for (map analysis_tree all.now) name.now }
 {
-    let variables = Variables::of_body(alloc, &program.body)?;
-    claim_lines(alloc, &variables, &program.body)
+    for analysis in all {
+        if analysis.found.module.name == *name {
+            return Some(analysis);
+        }
+    }
+    None
 }
 
-/// The lines that are added to a program: for `All` the preconditions of a straight one.
-pub fn added_to(alloc: Global, show: Show, modules: &ModuleTrees) -> Result<List<Added>, Memory>
-    ensures { IfOk result (λ lines. lines ≡ added_to show (map parsed_tree modules.now)) }
+#[tactic(auto, using(crate::proofs::Joining::name_steps))]
+/// The lines that are added to the module of a name.
+pub fn lines_for(
+    alloc: Global,
+    graph: &Graph,
+    all: &[Analysis<'_>],
+    name: &Text,
+) -> Result<List<Added>, Memory>
+    ensures { IfOk result (λ lines. lines ≡ lines_for (map analysis_tree all.now) name.now) }
 {
-    match (show, modules.as_slice()) {
-        (Show::All, [parsed]) if is_straight(&parsed.module) => claims_of(alloc, &parsed.module),
-        (Show::All | Show::Bare | Show::Why, _) => Ok(List::new(alloc)),
+    match analysis_for(all, name) {
+        None => Ok(List::new(alloc)),
+        Some(analysis) => {
+            let view = View {
+                module: analysis.found.module,
+                symbols: analysis.found.symbols,
+                graph,
+            };
+            scalar_lines(alloc, &view, &analysis.found.own, &analysis.holds)
+        }
     }
 }

@@ -2,6 +2,7 @@
 #![tactic(auto)]
 
 mod claims;
+mod laws;
 mod make;
 mod program;
 mod reading;

@@ -1,6 +1,7 @@
 //! What becomes of a text.
 ghost use Rattle.std.specs.Prelude.{◌≡◌, ◌≤◌, length, IfOk};
-ghost use Rattle.pips_top.specs.Made.{made, input_limit};
+ghost use Rattle.pips_top.specs.Made.{made, input_limit, ReadsWithRoom};
+ghost use Rattle.pips_top.specs.Reading.{reading};
 
 use crate::reading::read;
 use crate::words::Show;
@@ -17,13 +18,14 @@ pub enum Made {
     Refuses(u32, u32, Text),
 }
 
-/// Reads a text and makes the written one.
+/// Reads a text and makes the written one. It fails as without memory where something is to be said of a program whose units have no numbers of 64 bits.
 pub fn make(alloc: Global, show: Show, text: &Text) -> Result<Made, Memory>
     requires { length text.now ≤ input_limit }
-    ensures { IfOk result (λ m. m ≡ made show text.now) }
+    ensures defined { IfOk result (λ m. m ≡ made show text.now) }
+    ensures room { IfOk result (λ _. ReadsWithRoom show (reading text.now)) }
 {
     match read(alloc, text) {
-        Ok(program) => Ok(Made::Writes(write_program(alloc, show, &program.modules)?)),
+        Ok(program) => Ok(Made::Writes(write_program(alloc, show, &program)?)),
         Err(ParseRefusal::At(line, code, keyword)) => Ok(Made::Refuses(line, code, keyword)),
         Err(ParseRefusal::Memory) => Err(Memory),
     }

@@ -78,7 +78,8 @@ fn graph_of(
 /// The program of modules: their symbols, then their links.
 #[tactic(auto, unfolding(crate::specs::Reading::program_of))]
 fn program_of(alloc: Global, modules: ModuleTrees) -> Result<Program, ParseRefusal>
-    ensures { Gives program_tree result (program_of (map parsed_tree modules)) }
+    ensures gives { Gives program_tree result (program_of (map parsed_tree modules)) }
+    ensures one_each { IfOk result (λ p. length p.modules ≡ length p.tables) }
 {
     let tables = match tables_of(alloc, &modules) {
         Ok(tables) => tables,
@@ -101,7 +102,8 @@ fn program_of(alloc: Global, modules: ModuleTrees) -> Result<Program, ParseRefus
 #[tactic(auto, using(f77_parser::proofs::SizeLemmas::short_texts), unfolding(crate::specs::Reading::reading))]
 pub fn read(alloc: Global, text: &Text) -> Result<Program, ParseRefusal>
     requires { length text.now ≤ input_limit }
-    ensures { Gives program_tree result (reading text.now) }
+    ensures gives { Gives program_tree result (reading text.now) }
+    ensures one_each { IfOk result (λ p. length p.modules ≡ length p.tables) }
 {
     let lines = match statements(alloc, text) {
         Ok(lines) => lines,

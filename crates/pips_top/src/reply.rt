@@ -2,7 +2,7 @@
 ghost use Rattle.std.specs.Prelude.{◌≡◌, ◌≤◌, length};
 ghost use Rattle.fx_base.specs.declared.store.Role.TheVariants.{Input};
 ghost use Rattle.fx_base.specs.Store.{OnlyCounts};
-ghost use Rattle.pips_top.specs.Made.{input_limit, made};
+ghost use Rattle.pips_top.specs.Made.{input_limit};
 ghost use Rattle.pips_top.specs.Run.{RepliesBy, RepliesTo, StopsOr};
 
 use crate::Status;
@@ -32,7 +32,7 @@ fn stopping(status: Status, line: Result<Text, Memory>) -> Reply
 /// Reads a text that was fetched, and makes what is to be written.
 fn reply_with(alloc: Global, show: Show, text: &Text) -> Reply
     requires { length text.now ≤ input_limit }
-    ensures { RepliesTo (made show text.now) result }
+    ensures { RepliesTo show text.now result }
 {
     match make(alloc, show, text) {
         Ok(Made::Writes(text)) => Reply::Writing(text),

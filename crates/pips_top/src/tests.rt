@@ -149,17 +149,17 @@ fn texts(rt: HostRuntime) -> Result<(), Fail> {
             err: "",
         },
         Case {
-            shows: "a loop has no claims",
+            shows: "a loop",
             held: "      PROGRAM P\n      I=1\n      DO 10 K=1,2\n10    CONTINUE\n      END\n",
             status: Status::Done,
-            out: "      PROGRAM P\n      I = 1\n      DO K = 1,2\n10    CONTINUE\n      END DO\n      END\n",
+            out: "      PROGRAM P\nC> P {}\n      I = 1\nC> P {I==1}\nC> T K {K'==3}\n      DO K = 1,2\nC> P {I==1, 1<=K, K<=2}\n10    CONTINUE\n      END DO\n      END\n",
             err: "",
         },
         Case {
-            shows: "a subroutine beside it, and no claims",
+            shows: "a subroutine beside it, which is not called",
             held: "c first\n      I=1\n      END\n      SUBROUTINE S(K)\n      K=1\n      END\nc last\n",
             status: Status::Done,
-            out: "c first\n      I = 1\n      END\n      SUBROUTINE S(K)\n      K = 1\n      END\nc last\n",
+            out: "c first\nC> P {}\n      I = 1\n      END\nC> P {FALSE}\nC> T K {K'==1}\n      SUBROUTINE S(K)\nC> P {FALSE}\n      K = 1\n      END\nc last\n",
             err: "",
         },
     ] {
@@ -168,7 +168,7 @@ fn texts(rt: HostRuntime) -> Result<(), Fail> {
     Ok(())
 }
 
-/// Preconditions of straight programs.
+/// Preconditions of programs without loops and CALLs.
 #[test]
 fn claims(rt: HostRuntime) -> Result<(), Fail> {
     let alloc = rt.alloc();
@@ -392,7 +392,7 @@ fn links(rt: HostRuntime) -> Result<(), Fail> {
             shows: "subroutines that are called, one before it is written",
             held: "      CALL S(I,J)\n      END\n      SUBROUTINE T\n      END\n      SUBROUTINE S(K,L)\n      INTEGER L\n      CALL T\n      K=L\n      END\n",
             status: Status::Done,
-            out: "      CALL S(I,J)\n      END\n      SUBROUTINE T\n      END\n      SUBROUTINE S(K,L)\n      INTEGER L\n      CALL T\n      K = L\n      END\n",
+            out: "C> P {}\nC> T I {I'==J}\n      CALL S(I,J)\n      END\nC> P {}\n      SUBROUTINE T\n      END\nC> P {}\nC> T K {K'==L}\n      SUBROUTINE S(K,L)\n      INTEGER L\nC> P {}\n      CALL T\nC> P {}\n      K = L\n      END\n",
             err: "",
         },
         Case {
@@ -511,7 +511,7 @@ fn links(rt: HostRuntime) -> Result<(), Fail> {
             shows: "an array or an element for an array, an element or an expression for a variable",
             held: "      INTEGER I(2)\n      CALL S(I,I(1))\n      CALL S(I(2),2*I(1))\n      END\n      SUBROUTINE S(J,K)\n      INTEGER J(*)\n      END\n",
             status: Status::Done,
-            out: "      INTEGER I(2)\n      CALL S(I,I(1))\n      CALL S(I(2),2*I(1))\n      END\n      SUBROUTINE S(J,K)\n      INTEGER J(*)\n      END\n",
+            out: "      INTEGER I(2)\nC> P {}\n      CALL S(I,I(1))\nC> P {}\n      CALL S(I(2),2*I(1))\n      END\nC> P {}\n      SUBROUTINE S(J,K)\n      INTEGER J(*)\n      END\n",
             err: "",
         },
         Case {

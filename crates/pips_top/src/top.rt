@@ -3,6 +3,7 @@ ghost use Rattle.std.specs.Prelude.{◌≤◌};
 ghost use Rattle.pips_top.specs.Run.{Gains, Outside, Runs};
 
 use crate::Status;
+use crate::laws::claims_hold;
 use crate::reply::{Reply, reply_to};
 use fx_base::{Sent, Sink, Store, Words, send, send_bytes};
 use std::alloc::Global;
@@ -18,7 +19,6 @@ fn tell<E: Sink>(err: &mut E, line: &[u8])
     }
 }
 
-#[tactic(auto, using(crate::proofs::Soundness::sound_from))]
 /// All that the program does: INPUT is the one word, or `-` without a word. The whole output is made before its first byte
 /// is written, and writing takes no memory.
 pub fn run<F: Store, O: Sink, E: Sink>(
@@ -46,6 +46,7 @@ pub fn run<F: Store, O: Sink, E: Sink>(
         } in
         Runs words.now old new result }
 {
+    claims_hold();
     match reply_to(alloc, words, files) {
         Reply::Writing(text) => match send(out, &text) {
             Sent::All => Status::Done,

@@ -1,39 +1,63 @@
 //! The written text of a program.
-ghost use Rattle.std.specs.Prelude.{◌≡◌, IfOk, map};
+ghost use Rattle.std.specs.Prelude.{◌≡◌, IfOk, length, map};
 ghost use Rattle.f77_ast.specs.PlainDecl.{parsed_tree};
+ghost use Rattle.scalar_phases.specs.Views.{analysis_tree};
+ghost use Rattle.pips_top.specs.Claimed.{HasRoom};
+ghost use Rattle.pips_top.specs.Program.{program_tree};
 ghost use Rattle.pips_top.specs.Written.{modules_text, parsed_text, written};
 
-use crate::claims::added_to;
+use crate::claims::{lines_for, said_of};
+use crate::program::Program;
 use crate::words::Show;
+use call_graph::Graph;
 use f77_ast::Parsed;
-use f77_parser::ModuleTrees;
-use f77_printer::{Added, plain};
-use fx_base::{List, Text};
+use f77_printer::plain;
+use fx_base::Text;
+use scalar_phases::Analysis;
 use std::alloc::{AllocError as Memory, Global};
 
-fn parsed_text(alloc: Global, added: &List<Added>, parsed: &Parsed) -> Result<Text, Memory>
-    ensures { IfOk result (λ text. text ≡ parsed_text added.now (parsed_tree parsed.now)) }
+/// A module, with the lines that are added to it.
+fn parsed_text(
+    alloc: Global,
+    graph: &Graph,
+    all: &[Analysis<'_>],
+    parsed: &Parsed,
+) -> Result<Text, Memory>
+    ensures { IfOk result (λ text. text ≡ parsed_text (map analysis_tree all.now) (parsed_tree parsed.now)) }
 {
-    plain(alloc, &parsed.places, &parsed.module, added)
+    let added = lines_for(alloc, graph, all, &parsed.module.name)?;
+    plain(alloc, &parsed.places, &parsed.module, &added)
 }
 
-/// Modules one after another, each with the added lines of its statements.
+/// Modules one after another.
 #[tactic(auto, using(crate::proofs::Joining::module_steps))]
-fn modules_text(alloc: Global, added: &List<Added>, modules: &[Parsed]) -> Result<Text, Memory>
-    ensures { IfOk result (λ text. text ≡ modules_text added.now (map parsed_tree modules.now)) }
+fn modules_text(
+    alloc: Global,
+    graph: &Graph,
+    all: &[Analysis<'_>],
+    modules: &[Parsed],
+) -> Result<Text, Memory>
+    ensures { IfOk result (λ text. text ≡ modules_text (map analysis_tree all.now) (map parsed_tree modules.now)) }
 {
     let mut out = Text::new(alloc);
     for parsed in modules {
-        let text = parsed_text(alloc, added, parsed)?;
+        let text = parsed_text(alloc, graph, all, parsed)?;
         out.append(text.as_slice())?;
     }
     Ok(out)
 }
 
 /// The written text. Takes time in proportion to it, beside the analysis of what is claimed.
-pub fn write_program(alloc: Global, show: Show, modules: &ModuleTrees) -> Result<Text, Memory>
-    ensures { IfOk result (λ text. text ≡ written show (map parsed_tree modules.now)) }
+pub fn write_program(alloc: Global, show: Show, program: &Program) -> Result<Text, Memory>
+    requires one_each { length program.now.modules ≡ length program.now.tables }
+    ensures defined { IfOk result (λ text. text ≡ written show (program_tree program.now)) }
+    ensures room { IfOk result (λ _. HasRoom show (program_tree program.now)) }
 {
-    let added = added_to(alloc, show, modules)?;
-    modules_text(alloc, &added, modules.as_slice())
+    let all = said_of(alloc, show, program)?;
+    modules_text(
+        alloc,
+        &program.graph,
+        all.as_slice(),
+        program.modules.as_slice(),
+    )
 }

@@ -1,0 +1,92 @@
+-- What reading gives is a program, as laws on runs ask.
+use Rattle.std.proofs.Common.{◌≡◌, ℕ, List, [], ◌∷◌, Result, Ok, Err, refl, sym, subst}
+use Rattle.fixed_form.specs.declared.line.Lines.{Lines}
+use Rattle.fixed_form.specs.Reading as lines
+use Rattle.f77_ast.specs.DeclTrees.{ParsedTree}
+use Rattle.f77_parser.specs.Gives.{Refused, and_then}
+use Rattle.f77_parser.specs.Modules.{parse_of}
+use Rattle.f77_symbols.specs.Symbols.{SymbolTree}
+use Rattle.f77_names.specs.declared.refusal.Refusal.{Refusal}
+use Rattle.storage_layout.specs.Symbols.{symbols_of}
+use Rattle.call_graph.specs.declared.graph.Graph.{Graph}
+use Rattle.call_graph.specs.declared.refusal.Fault.{Fault}
+use Rattle.call_graph.specs.Links.{link_of}
+use Rattle.read_programs.specs.Programs.{AreTables, IsProgram}
+use Rattle.whole_analyses.specs.Laws.{ReadAnalysesHold}
+use Rattle.pips_top.specs.Claimed.{ClaimsHold, HasRoom}
+use Rattle.pips_top.specs.Laws.{ReadClaimsHold}
+use Rattle.pips_top.specs.Program.{ProgramTree}
+use Rattle.pips_top.specs.Reading.{lines_or, table_or, tables_of, graph_or, linked_by, program_of, reading}
+use Rattle.pips_top.specs.declared.words.Show.{Show}
+use Rattle.pips_top.specs.declared.words.Show.TheVariants.{All, Bare, Why}
+
+-- ---- tables
+
+abbrev Front : Result (List SymbolTree) Refusal → Result (List (List SymbolTree)) Refused → List (List SymbolTree) → Type 0
+Front r others ts = (t : List SymbolTree) × (rest : List (List SymbolTree)) × (r ≡ Ok t) × (others ≡ Ok rest) × (t ∷ rest ≡ ts)
+
+front : (r : Result (List SymbolTree) Refusal) (others : Result (List (List SymbolTree)) Refused) (ts : List (List SymbolTree))
+    → and_then (table_or r) (λ t. and_then others (λ rest. Ok (t ∷ rest))) ≡ Ok ts → Front r others ts
+front (Ok t) (Ok rest) ts e = (t, rest, refl, refl, cc)
+front (Ok t) (Err r) ts e = cc
+front (Err r) others ts e = cc
+
+all_tables : (ms : List ParsedTree) (ts : List (List SymbolTree)) → tables_of ms ≡ Ok ts → AreTables ms ts
+all_tables [] [] e = tt
+all_tables [] (t ∷ ts) e = cc
+all_tables (m ∷ ms) ts e =
+    let f = front (symbols_of m) (tables_of ms) ts e in
+    subst (λ z. AreTables (m ∷ ms) z) f.4 (f.2, all_tables ms f.1 f.3)
+
+-- ---- links
+
+abbrev Linked : List ParsedTree → Result (List (List SymbolTree)) Refused → ProgramTree → Type 0
+Linked ms r p = (p.modules ≡ ms) × (r ≡ Ok p.tables) × (link_of ms p.tables ≡ Ok p.graph)
+
+from_links : (ms : List ParsedTree) (ts : List (List SymbolTree)) (r : Result Graph Fault) (p : ProgramTree) → link_of ms ts ≡ r → linked_by ms ts (graph_or r) ≡ Ok p → Linked ms (Ok ts) p
+from_links ms ts (Ok g) p is e =
+    let same : record { modules = ms; tables = ts; graph = g } ≡ p = cc in
+    subst (λ (q : ProgramTree). Linked ms (Ok ts) q) same (refl, refl, is)
+from_links ms ts (Err f) p is e = cc
+
+from_tables : (ms : List ParsedTree) (r : Result (List (List SymbolTree)) Refused) (p : ProgramTree) → and_then r (λ ts. linked_by ms ts (graph_or (link_of ms ts))) ≡ Ok p → Linked ms r p
+from_tables ms (Ok ts) p e = from_links ms ts (link_of ms ts) p refl e
+from_tables ms (Err r) p e = cc
+
+linked_from : (ms : List ParsedTree) (p : ProgramTree) → program_of ms ≡ Ok p → Linked ms (tables_of ms) p
+unfolding program_of
+linked_from ms p e = from_tables ms (tables_of ms) p e
+
+-- ---- modules
+
+abbrev Parsed : ProgramTree → Type 0
+Parsed p = (ls : Lines) × (ms : List ParsedTree) × (parse_of ls ≡ Ok ms) × (program_of ms ≡ Ok p)
+
+from_parsed : (ls : Lines) (r : Result (List ParsedTree) Refused) (p : ProgramTree) → parse_of ls ≡ r → and_then r program_of ≡ Ok p → Parsed p
+from_parsed ls (Ok ms) p is e = (ls, ms, is, e)
+from_parsed ls (Err r) p is e = cc
+
+from_lines : (r : Result Lines Refused) (p : ProgramTree) → and_then (and_then r parse_of) program_of ≡ Ok p → Parsed p
+from_lines (Ok ls) p e = from_parsed ls (parse_of ls) p refl e
+from_lines (Err r) p e = cc
+
+parsed_from : (text : List ℕ) (p : ProgramTree) → reading text ≡ Ok p → Parsed p
+unfolding reading
+parsed_from text p e = from_lines (lines_or (lines.reading text)) p e
+
+-- ---- programs
+
+of_parts : (ls : Lines) (ms : List ParsedTree) (p : ProgramTree) → parse_of ls ≡ Ok ms → Linked ms (tables_of ms) p → IsProgram p.modules p.tables p.graph
+of_parts ls ms p parsed (same, tables, links) =
+    let Q : List ParsedTree → Type 0 = λ ns. IsProgram ns p.tables p.graph in
+    subst Q (sym same) (record { lines = ls; parsed = parsed; tables = all_tables ms p.tables tables; links = links })
+
+pub is_program : (text : List ℕ) (p : ProgramTree) → reading text ≡ Ok p → IsProgram p.modules p.tables p.graph
+is_program text p e =
+    let f = parsed_from text p e in
+    of_parts f.0 f.1 p f.2 (linked_from f.1 p f.3)
+
+pub claims_from : ReadAnalysesHold → ReadClaimsHold
+claims_from law All bytes p e room = law p.modules p.tables p.graph (is_program bytes p e) room
+claims_from law Bare bytes p e room = tt
+claims_from law Why bytes p e room = tt

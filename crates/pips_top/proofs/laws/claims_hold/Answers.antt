@@ -1,0 +1,5 @@
+use Rattle.pips_top.proofs.Programs.{claims_from}
+use Rattle.pips_top.proofs.laws.claims_hold.Goals as goal
+
+pub returns : goal.returns
+returns c = claims_from c.read_analyses_hold.ensures
