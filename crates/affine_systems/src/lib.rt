@@ -20,5 +20,3 @@ pub use normal::normalise;
 pub use row::{Elim, Norm, Row, Rows, System, Term, Terms, Var, Vars};
 
 pub mod items;
-#[cfg(test)]
-mod tests;

@@ -17,6 +17,3 @@ pub use graph::{Block, Edge, Graph};
 pub use laws::{linked_in_order, orders_are_bottom_up, orders_are_whole};
 pub use links::link;
 pub use refusal::LinkRefusal;
-
-#[cfg(test)]
-mod tests;

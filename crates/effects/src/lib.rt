@@ -11,6 +11,3 @@ mod statement;
 
 pub use modules::cumulated;
 pub use statement::proper;
-
-#[cfg(test)]
-mod tests;

@@ -18,6 +18,3 @@ pub use expr::{BinaryOp, Expr, UnaryOp};
 pub use module::Module;
 pub use places::{Parsed, Part, Places, Spot};
 pub use stmt::{Arm, Loop, Stmt, StmtId, What};
-
-#[cfg(test)]
-mod tests;

@@ -15,6 +15,3 @@ pub use parameters::{decl_line, parameters_valued};
 pub use sizes::{Dimensions, Size};
 pub use sort::{Sort, sort_of};
 pub use statements::list_judged;
-
-#[cfg(test)]
-mod tests;

@@ -7,6 +7,3 @@ mod worth;
 
 pub use constant::{Constant, Constants, Worth};
 pub use worth::{gives_logical, joins_logical, turns_logical, worth_of};
-
-#[cfg(test)]
-mod tests;

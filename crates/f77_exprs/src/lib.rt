@@ -19,6 +19,3 @@ pub use laws::{depth_is_enough, grammar_has_no_depth};
 pub use names::name_at;
 pub use numbers::{digit_first, label_at, literal, number, number_first, skip_digits};
 pub use unread::{Reading, Unread};
-
-#[cfg(test)]
-mod tests;

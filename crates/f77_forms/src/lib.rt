@@ -11,6 +11,3 @@ mod words;
 pub use choice::{form_of, profile_form, refused_keyword};
 pub use form::{Form, FormId, TABLE, profile};
 pub use refused::{REFUSED, Refused};
-
-#[cfg(test)]
-mod tests;

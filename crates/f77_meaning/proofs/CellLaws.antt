@@ -15,7 +15,7 @@ use Rattle.f77_meaning.specs.Areas.{Area}
 use Rattle.f77_meaning.specs.Modules.{fixed}
 use Rattle.f77_meaning.specs.Linked.{offset_in, numbering}
 use Rattle.f77_meaning.specs.Laws.{area_of, CellsAreAlone}
-use Rattle.f77_meaning.proofs.ModuleLaws.{offsets_fit, names_lie, meet_at, numbered_place}
+use Rattle.f77_meaning.proofs.ModuleLaws.{offsets_fit, variables_occupy_their_storage, meet_at, numbered_place}
 use Rattle.f77_meaning.proofs.LinkLaws.{found_any}
 
 -- ---- two at a unit
@@ -72,8 +72,8 @@ cells_are_alone ks g k m n s t a b names u d f apart ea eb ka kb room scalar pla
   where
     go : (c : Bool) → in_place (fixed (numbering ks g) k n) u ≡ c → c ≡ false
     go true ht =
-        let x = names_lie ks g k m s a u d ea hs in
-        let y = names_lie ks g k n t b u f eb ht in
+        let x = variables_occupy_their_storage ks g k m s a u d ea hs in
+        let y = variables_occupy_their_storage ks g k n t b u f eb ht in
         let fit = offsets_fit ks k n t f in
         let fits = offsets_fit ks k m s d in
         let same = meet_at (numbering ks g) a b (offset_in s.place) (offset_in t.place) (units_in k.symbols s) (units_in k.symbols t) u fits fit ka kb x y in

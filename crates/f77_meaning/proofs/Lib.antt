@@ -13,3 +13,4 @@ pub mod StraightNames
 pub mod StraightProgram
 mod cases
 mod ClaimCases
+mod ParallelCase

@@ -13,7 +13,7 @@ use Rattle.f77_symbols.proofs.SharingLaws.{sharing_is_of_units}
 use Rattle.f77_meaning.specs.Areas.{Area, block, group, own, Numbering, area_number, unit_at}
 use Rattle.f77_meaning.specs.Modules.{Known, laid_at, fixed_place, fixed_maybe, fixed}
 use Rattle.f77_meaning.specs.Linked.{offset_in, room_of, room_for, numbering}
-use Rattle.f77_meaning.specs.Laws.{IsKnown, OffsetsFit, area_of, IsUnit, NamesLie, NamesMeet, SharedByTable, OwnUnitsApart}
+use Rattle.f77_meaning.specs.Laws.{IsKnown, OffsetsFit, area_of, IsUnit, VariablesOccupyTheirStorage, NamesMeet, SharedByTable, OwnUnitsApart}
 use Rattle.f77_meaning.proofs.UnitLaws.{units_differ}
 
 -- ---- the room
@@ -61,8 +61,8 @@ lies_by g m ss s (place.Block b o) a u e h =
     subst (λ b. IsUnit g b o (units_in ss s) u) same (laid_unit g (block b) o (units_in ss s) u q.0 q.1)
 lies_by g m ss s (place.Constant v) a u e h = cc
 
-pub names_lie : NamesLie
-names_lie ks g k n s a u d e h =
+pub variables_occupy_their_storage : VariablesOccupyTheirStorage
+variables_occupy_their_storage ks g k n s a u d e h =
     lies_by (numbering ks g) k.read.name k.symbols s s.place a u e (subst (λ o. in_place (fixed_maybe (numbering ks g) k.read.name k.symbols o) u ≡ true) d.is_symbol h)
 
 -- ---- two variables
@@ -73,7 +73,7 @@ meet_at g a b o p m n u f i ka kb x y =
 
 pub names_meet : NamesMeet
 names_meet ks g k l m n s t a b u d f ea eb ka kb hs ht =
-    (meet_at (numbering ks g) a b (offset_in s.place) (offset_in t.place) (units_in k.symbols s) (units_in l.symbols t) u (offsets_fit ks k m s d) (offsets_fit ks l n t f) ka kb (names_lie ks g k m s a u d ea hs) (names_lie ks g l n t b u f eb ht)).0
+    (meet_at (numbering ks g) a b (offset_in s.place) (offset_in t.place) (units_in k.symbols s) (units_in l.symbols t) u (offsets_fit ks k m s d) (offsets_fit ks l n t f) ka kb (variables_occupy_their_storage ks g k m s a u d ea hs) (variables_occupy_their_storage ks g l n t b u f eb ht)).0
 
 no_own : (m x : List ℕ) (call spot : ℕ) (p : Place) → area_of m p ≡ Some (own x call spot) → ⊥
 no_own m x call spot (place.Local i o) h = cc
@@ -90,7 +90,7 @@ own_units_apart ks g k n s a x call spot d e ka kx = go (in_place (fixed (number
   where
     go : (b : Bool) → in_place (fixed (numbering ks g) k n) (unit_at (numbering ks g) (own x call spot) 0) ≡ b → b ≡ false
     go true h =
-        let y = names_lie ks g k n s a (unit_at (numbering ks g) (own x call spot) 0) d e h in
+        let y = variables_occupy_their_storage ks g k n s a (unit_at (numbering ks g) (own x call spot) 0) d e h in
         let fits = offsets_fit ks k n s d in
         let same = units_differ (numbering ks g) (own x call spot) a 0 y.distance kx ka (has_room ks) (omega (arith, fits, y.below)) y.unit in
         absurd (no_own k.read.name x call spot s.place (e ∙ ap Some (sym same.0)))
@@ -123,8 +123,8 @@ module _ (m : List ℕ) (ss : List SymbolTree) (s t : SymbolTree) (d : ℕ) wher
 
 pub shared_by_table : SharedByTable
 shared_by_table ks g k m n s t a b u d f ea eb ka kb hs ht =
-    let x = names_lie ks g k m s a u d ea hs in
-    let y = names_lie ks g k n t b u f eb ht in
+    let x = variables_occupy_their_storage ks g k m s a u d ea hs in
+    let y = variables_occupy_their_storage ks g k n t b u f eb ht in
     let same = meet_at (numbering ks g) a b (offset_in s.place) (offset_in t.place) (units_in k.symbols s) (units_in k.symbols t) u (offsets_fit ks k m s d) (offsets_fit ks k n t f) ka kb x y in
     let from : offset_in t.place ≤ x.distance = omega (arith, same.1, y.from) in
     let below : x.distance < offset_in t.place + units_in k.symbols t = omega (arith, same.1, y.below) in

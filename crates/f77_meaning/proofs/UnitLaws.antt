@@ -6,7 +6,7 @@ use Rattle.std.proofs.Math.Nat.{pow-suc, mul-add-mod_self_left}
 use Rattle.std.proofs.lemmas.Slice.Eq.{bytes_eq-Decides}
 use Rattle.f77_symbols.specs.Symbols.{number_from}
 use Rattle.f77_meaning.specs.Areas.{Area, block, group, own, Numbering, or_zero, place_in, paired, area_number, unit_at}
-use Rattle.f77_meaning.specs.Laws.{IsKnown, UnitsDiffer, is_own, OwnUnitsAreTold}
+use Rattle.f77_meaning.specs.Laws.{IsKnown, UnitsDiffer, is_own, TemporariesAreRecognisable}
 
 -- ---- pairs
 
@@ -89,5 +89,5 @@ area_told g (block x) = ap (λ n. nat_eq n 2) (rest_of_three (area_number g (blo
 area_told g (group m n) = ap (λ k. nat_eq k 2) (rest_of_three (area_number g (group m n)) (paired (place_in g.modules m) n) 1 1 (omega arith) refl)
 area_told g (own m s k) = ap (λ n. nat_eq n 2) (rest_of_three (area_number g (own m s k)) (paired (place_in g.modules m) (paired s k)) 2 2 (omega arith) refl)
 
-pub own_units_are_told : OwnUnitsAreTold
-own_units_are_told g a o h = ap (λ n. nat_eq (n % 3) 2) (div-mul-add (area_number g a) g.room o h) ∙ area_told g a
+pub temporaries_are_recognisable : TemporariesAreRecognisable
+temporaries_are_recognisable g a o h = ap (λ n. nat_eq (n % 3) 2) (div-mul-add (area_number g a) g.room o h) ∙ area_told g a

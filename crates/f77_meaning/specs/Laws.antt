@@ -44,8 +44,8 @@ is_own (group m n) = false
 is_own (own m s k) = true
 
 -- the units of expressions are told from all others
-abbrev pub OwnUnitsAreTold : Type 0
-OwnUnitsAreTold = (g : Numbering) (a : Area) (o : ℕ) → o < g.room → is_own_unit g (unit_at g a o) ≡ is_own a
+abbrev pub TemporariesAreRecognisable : Type 0
+TemporariesAreRecognisable = (g : Numbering) (a : Area) (o : ℕ) → o < g.room → is_own_unit g (unit_at g a o) ≡ is_own a
 
 -- ---- where names lie
 
@@ -74,8 +74,8 @@ pub record IsUnit (g : Numbering) (a : Area) (offset count : ℕ) (u : ℕ) : Ty
   pub below : distance < offset + count
 
 -- the units of a variable that is no dummy are those of its place
-abbrev pub NamesLie : Type 0
-NamesLie = (ks : List Known) (g : Graph) (k : Known) (n : ℕ) (s : SymbolTree) (a : Area) (u : ℕ) → Declared ks k n s → area_of k.read.name s.place ≡ Some a →
+abbrev pub VariablesOccupyTheirStorage : Type 0
+VariablesOccupyTheirStorage = (ks : List Known) (g : Graph) (k : Known) (n : ℕ) (s : SymbolTree) (a : Area) (u : ℕ) → Declared ks k n s → area_of k.read.name s.place ≡ Some a →
     in_place (fixed (numbering ks g) k n) u ≡ true → IsUnit (numbering ks g) a (offset_in s.place) (units_in k.symbols s) u
 
 -- variables of two modules, or of one, that have a unit in common lie in the same area, in a block or in a group of the same module

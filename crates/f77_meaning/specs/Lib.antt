@@ -5,5 +5,7 @@ pub mod Occurrences
 pub mod Accesses
 pub mod Claims
 pub mod Claimed
+pub mod Interleavings
+pub mod Processes
 pub mod StraightRuns
 pub mod Laws

@@ -1,5 +1,5 @@
 //! Laws of the units of a program.
-ghost use Rattle.f77_meaning.specs.Laws.{UnitsDiffer, ModulesAreKnown, OffsetsFit, NamesLie, NamesMeet, SharedByTable, OwnUnitsApart, CommonIsOfBlocks, CellsAreAlone, AreasAreKnown, OthersBeginUnset, OwnUnitsBeginUnset, LinkedCallsFit, LinkedHaveBlocks, ActualsSuit, CommonCellsAreAlone, CommonCellsAreCells, OwnUnitsAreTold};
+ghost use Rattle.f77_meaning.specs.Laws.{UnitsDiffer, ModulesAreKnown, OffsetsFit, VariablesOccupyTheirStorage, NamesMeet, SharedByTable, OwnUnitsApart, CommonIsOfBlocks, CellsAreAlone, AreasAreKnown, OthersBeginUnset, OwnUnitsBeginUnset, LinkedCallsFit, LinkedHaveBlocks, ActualsSuit, CommonCellsAreAlone, CommonCellsAreCells, TemporariesAreRecognisable};
 ghost use Rattle.f77_meaning.specs.StraightRuns.{StraightRunsAgree};
 
 /// Units of different areas are different, and so are units of one area at different distances from its first.
@@ -8,8 +8,8 @@ pub fn units_differ()
 {}
 
 /// The units of expressions that are actuals are told from all others by their numbers.
-pub fn own_units_are_told()
-    ensures { OwnUnitsAreTold }
+pub fn temporaries_are_recognisable()
+    ensures { TemporariesAreRecognisable }
 {}
 
 /// The modules of a program are numbered.
@@ -28,8 +28,8 @@ pub fn offsets_fit()
 {}
 
 /// The units of a variable that is no dummy are those of its place: its area, from its offset on, as many as it takes.
-pub fn names_lie()
-    ensures { NamesLie }
+pub fn variables_occupy_their_storage()
+    ensures { VariablesOccupyTheirStorage }
 {}
 
 /// Variables with a unit in common lie in one area: in a block, or in a storage group of one module.

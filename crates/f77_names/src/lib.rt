@@ -18,6 +18,3 @@ pub use lines::{LineTable, Sited};
 pub use names::Names;
 pub use refusal::{Cause, Refusal, noted};
 pub use table::{NameTable, table_of};
-
-#[cfg(test)]
-mod tests;

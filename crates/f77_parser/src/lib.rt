@@ -11,6 +11,3 @@ mod statement;
 pub use f77_forms::{Form, FormId, TABLE, form_of};
 pub use read::{ModuleTrees, parse};
 pub use refusal::ParseRefusal;
-
-#[cfg(test)]
-mod tests;

@@ -17,8 +17,3 @@ pub use expr::{write_chars, write_expr, write_exprs};
 pub use layout::write_lines;
 pub use module::plain;
 pub use statement::write_statement;
-
-#[cfg(test)]
-mod module_tests;
-#[cfg(test)]
-mod tests;

@@ -15,6 +15,3 @@ pub use results::{At, Results};
 pub use summaries::{Summaries, Summary, copy_symbols};
 pub use variables::{copy_variable, union};
 pub use view::View;
-
-#[cfg(test)]
-mod tests;

@@ -38,21 +38,21 @@ subroutine_statement s = do
 -- ---- IF
 
 -- a test behind its opening parenthesis
-unfoldable pub test : Reader ExprTree
-test = ending (codes ")") expression
+unfoldable pub if_test : Reader ExprTree
+if_test = ending (codes ")") expression
 
 -- IF(e)THEN
 unfoldable pub block_if_statement : Reader PhraseTree
 block_if_statement s = do
   t ← take_word (codes "IF(") s
-  e ← test t
+  e ← if_test t
   u ← take_word (codes "THEN") e.1
   Some (block_if e.0, u)
 
 unfoldable pub else_if_statement : Reader PhraseTree
 else_if_statement s = do
   t ← take_word (codes "ELSEIF(") s
-  e ← test t
+  e ← if_test t
   u ← take_word (codes "THEN") e.1
   Some (else_if e.0, u)
 
@@ -90,7 +90,7 @@ what_at s = what_of (form_at s.rest) s
 unfoldable pub logical_if_statement : Reader PhraseTree
 logical_if_statement s = do
   t ← take_word (codes "IF(") s
-  e ← test t
+  e ← if_test t
   w ← what_at e.1
   Some (logical_if e.0 w.0, w.1)
 

@@ -4,7 +4,7 @@ ghost use Rattle.f77_ast.specs.Plain.{expr_tree};
 ghost use Rattle.f77_ast.specs.PlainStmt.{maybe_tree};
 ghost use Rattle.f77_exprs.specs.State.{state, GivesAs, GivesExpr};
 ghost use Rattle.f77_statements.specs.Phrases.{phrase_tree, do_tree};
-ghost use Rattle.f77_statements.specs.Statements.{program_statement, subroutine_statement, test, block_if_statement, else_if_statement, terminal, some_step, step, range, do_statement};
+ghost use Rattle.f77_statements.specs.Statements.{program_statement, subroutine_statement, if_test, block_if_statement, else_if_statement, terminal, some_step, step, range, do_statement};
 
 use crate::lists::{maybe_enclosed, past_comma};
 use crate::parts::Names;
@@ -34,9 +34,9 @@ pub fn subroutine_statement(alloc: Global, at: At<'_>) -> Reading<'_, Phrase>
 }
 
 /// A test behind its opening parenthesis.
-#[tactic(auto, unfolding(crate::specs::Statements::test, crate::specs::Lists::ending))]
-pub fn test(alloc: Global, at: At<'_>) -> Reading<'_, Expr>
-    ensures defined { GivesExpr result (test (state at.entry)) }
+#[tactic(auto, unfolding(crate::specs::Statements::if_test, crate::specs::Lists::ending))]
+pub fn if_test(alloc: Global, at: At<'_>) -> Reading<'_, Expr>
+    ensures defined { GivesExpr result (if_test (state at.entry)) }
     ensures shorter { IfOk result (λ x. length x.1.rest.now ≤ length at.entry.rest.now) }
 {
     let (tree, at) = expression(alloc, at)?;
@@ -50,7 +50,7 @@ pub fn block_if_statement(alloc: Global, at: At<'_>) -> Reading<'_, Phrase>
     ensures { GivesAs phrase_tree result (block_if_statement (state at.entry)) }
 {
     let at = at.need_word(b"IF(")?;
-    let (tree, at) = test(alloc, at)?;
+    let (tree, at) = if_test(alloc, at)?;
     let at = at.need_word(b"THEN")?;
     Ok((Phrase::BlockIf(tree), at))
 }
@@ -61,7 +61,7 @@ pub fn else_if_statement(alloc: Global, at: At<'_>) -> Reading<'_, Phrase>
     ensures { GivesAs phrase_tree result (else_if_statement (state at.entry)) }
 {
     let at = at.need_word(b"ELSEIF(")?;
-    let (tree, at) = test(alloc, at)?;
+    let (tree, at) = if_test(alloc, at)?;
     let at = at.need_word(b"THEN")?;
     Ok((Phrase::ElseIf(tree), at))
 }

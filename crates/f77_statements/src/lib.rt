@@ -17,6 +17,3 @@ mod specifications;
 pub use phrase::{DoHead, Phrase};
 pub use read::phrase_of;
 pub use refusal::{Cause, Refusal};
-
-#[cfg(test)]
-mod tests;

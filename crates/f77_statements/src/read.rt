@@ -7,8 +7,8 @@ ghost use Rattle.f77_statements.specs.Statements.{what_by, form_at, what_at, log
 ghost use Rattle.f77_statements.specs.Gives.{Gives, ForRead};
 
 use crate::blocks::{
-    block_if_statement, do_statement, else_if_statement, program_statement, subroutine_statement,
-    test,
+    block_if_statement, do_statement, else_if_statement, if_test, program_statement,
+    subroutine_statement,
 };
 use crate::executables::{
     assignment, call_statement, continue_statement, goto_statement, print_statement,
@@ -97,7 +97,7 @@ fn logical_if_statement(alloc: Global, at: At<'_>) -> Reading<'_, Phrase>
     ensures { GivesAs phrase_tree result (logical_if_statement (state at.entry)) }
 {
     let at = at.need_word(b"IF(")?;
-    let (tree, at) = test(alloc, at)?;
+    let (tree, at) = if_test(alloc, at)?;
     let (what, at) = what_at(alloc, at)?;
     Ok((Phrase::LogicalIf(tree, what), at))
 }

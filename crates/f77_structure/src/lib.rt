@@ -18,6 +18,3 @@ pub use depth::is_deep;
 pub use fault::{Fault, Found};
 pub use mark::{Action, Mark, Role};
 pub use stack::{Stack, stack_of};
-
-#[cfg(test)]
-mod tests;

@@ -3,3 +3,5 @@ pub mod UnitsLaws
 pub mod NumbersLaws
 pub mod ValueLaws
 pub mod SharingLaws
+mod StorageExample
+pub mod StorageLaws

@@ -2,3 +2,4 @@ pub mod Symbols
 pub mod Index
 pub mod Units
 pub mod Shared
+pub mod Storages

@@ -2,16 +2,15 @@
 #![tactic(auto)]
 
 mod overlap;
+mod storages;
 mod symbol;
 mod symbols;
 mod units;
 mod variable;
 
 pub use overlap::{overlaps, sharing_is_of_units};
+pub use storages::{sizes_are_reached, units_are_apart, units_lie_within};
 pub use symbol::{Bound, InitialRun, Place, Symbol};
 pub use symbols::{Symbols, unit_of};
 pub use units::units_of;
 pub use variable::{Unit, Variable};
-
-#[cfg(test)]
-mod tests;

@@ -12,6 +12,3 @@ mod text_lines;
 
 pub use line::{Line, Lines, ReadRefusal};
 pub use read::statements;
-
-#[cfg(test)]
-mod tests;

@@ -9,8 +9,6 @@ mod sink;
 mod std_sink;
 mod store;
 mod tally;
-#[cfg(test)]
-mod tests;
 
 pub use file_store::FileStore;
 pub use fx_lists::{List, Text};

@@ -23,6 +23,3 @@ pub use hulls::hull;
 pub use parts::Minus;
 pub use projection::{Shadow, project};
 pub use refutation::refuted;
-
-#[cfg(test)]
-mod tests;

@@ -11,13 +11,11 @@ use Rattle.storage_layout.specs.Symbols.{symbols_of}
 use Rattle.call_graph.specs.declared.graph.Graph.{Graph}
 use Rattle.call_graph.specs.declared.refusal.Fault.{Fault}
 use Rattle.call_graph.specs.Links.{link_of}
-use Rattle.read_programs.specs.Programs.{AreTables, IsProgram}
-use Rattle.whole_analyses.specs.Laws.{ReadAnalysesHold}
-use Rattle.pips_top.specs.Claimed.{ClaimsHold, HasRoom}
+use Rattle.laws_programs.specs.Programs.{AreTables, IsProgram}
+use Rattle.laws_analyses.specs.Laws.{ReadAnalysesHold}
 use Rattle.pips_top.specs.Laws.{ReadClaimsHold}
 use Rattle.pips_top.specs.Program.{ProgramTree}
 use Rattle.pips_top.specs.Reading.{lines_or, table_or, tables_of, graph_or, linked_by, program_of, reading}
-use Rattle.pips_top.specs.declared.words.Show.{Show}
 use Rattle.pips_top.specs.declared.words.Show.TheVariants.{All, Bare, Why}
 
 -- ---- tables
@@ -31,7 +29,7 @@ front (Ok t) (Ok rest) ts e = (t, rest, refl, refl, cc)
 front (Ok t) (Err r) ts e = cc
 front (Err r) others ts e = cc
 
-all_tables : (ms : List ParsedTree) (ts : List (List SymbolTree)) → tables_of ms ≡ Ok ts → AreTables ms ts
+pub all_tables : (ms : List ParsedTree) (ts : List (List SymbolTree)) → tables_of ms ≡ Ok ts → AreTables ms ts
 all_tables [] [] e = tt
 all_tables [] (t ∷ ts) e = cc
 all_tables (m ∷ ms) ts e =
@@ -40,7 +38,7 @@ all_tables (m ∷ ms) ts e =
 
 -- ---- links
 
-abbrev Linked : List ParsedTree → Result (List (List SymbolTree)) Refused → ProgramTree → Type 0
+abbrev pub Linked : List ParsedTree → Result (List (List SymbolTree)) Refused → ProgramTree → Type 0
 Linked ms r p = (p.modules ≡ ms) × (r ≡ Ok p.tables) × (link_of ms p.tables ≡ Ok p.graph)
 
 from_links : (ms : List ParsedTree) (ts : List (List SymbolTree)) (r : Result Graph Fault) (p : ProgramTree) → link_of ms ts ≡ r → linked_by ms ts (graph_or r) ≡ Ok p → Linked ms (Ok ts) p
@@ -53,26 +51,26 @@ from_tables : (ms : List ParsedTree) (r : Result (List (List SymbolTree)) Refuse
 from_tables ms (Ok ts) p e = from_links ms ts (link_of ms ts) p refl e
 from_tables ms (Err r) p e = cc
 
-linked_from : (ms : List ParsedTree) (p : ProgramTree) → program_of ms ≡ Ok p → Linked ms (tables_of ms) p
+pub linked_from : (ms : List ParsedTree) (p : ProgramTree) → program_of ms ≡ Ok p → Linked ms (tables_of ms) p
 unfolding program_of
 linked_from ms p e = from_tables ms (tables_of ms) p e
 
 -- ---- modules
 
-abbrev Parsed : ProgramTree → Type 0
-Parsed p = (ls : Lines) × (ms : List ParsedTree) × (parse_of ls ≡ Ok ms) × (program_of ms ≡ Ok p)
+abbrev pub Parsed : List ℕ → ProgramTree → Type 0
+Parsed text p = (ls : Lines) × (ms : List ParsedTree) × (lines.reading text ≡ Ok ls) × (parse_of ls ≡ Ok ms) × (program_of ms ≡ Ok p)
 
-from_parsed : (ls : Lines) (r : Result (List ParsedTree) Refused) (p : ProgramTree) → parse_of ls ≡ r → and_then r program_of ≡ Ok p → Parsed p
-from_parsed ls (Ok ms) p is e = (ls, ms, is, e)
-from_parsed ls (Err r) p is e = cc
+from_parsed : (text : List ℕ) (ls : Lines) (r : Result (List ParsedTree) Refused) (p : ProgramTree) → lines.reading text ≡ Ok ls → parse_of ls ≡ r → and_then r program_of ≡ Ok p → Parsed text p
+from_parsed text ls (Ok ms) p lined is e = (ls, ms, lined, is, e)
+from_parsed text ls (Err r) p lined is e = cc
 
-from_lines : (r : Result Lines Refused) (p : ProgramTree) → and_then (and_then r parse_of) program_of ≡ Ok p → Parsed p
-from_lines (Ok ls) p e = from_parsed ls (parse_of ls) p refl e
-from_lines (Err r) p e = cc
+from_lines : (text : List ℕ) (r : Result Lines (ℕ × ℕ)) (p : ProgramTree) → lines.reading text ≡ r → and_then (and_then (lines_or r) parse_of) program_of ≡ Ok p → Parsed text p
+from_lines text (Ok ls) p lined e = from_parsed text ls (parse_of ls) p lined refl e
+from_lines text (Err f) p lined e = cc
 
-parsed_from : (text : List ℕ) (p : ProgramTree) → reading text ≡ Ok p → Parsed p
+pub parsed_from : (text : List ℕ) (p : ProgramTree) → reading text ≡ Ok p → Parsed text p
 unfolding reading
-parsed_from text p e = from_lines (lines_or (lines.reading text)) p e
+parsed_from text p e = from_lines text (lines.reading text) p refl e
 
 -- ---- programs
 
@@ -84,7 +82,7 @@ of_parts ls ms p parsed (same, tables, links) =
 pub is_program : (text : List ℕ) (p : ProgramTree) → reading text ≡ Ok p → IsProgram p.modules p.tables p.graph
 is_program text p e =
     let f = parsed_from text p e in
-    of_parts f.0 f.1 p f.2 (linked_from f.1 p f.3)
+    of_parts f.0 f.1 p f.3 (linked_from f.1 p f.4)
 
 pub claims_from : ReadAnalysesHold → ReadClaimsHold
 claims_from law All bytes p e room = law p.modules p.tables p.graph (is_program bytes p e) room

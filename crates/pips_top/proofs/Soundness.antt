@@ -1,5 +1,5 @@
 -- What is written is the text of a program whose claims hold, and what the definitions answer.
-use Rattle.std.proofs.Common.{◌≡◌, ℕ, ◌≤◌, List, [], ◌∷◌, length, take, ap, sym, ◌∙◌, refl, subst, true, Option, Some, None, IsSomeAnd, Result, Ok, Err, arith}
+use Rattle.std.proofs.Common.{◌≡◌, ℕ, ◌≤◌, List, length, take, ap, sym, ◌∙◌, refl, subst, Option, Some, None, IsSomeAnd, Result, Ok, Err, arith}
 use Rattle.std.proofs.lemmas.Grind.{common_steps}
 use Rattle.fx_base.specs.Files.{Files, bytes_of}
 use Rattle.fx_base.specs.Sink.{appended}
@@ -8,7 +8,7 @@ use Rattle.fx_base.specs.declared.store.Role.TheVariants.{Input}
 use Rattle.f77_parser.specs.Gives.{Refused}
 use Rattle.pips_top.specs.Answer.{Answer, answer, answer_asked, answer_held}
 use Rattle.pips_top.specs.Claimed.{ClaimsHold}
-use Rattle.pips_top.specs.Laws.{ReadClaimsHold}
+use Rattle.pips_top.specs.Laws.{ReadClaimsHold, ReadWrittenBack}
 use Rattle.pips_top.specs.Made.{made, made_of, input_limit, ReadsWithRoom, IsTextOf}
 use Rattle.pips_top.specs.Program.{ProgramTree}
 use Rattle.pips_top.specs.Reading.{reading}
@@ -35,12 +35,12 @@ claimed_from law show bytes text is =
     let f = made_from show (reading bytes) text is.made_so in
     (f.0, f.1, law show bytes f.0 f.1 (subst (ReadsWithRoom show) f.1 is.room), f.2)
 
-writes_for : ReadClaimsHold → (old new : Outside) (text : List ℕ) (o : Option Request) → IsSomeAnd o (DefinesFor old.files (old.counts Input) (new.counts Input) text)
+writes_for : ReadClaimsHold → ReadWrittenBack → (old new : Outside) (text : List ℕ) (o : Option Request) → IsSomeAnd o (DefinesFor old.files (old.counts Input) (new.counts Input) text)
     → new.out ≡ appended old.out text → IsSomeAnd o (WritesFor old new)
-writes_for law old new text None d out = elim d [ ]
-writes_for law old new text (Some r) (bytes, got, is) out =
+writes_for law back old new text None d out = elim d [ ]
+writes_for law back old new text (Some r) (bytes, got, is) out =
     let f = claimed_from law r.show bytes text is in
-    (f.0, (bytes, got, f.1, f.2), out ∙ ap (appended old.out) f.3)
+    (f.0, (bytes, got, f.1, f.2), back r.show bytes f.0 f.1, out ∙ ap (appended old.out) f.3)
 
 begins_for : ReadClaimsHold → (old new : Outside) (text : List ℕ) (o : Option Request) → IsSomeAnd o (DefinesFor old.files (old.counts Input) (new.counts Input) text)
     → (n : ℕ) → n ≤ length text → new.out ≡ appended old.out (take n text) → IsSomeAnd o (BeginsFor old new)
@@ -49,18 +49,18 @@ begins_for law old new text (Some r) (bytes, got, is) n within out =
     let f = claimed_from law r.show bytes text is in
     (f.0, (bytes, got, f.1, f.2), (n, subst (λ t. n ≤ length t) f.3 within, out ∙ ap (λ t. appended old.out (take n t)) f.3))
 
-pub sound_from : ReadClaimsHold → (words : List (List ℕ)) (old new : Outside) (s : Status) (line : List ℕ) → CausedBy words old new s line → SoundBy words old new s
-sound_from law words old new Done line (text, defines, out, told) = writes_for law old new text (asked words) defines out
-sound_from law words old new WriteFault line (text, defines, rose, (n, within, out), told) = begins_for law old new text (asked words) defines n within out
-sound_from law words old new (status.Refused at code) line cause = tt
-sound_from law words old new Usage line cause = tt
-sound_from law words old new NoInput line cause = tt
-sound_from law words old new TooLong line cause = tt
-sound_from law words old new ReadFault line cause = tt
-sound_from law words old new (BadBase code) line cause = tt
-sound_from law words old new StaleBase line cause = tt
-sound_from law words old new BaseFault line cause = tt
-sound_from law words old new Memory line cause = tt
+pub sound_from : ReadClaimsHold → ReadWrittenBack → (words : List (List ℕ)) (old new : Outside) (s : Status) (line : List ℕ) → CausedBy words old new s line → SoundBy words old new s
+sound_from law back words old new Done line (text, defines, out, told) = writes_for law back old new text (asked words) defines out
+sound_from law back words old new WriteFault line (text, defines, rose, (n, within, out), told) = begins_for law old new text (asked words) defines n within out
+sound_from law back words old new (status.Refused at code) line cause = tt
+sound_from law back words old new Usage line cause = tt
+sound_from law back words old new NoInput line cause = tt
+sound_from law back words old new TooLong line cause = tt
+sound_from law back words old new ReadFault line cause = tt
+sound_from law back words old new (BadBase code) line cause = tt
+sound_from law back words old new StaleBase line cause = tt
+sound_from law back words old new BaseFault line cause = tt
+sound_from law back words old new Memory line cause = tt
 
 answers_held : (show : Show) (held : Option (List ℕ)) (bytes text : List ℕ) → length bytes ≤ input_limit → held ≡ Some bytes → made show bytes ≡ Writes text
     → answer_held show held ≡ record { status = Done; out = text }

@@ -4,9 +4,9 @@ use Rattle.f77_printer.specs.declared.added.Added.{Added}
 use Rattle.f77_meaning.specs.Modules.{known_of, symbol_names}
 use Rattle.f77_meaning.specs.Linked.{room_for}
 use Rattle.f77_meaning.specs.Claimed.{InEveryRun}
-use Rattle.scalar_lines.specs.ScalarLines.{scalar_lines_of}
+use Rattle.claim_lines.specs.ScalarLines.{scalar_lines_of}
 use Rattle.scalar_phases.specs.Phases.{Analysis, analyses}
-use Rattle.whole_analyses.specs.Claims.{AnalysesHold}
+use Rattle.laws_analyses.specs.Claims.{AnalysesHold}
 use Rattle.pips_top.specs.Program.{ProgramTree}
 use Rattle.pips_top.specs.declared.words.Show.{Show}
 use Rattle.pips_top.specs.declared.words.Show.TheVariants.{All, Bare, Why}

@@ -3,6 +3,7 @@ pub mod Reading
 pub mod Claimed
 pub mod Laws
 pub mod Written
+pub mod ReadBack
 pub mod Made
 pub mod Words
 pub mod Codes

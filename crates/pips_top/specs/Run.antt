@@ -14,6 +14,7 @@ use Rattle.pips_top.specs.Made.{made, input_limit, IsTextOf}
 use Rattle.pips_top.specs.Program.{ProgramTree}
 use Rattle.pips_top.specs.Reading.{reading}
 use Rattle.pips_top.specs.Claimed.{ClaimsHold}
+use Rattle.pips_top.specs.ReadBack.{ReadsBack}
 use Rattle.pips_top.specs.Written.{written}
 use Rattle.pips_top.specs.Words.{asked}
 use Rattle.pips_top.specs.Status.{naming, refusal_line, usage_line}
@@ -106,9 +107,9 @@ abbrev pub ClaimsFor : Outside → Outside → ProgramTree → Request → Type 
 ClaimsFor old new p r =
     (bytes : List ℕ) × Answered r old.files (old.counts Input) (new.counts Input) (fetched.Got bytes) × (reading bytes ≡ Ok p) × ClaimsHold r.show p
 
--- out gained that program's text
+-- out gained that program's text, which is read again as the same program
 abbrev pub WritesFor : Outside → Outside → Request → Type 0
-WritesFor old new r = (p : ProgramTree) × ClaimsFor old new p r × (new.out ≡ appended old.out (written r.show p))
+WritesFor old new r = (p : ProgramTree) × ClaimsFor old new p r × ReadsBack r.show p × (new.out ≡ appended old.out (written r.show p))
 
 -- or a prefix of it
 abbrev pub BeginsFor : Outside → Outside → Request → Type 0

@@ -5,15 +5,15 @@ ghost use Rattle.pips_top.specs.Claimed.{HasRoom, analysis_for, lines_for, said_
 ghost use Rattle.pips_top.specs.Program.{program_tree};
 
 use crate::program::Program;
+use crate::room::has_room;
 use crate::words::Show;
 use call_graph::Graph;
+use claim_lines::scalar_lines;
 use f77_printer::Added;
 use f77_results::View;
 use fx_base::{List, Text};
-use scalar_lines::scalar_lines;
 use scalar_phases::{Analysis, analyses};
 use std::alloc::{AllocError as Memory, Global};
-use unit_room::has_room;
 
 /// What is said of the modules of a program: for `All` the analyses of their tracked cells. It fails as without memory where the units of a program
 /// of which something is said have no numbers of 64 bits.

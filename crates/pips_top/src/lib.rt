@@ -7,9 +7,8 @@ mod make;
 mod program;
 mod reading;
 mod reply;
+mod room;
 mod status;
-#[cfg(test)]
-mod tests;
 mod top;
 mod words;
 mod written;

@@ -8,10 +8,10 @@ use Rattle.f77_ast.specs.Trees.{StmtTrees}
 use Rattle.f77_ast.proofs.PlainlyStmt.{what_calls, list_calls, loop_calls as do_calls, arm_calls as if_calls}
 use Rattle.f77_symbols.specs.Shared.{numbered}
 use Rattle.f77_results.specs.declared.results.At.{At}
-use Rattle.transformer_rules.specs.declared.transformer.Transformer.{Transformer}
-use Rattle.transformer_rules.specs.Transformers.{unchanging}
+use Rattle.transformer_algebra.specs.declared.transformer.Transformer.{Transformer}
+use Rattle.transformer_algebra.specs.Transformers.{unchanging}
+use Rattle.call_translation.specs.Scopes.{ScopeTree}
 use Rattle.transformers.specs.Given.{ResultsFit}
-use Rattle.transformers.specs.Scopes.{ScopeTree}
 use Rattle.transformers.specs.Jumps.{unstructured}
 use Rattle.transformers.specs.Lists.{first_at, or_first, value_at, or_unchanging, transformer_at}
 use Rattle.preconditions.specs.Statement.{Found, after_each, after_list, throughout, at_each, at_all, at_list}

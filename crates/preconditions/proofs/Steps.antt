@@ -1,25 +1,20 @@
--- Steps of the loops over systems, CALLs, symbols and variables.
+-- Steps of the loops over systems, CALLs and symbols.
 use Rattle.std.proofs.Common.{◌≡◌, ℕ, zero, suc, ◌+◌, ◌-◌, ◌<◌, ◌≤◌, Bool, List, [], ◌∷◌, ◌++◌, length, take, take_all, drop, length-drop, get_or, drop-cons, drop_of_length-le, add-one, append_assoc, append-nil, map, ap, ap₂, sym, subst, ◌∙◌, arith}
 use Rattle.std.proofs.lemmas.List.Elements.{All-get_or}
-use Rattle.affine_systems.specs.declared.row.Var.{Var}
 use Rattle.affine_systems.specs.declared.row.Row.{Row}
 use Rattle.affine_systems.specs.declared.row.System.{System}
 use Rattle.affine_systems.specs.Given.{Fits}
 use Rattle.hull_projection.specs.Hull.{hull}
-use Rattle.system_renaming.specs.declared.naming.Naming.{Naming}
-use Rattle.system_renaming.specs.Renaming.{naming}
 use Rattle.f77_symbols.specs.declared.symbol.Symbol.{Symbol}
 use Rattle.f77_symbols.specs.Symbols.{symbol_tree}
-use Rattle.scalar_forms.specs.Scalars.{is_cell}
-use Rattle.transformers.specs.Scopes.{ScopeTree}
-use Rattle.transformers.specs.Callee.{left_of, left_in}
-use Rattle.preconditions.specs.declared.sites.Site.{Site}
+use Rattle.affine_forms.specs.Scalars.{is_cell}
+use Rattle.call_translation.specs.declared.sites.Site.{Site}
+use Rattle.call_translation.specs.Scopes.{ScopeTree}
+use Rattle.call_translation.specs.Sites.{HoldingSite, AllSitesFit, site_tree}
+use Rattle.call_translation.specs.SiteEntry.{site_entry}
+use Rattle.call_translation.proofs.Steps.{at_place}
 use Rattle.preconditions.specs.Statement.{hull_from, some_holds, AllFit}
-use Rattle.preconditions.specs.Entry.{HoldingSite, AllSitesFit, site_tree, site_entry, sites_entry, entries_of, initial_row, initial_from, row_of, rows_from, in_callee, names_from}
-
-at_place : {A : Type 0} (xs : List A) (i : ℕ) (x : A) → i < length xs → x ≡ get_or xs i x → drop i xs ≡ x ∷ drop (i + 1) xs
-at_place {A} xs i x l g =
-    drop-cons xs i x l ∙ ap₂ (λ (y : A) (ys : List A). y ∷ ys) (sym g) (ap (λ n. drop n xs) (sym (add-one i)))
+use Rattle.preconditions.specs.Entry.{sites_entry, entries_of, initial_row, initial_from}
 
 -- ---- hulls
 
@@ -87,42 +82,3 @@ pub initial-end : (flags : List Bool) (n : ℕ) (out : List Row) (ss : List Symb
 initial-end flags n out ss i l = ap (λ (ts : List Symbol). out ++ initial_from flags n (map symbol_tree ts)) (drop_of_length-le ss l) ∙ append-nil out
 
 pub ruleset initial_loop = (initial-more, initial-end)
-
-pub rows-more : (c : HoldingSite) (n : ℕ) (out new : List Row) (ss : List Symbol) (i : ℕ) (s : Symbol) → i < length ss → s ≡ get_or ss i s → new ≡ out ++ row_of c n (symbol_tree s) → new ++ rows_from c (n + 1) (map symbol_tree (drop (i + 1) ss)) ≡ out ++ rows_from c n (map symbol_tree (drop i ss))
-rows-more c n out new ss i s l g e =
-    let here = row_of c n (symbol_tree s) in
-    let rest : ℕ → List Row = λ m. rows_from c m (map symbol_tree (drop (i + 1) ss)) in
-    ap (λ (rs : List Row). rs ++ rest (n + 1)) e
-    ∙ (append_assoc out here (rest (n + 1))
-    ∙ ap (λ (rs : List Row). out ++ rs) (ap (λ m. here ++ rest m) (add-one n) ∙ sym (ap (λ (ts : List Symbol). rows_from c n (map symbol_tree ts)) (at_place ss i s l g))))
-
-pub rows-end : (c : HoldingSite) (n : ℕ) (out : List Row) (ss : List Symbol) (i : ℕ) → length ss ≤ i → out ++ rows_from c n (map symbol_tree (drop i ss)) ≡ out
-rows-end c n out ss i l = ap (λ (ts : List Symbol). out ++ rows_from c n (map symbol_tree ts)) (drop_of_length-le ss l) ∙ append-nil out
-
-pub ruleset rows_loop = (rows-more, rows-end)
-
--- ---- variables
-
-pub names-more : (m : ScopeTree) (c : HoldingSite) (n : ℕ) (out new : List Naming) (vs : List Var) (i : ℕ) (d : Var) → i < length vs → new ≡ out ++ naming (get_or vs i d) (in_callee m c n (get_or vs i d)) ∷ [] → new ++ names_from m c (n + 1) (drop (i + 1) vs) ≡ out ++ names_from m c n (drop i vs)
-names-more m c n out new vs i d l e =
-    let here = naming (get_or vs i d) (in_callee m c n (get_or vs i d)) in
-    ap (λ (ns : List Naming). ns ++ names_from m c (n + 1) (drop (i + 1) vs)) e
-    ∙ (append_assoc out (here ∷ []) (names_from m c (n + 1) (drop (i + 1) vs))
-    ∙ ap (λ (ns : List Naming). out ++ ns) (ap₂ (λ k j. here ∷ names_from m c k (drop j vs)) (add-one n) (add-one i) ∙ sym (ap (names_from m c n) (drop-cons vs i d l))))
-
-pub names-end : (m : ScopeTree) (c : HoldingSite) (n : ℕ) (out : List Naming) (vs : List Var) (i : ℕ) → length vs ≤ i → out ++ names_from m c n (drop i vs) ≡ out
-names-end m c n out vs i l = ap (λ (ws : List Var). out ++ names_from m c n ws) (drop_of_length-le vs l) ∙ append-nil out
-
-pub ruleset names_loop = (names-more, names-end)
-
-pub left-more : (out new : List Var) (ns : List Naming) (i : ℕ) (d : Naming) → i < length ns → new ≡ out ++ left_of (get_or ns i d).to → new ++ left_in (drop (i + 1) ns) ≡ out ++ left_in (drop i ns)
-left-more out new ns i d l e =
-    let here = left_of (get_or ns i d).to in
-    ap (λ (vs : List Var). vs ++ left_in (drop (i + 1) ns)) e
-    ∙ (append_assoc out here (left_in (drop (i + 1) ns))
-    ∙ ap (λ (vs : List Var). out ++ vs) (ap (λ j. here ++ left_in (drop j ns)) (add-one i) ∙ sym (ap left_in (drop-cons ns i d l))))
-
-pub left-end : (out : List Var) (ns : List Naming) (i : ℕ) → length ns ≤ i → out ++ left_in (drop i ns) ≡ out
-left-end out ns i l = ap (λ (ms : List Naming). out ++ left_in ms) (drop_of_length-le ns l) ∙ append-nil out
-
-pub ruleset left_loop = (left-more, left-end)

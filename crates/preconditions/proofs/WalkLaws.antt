@@ -11,10 +11,10 @@ use Rattle.f77_ast.specs.Plain.{expr_tree}
 use Rattle.f77_ast.specs.PlainStmt.{stmt_tree, stmt_trees, arm_trees}
 use Rattle.f77_ast.proofs.PlainlyStmt.{stmt_trees-drop, arm_trees-drop_at}
 use Rattle.f77_results.specs.declared.results.At.{At}
-use Rattle.transformer_rules.specs.declared.transformer.Transformer.{Transformer}
-use Rattle.transformer_rules.specs.declared.loop_parts.LoopParts.{LoopParts}
-use Rattle.transformer_rules.specs.Loops.{turn, at_turn, after_loop}
-use Rattle.transformers.specs.Scopes.{ScopeTree}
+use Rattle.transformer_algebra.specs.declared.transformer.Transformer.{Transformer}
+use Rattle.transformer_algebra.specs.declared.loop_parts.LoopParts.{LoopParts}
+use Rattle.transformer_algebra.specs.Loops.{turn, at_turn, after_loop}
+use Rattle.call_translation.specs.Scopes.{ScopeTree}
 use Rattle.transformers.specs.Lists.{list_at}
 use Rattle.transformers.specs.Loops.{loop_parts}
 use Rattle.transformers.specs.Statement.{at}

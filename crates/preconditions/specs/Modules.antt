@@ -3,7 +3,7 @@ use Rattle.std.specs.Prelude.{true}
 use Rattle.affine_systems.specs.declared.row.System.{System}
 use Rattle.f77_ast.specs.Trees.{StmtTrees}
 use Rattle.f77_results.specs.declared.results.Results.{Results}
-use Rattle.transformers.specs.Scopes.{ScopeTree}
+use Rattle.call_translation.specs.Scopes.{ScopeTree}
 use Rattle.preconditions.specs.Statement.{Found, at_list}
 
 abbrev pub preconditions_of : StmtTrees → ScopeTree → Found → System → Results System

@@ -8,12 +8,12 @@ use Rattle.hull_projection.specs.Hull.{hull}
 use Rattle.f77_ast.specs.Trees.{ExprTree, StmtTree, WhatTree, ArmTree, ArmTrees, ElseTree, LoopTree, StmtTrees}
 use Rattle.f77_ast.specs.Trees as tree
 use Rattle.f77_results.specs.declared.results.At.{At}
-use Rattle.scalar_forms.specs.Conditions.{nothing, condition_of}
-use Rattle.transformer_rules.specs.declared.transformer.Transformer.{Transformer}
-use Rattle.transformer_rules.specs.declared.loop_parts.LoopParts.{LoopParts}
-use Rattle.transformer_rules.specs.Transformers.{apply, without}
-use Rattle.transformer_rules.specs.Loops.{turn, at_turn, after_loop}
-use Rattle.transformers.specs.Scopes.{ScopeTree}
+use Rattle.affine_forms.specs.Conditions.{nothing, condition_of}
+use Rattle.transformer_algebra.specs.declared.transformer.Transformer.{Transformer}
+use Rattle.transformer_algebra.specs.declared.loop_parts.LoopParts.{LoopParts}
+use Rattle.transformer_algebra.specs.Transformers.{apply, without}
+use Rattle.transformer_algebra.specs.Loops.{turn, at_turn, after_loop}
+use Rattle.call_translation.specs.Scopes.{ScopeTree}
 use Rattle.transformers.specs.Jumps.{unstructured}
 use Rattle.transformers.specs.Lists.{list_at}
 use Rattle.transformers.specs.Loops.{loop_parts}

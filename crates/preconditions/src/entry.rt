@@ -3,21 +3,20 @@ ghost use Rattle.std.specs.Prelude.{◌≡◌, ◌+◌, ◌++◌, map, IfOk};
 ghost use Rattle.affine_systems.specs.Rows.{AllRows};
 ghost use Rattle.affine_systems.specs.Given.{IsGiven, Fits};
 ghost use Rattle.f77_symbols.specs.Symbols.{symbol_tree};
-ghost use Rattle.transformers.specs.Scopes.{scope_tree, scope_of};
+ghost use Rattle.call_translation.specs.Scopes.{scope_tree, scope_of};
+ghost use Rattle.call_translation.specs.Sites.{site_tree, sites_in, AllSitesFit};
 ghost use Rattle.preconditions.specs.Statement.{hull_from};
-ghost use Rattle.preconditions.specs.Entry.{entries_of, initial_row, main_entry as main_entry_is, sites_entry as sites_entry_is, site_tree, sites_in, AllSitesFit, entry_of};
+ghost use Rattle.preconditions.specs.Entry.{entries_of, initial_row, main_entry as main_entry_is, sites_entry as sites_entry_is, entry_of};
 
-use crate::site_entry::{next_number, site_entry};
-use crate::{CallSites, Site};
+use affine_forms::{is_cell, nothing};
 use affine_systems::{Row, System, Term, Var};
+use call_translation::{CallSites, Scope, Site, next_number, site_entry, tracked_of};
 use f77_results::View;
 use f77_symbols::Symbol;
 use fx_lists::List;
 use hull_projection::hull;
-use scalar_forms::{is_cell, nothing};
 use std::alloc::{AllocError as Memory, Global};
 use system_renaming::of_rows;
-use transformers::{Scope, tracked_of};
 
 /// Adds that the symbol of a number, if it is tracked, begins with its value from DATA, where it has one.
 fn add_initial(

@@ -3,13 +3,7 @@
 
 mod entry;
 mod modules;
-mod site_entry;
-mod sites;
 mod statement;
 
 pub use entry::entry_from;
 pub use modules::preconditions;
-pub use sites::{CallSites, Site};
-
-#[cfg(test)]
-mod tests;

@@ -2,7 +2,7 @@
 ghost use Rattle.std.specs.Prelude.{◌≡◌, IfOk};
 ghost use Rattle.affine_systems.specs.Given.{Fits};
 ghost use Rattle.f77_ast.specs.PlainStmt.{stmt_trees};
-ghost use Rattle.transformers.specs.Scopes.{scope_of};
+ghost use Rattle.call_translation.specs.Scopes.{scope_of};
 ghost use Rattle.transformers.specs.Lists.{transformer_at as transformer_at_is};
 ghost use Rattle.transformers.specs.Given.{ResultsFit};
 ghost use Rattle.preconditions.specs.Statement.{EachFits};
@@ -10,11 +10,11 @@ ghost use Rattle.preconditions.specs.Modules.{preconditions_of};
 
 use crate::statement::{Known, after_list};
 use affine_systems::System;
+use call_translation::{Scope, tracked_of};
 use f77_results::{Results, View};
 use fx_lists::List;
 use std::alloc::{AllocError as Memory, Global};
-use transformer_rules::Transformer;
-use transformers::{Scope, tracked_of};
+use transformer_algebra::Transformer;
 
 /// What holds of its tracked cells where each statement of a module begins, from the transformers of its statements and from what
 /// holds where it is entered, which is the summary.

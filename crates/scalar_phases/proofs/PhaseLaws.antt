@@ -5,8 +5,8 @@ use Rattle.std.proofs.lemmas.List.Elements.{All-push, All-pop}
 use Rattle.std.specs.Prelude.{option_to_list}
 use Rattle.f77_symbols.specs.declared.variable.Unit.{Unit as BlockUnit}
 use Rattle.f77_meaning.specs.Modules.{Known}
+use Rattle.call_translation.specs.Sites.{HoldingSite}
 use Rattle.transformers.specs.Given.{Callees}
-use Rattle.preconditions.specs.Entry.{HoldingSite}
 use Rattle.scalar_phases.specs.Phases.{Found, Analysis, module_of, no_callees, with_callee, maybe_found, found_in, list_sites, caller_of, sites_of, analysis_of, analyses_from}
 
 pub ruleset one_more = (map-append, All-push, append_assoc, append-nil)

@@ -7,10 +7,10 @@ use Rattle.f77_symbols.specs.declared.variable.Unit.{Unit as BlockUnit}
 use Rattle.f77_symbols.specs.Symbols.{symbol_tree, value_in}
 use Rattle.f77_symbols.specs.Index.{names_of}
 use Rattle.tracked_cells.specs.Tracked.{tracked_of}
-use Rattle.scalar_forms.specs.Scalars.{cell_in}
+use Rattle.affine_forms.specs.Scalars.{cell_in}
 use Rattle.f77_meaning.specs.Modules.{symbol_names}
-use Rattle.transformers.specs.Scopes as code
-use Rattle.transformers.specs.Scopes.{ScopeTree}
+use Rattle.call_translation.specs.Scopes as code
+use Rattle.call_translation.specs.Scopes.{ScopeTree}
 use Rattle.scalar_phases.specs.Phases.{scope_of}
 use Rattle.scalar_phases.specs.Views.{known}
 

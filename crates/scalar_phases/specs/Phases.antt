@@ -9,13 +9,14 @@ use Rattle.f77_symbols.specs.Symbols.{number_from, value_in}
 use Rattle.f77_results.specs.declared.results.Results.{Results}
 use Rattle.tracked_cells.specs.Tracked.{tracked_of}
 use Rattle.call_graph.specs.declared.graph.Graph.{Graph}
-use Rattle.scalar_forms.specs.Scalars.{cell_in}
-use Rattle.transformer_rules.specs.declared.transformer.Transformer.{Transformer}
-use Rattle.transformers.specs.Scopes.{ScopeTree}
+use Rattle.affine_forms.specs.Scalars.{cell_in}
+use Rattle.transformer_algebra.specs.declared.transformer.Transformer.{Transformer}
+use Rattle.call_translation.specs.Scopes.{ScopeTree}
+use Rattle.call_translation.specs.Sites.{HoldingSite}
 use Rattle.transformers.specs.Lists.{value_at, transformer_at}
 use Rattle.transformers.specs.Given.{Callees}
 use Rattle.transformers.specs.Modules.{transformers_of}
-use Rattle.preconditions.specs.Entry.{HoldingSite, entry_of}
+use Rattle.preconditions.specs.Entry.{entry_of}
 use Rattle.preconditions.specs.Modules.{preconditions_of}
 use Rattle.f77_meaning.specs.Modules.{Known, symbol_names}
 

@@ -10,12 +10,12 @@ use Rattle.f77_symbols.specs.Symbols.{symbol_tree}
 use Rattle.f77_results.specs.declared.results.Results.{Results}
 use Rattle.f77_results.specs.declared.view.View.{View}
 use Rattle.f77_meaning.specs.Modules.{Known, known_of}
-use Rattle.transformer_rules.specs.declared.transformer.Transformer.{Transformer}
+use Rattle.transformer_algebra.specs.declared.transformer.Transformer.{Transformer}
+use Rattle.call_translation.specs.declared.sites.CallSites.{CallSites}
+use Rattle.call_translation.specs.Sites.{HoldingSite, sites_in, AllSitesFit}
 use Rattle.transformers.specs.Given.{ResultsFit}
 use Rattle.transformers.specs.Lists.{value_at}
-use Rattle.preconditions.specs.declared.sites.CallSites.{CallSites}
 use Rattle.preconditions.specs.Statement.{EachFits}
-use Rattle.preconditions.specs.Entry.{HoldingSite, sites_in, AllSitesFit}
 use Rattle.scalar_phases.specs.declared.program.Program.{Program}
 use Rattle.scalar_phases.specs.declared.found.Found as code
 use Rattle.scalar_phases.specs.declared.sites.Sites.{Sites}

@@ -14,7 +14,7 @@ use f77_results::{EffectSet, Results, Summaries, View};
 use f77_symbols::Symbols;
 use fx_lists::{List, Text};
 use std::alloc::{AllocError as Memory, Global};
-use transformer_rules::Transformer;
+use transformer_algebra::Transformer;
 use transformers::{copy_transformer, transformers};
 
 /// A module with its symbols, and what its statements do.

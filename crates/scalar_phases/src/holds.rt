@@ -4,9 +4,10 @@ ghost use Rattle.affine_systems.specs.Given.{Fits};
 ghost use Rattle.f77_ast.specs.PlainDecl.{parsed_tree};
 ghost use Rattle.f77_symbols.specs.Symbols.{symbol_tree};
 ghost use Rattle.f77_meaning.specs.Modules.{known_of};
+ghost use Rattle.call_translation.specs.Sites.{sites_in, AllSitesFit};
 ghost use Rattle.transformers.specs.Lists.{transformer_at};
 ghost use Rattle.preconditions.specs.Statement.{EachFits};
-ghost use Rattle.preconditions.specs.Entry.{entry_of as entry_of_is, sites_in, AllSitesFit};
+ghost use Rattle.preconditions.specs.Entry.{entry_of as entry_of_is};
 ghost use Rattle.preconditions.specs.Modules.{preconditions_of};
 ghost use Rattle.scalar_phases.specs.Phases.{scope_of, caller_of, list_sites, analysis_of as analysis_of_is, analyses_from, analyses as analyses_is};
 ghost use Rattle.scalar_phases.specs.Views.{known_in, known, found_tree, analysis_tree, OwnFits, FoundFits, AnalysisFits, sites_for, SitesFit};
@@ -18,14 +19,15 @@ use crate::sites::Sites;
 use crate::walk::{Caller, add_list};
 use affine_systems::System;
 use call_graph::Graph;
+use call_translation::CallSites;
 use f77_ast::Parsed;
 use f77_results::{Results, View};
 use f77_symbols::Symbols;
 use fx_lists::List;
-use preconditions::{CallSites, entry_from, preconditions};
+use preconditions::{entry_from, preconditions};
 use std::alloc::{AllocError as Memory, Global};
 use tracked_cells::Names;
-use transformer_rules::Transformer;
+use transformer_algebra::Transformer;
 
 /// What the analyses say of a module.
 #[derive(Drop)]

@@ -9,6 +9,3 @@ mod walk;
 
 pub use found::Found;
 pub use holds::{Analysis, analyses};
-
-#[cfg(test)]
-mod tests;

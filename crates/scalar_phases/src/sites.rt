@@ -2,15 +2,15 @@
 ghost use Rattle.std.specs.Prelude.{◌≡◌, ◌++◌, ◌∷◌, [], ℕ, List, IfOk, option_map, option_copied, bytes_eq, if◌then◌else◌};
 ghost use Rattle.affine_systems.specs.Given.{Fits};
 ghost use Rattle.f77_ast.specs.PlainStmt.{what_tree};
-ghost use Rattle.preconditions.specs.Entry.{HoldingSite, actuals_in, sites_in, AllSitesFit};
+ghost use Rattle.call_translation.specs.Sites.{HoldingSite, actuals_in, sites_in, AllSitesFit};
 ghost use Rattle.scalar_phases.specs.Phases.{scope_of};
 ghost use Rattle.scalar_phases.specs.Views.{known_in, sites_or_none, sites_for, SitesFit};
 
 use affine_systems::System;
+use call_translation::CallSites;
 use f77_ast::Stmt;
 use f77_results::View;
 use fx_lists::Text;
-use preconditions::CallSites;
 use std::alloc::{AllocError as Memory, Global};
 use std::collections::HashMap;
 

@@ -2,7 +2,7 @@
 ghost use Rattle.std.specs.Prelude.{◌≡◌, ◌++◌, [], ℕ, List, Some, IfOk, bytes_eq, if◌then◌else◌};
 ghost use Rattle.affine_systems.specs.Given.{Fits};
 ghost use Rattle.f77_ast.specs.PlainStmt.{stmt_tree, stmt_trees, what_tree, loop_tree, arm_trees};
-ghost use Rattle.preconditions.specs.Entry.{actuals_in};
+ghost use Rattle.call_translation.specs.Sites.{actuals_in};
 ghost use Rattle.preconditions.specs.Statement.{EachFits};
 ghost use Rattle.transformers.specs.Lists.{value_at};
 ghost use Rattle.scalar_phases.specs.Phases.{scope_of, site, stmt_sites, list_sites, arms_sites, loop_sites};

@@ -9,6 +9,3 @@ mod seat;
 pub use groups::Groups;
 pub use laws::{blocks_stay, blocks_take_groups, lowest_is_least, lowest_is_reached};
 pub use seat::{Home, Seat};
-
-#[cfg(test)]
-mod tests;

@@ -18,8 +18,8 @@ use Rattle.storage_groups.specs.declared.seat.Home.TheVariants.{Block, Own}
 use Rattle.storage_groups.specs.declared.seat.Seat.{Seat}
 use Rattle.storage_groups.specs.Seats.{alone_from, same_home, is_block, begins_before, joined}
 use Rattle.storage_groups.proofs.BlockLaws.{same_home-refl, same_home-is, blocks_stay, blocks_take_groups}
-use Rattle.storage_initial.specs.Units.{place_of, units_of}
-use Rattle.storage_initial.specs.Items.{item_name, item_position}
+use Rattle.storage_data.specs.Units.{place_of, units_of}
+use Rattle.storage_data.specs.Items.{item_name, item_position}
 use Rattle.storage_layout.specs.declared.blocks.Laid.{Laid}
 use Rattle.storage_layout.specs.declared.equivalences.Anchor.{Anchor}
 use Rattle.storage_layout.specs.declared.equivalences.Grouping.{Grouping}

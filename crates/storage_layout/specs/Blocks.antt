@@ -7,7 +7,7 @@ use Rattle.f77_names.specs.Tables.{NameTable}
 use Rattle.storage_groups.specs.declared.seat.Home.TheVariants.{Block}
 use Rattle.storage_groups.specs.declared.seat.Seat.{Seat}
 use Rattle.storage_groups.specs.Seats.{is_block}
-use Rattle.storage_initial.specs.Units.{place_of, units_of}
+use Rattle.storage_data.specs.Units.{place_of, units_of}
 use Rattle.storage_layout.specs.declared.blocks.Laid.{Laid}
 
 abbrev pub block_number : List (List ℕ) → List ℕ → Option ℕ

@@ -16,8 +16,8 @@ use Rattle.storage_groups.specs.Seats.{Joined, joined, is_block, begins_before}
 use Rattle.storage_layout.specs.declared.equivalences.Anchor.{Anchor}
 use Rattle.storage_layout.specs.declared.equivalences.Grouping.{Grouping}
 use Rattle.storage_layout.specs.declared.equivalences.Shared.{Shared}
-use Rattle.storage_initial.specs.Units.{place_of}
-use Rattle.storage_initial.specs.Items.{item_name, item_position, items_judged}
+use Rattle.storage_data.specs.Units.{place_of}
+use Rattle.storage_data.specs.Items.{item_name, item_position, items_judged}
 
 -- dummies and PARAMETER names have no units to share
 abbrev pub may_join : Option EntryTree → Bool

@@ -13,10 +13,10 @@ use Rattle.storage_groups.specs.declared.seat.Seat.{Seat}
 use Rattle.storage_groups.specs.Seats.{alone_from}
 use Rattle.storage_layout.specs.declared.blocks.Laid.{Laid}
 use Rattle.storage_layout.specs.declared.equivalences.Shared.{Shared}
-use Rattle.storage_initial.specs.declared.initials.Filled.{Filled}
+use Rattle.storage_data.specs.declared.initials.Filled.{Filled}
 use Rattle.storage_layout.specs.Blocks.{decls_put}
 use Rattle.storage_layout.specs.Equivalences.{decls_shared}
-use Rattle.storage_initial.specs.Initials.{decls_filled, unfilled}
+use Rattle.storage_data.specs.Initials.{decls_filled, unfilled}
 use Rattle.storage_layout.specs.Table.{Layout, is_save_all, symbols_in}
 
 -- ---- the storage of the names: each alone, then COMMON, then EQUIVALENCE, then DATA

@@ -4,7 +4,7 @@ use Rattle.f77_names.specs.declared.table.NameTable.{NameTable}
 use Rattle.f77_names.specs.Views.{table_tree}
 use Rattle.storage_groups.specs.declared.seat.Seat.{Seat}
 use Rattle.std.specs.Prelude.{ℕ}
-use Rattle.storage_initial.specs.declared.deals.Piece.{Piece}
+use Rattle.storage_data.specs.declared.deals.Piece.{Piece}
 use Rattle.storage_layout.specs.declared.layout.Layout.{Layout}
 use Rattle.storage_layout.specs.Table as table
 

@@ -19,8 +19,8 @@ use f77_names::{LineTable, NameTable, Refusal, table_of};
 use f77_symbols::Symbols;
 use fx_lists::{List, Text};
 use std::alloc::{AllocError as Memory, Global};
+use storage_data::{Filled, as_number};
 use storage_groups::Groups;
-use storage_initial::{Filled, as_number};
 
 /// Where the names lie after COMMON.
 #[tactic(auto, unfolding(crate::specs::Symbols::laid))]

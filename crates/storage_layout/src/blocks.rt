@@ -8,8 +8,8 @@ use f77_ast::{CommonPart, Decl, Entity};
 use f77_names::NameTable;
 use fx_lists::{List, Text};
 use std::alloc::{AllocError as Memory, Global};
+use storage_data::{as_number, as_offset, sum, units_of};
 use storage_groups::{Groups, Home, Seat};
-use storage_initial::{as_number, as_offset, sum, units_of};
 
 /// Where the names lie, by their places; the blocks in order of first appearance, and how many units each has so far.
 #[derive(Drop)]
@@ -33,7 +33,7 @@ fn block_number(names: &[Text], name: &Text) -> Option<usize>
 }
 
 impl Laid {
-    ghost use Rattle.storage_initial.specs.Units.{place_of};
+    ghost use Rattle.storage_data.specs.Units.{place_of};
     ghost use Rattle.storage_layout.specs.Blocks.{block_number, decl_put, decls_put, member_put, members_put, part_put, parts_put, put_at, put_there, sits_in_block, with_block};
 
     /// A block is added at the end unless it is there.

@@ -5,7 +5,7 @@ ghost use Rattle.f77_ast.specs.Plain.{expr_tree};
 ghost use Rattle.f77_ast.specs.PlainDecl.{decl_tree};
 ghost use Rattle.f77_names.specs.Entries.{find};
 ghost use Rattle.f77_names.specs.Views.{line_in, table_tree};
-ghost use Rattle.storage_initial.specs.Items.{item_name, item_position};
+ghost use Rattle.storage_data.specs.Items.{item_name, item_position};
 ghost use Rattle.storage_layout.specs.Equivalences.{begun, decl_shared, decls_shared, extends_back, group_shared, groups_shared, items_extend, items_joined, may_join, name_extends, named_joined, unit_joined};
 
 use f77_ast::{Decl, Expr};
@@ -13,8 +13,8 @@ use f77_checks::decl_line;
 use f77_names::{Cause, LineTable, NameTable, Refusal, noted};
 use fx_lists::{List, Text};
 use std::alloc::{AllocError as Memory, Global};
+use storage_data::{as_offset, item_name, item_position, items_judged};
 use storage_groups::{Groups, Seat};
-use storage_initial::{as_offset, item_name, item_position, items_judged};
 
 /// A unit of a variable.
 #[derive(Clone, Copy)]

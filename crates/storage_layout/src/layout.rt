@@ -13,8 +13,8 @@ use f77_symbols::{Place, Symbol, Symbols};
 use fx_lists::{List, Text};
 use std::alloc::{AllocError as Memory, Global};
 use std::collections::HashMap;
+use storage_data::{Piece, as_count, initial_of};
 use storage_groups::{Groups, Home, Seat};
-use storage_initial::{Piece, as_count, initial_of};
 
 /// What was laid out; the groups of locals, those that are kept, and the lowest offset of each.
 #[derive(Drop)]

@@ -13,6 +13,3 @@ mod table;
 pub use answer::{place, symbols};
 pub use laws::tables_keep_offsets;
 pub use refusal::LayoutRefusal;
-
-#[cfg(test)]
-mod tests;

@@ -128,7 +128,7 @@ fn keep(kept: &mut HashMap<u32, bool>, entry: &Entry, seat: Option<Seat>) -> Res
 }
 
 /// The groups of which a variable is in SAVE or in DATA.
-#[tactic(auto, using(storage_initial::proofs::TestLaws::twice_steps))]
+#[tactic(auto, using(storage_data::proofs::TestLaws::twice_steps))]
 pub fn kept_groups(
     alloc: Global,
     entries: &[Entry],

@@ -13,6 +13,3 @@ pub use laws::renaming_keeps_points;
 pub use naming::{Naming, renamed};
 pub use pushing::{of_rows, push_rows};
 pub use renaming::{rename_all, renamed_row};
-
-#[cfg(test)]
-mod tests;

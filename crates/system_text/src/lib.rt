@@ -4,6 +4,3 @@
 mod text;
 
 pub use text::{precondition_line, system_text, transformer_line};
-
-#[cfg(test)]
-mod tests;

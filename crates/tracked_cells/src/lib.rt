@@ -15,6 +15,3 @@ pub use laws::tracked_units_are_plain;
 pub use names::Names;
 pub use standing::has_bounds;
 pub use untracked::untracked_of;
-
-#[cfg(test)]
-mod tests;

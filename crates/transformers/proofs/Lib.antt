@@ -1,4 +1,3 @@
 pub mod Steps
 pub mod StatementLaws
 pub mod WhatLaws
-pub mod CalleeLaws

@@ -5,7 +5,7 @@ use Rattle.std.proofs.Math.Seq.{set-append_seam}
 use Rattle.affine_systems.specs.Given.{Fits}
 use Rattle.f77_ast.proofs.PlainlyStmt.{what_calls, list_calls, loop_calls as do_calls, arm_calls as if_calls}
 use Rattle.f77_results.specs.declared.results.At.{At}
-use Rattle.transformer_rules.specs.declared.transformer.Transformer.{Transformer}
+use Rattle.transformer_algebra.specs.declared.transformer.Transformer.{Transformer}
 use Rattle.transformers.specs.Given.{ResultsFit}
 use Rattle.transformers.proofs.Steps.{fits-push, results-push}
 

@@ -1,13 +1,11 @@
 -- Steps of the loops over lists, and what is handed on may be handed on.
 use Rattle.std.proofs.Common.{◌≡◌, ℕ, zero, suc, Bool, true, false, List, [], ◌∷◌, ◌++◌, Option, Some, None, ◌-◌, refl, append_assoc, append-nil, sym, ap, subst, ◌∙◌}
 use Rattle.std.specs.Prelude.{slice_get, nat_eq, if◌then◌else◌}
-use Rattle.affine_systems.specs.declared.row.Row.{Row}
-use Rattle.affine_systems.specs.Rows.{AllRows}
-use Rattle.affine_systems.specs.Given.{Fits, IsGiven}
+use Rattle.affine_systems.specs.Given.{Fits}
 use Rattle.f77_symbols.specs.Shared.{numbered}
 use Rattle.f77_results.specs.declared.results.At.{At}
-use Rattle.transformer_rules.specs.declared.transformer.Transformer.{Transformer}
-use Rattle.transformer_rules.specs.Transformers.{AllFit}
+use Rattle.transformer_algebra.specs.declared.transformer.Transformer.{Transformer}
+use Rattle.transformer_algebra.specs.Transformers.{AllFit}
 use Rattle.transformers.specs.Given.{ResultsFit}
 use Rattle.transformers.specs.Lists.{first_at, or_first, value_at}
 
@@ -23,13 +21,7 @@ pub results-push : (as' : List (At Transformer)) (a : At Transformer) → Result
 results-push [] a h f = (f, tt)
 results-push (b ∷ as') a h f = (h.0, results-push as' a h.1 f)
 
-pub given-push : (rs : List Row) (r : Row) → AllRows IsGiven rs → IsGiven r → AllRows IsGiven (rs ++ r ∷ [])
-given-push [] r h f = (f, tt)
-given-push (s ∷ rs) r h f = (h.0, given-push rs r h.1 f)
-
 pub ruleset fitting = (fits-push, results-push, append_assoc, append-nil)
-
-pub ruleset giving = (given-push, append_assoc, append-nil)
 
 -- ---- results that are looked up
 

@@ -9,13 +9,13 @@ use Rattle.f77_ast.specs.Trees.{ExprTree, StmtTree, ArmTree, ArmTrees, ElseTree,
 use Rattle.f77_ast.specs.Trees as tree
 use Rattle.f77_ast.specs.PlainStmt.{stmt_trees, loop_tree}
 use Rattle.f77_ast.proofs.PlainlyStmt.{loop_tree-out}
-use Rattle.scalar_forms.specs.declared.conditions.Condition.{Condition}
-use Rattle.scalar_forms.specs.Conditions.{no_rows, condition_of}
-use Rattle.transformer_rules.specs.declared.transformer.Transformer.{Transformer}
-use Rattle.transformer_rules.specs.declared.loop_parts.LoopParts.{LoopParts}
-use Rattle.transformer_rules.specs.Transformers.{unchanging, one_of}
-use Rattle.transformer_rules.specs.Loops.{turn, loop_transformer}
-use Rattle.transformers.specs.Scopes.{ScopeTree}
+use Rattle.affine_forms.specs.declared.conditions.Condition.{Condition}
+use Rattle.affine_forms.specs.Conditions.{no_rows, condition_of}
+use Rattle.transformer_algebra.specs.declared.transformer.Transformer.{Transformer}
+use Rattle.transformer_algebra.specs.declared.loop_parts.LoopParts.{LoopParts}
+use Rattle.transformer_algebra.specs.Transformers.{unchanging, one_of}
+use Rattle.transformer_algebra.specs.Loops.{turn, loop_transformer}
+use Rattle.call_translation.specs.Scopes.{ScopeTree}
 use Rattle.transformers.specs.Given.{Callees}
 use Rattle.transformers.specs.Loops.{loop_parts}
 use Rattle.transformers.specs.Statement.{where_holds, if_does, choice, parts_do, without_arm, without_arms, what_transformer, stmt_transformer, arm_transformers, arm_transformer, else_transformer, body_transformer, list_transformer}

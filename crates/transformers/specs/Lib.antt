@@ -1,10 +1,7 @@
-pub mod Scopes
 pub mod Given
 pub mod Jumps
 pub mod Lists
 pub mod Loops
 pub mod Simple
-pub mod Common
-pub mod Callee
 pub mod Statement
 pub mod Modules

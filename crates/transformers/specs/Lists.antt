@@ -4,9 +4,9 @@ use Rattle.f77_ast.specs.Trees.{StmtTree, StmtTrees}
 use Rattle.f77_ast.specs.Trees as tree
 use Rattle.f77_symbols.specs.Shared.{numbered}
 use Rattle.f77_results.specs.declared.results.At.{At}
-use Rattle.scalar_forms.specs.Conditions.{no_rows}
-use Rattle.transformer_rules.specs.declared.transformer.Transformer.{Transformer}
-use Rattle.transformer_rules.specs.Transformers.{transformer, unchanging, followed, all_cells, all_units}
+use Rattle.affine_forms.specs.Conditions.{no_rows}
+use Rattle.transformer_algebra.specs.declared.transformer.Transformer.{Transformer}
+use Rattle.transformer_algebra.specs.Transformers.{transformer, unchanging, followed, all_cells, all_units}
 use Rattle.transformers.specs.Jumps.{unstructured}
 
 -- ---- lists

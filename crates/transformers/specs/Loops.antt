@@ -9,11 +9,11 @@ use Rattle.f77_constants.specs.declared.constant.Worth.{Worth}
 use Rattle.f77_constants.specs.declared.constant.Worth.TheVariants.{Is, Faults, Varies}
 use Rattle.f77_constants.specs.Constants.{worth}
 use Rattle.f77_symbols.specs.Symbols.{number_from}
-use Rattle.scalar_forms.specs.Scalars.{is_cell}
-use Rattle.scalar_forms.specs.Forms.{affine_of}
-use Rattle.transformer_rules.specs.declared.transformer.Transformer.{Transformer}
-use Rattle.transformer_rules.specs.declared.loop_parts.LoopParts.{LoopParts}
-use Rattle.transformers.specs.Scopes.{ScopeTree}
+use Rattle.affine_forms.specs.Scalars.{is_cell}
+use Rattle.affine_forms.specs.Forms.{affine_of}
+use Rattle.transformer_algebra.specs.declared.transformer.Transformer.{Transformer}
+use Rattle.transformer_algebra.specs.declared.loop_parts.LoopParts.{LoopParts}
+use Rattle.call_translation.specs.Scopes.{ScopeTree}
 
 -- a number that is not 0
 abbrev pub counting : Worth → Option ℤ

@@ -11,9 +11,9 @@ use Rattle.f77_symbols.specs.declared.symbol.Place.TheVariants.{Local, Dummy, Bl
 use Rattle.f77_symbols.specs.Symbols.{SymbolTree}
 use Rattle.f77_symbols.specs.Shared.{place_at}
 use Rattle.f77_results.specs.declared.results.Results.{Results}
-use Rattle.transformer_rules.specs.declared.transformer.Transformer.{Transformer}
-use Rattle.transformer_rules.specs.Transformers.{transformer}
-use Rattle.transformers.specs.Scopes.{ScopeTree}
+use Rattle.transformer_algebra.specs.declared.transformer.Transformer.{Transformer}
+use Rattle.transformer_algebra.specs.Transformers.{transformer}
+use Rattle.call_translation.specs.Scopes.{ScopeTree}
 use Rattle.transformers.specs.Given.{Callees}
 use Rattle.transformers.specs.Statement.{list_transformer, at_list}
 

@@ -6,19 +6,19 @@ use Rattle.f77_ast.specs.Trees.{ExprTree, StmtTree, WhatTree, ArmTree, ArmTrees,
 use Rattle.f77_ast.specs.Trees as tree
 use Rattle.f77_results.specs.declared.results.At.{At}
 use Rattle.f77_results.specs.Summaries.{summary_in}
-use Rattle.scalar_forms.specs.Conditions.{no_rows, condition_of}
-use Rattle.transformer_rules.specs.declared.transformer.Transformer.{Transformer}
-use Rattle.transformer_rules.specs.declared.loop_parts.LoopParts.{LoopParts}
-use Rattle.transformer_rules.specs.Transformers.{test, unchanging, nowhere, followed, one_of}
-use Rattle.transformer_rules.specs.Loops.{turn, loop_transformer}
+use Rattle.affine_forms.specs.Conditions.{no_rows, condition_of}
+use Rattle.transformer_algebra.specs.declared.transformer.Transformer.{Transformer}
+use Rattle.transformer_algebra.specs.declared.loop_parts.LoopParts.{LoopParts}
+use Rattle.transformer_algebra.specs.Transformers.{test, unchanging, nowhere, followed, one_of}
+use Rattle.transformer_algebra.specs.Loops.{turn, loop_transformer}
+use Rattle.call_translation.specs.Scopes.{ScopeTree, scope_tree}
+use Rattle.call_translation.specs.Summary.{call_transformer}
 use Rattle.transformers.specs.declared.statement.Known.{Known}
-use Rattle.transformers.specs.Scopes.{ScopeTree, scope_tree}
 use Rattle.transformers.specs.Given.{Callees}
 use Rattle.transformers.specs.Jumps.{is_end}
 use Rattle.transformers.specs.Lists.{list_of}
 use Rattle.transformers.specs.Loops.{loop_parts}
 use Rattle.transformers.specs.Simple.{assignment, reading}
-use Rattle.transformers.specs.Callee.{call_transformer}
 
 -- what a module is looked at with
 abbrev pub scope_in : Known → ScopeTree

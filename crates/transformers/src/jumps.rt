@@ -6,7 +6,7 @@ ghost use Rattle.transformers.specs.Jumps.{goes_to, is_return, is_end, stmt_has,
 use f77_ast::{Arm, Loop, Stmt, What};
 use fx_lists::List;
 use std::alloc::{AllocError as Memory, Global};
-use transformer_rules::has;
+use transformer_algebra::has;
 
 /// Whether a GO TO one of some labels is a part of a statement.
 #[cycle(jumps)]

@@ -3,28 +3,19 @@ ghost use Rattle.std.specs.Prelude.{◌≡◌, [], ◌∷◌, ◌++◌, IfOk, On
 ghost use Rattle.affine_systems.specs.Given.{Fits};
 ghost use Rattle.f77_ast.specs.PlainStmt.{stmt_trees};
 ghost use Rattle.f77_symbols.specs.Shared.{numbered};
-ghost use Rattle.transformer_rules.specs.Transformers.{AllFit};
+ghost use Rattle.transformer_algebra.specs.Transformers.{AllFit};
 ghost use Rattle.transformers.specs.Given.{ResultsFit};
 ghost use Rattle.transformers.specs.Lists.{first_at, value_at as value_at_is, transformer_at as transformer_at_is, followed_by, in_order as in_order_is, in_any_order as in_any_order_is, list_of as list_of_is, list_at as list_at_is};
 
 use crate::is_unstructured;
+use affine_forms::no_rows;
+use call_translation::copy_unit;
 use f77_ast::{Stmt, StmtId};
 use f77_results::{At, View};
 use f77_symbols::Unit;
 use fx_lists::List;
-use scalar_forms::no_rows;
 use std::alloc::{AllocError as Memory, Global};
-use transformer_rules::{Transformer, joined_cells, joined_units, then, unchanging};
-
-/// A copy.
-pub fn copy_unit(unit: &Unit) -> Result<Unit, Memory>
-    ensures { IfOk result (λ u. u ≡ unit.now) }
-{
-    Ok(Unit {
-        block: unit.block.clone()?,
-        offset: unit.offset,
-    })
-}
+use transformer_algebra::{Transformer, joined_cells, joined_units, then, unchanging};
 
 #[tactic(auto, using(crate::proofs::Steps::lists))]
 fn copy_units(alloc: Global, units: &[Unit]) -> Result<List<Unit>, Memory>

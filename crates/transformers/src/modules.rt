@@ -5,20 +5,19 @@ ghost use Rattle.affine_systems.specs.Given.{Fits};
 ghost use Rattle.f77_ast.specs.PlainStmt.{stmt_trees};
 ghost use Rattle.f77_symbols.specs.Symbols.{symbol_tree};
 ghost use Rattle.f77_results.specs.Summaries.{summary_in};
-ghost use Rattle.transformers.specs.Scopes.{scope_of};
+ghost use Rattle.call_translation.specs.Scopes.{scope_of};
 ghost use Rattle.transformers.specs.Given.{CalleesFit, ResultsFit};
 ghost use Rattle.transformers.specs.Modules.{goes_out as goes_out_is, hidden_vars as hidden_vars_is, summary_of as summary_of_is, transformers_of};
 
 use crate::statement::{Known, with_list};
-use crate::vars::add_rows;
-use crate::{Scope, tracked_of};
 use affine_systems::{System, Var};
+use call_translation::{Scope, add_rows, tracked_of};
 use f77_results::{EffectSet, Results, Summaries, View};
 use f77_symbols::{Place, Symbols};
 use fx_lists::List;
 use hull_projection::project;
 use std::alloc::{AllocError as Memory, Global};
-use transformer_rules::Transformer;
+use transformer_algebra::Transformer;
 
 /// Whether callers see a symbol: a dummy, or a variable of a block.
 fn goes_out(symbols: &Symbols, number: u32) -> bool

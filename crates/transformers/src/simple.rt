@@ -2,32 +2,16 @@
 ghost use Rattle.std.specs.Prelude.{◌≡◌, ◌++◌, map, IfOk, OnOk};
 ghost use Rattle.affine_systems.specs.Given.{Fits};
 ghost use Rattle.f77_ast.specs.Plain.{expr_tree, expr_trees};
-ghost use Rattle.scalar_forms.specs.Scalars.{scalars};
-ghost use Rattle.transformers.specs.Simple.{named_cell as named_cell_is, one_cell, assignment as assignment_is, named_cells as named_cells_is, reading as reading_is};
+ghost use Rattle.affine_forms.specs.Scalars.{scalars};
+ghost use Rattle.call_translation.specs.Actuals.{named_cell as named_cell_is, one_cell};
+ghost use Rattle.transformers.specs.Simple.{assignment as assignment_is, named_cells as named_cells_is, reading as reading_is};
 
-use crate::Scope;
+use affine_forms::affine_of;
+use call_translation::{Scope, named_cell, push_cell};
 use f77_ast::Expr;
 use fx_lists::List;
-use scalar_forms::{affine_of, cell_of};
 use std::alloc::{AllocError as Memory, Global};
-use transformer_rules::{Transformer, assigned, forgotten, unchanging};
-
-/// The tracked cell that an expression names.
-#[tactic(auto, using(f77_ast::proofs::Plainly::expr_cases))]
-pub fn named_cell(scope: &Scope<'_>, e: &Expr) -> Option<u32>
-    ensures { result ≡ named_cell_is (scalars scope.now.symbols.now scope.now.tracked.now) (expr_tree e.now) }
-{
-    match e {
-        Expr::Name(name) => cell_of(scope.symbols, scope.tracked, name),
-        Expr::Int(_)
-        | Expr::Log(_)
-        | Expr::Element(..)
-        | Expr::Paren(_)
-        | Expr::Unary(..)
-        | Expr::Binary(..)
-        | Expr::Chars(_) => None,
-    }
-}
+use transformer_algebra::{Transformer, assigned, forgotten, unchanging};
 
 /// Of an assignment: nothing changes where the left side is no tracked cell.
 pub fn assignment(
@@ -44,20 +28,6 @@ pub fn assignment(
         Some(cell) => {
             let form = affine_of(alloc, scope.symbols, scope.tracked, right)?;
             assigned(alloc, cell, &form)
-        }
-    }
-}
-
-/// Adds a cell, if there is one.
-#[tactic(auto, using(crate::proofs::Steps::lists))]
-pub fn push_cell(cells: &mut Vec<u32>, cell: Option<u32>) -> Result<(), Memory>
-    ensures { OnOk result (cells.new.items ≡ cells.old.items ++ one_cell cell) }
-{
-    match cell {
-        None => Ok(()),
-        Some(cell) => {
-            cells.push(cell)?;
-            Ok(())
         }
     }
 }

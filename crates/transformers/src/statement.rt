@@ -3,28 +3,27 @@ ghost use Rattle.std.specs.Prelude.{◌≡◌, ◌+◌, ◌<◌, ◌&&◌, [], �
 ghost use Rattle.affine_systems.specs.Given.{Fits};
 ghost use Rattle.f77_ast.specs.Plain.{expr_tree};
 ghost use Rattle.f77_ast.specs.PlainStmt.{stmt_tree, stmt_trees, what_tree, loop_tree, arm_trees};
-ghost use Rattle.scalar_forms.specs.Conditions.{no_rows as no_rows_is};
-ghost use Rattle.transformer_rules.specs.Loops.{LoopFits};
-ghost use Rattle.transformer_rules.specs.Transformers.{AllFit};
-ghost use Rattle.transformers.specs.Scopes.{scope_tree};
+ghost use Rattle.affine_forms.specs.Conditions.{no_rows as no_rows_is};
+ghost use Rattle.transformer_algebra.specs.Loops.{LoopFits};
+ghost use Rattle.transformer_algebra.specs.Transformers.{AllFit};
+ghost use Rattle.call_translation.specs.Scopes.{scope_tree};
 ghost use Rattle.transformers.specs.Given.{CalleesFit, ResultsFit};
 ghost use Rattle.transformers.specs.Jumps.{is_end};
 ghost use Rattle.transformers.specs.Loops.{loop_parts as loop_parts_is};
 ghost use Rattle.transformers.specs.Statement.{scope_in, callees_in, where_holds, choice, parts_do, stmt_transformer as stmt_transformer_is, what_transformer as what_transformer_is, arm_transformers as arm_transformers_is, without_arms, body_transformer, if_does, list_transformer as list_transformer_is, at, at_stmt, at_parts, at_list, at_arms, at_loop};
 
-use crate::Scope;
-use crate::called::call_transformer;
 use crate::jumps::is_end;
 use crate::lists::{copy_transformer, list_of, push_transformer};
 use crate::loops::loop_parts;
 use crate::simple::{assignment, reading};
+use affine_forms::{condition_of, no_rows};
 use affine_systems::{System, meet};
+use call_translation::{Scope, call_transformer};
 use f77_ast::{Arm, Expr, Loop, Stmt, StmtId, What};
 use f77_results::{At, Summaries};
 use fx_lists::List;
-use scalar_forms::{condition_of, no_rows};
 use std::alloc::{AllocError as Memory, Global};
-use transformer_rules::{
+use transformer_algebra::{
     LoopParts, Transformer, loop_transformer, nowhere, one_of, test, then, turn, unchanging,
 };
 

@@ -1,8 +1,9 @@
 use Rattle.std.proofs.Common.{◌≡◌, map, drop}
 use Rattle.affine_systems.specs.Given.{Fits}
-use Rattle.transformers.specs.Scopes.{scope_tree}
+use Rattle.call_translation.specs.Scopes.{scope_tree}
+use Rattle.call_translation.specs.Sites.{site_tree, AllSitesFit}
 use Rattle.preconditions.specs.Statement.{hull_from}
-use Rattle.preconditions.specs.Entry.{site_tree, entries_of, AllSitesFit}
+use Rattle.preconditions.specs.Entry.{entries_of}
 use Rattle.preconditions.proofs.entry.hull_with_sites.Given as goal
 
 abbrev pub invariant-loop-site : goal.invariant-loop-site

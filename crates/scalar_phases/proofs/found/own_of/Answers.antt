@@ -2,7 +2,7 @@ use Rattle.std.proofs.Common.{◌≡◌, subst}
 use Rattle.std.specs.Prelude.{IfOk}
 use Rattle.f77_ast.specs.PlainStmt.{stmt_trees}
 use Rattle.f77_results.specs.Summaries.{summary_in}
-use Rattle.transformers.specs.Scopes.{ScopeTree}
+use Rattle.call_translation.specs.Scopes.{ScopeTree}
 use Rattle.transformers.specs.Modules.{transformers_of}
 use Rattle.scalar_phases.proofs.ScopeLaws.{scope-same}
 use Rattle.scalar_phases.proofs.found.own_of.Goals as goal

@@ -1,7 +1,8 @@
 use Rattle.std.proofs.Common.{◌≡◌, subst}
 use Rattle.std.specs.Prelude.{IfOk}
-use Rattle.transformers.specs.Scopes.{ScopeTree}
-use Rattle.preconditions.specs.Entry.{entry_of, sites_in}
+use Rattle.call_translation.specs.Scopes.{ScopeTree}
+use Rattle.call_translation.specs.Sites.{sites_in}
+use Rattle.preconditions.specs.Entry.{entry_of}
 use Rattle.scalar_phases.proofs.ScopeLaws.{scope-same}
 use Rattle.scalar_phases.proofs.holds.entry_with.Goals as goal
 

@@ -1,7 +1,7 @@
 use Rattle.std.proofs.Common.{◌≡◌, subst}
 use Rattle.std.specs.Prelude.{IfOk}
 use Rattle.f77_ast.specs.PlainStmt.{stmt_trees}
-use Rattle.transformers.specs.Scopes.{ScopeTree}
+use Rattle.call_translation.specs.Scopes.{ScopeTree}
 use Rattle.transformers.specs.Lists.{transformer_at}
 use Rattle.preconditions.specs.Modules.{preconditions_of}
 use Rattle.scalar_phases.proofs.ScopeLaws.{scope-same}

@@ -1,8 +1,8 @@
 use Rattle.std.proofs.Common.{◌≡◌, ◌++◌, ◌∷◌, [], subst}
 use Rattle.std.specs.Prelude.{OnOk}
 use Rattle.f77_ast.specs.PlainStmt.{what_tree}
-use Rattle.transformers.specs.Scopes.{ScopeTree}
-use Rattle.preconditions.specs.Entry.{actuals_in, sites_in}
+use Rattle.call_translation.specs.Scopes.{ScopeTree}
+use Rattle.call_translation.specs.Sites.{actuals_in, sites_in}
 use Rattle.scalar_phases.proofs.ScopeLaws.{scope-same}
 use Rattle.scalar_phases.proofs.sites.add_site.Goals as goal
 

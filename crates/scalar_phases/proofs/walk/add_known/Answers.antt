@@ -3,7 +3,7 @@ use Rattle.std.specs.Prelude.{IfOk, if◌then◌else◌, bytes_eq}
 use Rattle.affine_systems.specs.declared.row.System.{System}
 use Rattle.affine_systems.specs.Given.{Fits}
 use Rattle.f77_ast.specs.PlainStmt.{what_tree}
-use Rattle.preconditions.specs.Entry.{actuals_in}
+use Rattle.call_translation.specs.Sites.{actuals_in}
 use Rattle.scalar_phases.specs.Phases.{site}
 use Rattle.scalar_phases.specs.Views.{sites_for, caller_in}
 use Rattle.scalar_phases.proofs.walk.add_known.Goals as goal

@@ -1,6 +1,6 @@
 use Rattle.std.proofs.Common.{◌≡◌, ◌++◌, drop}
 use Rattle.f77_ast.specs.Plain.{expr_trees}
-use Rattle.scalar_forms.specs.Scalars.{scalars}
+use Rattle.affine_forms.specs.Scalars.{scalars}
 use Rattle.transformers.specs.Simple.{named_cells}
 use Rattle.transformers.proofs.simple.named_cells.Given as goal
 

@@ -1,7 +1,7 @@
 use Rattle.std.proofs.Common.{◌≡◌, [], ◌∷◌, ◌++◌, append_assoc, ap, sym, subst, ◌∙◌}
 use Rattle.affine_systems.specs.Given.{Fits}
 use Rattle.f77_ast.specs.PlainStmt.{what_tree}
-use Rattle.transformer_rules.specs.declared.transformer.Transformer.{Transformer}
+use Rattle.transformer_algebra.specs.declared.transformer.Transformer.{Transformer}
 use Rattle.transformers.specs.Given.{ResultsFit}
 use Rattle.transformers.specs.Statement.{scope_in, callees_in, at, at_parts}
 use Rattle.transformers.proofs.StatementLaws.{filled, fits-other}

@@ -1,7 +1,7 @@
 use Rattle.std.proofs.Common.{◌≡◌, IfOk, subst}
 use Rattle.f77_ast.specs.Plain.{expr_tree}
-use Rattle.transformer_rules.specs.declared.transformer.Transformer.{Transformer}
-use Rattle.transformers.specs.Scopes.{scope_tree}
+use Rattle.transformer_algebra.specs.declared.transformer.Transformer.{Transformer}
+use Rattle.call_translation.specs.Scopes.{scope_tree}
 use Rattle.transformers.proofs.WhatLaws.{if_does-made}
 use Rattle.transformers.proofs.statement.if_transformer.Goals as goal
 

@@ -1,7 +1,7 @@
 use Rattle.std.proofs.Common.{◌≡◌, ℕ, List, ◌++◌, ◌∷◌, []}
 use Rattle.std.specs.Prelude.{if◌then◌else◌, bytes_eq}
 use Rattle.f77_ast.specs.PlainStmt.{what_tree}
-use Rattle.preconditions.specs.Entry.{HoldingSite, actuals_in, sites_in}
+use Rattle.call_translation.specs.Sites.{HoldingSite, actuals_in, sites_in}
 use Rattle.scalar_phases.specs.Phases.{scope_of}
 use Rattle.scalar_phases.specs.Views.{known_in, sites_for}
 use Rattle.scalar_phases.proofs.SiteLaws.{added, fits_added}

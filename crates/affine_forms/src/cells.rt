@@ -1,0 +1,36 @@
+//! Names of tracked cells.
+ghost use Rattle.std.specs.Prelude.{◌≡◌};
+ghost use Rattle.f77_symbols.specs.Index.{names_of};
+ghost use Rattle.affine_forms.specs.Scalars.{is_cell as is_cell_is, cell_in};
+
+use f77_symbols::Symbols;
+use fx_lists::{List, Text};
+
+/// Whether the symbol with a number, from 1, is tracked, of flags for the symbols in order.
+pub fn is_cell(tracked: &List<bool>, number: u32) -> bool
+    ensures { result ≡ is_cell_is tracked.now number }
+{
+    if number == 0 {
+        return false;
+    }
+    match tracked.get(number as usize - 1) {
+        Some(flag) => *flag,
+        None => false,
+    }
+}
+
+/// The number of a name that is a tracked cell.
+pub fn cell_of(symbols: &Symbols, tracked: &List<bool>, name: &Text) -> Option<u32>
+    ensures { result ≡ cell_in (names_of symbols.now) tracked.now name.now }
+{
+    match symbols.number(name) {
+        None => None,
+        Some(number) => {
+            if is_cell(tracked, number) {
+                Some(number)
+            } else {
+                None
+            }
+        }
+    }
+}

@@ -1,0 +1,97 @@
+//! Rows that compare two forms.
+ghost use Rattle.std.specs.Prelude.{◌≡◌, ◌-ℤ◌, ◌<◌, ◌^◌, pos, unsigned_abs, IfOk};
+ghost use Rattle.affine_systems.specs.Given.{IsGiven};
+ghost use Rattle.affine_forms.specs.Forms.{IsSmallForm};
+ghost use Rattle.affine_forms.specs.Comparisons.{difference as difference_is, at_most_row as at_most_row_is, below_row as below_row_is, same_row as same_row_is, var_form as var_form_is};
+
+use crate::Affine;
+use affine_systems::terms::combined;
+use affine_systems::{Row, Term, Terms, Var};
+use fx_lists::List;
+use std::alloc::{AllocError as Memory, Global};
+
+/// The form of a variable.
+pub fn var_form(alloc: Global, var: Var) -> Result<Affine, Memory>
+    ensures defined { IfOk result (λ f. f ≡ var_form_is var) }
+    ensures small { IfOk result IsSmallForm }
+{
+    let terms = List::from_slice(alloc, &[Term { var, factor: 1 }])?;
+    Ok(Affine { terms, constant: 0 })
+}
+
+/// How much larger the second number is.
+fn above(x: i128, y: i128) -> i128
+    requires first { unsigned_abs x < 2 ^ 62 }
+    requires second { unsigned_abs y < 2 ^ 62 }
+    ensures value { result ≡ (y -ℤ x) }
+    ensures below { unsigned_abs result < 2 ^ 126 }
+{
+    y - x
+}
+
+/// How much larger the second number is, less 1.
+fn above_less(x: i128, y: i128) -> i128
+    requires first { unsigned_abs x < 2 ^ 62 }
+    requires second { unsigned_abs y < 2 ^ 62 }
+    ensures value { result ≡ ((y -ℤ x) -ℤ pos 1) }
+    ensures below { unsigned_abs result < 2 ^ 126 }
+{
+    y - x - 1
+}
+
+/// The terms of one form less those of another.
+fn difference(alloc: Global, left: &Affine, right: &Affine) -> Result<Terms, Memory>
+    requires left { IsSmallForm left.now }
+    requires right { IsSmallForm right.now }
+    ensures { IfOk result (λ ts. ts ≡ difference_is left.now right.now) }
+{
+    combined(alloc, 1, left.terms.as_slice(), -1, right.terms.as_slice())
+}
+
+/// That one form is at most another.
+pub fn at_most_row(alloc: Global, left: &Affine, right: &Affine) -> Result<Row, Memory>
+    requires left { IsSmallForm left.now }
+    requires right { IsSmallForm right.now }
+    ensures defined { IfOk result (λ r. r ≡ at_most_row_is left.now right.now) }
+    ensures given { IfOk result IsGiven }
+{
+    let terms = difference(alloc, left, right)?;
+    let bound = above(left.constant, right.constant);
+    Ok(Row {
+        equal: false,
+        terms,
+        bound,
+    })
+}
+
+/// That one form is below another.
+pub fn below_row(alloc: Global, left: &Affine, right: &Affine) -> Result<Row, Memory>
+    requires left { IsSmallForm left.now }
+    requires right { IsSmallForm right.now }
+    ensures defined { IfOk result (λ r. r ≡ below_row_is left.now right.now) }
+    ensures given { IfOk result IsGiven }
+{
+    let terms = difference(alloc, left, right)?;
+    let bound = above_less(left.constant, right.constant);
+    Ok(Row {
+        equal: false,
+        terms,
+        bound,
+    })
+}
+
+/// That one form is another.
+pub fn same_row(alloc: Global, left: &Affine, right: &Affine) -> Result<Row, Memory>
+    requires left { IsSmallForm left.now }
+    requires right { IsSmallForm right.now }
+    ensures defined { IfOk result (λ r. r ≡ same_row_is left.now right.now) }
+    ensures given { IfOk result IsGiven }
+{
+    let terms = difference(alloc, left, right)?;
+    let bound = above(left.constant, right.constant);
+    Ok(Row {
+        equal: true,
+        terms,
+        bound,
+    })
+}

@@ -1,0 +1,33 @@
+//! The system without rows, and the one that never holds.
+ghost use Rattle.std.specs.Prelude.{◌≡◌, IfOk};
+ghost use Rattle.affine_systems.specs.Given.{Fits};
+ghost use Rattle.affine_forms.specs.Conditions.{no_rows as no_rows_is, nothing as nothing_is};
+
+use affine_systems::{Row, System};
+use fx_lists::List;
+use std::alloc::{AllocError as Memory, Global};
+
+/// The system without rows. Takes no memory.
+pub fn no_rows(alloc: Global) -> System
+    ensures defined { result ≡ no_rows_is }
+    ensures gives { Fits result }
+{
+    System {
+        rows: List::new(alloc),
+        weak: false,
+    }
+}
+
+/// The system of the one row 0 <= -1.
+pub fn nothing(alloc: Global) -> Result<System, Memory>
+    ensures defined { IfOk result (λ s. s ≡ nothing_is) }
+    ensures gives { IfOk result Fits }
+{
+    let mut rows = List::new(alloc);
+    rows.push(Row {
+        equal: false,
+        terms: List::new(alloc),
+        bound: -1,
+    })?;
+    Ok(System { rows, weak: false })
+}

@@ -1,2 +1,0 @@
-pub mod OfferLaws
-pub mod BeginLaws

@@ -1,4 +1,0 @@
-pub mod Scenes
-pub mod Bindings
-pub mod Entries
-pub mod Laws

@@ -1,0 +1,14 @@
+use Rattle.std.proofs.Common.{◌≡◌, length, map}
+use Rattle.std.specs.List.{list_any}
+use Rattle.f77_symbols.specs.declared.symbol.Place.TheVariants.{Block}
+use Rattle.f77_symbols.specs.Symbols.{symbol_tree}
+use Rattle.tracked_cells.specs.Standing.{stands_at}
+use Rattle.call_translation.proofs.common.declares.Given as goal
+
+abbrev pub invariant-loop-rest : goal.invariant-loop-rest
+invariant-loop-rest l =
+    list_any (stands_at (map symbol_tree l.scope.symbols.now) (Block l.block l.offset)) (map symbol_tree l.rest)
+    ≡ list_any (stands_at (map symbol_tree l.scope.symbols.now) (Block l.block l.offset)) (map symbol_tree l.scope.symbols.now)
+
+abbrev pub decreases-loop-rest : goal.decreases-loop-rest
+decreases-loop-rest l = length l.rest

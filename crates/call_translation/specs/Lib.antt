@@ -1,0 +1,8 @@
+pub mod Scopes
+pub mod Common
+pub mod Actuals
+pub mod Variables
+pub mod Call
+pub mod Summary
+pub mod Sites
+pub mod SiteEntry

@@ -1,0 +1,21 @@
+//! The two directions of a CALL: the summary of a callee in the terms of its caller, and what holds at a CALL in the terms of the callee.
+#![tactic(auto)]
+
+mod actual;
+mod call;
+mod common;
+mod entry;
+mod numbers;
+mod scope;
+mod sites;
+mod summary;
+mod variables;
+
+pub use actual::{named_cell, push_cell};
+pub use common::copy_unit;
+pub use entry::site_entry;
+pub use numbers::next_number;
+pub use scope::{Scope, tracked_of};
+pub use sites::{CallSites, Site};
+pub use summary::call_transformer;
+pub use variables::add_rows;

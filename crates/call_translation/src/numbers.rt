@@ -1,0 +1,11 @@
+//! Numbers of symbols and of auxiliary variables.
+ghost use Rattle.std.specs.Prelude.{◌≡◌, ◌+◌, IfOk};
+
+use std::alloc::AllocError as Memory;
+
+/// The number after another one. Memory where there is none.
+pub fn next_number(number: u32) -> Result<u32, Memory>
+    ensures { IfOk result (λ next. next ≡ number + 1) }
+{
+    number.checked_add(1).ok_or(Memory)
+}

@@ -1,0 +1,25 @@
+//! The scope of a module: what its statements and its CALLs are looked at with.
+ghost use Rattle.std.specs.Prelude.{◌≡◌, map, IfOk};
+ghost use Rattle.f77_ast.specs.PlainDecl.{module_tree};
+ghost use Rattle.f77_symbols.specs.Symbols.{symbol_tree};
+ghost use Rattle.tracked_cells.specs.Tracked.{tracked_of};
+
+use f77_results::View;
+use f77_symbols::Symbols;
+use fx_lists::List;
+use std::alloc::{AllocError as Memory, Global};
+use tracked_cells::tracked;
+
+/// The symbols of a module, and a flag for each whether it is a tracked cell.
+#[derive(Drop)]
+pub struct Scope<'a> {
+    pub symbols: &'a Symbols,
+    pub tracked: &'a List<bool>,
+}
+
+/// Which symbols of a module are tracked cells.
+pub fn tracked_of(alloc: Global, view: &View<'_>) -> Result<List<bool>, Memory>
+    ensures { IfOk result (λ cells. cells ≡ tracked_of (module_tree view.now.«module».now) (map symbol_tree view.now.symbols.now) view.now.graph.now.untracked) }
+{
+    tracked(alloc, view.module, view.symbols, &view.graph.untracked)
+}

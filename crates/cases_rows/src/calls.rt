@@ -1,0 +1,81 @@
+//! What each call answers.
+
+use crate::form_calls::{condition_answer, form_answer};
+use crate::loop_calls::loop_answer;
+use crate::naming_calls::{all_pushed, all_renamed, gathered, numbered};
+use crate::row_calls;
+use crate::text_calls::{precondition_answer, system_answer, transformer_answer};
+use crate::transformer_calls::{apply_answer, closed_answer, one_answer, then_answer};
+use crate::trouble::Trouble;
+use std::alloc::{AllocError, Global};
+
+/// The calls on forms, transformers and DO statements, and those of texts.
+fn scalar_call(alloc: Global, call: &str, words: &str, parts: &[&str]) -> Result<String, Trouble> {
+    match call {
+        "form" => form_answer(alloc, parts),
+        "condition" => condition_answer(alloc, parts),
+        "then" => then_answer(alloc, parts),
+        "apply" => apply_answer(alloc, parts),
+        "closed" => closed_answer(alloc, parts),
+        "one" => one_answer(alloc, parts),
+        "loop" => loop_answer(alloc, parts),
+        "text" => system_answer(alloc, words, parts),
+        "precondition" => precondition_answer(alloc, words, parts),
+        "transformer" => transformer_answer(alloc, words, parts),
+        _ => Err(Trouble::Malformed),
+    }
+}
+
+/// The calls that make systems of rows of other systems.
+fn naming_call(alloc: Global, call: &str, words: &str, parts: &[&str]) -> Result<String, Trouble> {
+    match call {
+        "rename_all" => all_renamed(alloc, words, parts),
+        "of_rows" => gathered(alloc, parts),
+        "push_rows" => all_pushed(alloc, parts),
+        "fresh_over" => numbered(alloc, words, parts),
+        _ => scalar_call(alloc, call, words, parts),
+    }
+}
+
+fn row_call(alloc: Global, call: &str, words: &str, parts: &[&str]) -> Result<String, Trouble> {
+    match call {
+        "normalise" => row_calls::normalised(alloc, parts),
+        "tidy" => row_calls::tidied(alloc, parts),
+        "push_row" => row_calls::pushed(alloc, parts),
+        "meet" => row_calls::met(alloc, parts),
+        "rename" => row_calls::renamed(alloc, words, parts),
+        "substitute" => row_calls::substituted(alloc, words, parts),
+        "eliminate" => row_calls::eliminated(alloc, words, parts),
+        "project" => row_calls::projected(alloc, words, parts),
+        "refuted" => row_calls::is_refuted(alloc, parts),
+        "entails" => row_calls::is_entailed(alloc, parts),
+        "clean" => row_calls::cleaned(alloc, parts),
+        "hull" => row_calls::hulled(alloc, parts),
+        "minus" => row_calls::subtracted(alloc, parts),
+        "closure" => row_calls::closed(alloc, words, parts),
+        _ => naming_call(alloc, call, words, parts),
+    }
+}
+
+fn called(alloc: Global, line: &str) -> Result<String, Trouble> {
+    let mut parts = Vec::new(alloc);
+    for part in line.split(';') {
+        parts.push(part)?;
+    }
+    match parts.as_slice() {
+        [head, parts @ ..] => match head.trim().split_once(' ') {
+            None => row_call(alloc, head.trim(), "", parts),
+            Some((call, words)) => row_call(alloc, call, words, parts),
+        },
+        [] => Err(Trouble::Malformed),
+    }
+}
+
+/// The answer of a line, or that it is malformed.
+pub fn answer(alloc: Global, line: &str) -> Result<String, AllocError> {
+    match called(alloc, line) {
+        Ok(text) => Ok(text),
+        Err(Trouble::Memory) => Err(AllocError),
+        Err(Trouble::Malformed) => String::from_str(alloc, "malformed"),
+    }
+}

@@ -1,0 +1,34 @@
+//! The calls on expressions.
+
+use crate::expressions::expression_of;
+use crate::tables::table_of;
+use crate::trouble::Trouble;
+use crate::written::{affine_text, condition_text};
+use affine_forms::{affine_of, condition_of};
+use std::alloc::Global;
+
+pub fn form_answer(alloc: Global, parts: &[&str]) -> Result<String, Trouble> {
+    match parts {
+        [symbols, e] => {
+            let table = table_of(alloc, symbols)?;
+            let e = expression_of(alloc, e)?;
+            match affine_of(alloc, &table.symbols, &table.tracked, &e)? {
+                Some(f) => Ok(affine_text(alloc, &f)?),
+                None => Ok(String::from_str(alloc, "none")?),
+            }
+        }
+        _ => Err(Trouble::Malformed),
+    }
+}
+
+pub fn condition_answer(alloc: Global, parts: &[&str]) -> Result<String, Trouble> {
+    match parts {
+        [symbols, e] => {
+            let table = table_of(alloc, symbols)?;
+            let e = expression_of(alloc, e)?;
+            let c = condition_of(alloc, &table.symbols, &table.tracked, &e)?;
+            Ok(condition_text(alloc, &c)?)
+        }
+        _ => Err(Trouble::Malformed),
+    }
+}

@@ -1,0 +1,7 @@
+//! The lines that say what holds where statements begin, and what they change.
+#![tactic(auto)]
+
+mod lines;
+mod statement;
+
+pub use lines::scalar_lines;

@@ -1,0 +1,73 @@
+//! The lines of a module.
+ghost use Rattle.std.specs.Prelude.{◌≡◌, ◌++◌, map, IfOk};
+ghost use Rattle.f77_ast.specs.PlainStmt.{stmt_trees};
+ghost use Rattle.f77_symbols.specs.Index.{names_of};
+ghost use Rattle.claim_lines.specs.ScalarLines.{entry_lines, scalar_lines_of};
+
+use crate::statement::{Said, put_changes, put_list};
+use affine_systems::System;
+use f77_printer::Added;
+use f77_results::{Results, View};
+use f77_symbols::Symbols;
+use fx_lists::{List, Text};
+use std::alloc::{AllocError as Memory, Global};
+use system_text::precondition_line;
+use transformer_algebra::Transformer;
+
+fn names_of(alloc: Global, symbols: &Symbols) -> Result<List<Text>, Memory>
+    ensures { IfOk result (λ names. names ≡ names_of symbols.now) }
+{
+    let mut names = List::new(alloc);
+    for symbol in symbols.as_slice() {
+        names.push(symbol.name.clone()?)?;
+    }
+    Ok(names)
+}
+
+/// The lines on the entry of a subroutine.
+fn put_entry(
+    alloc: Global,
+    names: &[Text],
+    main: bool,
+    entry: &System,
+    whole: &Transformer,
+    out: &mut List<Added>,
+) -> Result<(), Memory>
+    ensures { IfOk result (λ _. out.new ≡ out.old ++ entry_lines main names.now entry.now whole.now) }
+{
+    if main {
+        return Ok(());
+    }
+    let line = precondition_line(alloc, names, entry)?;
+    out.push(Added { before: 0, line })?;
+    put_changes(alloc, names, 0, whole, out)
+}
+
+/// The lines that are added to a module: what holds of its tracked cells where it is entered, if it is a subroutine, and where each statement begins, and what CALLs of it,
+/// and its DOs and CALLs, may change. A statement without a result has no line.
+pub fn scalar_lines(
+    alloc: Global,
+    view: &View<'_>,
+    own: &Results<Transformer>,
+    pre: &Results<System>,
+) -> Result<List<Added>, Memory>
+    ensures { IfOk result (λ lines. lines ≡ scalar_lines_of view.now.«module».now.main (stmt_trees view.now.«module».now.body) (names_of view.now.symbols.now) own.now pre.now) }
+{
+    let names = names_of(alloc, view.symbols)?;
+    let said = Said {
+        names: names.as_slice(),
+        own: &own.at,
+        pre: &pre.at,
+    };
+    let mut out = List::new(alloc);
+    put_entry(
+        alloc,
+        names.as_slice(),
+        view.module.main,
+        &pre.summary,
+        &own.summary,
+        &mut out,
+    )?;
+    put_list(alloc, &said, &view.module.body, &mut out)?;
+    Ok(out)
+}

@@ -1,5 +1,0 @@
-pub mod Tally
-mod Standing
-mod Adding
-mod Reading
-pub mod Writing

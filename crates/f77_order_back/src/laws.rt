@@ -1,7 +1,0 @@
-//! The law of the order of what was written of a module.
-ghost use Rattle.f77_order_back.specs.Laws.{OrderAgain};
-
-/// The statements that are written of a module without a fault have none of order, number or labels.
-pub fn order_again()
-    ensures { OrderAgain }
-{}

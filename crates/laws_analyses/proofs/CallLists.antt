@@ -1,0 +1,57 @@
+-- What holds of each CALL of a list of statements, as a list of CALLs.
+use Rattle.std.proofs.Common.{ℕ, List, [], ◌∷◌, ◌++◌}
+use Rattle.f77_ast.specs.Trees.{ExprTrees, StmtTree, WhatTree, ArmTree, ArmTrees, ElseTree, LoopTree, StmtTrees}
+use Rattle.f77_ast.specs.Trees as tree
+use Rattle.laws_storage.specs.Calls.{EachCall, CallsOf, CallsIn, ArmCalls, OneArm, ElseCalls, LoopCalls}
+use Rattle.laws_statements.specs.CallsIn.{CallAt, Each, stmt_calls, what_calls, list_calls, arms_calls, arm_calls, else_calls, loop_calls}
+
+pub each_both : {T : Type 0} (P Q : T → Type 0) (xs : List T) → Each P xs → Each Q xs → Each (λ x. P x × Q x) xs
+each_both P Q [] h k = tt
+each_both P Q (x ∷ xs) h k = ((h.0, k.0), each_both P Q xs h.1 k.1)
+
+pub each_more : {T : Type 0} (P Q : T → Type 0) (xs : List T) → ((x : T) → P x → Q x) → Each P xs → Each Q xs
+each_more P Q [] f h = tt
+each_more P Q (x ∷ xs) f h = (f x h.0, each_more P Q xs f h.1)
+
+pub each_joined : {T : Type 0} (P : T → Type 0) (xs ys : List T) → Each P xs → Each P ys → Each P (xs ++ ys)
+each_joined P [] ys h k = k
+each_joined P (x ∷ xs) ys h k = (h.0, each_joined P xs ys h.1 k)
+
+module _ (C : ℕ → List ℕ → ExprTrees → Type 0) where
+  abbrev pub Holds : CallAt → Type 0
+  Holds c = C c.number c.callee c.actuals
+
+  mutual
+    pub each_in : (t : StmtTrees) → EachCall C t → Each Holds (list_calls t)
+    each_in tree.no_stmts h = tt
+    each_in (tree.more_stmts s rest) h = each_joined Holds (stmt_calls s) (list_calls rest) (each_of s h.0) (each_in rest h.1)
+
+    each_of : (s : StmtTree) → CallsOf C s → Each Holds (stmt_calls s)
+    each_of (tree.stmt n label w) h = each_what w n h
+
+    each_what : (w : WhatTree) (n : ℕ) → CallsIn C n w → Each Holds (what_calls w n)
+    each_what (tree.assign a b) n h = tt
+    each_what (tree.block_if arms other) n h = each_joined Holds (arms_calls arms) (else_calls other) (each_arms arms h.0) (each_else other h.1)
+    each_what (tree.logical_if e s) n h = each_of s h
+    each_what (tree.do_loop l) n h = each_loop l h
+    each_what (tree.call x es) n h = (h, tt)
+    each_what (tree.goto l) n h = tt
+    each_what tree.continue n h = tt
+    each_what tree.return n h = tt
+    each_what (tree.stop text) n h = tt
+    each_what (tree.print es) n h = tt
+    each_what (tree.read es) n h = tt
+
+    each_arms : (arms : ArmTrees) → ArmCalls C arms → Each Holds (arms_calls arms)
+    each_arms tree.no_arms h = tt
+    each_arms (tree.more_arms a rest) h = each_joined Holds (arm_calls a) (arms_calls rest) (each_arm a h.0) (each_arms rest h.1)
+
+    each_arm : (a : ArmTree) → OneArm C a → Each Holds (arm_calls a)
+    each_arm (tree.arm test body) h = each_in body h
+
+    each_else : (other : ElseTree) → ElseCalls C other → Each Holds (else_calls other)
+    each_else tree.no_else h = tt
+    each_else (tree.otherwise body) h = each_in body h
+
+    each_loop : (l : LoopTree) → LoopCalls C l → Each Holds (loop_calls l)
+    each_loop (tree.loop index first last step body) h = each_in body h

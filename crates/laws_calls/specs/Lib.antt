@@ -1,0 +1,9 @@
+pub mod Scenes
+pub mod Bindings
+pub mod Entries
+pub mod RuleLaws
+pub mod Actuals
+pub mod ActualLaws
+pub mod Parts
+pub mod Sites
+pub mod ProgramLaws

@@ -1,0 +1,144 @@
+-- The modules of lines are built of statements that the grammar gives, without a fault.
+use Rattle.std.proofs.Common.{◌≡◌, ℕ, List, [], ◌∷◌, ◌++◌, refl, subst, Bool, true, false}
+use Rattle.std.specs.Prelude.{Option, Some, None, Result, Ok, Err, if◌then◌else◌}
+use Rattle.fixed_form.specs.declared.line.Line.{Line}
+use Rattle.fixed_form.specs.declared.line.Lines.{Lines}
+use Rattle.f77_ast.specs.DeclTrees.{ParsedTree}
+use Rattle.f77_statements.specs.declared.refusal.Cause.{Cause}
+use Rattle.f77_statements.specs.Phrases.{PhraseTree, program, subroutine, specification, simple, logical_if, block_if, else_if, else_part, end_if, do_head, end_do, end_module}
+use Rattle.f77_statements.specs.Statements.{phrase_of}
+use Rattle.f77_structure.specs.declared.fault.Found.{Found}
+use Rattle.f77_structure.specs.Checks.{fault_of}
+use Rattle.f77_structure.specs.Depth.{is_deep}
+use Rattle.f77_structure.specs.Lists.{is_none_of}
+use Rattle.f77_parser.specs.Gives.{Refused, and_then}
+use Rattle.f77_parser.specs.Statements.{StatementTree, read_as, all_read, marks_of}
+use Rattle.f77_parser.specs.Building.{built}
+use Rattle.f77_parser.specs.Modules.{ends_module, closing_at, unless_faulty, modules_from, parse_of}
+use Rattle.roundtrip_statements.specs.Formed.{Each}
+use Rattle.roundtrip_statements.specs.Phrased.{IsPhrase}
+use Rattle.roundtrip_statements.specs.Written.{as_written}
+use Rattle.roundtrip_statements.proofs.Phrases.{statements_read_back}
+use Rattle.roundtrip_modules.specs.Cards.{statements_of}
+use Rattle.roundtrip_modules.specs.Numbered.{IsWell}
+use Rattle.roundtrip_modules.specs.ModuleLaws.{IsStatement}
+use Rattle.roundtrip_modules.proofs.Kept.{Each-append, Kind, Stated, Held, all_held, each-map}
+use Rattle.roundtrip_modules.proofs.Well.{built_well}
+
+-- ---- what is built
+
+abbrev pub AnyLabel : Option ℕ → Type 0
+AnyLabel l = Unit {0}
+
+-- a module that is numbered in the order of the text, and each statement of which the grammar gives
+pub record IsBuilt (p : ParsedTree) : Type 0 where
+  pub well : IsWell p.module_read
+  pub formed : Each (Held AnyLabel IsPhrase) (statements_of p.module_read)
+
+written : (p : PhraseTree) → IsPhrase p → IsPhrase (as_written p)
+written (program n) h = h
+written (subroutine n ds) h = h
+written (specification d) h = h
+written (simple w) h = h
+written (logical_if e w) h = h
+written (block_if e) h = h
+written (else_if e) h = h
+written else_part h = h
+written end_if h = h
+written (do_head d) h = record { index = h.index; first = h.first; last = h.last; step = h.step }
+written end_do h = h
+written end_module h = h
+
+kind : Kind AnyLabel IsPhrase IsPhrase
+kind = record {
+  bare = tt;
+  formed = λ p h. h;
+  written = written;
+  first = λ e h. h;
+  otherwise = tt;
+  end_branches = tt;
+  end_loop = tt;
+  end_all = tt;
+  labelled = tt;
+}
+
+pub is_built : (closing : List (List ℕ)) (begun : List StatementTree) (s : StatementTree) → s.phrase ≡ end_module → Each IsStatement (begun ++ s ∷ []) → fault_of (marks_of (begun ++ s ∷ [])) ≡ None → IsBuilt (built closing (begun ++ s ∷ []))
+is_built closing begun s e i f = record {
+  well = built_well closing begun s e i f;
+  formed = all_held AnyLabel IsPhrase IsPhrase kind closing (begun ++ s ∷ []) (each-map IsStatement (Stated AnyLabel IsPhrase) (begun ++ s ∷ []) (λ x h. (tt, h)) i);
+}
+
+-- ---- statements
+
+statement-formed : (l : Line) (r : Result PhraseTree Cause) (f : StatementTree → Result (List StatementTree) Refused) (ss : List StatementTree) → phrase_of l.body ≡ r
+    → and_then (read_as l r) f ≡ Ok ss → ((s : StatementTree) → IsStatement s → f s ≡ Ok ss → Each IsStatement ss) → Each IsStatement ss
+statement-formed l (Ok p) f ss e h g =
+    g (record { first = l.first; label = l.label; deep = is_deep l.body; comments = l.comments; phrase = p }) (statements_read_back.formed l.body p e) h
+statement-formed l (Err c) f ss e h g = cc
+
+all-formed : (ls : List Line) (done ss : List StatementTree) → Each IsStatement done → all_read done ls ≡ Ok ss → Each IsStatement ss
+all-formed [] done ss d h = let same : done ≡ ss = cc in subst (Each IsStatement) same d
+all-formed (l ∷ ls) done ss d h =
+    statement-formed l (phrase_of l.body) (λ s. all_read (done ++ s ∷ []) ls) ss refl h
+    (λ s p e. all-formed ls (done ++ s ∷ []) ss (Each-append IsStatement done (s ∷ []) d (record { first = p; others = tt })) e)
+
+-- ---- modules
+
+ends-module : (p : PhraseTree) → ends_module p ≡ true → p ≡ end_module
+ends-module (program n) h = cc
+ends-module (subroutine n ds) h = cc
+ends-module (specification d) h = cc
+ends-module (simple w) h = cc
+ends-module (logical_if e w) h = cc
+ends-module (block_if e) h = cc
+ends-module (else_if e) h = cc
+ends-module else_part h = cc
+ends-module end_if h = cc
+ends-module (do_head d) h = cc
+ends-module end_do h = cc
+ends-module end_module h = refl
+
+-- of a module that goes up to its END, of statements that the grammar gives, without a fault
+abbrev pub OfBuilt : (ParsedTree → Type 0) → Type 0
+OfBuilt P = (closing : List (List ℕ)) (begun : List StatementTree) (s : StatementTree) → s.phrase ≡ end_module → Each IsStatement (begun ++ s ∷ []) → fault_of (marks_of (begun ++ s ∷ [])) ≡ None → P (built closing (begun ++ s ∷ []))
+
+module _ (P : ParsedTree → Type 0) (one : OfBuilt P) where
+  faultless-on : (f : Option Found) (q : ParsedTree) (k : ParsedTree → Result (List ParsedTree) Refused) (ps : List ParsedTree) → and_then (unless_faulty f q) k ≡ Ok ps
+      → (f ≡ None → k q ≡ Ok ps → Each P ps) → Each P ps
+  faultless-on None q k ps h g = g refl h
+  faultless-on (Some f) q k ps h g = cc
+
+  choice-on : (b : Bool) (x y : Result (List ParsedTree) Refused) (ps : List ParsedTree) → (if b then x else y) ≡ Ok ps
+      → (b ≡ true → x ≡ Ok ps → Each P ps) → (y ≡ Ok ps → Each P ps) → Each P ps
+  choice-on true x y ps h f g = f refl h
+  choice-on false x y ps h f g = g h
+
+  all-go : (closing : List (List ℕ)) (ss : List StatementTree) (done ps : List ParsedTree) (begun : List StatementTree) → Each P done → Each IsStatement begun → Each IsStatement ss
+      → modules_from closing done begun ss ≡ Ok ps → Each P ps
+  all-go closing [] done ps begun d b i h = let same : done ≡ ps = cc in subst (Each P) same d
+  all-go closing (s ∷ ss) done ps begun d b i h =
+      let whole = begun ++ s ∷ [] in
+      let own = closing_at (is_none_of ss) closing in
+      let more : Each IsStatement whole = Each-append IsStatement begun (s ∷ []) b (record { first = i.first; others = tt }) in
+      choice-on (ends_module s.phrase)
+      (and_then (unless_faulty (fault_of (marks_of whole)) (built own whole)) (λ p. modules_from closing (done ++ p ∷ []) [] ss)) (modules_from closing done whole ss) ps h
+      (λ e g. faultless-on (fault_of (marks_of whole)) (built own whole) (λ p. modules_from closing (done ++ p ∷ []) [] ss) ps g
+      (λ f x. all-go closing ss (done ++ built own whole ∷ []) ps []
+      (Each-append P done (built own whole ∷ []) d (record { first = one own begun s (ends-module s.phrase e) more f; others = tt })) tt i.others x))
+      (λ g. all-go closing ss done ps whole d more i.others g)
+
+-- ---- lines
+
+module _ (P : ParsedTree → Type 0) (one : OfBuilt P) where
+  then-on : (r : Result (List StatementTree) Refused) (closing : List (List ℕ)) (ps : List ParsedTree) → ((ss : List StatementTree) → r ≡ Ok ss → Each IsStatement ss)
+      → and_then r (λ ss. modules_from closing [] [] ss) ≡ Ok ps → Each P ps
+  then-on (Ok ss) closing ps i h = all-go P one closing ss [] ps [] tt tt (i ss refl) h
+  then-on (Err e) closing ps i h = cc
+
+  -- then it holds of the modules of lines
+  pub all_of : (lines : Lines) (ps : List ParsedTree) → parse_of lines ≡ Ok ps → Each P ps
+  unfolding parse_of
+  all_of lines ps h = then-on (all_read [] lines.lines) lines.closing ps (λ ss e. all-formed lines.lines [] ss tt e) h
+
+pub all_built : (lines : Lines) (ps : List ParsedTree) → parse_of lines ≡ Ok ps → Each IsBuilt ps
+all_built lines ps h = all_of IsBuilt is_built lines ps h

@@ -1,0 +1,135 @@
+-- No actual is misread.
+use Rattle.std.proofs.Common.{◌≡◌, ◌⊎◌, inl, inr, ℕ, Bool, true, false, not, List, [], ◌∷◌, Option, Some, None, Ok, refl, sym, ap, ◌∙◌, subst}
+use Rattle.std.specs.Prelude.{if◌then◌else◌, bytes_eq, is_some, ◌&&◌}
+use Rattle.std.proofs.lemmas.Bool.{and_from}
+use Rattle.std.proofs.lemmas.Slice.Eq.{bytes_eq-Decides}
+use Rattle.f77_ast.specs.Trees.{ExprTree, ExprTrees, StmtTree, WhatTree, ArmTree, ArmTrees, ElseTree, LoopTree, StmtTrees}
+use Rattle.f77_ast.specs.Trees as tree
+use Rattle.f77_ast.specs.DeclTrees.{ParsedTree}
+use Rattle.f77_ast.specs.Numbers.{intrinsic_named}
+use Rattle.f77_ast.specs.Places.{Meant, Constant, Variable, Function}
+use Rattle.f77_symbols.specs.declared.symbol.Place.{Place}
+use Rattle.f77_symbols.specs.declared.symbol.Place.TheVariants as place
+use Rattle.f77_symbols.specs.Symbols.{BoundTree, SymbolTree}
+use Rattle.tracked_cells.specs.Standing.{has_bounds}
+use Rattle.call_graph.specs.Actuals.{named, is_array}
+use Rattle.f77_meaning.specs.Modules.{is_function, meant_by, names}
+use Rattle.storage_layout.specs.Symbols.{symbols_of}
+use Rattle.laws_tables.specs.Shapes.{symbol_named, has_any, bounds_of, StandsBare, StandsIndexed, AllShaped, ShapedActual, ShapedActuals, ShapedStmt, ShapedWhat, ShapedArms, ShapedArm, ShapedElse, ShapedLoop, ShapedList}
+use Rattle.laws_tables.proofs.ShapeLaws.{bodies_are_shaped}
+use Rattle.laws_tables.proofs.ConstantLaws.{constants_are_scalars}
+use Rattle.laws_storage.specs.Calls.{IsMisread, indexed, constant_array, AllRead, EachCall, CallsOf, CallsIn, ArmCalls, OneArm, ElseCalls, LoopCalls, CallsAreRead}
+use Rattle.laws_storage.proofs.ActualLaws.{Meaning, meaning, no_meaning}
+
+-- ---- names
+
+same_named : (ss : List SymbolTree) (x : List ℕ) → symbol_named ss x ≡ named ss x
+same_named [] x = refl
+same_named (s ∷ ss) x = go (bytes_eq x s.name) (same_named ss x)
+  where
+    go : (b : Bool) → symbol_named ss x ≡ named ss x → (if b then Some s else symbol_named ss x) ≡ (if b then Some s else named ss x)
+    go true h = refl
+    go false h = h
+
+name_of : (ss : List SymbolTree) (x : List ℕ) (s : SymbolTree) → named ss x ≡ Some s → x ≡ s.name
+name_of [] x s e = cc
+name_of (y ∷ ss) x s e = go (bytes_eq x y.name) refl e (name_of ss x s)
+  where
+    go : (b : Bool) → bytes_eq x y.name ≡ b → (if b then Some y else named ss x) ≡ Some s → (named ss x ≡ Some s → x ≡ s.name) → x ≡ s.name
+    go true t h ih = let same : y ≡ s = cc in (bytes_eq-Decides x y.name).0 t ∙ ap (λ z. z.name) same
+    go false t h ih = ih h
+
+any_array : (o : Option SymbolTree) → has_any (bounds_of o) → is_array o ≡ true
+any_array None h = absurd h
+any_array (Some s) h = go s.bounds h
+  where
+    go : (bs : List BoundTree) → has_any bs → has_bounds bs ≡ true
+    go [] k = absurd k
+    go (b ∷ bs) k = refl
+
+-- what has the name of a function and no bounds is one
+function_named : (ss : List SymbolTree) (x : List ℕ) → bounds_of (named ss x) ≡ [] → is_some (intrinsic_named x) ≡ true → names ss x ≡ Function
+function_named ss x b i = go (named ss x) refl b
+  where
+    go : (o : Option SymbolTree) → named ss x ≡ o → bounds_of o ≡ [] → names ss x ≡ Function
+    go None e h = no_meaning ss x e
+    go (Some s) e h =
+        let m = meaning ss x s e in
+        let is : is_function s ≡ true = and_from (not (has_bounds s.bounds)) (is_some (intrinsic_named s.name)) (ap (λ bs. not (has_bounds bs)) h) (ap (λ n. is_some (intrinsic_named n)) (sym (name_of ss x s e)) ∙ i) in
+        m.meant ∙ ap (λ c. if c then Function else meant_by s.scalar m.number s.place) is
+
+array_kept : (ss : List SymbolTree) (x : List ℕ) (c : _) → ((s : SymbolTree) (k : _) → named ss x ≡ Some s → s.place ≡ place.Constant k → s.bounds ≡ []) → is_array (named ss x) ≡ true → names ss x ≡ Constant c → ⊥
+array_kept ss x c flat a n = go (named ss x) refl a
+  where
+    by_place : (s : SymbolTree) (q : Place) (k : ℕ) → named ss x ≡ Some s → has_bounds s.bounds ≡ true → s.place ≡ q → meant_by s.scalar k q ≡ Constant c → ⊥
+    by_place s (place.Local g o) k e h p f = cc
+    by_place s (place.Dummy d) k e h p f = cc
+    by_place s (place.Block b o) k e h p f = cc
+    by_place s (place.Constant v) k e h p f = let z : true ≡ false = sym h ∙ ap has_bounds (flat s v e p) in cc
+
+    by_function : (s : SymbolTree) (b : Bool) (k : ℕ) → named ss x ≡ Some s → has_bounds s.bounds ≡ true → (if b then Function else meant_by s.scalar k s.place) ≡ Constant c → ⊥
+    by_function s true k e h f = cc
+    by_function s false k e h f = by_place s s.place k e h refl f
+
+    go : (o : Option SymbolTree) → named ss x ≡ o → is_array o ≡ true → ⊥
+    go None e h = cc
+    go (Some s) e h = let m = meaning ss x s e in by_function s (is_function s) m.number e h (sym m.meant ∙ n)
+
+-- ---- actuals
+
+module _ (p : ParsedTree) (ss : List SymbolTree) (laid : symbols_of p ≡ Ok ss) where
+  not_misread : (e : ExprTree) → ShapedActual (StandsBare ss) (StandsIndexed ss) e → IsMisread ss e → ⊥
+  not_misread e h (indexed x es q a f) =
+      let s = (subst (ShapedActual (StandsBare ss) (StandsIndexed ss)) q h).0 in
+      elim s [
+        | inl w ↦ (let z : true ≡ false = sym (any_array (named ss x) (subst (λ o. has_any (bounds_of o)) (same_named ss x) w.0)) ∙ a in cc)
+        | inr w ↦ f (function_named ss x (ap bounds_of (sym (same_named ss x)) ∙ w.0) w.1)
+      ]
+  not_misread e h (constant_array x c a n) = array_kept ss x c (λ s k i j. constants_are_scalars p ss laid x s k (same_named ss x ∙ i) j) a n
+
+  all_read : (es : ExprTrees) → ShapedActuals (StandsBare ss) (StandsIndexed ss) es → AllRead ss es
+  all_read tree.no_exprs h = tt
+  all_read (tree.more_exprs e es) h = (not_misread e h.0, all_read es h.1)
+
+  -- ---- statements
+
+  mutual
+    list_read : (t : StmtTrees) → ShapedList (StandsBare ss) (StandsIndexed ss) t → EachCall (λ n x es. AllRead ss es) t
+    list_read tree.no_stmts h = tt
+    list_read (tree.more_stmts s rest) h = (stmt_read s h.0, list_read rest h.1)
+
+    stmt_read : (t : StmtTree) → ShapedStmt (StandsBare ss) (StandsIndexed ss) t → CallsOf (λ n x es. AllRead ss es) t
+    stmt_read (tree.stmt n label w) h = what_read w n h
+
+    what_read : (w : WhatTree) (n : ℕ) → ShapedWhat (StandsBare ss) (StandsIndexed ss) w → CallsIn (λ n x es. AllRead ss es) n w
+    what_read (tree.assign a b) n h = tt
+    what_read (tree.block_if arms other) n h = (arms_read arms h.0, else_read other h.1)
+    what_read (tree.logical_if e s) n h = stmt_read s h.1
+    what_read (tree.do_loop l) n h = loop_read l h
+    what_read (tree.call x es) n h = all_read es h
+    what_read (tree.goto l) n h = tt
+    what_read tree.continue n h = tt
+    what_read tree.return n h = tt
+    what_read (tree.stop text) n h = tt
+    what_read (tree.print es) n h = tt
+    what_read (tree.read es) n h = tt
+
+    arms_read : (as' : ArmTrees) → ShapedArms (StandsBare ss) (StandsIndexed ss) as' → ArmCalls (λ n x es. AllRead ss es) as'
+    arms_read tree.no_arms h = tt
+    arms_read (tree.more_arms a rest) h = (arm_read a h.0, arms_read rest h.1)
+
+    arm_read : (a : ArmTree) → ShapedArm (StandsBare ss) (StandsIndexed ss) a → OneArm (λ n x es. AllRead ss es) a
+    arm_read (tree.arm test body) h = list_read body h.1
+
+    else_read : (y : ElseTree) → ShapedElse (StandsBare ss) (StandsIndexed ss) y → ElseCalls (λ n x es. AllRead ss es) y
+    else_read tree.no_else h = tt
+    else_read (tree.otherwise body) h = list_read body h
+
+    loop_read : (l : LoopTree) → ShapedLoop (StandsBare ss) (StandsIndexed ss) l → LoopCalls (λ n x es. AllRead ss es) l
+    loop_read (tree.loop index first last step body) h = list_read body h.4
+
+  pub body_read : EachCall (λ n x es. AllRead ss es) p.module_read.body
+  body_read = list_read p.module_read.body (bodies_are_shaped p ss laid)
+
+pub calls_are_read : CallsAreRead
+calls_are_read p ss laid = body_read p ss laid

@@ -1,0 +1,12 @@
+pub mod Programs
+pub mod CellLaws
+pub mod Initial
+pub mod Calls
+pub mod Below
+pub mod Activations
+pub mod Owned
+pub mod Lending
+pub mod ScopeLaws
+pub mod Owners
+pub mod OwnerLaws
+pub mod DataLaws

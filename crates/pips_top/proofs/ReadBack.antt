@@ -1,0 +1,90 @@
+-- What is written of a program that was read is read again as the same program.
+use Rattle.std.proofs.Common.{◌≡◌, ℕ, List, [], ◌∷◌, ◌++◌, Ok, refl, ap, sym, ◌∙◌, subst}
+use Rattle.f77_ast.specs.DeclTrees.{ParsedTree}
+use Rattle.f77_parser.specs.Gives.{and_then}
+use Rattle.f77_parser.specs.Modules.{parse_of}
+use Rattle.f77_symbols.specs.Symbols.{SymbolTree}
+use Rattle.call_graph.specs.declared.graph.Graph.{Graph}
+use Rattle.call_graph.specs.Links.{link_of}
+use Rattle.f77_meaning.specs.Modules.{known_of}
+use Rattle.scalar_phases.specs.Phases.{Analysis}
+use Rattle.laws_programs.specs.Programs as laws
+use Rattle.laws_programs.proofs.Sources.{AnyLabel, IsBuilt, all_built}
+use Rattle.roundtrip_statements.specs.Formed.{Each}
+use Rattle.roundtrip_statements.specs.Phrased.{IsPhrase}
+use Rattle.roundtrip_modules.specs.Cards.{Card, statements_of}
+use Rattle.roundtrip_modules.proofs.Kept.{Held, each-map}
+use Rattle.roundtrip_text.specs.Texts as back
+use Rattle.roundtrip_programs.specs.Lines.{LinesArePassedOver}
+use Rattle.roundtrip_programs.specs.Programs.{AreTables, IsProgram, IsFormed, ProgramsReadBack, NamesAreShown}
+use Rattle.pips_top.specs.Claimed.{said_of, lines_for}
+use Rattle.pips_top.specs.Laws.{ReadWrittenBack}
+use Rattle.pips_top.specs.Program.{ProgramTree}
+use Rattle.pips_top.specs.Reading.{lines_or, table_or, tables_of, graph_or, linked_by, program_of, reading}
+use Rattle.pips_top.specs.Written.{parsed_text, modules_text}
+use Rattle.pips_top.proofs.AddedLines.{KnownShown, said_shown, all_over}
+use Rattle.pips_top.proofs.Programs.{Linked, all_tables, linked_from, parsed_from}
+
+-- ---- what was read
+
+same_tables : (ms : List ParsedTree) (ts : List (List SymbolTree)) → laws.AreTables ms ts → AreTables ms ts
+same_tables [] [] h = tt
+same_tables [] (t ∷ ts) h = absurd h
+same_tables (m ∷ ms) [] h = absurd h
+same_tables (m ∷ ms) (t ∷ ts) h = (h.0, same_tables ms ts h.1)
+
+of_parts : (text : List ℕ) (ms : List ParsedTree) (p : ProgramTree) → back.IsReadAs text ms → Linked ms (tables_of ms) p → IsProgram text p.modules p.tables p.graph
+of_parts text ms p read (same, tables, links) =
+    let Q : List ParsedTree → Type 0 = λ ns. IsProgram text ns p.tables p.graph in
+    subst Q (sym same) (record { read = read; tabled = same_tables ms p.tables (all_tables ms p.tables tables); linked = links })
+
+is_read : (text : List ℕ) (p : ProgramTree) → reading text ≡ Ok p → IsProgram text p.modules p.tables p.graph
+is_read text p e =
+    let f = parsed_from text p e in
+    of_parts text f.1 p (record { lines = f.0; lined = f.2; parsed = f.3 }) (linked_from f.1 p f.4)
+
+-- ---- its names
+
+formed : (m : ParsedTree) → IsBuilt m → IsFormed m
+formed m b = each-map (Held AnyLabel IsPhrase) (λ (c : Card). IsPhrase c.phrase) (statements_of m.module_read) (λ c h. h.1) b.formed
+
+known_shown : NamesAreShown → (ms : List ParsedTree) (ts : List (List SymbolTree)) → Each IsBuilt ms → AreTables ms ts → Each KnownShown (known_of ms ts)
+known_shown law [] ts b h = tt
+known_shown law (m ∷ ms) [] b h = tt
+known_shown law (m ∷ ms) (t ∷ ts) b h = record { first = law m t b.first.well (formed m b.first) h.0; others = known_shown law ms ts b.others h.1 }
+
+-- ---- what is written
+
+text_same : (all : List Analysis) (ms : List ParsedTree) → modules_text all ms ≡ back.modules_text (λ m. lines_for all m.module_read.name) ms
+text_same all [] = refl
+text_same all (m ∷ ms) = ap (λ rest. parsed_text all m ++ rest) (text_same all ms)
+
+-- ---- what is read of it
+
+tables_are : (ms : List ParsedTree) (ts : List (List SymbolTree)) → AreTables ms ts → tables_of ms ≡ Ok ts
+tables_are [] [] h = refl
+tables_are [] (t ∷ ts) h = absurd h
+tables_are (m ∷ ms) [] h = absurd h
+tables_are (m ∷ ms) (t ∷ ts) h =
+    ap (λ r. and_then (table_or r) (λ x. and_then (tables_of ms) (λ rest. Ok (x ∷ rest)))) h.0 ∙ ap (λ r. and_then r (λ rest. Ok (t ∷ rest))) (tables_are ms ts h.1)
+
+program_is : (ms : List ParsedTree) (ts : List (List SymbolTree)) (g : Graph) → AreTables ms ts → link_of ms ts ≡ Ok g → program_of ms ≡ Ok (record { modules = ms; tables = ts; graph = g })
+unfolding program_of
+program_is ms ts g h l = ap (λ r. and_then r (λ x. linked_by ms x (graph_or (link_of ms x)))) (tables_are ms ts h) ∙ ap (λ r. linked_by ms ts (graph_or r)) l
+
+reading_is : (text : List ℕ) (ms : List ParsedTree) (ts : List (List SymbolTree)) (g : Graph) → IsProgram text ms ts g → reading text ≡ Ok (record { modules = ms; tables = ts; graph = g })
+unfolding reading
+reading_is text ms ts g is =
+    ap (λ r. and_then (and_then (lines_or r) parse_of) program_of) is.read.lined ∙ ap (λ r. and_then r program_of) is.read.parsed ∙ program_is ms ts g is.tabled is.linked
+
+pub back_from : ProgramsReadBack → LinesArePassedOver → NamesAreShown → ReadWrittenBack
+back_from programs lines names show bytes p e =
+    let is = is_read bytes p e in
+    let known = known_shown names p.modules p.tables (all_built is.read.lines p.modules is.read.parsed) is.tabled in
+    let all = said_of show p in
+    let b = programs bytes p.modules p.tables p.graph (λ m. lines_for all m.module_read.name) is (all_over lines all (said_shown show p known) p.modules) in
+    let q : ProgramTree = record { modules = b.again; tables = p.tables; graph = p.graph } in (
+      q,
+      ap reading (text_same all p.modules) ∙ reading_is (back.modules_text (λ m. lines_for all m.module_read.name) p.modules) b.again p.tables p.graph b.program,
+      record { modules = b.same; tables = refl; graph = refl },
+    )

@@ -1,0 +1,17 @@
+-- What is written of a program is read again as the same program.
+use Rattle.std.specs.Prelude.{◌≡◌, map, Ok}
+use Rattle.f77_ast.specs.DeclTrees.{ParsedTree}
+use Rattle.pips_top.specs.Program.{ProgramTree}
+use Rattle.pips_top.specs.Reading.{reading}
+use Rattle.pips_top.specs.Written.{written}
+use Rattle.pips_top.specs.declared.words.Show.{Show}
+
+-- the same modules, whatever the lines at which their statements stand, with the same tables and the same graph
+pub record SameProgram (p q : ProgramTree) : Type 0 where
+  pub modules : map (λ (m : ParsedTree). m.module_read) q.modules ≡ map (λ (m : ParsedTree). m.module_read) p.modules
+  pub tables : q.tables ≡ p.tables
+  pub graph : q.graph ≡ p.graph
+
+-- what is written of it, with the lines of what is said of it, is not refused, and is the same program
+abbrev pub ReadsBack : Show → ProgramTree → Type 0
+ReadsBack show p = (q : ProgramTree) × (reading (written show p) ≡ Ok q) × SameProgram p q

@@ -1,6 +1,0 @@
-mod Members
-mod Sizes
-mod Steps
-mod Insides
-mod Leading
-mod Whole

@@ -1,7 +1,0 @@
-//! Where GO TOs lead.
-ghost use Rattle.read_jumps.specs.Laws.{JumpsStayInside};
-
-/// Every GO TO of a module that is read leads to a label of a list of statements around it.
-pub fn jumps_stay_inside()
-    ensures { JumpsStayInside }
-{}

@@ -1,5 +1,0 @@
-use Rattle.read_programs.proofs.Runs.{all_are_of_programs}
-use Rattle.read_programs.proofs.laws.all_are_of_programs.Goals as goal
-
-pub returns : goal.returns
-returns c = all_are_of_programs c.all_effects_hold.ensures c.summaries_are_made.ensures

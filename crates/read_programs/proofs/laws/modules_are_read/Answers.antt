@@ -1,5 +1,0 @@
-use Rattle.read_programs.proofs.Whole.{modules_are_read}
-use Rattle.read_programs.proofs.laws.modules_are_read.Goals as goal
-
-pub returns : goal.returns
-returns c = modules_are_read

@@ -1,5 +1,0 @@
-use Rattle.read_programs.proofs.Whole.{numbers_go_up}
-use Rattle.read_programs.proofs.laws.numbers_go_up.Goals as goal
-
-pub returns : goal.returns
-returns c = numbers_go_up

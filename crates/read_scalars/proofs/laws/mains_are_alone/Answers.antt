@@ -1,7 +1,0 @@
-use Rattle.read_scalars.proofs.MainLaws.{mains_are_alone}
-use Rattle.read_scalars.proofs.laws.mains_are_alone.Goals as goal
-
-pub returns : goal.returns
-returns c =
-    mains_are_alone c.names_agree.ensures c.read_data_lies.ensures c.modules_are_read.ensures c.numbers_go_up.ensures c.programs_are_linked.ensures c.bodies_are_shaped.ensures c.flags_tell_cells.ensures
-    c.cells_are_scalars.ensures c.cells_begin.ensures c.common_cells_are_alone.ensures c.linked_have_blocks.ensures

@@ -1,0 +1,9 @@
+pub mod Cards
+pub mod Numbered
+pub mod Page
+pub mod Shallow
+pub mod ModuleLaws
+pub mod Flat
+pub mod DepthLaws
+pub mod OrderLaws
+pub mod JumpLaws

@@ -1,5 +1,0 @@
-use Rattle.scalar_forms.proofs.ConditionLaws.{conditions_hold}
-use Rattle.scalar_forms.proofs.laws.conditions_hold.Goals as goal
-
-pub returns : goal.returns
-returns c = conditions_hold

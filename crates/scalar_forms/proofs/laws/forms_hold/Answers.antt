@@ -1,5 +1,0 @@
-use Rattle.scalar_forms.proofs.ConditionLaws.{forms_hold}
-use Rattle.scalar_forms.proofs.laws.forms_hold.Goals as goal
-
-pub returns : goal.returns
-returns c = forms_hold

@@ -1,0 +1,21 @@
+//! The units that names and items stand for, and the initial values that DATA gives them.
+#![tactic(auto)]
+
+mod deals;
+mod initials;
+mod items;
+mod numbers;
+mod positions;
+mod runs;
+mod stretches;
+mod targets;
+mod units;
+mod values;
+
+pub use deals::Piece;
+pub use initials::Filled;
+pub use items::{item_name, item_position, items_judged};
+pub use numbers::{as_count, as_number, as_offset, sum};
+pub use runs::initial_of;
+pub use stretches::Stretch;
+pub use units::units_of;

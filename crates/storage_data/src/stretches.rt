@@ -1,0 +1,98 @@
+//! Units that have an initial value.
+ghost use Rattle.std.specs.Prelude.{◌≡◌, ◌++◌, ◌+ℤ◌, ◌∷◌, [], Some, IfOk, OnOk, pos};
+ghost use Rattle.storage_data.specs.Initials.{meet_twice, meets, meets_some, stretch_at, stretch_of, stretches_of};
+
+use crate::numbers::as_offset;
+use crate::targets::Target;
+use fx_lists::List;
+use std::alloc::{AllocError as Memory, Global};
+use storage_groups::{Groups, Home, Seat};
+
+/// Units of a group: the first, and the one behind the last.
+#[derive(Clone, Copy)]
+pub struct Stretch {
+    pub home: Home,
+    pub from: i64,
+    pub end: i64,
+}
+
+fn behind(from: i64, count: u64) -> Result<i64, Memory>
+    ensures { IfOk result (λ n. n ≡ from +ℤ pos count) }
+{
+    match from.checked_add(as_offset(count)?) {
+        None => Err(Memory),
+        Some(end) => Ok(end),
+    }
+}
+
+fn stretch_at(seat: Seat, offset: u64, count: u64) -> Result<Stretch, Memory>
+    ensures { IfOk result (λ s. s ∷ [] ≡ stretch_at (Some seat) offset count) }
+{
+    let from = behind(seat.offset, offset)?;
+    Ok(Stretch {
+        home: seat.home,
+        from,
+        end: behind(from, count)?,
+    })
+}
+
+fn add_stretch(seats: &Groups, target: Target, stretches: &mut List<Stretch>) -> Result<(), Memory>
+    ensures { OnOk result (stretches.new ≡ stretches.old ++ stretch_of seats.now target) }
+{
+    match target {
+        Target::Excluded | Target::Open => Ok(()),
+        Target::Covers(place, offset, count) => match seats.seat(place) {
+            None => Ok(()),
+            Some(seat) => stretches.push(stretch_at(seat, offset, count)?),
+        },
+    }
+}
+
+#[tactic(auto, using(f77_ast::proofs::PlainlyDecl::decl_lists))]
+pub fn stretches_of(
+    alloc: Global,
+    seats: &Groups,
+    targets: &[Target],
+) -> Result<List<Stretch>, Memory>
+    ensures { IfOk result (λ ss. ss ≡ stretches_of seats.now targets.now) }
+{
+    let mut stretches = List::new(alloc);
+    for target in targets {
+        add_stretch(seats, *target, &mut stretches)?;
+    }
+    Ok(stretches)
+}
+
+impl Stretch {
+    fn meets(self, other: Stretch) -> bool
+        ensures { result ≡ meets self other }
+    {
+        self.home.is_same(other.home) && self.from < other.end && other.from < self.end
+    }
+}
+
+fn meets_some(stretch: Stretch, before: &[Stretch]) -> bool
+    ensures { result ≡ meets_some stretch before.now }
+{
+    for other in before {
+        if stretch.meets(*other) {
+            return true;
+        }
+    }
+    false
+}
+
+/// Adds stretches one after another; whether one meets one before it. Each is compared with all before it: a module takes the
+/// time of the square of its targets.
+#[tactic(auto, using(crate::proofs::TestLaws::twice_steps))]
+pub fn meet_twice(before: &mut List<Stretch>, new: &[Stretch]) -> Result<bool, Memory>
+    ensures answer { IfOk result (λ b. b ≡ meet_twice before.old new.now) }
+    ensures all { OnOk result (before.new ≡ before.old ++ new.now) }
+{
+    let mut twice = false;
+    for stretch in new {
+        twice = twice || meets_some(*stretch, before.as_slice());
+        before.push(*stretch)?;
+    }
+    Ok(twice)
+}

@@ -1,5 +1,0 @@
-use Rattle.std.proofs.Common.{length}
-use Rattle.storage_initial.proofs.positions.+position.Given as goal
-
-abbrev pub decreases-position : goal.decreases-position
-decreases-position l = length l.sizes.now

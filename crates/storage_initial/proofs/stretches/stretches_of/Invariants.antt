@@ -1,6 +1,0 @@
-use Rattle.std.proofs.Common.{◌≡◌, ◌++◌, drop}
-use Rattle.storage_initial.specs.Initials.{stretches_of}
-use Rattle.storage_initial.proofs.stretches.stretches_of.Given as goal
-
-abbrev pub invariant-loop-target : goal.invariant-loop-target
-invariant-loop-target l = l.stretches ++ stretches_of l.seats (drop l.target-index l.targets) ≡ stretches_of l.seats l.targets

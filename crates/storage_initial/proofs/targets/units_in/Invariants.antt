@@ -1,6 +1,0 @@
-use Rattle.std.proofs.Common.{◌≡◌, ◌+◌, drop}
-use Rattle.storage_initial.specs.Initials.{units_in}
-use Rattle.storage_initial.proofs.targets.units_in.Given as goal
-
-abbrev pub invariant-loop-target : goal.invariant-loop-target
-invariant-loop-target l = l.units + units_in (drop l.target-index l.targets) ≡ units_in l.targets

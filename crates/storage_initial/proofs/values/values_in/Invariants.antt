@@ -1,6 +1,0 @@
-use Rattle.std.proofs.Common.{◌≡◌, ◌+◌, drop}
-use Rattle.storage_initial.specs.Initials.{values_in}
-use Rattle.storage_initial.proofs.values.values_in.Given as goal
-
-abbrev pub invariant-loop-run : goal.invariant-loop-run
-invariant-loop-run l = l.values + values_in (drop l.run-index l.runs) ≡ values_in l.runs

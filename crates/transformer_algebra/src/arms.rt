@@ -1,0 +1,113 @@
+//! A choice of transformers.
+ghost use Rattle.std.specs.Prelude.{◌≡◌, IfOk};
+ghost use Rattle.affine_systems.specs.Rows.{AllRows};
+ghost use Rattle.affine_systems.specs.Given.{IsGiven, Fits};
+ghost use Rattle.transformer_algebra.specs.Transformers.{AllFit, equal as equal_is, equals as equals_is, completed as completed_is, all_cells as all_cells_is, all_units as all_units_is, hulled as hulled_is, one_of as one_of_is};
+
+use crate::{Transformer, joined_cells, joined_units, nowhere, others};
+use affine_forms::{same_row, var_form};
+use affine_systems::{Row, System, Var};
+use f77_symbols::Unit;
+use fx_lists::List;
+use hull_projection::hull;
+use std::alloc::{AllocError as Memory, Global};
+use system_renaming::push_rows;
+
+/// That the exit of a cell is the cell.
+fn equal(alloc: Global, cell: u32) -> Result<Row, Memory>
+    ensures defined { IfOk result (λ r. r ≡ equal_is cell) }
+    ensures given { IfOk result IsGiven }
+{
+    let exit = var_form(alloc, Var::Exit(cell))?;
+    let entry = var_form(alloc, Var::Cell(cell))?;
+    same_row(alloc, &exit, &entry)
+}
+
+/// That the exits of cells are the cells.
+pub fn equals(alloc: Global, cells: &[u32]) -> Result<Vec<Row>, Memory>
+    ensures defined { IfOk result (λ rs. rs.items ≡ equals_is cells.now) }
+    ensures given { IfOk result (λ rs. AllRows IsGiven rs.items) }
+{
+    let mut out = Vec::new(alloc);
+    for c in cells {
+        out.push(equal(alloc, *c)?)?;
+    }
+    Ok(out)
+}
+
+/// The system of a transformer for more cells: those that it does not change stay.
+pub fn completed(alloc: Global, cells: &[u32], t: &Transformer) -> Result<System, Memory>
+    requires { Fits t.now.system }
+    ensures defined { IfOk result (λ s. s ≡ completed_is cells.now t.now) }
+    ensures gives { IfOk result Fits }
+{
+    let rest = others(alloc, cells, t.cells.as_slice())?;
+    let rows = equals(alloc, rest.as_slice())?;
+    push_rows(alloc, &t.system, rows)
+}
+
+#[tactic(auto, using(crate::proofs::ArmSteps::all_cells_loop))]
+/// All cells that one of them may change.
+fn all_cells(alloc: Global, arms: &[Transformer]) -> Result<List<u32>, Memory>
+    ensures { IfOk result (λ cs. cs ≡ all_cells_is arms.now) }
+{
+    let mut cells = List::new(alloc);
+    for t in arms {
+        cells = joined_cells(alloc, cells.as_slice(), t.cells.as_slice())?;
+    }
+    Ok(cells)
+}
+
+#[tactic(auto, using(crate::proofs::ArmSteps::all_units_loop))]
+fn all_units(alloc: Global, arms: &[Transformer]) -> Result<List<Unit>, Memory>
+    ensures { IfOk result (λ us. us ≡ all_units_is arms.now) }
+{
+    let mut units = List::new(alloc);
+    for t in arms {
+        units = joined_units(alloc, units.as_slice(), t.foreign.as_slice())?;
+    }
+    Ok(units)
+}
+
+#[tactic(auto, using(crate::proofs::ArmSteps::hulled_loop))]
+/// The hulls, from left to right.
+fn hulled(
+    alloc: Global,
+    cells: &[u32],
+    first: System,
+    arms: &[Transformer],
+) -> Result<System, Memory>
+    requires first { Fits first }
+    requires arms { AllFit arms.now }
+    ensures defined { IfOk result (λ s. s ≡ hulled_is cells.now first arms.now) }
+    ensures gives { IfOk result Fits }
+{
+    let mut hulls = first;
+    for t in arms {
+        let next = completed(alloc, cells, t)?;
+        hulls = hull(alloc, &hulls, &next)?;
+    }
+    Ok(hulls)
+}
+
+/// What one of them does, whichever that is: each completed for all cells, and hulls from left to right. Of none, what never
+/// ends.
+pub fn one_of(alloc: Global, arms: &[Transformer]) -> Result<Transformer, Memory>
+    requires { AllFit arms.now }
+    ensures defined { IfOk result (λ t. t ≡ one_of_is arms.now) }
+    ensures gives { IfOk result (λ t. Fits t.system) }
+{
+    match arms {
+        [] => nowhere(alloc),
+        [t, more @ ..] => {
+            let cells = all_cells(alloc, arms)?;
+            let first = completed(alloc, cells.as_slice(), t)?;
+            let system = hulled(alloc, cells.as_slice(), first, more)?;
+            Ok(Transformer {
+                cells,
+                foreign: all_units(alloc, arms)?,
+                system,
+            })
+        }
+    }
+}

@@ -1,0 +1,147 @@
+//! What holds before the turns of a DO, at each turn, and after it.
+ghost use Rattle.std.specs.Prelude.{◌≡◌, IfOk};
+ghost use Rattle.affine_systems.specs.Rows.{AllRows};
+ghost use Rattle.affine_systems.specs.Given.{IsGiven, Fits};
+ghost use Rattle.affine_systems.specs.Terms.{number as number_is};
+ghost use Rattle.transformer_algebra.specs.Loops.{LoopFits, terms_stay as terms_stay_is, stays as stays_is, if_stays as if_stays_is, before_turns as before_turns_is, counted_turn as counted_turn_is, at_turn as at_turn_is, counted_end as counted_end_is, after_loop as after_loop_is};
+
+use crate::{
+    LoopParts, Transformer, apply, closed, guard, has, inside, next, past, start, unguard, without,
+};
+use affine_forms::Affine;
+use affine_systems::{Row, System, Term, Var};
+use hull_projection::{clean, hull};
+use std::alloc::{AllocError as Memory, Global};
+use system_renaming::push_rows;
+
+fn number_of(v: Var) -> u32
+    ensures { result ≡ number_is v }
+{
+    match v {
+        Var::Cell(n) | Var::Exit(n) | Var::Aux(n) => n,
+        Var::Phi(n) => u32::from(n),
+    }
+}
+
+#[tactic(auto, using(crate::proofs::ArmSteps::stay_loop))]
+/// Whether none of the terms has one of these cells. Looks each up.
+fn terms_stay(cells: &[u32], terms: &[Term]) -> bool
+    ensures { result ≡ terms_stay_is cells.now terms.now }
+{
+    for t in terms {
+        if has(cells, number_of(t.var)) {
+            return false;
+        }
+    }
+    true
+}
+
+/// Whether there is a form, and none of its cells is one of these.
+fn stays(cells: &[u32], form: &Option<Affine>) -> bool
+    ensures { result ≡ stays_is cells.now form.now }
+{
+    match form {
+        None => false,
+        Some(f) => terms_stay(cells, f.terms.as_slice()),
+    }
+}
+
+/// The system with these rows, where the last value has a form of which no cell is changed.
+fn if_stays(
+    alloc: Global,
+    l: &LoopParts,
+    t: &Transformer,
+    s: System,
+    rows: Vec<Row>,
+) -> Result<System, Memory>
+    requires fits { Fits s }
+    requires rows { AllRows IsGiven rows.items }
+    ensures defined { IfOk result (λ r. r ≡ if_stays_is l.now t.now s rows.items) }
+    ensures gives { IfOk result Fits }
+{
+    if stays(t.cells.as_slice(), &l.last) {
+        push_rows(alloc, &s, rows)
+    } else {
+        Ok(s)
+    }
+}
+
+/// What holds before the first turn, where `p` holds before the DO.
+pub fn before_turns(alloc: Global, l: &LoopParts, p: &System) -> Result<System, Memory>
+    requires parts { LoopFits l.now }
+    requires before { Fits p.now }
+    ensures defined { IfOk result (λ s. s ≡ before_turns_is l.now p.now) }
+    ensures gives { IfOk result Fits }
+{
+    let guarded = push_rows(alloc, p, guard(alloc, l)?)?;
+    let first = start(alloc, l)?;
+    apply(alloc, &first, &guarded)
+}
+
+fn counted_turn(alloc: Global, l: &LoopParts, t: &Transformer, p: &System) -> Result<System, Memory>
+    requires parts { LoopFits l.now }
+    requires turn { Fits t.now.system }
+    requires before { Fits p.now }
+    ensures defined { IfOk result (λ s. s ≡ counted_turn_is l.now t.now p.now) }
+    ensures gives { IfOk result Fits }
+{
+    let begun = before_turns(alloc, l, p)?;
+    let turns = closed(alloc, t)?;
+    let reached = apply(alloc, &turns, &begun)?;
+    let within = if_stays(alloc, l, t, reached, inside(alloc, l, Var::Cell(l.index))?)?;
+    clean(alloc, &within)
+}
+
+/// What holds at the beginning of each turn, where `p` holds before the DO and it has this turn.
+pub fn at_turn(alloc: Global, l: &LoopParts, t: &Transformer, p: &System) -> Result<System, Memory>
+    requires parts { LoopFits l.now }
+    requires turn { Fits t.now.system }
+    requires before { Fits p.now }
+    ensures defined { IfOk result (λ s. s ≡ at_turn_is l.now t.now p.now) }
+    ensures gives { IfOk result Fits }
+{
+    match l.step {
+        None => without(alloc, t.cells.as_slice(), p),
+        Some(_) => counted_turn(alloc, l, t, p),
+    }
+}
+
+fn counted_end(
+    alloc: Global,
+    l: &LoopParts,
+    t: &Transformer,
+    p: &System,
+    after: &System,
+) -> Result<System, Memory>
+    requires parts { LoopFits l.now }
+    requires before { Fits p.now }
+    requires after { Fits after.now }
+    ensures defined { IfOk result (λ s. s ≡ counted_end_is l.now t.now p.now after.now) }
+    ensures gives { IfOk result Fits }
+{
+    let beyond = push_rows(alloc, p, unguard(alloc, l)?)?;
+    let none = apply(alloc, &start(alloc, l)?, &beyond)?;
+    let ended = apply(alloc, &next(alloc, l)?, after)?;
+    let some = if_stays(alloc, l, t, ended, past(alloc, l, Var::Cell(l.index))?)?;
+    hull(alloc, &none, &some)
+}
+
+/// What holds after a DO with this turn, where `p` holds before it and `after` at the end of its body.
+pub fn after_loop(
+    alloc: Global,
+    l: &LoopParts,
+    t: &Transformer,
+    p: &System,
+    after: &System,
+) -> Result<System, Memory>
+    requires parts { LoopFits l.now }
+    requires before { Fits p.now }
+    requires after { Fits after.now }
+    ensures defined { IfOk result (λ s. s ≡ after_loop_is l.now t.now p.now after.now) }
+    ensures gives { IfOk result Fits }
+{
+    match l.step {
+        None => without(alloc, t.cells.as_slice(), p),
+        Some(_) => counted_end(alloc, l, t, p, after),
+    }
+}

@@ -1,0 +1,99 @@
+//! Transformers, and those that come from no other.
+ghost use Rattle.std.specs.Prelude.{◌≡◌, IfOk, IfSome};
+ghost use Rattle.affine_systems.specs.Given.{Fits};
+ghost use Rattle.affine_forms.specs.Forms.{IsSmallForm};
+ghost use Rattle.transformer_algebra.specs.Transformers.{unchanging as unchanging_is, nowhere as nowhere_is, test as test_is, forgotten as forgotten_is, exit_system as exit_system_is, assigned as assigned_is};
+
+use crate::joined_cells;
+use affine_forms::{Affine, no_rows, nothing, same_row, var_form};
+use affine_systems::{System, Var};
+use f77_symbols::Unit;
+use fx_lists::List;
+use std::alloc::{AllocError as Memory, Global};
+use system_renaming::of_rows;
+
+/// What a statement does where it ends normally: the tracked cells that it may change, ascending, each once; the units of blocks
+/// that it may change and that the module cannot name, in order, each once; and what holds of the cells before it (`Cell`) and of
+/// those that it may change after it (`Exit`).
+#[derive(Debug, PartialEq, Eq, Drop)]
+pub struct Transformer {
+    pub cells: List<u32>,
+    pub foreign: List<Unit>,
+    pub system: System,
+}
+
+/// Nothing changes, where the system holds before.
+pub fn test(alloc: Global, system: System) -> Transformer
+    requires { Fits system }
+    ensures defined { result ≡ test_is system }
+    ensures gives { Fits result.system }
+{
+    Transformer {
+        cells: List::new(alloc),
+        foreign: List::new(alloc),
+        system,
+    }
+}
+
+/// Nothing changes.
+pub fn unchanging(alloc: Global) -> Transformer
+    ensures defined { result ≡ unchanging_is }
+    ensures gives { Fits result.system }
+{
+    test(alloc, no_rows(alloc))
+}
+
+/// Of a statement that never ends normally.
+pub fn nowhere(alloc: Global) -> Result<Transformer, Memory>
+    ensures defined { IfOk result (λ t. t ≡ nowhere_is) }
+    ensures gives { IfOk result (λ t. Fits t.system) }
+{
+    let system = nothing(alloc)?;
+    Ok(test(alloc, system))
+}
+
+/// Nothing is known of these cells afterwards.
+pub fn forgotten(alloc: Global, cells: &[u32]) -> Result<Transformer, Memory>
+    ensures defined { IfOk result (λ t. t ≡ forgotten_is cells.now) }
+    ensures gives { IfOk result (λ t. Fits t.system) }
+{
+    Ok(Transformer {
+        cells: joined_cells(alloc, cells, &[])?,
+        foreign: List::new(alloc),
+        system: no_rows(alloc),
+    })
+}
+
+#[tactic(auto, using(crate::proofs::GivenSteps::given_rows))]
+/// That the cell afterwards is a form; nothing, where there is no form.
+pub fn exit_system(alloc: Global, cell: u32, form: &Option<Affine>) -> Result<System, Memory>
+    requires { IfSome form.now IsSmallForm }
+    ensures defined { IfOk result (λ s. s ≡ exit_system_is cell form.now) }
+    ensures gives { IfOk result Fits }
+{
+    match form {
+        None => Ok(no_rows(alloc)),
+        Some(form) => {
+            let exit = var_form(alloc, Var::Exit(cell))?;
+            let row = same_row(alloc, &exit, form)?;
+            let mut rows = Vec::new(alloc);
+            rows.push(row)?;
+            of_rows(alloc, rows)
+        }
+    }
+}
+
+/// The cell becomes the value of an expression of this form.
+pub fn assigned(alloc: Global, cell: u32, form: &Option<Affine>) -> Result<Transformer, Memory>
+    requires { IfSome form.now IsSmallForm }
+    ensures defined { IfOk result (λ t. t ≡ assigned_is cell form.now) }
+    ensures gives { IfOk result (λ t. Fits t.system) }
+{
+    let mut cells = List::new(alloc);
+    cells.push(cell)?;
+    Ok(Transformer {
+        cells,
+        foreign: List::new(alloc),
+        system: exit_system(alloc, cell, form)?,
+    })
+}

@@ -1,6 +1,0 @@
-use Rattle.std.proofs.Common.{◌≡◌, ◌++◌, drop}
-use Rattle.transformer_rules.specs.Halves.{to_cells}
-use Rattle.transformer_rules.proofs.halves.to_cells.Given as goal
-
-abbrev pub invariant-loop-c : goal.invariant-loop-c
-invariant-loop-c l = l.out.items ++ to_cells (drop l.c-index l.cells) ≡ to_cells l.fn.cells

@@ -1,5 +1,0 @@
-use Rattle.transformer_rules.proofs.AllLaws.{loop_rules_hold}
-use Rattle.transformer_rules.proofs.laws.loop_rules_hold.Goals as goal
-
-pub returns : goal.returns
-returns c = loop_rules_hold

@@ -1,5 +1,0 @@
-use Rattle.transformer_rules.proofs.AllLaws.{rules_hold}
-use Rattle.transformer_rules.proofs.laws.rules_hold.Goals as goal
-
-pub returns : goal.returns
-returns c = rules_hold

@@ -1,6 +1,0 @@
-use Rattle.std.proofs.Common.{◌≡◌, drop}
-use Rattle.transformer_rules.specs.Units.{with_units}
-use Rattle.transformer_rules.proofs.units.add_units.Given as goal
-
-abbrev pub invariant-loop-unit : goal.invariant-loop-unit
-invariant-loop-unit l = with_units l.out.items (drop l.unit-index l.units) ≡ with_units l.fn.out.items l.fn.units

@@ -1,5 +1,0 @@
-use Rattle.unit_owners.proofs.OwnerLaws.{called_owns_below}
-use Rattle.unit_owners.proofs.laws.called_owns_below.Goals as goal
-
-pub returns : goal.returns
-returns c = called_owns_below

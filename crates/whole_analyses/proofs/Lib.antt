@@ -1,9 +1,0 @@
-pub mod CalleeLaws
-pub mod Orders
-pub mod CallNumbers
-pub mod CallSites
-pub mod Founds
-pub mod Passes
-pub mod Analyses
-pub mod Claimed
-pub mod Whole

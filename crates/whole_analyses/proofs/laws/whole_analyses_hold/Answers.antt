@@ -1,5 +1,0 @@
-use Rattle.whole_analyses.proofs.Whole.{whole_analyses_hold}
-use Rattle.whole_analyses.proofs.laws.whole_analyses_hold.Goals as goal
-
-pub returns : goal.returns
-returns c = whole_analyses_hold c.analysed_programs_hold.ensures
