@@ -1,18 +1,12 @@
-"""Cases as text: one call a line, its variables, and behind each `;` a system; and what another program answers.
+"""Cases on rows as text: one call a line, its variables, and after each `;` a system.
 
-The other program is a folder with `affine.py` and `model.py`, which compute the same definitions in Python: rows are
-`Row(equal, terms, bound)`, systems `System(rows, weak)`, and a variable is its kind (0 to 3) and its number.
+The reference has rows `Row(equal, terms, bound)` and systems `System(rows, weak)`; a variable is its kind (0 to 3) and its number.
 """
-import importlib
-import os
-import sys
+from reference import load
+
+affine, model = load('affine'), load('model')
 
 KINDS = 'cxpa'
-
-
-def other_program(folder):
-    sys.path.insert(0, os.path.abspath(folder))
-    return importlib.import_module('affine'), importlib.import_module('model')
 
 
 def var_text(var):

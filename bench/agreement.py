@@ -1,15 +1,13 @@
 #!/usr/bin/env python3
-"""Compares the built program with another one on random texts: the status, and each byte on out and on err. What is written is given to the
-built program again, with the same words, and has to come out as it is.
+"""Compares the built program with the reference implementation on random texts: the exit number, and each byte on out and on err. What is
+written is given to the built program again, with the same words, and has to come out unchanged.
 
-    python3 bench/agreement.py FOLDER STAGE COUNT [PATH_TO_PIPS [PROFILE..]]
+    python3 bench/agreement.py COUNT [PATH_TO_PIPS [PROFILE..]]
 
-FOLDER has the other program, a module `pips` with `answer(words, files, stage)`, and a module `programs` with `make(seed, profile)`, which
-gives a text first, for each of its PROFILES. Half of the texts are damaged at one place or two; with profiles, which are taken in turn, all
-are as they were made, and all is shown. Prints how many were accepted, and by which codes the others were refused; the texts that differ are
-written to the folder for temporary files.
+The texts are those of reference/programs.py, of each of its profiles. Half of them are damaged at one place or two. With profiles, which are
+taken in turn, no text is damaged, and all claims are shown. Prints how many texts were accepted, and by which codes the others were refused.
+The texts that differ are written to the folder for temporary files.
 """
-import importlib.util
 import os
 import random
 import re
@@ -18,16 +16,8 @@ import sys
 import tempfile
 from collections import Counter
 
+import reference
 from measure import binary_of
-
-
-def module_of(folder, name):
-    """A module of the folder, also where this one has a module of its name."""
-    sys.path.insert(0, folder)
-    spec = importlib.util.spec_from_file_location(f'other_{name}', os.path.join(folder, f'{name}.py'))
-    module = importlib.util.module_from_spec(spec)
-    spec.loader.exec_module(module)
-    return module
 
 
 def modules_of(lines):
@@ -170,10 +160,6 @@ def whole_texts(programs, count, profiles):
         yield ['--show', 'all'], programs.make(seed, profiles[seed % len(profiles)])[0]
 
 
-def as_bytes(x):
-    return x.encode('latin-1') if isinstance(x, str) else x
-
-
 def answer(binary, place, words, text):
     path = os.path.join(place, 'p.f')
     with open(path, 'wb') as f:
@@ -188,15 +174,14 @@ def differs(binary, place, words, text, wanted):
     return wanted[0] == 0 and answer(binary, place, words, wanted[1]) != wanted
 
 
-def main(folder, stage, count, *others):
+def main(count, *others):
     binary, profiles = binary_of(others[:1]), others[1:]
-    pips, programs = module_of(folder, 'pips'), module_of(folder, 'programs')
-    codes, differing = Counter(), 0
+    programs, codes, differing = reference.load('programs'), Counter(), 0
     given = whole_texts(programs, int(count), profiles) if profiles else texts(programs, int(count))
     with tempfile.TemporaryDirectory() as place:
         for number, (words, text) in enumerate(given):
-            status, out, err, _ = pips.answer(words + ['p.f'], {'p.f': text.encode('latin-1')}, stage)
-            wanted = (status, as_bytes(out), as_bytes(err))
+            wanted = reference.answer(words, text)
+            status = wanted[0]
             codes[int(wanted[2].split()[3]) if status == 1 else f'status {status}' if status else 'accepted'] += 1
             if differs(binary, place, words, text, wanted):
                 differing += 1

@@ -1,4 +1,4 @@
-"""Programs in fixed form: some by hand, each for a form or a rule, and random ones that are mostly accepted."""
+"""Random programs in fixed form, which are mostly accepted."""
 import random
 
 # each with what stands before it, so that most of them are accepted
@@ -28,88 +28,6 @@ SIMPLE = [
 MISTYPED = ['IF(A.EQ.B)THEN=5', "I='abc'", "CALL S('text')"]
 # specifications of names that no statement has
 AGREEING = ['INTEGER Q(3,0:4),R', 'COMMON /C/ X,Y(3) //Z', 'PARAMETER (N1=10,N2=N1+1)', 'EQUIVALENCE (E1,E2)', 'DATA F1/007/ F2,F3/2*-3/', 'SAVE', 'SAVE G1']
-# specifications and statements with one fault or more, by the codes that they are for
-DAMAGED = [statements if statements[-1] == 'END' else statements + ['END'] for statements in [
-    # 30
-    ['X=1'], ['PRINT *,X'], ['I=1', 'J=I+X'], ['COMMON X'], ['DATA A/1/'], ['IMPLICIT NONE', 'I=1'], ['DIMENSION B(3)', 'I=B(1)'],
-    ['SUBROUTINE S(X)', 'END', 'I=1'], ['SUBROUTINE S', 'X=1'], ['I=1', 'END', 'SUBROUTINE S', 'J=Y'],
-    # 31
-    ['INTEGER A', 'INTEGER A'], ['INTEGER A', 'LOGICAL B,A'], ['DIMENSION I(3)', 'INTEGER I(3)'], ['COMMON I(2)', 'DIMENSION I(2)'],
-    ['SUBROUTINE S(I,I)', 'END', 'I=1'],
-    # 32
-    ['INTEGER A(1,1,1,1,1,1,1,1)'], ['INTEGER A(*)'], ['INTEGER A(N)'], ['INTEGER A(3:2)'], ['INTEGER A(2147483647,2)'], ['INTEGER A(.TRUE.)'],
-    ['SUBROUTINE S(I)', 'INTEGER I(*,2)', 'END', 'I=1'], ['PARAMETER (N=2)', 'INTEGER A(N/(N-2))'],
-    # 33
-    ['PARAMETER (N=I)'], ['PARAMETER (N=.TRUE.)'], ['PARAMETER (N=1/0)'], ['PARAMETER (N=1,N=2)'], ['LOGICAL L', 'PARAMETER (L=3)'],
-    ['PARAMETER (N=M,M=1)'], ['PARAMETER (N=2147483647+1)'],
-    # 34
-    ['COMMON I,I'], ['COMMON /B/ I', 'COMMON J,I'], ['PARAMETER (N=1)', 'COMMON N'], ['SUBROUTINE S(I)', 'COMMON I', 'END', 'I=1'],
-    # 35
-    ['INTEGER J(3)', 'EQUIVALENCE (J(1),J(2))'], ['INTEGER J(3)', 'EQUIVALENCE (I,J(4))'], ['INTEGER J(3)', 'EQUIVALENCE (I,J(K))'],
-    ['SUBROUTINE S(I)', 'EQUIVALENCE (I,J)', 'END', 'I=1'], ['COMMON I,J', 'EQUIVALENCE (I,J)'],
-    ['INTEGER J(3),K(3)', 'EQUIVALENCE (J(1),K(2)),(J(2),K(2))'], ['EQUIVALENCE (I,J)', 'EQUIVALENCE (J,I(2))'],
-    # 36, which comes after all but 35, also after those of later lines
-    ['COMMON I', 'INTEGER J(3)', 'EQUIVALENCE (I,J(2))'], ['COMMON I,K', 'INTEGER J(3)', 'EQUIVALENCE (K,J(3))', 'I=.TRUE.'],
-    ['COMMON I', 'INTEGER J(3)', 'EQUIVALENCE (I,J(2)),(I,J(1))'],
-    # 37
-    ['DATA I/1,2/'], ['DATA I,J/1/'], ['DATA I/.TRUE./'], ['COMMON I', 'DATA I/1/'], ['DATA I/1/,I/2/'], ['INTEGER J(2)', 'DATA J(3)/1/'],
-    ['PARAMETER (N=1)', 'DATA N/1/'], ['INTEGER J(3)', 'DATA J/2*1,2*2/'], ['COMMON I', 'EQUIVALENCE (I,J)', 'DATA J/1/'],
-    ['EQUIVALENCE (I,J)', 'DATA I/1/ J/1/'],
-    # 38
-    ['INTEGER J(2,2)', 'J(1)=1'], ['I=MOD(1)'], ['I=MAX(1)'], ['I=MAX'], ['INTEGER J(2)', 'PRINT *,J(1,2)'],
-    # 39
-    ['I=.TRUE.'], ['LOGICAL L', 'L=1'], ['IF (I) J=1'], ['LOGICAL L', 'I=L+1'], ["I='a'"], ['DO I=1,.TRUE.', 'END DO'], ['INTEGER J(2)', 'J(.TRUE.)=1'],
-    ['I=IABS(.TRUE.)'], ['LOGICAL L', 'IF (L.EQ.L) I=1'],
-    # 40
-    ['PARAMETER (N=1)', 'N=2'], ['PARAMETER (N=1)', 'READ *,N'], ['PARAMETER (N=1)', 'DO N=1,2', 'END DO'], ['MAX=3'], ['READ *,MOD'],
-    # 41
-    ['I(1)=1'], ['J=I(2)'], ['INTEGER J(2)', 'J=1'], ['INTEGER J(2)', 'I=J'], ['INTEGER J(2)', 'PRINT *,J'], ['INTEGER J(2)', 'PARAMETER (J=1)'],
-    # the earliest line, then the lowest code, in the first module that has one; structure comes before
-    ['I=1', 'X=J(1)', 'Y=2'], ['I(1)=.TRUE.'], ['X=1', 'END', 'SUBROUTINE S', 'I=.TRUE.'], ['X=1', 'ELSE'], ['X=1', 'END', 'SUBROUTINE S', 'GO TO 10'],
-    ['COMMON I', 'INTEGER J(3)', 'EQUIVALENCE (I,J(2))', 'END', 'SUBROUTINE S', 'X=1'],
-]]
-# whole programs with one fault of their links or more, by the codes that they are for
-UNLINKED = [
-    # none: a CALL before its module and behind it, all that an array and a scalar take, and modules that are never called
-    ['CALL S(I,J)', 'END', 'SUBROUTINE T', 'END', 'SUBROUTINE S(K,L)', 'CALL T', 'K=L', 'END'],
-    ['INTEGER I(2)', 'CALL S(I,I(1))', 'CALL S(I(2),2*I(1))', 'CALL S(I,J)', 'CALL S(I,(J))', 'END', 'SUBROUTINE S(J,K)', 'INTEGER J(*)', 'END'],
-    ['LOGICAL L(2),M', 'CALL S(L,M)', 'CALL S(L(1),.NOT.L(2))', 'CALL S(L,I.EQ.1)', 'END', 'SUBROUTINE S(J,K)', 'LOGICAL J(2),K', 'END'],
-    ['SUBROUTINE S', 'CALL T', 'CALL U', 'END', 'SUBROUTINE T', 'CALL U', 'END', 'SUBROUTINE U', 'END', 'END'],
-    ['COMMON /B/ I,J(3)', 'CALL S', 'END', 'SUBROUTINE S', 'COMMON /B/ I(2)', 'END'],
-    # 50, before what is wrong with CALLs
-    ['SUBROUTINE S', 'END'], ['SUBROUTINE S', 'CALL S', 'END'], ['SUBROUTINE S', 'CALL T', 'END'],
-    # 51, before what is wrong with CALLs
-    ['PROGRAM P', 'END', 'PROGRAM Q', 'END'], ['END', 'PROGRAM Q', 'END'], ['PROGRAM P', 'END', 'END'], ['CALL T', 'END', 'PROGRAM Q', 'END'],
-    ['PROGRAM P', 'END', 'PROGRAM Q', 'END', 'PROGRAM R', 'END'],
-    # 52, before two main programs and before none
-    ['PROGRAM P', 'END', 'SUBROUTINE S', 'END', 'SUBROUTINE S', 'END'], ['PROGRAM P', 'END', 'SUBROUTINE P', 'END'], ['END', 'END'],
-    ['PROGRAM P', 'END', 'PROGRAM P', 'END'], ['PROGRAM P', 'END', 'PROGRAM Q', 'END', 'SUBROUTINE Q', 'END'],
-    ['SUBROUTINE S', 'END', 'SUBROUTINE S', 'END'], ['SUBROUTINE S', 'END', 'END', 'SUBROUTINE T', 'END', 'SUBROUTINE T', 'END', 'SUBROUTINE S', 'END'],
-    # 53
-    ['CALL S', 'END'], ['I=1', 'CALL S(I)', 'END'], ['PROGRAM P', 'CALL P', 'END'], ['PROGRAM P', 'END', 'SUBROUTINE S', 'CALL P', 'END'],
-    ['PROGRAM P', 'END', 'SUBROUTINE S', 'CALL P(1)', 'END'], ['DO I=1,2', 'IF (I.EQ.1) CALL T', 'END DO', 'END'], ['I=MOD(5,3)', 'CALL MOD(5,3)', 'END'],
-    ['IF (I.EQ.1) THEN', 'I=2', 'ELSE IF (I.EQ.2) THEN', 'CALL T', 'ELSE', 'CALL U', 'END IF', 'END', 'SUBROUTINE U', 'END'],
-    # 54
-    ['CALL S', 'END', 'SUBROUTINE S(I)', 'END'], ['CALL S(1,2)', 'END', 'SUBROUTINE S(I)', 'END'], ['CALL S(1)', 'END', 'SUBROUTINE S', 'END'],
-    ['CALL S(.TRUE.)', 'END', 'SUBROUTINE S(I,J)', 'END'],
-    # 55: types, then arrays and scalars
-    ['LOGICAL L', 'CALL S(L)', 'END', 'SUBROUTINE S(I)', 'END'], ['CALL S(I)', 'END', 'SUBROUTINE S(L)', 'LOGICAL L', 'END'],
-    ['CALL S(I.EQ.1)', 'END', 'SUBROUTINE S(I)', 'END'], ['CALL S(2,MAX(I,J))', 'END', 'SUBROUTINE S(I,L)', 'LOGICAL L', 'END'],
-    ['LOGICAL L(2)', 'CALL S(L)', 'END', 'SUBROUTINE S(J)', 'INTEGER J(2)', 'END'], ['LOGICAL L(2)', 'CALL S(L(1))', 'END', 'SUBROUTINE S(J)', 'END'],
-    ['PARAMETER (N=1)', 'CALL S(N)', 'END', 'SUBROUTINE S(L)', 'LOGICAL L', 'END'],
-    ['CALL S(I)', 'END', 'SUBROUTINE S(J)', 'INTEGER J(2)', 'END'], ['CALL S(1)', 'END', 'SUBROUTINE S(J)', 'INTEGER J(2)', 'END'],
-    ['INTEGER I(2)', 'CALL S((I(1)))', 'END', 'SUBROUTINE S(J)', 'INTEGER J(2)', 'END'], ['PARAMETER (N=1)', 'CALL S(N)', 'END', 'SUBROUTINE S(J)', 'INTEGER J(2)', 'END'],
-    ['INTEGER I(2)', 'CALL S(I)', 'END', 'SUBROUTINE S(J)', 'END'], ['INTEGER I(2)', 'CALL S(1,I)', 'END', 'SUBROUTINE S(J,K)', 'END'],
-    # 56: by one module, by two, by three, by its first CALL in the text
-    ['CALL S', 'END', 'SUBROUTINE S', 'CALL S', 'END'], ['SUBROUTINE S', 'CALL T', 'END', 'SUBROUTINE T', 'CALL S', 'END', 'END'],
-    ['CALL S', 'END', 'SUBROUTINE T', 'CALL U', 'END', 'SUBROUTINE S', 'CALL T', 'END', 'SUBROUTINE U', 'CALL S', 'END'],
-    ['CALL S', 'END', 'SUBROUTINE S', 'CALL V', 'CALL T', 'END', 'SUBROUTINE T', 'CALL T', 'END', 'SUBROUTINE V', 'END'],
-    # the first CALL that does not fit, and before recursion
-    ['CALL S(.TRUE.)', 'CALL S', 'CALL T', 'END', 'SUBROUTINE S(I)', 'END'], ['CALL S', 'CALL T', 'CALL S(.TRUE.)', 'END', 'SUBROUTINE S(I)', 'END'],
-    ['CALL S', 'END', 'SUBROUTINE S', 'CALL S', 'END', 'SUBROUTINE T', 'CALL S(1)', 'END'], ['SUBROUTINE S', 'CALL S', 'END', 'CALL S(1)', 'END'],
-    # symbols come before links
-    ['PROGRAM P', 'CALL S', 'END', 'PROGRAM P', 'X=1', 'END'], ['SUBROUTINE S', 'END', 'SUBROUTINE S', 'I(1)=2', 'END'],
-]
 # what makes a program that links one that does not: modules that are added
 UNLINKING = [
     ['SUBROUTINE S', 'END'], ['PROGRAM Q', 'END'], ['SUBROUTINE R', 'CALL R', 'END'], ['SUBROUTINE R', 'CALL Q1', 'END', 'SUBROUTINE Q1', 'CALL R', 'END'],
@@ -224,51 +142,6 @@ class Maker:
         if self.chance(.05):
             lines.insert(self.pick.randrange(len(lines)), self.pick.choice(['      ELSE', '      END', '     &+1', '      REAL X', '      I=(1']))
         return '\n'.join(lines) + '\n'
-
-
-def nest(count, first, last):
-    return [f'      {first}'] * count + [f'      {last}'] * count
-
-
-def by_hand():
-    """Pairs of words and a program."""
-    def of(*lines):
-        return '\n'.join(lines) + '\n'
-
-    def whole(*statements):
-        return of(*[part for s in statements for part in (line(s) if isinstance(s, str) else line(s[1], s[0]))])
-
-    def stated(before, s):
-        return whole(*before, s, 'END') + (whole('END') if before and before[0].startswith('SUB') else '')
-
-    def called(s):
-        return ''.join(whole(*statements) for statements in CALLED) if 'CALL ' in s else ''
-
-    forms = [stated(before, s) for before, s in SPECIFICATIONS] + [whole('PROGRAM P', *NAMES, s, 'END') + called(s) for s in SIMPLE]
-    structure = [
-        of(*nest(64, 'IF (I.EQ.1) THEN', 'END IF'), '      END'), of(*nest(65, 'IF (I.EQ.1) THEN', 'END IF'), '      END'),
-        of(*nest(64, 'DO I=1,2', 'END DO'), '      END'), of(*nest(65, 'DO I=1,2', 'END DO'), '      END'),
-        of(*line('I=' + '(' * 64 + '1' + ')' * 64), '      END'), of(*line('I=' + '(' * 65 + '1' + ')' * 65), '      END'),
-        whole('DO 10 I=1,2', 'DO 10 J=1,2', (10, 'CONTINUE'), 'END'), whole('DO 10 I=1,2', (10, 'IF (I.EQ.1) GO TO 10'), 'END'),
-        whole('DO 10 I=1,2', (10, 'END DO'), 'END'), whole('DO I=1,2', (10, 'END DO'), 'GO TO 10', 'END'), whole('DO 10 I=1,2', (10, 'GO TO 10'), 'END'),
-        whole('DO 10 I=1,2', 'IF (I.EQ.1) THEN', (10, 'END IF'), 'END'), whole('IF (I.EQ.1) THEN', (10, 'END IF'), 'GO TO 10', 'END'),
-        whole('GO TO 10', (10, 'END')), whole('DO 10 I=1,2', (10, 'END')), whole('IF (I.EQ.1) THEN', (10, 'ELSE'), 'END IF', 'END'),
-        whole('GO TO 10', 'DO I=1,2', (10, 'CONTINUE'), 'END DO', 'END'), whole('DO I=1,2', 'GO TO 10', 'END DO', (10, 'CONTINUE'), 'END'),
-        whole('DO I=1,2', 'IF (I.EQ.1) GO TO 10', (10, 'CONTINUE'), 'END DO', 'END'), whole((10, 'I=1'), (10, 'I=2'), 'END'), whole('GO TO 20', 'END'),
-        whole('IF (I.EQ.1) THEN', 'ELSE', 'ELSE', 'END IF', 'END'), whole('IF (I.EQ.1) THEN', 'DO I=1,2', 'END IF', 'END'), whole('END IF', 'END'),
-        whole('I=1', 'INTEGER A', 'END'), whole('RETURN', 'END'), whole('SUBROUTINE S', 'RETURN', 'END', 'END'), whole('SUBROUTINE S', 'END'),
-        whole('I=1', 'PROGRAM P', 'END'), whole('PROGRAM P', 'END', 'SUBROUTINE S(I,J)', 'END', 'SUBROUTINE T', 'END'), whole('ELSE', 'REAL X', 'END'),
-    ]
-    comments = [
-        of('C first', '      PROGRAM P', '* second', '      INTEGER A(10)', '', '      DO 10 I=1,10', '! third', '     &', '10    A(I)=I', 'C> not kept',
-           'c fourth', '      IF (A(1).EQ.1) THEN', 'C fifth', '      ELSE', 'C sixth', '20    END IF', 'C seventh', '30    END', 'C last'),
-        of('      I=1', '     1+2', 'C inside', '     &+3', '      END'), of('      END', 'C behind', '      SUBROUTINE S', 'C in it', '      END', 'C at the end'),
-    ]
-    shown = [(words, program) for words in ('--show all', '--show bare', '--show why', '') for program in (whole('I=1', 'PRINT *,I', 'END'), whole('LOGICAL L', 'L=.TRUE.', 'END'))]
-    many = [whole(*titles, *[s for k in range(count) for s in (f'SUBROUTINE S{k % names}', 'END')])
-            for titles, count, names in ((['END'], 63, 99), (['END'], 64, 99), ([], 65, 99), (['PROGRAM S3', 'END', 'END'], 65, 7), (['END'], 63, 62))]
-    faulty = [whole(*statements) for statements in DAMAGED + UNLINKED]
-    return [('--show bare', p) for p in forms + structure + comments + faulty + many] + shown
 
 
 def random_programs(count, seed=1):

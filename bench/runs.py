@@ -1,16 +1,17 @@
 #!/usr/bin/env python3
-"""Runs the small programs of bench/runs by another program, and makes the equations of crates/f77_meaning/proofs/cases of them.
+"""Runs the small programs of bench/runs by the reference implementation, and makes the equations of crates/f77_meaning/proofs/cases of them.
 
-    python3 bench/runs.py PATH_TO_OTHER            prints for each text how it ends, what it prints, and how many inputs are left
-    python3 bench/runs.py PATH_TO_OTHER --write    writes an antt file for each text: the program as trees and symbols, and its run
+    python3 bench/runs.py            prints for each text how it ends, what it prints, and how many inputs are left
+    python3 bench/runs.py --write    writes an antt file for each text: the program as trees and symbols, and its run
 
-PATH_TO_OTHER is a folder with its modules `read` (texts) and `interp` (runs). A text `NAME.f` has its input in `NAME.in`, if it has any.
-The files hold by computation (`refl`) where the definitions agree with the other program, on outcome, printed values, rest of the
-input, and each read and write with its unit.
+A text `NAME.f` has its input in `NAME.in`, if it has any. The files hold by computation (`refl`) where the definitions of a run agree with
+the reference: on outcome, printed values, rest of the input, and each read and write with its unit.
 """
 import pathlib
 import re
 import sys
+
+from reference import load
 
 HERE = pathlib.Path(__file__).parent / 'runs'
 CASES = pathlib.Path(__file__).parent.parent / 'crates/f77_meaning/proofs/cases'
@@ -166,7 +167,7 @@ def answer(outcome):
 
 
 def events_of(run):
-    """With the item that a READ faults at, which the other program does not count as taken."""
+    """With the item that a READ faults at, which the reference does not count as taken."""
     events = list(run.trace)
     if run.outcome[:2] == ('Fault', 4):
         return [event(e) for e in events] + [f'Takes {maybe(content(run.rest[0]) if run.rest else None)}']
@@ -248,9 +249,7 @@ def file_of(name, program, inputs, run, about):
 
 
 def main(words):
-    sys.path.insert(0, words[0])
-    import interp
-    import read
+    interp, read = load('interp'), load('read')
     names = sorted(p.stem for p in HERE.glob('*.f'))
     if '--write' in words:
         CASES.mkdir(parents=True, exist_ok=True)

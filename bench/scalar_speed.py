@@ -1,19 +1,20 @@
 #!/usr/bin/env python3
-"""Times the analyses of tracked cells, here and by another program, whose answers have to be the same.
+"""Times the analyses of analysed scalars, by the command and by the reference implementation, whose answers have to be the same.
 
-    python3 bench/scalar_speed.py FOLDER STAGE [PATH_TO_PIPS]
+    python3 bench/scalar_speed.py [PATH_TO_PIPS [NESTS [MODULES..]]]
 
-FOLDER has the other program, a module `pips` with `answer(words, files, stage)`. First one module of 1,000 statements in 100 nests of three loops, which begin
-their counters anew; then 10 nests that go on with the counters of those before them, so that more and more rows hold; then 16, 32 and 64 modules in a
-chain of calls, and as many of which each calls two. Each line: the case, the bytes in and out, the processor seconds here (the least of three, with the
-start of the program) and there, the ratio, and the greatest memory in MiB.
+First one module of 100 nests (or NESTS) of three loops, 1,000 statements, which begin their counters anew; then a tenth as many nests that go
+on with the counters of those before them, so that more and more rows hold; then 16, 32 and 64 modules (or MODULES) in a chain of calls, and as
+many of which each calls two. Each line: the case, the bytes in and out, the processor seconds of the command (the least of three, with the start
+of the program) and of the reference, the ratio, and the greatest memory in MiB.
 """
 import resource
 import sys
 import tempfile
 import time
 
-from agreement import answer, module_of
+import reference
+from agreement import answer
 from measure import binary_of, folded, processor_seconds
 
 
@@ -62,28 +63,27 @@ def here(binary, text):
     return given, best
 
 
-def there(pips, text, stage):
+def there(text):
     start = time.process_time()
-    status, out, err, _ = pips.answer(['p.f'], {'p.f': text.encode()}, stage)
-    seconds = time.process_time() - start
-    return (status, *(x.encode('latin-1') if isinstance(x, str) else x for x in (out, err))), seconds
+    given = reference.answer([], text)
+    return given, time.process_time() - start
 
 
-def compare(name, binary, pips, stage, text):
+def compare(name, binary, text):
     given, seconds = here(binary, text)
-    wanted, others = there(pips, text, stage)
+    wanted, others = there(text)
     memory = resource.getrusage(resource.RUSAGE_CHILDREN).ru_maxrss / 1024
     same = '' if given == wanted else ', DIFFERS'
-    print(f'{name}: in {len(text)}, out {len(given[1])}, {seconds:.3f} s here, {others:.3f} there, {others / seconds:.1f} times, {memory:.1f} MiB{same}', flush=True)
+    print(f'{name}: in {len(text)}, out {len(given[1])}, {seconds:.3f} s, reference {others:.3f} s, {others / seconds:.1f} times, {memory:.1f} MiB{same}', flush=True)
 
 
-def main(folder, stage, *binary):
-    binary, pips = binary_of(binary), module_of(folder, 'pips')
-    compare('1,000 statements in 100 nests of three loops', binary, pips, stage, nests('L=0', arrays))
-    compare('10 nests that go on with counters', binary, pips, stage, nests('CONTINUE', counters, 10))
+def main(*words):
+    binary, count = binary_of(words[:1]), int(words[1]) if len(words) > 1 else 100
+    compare(f'{count} nests of three loops', binary, nests('L=0', arrays, count))
+    compare(f'{max(1, count // 10)} nests that go on with counters', binary, nests('CONTINUE', counters, max(1, count // 10)))
     for calls in [1, 2]:
-        for modules in [16, 32, 64]:
-            compare(f'{modules} modules, each calls {calls}', binary, pips, stage, chain(modules, calls))
+        for modules in [int(word) for word in words[2:]] or [16, 32, 64]:
+            compare(f'{modules} modules, each calls {calls}', binary, chain(modules, calls))
 
 
 if __name__ == '__main__':

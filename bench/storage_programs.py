@@ -1,6 +1,6 @@
 """Programs for the symbols and the storage of modules: by hand, each with what must come out, in pairs of faults, and random ones.
 
-A symbol is written as crates/storage_cases does: name, type, number of bounds, units, place, whether it is saved, initial values.
+A symbol is written as the driver cases_programs does: name, type, number of bounds, units, place, whether it is saved, initial values.
 """
 import random
 
@@ -8,6 +8,9 @@ from programs import line
 
 # The name, the statements before END, and lines of the answer: a refusal with its line and code, or symbols, worked out by hand.
 BY_HAND = [
+    # what shares a unit: in a block, by EQUIVALENCE there, and of two locals
+    ('pairs that overlap', ['COMMON /B/ IA(3),I', 'INTEGER L(2)', 'EQUIVALENCE (I,J),(K,L(2))', 'PARAMETER (N=3)'],
+     ['IA Int 1 3 /B/+0 false', 'I Int 0 1 /B/+3 false', 'J Int 0 1 /B/+3 false', 'N Int 0 1 =3 false']),
     # 30
     ('a name comes out REAL where it first stands', ['I=1', 'J=I+X', 'X=2'], ['refused 2 30']),
     ('REAL by a specification', ['INTEGER A', 'DIMENSION B(3)', 'INTEGER C'], ['refused 2 30']),
@@ -73,6 +76,8 @@ BY_HAND = [
      ['I Int 0 1 =-3 false', 'J Int 0 1 =-3 false', 'K Int 0 1 =-3 false', 'M Int 0 1 =3 false']),
     ('powers', ['PARAMETER (I=2**(-1),J=(-1)**(-3),K=0**0,M=2**30,N=(-2)**31)'],
      ['I Int 0 1 =0 false', 'J Int 0 1 =-1 false', 'K Int 0 1 =1 false', 'M Int 0 1 =1073741824 false', 'N Int 0 1 =-2147483648 false']),
+    ('powers at the ends', ['PARAMETER (I=(-2)**(-31),J=1**(-2147483647-1),K=65535*32768)'], ['I Int 0 1 =0 false', 'J Int 0 1 =1 false', 'K Int 0 1 =2147450880 false']),
+    ('overflow of a product', ['PARAMETER (N=65536*32768)'], ['refused 1 33']),
     ('powers from the right', ['PARAMETER (I=2**3**2,J=-2**2)'], ['I Int 0 1 =512 false', 'J Int 0 1 =-4 false']),
     ('division by zero', ['PARAMETER (N=1)', 'PARAMETER (M=N/(N-1))'], ['refused 2 33']),
     ('overflow of a sum', ['PARAMETER (N=2147483647)', 'PARAMETER (M=N+1)'], ['refused 2 33']),
@@ -139,6 +144,12 @@ BY_HAND = [
      ['I Int 0 1 //+0 false', 'K Int 0 1 //+1 false', 'J Int 1 3 //+0 false', '1~3 2~3 3~1 3~2 ']),
     ('the first of two statements that extend back', ['COMMON I', 'INTEGER J(3),K(3)', 'EQUIVALENCE (I,K(2))', 'EQUIVALENCE (I,J(2))'], ['refused 3 36']),
     # 37
+    ('repeats over an array that begins at 2', ['INTEGER J(2:6)', 'EQUIVALENCE (I,J(3))', 'DATA J/2*0,3*7/'], ['J Int 1 5 L1+0 true 0:2*0 2:3*7', 'I Int 0 1 L1+1 true', '1~2 2~1 ']),
+    ('four values for five units', ['INTEGER J(2:6)', 'DATA J/2*0,2*7/'], ['refused 2 37']),
+    ('six values for five units', ['INTEGER J(2:6)', 'DATA J/2*0,4*7/'], ['refused 2 37']),
+    ('elements at the ends', ['INTEGER J(2:6)', 'DATA J(2),J(6)/1,2/'], ['J Int 1 5 L1+0 true 0:1*1 4:1*2']),
+    ('an element before the first', ['INTEGER J(2:6)', 'DATA J(1)/1/'], ['refused 2 37']),
+    ('an element behind the last', ['INTEGER J(2:6)', 'DATA J(7)/1/'], ['refused 2 37']),
     ('repeats over two arrays', ['INTEGER J(2,3),K(3)', 'DATA J,K/4*1,5*2/'], ['J Int 2 6 L1+0 true 0:4*1 4:2*2', 'K Int 1 3 L2+0 true 0:3*2']),
     ('elements in any order', ['INTEGER J(2,3)', 'DATA J(2,3)/6/ J(1,1),J(2,1)/1,2/'], ['J Int 2 6 L1+0 true 0:1*1 1:1*2 5:1*6']),
     ('equal neighbours are one run', ['INTEGER J(3)', 'DATA J(3)/7/', 'DATA J(1),J(2)/7,7/'], ['J Int 1 3 L1+0 true 0:3*7']),

@@ -1,0 +1,44 @@
+"""The reference implementation in Python (reference/) for the scripts of this folder, and the stored cases of the drivers."""
+import importlib
+import importlib.util
+import os
+import sys
+
+HERE = os.path.dirname(os.path.abspath(__file__))
+TOP = os.path.dirname(HERE)
+FOLDER = os.path.join(TOP, 'reference')
+
+# the stage at which the reference answers as the command does today (reference/README.md lists them)
+STAGE = 'scalars'
+
+
+def load(name):
+    """A module of the reference by name, also where this folder has a module of that name."""
+    if FOLDER not in sys.path:
+        sys.path.append(FOLDER)
+    if not os.path.exists(os.path.join(HERE, f'{name}.py')):
+        return importlib.import_module(name)
+    full = f'reference_{name}'
+    if full not in sys.modules:
+        spec = importlib.util.spec_from_file_location(full, os.path.join(FOLDER, f'{name}.py'))
+        sys.modules[full] = importlib.util.module_from_spec(spec)
+        spec.loader.exec_module(sys.modules[full])
+    return sys.modules[full]
+
+
+def as_bytes(text):
+    """A text of the reference as bytes: a character is a byte."""
+    return text.encode('latin-1') if isinstance(text, str) else text
+
+
+def answer(words, text, stage=STAGE):
+    """What the command gives for these words and a text as its input: exit number, bytes on out, bytes on err."""
+    status, out, err, _ = load('pips').answer([*words, 'p.f'], {'p.f': as_bytes(text)}, stage)
+    return status, as_bytes(out), as_bytes(err)
+
+
+def write_cases(crate, given, wanted):
+    """Writes what a driver reads, and what it must print. Both are texts, or lists of texts that are joined as they are."""
+    for name, texts in (('stdin', given), ('stdout', wanted)):
+        with open(os.path.join(TOP, 'crates', crate, name), 'wb') as file:
+            file.write(b''.join(map(as_bytes, [texts] if isinstance(texts, (str, bytes)) else texts)))

@@ -1,0 +1,2 @@
+C END alone
+      END

@@ -1,0 +1,5 @@
+C IMPLICIT NONE
+      IMPLICIT NONE
+      INTEGER X
+      X=1
+      END

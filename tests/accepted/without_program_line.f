@@ -1,0 +1,3 @@
+C the smallest program with a statement, without a PROGRAM line
+      I=1
+      END

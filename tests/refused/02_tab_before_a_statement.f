@@ -1,0 +1,4 @@
+C a tab for the label field
+      PROGRAM P
+	I=1
+      END

@@ -1,0 +1,3 @@
+C a tab in column 1
+	      I=1
+      END

@@ -1,0 +1,3 @@
+C a label is not 0
+  0   I=1
+      END

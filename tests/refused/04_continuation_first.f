@@ -1,0 +1,3 @@
+C a continuation line with nothing to continue
+     &I=1
+      END

@@ -1,0 +1,23 @@
+C a statement with 20 continuation lines
+      I=
+     &0
+     &0
+     &0
+     &0
+     &0
+     &0
+     &0
+     &0
+     &0
+     &0
+     &0
+     &0
+     &0
+     &0
+     &0
+     &0
+     &0
+     &0
+     &0
+     &0
+      END

@@ -1,0 +1,3 @@
+C END IF is no END
+      I=1
+      ENDIF

@@ -1,0 +1,3 @@
+C a dummy argument * for an alternate return
+      SUBROUTINE S(*)
+      END

@@ -1,0 +1,3 @@
+C a parenthesis that was not opened
+      I=J)
+      END

@@ -1,0 +1,3 @@
+C a COMMON block without names
+      COMMON /B/
+      END

@@ -1,0 +1,3 @@
+C two constants side by side
+      I=1.TRUE.
+      END

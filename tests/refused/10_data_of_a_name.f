@@ -1,0 +1,3 @@
+C DATA with a name for a value
+      DATA I/N/
+      END

@@ -1,0 +1,3 @@
+C DIMENSION of a name without bounds
+      DIMENSION A
+      END

@@ -1,0 +1,4 @@
+C a DO with four values
+      DO I=1,2,3,4
+      END DO
+      END

@@ -1,0 +1,3 @@
+C END IF in a logical IF
+      IF (I.EQ.1) ENDIF
+      END

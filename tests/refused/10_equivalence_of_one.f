@@ -1,0 +1,3 @@
+C EQUIVALENCE of one name
+      EQUIVALENCE (I)
+      END

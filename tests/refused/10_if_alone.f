@@ -1,0 +1,3 @@
+C a test alone
+      IF (I.EQ.1)
+      END

@@ -1,0 +1,3 @@
+C the letters of IMPLICIT in the wrong order
+      IMPLICIT INTEGER(Z-A)
+      END

@@ -1,0 +1,3 @@
+C LOGICAL without names
+      LOGICAL
+      END

@@ -1,0 +1,3 @@
+C a sign alone
+      I=+
+      END

@@ -1,0 +1,4 @@
+C .NOT. of .NOT.
+      LOGICAL L
+      L=.NOT..NOT.L
+      END

@@ -1,0 +1,3 @@
+C an assignment without a value
+      I=
+      END

@@ -1,0 +1,3 @@
+C a character constant that is not closed
+      PRINT *,'A
+      END

@@ -1,0 +1,3 @@
+C a parenthesis that is not closed
+      I=(1
+      END

@@ -1,0 +1,3 @@
+C PRINT without a format
+      PRINT
+      END

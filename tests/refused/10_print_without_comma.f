@@ -1,0 +1,3 @@
+C PRINT * with an item and no comma
+      PRINT *I
+      END

@@ -1,0 +1,3 @@
+C PROGRAM without a name
+      PROGRAM
+      END

@@ -1,0 +1,3 @@
+C READ into an expression
+      READ(5,*) I+1
+      END

@@ -1,0 +1,3 @@
+C SAVE of the blank block
+      SAVE //
+      END

@@ -1,0 +1,3 @@
+C no sign stands next to an operator
+      I=J*-K
+      END

@@ -1,0 +1,3 @@
+C no sign stands after **
+      I=J**-K
+      END

@@ -1,0 +1,3 @@
+C STOP with six digits
+      STOP 123456
+      END

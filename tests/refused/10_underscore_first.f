@@ -1,0 +1,3 @@
+C a name that begins with _
+      I=_J
+      END

@@ -1,0 +1,3 @@
+C no statement begins so
+      E
+      END

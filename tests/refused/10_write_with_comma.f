@@ -1,0 +1,3 @@
+C WRITE with a comma before its items
+      WRITE(*,*),I
+      END

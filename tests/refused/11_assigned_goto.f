@@ -1,0 +1,3 @@
+C the assigned GO TO is outside the profile
+      GO TO I
+      END

@@ -1,0 +1,3 @@
+C BACKSPACE is outside the profile
+      BACKSPACE 1
+      END

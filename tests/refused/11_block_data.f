@@ -1,0 +1,3 @@
+C BLOCK DATA is outside the profile
+      BLOCK DATA
+      END

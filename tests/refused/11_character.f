@@ -1,0 +1,3 @@
+C CHARACTER is outside the profile
+      CHARACTER*4 C
+      END

@@ -1,0 +1,3 @@
+C CLOSE is outside the profile
+      CLOSE(1)
+      END

@@ -1,0 +1,3 @@
+C COMPLEX is outside the profile
+      COMPLEX Z
+      END

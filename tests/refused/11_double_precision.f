@@ -1,0 +1,3 @@
+C DOUBLE PRECISION is outside the profile
+      DOUBLE PRECISION X
+      END

@@ -1,0 +1,3 @@
+C ENDFILE is outside the profile
+      ENDFILE 1
+      END

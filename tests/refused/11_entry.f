@@ -1,0 +1,3 @@
+C ENTRY is outside the profile
+      ENTRY E
+      END

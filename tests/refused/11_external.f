@@ -1,0 +1,3 @@
+C EXTERNAL is outside the profile
+      EXTERNAL F
+      END

@@ -1,0 +1,3 @@
+C FORMAT is outside the profile
+      FORMAT(I5)
+      END

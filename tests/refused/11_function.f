@@ -1,0 +1,3 @@
+C FUNCTION is outside the profile
+      FUNCTION F(I)
+      END

@@ -1,0 +1,3 @@
+C INQUIRE is outside the profile
+      INQUIRE(1)
+      END

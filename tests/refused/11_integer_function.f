@@ -1,0 +1,3 @@
+C INTEGER FUNCTION is outside the profile
+      INTEGER FUNCTION F(I)
+      END

@@ -1,0 +1,3 @@
+C INTRINSIC is outside the profile
+      INTRINSIC ABS
+      END

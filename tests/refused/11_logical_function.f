@@ -1,0 +1,3 @@
+C LOGICAL FUNCTION is outside the profile
+      LOGICAL FUNCTION F(I)
+      END

@@ -1,0 +1,3 @@
+C OPEN is outside the profile
+      OPEN(1)
+      END

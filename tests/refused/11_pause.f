@@ -1,0 +1,3 @@
+C PAUSE is outside the profile
+      PAUSE
+      END

@@ -1,0 +1,3 @@
+C PRINT with its * in parentheses
+      PRINT (*)
+      END

@@ -1,0 +1,3 @@
+C PRINT with a name for a format
+      PRINT F
+      END

@@ -1,0 +1,3 @@
+C READ from a unit that is neither * nor 5
+      READ(6,*) I
+      END

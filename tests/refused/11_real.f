@@ -1,0 +1,3 @@
+C REAL is outside the profile
+      REAL X
+      END

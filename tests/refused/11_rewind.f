@@ -1,0 +1,3 @@
+C REWIND is outside the profile
+      REWIND 1
+      END

@@ -1,0 +1,3 @@
+C WRITE without parentheses
+      WRITE *,I
+      END

@@ -1,0 +1,3 @@
+C a real constant in DATA
+      DATA I/1.5/
+      END

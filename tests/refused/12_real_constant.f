@@ -1,0 +1,3 @@
+C a real constant
+      I=1.5
+      END

@@ -1,0 +1,3 @@
+C a name of 32 characters
+      IBCDEFGHIJKLMNOPQRSTUVWXYZ123456=1
+      END

@@ -1,0 +1,4 @@
+C structure comes before symbols
+      X=1
+      ELSE
+      END

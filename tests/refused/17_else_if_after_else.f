@@ -1,0 +1,6 @@
+C ELSE IF after ELSE
+      IF (I.EQ.1) THEN
+      ELSE
+      ELSE IF (I.EQ.2) THEN
+      END IF
+      END

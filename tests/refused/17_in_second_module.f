@@ -1,0 +1,4 @@
+C the fault of the second module
+      END
+      END IF
+      END

@@ -1,0 +1,4 @@
+C ELSE without a block IF
+      I=1
+      ELSE
+      END

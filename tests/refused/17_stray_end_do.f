@@ -1,0 +1,3 @@
+C END DO without a DO
+      END DO
+      END

@@ -1,0 +1,3 @@
+C END IF without a block IF
+      END IF
+      END

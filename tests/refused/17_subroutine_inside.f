@@ -1,0 +1,4 @@
+C SUBROUTINE before END
+      PROGRAM P
+      SUBROUTINE S
+      END

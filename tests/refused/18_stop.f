@@ -1,0 +1,4 @@
+C a DO that ends at a STOP
+      DO 10 I=1,2
+10    STOP
+      END

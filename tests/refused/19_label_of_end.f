@@ -1,0 +1,3 @@
+C the label of END stands before
+10    I=1
+10    END

@@ -1,0 +1,4 @@
+C DIMENSION gives a name no type
+      DIMENSION B(3)
+      I=B(1)
+      END

@@ -1,0 +1,5 @@
+C such a name as a dummy argument
+      SUBROUTINE S(X)
+      END
+      I=1
+      END

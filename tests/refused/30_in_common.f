@@ -1,0 +1,3 @@
+C such a name in COMMON
+      COMMON X
+      END

@@ -1,0 +1,3 @@
+C such a name in DATA
+      DATA A/1/
+      END

@@ -1,0 +1,3 @@
+C such a name in PRINT
+      PRINT *,X
+      END

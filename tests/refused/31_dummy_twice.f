@@ -1,0 +1,5 @@
+C a dummy argument that stands twice
+      SUBROUTINE S(I,I)
+      END
+      I=1
+      END

@@ -1,0 +1,4 @@
+C a type that is declared twice in one statement
+      PROGRAM P
+      LOGICAL I,I
+      END

@@ -1,0 +1,4 @@
+C a type that is declared twice
+      INTEGER A
+      INTEGER A
+      END

@@ -1,0 +1,4 @@
+C two types of one name
+      INTEGER A
+      LOGICAL B,A
+      END

@@ -1,0 +1,3 @@
+C an array of eight dimensions
+      INTEGER A(1,1,1,1,1,1,1,1)
+      END

@@ -1,0 +1,3 @@
+C a high bound below the low one
+      INTEGER A(3:2)
+      END

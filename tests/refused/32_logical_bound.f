@@ -1,0 +1,3 @@
+C a LOGICAL as a bound
+      INTEGER A(.TRUE.)
+      END

@@ -1,0 +1,3 @@
+C PARAMETER with a constant that comes after it
+      PARAMETER (N=M,M=1)
+      END

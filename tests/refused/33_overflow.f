@@ -1,0 +1,3 @@
+C PARAMETER with a value past 2147483647
+      PARAMETER (N=2147483647+1)
+      END

@@ -1,0 +1,3 @@
+C PARAMETER with the value of a variable
+      PARAMETER (N=I)
+      END

@@ -1,0 +1,6 @@
+C a dummy argument in COMMON
+      SUBROUTINE S(I)
+      COMMON I
+      END
+      I=1
+      END

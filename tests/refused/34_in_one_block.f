@@ -1,0 +1,3 @@
+C a name twice in one COMMON block
+      COMMON I,I
+      END

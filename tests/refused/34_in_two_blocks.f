@@ -1,0 +1,4 @@
+C a name in two COMMON blocks
+      COMMON /B/ I
+      COMMON J,I
+      END

@@ -1,0 +1,4 @@
+C DATA of a constant
+      PARAMETER (N=1)
+      DATA N/1/
+      END

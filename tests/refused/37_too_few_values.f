@@ -1,0 +1,3 @@
+C DATA with fewer values than names
+      DATA I,J/1/
+      END

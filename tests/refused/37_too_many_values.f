@@ -1,0 +1,3 @@
+C DATA with more values than names
+      DATA I/1,2/
+      END

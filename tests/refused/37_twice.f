@@ -1,0 +1,3 @@
+C DATA of one name twice
+      DATA I/1/,I/2/
+      END

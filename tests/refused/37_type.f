@@ -1,0 +1,3 @@
+C DATA with a LOGICAL for an INTEGER
+      DATA I/.TRUE./
+      END

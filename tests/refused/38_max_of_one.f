@@ -1,0 +1,3 @@
+C MAX of one argument
+      I=MAX(1)
+      END

@@ -1,0 +1,3 @@
+C MAX without arguments
+      I=MAX
+      END

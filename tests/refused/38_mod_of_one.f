@@ -1,0 +1,3 @@
+C MOD of one argument
+      I=MOD(1)
+      END

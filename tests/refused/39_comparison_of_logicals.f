@@ -1,0 +1,4 @@
+C .EQ. of LOGICALs
+      LOGICAL L
+      IF (L.EQ.L) I=1
+      END

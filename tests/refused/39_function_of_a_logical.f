@@ -1,0 +1,3 @@
+C IABS of a LOGICAL
+      I=IABS(.TRUE.)
+      END

@@ -1,0 +1,3 @@
+C an INTEGER as a test
+      IF (I) J=1
+      END

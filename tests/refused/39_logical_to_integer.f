@@ -1,0 +1,3 @@
+C a LOGICAL assigned to an INTEGER
+      I=.TRUE.
+      END

@@ -1,0 +1,3 @@
+C a character constant assigned to an INTEGER
+      I='a'
+      END

@@ -1,0 +1,3 @@
+C a character constant as an argument
+      CALL S('text')
+      END

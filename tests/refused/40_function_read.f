@@ -1,0 +1,3 @@
+C READ into the name of an intrinsic function
+      READ *,MOD
+      END

@@ -1,0 +1,4 @@
+C a whole array on the right
+      INTEGER J(2)
+      I=J
+      END

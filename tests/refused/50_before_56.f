@@ -1,0 +1,4 @@
+C no main program comes before recursion
+      SUBROUTINE S
+      CALL S
+      END

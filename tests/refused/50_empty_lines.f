@@ -1,0 +1,3 @@
+C empty lines are comments
+
+

@@ -1,0 +1,3 @@
+C a subroutine alone
+      SUBROUTINE S
+      END

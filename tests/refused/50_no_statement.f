@@ -1,0 +1,1 @@
+C no statement at all

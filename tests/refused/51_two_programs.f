@@ -1,0 +1,5 @@
+C two main programs with names
+      PROGRAM P
+      END
+      PROGRAM Q
+      END

@@ -1,0 +1,10 @@
+C the first module that repeats a name
+      SUBROUTINE S
+      END
+      END
+      SUBROUTINE T
+      END
+      SUBROUTINE T
+      END
+      SUBROUTINE S
+      END

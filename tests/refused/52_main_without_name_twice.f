@@ -1,0 +1,3 @@
+C two main programs without a name
+      END
+      END

@@ -1,0 +1,5 @@
+C one main program twice
+      PROGRAM P
+      END
+      PROGRAM P
+      END

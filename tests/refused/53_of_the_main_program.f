@@ -1,0 +1,4 @@
+C a CALL of the main program
+      PROGRAM P
+      CALL P
+      END

@@ -1,0 +1,5 @@
+C no argument for one
+      CALL S
+      END
+      SUBROUTINE S(I)
+      END

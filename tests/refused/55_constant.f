@@ -1,0 +1,7 @@
+C an INTEGER constant for a LOGICAL
+      PARAMETER (N=1)
+      CALL S(N)
+      END
+      SUBROUTINE S(L)
+      LOGICAL L
+      END

@@ -1,0 +1,130 @@
+C a 65th module
+      SUBROUTINE S0
+      END
+      SUBROUTINE S1
+      END
+      SUBROUTINE S2
+      END
+      SUBROUTINE S3
+      END
+      SUBROUTINE S4
+      END
+      SUBROUTINE S5
+      END
+      SUBROUTINE S6
+      END
+      SUBROUTINE S7
+      END
+      SUBROUTINE S8
+      END
+      SUBROUTINE S9
+      END
+      SUBROUTINE S10
+      END
+      SUBROUTINE S11
+      END
+      SUBROUTINE S12
+      END
+      SUBROUTINE S13
+      END
+      SUBROUTINE S14
+      END
+      SUBROUTINE S15
+      END
+      SUBROUTINE S16
+      END
+      SUBROUTINE S17
+      END
+      SUBROUTINE S18
+      END
+      SUBROUTINE S19
+      END
+      SUBROUTINE S20
+      END
+      SUBROUTINE S21
+      END
+      SUBROUTINE S22
+      END
+      SUBROUTINE S23
+      END
+      SUBROUTINE S24
+      END
+      SUBROUTINE S25
+      END
+      SUBROUTINE S26
+      END
+      SUBROUTINE S27
+      END
+      SUBROUTINE S28
+      END
+      SUBROUTINE S29
+      END
+      SUBROUTINE S30
+      END
+      SUBROUTINE S31
+      END
+      SUBROUTINE S32
+      END
+      SUBROUTINE S33
+      END
+      SUBROUTINE S34
+      END
+      SUBROUTINE S35
+      END
+      SUBROUTINE S36
+      END
+      SUBROUTINE S37
+      END
+      SUBROUTINE S38
+      END
+      SUBROUTINE S39
+      END
+      SUBROUTINE S40
+      END
+      SUBROUTINE S41
+      END
+      SUBROUTINE S42
+      END
+      SUBROUTINE S43
+      END
+      SUBROUTINE S44
+      END
+      SUBROUTINE S45
+      END
+      SUBROUTINE S46
+      END
+      SUBROUTINE S47
+      END
+      SUBROUTINE S48
+      END
+      SUBROUTINE S49
+      END
+      SUBROUTINE S50
+      END
+      SUBROUTINE S51
+      END
+      SUBROUTINE S52
+      END
+      SUBROUTINE S53
+      END
+      SUBROUTINE S54
+      END
+      SUBROUTINE S55
+      END
+      SUBROUTINE S56
+      END
+      SUBROUTINE S57
+      END
+      SUBROUTINE S58
+      END
+      SUBROUTINE S59
+      END
+      SUBROUTINE S60
+      END
+      SUBROUTINE S61
+      END
+      SUBROUTINE S62
+      END
+      SUBROUTINE S63
+      END
+      END
