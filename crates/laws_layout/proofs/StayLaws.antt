@@ -1,0 +1,71 @@
+-- What EQUIVALENCE leaves of COMMON: a variable that lies in a block stays where it is.
+use Rattle.std.proofs.Common.{◌≡◌, ℕ, ◌+◌, Bool, true, false, pos, List, [], ◌∷◌, Option, Some, None}
+use Rattle.std.specs.Prelude.{slice_get, if◌then◌else◌}
+use Rattle.f77_ast.specs.Trees.{ExprTree}
+use Rattle.f77_ast.specs.DeclTrees.{DeclTree}
+use Rattle.f77_ast.specs.DeclTrees as decl
+use Rattle.f77_names.specs.declared.refusal.Refusal.{Refusal}
+use Rattle.f77_names.specs.declared.lines.Sited.TheVariants.{Decl}
+use Rattle.f77_names.specs.Lines.{LineTable, line_or}
+use Rattle.f77_names.specs.Entries.{find}
+use Rattle.f77_names.specs.Tables.{NameTable}
+use Rattle.storage_groups.specs.declared.seat.Seat.{Seat}
+use Rattle.storage_groups.specs.Seats.{is_block}
+use Rattle.storage_groups.proofs.BlockLaws.{blocks_stay}
+use Rattle.storage_data.specs.Units.{place_of}
+use Rattle.storage_data.specs.Items.{item_name, item_position}
+use Rattle.storage_layout.specs.declared.equivalences.Anchor.{Anchor}
+use Rattle.storage_layout.specs.declared.equivalences.Grouping.{Grouping}
+use Rattle.storage_layout.specs.declared.equivalences.Shared.{Shared}
+use Rattle.storage_layout.specs.Equivalences.{may_join, clashes, unit_joined, at_place, named_joined, items_joined, begun, group_shared, groups_shared, decl_shared, decls_shared}
+use Rattle.storage_layout.specs.Symbols.{unshared, shared}
+
+-- what lies in a block in some seats lies there in others
+abbrev pub BlocksRemain : List Seat → List Seat → Type 0
+BlocksRemain ss ts = (k : ℕ) (s : Seat) → slice_get ss k ≡ Some s → is_block s.home ≡ true → slice_get ts k ≡ Some s
+
+unit_stays : (a : Option Anchor) (p u : ℕ) (g : Grouping) → BlocksRemain g.seats (unit_joined a p u g).seats
+unit_stays None p u g k s e b = e
+unit_stays (Some a) p u g k s e b = blocks_stay g.seats a.place (pos a.unit) p (pos u) k s e b
+
+at_stays : (o u : Option ℕ) (g : Grouping) → BlocksRemain g.seats (at_place o u g).seats
+at_stays None u g k s e b = e
+at_stays (Some p) None g k s e b = e
+at_stays (Some p) (Some u) g k s e b = unit_stays g.anchor p u g k s e b
+
+named_stays : (t : NameTable) (o : Option (List ℕ)) (u : Option ℕ) (g : Grouping) → BlocksRemain g.seats (named_joined t o u g).seats
+named_stays t None u g k s e b = e
+named_stays t (Some x) u g k s e b = go (may_join (find x t.entries))
+  where
+    go : (c : Bool) → slice_get (let r : Grouping = if c then at_place (place_of t x) u g else clashes g in r.seats) k ≡ Some s
+    go true = at_stays (place_of t x) u g k s e b
+    go false = e
+
+items_stay : (t : NameTable) (is : List ExprTree) (g : Grouping) → BlocksRemain g.seats (items_joined t is g).seats
+items_stay t [] g k s e b = e
+items_stay t (i ∷ is) g k s e b = items_stay t is (named_joined t (item_name i) (item_position t i) g) k s (named_stays t (item_name i) (item_position t i) g k s e b) b
+
+groups_stay : (t : NameTable) (gs : List (List ExprTree)) (line : ℕ) (h : Shared) → BlocksRemain h.group.seats (groups_shared t gs line h).group.seats
+groups_stay t [] line h k s e b = e
+groups_stay t (g ∷ gs) line h k s e b = groups_stay t gs line (group_shared t g line h) k s (items_stay t g (begun h.group) k s e b) b
+
+decl_stays : (t : NameTable) (d : DeclTree) (line : ℕ) (h : Shared) → BlocksRemain h.group.seats (decl_shared t d line h).group.seats
+decl_stays t (decl.equivalence gs) line h k s e b = groups_stay t gs line h k s e b
+decl_stays t (decl.implicit ps) line h k s e b = e
+decl_stays t (decl.integer es) line h k s e b = e
+decl_stays t (decl.logical es) line h k s e b = e
+decl_stays t (decl.dimension es) line h k s e b = e
+decl_stays t (decl.parameter ss) line h k s e b = e
+decl_stays t (decl.common cs) line h k s e b = e
+decl_stays t (decl.save is) line h k s e b = e
+decl_stays t (decl.initial gs) line h k s e b = e
+
+decls_stay : (t : NameTable) (at : LineTable) (ds : List DeclTree) (n : ℕ) (h : Shared) → BlocksRemain h.group.seats (decls_shared t at ds n h).group.seats
+decls_stay t at [] n h k s e b = e
+decls_stay t at (d ∷ ds) n h k s e b =
+    let line = line_or at (Decl n) 0 in
+    decls_stay t at ds (n + 1) (decl_shared t d line h) k s (decl_stays t d line h k s e b) b
+
+pub shared_stays : (t : NameTable) (at : LineTable) (ds : List DeclTree) (ss : List Seat) (found : Option Refusal) → BlocksRemain ss (shared t at ds ss found).group.seats
+unfolding shared
+shared_stays t at ds ss found k s e b = decls_stay t at ds 0 (unshared ss found) k s e b

@@ -1,0 +1,5 @@
+use Rattle.laws_layout.proofs.ColumnLaws.{first_element_is_first}
+use Rattle.laws_layout.proofs.laws.first_element_is_first.Goals as goal
+
+pub returns : goal.returns
+returns c = first_element_is_first

@@ -1,0 +1,54 @@
+-- What holds of the table of every module that is not refused, in the words of the standard.
+use Rattle.std.specs.Prelude.{◌≡◌, ◌<◌, ◌⊎◌, ℕ, suc, ℤ, List, map, slice_get, Some, Ok}
+use Rattle.std.specs.List.{AllByRecursion}
+use Rattle.f77_ast.specs.DeclTrees.{DataTree, ParsedTree}
+use Rattle.f77_ast.specs.Places.{Dim, position}
+use Rattle.f77_symbols.specs.declared.symbol.Place.TheVariants.{Block}
+use Rattle.f77_symbols.specs.Symbols.{SymbolTree}
+use Rattle.f77_symbols.specs.Shared.{OneUnit, group_unit, block_unit, HasUnit}
+use Rattle.storage_layout.specs.Symbols.{symbols_of}
+use Rattle.laws_storage.specs.DataLaws.{ConstantsFit}
+use Rattle.laws_layout.specs.Layout.{members, LieInARow, IsNext, equivalences, ShareTheirFirst, Has, Chained, data_lists, Target, targets, begins_with, GivesItsValues}
+
+-- ---- elements (§5.2.4)
+
+-- the element with all lower bounds is the first
+abbrev pub FirstElementIsFirst : Type 0
+FirstElementIsFirst = (ds : List Dim) (ns : List ℤ) (k : ℕ) → position ds ns ≡ Some k → position ds (map (λ d. d.low) ds) ≡ Some 0
+
+-- and each other comes one unit behind the one before it
+abbrev pub ColumnsComeFirst : Type 0
+ColumnsComeFirst = (ds : List Dim) (ns ms : List ℤ) (k : ℕ) → position ds ns ≡ Some k → IsNext ds ns ms → position ds ms ≡ Some (suc k)
+
+-- ---- the tables of modules with INTEGER constants of 32 bits, as reading makes them
+
+-- the members of each block lie in the order of the text from the block's first unit on (§8.3.2)
+abbrev pub CommonFollowsTheText : Type 0
+CommonFollowsTheText = (p : ParsedTree) (ss : List SymbolTree) → symbols_of p ≡ Ok ss → ConstantsFit ss → (b : List ℕ) → LieInARow ss b 0 (members b p.module_read.decls)
+
+-- the items of each EQUIVALENCE share their first units (§8.2.2)
+abbrev pub EquivalencedItemsShare : Type 0
+EquivalencedItemsShare = (p : ParsedTree) (ss : List SymbolTree) → symbols_of p ≡ Ok ss → ConstantsFit ss → AllByRecursion (ShareTheirFirst ss) (equivalences p.module_read.decls)
+
+-- a unit of a block, or of a group: they are numbered from 1
+abbrev pub IsNumbered : OneUnit → Type 0
+IsNumbered (group_unit g k) = 0 < g
+IsNumbered (block_unit b k) = Unit {0}
+
+-- variables with a common unit are one, or are associated by blocks and groups (§17.1.3)
+abbrev pub SharingHasAChain : Type 0
+SharingHasAChain = (p : ParsedTree) (ss : List SymbolTree) → symbols_of p ≡ Ok ss → (i j : ℕ) (a b : SymbolTree) (u : OneUnit) → IsNumbered u → slice_get ss i ≡ Some a → slice_get ss j ≡ Some b → HasUnit ss a u → HasUnit ss b u → (i ≡ j) ⊎ Chained p.module_read.decls a.name b.name
+
+-- what lies in a block is a member of it, or is associated with one (§8.3.4)
+abbrev pub BlocksHaveAChain : Type 0
+BlocksHaveAChain = (p : ParsedTree) (ss : List SymbolTree) → symbols_of p ≡ Ok ss → (i o : ℕ) (s : SymbolTree) (b : List ℕ) → slice_get ss i ≡ Some s → s.place ≡ Block b o →
+    (x : List ℕ) × Has (members b p.module_read.decls) x × ((x ≡ s.name) ⊎ Chained p.module_read.decls x s.name)
+
+-- DATA gives its values to the units of its items in order (§9)
+abbrev pub DataFillsInOrder : Type 0
+DataFillsInOrder = (p : ParsedTree) (ss : List SymbolTree) → symbols_of p ≡ Ok ss → ConstantsFit ss → AllByRecursion (GivesItsValues ss) (data_lists p.module_read.decls)
+
+-- only units of items of DATA have a value at the start (§9)
+abbrev pub OthersBeginUndefined : Type 0
+OthersBeginUndefined = (p : ParsedTree) (ss : List SymbolTree) → symbols_of p ≡ Ok ss → ConstantsFit ss → (t : Target) (v : ℤ) → begins_with ss t ≡ Some v →
+    (g : DataTree) × Has (data_lists p.module_read.decls) g × Has (targets ss g.targets) t
