@@ -1,0 +1,395 @@
+-- A system that describes subscripts after a statement is one before it; where it is exact, a point before has one after.
+use Rattle.std.proofs.Common.{◌≡◌, ℕ, List, [], ◌∷◌, ◌||◌, ◌&&◌, Bool, true, false, refl, sym, ap, ◌∙◌, subst, ℤ, ◌↔◌, nat_eq, Option, Some, None, ◌⊎◌, inl, inr, ⊎_elim, true≢false}
+use Rattle.std.specs.Prelude.{if◌then◌else◌, not}
+use Rattle.affine_systems.specs.declared.row.Var.{Var}
+use Rattle.affine_systems.specs.declared.row.Var.TheVariants.{Cell, Exit, Phi, Aux}
+use Rattle.affine_systems.specs.declared.row.Term.{Term}
+use Rattle.affine_systems.specs.declared.row.Row.{Row}
+use Rattle.affine_systems.specs.declared.row.System.{System}
+use Rattle.affine_systems.specs.Terms.{var_eq}
+use Rattle.affine_systems.specs.Points.{Point, value, Holds, HoldsAll, only, factor_of}
+use Rattle.affine_systems.specs.Normal.{Normal, Kept, Always, Never, TooBig, normal}
+use Rattle.affine_systems.specs.Tidy.{is_unit, by_row}
+use Rattle.affine_systems.specs.Calls.{meet, unless_too_big, substitute}
+use Rattle.affine_systems.proofs.TermLaws.{var_eq-true}
+use Rattle.affine_systems.proofs.NormalLaws.{Agrees, normal_agrees}
+use Rattle.affine_systems.proofs.TidyLaws.{tidy_holds, tidy_back, either_false, equally, not_false_row}
+use Rattle.affine_systems.proofs.CallLaws.{meet_holds, HoldsIf, substitute_same}
+use Rattle.affine_systems.proofs.LackLaws.{Nil, RowsNil}
+use Rattle.hull_projection.specs.declared.projection.Shadow.{Shadow}
+use Rattle.hull_projection.specs.Laws.{IsOneOf}
+use Rattle.hull_projection.specs.Project.{shadow}
+use Rattle.hull_projection.proofs.ProjectLaws.{project_keeps}
+use Rattle.system_renaming.specs.Renaming.{renamed_by, rename_all}
+use Rattle.system_renaming.proofs.KeepLaws.{rename_all_holds}
+use Rattle.transformer_algebra.specs.declared.transformer.Transformer.{Transformer}
+use Rattle.transformer_algebra.specs.Cells.{has}
+use Rattle.transformer_algebra.specs.Claims.{Scene, AtStart, Does}
+use Rattle.transformer_algebra.proofs.CellLaws.{nat_same, nat_eq_same, clashes, exit_same}
+use Rattle.transformer_algebra.proofs.ElsewhereLaws.{rows_elsewhere}
+use Rattle.region_sets.specs.Naming.{in_terms, in_rows, named_cells, to_exits, exit_vars}
+use Rattle.region_sets.specs.Compose.{is_other_exit, has_other_exit, is_exit_row, exit_row, settled_by, settled, put_in, before_rows, put_in_all, is_lost, loses_row, put_exit, on_row, put_exits, led_to, put_or_led, composed, compose_piece}
+use Rattle.region_sets.specs.Claims.{HasSubscripts, Describes}
+use Rattle.region_sets.proofs.NameLaws.{or_left, or_right, and_both, not_true, Agree, flip, terms_agree, rows_agree, has_named, named_has, exit_of_named, cell_of_other, stays_exit, stays_phi, stays_aux}
+use Rattle.region_sets.proofs.NilLaws.{NormalNil, normal_nil, by_row_nil, by_row_gone, off_terms}
+use Rattle.region_sets.proofs.BackLaws.{tidy_weak, rename_all_back}
+
+some_is : {A : Type 0} (x y : A) → Some x ≡ Some y → x ≡ y
+some_is x y q = cc
+
+none_some : {A : Type 0} {B : Type 0} (x : A) → None ≡ Some x → B
+none_some x q = absurd (cc)
+
+-- ---- one row put in
+
+-- a row that says what the exit of a cell is
+record Says (c : ℕ) (e : Row) : Type 0 where
+  equal : e.equal ≡ true
+  unit : is_unit (factor_of (Exit c) e.terms) ≡ true
+  other : has_other_exit c e.terms ≡ false
+
+says : (c : ℕ) (e : Row) → is_exit_row c e ≡ true → Says c e
+says c e h =
+    let a = and_both e.equal (is_unit (factor_of (Exit c) e.terms) && not (has_other_exit c e.terms)) h in
+    let b = and_both (is_unit (factor_of (Exit c) e.terms)) (not (has_other_exit c e.terms)) a.1 in
+    record { equal = a.0; unit = b.0; other = not_true (has_other_exit c e.terms) b.1 }
+
+settled_same : (q : Point) (P : Type 0) (o : Option Row) → HoldsIf q P o → HoldsIf q P (settled o)
+settled_same q P None h = h
+settled_same q P (Some r) h = go (normal false r) (normal_agrees q false r)
+  where
+    go : (n : Normal) → Agrees q (Holds q r) n → P ↔ Holds q (settled_by n r)
+    go (Kept s) a = ((λ k. a.0 (h.0 k)), (λ k. h.1 (a.1 k)))
+    go Always a = h
+    go Never a = ((λ k. absurd (a (h.0 k))), (λ k. absurd (not_false_row q k)))
+    go TooBig a = h
+
+-- at a point of the equal row it says the same
+put_same : (q : Point) (c : ℕ) (e r : Row) → value q e.terms ≡ e.bound → HoldsIf q (Holds q r) (put_in c e r)
+put_same q c e r h = go (in_terms (Exit c) r.terms)
+  where
+    go : (b : Bool) → HoldsIf q (Holds q r) (if b then settled (substitute r (Exit c) e) else Some r)
+    go true = settled_same q (Holds q r) (substitute r (Exit c) e) (substitute_same q r (Exit c) e h)
+    go false = ((λ k. k), (λ k. k))
+
+put_holds : (q : Point) (c : ℕ) (e : Row) (rs : List Row) → value q e.terms ≡ e.bound → HoldsAll q rs → HoldsAll q (put_in_all c e rs)
+put_holds q c e [] h k = tt
+put_holds q c e (r ∷ rs) h k = go (put_in c e r) (put_same q c e r h) (put_holds q c e rs h k.1)
+  where
+    go : (o : Option Row) → HoldsIf q (Holds q r) o → HoldsAll q (put_in_all c e rs) → HoldsAll q (before_rows o (put_in_all c e rs))
+    go None s ih = ih
+    go (Some p) s ih = (s.0 k.0, ih)
+
+put_back : (q : Point) (c : ℕ) (e : Row) (rs : List Row) → value q e.terms ≡ e.bound → loses_row c e rs ≡ false → HoldsAll q (put_in_all c e rs) → HoldsAll q rs
+put_back q c e [] h l k = tt
+put_back q c e (r ∷ rs) h l k = go (put_in c e r) (put_same q c e r h) l k (λ m n. put_back q c e rs h m n)
+  where
+    go : (o : Option Row) → HoldsIf q (Holds q r) o → (is_lost o || loses_row c e rs) ≡ false → HoldsAll q (before_rows o (put_in_all c e rs)) → (loses_row c e rs ≡ false → HoldsAll q (put_in_all c e rs) → HoldsAll q rs) → Holds q r × HoldsAll q rs
+    go None s l k ih = clashes true refl l
+    go (Some p) s l k ih = (s.1 k.0, ih l k.1)
+
+-- ---- which exits rows have
+
+abbrev NilIf : Point → Option Row → Type 0
+NilIf u None = Unit {0}
+NilIf u (Some r) = Nil u r
+
+too_big_nil : (u : Point) (r : Row) (n : Normal) → NormalNil u n → Nil u r → NilIf u (unless_too_big n r)
+too_big_nil u r (Kept s) k h = k
+too_big_nil u r Always k h = h
+too_big_nil u r Never k h = h
+too_big_nil u r TooBig k h = tt
+
+settled_nil : (u : Point) (o : Option Row) → NilIf u o → NilIf u (settled o)
+settled_nil u None h = h
+settled_nil u (Some r) h = go (normal false r) (normal_nil u false r h)
+  where
+    go : (n : Normal) → NormalNil u n → Nil u (settled_by n r)
+    go (Kept s) k = k
+    go Always k = h
+    go Never k = refl
+    go TooBig k = h
+
+substitute_nil : (u : Point) (r : Row) (v : Var) (e : Row) → Nil u (by_row r v e) → NilIf u (settled (substitute r v e))
+substitute_nil u r v e h = settled_nil u (substitute r v e) (too_big_nil u (by_row r v e) (normal false (by_row r v e)) (normal_nil u false (by_row r v e) h) h)
+
+-- the exit is gone
+put_gone : (c : ℕ) (e r : Row) → Says c e → NilIf (only (Exit c)) (put_in c e r)
+put_gone c e r s = go (in_terms (Exit c) r.terms) refl
+  where
+    go : (b : Bool) → in_terms (Exit c) r.terms ≡ b → NilIf (only (Exit c)) (if b then settled (substitute r (Exit c) e) else Some r)
+    go true k = substitute_nil (only (Exit c)) r (Exit c) e (by_row_gone r (Exit c) e s.unit)
+    go false k = off_terms (Exit c) r.terms k
+
+put_nil : (u : Point) (c : ℕ) (e r : Row) → Nil u e → Nil u r → NilIf u (put_in c e r)
+put_nil u c e r z h = go (in_terms (Exit c) r.terms)
+  where
+    go : (b : Bool) → NilIf u (if b then settled (substitute r (Exit c) e) else Some r)
+    go true = substitute_nil u r (Exit c) e (by_row_nil u r (Exit c) e h z)
+    go false = h
+
+before_nil : (u : Point) (o : Option Row) (rs : List Row) → NilIf u o → RowsNil u rs → RowsNil u (before_rows o rs)
+before_nil u None rs h k = k
+before_nil u (Some r) rs h k = (h, k)
+
+all_gone : (c : ℕ) (e : Row) (rs : List Row) → Says c e → RowsNil (only (Exit c)) (put_in_all c e rs)
+all_gone c e [] s = tt
+all_gone c e (r ∷ rs) s = before_nil (only (Exit c)) (put_in c e r) (put_in_all c e rs) (put_gone c e r s) (all_gone c e rs s)
+
+all_nil : (u : Point) (c : ℕ) (e : Row) (rs : List Row) → Nil u e → RowsNil u rs → RowsNil u (put_in_all c e rs)
+all_nil u c e [] z h = tt
+all_nil u c e (r ∷ rs) z h = before_nil u (put_in c e r) (put_in_all c e rs) (put_nil u c e r z h.0) (all_nil u c e rs z h.1)
+
+-- the only exit of such a row
+other_exits : (c d : ℕ) (ts : List Term) → has_other_exit c ts ≡ false → in_terms (Exit d) ts ≡ true → c ≡ d
+other_exits c d [] h k = clashes false k refl
+other_exits c d (t ∷ ts) h k = go t.var h (var_eq (Exit d) t.var) refl k (λ l n. other_exits c d ts l n)
+  where
+    rest : (b : Bool) → (b || has_other_exit c ts) ≡ false → in_terms (Exit d) ts ≡ true → (has_other_exit c ts ≡ false → in_terms (Exit d) ts ≡ true → c ≡ d) → c ≡ d
+    rest true l n f = clashes true refl l
+    rest false l n f = f l n
+
+    mine : (w : Var) → Exit d ≡ w → (is_other_exit c w || has_other_exit c ts) ≡ false → c ≡ d
+    mine w e l = two (subst (λ v. (is_other_exit c v || has_other_exit c ts) ≡ false) (sym e) l)
+      where
+        off : (b : Bool) → (not b || has_other_exit c ts) ≡ false → b ≡ true
+        off true x = refl
+        off false x = clashes true refl x
+
+        two : (not (var_eq (Exit c) (Exit d)) || has_other_exit c ts) ≡ false → c ≡ d
+        two x = exit_same c d (off (var_eq (Exit c) (Exit d)) x)
+
+    go : (w : Var) → (is_other_exit c w || has_other_exit c ts) ≡ false → (b : Bool) → var_eq (Exit d) w ≡ b → (b || in_terms (Exit d) ts) ≡ true → (has_other_exit c ts ≡ false → in_terms (Exit d) ts ≡ true → c ≡ d) → c ≡ d
+    go w l true e n f = mine w (var_eq-true (Exit d) w e) l
+    go w l false e n f = rest (is_other_exit c w) l n f
+
+other_nil : (c d : ℕ) (e : Row) → Says c e → (c ≡ d → ⊥) → Nil (only (Exit d)) e
+other_nil c d e s f = go (in_terms (Exit d) e.terms) refl
+  where
+    go : (b : Bool) → in_terms (Exit d) e.terms ≡ b → Nil (only (Exit d)) e
+    go true k = absurd (f (other_exits c d e.terms s.other k))
+    go false k = off_terms (Exit d) e.terms k
+
+exit_nil : (c d : ℕ) (e : Row) (rs : List Row) → Says c e → RowsNil (only (Exit d)) rs → RowsNil (only (Exit d)) (put_in_all c e rs)
+exit_nil c d e rs s h = go (nat_eq c d) refl
+  where
+    go : (b : Bool) → nat_eq c d ≡ b → RowsNil (only (Exit d)) (put_in_all c e rs)
+    go true k = subst (λ (z : ℕ). RowsNil (only (Exit z)) (put_in_all c e rs)) (nat_same c d k) (all_gone c e rs s)
+    go false k = all_nil (only (Exit d)) c e rs (other_nil c d e s (λ q. clashes (nat_eq c d) (subst (λ (z : ℕ). nat_eq c z ≡ true) q (nat_eq_same c)) k)) h
+
+-- ---- points before and after
+
+-- the numbers afterwards at some exits
+abbrev pub ends_at : List ℕ → (ℕ → ℤ) → Point → Var → ℤ
+ends_at cs y p (Cell c) = p (Cell c)
+ends_at cs y p (Exit c) = if has cs c then y c else p (Exit c)
+ends_at cs y p (Phi k) = p (Phi k)
+ends_at cs y p (Aux n) = p (Aux n)
+
+-- the cells have moved on
+abbrev pub after_cells : List ℕ → (ℕ → ℤ) → Point → Var → ℤ
+after_cells cs y p (Cell c) = if has cs c then y c else p (Cell c)
+after_cells cs y p (Exit c) = p (Exit c)
+after_cells cs y p (Phi k) = p (Phi k)
+after_cells cs y p (Aux n) = p (Aux n)
+
+pub in_exit_vars : (cs : List ℕ) (c : ℕ) → has cs c ≡ true → IsOneOf (Exit c) (exit_vars cs)
+in_exit_vars [] c h = clashes false h refl
+in_exit_vars (d ∷ cs) c h = go (nat_eq d c) refl h (λ k. in_exit_vars cs c k)
+  where
+    go : (b : Bool) → nat_eq d c ≡ b → (b || has cs c) ≡ true → (has cs c ≡ true → IsOneOf (Exit c) (exit_vars cs)) → (Exit c ≡ Exit d) ⊎ IsOneOf (Exit c) (exit_vars cs)
+    go true e k r = inl (ap (λ j. Exit j) (sym (nat_same d c e)))
+    go false e k r = inr (r k)
+
+-- a point differs from it at the exits alone
+pub ends_off : (cs : List ℕ) (y : ℕ → ℤ) (p : Point) (v : Var) → (IsOneOf v (exit_vars cs) → ⊥) → p v ≡ ends_at cs y p v
+ends_off cs y p (Cell c) f = refl
+ends_off cs y p (Exit c) f = go (has cs c) refl
+  where
+    go : (b : Bool) → has cs c ≡ b → p (Exit c) ≡ (if b then y c else p (Exit c))
+    go true e = absurd (f (in_exit_vars cs c e))
+    go false e = refl
+ends_off cs y p (Phi c) f = refl
+ends_off cs y p (Aux c) f = refl
+
+module _ (m : Scene) (t : Transformer) (x y : ℕ → ℤ) (d : Does m t x y) (s : System) where
+  abbrev ns : List ℕ
+  ns = named_cells t.cells s
+
+  abbrev yc : ℕ → ℤ
+  yc c = y (m.unit c)
+
+  abbrev at_named : Point → Point
+  at_named p = ends_at ns yc p
+
+  abbrev at_all : Point → Point
+  at_all p = ends_at t.cells yc p
+
+  starts_after : (p q : Point) → AtStart m x p → ((c : ℕ) → q (Cell c) ≡ p (Cell c)) → AtStart m y (after_cells t.cells yc q)
+  starts_after p q st e c k = go (has t.cells c) refl
+    where
+      go : (b : Bool) → has t.cells c ≡ b → (if b then y (m.unit c) else q (Cell c)) ≡ y (m.unit c)
+      go true h = refl
+      go false h = e c ∙ (st c k ∙ sym (d.kept.cells c k h))
+
+  -- on what the system names, moving the cells is renaming them to exits that have the numbers afterwards
+  same_named : (p : Point) (all : List ℕ) → ((c : ℕ) → has ns c ≡ true → has all c ≡ true) → Agree (λ v. in_rows v s.rows) (after_cells t.cells yc (ends_at all yc p)) (λ v. ends_at all yc p (renamed_by (to_exits ns) v))
+  same_named p all sub (Cell c) n = go (has t.cells c) refl (has ns c) refl
+    where
+      go : (b : Bool) → has t.cells c ≡ b → (l : Bool) → has ns c ≡ l → (if b then yc c else p (Cell c)) ≡ ends_at all yc p (renamed_by (to_exits ns) (Cell c))
+      go true e true k = sym (ap (ends_at all yc p) (exit_of_named ns c k) ∙ ap (λ (h : Bool). if h then yc c else p (Exit c)) (sub c k))
+      go true e false k = clashes (has ns c) (has_named t.cells s c e n) k
+      go false e true k = clashes (has t.cells c) (named_has t.cells s c k) e
+      go false e false k = sym (ap (ends_at all yc p) (cell_of_other ns c k))
+  same_named p all sub (Exit c) n = sym (ap (ends_at all yc p) (stays_exit ns c))
+  same_named p all sub (Phi c) n = sym (ap (ends_at all yc p) (stays_phi ns c))
+  same_named p all sub (Aux c) n = sym (ap (ends_at all yc p) (stays_aux ns c))
+
+  -- a row of the transformer that says what a named exit is holds with that exit alone moved on
+  row_there : (e : Row) (c : ℕ) (p : Point) → has ns c ≡ true → Says c e → Holds (at_all p) e → value (at_named p) e.terms ≡ e.bound
+  row_there e c p h w a =
+      let v : value (at_all p) e.terms ≡ e.bound = (equally (at_all p) e w.equal).0 a in
+      sym (terms_agree e.terms (at_all p) (at_named p) same) ∙ v
+    where
+      same : (v : Var) → in_terms v e.terms ≡ true → at_all p v ≡ at_named p v
+      same (Cell b) n = refl
+      same (Phi b) n = refl
+      same (Aux b) n = refl
+      same (Exit b) n =
+          let q : c ≡ b = other_exits c b e.terms w.other n in
+          subst (λ (z : ℕ). (if has t.cells z then yc z else p (Exit z)) ≡ (if has ns z then yc z else p (Exit z))) q
+          (ap (λ (l : Bool). if l then yc c else p (Exit c)) (named_has t.cells s c h) ∙ sym (ap (λ (l : Bool). if l then yc c else p (Exit c)) h))
+
+  record Found (c : ℕ) (e : Row) (es : List Row) : Type 0 where
+    row_says : Says c e
+    holds : (p : Point) → HoldsAll p es → Holds p e
+
+  found : (c : ℕ) (es : List Row) (e : Row) → exit_row c es ≡ Some e → Found c e es
+  found c [] e q = none_some e q
+  found c (f ∷ es) e q = go (is_exit_row c f) refl q (found c es e)
+    where
+      go : (b : Bool) → is_exit_row c f ≡ b → (if b then Some f else exit_row c es) ≡ Some e → (exit_row c es ≡ Some e → Found c e es) → Found c e (f ∷ es)
+      go true h k ih =
+          let same = some_is f e k in
+          record { row_says = subst (λ (g : Row). Says c g) same (says c f h); holds = λ p a. subst (λ (g : Row). Holds p g) same a.0 }
+      go false h k ih = let w = ih k in record { row_says = w.row_says; holds = λ p a. w.holds p a.1 }
+
+  -- what putting in the rows of some cells does to a system
+  record Result (cs : List ℕ) (a b : System) : Type 0 where
+    forward : (p : Point) → HoldsAll (at_all p) t.system.rows → HoldsAll (at_named p) a.rows → HoldsAll (at_named p) b.rows
+    backward : b.weak ≡ false → (p : Point) → HoldsAll (at_all p) t.system.rows → HoldsAll (at_named p) b.rows → HoldsAll (at_named p) a.rows
+    strong : b.weak ≡ false → a.weak ≡ false
+    off : (c : ℕ) → RowsNil (only (Exit c)) a.rows → RowsNil (only (Exit c)) b.rows
+    gone : (c : ℕ) → has cs c ≡ true → RowsNil (only (Exit c)) b.rows
+
+  result : (cs : List ℕ) → ((c : ℕ) → has cs c ≡ true → has ns c ≡ true) → (a b : System) → put_exits cs t.system.rows a ≡ Some b → Result cs a b
+  result [] sub a b q = subst (λ (z : System). Result [] a z) (some_is a b q) (record { forward = λ p h k. k; backward = λ w p h k. k; strong = λ w. w; off = λ c h. h; gone = λ c h. clashes false h refl })
+  result (c ∷ cs) sub a b q = go (exit_row c t.system.rows) refl q (λ a2. result cs (λ z h. sub z (or_right (nat_eq c z) (has cs z) h)) a2 b)
+    where
+      go : (w : Option Row) → exit_row c t.system.rows ≡ w → on_row w (λ e. put_exits cs t.system.rows (put_exit c e a)) ≡ Some b → ((a2 : System) → put_exits cs t.system.rows a2 ≡ Some b → Result cs a2 b) → Result (c ∷ cs) a b
+      go None f k ih = none_some b k
+      go (Some e) f k ih =
+          let w = found c t.system.rows e f in
+          let r = ih (put_exit c e a) k in
+          let mine = sub c (or_left (nat_eq c c) (has cs c) (nat_eq_same c)) in
+          let is_there = λ (p : Point) (h : HoldsAll (at_all p) t.system.rows). row_there e c p mine w.row_says (w.holds (at_all p) h) in
+          record {
+            forward = λ p h z. r.forward p h (put_holds (at_named p) c e a.rows (is_there p h) z);
+            backward = λ l p h z. put_back (at_named p) c e a.rows (is_there p h) (either_false a.weak (loses_row c e a.rows) (r.strong l)).1 (r.backward l p h z);
+            strong = λ l. (either_false a.weak (loses_row c e a.rows) (r.strong l)).0;
+            off = λ z h. r.off z (exit_nil c z e a.rows w.row_says h);
+            gone = λ z h. one z (nat_eq c z) refl h (λ l. r.gone z l) (r.off c (all_gone c e a.rows w.row_says));
+          }
+        where
+          one : (z : ℕ) (i : Bool) → nat_eq c z ≡ i → (i || has cs z) ≡ true → (has cs z ≡ true → RowsNil (only (Exit z)) b.rows) → RowsNil (only (Exit c)) b.rows → RowsNil (only (Exit z)) b.rows
+          one z true k h f g = subst (λ (j : ℕ). RowsNil (only (Exit j)) b.rows) (nat_same c z k) g
+          one z false k h f g = f h
+
+  abbrev renamed : System
+  renamed = rename_all (to_exits ns) s
+
+  relates_all : (p : Point) → AtStart m x p → HoldsAll (at_all p) t.system.rows
+  relates_all p st = d.relates (at_all p) (λ c k. st c k) (λ c k h. ap (λ (b : Bool). if b then y (m.unit c) else p (Exit c)) h)
+
+  -- the system, at the numbers afterwards, is what is renamed, with them at the exits
+  to_renamed : (p : Point) (all : List ℕ) → ((c : ℕ) → has ns c ≡ true → has all c ≡ true) → HoldsAll (after_cells t.cells yc (ends_at all yc p)) s.rows → HoldsAll (ends_at all yc p) renamed.rows
+  to_renamed p all sub h = rename_all_holds (to_exits ns) s (ends_at all yc p) (rows_agree s.rows (after_cells t.cells yc (ends_at all yc p)) (λ v. ends_at all yc p (renamed_by (to_exits ns) v)) (same_named p all sub) h)
+
+  -- no exit of a named cell is left: the point may as well be p
+  off_named : (b : System) → Result ns renamed b → (p : Point) (v : Var) → (at_named p v ≡ p v) ⊎ RowsNil (only v) b.rows
+  off_named b w p (Cell c) = inl refl
+  off_named b w p (Exit c) = go (has ns c) refl
+    where
+      go : (l : Bool) → has ns c ≡ l → ((if l then yc c else p (Exit c)) ≡ p (Exit c)) ⊎ RowsNil (only (Exit c)) b.rows
+      go true e = inr (w.gone c e)
+      go false e = inl refl
+  off_named b w p (Phi c) = inl refl
+  off_named b w p (Aux c) = inl refl
+
+  turn : (b : System) (p : Point) → ((v : Var) → (at_named p v ≡ p v) ⊎ RowsNil (only v) b.rows) → (v : Var) → (p v ≡ at_named p v) ⊎ RowsNil (only v) b.rows
+  turn b p f v = ⊎_elim (λ e. inl (sym e)) (λ n. inr n) (f v)
+
+  abbrev by_cells : List ℕ → Option System → Shadow
+  by_cells [] w = shadow s true
+  by_cells (c ∷ cs) w = put_or_led w (c ∷ cs) t s
+
+  composed_is : (cs : List ℕ) → by_cells cs (put_exits cs t.system.rows (rename_all (to_exits cs) s)) ≡ composed cs t s
+  composed_is [] = refl
+  composed_is (c ∷ cs) = refl
+
+  -- no changed cell is named
+  nothing_named : ns ≡ [] → (p : Point) → Agree (λ v. in_rows v s.rows) (after_cells t.cells yc p) p
+  nothing_named e p (Cell c) n = one (has t.cells c) refl
+    where
+      one : (b : Bool) → has t.cells c ≡ b → (if b then yc c else p (Cell c)) ≡ p (Cell c)
+      one true h = clashes (has ns c) (has_named t.cells s c h n) (ap (λ (z : List ℕ). has z c) e)
+      one false h = refl
+  nothing_named e p (Exit c) n = refl
+  nothing_named e p (Phi c) n = refl
+  nothing_named e p (Aux c) n = refl
+
+  pub piece_describes : (phi : ℕ → ℤ) → Describes m s y phi → Describes m (compose_piece t s).system x phi
+  piece_describes phi l = subst (λ (z : Shadow). Describes m z.system x phi) (composed_is ns) (go ns refl (put_exits ns t.system.rows renamed) refl)
+    where
+      after_holds : (p : Point) (all : List ℕ) → AtStart m x p → HasSubscripts phi p → HoldsAll (after_cells t.cells yc (ends_at all yc p)) s.rows
+      after_holds p all st ph = l (after_cells t.cells yc (ends_at all yc p)) (starts_after p (ends_at all yc p) st (λ c. refl)) ph
+
+      go : (cs : List ℕ) → ns ≡ cs → (w : Option System) → put_exits ns t.system.rows renamed ≡ w → Describes m (by_cells cs w).system x phi
+      go [] e w q = λ p st ph. rows_agree s.rows (after_cells t.cells yc p) p (nothing_named e p) (l (after_cells t.cells yc p) (starts_after p p st (λ c. refl)) ph)
+      go (c ∷ cs) e (Some b) q = λ p st ph.
+          let w = result ns (λ z h. h) renamed b q in
+          tidy_holds p b (rows_elsewhere (at_named p) p b.rows (off_named b w p) (w.forward p (relates_all p st) (to_renamed p ns (λ z h. h) (after_holds p ns st ph))))
+      go (c ∷ cs) e None q = λ p st ph.
+          subst (λ (z : List ℕ). HoldsAll p (led_to z t s).rows) e
+          (project_keeps (meet renamed t.system) (exit_vars t.cells) (at_all p) p (λ v f. ends_off t.cells yc p v f)
+          (meet_holds (at_all p) renamed t.system (to_renamed p t.cells (named_has t.cells s) (after_holds p t.cells st ph), relates_all p st)))
+
+  -- a point after, for one before
+  pub record After (p : Point) : Type 0 where
+    pub point : Point
+    pub starts : AtStart m y point
+    pub same : (k : ℕ) → point (Phi k) ≡ p (Phi k)
+    pub holds : HoldsAll point s.rows
+
+  pub piece_back : (p : Point) → AtStart m x p → (compose_piece t s).exact ≡ true → (compose_piece t s).system.weak ≡ false → HoldsAll p (compose_piece t s).system.rows → After p
+  piece_back p st = subst (λ (z : Shadow). z.exact ≡ true → z.system.weak ≡ false → HoldsAll p z.system.rows → After p) (composed_is ns) (go ns refl (put_exits ns t.system.rows renamed) refl)
+    where
+      go : (cs : List ℕ) → ns ≡ cs → (w : Option System) → put_exits ns t.system.rows renamed ≡ w → (by_cells cs w).exact ≡ true → (by_cells cs w).system.weak ≡ false → HoldsAll p (by_cells cs w).system.rows → After p
+      go [] e w q = λ ex l h. record {
+        point = after_cells t.cells yc p;
+        starts = starts_after p p st (λ c. refl);
+        same = λ k. refl;
+        holds = rows_agree s.rows p (after_cells t.cells yc p) (flip (λ v. in_rows v s.rows) (after_cells t.cells yc p) p (nothing_named e p)) h;
+      }
+      go (c ∷ cs) e (Some b) q = λ ex l h.
+          let w = result ns (λ z g. g) renamed b q in
+          let strong = tidy_weak b l in
+          let here = rows_elsewhere p (at_named p) b.rows (turn b p (off_named b w p)) (tidy_back p b l h) in
+          let back = rename_all_back (to_exits ns) s (at_named p) (w.strong strong) (w.backward strong p (relates_all p st) here) in
+          record {
+            point = after_cells t.cells yc (at_named p);
+            starts = starts_after p (at_named p) st (λ c. refl);
+            same = λ k. refl;
+            holds = rows_agree s.rows (λ v. at_named p (renamed_by (to_exits ns) v)) (after_cells t.cells yc (at_named p)) (flip (λ v. in_rows v s.rows) (after_cells t.cells yc (at_named p)) (λ v. at_named p (renamed_by (to_exits ns) v)) (same_named p ns (λ z g. g))) back;
+          }
+      go (c ∷ cs) e None q = λ ex l h. absurd (true≢false (sym ex))

@@ -1,0 +1,13 @@
+pub mod Steps
+pub mod NameLaws
+pub mod BackLaws
+pub mod UniteLaws
+pub mod SubtractLaws
+pub mod NilLaws
+pub mod ComposeLaws
+pub mod LoopLaws
+pub mod PieceLaws
+pub mod SetSteps
+pub mod PutSteps
+pub mod RowSteps
+pub mod ListSteps

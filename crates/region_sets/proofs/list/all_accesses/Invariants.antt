@@ -1,0 +1,13 @@
+use Rattle.std.proofs.Common.{◌≡◌, length, ◌++◌}
+use Rattle.region_sets.specs.Lists.{accesses_at, all_accesses}
+use Rattle.region_sets.specs.Sets.{SetFits}
+use Rattle.region_sets.proofs.list.all_accesses.Given as goal
+
+abbrev pub invariant-loop-rest : goal.invariant-loop-rest
+invariant-loop-rest l = record {
+  same : l.out ++ all_accesses (accesses_at l.at) l.rest ≡ all_accesses (accesses_at l.at) l.ids;
+  fits : SetFits l.out;
+}
+
+abbrev pub decreases-loop-rest : goal.decreases-loop-rest
+decreases-loop-rest l = length l.rest

@@ -1,0 +1,71 @@
+-- What regions say of the units of storage. A claim is one on each point that has the numbers of the tracked cells; so what a system says of other
+-- variables does not matter.
+use Rattle.std.specs.Prelude.{◌≡◌, ◌⊎◌, ℕ, Bool, true, List, [], ◌∷◌, Option, Some, ℤ, pos, ◌+ℤ◌, ◌*ℤ◌}
+use Rattle.affine_systems.specs.declared.row.Var.TheVariants.{Phi}
+use Rattle.affine_systems.specs.declared.row.System.{System}
+use Rattle.affine_systems.specs.Points.{Point, HoldsAll}
+use Rattle.transformer_algebra.specs.Cells.{has}
+use Rattle.transformer_algebra.specs.Loops.{goes_up}
+use Rattle.transformer_algebra.specs.Laws.{In}
+use Rattle.transformer_algebra.specs.Claims.{Scene, AtStart, Chain, Wrote, Tracks, Means, NotBeyond}
+use Rattle.region_sets.specs.declared.range.Range.{Range}
+use Rattle.region_sets.specs.declared.region.Region.{Region}
+
+-- a point is one of a piece
+abbrev pub HoldsSome : Point → List System → Type 0
+HoldsSome p [] = ⊥
+HoldsSome p (s ∷ ss) = HoldsAll p s.rows ⊎ HoldsSome p ss
+
+-- the subscripts have these numbers
+abbrev pub HasSubscripts : (ℕ → ℤ) → Point → Type 0
+HasSubscripts phi p = (k : ℕ) → p (Phi k) ≡ phi k
+
+-- a system describes these subscripts at these numbers
+abbrev pub Describes : Scene → System → (ℕ → ℤ) → (ℕ → ℤ) → Type 0
+Describes m s x phi = (p : Point) → AtStart m x p → HasSubscripts phi p → HoldsAll p s.rows
+
+-- the unit of the element with these subscripts, where it is in bounds; of a scalar, whatever the subscripts
+abbrev pub Elements : Type 0
+Elements = (ℕ → ℤ) → Option ℕ
+
+-- a unit is that of an element that a piece of the region describes at these numbers
+pub record LiesIn (m : Scene) (at : Elements) (r : Region) (x : ℕ → ℤ) (u : ℕ) : Type 0 where
+  pub phi : ℕ → ℤ
+  pub there : at phi ≡ Some u
+  pub piece : System
+  pub is_one : In piece r.pieces
+  pub described : Describes m piece x phi
+
+-- the subscripts are those of an element in bounds, which is accessed
+pub record Accessed (at : Elements) (accessed : ℕ → Bool) (phi : ℕ → ℤ) : Type 0 where
+  pub unit : ℕ
+  pub there : at phi ≡ Some unit
+  pub is_so : accessed unit ≡ true
+
+-- each element that an exact region describes is in bounds and accessed
+abbrev pub IsSharp : Scene → Elements → Region → (ℕ → ℤ) → (ℕ → Bool) → Type 0
+IsSharp m at r x accessed = r.exact ≡ true → (p : Point) → AtStart m x p → HoldsSome p r.pieces → Accessed at accessed (λ k. p (Phi k))
+
+-- ---- iterations
+
+-- n is the number of the index that is reached from a after k steps, and not beyond b
+pub record InRange (a b s n : ℤ) (k : ℕ) : Type 0 where
+  pub after_first : NotBeyond (goes_up s) a n
+  pub before_last : NotBeyond (goes_up s) n b
+  pub place : n ≡ a +ℤ (s *ℤ pos k)
+
+-- an iteration begins at the numbers y with the index n, after k others, in a loop that was begun at the numbers x and whose first and last
+-- expressions have the values a and b there. The index is first given the value a, which makes the numbers x1
+pub record Iteration (m : Scene) (g : Range) (x : ℕ → ℤ) (a b n : ℤ) (k : ℕ) (y : ℕ → ℤ) : Type 0 where
+  pub begin : ℕ → ℤ
+  pub wrote : Wrote m g.index a x begin
+  pub chain : Chain m g.turn begin y
+  pub number : y (m.unit g.index) ≡ n
+  pub range : (s : ℤ) → g.step ≡ Some s → InRange a b s n k
+
+-- the values of the expressions, and that a turn changes tracked cells alone, and the index where that is one
+pub record Begins (m : Scene) (g : Range) (x : ℕ → ℤ) (a b : ℤ) : Type 0 where
+  pub first : Means m g.first x a
+  pub last : Means m g.last x b
+  pub tracks : Tracks m g.turn.cells
+  pub index : m.tracked g.index ≡ true → has g.turn.cells g.index ≡ true

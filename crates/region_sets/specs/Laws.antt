@@ -1,0 +1,68 @@
+-- What the rules keep of the units that lie in regions, and of what exact regions say.
+use Rattle.std.specs.Prelude.{◌≡◌, ◌⊎◌, ℕ, Bool, true, false, List, Option, Some, MatchOption, ℤ, pos}
+use Rattle.affine_systems.specs.declared.row.System.{System}
+use Rattle.affine_systems.specs.Points.{Point, HoldsAll}
+use Rattle.transformer_algebra.specs.declared.transformer.Transformer.{Transformer}
+use Rattle.transformer_algebra.specs.Claims.{Scene, Does}
+use Rattle.transformer_algebra.specs.Laws.{In}
+use Rattle.region_sets.specs.declared.range.Range.{Range}
+use Rattle.region_sets.specs.declared.region.Region.{Region}
+use Rattle.region_sets.specs.Claims.{HoldsSome, Elements, LiesIn, IsSharp, InRange, Iteration, Begins}
+
+-- ---- of two regions
+
+-- a piece has all points of a system
+pub record WithinOne (s : System) (ss : List System) : Type 0 where
+  pub piece : System
+  pub is_one : In piece ss
+  pub has : (p : Point) → HoldsAll p s.rows → HoldsAll p piece.rows
+
+abbrev pub HasAll : Region → Region → Type 0
+HasAll r a = (s : System) → In s a.pieces → WithinOne s r.pieces
+
+-- each piece of either lies within one of the region
+abbrev pub HasBoth : Region → Region → Region → Type 0
+HasBoth a b r = HasAll r a × HasAll r b
+
+-- where it is exact, it is one of the two that is exact
+abbrev pub IsOneExact : Region → Region → Region → Type 0
+IsOneExact a b r = r.exact ≡ true → ((a.exact ≡ true) × ((p : Point) → HoldsSome p r.pieces → HoldsSome p a.pieces)) ⊎ ((b.exact ≡ true) × ((p : Point) → HoldsSome p r.pieces → HoldsSome p b.pieces))
+
+-- a unit that lies in the first stays, unless the second says that it is certainly accessed
+abbrev pub KeepsRest : Region → Region → Option Region → Type 0
+KeepsRest a b o =
+    (m : Scene) (at : Elements) (x : ℕ → ℤ) (accessed : ℕ → Bool) → IsSharp m at b x accessed → (u : ℕ) → accessed u ≡ false → LiesIn m at a x u →
+    MatchOption o ⊥ (λ r. LiesIn m at r x u)
+
+-- where it is exact, it has only what is of the first, which is exact, and not of the second
+abbrev pub HasRestAlone : Region → Region → Option Region → Type 0
+HasRestAlone a b o = MatchOption o (Unit {0}) (λ r. r.exact ≡ true → (a.exact ≡ true) × ((p : Point) → HoldsSome p r.pieces → HoldsSome p a.pieces × (HoldsSome p b.pieces → ⊥)))
+
+-- ---- from after a statement to before it
+
+-- a unit that lies in the first after what the transformer describes lies in the second before it
+abbrev pub MovesUnits : Transformer → Region → Region → Type 0
+MovesUnits t r q = (m : Scene) (at : Elements) (x y : ℕ → ℤ) → Does m t x y → (u : ℕ) → LiesIn m at r y u → LiesIn m at q x u
+
+abbrev pub MovesSharp : Transformer → Region → Region → Type 0
+MovesSharp t r q = (m : Scene) (at : Elements) (x y : ℕ → ℤ) → Does m t x y → (accessed : ℕ → Bool) → IsSharp m at r y accessed → IsSharp m at q x accessed
+
+-- ---- from the iterations of a DO to the DO
+
+-- a unit that lies in the first at the beginning of an iteration lies in the second at the DO
+abbrev pub HasIterations : Range → Region → Region → Type 0
+HasIterations g r q =
+    (m : Scene) (at : Elements) (x : ℕ → ℤ) (a b : ℤ) → Begins m g x a b → (n : ℤ) (k : ℕ) (y : ℕ → ℤ) → Iteration m g x a b n k y → (u : ℕ) → LiesIn m at r y u → LiesIn m at q x u
+
+-- an iteration with this index, at whose beginning what the region says is so
+pub record SharpIteration (m : Scene) (at : Elements) (g : Range) (r : Region) (x : ℕ → ℤ) (a b n : ℤ) (k : ℕ) (accessed : ℕ → Bool) : Type 0 where
+  pub begin : ℕ → ℤ
+  pub iteration : Iteration m g x a b n k begin
+  pub sharp : IsSharp m at r begin accessed
+
+-- where there is an iteration for each number in the range, what the second says is so
+abbrev pub HasIterationsAlone : Range → Region → Region → Type 0
+HasIterationsAlone g r q =
+    (m : Scene) (at : Elements) (x : ℕ → ℤ) (a b : ℤ) (accessed : ℕ → Bool) → Begins m g x a b →
+    ((s : ℤ) → g.step ≡ Some s → (s ≡ pos 0 → ⊥) × ((n : ℤ) (k : ℕ) → InRange a b s n k → SharpIteration m at g r x a b n k accessed)) →
+    IsSharp m at q x accessed

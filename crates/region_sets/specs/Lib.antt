@@ -1,0 +1,12 @@
+pub mod Regions
+pub mod Ready
+pub mod Naming
+pub mod Unite
+pub mod Subtract
+pub mod Compose
+pub mod Loops
+pub mod Sets
+pub mod Lists
+pub mod Written
+pub mod Claims
+pub mod Laws

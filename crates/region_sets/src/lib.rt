@@ -1,0 +1,26 @@
+//! Regions: which elements of arrays may be read and written, and which of them certainly are.
+#![tactic(auto)]
+
+mod composing;
+mod list;
+mod loop_rows;
+mod loops;
+mod marks;
+mod naming;
+mod range;
+mod region;
+mod sets;
+mod subtracting;
+mod text;
+mod uniting;
+
+pub use composing::compose;
+pub use list::list_regions;
+pub use loops::over_loop;
+pub use marks::{Kinds, Mark, Private, Reason, SiteOut};
+pub use range::Range;
+pub use region::{Access, Region, RegionSet};
+pub use sets::gathered;
+pub use subtracting::subtract;
+pub use text::{region_line, region_text};
+pub use uniting::unite;

@@ -1,0 +1,259 @@
+//! READ and WRITE of a list, from those of its statements.
+ghost use Rattle.std.specs.Prelude.{◌≡◌, ◌++◌, ◌∷◌, [], drop, IfOk, OnOk};
+ghost use Rattle.affine_systems.specs.Given.{Fits};
+ghost use Rattle.hull_projection.specs.Minus.{AllFit};
+ghost use Rattle.f77_ast.specs.PlainStmt.{stmt_trees};
+ghost use Rattle.transformers.specs.Given.{ResultsFit};
+ghost use Rattle.transformers.specs.Lists.{transformer_at as transformer_at_is};
+ghost use Rattle.region_sets.specs.Regions.{RegionFits};
+ghost use Rattle.region_sets.specs.Sets.{SetFits, gathered as gathered_is};
+ghost use Rattle.region_sets.specs.Lists.{SetsFit, is_access as is_access_is, accesses, accesses_at, all_composed, in_order as in_order_is, forgetting as forgetting_is, all_forgetting, inexact as inexact_is, numbers as numbers_is, all_inexact as all_inexact_is, all_accesses as all_accesses_is, in_any_order as in_any_order_is, list_regions as list_regions_is};
+
+use crate::region::{copy_region, marked, push_system, remade};
+use crate::sets::{gathered, push_region};
+use crate::{Access, Region, RegionSet, compose};
+use f77_ast::{Stmt, StmtId};
+use f77_results::{At, Results, View};
+use fx_lists::List;
+use std::alloc::{AllocError as Memory, Global};
+use transformer_algebra::{Transformer, without};
+use transformers::{is_unstructured, list_at, transformer_at, value_at};
+
+fn is_access(kind: Access) -> bool
+    ensures { result ≡ is_access_is kind }
+{
+    match kind {
+        Access::Read | Access::Write => true,
+        Access::In | Access::Out => false,
+    }
+}
+
+/// Adds copies of the READ and WRITE regions of a set.
+#[tactic(auto, using(crate::proofs::Steps::fitting))]
+fn push_accesses(alloc: Global, out: &mut RegionSet, set: &[Region]) -> Result<(), Memory>
+    requires out { SetFits out.old }
+    requires set { SetFits set.now }
+    ensures value { OnOk result (out.new ≡ out.old ++ accesses set.now) }
+    ensures gives { OnOk result (SetFits out.new) }
+{
+    let mut rest = set;
+    while let [r, more @ ..] = rest {
+        if is_access(r.kind) {
+            push_region(out, copy_region(alloc, r)?)?;
+        }
+        rest = more;
+    }
+    Ok(())
+}
+
+/// Adds READ and WRITE of a statement.
+fn push_accesses_at(
+    alloc: Global,
+    out: &mut RegionSet,
+    at: &List<At<RegionSet>>,
+    id: StmtId,
+) -> Result<(), Memory>
+    requires out { SetFits out.old }
+    requires at { SetsFit at.now }
+    ensures value { OnOk result (out.new ≡ out.old ++ accesses_at at.now id) }
+    ensures gives { OnOk result (SetFits out.new) }
+{
+    match value_at(at, id) {
+        None => Ok(()),
+        Some(set) => push_accesses(alloc, out, set.as_slice()),
+    }
+}
+
+/// Adds regions as seen from before a statement.
+#[tactic(auto, using(crate::proofs::Steps::fitting))]
+fn push_composed(
+    alloc: Global,
+    out: &mut RegionSet,
+    t: &Transformer,
+    set: &[Region],
+) -> Result<(), Memory>
+    requires out { SetFits out.old }
+    requires transformer { Fits t.now.system }
+    requires set { SetFits set.now }
+    ensures value { OnOk result (out.new ≡ out.old ++ all_composed t.now set.now) }
+    ensures gives { OnOk result (SetFits out.new) }
+{
+    let mut rest = set;
+    while let [r, more @ ..] = rest {
+        push_region(out, compose(alloc, r, t)?)?;
+        rest = more;
+    }
+    Ok(())
+}
+
+/// What a statement accesses, and what the rest of its list does after it.
+fn with_rest(
+    alloc: Global,
+    id: StmtId,
+    own: &List<At<Transformer>>,
+    at: &List<At<RegionSet>>,
+    rest: &[Region],
+) -> Result<RegionSet, Memory>
+    requires own { ResultsFit own.now }
+    requires at { SetsFit at.now }
+    requires rest { SetFits rest.now }
+    ensures defined { IfOk result (λ qs. qs ≡ gathered_is (accesses_at at.now id ++ all_composed (transformer_at_is own.now id) rest.now)) }
+    ensures gives { IfOk result SetFits }
+{
+    let mut all = List::new(alloc);
+    push_accesses_at(alloc, &mut all, at, id)?;
+    let t = transformer_at(alloc, own, id)?;
+    push_composed(alloc, &mut all, &t, rest)?;
+    gathered(alloc, all.as_slice())
+}
+
+/// The numbers of the statements of a list.
+#[tactic(auto, using(crate::proofs::Steps::fitting))]
+fn numbers(alloc: Global, list: &[Stmt]) -> Result<Vec<StmtId>, Memory>
+    ensures { IfOk result (λ ns. ns.items ≡ numbers_is (stmt_trees list.now)) }
+{
+    let mut out = Vec::new(alloc);
+    let mut rest = list;
+    while let [s, more @ ..] = rest {
+        out.push(s.id)?;
+        rest = more;
+    }
+    Ok(out)
+}
+
+/// Of statements that are executed from the first to the last; from the last on.
+#[tactic(auto, using(crate::proofs::ListSteps::order_step))]
+fn in_order(
+    alloc: Global,
+    ids: &[StmtId],
+    own: &List<At<Transformer>>,
+    at: &List<At<RegionSet>>,
+) -> Result<RegionSet, Memory>
+    requires own { ResultsFit own.now }
+    requires at { SetsFit at.now }
+    ensures defined { IfOk result (λ qs. qs ≡ in_order_is (transformer_at_is own.now) (accesses_at at.now) ids.now) }
+    ensures gives { IfOk result SetFits }
+{
+    let mut set = List::new(alloc);
+    let mut left = ids.len();
+    while left > 0 {
+        left -= 1;
+        set = with_rest(alloc, ids[left], own, at, set.as_slice())?;
+    }
+    Ok(set)
+}
+
+/// A region for any numbers of the cells.
+#[tactic(auto, using(crate::proofs::Steps::fitting))]
+fn forgetting(alloc: Global, cells: &[u32], r: &Region) -> Result<Region, Memory>
+    requires { RegionFits r.now }
+    ensures defined { IfOk result (λ q. q ≡ forgetting_is cells.now r.now) }
+    ensures gives { IfOk result RegionFits }
+{
+    let mut pieces = List::new(alloc);
+    let mut rest = r.pieces.as_slice();
+    while let [piece, more @ ..] = rest {
+        push_system(&mut pieces, without(alloc, cells, piece)?)?;
+        rest = more;
+    }
+    remade(r, false, pieces)
+}
+
+/// Adds regions for any numbers of the cells.
+#[tactic(auto, using(crate::proofs::Steps::fitting))]
+fn push_forgetting(
+    alloc: Global,
+    out: &mut RegionSet,
+    cells: &[u32],
+    set: &[Region],
+) -> Result<(), Memory>
+    requires out { SetFits out.old }
+    requires set { SetFits set.now }
+    ensures value { OnOk result (out.new ≡ out.old ++ all_forgetting cells.now set.now) }
+    ensures gives { OnOk result (SetFits out.new) }
+{
+    let mut rest = set;
+    while let [r, more @ ..] = rest {
+        push_region(out, forgetting(alloc, cells, r)?)?;
+        rest = more;
+    }
+    Ok(())
+}
+
+#[tactic(auto, using(crate::proofs::Steps::fitting))]
+fn all_accesses(
+    alloc: Global,
+    ids: &[StmtId],
+    at: &List<At<RegionSet>>,
+) -> Result<RegionSet, Memory>
+    requires { SetsFit at.now }
+    ensures defined { IfOk result (λ qs. qs ≡ all_accesses_is (accesses_at at.now) ids.now) }
+    ensures gives { IfOk result SetFits }
+{
+    let mut out = List::new(alloc);
+    let mut rest = ids;
+    while let [id, more @ ..] = rest {
+        push_accesses_at(alloc, &mut out, at, *id)?;
+        rest = more;
+    }
+    Ok(out)
+}
+
+/// Regions that are not exact.
+#[tactic(auto, using(crate::proofs::Steps::fitting))]
+fn all_inexact(alloc: Global, set: &[Region]) -> Result<RegionSet, Memory>
+    requires { SetFits set.now }
+    ensures defined { IfOk result (λ qs. qs ≡ all_inexact_is set.now) }
+    ensures gives { IfOk result SetFits }
+{
+    let mut out = List::new(alloc);
+    let mut rest = set;
+    while let [r, more @ ..] = rest {
+        push_region(&mut out, marked(alloc, r, false)?)?;
+        rest = more;
+    }
+    Ok(out)
+}
+
+/// Of a list whose statements are executed in any order, each any number of times.
+fn in_any_order(
+    alloc: Global,
+    cells: &[u32],
+    ids: &[StmtId],
+    at: &List<At<RegionSet>>,
+) -> Result<RegionSet, Memory>
+    requires { SetsFit at.now }
+    ensures defined { IfOk result (λ qs. qs ≡ in_any_order_is cells.now (accesses_at at.now) ids.now) }
+    ensures gives { IfOk result SetFits }
+{
+    let all = all_accesses(alloc, ids, at)?;
+    let mut free = List::new(alloc);
+    push_forgetting(alloc, &mut free, cells, all.as_slice())?;
+    let set = gathered(alloc, free.as_slice())?;
+    all_inexact(alloc, set.as_slice())
+}
+
+/// READ and WRITE of a list, from those that `at` has for its direct statements and the transformers of these; `whole` says that the
+/// list is the body of the module. Where a GO TO in it leads to a statement of it, or a RETURN leaves the body early, the cells that
+/// it changes may have any numbers at each statement, and nothing is exact.
+pub fn list_regions(
+    alloc: Global,
+    _view: &View<'_>,
+    list: &List<Stmt>,
+    whole: bool,
+    own: &Results<Transformer>,
+    at: &List<At<RegionSet>>,
+) -> Result<RegionSet, Memory>
+    requires own { ResultsFit own.now.at }
+    requires at { SetsFit at.now }
+    ensures defined { IfOk result (λ qs. qs ≡ list_regions_is (transformer_at_is own.now.at) (accesses_at at.now) whole (stmt_trees list.now)) }
+    ensures gives { IfOk result SetFits }
+{
+    let ids = numbers(alloc, list.as_slice())?;
+    if is_unstructured(alloc, list, whole)? {
+        let t = list_at(alloc, list, whole, &own.at)?;
+        in_any_order(alloc, t.cells.as_slice(), ids.as_slice(), at)
+    } else {
+        in_order(alloc, ids.as_slice(), &own.at, at)
+    }
+}

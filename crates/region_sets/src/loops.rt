@@ -1,0 +1,170 @@
+//! The region of a DO, from that of its body.
+ghost use Rattle.std.specs.Prelude.{◌≡◌, IfOk};
+ghost use Rattle.affine_systems.specs.Given.{Fits};
+ghost use Rattle.region_sets.specs.Regions.{RegionFits};
+ghost use Rattle.region_sets.specs.Loops.{RangeFits, is_counted as is_counted_is, begun as begun_is, turns as turns_is, turns_at as turns_at_is, at_index as at_index_is, loop_vars as loop_vars_is, led_to as led_to_is, looped as looped_is, loop_piece as loop_piece_is, over_loop as over_loop_is};
+ghost use Rattle.region_sets.specs.Laws.{HasIterations, HasIterationsAlone};
+
+use crate::loop_rows::range_rows;
+use crate::naming::{exit_vars, has_none, named_cells, to_exits};
+use crate::region::{push_system, remade};
+use crate::{Range, Region};
+use affine_systems::{System, Var, meet};
+use fx_lists::List;
+use hull_projection::{Shadow, project};
+use std::alloc::{AllocError as Memory, Global};
+use system_renaming::{Naming, push_rows, rename_all};
+use transformer_algebra::{Transformer, assigned, closed, has, others, then, unchanging};
+
+fn is_counted(g: &Range) -> bool
+    ensures { result ≡ is_counted_is g.now }
+{
+    g.step.is_some() && g.first.is_some() && g.last.is_some()
+}
+
+/// The index becomes the first value, where it is a cell that changes.
+fn begun(alloc: Global, g: &Range) -> Result<Transformer, Memory>
+    requires { RangeFits g.now }
+    ensures defined { IfOk result (λ t. t ≡ begun_is g.now) }
+    ensures gives { IfOk result (λ t. Fits t.system) }
+{
+    if !has(g.turn.cells.as_slice(), g.index) {
+        return Ok(unchanging(alloc));
+    }
+    match g.step {
+        None => assigned(alloc, g.index, &None),
+        Some(_) => assigned(alloc, g.index, &g.first),
+    }
+}
+
+/// From the DO to any iteration.
+fn turns(alloc: Global, g: &Range) -> Result<Transformer, Memory>
+    requires { RangeFits g.now }
+    ensures defined { IfOk result (λ t. t ≡ turns_is g.now) }
+    ensures gives { IfOk result (λ t. Fits t.system) }
+{
+    let first = begun(alloc, g)?;
+    let some = closed(alloc, &g.turn)?;
+    then(alloc, &first, &some)
+}
+
+/// The system of a body with the index of the iteration for its cell.
+fn at_index(alloc: Global, index: u32, s: &System) -> Result<System, Memory>
+    requires { Fits s.now }
+    ensures defined { IfOk result (λ r. r ≡ at_index_is index s.now) }
+    ensures gives { IfOk result Fits }
+{
+    let name = Naming {
+        from: Var::Cell(index),
+        to: Var::Aux(0),
+    };
+    rename_all(alloc, s, &[name])
+}
+
+/// The index of an iteration, and the number of those before it.
+fn loop_vars(alloc: Global) -> Result<List<Var>, Memory>
+    ensures { IfOk result (λ vs. vs ≡ loop_vars_is) }
+{
+    List::from_slice(alloc, &[Var::Aux(0), Var::Aux(1)])
+}
+
+/// What holds of the cells at an iteration, with its index for the exit of the cell.
+fn turns_at(alloc: Global, g: &Range, t: &Transformer) -> Result<System, Memory>
+    requires fits { Fits t.now.system }
+    requires turns { t.now ≡ turns_is g.now }
+    ensures defined { IfOk result (λ s. s ≡ turns_at_is g.now) }
+    ensures gives { IfOk result Fits }
+{
+    let name = Naming {
+        from: Var::Exit(g.index),
+        to: Var::Aux(0),
+    };
+    rename_all(alloc, &t.system, &[name])
+}
+
+/// The system where these cells are as some iterations left them.
+fn led_to(alloc: Global, cells: &[u32], g: &Range, s: &System) -> Result<System, Memory>
+    requires range { RangeFits g.now }
+    requires fits { Fits s.now }
+    ensures defined { IfOk result (λ r. r ≡ led_to_is cells.now g.now s.now) }
+    ensures gives { IfOk result Fits }
+{
+    let indexed = at_index(alloc, g.index, s)?;
+    let names = to_exits(alloc, cells)?;
+    let after = rename_all(alloc, &indexed, names.as_slice())?;
+    let within = push_rows(alloc, &after, range_rows(alloc, g)?)?;
+    let some = turns(alloc, g)?;
+    let there = turns_at(alloc, g, &some)?;
+    let both = meet(alloc, &within, &there)?;
+    let vars = exit_vars(alloc, some.cells.as_slice())?;
+    Ok(project(alloc, &both, &vars)?.system)
+}
+
+/// Where these are the changed cells that the system names beside the index.
+fn looped(alloc: Global, cells: &[u32], g: &Range, s: &System) -> Result<Shadow, Memory>
+    requires range { RangeFits g.now }
+    requires fits { Fits s.now }
+    ensures defined { IfOk result (λ r. r ≡ looped_is cells.now g.now s.now) }
+    ensures gives { IfOk result (λ r. Fits r.system) }
+{
+    let vars = loop_vars(alloc)?;
+    if has_none(cells) {
+        let indexed = at_index(alloc, g.index, s)?;
+        let within = push_rows(alloc, &indexed, range_rows(alloc, g)?)?;
+        let left = project(alloc, &within, &vars)?;
+        return Ok(Shadow {
+            system: left.system,
+            exact: left.exact && is_counted(g),
+        });
+    }
+    let there = led_to(alloc, cells, g, s)?;
+    Ok(Shadow {
+        system: project(alloc, &there, &vars)?.system,
+        exact: false,
+    })
+}
+
+fn loop_piece(alloc: Global, g: &Range, s: &System) -> Result<Shadow, Memory>
+    requires range { RangeFits g.now }
+    requires fits { Fits s.now }
+    ensures defined { IfOk result (λ r. r ≡ loop_piece_is g.now s.now) }
+    ensures gives { IfOk result (λ r. Fits r.system) }
+{
+    let changed = others(alloc, g.turn.cells.as_slice(), &[g.index])?;
+    let cells = named_cells(alloc, changed.as_slice(), s)?;
+    looped(alloc, cells.as_slice(), g, s)
+}
+
+#[tactic(auto, using(crate::proofs::Steps::fitting))]
+fn of_all(alloc: Global, r: &Region, g: &Range) -> Result<Region, Memory>
+    requires region { RegionFits r.now }
+    requires range { RangeFits g.now }
+    ensures defined { IfOk result (λ q. q ≡ over_loop_is r.now g.now) }
+    ensures gives { IfOk result RegionFits }
+{
+    let mut pieces = List::new(alloc);
+    let mut exact = true;
+    let mut rest = r.pieces.as_slice();
+    while let [piece, more @ ..] = rest {
+        let one = loop_piece(alloc, g, piece)?;
+        exact = exact && one.exact;
+        push_system(&mut pieces, one.system)?;
+        rest = more;
+    }
+    remade(r, r.exact && exact, pieces)
+}
+
+/// The region of a DO at its beginning, of one of its body at the beginning of an iteration. The elements are those of some number
+/// of the index between the first and the last value, and in whole steps from the first, where these have forms and the step is a
+/// constant. It is not exact where one of them is missing, where the body's region names another cell that changes, or where the
+/// index cannot be projected away exactly.
+pub fn over_loop(alloc: Global, r: &Region, g: &Range) -> Result<Region, Memory>
+    requires region { RegionFits r.now }
+    requires range { RangeFits g.now }
+    ensures defined { IfOk result (λ q. q ≡ over_loop_is r.now g.now) }
+    ensures gives { IfOk result RegionFits }
+    ensures sound { IfOk result (HasIterations g.now r.now) }
+    ensures exact { IfOk result (HasIterationsAlone g.now r.now) }
+{
+    of_all(alloc, r, g)
+}

@@ -1,0 +1,128 @@
+//! Regions: elements of a variable that are accessed.
+ghost use Rattle.std.specs.Prelude.{◌≡◌, ◌++◌, ◌∷◌, [], IfOk};
+ghost use Rattle.affine_systems.specs.Given.{Fits};
+ghost use Rattle.hull_projection.specs.Minus.{AllFit};
+ghost use Rattle.region_sets.specs.Regions.{RegionFits, any_weak as any_weak_is, remade as remade_is};
+
+use affine_systems::System;
+use f77_results::copy_variable;
+use f77_symbols::Variable;
+use fx_lists::List;
+use std::alloc::{AllocError as Memory, Global};
+
+/// How elements are accessed: they are read; they are written; they are read before they are written; they are written, and read
+/// later before they are written again.
+#[derive(Clone, Copy, Debug, PartialEq, Eq)]
+pub enum Access {
+    Read,
+    Write,
+    In,
+    Out,
+}
+
+/// The elements of a variable with the subscripts (`Phi`, from 1) of which one of the systems holds, at the numbers of the cells
+/// (`Cell`) where a statement begins. Where it is `exact`, each of them is accessed in each execution that ends normally;
+/// otherwise it may be. There is one system.
+#[derive(Debug, PartialEq, Eq, Drop)]
+pub struct Region {
+    pub variable: Variable,
+    pub kind: Access,
+    pub exact: bool,
+    pub pieces: List<System>,
+}
+
+/// Regions in the order in which they are written: by kind, then own symbols by their numbers, then other variables by what is
+/// written of them. At most one of a variable and kind.
+pub type RegionSet = List<Region>;
+
+/// Whether a row was lost in one of them.
+pub fn any_weak(pieces: &[System]) -> bool
+    ensures { result ≡ any_weak_is pieces.now }
+{
+    let mut rest = pieces;
+    while let [piece, more @ ..] = rest {
+        if piece.weak {
+            return true;
+        }
+        rest = more;
+    }
+    false
+}
+
+/// A region of the variable and kind of another; not exact where a row was lost.
+pub fn remade(r: &Region, exact: bool, pieces: List<System>) -> Result<Region, Memory>
+    requires { AllFit pieces }
+    ensures defined { IfOk result (λ q. q ≡ remade_is r.now exact pieces) }
+    ensures gives { IfOk result RegionFits }
+{
+    let weak = any_weak(pieces.as_slice());
+    Ok(Region {
+        variable: copy_variable(&r.variable)?,
+        kind: r.kind,
+        exact: exact && !weak,
+        pieces,
+    })
+}
+
+/// Adds a system at the end.
+#[tactic(auto, using(crate::proofs::Steps::fitting))]
+pub fn push_system(out: &mut List<System>, s: System) -> Result<(), Memory>
+    requires all { AllFit out.old }
+    requires s { Fits s }
+    ensures value { IfOk result (λ _. out.new ≡ out.old ++ s ∷ []) }
+    ensures gives { IfOk result (λ _. AllFit out.new) }
+{
+    out.push(s)?;
+    Ok(())
+}
+
+pub fn copy_system(piece: &System) -> Result<System, Memory>
+    ensures { IfOk result (λ s. s ≡ piece.now) }
+{
+    Ok(System {
+        rows: piece.rows.clone()?,
+        weak: piece.weak,
+    })
+}
+
+/// Adds copies of systems at the end.
+#[tactic(auto, using(crate::proofs::Steps::fitting))]
+pub fn push_copies(out: &mut List<System>, pieces: &[System]) -> Result<(), Memory>
+    requires all { AllFit out.old }
+    requires pieces { AllFit pieces.now }
+    ensures value { IfOk result (λ _. out.new ≡ out.old ++ pieces.now) }
+    ensures gives { IfOk result (λ _. AllFit out.new) }
+{
+    let mut rest = pieces;
+    while let [piece, more @ ..] = rest {
+        push_system(out, copy_system(piece)?)?;
+        rest = more;
+    }
+    Ok(())
+}
+
+/// A copy with another flag; not exact where a row was lost.
+pub fn marked(alloc: Global, r: &Region, exact: bool) -> Result<Region, Memory>
+    requires { RegionFits r.now }
+    ensures defined { IfOk result (λ q. q ≡ remade_is r.now exact r.now.pieces) }
+    ensures gives { IfOk result RegionFits }
+{
+    let mut pieces = List::new(alloc);
+    push_copies(&mut pieces, r.pieces.as_slice())?;
+    remade(r, exact, pieces)
+}
+
+pub fn copy_region(alloc: Global, r: &Region) -> Result<Region, Memory>
+    requires { RegionFits r.now }
+    ensures defined { IfOk result (λ q. q ≡ r.now) }
+    ensures gives { IfOk result RegionFits }
+{
+    let mut pieces = List::new(alloc);
+    push_copies(&mut pieces, r.pieces.as_slice())?;
+    Ok(Region {
+        variable: copy_variable(&r.variable)?,
+        kind: r.kind,
+        exact: r.exact,
+        pieces,
+    })
+}

@@ -1,0 +1,151 @@
+//! Sets of regions, in order.
+ghost use Rattle.std.specs.Prelude.{◌≡◌, ◌++◌, ◌∷◌, [], IfOk, OnOk};
+ghost use Rattle.hull_projection.specs.Minus.{AllFit};
+ghost use Rattle.region_sets.specs.Regions.{RegionFits};
+ghost use Rattle.region_sets.specs.Sets.{SetFits, access_number as access_number_is, region_cmp, live_pieces as live_pieces_is, with_region as with_region_is, with_live as with_live_is, with_regions, live as live_is, gathered as gathered_is};
+
+use crate::region::{copy_system, push_system, remade};
+use crate::{Access, Region, RegionSet, unite};
+use affine_systems::System;
+use f77_results::order;
+use fx_lists::List;
+use hull_projection::refuted;
+use std::alloc::{AllocError as Memory, Global};
+use std::cmp::Ordering;
+
+fn access_number(kind: Access) -> u32
+    ensures { result ≡ access_number_is kind }
+{
+    match kind {
+        Access::Read => 0,
+        Access::Write => 1,
+        Access::In => 2,
+        Access::Out => 3,
+    }
+}
+
+/// By kind, then by variable.
+fn region_order(a: &Region, b: &Region) -> Ordering
+    ensures { result ≡ region_cmp a.now b.now }
+{
+    access_number(a.kind)
+        .cmp(&access_number(b.kind))
+        .then(order(&a.variable, &b.variable))
+}
+
+/// Copies of the pieces that are not refuted.
+#[tactic(auto, using(crate::proofs::Steps::fitting))]
+fn live_pieces(alloc: Global, pieces: &[System]) -> Result<List<System>, Memory>
+    requires { AllFit pieces.now }
+    ensures defined { IfOk result (λ ss. ss ≡ live_pieces_is pieces.now) }
+    ensures gives { IfOk result AllFit }
+{
+    let mut out = List::new(alloc);
+    let mut rest = pieces;
+    while let [piece, more @ ..] = rest {
+        if !refuted(alloc, piece)? {
+            push_system(&mut out, copy_system(piece)?)?;
+        }
+        rest = more;
+    }
+    Ok(out)
+}
+
+/// Adds a region at the end.
+#[tactic(auto, using(crate::proofs::Steps::fitting))]
+pub fn push_region(out: &mut RegionSet, r: Region) -> Result<(), Memory>
+    requires set { SetFits out.old }
+    requires r { RegionFits r }
+    ensures value { OnOk result (out.new ≡ out.old ++ r ∷ []) }
+    ensures gives { OnOk result (SetFits out.new) }
+{
+    out.push(r)?;
+    Ok(())
+}
+
+/// Puts a region into a set: united with the one of its variable and kind, or before the first that comes after it.
+#[tactic(auto, using(crate::proofs::SetSteps::region_loop))]
+fn with_region(alloc: Global, set: RegionSet, r: Region) -> Result<RegionSet, Memory>
+    requires set { SetFits set }
+    requires r { RegionFits r }
+    ensures defined { IfOk result (λ qs. qs ≡ with_region_is r set) }
+    ensures gives { IfOk result SetFits }
+{
+    let mut regions = set.into_vec();
+    for i in 0..regions.len() {
+        match region_order(&r, &regions[i]) {
+            Ordering::Less => {
+                regions.insert(i, r)?;
+                return Ok(List::from_vec(regions));
+            }
+            Ordering::Equal => {
+                regions[i] = unite(alloc, &regions[i], &r)?;
+                return Ok(List::from_vec(regions));
+            }
+            Ordering::Greater => {}
+        }
+    }
+    regions.push(r)?;
+    Ok(List::from_vec(regions))
+}
+
+/// Puts a region into a set, without its refuted pieces, unless all are.
+fn with_live(alloc: Global, set: RegionSet, r: &Region) -> Result<RegionSet, Memory>
+    requires set { SetFits set }
+    requires r { RegionFits r.now }
+    ensures defined { IfOk result (λ qs. qs ≡ with_live_is r.now set) }
+    ensures gives { IfOk result SetFits }
+{
+    let pieces = live_pieces(alloc, r.pieces.as_slice())?;
+    if pieces.is_empty() {
+        return Ok(set);
+    }
+    let alive = remade(r, r.exact, pieces)?;
+    with_region(alloc, set, alive)
+}
+
+/// Adds a region without its refuted pieces, unless all are.
+#[tactic(auto, using(crate::proofs::SetSteps::live_loop))]
+fn push_live(alloc: Global, out: &mut RegionSet, r: &Region) -> Result<(), Memory>
+    requires out { SetFits out.old }
+    requires r { RegionFits r.now }
+    ensures value { OnOk result (out.new ≡ out.old ++ live_is (r.now ∷ [])) }
+    ensures gives { OnOk result (SetFits out.new) }
+{
+    let pieces = live_pieces(alloc, r.pieces.as_slice())?;
+    if pieces.is_empty() {
+        return Ok(());
+    }
+    push_region(out, remade(r, r.exact, pieces)?)
+}
+
+/// The regions of a set that are not refuted, without their refuted pieces.
+#[tactic(auto, using(crate::proofs::SetSteps::live_loop))]
+fn live(alloc: Global, regions: &[Region]) -> Result<RegionSet, Memory>
+    requires { SetFits regions.now }
+    ensures defined { IfOk result (λ qs. qs ≡ live_is regions.now) }
+    ensures gives { IfOk result SetFits }
+{
+    let mut out = List::new(alloc);
+    let mut rest = regions;
+    while let [r, more @ ..] = rest {
+        push_live(alloc, &mut out, r)?;
+        rest = more;
+    }
+    Ok(out)
+}
+
+/// A set of regions that are united from left to right. One that is refuted is left out. Each is looked up among those before it.
+pub fn gathered(alloc: Global, regions: &[Region]) -> Result<RegionSet, Memory>
+    requires { SetFits regions.now }
+    ensures defined { IfOk result (λ qs. qs ≡ gathered_is regions.now) }
+    ensures gives { IfOk result SetFits }
+{
+    let mut set = List::new(alloc);
+    let mut rest = regions;
+    while let [r, more @ ..] = rest {
+        set = with_live(alloc, set, r)?;
+        rest = more;
+    }
+    live(alloc, set.as_slice())
+}
