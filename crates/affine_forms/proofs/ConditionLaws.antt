@@ -1,8 +1,9 @@
 -- What conditions say of the values of LOGICAL expressions.
-use Rattle.std.proofs.Common.{◌≡◌, ℕ, List, [], ◌∷◌, Option, Some, None, Bool, true, false, not, ◌&&◌, ◌||◌, ℤ, pos, ◌+ℤ◌, ◌≤ℤ◌, arith, refl, sym, ap, ◌∙◌, subst, true≢false}
+use Rattle.std.proofs.Common.{◌≡◌, ℕ, List, [], ◌∷◌, Option, Some, None, Bool, true, false, not, ◌&&◌, ◌||◌, ℤ, pos, ◌+ℤ◌, ◌≤ℤ◌, arith, sym, ap, ◌∙◌, subst, true≢false}
 use Rattle.std.specs.Prelude.{int_lt, int_le}
 use Rattle.std.specs.Ordering.{int_eq}
 use Rattle.std.proofs.lemmas.Int.{ints}
+use Rattle.std.proofs.lemmas.Bool.{and_parts, or_parts}
 use Rattle.affine_systems.specs.declared.row.Row.{Row}
 use Rattle.affine_systems.specs.declared.row.System.{System}
 use Rattle.affine_systems.specs.Points.{Point, HoldsAll}
@@ -29,7 +30,7 @@ use Rattle.affine_forms.specs.declared.conditions.Condition.{Condition}
 use Rattle.affine_forms.specs.Scalars.{Scalars}
 use Rattle.affine_forms.specs.Forms.{affine_of}
 use Rattle.affine_forms.specs.Comparisons.{at_most_row, below_row, same_row}
-use Rattle.affine_forms.specs.Conditions.{condition_of, no_rows, nothing, of_truth, constant_condition, unknown, turned, both, either, compared, compared_forms}
+use Rattle.affine_forms.specs.Conditions.{condition_of, no_rows, infeasible, of_truth, constant_condition, unknown, negation, both, either, comparison, comparison_of_forms}
 use Rattle.affine_forms.specs.Claims.{AtStart, HoldsAt, Means, form_value, unit_in, numbers_of, Agrees, Says, FormsHold, ConditionsHold}
 use Rattle.affine_forms.proofs.RowLaws.{at_most_holds, below_holds, same_holds, one_holds}
 use Rattle.affine_forms.proofs.ValueLaws.{Worthy, truth_true, given_leads, value_leads}
@@ -50,14 +51,6 @@ not_is : (a b : Bool) → not a ≡ b → a ≡ not b
 not_is true b e = ap not e
 not_is false b e = ap not e
 
-and_parts : (a b : Bool) → (a && b) ≡ true → (a ≡ true) × (b ≡ true)
-and_parts true b h = (refl, h)
-and_parts false b h = absurd (true≢false (sym h))
-
-or_parts : (a b : Bool) → (a || b) ≡ false → (a ≡ false) × (b ≡ false)
-or_parts true b h = absurd (true≢false h)
-or_parts false b h = (refl, h)
-
 -- the truth of what an operator gives
 truth_of : (b : Bool) (n : ℤ) → Some (truth b) ≡ Some n → is_true n ≡ b
 truth_of b n e = let q : truth b ≡ n = cc in ap is_true (sym q) ∙ truth_true b
@@ -73,7 +66,7 @@ module _ (tracked : ℕ → Bool) (unit : ℕ → ℕ) (x : ℕ → ℤ) where
   says_truth true = record { true_side = λ e p a. tt; false_side = λ e. absurd (true≢false e) }
   says_truth false = record { true_side = λ e. absurd (true≢false (sym e)); false_side = λ e p a. tt }
 
-  says_turned : (c : Condition) (a b : Bool) → not a ≡ b → S c a → S (turned c) b
+  says_turned : (c : Condition) (a b : Bool) → not a ≡ b → S c a → S (negation c) b
   says_turned c a b e s = record { true_side = λ t. s.false_side (not_is a b e ∙ ap not t); false_side = λ f. s.true_side (not_is a b e ∙ ap not f) }
 
   says_both : (c d : Condition) (a b r : Bool) → r ≡ (a && b) → S c a → S d b → S (both c d) r
@@ -104,7 +97,7 @@ module _ (tracked : ℕ → Bool) (unit : ℕ → ℕ) (x : ℕ → ℤ) where
     same : m ≡ n → (p : Point) → AtStart tracked unit x p → form_value p f ≡ form_value p g
     same h p st = fm p st ∙ h ∙ sym (gn p st)
 
-    says_compared : (o : BinaryOp) (k : ℤ) → binary_number o m n ≡ Some k → S (compared o f g) (is_true k)
+    says_compared : (o : BinaryOp) (k : ℤ) → binary_number o m n ≡ Some k → S (comparison o f g) (is_true k)
     says_compared Lt k e =
         let t = truth_of (int_lt m n) k e in
         record {
@@ -151,7 +144,7 @@ module _ (tracked : ℕ → Bool) (unit : ℕ → ℕ) (x : ℕ → ℤ) where
     says_compared Eqv k e = says_unknown (is_true k)
     says_compared Neqv k e = says_unknown (is_true k)
 
-  says_forms : (o : BinaryOp) (f g : Option Affine) (m n k : ℤ) → binary_number o m n ≡ Some k → Means tracked unit f x m → Means tracked unit g x n → S (compared_forms o f g) (is_true k)
+  says_forms : (o : BinaryOp) (f g : Option Affine) (m n k : ℤ) → binary_number o m n ≡ Some k → Means tracked unit f x m → Means tracked unit g x n → S (comparison_of_forms o f g) (is_true k)
   says_forms o (Some f) (Some g) m n k e h q = says_compared f g m n h q o k e
   says_forms o (Some f) None m n k e h q = says_unknown (is_true k)
   says_forms o None g m n k e h q = says_unknown (is_true k)
@@ -171,7 +164,7 @@ module _ (w : Names) (k : Scalars) (tracked : ℕ → Bool) (at : Places) (s : S
       let e : b ≡ is_true n = sym (ap is_true h ∙ truth_true b) in
       subst (λ t. S tracked (unit_in at) (numbers_of s) (of_truth b) t) e (says_truth tracked (unit_in at) (numbers_of s) b)
 
-  by_forms : (o : BinaryOp) (a b : ExprTree) (Q : Content → Store → List Content → Type 0) → ((c : Content) → S tracked (unit_in at) (numbers_of s) (compared_forms o (affine_of k a) (affine_of k b)) (is_true c.number) → Q c s i) → Leads (value (tree.binary o a b) w at) s i Q
+  by_forms : (o : BinaryOp) (a b : ExprTree) (Q : Content → Store → List Content → Type 0) → ((c : Content) → S tracked (unit_in at) (numbers_of s) (comparison_of_forms o (affine_of k a) (affine_of k b)) (is_true c.number) → Q c s i) → Leads (value (tree.binary o a b) w at) s i Q
   by_forms o a b Q go =
       leads_then (value a w at) _ s i Q (value_leads w k tracked at s i agrees a _ (λ c h. leads_then (value b w at) _ s i Q (value_leads w k tracked at s i agrees b _ (λ d j. given_leads w k tracked at s i agrees (binary_tag o) (binary_number o c.number d.number) Q (λ n q. go (content (binary_tag o) n)
       (says_forms tracked (unit_in at) (numbers_of s) o (affine_of k a) (affine_of k b) c.number d.number n q h.1 j.1))))))

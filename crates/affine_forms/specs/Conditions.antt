@@ -23,8 +23,8 @@ abbrev pub no_rows : System
 no_rows = system [] false
 
 -- FALSE
-abbrev pub nothing : System
-nothing = system (false_row ∷ []) false
+abbrev pub infeasible : System
+infeasible = system (false_row ∷ []) false
 
 abbrev pub condition : System → Bool → System → Bool → Condition
 condition y e n f = record { yes = y; yes_exact = e; no = n; no_exact = f }
@@ -48,8 +48,8 @@ abbrev pub unknown : Condition
 unknown = condition no_rows false no_rows false
 
 abbrev pub of_truth : Bool → Condition
-of_truth true = exactly no_rows nothing
-of_truth false = exactly nothing no_rows
+of_truth true = exactly no_rows infeasible
+of_truth false = exactly infeasible no_rows
 
 -- of a name that stands for a LOGICAL constant
 abbrev pub constant_condition : Option Constant → Condition
@@ -57,8 +57,8 @@ constant_condition (Some (Log b)) = of_truth b
 constant_condition (Some (Int n)) = unknown
 constant_condition None = unknown
 
-abbrev pub turned : Condition → Condition
-turned c = condition c.no c.no_exact c.yes c.yes_exact
+abbrev pub negation : Condition → Condition
+negation c = condition c.no c.no_exact c.yes c.yes_exact
 
 abbrev pub both : Condition → Condition → Condition
 both c d = only_yes (meet c.yes d.yes) (c.yes_exact && d.yes_exact)
@@ -67,50 +67,50 @@ abbrev pub either : Condition → Condition → Condition
 either c d = only_no (meet c.no d.no) (c.no_exact && d.no_exact)
 
 -- a comparison is of two forms; of other operators nothing is known here
-abbrev pub compared : BinaryOp → Affine → Affine → Condition
-compared Lt f g = exactly (below f g) (at_most g f)
-compared Le f g = exactly (at_most f g) (below g f)
-compared Gt f g = exactly (below g f) (at_most f g)
-compared Ge f g = exactly (at_most g f) (below f g)
-compared Eq f g = only_yes (same f g) true
-compared Ne f g = only_no (same f g) true
-compared Add f g = unknown
-compared Sub f g = unknown
-compared Mul f g = unknown
-compared Div f g = unknown
-compared Pow f g = unknown
-compared And f g = unknown
-compared Or f g = unknown
-compared Eqv f g = unknown
-compared Neqv f g = unknown
+abbrev pub comparison : BinaryOp → Affine → Affine → Condition
+comparison Lt f g = exactly (below f g) (at_most g f)
+comparison Le f g = exactly (at_most f g) (below g f)
+comparison Gt f g = exactly (below g f) (at_most f g)
+comparison Ge f g = exactly (at_most g f) (below f g)
+comparison Eq f g = only_yes (same f g) true
+comparison Ne f g = only_no (same f g) true
+comparison Add f g = unknown
+comparison Sub f g = unknown
+comparison Mul f g = unknown
+comparison Div f g = unknown
+comparison Pow f g = unknown
+comparison And f g = unknown
+comparison Or f g = unknown
+comparison Eqv f g = unknown
+comparison Neqv f g = unknown
 
-abbrev pub compared_forms : BinaryOp → Option Affine → Option Affine → Condition
-compared_forms o (Some f) (Some g) = compared o f g
-compared_forms o (Some f) None = unknown
-compared_forms o None g = unknown
+abbrev pub comparison_of_forms : BinaryOp → Option Affine → Option Affine → Condition
+comparison_of_forms o (Some f) (Some g) = comparison o f g
+comparison_of_forms o (Some f) None = unknown
+comparison_of_forms o None g = unknown
 
 abbrev pub unary_condition : UnaryOp → Condition → Condition
 unary_condition Plus c = unknown
 unary_condition Minus c = unknown
-unary_condition Not c = turned c
+unary_condition Not c = negation c
 
 -- from the conditions of both operands, or from their forms
 abbrev pub binary_condition : BinaryOp → Condition → Condition → Option Affine → Option Affine → Condition
 binary_condition And c d f g = both c d
 binary_condition Or c d f g = either c d
-binary_condition Eq c d f g = compared_forms Eq f g
-binary_condition Ne c d f g = compared_forms Ne f g
-binary_condition Lt c d f g = compared_forms Lt f g
-binary_condition Le c d f g = compared_forms Le f g
-binary_condition Gt c d f g = compared_forms Gt f g
-binary_condition Ge c d f g = compared_forms Ge f g
-binary_condition Add c d f g = compared_forms Add f g
-binary_condition Sub c d f g = compared_forms Sub f g
-binary_condition Mul c d f g = compared_forms Mul f g
-binary_condition Div c d f g = compared_forms Div f g
-binary_condition Pow c d f g = compared_forms Pow f g
-binary_condition Eqv c d f g = compared_forms Eqv f g
-binary_condition Neqv c d f g = compared_forms Neqv f g
+binary_condition Eq c d f g = comparison_of_forms Eq f g
+binary_condition Ne c d f g = comparison_of_forms Ne f g
+binary_condition Lt c d f g = comparison_of_forms Lt f g
+binary_condition Le c d f g = comparison_of_forms Le f g
+binary_condition Gt c d f g = comparison_of_forms Gt f g
+binary_condition Ge c d f g = comparison_of_forms Ge f g
+binary_condition Add c d f g = comparison_of_forms Add f g
+binary_condition Sub c d f g = comparison_of_forms Sub f g
+binary_condition Mul c d f g = comparison_of_forms Mul f g
+binary_condition Div c d f g = comparison_of_forms Div f g
+binary_condition Pow c d f g = comparison_of_forms Pow f g
+binary_condition Eqv c d f g = comparison_of_forms Eqv f g
+binary_condition Neqv c d f g = comparison_of_forms Neqv f g
 
 abbrev pub condition_of : Scalars → ExprTree → Condition
 condition_of k (tree.int n) = unknown

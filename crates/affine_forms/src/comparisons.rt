@@ -3,7 +3,7 @@ ghost use Rattle.std.specs.Prelude.{◌≡◌, true, IfOk};
 ghost use Rattle.affine_systems.specs.Given.{IsGiven, Fits};
 ghost use Rattle.affine_forms.specs.Forms.{IsSmallForm};
 ghost use Rattle.affine_forms.specs.Comparisons.{one_row as one_row_is, at_most as at_most_is, below as below_is, same as same_is};
-ghost use Rattle.affine_forms.specs.Conditions.{ConditionFits, exactly as exactly_is, unknown as unknown_is, only_yes as only_yes_is, only_no as only_no_is, compared as compared_is};
+ghost use Rattle.affine_forms.specs.Conditions.{ConditionFits, exactly as exactly_is, unknown as unknown_is, only_yes as only_yes_is, only_no as only_no_is, comparison as comparison_is};
 
 use crate::{Affine, Condition, at_most_row, below_row, no_rows, same_row};
 use affine_systems::{Row, System, tidy};
@@ -15,7 +15,7 @@ use std::alloc::{AllocError as Memory, Global};
 fn one_row(alloc: Global, row: Row) -> Result<System, Memory>
     requires { IsGiven row }
     ensures defined { IfOk result (λ s. s ≡ one_row_is row) }
-    ensures gives { IfOk result Fits }
+    ensures fits { IfOk result Fits }
 {
     let mut rows = List::new(alloc);
     rows.push(row)?;
@@ -26,7 +26,7 @@ fn at_most(alloc: Global, f: &Affine, g: &Affine) -> Result<System, Memory>
     requires left { IsSmallForm f.now }
     requires right { IsSmallForm g.now }
     ensures defined { IfOk result (λ s. s ≡ at_most_is f.now g.now) }
-    ensures gives { IfOk result Fits }
+    ensures fits { IfOk result Fits }
 {
     one_row(alloc, at_most_row(alloc, f, g)?)
 }
@@ -35,7 +35,7 @@ fn below(alloc: Global, f: &Affine, g: &Affine) -> Result<System, Memory>
     requires left { IsSmallForm f.now }
     requires right { IsSmallForm g.now }
     ensures defined { IfOk result (λ s. s ≡ below_is f.now g.now) }
-    ensures gives { IfOk result Fits }
+    ensures fits { IfOk result Fits }
 {
     one_row(alloc, below_row(alloc, f, g)?)
 }
@@ -44,7 +44,7 @@ fn same(alloc: Global, f: &Affine, g: &Affine) -> Result<System, Memory>
     requires left { IsSmallForm f.now }
     requires right { IsSmallForm g.now }
     ensures defined { IfOk result (λ s. s ≡ same_is f.now g.now) }
-    ensures gives { IfOk result Fits }
+    ensures fits { IfOk result Fits }
 {
     one_row(alloc, same_row(alloc, f, g)?)
 }
@@ -54,7 +54,7 @@ pub fn exactly(yes: System, no: System) -> Condition
     requires yes { Fits yes }
     requires no { Fits no }
     ensures defined { result ≡ exactly_is yes no }
-    ensures gives { ConditionFits result }
+    ensures fits { ConditionFits result }
 {
     Condition {
         yes,
@@ -68,7 +68,7 @@ pub fn exactly(yes: System, no: System) -> Condition
 fn only_yes(alloc: Global, yes: System) -> Condition
     requires { Fits yes }
     ensures defined { result ≡ only_yes_is yes true }
-    ensures gives { ConditionFits result }
+    ensures fits { ConditionFits result }
 {
     Condition {
         yes,
@@ -82,7 +82,7 @@ fn only_yes(alloc: Global, yes: System) -> Condition
 fn only_no(alloc: Global, no: System) -> Condition
     requires { Fits no }
     ensures defined { result ≡ only_no_is no true }
-    ensures gives { ConditionFits result }
+    ensures fits { ConditionFits result }
 {
     Condition {
         yes: no_rows(alloc),
@@ -95,7 +95,7 @@ fn only_no(alloc: Global, no: System) -> Condition
 /// Nothing is known.
 pub fn unknown(alloc: Global) -> Condition
     ensures defined { result ≡ unknown_is }
-    ensures gives { ConditionFits result }
+    ensures fits { ConditionFits result }
 {
     Condition {
         yes: no_rows(alloc),
@@ -106,11 +106,11 @@ pub fn unknown(alloc: Global) -> Condition
 }
 
 /// What a comparison says; nothing of another operator.
-pub fn compared(alloc: Global, op: BinaryOp, f: &Affine, g: &Affine) -> Result<Condition, Memory>
+pub fn comparison(alloc: Global, op: BinaryOp, f: &Affine, g: &Affine) -> Result<Condition, Memory>
     requires left { IsSmallForm f.now }
     requires right { IsSmallForm g.now }
-    ensures defined { IfOk result (λ c. c ≡ compared_is op f.now g.now) }
-    ensures gives { IfOk result ConditionFits }
+    ensures defined { IfOk result (λ c. c ≡ comparison_is op f.now g.now) }
+    ensures fits { IfOk result ConditionFits }
 {
     match op {
         BinaryOp::Lt => Ok(exactly(below(alloc, f, g)?, at_most(alloc, g, f)?)),

@@ -4,10 +4,10 @@ ghost use Rattle.affine_systems.specs.Given.{Fits};
 ghost use Rattle.f77_ast.specs.Plain.{expr_tree};
 ghost use Rattle.affine_forms.specs.Scalars.{scalars};
 ghost use Rattle.affine_forms.specs.Forms.{IsSmallForm};
-ghost use Rattle.affine_forms.specs.Conditions.{ConditionFits, of_truth as of_truth_is, constant_condition as constant_condition_is, turned as turned_is, both as both_is, either as either_is, compared_forms as compared_forms_is, condition_of as condition_is};
+ghost use Rattle.affine_forms.specs.Conditions.{ConditionFits, of_truth as of_truth_is, constant_condition as constant_condition_is, negation as negation_is, both as both_is, either as either_is, comparison_of_forms as comparison_of_forms_is, condition_of as condition_is};
 
-use crate::comparisons::{compared, exactly, unknown};
-use crate::{Affine, affine_of, no_rows, nothing};
+use crate::comparisons::{comparison, exactly, unknown};
+use crate::{Affine, affine_of, infeasible, no_rows};
 use affine_systems::{System, meet};
 use f77_ast::{BinaryOp, Expr, UnaryOp};
 use f77_constants::{Constant, Constants};
@@ -27,19 +27,19 @@ pub struct Condition {
 
 fn of_truth(alloc: Global, truth: bool) -> Result<Condition, Memory>
     ensures defined { IfOk result (λ c. c ≡ of_truth_is truth) }
-    ensures gives { IfOk result ConditionFits }
+    ensures fits { IfOk result ConditionFits }
 {
     if truth {
-        Ok(exactly(no_rows(alloc), nothing(alloc)?))
+        Ok(exactly(no_rows(alloc), infeasible(alloc)?))
     } else {
-        Ok(exactly(nothing(alloc)?, no_rows(alloc)))
+        Ok(exactly(infeasible(alloc)?, no_rows(alloc)))
     }
 }
 
 /// Of a name that stands for a LOGICAL constant.
 fn constant_condition(alloc: Global, value: Option<Constant>) -> Result<Condition, Memory>
     ensures defined { IfOk result (λ c. c ≡ constant_condition_is value) }
-    ensures gives { IfOk result ConditionFits }
+    ensures fits { IfOk result ConditionFits }
 {
     match value {
         Some(Constant::Log(truth)) => of_truth(alloc, truth),
@@ -48,10 +48,10 @@ fn constant_condition(alloc: Global, value: Option<Constant>) -> Result<Conditio
 }
 
 /// Of the negation.
-fn turned(c: Condition) -> Condition
+fn negation(c: Condition) -> Condition
     requires { ConditionFits c }
-    ensures defined { result ≡ turned_is c }
-    ensures gives { ConditionFits result }
+    ensures defined { result ≡ negation_is c }
+    ensures fits { ConditionFits result }
 {
     Condition {
         yes: c.no,
@@ -66,7 +66,7 @@ fn both(alloc: Global, c: &Condition, d: &Condition) -> Result<Condition, Memory
     requires first { ConditionFits c.now }
     requires second { ConditionFits d.now }
     ensures defined { IfOk result (λ r. r ≡ both_is c.now d.now) }
-    ensures gives { IfOk result ConditionFits }
+    ensures fits { IfOk result ConditionFits }
 {
     Ok(Condition {
         yes: meet(alloc, &c.yes, &d.yes)?,
@@ -81,7 +81,7 @@ fn either(alloc: Global, c: &Condition, d: &Condition) -> Result<Condition, Memo
     requires first { ConditionFits c.now }
     requires second { ConditionFits d.now }
     ensures defined { IfOk result (λ r. r ≡ either_is c.now d.now) }
-    ensures gives { IfOk result ConditionFits }
+    ensures fits { IfOk result ConditionFits }
 {
     Ok(Condition {
         yes: no_rows(alloc),
@@ -92,7 +92,7 @@ fn either(alloc: Global, c: &Condition, d: &Condition) -> Result<Condition, Memo
 }
 
 /// Of a comparison, where both sides have forms.
-fn compared_forms(
+fn comparison_of_forms(
     alloc: Global,
     op: BinaryOp,
     f: Option<Affine>,
@@ -100,11 +100,11 @@ fn compared_forms(
 ) -> Result<Condition, Memory>
     requires left { IfSome f IsSmallForm }
     requires right { IfSome g IsSmallForm }
-    ensures defined { IfOk result (λ c. c ≡ compared_forms_is op f g) }
-    ensures gives { IfOk result ConditionFits }
+    ensures defined { IfOk result (λ c. c ≡ comparison_of_forms_is op f g) }
+    ensures fits { IfOk result ConditionFits }
 {
     match (f, g) {
-        (Some(f), Some(g)) => compared(alloc, op, &f, &g),
+        (Some(f), Some(g)) => comparison(alloc, op, &f, &g),
         _ => Ok(unknown(alloc)),
     }
 }
@@ -119,13 +119,13 @@ pub fn condition_of(
     e: &Expr,
 ) -> Result<Condition, Memory>
     ensures defined { IfOk result (λ c. c ≡ condition_is (scalars symbols.now tracked.now) (expr_tree e.now)) }
-    ensures gives { IfOk result ConditionFits }
+    ensures fits { IfOk result ConditionFits }
 {
     match e {
         Expr::Log(truth) => of_truth(alloc, *truth),
         Expr::Name(name) => constant_condition(alloc, symbols.value(name)),
         Expr::Paren(e) => condition_of(alloc, symbols, tracked, e),
-        Expr::Unary(UnaryOp::Not, e) => Ok(turned(condition_of(alloc, symbols, tracked, e)?)),
+        Expr::Unary(UnaryOp::Not, e) => Ok(negation(condition_of(alloc, symbols, tracked, e)?)),
         Expr::Binary(BinaryOp::And, a, b) => {
             let c = condition_of(alloc, symbols, tracked, a)?;
             let d = condition_of(alloc, symbols, tracked, b)?;
@@ -139,7 +139,7 @@ pub fn condition_of(
         Expr::Binary(op, a, b) => {
             let f = affine_of(alloc, symbols, tracked, a)?;
             let g = affine_of(alloc, symbols, tracked, b)?;
-            compared_forms(alloc, *op, f, g)
+            comparison_of_forms(alloc, *op, f, g)
         }
         Expr::Int(_) | Expr::Element(..) | Expr::Unary(..) | Expr::Chars(_) => Ok(unknown(alloc)),
     }

@@ -37,7 +37,7 @@ fn are_small(terms: &[Term]) -> bool
 
 /// A form, if its numbers are small.
 #[tactic(auto, using(crate::proofs::SmallLaws::limited_is_small))]
-fn limited(form: Affine) -> Option<Affine>
+fn limit(form: Affine) -> Option<Affine>
     requires { Ascends form.terms }
     ensures defined { result ≡ limited_form form }
     ensures small { IfSome result IsSmallForm }
@@ -60,7 +60,7 @@ fn plus(alloc: Global, f: &Affine, k: i128, g: &Affine) -> Result<Option<Affine>
 {
     let terms = combined(alloc, 1, f.terms.as_slice(), k, g.terms.as_slice())?;
     let constant = blend(1, f.constant, k, g.constant);
-    Ok(limited(Affine { terms, constant }))
+    Ok(limit(Affine { terms, constant }))
 }
 
 /// `k` times a form.
@@ -73,7 +73,7 @@ fn times(alloc: Global, k: i128, f: &Affine) -> Result<Option<Affine>, Memory>
 {
     let terms = combined(alloc, k, f.terms.as_slice(), 0, &[])?;
     let constant = blend(k, f.constant, 0, 0);
-    Ok(limited(Affine { terms, constant }))
+    Ok(limit(Affine { terms, constant }))
 }
 
 /// A product; one of the factors must be a number.
@@ -164,7 +164,7 @@ fn number_form(alloc: Global, number: i32) -> Option<Affine>
     ensures defined { result ≡ number_is number }
     ensures small { IfSome result IsSmallForm }
 {
-    limited(Affine {
+    limit(Affine {
         terms: List::new(alloc),
         constant: i128::from(number),
     })

@@ -16,4 +16,4 @@ pub use conditions::{Condition, condition_of};
 pub use forms::affine_of;
 pub use laws::{conditions_hold, forms_hold};
 pub use rows::{at_most_row, below_row, same_row, var_form};
-pub use systems::{no_rows, nothing};
+pub use systems::{infeasible, no_rows};

@@ -20,20 +20,20 @@ pub fn var_form(alloc: Global, var: Var) -> Result<Affine, Memory>
 }
 
 /// How much larger the second number is.
-fn above(x: i128, y: i128) -> i128
+fn bound_difference(x: i128, y: i128) -> i128
     requires first { unsigned_abs x < 2 ^ 62 }
     requires second { unsigned_abs y < 2 ^ 62 }
-    ensures value { result ≡ (y -ℤ x) }
+    ensures defined { result ≡ (y -ℤ x) }
     ensures below { unsigned_abs result < 2 ^ 126 }
 {
     y - x
 }
 
 /// How much larger the second number is, less 1.
-fn above_less(x: i128, y: i128) -> i128
+fn bound_difference_less_1(x: i128, y: i128) -> i128
     requires first { unsigned_abs x < 2 ^ 62 }
     requires second { unsigned_abs y < 2 ^ 62 }
-    ensures value { result ≡ ((y -ℤ x) -ℤ pos 1) }
+    ensures defined { result ≡ ((y -ℤ x) -ℤ pos 1) }
     ensures below { unsigned_abs result < 2 ^ 126 }
 {
     y - x - 1
@@ -53,10 +53,10 @@ pub fn at_most_row(alloc: Global, left: &Affine, right: &Affine) -> Result<Row, 
     requires left { IsSmallForm left.now }
     requires right { IsSmallForm right.now }
     ensures defined { IfOk result (λ r. r ≡ at_most_row_is left.now right.now) }
-    ensures given { IfOk result IsGiven }
+    ensures fits { IfOk result IsGiven }
 {
     let terms = difference(alloc, left, right)?;
-    let bound = above(left.constant, right.constant);
+    let bound = bound_difference(left.constant, right.constant);
     Ok(Row {
         equal: false,
         terms,
@@ -69,10 +69,10 @@ pub fn below_row(alloc: Global, left: &Affine, right: &Affine) -> Result<Row, Me
     requires left { IsSmallForm left.now }
     requires right { IsSmallForm right.now }
     ensures defined { IfOk result (λ r. r ≡ below_row_is left.now right.now) }
-    ensures given { IfOk result IsGiven }
+    ensures fits { IfOk result IsGiven }
 {
     let terms = difference(alloc, left, right)?;
-    let bound = above_less(left.constant, right.constant);
+    let bound = bound_difference_less_1(left.constant, right.constant);
     Ok(Row {
         equal: false,
         terms,
@@ -85,10 +85,10 @@ pub fn same_row(alloc: Global, left: &Affine, right: &Affine) -> Result<Row, Mem
     requires left { IsSmallForm left.now }
     requires right { IsSmallForm right.now }
     ensures defined { IfOk result (λ r. r ≡ same_row_is left.now right.now) }
-    ensures given { IfOk result IsGiven }
+    ensures fits { IfOk result IsGiven }
 {
     let terms = difference(alloc, left, right)?;
-    let bound = above(left.constant, right.constant);
+    let bound = bound_difference(left.constant, right.constant);
     Ok(Row {
         equal: true,
         terms,

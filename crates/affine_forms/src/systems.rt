@@ -1,7 +1,7 @@
 //! The system without rows, and the one that never holds.
 ghost use Rattle.std.specs.Prelude.{◌≡◌, IfOk};
 ghost use Rattle.affine_systems.specs.Given.{Fits};
-ghost use Rattle.affine_forms.specs.Conditions.{no_rows as no_rows_is, nothing as nothing_is};
+ghost use Rattle.affine_forms.specs.Conditions.{no_rows as no_rows_is, infeasible as infeasible_is};
 
 use affine_systems::{Row, System};
 use fx_lists::List;
@@ -10,7 +10,7 @@ use std::alloc::{AllocError as Memory, Global};
 /// The system without rows. Takes no memory.
 pub fn no_rows(alloc: Global) -> System
     ensures defined { result ≡ no_rows_is }
-    ensures gives { Fits result }
+    ensures fits { Fits result }
 {
     System {
         rows: List::new(alloc),
@@ -19,9 +19,9 @@ pub fn no_rows(alloc: Global) -> System
 }
 
 /// The system of the one row 0 <= -1.
-pub fn nothing(alloc: Global) -> Result<System, Memory>
-    ensures defined { IfOk result (λ s. s ≡ nothing_is) }
-    ensures gives { IfOk result Fits }
+pub fn infeasible(alloc: Global) -> Result<System, Memory>
+    ensures defined { IfOk result (λ s. s ≡ infeasible_is) }
+    ensures fits { IfOk result Fits }
 {
     let mut rows = List::new(alloc);
     rows.push(Row {

@@ -3,14 +3,15 @@ use Rattle.std.proofs.Common.{◌≡◌, ℕ, ◌<◌, ◌⊎◌, inl, inr, ⊎_
 use Rattle.std.specs.Prelude.{if◌then◌else◌, nat_eq, nat_lt}
 use Rattle.std.proofs.lemmas.Int.{ints}
 use Rattle.std.proofs.lemmas.Bool.Decides.{Decides-eqb, Decides-ltb, Decides-int_eq}
+use Rattle.std.proofs.lemmas.Bool.{or_cases, and_from, false_from_ne_true, cases_Bool, and_parts}
 use Rattle.affine_systems.specs.declared.row.Var.{Var}
 use Rattle.affine_systems.specs.declared.row.Term.{Term}
 use Rattle.affine_systems.specs.Terms.{kind, number, var_eq, var_lt, term, term_before, add_term, add_terms, negated_terms, renamed_terms, IsBefore, Ascends}
 use Rattle.affine_systems.specs.Rows.{combined_terms}
 use Rattle.affine_systems.specs.Points.{value, only, factor_of}
 use Rattle.affine_systems.specs.Given.{FactorsBelow}
-use Rattle.affine_systems.proofs.Basics.{if_cases, either, int_eq-true}
-use Rattle.affine_systems.proofs.TermLaws.{both_true, var_eq-true, true-var_eq, same_parts}
+use Rattle.affine_systems.proofs.Basics.{if_cases, int_eq-true}
+use Rattle.affine_systems.proofs.TermLaws.{var_eq-true, true-var_eq, same_parts}
 use Rattle.affine_systems.proofs.TidyLaws.{clash}
 
 -- ---- the order of variables
@@ -18,34 +19,26 @@ use Rattle.affine_systems.proofs.TidyLaws.{clash}
 abbrev pub ComesBefore : Var → Var → Type 0
 ComesBefore v w = (kind v < kind w) ⊎ ((kind v ≡ kind w) × (number v < number w))
 
-or_true : (a b : Bool) → (a || b) ≡ true → (a ≡ true) ⊎ (b ≡ true)
-or_true true b e = inl refl
-or_true false b e = inr e
-
 true_or : (a b : Bool) → (a ≡ true) ⊎ (b ≡ true) → (a || b) ≡ true
 true_or true b h = refl
 true_or false b (inl e) = cc
 true_or false b (inr e) = e
-
-true_and : (a b : Bool) → a ≡ true → b ≡ true → (a && b) ≡ true
-true_and true b e f = f
-true_and false b e f = cc
 
 lt_parts : (v w : Var) → var_lt v w ≡ true → ComesBefore v w
 unfolding var_lt
 lt_parts v w e =
     ⊎_elim
     (λ k. inl ((Decides-ltb (kind v) (kind w)).0 k))
-    (λ k. let h = both_true (nat_eq (kind v) (kind w)) (nat_lt (number v) (number w)) k in
+    (λ k. let h = and_parts (nat_eq (kind v) (kind w)) (nat_lt (number v) (number w)) k in
     inr ((Decides-eqb (kind v) (kind w)).0 h.0, (Decides-ltb (number v) (number w)).0 h.1))
-    (or_true (nat_lt (kind v) (kind w)) (nat_eq (kind v) (kind w) && nat_lt (number v) (number w)) e)
+    (or_cases (nat_lt (kind v) (kind w)) (nat_eq (kind v) (kind w) && nat_lt (number v) (number w)) e)
 
 pub parts_lt : (v w : Var) → ComesBefore v w → var_lt v w ≡ true
 unfolding var_lt
 parts_lt v w (inl k) = true_or (nat_lt (kind v) (kind w)) (nat_eq (kind v) (kind w) && nat_lt (number v) (number w)) (inl ((Decides-ltb (kind v) (kind w)).1 k))
 parts_lt v w (inr k) =
     true_or (nat_lt (kind v) (kind w)) (nat_eq (kind v) (kind w) && nat_lt (number v) (number w))
-    (inr (true_and (nat_eq (kind v) (kind w)) (nat_lt (number v) (number w)) ((Decides-eqb (kind v) (kind w)).1 k.0) ((Decides-ltb (number v) (number w)).1 k.1)))
+    (inr (and_from (nat_eq (kind v) (kind w)) (nat_lt (number v) (number w)) ((Decides-eqb (kind v) (kind w)).1 k.0) ((Decides-ltb (number v) (number w)).1 k.1)))
 
 pub var_lt-trans : (u v w : Var) → var_lt u v ≡ true → var_lt v w ≡ true → var_lt u w ≡ true
 var_lt-trans u v w e f = parts_lt u w (go (lt_parts u v e) (lt_parts v w f)) where
@@ -61,19 +54,15 @@ var_lt-itself v e = go (lt_parts v v e) where
   go (inl h) = omega arith
   go (inr h) = omega arith
 
-pub not_true : (b : Bool) → (b ≡ true → ⊥) → b ≡ false
-not_true true n = absurd (n refl)
-not_true false n = refl
-
 -- a variable that comes before another is another
 pub var_lt-apart : (v w : Var) → var_lt v w ≡ true → var_eq v w ≡ false
-var_lt-apart v w e = not_true (var_eq v w) (λ k. var_lt-itself v (subst (λ (u : Var). var_lt v u ≡ true) (sym (var_eq-true v w k)) e))
+var_lt-apart v w e = false_from_ne_true (var_eq v w) (λ k. var_lt-itself v (subst (λ (u : Var). var_lt v u ≡ true) (sym (var_eq-true v w k)) e))
 
 pub var_lt-one_way : (v w : Var) → var_lt v w ≡ true → var_lt w v ≡ false
-var_lt-one_way v w e = not_true (var_lt w v) (λ k. var_lt-itself v (var_lt-trans v w v e k))
+var_lt-one_way v w e = false_from_ne_true (var_lt w v) (λ k. var_lt-itself v (var_lt-trans v w v e k))
 
 pub var_eq-sym : (v w : Var) → var_eq v w ≡ false → var_eq w v ≡ false
-var_eq-sym v w e = not_true (var_eq w v) (λ k. clash (var_eq v w) (true-var_eq v w (sym (var_eq-true w v k))) e)
+var_eq-sym v w e = false_from_ne_true (var_eq w v) (λ k. clash (var_eq v w) (true-var_eq v w (sym (var_eq-true w v k))) e)
 
 -- one of two variables comes first
 pub var_lt-other : (v w : Var) → var_eq v w ≡ false → var_lt v w ≡ false → var_lt w v ≡ true
@@ -138,7 +127,7 @@ before-negated w [] h = tt
 before-negated w (t ∷ ts) h = (h.0, before-negated w ts h.1)
 
 negated_zero : (z : ℤ) → int_eq z (pos 0) ≡ false → int_eq (neg_ℤ z) (pos 0) ≡ false
-negated_zero z e = not_true (int_eq (neg_ℤ z) (pos 0)) (λ k. clash (int_eq z (pos 0)) ((Decides-int_eq z (pos 0)).1 (let h = int_eq-true (neg_ℤ z) (pos 0) k in omega (arith, ints, h))) e)
+negated_zero z e = false_from_ne_true (int_eq (neg_ℤ z) (pos 0)) (λ k. clash (int_eq z (pos 0)) ((Decides-int_eq z (pos 0)).1 (let h = int_eq-true (neg_ℤ z) (pos 0) k in omega (arith, ints, h))) e)
 
 pub ascends-negated : (ts : List Term) → Ascends ts → Ascends (negated_terms ts)
 ascends-negated [] a = tt
@@ -187,7 +176,7 @@ factor_below n v (t ∷ ts) l a h =
     ⊎_elim
     (λ e. subst (λ (z : ℤ). unsigned_abs z < n) (sym (factor_of-first v t ts a e)) h.0)
     (λ e. subst (λ (z : ℤ). unsigned_abs z < n) (sym (factor_of-there v t ts e)) (factor_below n v ts l a.2 h.1))
-    (either (var_eq v t.var))
+    (cases_Bool (var_eq v t.var))
 
 -- a bound on the factor of each variable is one on each factor
 pub below_factors : (n : ℕ) (ts : List Term) → Ascends ts → ((v : Var) → unsigned_abs (factor_of v ts) < n) → FactorsBelow n ts
@@ -198,5 +187,5 @@ below_factors n (t ∷ ts) a h = (
       (λ e. let z = factor_of-before v ts (subst (λ (u : Var). IsBefore u ts) (sym (var_eq-true v t.var e)) a.1) in
       subst (λ (y : ℤ). unsigned_abs y < n) (sym z) (omega (arith, h v)))
       (λ e. subst (λ (z : ℤ). unsigned_abs z < n) (factor_of-there v t ts e) (h v))
-      (either (var_eq v t.var))),
+      (cases_Bool (var_eq v t.var))),
 )

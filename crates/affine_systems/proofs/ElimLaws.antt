@@ -2,6 +2,7 @@
 use Rattle.std.proofs.Common.{◌≡◌, ℕ, suc, ◌+◌, Bool, true, false, List, [], ◌∷◌, ◌++◌, length, ℤ, pos, negsuc, neg_ℤ, ◌+ℤ◌, ◌*ℤ◌, ◌≤ℤ◌, arith, ap, refl, sym, subst, ◌∙◌, int_lt, unsigned_abs, Option, Some, None}
 use Rattle.std.specs.Prelude.{if◌then◌else◌, nat_eq}
 use Rattle.std.proofs.lemmas.Int.{ints}
+use Rattle.std.proofs.lemmas.Bool.{and_parts}
 use borrow.Author.Differences.{up}
 use Rattle.affine_systems.specs.declared.row.Var.{Var}
 use Rattle.affine_systems.specs.declared.row.Term.{Term}
@@ -16,7 +17,7 @@ use Rattle.affine_systems.specs.Items.{joined, item, next_made, items_from, Cut,
 use Rattle.affine_systems.specs.Tidy.{all_substituted, turn_limit, tidy_items}
 use Rattle.affine_systems.specs.Eliminate.{unchanged, any_has, is_unit_on, is_equal_on, cancelling, all_cancelled, keep, is_lower, is_upper, is_without, pair, with_uppers, pairs, paired_off, by_equal, by_unit, eliminate_item, eliminate}
 use Rattle.affine_systems.proofs.Basics.{if_cases, scale_le}
-use Rattle.affine_systems.proofs.TermLaws.{value-add_terms, both_true}
+use Rattle.affine_systems.proofs.TermLaws.{value-add_terms}
 use Rattle.affine_systems.proofs.TidyLaws.{HoldsItems, equally, append_holds, CutSays, cut_says, all_substituted_same, tidy_turns_hold, tidy_turns_back, items_from_same, rows_of_same}
 
 pub tidied_holds : (p : Point) (q : Bool) (is : List Item) → HoldsItems p is → HoldsItems p (tidy_items q is).items
@@ -125,7 +126,7 @@ paired_off_holds p q v is h =
 by_equal_holds : (p : Point) (q : Bool) (v : Var) (is : List Item) (o : Option Cut) → CutSays (is_equal_on v) is o → HoldsItems p is → HoldsItems p (by_equal q v is o).items
 by_equal_holds p q v is None s h = paired_off_holds p q v is h
 by_equal_holds p q v is (Some c) s h =
-    let e = both_true c.at.row.equal (occurs v c.at.row) s.0 in
+    let e = and_parts c.at.row.equal (occurs v c.at.row) s.0 in
     let k = (s.1 p).0 h in
     tidied_holds p q (all_cancelled (next_made is) c.at v (others c))
     (all_cancelled_hold p (next_made is) c.at v (others c) ((equally p c.at.row e.0).0 k.0) k.1)
@@ -133,7 +134,7 @@ by_equal_holds p q v is (Some c) s h =
 by_unit_holds : (p : Point) (q : Bool) (v : Var) (is : List Item) (o : Option Cut) → CutSays (is_unit_on v) is o → HoldsItems p is → HoldsItems p (by_unit q v is o).items
 by_unit_holds p q v is None s h = by_equal_holds p q v is (cut_at (is_equal_on v) is) (cut_says (is_equal_on v) is) h
 by_unit_holds p q v is (Some c) s h =
-    let e = both_true c.at.row.equal (nat_eq (unsigned_abs (factor_of v c.at.row.terms)) 1) s.0 in
+    let e = and_parts c.at.row.equal (nat_eq (unsigned_abs (factor_of v c.at.row.terms)) 1) s.0 in
     let k = (s.1 p).0 h in
     tidied_holds p q (all_substituted (next_made is) c.at v (others c))
     ((all_substituted_same p (next_made is) c.at v (others c) ((equally p c.at.row e.0).0 k.0)).0 k.1)

@@ -12,8 +12,7 @@ use Rattle.affine_systems.specs.Eliminate.{AreLower, eliminated, unchanged, any_
 use Rattle.affine_systems.specs.Given.{IsGiven, ItemsFit, ItemsGiven, ItemsSmall, IsSmallRow}
 use Rattle.affine_systems.proofs.Basics.{if_cases, int_eq-true}
 use Rattle.std.proofs.Math.Nat.{mul-le-mul}
-use Rattle.affine_systems.proofs.TermLaws.{both_true}
-use Rattle.affine_systems.proofs.AscendLaws.{not_true}
+use Rattle.std.proofs.lemmas.Bool.{false_from_ne_true, and_parts}
 use Rattle.affine_systems.proofs.LastLaws.{Has, CutPasses, cut_passes, keep_has, cancelled_items_has, paired_items_has}
 use Rattle.affine_systems.proofs.FitLaws.{IsTidy, tidy_small, fits_tidy, tidy_survives}
 use Rattle.affine_systems.proofs.PivotSteps.{substituted-cancelled}
@@ -75,8 +74,8 @@ split_item v left more lows ups rest all i e h = small_last more i (subst ItemsS
 less_tests : (z : ℤ) → z <ℤ pos 0 → (int_lt z (pos 0) ≡ true) × (int_lt (pos 0) z ≡ false) × (int_eq z (pos 0) ≡ false)
 less_tests z h = (
   true_of (int_lt z (pos 0)) (λ e. omega (arith, ints, h, e)),
-  not_true (int_lt (pos 0) z) (λ e. omega (arith, ints, h, e)),
-  not_true (int_eq z (pos 0)) (λ e. let k = int_eq-true z (pos 0) e in omega (arith, ints, h, k)),
+  false_from_ne_true (int_lt (pos 0) z) (λ e. omega (arith, ints, h, e)),
+  false_from_ne_true (int_eq z (pos 0)) (λ e. let k = int_eq-true z (pos 0) e in omega (arith, ints, h, k)),
 ) where
   true_of : (b : Bool) → (b ≡ false → ⊥) → b ≡ true
   true_of true n = refl
@@ -84,9 +83,9 @@ less_tests z h = (
 
 more_tests : (z : ℤ) → pos 0 <ℤ z → (int_lt z (pos 0) ≡ false) × (int_lt (pos 0) z ≡ true) × (int_eq z (pos 0) ≡ false)
 more_tests z h = (
-  not_true (int_lt z (pos 0)) (λ e. omega (arith, ints, h, e)),
+  false_from_ne_true (int_lt z (pos 0)) (λ e. omega (arith, ints, h, e)),
   true_of (int_lt (pos 0) z) (λ e. omega (arith, ints, h, e)),
-  not_true (int_eq z (pos 0)) (λ e. let k = int_eq-true z (pos 0) e in omega (arith, ints, h, k)),
+  false_from_ne_true (int_eq z (pos 0)) (λ e. let k = int_eq-true z (pos 0) e in omega (arith, ints, h, k)),
 ) where
   true_of : (b : Bool) → (b ≡ false → ⊥) → b ≡ true
   true_of true n = refl
@@ -243,7 +242,7 @@ elim_absent q v is a = ap (λ b. if b then by_unit q v is (cut_at (is_unit_on v)
 pub elim_unit : (q : Bool) (v : Var) (is : List Item) (k : ℕ) (e : Eliminated) → any_has v is ≡ true → cut_at (is_unit_on v) is ≡ Some (cut_of is k) → e ≡ eliminated true false (tidy_items q (all_cancelled (next_made is) (cut_of is k).at v (others (cut_of is k)))) → e ≡ eliminate_item q v is
 elim_unit q v is k e a u h =
     let c = cut_of is k in
-    let f = both_true c.at.row.equal (has_unit v c.at) (passes_at (is_unit_on v) is c u) in
+    let f = and_parts c.at.row.equal (has_unit v c.at) (passes_at (is_unit_on v) is c u) in
     h ∙ (ap (λ js. eliminated true false (tidy_items q js)) (sym (substituted-cancelled (next_made is) c.at v (others c) f.1)) ∙ by_case q v is (Some c) a u)
 
 pub elim_equal : (q : Bool) (v : Var) (is : List Item) (k : ℕ) (e : Eliminated) → any_has v is ≡ true → cut_at (is_unit_on v) is ≡ None → cut_at (is_equal_on v) is ≡ Some (cut_of is k) → e ≡ eliminated false false (tidy_items q (all_cancelled (next_made is) (cut_of is k).at v (others (cut_of is k)))) → e ≡ eliminate_item q v is

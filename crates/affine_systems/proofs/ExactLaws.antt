@@ -4,6 +4,7 @@ use Rattle.std.specs.Prelude.{if◌then◌else◌, nat_eq}
 use Rattle.std.specs.Int.{int_div_euclid}
 use Rattle.std.proofs.lemmas.Int.{ints, by_lt_z}
 use Rattle.std.proofs.lemmas.Bool.Decides.{Decides-eqb, Decides-int_eq}
+use Rattle.std.proofs.lemmas.Bool.{cases_Bool, and_parts, or_parts, not-true}
 use borrow.Author.Differences.{up}
 use Rattle.affine_systems.specs.declared.row.Var.{Var}
 use Rattle.affine_systems.specs.declared.row.Term.{Term}
@@ -16,10 +17,10 @@ use Rattle.affine_systems.specs.Points.{Point, value, Meets, Holds, HoldsAll, mo
 use Rattle.affine_systems.specs.Items.{joined, item, AllItems, next_made, items_from, Cut, cut_at, others}
 use Rattle.affine_systems.specs.Tidy.{by_row, substituted, all_substituted, tidy_items}
 use Rattle.affine_systems.specs.Eliminate.{unchanged, any_has, has_unit, is_unit_on, is_equal_on, keep, is_lower, is_upper, is_without, pair, with_uppers, pairs, all_have_unit, every_pair_unit, paired_off, by_equal, by_unit, eliminate_item, eliminate}
-use Rattle.affine_systems.proofs.Basics.{if_cases, either, int_eq-true, distributes, distributes_right, mul_assoc, mul_comm, neg_mul}
-use Rattle.affine_systems.proofs.TermLaws.{var_eq-true, both_true}
+use Rattle.affine_systems.proofs.Basics.{if_cases, int_eq-true, distributes, distributes_right, mul_assoc, mul_comm, neg_mul}
+use Rattle.affine_systems.proofs.TermLaws.{var_eq-true}
 use Rattle.affine_systems.proofs.NormalLaws.{below_floor, from_floor}
-use Rattle.affine_systems.proofs.TidyLaws.{HoldsItems, either_false, false-not, clash, at_most, equally, append_holds, CutSays, cut_says, all_substituted_same, items_from_same, rows_of_same}
+use Rattle.affine_systems.proofs.TidyLaws.{HoldsItems, clash, at_most, equally, append_holds, CutSays, cut_says, all_substituted_same, items_from_same, rows_of_same}
 use Rattle.affine_systems.proofs.ElimLaws.{tidied_back, value-combined, AllPass, keep_passes}
 
 back : (x y : ℤ) → (x -ℤ y) +ℤ y ≡ x
@@ -34,7 +35,7 @@ value-moved p v x (t ∷ ts) =
     ⊎_elim
     (λ e. here e (var_eq-true v t.var e) m (value (moved p v x) ts) (value p ts) ih)
     (λ e. there e m (value (moved p v x) ts) (value p ts) ih)
-    (either (var_eq v t.var))
+    (cases_Bool (var_eq v t.var))
   where
     here : var_eq v t.var ≡ true → v ≡ t.var → (m a b : ℤ) → a ≡ b +ℤ (m *ℤ (x -ℤ p v)) → (t.factor *ℤ moved p v x t.var) +ℤ a ≡ ((t.factor *ℤ p t.var) +ℤ b) +ℤ (((t.factor *ℤ (if var_eq v t.var then pos 1 else pos 0)) +ℤ m) *ℤ (x -ℤ p v))
     here e s m a b h =
@@ -122,9 +123,9 @@ Extends p v is = (x : ℤ) × HoldsItems (moved p v x) is
 
 unit_extends : (p : Point) (q : Bool) (v : Var) (is : List Item) (c : Cut) → CutSays (is_unit_on v) is (Some c) → (by_unit q v is (Some c)).exact ≡ true → HoldsItems p (by_unit q v is (Some c)).items → Extends p v is
 unit_extends p q v is c s x h =
-    let e = both_true c.at.row.equal (nat_eq (unsigned_abs (factor_of v c.at.row.terms)) 1) s.0 in
+    let e = and_parts c.at.row.equal (nat_eq (unsigned_abs (factor_of v c.at.row.terms)) 1) s.0 in
     let n = next_made is in
-    let l = false-not (tidy_items q (all_substituted n c.at v (others c))).lost x in
+    let l = not-true (tidy_items q (all_substituted n c.at v (others c))).lost x in
     let k = tidied_back p q (all_substituted n c.at v (others c)) l h in
     let z = solved p v c.at.row in
     let r = solved_holds p v c.at.row e.1 in
@@ -225,7 +226,7 @@ with_uppers_meet p n v low (up ∷ ups) l u x h =
 pairs_meet : (p : Point) (n : ℕ) (v : Var) (lows ups : List Item) → AllPass (is_lower v) lows → AllPass (is_upper v) ups → every_pair_unit v lows ups ≡ true → HoldsItems p (pairs n v lows ups) → EndsMeet p v lows ups
 pairs_meet p n v [] ups l u x h = tt
 pairs_meet p n v (low ∷ lows) ups l u x h =
-    let y = both_true (has_unit v low || all_have_unit v ups) (every_pair_unit v lows ups) x in
+    let y = and_parts (has_unit v low || all_have_unit v ups) (every_pair_unit v lows ups) x in
     let k = (append_holds p (with_uppers n v low ups) (pairs (n + length ups) v lows ups)).1 h in
     (with_uppers_meet p n v low ups l.0 u y.0 k.0, pairs_meet p (n + length ups) v lows ups l.1 u y.1 k.1)
 
@@ -322,8 +323,8 @@ pairs_extend p q v is n x h =
     let lows = keep (is_lower v) is in
     let ups = keep (is_upper v) is in
     let new = keep (is_without v) is ++ pairs (next_made is) v lows ups in
-    let y = both_true (every_pair_unit v lows ups) (not (tidy_items q new).lost) x in
-    let k = (append_holds p (keep (is_without v) is) (pairs (next_made is) v lows ups)).1 (tidied_back p q new (false-not (tidy_items q new).lost y.1) h) in
+    let y = and_parts (every_pair_unit v lows ups) (not (tidy_items q new).lost) x in
+    let k = (append_holds p (keep (is_without v) is) (pairs (next_made is) v lows ups)).1 (tidied_back p q new (not-true (tidy_items q new).lost y.1) h) in
     let b = between p v lows ups (pairs_meet p (next_made is) v lows ups (keep_passes (is_lower v) is) (keep_passes (is_upper v) is) y.0 k.1) in
     (p v +ℤ b.0, all_hold p v b.0 is n k.0 b.1 b.2)
 
@@ -338,7 +339,7 @@ any_extends p q v is (Some c) s x h = unit_extends p q v is c s x h
 none_has_moves : (p : Point) (v : Var) (x : ℤ) (is : List Item) → any_has v is ≡ false → HoldsItems p is → HoldsItems (moved p v x) is
 none_has_moves p v x [] e h = tt
 none_has_moves p v x (i ∷ is) e h =
-    let k = either_false (occurs v i.row) (any_has v is) e in
+    let k = or_parts (occurs v i.row) (any_has v is) e in
     (without_moves p v x i.row (occurs-false v i.row k.0) h.0, none_has_moves p v x is k.1 h.1)
 
 pub eliminate_item_extends : (p : Point) (q : Bool) (v : Var) (is : List Item) → (eliminate_item q v is).exact ≡ true → HoldsItems p (eliminate_item q v is).items → Extends p v is

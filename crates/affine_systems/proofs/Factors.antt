@@ -6,9 +6,9 @@ use borrow.Author.Differences.{fits_in}
 use Rattle.affine_systems.specs.declared.row.Term.{Term}
 use Rattle.affine_systems.specs.Terms.{term, negated_terms}
 use Rattle.affine_systems.specs.Normal.{divided, last_is_negative, is_small, are_small}
-use Rattle.affine_systems.proofs.TermLaws.{both_true}
 use Rattle.affine_systems.proofs.FitLaws.{small_is}
 use Rattle.std.proofs.lemmas.List.Edits.{map_over_more}
+use Rattle.std.proofs.lemmas.Bool.{and_parts}
 
 pub divided_more : (g : ℕ) (xs ys : List Term) (i : ℕ) (x : Term) → i < length xs → ys ≡ divided g (take i xs) ++ drop i xs → x ≡ get_or ys i x → set ys i (term x.var (int_div_euclid x.factor (pos g))) ≡ divided g (take (i + 1) xs) ++ drop (i + 1) xs
 divided_more g xs ys i x h e r = map_over_more (λ t. term t.var (int_div_euclid t.factor (pos g))) xs ys i x h e r
@@ -41,8 +41,8 @@ negated_at (x ∷ xs) ys (suc i) d h e = ap (λ zs. get_or zs (suc i) d) e ∙ n
 
 pub is_small_at : (ts : List Term) (i : ℕ) (d : Term) → are_small ts ≡ true → i < length ts → is_small (get_or ts i d).factor ≡ true
 is_small_at [] i d e h = absurd (omega arith)
-is_small_at (t ∷ ts) zero d e h = (both_true (is_small t.factor) (are_small ts) e).0
-is_small_at (t ∷ ts) (suc i) d e h = is_small_at ts i d (both_true (is_small t.factor) (are_small ts) e).1 (omega arith)
+is_small_at (t ∷ ts) zero d e h = (and_parts (is_small t.factor) (are_small ts) e).0
+is_small_at (t ∷ ts) (suc i) d e h = is_small_at ts i d (and_parts (is_small t.factor) (are_small ts) e).1 (omega arith)
 
 pub negation_fits : (z : ℤ) → unsigned_abs z < 2 ^ 62 → SFits w128 (pos 0 -ℤ z)
 negation_fits (pos n) h = fits_in w128 (pos 0 -ℤ pos n) (omega (arith, ints))

@@ -5,6 +5,7 @@ use Rattle.std.specs.Int.{int_div_euclid}
 use Rattle.std.proofs.lemmas.Int.{ints, unsigned_abs-mul}
 use Rattle.std.proofs.lemmas.Bool.Decides.{Decides-eqb, Decides-ltb, Decides-int_eq}
 use Rattle.std.proofs.Math.Nat.{mul-le-mul}
+use Rattle.std.proofs.lemmas.Bool.{false_from_ne_true, cases_Bool, and_parts, or_parts}
 use Rattle.affine_systems.specs.declared.row.Var.{Var}
 use Rattle.affine_systems.specs.declared.row.Term.{Term}
 use Rattle.affine_systems.specs.declared.row.Row.{Row}
@@ -18,13 +19,13 @@ use Rattle.affine_systems.specs.Normal.{divisor, divided, last_is_negative, is_s
 use Rattle.affine_systems.specs.Tidy.{sorted, one_each, row_limit, are_opposite, merged_row, faced_all, in_form, round, is_unit, last_unit, unit_var, by_row, turn_limit, tidy_items, tidy}
 use Rattle.affine_systems.specs.Eliminate.{eliminate_item, eliminate}
 use Rattle.affine_systems.specs.Given.{IsSmallRow, FactorsBelow, IsGiven, IsNormalAs, AreNormal, Fits, ItemsFit, ItemsGiven}
-use Rattle.affine_systems.proofs.Basics.{if_cases, either, int_eq-true}
-use Rattle.affine_systems.proofs.TermLaws.{both_true, var_eq-true, true-var_eq}
+use Rattle.affine_systems.proofs.Basics.{if_cases, int_eq-true}
+use Rattle.affine_systems.proofs.TermLaws.{var_eq-true, true-var_eq}
 use Rattle.affine_systems.proofs.NormalLaws.{DividesAll, divisor_divides, divisor_positive, exact_quotient}
-use Rattle.affine_systems.proofs.TidyLaws.{clash, either_false}
+use Rattle.affine_systems.proofs.TidyLaws.{clash}
 use Rattle.affine_systems.proofs.ElimLaws.{value-combined}
 use Rattle.affine_systems.proofs.LastLaws.{Lasts, Survives, Has, ordered_has, faced_all_has, cut_form_has, next_has, each_round, round_at_most, each_elimination}
-use Rattle.affine_systems.proofs.AscendLaws.{not_true, ascends-combined, ascends-negated, factor_of-first, factor_of-there, factor_of-before, factor_below, below_factors}
+use Rattle.affine_systems.proofs.AscendLaws.{ascends-combined, ascends-negated, factor_of-first, factor_of-there, factor_of-before, factor_below, below_factors}
 use Rattle.affine_systems.proofs.ReducedLaws.{IsReduced, normal-reduced, kept-reduced, abs-neg}
 
 -- ---- small numbers
@@ -35,7 +36,7 @@ small_is z e = (Decides-ltb (unsigned_abs z) (2 ^ 62)).0 e
 
 pub small_factors : (ts : List Term) → are_small ts ≡ true → FactorsBelow (2 ^ 62) ts
 small_factors [] e = tt
-small_factors (t ∷ ts) e = let h = both_true (is_small t.factor) (are_small ts) e in (small_is t.factor h.0, small_factors ts h.1)
+small_factors (t ∷ ts) e = let h = and_parts (is_small t.factor) (are_small ts) e in (small_is t.factor h.0, small_factors ts h.1)
 
 pub more_factors : (m n : ℕ) (ts : List Term) → m ≤ n → FactorsBelow m ts → FactorsBelow n ts
 more_factors m n [] l h = tt
@@ -119,7 +120,7 @@ last_unit_has v o (t ∷ ts) a e = ⊎_elim here there (last_unit_has v (if is_u
       (λ k. let z = factor_of-before v ts (subst (λ (w : Var). IsBefore w ts) (sym (var_eq-true v t.var k)) a.1) in
       clash (is_unit (factor_of v ts)) u (ap is_unit z ∙ refl))
       (λ k. inr (ap is_unit (factor_of-there v t ts k) ∙ u))
-      (either (var_eq v t.var))
+      (cases_Bool (var_eq v t.var))
 
 pub unit_var_has : (v : Var) (ts : List Term) → Ascends ts → unit_var ts ≡ Some v → is_unit (factor_of v ts) ≡ true
 unit_var_has v ts a e = ⊎_elim (λ n. none n) (λ u. u) (last_unit_has v None ts a e) where
@@ -135,7 +136,7 @@ before-divided w g (t ∷ ts) h = (h.0, before-divided w g ts h.1)
 ascends-divided : (g : ℕ) (ts : List Term) → 0 < g → DividesAll g ts → Ascends ts → Ascends (divided g ts)
 ascends-divided g [] p d a = tt
 ascends-divided g (t ∷ ts) p d a = (
-  not_true (int_eq (int_div_euclid t.factor (pos g)) (pos 0)) (λ e. let z = int_eq-true (int_div_euclid t.factor (pos g)) (pos 0) e in
+  false_from_ne_true (int_eq (int_div_euclid t.factor (pos g)) (pos 0)) (λ e. let z = int_eq-true (int_div_euclid t.factor (pos g)) (pos 0) e in
       let x = exact_quotient g t.factor p d.0 in
       let m : pos g *ℤ int_div_euclid t.factor (pos g) ≡ pos g *ℤ pos 0 = ap (λ y. pos g *ℤ y) z in
       let o : t.factor ≡ pos 0 = omega (arith, ints, x, m) in
@@ -183,7 +184,7 @@ abbrev pub IsTidy : Bool → Row → Type 0
 IsTidy q r = (Ascends r.terms × IsReduced q r) ⊎ (r ≡ false_row)
 
 pub tidy_small : (q : Bool) (r : Row) → IsTidy q r → IsSmallRow r
-tidy_small q r (inl h) = let s = both_true (is_small r.bound) (are_small r.terms) h.1.small in (h.0, small_is r.bound s.0, small_factors r.terms s.1)
+tidy_small q r (inl h) = let s = and_parts (is_small r.bound) (are_small r.terms) h.1.small in (h.0, small_is r.bound s.0, small_factors r.terms s.1)
 tidy_small q r (inr e) = subst (λ (s : Row). IsSmallRow s) (sym e) (tt, omega arith, tt)
 
 -- opposite rows without terms are no pair
@@ -197,14 +198,14 @@ opposite_last : (ts us : List Term) → are_opposite_terms ts us ≡ true → la
 opposite_last [] us o e = cc
 opposite_last (t ∷ ts) [] o e = cc
 opposite_last (t ∷ []) (u ∷ []) o e =
-    let h = both_true (is_opposite t u) true o in
-    let k = both_true (var_eq t.var u.var) (int_eq t.factor (neg_ℤ u.factor)) h.0 in
+    let h = and_parts (is_opposite t u) true o in
+    let k = and_parts (var_eq t.var u.var) (int_eq t.factor (neg_ℤ u.factor)) h.0 in
     let f = int_eq-true t.factor (neg_ℤ u.factor) k.1 in
-    not_true (int_lt u.factor (pos 0)) (λ l. omega (arith, ints, e, f, l))
-opposite_last (t ∷ []) (u ∷ (w ∷ ws)) o e = let h = both_true (is_opposite t u) false o in cc (h.1)
-opposite_last (t ∷ (x ∷ xs)) (u ∷ []) o e = let h = both_true (is_opposite t u) false o in cc (h.1)
+    false_from_ne_true (int_lt u.factor (pos 0)) (λ l. omega (arith, ints, e, f, l))
+opposite_last (t ∷ []) (u ∷ (w ∷ ws)) o e = let h = and_parts (is_opposite t u) false o in cc (h.1)
+opposite_last (t ∷ (x ∷ xs)) (u ∷ []) o e = let h = and_parts (is_opposite t u) false o in cc (h.1)
 opposite_last (t ∷ (x ∷ xs)) (u ∷ (w ∷ ws)) o e =
-    let h = both_true (is_opposite t u) (are_opposite_terms (x ∷ xs) (w ∷ ws)) o in
+    let h = and_parts (is_opposite t u) (are_opposite_terms (x ∷ xs) (w ∷ ws)) o in
     opposite_last (x ∷ xs) (w ∷ ws) h.1 e
 
 -- an at-most row as an equal one
@@ -214,7 +215,7 @@ equal-reduced q r h l = record { some = h.some; divisor_one = h.divisor_one; sma
 merged_tidy : (q : Bool) (r s : Row) → are_opposite r s ≡ true → int_eq (r.bound +ℤ s.bound) (pos 0) ≡ true → IsTidy q r → IsTidy q s → IsTidy q (merged_row r s)
 merged_tidy q r s o z h k = go h k where
   opposite : are_opposite_terms r.terms s.terms ≡ true
-  opposite = (both_true (not (r.equal || s.equal)) (are_opposite_terms r.terms s.terms) o).1
+  opposite = (and_parts (not (r.equal || s.equal)) (are_opposite_terms r.terms s.terms) o).1
 
   none : has_no_terms r.terms ≡ has_no_terms s.terms
   none = opposite_none r.terms s.terms opposite
@@ -262,7 +263,7 @@ not_false q r (inr f) e = clash (is_false_row r) (ap is_false_row f) e
 
 none_false : (q : Bool) (is : List Item) → Has (IsTidy q) is → any_false is ≡ false → AllRows (IsNormalAs q) (rows_of is)
 none_false q [] h e = tt
-none_false q (i ∷ is) h e = let k = either_false (is_false_row i.row) (any_false is) e in (not_false q i.row h.0 k.0, none_false q is h.1 k.1)
+none_false q (i ∷ is) h e = let k = or_parts (is_false_row i.row) (any_false is) e in (not_false q i.row h.0 k.0, none_false q is h.1 k.1)
 
 collapsed_normal : (q : Bool) (is : List Item) → Has (IsTidy q) is → AreNormal q (rows_of (collapsed is))
 collapsed_normal q is h =

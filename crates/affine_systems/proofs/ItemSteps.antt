@@ -10,9 +10,9 @@ use Rattle.affine_systems.specs.Normal.{Normal, Kept, Always, Never, TooBig, nor
 use Rattle.affine_systems.specs.Tidy.{with_normal, normal_items, is_too_big, any_too_big, stronger, one_each_after, are_opposite, merged_row, against, faced, faced_all}
 use Rattle.affine_systems.specs.Given.{ItemsSmall, IsSmallRow}
 use Rattle.affine_systems.proofs.Basics.{int_eq-true}
-use Rattle.affine_systems.proofs.AscendLaws.{not_true}
 use Rattle.std.specs.Prelude.{if◌then◌else◌}
 use Rattle.std.specs.List.{list_any}
+use Rattle.std.proofs.lemmas.Bool.{false_from_ne_true}
 use Rattle.affine_systems.specs.declared.row.Norm.TheVariants as answer
 
 pub popped : {X : Type 0} (xs ys : List X) (x : X) → xs ≡ ys ++ x ∷ [] → reverse xs ≡ x ∷ reverse ys
@@ -125,8 +125,8 @@ item_at P (i ∷ is) (suc k) d h l = item_at P is k d h.1 (omega arith)
 against-stays : (n : ℕ) (i j : Item) → pos 0 <ℤ (i.row.bound +ℤ j.row.bound) → against n i j ≡ i
 against-stays n i j h =
     let s = i.row.bound +ℤ j.row.bound in
-    let a : int_lt s (pos 0) ≡ false = not_true (int_lt s (pos 0)) (λ e. omega (arith, ints, h, e)) in
-    let b : int_eq s (pos 0) ≡ false = not_true (int_eq s (pos 0)) (λ e. let z = int_eq-true s (pos 0) e in omega (arith, ints, h, z)) in
+    let a : int_lt s (pos 0) ≡ false = false_from_ne_true (int_lt s (pos 0)) (λ e. omega (arith, ints, h, e)) in
+    let b : int_eq s (pos 0) ≡ false = false_from_ne_true (int_eq s (pos 0)) (λ e. let z = int_eq-true s (pos 0) e in omega (arith, ints, h, z)) in
     ap₂ (λ x y. if x then false_item else if y then item (merged_row i.row j.row) (joined i.originals j.originals) n else i) a b
 
 -- whatever number it would take, an item stays

@@ -3,6 +3,7 @@ use Rattle.std.proofs.Common.{◌≡◌, ℕ, suc, ◌+◌, ◌<◌, Bool, true,
 use Rattle.std.specs.Prelude.{if◌then◌else◌, nat_eq}
 use Rattle.std.specs.Int.{int_div_euclid}
 use Rattle.std.proofs.lemmas.Int.{ints}
+use Rattle.std.proofs.lemmas.Bool.{and_parts, or_parts}
 use Rattle.affine_systems.specs.declared.row.Var.{Var}
 use Rattle.affine_systems.specs.declared.row.Term.{Term}
 use Rattle.affine_systems.specs.declared.row.Row.{Row}
@@ -18,9 +19,7 @@ use Rattle.affine_systems.specs.Tidy.{is_unit, substituted, all_substituted, tid
 use Rattle.affine_systems.specs.Eliminate.{unchanged, any_has, has_unit, is_unit_on, is_equal_on, cancelling, all_cancelled, keep, is_lower, is_upper, is_without, pair, with_uppers, pairs, by_equal, by_unit, eliminate_item, eliminate}
 use Rattle.affine_systems.specs.Laws.{Lacks}
 use Rattle.affine_systems.proofs.Basics.{if_cases, mul_comm, neg_mul}
-use Rattle.affine_systems.proofs.TermLaws.{both_true}
 use Rattle.affine_systems.proofs.NormalLaws.{DividesAll, divisor_divides, divisor_positive, value-divided, value-negated, cancel_scale}
-use Rattle.affine_systems.proofs.TidyLaws.{either_false}
 use Rattle.affine_systems.proofs.ElimLaws.{value-combined, eliminate_holds}
 use Rattle.affine_systems.proofs.ExactLaws.{without_moves, substituted_lacks, occurs-false}
 use Rattle.affine_systems.proofs.LastLaws.{Lasts, Survives, append_items, tidied_has, eliminated_has, CutPasses, cut_passes}
@@ -178,7 +177,7 @@ lacks_without v (i ∷ is) =
 none_has_lacks : (v : Var) (is : List Item) → any_has v is ≡ false → AllNil (only v) is
 none_has_lacks v [] e = tt
 none_has_lacks v (i ∷ is) e =
-    let k = either_false (occurs v i.row) (any_has v is) e in
+    let k = or_parts (occurs v i.row) (any_has v is) e in
     (sym (factor-only v i.row.terms) ∙ occurs-false v i.row k.0, none_has_lacks v is k.1)
 
 lacks_by_equal : (q : Bool) (v : Var) (is : List Item) (o : Option Cut) → AllNil (only v) (by_equal q v is o).items
@@ -192,7 +191,7 @@ lacks_by_equal q v is (Some c) = tidied_nil (only v) q (all_cancelled (next_made
 lacks_by_unit : (q : Bool) (v : Var) (is : List Item) (o : Option Cut) → CutPasses (is_unit_on v) o → AllNil (only v) (by_unit q v is o).items
 lacks_by_unit q v is None s = lacks_by_equal q v is (cut_at (is_equal_on v) is)
 lacks_by_unit q v is (Some c) s =
-    let e = both_true c.at.row.equal (has_unit v c.at) s in
+    let e = and_parts c.at.row.equal (has_unit v c.at) s in
     tidied_nil (only v) q (all_substituted (next_made is) c.at v (others c)) (lacks_all_substituted (next_made is) c.at v (others c) e.1)
 
 pub eliminate_item_lacks : (q : Bool) (v : Var) (is : List Item) → AllNil (only v) (eliminate_item q v is).items

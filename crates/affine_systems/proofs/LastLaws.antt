@@ -1,6 +1,7 @@
 -- What lasts through tidying and elimination: a property of the rows that go in, and one of those that come out.
 use Rattle.std.proofs.Common.{◌≡◌, ℕ, zero, suc, ◌+◌, ◌≤◌, Bool, true, false, ◌||◌, List, [], ◌∷◌, ◌++◌, length, take, pos, neg_ℤ, ◌+ℤ◌, arith, ap, refl, subst, int_eq, int_lt, Option, Some, None}
 use Rattle.std.specs.Prelude.{if◌then◌else◌, nat_lt}
+use Rattle.std.proofs.lemmas.Bool.{and_parts}
 use Rattle.affine_systems.specs.declared.row.Var.{Var}
 use Rattle.affine_systems.specs.declared.row.Row.{Row}
 use Rattle.affine_systems.specs.declared.items.Item.{Item}
@@ -13,7 +14,6 @@ use Rattle.affine_systems.specs.Normal.{Normal, Kept, Always, Never, TooBig, nor
 use Rattle.affine_systems.specs.Tidy.{with_normal, normal_items, put, sorted, stronger, one_each_after, one_each, row_limit, are_opposite, merged_row, against, faced, faced_all, in_form, merged, round, is_unit, unit_var, is_to_take, next_pivot, by_row, all_substituted, taken, pivoted, turn_limit, after_round, tidy_turns, tidy_items}
 use Rattle.affine_systems.specs.Eliminate.{unchanged, any_has, has_unit, is_unit_on, is_equal_on, cancelling, all_cancelled, keep, is_lower, is_upper, is_without, with_uppers, pairs, by_equal, by_unit, eliminate_item}
 use Rattle.affine_systems.proofs.Basics.{if_cases}
-use Rattle.affine_systems.proofs.TermLaws.{both_true}
 
 -- A of the rows that go in, P of those that come out: normal rows, the false row, and the equal row of two opposite ones
 pub record Lasts (A P : Row → Type 0) (q : Bool) : Type 0 where
@@ -209,7 +209,7 @@ cancelled_items_has A P q l v is c h k = all_cancelled_has A P q l (next_made is
 
 pub unit_items_has : (A P : Row → Type 0) (q : Bool) → Survives A P q → (v : Var) (is : List Item) (c : Cut) → is_unit_on v c.at ≡ true → P c.at.row → Has P (others c) → Has A (all_substituted (next_made is) c.at v (others c))
 unit_items_has A P q l v is c e h k =
-    let u = both_true c.at.row.equal (has_unit v c.at) e in
+    let u = and_parts c.at.row.equal (has_unit v c.at) e in
     all_substituted_has A P l.lasts.again (next_made is) c.at v (λ r p. l.of_unit r c.at.row v u.1 p h) (others c) k
 
 abbrev pub CutPasses : (Item → Bool) → Option Cut → Type 0

@@ -4,6 +4,7 @@ use Rattle.std.specs.Prelude.{if◌then◌else◌, insert, remove}
 use Rattle.std.proofs.lemmas.List.{take_more, get_or_default}
 use Rattle.std.proofs.lemmas.Int.{ints}
 use Rattle.std.proofs.lemmas.Bool.Decides.{Decides-eqb, nat_tests}
+use Rattle.std.proofs.lemmas.Bool.{false_from_ne_true}
 use Rattle.affine_systems.specs.declared.row.Var.{Var}
 use Rattle.affine_systems.specs.declared.row.Term.{Term}
 use Rattle.affine_systems.specs.declared.row.Row.{Row}
@@ -15,7 +16,6 @@ use Rattle.affine_systems.specs.Items.{joined, item, next_made, false_item, Cut,
 use Rattle.affine_systems.specs.Tidy.{is_unit, last_unit, unit_var, times, by_row, all_substituted, taken, pivoted}
 use Rattle.affine_systems.specs.Eliminate.{cancelling, cancelled, all_cancelled}
 use Rattle.affine_systems.specs.Given.{ItemsSmall, IsSmallRow}
-use Rattle.affine_systems.proofs.AscendLaws.{not_true}
 use Rattle.affine_systems.proofs.ItemSteps.{item_at}
 use Rattle.affine_systems.proofs.FitLaws.{unit_var_has}
 
@@ -93,7 +93,7 @@ by_row-cancelling r v e u = go (factor_of v e.terms) (factor_of v r.terms) u whe
   go : (a c : ℤ) → is_unit a ≡ true → combine (pos 1) r (neg_ℤ (c *ℤ a)) e ≡ cancelling a r e c
   go (pos n) c u =
       let h : n ≡ 1 = (Decides-eqb n 1).0 u in
-      let l : int_lt (pos n) (pos 0) ≡ false = not_true (int_lt (pos n) (pos 0)) (λ t. omega (arith, ints, t)) in
+      let l : int_lt (pos n) (pos 0) ≡ false = false_from_ne_true (int_lt (pos n) (pos 0)) (λ t. omega (arith, ints, t)) in
       let m : c *ℤ pos 1 ≡ c = omega (arith, ints) in
       let k : neg_ℤ (c *ℤ pos n) ≡ (if int_lt (pos n) (pos 0) then c else neg_ℤ c) = ap (λ x. neg_ℤ (c *ℤ pos x)) h ∙ (ap neg_ℤ m ∙ ap (λ b. if b then c else neg_ℤ c) (sym l)) in
       ap₂ (λ x y. combine (pos x) r y e) (sym h) k

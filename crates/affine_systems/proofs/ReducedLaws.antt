@@ -6,6 +6,7 @@ use Rattle.std.proofs.lemmas.Int.{ints, unsigned_abs-mul}
 use Rattle.std.proofs.lemmas.Bool.Decides.{Decides-eqb}
 use Rattle.std.proofs.lemmas.Nat.Gcd.{dvd_antisymm}
 use Rattle.std.proofs.Math.Nat.{mul-dvd-mul_left, dvd_of_mul-dvd-mul_left, pos_of_dvd_of_pos, mul-one, dvd-mod_iff, one-dvd}
+use Rattle.std.proofs.lemmas.Bool.{false_from_ne_true}
 use Prim.Native.Nat.{◌∣◌}
 use Rattle.affine_systems.specs.declared.row.Term.{Term}
 use Rattle.affine_systems.specs.declared.row.Row.{Row}
@@ -16,7 +17,6 @@ use Rattle.affine_systems.proofs.Basics.{if_cases}
 use Rattle.affine_systems.proofs.NormalLaws.{DividesAll, divisor_divides, divisor_positive, exact_quotient, gcd_of_divides}
 use Rattle.affine_systems.proofs.ExactLaws.{div_one}
 use Rattle.affine_systems.proofs.TidyLaws.{clash}
-use Rattle.affine_systems.proofs.AscendLaws.{not_true}
 
 -- ---- the greatest common divisor is the greatest
 
@@ -119,7 +119,7 @@ divisor-negated ts m = ap (λ n. max 1 n) (gcd_of-negated ts m)
 
 pub turned_positive : (z : ℤ) → int_lt z (pos 0) ≡ true → int_lt (neg_ℤ z) (pos 0) ≡ false
 turned_positive (pos n) e = absurd (omega (arith, ints, e))
-turned_positive (negsuc n) e = not_true (int_lt (pos (suc n)) (pos 0)) (λ l. omega (arith, ints, l))
+turned_positive (negsuc n) e = false_from_ne_true (int_lt (pos (suc n)) (pos 0)) (λ l. omega (arith, ints, l))
 
 last-negated : (ts : List Term) → last_is_negative ts ≡ true → last_is_negative (negated_terms ts) ≡ false
 last-negated [] e = cc

@@ -3,6 +3,7 @@ use Rattle.std.proofs.Common.{◌≡◌, ◌↔◌, ◌<◌, ◌≤◌, ◌^◌,
 use Rattle.std.specs.Prelude.{if◌then◌else◌, IsNone}
 use Rattle.std.proofs.lemmas.Int.{ints}
 use Rattle.std.proofs.lemmas.Bool.Decides.{Decides-int_eq}
+use Rattle.std.proofs.lemmas.Bool.{cases_Bool}
 use Rattle.affine_systems.specs.declared.row.Var.{Var}
 use Rattle.affine_systems.specs.declared.row.Term.{Term}
 use Rattle.affine_systems.specs.declared.row.Row.{Row}
@@ -16,7 +17,7 @@ use Rattle.affine_systems.specs.Eliminate.{cancelling}
 use Rattle.affine_systems.specs.Given.{IsGiven, IsNormalAs, IsNormal, AreNormal, AreSmall, IsSmallRow}
 use Rattle.affine_systems.specs.Laws.{KeepsPoints, AddsNoPoint, KeepsCommonPoints, AddsNoCommonPoint, RenamesPoints, RenamesNoPointMore, SaysTheSame}
 use Rattle.affine_systems.specs.Calls.{one_by, unless_too_big, substitute}
-use Rattle.affine_systems.proofs.Basics.{either, mul_comm}
+use Rattle.affine_systems.proofs.Basics.{mul_comm}
 use Rattle.affine_systems.proofs.TermLaws.{var_eq-true, true-var_eq}
 use Rattle.affine_systems.proofs.TidyLaws.{tidy_holds, tidy_back}
 use Rattle.affine_systems.proofs.ExactLaws.{value-moved}
@@ -41,8 +42,8 @@ same_first t ts u us a b h =
     (λ l. absurd (not_zero t.factor a.0 (sym (factor_of-first t.var t ts a (true-var_eq t.var t.var refl)) ∙ (h t.var ∙ factor_of-before t.var (u ∷ us) (l, before_later t.var u.var us l b.1)))))
     (λ l. let m = var_lt-other t.var u.var e l in
     absurd (not_zero u.factor b.0 (sym (factor_of-first u.var u us b (true-var_eq u.var u.var refl)) ∙ (sym (h u.var) ∙ factor_of-before u.var (t ∷ ts) (m, before_later u.var t.var ts m a.1)))))
-    (either (var_lt t.var u.var)))
-    (either (var_eq t.var u.var))
+    (cases_Bool (var_lt t.var u.var)))
+    (cases_Bool (var_eq t.var u.var))
 
 pub same_factors : (ts us : List Term) → Ascends ts → Ascends us → ((v : Var) → factor_of v ts ≡ factor_of v us) → ts ≡ us
 same_factors [] [] a b h = refl
@@ -51,7 +52,7 @@ same_factors (t ∷ ts) [] a b h = absurd (not_zero t.factor a.0 (sym (factor_of
 same_factors (t ∷ ts) (u ∷ us) a b h =
     let e = same_first t ts u us a b h in
     let f : t.factor ≡ u.factor = sym (factor_of-first t.var t ts a (true-var_eq t.var t.var refl)) ∙ (h t.var ∙ factor_of-first t.var u us b (true-var_eq t.var u.var e)) in
-    λ i. term (e i) (f i) ∷ same_factors ts us a.2 b.2 (λ v. rest e v (either (var_eq v t.var))) i
+    λ i. term (e i) (f i) ∷ same_factors ts us a.2 b.2 (λ v. rest e v (cases_Bool (var_eq v t.var))) i
   where
     rest : t.var ≡ u.var → (v : Var) → (var_eq v t.var ≡ true) ⊎ (var_eq v t.var ≡ false) → factor_of v ts ≡ factor_of v us
     rest e v (inl k) =
@@ -73,7 +74,7 @@ read_moved p from to v =
     ap (λ b. p (if b then to else v)) e ∙ ap (λ b. if b then p to else p v) (sym f))
     (λ e. let f = var_eq-sym v from e in
     ap (λ b. p (if b then to else v)) e ∙ ap (λ b. if b then p to else p v) (sym f))
-    (either (var_eq v from))
+    (cases_Bool (var_eq v from))
 
 factor-renamed : (from to v : Var) (ts : List Term) → factor_of v (renamed_terms (one_by from to) ts) ≡ factor_of v ts +ℤ (factor_of from ts *ℤ (only v to -ℤ only v from))
 unfolding factor_of

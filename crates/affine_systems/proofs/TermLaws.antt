@@ -1,18 +1,15 @@
 -- The values of terms.
-use Rattle.std.proofs.Common.{◌≡◌, ℕ, Bool, true, false, ◌&&◌, List, [], ◌∷◌, ℤ, pos, ◌+ℤ◌, ◌*ℤ◌, arith, ap, refl, subst, ◌∙◌, int_eq}
+use Rattle.std.proofs.Common.{◌≡◌, ℕ, true, List, [], ◌∷◌, ℤ, pos, ◌+ℤ◌, ◌*ℤ◌, arith, ap, refl, subst, ◌∙◌, int_eq}
 use Rattle.std.specs.Prelude.{if◌then◌else◌, nat_eq}
 use Rattle.std.proofs.lemmas.Int.{ints}
 use Rattle.std.proofs.lemmas.Bool.Decides.{Decides-eqb}
+use Rattle.std.proofs.lemmas.Bool.{and_parts}
 use Rattle.affine_systems.specs.declared.row.Var.{Var}
 use Rattle.affine_systems.specs.declared.row.Term.{Term}
 use Rattle.affine_systems.specs.declared.row.Var.TheVariants.{Cell, Exit, Phi, Aux}
 use Rattle.affine_systems.specs.Terms.{kind, number, var_eq, var_lt, term, term_before, add_term, add_terms}
 use Rattle.affine_systems.specs.Points.{Point, value}
 use Rattle.affine_systems.proofs.Basics.{if_cases, int_eq-true, distributes, distributes_right, mul_assoc}
-
-pub both_true : (a b : Bool) → (a && b) ≡ true → (a ≡ true) × (b ≡ true)
-both_true true b e = (refl, e)
-both_true false b e = cc
 
 eqb-true : (m n : ℕ) → nat_eq m n ≡ true → m ≡ n
 eqb-true m n e = (Decides-eqb m n).0 e
@@ -38,7 +35,7 @@ same_parts (Aux m) (Phi n) e f = absurd (omega arith)
 pub var_eq-true : (v w : Var) → var_eq v w ≡ true → v ≡ w
 unfolding var_eq
 var_eq-true v w e =
-    let h = both_true (nat_eq (kind v) (kind w)) (nat_eq (number v) (number w)) e in
+    let h = and_parts (nat_eq (kind v) (kind w)) (nat_eq (number v) (number w)) e in
     same_parts v w (eqb-true (kind v) (kind w) h.0) (eqb-true (number v) (number w) h.1)
 
 pub value-term_before : (p : Point) (v : Var) (f : ℤ) (ts : List Term) → value p (term_before v f ts) ≡ (f *ℤ p v) +ℤ value p ts

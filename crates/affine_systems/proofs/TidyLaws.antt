@@ -3,6 +3,7 @@ use Rattle.std.proofs.Common.{◌≡◌, ◌↔◌, ℕ, zero, suc, ◌≤◌, B
 use Rattle.std.specs.Prelude.{if◌then◌else◌, nat_lt}
 use Rattle.std.proofs.lemmas.Int.{ints}
 use Rattle.std.proofs.lemmas.Bool.Decides.{Decides-int_eq, nat_tests}
+use Rattle.std.proofs.lemmas.Bool.{cases_Bool, and_parts, or_parts, not-true}
 use Rattle.affine_systems.specs.declared.row.Var.{Var}
 use Rattle.affine_systems.specs.declared.row.Term.{Term}
 use Rattle.affine_systems.specs.declared.row.Row.{Row}
@@ -14,8 +15,8 @@ use Rattle.affine_systems.specs.Points.{Point, value, Meets, Holds, HoldsAll, fa
 use Rattle.affine_systems.specs.Items.{joined, item, AllItems, next_made, items_from, rows_of, false_item, is_false_row, any_false, collapsed, Cut, cut, cut_later, cut_at, others}
 use Rattle.affine_systems.specs.Normal.{last_is_negative, Normal, Kept, Always, Never, TooBig, normal}
 use Rattle.affine_systems.specs.Tidy.{with_normal, normal_items, is_too_big, any_too_big, put, sorted, stronger, one_each_after, one_each, row_limit, are_opposite, merged_row, against, faced, faced_all, in_form, merged, round, unit_var, is_elsewhere, is_to_take, next_pivot, by_row, substituted, all_substituted, taken, pivoted, turn_limit, after_round, tidy_turns, tidy_items, tidy}
-use Rattle.affine_systems.proofs.Basics.{if_cases, either, int_eq-true, neg_mul}
-use Rattle.affine_systems.proofs.TermLaws.{value-add_terms, var_eq-true, both_true}
+use Rattle.affine_systems.proofs.Basics.{if_cases, int_eq-true, neg_mul}
+use Rattle.affine_systems.proofs.TermLaws.{value-add_terms, var_eq-true}
 use Rattle.affine_systems.proofs.OrderLaws.{same_shape-true}
 use Rattle.affine_systems.proofs.NormalLaws.{Agrees, normal_agrees}
 
@@ -26,14 +27,6 @@ pub not_false_row : (p : Point) → Holds p false_row → ⊥
 not_false_row p h = omega (arith, ints)
 
 -- ---- tests
-
-pub either_false : (a b : Bool) → (a || b) ≡ false → (a ≡ false) × (b ≡ false)
-either_false true b e = cc
-either_false false b e = (refl, e)
-
-pub false-not : (b : Bool) → not b ≡ true → b ≡ false
-false-not true e = cc
-false-not false e = refl
 
 pub clash : {A : Type 0} (b : Bool) → b ≡ true → b ≡ false → A
 clash b e f = cc
@@ -47,10 +40,10 @@ has_no_terms-true (t ∷ ts) e = cc
 
 pub is_false_row-true : (p : Point) (r : Row) → is_false_row r ≡ true → Holds p r → ⊥
 is_false_row-true p r e h =
-    let k = both_true (not r.equal) (has_no_terms r.terms && int_lt r.bound (pos 0)) e in
-    let l = both_true (has_no_terms r.terms) (int_lt r.bound (pos 0)) k.1 in
+    let k = and_parts (not r.equal) (has_no_terms r.terms && int_lt r.bound (pos 0)) e in
+    let l = and_parts (has_no_terms r.terms) (int_lt r.bound (pos 0)) k.1 in
     let v : value p r.terms ≡ pos 0 = ap (value p) (has_no_terms-true r.terms l.0) in
-    let m : pos 0 ≤ℤ r.bound = meets_at r.equal false (value p r.terms) (pos 0) r.bound r.bound (false-not r.equal k.0) v refl h in
+    let m : pos 0 ≤ℤ r.bound = meets_at r.equal false (value p r.terms) (pos 0) r.bound r.bound (not-true r.equal k.0) v refl h in
     let n : r.bound <ℤ pos 0 = omega (arith, ints, l.1) in
     omega (arith, ints, m, n)
 
@@ -58,7 +51,7 @@ pub any_false-true : (p : Point) (is : List Item) → any_false is ≡ true → 
 any_false-true p [] e h = absurd (clash false e refl)
 any_false-true p (i ∷ is) e h =
     ⊎_elim (λ t. is_false_row-true p i.row t h.0)
-    (λ f. any_false-true p is (later (is_false_row i.row) (any_false is) f e) h.1) (either (is_false_row i.row))
+    (λ f. any_false-true p is (later (is_false_row i.row) (any_false is) f e) h.1) (cases_Bool (is_false_row i.row))
   where
     later : (a b : Bool) → a ≡ false → (a || b) ≡ true → b ≡ true
     later true b f e = cc
@@ -84,7 +77,7 @@ normal_items_hold p q (i ∷ is) h = go (normal q i.row) (normal_agrees p q i.ro
 normal_items_back : (p : Point) (q : Bool) (is : List Item) → any_too_big q is ≡ false → HoldsItems p (normal_items q is) → HoldsItems p is
 normal_items_back p q [] e h = tt
 normal_items_back p q (i ∷ is) e h =
-    let k = either_false (is_too_big (normal q i.row)) (any_too_big q is) e in
+    let k = or_parts (is_too_big (normal q i.row)) (any_too_big q is) e in
     go (normal q i.row) (normal_agrees p q i.row) k.0 (λ l. normal_items_back p q is k.1 l) h where
       go : (n : Normal) → Agrees p (Holds p i.row) n → is_too_big n ≡ false → (HoldsItems p (normal_items q is) → HoldsItems p is) → HoldsItems p (with_normal i n (normal_items q is)) → HoldsItems p (i ∷ is)
       go (Kept r) a e ih k = (a.1 k.0, ih k.1)
@@ -170,8 +163,8 @@ opposite_terms_value p [] [] e = refl
 opposite_terms_value p [] (u ∷ us) e = cc
 opposite_terms_value p (t ∷ ts) [] e = cc
 opposite_terms_value p (t ∷ ts) (u ∷ us) e =
-    let h = both_true (is_opposite t u) (are_opposite_terms ts us) e in
-    let k = both_true (var_eq t.var u.var) (int_eq t.factor (neg_ℤ u.factor)) h.0 in
+    let h = and_parts (is_opposite t u) (are_opposite_terms ts us) e in
+    let k = and_parts (var_eq t.var u.var) (int_eq t.factor (neg_ℤ u.factor)) h.0 in
     let ih = opposite_terms_value p ts us h.1 in
     let x : p t.var ≡ p u.var = ap p (var_eq-true t.var u.var k.0) in
     let f = int_eq-true t.factor (neg_ℤ u.factor) k.1 in
@@ -182,8 +175,8 @@ opposite_terms_value p (t ∷ ts) (u ∷ us) e =
 
 opposite_values : (p : Point) (r s : Row) → are_opposite r s ≡ true → (r.equal ≡ false) × (s.equal ≡ false) × (value p s.terms ≡ neg_ℤ (value p r.terms))
 opposite_values p r s e =
-    let h = both_true (not (r.equal || s.equal)) (are_opposite_terms r.terms s.terms) e in
-    let k = either_false r.equal s.equal (false-not (r.equal || s.equal) h.0) in
+    let h = and_parts (not (r.equal || s.equal)) (are_opposite_terms r.terms s.terms) e in
+    let k = or_parts r.equal s.equal (not-true (r.equal || s.equal) h.0) in
     (k.0, k.1, opposite_terms_value p r.terms s.terms h.1)
 
 pub at_most : (p : Point) (r : Row) → r.equal ≡ false → Holds p r ↔ (value p r.terms ≤ℤ r.bound)
@@ -272,7 +265,7 @@ round_holds p q is h = merged_holds p (take row_limit (in_form q is)) (take_hold
 
 round_back : (p : Point) (q : Bool) (is : List Item) → (round q is).lost ≡ false → HoldsItems p (round q is).items → HoldsItems p is
 round_back p q is e h =
-    let l = either_false (any_too_big q is) (nat_lt row_limit (length (in_form q is))) e in
+    let l = or_parts (any_too_big q is) (nat_lt row_limit (length (in_form q is))) e in
     in_form_back p q is l.0 (take_back p row_limit (in_form q is) l.1 (merged_back p (take row_limit (in_form q is)) h))
 
 -- ---- step 4
@@ -341,7 +334,7 @@ tidy_turns_hold p (suc n) q is h =
     go : ((js : List Item) → HoldsItems p js → HoldsItems p (tidy_turns n q js).items) → (o : Option Cut) → CutSays (is_to_take (round q is).items) (round q is).items o → HoldsItems p (after_round (λ js. tidy_turns n q js) (round q is) o).items
     go ih None s = round_holds p q is h
     go ih (Some c) s =
-        let e = both_true c.at.row.equal (is_elsewhere (round q is).items (unit_var c.at.row.terms)) s.0 in
+        let e = and_parts c.at.row.equal (is_elsewhere (round q is).items (unit_var c.at.row.terms)) s.0 in
         ih (pivoted (round q is).items c)
         ((taken_same p (next_made (round q is).items) c.at (others c) (unit_var c.at.row.terms) e.0).0 ((s.1 p).0 (round_holds p q is h)))
 
@@ -354,9 +347,9 @@ tidy_turns_back p (suc n) q is l h =
     go : ((js : List Item) → (tidy_turns n q js).lost ≡ false → HoldsItems p (tidy_turns n q js).items → HoldsItems p js) → (o : Option Cut) → CutSays (is_to_take (round q is).items) (round q is).items o → (after_round (λ js. tidy_turns n q js) (round q is) o).lost ≡ false → HoldsItems p (after_round (λ js. tidy_turns n q js) (round q is) o).items → HoldsItems p is
     go ih None s l h = round_back p q is l h
     go ih (Some c) s l h =
-        let e = both_true c.at.row.equal (is_elsewhere (round q is).items (unit_var c.at.row.terms)) s.0 in
+        let e = and_parts c.at.row.equal (is_elsewhere (round q is).items (unit_var c.at.row.terms)) s.0 in
         let js = pivoted (round q is).items c in
-        let k = either_false (round q is).lost (tidy_turns n q js).lost l in
+        let k = or_parts (round q is).lost (tidy_turns n q js).lost l in
         round_back p q is k.0 ((s.1 p).1
         ((taken_same p (next_made (round q is).items) c.at (others c) (unit_var c.at.row.terms) e.0).1 (ih js k.1 h)))
 
@@ -380,5 +373,5 @@ tidy_holds p s h =
 pub tidy_back : (p : Point) (s : System) → (tidy s).weak ≡ false → HoldsAll p (tidy s).rows → HoldsAll p s.rows
 tidy_back p s w h =
     let is = items_from 0 s.rows in
-    let l = either_false s.weak (tidy_items false is).lost w in
+    let l = or_parts s.weak (tidy_items false is).lost w in
     (items_from_same p 0 s.rows).1 (tidy_turns_back p turn_limit false is l.1 ((rows_of_same p (tidy_items false is).items).1 h))

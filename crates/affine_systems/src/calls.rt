@@ -24,9 +24,9 @@ use std::alloc::{AllocError as Memory, Global};
 pub fn tidy(alloc: Global, sys: &System) -> Result<System, Memory>
     requires fits { AllRows IsGiven sys.now.rows }
     ensures defined { IfOk result (λ s. s ≡ tidy_is sys.now) }
-    ensures gives { IfOk result Fits }
-    ensures keeps { IfOk result (KeepsPoints sys.now) }
-    ensures adds_none { IfOk result (AddsNoPoint sys.now) }
+    ensures fits { IfOk result Fits }
+    ensures sound { IfOk result (KeepsPoints sys.now) }
+    ensures no_new_points { IfOk result (AddsNoPoint sys.now) }
 {
     let rows = copy_rows(alloc, sys.rows.as_slice())?;
     tidied(alloc, rows, sys.weak)
@@ -37,9 +37,9 @@ pub fn push_row(alloc: Global, sys: &System, row: &Row) -> Result<System, Memory
     requires fits { Fits sys.now }
     requires row { IsGiven row.now }
     ensures defined { IfOk result (λ s. s ≡ push_row_is sys.now row.now) }
-    ensures gives { IfOk result Fits }
-    ensures keeps { IfOk result (KeepsCommonPoints sys.now.rows (row.now ∷ [])) }
-    ensures adds_none { IfOk result (AddsNoCommonPoint sys.now.rows (row.now ∷ [])) }
+    ensures fits { IfOk result Fits }
+    ensures sound { IfOk result (KeepsCommonPoints sys.now.rows (row.now ∷ [])) }
+    ensures no_new_points { IfOk result (AddsNoCommonPoint sys.now.rows (row.now ∷ [])) }
 {
     let mut rows = copy_rows(alloc, sys.rows.as_slice())?;
     rows.push(copy_row(alloc, row)?)?;
@@ -51,9 +51,9 @@ pub fn meet(alloc: Global, one: &System, other: &System) -> Result<System, Memor
     requires fits { Fits one.now }
     requires other_fits { Fits other.now }
     ensures defined { IfOk result (λ s. s ≡ meet_is one.now other.now) }
-    ensures gives { IfOk result Fits }
-    ensures keeps { IfOk result (KeepsCommonPoints one.now.rows other.now.rows) }
-    ensures adds_none { IfOk result (AddsNoCommonPoint one.now.rows other.now.rows) }
+    ensures fits { IfOk result Fits }
+    ensures sound { IfOk result (KeepsCommonPoints one.now.rows other.now.rows) }
+    ensures no_new_points { IfOk result (AddsNoCommonPoint one.now.rows other.now.rows) }
 {
     let mut rows = copy_rows(alloc, one.rows.as_slice())?;
     let mut more = copy_rows(alloc, other.rows.as_slice())?;
@@ -110,15 +110,15 @@ fn renamed_rows(alloc: Global, rows: &[Row], from: Var, to: Var) -> Result<Vec<R
 pub fn rename(alloc: Global, sys: &System, from: Var, to: Var) -> Result<System, Memory>
     requires fits { Fits sys.now }
     ensures defined { IfOk result (λ s. s ≡ rename_is sys.now from to) }
-    ensures gives { IfOk result Fits }
-    ensures keeps { IfOk result (RenamesPoints from to sys.now) }
-    ensures adds_none { IfOk result (RenamesNoPointMore from to sys.now) }
+    ensures fits { IfOk result Fits }
+    ensures sound { IfOk result (RenamesPoints from to sys.now) }
+    ensures no_new_points { IfOk result (RenamesNoPointMore from to sys.now) }
 {
     let rows = renamed_rows(alloc, sys.rows.as_slice(), from, to)?;
     tidied(alloc, rows, sys.weak)
 }
 
-/// The normal form of a row, or the row where it always or never holds; None where it is too big.
+/// The normal form of a row, or the row itself where it is trivial or infeasible; None where it is too big.
 fn unless_too_big(mut row: Row) -> Option<Row>
     ensures { result ≡ unless_too_big_is (normal false row) row }
 {
@@ -149,9 +149,9 @@ pub fn substitute(alloc: Global, row: &Row, var: Var, by: &Row) -> Result<Option
 pub fn eliminate(alloc: Global, sys: &System, var: Var) -> Result<Elim, Memory>
     requires fits { Fits sys.now }
     ensures defined { IfOk result (λ e. e ≡ eliminate_is sys.now var) }
-    ensures gives { IfOk result (λ e. Fits e.system) }
+    ensures fits { IfOk result (λ e. Fits e.system) }
     ensures gone { IfOk result (λ e. Lacks var e.system.rows) }
-    ensures keeps { IfOk result (ProjectsPoints sys.now var) }
+    ensures sound { IfOk result (ProjectsPoints sys.now var) }
     ensures exact { IfOk result (ExtendsPoints sys.now var) }
 {
     let rows = copy_rows(alloc, sys.rows.as_slice())?;

@@ -16,7 +16,7 @@ use std::alloc::{AllocError as Memory, Global};
 use std::cmp::Ordering;
 
 #[tactic(auto, using(crate::proofs::ElimSteps::has_loop))]
-/// Whether a variable stands in a row.
+/// Whether a variable occurs in a row.
 fn any_has(items: &[Item], v: Var) -> bool
     requires { ItemsSmall items.now }
     ensures { result ≡ any_has_is v items.now }
@@ -268,7 +268,7 @@ pub fn eliminate_item(
 ) -> Result<Eliminated, Memory>
     requires fits { ItemsFit rational items }
     ensures defined { IfOk result (λ e. e ≡ eliminate_item_is rational v items) }
-    ensures gives { IfOk result (λ e. ItemsFit rational e.items) }
+    ensures fits { IfOk result (λ e. ItemsFit rational e.items) }
 {
     if !any_has(items.as_slice(), v) {
         return Ok(Eliminated {

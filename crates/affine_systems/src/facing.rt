@@ -71,7 +71,7 @@ fn faced(alloc: Global, made: u64, item: &Item, items: &[Item]) -> Result<Item, 
 }
 
 #[tactic(auto, using(crate::proofs::ItemSteps::stays_loop))]
-/// Whether an item has no opposite among others, or one that leaves it as it is.
+/// Whether no opposite row bounds the row of an item to an equation or a contradiction.
 fn stays(item: &Item, items: &[Item]) -> bool
     requires one { IsSmallRow item.now.row }
     requires each { ItemsSmall items.now }

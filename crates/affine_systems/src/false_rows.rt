@@ -22,14 +22,14 @@ pub fn false_item(alloc: Global) -> Item
     }
 }
 
-/// Whether it has no terms and never holds.
+/// Whether it is infeasible: no terms, and a bound that 0 does not meet.
 fn is_false_row(row: &Row) -> bool
     ensures { result ≡ is_false_row_is row.now }
 {
     !row.equal && row.terms.is_empty() && row.bound < 0
 }
 
-/// Whether a row never holds.
+/// Whether a row is infeasible.
 pub fn any_false(items: &[Item]) -> bool
     ensures { result ≡ any_false_is items.now }
 {
@@ -73,7 +73,7 @@ pub fn copy_item(alloc: Global, item: &Item) -> Result<Item, Memory>
 /// The least number above those of the items. Memory where fewer than `more` numbers are left from it on: no run makes
 /// 2^64 items.
 pub fn next_made(items: &[Item], more: usize) -> Result<u64, Memory>
-    ensures value { IfOk result (λ n. n ≡ next_made_is items.now) }
+    ensures defined { IfOk result (λ n. n ≡ next_made_is items.now) }
     ensures room { IfOk result (λ n. n + more < 2 ^ 64) }
     ensures no_room { OnErr result (2 ^ 64 ≤ next_made_is items.now + more) }
 {

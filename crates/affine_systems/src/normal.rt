@@ -115,7 +115,7 @@ fn divide(terms: &mut Terms, g: u128)
 }
 
 #[tactic(auto, using(crate::proofs::Factors::negation_small))]
-/// A number with its sign turned.
+/// The number with the opposite sign.
 pub fn turn(z: i128) -> i128
     requires { is_small_number z ≡ true }
     ensures { result ≡ neg_ℤ z }
@@ -123,7 +123,7 @@ pub fn turn(z: i128) -> i128
     -z
 }
 
-/// The factors with their signs turned.
+/// The terms with factors of the opposite sign.
 fn negate(terms: &mut Terms)
     requires { are_small_factors terms.now ≡ true }
     ensures { terms.new ≡ negated_terms terms.old }
@@ -201,7 +201,7 @@ pub fn normalise_as(rational: bool, row: &mut Row) -> Norm
 /// The normal form. The row stays where it is not kept. Takes no memory.
 pub fn normalise(row: &mut Row) -> Norm
     ensures defined { Answers (normal false row.old) result row.old row.new }
-    ensures gives { result ≡ Norm.Kept → Ascends row.old.terms → IsNormal row.new }
+    ensures normal { result ≡ Norm.Kept → Ascends row.old.terms → IsNormal row.new }
 {
     normalise_as(false, row)
 }

@@ -34,7 +34,7 @@ fn unit_var(terms: &[Term]) -> Option<Var>
 }
 
 #[tactic(auto, using(crate::proofs::PivotSteps::times_loop))]
-/// Whether a variable stands in more than one row.
+/// Whether a variable occurs in more than one row.
 fn is_elsewhere(items: &[Item], v: Var) -> bool
     requires { ItemsSmall items.now }
     ensures { result ≡ nat_lt 1 (times v items.now) }
@@ -51,7 +51,7 @@ fn is_elsewhere(items: &[Item], v: Var) -> bool
     false
 }
 
-/// Whether it is an equal row whose pivot stands in another row.
+/// Whether it is an equal row whose pivot occurs in another row.
 fn is_to_take(items: &[Item], item: &Item) -> bool
     requires { ItemsSmall items.now }
     ensures { result ≡ is_to_take_is items.now item.now }
@@ -64,7 +64,7 @@ fn is_to_take(items: &[Item], item: &Item) -> bool
 }
 
 #[tactic(auto, using(crate::proofs::PivotSteps::cut_loop))]
-/// The place of the first equal row whose pivot stands in another row.
+/// The place of the first equal row whose pivot occurs in another row.
 pub fn find_pivot(items: &[Item]) -> Option<usize>
     requires { ItemsSmall items.now }
     ensures { FindsCut (is_to_take_is items.now) items.now result }

@@ -40,7 +40,7 @@ impl Var {
         }
     }
 
-    /// How it stands to another in the order of variables.
+    /// The order of two variables.
     pub fn order(self, other: Var) -> Ordering
         ensures { result ≡ var_cmp self other }
     {
@@ -50,7 +50,7 @@ impl Var {
     }
 
     #[tactic(auto, unfolding(crate::specs::Terms::var_eq))]
-    /// Whether it is another.
+    /// Whether both are the same variable.
     pub fn is_same(self, other: Var) -> bool
         ensures { result ≡ var_eq self other }
     {
@@ -96,7 +96,7 @@ pub struct System {
 
 pub type Vars = List<Var>;
 
-/// What normalising makes of a row: a row, one that always or never holds, or one with too large numbers.
+/// What normalising makes of a row: a row, a trivial or an infeasible one, or one with too large numbers.
 #[derive(Clone, Copy, PartialEq, Eq, Debug)]
 pub enum Norm {
     Kept,

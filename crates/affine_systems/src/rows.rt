@@ -12,13 +12,13 @@ use std::alloc::{AllocError as Memory, Global};
 /// The factor of a variable in a row.
 pub fn factor(row: &Row, v: Var) -> i128
     requires { IsSmallRow row.now }
-    ensures value { result ≡ factor_is v row.now.terms }
+    ensures defined { result ≡ factor_is v row.now.terms }
     ensures small { unsigned_abs result < 2 ^ 62 }
 {
     factor_of(row.terms.as_slice(), v)
 }
 
-/// Whether a variable stands in a row.
+/// Whether a variable occurs in a row.
 pub fn occurs(row: &Row, v: Var) -> bool
     requires { IsSmallRow row.now }
     ensures { result ≡ occurs_is v row.now }

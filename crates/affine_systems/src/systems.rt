@@ -54,9 +54,9 @@ pub fn rows_of(alloc: Global, items: Items) -> Result<Rows, Memory>
 #[tactic(auto, using(crate::proofs::SystemSteps::tidied_system))]
 /// The tidied system of rows.
 pub fn tidied(alloc: Global, rows: Vec<Row>, weak: bool) -> Result<System, Memory>
-    requires given { AllRows IsGiven rows.items }
+    requires fits { AllRows IsGiven rows.items }
     ensures defined { IfOk result (λ s. s ≡ tidy_is (system rows.items weak)) }
-    ensures gives { IfOk result Fits }
+    ensures fits { IfOk result Fits }
 {
     let items = items_of(alloc, rows)?;
     let t = tidy_items(alloc, false, items)?;

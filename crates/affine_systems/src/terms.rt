@@ -28,7 +28,7 @@ pub fn factor_of(terms: &[Term], v: Var) -> i128
 fn scale(p: i128, x: i128) -> i128
     requires factor { unsigned_abs p < 2 ^ 62 }
     requires number { unsigned_abs x < 2 ^ 62 }
-    ensures value { result ≡ p *ℤ x }
+    ensures defined { result ≡ p *ℤ x }
     ensures below { unsigned_abs result ≤ 2 ^ 124 }
 {
     p * x
@@ -40,7 +40,7 @@ pub fn blend(p: i128, x: i128, q: i128, y: i128) -> i128
     requires first { unsigned_abs x < 2 ^ 62 }
     requires two { unsigned_abs q < 2 ^ 62 }
     requires second { unsigned_abs y < 2 ^ 62 }
-    ensures value { result ≡ ((p *ℤ x) +ℤ (q *ℤ y)) }
+    ensures defined { result ≡ ((p *ℤ x) +ℤ (q *ℤ y)) }
     ensures below { unsigned_abs result < 2 ^ 126 }
 {
     scale(p, x) + scale(q, y)

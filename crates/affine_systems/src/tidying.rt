@@ -19,7 +19,7 @@ pub const ROWS: usize = 512;
 /// More pivots than any system takes: each raises that of some row, and 512 rows have at most 2^34 variables.
 const TURNS: u64 = 1 << 44;
 
-/// Normal rows, and whether one was too big. A row that always holds is dropped, one that never holds becomes 0 <= -1.
+/// Normal rows, and whether one was too big. A trivial row is dropped, an infeasible one becomes 0 <= -1.
 fn normal_items(
     alloc: Global,
     rational: bool,
@@ -74,11 +74,11 @@ fn round(alloc: Global, rational: bool, items: Vec<Item>) -> Result<(Vec<Item>, 
     Ok((merge(alloc, items)?, lost))
 }
 
-/// Rounds until no pivot of an equal row stands in another row. Rational rows are never rounded.
+/// Rounds until no pivot of an equal row occurs in another row. Rational rows are never rounded.
 pub fn tidy_items(alloc: Global, rational: bool, items: Items) -> Result<Tidied, Memory>
-    requires given { ItemsGiven items }
+    requires fits { ItemsGiven items }
     ensures defined { IfOk result (λ t. t ≡ tidy_items_is rational items) }
-    ensures gives { IfOk result (λ t. ItemsFit rational t.items) }
+    ensures fits { IfOk result (λ t. ItemsFit rational t.items) }
 {
     let mut items = items.into_vec();
     let mut lost = false;

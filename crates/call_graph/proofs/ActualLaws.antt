@@ -6,22 +6,22 @@ use Rattle.f77_symbols.specs.declared.symbol.Symbol.{Symbol}
 use Rattle.f77_symbols.specs.Symbols.{SymbolTree, number_from, symbol_tree}
 use Rattle.f77_symbols.specs.Shared.{numbered}
 use Rattle.f77_symbols.specs.Index.{names_of}
-use Rattle.call_graph.specs.Actuals.{named}
+use Rattle.call_graph.specs.Actuals.{symbol_with_name}
 
 -- a name without a number has no symbol
-pub named-none : (n : ℕ) (ss : List Symbol) (x : List ℕ) → number_from n (names_of ss) x ≡ None → named (map symbol_tree ss) x ≡ None
+pub named-none : (n : ℕ) (ss : List Symbol) (x : List ℕ) → number_from n (names_of ss) x ≡ None → symbol_with_name (map symbol_tree ss) x ≡ None
 named-none n [] x e = refl
 named-none n (s ∷ ss) x e = go (bytes_eq x s.name) e (named-none (suc n) ss x)
   where
-    go : (b : Bool) → (if b then Some n else number_from (suc n) (names_of ss) x) ≡ None → (number_from (suc n) (names_of ss) x ≡ None → named (map symbol_tree ss) x ≡ None) → (if b then Some (symbol_tree s) else named (map symbol_tree ss) x) ≡ None
+    go : (b : Bool) → (if b then Some n else number_from (suc n) (names_of ss) x) ≡ None → (number_from (suc n) (names_of ss) x ≡ None → symbol_with_name (map symbol_tree ss) x ≡ None) → (if b then Some (symbol_tree s) else symbol_with_name (map symbol_tree ss) x) ≡ None
     go true q ih = cc
     go false q ih = ih q
 
-named-from : (n k : ℕ) (ss : List Symbol) (x : List ℕ) → number_from n (names_of ss) x ≡ Some k → (n ≤ k) × (named (map symbol_tree ss) x ≡ option_map symbol_tree (slice_get ss (k - n)))
+named-from : (n k : ℕ) (ss : List Symbol) (x : List ℕ) → number_from n (names_of ss) x ≡ Some k → (n ≤ k) × (symbol_with_name (map symbol_tree ss) x ≡ option_map symbol_tree (slice_get ss (k - n)))
 named-from n k [] x e = cc
 named-from n k (s ∷ ss) x e = go (bytes_eq x s.name) e (named-from (suc n) k ss x)
   where
-    go : (b : Bool) → (if b then Some n else number_from (suc n) (names_of ss) x) ≡ Some k → (number_from (suc n) (names_of ss) x ≡ Some k → (suc n ≤ k) × (named (map symbol_tree ss) x ≡ option_map symbol_tree (slice_get ss (k - suc n)))) → (n ≤ k) × ((if b then Some (symbol_tree s) else named (map symbol_tree ss) x) ≡ option_map symbol_tree (slice_get (s ∷ ss) (k - n)))
+    go : (b : Bool) → (if b then Some n else number_from (suc n) (names_of ss) x) ≡ Some k → (number_from (suc n) (names_of ss) x ≡ Some k → (suc n ≤ k) × (symbol_with_name (map symbol_tree ss) x ≡ option_map symbol_tree (slice_get ss (k - suc n)))) → (n ≤ k) × ((if b then Some (symbol_tree s) else symbol_with_name (map symbol_tree ss) x) ≡ option_map symbol_tree (slice_get (s ∷ ss) (k - n)))
     go true q ih =
         let same : n ≡ k = cc in
         let z : k - n ≡ zero = omega arith in
@@ -38,7 +38,7 @@ one_up k ss h = go (nat_eq k 0) refl
     go true e = absurd (omega (arith, eqb-true k 0 e))
     go false e = refl
 
-pub named-numbered : (k : ℕ) (ss : List Symbol) (x : List ℕ) → number_from 1 (names_of ss) x ≡ Some k → option_map symbol_tree (numbered ss k) ≡ named (map symbol_tree ss) x
+pub named-numbered : (k : ℕ) (ss : List Symbol) (x : List ℕ) → number_from 1 (names_of ss) x ≡ Some k → option_map symbol_tree (numbered ss k) ≡ symbol_with_name (map symbol_tree ss) x
 named-numbered k ss x e =
     let found = named-from 1 k ss x e in
     ap (option_map symbol_tree) (sym (one_up k ss found.0)) ∙ sym found.1

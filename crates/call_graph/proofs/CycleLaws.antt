@@ -37,10 +37,6 @@ linked-fault ps sss g e =
 
 -- ---- tests
 
-or-false : (a b : Bool) → (a || b) ≡ false → (a ≡ false) × (b ≡ false)
-or-false true b e = cc
-or-false false b e = (refl, e)
-
 -- a place that was put is the new one or was there
 holds-put : (m : ℕ) (ks : List ℕ) (c : ℕ) → holds (place_put m ks) c ≡ true → (holds ks c ≡ true) ⊎ (m ≡ c)
 holds-put m ks c e = go (list_any (λ k. nat_eq k m) ks) e

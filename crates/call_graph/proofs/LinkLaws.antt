@@ -6,11 +6,10 @@ use Rattle.f77_ast.specs.DeclTrees.{ParsedTree}
 use Rattle.f77_symbols.specs.Symbols.{SymbolTree}
 use Rattle.call_graph.specs.declared.calls.Called.{Called}
 use Rattle.call_graph.specs.declared.graph.Graph.{Graph}
-use Rattle.call_graph.specs.declared.refusal.Cause.{Cause}
 use Rattle.call_graph.specs.declared.refusal.Fault.{Fault}
 use Rattle.call_graph.specs.declared.refusal.Fault.TheVariants as fault
 use Rattle.call_graph.specs.declared.refusal.LinkRefusal.{LinkRefusal}
-use Rattle.call_graph.specs.Faults.{number_of, refusal_of, or_fault, unless, IsAt, Gives}
+use Rattle.call_graph.specs.Faults.{refusal_of, or_fault, unless, IsAt, Gives}
 use Rattle.call_graph.specs.Modules.{too_many_at, too_many}
 use Rattle.call_graph.specs.Calls.{all_calls}
 use Rattle.call_graph.specs.Callees.{all_places}

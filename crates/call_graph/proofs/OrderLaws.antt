@@ -2,7 +2,7 @@
 use Rattle.std.proofs.Common.{◌≡◌, ℕ, zero, suc, ◌+◌, ◌-◌, ◌<◌, ◌≤◌, Bool, true, false, not, ◌&&◌, ◌||◌, ◌⊎◌, inl, inr, List, [], ◌∷◌, ◌++◌, length, get_or, Option, Some, None, refl, sym, ap, ◌∙◌, subst, arith}
 use Rattle.std.specs.Prelude.{nat_eq, nat_lt, if◌then◌else◌}
 use Rattle.std.specs.List.{list_any, list_all}
-use Rattle.std.proofs.lemmas.Bool.{eqb-true}
+use Rattle.std.proofs.lemmas.Bool.{eqb-true, and_parts, not-true, or_left, or_right}
 use Rattle.std.proofs.lemmas.Bool.Decides.{nat_tests}
 use Rattle.call_graph.specs.Recursion.{callees_at, leads, reaches}
 use Rattle.call_graph.specs.Order.{holds, ready, first_ready, with_next, order_from, order_of}
@@ -19,22 +19,6 @@ order_end r n css done h = let e : n - r ≡ zero = omega arith in rw e refl
 pub ruleset order_steps = (order_step, order_end)
 
 -- ---- tests
-
-both : (a b : Bool) → (a && b) ≡ true → (a ≡ true) × (b ≡ true)
-both true b e = (refl, e)
-both false b e = cc
-
-turned : (a : Bool) → not a ≡ true → a ≡ false
-turned true e = cc
-turned false e = refl
-
-either : (a b : Bool) → a ≡ true → (a || b) ≡ true
-either true b e = refl
-either false b e = cc
-
-other : (a b : Bool) → b ≡ true → (a || b) ≡ true
-other true b e = refl
-other false b e = e
 
 or_mono : (a b c : Bool) → (b ≡ true → c ≡ true) → (a || b) ≡ true → (a || c) ≡ true
 or_mono true b c h e = refl
@@ -99,8 +83,8 @@ bottom_up-next css done up (Some m) e =
     let r = first-ready 0 m css done e in
     let z : r.0 ≡ m = omega (arith, r.1) in
     let test : ready done m (get_or css m []) ≡ true = subst (λ i. ready done m (get_or css i []) ≡ true) z r.3 in
-    let parts = both (not (holds done m)) (list_all (λ c. holds done c) (get_or css m [])) test in
-    bottom_up-more css done m up (turned (holds done m) parts.0) parts.1
+    let parts = and_parts (not (holds done m)) (list_all (λ c. holds done c) (get_or css m [])) test in
+    bottom_up-more css done m up (not-true (holds done m) parts.0) parts.1
 
 bottom_up-from : (t : ℕ) (css : List (List ℕ)) (done : List ℕ) → IsBottomUp css done → IsBottomUp css (order_from t css done)
 bottom_up-from zero css done up = up
@@ -164,8 +148,8 @@ any_mono f g [] h e = cc
 any_mono f g (x ∷ xs) h e = go (f x) refl e (any_mono f g xs h)
   where
     go : (b : Bool) → f x ≡ b → (b || list_any f xs) ≡ true → (list_any f xs ≡ true → list_any g xs ≡ true) → (g x || list_any g xs) ≡ true
-    go true q r ih = either (g x) (list_any g xs) (h x q)
-    go false q r ih = other (g x) (list_any g xs) (ih r)
+    go true q r ih = or_left (g x) (list_any g xs) (h x q)
+    go false q r ih = or_right (g x) (list_any g xs) (ih r)
 
 any_has : (f : ℕ → Bool) (xs : List ℕ) (c : ℕ) → holds xs c ≡ true → f c ≡ true → list_any f xs ≡ true
 any_has f xs c e y = any_mono (λ m. nat_eq m c) f xs (λ m q. subst (λ j. f j ≡ true) (sym (eqb-true m c q)) y) e
@@ -177,21 +161,21 @@ all_fails f (x ∷ xs) e = go (f x) refl e (all_fails f xs)
     go : (b : Bool) → f x ≡ b → (b && list_all f xs) ≡ false → (list_all f xs ≡ false → (d : ℕ) × (holds xs d ≡ true) × (f d ≡ false)) → (c : ℕ) × ((nat_eq x c || holds xs c) ≡ true) × (f c ≡ false)
     go true q r ih =
         let later = ih r in
-        (later.0, other (nat_eq x later.0) (holds xs later.0) later.1, later.2)
-    go false q r ih = (x, either (nat_eq x x) (holds xs x) (same_number x), q)
+        (later.0, or_right (nat_eq x later.0) (holds xs later.0) later.1, later.2)
+    go false q r ih = (x, or_left (nat_eq x x) (holds xs x) (same_number x), q)
 
 holds-more : (xs : List ℕ) (k j : ℕ) → holds xs j ≡ true → holds (xs ++ k ∷ []) j ≡ true
 holds-more [] k j e = cc
 holds-more (x ∷ xs) k j e = or_mono (nat_eq x j) (holds xs j) (holds (xs ++ k ∷ []) j) (holds-more xs k j) e
 
 holds-last : (xs : List ℕ) (k : ℕ) → holds (xs ++ k ∷ []) k ≡ true
-holds-last [] k = either (nat_eq k k) false (same_number k)
-holds-last (x ∷ xs) k = other (nat_eq x k) (holds (xs ++ k ∷ []) k) (holds-last xs k)
+holds-last [] k = or_left (nat_eq k k) false (same_number k)
+holds-last (x ∷ xs) k = or_right (nat_eq x k) (holds (xs ++ k ∷ []) k) (holds-last xs k)
 
 -- ---- leading
 
 leads-here : (t : ℕ) (css : List (List ℕ)) (x : ℕ) → leads (suc t) css x x ≡ true
-leads-here t css x = either (nat_eq x x) (list_any (λ c. leads t css c x) (callees_at css x)) (same_number x)
+leads-here t css x = or_left (nat_eq x x) (list_any (λ c. leads t css c x) (callees_at css x)) (same_number x)
 
 leads-more : (t : ℕ) (css : List (List ℕ)) (x y : ℕ) → leads t css x y ≡ true → leads (suc t) css x y ≡ true
 leads-more zero css x y e = cc
@@ -218,9 +202,9 @@ leads-step (suc t) css x h c called e = go (nat_eq x h) refl e (λ z. leads-step
     go true q r ih =
         let same : h ≡ x = sym (eqb-true x h q) in
         let here : holds (callees_at css x) c ≡ true = subst (λ m. holds (callees_at css m) c ≡ true) same called in
-        other (nat_eq x c) (list_any (λ z. leads (suc t) css z c) (callees_at css x)) (any_has (λ z. leads (suc t) css z c) (callees_at css x) c here (leads-here t css c))
+        or_right (nat_eq x c) (list_any (λ z. leads (suc t) css z c) (callees_at css x)) (any_has (λ z. leads (suc t) css z c) (callees_at css x) c here (leads-here t css c))
     go false q r ih =
-        other (nat_eq x c) (list_any (λ z. leads (suc t) css z c) (callees_at css x))
+        or_right (nat_eq x c) (list_any (λ z. leads (suc t) css z c) (callees_at css x))
         (any_mono (λ z. leads t css z h) (λ z. leads (suc t) css z c) (callees_at css x) ih r)
 
 -- ---- nothing is missing
@@ -249,7 +233,7 @@ module _ (css : List (List ℕ)) (done : List ℕ) (modules : AreModules css) (n
       no_both (reaches css c h) (leads-le (length w) (length css) css c h (omega (arith, room)) (leading c e)) (never h c lt called)
   further w h c lt called is leading room on false e =
       on (λ x q. came w h c x called leading (nat_eq c x) refl q)
-      (missing-less (length css) c (holds w) (holds (c ∷ w)) (λ j q. other (nat_eq c j) (holds w j) q) is e (either (nat_eq c c) (holds w c) (same_number c)))
+      (missing-less (length css) c (holds w) (holds (c ∷ w)) (λ j q. or_right (nat_eq c j) (holds w j) q) is e (or_left (nat_eq c c) (holds w c) (same_number c)))
 
   -- each module of the walk leads to its last
   walk : (fuel : ℕ) (w : List ℕ) (h : ℕ) → h < length css → holds done h ≡ false → ((x : ℕ) → holds w x ≡ true → leads (length w) css x h ≡ true) → length w + missing (length css) (holds w) ≤ length css → missing (length css) (holds w) ≤ fuel → ⊥
@@ -273,7 +257,7 @@ module _ (css : List (List ℕ)) (done : List ℕ) (modules : AreModules css) (n
       go : (b : Bool) → holds done k ≡ b → (m : ℕ) → m < length css → holds done k ≡ true
       go true e m h = e
       go false e m h =
-          let less = missing-less (length css) k (λ j. false) (holds (k ∷ [])) (λ j q. absurd (no_both false q refl)) lt refl (either (nat_eq k k) false (same_number k)) in
+          let less = missing-less (length css) k (λ j. false) (holds (k ∷ [])) (λ j q. absurd (no_both false q refl)) lt refl (or_left (nat_eq k k) false (same_number k)) in
           absurd
           (walk (missing (length css) (holds (k ∷ []))) (k ∷ []) k lt e (λ x q. start k x (nat_eq k x) refl q) (omega (arith, less, missing-le (length css))) (omega arith))
 
@@ -292,7 +276,7 @@ whole-from (suc t) css done modules never left k lt =
     go (Some m) e ih =
         let r = first-ready 0 m css done e in
         let is : m < length css = omega (arith, r.1, r.2) in
-        let new : holds done m ≡ false = turned (holds done m) (both (not (holds done m)) (list_all (λ c. holds done c) (get_or css r.0 [])) r.3).0 in
+        let new : holds done m ≡ false = not-true (holds done m) (and_parts (not (holds done m)) (list_all (λ c. holds done c) (get_or css r.0 [])) r.3).0 in
         ih (done ++ m ∷ [])
         (omega (arith, left, missing-less (length css) m (holds done) (holds (done ++ m ∷ [])) (λ j q. holds-more done m j q) is new (holds-last done m)))
 

@@ -17,9 +17,9 @@ use Rattle.call_graph.specs.declared.actuals.Offer.TheVariants.{Array, Element, 
 use Rattle.call_graph.specs.declared.actuals.Actual.{Actual}
 
 -- the first symbol of a name
-abbrev pub named : List SymbolTree → List ℕ → Option SymbolTree
-named [] x = None
-named (s ∷ ss) x = if bytes_eq x s.name then Some s else named ss x
+abbrev pub symbol_with_name : List SymbolTree → List ℕ → Option SymbolTree
+symbol_with_name [] x = None
+symbol_with_name (s ∷ ss) x = if bytes_eq x s.name then Some s else symbol_with_name ss x
 
 -- ---- types
 
@@ -62,8 +62,8 @@ binary_type binary_op.Neqv = Log
 abbrev pub type_of : ExprTree → List SymbolTree → Scalar
 type_of (tree.int n) ss = Int
 type_of (tree.log b) ss = Log
-type_of (tree.name x) ss = type_of_symbol (named ss x)
-type_of (tree.element x es) ss = element_type (named ss x)
+type_of (tree.name x) ss = type_of_symbol (symbol_with_name ss x)
+type_of (tree.element x es) ss = element_type (symbol_with_name ss x)
 type_of (tree.paren e) ss = type_of e ss
 type_of (tree.unary o e) ss = unary_type o
 type_of (tree.binary o a b) ss = binary_type o
@@ -89,8 +89,8 @@ element_offer s = if is_array s then Element else Value
 abbrev pub offer_of : ExprTree → List SymbolTree → Offer
 offer_of (tree.int n) ss = Value
 offer_of (tree.log b) ss = Value
-offer_of (tree.name x) ss = name_offer (named ss x)
-offer_of (tree.element x es) ss = element_offer (named ss x)
+offer_of (tree.name x) ss = name_offer (symbol_with_name ss x)
+offer_of (tree.element x es) ss = element_offer (symbol_with_name ss x)
 offer_of (tree.paren e) ss = Value
 offer_of (tree.unary o e) ss = Value
 offer_of (tree.binary o a b) ss = Value

@@ -6,7 +6,7 @@ use Rattle.std.specs.Cmp.Lexicographic.{slice_cmp}
 use Rattle.f77_symbols.specs.declared.symbol.Place.{Place}
 use Rattle.f77_symbols.specs.declared.symbol.Place.TheVariants.{Local, Dummy, Block as Common, Constant}
 use Rattle.f77_symbols.specs.Symbols.{SymbolTree}
-use Rattle.f77_symbols.specs.Units.{capped, units_in}
+use Rattle.f77_symbols.specs.Units.{units_in}
 pub use Rattle.tracked_cells.specs.Scalars.{name_cmp}
 use Rattle.call_graph.specs.declared.graph.Block.{Block}
 
@@ -27,11 +27,11 @@ block_put x n (b ∷ bs) = match_ordering (name_cmp x b.name) (block x n ∷ b �
 abbrev pub block_grown : List ℕ → ℕ → List Block → List Block
 block_grown x n bs = block_put x (max (known_size x bs) n) bs
 
--- a block reaches to the end of each variable that lies in it, in 64 bits
+-- a block reaches to the end of each variable that lies in it
 abbrev pub place_grown : Place → ℕ → List Block → List Block
 place_grown (Local g o) n bs = bs
 place_grown (Dummy m) n bs = bs
-place_grown (Common x o) n bs = block_grown x (capped (o + n)) bs
+place_grown (Common x o) n bs = block_grown x (o + n) bs
 place_grown (Constant m) n bs = bs
 
 -- the blocks so far and those of these symbols, of a table with these symbols

@@ -5,8 +5,8 @@ use Rattle.f77_ast.specs.DeclTrees.{ModuleTree, ParsedTree}
 use Rattle.f77_symbols.specs.Symbols.{SymbolTree, number_from}
 use Rattle.call_graph.specs.declared.calls.Called.{Called}
 use Rattle.call_graph.specs.declared.graph.Edge.{Edge}
-use Rattle.call_graph.specs.declared.refusal.Cause.{Cause}
-use Rattle.call_graph.specs.declared.refusal.Cause.TheVariants.{NoSuchModule, ArgumentCount, ArgumentType}
+use Rattle.refusal_codes.specs.declared.code.Code.{Code}
+use Rattle.refusal_codes.specs.declared.code.Code.TheVariants.{NoSuchModule, ArgumentCount, ArgumentType}
 use Rattle.call_graph.specs.declared.refusal.Fault.{Fault}
 use Rattle.call_graph.specs.declared.refusal.Fault.TheVariants as fault
 use Rattle.call_graph.specs.Modules.{statement_line}
@@ -15,36 +15,36 @@ use Rattle.call_graph.specs.Actuals.{all_fit}
 -- ---- what is wrong with a CALL
 
 -- the callee is a main program, or has another number of dummies, or a dummy does not take its actual
-abbrev pub against : Called → ModuleTree → List SymbolTree → Option Cause
+abbrev pub against : Called → ModuleTree → List SymbolTree → Option Code
 against c m ss =
     if m.main then Some NoSuchModule
     else if not (nat_eq (length c.actuals) (length m.dummies)) then Some ArgumentCount
     else if all_fit c.actuals ss then None
     else Some ArgumentType
 
-abbrev pub against_found : Called → Option ParsedTree → Option (List SymbolTree) → Option Cause
+abbrev pub against_found : Called → Option ParsedTree → Option (List SymbolTree) → Option Code
 against_found c None ss = Some NoSuchModule
 against_found c (Some p) None = Some NoSuchModule
 against_found c (Some p) (Some ss) = against c p.module_read ss
 
-abbrev pub against_at : Called → Option ℕ → List ParsedTree → List (List SymbolTree) → Option Cause
+abbrev pub against_at : Called → Option ℕ → List ParsedTree → List (List SymbolTree) → Option Code
 against_at c None ps sss = Some NoSuchModule
 against_at c (Some k) ps sss = against_found c (slice_get ps k) (slice_get sss k)
 
 -- no module has the name, or the one that has it is not called so
-abbrev pub call_cause : Called → List (List ℕ) → List ParsedTree → List (List SymbolTree) → Option Cause
+abbrev pub call_cause : Called → List (List ℕ) → List ParsedTree → List (List SymbolTree) → Option Code
 call_cause c names ps sss = against_at c (number_from 0 names c.callee) ps sss
 
-abbrev pub or_later : ℕ → Option Cause → Option (ℕ × Cause) → Option (ℕ × Cause)
+abbrev pub or_later : ℕ → Option Code → Option (ℕ × Code) → Option (ℕ × Code)
 or_later n None later = later
 or_later n (Some cause) later = Some (n, cause)
 
 -- the number of the first CALL that does not fit, and why
-abbrev pub first_in : List Called → List (List ℕ) → List ParsedTree → List (List SymbolTree) → Option (ℕ × Cause)
+abbrev pub first_in : List Called → List (List ℕ) → List ParsedTree → List (List SymbolTree) → Option (ℕ × Code)
 first_in [] names ps sss = None
 first_in (c ∷ cs) names ps sss = or_later c.at (call_cause c names ps sss) (first_in cs names ps sss)
 
-abbrev pub unfit_at : ℕ → ParsedTree → Option (ℕ × Cause) → Option Fault → Option Fault
+abbrev pub unfit_at : ℕ → ParsedTree → Option (ℕ × Code) → Option Fault → Option Fault
 unfit_at k p None later = later
 unfit_at k p (Some (n, cause)) later = Some (fault.At k (statement_line n p.places.spots) cause)
 

@@ -4,7 +4,7 @@ ghost use Rattle.std.specs.Option.{option_copied, option_map};
 ghost use Rattle.f77_ast.specs.Plain.{expr_tree, expr_trees};
 ghost use Rattle.f77_symbols.specs.Symbols.{symbol_tree};
 ghost use Rattle.tracked_cells.specs.Standing.{has_bounds};
-ghost use Rattle.call_graph.specs.Actuals.{named, type_of_symbol, is_array, element_type, binary_type, unary_type, type_of, name_offer, offer_of, actual_of, actuals_of, fits, is_scalar_of, suits, all_fit};
+ghost use Rattle.call_graph.specs.Actuals.{symbol_with_name, type_of_symbol, is_array, element_type, binary_type, unary_type, type_of, name_offer, offer_of, actual_of, actuals_of, fits, is_scalar_of, suits, all_fit};
 
 use f77_ast::{BinaryOp, Expr, Scalar, UnaryOp};
 use f77_symbols::{Place, Symbol, Symbols};
@@ -29,8 +29,8 @@ pub struct Actual {
 }
 
 /// The symbol of a name.
-fn named<'a>(symbols: &'a Symbols, name: &Text) -> Option<&'a Symbol>
-    ensures { option_map symbol_tree (option_copied result) ≡ named (map symbol_tree symbols.now) name.now }
+fn symbol_with_name<'a>(symbols: &'a Symbols, name: &Text) -> Option<&'a Symbol>
+    ensures { option_map symbol_tree (option_copied result) ≡ symbol_with_name (map symbol_tree symbols.now) name.now }
 {
     match symbols.number(name) {
         None => None,
@@ -39,18 +39,18 @@ fn named<'a>(symbols: &'a Symbols, name: &Text) -> Option<&'a Symbol>
 }
 
 fn type_of_name(symbols: &Symbols, name: &Text) -> Scalar
-    ensures { result ≡ type_of_symbol (named (map symbol_tree symbols.now) name.now) }
+    ensures { result ≡ type_of_symbol (symbol_with_name (map symbol_tree symbols.now) name.now) }
 {
-    match named(symbols, name) {
+    match symbol_with_name(symbols, name) {
         None => Scalar::Int,
         Some(symbol) => symbol.scalar,
     }
 }
 
 fn is_array(symbols: &Symbols, name: &Text) -> bool
-    ensures { result ≡ is_array (named (map symbol_tree symbols.now) name.now) }
+    ensures { result ≡ is_array (symbol_with_name (map symbol_tree symbols.now) name.now) }
 {
-    match named(symbols, name) {
+    match symbol_with_name(symbols, name) {
         None => false,
         Some(symbol) => has_bounds(symbol),
     }
@@ -80,7 +80,7 @@ fn binary_type(op: BinaryOp) -> Scalar
 
 /// The type of an array element, or of the value of an intrinsic function.
 fn element_type(symbols: &Symbols, name: &Text) -> Scalar
-    ensures { result ≡ element_type (named (map symbol_tree symbols.now) name.now) }
+    ensures { result ≡ element_type (symbol_with_name (map symbol_tree symbols.now) name.now) }
 {
     if is_array(symbols, name) {
         type_of_name(symbols, name)
@@ -107,9 +107,9 @@ fn type_of(symbols: &Symbols, e: &Expr) -> Scalar
 
 /// What a bare name offers.
 fn name_offer(symbols: &Symbols, name: &Text) -> Offer
-    ensures { result ≡ name_offer (named (map symbol_tree symbols.now) name.now) }
+    ensures { result ≡ name_offer (symbol_with_name (map symbol_tree symbols.now) name.now) }
 {
-    match named(symbols, name) {
+    match symbol_with_name(symbols, name) {
         None => Offer::Value,
         Some(symbol) => {
             if has_bounds(symbol) {
@@ -165,7 +165,7 @@ pub fn actuals_of(alloc: Global, symbols: &Symbols, es: &List<Expr>) -> Result<L
     Ok(actuals)
 }
 
-fn same(a: Scalar, b: Scalar) -> bool
+fn same_type(a: Scalar, b: Scalar) -> bool
     ensures { result ≡ is_scalar_of a b }
 {
     match (a, b) {
@@ -189,7 +189,7 @@ fn suits(offer: Offer, array: bool) -> bool
 fn fits(actual: Actual, dummy: &Symbol) -> bool
     ensures { result ≡ fits actual (symbol_tree dummy.now) }
 {
-    same(actual.scalar, dummy.scalar) && suits(actual.offer, has_bounds(dummy))
+    same_type(actual.scalar, dummy.scalar) && suits(actual.offer, has_bounds(dummy))
 }
 
 /// Whether each actual fits the symbol at its place.

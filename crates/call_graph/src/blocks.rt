@@ -1,5 +1,5 @@
 //! The COMMON blocks of a program and their sizes.
-ghost use Rattle.std.specs.Prelude.{◌≡◌, [], map, IfOk};
+ghost use Rattle.std.specs.Prelude.{◌≡◌, ◌+◌, [], map, IfOk};
 ghost use Rattle.f77_symbols.specs.Symbols.{symbol_tree};
 ghost use Rattle.f77_symbols.specs.Units.{units_in};
 ghost use Rattle.call_graph.specs.Blocks.{block_grown, place_grown, symbols_grown, tables_grown, blocks_of};
@@ -24,16 +24,17 @@ fn grow(sizes: &mut Sizes, alloc: Global, name: &Text, size: u64) -> Result<(), 
     Ok(())
 }
 
-/// A block reaches to the end of a variable that lies in it.
-fn add_place(sizes: &mut Sizes, alloc: Global, place: &Place, units: u64) -> Result<(), Memory>
-    ensures { IfOk result (λ _. sized sizes.new ≡ place_grown place.now units (sized sizes.old)) }
+/// How far a variable reaches that begins at an offset.
+fn end_of(table: &Symbols, symbol: &Symbol, offset: u64) -> Result<u64, Memory>
+    ensures { IfOk result (λ n. n ≡ offset + units_in (map symbol_tree table.now) (symbol_tree symbol.now)) }
 {
-    match place {
-        Place::Block(name, offset) => grow(sizes, alloc, name, offset.saturating_add(units)),
-        Place::Local(..) | Place::Dummy(_) | Place::Constant(_) => Ok(()),
+    match units_of(table, symbol) {
+        None => Err(Memory),
+        Some(units) => offset.checked_add(units).ok_or(Memory),
     }
 }
 
+/// A block reaches to the end of a variable that lies in it.
 fn add_symbol(
     sizes: &mut Sizes,
     alloc: Global,
@@ -42,7 +43,10 @@ fn add_symbol(
 ) -> Result<(), Memory>
     ensures { IfOk result (λ _. sized sizes.new ≡ place_grown symbol.now.place (units_in (map symbol_tree table.now) (symbol_tree symbol.now)) (sized sizes.old)) }
 {
-    add_place(sizes, alloc, &symbol.place, units_of(table, symbol))
+    match &symbol.place {
+        Place::Block(name, offset) => grow(sizes, alloc, name, end_of(table, symbol, *offset)?),
+        Place::Local(..) | Place::Dummy(_) | Place::Constant(_) => Ok(()),
+    }
 }
 
 fn add_table(sizes: &mut Sizes, alloc: Global, table: &Symbols) -> Result<(), Memory>
@@ -69,7 +73,7 @@ fn sizes_of(alloc: Global, tables: &List<Symbols>) -> Result<Sizes, Memory>
 }
 
 /// The blocks of these entries.
-fn listed(alloc: Global, entries: &[(Vec<u8>, u64)]) -> Result<List<Block>, Memory>
+fn block_list(alloc: Global, entries: &[(Vec<u8>, u64)]) -> Result<List<Block>, Memory>
     ensures { IfOk result (λ blocks. blocks ≡ map entry_block entries.now) }
 {
     let mut blocks = List::new(alloc);
@@ -84,11 +88,12 @@ fn listed(alloc: Global, entries: &[(Vec<u8>, u64)]) -> Result<List<Block>, Memo
     Ok(blocks)
 }
 
-/// The blocks in the order of their names, each with the largest size that a module gives it.
+/// The blocks in the order of their names, each with the largest size that a module gives it. It fails as without memory where a
+/// block has 2^64 units or more.
 pub fn blocks_of(alloc: Global, tables: &List<Symbols>) -> Result<List<Block>, Memory>
     ensures { IfOk result (λ blocks. blocks ≡ blocks_of (map (map symbol_tree) tables.now)) }
 {
     let sizes = sizes_of(alloc, tables)?;
     let entries: Vec<(Vec<u8>, u64)> = sizes.into_iter().collect(alloc)?;
-    listed(alloc, entries.as_slice())
+    block_list(alloc, entries.as_slice())
 }

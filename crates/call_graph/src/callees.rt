@@ -9,27 +9,28 @@ use crate::calls::{Called, Calls};
 use crate::graph::Edge;
 use crate::modules::statement_line;
 use crate::order::holds;
-use crate::refusal::{Cause, Fault};
+use crate::refusal::Fault;
 use f77_ast::{Module, Parsed, StmtId};
 use f77_symbols::Symbols;
 use fx_lists::{List, Text};
+use refusal_codes::Code;
 use std::alloc::{AllocError as Memory, Global};
 use tracked_cells::Names;
 
 /// Why a CALL of this module, with this table, does not fit.
-fn against(call: &Called, callee: &Module, table: &Symbols) -> Option<Cause>
+fn against(call: &Called, callee: &Module, table: &Symbols) -> Option<Code>
     ensures { result ≡ against call.now (module_tree callee.now) (map symbol_tree table.now) }
 {
     if callee.main {
-        return Some(Cause::NoSuchModule);
+        return Some(Code::NoSuchModule);
     }
     if call.actuals.len() != callee.dummies.len() {
-        return Some(Cause::ArgumentCount);
+        return Some(Code::ArgumentCount);
     }
     if all_fit(call.actuals.as_slice(), table.as_slice()) {
         None
     } else {
-        Some(Cause::ArgumentType)
+        Some(Code::ArgumentType)
     }
 }
 
@@ -39,15 +40,15 @@ fn call_cause(
     names: &Names,
     modules: &List<Parsed>,
     tables: &List<Symbols>,
-) -> Option<Cause>
+) -> Option<Code>
     ensures { result ≡ call_cause call.now names.now (map parsed_tree modules.now) (map (map symbol_tree) tables.now) }
 {
     let Some(place) = names.place(&call.callee) else {
-        return Some(Cause::NoSuchModule);
+        return Some(Code::NoSuchModule);
     };
     match (modules.get(place as usize), tables.get(place as usize)) {
         (Some(callee), Some(table)) => against(call, &callee.module, table),
-        _ => Some(Cause::NoSuchModule),
+        _ => Some(Code::NoSuchModule),
     }
 }
 
@@ -57,7 +58,7 @@ fn first_in(
     names: &Names,
     modules: &List<Parsed>,
     tables: &List<Symbols>,
-) -> Option<(StmtId, Cause)>
+) -> Option<(StmtId, Code)>
     ensures { result ≡ first_in calls.now names.now (map parsed_tree modules.now) (map (map symbol_tree) tables.now) }
 {
     let mut rest = calls.as_slice();

@@ -59,7 +59,7 @@ fn graph_of(
 }
 
 /// Links modules whose CALLs fit.
-fn acyclic(
+fn link_fitting(
     alloc: Global,
     modules: &List<Parsed>,
     tables: &List<Symbols>,
@@ -83,7 +83,7 @@ fn acyclic(
 }
 
 /// Links modules that are few, have different names, and one main program.
-fn joined(
+fn link_distinct(
     alloc: Global,
     modules: &List<Parsed>,
     tables: &List<Symbols>,
@@ -96,12 +96,12 @@ fn joined(
     let calls = all_calls(alloc, modules, tables)?;
     match unfit(&calls, names, modules, tables) {
         Some(fault) => Err(refusal_of(fault)),
-        None => acyclic(alloc, modules, tables, names, &calls),
+        None => link_fitting(alloc, modules, tables, names, &calls),
     }
 }
 
 /// Links modules that are few.
-fn named(
+fn link_few(
     alloc: Global,
     modules: &List<Parsed>,
     tables: &List<Symbols>,
@@ -112,7 +112,7 @@ fn named(
     let names = Names::of(alloc, modules)?;
     match module_fault(modules, &names) {
         Some(fault) => Err(refusal_of(fault)),
-        None => joined(alloc, modules, tables, &names),
+        None => link_distinct(alloc, modules, tables, &names),
     }
 }
 
@@ -127,6 +127,6 @@ pub fn link(
 {
     match too_many(modules) {
         Some(fault) => Err(refusal_of(fault)),
-        None => named(alloc, modules, tables),
+        None => link_few(alloc, modules, tables),
     }
 }

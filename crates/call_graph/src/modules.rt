@@ -3,9 +3,10 @@ ghost use Rattle.std.specs.Prelude.{◌≡◌, ◌≤◌, length, map};
 ghost use Rattle.f77_ast.specs.PlainDecl.{parsed_tree};
 ghost use Rattle.call_graph.specs.Modules.{module_line, statement_line, is_statement, too_many, is_place, twice_from, main_twice, no_main};
 
-use crate::refusal::{Cause, Fault};
+use crate::refusal::Fault;
 use f77_ast::{Parsed, Part, Spot, StmtId};
 use fx_lists::List;
+use refusal_codes::Code;
 use tracked_cells::Names;
 
 /// The first line of a module.
@@ -51,7 +52,7 @@ pub fn too_many(modules: &List<Parsed>) -> Option<Fault>
     ensures { result ≡ too_many (map parsed_tree modules.now) }
 {
     let extra = modules.get(64)?;
-    Some(Fault::At(64, module_line(extra), Cause::TooManyModules))
+    Some(Fault::At(64, module_line(extra), Code::TooManyModules))
 }
 
 fn is_place(place: u32, found: Option<u32>) -> bool
@@ -72,7 +73,7 @@ pub fn name_twice(modules: &List<Parsed>, names: &Names) -> Option<Fault>
     let mut rest = modules.as_slice();
     while let [parsed, more @ ..] = rest {
         if !is_place(place, names.place(&parsed.module.name)) {
-            return Some(Fault::At(place, module_line(parsed), Cause::ModuleTwice));
+            return Some(Fault::At(place, module_line(parsed), Code::ModuleTwice));
         }
         place += 1;
         rest = more;
@@ -90,7 +91,7 @@ pub fn main_twice(modules: &List<Parsed>) -> Option<Fault>
     let mut rest = modules.as_slice();
     while let [parsed, more @ ..] = rest {
         if parsed.module.main && found {
-            return Some(Fault::At(place, module_line(parsed), Cause::TwoMains));
+            return Some(Fault::At(place, module_line(parsed), Code::TwoMains));
         }
         found = found || parsed.module.main;
         place += 1;

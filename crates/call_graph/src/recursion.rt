@@ -7,9 +7,10 @@ ghost use Rattle.call_graph.specs.Tables.{cell, longer_cell, row_from, longer, t
 
 use crate::calls::Calls;
 use crate::modules::statement_line;
-use crate::refusal::{Cause, Fault};
+use crate::refusal::Fault;
 use f77_ast::{Parsed, StmtId};
 use fx_lists::List;
+use refusal_codes::Code;
 use std::alloc::{AllocError as Memory, Global};
 use tracked_cells::Names;
 
@@ -114,7 +115,7 @@ fn cyclic_fault(caller: u32, parsed: &Parsed, at: StmtId) -> Fault
     ensures { result ≡ cyclic_fault caller (parsed_tree parsed.now) at }
 {
     let line = statement_line(parsed.places.spots.as_slice(), at);
-    Fault::At(caller, line, Cause::Recursion)
+    Fault::At(caller, line, Code::Recursion)
 }
 
 /// The first CALL whose callee leads to its caller.

@@ -8,7 +8,7 @@ use Rattle.f77_symbols.specs.Index.{names_of}
 use Rattle.affine_forms.specs.Scalars.{cell_in}
 use Rattle.call_translation.specs.declared.sites.Site.{Site}
 use Rattle.call_translation.specs.Scopes.{ScopeTree, scope_tree}
-use Rattle.call_translation.specs.Sites.{SiteTree, site_tree}
+use Rattle.call_translation.specs.Sites.{SiteTree, caller_tree, site_tree}
 
 abbrev tree_names : List SymbolTree → List (List ℕ)
 tree_names ts = map (λ (t : SymbolTree). t.name) ts
@@ -38,6 +38,6 @@ map_behind : {T : Type 0} (xs : List (Site T)) (s : Site T) → map site_tree (x
 map_behind [] s = refl
 map_behind {T} (x ∷ xs) s = ap (λ (ys : List (SiteTree T)). site_tree x ∷ ys) (map_behind xs s)
 
-pub site_added : {T : Type 0} (old new : List (Site T)) (s : Site T) (m : ScopeTree) (es : ExprTrees) → new ≡ old ++ s ∷ [] → scope_tree s.symbols s.tracked ≡ m → expr_trees s.actuals ≡ es → map site_tree new ≡ map site_tree old ++ site_of m es s.value ∷ []
+pub site_added : {T : Type 0} (old new : List (Site T)) (s : Site T) (m : ScopeTree) (es : ExprTrees) → new ≡ old ++ s ∷ [] → caller_tree s.caller.value ≡ m → expr_trees s.actuals ≡ es → map site_tree new ≡ map site_tree old ++ site_of m es s.value ∷ []
 site_added {T} old new s m es e f g =
     ap (map site_tree) e ∙ (map_behind old s ∙ ap₂ (λ (n : ScopeTree) (fs : ExprTrees). map site_tree old ++ site_of n fs s.value ∷ []) f g)

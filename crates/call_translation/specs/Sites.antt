@@ -5,6 +5,7 @@ use Rattle.affine_systems.specs.Given.{Fits}
 use Rattle.f77_ast.specs.Trees.{ExprTrees, WhatTree}
 use Rattle.f77_ast.specs.Trees as tree
 use Rattle.f77_ast.specs.Plain.{expr_trees}
+use Rattle.call_translation.specs.declared.sites.CallerScope.{CallerScope}
 use Rattle.call_translation.specs.declared.sites.Site.{Site}
 use Rattle.call_translation.specs.declared.sites.CallSites.{CallSites}
 use Rattle.call_translation.specs.Scopes.{ScopeTree, scope_tree}
@@ -15,8 +16,11 @@ pub record SiteTree (T : Type 0) : Type 0 where
   pub actuals : ExprTrees
   pub value : T
 
+abbrev pub caller_tree : CallerScope → ScopeTree
+caller_tree c = scope_tree c.symbols c.tracked
+
 abbrev pub site_tree : {T : Type 0} → Site T → SiteTree T
-site_tree s = record { caller = scope_tree s.symbols s.tracked; actuals = expr_trees s.actuals; value = s.value }
+site_tree s = record { caller = caller_tree s.caller.value; actuals = expr_trees s.actuals; value = s.value }
 
 -- the CALLs that name a module
 abbrev pub sites_in : {T : Type 0} → CallSites T → List (SiteTree T)

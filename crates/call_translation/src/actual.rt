@@ -1,5 +1,5 @@
 //! Actual arguments, and the tracked cells of the caller that they name.
-ghost use Rattle.std.specs.Prelude.{◌≡◌, ◌-◌, ◌++◌, map, IfOk, OnOk, IfSome, option_copied, option_map};
+ghost use Rattle.std.specs.Prelude.{◌≡◌, ◌-◌, ◌++◌, IfOk, OnOk, IfSome, option_copied, option_map};
 ghost use Rattle.f77_ast.specs.Plain.{expr_tree, expr_trees};
 ghost use Rattle.affine_forms.specs.Scalars.{scalars};
 ghost use Rattle.affine_forms.specs.Forms.{IsSmallForm};

@@ -70,7 +70,7 @@ fn exit_or_aux(aux: u32, cell: Option<u32>) -> Var
 fn form_row(alloc: Global, v: Var, form: &Option<Affine>) -> Result<Option<Row>, Memory>
     requires { IfSome form.now IsSmallForm }
     ensures defined { IfOk result (λ r. maybe_row r ≡ form_row_is v form.now) }
-    ensures given { IfOk result (λ r. IfSome r IsGiven) }
+    ensures fits { IfOk result (λ r. IfSome r IsGiven) }
 {
     match form {
         None => Ok(None),
@@ -195,7 +195,7 @@ impl Call<'_> {
     /// That a dummy has at first the value of its actual, where that has a form; `aux`: the number of the fresh variable that is the dummy's.
     pub fn row(&self, alloc: Global, aux: u32, v: Var) -> Result<Option<Row>, Memory>
         ensures defined { IfOk result (λ r. maybe_row r ≡ row_of_is (call_tree self.now) aux v) }
-        ensures given { IfOk result (λ r. IfSome r IsGiven) }
+        ensures fits { IfOk result (λ r. IfSome r IsGiven) }
     {
         match v {
             Var::Cell(cell) => {

@@ -1,15 +1,16 @@
 //! What a module has at a unit of a block.
 ghost use Rattle.std.specs.Prelude.{◌≡◌, ◌&&◌, map, IfOk};
 ghost use Rattle.f77_symbols.specs.Symbols.{symbol_tree};
-ghost use Rattle.tracked_cells.specs.Standing.{reaches as reaches_is, stands_at};
+ghost use Rattle.tracked_cells.specs.Standing.{stands_at};
 ghost use Rattle.f77_symbols.specs.declared.symbol.Place.TheVariants.{Block};
 ghost use Rattle.call_translation.specs.Scopes.{scope_tree};
 ghost use Rattle.call_translation.specs.Common.{is_unit as is_unit_is, tracked_at as tracked_at_is, declares as declares_is};
 
 use crate::{Scope, next_number};
-use f77_symbols::{Place, Symbol, Symbols, Unit, units_of};
+use f77_symbols::{Place, Symbol, Symbols, Unit};
 use fx_lists::Text;
 use std::alloc::AllocError as Memory;
+use tracked_cells::reaches;
 
 /// A copy of a unit.
 pub fn copy_unit(unit: &Unit) -> Result<Unit, Memory>
@@ -61,20 +62,13 @@ pub fn tracked_at(scope: &Scope<'_>, block: &Text, offset: u64) -> Result<Option
     Ok(None)
 }
 
-/// Whether so many units from an offset on have this one among them.
-fn reaches(first: u64, units: u64, unit: u64) -> bool
-    ensures { result ≡ reaches_is first units unit }
-{
-    first <= unit && unit < first.saturating_add(units)
-}
-
 /// Whether a variable has a unit of a block among its units.
 fn stands_at(symbols: &Symbols, block: &Text, offset: u64, symbol: &Symbol) -> bool
     ensures { result ≡ stands_at (map symbol_tree symbols.now) (Block block.now offset) (symbol_tree symbol.now) }
 {
     match &symbol.place {
         Place::Block(other, first) => {
-            *other == *block && reaches(*first, units_of(symbols, symbol), offset)
+            *other == *block && reaches(symbols, symbol, *first, offset)
         }
         Place::Local(..) | Place::Dummy(_) | Place::Constant(_) => false,
     }

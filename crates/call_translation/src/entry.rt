@@ -12,14 +12,14 @@ ghost use Rattle.affine_forms.specs.Forms.{IsSmallForm};
 
 use crate::actual::{actual_of, form_in};
 use crate::common::tracked_at;
-use crate::variables::{add_rows, auxiliaries_in};
+use crate::variables::auxiliaries_in;
 use crate::{Scope, Site, next_number};
 use affine_forms::{Affine, is_cell, no_rows, same_row, var_form};
 use affine_systems::{Row, System, Var};
 use f77_ast::Scalar;
 use f77_symbols::{Place, Symbol};
 use fx_lists::List;
-use hull_projection::project;
+use hull_projection::{add_rows, project};
 use std::alloc::{AllocError as Memory, Global};
 use system_renaming::{Naming, fresh_over, push_rows, rename_all, renamed_row};
 use tracked_cells::has_bounds;
@@ -42,10 +42,7 @@ fn dummy_form(alloc: Global, site: &Site<System>, symbol: &Symbol) -> Result<Opt
     if !is_int_scalar(symbol) {
         return Ok(None);
     }
-    let caller = Scope {
-        symbols: &site.symbols,
-        tracked: &site.tracked,
-    };
+    let caller = site.scope();
     match &symbol.place {
         Place::Dummy(dummy) => form_in(alloc, &caller, actual_of(&site.actuals, *dummy)),
         Place::Local(..) | Place::Block(..) | Place::Constant(_) => Ok(None),
@@ -94,10 +91,11 @@ fn dummy_rows(alloc: Global, callee: &Scope<'_>, site: &Site<System>) -> Result<
 fn kept_cell(callee: &Scope<'_>, site: &Site<System>, cell: u32) -> Result<Option<u32>, Memory>
     ensures { IfOk result (λ x. x ≡ kept_cell_is (scope_tree callee.now.symbols.now callee.now.tracked.now) (site_tree site.now) cell) }
 {
-    if !is_cell(&site.tracked, cell) {
+    let caller = site.scope();
+    if !is_cell(caller.tracked, cell) {
         return Ok(None);
     }
-    match site.symbols.symbol(cell) {
+    match caller.symbols.symbol(cell) {
         None => Ok(None),
         Some(symbol) => match &symbol.place {
             Place::Block(block, offset) => tracked_at(callee, block, *offset),
@@ -146,7 +144,7 @@ fn namings(
 fn renamed_rows(alloc: Global, names: &[Naming], rows: &[Row]) -> Result<Vec<Row>, Memory>
     requires { AllRows IsSmallRow rows.now }
     ensures defined { IfOk result (λ rs. rs.items ≡ map (renamed_row_is (renamed_by names.now)) rows.now) }
-    ensures given { IfOk result (λ rs. AllRows IsGiven rs.items) }
+    ensures fits { IfOk result (λ rs. AllRows IsGiven rs.items) }
 {
     let mut out = Vec::new(alloc);
     for row in rows {
@@ -161,7 +159,7 @@ fn renamed_rows(alloc: Global, names: &[Naming], rows: &[Row]) -> Result<Vec<Row
 pub fn site_entry(alloc: Global, callee: &Scope<'_>, site: &Site<System>) -> Result<System, Memory>
     requires { Fits site.now.value }
     ensures defined { IfOk result (λ s. s ≡ site_entry_is (scope_tree callee.now.symbols.now callee.now.tracked.now) (site_tree site.now)) }
-    ensures gives { IfOk result Fits }
+    ensures fits { IfOk result Fits }
 {
     let rows = dummy_rows(alloc, callee, site)?;
     let mut vars = Vec::new(alloc);

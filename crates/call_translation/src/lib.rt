@@ -16,6 +16,5 @@ pub use common::copy_unit;
 pub use entry::site_entry;
 pub use numbers::next_number;
 pub use scope::{Scope, tracked_of};
-pub use sites::{CallSites, Site};
+pub use sites::{CallSites, CallerScope, Site, caller_scope};
 pub use summary::call_transformer;
-pub use variables::add_rows;

@@ -8,7 +8,7 @@ use f77_results::View;
 use f77_symbols::Symbols;
 use fx_lists::List;
 use std::alloc::{AllocError as Memory, Global};
-use tracked_cells::tracked;
+use tracked_cells::tracked_flags;
 
 /// The symbols of a module, and a flag for each whether it is a tracked cell.
 #[derive(Drop)]
@@ -21,5 +21,5 @@ pub struct Scope<'a> {
 pub fn tracked_of(alloc: Global, view: &View<'_>) -> Result<List<bool>, Memory>
     ensures { IfOk result (λ cells. cells ≡ tracked_of (module_tree view.now.«module».now) (map symbol_tree view.now.symbols.now) view.now.graph.now.untracked) }
 {
-    tracked(alloc, view.module, view.symbols, &view.graph.untracked)
+    tracked_flags(alloc, view.module, view.symbols, &view.graph.untracked)
 }

@@ -1,5 +1,5 @@
 //! From the callee to the caller: the transformer of a CALL, which is the summary of what is called in the terms of the caller.
-ghost use Rattle.std.specs.Prelude.{◌≡◌, ◌+◌, ◌<◌, ◌^◌, ◌++◌, [], length, map, IfOk, OnOk, IfSome, option_copied, option_map};
+ghost use Rattle.std.specs.Prelude.{◌≡◌, ◌+◌, ◌<◌, ◌^◌, ◌++◌, [], length, IfOk, OnOk, IfSome, option_copied, option_map};
 ghost use Rattle.affine_systems.specs.Rows.{AllRows};
 ghost use Rattle.affine_systems.specs.Given.{IsGiven, Fits};
 ghost use Rattle.f77_ast.specs.Plain.{expr_trees};
@@ -12,7 +12,7 @@ ghost use Rattle.call_translation.specs.Summary.{SummaryFits, summary_vars as su
 
 use crate::call::Call;
 use crate::common::{copy_unit, declares, tracked_at};
-use crate::variables::{add_rows, add_var, auxiliaries_in};
+use crate::variables::auxiliaries_in;
 use crate::{Scope, push_cell};
 use affine_forms::no_rows;
 use affine_systems::{Row, System, Var};
@@ -20,7 +20,7 @@ use f77_ast::Expr;
 use f77_results::Summary;
 use f77_symbols::{Place, Unit};
 use fx_lists::List;
-use hull_projection::project;
+use hull_projection::{add_rows, add_var, project};
 use std::alloc::{AllocError as Memory, Global};
 use system_renaming::{Naming, fresh_over, push_rows, rename_all};
 use transformer_algebra::{Transformer, joined_cells, joined_units, unchanging};
@@ -65,7 +65,7 @@ fn push_row(rows: &mut Vec<Row>, row: Option<Row>) -> Result<(), Memory>
     requires rows { AllRows IsGiven rows.old.items }
     requires row { IfSome row IsGiven }
     ensures items { OnOk result (rows.new.items ≡ rows.old.items ++ maybe_row row) }
-    ensures given { OnOk result (AllRows IsGiven rows.new.items) }
+    ensures fits { OnOk result (AllRows IsGiven rows.new.items) }
 {
     match row {
         None => Ok(()),
@@ -81,7 +81,7 @@ fn push_row(rows: &mut Vec<Row>, row: Option<Row>) -> Result<(), Memory>
 fn first_rows(alloc: Global, call: &Call<'_>, first: u32, vars: &[Var]) -> Result<Vec<Row>, Memory>
     requires { first + length vars.now < 2 ^ 32 }
     ensures defined { IfOk result (λ rs. rs.items ≡ rows_from (call_tree call.now) first vars.now) }
-    ensures given { IfOk result (λ rs. AllRows IsGiven rs.items) }
+    ensures fits { IfOk result (λ rs. AllRows IsGiven rs.items) }
 {
     let mut rows = Vec::new(alloc);
     let mut number = first;
@@ -100,7 +100,7 @@ fn first_rows(alloc: Global, call: &Call<'_>, first: u32, vars: &[Var]) -> Resul
 fn call_system(alloc: Global, call: &Call<'_>, t: &Transformer) -> Result<System, Memory>
     requires { Fits t.now.system }
     ensures defined { IfOk result (λ s. s ≡ call_system_is (call_tree call.now) t.now) }
-    ensures gives { IfOk result Fits }
+    ensures fits { IfOk result Fits }
 {
     let vars = summary_vars(alloc, t)?;
     let first = fresh_over(&t.system, &no_rows(alloc), vars.len())?;
@@ -224,7 +224,7 @@ fn foreign_units(alloc: Global, call: &Call<'_>, t: &Transformer) -> Result<List
 fn summary_in_caller(alloc: Global, call: &Call<'_>, t: &Transformer) -> Result<Transformer, Memory>
     requires { Fits t.now.system }
     ensures defined { IfOk result (λ r. r ≡ summary_in_caller_is (call_tree call.now) t.now) }
-    ensures gives { IfOk result (λ r. Fits r.system) }
+    ensures fits { IfOk result (λ r. Fits r.system) }
 {
     Ok(Transformer {
         cells: changed_cells(alloc, call, t)?,
@@ -244,7 +244,7 @@ pub fn call_transformer(
 ) -> Result<Transformer, Memory>
     requires { SummaryFits (option_map summary_tree (option_copied summary)) }
     ensures defined { IfOk result (λ t. t ≡ call_transformer_is (scope_tree caller.now.symbols.now caller.now.tracked.now) (option_map summary_tree (option_copied summary.entry)) (expr_trees actuals.now)) }
-    ensures gives { IfOk result (λ t. Fits t.system) }
+    ensures fits { IfOk result (λ t. Fits t.system) }
 {
     match summary {
         None => Ok(unchanging(alloc)),

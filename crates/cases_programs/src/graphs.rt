@@ -6,7 +6,7 @@ use f77_ast::Parsed;
 use f77_symbols::Symbols;
 use fx_lists::List;
 use std::alloc::{AllocError as Memory, Global};
-use tracked_cells::tracked;
+use tracked_cells::tracked_flags;
 
 fn add_order(shown: &mut String, graph: &Graph) -> Result<(), Memory> {
     shown.push_str("order")?;
@@ -59,7 +59,7 @@ fn add_cells(
     table: &Symbols,
     graph: &Graph,
 ) -> Result<(), Memory> {
-    let cells: List<bool> = tracked(alloc, &parsed.module, table, &graph.untracked)?;
+    let cells: List<bool> = tracked_flags(alloc, &parsed.module, table, &graph.untracked)?;
     shown.push_str("cells ")?;
     shown.push_str(text_of(&parsed.module.name))?;
     shown.push_str(":")?;

@@ -28,7 +28,7 @@ fn add_symbol(
     let name = text_of(&symbol.name);
     let scalar = symbol.scalar;
     let dims = symbol.bounds.len();
-    let units = units_of(table, symbol);
+    let units = units_of(table, symbol).ok_or(Memory)?;
     let place = place_text(alloc, &symbol.place)?;
     let saved = symbol.saved;
     let line = format!(in alloc; "{name} {scalar:?} {dims} {units} {place} {saved}")?;

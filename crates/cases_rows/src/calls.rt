@@ -39,20 +39,20 @@ fn naming_call(alloc: Global, call: &str, words: &str, parts: &[&str]) -> Result
 
 fn row_call(alloc: Global, call: &str, words: &str, parts: &[&str]) -> Result<String, Trouble> {
     match call {
-        "normalise" => row_calls::normalised(alloc, parts),
-        "tidy" => row_calls::tidied(alloc, parts),
-        "push_row" => row_calls::pushed(alloc, parts),
-        "meet" => row_calls::met(alloc, parts),
-        "rename" => row_calls::renamed(alloc, words, parts),
-        "substitute" => row_calls::substituted(alloc, words, parts),
-        "eliminate" => row_calls::eliminated(alloc, words, parts),
-        "project" => row_calls::projected(alloc, words, parts),
+        "normalise" => row_calls::normalise_case(alloc, parts),
+        "tidy" => row_calls::tidy_case(alloc, parts),
+        "push_row" => row_calls::push_row_case(alloc, parts),
+        "meet" => row_calls::meet_case(alloc, parts),
+        "rename" => row_calls::rename_case(alloc, words, parts),
+        "substitute" => row_calls::substitute_case(alloc, words, parts),
+        "eliminate" => row_calls::eliminate_case(alloc, words, parts),
+        "project" => row_calls::project_case(alloc, words, parts),
         "refuted" => row_calls::is_refuted(alloc, parts),
         "entails" => row_calls::is_entailed(alloc, parts),
-        "clean" => row_calls::cleaned(alloc, parts),
-        "hull" => row_calls::hulled(alloc, parts),
-        "minus" => row_calls::subtracted(alloc, parts),
-        "closure" => row_calls::closed(alloc, words, parts),
+        "clean" => row_calls::clean_case(alloc, parts),
+        "hull" => row_calls::hull_case(alloc, parts),
+        "minus" => row_calls::minus_case(alloc, parts),
+        "closure" => row_calls::closure_case(alloc, words, parts),
         _ => naming_call(alloc, call, words, parts),
     }
 }

@@ -13,8 +13,8 @@ use affine_forms::{affine_of, is_cell};
 use affine_systems::System;
 use std::alloc::Global;
 use transformer_algebra::{
-    LoopParts, Transformer, after_loop, at_turn, before_turns, loop_transformer, some_turns, turn,
-    zero_turns,
+    LoopParts, Transformer, after_loop, at_iteration, before_iterations, iteration,
+    loop_transformer, some_iterations, zero_iterations,
 };
 
 fn step_of(word: &str) -> Result<Option<i32>, Trouble> {
@@ -48,19 +48,19 @@ fn parts_of(
     })
 }
 
-/// What a turn does, what no turn is, what some turns do, and what the whole loop does.
+/// What an iteration does, what no iteration is, what some iterations do, and what the whole loop does.
 fn runs_text(alloc: Global, l: &LoopParts, t: &Transformer) -> Result<String, Trouble>
     requires parts { LoopFits l.now }
     requires turn { Fits t.now.system }
 {
     let one = transformer_text(alloc, t)?;
-    let none = system_text(alloc, &zero_turns(alloc, l, t)?)?;
-    let some = transformer_text(alloc, &some_turns(alloc, l, t)?)?;
+    let none = system_text(alloc, &zero_iterations(alloc, l, t)?)?;
+    let some = transformer_text(alloc, &some_iterations(alloc, l, t)?)?;
     let whole = transformer_text(alloc, &loop_transformer(alloc, l, t)?)?;
     Ok(format!(in alloc; "{one} ; {none} ; {some} ; {whole}")?)
 }
 
-/// What holds before the turns, at the beginning of each, and after the loop, where a system holds before it and another at the end of
+/// What holds before the iterations, at the beginning of each, and after the loop, where a system holds before it and another at the end of
 /// its body.
 fn known_text(
     alloc: Global,
@@ -74,8 +74,8 @@ fn known_text(
     requires before { Fits before.now }
     requires after { Fits after.now }
 {
-    let begun = system_text(alloc, &before_turns(alloc, l, before)?)?;
-    let within = system_text(alloc, &at_turn(alloc, l, t, before)?)?;
+    let begun = system_text(alloc, &before_iterations(alloc, l, before)?)?;
+    let within = system_text(alloc, &at_iteration(alloc, l, t, before)?)?;
     let done = system_text(alloc, &after_loop(alloc, l, t, before, after)?)?;
     Ok(format!(in alloc; "{begun} ; {within} ; {done}")?)
 }
@@ -83,7 +83,7 @@ fn known_text(
 fn loop_text(alloc: Global, l: &LoopParts, before: &str, after: &str) -> Result<String, Trouble>
     requires { LoopFits l.now }
 {
-    let t = turn(alloc, l)?;
+    let t = iteration(alloc, l)?;
     let p = system_of(alloc, before)?;
     let q = system_of(alloc, after)?;
     let runs = runs_text(alloc, l, &t)?;

@@ -14,7 +14,7 @@ fn only_var(words: &str) -> Result<Var, Trouble> {
     var_of(words).ok_or(Trouble::Malformed)
 }
 
-pub fn normalised(alloc: Global, parts: &[&str]) -> Result<String, Trouble> {
+pub fn normalise_case(alloc: Global, parts: &[&str]) -> Result<String, Trouble> {
     let [row] = parts else {
         return Err(Trouble::Malformed);
     };
@@ -28,14 +28,14 @@ pub fn normalised(alloc: Global, parts: &[&str]) -> Result<String, Trouble> {
     Ok(text)
 }
 
-pub fn tidied(alloc: Global, parts: &[&str]) -> Result<String, Trouble> {
+pub fn tidy_case(alloc: Global, parts: &[&str]) -> Result<String, Trouble> {
     let [sys] = parts else {
         return Err(Trouble::Malformed);
     };
     Ok(system_text(alloc, &system_of(alloc, sys)?)?)
 }
 
-pub fn pushed(alloc: Global, parts: &[&str]) -> Result<String, Trouble> {
+pub fn push_row_case(alloc: Global, parts: &[&str]) -> Result<String, Trouble> {
     let [sys, row] = parts else {
         return Err(Trouble::Malformed);
     };
@@ -44,7 +44,7 @@ pub fn pushed(alloc: Global, parts: &[&str]) -> Result<String, Trouble> {
     Ok(system_text(alloc, &push_row(alloc, &sys, &row)?)?)
 }
 
-pub fn met(alloc: Global, parts: &[&str]) -> Result<String, Trouble> {
+pub fn meet_case(alloc: Global, parts: &[&str]) -> Result<String, Trouble> {
     let [one, other] = parts else {
         return Err(Trouble::Malformed);
     };
@@ -53,7 +53,7 @@ pub fn met(alloc: Global, parts: &[&str]) -> Result<String, Trouble> {
     Ok(system_text(alloc, &meet(alloc, &one, &other)?)?)
 }
 
-pub fn renamed(alloc: Global, words: &str, parts: &[&str]) -> Result<String, Trouble> {
+pub fn rename_case(alloc: Global, words: &str, parts: &[&str]) -> Result<String, Trouble> {
     let [sys] = parts else {
         return Err(Trouble::Malformed);
     };
@@ -64,7 +64,7 @@ pub fn renamed(alloc: Global, words: &str, parts: &[&str]) -> Result<String, Tro
     Ok(system_text(alloc, &rename(alloc, &sys, from, to)?)?)
 }
 
-pub fn substituted(alloc: Global, words: &str, parts: &[&str]) -> Result<String, Trouble> {
+pub fn substitute_case(alloc: Global, words: &str, parts: &[&str]) -> Result<String, Trouble> {
     let [row, by] = parts else {
         return Err(Trouble::Malformed);
     };
@@ -81,7 +81,7 @@ pub fn substituted(alloc: Global, words: &str, parts: &[&str]) -> Result<String,
     Ok(text)
 }
 
-pub fn eliminated(alloc: Global, words: &str, parts: &[&str]) -> Result<String, Trouble> {
+pub fn eliminate_case(alloc: Global, words: &str, parts: &[&str]) -> Result<String, Trouble> {
     let [sys] = parts else {
         return Err(Trouble::Malformed);
     };
@@ -90,7 +90,7 @@ pub fn eliminated(alloc: Global, words: &str, parts: &[&str]) -> Result<String, 
     Ok(exact_text(alloc, e.exact, &e.system)?)
 }
 
-pub fn projected(alloc: Global, words: &str, parts: &[&str]) -> Result<String, Trouble> {
+pub fn project_case(alloc: Global, words: &str, parts: &[&str]) -> Result<String, Trouble> {
     let [sys] = parts else {
         return Err(Trouble::Malformed);
     };
@@ -116,7 +116,7 @@ pub fn is_entailed(alloc: Global, parts: &[&str]) -> Result<String, Trouble> {
     Ok(truth_text(alloc, entails(alloc, &sys, &row)?)?)
 }
 
-pub fn cleaned(alloc: Global, parts: &[&str]) -> Result<String, Trouble> {
+pub fn clean_case(alloc: Global, parts: &[&str]) -> Result<String, Trouble> {
     let [sys] = parts else {
         return Err(Trouble::Malformed);
     };
@@ -124,7 +124,7 @@ pub fn cleaned(alloc: Global, parts: &[&str]) -> Result<String, Trouble> {
     Ok(system_text(alloc, &clean(alloc, &sys)?)?)
 }
 
-pub fn hulled(alloc: Global, parts: &[&str]) -> Result<String, Trouble> {
+pub fn hull_case(alloc: Global, parts: &[&str]) -> Result<String, Trouble> {
     let [one, other] = parts else {
         return Err(Trouble::Malformed);
     };
@@ -133,7 +133,7 @@ pub fn hulled(alloc: Global, parts: &[&str]) -> Result<String, Trouble> {
     Ok(system_text(alloc, &hull(alloc, &one, &other)?)?)
 }
 
-pub fn subtracted(alloc: Global, parts: &[&str]) -> Result<String, Trouble> {
+pub fn minus_case(alloc: Global, parts: &[&str]) -> Result<String, Trouble> {
     let [one, other] = parts else {
         return Err(Trouble::Malformed);
     };
@@ -147,7 +147,7 @@ pub fn subtracted(alloc: Global, parts: &[&str]) -> Result<String, Trouble> {
     Ok(text)
 }
 
-pub fn closed(alloc: Global, words: &str, parts: &[&str]) -> Result<String, Trouble> {
+pub fn closure_case(alloc: Global, words: &str, parts: &[&str]) -> Result<String, Trouble> {
     let [sys] = parts else {
         return Err(Trouble::Malformed);
     };

@@ -7,7 +7,7 @@ use crate::transformers::transformer_of;
 use crate::trouble::Trouble;
 use crate::written::{system_text, transformer_text};
 use std::alloc::Global;
-use transformer_algebra::{Transformer, apply, closed, one_of, then};
+use transformer_algebra::{Transformer, apply, iterate, one_of, then};
 
 pub fn then_answer(alloc: Global, parts: &[&str]) -> Result<String, Trouble> {
     match parts {
@@ -35,7 +35,7 @@ pub fn closed_answer(alloc: Global, parts: &[&str]) -> Result<String, Trouble> {
     match parts {
         [t] => {
             let t = transformer_of(alloc, t)?;
-            Ok(transformer_text(alloc, &closed(alloc, &t)?)?)
+            Ok(transformer_text(alloc, &iterate(alloc, &t)?)?)
         }
         _ => Err(Trouble::Malformed),
     }

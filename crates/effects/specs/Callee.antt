@@ -20,7 +20,7 @@ use Rattle.f77_results.specs.declared.effect_set.EffectSet.{EffectSet}
 use Rattle.f77_results.specs.Variables.{union}
 use Rattle.f77_results.specs.Effects.{no_effect}
 use Rattle.f77_results.specs.Summaries.{SummaryTree}
-use Rattle.effects.specs.Names.{one, named}
+use Rattle.effects.specs.Names.{one, variable_named}
 
 -- ---- the same variable of a block in two modules
 
@@ -84,7 +84,7 @@ or_block b (Some n) = Own n ∷ []
 -- the variable that the actual at a place names, from 0
 abbrev pub actual_variable : ExprTrees → ℕ → List SymbolTree → List Variable
 actual_variable tree.no_exprs k ss = []
-actual_variable (tree.more_exprs e es) zero ss = named e ss
+actual_variable (tree.more_exprs e es) zero ss = variable_named e ss
 actual_variable (tree.more_exprs e es) (suc k) ss = actual_variable es k ss
 
 abbrev pub if_saved : Bool → List ℕ → List ℕ → List Variable

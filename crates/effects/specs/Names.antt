@@ -7,7 +7,7 @@ use Rattle.f77_symbols.specs.declared.symbol.Place.TheVariants.{Local, Dummy, Bl
 use Rattle.f77_symbols.specs.declared.variable.Variable.{Variable}
 use Rattle.f77_symbols.specs.declared.variable.Variable.TheVariants.{Own}
 use Rattle.f77_symbols.specs.Symbols.{SymbolTree}
-pub use Rattle.call_graph.specs.Actuals.{named as symbol_of, is_array}
+pub use Rattle.call_graph.specs.Actuals.{symbol_with_name as symbol_of, is_array}
 
 abbrev pub number_at : ℕ → Place → Option ℕ
 number_at n (Local g o) = Some n
@@ -37,12 +37,12 @@ abbrev pub array : List ℕ → List SymbolTree → List Variable
 array x ss = if is_array (symbol_of ss x) then own x ss else []
 
 -- the variable that an expression names: that of a name, or the array of an element
-abbrev pub named : ExprTree → List SymbolTree → List Variable
-named (tree.int n) ss = []
-named (tree.log b) ss = []
-named (tree.name x) ss = own x ss
-named (tree.element x es) ss = array x ss
-named (tree.paren e) ss = []
-named (tree.unary o e) ss = []
-named (tree.binary o a b) ss = []
-named (tree.chars x) ss = []
+abbrev pub variable_named : ExprTree → List SymbolTree → List Variable
+variable_named (tree.int n) ss = []
+variable_named (tree.log b) ss = []
+variable_named (tree.name x) ss = own x ss
+variable_named (tree.element x es) ss = array x ss
+variable_named (tree.paren e) ss = []
+variable_named (tree.unary o e) ss = []
+variable_named (tree.binary o a b) ss = []
+variable_named (tree.chars x) ss = []

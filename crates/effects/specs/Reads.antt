@@ -5,7 +5,7 @@ use Rattle.f77_ast.specs.Trees as tree
 use Rattle.f77_symbols.specs.declared.variable.Variable.{Variable}
 use Rattle.f77_symbols.specs.Symbols.{SymbolTree}
 use Rattle.f77_results.specs.Variables.{union}
-use Rattle.effects.specs.Names.{own, array, named}
+use Rattle.effects.specs.Names.{own, array, variable_named}
 
 abbrev mutual
   -- the variables in an expression: its names, and its arrays with what stands in their subscripts
@@ -60,4 +60,4 @@ with_items (tree.more_exprs e es) ss vs = with_items es ss (union vs (inner_read
 -- those so far, and the variables that items name
 abbrev pub with_named : ExprTrees → List SymbolTree → List Variable → List Variable
 with_named tree.no_exprs ss vs = vs
-with_named (tree.more_exprs e es) ss vs = with_named es ss (union vs (named e ss))
+with_named (tree.more_exprs e es) ss vs = with_named es ss (union vs (variable_named e ss))

@@ -7,7 +7,7 @@ use Rattle.f77_symbols.specs.Symbols.{SymbolTree}
 use Rattle.f77_results.specs.declared.effect_set.EffectSet.{EffectSet}
 use Rattle.f77_results.specs.Variables.{union}
 use Rattle.f77_results.specs.Effects.{no_effect}
-use Rattle.effects.specs.Names.{own, named}
+use Rattle.effects.specs.Names.{own, variable_named}
 use Rattle.effects.specs.Reads.{reads, with_reads, inner_reads, with_actuals, with_items, with_named}
 
 abbrev pub effect : List Variable → List Variable → EffectSet
@@ -42,7 +42,7 @@ loop_effect (tree.loop index first last step body) ss =
 -- an assignment writes its left side, a READ its items; a CALL reads what it evaluates itself, and what is associated with dummies
 -- only as the callee does
 abbrev pub proper_of : WhatTree → List SymbolTree → EffectSet
-proper_of (tree.assign a b) ss = effect (union (reads b ss) (inner_reads a ss)) (named a ss)
+proper_of (tree.assign a b) ss = effect (union (reads b ss) (inner_reads a ss)) (variable_named a ss)
 proper_of (tree.block_if arms other) ss = effect (with_tests arms ss []) []
 proper_of (tree.logical_if e s) ss = effect (reads e ss) []
 proper_of (tree.do_loop l) ss = loop_effect l ss

@@ -6,7 +6,7 @@ ghost use Rattle.f77_symbols.specs.Shared.{symbol_at};
 ghost use Rattle.f77_results.specs.Summaries.{summary_tree, summary_in};
 ghost use Rattle.effects.specs.Callee.{or_block, actual_variable, if_saved, at_place, symbol_in_caller, in_caller, all_in_caller, summary_effect, call_effect};
 
-use crate::names::named;
+use crate::names::variable_named;
 use crate::shapes::first_like;
 use f77_ast::Expr;
 use f77_results::{EffectSet, Summaries, Summary, Variable, copy_variable, union};
@@ -44,7 +44,7 @@ fn actual_variable(
     let place = dummy.saturating_sub(1);
     match actuals.get(place as usize) {
         None => Ok(List::new(alloc)),
-        Some(actual) => named(alloc, symbols, actual),
+        Some(actual) => variable_named(alloc, symbols, actual),
     }
 }
 

@@ -23,7 +23,7 @@ fn stmt_effect(
     s: &Stmt,
     at: &mut List<At<EffectSet>>,
 ) -> Result<EffectSet, Memory>
-    ensures value { IfOk result (λ e. e ≡ stmt_effect (stmt_tree s.now) (summary_in callees.now) (map symbol_tree symbols.now)) }
+    ensures defined { IfOk result (λ e. e ≡ stmt_effect (stmt_tree s.now) (summary_in callees.now) (map symbol_tree symbols.now)) }
     ensures added { IfOk result (λ _. at.new ≡ at.old ++ at_stmt (stmt_tree s.now) (summary_in callees.now) (map symbol_tree symbols.now)) }
 {
     let place = at.len();
@@ -49,7 +49,7 @@ fn with_parts(
     so_far: EffectSet,
     at: &mut List<At<EffectSet>>,
 ) -> Result<EffectSet, Memory>
-    ensures value { IfOk result (λ e. e ≡ with_parts (what_tree what.now) (summary_in callees.now) (map symbol_tree symbols.now) so_far) }
+    ensures defined { IfOk result (λ e. e ≡ with_parts (what_tree what.now) (summary_in callees.now) (map symbol_tree symbols.now) so_far) }
     ensures added { IfOk result (λ _. at.new ≡ at.old ++ at_parts (what_tree what.now) (summary_in callees.now) (map symbol_tree symbols.now)) }
 {
     match what {
@@ -90,7 +90,7 @@ pub fn with_list(
     so_far: EffectSet,
     at: &mut List<At<EffectSet>>,
 ) -> Result<EffectSet, Memory>
-    ensures value { IfOk result (λ e. e ≡ with_list (stmt_trees list.now) (summary_in callees.now) (map symbol_tree symbols.now) so_far) }
+    ensures defined { IfOk result (λ e. e ≡ with_list (stmt_trees list.now) (summary_in callees.now) (map symbol_tree symbols.now) so_far) }
     ensures added { IfOk result (λ _. at.new ≡ at.old ++ at_list (stmt_trees list.now) (summary_in callees.now) (map symbol_tree symbols.now)) }
 {
     let mut all = so_far;
@@ -112,7 +112,7 @@ fn with_loop(
     so_far: EffectSet,
     at: &mut List<At<EffectSet>>,
 ) -> Result<EffectSet, Memory>
-    ensures value { IfOk result (λ e. e ≡ with_loop (loop_tree l.now) (summary_in callees.now) (map symbol_tree symbols.now) so_far) }
+    ensures defined { IfOk result (λ e. e ≡ with_loop (loop_tree l.now) (summary_in callees.now) (map symbol_tree symbols.now) so_far) }
     ensures added { IfOk result (λ _. at.new ≡ at.old ++ at_loop (loop_tree l.now) (summary_in callees.now) (map symbol_tree symbols.now)) }
 {
     with_list(alloc, symbols, callees, &l.body, so_far, at)
@@ -129,7 +129,7 @@ fn with_arms(
     so_far: EffectSet,
     at: &mut List<At<EffectSet>>,
 ) -> Result<EffectSet, Memory>
-    ensures value { IfOk result (λ e. e ≡ with_arms (arm_trees arms.now) (summary_in callees.now) (map symbol_tree symbols.now) so_far) }
+    ensures defined { IfOk result (λ e. e ≡ with_arms (arm_trees arms.now) (summary_in callees.now) (map symbol_tree symbols.now) so_far) }
     ensures added { IfOk result (λ _. at.new ≡ at.old ++ at_arms (arm_trees arms.now) (summary_in callees.now) (map symbol_tree symbols.now)) }
 {
     let mut all = so_far;

@@ -3,7 +3,7 @@ ghost use Rattle.std.specs.Prelude.{◌≡◌, map, IfOk, option_copied, option_
 ghost use Rattle.f77_ast.specs.Plain.{expr_tree};
 ghost use Rattle.f77_symbols.specs.Symbols.{symbol_tree};
 ghost use Rattle.call_graph.specs.Actuals.{is_array};
-ghost use Rattle.effects.specs.Names.{symbol_of, variable_number, number_of, own, one, array, named};
+ghost use Rattle.effects.specs.Names.{symbol_of, variable_number, number_of, own, one, array, variable_named};
 
 use f77_ast::Expr;
 use f77_results::Variable;
@@ -88,8 +88,8 @@ pub fn array(alloc: Global, symbols: &Symbols, name: &Text) -> Result<List<Varia
 
 /// The variable that an expression names: that of a name, or the array of an element.
 #[tactic(auto, using(f77_ast::proofs::Plainly::expr_cases))]
-pub fn named(alloc: Global, symbols: &Symbols, e: &Expr) -> Result<List<Variable>, Memory>
-    ensures { IfOk result (λ vs. vs ≡ named (expr_tree e.now) (map symbol_tree symbols.now)) }
+pub fn variable_named(alloc: Global, symbols: &Symbols, e: &Expr) -> Result<List<Variable>, Memory>
+    ensures { IfOk result (λ vs. vs ≡ variable_named (expr_tree e.now) (map symbol_tree symbols.now)) }
 {
     match e {
         Expr::Name(name) => own(alloc, symbols, name),

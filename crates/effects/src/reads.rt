@@ -4,7 +4,7 @@ ghost use Rattle.f77_ast.specs.Plain.{expr_tree, expr_trees};
 ghost use Rattle.f77_symbols.specs.Symbols.{symbol_tree};
 ghost use Rattle.effects.specs.Reads.{reads, with_reads, inner_reads, actual_reads, with_actuals, with_items, with_named};
 
-use crate::names::{array, named, own};
+use crate::names::{array, own, variable_named};
 use f77_ast::Expr;
 use f77_results::{Variable, union};
 use f77_symbols::Symbols;
@@ -131,7 +131,7 @@ pub fn items_named(
 {
     let mut all = List::new(alloc);
     for e in es.as_slice() {
-        let more = named(alloc, symbols, e)?;
+        let more = variable_named(alloc, symbols, e)?;
         all = union(alloc, &all, &more)?;
     }
     Ok(all)

@@ -7,7 +7,7 @@ ghost use Rattle.f77_symbols.specs.Symbols.{symbol_tree};
 ghost use Rattle.effects.specs.Reads.{with_reads, with_items, with_named};
 ghost use Rattle.effects.specs.Statement.{effect, ends, with_tests, step_reads, loop_effect, proper_of};
 
-use crate::names::{named, own};
+use crate::names::{own, variable_named};
 use crate::reads::{actuals_reads, inner_reads, items_named, items_reads, reads, with_reads};
 use f77_ast::{Arm, Expr, Loop, Stmt, What};
 use f77_results::{EffectSet, Variable, View, union};
@@ -71,7 +71,7 @@ fn assign_effect(alloc: Global, symbols: &Symbols, a: &Expr, b: &Expr) -> Result
     let value = reads(alloc, symbols, b)?;
     let inner = inner_reads(alloc, symbols, a)?;
     let all = union(alloc, &value, &inner)?;
-    let left = named(alloc, symbols, a)?;
+    let left = variable_named(alloc, symbols, a)?;
     Ok(effect(all, left))
 }
 

@@ -148,5 +148,3 @@ pub ruleset arm_calls = (arm_trees-drop_at, the_lemmas)
 
 -- functions that rebuild a statement
 pub ruleset copy_cases = (what_cases, what_tree-if_alone, what_tree-if_else)
-
-pub ruleset copy_structs = (read_structs, made_structs)

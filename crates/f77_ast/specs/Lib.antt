@@ -3,6 +3,8 @@ pub mod DeclTrees
 pub mod Plain
 pub mod PlainStmt
 pub mod PlainDecl
+pub mod Shapes
+pub mod StatementNumbers
 pub mod Operators
 pub mod Store
 pub mod Faults

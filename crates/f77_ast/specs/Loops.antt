@@ -12,13 +12,13 @@ use Rattle.f77_ast.specs.Writes.{Locks, write, lock}
 use Rattle.f77_ast.specs.Plans.{Normal, Plan, Ends, Set as SetPlan, first, on_normal, ◌▹◌}
 
 -- MAX(INT((m2-m1+m3)/m3),0) in whole numbers; m3 is not 0 (§11.10.3)
-abbrev pub turn_count : ℤ → ℤ → ℤ → ℕ
-turn_count m1 m2 m3 = as_count (int_div ((m2 -ℤ m1) +ℤ m3) m3)
+abbrev pub iteration_count : ℤ → ℤ → ℤ → ℕ
+iteration_count m1 m2 m3 = as_count (int_div ((m2 -ℤ m1) +ℤ m3) m3)
 
 -- the turns that are left, the variable having this number; it is incremented after each, and does not meet the loop's own lock
-abbrev pub turns_from : ℕ → ℤ → ℤ → ℕ → Plan → Plan
-turns_from zero n step u body = Ends Normal
-turns_from (suc k) n step u body = body ▹ λ f. on_normal f (first (given Int (kept (n +ℤ step))) (λ c. SetPlan u c (turns_from k c.number step u body)))
+abbrev pub iterations_from : ℕ → ℤ → ℤ → ℕ → Plan → Plan
+iterations_from zero n step u body = Ends Normal
+iterations_from (suc k) n step u body = body ▹ λ f. on_normal f (first (given Int (kept (n +ℤ step))) (λ c. SetPlan u c (iterations_from k c.number step u body)))
 
 -- the numbers that a DO begins with
 pub record Range : Type 0 where
@@ -40,4 +40,4 @@ range_of e1 e2 e3 w at = value e1 w at >>= λ a. value e2 w at >>= λ b. step_va
 -- the first number is written, then come the turns, with the variable locked
 abbrev pub loop_plan : Steps Range → Steps Target → Locks → (Locks → Plan) → Plan
 loop_plan range variable locked body =
-    first range (λ r. first variable (λ t. first (write locked t.unit (content Int r.from)) (λ o. turns_from (turn_count r.from r.last r.step) r.from r.step t.unit (body (lock locked t.unit Locked)))))
+    first range (λ r. first variable (λ t. first (write locked t.unit (content Int r.from)) (λ o. iterations_from (iteration_count r.from r.last r.step) r.from r.step t.unit (body (lock locked t.unit Locked)))))

@@ -8,14 +8,14 @@ use Rattle.f77_constants.specs.declared.constant.Worth.{Worth}
 use Rattle.f77_constants.specs.declared.constant.Worth.TheVariants.{Is, Faults, Varies}
 use Rattle.f77_constants.specs.Constants.{worth, turns_logical, gives_logical}
 use Rattle.f77_symbols.specs.Symbols.{BoundTree}
-use Rattle.f77_names.specs.declared.refusal.Cause.TheVariants.{BadDimension}
-use Rattle.f77_names.specs.declared.refusal.Refusal.{Refusal}
+use Rattle.refusal_codes.specs.declared.code.Code.TheVariants.{BadDimension}
+use Rattle.refusal_codes.specs.declared.refusal.Refusal.{Refusal}
 use Rattle.f77_names.specs.declared.kinds.Kind.{Kind}
 use Rattle.f77_names.specs.declared.kinds.Kind.TheVariants as kind
-use Rattle.f77_names.specs.Refusals.{noted}
+use Rattle.refusal_codes.specs.Refusals.{refuse_if}
 use Rattle.f77_names.specs.Entries.{ShapeTree, EntryTree, find, of_entry, value_among}
 use Rattle.f77_names.specs.Tables.{NameTable, entry_kind}
-use Rattle.f77_checks.specs.Expressions.{expr_judged}
+use Rattle.f77_checks.specs.Expressions.{check_expr}
 
 -- ---- bounds
 
@@ -126,18 +126,18 @@ dims_in t e = entry_dims t (is_some e.dummy) e.shape
 
 -- ---- refusals
 
-abbrev pub maybe_judged : NameTable → Option ExprTree → ℕ → Option Refusal → Option Refusal
-maybe_judged t None line found = found
-maybe_judged t (Some e) line found = expr_judged t e line found
+abbrev pub check_maybe : NameTable → Option ExprTree → ℕ → Option Refusal → Option Refusal
+check_maybe t None line found = found
+check_maybe t (Some e) line found = check_expr t e line found
 
-abbrev pub bounds_judged : NameTable → List BoundTree → ℕ → Option Refusal → Option Refusal
-bounds_judged t [] line found = found
-bounds_judged t (b ∷ bs) line found = bounds_judged t bs line (maybe_judged t b.high line (expr_judged t b.low line found))
+abbrev pub check_bounds : NameTable → List BoundTree → ℕ → Option Refusal → Option Refusal
+check_bounds t [] line found = found
+check_bounds t (b ∷ bs) line found = check_bounds t bs line (check_maybe t b.high line (check_expr t b.low line found))
 
-abbrev pub shape_judged : NameTable → Bool → Option ShapeTree → Option Refusal → Option Refusal
-shape_judged t dummy None found = found
-shape_judged t dummy (Some s) found = noted (is_bad_shape t dummy s.bounds) s.line BadDimension (bounds_judged t s.bounds s.line found)
+abbrev pub check_shape : NameTable → Bool → Option ShapeTree → Option Refusal → Option Refusal
+check_shape t dummy None found = found
+check_shape t dummy (Some s) found = refuse_if (is_bad_shape t dummy s.bounds) s.line BadDimension (check_bounds t s.bounds s.line found)
 
-abbrev pub shapes_judged : NameTable → List EntryTree → Option Refusal → Option Refusal
-shapes_judged t [] found = found
-shapes_judged t (e ∷ es) found = shapes_judged t es (shape_judged t (is_some e.dummy) e.shape found)
+abbrev pub check_shapes : NameTable → List EntryTree → Option Refusal → Option Refusal
+check_shapes t [] found = found
+check_shapes t (e ∷ es) found = check_shapes t es (check_shape t (is_some e.dummy) e.shape found)

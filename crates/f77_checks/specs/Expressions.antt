@@ -3,12 +3,12 @@ use Rattle.std.specs.Prelude.{ℕ, suc, Bool, true, false, not, nat_eq, List, le
 use Rattle.f77_ast.specs.Trees.{ExprTree, ExprTrees}
 use Rattle.f77_ast.specs.Trees as tree
 use Rattle.f77_constants.specs.Constants.{turns_logical, joins_logical, gives_logical}
-use Rattle.f77_names.specs.declared.refusal.Cause.TheVariants.{SubscriptCount, TypeMismatch, NotAnArray}
-use Rattle.f77_names.specs.declared.refusal.Refusal.{Refusal}
+use Rattle.refusal_codes.specs.declared.code.Code.TheVariants.{SubscriptCount, TypeMismatch, NotAnArray}
+use Rattle.refusal_codes.specs.declared.refusal.Refusal.{Refusal}
 use Rattle.f77_names.specs.declared.functions.Function.{Function}
 use Rattle.f77_names.specs.declared.kinds.Kind.{Kind}
 use Rattle.f77_names.specs.declared.kinds.Kind.TheVariants as kind
-use Rattle.f77_names.specs.Refusals.{noted}
+use Rattle.refusal_codes.specs.Refusals.{refuse_if}
 use Rattle.f77_names.specs.Functions.{function_of, takes}
 use Rattle.f77_names.specs.Entries.{ShapeTree, find, of_entry, has_shape}
 use Rattle.f77_names.specs.Tables.{NameTable, kind_in}
@@ -76,12 +76,12 @@ count tree.no_exprs = 0
 count (tree.more_exprs e es) = suc (count es)
 
 -- a name without subscripts: a function wants its arguments, and an array its subscripts unless it may stand whole
-abbrev pub bare_judged : Option Function → Bool → ℕ → Option Refusal → Option Refusal
-bare_judged None array line found = noted array line NotAnArray found
-bare_judged (Some f) array line found = noted true line SubscriptCount found
+abbrev pub check_bare : Option Function → Bool → ℕ → Option Refusal → Option Refusal
+check_bare None array line found = refuse_if array line NotAnArray found
+check_bare (Some f) array line found = refuse_if true line SubscriptCount found
 
-abbrev pub name_judged : NameTable → List ℕ → ℕ → Option Refusal → Option Refusal
-name_judged t x line found = bare_judged (function_of t.arrays x) (has_shape x t.entries) line found
+abbrev pub check_name : NameTable → List ℕ → ℕ → Option Refusal → Option Refusal
+check_name t x line found = check_bare (function_of t.arrays x) (has_shape x t.entries) line found
 
 abbrev pub dimensions : Option ShapeTree → Option ℕ
 dimensions None = None
@@ -91,47 +91,47 @@ dimensions (Some s) = Some (length s.bounds)
 abbrev pub dimensions_of : NameTable → List ℕ → Option ℕ
 dimensions_of t x = of_entry None (λ e. dimensions e.shape) (find x t.entries)
 
-abbrev pub call_judged : Option Function → ℕ → ℕ → Option Refusal → Option Refusal
-call_judged None n line found = noted true line NotAnArray found
-call_judged (Some f) n line found = noted (not (takes f n)) line SubscriptCount found
+abbrev pub check_call : Option Function → ℕ → ℕ → Option Refusal → Option Refusal
+check_call None n line found = refuse_if true line NotAnArray found
+check_call (Some f) n line found = refuse_if (not (takes f n)) line SubscriptCount found
 
 -- so many subscripts or arguments
-abbrev pub counted : Option ℕ → Option Function → ℕ → ℕ → Option Refusal → Option Refusal
-counted None f n line found = call_judged f n line found
-counted (Some m) f n line found = noted (not (nat_eq n m)) line SubscriptCount found
+abbrev pub check_count : Option ℕ → Option Function → ℕ → ℕ → Option Refusal → Option Refusal
+check_count None f n line found = check_call f n line found
+check_count (Some m) f n line found = refuse_if (not (nat_eq n m)) line SubscriptCount found
 
 abbrev pub wants_int : Sort → ℕ → Option Refusal → Option Refusal
-wants_int s line found = noted (not (is_int s)) line TypeMismatch found
+wants_int s line found = refuse_if (not (is_int s)) line TypeMismatch found
 
 abbrev pub wants_log : Sort → ℕ → Option Refusal → Option Refusal
-wants_log s line found = noted (not (is_log s)) line TypeMismatch found
+wants_log s line found = refuse_if (not (is_log s)) line TypeMismatch found
 
 abbrev pub wants : Bool → Sort → ℕ → Option Refusal → Option Refusal
 wants logical s line found = if logical then wants_log s line found else wants_int s line found
 
 abbrev mutual
   -- the first refusal, also of an expression
-  pub expr_judged : NameTable → ExprTree → ℕ → Option Refusal → Option Refusal
-  expr_judged t (tree.int n) line found = found
-  expr_judged t (tree.log b) line found = found
-  expr_judged t (tree.name x) line found = name_judged t x line found
-  expr_judged t (tree.element x es) line found =
-      counted (dimensions_of t x) (function_of t.arrays x) (count es) line (subscripts_judged t es line found)
-  expr_judged t (tree.paren e) line found = expr_judged t e line found
-  expr_judged t (tree.unary o e) line found = wants (turns_logical o) (sort_of t e) line (expr_judged t e line found)
-  expr_judged t (tree.binary o a b) line found =
-      wants (joins_logical o) (sort_of t b) line (expr_judged t b line (wants (joins_logical o) (sort_of t a) line (expr_judged t a line found)))
-  expr_judged t (tree.chars x) line found = found
+  pub check_expr : NameTable → ExprTree → ℕ → Option Refusal → Option Refusal
+  check_expr t (tree.int n) line found = found
+  check_expr t (tree.log b) line found = found
+  check_expr t (tree.name x) line found = check_name t x line found
+  check_expr t (tree.element x es) line found =
+      check_count (dimensions_of t x) (function_of t.arrays x) (count es) line (check_subscripts t es line found)
+  check_expr t (tree.paren e) line found = check_expr t e line found
+  check_expr t (tree.unary o e) line found = wants (turns_logical o) (sort_of t e) line (check_expr t e line found)
+  check_expr t (tree.binary o a b) line found =
+      wants (joins_logical o) (sort_of t b) line (check_expr t b line (wants (joins_logical o) (sort_of t a) line (check_expr t a line found)))
+  check_expr t (tree.chars x) line found = found
 
   -- also of subscripts or arguments, which are INTEGER
-  pub subscripts_judged : NameTable → ExprTrees → ℕ → Option Refusal → Option Refusal
-  subscripts_judged t tree.no_exprs line found = found
-  subscripts_judged t (tree.more_exprs e es) line found = subscripts_judged t es line (wants_int (sort_of t e) line (expr_judged t e line found))
+  pub check_subscripts : NameTable → ExprTrees → ℕ → Option Refusal → Option Refusal
+  check_subscripts t tree.no_exprs line found = found
+  check_subscripts t (tree.more_exprs e es) line found = check_subscripts t es line (wants_int (sort_of t e) line (check_expr t e line found))
 
 -- an INTEGER expression
-abbrev pub int_judged : NameTable → ExprTree → ℕ → Option Refusal → Option Refusal
-int_judged t e line found = wants_int (sort_of t e) line (expr_judged t e line found)
+abbrev pub check_int : NameTable → ExprTree → ℕ → Option Refusal → Option Refusal
+check_int t e line found = wants_int (sort_of t e) line (check_expr t e line found)
 
 -- a LOGICAL expression
-abbrev pub log_judged : NameTable → ExprTree → ℕ → Option Refusal → Option Refusal
-log_judged t e line found = wants_log (sort_of t e) line (expr_judged t e line found)
+abbrev pub check_log : NameTable → ExprTree → ℕ → Option Refusal → Option Refusal
+check_log t e line found = wants_log (sort_of t e) line (check_expr t e line found)

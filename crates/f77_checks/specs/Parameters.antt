@@ -7,16 +7,16 @@ use Rattle.f77_constants.specs.declared.constant.Constant.TheVariants as constan
 use Rattle.f77_constants.specs.declared.constant.Worth.{Worth}
 use Rattle.f77_constants.specs.declared.constant.Worth.TheVariants.{Is, Faults, Varies}
 use Rattle.f77_constants.specs.Constants.{worth}
-use Rattle.f77_names.specs.declared.refusal.Cause.TheVariants.{BadParameter, NotAnArray}
-use Rattle.f77_names.specs.declared.refusal.Refusal.{Refusal}
+use Rattle.refusal_codes.specs.declared.code.Code.TheVariants.{BadParameter, NotAnArray}
+use Rattle.refusal_codes.specs.declared.refusal.Refusal.{Refusal}
 use Rattle.f77_names.specs.declared.kinds.Kind.{Kind}
 use Rattle.f77_names.specs.declared.kinds.Kind.TheVariants.{Int, Log, Real}
 use Rattle.f77_names.specs.declared.lines.Sited.TheVariants.{Decl}
-use Rattle.f77_names.specs.Refusals.{noted}
+use Rattle.refusal_codes.specs.Refusals.{refuse_if}
 use Rattle.f77_names.specs.Lines.{LineTable, line_or}
 use Rattle.f77_names.specs.Entries.{changed, with_value, has_dummy, has_shape, has_value, value_among}
 use Rattle.f77_names.specs.Tables.{NameTable, kind_in}
-use Rattle.f77_checks.specs.Expressions.{expr_judged}
+use Rattle.f77_checks.specs.Expressions.{check_expr}
 
 -- the names with the values so far, and the first refusal
 pub record Valued : Type 0 where
@@ -24,7 +24,7 @@ pub record Valued : Type 0 where
   pub found : Option Refusal
 
 abbrev pub is_bad_parameter : ℕ → Valued → Valued
-is_bad_parameter line v = record v { found = noted true line BadParameter v.found }
+is_bad_parameter line v = record v { found = refuse_if true line BadParameter v.found }
 
 abbrev pub given_value : List ℕ → Constant → Valued → Valued
 given_value x c v = record v { table = record v.table { entries = changed x (with_value c) v.table.entries } }
@@ -45,9 +45,9 @@ given_worth x (Is c) line v = given_typed (kind_in v.table x) x c line v
 -- an array is refused, and a dummy or a second value
 abbrev pub setting_valued : SettingTree → ℕ → Valued → Valued
 setting_valued s line v =
-    let w = record v { found = noted (has_shape s.name v.table.entries) line NotAnArray v.found } in
+    let w = record v { found = refuse_if (has_shape s.name v.table.entries) line NotAnArray v.found } in
     if has_dummy s.name v.table.entries || has_value s.name v.table.entries then is_bad_parameter line w
-    else given_worth s.name (worth (value_among v.table.entries) s.value) line (record w { found = expr_judged w.table s.value line w.found })
+    else given_worth s.name (worth (value_among v.table.entries) s.value) line (record w { found = check_expr w.table s.value line w.found })
 
 abbrev pub settings_valued : List SettingTree → ℕ → Valued → Valued
 settings_valued [] line v = v

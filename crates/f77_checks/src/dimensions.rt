@@ -6,17 +6,18 @@ ghost use Rattle.f77_ast.specs.PlainStmt.{maybe_tree};
 ghost use Rattle.f77_symbols.specs.Symbols.{bound_tree};
 ghost use Rattle.f77_names.specs.Entries.{entry_tree, maybe_shape, shape_tree};
 ghost use Rattle.f77_names.specs.Views.{table_tree};
-ghost use Rattle.f77_checks.specs.Dimensions.{bounds_judged, dim_from, dim_of, dims_in, dims_of, has_bad_bound, is_adjustable, is_bad_bound, is_bad_high, is_bad_shape, is_bad_worth, is_below, is_int_kind, may_adjust, maybe_judged, shape_judged, shapes_judged, worth_in};
+ghost use Rattle.f77_checks.specs.Dimensions.{check_bounds, dim_from, dim_of, dims_in, dims_of, has_bad_bound, is_adjustable, is_bad_bound, is_bad_high, is_bad_shape, is_bad_worth, is_below, is_int_kind, may_adjust, check_maybe, check_shape, check_shapes, worth_in};
 ghost use Rattle.f77_checks.specs.Sizes.{capped_units, dim_tree, dims_tree, is_above};
 ghost use Rattle.f77_checks.specs.Views.{known_dims};
 
-use crate::expressions::expr_judged;
+use crate::expressions::check_expr;
 use crate::sizes::{Dimensions, Size, is_above};
 use f77_ast::Expr;
 use f77_constants::{Constant, Worth, gives_logical, turns_logical, worth_of};
-use f77_names::{Cause, Entry, Kind, NameTable, Refusal, Shape, noted};
+use f77_names::{Entry, Kind, NameTable, Shape};
 use f77_symbols::Bound;
 use fx_lists::List;
+use refusal_codes::{Code, Refusal, refuse_if};
 use std::alloc::{AllocError as Memory, Global};
 
 fn is_int_kind(kind: Kind) -> bool
@@ -206,63 +207,63 @@ pub fn dimensions_of(
     }
 }
 
-fn maybe_judged(
+fn check_maybe(
     table: &NameTable,
     e: &Option<Expr>,
     line: u32,
     found: Option<Refusal>,
 ) -> Option<Refusal>
-    ensures { result ≡ maybe_judged (table_tree table.now) (maybe_tree e.now) line found }
+    ensures { result ≡ check_maybe (table_tree table.now) (maybe_tree e.now) line found }
 {
     match e {
         None => found,
-        Some(e) => expr_judged(table, e, line, found),
+        Some(e) => check_expr(table, e, line, found),
     }
 }
 
 #[tactic(auto, using(f77_ast::proofs::PlainlyDecl::decl_lists))]
-fn bounds_judged(
+fn check_bounds(
     table: &NameTable,
     bounds: &[Bound],
     line: u32,
     mut found: Option<Refusal>,
 ) -> Option<Refusal>
-    ensures { result ≡ bounds_judged (table_tree table.now) (map bound_tree bounds.now) line found }
+    ensures { result ≡ check_bounds (table_tree table.now) (map bound_tree bounds.now) line found }
 {
     for bound in bounds {
-        found = expr_judged(table, &bound.low, line, found);
-        found = maybe_judged(table, &bound.high, line, found);
+        found = check_expr(table, &bound.low, line, found);
+        found = check_maybe(table, &bound.high, line, found);
     }
     found
 }
 
-fn shape_judged(
+fn check_shape(
     table: &NameTable,
     dummy: bool,
     shape: &Option<Shape>,
     found: Option<Refusal>,
 ) -> Option<Refusal>
-    ensures { result ≡ shape_judged (table_tree table.now) dummy (maybe_shape shape.now) found }
+    ensures { result ≡ check_shape (table_tree table.now) dummy (maybe_shape shape.now) found }
 {
     match shape {
         None => found,
         Some(shape) => {
             let bounds = shape.bounds.as_slice();
-            let found = bounds_judged(table, bounds, shape.line, found);
+            let found = check_bounds(table, bounds, shape.line, found);
             let wrong = is_bad_shape(table, dummy, bounds);
-            noted(wrong, shape.line, Cause::BadDimension, found)
+            refuse_if(wrong, shape.line, Code::BadDimension, found)
         }
     }
 }
 
 /// The first refusal, also of the bounds of all arrays.
 #[tactic(auto, using(f77_ast::proofs::PlainlyDecl::decl_lists))]
-pub fn shapes_judged(table: &NameTable, mut found: Option<Refusal>) -> Option<Refusal>
+pub fn check_shapes(table: &NameTable, mut found: Option<Refusal>) -> Option<Refusal>
     ensures { result
-        ≡ shapes_judged (table_tree table.now) (map entry_tree table.now.names) found }
+        ≡ check_shapes (table_tree table.now) (map entry_tree table.now.names) found }
 {
     for entry in table.names.as_slice() {
-        found = shape_judged(table, entry.dummy.is_some(), &entry.shape, found);
+        found = check_shape(table, entry.dummy.is_some(), &entry.shape, found);
     }
     found
 }

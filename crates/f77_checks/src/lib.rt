@@ -9,9 +9,9 @@ mod sort;
 mod statements;
 mod targets;
 
-pub use dimensions::{dimensions_of, shapes_judged};
-pub use expressions::{element_judged, expr_judged, subscripts_judged};
+pub use dimensions::{check_shapes, dimensions_of};
+pub use expressions::{check_element, check_expr, check_subscripts};
 pub use parameters::{decl_line, parameters_valued};
 pub use sizes::{Dimensions, Size};
 pub use sort::{Sort, sort_of};
-pub use statements::list_judged;
+pub use statements::check_list;

@@ -8,11 +8,12 @@ ghost use Rattle.f77_names.specs.Views.{line_in};
 ghost use Rattle.f77_checks.specs.Parameters.{decl_valued, decls_valued, given_typed, setting_valued, settings_valued};
 ghost use Rattle.f77_checks.specs.Views.{valued_tree};
 
-use crate::expressions::expr_judged;
+use crate::expressions::check_expr;
 use f77_ast::{Decl, Setting};
 use f77_constants::{Constant, Worth, worth_of};
-use f77_names::{Cause, Kind, LineTable, NameTable, Names, Refusal, Sited, noted};
+use f77_names::{Kind, LineTable, NameTable, Names, Sited};
 use fx_lists::{List, Text};
+use refusal_codes::{Code, Refusal, refuse_if};
 use std::alloc::AllocError as Memory;
 
 /// A dummy, or a name that has a value.
@@ -44,7 +45,7 @@ fn give_typed(
             found
         }
         (Kind::Int, Constant::Log(_)) | (Kind::Log, Constant::Int(_)) => {
-            noted(true, line, Cause::BadParameter, found)
+            refuse_if(true, line, Code::BadParameter, found)
         }
         (Kind::Real, _) => found,
     }
@@ -60,13 +61,13 @@ fn value_setting(
         ≡ setting_valued (setting_tree setting.now) line (valued_tree table.old found) }
 {
     let array = table.names.is_array(&setting.name);
-    let found = noted(array, line, Cause::NotAnArray, found);
+    let found = refuse_if(array, line, Code::NotAnArray, found);
     if is_taken(&table.names, &setting.name) {
-        return noted(true, line, Cause::BadParameter, found);
+        return refuse_if(true, line, Code::BadParameter, found);
     }
-    let found = expr_judged(table, &setting.value, line, found);
+    let found = check_expr(table, &setting.value, line, found);
     match worth_of(&setting.value, &table.names) {
-        Worth::Faults | Worth::Varies => noted(true, line, Cause::BadParameter, found),
+        Worth::Faults | Worth::Varies => refuse_if(true, line, Code::BadParameter, found),
         Worth::Is(value) => {
             let kind = table.kind_of(&setting.name);
             give_typed(table, kind, &setting.name, value, line, found)

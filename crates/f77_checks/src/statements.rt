@@ -7,20 +7,20 @@ ghost use Rattle.f77_names.specs.declared.lines.Sited.TheVariants.{ElseIf};
 ghost use Rattle.f77_names.specs.Lines.{line_or};
 ghost use Rattle.f77_names.specs.Views.{line_in, table_tree};
 ghost use Rattle.f77_checks.specs.Expressions.{wants_int};
-ghost use Rattle.f77_checks.specs.Statements.{arms_judged, assignment_judged, loop_judged, step_judged, stmt_judged, stmts_judged, target_judged, target_sort, what_judged};
+ghost use Rattle.f77_checks.specs.Statements.{check_arms, check_assignment, check_loop, check_step, check_stmt, check_stmts, check_target, target_sort, check_what};
 
-use crate::expressions::{expr_judged, int_judged, log_judged, wants_int};
+use crate::expressions::{check_expr, check_int, check_log, wants_int};
 use crate::sort::sort_of;
 use crate::targets::{
-    actuals_judged, index_sort, items_judged, name_written, target_judged, target_sort,
-    targets_judged,
+    check_actuals, check_items, check_target, check_targets, index_sort, name_written, target_sort,
 };
 use f77_ast::{Arm, Expr, Loop, Stmt, What};
-use f77_names::{Cause, LineTable, NameTable, Refusal, Sited, noted};
+use f77_names::{LineTable, NameTable, Sited};
 use fx_lists::{List, Text};
+use refusal_codes::{Code, Refusal, refuse_if};
 use std::alloc::AllocError as Memory;
 
-fn assignment_judged(
+fn check_assignment(
     table: &NameTable,
     left: &Expr,
     right: &Expr,
@@ -28,39 +28,39 @@ fn assignment_judged(
     found: Option<Refusal>,
 ) -> Option<Refusal>
     ensures { result
-        ≡ assignment_judged (table_tree table.now) (expr_tree left.now) (expr_tree right.now) line found }
+        ≡ check_assignment (table_tree table.now) (expr_tree left.now) (expr_tree right.now) line found }
 {
-    let found = target_judged(table, left, line, found);
-    let found = expr_judged(table, right, line, found);
+    let found = check_target(table, left, line, found);
+    let found = check_expr(table, right, line, found);
     let wrong = !target_sort(table, left).fits(sort_of(table, right));
-    noted(wrong, line, Cause::TypeMismatch, found)
+    refuse_if(wrong, line, Code::TypeMismatch, found)
 }
 
 /// The variable of a DO.
-fn index_judged(
+fn check_index(
     table: &NameTable,
     index: &Text,
     line: u32,
     found: Option<Refusal>,
 ) -> Option<Refusal>
     ensures { result
-        ≡ wants_int (target_sort (table_tree table.now) (name index.now)) line (target_judged (table_tree table.now) (name index.now) line found) }
+        ≡ wants_int (target_sort (table_tree table.now) (name index.now)) line (check_target (table_tree table.now) (name index.now) line found) }
 {
     let found = name_written(table, index, line, found);
     wants_int(index_sort(table, index), line, found)
 }
 
-fn step_judged(
+fn check_step(
     table: &NameTable,
     step: &Option<Expr>,
     line: u32,
     found: Option<Refusal>,
 ) -> Option<Refusal>
-    ensures { result ≡ step_judged (table_tree table.now) (maybe_tree step.now) line found }
+    ensures { result ≡ check_step (table_tree table.now) (maybe_tree step.now) line found }
 {
     match step {
         None => found,
-        Some(e) => int_judged(table, e, line, found),
+        Some(e) => check_int(table, e, line, found),
     }
 }
 
@@ -76,7 +76,7 @@ fn arm_line(lines: &LineTable, id: u32, place: usize, line: u32) -> Result<u32, 
 
 /// A statement within one at this line.
 #[cycle(judged)]
-fn statement_judged(
+fn check_statement(
     table: &NameTable,
     lines: &LineTable,
     s: &Stmt,
@@ -84,15 +84,15 @@ fn statement_judged(
     found: Option<Refusal>,
 ) -> Result<Option<Refusal>, Memory>
     ensures { IfOk result
-        (λ r. r ≡ stmt_judged (table_tree table.now) (line_in lines.now) (stmt_tree s.now) line found) }
+        (λ r. r ≡ check_stmt (table_tree table.now) (line_in lines.now) (stmt_tree s.now) line found) }
 {
     let line = lines.line_or(Sited::Statement(s.id), line);
-    what_judged(table, lines, &s.what, s.id, line, found)
+    check_what(table, lines, &s.what, s.id, line, found)
 }
 
 #[cycle(judged)]
 #[tactic(auto, using(f77_ast::proofs::PlainlyStmt::copy_cases, f77_ast::proofs::PlainlyStmt::what_calls))]
-fn what_judged(
+fn check_what(
     table: &NameTable,
     lines: &LineTable,
     what: &What,
@@ -101,32 +101,32 @@ fn what_judged(
     found: Option<Refusal>,
 ) -> Result<Option<Refusal>, Memory>
     ensures { IfOk result
-        (λ r. r ≡ what_judged (table_tree table.now) (line_in lines.now) (what_tree what.now) id line found) }
+        (λ r. r ≡ check_what (table_tree table.now) (line_in lines.now) (what_tree what.now) id line found) }
 {
     match what {
-        What::Assign(left, right) => Ok(assignment_judged(table, left, right, line, found)),
+        What::Assign(left, right) => Ok(check_assignment(table, left, right, line, found)),
         What::If(arms, other) => {
-            let found = arms_judged(table, lines, arms, id, line, found)?;
+            let found = check_arms(table, lines, arms, id, line, found)?;
             match other {
                 None => Ok(found),
-                Some(body) => list_judged(table, lines, body, line, found),
+                Some(body) => check_list(table, lines, body, line, found),
             }
         }
         What::LogicalIf(e, s) => {
-            let found = log_judged(table, e, line, found);
-            statement_judged(table, lines, s, line, found)
+            let found = check_log(table, e, line, found);
+            check_statement(table, lines, s, line, found)
         }
-        What::Do(l) => loop_judged(table, lines, l, line, found),
-        What::Call(_, es) => Ok(actuals_judged(table, es, line, found)),
-        What::Print(es) => Ok(items_judged(table, es, line, found)),
-        What::Read(es) => Ok(targets_judged(table, es, line, found)),
+        What::Do(l) => check_loop(table, lines, l, line, found),
+        What::Call(_, es) => Ok(check_actuals(table, es, line, found)),
+        What::Print(es) => Ok(check_items(table, es, line, found)),
+        What::Read(es) => Ok(check_targets(table, es, line, found)),
         What::Goto(_) | What::Continue | What::Return | What::Stop(_) => Ok(found),
     }
 }
 
 #[cycle(judged)]
 #[tactic(auto, using(f77_ast::proofs::PlainlyStmt::arm_steps))]
-fn arms_judged(
+fn check_arms(
     table: &NameTable,
     lines: &LineTable,
     arms: &List<Arm>,
@@ -135,19 +135,19 @@ fn arms_judged(
     mut found: Option<Refusal>,
 ) -> Result<Option<Refusal>, Memory>
     ensures { IfOk result
-        (λ r. r ≡ arms_judged (table_tree table.now) (line_in lines.now) (arm_trees arms.now) id 0 line found) }
+        (λ r. r ≡ check_arms (table_tree table.now) (line_in lines.now) (arm_trees arms.now) id 0 line found) }
 {
     for (place, arm) in arms.as_slice().iter().enumerate() {
         let own = arm_line(lines, id, place, line)?;
-        let tested = log_judged(table, &arm.test, own, found);
-        found = list_judged(table, lines, &arm.body, own, tested)?;
+        let tested = check_log(table, &arm.test, own, found);
+        found = check_list(table, lines, &arm.body, own, tested)?;
     }
     Ok(found)
 }
 
 #[cycle(judged)]
 #[tactic(auto, using(f77_ast::proofs::PlainlyStmt::read_structs))]
-fn loop_judged(
+fn check_loop(
     table: &NameTable,
     lines: &LineTable,
     l: &Loop,
@@ -155,19 +155,19 @@ fn loop_judged(
     found: Option<Refusal>,
 ) -> Result<Option<Refusal>, Memory>
     ensures { IfOk result
-        (λ r. r ≡ loop_judged (table_tree table.now) (line_in lines.now) (loop_tree l.now) line found) }
+        (λ r. r ≡ check_loop (table_tree table.now) (line_in lines.now) (loop_tree l.now) line found) }
 {
-    let found = index_judged(table, &l.index, line, found);
-    let found = int_judged(table, &l.first, line, found);
-    let found = int_judged(table, &l.last, line, found);
-    let found = step_judged(table, &l.step, line, found);
-    list_judged(table, lines, &l.body, line, found)
+    let found = check_index(table, &l.index, line, found);
+    let found = check_int(table, &l.first, line, found);
+    let found = check_int(table, &l.last, line, found);
+    let found = check_step(table, &l.step, line, found);
+    check_list(table, lines, &l.body, line, found)
 }
 
 /// The first refusal, also of the statements of a list. It fails where an IF has 2^32 parts.
 #[cycle(judged)]
 #[tactic(auto, using(f77_ast::proofs::PlainlyStmt::list_steps))]
-pub fn list_judged(
+pub fn check_list(
     table: &NameTable,
     lines: &LineTable,
     body: &List<Stmt>,
@@ -175,10 +175,10 @@ pub fn list_judged(
     mut found: Option<Refusal>,
 ) -> Result<Option<Refusal>, Memory>
     ensures { IfOk result
-        (λ r. r ≡ stmts_judged (table_tree table.now) (line_in lines.now) (stmt_trees body.now) line found) }
+        (λ r. r ≡ check_stmts (table_tree table.now) (line_in lines.now) (stmt_trees body.now) line found) }
 {
     for s in body.as_slice() {
-        found = statement_judged(table, lines, s, line, found)?;
+        found = check_statement(table, lines, s, line, found)?;
     }
     Ok(found)
 }

@@ -6,13 +6,14 @@ ghost use Rattle.f77_names.specs.Entries.{is_parameter};
 ghost use Rattle.f77_names.specs.Functions.{function_of};
 ghost use Rattle.f77_names.specs.Views.{table_tree};
 ghost use Rattle.f77_checks.specs.Expressions.{sort_of};
-ghost use Rattle.f77_checks.specs.Statements.{actual_judged, actuals_judged, bare_actual, element_written, item_judged, items_judged, name_written, no_chars, target_judged, target_sort, targets_judged, unknown_or};
+ghost use Rattle.f77_checks.specs.Statements.{check_actual, check_actuals, bare_actual, element_written, check_item, check_items, name_written, no_chars, check_target, target_sort, check_targets, unknown_or};
 
-use crate::expressions::{element_judged, expr_judged, name_judged, subscripts_judged};
+use crate::expressions::{check_element, check_expr, check_name, check_subscripts};
 use crate::sort::{Sort, named_sort, sort_of};
 use f77_ast::Expr;
-use f77_names::{Cause, Function, NameTable, Refusal, noted};
+use f77_names::{Function, NameTable};
 use fx_lists::{List, Text};
+use refusal_codes::{Code, Refusal, refuse_if};
 
 /// The type of a name that is written to, which is not asked of a function.
 fn unknown_or(function: Option<Function>, sort: Sort) -> Sort
@@ -58,11 +59,11 @@ pub fn name_written(
     ensures { result ≡ name_written (function_of table.now.arrays name.now) (table_tree table.now) name.now line found }
 {
     match table.function_of(name) {
-        Some(_) => noted(true, line, Cause::AssignToConstant, found),
+        Some(_) => refuse_if(true, line, Code::AssignToConstant, found),
         None => {
             let wrong = is_parameter(table, name);
-            let found = noted(wrong, line, Cause::AssignToConstant, found);
-            name_judged(table, name, line, found)
+            let found = refuse_if(wrong, line, Code::AssignToConstant, found);
+            check_name(table, name, line, found)
         }
     }
 }
@@ -79,26 +80,26 @@ fn element_written(
 {
     match table.function_of(name) {
         Some(_) => {
-            let found = noted(true, line, Cause::AssignToConstant, found);
-            subscripts_judged(table, es, line, found)
+            let found = refuse_if(true, line, Code::AssignToConstant, found);
+            check_subscripts(table, es, line, found)
         }
         None => {
             let wrong = is_parameter(table, name);
-            let found = noted(wrong, line, Cause::AssignToConstant, found);
-            element_judged(table, name, es, line, found)
+            let found = refuse_if(wrong, line, Code::AssignToConstant, found);
+            check_element(table, name, es, line, found)
         }
     }
 }
 
 /// A left side or an item of READ.
 #[tactic(auto, using(f77_ast::proofs::Plainly::expr_cases))]
-pub fn target_judged(
+pub fn check_target(
     table: &NameTable,
     e: &Expr,
     line: u32,
     found: Option<Refusal>,
 ) -> Option<Refusal>
-    ensures { result ≡ target_judged (table_tree table.now) (expr_tree e.now) line found }
+    ensures { result ≡ check_target (table_tree table.now) (expr_tree e.now) line found }
 {
     match e {
         Expr::Name(name) => name_written(table, name, line, found),
@@ -108,21 +109,21 @@ pub fn target_judged(
         | Expr::Paren(_)
         | Expr::Unary(..)
         | Expr::Binary(..)
-        | Expr::Chars(_) => expr_judged(table, e, line, found),
+        | Expr::Chars(_) => check_expr(table, e, line, found),
     }
 }
 
 #[tactic(auto, using(f77_ast::proofs::Plainly::expr_lists))]
-pub fn targets_judged(
+pub fn check_targets(
     table: &NameTable,
     es: &List<Expr>,
     line: u32,
     mut found: Option<Refusal>,
 ) -> Option<Refusal>
-    ensures { result ≡ targets_judged (table_tree table.now) (expr_trees es.now) line found }
+    ensures { result ≡ check_targets (table_tree table.now) (expr_trees es.now) line found }
 {
     for e in es.as_slice() {
-        found = target_judged(table, e, line, found);
+        found = check_target(table, e, line, found);
     }
     found
 }
@@ -130,7 +131,7 @@ pub fn targets_judged(
 fn no_chars(sort: Sort, line: u32, found: Option<Refusal>) -> Option<Refusal>
     ensures { result ≡ no_chars sort line found }
 {
-    noted(sort.is_chars(), line, Cause::TypeMismatch, found)
+    refuse_if(sort.is_chars(), line, Code::TypeMismatch, found)
 }
 
 /// A name alone as an argument: an array may stand whole.
@@ -139,13 +140,13 @@ fn bare_actual(table: &NameTable, name: &Text, line: u32, found: Option<Refusal>
 {
     match table.function_of(name) {
         None => found,
-        Some(_) => name_judged(table, name, line, found),
+        Some(_) => check_name(table, name, line, found),
     }
 }
 
 #[tactic(auto, using(f77_ast::proofs::Plainly::expr_cases))]
-fn actual_judged(table: &NameTable, e: &Expr, line: u32, found: Option<Refusal>) -> Option<Refusal>
-    ensures { result ≡ actual_judged (table_tree table.now) (expr_tree e.now) line found }
+fn check_actual(table: &NameTable, e: &Expr, line: u32, found: Option<Refusal>) -> Option<Refusal>
+    ensures { result ≡ check_actual (table_tree table.now) (expr_tree e.now) line found }
 {
     match e {
         Expr::Name(name) => bare_actual(table, name, line, found),
@@ -155,21 +156,21 @@ fn actual_judged(table: &NameTable, e: &Expr, line: u32, found: Option<Refusal>)
         | Expr::Paren(_)
         | Expr::Unary(..)
         | Expr::Binary(..)
-        | Expr::Chars(_) => expr_judged(table, e, line, found),
+        | Expr::Chars(_) => check_expr(table, e, line, found),
     }
 }
 
 #[tactic(auto, using(f77_ast::proofs::Plainly::expr_lists))]
-pub fn actuals_judged(
+pub fn check_actuals(
     table: &NameTable,
     es: &List<Expr>,
     line: u32,
     mut found: Option<Refusal>,
 ) -> Option<Refusal>
-    ensures { result ≡ actuals_judged (table_tree table.now) (expr_trees es.now) line found }
+    ensures { result ≡ check_actuals (table_tree table.now) (expr_trees es.now) line found }
 {
     for e in es.as_slice() {
-        found = actual_judged(table, e, line, found);
+        found = check_actual(table, e, line, found);
         found = no_chars(sort_of(table, e), line, found);
     }
     found
@@ -177,13 +178,13 @@ pub fn actuals_judged(
 
 /// Characters alone are an item.
 #[tactic(auto, using(f77_ast::proofs::Plainly::expr_cases))]
-fn item_judged(table: &NameTable, e: &Expr, line: u32, found: Option<Refusal>) -> Option<Refusal>
-    ensures { result ≡ item_judged (table_tree table.now) (expr_tree e.now) line found }
+fn check_item(table: &NameTable, e: &Expr, line: u32, found: Option<Refusal>) -> Option<Refusal>
+    ensures { result ≡ check_item (table_tree table.now) (expr_tree e.now) line found }
 {
     match e {
         Expr::Chars(_) => found,
         Expr::Paren(inner) => {
-            let found = expr_judged(table, e, line, found);
+            let found = check_expr(table, e, line, found);
             no_chars(sort_of(table, inner), line, found)
         }
         Expr::Int(_)
@@ -191,21 +192,21 @@ fn item_judged(table: &NameTable, e: &Expr, line: u32, found: Option<Refusal>) -
         | Expr::Name(_)
         | Expr::Element(..)
         | Expr::Unary(..)
-        | Expr::Binary(..) => expr_judged(table, e, line, found),
+        | Expr::Binary(..) => check_expr(table, e, line, found),
     }
 }
 
 #[tactic(auto, using(f77_ast::proofs::Plainly::expr_lists))]
-pub fn items_judged(
+pub fn check_items(
     table: &NameTable,
     es: &List<Expr>,
     line: u32,
     mut found: Option<Refusal>,
 ) -> Option<Refusal>
-    ensures { result ≡ items_judged (table_tree table.now) (expr_trees es.now) line found }
+    ensures { result ≡ check_items (table_tree table.now) (expr_trees es.now) line found }
 {
     for e in es.as_slice() {
-        found = item_judged(table, e, line, found);
+        found = check_item(table, e, line, found);
     }
     found
 }

@@ -10,7 +10,7 @@ use Rattle.f77_ast.specs.Plain.{exprs_of}
 use Rattle.f77_exprs.specs.State.{State, Reader, take_word, or_done, or_else, ◌>>=◌}
 use Rattle.f77_exprs.specs.Operators.{relations, equivalences, sums, products}
 use Rattle.f77_exprs.specs.Lexical.{name_at, number_first}
-use Rattle.f77_exprs.specs.Grammar.{Part, whole, power, Inner, more, chain, comma, more_by, items_by, items, element_at, variable_in, parenthesis, constant_at, literal, primary, exponent, factor, term, signed, signed_term, arithmetic, comparison, relation, denied, negation, conjunction, disjunction, equivalence, part, expression, variable}
+use Rattle.f77_exprs.specs.Grammar.{Part, whole, power, Inner, more, chain, comma, more_by, items_by, items, element_at, variable_in, parenthesis, constant_at, literal, primary, exponent, factor, term, signed, signed_term, arithmetic, comparison, relation, negated_relation, negation, conjunction, disjunction, equivalence, part, expression, variable}
 use Rattle.f77_exprs.specs.Laws.{inside, IsGrammar}
 use Rattle.f77_exprs.proofs.Same.{Within, Same, fixed, weaker, seq, Taken, taken, behind, either, operated, counted}
 use Rattle.f77_exprs.proofs.Steady.{name_at-within, number-within, constant_at-within}
@@ -159,8 +159,8 @@ relation-same : (k : ℕ) (I J : Inner) → Parts k I J → Same (k + 1) (relati
 unfolding relation
 relation-same k I J x = seq (k + 1) (arithmetic I) (arithmetic J) (comparison I) (comparison J) (arithmetic-same k I J x) (λ l. comparison-same k I J l x)
 
-denied-same : (k : ℕ) (I J : Inner) → Parts k I J → Same (k + 1) (denied I) (denied J)
-unfolding denied
+denied-same : (k : ℕ) (I J : Inner) → Parts k I J → Same (k + 1) (negated_relation I) (negated_relation J)
+unfolding negated_relation
 denied-same k I J x =
     let F : ExprTree → Reader ExprTree = λ r s. Some (unary Not r, s) in
     seq (k + 1) (relation I) (relation J) F F (relation-same k I J x) (λ r. done (k + 1) (unary Not r))
@@ -168,8 +168,8 @@ denied-same k I J x =
 negation-same : (k : ℕ) (I J : Inner) → Parts k I J → Same (k + 1) (negation I) (negation J)
 unfolding negation
 negation-same k I J x =
-    either k 46 (78 ∷ 79 ∷ 84 ∷ 46 ∷ []) (denied I) (denied J) (relation I) (relation J)
-    (lower k (denied I) (denied J) (denied-same k I J x)) (relation-same k I J x)
+    either k 46 (78 ∷ 79 ∷ 84 ∷ 46 ∷ []) (negated_relation I) (negated_relation J) (relation I) (relation J)
+    (lower k (negated_relation I) (negated_relation J) (denied-same k I J x)) (relation-same k I J x)
 
 equivalence-same : (k : ℕ) (I J : Inner) → Parts k I J → Same (k + 1) (equivalence I) (equivalence J)
 equivalence-same k I J x =

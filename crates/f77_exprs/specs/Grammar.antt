@@ -124,12 +124,12 @@ comparison inner left s =
 unfoldable pub relation : Inner → Reader ExprTree
 relation inner s = arithmetic inner s >>= λ l. comparison inner l.0 l.1
 
-unfoldable pub denied : Inner → Reader ExprTree
-denied inner s = relation inner s >>= λ r. Some (unary Not r.0, r.1)
+unfoldable pub negated_relation : Inner → Reader ExprTree
+negated_relation inner s = relation inner s >>= λ r. Some (unary Not r.0, r.1)
 
 -- `.NOT.` once at most
 unfoldable pub negation : Inner → Reader ExprTree
-negation inner s = or_else (take_word (codes ".NOT.") s) (denied inner) (relation inner s)
+negation inner s = or_else (take_word (codes ".NOT.") s) (negated_relation inner) (relation inner s)
 
 abbrev pub conjunction : Inner → Reader ExprTree
 conjunction inner = chain (And ∷ []) (negation inner)

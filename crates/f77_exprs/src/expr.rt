@@ -2,7 +2,7 @@
 ghost use Rattle.std.specs.Prelude.{◌≡◌, ◌≤◌, ℕ, length, map, IfOk};
 ghost use Rattle.f77_ast.specs.Plain.{expr_tree};
 ghost use Rattle.f77_exprs.specs.State.{state, GivesAs, GivesExpr};
-ghost use Rattle.f77_exprs.specs.Grammar.{part, whole, power, more, operators_of, operand_of, comma, more_by, items, element_at, variable_in, parenthesis, primary, exponent, factor, term, signed, signed_term, arithmetic, comparison, relation, denied, negation, conjunction, disjunction, equivalence, expression, variable};
+ghost use Rattle.f77_exprs.specs.Grammar.{part, whole, power, more, operators_of, operand_of, comma, more_by, items, element_at, variable_in, parenthesis, primary, exponent, factor, term, signed, signed_term, arithmetic, comparison, relation, negated_relation, negation, conjunction, disjunction, equivalence, expression, variable};
 
 use crate::build::{binary, paren, unary};
 use crate::constants::constant_at;
@@ -131,15 +131,15 @@ fn negation(alloc: Global, depth: usize, at: At<'_>) -> Reading<'_, Expr>
 {
     match at.take_word(b".NOT.") {
         None => relation(alloc, depth, at),
-        Some(rest) => denied(alloc, depth, rest),
+        Some(rest) => negated_relation(alloc, depth, rest),
     }
 }
 
 #[cycle(expr)]
-#[tactic(auto, unfolding(crate::specs::Grammar::denied))]
+#[tactic(auto, unfolding(crate::specs::Grammar::negated_relation))]
 #[inline(never)]
-fn denied(alloc: Global, depth: usize, at: At<'_>) -> Reading<'_, Expr>
-    ensures { GivesExpr result (denied (part depth) (state at.entry)) }
+fn negated_relation(alloc: Global, depth: usize, at: At<'_>) -> Reading<'_, Expr>
+    ensures { GivesExpr result (negated_relation (part depth) (state at.entry)) }
 {
     let (tree, rest) = relation(alloc, depth, at)?;
     let tree = unary(alloc, UnaryOp::Not, tree)?;

@@ -10,8 +10,8 @@ use Rattle.f77_forms.specs.declared.outline.Marks.{Marks}
 use Rattle.f77_forms.specs.declared.outline.Marks.TheVariants.{NoEqual, Equal, EqualAndComma}
 use Rattle.f77_forms.specs.declared.refused.Refused.{Refused}
 use Rattle.f77_forms.specs.declared.refused.Refused.TheVariants.{ArithmeticIf}
-use Rattle.f77_forms.specs.Words.{behind, begins, is_letter, is_digit, is_empty}
-use Rattle.f77_forms.specs.Outline.{front, marks_of, behind_close}
+use Rattle.f77_forms.specs.Words.{rest_after, begins, is_letter, is_digit, is_empty}
+use Rattle.f77_forms.specs.Outline.{front, marks_of, rest_after_close}
 use Rattle.f77_forms.specs.Longest.{longest}
 use Rattle.f77_forms.specs.Refused.{refused_word, refused_keywords, refused_stands}
 
@@ -36,10 +36,10 @@ if_behind (c ∷ cs) =
 
 abbrev pub if_body : List ℕ → Option Choice
 if_body [] = None
-if_body (c ∷ cs) = if nat_eq c 40 then option_and_then if_behind (behind_close front (c ∷ cs)) else None
+if_body (c ∷ cs) = if nat_eq c 40 then option_and_then if_behind (rest_after_close front (c ∷ cs)) else None
 
 abbrev pub if_choice : List ℕ → Option Choice
-if_choice body = option_and_then if_body (behind (codes "IF") body)
+if_choice body = option_and_then if_body (rest_after (codes "IF") body)
 
 -- 4. the longest keyword that the statement begins with, of the table and of those that are refused; where they are the same, it is refused
 abbrev pub entry_stands : List ℕ → Entry → Bool

@@ -38,6 +38,6 @@ abbrev pub is_one_deep : Outline → Bool
 is_one_deep o = not o.quoted && nat_eq o.opens (o.closes + 1)
 
 -- what stands behind the parenthesis that closes the one at the front
-abbrev pub behind_close : Outline → List ℕ → Option (List ℕ)
-behind_close o [] = None
-behind_close o (c ∷ cs) = if nat_eq c 41 && is_one_deep o then Some cs else behind_close (step c o) cs
+abbrev pub rest_after_close : Outline → List ℕ → Option (List ℕ)
+rest_after_close o [] = None
+rest_after_close o (c ∷ cs) = if nat_eq c 41 && is_one_deep o then Some cs else rest_after_close (step c o) cs

@@ -3,7 +3,7 @@ use Rattle.std.specs.Prelude.{ℕ, List, [], ◌∷◌, Option, Some, None, Bool
 use Rattle.std.specs.List.{list_any}
 use Rattle.f77_forms.specs.declared.refused.Refused.{Refused}
 use Rattle.f77_forms.specs.declared.refused.Refused.TheVariants.{Real, DoublePrecision, Complex, Character, Format, Open, Close, Inquire, Rewind, Backspace, EndFile, Entry, BlockData, External, Intrinsic, Assign, Pause, Function, IntegerFunction, LogicalFunction, DoWhile, OtherGoto, OtherPrint, OtherWrite, OtherRead, ArithmeticIf}
-use Rattle.f77_forms.specs.Words.{behind, begins, is_letter, is_empty}
+use Rattle.f77_forms.specs.Words.{rest_after, begins, is_letter, is_empty}
 
 abbrev pub refused_word : Refused → List ℕ
 refused_word Real = codes "REAL"
@@ -63,4 +63,4 @@ stands_before r (Some rest) = is_refused_before r rest
 
 -- a statement begins with the keyword and is refused for it
 abbrev pub refused_stands : List ℕ → Refused → Bool
-refused_stands body r = stands_before r (behind (refused_word r) body)
+refused_stands body r = stands_before r (rest_after (refused_word r) body)

@@ -3,13 +3,13 @@ use Rattle.std.specs.Prelude.{ℕ, List, [], ◌∷◌, Option, None, Some, Bool
 use denote.Ref.{Bor}
 
 -- what stands behind a word at the front
-abbrev pub behind : List ℕ → List ℕ → Option (List ℕ)
-behind [] text = Some text
-behind (w ∷ ws) [] = None
-behind (w ∷ ws) (c ∷ cs) = if nat_eq c w then behind ws cs else None
+abbrev pub rest_after : List ℕ → List ℕ → Option (List ℕ)
+rest_after [] text = Some text
+rest_after (w ∷ ws) [] = None
+rest_after (w ∷ ws) (c ∷ cs) = if nat_eq c w then rest_after ws cs else None
 
 abbrev pub begins : List ℕ → List ℕ → Bool
-begins word text = is_some (behind word text)
+begins word text = is_some (rest_after word text)
 
 -- A to Z
 abbrev pub is_letter : ℕ → Bool

@@ -7,9 +7,9 @@ ghost use Rattle.f77_forms.specs.Profile.{profile, statement_form, statement_ref
 
 use crate::form::{Form, FormId, profile};
 use crate::longest::longest;
-use crate::outline::{Marks, behind_close, marks_of};
+use crate::outline::{Marks, marks_of, rest_after_close};
 use crate::refused::{REFUSED, Refused};
-use crate::words::{begins, behind, is_digit, is_letter};
+use crate::words::{begins, is_digit, is_letter, rest_after};
 use fx_lists::Text;
 
 /// What the rules say of a statement.
@@ -52,7 +52,7 @@ fn if_body(body: &[u8]) -> Option<Choice>
             if *c != b'(' {
                 return None;
             }
-            match behind_close(body) {
+            match rest_after_close(body) {
                 None => None,
                 Some(rest) => if_behind(rest),
             }
@@ -64,7 +64,7 @@ fn if_choice(body: &[u8]) -> Option<Choice>
     requires { length body.now < 2 ^ 63 }
     ensures { result ≡ if_choice body.now }
 {
-    match behind(b"IF", body) {
+    match rest_after(b"IF", body) {
         None => None,
         Some(rest) => if_body(rest),
     }

@@ -5,7 +5,7 @@ ghost use Rattle.f77_forms.specs.Longest.{longer, longest};
 
 use crate::form::Form;
 use crate::refused::Refused;
-use crate::words::{begins, behind};
+use crate::words::{begins, rest_after};
 
 /// A keyword, and when it stands at the front of a statement.
 pub trait Keyword {
@@ -50,7 +50,7 @@ impl Keyword for Refused {
     }
 
     fn stands(&self, body: &[u8]) -> bool {
-        match behind(self.keyword().as_bytes(), body) {
+        match rest_after(self.keyword().as_bytes(), body) {
             None => false,
             Some(rest) => self.is_refused_before(rest),
         }

@@ -2,7 +2,7 @@
 
 ghost use Rattle.std.specs.Prelude.{◌≡◌, ◌+◌, ◌<◌, ◌^◌, length};
 ghost use Rattle.f77_forms.specs.Words.{slice_now};
-ghost use Rattle.f77_forms.specs.Outline.{step, is_outer, is_one_deep, has_comma, marks_of, behind_close, front};
+ghost use Rattle.f77_forms.specs.Outline.{step, is_outer, is_one_deep, has_comma, marks_of, rest_after_close, front};
 
 /// What stands before a character: how many parentheses opened and closed, and whether a constant is open.
 #[derive(Clone, Copy, Debug)]
@@ -118,9 +118,9 @@ pub fn marks_of(text: &[u8]) -> Marks
 }
 
 /// What stands behind the parenthesis that closes the one at the front.
-pub fn behind_close(text: &[u8]) -> Option<&[u8]>
+pub fn rest_after_close(text: &[u8]) -> Option<&[u8]>
     requires { length text.now < 2 ^ 63 }
-    ensures { slice_now result ≡ behind_close front text.now }
+    ensures { slice_now result ≡ rest_after_close front text.now }
 {
     let mut outline = Outline::front();
     let mut rest = text;

@@ -1,12 +1,12 @@
 //! Words at the front of a text.
 
 ghost use Rattle.std.specs.Prelude.{◌≡◌};
-ghost use Rattle.f77_forms.specs.Words.{behind, slice_now, begins, is_letter, is_digit};
+ghost use Rattle.f77_forms.specs.Words.{rest_after, slice_now, begins, is_letter, is_digit};
 
 /// What stands behind a word at the front, or `None` where the text begins otherwise.
 #[tactic(auto, using(crate::proofs::WordLemmas::behind_end))]
-pub fn behind<'a>(word: &[u8], text: &'a [u8]) -> Option<&'a [u8]>
-    ensures { slice_now result ≡ behind word.now text.now }
+pub fn rest_after<'a>(word: &[u8], text: &'a [u8]) -> Option<&'a [u8]>
+    ensures { slice_now result ≡ rest_after word.now text.now }
 {
     let mut rest = text;
     for w in word {
@@ -26,7 +26,7 @@ pub fn behind<'a>(word: &[u8], text: &'a [u8]) -> Option<&'a [u8]>
 pub fn begins(word: &[u8], text: &[u8]) -> bool
     ensures { result ≡ begins word.now text.now }
 {
-    behind(word, text).is_some()
+    rest_after(word, text).is_some()
 }
 
 pub fn is_letter(c: u8) -> bool

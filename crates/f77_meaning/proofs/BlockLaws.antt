@@ -7,6 +7,7 @@ use Rattle.std.specs.declared.cmp.Ordering.TheVariants.{Less, Equal, Greater}
 use Rattle.std.specs.Ordering.{match_ordering, is_eq}
 use Rattle.std.proofs.lemmas.Map.Text.{is_eq-slice_cmp}
 use Rattle.std.proofs.lemmas.Slice.Eq.{bytes_eq-Decides}
+use Rattle.std.proofs.lemmas.Bool.{or_left, or_right}
 use Rattle.f77_symbols.specs.declared.symbol.Place.{Place}
 use Rattle.f77_symbols.specs.declared.symbol.Place.TheVariants as place
 use Rattle.f77_symbols.specs.Symbols.{SymbolTree, number_from}
@@ -18,7 +19,7 @@ use Rattle.f77_meaning.specs.Areas as area
 use Rattle.f77_meaning.specs.Modules.{Known}
 use Rattle.f77_meaning.specs.Linked.{numbering}
 use Rattle.f77_meaning.specs.Laws.{IsKnown, area_of, AreasAreKnown}
-use Rattle.f77_meaning.proofs.LinkLaws.{or_right, modules_are_known}
+use Rattle.f77_meaning.proofs.LinkLaws.{modules_are_known}
 use Rattle.f77_meaning.proofs.ModuleLaws.{numbered_place}
 
 abbrev has : List ℕ → List Block → Bool
@@ -26,10 +27,6 @@ has x bs = list_any (λ b. bytes_eq x b.name) bs
 
 same_bytes : (x : List ℕ) → bytes_eq x x ≡ true
 same_bytes x = (bytes_eq-Decides x x).1 refl
-
-or_left : (b c : Bool) → b ≡ true → (b || c) ≡ true
-or_left true c h = refl
-or_left false c h = cc
 
 put_has : (x : List ℕ) (n : ℕ) (bs : List Block) → has x (block_put x n bs) ≡ true
 put_has x n [] = or_left (bytes_eq x x) false (same_bytes x)

@@ -5,7 +5,7 @@ use Rattle.std.specs.List.{list_any}
 use Rattle.std.specs.declared.cmp.Ordering.{Ordering}
 use Rattle.std.specs.declared.cmp.Ordering.TheVariants.{Less, Equal, Greater}
 use Rattle.std.specs.Ordering.{match_ordering, ordering_then, is_eq, nat_cmp}
-use Rattle.std.proofs.lemmas.Bool.{and_parts, and_from, eqb-true, eq-eqb, leb-true, ltb-true, not-true}
+use Rattle.std.proofs.lemmas.Bool.{and_parts, and_from, eqb-true, eq-eqb, leb-true, ltb-true, not-true, or_parts, or_left, or_right}
 use Rattle.std.proofs.lemmas.Bool.Decides.{nat_tests}
 use Rattle.std.proofs.lemmas.Map.Text.{is_eq-slice_cmp}
 use Rattle.std.proofs.lemmas.Slice.Eq.{bytes_eq-Decides}
@@ -14,25 +14,16 @@ use Rattle.f77_symbols.specs.declared.symbol.Place.{Place}
 use Rattle.f77_symbols.specs.declared.symbol.Place.TheVariants as place
 use Rattle.f77_symbols.specs.declared.variable.Unit.{Unit as BlockUnit}
 use Rattle.f77_symbols.specs.Symbols.{SymbolTree, number_from, value_in}
-use Rattle.f77_symbols.specs.Units.{units_in, bounds_units, capped}
-use Rattle.tracked_cells.specs.Equivalences.{equivalenced}
+use Rattle.f77_symbols.specs.Units.{units_in, bounds_units}
+use Rattle.tracked_cells.specs.Equivalences.{equivalenced_names}
 use Rattle.tracked_cells.specs.Standing.{is_int, has_bounds, is_int_scalar, is_plain, reaches, place_has, stands_at, spoils, spoils_at, two_at}
 use Rattle.tracked_cells.specs.Scalars.{name_cmp, unit_cmp, unit, unit_put, place_unit, with_scalar, with_scalars, all_scalars}
-use Rattle.tracked_cells.specs.Untracked.{some_spoils, all_equivalenced, begin_of, untracked_of}
+use Rattle.tracked_cells.specs.Untracked.{some_spoils, equivalenced_names_of_all, begin_of, untracked_of}
 use Rattle.tracked_cells.specs.Tracked.{is_unit, is_alone, is_tracked}
 use Rattle.f77_meaning.specs.Laws.{CommonCellsAreAlone, CommonCellsAreCells}
-use Rattle.f77_meaning.proofs.LinkLaws.{or_right}
 
 abbrev among : BlockUnit → List BlockUnit → Bool
 among u us = list_any (is_unit u.block u.offset) us
-
-or_false : (a b : Bool) → (a || b) ≡ false → (a ≡ false) × (b ≡ false)
-or_false true b e = cc
-or_false false b e = (refl, e)
-
-or_left : (b c : Bool) → b ≡ true → (b || c) ≡ true
-or_left true c h = refl
-or_left false c h = cc
 
 -- ---- the units of scalars
 
@@ -124,20 +115,20 @@ left_out f u [] e h = cc
 left_out f u (v ∷ us) e h = go (is_unit u.block u.offset v) (f (begin_of v)) refl refl e h (left_out f u us)
   where
     go : (b d : Bool) → is_unit u.block u.offset v ≡ b → f (begin_of v) ≡ d → (b || among u us) ≡ true → among u (cond d (v ∷ filter (λ w. f (begin_of w)) us) (filter (λ w. f (begin_of w)) us)) ≡ false → (among u us ≡ true → among u (filter (λ w. f (begin_of w)) us) ≡ false → f (begin_of u) ≡ false) → f (begin_of u) ≡ false
-    go true true is t e h ih = let z = (or_false (is_unit u.block u.offset v) (among u (filter (λ w. f (begin_of w)) us)) h).0 in cc
+    go true true is t e h ih = let z = (or_parts (is_unit u.block u.offset v) (among u (filter (λ w. f (begin_of w)) us)) h).0 in cc
     go true false is t e h ih = of_unit f u v is t
-    go false true is t e h ih = ih e (or_false (is_unit u.block u.offset v) (among u (filter (λ w. f (begin_of w)) us)) h).1
+    go false true is t e h ih = ih e (or_parts (is_unit u.block u.offset v) (among u (filter (λ w. f (begin_of w)) us)) h).1
     go false false is t e h ih = ih e h
 
-unspoilt : (ps : List ParsedTree) (sss : List (List SymbolTree)) (at : Place) → some_spoils (all_equivalenced ps) sss at ≡ false → (k : ℕ) (p : ParsedTree) (ss : List SymbolTree) → slice_get ps k ≡ Some p → slice_get sss k ≡ Some ss → spoils (equivalenced p.module_read) ss at ≡ false
+unspoilt : (ps : List ParsedTree) (sss : List (List SymbolTree)) (at : Place) → some_spoils (equivalenced_names_of_all ps) sss at ≡ false → (k : ℕ) (p : ParsedTree) (ss : List SymbolTree) → slice_get ps k ≡ Some p → slice_get sss k ≡ Some ss → spoils (equivalenced_names p.module_read) ss at ≡ false
 unspoilt [] sss at e k p ss a b = cc
 unspoilt (q ∷ ps) [] at e k p ss a b = cc
 unspoilt (q ∷ ps) (ts ∷ sss) at e zero p ss a b =
-    let parts = or_false (spoils (equivalenced q.module_read) ts at) (some_spoils (all_equivalenced ps) sss at) e in
+    let parts = or_parts (spoils (equivalenced_names q.module_read) ts at) (some_spoils (equivalenced_names_of_all ps) sss at) e in
     let x : q ≡ p = cc in
     let y : ts ≡ ss = cc in
-    subst (λ (z : ParsedTree). spoils (equivalenced z.module_read) ss at ≡ false) x (subst (λ (z : List SymbolTree). spoils (equivalenced q.module_read) z at ≡ false) y parts.0)
-unspoilt (q ∷ ps) (ts ∷ sss) at e (suc k) p ss a b = unspoilt ps sss at (or_false (spoils (equivalenced q.module_read) ts at) (some_spoils (all_equivalenced ps) sss at) e).1 k p ss a b
+    subst (λ (z : ParsedTree). spoils (equivalenced_names z.module_read) ss at ≡ false) x (subst (λ (z : List SymbolTree). spoils (equivalenced_names q.module_read) z at ≡ false) y parts.0)
+unspoilt (q ∷ ps) (ts ∷ sss) at e (suc k) p ss a b = unspoilt ps sss at (or_parts (spoils (equivalenced_names q.module_read) ts at) (some_spoils (equivalenced_names_of_all ps) sss at) e).1 k p ss a b
 
 -- a tracked scalar of a block is an INTEGER scalar at a unit that is not untracked
 tracked_parts : (names : List (List ℕ)) (ss : List SymbolTree) (us : List BlockUnit) (s : SymbolTree) (x : List ℕ) (o : ℕ) → s.place ≡ place.Block x o → is_tracked names ss us s ≡ true → (is_int_scalar s ≡ true) × (among (unit x o) us ≡ false)
@@ -148,15 +139,15 @@ tracked_parts names ss us s x o at h =
 pub common_cells_are_alone : CommonCellsAreAlone
 common_cells_are_alone ps sss k n names ss s x o has is at tracked j q ts a b =
     let p = tracked_parts names ss (untracked_of ps sss) s x o at tracked in
-    let calm = left_out (λ v. some_spoils (all_equivalenced ps) sss v) (unit x o) (all_scalars sss []) (all_have s x o at p.0 sss [] k n ss has is) p.1 in
+    let calm = left_out (λ v. some_spoils (equivalenced_names_of_all ps) sss v) (unit x o) (all_scalars sss []) (all_have s x o at p.0 sss [] k n ss has is) p.1 in
     unspoilt ps sss (place.Block x o) calm j q ts a b
 
 -- ---- the cells of other modules
 
 none_of : (f : SymbolTree → Bool) (ss : List SymbolTree) → list_any f ss ≡ false → (n : ℕ) (s : SymbolTree) → slice_get ss n ≡ Some s → f s ≡ false
 none_of f [] e n s a = cc
-none_of f (t ∷ ss) e zero s a = let x : t ≡ s = cc in subst (λ (z : SymbolTree). f z ≡ false) x (or_false (f t) (list_any f ss) e).0
-none_of f (t ∷ ss) e (suc n) s a = none_of f ss (or_false (f t) (list_any f ss) e).1 n s a
+none_of f (t ∷ ss) e zero s a = let x : t ≡ s = cc in subst (λ (z : SymbolTree). f z ≡ false) x (or_parts (f t) (list_any f ss) e).0
+none_of f (t ∷ ss) e (suc n) s a = none_of f ss (or_parts (f t) (list_any f ss) e).1 n s a
 
 plain_from : (a b : Bool) → (a && not b) ≡ false → a ≡ true → b ≡ true
 plain_from true true e h = refl
@@ -176,9 +167,9 @@ stands_there x o (place.Local g r) h = cc
 stands_there x o (place.Dummy m) h = cc
 stands_there x o (place.Block y r) h =
     let p = and_parts (bytes_eq y x) (reaches r 1 o) h in
-    let q = and_parts (nat_le r o) (nat_lt o (capped (r + 1))) p.1 in
+    let q = and_parts (nat_le r o) (nat_lt o (r + 1)) p.1 in
     let low = leb-true r o q.0 in
-    let high = ltb-true o (capped (r + 1)) q.1 in
+    let high = ltb-true o (r + 1) q.1 in
     let same : r ≡ o = omega (arith, low, high) in
     ap (λ z. place.Block z r) ((bytes_eq-Decides y x).0 p.0) ∙ ap (place.Block x) same
 stands_there x o (place.Constant m) h = cc
@@ -186,10 +177,10 @@ stands_there x o (place.Constant m) h = cc
 pub common_cells_are_cells : CommonCellsAreCells
 common_cells_are_cells ps sss k n names ss s x o has is at tracked j q ts a b m t e stands =
     let alone = common_cells_are_alone ps sss k n names ss s x o has is at tracked j q ts a b in
-    let none = (or_false (list_any (spoils_at (equivalenced q.module_read) ts (place.Block x o)) ts) (two_at ts (place.Block x o) ts) alone).0 in
-    let plain = plain_from (stands_at ts (place.Block x o) t) (is_plain (equivalenced q.module_read) t) (none_of (spoils_at (equivalenced q.module_read) ts (place.Block x o)) ts none m t e) stands in
-    let int = (and_parts (is_int_scalar t) (is_none (number_from 0 (equivalenced q.module_read) t.name)) plain).0 in
-    let one : units_in ts t ≡ 1 = ap (bounds_units (value_in ts) 1) (scalar_bounds t int) in
+    let none = (or_parts (list_any (spoils_at (equivalenced_names q.module_read) ts (place.Block x o)) ts) (two_at ts (place.Block x o) ts) alone).0 in
+    let plain = plain_from (stands_at ts (place.Block x o) t) (is_plain (equivalenced_names q.module_read) t) (none_of (spoils_at (equivalenced_names q.module_read) ts (place.Block x o)) ts none m t e) stands in
+    let int = (and_parts (is_int_scalar t) (is_none (number_from 0 (equivalenced_names q.module_read) t.name)) plain).0 in
+    let one : units_in ts t ≡ 1 = ap (bounds_units (value_in ts)) (scalar_bounds t int) in
     let there : t.place ≡ place.Block x o = stands_there x o t.place (sym (ap (λ z. place_has t.place z (place.Block x o)) one) ∙ stands) in
     let p = tracked_parts names ss (untracked_of ps sss) s x o at tracked in
-    and_from (is_plain (equivalenced q.module_read) t) (is_alone (equivalenced q.module_read) ts (untracked_of ps sss) t.place) plain (ap (is_alone (equivalenced q.module_read) ts (untracked_of ps sss)) there ∙ ap not p.1)
+    and_from (is_plain (equivalenced_names q.module_read) t) (is_alone (equivalenced_names q.module_read) ts (untracked_of ps sss) t.place) plain (ap (is_alone (equivalenced_names q.module_read) ts (untracked_of ps sss)) there ∙ ap not p.1)

@@ -7,8 +7,8 @@ use Rattle.f77_ast.specs.DeclTrees.{ParsedTree}
 use Rattle.f77_symbols.specs.Symbols.{SymbolTree, number_from}
 use Rattle.call_graph.specs.declared.graph.Graph.{Graph}
 use Rattle.call_graph.specs.declared.calls.Called.{Called}
-use Rattle.call_graph.specs.declared.refusal.Cause.{Cause}
-use Rattle.call_graph.specs.declared.refusal.Cause.TheVariants.{NoSuchModule, ArgumentCount, ArgumentType}
+use Rattle.refusal_codes.specs.declared.code.Code.{Code}
+use Rattle.refusal_codes.specs.declared.code.Code.TheVariants.{NoSuchModule, ArgumentCount, ArgumentType}
 use Rattle.call_graph.specs.declared.refusal.Fault.{Fault}
 use Rattle.call_graph.specs.Faults.{unless}
 use Rattle.tracked_cells.specs.Standing.{has_bounds}
@@ -43,11 +43,11 @@ is_graph ps sss g e =
 
 -- ---- one CALL
 
-none_at : (k : ℕ) (p : ParsedTree) (o : Option (ℕ × Cause)) (later : Option Fault) → unfit_at k p o later ≡ None → (o ≡ None) × (later ≡ None)
+none_at : (k : ℕ) (p : ParsedTree) (o : Option (ℕ × Code)) (later : Option Fault) → unfit_at k p o later ≡ None → (o ≡ None) × (later ≡ None)
 none_at k p None later e = (refl, e)
 none_at k p (Some (n, cause)) later e = cc
 
-none_later : (n : ℕ) (o : Option Cause) (later : Option (ℕ × Cause)) → or_later n o later ≡ None → (o ≡ None) × (later ≡ None)
+none_later : (n : ℕ) (o : Option Code) (later : Option (ℕ × Code)) → or_later n o later ≡ None → (o ≡ None) × (later ≡ None)
 none_later n None later e = (refl, e)
 none_later n (Some cause) later e = cc
 

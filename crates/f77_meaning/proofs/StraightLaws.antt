@@ -1,7 +1,7 @@
 -- The runs of a straight main program alone are those of the straight program.
 use Rattle.std.proofs.Common.{◌≡◌, ℕ, suc, ℤ, Bool, true, false, List, Option, Some, None, refl, sym, subst}
 use Rattle.std.specs.Prelude.{if◌then◌else◌, nat_eq, ◌&&◌}
-use Rattle.std.proofs.lemmas.Bool.{and_parts}
+use Rattle.std.proofs.lemmas.Bool.{and_parts, and_from}
 use Rattle.f77_ast.specs.Trees.{ExprTree, ExprTrees, StmtTree, StmtTrees, WhatTree}
 use Rattle.f77_ast.specs.Trees as tree
 use Rattle.f77_ast.specs.Store.{Tag, Int, Content, content, same_tag}
@@ -49,10 +49,6 @@ variable_plain (tree.unary o e) h = cc
 variable_plain (tree.binary o a b) h = cc
 variable_plain (tree.chars x) h = cc
 
-both : (b c : Bool) → b ≡ true → c ≡ true → (b && c) ≡ true
-both true c h i = i
-both false c h i = cc
-
 term_plain : (e : ExprTree) → is_straight_term e ≡ true → is_plain e ≡ true
 term_plain (tree.int n) h = refl
 term_plain (tree.log b) h = cc
@@ -63,7 +59,7 @@ term_plain (tree.unary o e) h = cc
 term_plain (tree.binary o a b) h =
     let p = and_parts (is_product o) (is_number a && is_integer_variable b) h in
     let q = and_parts (is_number a) (is_integer_variable b) p.1 in
-    both (is_plain a) (is_plain b) (number_plain a q.0) (variable_plain b q.1)
+    and_from (is_plain a) (is_plain b) (number_plain a q.0) (variable_plain b q.1)
 term_plain (tree.chars x) h = cc
 
 expr_plain : (e : ExprTree) → is_straight_expr e ≡ true → is_plain e ≡ true
@@ -76,7 +72,7 @@ expr_plain (tree.unary o e) h = let p = and_parts (is_sign o) (is_straight_term 
 expr_plain (tree.binary o a b) h = go (is_sum o) h (expr_plain a)
   where
     go : (s : Bool) → (if s then is_straight_expr a && is_straight_term b else is_straight_term (tree.binary o a b)) ≡ true → (is_straight_expr a ≡ true → is_plain a ≡ true) → (is_plain a && is_plain b) ≡ true
-    go true e ih = let p = and_parts (is_straight_expr a) (is_straight_term b) e in both (is_plain a) (is_plain b) (ih p.0) (term_plain b p.1)
+    go true e ih = let p = and_parts (is_straight_expr a) (is_straight_term b) e in and_from (is_plain a) (is_plain b) (ih p.0) (term_plain b p.1)
     go false e ih = term_plain (tree.binary o a b) e
 expr_plain (tree.chars x) h = cc
 

@@ -1,5 +1,5 @@
 -- What is known of units, wherever modules and their links come from.
-use Rattle.std.specs.Prelude.{◌≡◌, ℕ, ◌+◌, ◌^◌, ◌<◌, ◌≤◌, ◌↔◌, Bool, true, false, List, [], length, map, Option, Some, None, Ok, slice_get}
+use Rattle.std.specs.Prelude.{◌≡◌, ℕ, ◌+◌, ◌<◌, ◌≤◌, ◌↔◌, Bool, true, false, List, [], length, map, Option, Some, None, Ok, slice_get}
 use Rattle.f77_ast.specs.DeclTrees.{ParsedTree}
 use Rattle.f77_ast.specs.Store.{empty_store}
 use Rattle.f77_ast.specs.Calls.{in_place}
@@ -9,7 +9,7 @@ use Rattle.f77_symbols.specs.declared.symbol.InitialRun.{InitialRun}
 use Rattle.f77_symbols.specs.Symbols.{SymbolTree}
 use Rattle.f77_symbols.specs.Units.{units_in}
 use Rattle.f77_symbols.specs.Shared.{symbol_at, share}
-use Rattle.tracked_cells.specs.Equivalences.{equivalenced}
+use Rattle.tracked_cells.specs.Equivalences.{equivalenced_names}
 use Rattle.tracked_cells.specs.Standing.{has_bounds, spoils, stands_at}
 use Rattle.tracked_cells.specs.Untracked.{untracked_of}
 use Rattle.tracked_cells.specs.Tracked.{is_tracked}
@@ -132,7 +132,7 @@ CommonIsOfBlocks = (ks : List Known) (g : Graph) (x : List ℕ) (a : Area) (o : 
 -- a scalar at whose unit the table of its module has nothing else, as of a tracked local, shares its unit with no other variable of the module
 abbrev pub CellsAreAlone : Type 0
 CellsAreAlone = (ks : List Known) (g : Graph) (k : Known) (m n : ℕ) (s t : SymbolTree) (a b : Area) (names : List (List ℕ)) (u : ℕ) → Declared ks k m s → Declared ks k n t → (m ≡ n → ⊥) →
-    area_of k.read.name s.place ≡ Some a → area_of k.read.name t.place ≡ Some b → IsKnown (numbering ks g) a → IsKnown (numbering ks g) b → room_for ks < 2 ^ 64 →
+    area_of k.read.name s.place ≡ Some a → area_of k.read.name t.place ≡ Some b → IsKnown (numbering ks g) a → IsKnown (numbering ks g) b →
     s.bounds ≡ [] → spoils names k.symbols s.place ≡ false →
     in_place (fixed (numbering ks g) k m) u ≡ true → in_place (fixed (numbering ks g) k n) u ≡ false
 
@@ -197,11 +197,11 @@ ActualsSuit = (as' : List Actual) (ss : List SymbolTree) → all_fit as' ss ≡ 
 abbrev pub CommonCellsAreAlone : Type 0
 CommonCellsAreAlone = (ps : List ParsedTree) (sss : List (List SymbolTree)) (k n : ℕ) (names : List (List ℕ)) (ss : List SymbolTree) (s : SymbolTree) (x : List ℕ) (o : ℕ) →
     slice_get sss k ≡ Some ss → slice_get ss n ≡ Some s → s.place ≡ place.Block x o → is_tracked names ss (untracked_of ps sss) s ≡ true →
-    (j : ℕ) (q : ParsedTree) (tt' : List SymbolTree) → slice_get ps j ≡ Some q → slice_get sss j ≡ Some tt' → spoils (equivalenced q.module_read) tt' (place.Block x o) ≡ false
+    (j : ℕ) (q : ParsedTree) (tt' : List SymbolTree) → slice_get ps j ≡ Some q → slice_get sss j ≡ Some tt' → spoils (equivalenced_names q.module_read) tt' (place.Block x o) ≡ false
 
 -- and a variable that stands there is a tracked cell
 abbrev pub CommonCellsAreCells : Type 0
 CommonCellsAreCells = (ps : List ParsedTree) (sss : List (List SymbolTree)) (k n : ℕ) (names : List (List ℕ)) (ss : List SymbolTree) (s : SymbolTree) (x : List ℕ) (o : ℕ) →
     slice_get sss k ≡ Some ss → slice_get ss n ≡ Some s → s.place ≡ place.Block x o → is_tracked names ss (untracked_of ps sss) s ≡ true →
     (j : ℕ) (q : ParsedTree) (tt' : List SymbolTree) → slice_get ps j ≡ Some q → slice_get sss j ≡ Some tt' → (m : ℕ) (t : SymbolTree) → slice_get tt' m ≡ Some t →
-    stands_at tt' (place.Block x o) t ≡ true → is_tracked (equivalenced q.module_read) tt' (untracked_of ps sss) t ≡ true
+    stands_at tt' (place.Block x o) t ≡ true → is_tracked (equivalenced_names q.module_read) tt' (untracked_of ps sss) t ≡ true

@@ -5,13 +5,13 @@ use Rattle.f77_ast.specs.declared.places.Part.TheVariants.{Decl, Stmt}
 use Rattle.f77_ast.specs.declared.places.Spot.{Spot}
 use Rattle.f77_ast.specs.Trees.{name, int, StmtTrees, stmt, assign, no_stmts, more_stmts}
 use Rattle.f77_ast.specs.DeclTrees.{EntityTree, DeclTree, integer, logical, common, ModuleTree}
-use Rattle.f77_names.specs.declared.refusal.Cause.TheVariants.{RealName, DeclaredTwice}
+use Rattle.refusal_codes.specs.declared.code.Code.TheVariants.{RealName, DeclaredTwice}
 use Rattle.f77_names.specs.declared.kinds.Kind.TheVariants.{Int, Log}
 use Rattle.f77_names.specs.Lines.{lines_of}
-use Rattle.f77_names.specs.Refusals.{noted, is_before}
+use Rattle.refusal_codes.specs.Refusals.{refuse_if, is_before}
 use Rattle.f77_names.specs.Entries.{find}
 use Rattle.f77_names.specs.Functions.{function_of}
-use Rattle.f77_names.specs.Tables.{table_of, names_judged, entry_kind, kind_in}
+use Rattle.f77_names.specs.Tables.{table_of, check_names, entry_kind, kind_in}
 
 abbrev spots : List Spot
 spots =
@@ -34,26 +34,26 @@ abbrev declares : DeclTree → ModuleTree
 declares d = module_of (d ∷ common (record { block = codes "B"; members = scalar_named (codes "L") ∷ [] } ∷ []) ∷ []) sets_x
 
 names_in_order : map (λ e. e.name) (table_of (lines_of spots) (declares (integer (scalar_named (codes "X") ∷ [])))).entries ≡ codes "X" ∷ codes "L" ∷ []
-unfolding noted is_before find function_of entry_kind kind_in
+unfolding refuse_if is_before find function_of entry_kind kind_in
 names_in_order = refl
 
-accepted : names_judged (lines_of spots) (declares (integer (scalar_named (codes "X") ∷ []))) ≡ None
-unfolding noted is_before find function_of entry_kind kind_in
+accepted : check_names (lines_of spots) (declares (integer (scalar_named (codes "X") ∷ []))) ≡ None
+unfolding refuse_if is_before find function_of entry_kind kind_in
 accepted = refl
 
 -- without the INTEGER statement X is REAL
-real_name : names_judged (lines_of spots) (declares (integer [])) ≡ Some (record { line = 5; cause = RealName })
-unfolding noted is_before find function_of entry_kind kind_in
+real_name : check_names (lines_of spots) (declares (integer [])) ≡ Some (record { line = 5; code = RealName })
+unfolding refuse_if is_before find function_of entry_kind kind_in
 real_name = refl
 
-second_type : names_judged (lines_of spots) (declares (logical (scalar_named (codes "X") ∷ scalar_named (codes "X") ∷ []))) ≡ Some (record { line = 2; cause = DeclaredTwice })
-unfolding noted is_before find function_of entry_kind kind_in
+second_type : check_names (lines_of spots) (declares (logical (scalar_named (codes "X") ∷ scalar_named (codes "X") ∷ []))) ≡ Some (record { line = 2; code = DeclaredTwice })
+unfolding refuse_if is_before find function_of entry_kind kind_in
 second_type = refl
 
 logical_x : kind_in (table_of (lines_of spots) (declares (logical (scalar_named (codes "X") ∷ [])))) (codes "X") ≡ Log
-unfolding noted is_before find function_of entry_kind kind_in
+unfolding refuse_if is_before find function_of entry_kind kind_in
 logical_x = refl
 
 integer_l : kind_in (table_of (lines_of spots) (declares (logical []))) (codes "L") ≡ Int
-unfolding noted is_before find function_of entry_kind kind_in
+unfolding refuse_if is_before find function_of entry_kind kind_in
 integer_l = refl

@@ -1,30 +1,20 @@
 -- Names, their places, and what is said of one.
 use Rattle.std.proofs.Common.{◌≡◌, ℕ, zero, suc, ◌+◌, ◌-◌, ◌<◌, ◌≤◌, Bool, true, false, List, [], ◌∷◌, ◌++◌, length, map, get_or, set, Option, Some, None, refl, sym, ap, ◌∙◌, arith}
 use Rattle.std.specs.Prelude.{if◌then◌else◌, bytes_eq, is_some, IfSome}
-use Rattle.std.proofs.Common.{Vec, Global}
-use Rattle.std.proofs.lemmas.List.{map-append, length-map}
-use Rattle.std.specs.HashMap.{HashMap, get_by, Updates}
-use Rattle.std.specs.declared.hash.FoldHasher.{FoldHasher}
-use Rattle.std.specs.declared.hash.BuildHasherDefault.{BuildHasherDefault}
 use Rattle.f77_symbols.specs.Symbols.{number_from}
-use Rattle.f77_symbols.proofs.NumbersLaws.{inserted, number_from-append}
-use Rattle.f77_names.specs.Index.{ArePlaces}
 use Rattle.f77_names.specs.declared.entry.Entry.{Entry}
 use Rattle.f77_names.specs.declared.entry.Word.{Word}
 use Rattle.f77_names.specs.declared.entry.Word.TheVariants as word
-use Rattle.f77_names.specs.Entries.{EntryTree, entry_tree, find, changed, place_in, seen, fresh}
+use Rattle.f77_names.specs.Entries.{EntryTree, entry_tree, find, changed, entry_names, place_in, seen, fresh}
 use Rattle.f77_names.specs.Words.{with_word}
 
-abbrev names : List EntryTree → List (List ℕ)
-names es = map (λ e. e.name) es
-
 -- a name without a place is not found, and nothing is said of it
-pub not_there : (n : ℕ) (x : List ℕ) (f : EntryTree → EntryTree) (es : List EntryTree) → number_from n (names es) x ≡ None → (find x es ≡ None) × (changed x f es ≡ es)
+pub not_there : (n : ℕ) (x : List ℕ) (f : EntryTree → EntryTree) (es : List EntryTree) → number_from n (entry_names es) x ≡ None → (find x es ≡ None) × (changed x f es ≡ es)
 unfolding find
 not_there n x f [] e = (refl, refl)
 not_there n x f (a ∷ es) e = go (bytes_eq x a.name) e (not_there (suc n) x f es)
   where
-    go : (b : Bool) → (if b then Some n else number_from (suc n) (names es) x) ≡ None → (number_from (suc n) (names es) x ≡ None → (find x es ≡ None) × (changed x f es ≡ es)) → ((if b then Some a else find x es) ≡ None) × ((if b then f a ∷ es else a ∷ changed x f es) ≡ a ∷ es)
+    go : (b : Bool) → (if b then Some n else number_from (suc n) (entry_names es) x) ≡ None → (number_from (suc n) (entry_names es) x ≡ None → (find x es ≡ None) × (changed x f es ≡ es)) → ((if b then Some a else find x es) ≡ None) × ((if b then f a ∷ es else a ∷ changed x f es) ≡ a ∷ es)
     go true q ih = cc
     go false q ih = ((ih q).0, ap (λ zs. a ∷ zs) (ih q).1)
 
@@ -38,14 +28,14 @@ number_from-least n k (y ∷ ys) x e = go (bytes_eq x y) e (number_from-least (s
     go false q ih = omega (arith, ih q)
 
 -- one that has a place is found there, and what is said of it is said there
-pub is_there : (n k : ℕ) (x : List ℕ) (f : EntryTree → EntryTree) (es : List Entry) (d new : Entry) → number_from n (names (map entry_tree es)) x ≡ Some k → entry_tree new ≡ f (entry_tree (get_or es (k - n) d))
+pub is_there : (n k : ℕ) (x : List ℕ) (f : EntryTree → EntryTree) (es : List Entry) (d new : Entry) → number_from n (entry_names (map entry_tree es)) x ≡ Some k → entry_tree new ≡ f (entry_tree (get_or es (k - n) d))
     → (n ≤ k) × (k - n < length es) × (find x (map entry_tree es) ≡ Some (entry_tree (get_or es (k - n) d))) × (map entry_tree (set es (k - n) new) ≡ changed x f (map entry_tree es))
 unfolding find
 is_there n k x f [] d new e h = cc
 is_there n k x f (a ∷ es) d new e h = go (bytes_eq x a.name) e (is_there (suc n) k x f es d new)
   where
-    go : (b : Bool) → (if b then Some n else number_from (suc n) (names (map entry_tree es)) x) ≡ Some k
-        → (number_from (suc n) (names (map entry_tree es)) x ≡ Some k → entry_tree new ≡ f (entry_tree (get_or es (k - suc n) d)) → (suc n ≤ k) × (k - suc n < length es) × (find x (map entry_tree es) ≡ Some (entry_tree (get_or es (k - suc n) d))) × (map entry_tree (set es (k - suc n) new) ≡ changed x f (map entry_tree es)))
+    go : (b : Bool) → (if b then Some n else number_from (suc n) (entry_names (map entry_tree es)) x) ≡ Some k
+        → (number_from (suc n) (entry_names (map entry_tree es)) x ≡ Some k → entry_tree new ≡ f (entry_tree (get_or es (k - suc n) d)) → (suc n ≤ k) × (k - suc n < length es) × (find x (map entry_tree es) ≡ Some (entry_tree (get_or es (k - suc n) d))) × (map entry_tree (set es (k - suc n) new) ≡ changed x f (map entry_tree es)))
         → (n ≤ k) × (k - n < length (a ∷ es)) × ((if b then Some (entry_tree a) else find x (map entry_tree es)) ≡ Some (entry_tree (get_or (a ∷ es) (k - n) d))) × (map entry_tree (set (a ∷ es) (k - n) new) ≡ (if b then f (entry_tree a) ∷ map entry_tree es else entry_tree a ∷ changed x f (map entry_tree es)))
     go true q ih =
         let same : n ≡ k = cc in
@@ -53,7 +43,7 @@ is_there n k x f (a ∷ es) d new e h = go (bytes_eq x a.name) e (is_there (suc 
         let here : entry_tree new ≡ f (entry_tree a) = h ∙ ap (λ i. f (entry_tree (get_or (a ∷ es) i d))) z in
         (omega arith, rw z (omega arith), ap (λ i. Some (entry_tree (get_or (a ∷ es) i d))) (sym z), ap (λ i. map entry_tree (set (a ∷ es) i new)) z ∙ ap (λ e. e ∷ map entry_tree es) here)
     go false q ih =
-        let least = number_from-least (suc n) k (names (map entry_tree es)) x q in
+        let least = number_from-least (suc n) k (entry_names (map entry_tree es)) x q in
         let z : k - n ≡ suc (k - suc n) = omega (arith, least) in
         let rest = ih q (h ∙ ap (λ i. f (entry_tree (get_or (a ∷ es) i d))) z) in
         (omega (arith, rest.0), omega (arith, z, rest.1), rest.2 ∙ ap (λ i. Some (entry_tree (get_or (a ∷ es) i d))) (sym z), ap (λ i. map entry_tree (set (a ∷ es) i new)) z ∙ ap (λ zs. entry_tree a ∷ zs) rest.3)
@@ -69,12 +59,12 @@ same_name word.Saved e = refl
 same_name word.Initial e = refl
 
 -- what is said of a name leaves the names
-pub names-changed : (x : List ℕ) (w : Word) (es : List EntryTree) → names (changed x (with_word w) es) ≡ names es
-names-changed x w [] = refl
-names-changed x w (a ∷ es) = go (bytes_eq x a.name) (names-changed x w es)
+pub entry_names-changed : (x : List ℕ) (w : Word) (es : List EntryTree) → entry_names (changed x (with_word w) es) ≡ entry_names es
+entry_names-changed x w [] = refl
+entry_names-changed x w (a ∷ es) = go (bytes_eq x a.name) (entry_names-changed x w es)
   where
-    go : (b : Bool) → names (changed x (with_word w) es) ≡ names es → names (if b then with_word w a ∷ es else a ∷ changed x (with_word w) es) ≡ a.name ∷ names es
-    go true ih = ap (λ y. y ∷ names es) (same_name w a)
+    go : (b : Bool) → entry_names (changed x (with_word w) es) ≡ entry_names es → entry_names (if b then with_word w a ∷ es else a ∷ changed x (with_word w) es) ≡ a.name ∷ entry_names es
+    go true ih = ap (λ y. y ∷ entry_names es) (same_name w a)
     go false ih = ap (λ ys. a.name ∷ ys) ih
 
 -- ---- by place
@@ -90,11 +80,11 @@ changed-none x f es e = (not_there 0 x f es e).1
 from_0 : (k : ℕ) → k - 0 ≡ k
 from_0 k = omega arith
 
-number_from-within : (n k : ℕ) (x : List ℕ) (es : List Entry) → number_from n (names (map entry_tree es)) x ≡ Some k → k < n + length es
+number_from-within : (n k : ℕ) (x : List ℕ) (es : List Entry) → number_from n (entry_names (map entry_tree es)) x ≡ Some k → k < n + length es
 number_from-within n k x [] e = cc
 number_from-within n k x (a ∷ es) e = go (bytes_eq x a.name) e (number_from-within (suc n) k x es)
   where
-    go : (b : Bool) → (if b then Some n else number_from (suc n) (names (map entry_tree es)) x) ≡ Some k → (number_from (suc n) (names (map entry_tree es)) x ≡ Some k → k < suc n + length es) → k < n + suc (length es)
+    go : (b : Bool) → (if b then Some n else number_from (suc n) (entry_names (map entry_tree es)) x) ≡ Some k → (number_from (suc n) (entry_names (map entry_tree es)) x ≡ Some k → k < suc n + length es) → k < n + suc (length es)
     go true q ih = let same : n ≡ k = cc in omega arith
     go false q ih = omega (arith, ih q)
 
@@ -116,19 +106,14 @@ changed-at x f k es d new e h =
     let there = is_there 0 k x f es d new e (h ∙ ap (λ i. f (entry_tree (get_or es i d))) (sym (from_0 k))) in
     ap (λ i. map entry_tree (set es i new)) (sym (from_0 k)) ∙ there.3
 
--- what is said of a name leaves all places
-pub place_in-changed : (x : List ℕ) (w : Word) (es : List EntryTree) (y : List ℕ) → place_in (changed x (with_word w) es) y ≡ place_in es y
-unfolding place_in
-place_in-changed x w es y = ap (λ ns. number_from 0 ns y) (names-changed x w es)
-
 -- ---- a name more
 
-find_is : (n : ℕ) (x : List ℕ) (es : List EntryTree) → is_some (find x es) ≡ is_some (number_from n (names es) x)
+find_is : (n : ℕ) (x : List ℕ) (es : List EntryTree) → is_some (find x es) ≡ is_some (number_from n (entry_names es) x)
 unfolding find
 find_is n x [] = refl
 find_is n x (a ∷ es) = go (bytes_eq x a.name) (find_is (suc n) x es)
   where
-    go : (b : Bool) → is_some (find x es) ≡ is_some (number_from (suc n) (names es) x) → is_some (if b then Some a else find x es) ≡ is_some (if b then Some n else number_from (suc n) (names es) x)
+    go : (b : Bool) → is_some (find x es) ≡ is_some (number_from (suc n) (entry_names es) x) → is_some (if b then Some a else find x es) ≡ is_some (if b then Some n else number_from (suc n) (entry_names es) x)
     go true ih = refl
     go false ih = ih
 
@@ -145,18 +130,3 @@ not_placed None x es e t = sym e
 
 pub seen-new : (x : List ℕ) (line : ℕ) (es : List EntryTree) → place_in es x ≡ None → seen x line es ≡ es ++ fresh x line ∷ []
 seen-new x line es e = ap (λ o. if is_some o then es else es ++ fresh x line ∷ []) (find-none x es e)
-
-abbrev same_key : Vec ℕ Global → Vec ℕ Global → Bool
-same_key k l = bytes_eq k.items l.items
-
-onto_0 : (n : ℕ) → n ≡ 0 + n
-onto_0 n = omega arith
-
-pub places_after : (es : List EntryTree) (e : EntryTree) (m n : HashMap (Vec ℕ Global) ℕ (BuildHasherDefault FoldHasher)) (k : Vec ℕ Global) (v : ℕ) → ArePlaces es m → place_in es e.name ≡ None → k.items ≡ e.name → v ≡ length es → Updates same_key m n k (Some v) → ArePlaces (es ++ e ∷ []) n
-unfolding place_in
-places_after es e m n k v are none same next h q =
-    let count : v ≡ 0 + length (names es) = next ∙ sym (length-map es (λ (a : EntryTree). a.name)) ∙ onto_0 (length (names es)) in
-    inserted m n k (Some v) h q ∙ ap (λ r. if bytes_eq r q then Some v else get_by (λ l. bytes_eq q l.items) m) same
-    ∙ ap (λ r. if bytes_eq e.name q then Some v else r) (are q) ∙ ap (λ r. if bytes_eq e.name q then Some r else number_from 0 (names es) q) count
-    ∙ sym (number_from-append 0 (names es) e.name q none)
-    ∙ ap (λ ns. number_from 0 ns q) (sym (map-append (λ (a : EntryTree). a.name) es (e ∷ [])))

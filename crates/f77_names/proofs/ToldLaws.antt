@@ -8,9 +8,9 @@ use Rattle.std.proofs.Math.Seq.{drop-cons}
 use Rattle.f77_symbols.specs.Symbols.{bound_tree}
 use Rattle.f77_names.specs.declared.entry.Shape.{Shape}
 use Rattle.f77_names.specs.declared.entry.Word.TheVariants.{Bounds}
-use Rattle.f77_names.specs.declared.refusal.Cause.TheVariants.{DeclaredTwice}
+use Rattle.refusal_codes.specs.declared.code.Code.TheVariants.{DeclaredTwice}
 use Rattle.f77_names.specs.Entries.{EntryTree, changed, has_shape, shape_tree, with_shape}
-use Rattle.f77_names.specs.Refusals.{noted}
+use Rattle.refusal_codes.specs.Refusals.{refuse_if}
 use Rattle.f77_names.specs.Words.{said_once}
 use Rattle.f77_names.specs.Declaring.{Told, bound_of, shaped}
 
@@ -29,6 +29,6 @@ pub shaped-some : (x : List ℕ) (es : List Extent) (line : ℕ) (s : Shape) (t 
 shaped-some x [] line s t some e f = absurd (some refl)
 shaped-some x (b ∷ bs) line s t some e f =
     let same : shape_tree s ≡ record { line = line; bounds = map bound_of (map extent_tree (b ∷ bs)) } = cc in
-    ap (λ z. record { entries = changed x (with_shape z) t.entries; found = noted (has_shape x t.entries) line DeclaredTwice t.found }) same
+    ap (λ z. record { entries = changed x (with_shape z) t.entries; found = refuse_if (has_shape x t.entries) line DeclaredTwice t.found }) same
 
 pub ruleset steps = (mapped-drop, drop-cons, add-one)

@@ -10,11 +10,11 @@ use Rattle.f77_ast.specs.DeclTrees.{ExtentTree, EntityTree, SettingTree, CommonT
 use Rattle.f77_ast.specs.DeclTrees as decl
 use Rattle.std.specs.Prelude.{pos}
 use Rattle.f77_symbols.specs.Symbols.{BoundTree}
-use Rattle.f77_names.specs.declared.refusal.Cause.TheVariants.{DeclaredTwice, CommonTwice}
-use Rattle.f77_names.specs.declared.refusal.Refusal.{Refusal}
+use Rattle.refusal_codes.specs.declared.code.Code.TheVariants.{DeclaredTwice, CommonTwice}
+use Rattle.refusal_codes.specs.declared.refusal.Refusal.{Refusal}
 use Rattle.f77_names.specs.declared.functions.Function.{Function}
 use Rattle.f77_names.specs.declared.lines.Sited.TheVariants.{Decl}
-use Rattle.f77_names.specs.Refusals.{noted}
+use Rattle.refusal_codes.specs.Refusals.{refuse_if}
 use Rattle.f77_names.specs.Lines.{LineTable, line_or}
 use Rattle.f77_names.specs.Entries.{EntryTree, seen, changed, with_dummy, with_type, with_shape, with_common, as_parameter, as_saved, as_initial, has_dummy, has_type, has_shape, has_common}
 use Rattle.f77_names.specs.Appearing.{expr_seen, exprs_seen, maybe_seen}
@@ -35,7 +35,7 @@ seen_told x line t = record t { entries = seen x line t.entries }
 
 -- a second type is refused
 abbrev pub typed : List ℕ → Scalar → ℕ → Told → Told
-typed x s line t = record { entries = changed x (with_type s) t.entries; found = noted (has_type x t.entries) line DeclaredTwice t.found }
+typed x s line t = record { entries = changed x (with_type s) t.entries; found = refuse_if (has_type x t.entries) line DeclaredTwice t.found }
 
 -- without a lower bound it is 1 (§5.1.1.1)
 abbrev pub low_of : Option ExprTree → ExprTree
@@ -50,18 +50,18 @@ abbrev pub shaped : List ℕ → List ExtentTree → ℕ → Told → Told
 shaped x [] line t = t
 shaped x (b ∷ bs) line t = record {
   entries = changed x (with_shape (record { line = line; bounds = map bound_of (b ∷ bs) })) t.entries;
-  found = noted (has_shape x t.entries) line DeclaredTwice t.found;
+  found = refuse_if (has_shape x t.entries) line DeclaredTwice t.found;
 }
 
 -- a second COMMON is refused
 abbrev pub in_common : List ℕ → ℕ → Told → Told
-in_common x line t = record { entries = changed x (with_common line) t.entries; found = noted (has_common x t.entries) line CommonTwice t.found }
+in_common x line t = record { entries = changed x (with_common line) t.entries; found = refuse_if (has_common x t.entries) line CommonTwice t.found }
 
 -- a dummy that is listed twice is refused
 abbrev pub dummy_told : List ℕ → ℕ → ℕ → Told → Told
 dummy_told x n line t =
     let es = seen x line t.entries in
-    record { entries = changed x (with_dummy n) es; found = noted (has_dummy x es) line DeclaredTwice t.found }
+    record { entries = changed x (with_dummy n) es; found = refuse_if (has_dummy x es) line DeclaredTwice t.found }
 
 -- the dummies, the first of these with this number
 abbrev pub dummies_told : List (List ℕ) → ℕ → ℕ → Told → Told

@@ -65,9 +65,12 @@ unfoldable pub find : List ℕ → List EntryTree → Option EntryTree
 find x [] = None
 find x (e ∷ es) = if bytes_eq x e.name then Some e else find x es
 
+abbrev pub entry_names : List EntryTree → List (List ℕ)
+entry_names es = map (λ e. e.name) es
+
 -- the place of a name, from 0
 unfoldable pub place_in : List EntryTree → List ℕ → Option ℕ
-place_in es x = number_from 0 (map (λ e. e.name) es) x
+place_in es x = number_from 0 (entry_names es) x
 
 -- the names, with this one
 abbrev pub seen : List ℕ → ℕ → List EntryTree → List EntryTree

@@ -38,9 +38,9 @@ by_decl c (decl.save is) old = old
 by_decl c (decl.initial gs) old = old
 
 -- the type that IMPLICIT statements give a letter
-abbrev pub implied : ℕ → List DeclTree → Option Scalar → Option Scalar
-implied c [] old = old
-implied c (d ∷ ds) old = implied c ds (by_decl c d old)
+abbrev pub implied_type : ℕ → List DeclTree → Option Scalar → Option Scalar
+implied_type c [] old = old
+implied_type c (d ∷ ds) old = implied_type c ds (by_decl c d old)
 
 abbrev pub is_missing : Option (List ImplicitPart) → Bool
 is_missing None = true
@@ -67,7 +67,7 @@ kind_or k (Some s) = kind_of_scalar s
 
 -- without IMPLICIT the letters I to N are INTEGER and the others REAL; under IMPLICIT NONE all are
 abbrev pub letter_kind : List DeclTree → ℕ → Kind
-letter_kind ds c = kind_or (default_kind (list_any is_none_decl ds) c) (implied c ds None)
+letter_kind ds c = kind_or (default_kind (list_any is_none_decl ds) c) (implied_type c ds None)
 
 abbrev pub kinds_from : List DeclTree → ℕ → List ℕ → List Kind
 kinds_from ds c [] = []

@@ -1,4 +1,3 @@
-pub mod Refusals
 pub mod Lines
 pub mod Kinds
 pub mod Functions
@@ -7,5 +6,4 @@ pub mod Appearing
 pub mod Declaring
 pub mod Tables
 pub mod Words
-pub mod Index
 pub mod Views

@@ -1,13 +1,13 @@
 -- The names of a module: what is said of them, and their types.
 use Rattle.std.specs.Prelude.{ℕ, List, [], ◌∷◌, Option, Some, None, Bool, true, false, ◌||◌, is_some}
 use Rattle.f77_ast.specs.DeclTrees.{ModuleTree}
-use Rattle.f77_names.specs.declared.refusal.Cause.TheVariants.{RealName, CommonTwice}
-use Rattle.f77_names.specs.declared.refusal.Refusal.{Refusal}
+use Rattle.refusal_codes.specs.declared.code.Code.TheVariants.{RealName, CommonTwice}
+use Rattle.refusal_codes.specs.declared.refusal.Refusal.{Refusal}
 use Rattle.f77_names.specs.declared.functions.Function.{Function}
 use Rattle.f77_names.specs.declared.kinds.Kind.{Kind}
 use Rattle.f77_names.specs.declared.kinds.Kind.TheVariants.{Int, Log, Real}
 use Rattle.f77_names.specs.declared.lines.Sited.TheVariants.{Title}
-use Rattle.f77_names.specs.Refusals.{noted}
+use Rattle.refusal_codes.specs.Refusals.{refuse_if}
 use Rattle.f77_names.specs.Lines.{LineTable, line_or}
 use Rattle.f77_names.specs.Kinds.{kinds_of, kind_of_name, kind_or}
 use Rattle.f77_names.specs.Functions.{arrays_named}
@@ -49,14 +49,14 @@ told_of fs at m =
 -- a name that is REAL is refused where it is first; a dummy or PARAMETER in COMMON at the COMMON statement
 abbrev pub in_common_too : EntryTree → Option ℕ → Option Refusal → Option Refusal
 in_common_too e None found = found
-in_common_too e (Some line) found = noted (is_some e.dummy || e.parameter) line CommonTwice found
+in_common_too e (Some line) found = refuse_if (is_some e.dummy || e.parameter) line CommonTwice found
 
-abbrev pub entry_judged : List Kind → EntryTree → Option Refusal → Option Refusal
-entry_judged ks e found = in_common_too e e.common (noted (is_real (entry_kind ks e)) e.line RealName found)
+abbrev pub check_entry : List Kind → EntryTree → Option Refusal → Option Refusal
+check_entry ks e found = in_common_too e e.common (refuse_if (is_real (entry_kind ks e)) e.line RealName found)
 
-abbrev pub entries_judged : List Kind → List EntryTree → Option Refusal → Option Refusal
-entries_judged ks [] found = found
-entries_judged ks (e ∷ es) found = entries_judged ks es (entry_judged ks e found)
+abbrev pub check_entries : List Kind → List EntryTree → Option Refusal → Option Refusal
+check_entries ks [] found = found
+check_entries ks (e ∷ es) found = check_entries ks es (check_entry ks e found)
 
 abbrev pub table_of : LineTable → ModuleTree → NameTable
 table_of at m = record {
@@ -66,7 +66,7 @@ table_of at m = record {
 }
 
 -- the first refusal of what the names are
-abbrev pub names_judged : LineTable → ModuleTree → Option Refusal
-names_judged at m =
+abbrev pub check_names : LineTable → ModuleTree → Option Refusal
+check_names at m =
     let t = told_of (arrays_named m.decls) at m in
-    entries_judged (kinds_of m.decls) t.entries t.found
+    check_entries (kinds_of m.decls) t.entries t.found

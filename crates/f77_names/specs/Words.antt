@@ -4,8 +4,8 @@ use Rattle.f77_names.specs.declared.entry.Word.{Word}
 use Rattle.f77_names.specs.declared.entry.Word.TheVariants as word
 use Rattle.f77_names.specs.declared.declare.Mention.{Mention}
 use Rattle.f77_names.specs.declared.declare.Mention.TheVariants.{Equivalent, Initial}
-use Rattle.f77_names.specs.declared.refusal.Cause.{Cause}
-use Rattle.f77_names.specs.Refusals.{noted}
+use Rattle.refusal_codes.specs.declared.code.Code.{Code}
+use Rattle.refusal_codes.specs.Refusals.{refuse_if}
 use Rattle.f77_names.specs.Entries.{EntryTree, shape_tree, find, changed, of_entry, with_dummy, with_type, with_shape, with_common, as_parameter, with_value, as_saved, as_initial}
 use Rattle.f77_names.specs.Declaring.{Told}
 
@@ -34,8 +34,8 @@ abbrev pub was_said_of : Word → List ℕ → List EntryTree → Bool
 was_said_of w x es = of_entry false (was_said w) (find x es)
 
 -- what is said twice of a name is refused
-abbrev pub said_once : List ℕ → Word → ℕ → Cause → Told → Told
-said_once x w line cause t = record { entries = changed x (with_word w) t.entries; found = noted (was_said_of w x t.entries) line cause t.found }
+abbrev pub said_once : List ℕ → Word → ℕ → Code → Told → Told
+said_once x w line code t = record { entries = changed x (with_word w) t.entries; found = refuse_if (was_said_of w x t.entries) line code t.found }
 
 -- what an item of EQUIVALENCE or DATA says of its name
 abbrev pub mentioned : Mention → EntryTree → EntryTree

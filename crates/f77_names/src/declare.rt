@@ -10,12 +10,13 @@ ghost use Rattle.f77_names.specs.Declaring.{blocks_told, bound_of, decl_told, de
 ghost use Rattle.f77_names.specs.Views.{line_in, told_tree};
 
 use crate::appear::{Sight, see_expr, see_exprs, see_maybe};
-use crate::{Cause, Names, Refusal, Shape, Sited, Word, noted};
+use crate::{Names, Shape, Sited, Word};
 use f77_ast::{
     CommonPart, DataGroup, Decl, Entity, Expr, Extent, SaveItem, Scalar, Setting, copy_expr,
 };
 use f77_symbols::Bound;
 use fx_lists::{List, Text};
+use refusal_codes::{Code, Refusal, refuse_if};
 use std::alloc::{AllocError as Memory, Global};
 
 /// The names so far, and the first refusal.
@@ -90,11 +91,11 @@ impl Told {
     }
 
     /// One thing more; to say it twice is refused.
-    fn say_once(&mut self, name: &Text, word: Word, line: u32, cause: Cause)
-        ensures { told_tree self.new ≡ said_once name.now word line cause (told_tree self.old) }
+    fn say_once(&mut self, name: &Text, word: Word, line: u32, code: Code)
+        ensures { told_tree self.new ≡ said_once name.now word line code (told_tree self.old) }
     {
         let twice = self.names.say(name, word);
-        self.found = noted(twice, line, cause, self.found);
+        self.found = refuse_if(twice, line, code, self.found);
     }
 
     #[tactic(auto, using(crate::proofs::ToldLaws::steps))]
@@ -109,7 +110,7 @@ impl Told {
         let mut number = 1u32;
         for name in dummies.as_slice() {
             self.see(alloc, name, line)?;
-            self.say_once(name, Word::Dummy(number), line, Cause::DeclaredTwice);
+            self.say_once(name, Word::Dummy(number), line, Code::DeclaredTwice);
             number = number.checked_add(1).ok_or(Memory)?;
         }
         Ok(())
@@ -132,7 +133,7 @@ impl Told {
         }
         let bounds = bounds_of(alloc, &entity.bounds)?;
         let word = Word::Bounds(Shape { line, bounds });
-        self.say_once(&entity.name, word, line, Cause::DeclaredTwice);
+        self.say_once(&entity.name, word, line, Code::DeclaredTwice);
         Ok(())
     }
 
@@ -147,7 +148,7 @@ impl Told {
     {
         self.see_entity(sight, entity, line)?;
         let word = Word::Type(scalar);
-        self.say_once(&entity.name, word, line, Cause::DeclaredTwice);
+        self.say_once(&entity.name, word, line, Code::DeclaredTwice);
         self.give_bounds(sight.alloc, entity, line)
     }
 
@@ -195,7 +196,7 @@ impl Told {
         for entity in members.as_slice() {
             self.see_entity(sight, entity, line)?;
             self.give_bounds(sight.alloc, entity, line)?;
-            self.say_once(&entity.name, Word::Common(line), line, Cause::CommonTwice);
+            self.say_once(&entity.name, Word::Common(line), line, Code::CommonTwice);
         }
         Ok(())
     }

@@ -22,7 +22,7 @@ pub enum Function {
 
 impl Function {
     /// The function with a name.
-    pub fn named(name: &[u8]) -> Option<Function>
+    pub fn by_name(name: &[u8]) -> Option<Function>
         ensures { result ≡ function_named name.now }
     {
         if name == b"ABS".as_slice() {
@@ -117,7 +117,7 @@ impl Arrays {
     {
         match entity.bounds.as_slice() {
             [] => Ok(()),
-            [_, ..] => self.add(Function::named(entity.name.as_slice())),
+            [_, ..] => self.add(Function::by_name(entity.name.as_slice())),
         }
     }
 
@@ -176,7 +176,7 @@ impl Arrays {
     pub fn function_of(&self, name: &Text) -> Option<Function>
         ensures { result ≡ function_of self.now name.now }
     {
-        match Function::named(name.as_slice()) {
+        match Function::by_name(name.as_slice()) {
             None => None,
             Some(function) => {
                 if self.has(function) {

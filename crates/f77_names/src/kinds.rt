@@ -2,7 +2,7 @@
 ghost use Rattle.std.specs.Prelude.{◌≡◌, IfOk, map, None};
 ghost use Rattle.std.specs.List.{list_any};
 ghost use Rattle.f77_ast.specs.PlainDecl.{decl_tree};
-ghost use Rattle.f77_names.specs.Kinds.{by_decl, by_parts, default_kind, implied, is_in_range, is_none_decl, kind_of_letter, kind_of_name, kind_of_scalar, kind_or, kinds_of};
+ghost use Rattle.f77_names.specs.Kinds.{by_decl, by_parts, default_kind, implied_type, is_in_range, is_none_decl, kind_of_letter, kind_of_name, kind_of_scalar, kind_or, kinds_of};
 
 use f77_ast::{Decl, ImplicitPart, Letters, Scalar};
 use fx_lists::{List, Text};
@@ -129,8 +129,8 @@ fn by_decl(letter: u8, decl: &Decl, old: Option<Scalar>) -> Option<Scalar>
 
 /// The type that IMPLICIT statements give a letter.
 #[tactic(auto, using(f77_ast::proofs::PlainlyDecl::decl_lists))]
-fn implied(letter: u8, decls: &List<Decl>) -> Option<Scalar>
-    ensures { result ≡ implied letter (map decl_tree decls.now) None }
+fn implied_type(letter: u8, decls: &List<Decl>) -> Option<Scalar>
+    ensures { result ≡ implied_type letter (map decl_tree decls.now) None }
 {
     let mut scalar = None;
     for decl in decls.as_slice() {
@@ -141,9 +141,9 @@ fn implied(letter: u8, decls: &List<Decl>) -> Option<Scalar>
 
 /// The type of a letter, where it is known whether there is an IMPLICIT NONE.
 fn letter_kind(none: bool, letter: u8, decls: &List<Decl>) -> Kind
-    ensures { result ≡ kind_or (default_kind none letter) (implied letter (map decl_tree decls.now) None) }
+    ensures { result ≡ kind_or (default_kind none letter) (implied_type letter (map decl_tree decls.now) None) }
 {
-    match implied(letter, decls) {
+    match implied_type(letter, decls) {
         None => default_kind(none, letter),
         Some(scalar) => kind_of_scalar(scalar),
     }

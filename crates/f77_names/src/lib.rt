@@ -8,7 +8,6 @@ mod functions;
 mod kinds;
 mod lines;
 mod names;
-mod refusal;
 mod table;
 
 pub use entry::{Entry, Shape, Word};
@@ -16,5 +15,4 @@ pub use functions::Function;
 pub use kinds::Kind;
 pub use lines::{LineTable, Sited};
 pub use names::Names;
-pub use refusal::{Cause, Refusal, noted};
 pub use table::{NameTable, table_of};

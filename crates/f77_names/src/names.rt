@@ -1,28 +1,28 @@
 //! The names of a module in order of first appearance.
-ghost use Rattle.std.specs.Prelude.{◌≡◌, ◌<◌, [], IfOk, IfSome, List, length, map};
+ghost use Rattle.std.specs.Prelude.{◌≡◌, ◌<◌, [], OnOk, OnErr, IfSome, List, length, map};
 ghost use Rattle.std.specs.Option.{option_map};
 ghost use Rattle.f77_names.specs.Entries.{changed, entry_tree, find, has_shape, place_in, seen, with_value};
 ghost use Rattle.f77_names.specs.Words.{was_said_of, with_word};
 
 use crate::{Entry, Word};
 use f77_constants::{Constant, Constants};
+use f77_symbols::NameIndex;
 use fx_lists::Text;
 use std::alloc::{AllocError as Memory, Global};
-use std::collections::HashMap;
 use std::marker::Model;
 
 /// The names of a module, counted from 0. A name is looked up in constant time.
 #[derive(Drop)]
 pub struct Names {
     entries: Vec<Entry>,
-    places: HashMap<Vec<u8>, usize>,
+    index: NameIndex,
 }
 
 impl Model for Names {
     ghost use Rattle.std.specs.Prelude.{List, map};
     ghost use Rattle.f77_names.specs.declared.entry.Entry.{Entry};
-    ghost use Rattle.f77_names.specs.Entries.{entry_tree};
-    ghost use Rattle.f77_names.specs.Index.{ArePlaces};
+    ghost use Rattle.f77_names.specs.Entries.{entry_tree, entry_names};
+    ghost use Rattle.f77_symbols.specs.Index.{Indexes};
     ghost use Rattle.f77_ast.specs.contracts.expr.Expr as expr;
     ghost use Rattle.std.specs.Coded.{codes};
 
@@ -32,18 +32,17 @@ impl Model for Names {
 
     ghost view = { λ n. n.entries.items };
 
-    ghost invariant = { λ n. ArePlaces (map entry_tree n.entries.items) n.places };
+    ghost invariant = { λ n. Indexes n.index (entry_names (map entry_tree n.entries.items)) };
 }
 
 impl Names {
     /// No names. Takes no memory.
-    #[tactic(auto, unfolding(crate::specs::Entries::place_in))]
     pub fn new(alloc: Global) -> Names
         ensures { result ≡ [] }
     {
         Names {
             entries: Vec::new(alloc),
-            places: HashMap::new(alloc),
+            index: NameIndex::new(alloc),
         }
     }
 
@@ -61,10 +60,14 @@ impl Names {
         entries
     }
 
+    #[tactic(auto, unfolding(crate::specs::Entries::place_in))]
     fn look_up(&self, name: &Text) -> Option<usize>
         ensures { result ≡ place_in (map entry_tree self.now) name.now }
     {
-        self.places.get(name.as_slice()).copied()
+        match self.index.place(name) {
+            None => None,
+            Some(at) => Some(at as usize),
+        }
     }
 
     /// The place of a name, from 0.
@@ -95,21 +98,16 @@ impl Names {
 
     /// Adds a name at the end, unless it is there.
     pub fn see(&mut self, alloc: Global, name: &Text, line: u32) -> Result<(), Memory>
-        ensures { IfOk result (λ _. map entry_tree self.new ≡ seen name.now line (map entry_tree self.old)) }
+        ensures ok { OnOk result (map entry_tree self.new ≡ seen name.now line (map entry_tree self.old)) }
+        ensures err { OnErr result (self.new ≡ self.old) }
     {
         if self.place(name).is_some() {
             return Ok(());
         }
-        let at = self.entries.len();
         let key = Vec::from_slice(alloc, name.as_slice())?;
-        self.entries.push(Entry::new(name.clone()?, line))?;
-        match self.places.insert(key, at) {
-            Ok(_) => Ok(()),
-            Err(_) => {
-                let _ = self.entries.pop();
-                Err(Memory)
-            }
-        }
+        let entry = Entry::new(name.clone()?, line);
+        self.index.push(key, &mut self.entries, entry)?;
+        Ok(())
     }
 
     /// One thing more is said of a name; whether such a thing was said before. A name that is not there gets none.

@@ -3,16 +3,17 @@ ghost use Rattle.std.specs.Prelude.{◌≡◌, IfOk, map};
 ghost use Rattle.f77_ast.specs.PlainDecl.{module_tree};
 ghost use Rattle.f77_names.specs.Entries.{entry_tree};
 ghost use Rattle.f77_names.specs.Functions.{function_of};
-ghost use Rattle.f77_names.specs.Tables.{entries_judged, entry_judged, entry_kind, kind_in, names_judged, table_of, told_of};
+ghost use Rattle.f77_names.specs.Tables.{check_entries, check_entry, entry_kind, kind_in, check_names, table_of, told_of};
 ghost use Rattle.f77_names.specs.Views.{line_in, table_tree, told_tree};
 
 use crate::appear::{Sight, see_list};
 use crate::declare::Told;
 use crate::functions::Arrays;
 use crate::kinds::{Kinds, kind_of_scalar};
-use crate::{Cause, Entry, Function, Kind, LineTable, Names, Refusal, Sited, noted};
+use crate::{Entry, Function, Kind, LineTable, Names, Sited};
 use f77_ast::Module;
 use fx_lists::Text;
+use refusal_codes::{Code, Refusal, refuse_if};
 use std::alloc::{AllocError as Memory, Global};
 
 /// The names, the types of the letters, and which names are functions.
@@ -62,25 +63,25 @@ impl NameTable {
     }
 
     fn judge_entry(&self, entry: &Entry, found: Option<Refusal>) -> Option<Refusal>
-        ensures { result ≡ entry_judged (table_tree self.now).kinds (entry_tree entry.now) found }
+        ensures { result ≡ check_entry (table_tree self.now).kinds (entry_tree entry.now) found }
     {
         let real = match self.entry_kind(entry) {
             Kind::Real => true,
             Kind::Int | Kind::Log => false,
         };
-        let found = noted(real, entry.line, Cause::RealName, found);
+        let found = refuse_if(real, entry.line, Code::RealName, found);
         match entry.common {
             None => found,
             Some(line) => {
                 let wrong = entry.dummy.is_some() || entry.parameter;
-                noted(wrong, line, Cause::CommonTwice, found)
+                refuse_if(wrong, line, Code::CommonTwice, found)
             }
         }
     }
 
     #[tactic(auto, using(f77_ast::proofs::PlainlyDecl::decl_lists))]
     fn judge(&self, before: Option<Refusal>) -> Option<Refusal>
-        ensures { result ≡ entries_judged (table_tree self.now).kinds (table_tree self.now).entries before }
+        ensures { result ≡ check_entries (table_tree self.now).kinds (table_tree self.now).entries before }
     {
         let mut found = before;
         for entry in self.names.as_slice() {
@@ -121,7 +122,7 @@ pub fn table_of(
     module: &Module,
 ) -> Result<(NameTable, Option<Refusal>), Memory>
     ensures table { IfOk result (λ r. table_tree r.0 ≡ table_of (line_in lines.now) (module_tree «module».now)) }
-    ensures found { IfOk result (λ r. r.1 ≡ names_judged (line_in lines.now) (module_tree «module».now)) }
+    ensures found { IfOk result (λ r. r.1 ≡ check_names (line_in lines.now) (module_tree «module».now)) }
 {
     let kinds = Kinds::of(alloc, &module.decls)?;
     let arrays = Arrays::of(alloc, &module.decls)?;

@@ -3,13 +3,13 @@ use Rattle.std.proofs.Common.{◌≡◌, ℕ, ◌+◌, ◌*◌, ◌<◌, ◌≤�
 use Rattle.std.specs.Prelude.{sum_by, is_some, unwrap_or}
 use Rattle.std.proofs.lemmas.List.{length-map}
 use Rattle.std.proofs.lemmas.List.Sums.{sum_by-cons}
-use Rattle.fixed_form.specs.declared.fault.Fault.{Fault}
+use Rattle.refusal_codes.specs.declared.code.Code.{Code}
 use Rattle.fixed_form.specs.declared.line.Line.{Line}
 use Rattle.fixed_form.specs.declared.line.Lines.{Lines}
 use Rattle.fixed_form.specs.Characters.{is_space, folded}
 use Rattle.fixed_form.specs.TextLines.{text_lines, lines_of, onto_first, without_returns}
 use Rattle.fixed_form.specs.Cards.{front, card, columns, is_comment, is_dropped, is_initial, label_field}
-use Rattle.fixed_form.specs.Body.{stripped, quoted_behind}
+use Rattle.fixed_form.specs.Body.{stripped, quoted_after_byte}
 use Rattle.fixed_form.specs.Faults.{first_fault}
 use Rattle.fixed_form.specs.Reading.{Rest, label_of, before_statements, with_comment, with_initial, with_continuation, with_line, rest_from, ends_well, outcome, reading}
 use Rattle.fixed_form.proofs.CardLemmas.{length-front, length-filled}
@@ -26,10 +26,10 @@ each_short false false xs ys zs n h i j = j
 stripped-short : (q : Bool) (bs : List ℕ) → length (stripped q bs) ≤ length bs
 stripped-short q [] = omega arith
 stripped-short q (b ∷ bs) =
-    each_short q (is_space b) (b ∷ stripped (quoted_behind q b) bs) (stripped q bs) (folded b ∷ stripped (quoted_behind q b) bs) (length (b ∷ bs))
-    (omega (arith, stripped-short (quoted_behind q b) bs))
+    each_short q (is_space b) (b ∷ stripped (quoted_after_byte q b) bs) (stripped q bs) (folded b ∷ stripped (quoted_after_byte q b) bs) (length (b ∷ bs))
+    (omega (arith, stripped-short (quoted_after_byte q b) bs))
     (omega (arith, stripped-short q bs))
-    (omega (arith, stripped-short (quoted_behind q b) bs))
+    (omega (arith, stripped-short (quoted_after_byte q b) bs))
 
 columns-66 : (l : List ℕ) → length (columns (card l)) ≡ 66
 columns-66 l = omega (arith, length-drop 6 (card l), length-filled (front l) (length-front l))
@@ -107,7 +107,7 @@ chosen : (t : Bool) (a b : Lines) (e : ℕ × ℕ) → (let r : Result Lines (�
 chosen true a b e h = cc
 chosen false a b e h = cc
 
-outcome-lines : (found : Option (ℕ × Fault)) (last : ℕ) (rest : Rest) (lines : Lines) → outcome found last rest ≡ Ok lines → rest.statements ≡ lines.lines
+outcome-lines : (found : Option (ℕ × Code)) (last : ℕ) (rest : Rest) (lines : Lines) → outcome found last rest ≡ Ok lines → rest.statements ≡ lines.lines
 outcome-lines (Some f) last rest lines h = cc
 outcome-lines None last rest lines h = ap (λ (ls : Lines). ls.lines) (chosen (ends_well rest.statements) _ lines _ h)
 

@@ -7,21 +7,21 @@ use Rattle.f77_ast.specs.DeclTrees.{DeclTree, ParsedTree}
 use Rattle.f77_ast.specs.PlainStmt.{stmts_of}
 use Rattle.f77_statements.specs.Phrases.{PhraseTree, program, subroutine, specification, simple, logical_if, block_if, else_if, else_part, end_if, do_head, end_do, end_module}
 use Rattle.f77_parser.specs.declared.progress.Heading.{Heading}
-use Rattle.f77_parser.specs.SoFar.{OpeningTree, opening_loop, branches, AroundTree, SoFar, with_spot, stated, conditioned, entered, ending, ended_at, closed}
+use Rattle.f77_parser.specs.SoFar.{OpeningTree, opening_loop, branches, AroundTree, SoFar, add_spot, add_executable, add_logical_if, open_block, end_loops, end_loops_at, close_block}
 use Rattle.f77_parser.specs.Statements.{StatementTree}
 
 -- PROGRAM or SUBROUTINE
-abbrev pub headed : ℕ → List (List ℕ) → Heading → SoFar → SoFar
-headed first comments h p = with_spot parts.Title first comments (record p { heading = h })
+abbrev pub set_heading : ℕ → List (List ℕ) → Heading → SoFar → SoFar
+set_heading first comments h p = add_spot parts.Title first comments (record p { heading = h })
 
-abbrev pub specified : ℕ → List (List ℕ) → DeclTree → SoFar → SoFar
-specified first comments d p = with_spot (parts.Decl (length p.decls)) first comments (record p { decls = p.decls ++ d ∷ [] })
+abbrev pub add_specification : ℕ → List (List ℕ) → DeclTree → SoFar → SoFar
+add_specification first comments d p = add_spot (parts.Decl (length p.decls)) first comments (record p { decls = p.decls ++ d ∷ [] })
 
 -- the parts of a block IF, this being the open list
-abbrev pub closed_arms : OpeningTree → List StmtTree → List ArmTree
-closed_arms (opening_loop d) list = []
-closed_arms (branches arms (Some test)) list = arms ++ arm test (stmts_of list) ∷ []
-closed_arms (branches arms None) list = arms
+abbrev pub close_arm : OpeningTree → List StmtTree → List ArmTree
+close_arm (opening_loop d) list = []
+close_arm (branches arms (Some test)) list = arms ++ arm test (stmts_of list) ∷ []
+close_arm (branches arms None) list = arms
 
 abbrev pub part_of : ℕ → ℕ → Option ExprTree → Part
 part_of id place None = parts.Else id
@@ -29,68 +29,68 @@ part_of id place (Some test) = parts.ElseIf id place
 
 -- a block goes on with another list, which this part begins
 abbrev pub next_block : AroundTree → List StmtTree → Option ExprTree → AroundTree
-next_block a list test = record a { opening = branches (closed_arms a.opening list) test }
+next_block a list test = record a { opening = branches (close_arm a.opening list) test }
 
 abbrev pub next_part : AroundTree → List StmtTree → Option ExprTree → Part
-next_part a list test = part_of a.id (length (closed_arms a.opening list)) test
+next_part a list test = part_of a.id (length (close_arm a.opening list)) test
 
-abbrev pub divided_from : List AroundTree → ℕ → List (List ℕ) → Option ExprTree → SoFar → SoFar
-divided_from [] first comments test p = p
-divided_from (a ∷ others) first comments test p =
-    with_spot (next_part a p.list test) first comments (record p { list = []; around = next_block a p.list test ∷ others })
+abbrev pub divide_innermost : List AroundTree → ℕ → List (List ℕ) → Option ExprTree → SoFar → SoFar
+divide_innermost [] first comments test p = p
+divide_innermost (a ∷ others) first comments test p =
+    add_spot (next_part a p.list test) first comments (record p { list = []; around = next_block a p.list test ∷ others })
 
 -- ELSE IF with its test, or ELSE: the innermost block goes on with another list
-abbrev pub divided : ℕ → List (List ℕ) → Option ExprTree → SoFar → SoFar
-divided first comments test p = divided_from p.around first comments test p
+abbrev pub divide_block : ℕ → List (List ℕ) → Option ExprTree → SoFar → SoFar
+divide_block first comments test p = divide_innermost p.around first comments test p
 
 -- the CONTINUE that a label stands for
-abbrev pub continued : ℕ → ℕ → List (List ℕ) → SoFar → SoFar
-continued first l comments p = ending l (stated first (Some l) comments continue p)
+abbrev pub add_continue : ℕ → ℕ → List (List ℕ) → SoFar → SoFar
+add_continue first l comments p = end_loops l (add_executable first (Some l) comments continue p)
 
 -- a label of END IF stands for a CONTINUE behind it
-abbrev pub ended_if : ℕ → Option ℕ → List (List ℕ) → SoFar → SoFar
-ended_if first None comments p = closed first comments p
-ended_if first (Some l) comments p = continued first l [] (closed first comments p)
+abbrev pub close_if : ℕ → Option ℕ → List (List ℕ) → SoFar → SoFar
+close_if first None comments p = close_block first comments p
+close_if first (Some l) comments p = add_continue first l [] (close_block first comments p)
 
 -- one of END DO for a CONTINUE before it, which has the comments
-abbrev pub ended_do : ℕ → Option ℕ → List (List ℕ) → SoFar → SoFar
-ended_do first None comments p = closed first comments p
-ended_do first (Some l) comments p = closed first [] (continued first l comments p)
+abbrev pub close_do : ℕ → Option ℕ → List (List ℕ) → SoFar → SoFar
+close_do first None comments p = close_block first comments p
+close_do first (Some l) comments p = close_block first [] (add_continue first l comments p)
 
 -- and one of END too
-abbrev pub ended_module : ℕ → Option ℕ → List (List ℕ) → SoFar → SoFar
-ended_module first None comments p = with_spot parts.End first comments p
-ended_module first (Some l) comments p = with_spot parts.End first [] (continued first l comments p)
+abbrev pub close_module : ℕ → Option ℕ → List (List ℕ) → SoFar → SoFar
+close_module first None comments p = add_spot parts.End first comments p
+close_module first (Some l) comments p = add_spot parts.End first [] (add_continue first l comments p)
 
 -- one statement more, by what it says
-abbrev pub with_phrase : ℕ → Option ℕ → List (List ℕ) → PhraseTree → SoFar → SoFar
-with_phrase first label comments (program n) p =
-    headed first comments (record { name = n; main = true; titled = true; dummies = [] }) p
-with_phrase first label comments (subroutine n ds) p =
-    headed first comments (record { name = n; main = false; titled = false; dummies = ds }) p
-with_phrase first label comments (specification d) p = specified first comments d p
-with_phrase first label comments (simple w) p = ended_at label (stated first label comments w p)
-with_phrase first label comments (logical_if e w) p = ended_at label (conditioned first label comments e w p)
-with_phrase first label comments (block_if e) p = entered first label comments (branches [] (Some e)) p
-with_phrase first label comments (else_if e) p = divided first comments (Some e) p
-with_phrase first label comments else_part p = divided first comments None p
-with_phrase first label comments end_if p = ended_if first label comments p
-with_phrase first label comments (do_head d) p = entered first label comments (opening_loop d) p
-with_phrase first label comments end_do p = ended_do first label comments p
-with_phrase first label comments end_module p = ended_module first label comments p
+abbrev pub add_phrase : ℕ → Option ℕ → List (List ℕ) → PhraseTree → SoFar → SoFar
+add_phrase first label comments (program n) p =
+    set_heading first comments (record { name = n; main = true; titled = true; dummies = [] }) p
+add_phrase first label comments (subroutine n ds) p =
+    set_heading first comments (record { name = n; main = false; titled = false; dummies = ds }) p
+add_phrase first label comments (specification d) p = add_specification first comments d p
+add_phrase first label comments (simple w) p = end_loops_at label (add_executable first label comments w p)
+add_phrase first label comments (logical_if e w) p = end_loops_at label (add_logical_if first label comments e w p)
+add_phrase first label comments (block_if e) p = open_block first label comments (branches [] (Some e)) p
+add_phrase first label comments (else_if e) p = divide_block first comments (Some e) p
+add_phrase first label comments else_part p = divide_block first comments None p
+add_phrase first label comments end_if p = close_if first label comments p
+add_phrase first label comments (do_head d) p = open_block first label comments (opening_loop d) p
+add_phrase first label comments end_do p = close_do first label comments p
+add_phrase first label comments end_module p = close_module first label comments p
 
 -- one statement more
-abbrev pub with_statement : StatementTree → SoFar → SoFar
-with_statement s p = with_phrase s.first s.label s.comments s.phrase p
+abbrev pub add_statement : StatementTree → SoFar → SoFar
+add_statement s p = add_phrase s.first s.label s.comments s.phrase p
 
 -- these statements more
-abbrev pub all_stated : List StatementTree → SoFar → SoFar
-all_stated [] p = p
-all_stated (s ∷ ss) p = all_stated ss (with_statement s p)
+abbrev pub add_all : List StatementTree → SoFar → SoFar
+add_all [] p = p
+add_all (s ∷ ss) p = add_all ss (add_statement s p)
 
 -- a module without a heading is a main program with the name MAIN
-abbrev pub nothing_stated : SoFar
-nothing_stated = record {
+abbrev pub no_statements : SoFar
+no_statements = record {
   heading = record { name = codes "MAIN"; main = true; titled = false; dummies = [] };
   decls = [];
   count = 0;
@@ -113,5 +113,5 @@ whole closing p = record {
 }
 
 -- the module of these statements, with the comments behind it
-unfoldable pub built : List (List ℕ) → List StatementTree → ParsedTree
-built closing ss = whole closing (all_stated ss nothing_stated)
+unfoldable pub build_module : List (List ℕ) → List StatementTree → ParsedTree
+build_module closing ss = whole closing (add_all ss no_statements)

@@ -3,13 +3,13 @@ use Rattle.std.specs.Prelude.{ℕ, Bool, true, false, List, [], ◌∷◌, ◌++
 use Rattle.fixed_form.specs.declared.line.Lines.{Lines}
 use Rattle.f77_ast.specs.DeclTrees.{ParsedTree}
 use Rattle.f77_statements.specs.Phrases.{PhraseTree, program, subroutine, specification, simple, logical_if, block_if, else_if, else_part, end_if, do_head, end_do, end_module}
-use Rattle.f77_structure.specs.declared.fault.Found.{Found}
+use Rattle.refusal_codes.specs.declared.refusal.Refusal.{Refusal}
 use Rattle.f77_structure.specs.Lists.{is_none_of}
-use Rattle.f77_structure.specs.Faults.{number_of}
+use Rattle.refusal_codes.specs.Refusals.{number_of}
 use Rattle.f77_structure.specs.Checks.{fault_of}
 use Rattle.f77_parser.specs.Gives.{Refused, and_then}
 use Rattle.f77_parser.specs.Statements.{StatementTree, all_read, marks_of}
-use Rattle.f77_parser.specs.Building.{built}
+use Rattle.f77_parser.specs.Building.{build_module}
 
 abbrev pub ends_module : PhraseTree → Bool
 ends_module (program n) = false
@@ -29,13 +29,13 @@ ends_module end_module = true
 abbrev pub closing_at : Bool → List (List ℕ) → List (List ℕ)
 closing_at last closing = if last then closing else []
 
-abbrev pub unless_faulty : Option Found → ParsedTree → Result ParsedTree Refused
+abbrev pub unless_faulty : Option Refusal → ParsedTree → Result ParsedTree Refused
 unless_faulty None p = Ok p
-unless_faulty (Some f) p = Err (record { line = f.line; code = number_of f.fault; keyword = [] })
+unless_faulty (Some f) p = Err (record { line = f.line; code = number_of f.code; keyword = [] })
 
 -- the module of these statements, or its first fault
 abbrev pub module_read : List (List ℕ) → List StatementTree → Result ParsedTree Refused
-module_read closing ss = unless_faulty (fault_of (marks_of ss)) (built closing ss)
+module_read closing ss = unless_faulty (fault_of (marks_of ss)) (build_module closing ss)
 
 -- the modules that are done, the statements of the module that is begun, and those behind them: a module goes up to its END
 abbrev pub modules_from : List (List ℕ) → List ParsedTree → List StatementTree → List StatementTree → Result (List ParsedTree) Refused

@@ -61,20 +61,20 @@ abbrev pub spot : Part → ℕ → List (List ℕ) → Spot
 spot part first comments = record { part = part; first = first; comments = comments }
 
 -- a statement stood at a line
-unfoldable pub with_spot : Part → ℕ → List (List ℕ) → SoFar → SoFar
-with_spot part first comments p = record p { spots = p.spots ++ spot part first comments ∷ [] }
+unfoldable pub add_spot : Part → ℕ → List (List ℕ) → SoFar → SoFar
+add_spot part first comments p = record p { spots = p.spots ++ spot part first comments ∷ [] }
 
 -- the next executable statement stands in the open list
-unfoldable pub stated : ℕ → Option ℕ → List (List ℕ) → WhatTree → SoFar → SoFar
-stated first label comments w p =
-    with_spot (parts.Stmt (p.count + 1)) first comments
+unfoldable pub add_executable : ℕ → Option ℕ → List (List ℕ) → WhatTree → SoFar → SoFar
+add_executable first label comments w p =
+    add_spot (parts.Stmt (p.count + 1)) first comments
     (record p { count = p.count + 1; list = p.list ++ stmt (p.count + 1) label w ∷ [] })
 
 -- a logical IF and the statement in it, which has the number after its own and no comments
-unfoldable pub conditioned : ℕ → Option ℕ → List (List ℕ) → ExprTree → WhatTree → SoFar → SoFar
-conditioned first label comments test w p =
-    with_spot (parts.Stmt (p.count + 1 + 1)) first []
-    (with_spot (parts.Stmt (p.count + 1)) first comments
+unfoldable pub add_logical_if : ℕ → Option ℕ → List (List ℕ) → ExprTree → WhatTree → SoFar → SoFar
+add_logical_if first label comments test w p =
+    add_spot (parts.Stmt (p.count + 1 + 1)) first []
+    (add_spot (parts.Stmt (p.count + 1)) first comments
     (record p {
       count = p.count + 1 + 1;
       list = p.list ++ stmt (p.count + 1) label (logical_if test (stmt (p.count + 1 + 1) None w)) ∷ [];
@@ -83,9 +83,9 @@ conditioned first label comments test w p =
 -- ---- blocks
 
 -- the next executable statement opens a block
-unfoldable pub entered : ℕ → Option ℕ → List (List ℕ) → OpeningTree → SoFar → SoFar
-entered first label comments opening p =
-    with_spot (parts.Stmt (p.count + 1)) first comments
+unfoldable pub open_block : ℕ → Option ℕ → List (List ℕ) → OpeningTree → SoFar → SoFar
+open_block first label comments opening p =
+    add_spot (parts.Stmt (p.count + 1)) first comments
     (record p {
       count = p.count + 1;
       list = [];
@@ -101,12 +101,12 @@ what_of (opening_loop d) list = do_loop (loop_of d list)
 what_of (branches arms (Some test)) list = block_if (arms_of (arms ++ arm test (stmts_of list) ∷ [])) no_else
 what_of (branches arms None) list = block_if (arms_of arms) (otherwise (stmts_of list))
 
-abbrev pub behind : AroundTree → List StmtTree → List StmtTree
-behind a list = a.before ++ stmt a.id a.label (what_of a.opening list) ∷ []
+abbrev pub add_block : AroundTree → List StmtTree → List StmtTree
+add_block a list = a.before ++ stmt a.id a.label (what_of a.opening list) ∷ []
 
 -- a block ends, and these are open around it
-abbrev pub left_one : AroundTree → List AroundTree → SoFar → SoFar
-left_one a others p = record p { list = behind a p.list; around = others }
+abbrev pub leave_block : AroundTree → List AroundTree → SoFar → SoFar
+leave_block a others p = record p { list = add_block a p.list; around = others }
 
 abbrev pub is_label : ℕ → Option ℕ → Bool
 is_label l None = false
@@ -118,22 +118,22 @@ is_loop_to l (opening_loop d) = is_label l d.label
 is_loop_to l (branches arms test) = false
 
 -- of these open blocks the innermost DOs with this label end: several may share their last statement
-abbrev pub ended_by : ℕ → List AroundTree → SoFar → SoFar
-ended_by l [] p = p
-ended_by l (a ∷ others) p = if is_loop_to l a.opening then ended_by l others (left_one a others p) else p
+abbrev pub leave_loops : ℕ → List AroundTree → SoFar → SoFar
+leave_loops l [] p = p
+leave_loops l (a ∷ others) p = if is_loop_to l a.opening then leave_loops l others (leave_block a others p) else p
 
 -- the innermost open DOs with this label end
-abbrev pub ending : ℕ → SoFar → SoFar
-ending l p = ended_by l p.around p
+abbrev pub end_loops : ℕ → SoFar → SoFar
+end_loops l p = leave_loops l p.around p
 
-abbrev pub ended_at : Option ℕ → SoFar → SoFar
-ended_at None p = p
-ended_at (Some l) p = ending l p
+abbrev pub end_loops_at : Option ℕ → SoFar → SoFar
+end_loops_at None p = p
+end_loops_at (Some l) p = end_loops l p
 
-abbrev pub closed_from : List AroundTree → ℕ → List (List ℕ) → SoFar → SoFar
-closed_from [] first comments p = p
-closed_from (a ∷ others) first comments p = with_spot (parts.Close a.id) first comments (left_one a others p)
+abbrev pub close_innermost : List AroundTree → ℕ → List (List ℕ) → SoFar → SoFar
+close_innermost [] first comments p = p
+close_innermost (a ∷ others) first comments p = add_spot (parts.Close a.id) first comments (leave_block a others p)
 
 -- the innermost block ends at a statement of its own
-abbrev pub closed : ℕ → List (List ℕ) → SoFar → SoFar
-closed first comments p = closed_from p.around first comments p
+abbrev pub close_block : ℕ → List (List ℕ) → SoFar → SoFar
+close_block first comments p = close_innermost p.around first comments p

@@ -5,7 +5,8 @@ use Rattle.fixed_form.specs.declared.line.Lines.{Lines}
 use Rattle.f77_forms.specs.Refused.{refused_word}
 use Rattle.f77_statements.specs.declared.refusal.Cause.{Cause}
 use Rattle.f77_statements.specs.declared.refusal.Cause.TheVariants.{Syntax, OutOfProfile, RealConstant, NumberTooBig, NameTooLong}
-use Rattle.f77_statements.specs.Causes.{number_of}
+use Rattle.refusal_codes.specs.Refusals.{number_of}
+use Rattle.f77_statements.specs.Causes.{code_of}
 use Rattle.f77_statements.specs.Phrases.{PhraseTree, phrase_tree}
 use Rattle.f77_statements.specs.Statements.{phrase_of}
 use Rattle.f77_structure.specs.declared.mark.Mark.{Mark}
@@ -34,7 +35,7 @@ keyword_of NumberTooBig = []
 keyword_of NameTooLong = []
 
 abbrev pub refused : ℕ → Cause → Refused
-refused line cause = record { line = line; code = number_of cause; keyword = keyword_of cause }
+refused line cause = record { line = line; code = number_of (code_of cause); keyword = keyword_of cause }
 
 abbrev pub read_as : Line → Result PhraseTree Cause → Result StatementTree Refused
 read_as line (Ok p) = Ok (record { first = line.first; label = line.label; deep = is_deep line.body; comments = line.comments; phrase = p })

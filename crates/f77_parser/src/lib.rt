@@ -2,6 +2,7 @@
 #![tactic(auto)]
 
 mod building;
+mod numbers;
 mod progress;
 mod read;
 mod refusal;

@@ -1,16 +1,18 @@
 //! What the statements of a module made so far.
-ghost use Rattle.std.specs.Prelude.{◌≡◌, ◌+◌, IfOk, map};
-ghost use Rattle.f77_ast.specs.Trees.{stmt, logical_if};
+ghost use Rattle.std.specs.Prelude.{◌≡◌, ◌++◌, [], ◌∷◌, IfOk, map};
+ghost use Rattle.f77_ast.specs.Trees.{stmt, logical_if, arm};
 ghost use Rattle.f77_ast.specs.Plain.{expr_tree};
-ghost use Rattle.f77_ast.specs.PlainStmt.{stmt_tree, what_tree, loop_tree};
+ghost use Rattle.f77_ast.specs.PlainStmt.{stmt_tree, what_tree, loop_tree, arm_tree, stmts_of};
 ghost use Rattle.f77_statements.specs.Phrases.{do_tree};
-ghost use Rattle.f77_parser.specs.SoFar.{so_far, opening_tree, around_tree, what_of, loop_of, behind, with_spot, stated, conditioned, entered, is_loop_to, ending, ended_at, closed};
+ghost use Rattle.f77_parser.specs.SoFar.{so_far, opening_tree, around_tree, what_of, loop_of, add_spot, add_executable, add_logical_if, open_block, add_block, is_loop_to, end_loops, end_loops_at, close_block};
 
+use crate::numbers::next;
 use f77_ast::{Arm, Decl, Expr, Loop, Part, Spot, Stmt, StmtId, What};
 use f77_statements::DoHead;
 use f77_structure::Stack;
 use fx_lists::{List, Text};
 use std::alloc::{AllocError as Memory, Global};
+use std::mem;
 
 /// The heading of a module.
 #[derive(Debug, Drop)]
@@ -60,63 +62,155 @@ pub struct Front {
     pub comments: List<Text>,
 }
 
-/// The number after a number. There are never so many statements that it is none of 32 bits.
-fn next(number: u32) -> Result<u32, Memory>
-    ensures { IfOk result (λ n. n ≡ number + 1) }
-{
-    if number == u32::MAX {
-        return Err(Memory);
+impl Progress {
+    /// A part of the module stood at a line.
+    #[tactic(auto, unfolding(crate::specs::SoFar::add_spot))]
+    pub fn add_spot(&mut self, part: Part, first: u32, comments: List<Text>) -> Result<(), Memory>
+        ensures { IfOk result (λ _. so_far self.new ≡ add_spot part first comments (so_far self.old)) }
+    {
+        self.spots.push(Spot {
+            part,
+            first,
+            comments,
+        })
     }
-    Ok(number + 1)
-}
 
-/// A place in a list. No list is so long that it is none of 32 bits.
-pub fn place_of(place: usize) -> Result<u32, Memory>
-    ensures { IfOk result (λ n. n ≡ place) }
-{
-    if u32::MAX as usize <= place {
-        return Err(Memory);
+    /// The next executable statement stands in the open list.
+    pub fn add_executable(&mut self, front: Front, what: What) -> Result<(), Memory>
+        ensures { IfOk result (λ _. so_far self.new ≡ add_executable front.first front.label front.comments (what_tree what) (so_far self.old)) }
+    {
+        let Front {
+            first,
+            label,
+            comments,
+        } = front;
+        let id = next(self.count)?;
+        self.count = id;
+        self.list.push(Stmt { id, label, what })?;
+        self.add_spot(Part::Stmt(id), first, comments)
     }
-    Ok(place as u32)
+
+    /// A logical IF and the statement in it, which is an executable statement too.
+    pub fn add_logical_if(
+        &mut self,
+        alloc: Global,
+        front: Front,
+        test: Expr,
+        what: What,
+    ) -> Result<(), Memory>
+        ensures { IfOk result (λ _. so_far self.new ≡ add_logical_if front.first front.label front.comments (expr_tree test) (what_tree what) (so_far self.old)) }
+    {
+        let Front {
+            first,
+            label,
+            comments,
+        } = front;
+        let id = next(self.count)?;
+        let within = next(id)?;
+        self.count = within;
+        let inner = Stmt {
+            id: within,
+            label: None,
+            what,
+        };
+        self.list.push(logical_if(alloc, id, label, test, inner)?)?;
+        self.add_spot(Part::Stmt(id), first, comments)?;
+        self.add_spot(Part::Stmt(within), first, List::new(alloc))
+    }
+
+    /// The next executable statement opens a block.
+    pub fn open_block(
+        &mut self,
+        alloc: Global,
+        front: Front,
+        opening: Opening,
+    ) -> Result<(), Memory>
+        ensures { IfOk result (λ _. so_far self.new ≡ open_block front.first front.label front.comments (opening_tree opening) (so_far self.old)) }
+    {
+        let Front {
+            first,
+            label,
+            comments,
+        } = front;
+        let id = next(self.count)?;
+        self.count = id;
+        let before = mem::replace(&mut self.list, List::new(alloc));
+        self.add_around(
+            alloc,
+            Around {
+                id,
+                label,
+                before,
+                opening,
+            },
+        )?;
+        self.add_spot(Part::Stmt(id), first, comments)
+    }
+
+    /// A block stands before the open ones.
+    pub fn add_around(&mut self, alloc: Global, block: Around) -> Result<(), Memory>
+        ensures { IfOk result (λ _. self.new ≡ record self.old { around = block ∷ self.old.around }) }
+    {
+        let around = mem::replace(&mut self.around, Stack::new(alloc));
+        self.around = around.pushed(block)?;
+        Ok(())
+    }
+
+    /// A block that was open stands behind what was before it in its list.
+    #[tactic(auto, using(crate::proofs::SoFarLemmas::lists))]
+    fn add_block(&mut self, block: Around) -> Result<(), Memory>
+        ensures { IfOk result (λ _. so_far self.new ≡ record (so_far self.old) { list = add_block (around_tree block) (map stmt_tree self.old.list) }) }
+    {
+        let Around {
+            id,
+            label,
+            before,
+            opening,
+        } = block;
+        let list = mem::replace(&mut self.list, before);
+        let what = what_of(opening, list)?;
+        self.list.push(Stmt { id, label, what })
+    }
+
+    /// The innermost DOs end whose last statement has this label.
+    pub fn end_loops(&mut self, alloc: Global, label: u32) -> Result<(), Memory>
+        ensures { IfOk result (λ _. so_far self.new ≡ end_loops label (so_far self.old)) }
+    {
+        while let Some(block) = self.around.pop() {
+            if !is_loop_to(&block.opening, label) {
+                return self.add_around(alloc, block);
+            }
+            self.add_block(block)?;
+        }
+        Ok(())
+    }
+
+    /// The innermost DOs end whose last statement has the label of a statement.
+    pub fn end_loops_at(&mut self, alloc: Global, label: Option<u32>) -> Result<(), Memory>
+        ensures { IfOk result (λ _. so_far self.new ≡ end_loops_at label (so_far self.old)) }
+    {
+        match label {
+            None => Ok(()),
+            Some(label) => self.end_loops(alloc, label),
+        }
+    }
+
+    /// The innermost block ends at a statement of its own.
+    pub fn close_block(&mut self, first: u32, comments: List<Text>) -> Result<(), Memory>
+        ensures { IfOk result (λ _. so_far self.new ≡ close_block first comments (so_far self.old)) }
+    {
+        match self.around.pop() {
+            None => Ok(()),
+            Some(block) => {
+                let id = block.id;
+                self.add_block(block)?;
+                self.add_spot(Part::Close(id), first, comments)
+            }
+        }
+    }
 }
 
-/// A statement stood at a line.
-#[tactic(auto, unfolding(crate::specs::SoFar::with_spot))]
-pub fn with_spot(
-    progress: Progress,
-    part: Part,
-    first: u32,
-    comments: List<Text>,
-) -> Result<Progress, Memory>
-    ensures { IfOk result (λ p. so_far p ≡ with_spot part first comments (so_far progress)) }
-{
-    let mut progress = progress;
-    progress.spots.push(Spot {
-        part,
-        first,
-        comments,
-    })?;
-    Ok(progress)
-}
-
-/// The next executable statement stands in the open list.
-#[tactic(auto, using(crate::proofs::SoFarLemmas::lists), unfolding(crate::specs::SoFar::stated))]
-pub fn stated(progress: Progress, front: Front, what: What) -> Result<Progress, Memory>
-    ensures { IfOk result (λ p. so_far p ≡ stated front.first front.label front.comments (what_tree what) (so_far progress)) }
-{
-    let Front {
-        first,
-        label,
-        comments,
-    } = front;
-    let mut progress = progress;
-    let id = next(progress.count)?;
-    progress.count = id;
-    progress.list.push(Stmt { id, label, what })?;
-    with_spot(progress, Part::Stmt(id), first, comments)
-}
-
-#[tactic(auto, using(f77_ast::proofs::PlainlyStmt::what_cases))]
+#[tactic(auto, using(crate::proofs::SoFarLemmas::logical_ifs))]
 fn logical_if(
     alloc: Global,
     id: StmtId,
@@ -130,77 +224,14 @@ fn logical_if(
     Ok(Stmt { id, label, what })
 }
 
-/// A logical IF and the statement in it, which is an executable statement too.
-#[tactic(auto, using(crate::proofs::SoFarLemmas::lists), unfolding(crate::specs::SoFar::conditioned))]
-pub fn conditioned(
-    alloc: Global,
-    progress: Progress,
-    front: Front,
-    test: Expr,
-    what: What,
-) -> Result<Progress, Memory>
-    ensures { IfOk result (λ p. so_far p ≡ conditioned front.first front.label front.comments (expr_tree test) (what_tree what) (so_far progress)) }
+/// The parts of a block IF, with one more.
+#[tactic(auto, using(crate::proofs::SoFarLemmas::arms))]
+pub fn add_arm(arms: List<Arm>, test: Expr, body: List<Stmt>) -> Result<List<Arm>, Memory>
+    ensures { IfOk result (λ all. map arm_tree all ≡ map arm_tree arms ++ arm (expr_tree test) (stmts_of (map stmt_tree body)) ∷ []) }
 {
-    let Front {
-        first,
-        label,
-        comments,
-    } = front;
-    let mut progress = progress;
-    let id = next(progress.count)?;
-    let inside = next(id)?;
-    progress.count = inside;
-    let inner = Stmt {
-        id: inside,
-        label: None,
-        what,
-    };
-    progress
-        .list
-        .push(logical_if(alloc, id, label, test, inner)?)?;
-    let progress = with_spot(progress, Part::Stmt(id), first, comments)?;
-    with_spot(progress, Part::Stmt(inside), first, List::new(alloc))
-}
-
-/// The next executable statement opens a block.
-#[tactic(auto, using(crate::proofs::SoFarLemmas::lists), unfolding(crate::specs::SoFar::entered))]
-pub fn entered(
-    alloc: Global,
-    progress: Progress,
-    front: Front,
-    opening: Opening,
-) -> Result<Progress, Memory>
-    ensures { IfOk result (λ p. so_far p ≡ entered front.first front.label front.comments (opening_tree opening) (so_far progress)) }
-{
-    let Front {
-        first,
-        label,
-        comments,
-    } = front;
-    let Progress {
-        heading,
-        decls,
-        count,
-        spots,
-        list,
-        around,
-    } = progress;
-    let id = next(count)?;
-    let block = Around {
-        id,
-        label,
-        before: list,
-        opening,
-    };
-    let progress = Progress {
-        heading,
-        decls,
-        count: id,
-        spots,
-        list: List::new(alloc),
-        around: around.pushed(block)?,
-    };
-    with_spot(progress, Part::Stmt(id), first, comments)
+    let mut arms = arms;
+    arms.push(Arm { test, body })?;
+    Ok(arms)
 }
 
 /// A block with all that stands in it.
@@ -212,11 +243,7 @@ fn what_of(opening: Opening, list: List<Stmt>) -> Result<What, Memory>
         Opening::Loop(head) => Ok(What::Do(loop_of(head, list))),
         Opening::Branches(arms, test) => match test {
             None => Ok(What::If(arms, Some(list))),
-            Some(test) => {
-                let mut arms = arms;
-                arms.push(Arm { test, body: list })?;
-                Ok(What::If(arms, None))
-            }
+            Some(test) => Ok(What::If(add_arm(arms, test, list)?, None)),
         },
     }
 }
@@ -241,22 +268,6 @@ fn loop_of(head: DoHead, body: List<Stmt>) -> Loop
     }
 }
 
-/// A block stands behind what was before it in its list.
-#[tactic(auto, using(crate::proofs::SoFarLemmas::lists))]
-pub fn behind(block: Around, list: List<Stmt>) -> Result<List<Stmt>, Memory>
-    ensures { IfOk result (λ all. map stmt_tree all ≡ behind (around_tree block) (map stmt_tree list)) }
-{
-    let Around {
-        id,
-        label,
-        mut before,
-        opening,
-    } = block;
-    let what = what_of(opening, list)?;
-    before.push(Stmt { id, label, what })?;
-    Ok(before)
-}
-
 fn is_loop_to(opening: &Opening, label: u32) -> bool
     ensures { result ≡ is_loop_to label (opening_tree opening.now) }
 {
@@ -266,88 +277,5 @@ fn is_loop_to(opening: &Opening, label: u32) -> bool
             Some(own) => own == label,
         },
         Opening::Branches(..) => false,
-    }
-}
-
-/// The innermost DOs end whose last statement has this label.
-#[tactic(auto, using(crate::proofs::SoFarLemmas::lists))]
-pub fn ended_by(progress: Progress, label: u32) -> Result<Progress, Memory>
-    ensures { IfOk result (λ p. so_far p ≡ ending label (so_far progress)) }
-{
-    let Progress {
-        heading,
-        decls,
-        count,
-        spots,
-        mut list,
-        mut around,
-    } = progress;
-    while let Some(block) = around.pop() {
-        if !is_loop_to(&block.opening, label) {
-            return Ok(Progress {
-                heading,
-                decls,
-                count,
-                spots,
-                list,
-                around: around.pushed(block)?,
-            });
-        }
-        list = behind(block, list)?;
-    }
-    Ok(Progress {
-        heading,
-        decls,
-        count,
-        spots,
-        list,
-        around,
-    })
-}
-
-/// The innermost DOs end whose last statement has the label of a statement.
-pub fn ended_at(progress: Progress, label: Option<u32>) -> Result<Progress, Memory>
-    ensures { IfOk result (λ p. so_far p ≡ ended_at label (so_far progress)) }
-{
-    match label {
-        None => Ok(progress),
-        Some(label) => ended_by(progress, label),
-    }
-}
-
-/// The innermost block ends at a statement of its own.
-#[tactic(auto, using(crate::proofs::SoFarLemmas::lists))]
-pub fn closed(progress: Progress, first: u32, comments: List<Text>) -> Result<Progress, Memory>
-    ensures { IfOk result (λ p. so_far p ≡ closed first comments (so_far progress)) }
-{
-    let Progress {
-        heading,
-        decls,
-        count,
-        spots,
-        list,
-        mut around,
-    } = progress;
-    match around.pop() {
-        None => Ok(Progress {
-            heading,
-            decls,
-            count,
-            spots,
-            list,
-            around,
-        }),
-        Some(block) => {
-            let id = block.id;
-            let progress = Progress {
-                heading,
-                decls,
-                count,
-                spots,
-                list: behind(block, list)?,
-                around,
-            };
-            with_spot(progress, Part::Close(id), first, comments)
-        }
     }
 }

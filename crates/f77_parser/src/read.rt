@@ -5,10 +5,9 @@ ghost use Rattle.f77_statements.specs.Phrases.{phrase_tree};
 ghost use Rattle.f77_parser.specs.Gives.{Gives};
 ghost use Rattle.f77_parser.specs.SoFar.{so_far};
 ghost use Rattle.f77_parser.specs.Statements.{statement_tree, characters};
-ghost use Rattle.f77_parser.specs.Building.{nothing_stated, whole, built};
+ghost use Rattle.f77_parser.specs.Building.{no_statements, whole, build_module};
 ghost use Rattle.f77_parser.specs.Modules.{ends_module, closing_at, module_read, modules_from, parse_of};
 
-use crate::building::with_statement;
 use crate::progress::{Heading, Progress};
 use crate::refusal::ParseRefusal;
 use crate::statement::{Statement, all_read, copy_texts, marks_of};
@@ -22,8 +21,8 @@ use std::alloc::{AllocError as Memory, Global};
 /// The modules of a text in their order.
 pub type ModuleTrees = List<Parsed>;
 
-fn nothing_stated(alloc: Global) -> Result<Progress, Memory>
-    ensures { IfOk result (λ p. so_far p ≡ nothing_stated) }
+fn no_statements(alloc: Global) -> Result<Progress, Memory>
+    ensures { IfOk result (λ p. so_far p ≡ no_statements) }
 {
     let heading = Heading {
         name: Text::from_bytes(alloc, b"MAIN")?,
@@ -73,14 +72,18 @@ fn whole(progress: Progress, closing: List<Text>) -> Parsed
 }
 
 /// The module of statements without a fault.
-#[tactic(auto, unfolding(crate::specs::Building::built))]
-fn built(alloc: Global, statements: List<Statement>, closing: List<Text>) -> Result<Parsed, Memory>
-    ensures { IfOk result (λ p. parsed_tree p ≡ built closing (map statement_tree statements)) }
+#[tactic(auto, unfolding(crate::specs::Building::build_module))]
+fn build_module(
+    alloc: Global,
+    statements: List<Statement>,
+    closing: List<Text>,
+) -> Result<Parsed, Memory>
+    ensures { IfOk result (λ p. parsed_tree p ≡ build_module closing (map statement_tree statements)) }
 {
-    let mut progress = nothing_stated(alloc)?;
+    let mut progress = no_statements(alloc)?;
     let mut rest = stack_of(statements);
     while let Some(statement) = rest.pop() {
-        progress = with_statement(alloc, progress, statement)?;
+        progress.add_statement(alloc, statement)?;
     }
     Ok(whole(progress, closing))
 }
@@ -95,9 +98,9 @@ fn module_read(
 {
     let marks = marks_of(alloc, statements.as_slice())?;
     match fault_of(alloc, marks.as_slice())? {
-        None => Ok(built(alloc, statements, closing)?),
+        None => Ok(build_module(alloc, statements, closing)?),
         Some(found) => {
-            let number = found.fault.number();
+            let number = found.code.number();
             Err(ParseRefusal::At(found.line, number, Text::new(alloc)))
         }
     }

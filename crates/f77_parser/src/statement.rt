@@ -63,7 +63,7 @@ fn refused(alloc: Global, line: u32, cause: Cause) -> ParseRefusal
     ensures { Gives statement_tree (Err result) (Err (refused line cause)) }
 {
     match keyword_of(alloc, cause) {
-        Ok(keyword) => ParseRefusal::At(line, cause.number(), keyword),
+        Ok(keyword) => ParseRefusal::At(line, cause.code().number(), keyword),
         Err(_) => ParseRefusal::Memory,
     }
 }

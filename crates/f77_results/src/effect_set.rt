@@ -31,7 +31,7 @@ impl EffectSet {
     }
 }
 
-fn copied(alloc: Global, variables: &List<Variable>) -> Result<List<Variable>, Memory>
+fn copy_variables(alloc: Global, variables: &List<Variable>) -> Result<List<Variable>, Memory>
     ensures { IfOk result (λ copy. copy ≡ variables.now) }
 {
     let mut made = List::new(alloc);
@@ -42,8 +42,8 @@ fn copied(alloc: Global, variables: &List<Variable>) -> Result<List<Variable>, M
 pub fn copy_effect(alloc: Global, effect: &EffectSet) -> Result<EffectSet, Memory>
     ensures { IfOk result (λ copy. copy ≡ effect.now) }
 {
-    let reads = copied(alloc, &effect.reads)?;
-    let writes = copied(alloc, &effect.writes)?;
+    let reads = copy_variables(alloc, &effect.reads)?;
+    let writes = copy_variables(alloc, &effect.writes)?;
     Ok(EffectSet {
         reads,
         writes,

@@ -1,17 +1,19 @@
 -- Why a statement is refused: the lowest cause.
 use Rattle.std.specs.Prelude.{ℕ, List, [], ◌∷◌, Option, Some, None, Result, Ok, Err, if◌then◌else◌}
+use Rattle.refusal_codes.specs.declared.code.Code.{Code}
+use Rattle.refusal_codes.specs.declared.code.Code.TheVariants as codes
 use Rattle.f77_exprs.specs.declared.at.Notes.{Notes}
 use Rattle.f77_exprs.specs.State.{State}
 use Rattle.f77_statements.specs.declared.refusal.Cause.{Cause}
 use Rattle.f77_statements.specs.declared.refusal.Cause.TheVariants.{Syntax, OutOfProfile, RealConstant, NumberTooBig, NameTooLong}
 
--- the numbers by which causes are reported
-abbrev pub number_of : Cause → ℕ
-number_of Syntax = 10
-number_of (OutOfProfile keyword) = 11
-number_of RealConstant = 12
-number_of NumberTooBig = 13
-number_of NameTooLong = 14
+-- the codes by which causes are reported
+abbrev pub code_of : Cause → Code
+code_of Syntax = codes.Syntax
+code_of (OutOfProfile keyword) = codes.OutOfProfile
+code_of RealConstant = codes.RealConstant
+code_of NumberTooBig = codes.NumberTooBig
+code_of NameTooLong = codes.NameTooLong
 
 -- the lowest cause that was noted
 abbrev pub noted : {A : Type 0} → Notes → A → Result A Cause

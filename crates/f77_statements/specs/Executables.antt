@@ -6,7 +6,7 @@ use Rattle.f77_exprs.specs.Words.{before}
 use Rattle.f77_exprs.specs.State.{Reader, take_word, or_else, ◌>>=◌}
 use Rattle.f77_exprs.specs.Lexical.{name_at, label_at, digit_first, skip_digits, constant}
 use Rattle.f77_exprs.specs.Grammar.{expression, variable}
-use Rattle.f77_statements.specs.Lists.{or_end, items_left, maybe_enclosed, maybe_listed}
+use Rattle.f77_statements.specs.Lists.{or_end, items_left, maybe_in_parentheses, maybe_after_comma}
 
 -- v=e
 unfoldable pub assignment : Reader WhatTree
@@ -21,7 +21,7 @@ unfoldable pub call_statement : Reader WhatTree
 call_statement s = do
   t ← take_word (codes "CALL") s
   n ← name_at t
-  es ← maybe_enclosed expression n.1
+  es ← maybe_in_parentheses expression n.1
   Some (call n.0 (exprs_of es.0), es.1)
 
 -- GOTOl
@@ -62,21 +62,21 @@ stop_statement s = do
 unfoldable pub print_statement : Reader WhatTree
 print_statement s = do
   t ← take_word (codes "PRINT*") s
-  es ← maybe_listed expression t
+  es ← maybe_after_comma expression t
   Some (print (exprs_of es.0), es.1)
 
 -- the list of a WRITE
-unfoldable pub written : Reader WhatTree
-written s = items_left expression s >>= λ es. Some (print (exprs_of es.0), es.1)
+unfoldable pub write_list : Reader WhatTree
+write_list s = items_left expression s >>= λ es. Some (print (exprs_of es.0), es.1)
 
 -- WRITE(*,*)[list] and WRITE(6,*)[list], which are read as PRINT
 unfoldable pub write_statement : Reader WhatTree
 write_statement s =
-    or_else (take_word (codes "WRITE(*,*)") s) written
-    (or_else (take_word (codes "WRITE(6,*)") s) written None)
+    or_else (take_word (codes "WRITE(*,*)") s) write_list
+    (or_else (take_word (codes "WRITE(6,*)") s) write_list None)
 
 unfoldable pub read_listed : Reader WhatTree
-read_listed s = maybe_listed variable s >>= λ es. Some (read (exprs_of es.0), es.1)
+read_listed s = maybe_after_comma variable s >>= λ es. Some (read (exprs_of es.0), es.1)
 
 unfoldable pub read_left : Reader WhatTree
 read_left s = items_left variable s >>= λ es. Some (read (exprs_of es.0), es.1)

@@ -15,8 +15,8 @@ past s (Some t) = t
 past s None = s
 
 -- what follows a comma, which need not be there
-abbrev pub past_comma : State → State
-past_comma s = past s (take_word (codes ",") s)
+abbrev pub skip_comma : State → State
+skip_comma s = past s (take_word (codes ",") s)
 
 -- nothing at the end of the statement, or what is read before it
 abbrev pub or_end : {A : Type 0} → List ℕ → State → A → Option (A × State) → Option (A × State)
@@ -28,13 +28,13 @@ unfoldable pub items_left : {A : Type 0} → Reader A → Reader (List A)
 items_left one s = or_end s.rest s [] (items one s)
 
 -- items behind an opening parenthesis, of which there may be none
-unfoldable pub enclosed : {A : Type 0} → Reader A → Reader (List A)
-enclosed one s = or_else (take_word (codes ")") s) (λ t. Some ([], t)) (ending (codes ")") (items one) s)
+unfoldable pub in_parentheses : {A : Type 0} → Reader A → Reader (List A)
+in_parentheses one s = or_else (take_word (codes ")") s) (λ t. Some ([], t)) (ending (codes ")") (items one) s)
 
 -- items in parentheses, which need not be there
-unfoldable pub maybe_enclosed : {A : Type 0} → Reader A → Reader (List A)
-maybe_enclosed one s = or_done [] s (take_word (codes "(") s) (enclosed one)
+unfoldable pub maybe_in_parentheses : {A : Type 0} → Reader A → Reader (List A)
+maybe_in_parentheses one s = or_done [] s (take_word (codes "(") s) (in_parentheses one)
 
 -- items behind a comma, which need not be there
-unfoldable pub maybe_listed : {A : Type 0} → Reader A → Reader (List A)
-maybe_listed one s = or_done [] s (take_word (codes ",") s) (items one)
+unfoldable pub maybe_after_comma : {A : Type 0} → Reader A → Reader (List A)
+maybe_after_comma one s = or_done [] s (take_word (codes ",") s) (items one)

@@ -14,7 +14,7 @@ use Rattle.f77_ast.specs.DeclTrees.{ExtentTree, EntityTree, SettingTree, CommonT
 use Rattle.f77_exprs.specs.State.{State, Reader, take_word, or_done, or_else, ◌>>=◌}
 use Rattle.f77_exprs.specs.Lexical.{name_at, number, number_first}
 use Rattle.f77_exprs.specs.Grammar.{expression, variable, literal, Between, comma, more_by, items, items_by}
-use Rattle.f77_statements.specs.Lists.{ending, past_comma}
+use Rattle.f77_statements.specs.Lists.{ending, skip_comma}
 
 -- ---- IMPLICIT
 
@@ -155,18 +155,18 @@ data_constant s =
     (or_else (take_word (codes "-") s) (signed_integer Minus) (integer s))))
 
 -- a constant behind its repeat count
-unfoldable pub repeated : ℕ → Reader DataValueTree
-repeated n s = data_constant s >>= λ c. Some (record { repeat = Some n; value = c.0 }, c.1)
+unfoldable pub repeat_value : ℕ → Reader DataValueTree
+repeat_value n s = data_constant s >>= λ c. Some (record { repeat = Some n; value = c.0 }, c.1)
 
 -- a number, and a constant behind it where `*` follows
-unfoldable pub counted : ℕ → Reader DataValueTree
-counted n s = or_done (record { repeat = None; value = int (pos n) }) s (take_word (codes "*") s) (repeated n)
+unfoldable pub value_or_count : ℕ → Reader DataValueTree
+value_or_count n s = or_done (record { repeat = None; value = int (pos n) }) s (take_word (codes "*") s) (repeat_value n)
 
 -- a constant, with a repeat count before it or none
 unfoldable pub data_value : Reader DataValueTree
 data_value s =
     if number_first s.rest
-    then counted (number s).0 (number s).1
+    then value_or_count (number s).0 (number s).1
     else (data_constant s >>= λ c. Some (record { repeat = None; value = c.0 }, c.1))
 
 -- names or elements, and values between slashes
@@ -178,7 +178,7 @@ data_group s = do
 
 abbrev pub next_of : List ℕ → State → Option State
 next_of [] s = None
-next_of (c ∷ cs) s = Some (past_comma s)
+next_of (c ∷ cs) s = Some (skip_comma s)
 
 -- what follows a group before the end of the statement, without a comma
 abbrev pub next_group : Between

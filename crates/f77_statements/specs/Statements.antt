@@ -14,7 +14,7 @@ use Rattle.f77_forms.specs.Profile.{profile}
 use Rattle.f77_statements.specs.declared.refusal.Cause.{Cause}
 use Rattle.f77_statements.specs.declared.refusal.Cause.TheVariants as causes
 use Rattle.f77_statements.specs.Causes.{verdict}
-use Rattle.f77_statements.specs.Lists.{ending, past_comma, maybe_enclosed}
+use Rattle.f77_statements.specs.Lists.{ending, skip_comma, maybe_in_parentheses}
 use Rattle.f77_statements.specs.Phrases.{PhraseTree, program, subroutine, specification, simple, logical_if, block_if, else_if, else_part, end_if, do_head, end_do, end_module}
 use Rattle.f77_statements.specs.Specifications.{implicit_statement, integer_statement, logical_statement, dimension_statement, parameter_statement, common_statement, equivalence_statement, save_statement, data_statement}
 use Rattle.f77_statements.specs.Executables.{assignment, call_statement, goto_statement, continue_statement, return_statement, stop_statement, print_statement, write_statement, read_statement}
@@ -32,7 +32,7 @@ unfoldable pub subroutine_statement : Reader PhraseTree
 subroutine_statement s = do
   t ← take_word (codes "SUBROUTINE") s
   n ← name_at t
-  ds ← maybe_enclosed name_at n.1
+  ds ← maybe_in_parentheses name_at n.1
   Some (subroutine n.0 ds.0, ds.1)
 
 -- ---- IF
@@ -100,7 +100,7 @@ logical_if_statement s = do
 unfoldable pub terminal : Reader (Option ℕ)
 terminal s =
     if digit_first s.rest
-    then (label_at s >>= λ l. Some (Some l.0, past_comma l.1))
+    then (label_at s >>= λ l. Some (Some l.0, skip_comma l.1))
     else Some (None, s)
 
 unfoldable pub some_step : Reader (Option ExprTree)

@@ -6,7 +6,7 @@ ghost use Rattle.f77_exprs.specs.State.{state, GivesAs, GivesExpr};
 ghost use Rattle.f77_statements.specs.Phrases.{phrase_tree, do_tree};
 ghost use Rattle.f77_statements.specs.Statements.{program_statement, subroutine_statement, if_test, block_if_statement, else_if_statement, terminal, some_step, step, range, do_statement};
 
-use crate::lists::{maybe_enclosed, past_comma};
+use crate::lists::{maybe_in_parentheses, skip_comma};
 use crate::parts::Names;
 use crate::phrase::{DoHead, Phrase};
 use f77_ast::Expr;
@@ -29,7 +29,7 @@ pub fn subroutine_statement(alloc: Global, at: At<'_>) -> Reading<'_, Phrase>
 {
     let at = at.need_word(b"SUBROUTINE")?;
     let (name, at) = name_at(alloc, at)?;
-    let (dummies, at) = maybe_enclosed::<Names>(alloc, at)?;
+    let (dummies, at) = maybe_in_parentheses::<Names>(alloc, at)?;
     Ok((Phrase::Subroutine(name, dummies), at))
 }
 
@@ -73,7 +73,7 @@ fn terminal(at: At<'_>) -> Reading<'_, Option<u32>>
 {
     if digit_first(at.rest) {
         let (label, at) = label_at(at)?;
-        Ok((Some(label), past_comma(at)))
+        Ok((Some(label), skip_comma(at)))
     } else {
         Ok((None, at))
     }

@@ -3,9 +3,9 @@ ghost use Rattle.std.specs.Prelude.{◌≡◌, ◌<◌, ◌^◌, ℕ, option_map
 ghost use Rattle.f77_ast.specs.DeclTrees.{DataValueTree, DataTree};
 ghost use Rattle.f77_ast.specs.PlainDecl.{data_value_tree, data_tree};
 ghost use Rattle.f77_exprs.specs.State.{state, GivesAs, GivesExpr};
-ghost use Rattle.f77_statements.specs.Parts.{integer, signed_integer, data_constant, repeated, counted, data_value, data_group, next_group};
+ghost use Rattle.f77_statements.specs.Parts.{integer, signed_integer, data_constant, repeat_value, value_or_count, data_value, data_group, next_group};
 
-use crate::lists::{Rule, Separator, items_before, past_comma};
+use crate::lists::{Rule, Separator, items_before, skip_comma};
 use crate::parts::Variables;
 use f77_ast::{DataGroup, DataValue, Expr, UnaryOp};
 use f77_exprs::{At, Reading, Unread, literal, number, number_first, unary};
@@ -52,9 +52,9 @@ fn data_constant(alloc: Global, at: At<'_>) -> Reading<'_, Expr>
 }
 
 /// A constant behind its repeat count.
-#[tactic(auto, unfolding(crate::specs::Parts::repeated))]
-fn repeated(alloc: Global, count: u32, at: At<'_>) -> Reading<'_, DataValue>
-    ensures { GivesAs data_value_tree result (repeated count (state at.entry)) }
+#[tactic(auto, unfolding(crate::specs::Parts::repeat_value))]
+fn repeat_value(alloc: Global, count: u32, at: At<'_>) -> Reading<'_, DataValue>
+    ensures { GivesAs data_value_tree result (repeat_value count (state at.entry)) }
 {
     let (value, at) = data_constant(alloc, at)?;
     let repeat = Some(count);
@@ -62,13 +62,13 @@ fn repeated(alloc: Global, count: u32, at: At<'_>) -> Reading<'_, DataValue>
 }
 
 /// A number that was read, and a constant behind it where it is a repeat count.
-#[tactic(auto, using(f77_ast::proofs::Plainly::expr_cases), unfolding(crate::specs::Parts::counted))]
-fn counted(alloc: Global, n: u32, at: At<'_>) -> Reading<'_, DataValue>
+#[tactic(auto, using(f77_ast::proofs::Plainly::expr_cases), unfolding(crate::specs::Parts::value_or_count))]
+fn value_or_count(alloc: Global, n: u32, at: At<'_>) -> Reading<'_, DataValue>
     requires { n < 2 ^ 31 }
-    ensures { GivesAs data_value_tree result (counted n (state at.entry)) }
+    ensures { GivesAs data_value_tree result (value_or_count n (state at.entry)) }
 {
     match at.take_word(b"*") {
-        Some(rest) => repeated(alloc, n, rest),
+        Some(rest) => repeat_value(alloc, n, rest),
         None => {
             let value = Expr::Int(n as i32);
             let repeat = None;
@@ -93,7 +93,7 @@ impl Rule for DataValues {
     fn read<'a>(alloc: Global, at: At<'a>) -> Reading<'a, DataValue> {
         if number_first(at.rest) {
             let (n, at) = number(at);
-            return counted(alloc, n, at);
+            return value_or_count(alloc, n, at);
         }
         let (value, at) = data_constant(alloc, at)?;
         let repeat = None;
@@ -130,7 +130,7 @@ impl Separator for NextGroup {
     fn next<'a>(at: At<'a>) -> Option<At<'a>> {
         match at.rest {
             [] => None,
-            [_, ..] => Some(past_comma(at)),
+            [_, ..] => Some(skip_comma(at)),
         }
     }
 }

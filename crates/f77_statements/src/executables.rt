@@ -2,9 +2,9 @@
 ghost use Rattle.std.specs.Prelude.{◌≡◌, ℕ};
 ghost use Rattle.f77_ast.specs.PlainStmt.{what_tree};
 ghost use Rattle.f77_exprs.specs.State.{state, GivesAs};
-ghost use Rattle.f77_statements.specs.Executables.{assignment, call_statement, goto_statement, continue_statement, return_statement, five_digits, message, stop_text, stop_statement, print_statement, written, write_statement, read_listed, read_left, read_statement};
+ghost use Rattle.f77_statements.specs.Executables.{assignment, call_statement, goto_statement, continue_statement, return_statement, five_digits, message, stop_text, stop_statement, print_statement, write_list, write_statement, read_listed, read_left, read_statement};
 
-use crate::lists::{items_left, maybe_enclosed, maybe_listed};
+use crate::lists::{items_left, maybe_after_comma, maybe_in_parentheses};
 use crate::parts::{Expressions, Variables};
 use f77_ast::What;
 use f77_exprs::{
@@ -32,7 +32,7 @@ pub fn call_statement(alloc: Global, at: At<'_>) -> Reading<'_, What>
 {
     let at = at.need_word(b"CALL")?;
     let (name, at) = name_at(alloc, at)?;
-    let (actuals, at) = maybe_enclosed::<Expressions>(alloc, at)?;
+    let (actuals, at) = maybe_in_parentheses::<Expressions>(alloc, at)?;
     Ok((What::Call(name, actuals), at))
 }
 
@@ -120,14 +120,14 @@ pub fn print_statement(alloc: Global, at: At<'_>) -> Reading<'_, What>
     ensures { GivesAs what_tree result (print_statement (state at.entry)) }
 {
     let at = at.need_word(b"PRINT*")?;
-    let (items, at) = maybe_listed::<Expressions>(alloc, at)?;
+    let (items, at) = maybe_after_comma::<Expressions>(alloc, at)?;
     Ok((What::Print(items), at))
 }
 
 /// The list of a WRITE, which is read as PRINT.
-#[tactic(auto, using(f77_ast::proofs::PlainlyStmt::what_cases), unfolding(crate::specs::Executables::written))]
-fn written(alloc: Global, at: At<'_>) -> Reading<'_, What>
-    ensures { GivesAs what_tree result (written (state at.entry)) }
+#[tactic(auto, using(f77_ast::proofs::PlainlyStmt::what_cases), unfolding(crate::specs::Executables::write_list))]
+fn write_list(alloc: Global, at: At<'_>) -> Reading<'_, What>
+    ensures { GivesAs what_tree result (write_list (state at.entry)) }
 {
     let (items, at) = items_left::<Expressions>(alloc, at)?;
     Ok((What::Print(items), at))
@@ -139,10 +139,10 @@ pub fn write_statement(alloc: Global, at: At<'_>) -> Reading<'_, What>
     ensures { GivesAs what_tree result (write_statement (state at.entry)) }
 {
     if let Some(rest) = at.take_word(b"WRITE(*,*)") {
-        return written(alloc, rest);
+        return write_list(alloc, rest);
     }
     if let Some(rest) = at.take_word(b"WRITE(6,*)") {
-        return written(alloc, rest);
+        return write_list(alloc, rest);
     }
     Err(Unread::Syntax)
 }
@@ -151,7 +151,7 @@ pub fn write_statement(alloc: Global, at: At<'_>) -> Reading<'_, What>
 fn read_listed(alloc: Global, at: At<'_>) -> Reading<'_, What>
     ensures { GivesAs what_tree result (read_listed (state at.entry)) }
 {
-    let (items, at) = maybe_listed::<Variables>(alloc, at)?;
+    let (items, at) = maybe_after_comma::<Variables>(alloc, at)?;
     Ok((What::Read(items), at))
 }
 

@@ -2,7 +2,7 @@
 ghost use Rattle.std.specs.Prelude.{◌≡◌, ℕ, [], length, map, option_map, codes};
 ghost use Rattle.f77_exprs.specs.State.{state, take_word, GivesAs};
 ghost use Rattle.f77_exprs.specs.Grammar.{more_by, items_by, items, comma};
-ghost use Rattle.f77_statements.specs.Lists.{past_comma, ending, items_left, enclosed, maybe_enclosed, maybe_listed};
+ghost use Rattle.f77_statements.specs.Lists.{skip_comma, ending, items_left, in_parentheses, maybe_in_parentheses, maybe_after_comma};
 
 use f77_exprs::{At, Reading};
 use fx_lists::List;
@@ -46,8 +46,8 @@ impl Separator for Comma {
 }
 
 /// What follows a comma, which need not be there.
-pub fn past_comma(at: At<'_>) -> At<'_>
-    ensures { state result ≡ past_comma (state at.entry) }
+pub fn skip_comma(at: At<'_>) -> At<'_>
+    ensures { state result ≡ skip_comma (state at.entry) }
 {
     match at.take_word(b",") {
         None => at,
@@ -126,9 +126,9 @@ pub fn items_left<'a, R: Rule>(alloc: Global, at: At<'a>) -> Reading<'a, List<R:
 }
 
 /// Items behind their opening parenthesis, of which there may be none.
-#[tactic(auto, unfolding(crate::specs::Lists::enclosed))]
-fn enclosed<'a, R: Rule>(alloc: Global, at: At<'a>) -> Reading<'a, List<R::Value>>
-    ensures { GivesAs (map R.tree) result (enclosed R.rule (state at.entry)) }
+#[tactic(auto, unfolding(crate::specs::Lists::in_parentheses))]
+fn in_parentheses<'a, R: Rule>(alloc: Global, at: At<'a>) -> Reading<'a, List<R::Value>>
+    ensures { GivesAs (map R.tree) result (in_parentheses R.rule (state at.entry)) }
 {
     match at.take_word(b")") {
         Some(rest) => Ok((List::new(alloc), rest)),
@@ -137,20 +137,20 @@ fn enclosed<'a, R: Rule>(alloc: Global, at: At<'a>) -> Reading<'a, List<R::Value
 }
 
 /// Items in parentheses, which need not be there.
-#[tactic(auto, unfolding(crate::specs::Lists::maybe_enclosed))]
-pub fn maybe_enclosed<'a, R: Rule>(alloc: Global, at: At<'a>) -> Reading<'a, List<R::Value>>
-    ensures { GivesAs (map R.tree) result (maybe_enclosed R.rule (state at.entry)) }
+#[tactic(auto, unfolding(crate::specs::Lists::maybe_in_parentheses))]
+pub fn maybe_in_parentheses<'a, R: Rule>(alloc: Global, at: At<'a>) -> Reading<'a, List<R::Value>>
+    ensures { GivesAs (map R.tree) result (maybe_in_parentheses R.rule (state at.entry)) }
 {
     match at.take_word(b"(") {
         None => Ok((List::new(alloc), at)),
-        Some(rest) => enclosed::<R>(alloc, rest),
+        Some(rest) => in_parentheses::<R>(alloc, rest),
     }
 }
 
 /// Items behind a comma, which need not be there.
-#[tactic(auto, unfolding(crate::specs::Lists::maybe_listed))]
-pub fn maybe_listed<'a, R: Rule>(alloc: Global, at: At<'a>) -> Reading<'a, List<R::Value>>
-    ensures { GivesAs (map R.tree) result (maybe_listed R.rule (state at.entry)) }
+#[tactic(auto, unfolding(crate::specs::Lists::maybe_after_comma))]
+pub fn maybe_after_comma<'a, R: Rule>(alloc: Global, at: At<'a>) -> Reading<'a, List<R::Value>>
+    ensures { GivesAs (map R.tree) result (maybe_after_comma R.rule (state at.entry)) }
 {
     match at.take_word(b",") {
         None => Ok((List::new(alloc), at)),

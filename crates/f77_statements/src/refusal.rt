@@ -2,6 +2,7 @@
 ghost use Rattle.std.specs.Prelude.{◌≡◌};
 
 use f77_forms::Refused;
+use refusal_codes::Code;
 
 /// Why a statement is refused, in the order in which the causes are reported.
 #[derive(Clone, Copy, Debug, PartialEq, Eq)]
@@ -26,18 +27,18 @@ pub enum Refusal {
 }
 
 impl Cause {
-    ghost use Rattle.f77_statements.specs.Causes.{number_of};
+    ghost use Rattle.f77_statements.specs.Causes.{code_of};
 
-    /// The number by which the cause is reported.
-    pub fn number(self) -> u32
-        ensures { result ≡ number_of self }
+    /// The code by which it is reported.
+    pub fn code(self) -> Code
+        ensures { result ≡ code_of self }
     {
         match self {
-            Cause::Syntax => 10,
-            Cause::OutOfProfile(_) => 11,
-            Cause::RealConstant => 12,
-            Cause::NumberTooBig => 13,
-            Cause::NameTooLong => 14,
+            Cause::Syntax => Code::Syntax,
+            Cause::OutOfProfile(_) => Code::OutOfProfile,
+            Cause::RealConstant => Code::RealConstant,
+            Cause::NumberTooBig => Code::NumberTooBig,
+            Cause::NameTooLong => Code::NameTooLong,
         }
     }
 }

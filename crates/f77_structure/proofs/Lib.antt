@@ -1,2 +1,9 @@
 pub mod StackLemmas
 pub mod BlockLemmas
+pub mod FirstLemmas
+pub mod Places
+pub mod Shown
+pub mod Stands
+pub mod Over
+pub mod Roles
+pub mod AsCode

@@ -1,7 +1,7 @@
 -- The blocks of a module, as its statements open and close them.
-use Rattle.std.specs.Prelude.{ℕ, true, false, not, nat_lt, nat_le, List, [], ◌∷◌, ◌++◌, length, slice_set, Option, Some, None, if◌then◌else◌}
-use Rattle.f77_structure.specs.declared.fault.Fault.TheVariants.{UnclosedDo, UnclosedIf, StrayPart, TooDeep}
-use Rattle.f77_structure.specs.declared.fault.Found.{Found}
+use Rattle.std.specs.Prelude.{ℕ, true, false, not, nat_le, List, [], ◌∷◌, ◌++◌, length, slice_set, Option, Some, None, if◌then◌else◌}
+use Rattle.refusal_codes.specs.declared.code.Code.TheVariants.{UnclosedDo, UnclosedIf, StrayPart, TooDeep}
+use Rattle.refusal_codes.specs.declared.refusal.Refusal.{Refusal}
 use Rattle.f77_structure.specs.declared.mark.Action.{Action}
 use Rattle.f77_structure.specs.declared.mark.Action.TheVariants.{Goto, Return, Stop, Other}
 use Rattle.f77_structure.specs.declared.open.Kind.{Kind}
@@ -10,7 +10,7 @@ use Rattle.f77_structure.specs.declared.open.Open.{Open}
 use Rattle.f77_structure.specs.declared.open.End.TheVariants as ends
 use Rattle.f77_structure.specs.declared.open.Span.{Span}
 use Rattle.f77_structure.specs.declared.blocks.Blocks.{Blocks}
-use Rattle.f77_structure.specs.Faults.{noted}
+use Rattle.refusal_codes.specs.Refusals.{refuse_if}
 use Rattle.f77_structure.specs.Lists.{first_of}
 use Rattle.f77_structure.specs.Opens.{ends_at, is_if, fits, within_if, within_do}
 
@@ -38,8 +38,8 @@ ended_by l [] b = b
 ended_by l (o ∷ os) b = if ends_at l o.kind then ended_by l os (left_one o os b) else b
 
 -- a block ends without its end, unless a bad one was told
-abbrev pub unclosed : Open → Option Found → Option Found
-unclosed o found = noted (not o.spoiled) o.line (if is_if o.kind then UnclosedIf else UnclosedDo) found
+abbrev pub unclosed : Open → Option Refusal → Option Refusal
+unclosed o found = refuse_if (not o.spoiled) o.line (if is_if o.kind then UnclosedIf else UnclosedDo) found
 
 -- of these open blocks those in the innermost that is sought end without their ends
 abbrev pub down_to : Sought → List Open → Blocks → Blocks
@@ -70,11 +70,11 @@ pushed kind line b = record b {
 
 -- a block is opened; 64 may stand in one another
 abbrev pub entered : Kind → ℕ → Blocks → Blocks
-entered kind line b = pushed kind line (record b { found = noted (nat_le 64 (length b.stack)) line TooDeep b.found })
+entered kind line b = pushed kind line (record b { found = refuse_if (nat_le 64 (length b.stack)) line TooDeep b.found })
 
 -- a part is out of place
 abbrev pub stray : ℕ → Blocks → Blocks
-stray line b = record b { found = noted true line StrayPart b.found }
+stray line b = record b { found = refuse_if true line StrayPart b.found }
 
 -- ---- executable statements
 
@@ -96,10 +96,9 @@ ended_at (Some l) b = ended_by l b.stack b
 unfoldable pub stood : Option ℕ → Blocks → Blocks
 stood label b = ended_at label (landed label b)
 
--- a GO TO is judged when the module was read; past 4,097 none is, as a statement before it is refused
+-- a GO TO is judged when the module was read
 abbrev pub jumped : Action → ℕ → Blocks → Blocks
-jumped (Goto l) line b =
-    record b { jumps = if nat_lt (length b.jumps) 4097 then b.jumps ++ record { line = line; label = l; place = b.place } ∷ [] else b.jumps }
+jumped (Goto l) line b = record b { jumps = b.jumps ++ record { line = line; label = l; place = b.place } ∷ [] }
 jumped Return line b = b
 jumped Stop line b = b
 jumped Other line b = b

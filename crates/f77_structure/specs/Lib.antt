@@ -1,7 +1,10 @@
 pub mod Lists
-pub mod Faults
 pub mod Marks
 pub mod Order
+pub mod First
+pub mod Kinds
+pub mod LastStatements
+pub mod Nesting
 pub mod Opens
 pub mod Blocks
 pub mod Terminals

@@ -1,13 +1,13 @@
 -- The order of the statements of a module, how many there are, and their labels.
 use Rattle.std.specs.Prelude.{ℕ, ◌+◌, Bool, true, false, ◌&&◌, nat_eq, nat_lt, nat_le, List, [], ◌∷◌, ◌++◌, Option, Some, None}
 use Rattle.std.specs.List.{list_any}
-use Rattle.f77_structure.specs.declared.fault.Fault.TheVariants.{StrayPart, LabelTwice, TooManyStatements, TooDeep}
-use Rattle.f77_structure.specs.declared.fault.Found.{Found}
+use Rattle.refusal_codes.specs.declared.code.Code.TheVariants.{StrayPart, LabelTwice, TooManyStatements, TooDeep}
+use Rattle.refusal_codes.specs.declared.refusal.Refusal.{Refusal}
 use Rattle.f77_structure.specs.declared.mark.Role.{Role}
 use Rattle.f77_structure.specs.declared.mark.Role.TheVariants.{Program, Subroutine, Specification, Plain, LogicalIf, BlockIf, ElseIf, Else, EndIf, Do, EndDo, End}
 use Rattle.f77_structure.specs.declared.mark.Mark.{Mark}
 use Rattle.f77_structure.specs.declared.order.Order.{Order}
-use Rattle.f77_structure.specs.Faults.{noted}
+use Rattle.refusal_codes.specs.Refusals.{refuse_if}
 use Rattle.f77_structure.specs.Marks.{statements_in, label_in, returns_in}
 
 -- a module is a main program unless it begins with SUBROUTINE
@@ -43,13 +43,12 @@ is_out_of_order begun main count End = main && returns_in End
 abbrev pub has_label : ℕ → List ℕ → Bool
 has_label l ls = list_any (λ x. nat_eq x l) ls
 
--- the label of an executable statement; behind the last statement that a module may have no label is judged, as that
--- statement is refused before
+-- the label of an executable statement
 abbrev pub labelled : ℕ → Option ℕ → Order → Order
 labelled line None o = o
 labelled line (Some l) o = record o {
   labels = o.labels ++ l ∷ [];
-  found = noted (nat_le o.count 4096 && has_label l o.labels) line LabelTwice o.found;
+  found = refuse_if (has_label l o.labels) line LabelTwice o.found;
 }
 
 -- a module may have 4,096 executable statements: the next is at the line where their number goes past that
@@ -63,9 +62,9 @@ counted m o = record {
   count = o.count + statements_in m;
   labels = o.labels;
   found =
-      noted (passes_most o.count (o.count + statements_in m)) m.line TooManyStatements
-      (noted (is_out_of_order o.begun o.main o.count m.role) m.line StrayPart
-      (noted m.deep m.line TooDeep o.found));
+      refuse_if (passes_most o.count (o.count + statements_in m)) m.line TooManyStatements
+      (refuse_if (is_out_of_order o.begun o.main o.count m.role) m.line StrayPart
+      (refuse_if m.deep m.line TooDeep o.found));
 }
 
 -- one statement more
@@ -82,5 +81,5 @@ abbrev pub nothing_ordered : Order
 nothing_ordered = record { begun = false; main = true; count = 0; labels = []; found = None }
 
 -- the first fault of the order, the number and the labels of the statements
-abbrev pub order_of : List Mark → Option Found
+abbrev pub order_of : List Mark → Option Refusal
 order_of ms = (all_ordered ms nothing_ordered).found

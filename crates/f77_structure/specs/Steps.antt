@@ -1,5 +1,5 @@
 -- What one statement changes of the blocks of its module.
-use Rattle.std.specs.Prelude.{ℕ, ◌+◌, Bool, true, false, List, [], ◌∷◌, Option, Some, None, if◌then◌else◌}
+use Rattle.std.specs.Prelude.{ℕ, ◌+◌, Bool, List, [], ◌∷◌, Option, Some, None, if◌then◌else◌}
 use Rattle.f77_structure.specs.declared.mark.Role.{Role}
 use Rattle.f77_structure.specs.declared.mark.Role.TheVariants.{Program, Subroutine, Specification, Plain, LogicalIf, BlockIf, ElseIf, Else, EndIf, Do, EndDo, End}
 use Rattle.f77_structure.specs.declared.mark.Mark.{Mark}
@@ -11,14 +11,10 @@ use Rattle.f77_structure.specs.declared.open.Open.{Open}
 use Rattle.f77_structure.specs.declared.open.End.TheVariants as ends
 use Rattle.f77_structure.specs.declared.blocks.Blocks.{Blocks}
 use Rattle.f77_structure.specs.Lists.{first_of}
+pub use Rattle.f77_structure.specs.Kinds.{is_else}
 use Rattle.f77_structure.specs.Opens.{within_if, within_do}
 use Rattle.f77_structure.specs.Blocks.{left, down_to, pushed, entered, stray, landed, stood, jumped}
 use Rattle.f77_structure.specs.Terminals.{spoiled_by}
-
-abbrev pub is_else : Kind → Bool
-is_else (kinds.Do t) = false
-is_else kinds.If = false
-is_else kinds.Else = true
 
 -- the innermost block, an IF, goes on with another list; nothing follows its ELSE but END IF
 abbrev pub divided : Kind → ℕ → Option Open → Blocks → Blocks

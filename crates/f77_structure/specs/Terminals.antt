@@ -1,15 +1,13 @@
 -- Labelled DOs that end at a statement that may not end one (ANSI X3.9-1978 §11.10).
 use Rattle.std.specs.Prelude.{ℕ, Bool, true, false, List, [], ◌∷◌, Option, Some, None, if◌then◌else◌}
-use Rattle.f77_structure.specs.declared.fault.Fault.TheVariants.{BadTerminal}
-use Rattle.f77_structure.specs.declared.mark.Action.{Action}
-use Rattle.f77_structure.specs.declared.mark.Action.TheVariants.{Goto, Return, Stop, Other}
+use Rattle.refusal_codes.specs.declared.code.Code.TheVariants.{BadTerminal}
 use Rattle.f77_structure.specs.declared.mark.Role.{Role}
-use Rattle.f77_structure.specs.declared.mark.Role.TheVariants.{Program, Subroutine, Specification, Plain, LogicalIf, BlockIf, ElseIf, Else, EndIf, Do, EndDo, End}
 use Rattle.f77_structure.specs.declared.open.Open.{Open}
 use Rattle.f77_structure.specs.declared.blocks.Blocks.{Blocks}
 use Rattle.f77_structure.specs.Lists.{first_of}
-use Rattle.f77_structure.specs.Faults.{noted}
+use Rattle.refusal_codes.specs.Refusals.{refuse_if}
 use Rattle.f77_structure.specs.Opens.{is_if, can_spoil}
+pub use Rattle.f77_structure.specs.LastStatements.{is_forbidden, is_part}
 
 abbrev pub spoiled : Open → Open
 spoiled o = record o { spoiled = true }
@@ -28,14 +26,14 @@ ends_one l (Some o) = can_spoil l o
 abbrev pub spoil : ℕ → ℕ → Blocks → Blocks
 spoil l line b = record b {
   stack = spoiled_run l b.stack;
-  found = noted (ends_one l (first_of b.stack)) line BadTerminal b.found;
+  found = refuse_if (ends_one l (first_of b.stack)) line BadTerminal b.found;
 }
 
 abbrev pub spoil_behind : ℕ → ℕ → List Open → Blocks → Blocks
 spoil_behind l line [] b = b
 spoil_behind l line (o ∷ os) b = record b {
   stack = o ∷ spoiled_run l os;
-  found = noted (ends_one l (first_of os)) line BadTerminal b.found;
+  found = refuse_if (ends_one l (first_of os)) line BadTerminal b.found;
 }
 
 -- the statement is a part of the innermost block, and stands in the list around it
@@ -49,42 +47,6 @@ spoil_within (Some o) l line b = if is_if o.kind then spoil_around l line b else
 -- ELSE, ELSE IF or END IF: no DO ends at it where the block IF that it belongs to stands around the innermost block
 abbrev pub spoil_part : ℕ → ℕ → Blocks → Blocks
 spoil_part l line b = spoil_within (first_of b.stack) l line b
-
-abbrev pub leaves : Action → Bool
-leaves (Goto l) = true
-leaves Return = true
-leaves Stop = true
-leaves Other = false
-
--- GO TO, RETURN, STOP, a block IF, DO and END may not be the last statement of a DO
-abbrev pub is_forbidden : Role → Bool
-is_forbidden Program = false
-is_forbidden Subroutine = false
-is_forbidden Specification = false
-is_forbidden (Plain a) = leaves a
-is_forbidden (LogicalIf a) = false
-is_forbidden BlockIf = true
-is_forbidden ElseIf = false
-is_forbidden Else = false
-is_forbidden EndIf = false
-is_forbidden (Do t) = true
-is_forbidden EndDo = false
-is_forbidden End = true
-
--- nor may ELSE IF, ELSE and END IF
-abbrev pub is_part : Role → Bool
-is_part Program = false
-is_part Subroutine = false
-is_part Specification = false
-is_part (Plain a) = false
-is_part (LogicalIf a) = false
-is_part BlockIf = false
-is_part ElseIf = true
-is_part Else = true
-is_part EndIf = true
-is_part (Do t) = false
-is_part EndDo = false
-is_part End = false
 
 -- the DOs whose label stands at a statement that may not end them, as it is written
 abbrev pub spoiled_by : Role → Option ℕ → ℕ → Blocks → Blocks

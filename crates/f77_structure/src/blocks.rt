@@ -3,18 +3,15 @@ ghost use Rattle.std.specs.Prelude.{◌≡◌, ◌<◌, ◌≤◌, ◌+◌, ◌-
 ghost use Rattle.f77_structure.specs.Lists.{first_of};
 ghost use Rattle.f77_structure.specs.Blocks.{shut, left, ended_by, unclosed, down_to, pushed, entered, stray, list_at, landed, stood, jumped};
 
-use crate::fault::{Fault, Found, noted};
 use crate::mark::Action;
 use crate::open::{End, Kind, Open, Sought, Span, within_do, within_if};
 use crate::stack::Stack;
 use fx_lists::List;
+use refusal_codes::{Code, Refusal, refuse_if};
 use std::alloc::AllocError as Memory;
 
 /// How deep blocks, and parentheses, may stand in one another.
 pub const DEEPEST: usize = 64;
-
-/// How many GO TOs are judged: one more than a module may have statements.
-pub const MOST_JUMPS: usize = 4097;
 
 /// The label of an executable statement, and the place of the list that it stands in.
 #[derive(Clone, Copy, Debug)]
@@ -42,7 +39,7 @@ pub struct Blocks {
     pub spans: List<Span>,
     pub landings: List<Landing>,
     pub jumps: List<Jump>,
-    pub found: Option<Found>,
+    pub found: Option<Refusal>,
 }
 
 /// The list of a block ends at a place.
@@ -104,15 +101,15 @@ pub fn ended_by(blocks: Blocks, label: u32) -> Blocks
 }
 
 /// A block without its end.
-fn unclosed(block: Open, found: Option<Found>) -> Option<Found>
+fn unclosed(block: Open, found: Option<Refusal>) -> Option<Refusal>
     ensures { result ≡ unclosed block found }
 {
-    let fault = if block.kind.is_if() {
-        Fault::UnclosedIf
+    let code = if block.kind.is_if() {
+        Code::UnclosedIf
     } else {
-        Fault::UnclosedDo
+        Code::UnclosedDo
     };
-    noted(!block.spoiled, block.line, fault, found)
+    refuse_if(!block.spoiled, block.line, code, found)
 }
 
 /// The blocks in the innermost that is sought end without their ends.
@@ -132,7 +129,7 @@ pub fn down_to(blocks: Blocks, sought: Sought) -> Blocks
 }
 
 /// What was found first is replaced.
-pub fn with_found(blocks: Blocks, found: Option<Found>) -> Blocks
+pub fn with_found(blocks: Blocks, found: Option<Refusal>) -> Blocks
     ensures { result ≡ record blocks { found = found } }
 {
     Blocks { found, ..blocks }
@@ -179,7 +176,7 @@ pub fn entered(blocks: Blocks, kind: Kind, line: u32) -> Result<Blocks, Memory>
     ensures { IfOk result (λ b. b ≡ entered kind line blocks) }
 {
     let deep = DEEPEST <= blocks.stack.len();
-    let found = noted(deep, line, Fault::TooDeep, blocks.found);
+    let found = refuse_if(deep, line, Code::TooDeep, blocks.found);
     pushed(with_found(blocks, found), kind, line)
 }
 
@@ -187,7 +184,7 @@ pub fn entered(blocks: Blocks, kind: Kind, line: u32) -> Result<Blocks, Memory>
 pub fn stray(blocks: Blocks, line: u32) -> Blocks
     ensures { result ≡ stray line blocks }
 {
-    let found = noted(true, line, Fault::StrayPart, blocks.found);
+    let found = refuse_if(true, line, Code::StrayPart, blocks.found);
     with_found(blocks, found)
 }
 
@@ -258,9 +255,7 @@ pub fn jumped(blocks: Blocks, action: Action, line: u32) -> Result<Blocks, Memor
                 mut jumps,
                 found,
             } = blocks;
-            if jumps.len() < MOST_JUMPS {
-                jumps.push(Jump { line, label, place })?;
-            }
+            jumps.push(Jump { line, label, place })?;
             Ok(Blocks {
                 place,
                 stack,

@@ -1,41 +1,37 @@
 //! The first fault of a module.
 ghost use Rattle.std.specs.Prelude.{◌≡◌, IfOk};
-ghost use Rattle.f77_structure.specs.Checks.{first_fault, block_fault, fault_of};
+ghost use Rattle.f77_structure.specs.First.{first_fault};
+ghost use Rattle.f77_structure.specs.Jumps.{block_fault};
+ghost use Rattle.f77_structure.specs.Checks.{fault_of};
 
 use crate::blocks::Blocks;
-use crate::fault::{Found, noted};
+use crate::first::first_fault;
 use crate::jumps::all_judged;
 use crate::mark::Mark;
 use crate::order::order_fault;
 use crate::steps::blocks_of;
+use refusal_codes::Refusal;
 use std::alloc::{AllocError as Memory, Global};
 
-fn first_fault(one: Option<Found>, other: Option<Found>) -> Option<Found>
-    ensures { result ≡ first_fault one other }
-{
-    match one {
-        None => other,
-        Some(found) => noted(true, found.line, found.fault, other),
-    }
-}
-
-fn block_fault(blocks: &Blocks) -> Option<Found>
-    ensures { result ≡ block_fault blocks.now }
+/// The first of a fault and those of the blocks and of the GO TOs.
+#[tactic(auto, using(crate::proofs::FirstLemmas::jumps_first))]
+fn first_of_all(found: Option<Refusal>, blocks: &Blocks) -> Option<Refusal>
+    ensures { result ≡ first_fault found (block_fault blocks.now) }
 {
     all_judged(
         blocks.spans.as_slice(),
         blocks.landings.as_slice(),
         blocks.jumps.as_slice(),
-        blocks.found,
+        first_fault(found, blocks.found),
     )
 }
 
 /// The fault at the earliest line, and there the one with the lowest number.
-#[tactic(auto, unfolding(crate::specs::Checks::fault_of))]
-pub fn fault_of(alloc: Global, marks: &[Mark]) -> Result<Option<Found>, Memory>
+#[tactic(auto, using(crate::proofs::AsCode::as_code))]
+pub fn fault_of(alloc: Global, marks: &[Mark]) -> Result<Option<Refusal>, Memory>
     ensures { IfOk result (λ found. found ≡ fault_of marks.now) }
 {
     let order = order_fault(alloc, marks)?;
     let blocks = blocks_of(alloc, marks)?;
-    Ok(first_fault(order, block_fault(&blocks)))
+    Ok(first_of_all(order, &blocks))
 }

@@ -3,8 +3,9 @@ ghost use Rattle.std.specs.Prelude.{◌≡◌};
 ghost use Rattle.f77_structure.specs.Jumps.{contained, stands, reaches, judged, all_judged};
 
 use crate::blocks::{Jump, Landing};
-use crate::fault::{Fault, Found, noted};
+use crate::first::may_be_first;
 use crate::open::Span;
+use refusal_codes::{Code, Refusal, refuse_if};
 
 /// Whether a list contains the statement at a place.
 fn contained(spans: &[Span], list: usize, place: usize) -> bool
@@ -30,24 +31,33 @@ fn reaches(spans: &[Span], landings: &[Landing], jump: Jump) -> bool
         || contained(spans, landing.list, jump.place))
 }
 
-fn judged(spans: &[Span], landings: &[Landing], jump: Jump, found: Option<Found>) -> Option<Found>
+/// A GO TO is not sought where a fault before it was found.
+#[tactic(auto, using(crate::proofs::FirstLemmas::no_fault))]
+fn judged(
+    spans: &[Span],
+    landings: &[Landing],
+    jump: Jump,
+    found: Option<Refusal>,
+) -> Option<Refusal>
     ensures { result ≡ judged spans.now landings.now jump found }
 {
+    if !may_be_first(jump.line, Code::LabelMissing, found) {
+        return found;
+    }
     if !stands(landings, jump.label) {
-        return noted(true, jump.line, Fault::LabelMissing, found);
+        return refuse_if(true, jump.line, Code::LabelMissing, found);
     }
     let into = !reaches(spans, landings, jump);
-    noted(into, jump.line, Fault::JumpIntoBlock, found)
+    refuse_if(into, jump.line, Code::JumpIntoBlock, found)
 }
 
-/// The first fault, also of the GO TOs. Each is sought among the labels of the module, one after another; it takes the
-/// product of their numbers, of at most 4,097 GO TOs.
+/// The first fault, also of the GO TOs. Each is sought among the labels of the module, one after another, up to the first fault where lines ascend.
 pub fn all_judged(
     spans: &[Span],
     landings: &[Landing],
     jumps: &[Jump],
-    found: Option<Found>,
-) -> Option<Found>
+    found: Option<Refusal>,
+) -> Option<Refusal>
     ensures { result ≡ all_judged spans.now landings.now jumps.now found }
 {
     let mut found = found;

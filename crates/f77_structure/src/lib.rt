@@ -4,7 +4,7 @@
 mod blocks;
 mod check;
 mod depth;
-mod fault;
+mod first;
 mod jumps;
 mod mark;
 mod open;
@@ -15,6 +15,5 @@ mod terminals;
 
 pub use check::fault_of;
 pub use depth::is_deep;
-pub use fault::{Fault, Found};
 pub use mark::{Action, Mark, Role};
 pub use stack::{Stack, stack_of};

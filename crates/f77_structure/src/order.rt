@@ -1,10 +1,12 @@
 //! The order of the statements of a module, how many there are, and their labels.
 ghost use Rattle.std.specs.Prelude.{◌≡◌, ◌<◌, ◌≤◌, ◌+◌, ◌*◌, ◌^◌, length, IfOk};
+ghost use Rattle.refusal_codes.specs.Refusals.{refuse_if};
 ghost use Rattle.f77_structure.specs.Order.{is_out_of_order, is_main_after, labelled, ordered, order_of, has_label};
 
-use crate::fault::{Fault, Found, noted};
+use crate::first::may_be_first;
 use crate::mark::{Mark, Role, label_in, returns_in, statements_in};
 use fx_lists::List;
+use refusal_codes::{Code, Refusal, refuse_if};
 use std::alloc::{AllocError as Memory, Global};
 
 /// How many executable statements a module may have.
@@ -21,7 +23,7 @@ pub struct Order {
     pub count: usize,
     /// Their labels.
     pub labels: List<u32>,
-    pub found: Option<Found>,
+    pub found: Option<Refusal>,
 }
 
 /// Whether the module is still a main program.
@@ -69,6 +71,17 @@ fn has_label(labels: &[u32], label: u32) -> bool
     labels.iter().any(|l| *l == label)
 }
 
+/// A label that stands already. It is not sought where a fault before it was found.
+#[tactic(auto, using(crate::proofs::FirstLemmas::spared))]
+fn unless_new(labels: &[u32], label: u32, line: u32, found: Option<Refusal>) -> Option<Refusal>
+    ensures { result ≡ refuse_if (has_label label labels.now) line Code.LabelTwice found }
+{
+    if !may_be_first(line, Code::LabelTwice, found) {
+        return found;
+    }
+    refuse_if(has_label(labels, label), line, Code::LabelTwice, found)
+}
+
 /// The label of an executable statement.
 fn labelled(order: Order, line: u32, label: Option<u32>) -> Result<Order, Memory>
     ensures { IfOk result (λ o. o ≡ labelled line label order) }
@@ -83,8 +96,7 @@ fn labelled(order: Order, line: u32, label: Option<u32>) -> Result<Order, Memory
                 mut labels,
                 found,
             } = order;
-            let twice = count <= MOST_STATEMENTS && has_label(labels.as_slice(), label);
-            let found = noted(twice, line, Fault::LabelTwice, found);
+            let found = unless_new(labels.as_slice(), label, line, found);
             labels.push(label)?;
             Ok(Order {
                 begun,
@@ -112,12 +124,12 @@ fn ordered(order: Order, mark: Mark) -> Result<Order, Memory>
         labels,
         found,
     } = order;
-    let found = noted(mark.deep, mark.line, Fault::TooDeep, found);
+    let found = refuse_if(mark.deep, mark.line, Code::TooDeep, found);
     let stray = is_out_of_order(begun, main, count, mark.role);
-    let found = noted(stray, mark.line, Fault::StrayPart, found);
+    let found = refuse_if(stray, mark.line, Code::StrayPart, found);
     let new = count + statements_in(mark);
     let many = count <= MOST_STATEMENTS && MOST_STATEMENTS < new;
-    let found = noted(many, mark.line, Fault::TooManyStatements, found);
+    let found = refuse_if(many, mark.line, Code::TooManyStatements, found);
     Ok(Order {
         begun: true,
         main: is_main_after(begun, main, mark.role),
@@ -128,8 +140,8 @@ fn ordered(order: Order, mark: Mark) -> Result<Order, Memory>
 }
 
 /// The first fault of the order, the number and the labels of the statements of a module. Labels are sought one after
-/// another, each among those of the module, of which there are few.
-pub fn order_fault(alloc: Global, marks: &[Mark]) -> Result<Option<Found>, Memory>
+/// another; where lines ascend none is past the statement after the last that a module may have.
+pub fn order_fault(alloc: Global, marks: &[Mark]) -> Result<Option<Refusal>, Memory>
     ensures { IfOk result (λ found. found ≡ order_of marks.now) }
 {
     let mut order = Order {

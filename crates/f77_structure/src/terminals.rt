@@ -3,10 +3,10 @@ ghost use Rattle.std.specs.Prelude.{◌≡◌, IfOk};
 ghost use Rattle.f77_structure.specs.Terminals.{put_back, spoiled_run, ends_one, spoil, spoil_around, spoil_part, is_forbidden, is_part, spoiled_by};
 
 use crate::blocks::Blocks;
-use crate::fault::{Fault, noted};
 use crate::mark::{Action, Mark, Role};
 use crate::open::Open;
 use crate::stack::Stack;
+use refusal_codes::{Code, refuse_if};
 use std::alloc::{AllocError as Memory, Global};
 
 /// Puts blocks that were taken off, the last one first, back on the others.
@@ -68,7 +68,7 @@ fn spoil(alloc: Global, blocks: Blocks, label: u32, line: u32) -> Result<Blocks,
         spans,
         landings,
         jumps,
-        found: noted(wrong, line, Fault::BadTerminal, found),
+        found: refuse_if(wrong, line, Code::BadTerminal, found),
     })
 }
 
@@ -102,7 +102,7 @@ fn spoil_around(alloc: Global, blocks: Blocks, label: u32, line: u32) -> Result<
                 spans,
                 landings,
                 jumps,
-                found: noted(wrong, line, Fault::BadTerminal, found),
+                found: refuse_if(wrong, line, Code::BadTerminal, found),
             })
         }
     }

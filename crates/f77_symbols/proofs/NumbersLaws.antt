@@ -1,15 +1,15 @@
--- Names with their numbers, and one name more.
-use Rattle.std.proofs.Common.{◌≡◌, ℕ, suc, ◌+◌, Bool, true, false, List, [], ◌∷◌, ◌++◌, length, Option, Some, None, refl, sym, ap, ◌∙◌, subst, arith, Vec, Global}
+-- Names with their numbers, one name more, and the index of names.
+use Rattle.std.proofs.Common.{◌≡◌, ℕ, suc, ◌+◌, ◌-◌, Bool, true, false, List, [], ◌∷◌, ◌++◌, length, Option, Some, None, refl, sym, ap, ◌∙◌, subst, arith, Vec, Global}
+use Rattle.std.proofs.lemmas.List.{length-append}
 use Rattle.std.specs.Prelude.{if◌then◌else◌, bytes_eq, is_some}
 use Rattle.std.specs.Cmp.Lexicographic.{bytes_decides, nat_list_eq_equiv}
 use Rattle.std.specs.HashMap.{HashMap, get_by, Updates}
 use Rattle.std.specs.Map.{KeepsOthers}
 use Rattle.std.specs.declared.hash.FoldHasher.{FoldHasher}
 use Rattle.std.specs.declared.hash.BuildHasherDefault.{BuildHasherDefault}
-use Rattle.f77_symbols.specs.declared.symbol.Symbol.{Symbol}
 use Rattle.f77_symbols.specs.Symbols.{number_from}
-use Rattle.f77_symbols.specs.Index.{AreNumbers, names_of}
-use Rattle.f77_symbols.specs.Index.{AreNumbers, names_of}
+use Rattle.f77_symbols.specs.declared.name_index.NameIndex.{NameIndex}
+use Rattle.f77_symbols.specs.Index.{Indexes, number_in}
 
 differs : (x q y : List ℕ) → bytes_eq x y ≡ false → bytes_eq x q ≡ true → bytes_eq q y ≡ false
 differs x q y n e = sym (nat_list_eq_equiv.congr x q y e) ∙ n
@@ -50,7 +50,7 @@ number_from-again n k (y ∷ ys) x q e =
 
 -- ---- the table
 
-abbrev same_key : Vec ℕ Global → Vec ℕ Global → Bool
+abbrev pub same_key : Vec ℕ Global → Vec ℕ Global → Bool
 same_key k l = bytes_eq k.items l.items
 
 module _ (m n : HashMap (Vec ℕ Global) ℕ (BuildHasherDefault FoldHasher)) (k : Vec ℕ Global) (w : Option ℕ) where
@@ -67,29 +67,51 @@ module _ (m n : HashMap (Vec ℕ Global) ℕ (BuildHasherDefault FoldHasher)) (k
       go true e = subst (λ r. get_by (λ l. bytes_eq r l.items) n ≡ w) ((bytes_decides k.items q).0 e) h.1
       go false e = others_stay h.3 q e
 
-pub numbers_after : (ys : List (List ℕ)) (x : List ℕ) (m n : HashMap (Vec ℕ Global) ℕ (BuildHasherDefault FoldHasher)) (k : Vec ℕ Global) (v : ℕ) → AreNumbers ys m → number_from 1 ys x ≡ None → k.items ≡ x → v ≡ length ys + 1 → Updates same_key m n k (Some v) → AreNumbers (ys ++ x ∷ []) n
-numbers_after ys x m n k v are none same next h q =
-    let z : v ≡ 1 + length ys = omega arith in
-    inserted m n k (Some v) h q ∙ ap (λ r. if bytes_eq r q then Some v else get_by (λ l. bytes_eq q l.items) m) same
-    ∙ ap (λ r. if bytes_eq x q then Some v else r) (are q) ∙ ap (λ r. if bytes_eq x q then Some r else number_from 1 ys q) z ∙ sym (number_from-append 1 ys x q none)
+-- ---- the index
 
-pub numbers_again : (ys : List (List ℕ)) (x : List ℕ) (m : HashMap (Vec ℕ Global) ℕ (BuildHasherDefault FoldHasher)) (k : ℕ) → AreNumbers ys m → number_from 1 ys x ≡ Some k → AreNumbers (ys ++ x ∷ []) m
-numbers_again ys x m k are here q = are q ∙ sym (number_from-again 1 k ys x q here)
+found : (ys : List (List ℕ)) (x : List ℕ) (o : Option ℕ) → o ≡ number_from 1 ys x → is_some o ≡ true → (q : List ℕ) → number_from 1 ys q ≡ number_from 1 (ys ++ x ∷ []) q
+found ys x (Some k) e t q = sym (number_from-again 1 k ys x q (sym e))
+found ys x None e t q = cc
 
--- the names with one symbol more
-pub names_of-append : (ss : List Symbol) (s : Symbol) → names_of (ss ++ s ∷ []) ≡ names_of ss ++ s.name ∷ []
-names_of-append [] s = refl
-names_of-append (t ∷ ss) s = ap (λ ys. t.name ∷ ys) (names_of-append ss s)
+not_found : (o : Option ℕ) → is_some o ≡ false → o ≡ None
+not_found (Some k) t = cc
+not_found None t = refl
 
--- what a look-up says: the name is there, or it is new
-pub found : (o : Option ℕ) (ys : List (List ℕ)) (x : List ℕ) (m : HashMap (Vec ℕ Global) ℕ (BuildHasherDefault FoldHasher)) → AreNumbers ys m → o ≡ number_from 1 ys x → is_some o ≡ true → AreNumbers (ys ++ x ∷ []) m
-found (Some k) ys x m are e t = numbers_again ys x m k are (sym e)
-found None ys x m are e t = cc
+module _ (i j : NameIndex) (names : List (List ℕ)) (k : Vec ℕ Global) (are : Indexes i names) (next : j.count ≡ i.count + 1) where
+  one_more : j.count ≡ length (names ++ k.items ∷ [])
+  one_more = omega (arith, next, are.count, length-append names (k.items ∷ []))
 
-pub not_found : (o : Option ℕ) (ys : List (List ℕ)) (x : List ℕ) → o ≡ number_from 1 ys x → is_some o ≡ false → number_from 1 ys x ≡ None
-not_found (Some k) ys x e t = cc
-not_found None ys x e t = sym e
+  -- a name that is there
+  pub indexes_again : j.numbers ≡ i.numbers → is_some (number_in i k.items) ≡ true → Indexes j (names ++ k.items ∷ [])
+  indexes_again same t = record {
+    count = one_more;
+    numbers = λ q. ap (λ m. get_by (λ l. bytes_eq q l.items) m) same ∙ are.numbers q ∙ found names k.items (number_in i k.items) (are.numbers k.items) t q;
+  }
 
-pub length-names_of : (ss : List Symbol) → length (names_of ss) ≡ length ss
-length-names_of [] = refl
-length-names_of (s ∷ ss) = ap suc (length-names_of ss)
+  -- a name that is new
+  pub indexes_after : Updates same_key i.numbers j.numbers k (Some j.count) → is_some (number_in i k.items) ≡ false → Indexes j (names ++ k.items ∷ [])
+  indexes_after h t =
+      let none : number_from 1 names k.items ≡ None = sym (are.numbers k.items) ∙ not_found (number_in i k.items) t in
+      let z : j.count ≡ 1 + length names = omega (arith, next, are.count) in
+      record {
+        count = one_more;
+        numbers = λ q. inserted i.numbers j.numbers k (Some j.count) h q
+            ∙ ap (λ r. if bytes_eq k.items q then Some j.count else r) (are.numbers q)
+            ∙ ap (λ r. if bytes_eq k.items q then Some r else number_from 1 names q) z
+            ∙ sym (number_from-append 1 names k.items q none);
+      }
+
+-- ---- places
+
+abbrev pub one_less : Option ℕ → Option ℕ
+one_less None = None
+one_less (Some k) = Some (k - 1)
+
+-- counted from one less, each number is one less
+pub number_from-suc : (n : ℕ) (ys : List (List ℕ)) (x : List ℕ) → one_less (number_from (suc n) ys x) ≡ number_from n ys x
+number_from-suc n [] x = refl
+number_from-suc n (y ∷ ys) x = go (bytes_eq x y) (number_from-suc (suc n) ys x)
+  where
+    go : (b : Bool) → one_less (number_from (suc (suc n)) ys x) ≡ number_from (suc n) ys x → one_less (if b then Some (suc n) else number_from (suc (suc n)) ys x) ≡ (if b then Some n else number_from (suc n) ys x)
+    go true e = let z : suc n - 1 ≡ n = omega arith in ap Some z
+    go false e = e

@@ -1,9 +1,14 @@
--- Numbers from one bound to another, counted.
-use Rattle.std.proofs.Common.{◌≡◌, ℕ, sym, ap, ◌∙◌, ℤ, pos, negsuc, ◌≤ℤ◌, refl, arith}
+-- Numbers from one bound to another, counted, and products of them.
+use Rattle.std.proofs.Common.{◌≡◌, ℕ, zero, suc, ◌+◌, ◌-◌, ◌*◌, ◌≤◌, min, max, sym, ap, ◌∙◌, ℤ, pos, negsuc, ◌≤ℤ◌, refl, inl, inr, arith}
+use Rattle.std.specs.Prelude.{nat_lt, ◌&&◌}
+use Rattle.std.proofs.lemmas.Bool.{cases_lt}
+use Rattle.std.proofs.lemmas.Bool.Decides.{nat_tests}
 use Rattle.std.proofs.lemmas.Int.{ints}
+use Rattle.std.proofs.Math.Nat.{le-mul_of_pos_right, mul_assoc}
 use Rattle.std.specs.Int.RustNames.{unsigned_abs}
 use Rattle.std.specs.Prelude.{◌<ℤ◌}
 use Rattle.f77_ast.specs.Places.{as_count}
+use Rattle.f77_ast.proofs.PlainlyDecl.{decl_lists}
 
 pub as_count-none : (z : ℤ) → z <ℤ pos 0 → as_count z ≡ 0
 as_count-none (pos n) h = absurd (omega (arith, ints))
@@ -15,3 +20,34 @@ as_count-all (negsuc n) h = absurd (omega (arith, ints))
 
 pub as_count-is : (n : ℕ) (y z : ℤ) → n ≡ unsigned_abs y → y ≡ z → pos 0 ≤ℤ z → n ≡ as_count z
 as_count-is n y z h e p = h ∙ ap unsigned_abs e ∙ sym (as_count-all z p)
+
+-- ---- products, as far as they have 128 bits
+
+pub cap_mul : (c m n : ℕ) → min (min m c * n) c ≡ min (m * n) c
+cap_mul c m zero = omega arith
+cap_mul c m (suc n) =
+    elim (cases_lt c m) [
+      | inl more ↦
+          let a : c ≤ c * suc n = le-mul_of_pos_right c (omega arith) in
+          let b : m ≤ m * suc n = le-mul_of_pos_right m (omega arith) in
+          let e : min m c ≡ c = omega arith in
+          let f : min (c * suc n) c ≡ min (m * suc n) c = omega arith in
+          ap (λ x. min (x * suc n) c) e ∙ f
+      | inr less ↦ let e : min m c ≡ m = omega arith in ap (λ x. min (x * suc n) c) e
+    ]
+
+-- a factor more
+pub one_more : (c m n k : ℕ) → min (min (m * n) c * k) c ≡ min (m * (n * k)) c
+one_more c m n k = cap_mul c (m * n) k ∙ ap (λ x. min x c) (mul_assoc m n k)
+
+pub none_more : (c m : ℕ) → m ≤ c → min (m * 1) c ≡ m
+none_more c m h = omega arith
+
+pub ruleset unit_steps = (one_more, decl_lists)
+
+-- ---- two stretches of units have the first unit of the later one, or none
+
+pub later_first : (m n x y : ℕ) → nat_lt (max x y) (min (x + m) (y + n)) ≡ (nat_lt (max x y - x) m && nat_lt (max x y - y) n)
+later_first m n x y = grind (arith, nat_tests)
+
+pub ruleset meet_tests = (later_first)

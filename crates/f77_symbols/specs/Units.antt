@@ -1,5 +1,5 @@
 -- How many units variables take: an INTEGER or LOGICAL one each (ANSI X3.9-1978 §17.1.1), and arrays one for each element.
-use Rattle.std.specs.Prelude.{ℕ, ◌*◌, ◌-◌, ◌^◌, min, ℤ, pos, ◌+ℤ◌, ◌-ℤ◌, List, [], ◌∷◌, Option, Some, None}
+use Rattle.std.specs.Prelude.{ℕ, ◌*◌, ◌^◌, nat_lt, ℤ, pos, ◌+ℤ◌, ◌-ℤ◌, List, [], ◌∷◌, Option, Some, None, if◌then◌else◌}
 use Rattle.f77_ast.specs.Trees.{ExprTree}
 use Rattle.f77_ast.specs.Places.{as_count}
 use Rattle.f77_constants.specs.declared.constant.Constant.{Constant}
@@ -29,14 +29,15 @@ span_to value low (Some high) = span_units low (worth value high)
 abbrev pub bound_units : (List ℕ → Option Constant) → BoundTree → ℕ
 bound_units value b = span_to value (worth value b.low) b.high
 
-abbrev pub capped : ℕ → ℕ
-capped n = min n (2 ^ 64 - 1)
-
--- the elements of an array: those of its dimensions multiplied, in 64 bits
-abbrev pub bounds_units : (List ℕ → Option Constant) → ℕ → List BoundTree → ℕ
-bounds_units value n [] = n
-bounds_units value n (b ∷ bs) = bounds_units value (capped (n * bound_units value b)) bs
+-- the elements of an array: those of its dimensions multiplied
+abbrev pub bounds_units : (List ℕ → Option Constant) → List BoundTree → ℕ
+bounds_units value [] = 1
+bounds_units value (b ∷ bs) = bound_units value b * bounds_units value bs
 
 -- one for a scalar; none where a bound is not constant
 abbrev pub units_in : List SymbolTree → SymbolTree → ℕ
-units_in ss s = bounds_units (value_in ss) 1 s.bounds
+units_in ss s = bounds_units (value_in ss) s.bounds
+
+-- a number, where it has 64 bits
+abbrev pub in_64_bits : ℕ → Option ℕ
+in_64_bits n = if nat_lt n (2 ^ 64) then Some n else None

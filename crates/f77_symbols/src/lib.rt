@@ -1,6 +1,7 @@
 //! The table of symbols of a module, and which variables share storage.
 #![tactic(auto)]
 
+mod name_index;
 mod overlap;
 mod storages;
 mod symbol;
@@ -8,9 +9,10 @@ mod symbols;
 mod units;
 mod variable;
 
+pub use name_index::NameIndex;
 pub use overlap::{overlaps, sharing_is_of_units};
 pub use storages::{sizes_are_reached, units_are_apart, units_lie_within};
 pub use symbol::{Bound, InitialRun, Place, Symbol};
 pub use symbols::{Symbols, unit_of};
-pub use units::units_of;
+pub use units::{has_more, units_of};
 pub use variable::{Unit, Variable};

@@ -4,7 +4,7 @@ ghost use Rattle.std.specs.Option.{option_copied, option_map};
 ghost use Rattle.f77_symbols.specs.Symbols.{symbol_tree};
 ghost use Rattle.f77_symbols.specs.Shared.{lies_in, numbers_share, overlap, same_storage, share, symbol_at, SharingIsOfUnits};
 
-use crate::{Place, Symbol, Symbols, Variable, units_of};
+use crate::{Place, Symbol, Symbols, Variable, has_more};
 use fx_lists::Text;
 
 /// The offset in the storage that both lie in, where they lie in one.
@@ -18,16 +18,16 @@ fn offsets(a: &Place, b: &Place) -> Option<(u64, u64)>
     }
 }
 
+/// Whether both have the first unit of the one that begins last.
+#[tactic(auto, using(crate::proofs::UnitsLaws::meet_tests))]
 fn share(symbols: &Symbols, a: &Symbol, b: &Symbol) -> bool
     ensures { result ≡ share (map symbol_tree symbols.now) (symbol_tree a.now) (symbol_tree b.now) }
 {
     match offsets(&a.place, &b.place) {
         None => false,
         Some((x, y)) => {
-            let last = (u128::from(x) + u128::from(units_of(symbols, a))).min(
-                u128::from(y) + u128::from(units_of(symbols, b)),
-            );
-            u128::from(x.max(y)) < last
+            let first = x.max(y);
+            has_more(symbols, a, first - x) && has_more(symbols, b, first - y)
         }
     }
 }

@@ -1,30 +1,28 @@
 //! The symbols of a module, by their numbers and by their names.
-ghost use Rattle.std.specs.Prelude.{◌≡◌, ◌≤◌, ◌-◌, ◌+◌, ◌++◌, ◌∷◌, [], length, map, slice_get, Some, IfOk, OnOk, OnErr, List, ℕ, Option};
+ghost use Rattle.std.specs.Prelude.{◌≡◌, ◌≤◌, ◌++◌, ◌∷◌, [], length, map, Some, OnOk, OnErr};
 ghost use Rattle.std.specs.Option.{option_copied};
-ghost use Rattle.f77_constants.specs.declared.constant.Constant.{Constant};
-ghost use Rattle.f77_symbols.specs.Symbols.{number_from, symbol_tree, value_in, constant_at};
+ghost use Rattle.f77_symbols.specs.Symbols.{number_from, symbol_tree, constant_at};
 ghost use Rattle.f77_symbols.specs.Shared.{numbered, place_at};
 ghost use Rattle.f77_symbols.specs.Index.{names_of};
 
-use crate::{Place, Symbol};
+use crate::{NameIndex, Place, Symbol};
 use f77_ast::Scalar;
 use f77_constants::{Constant, Constants};
-use fx_lists::{List, Text};
+use fx_lists::Text;
 use std::alloc::{AllocError as Memory, Global};
-use std::collections::HashMap;
 use std::marker::Model;
 
 /// Symbols in order of first appearance, dummies first, numbered from 1. A name is looked up in constant time.
 #[derive(Drop)]
 pub struct Symbols {
-    list: List<Symbol>,
-    numbers: HashMap<Vec<u8>, u32>,
+    list: Vec<Symbol>,
+    index: NameIndex,
 }
 
 impl Model for Symbols {
     ghost use Rattle.std.specs.Prelude.{List};
     ghost use Rattle.f77_symbols.specs.declared.symbol.Symbol.{Symbol};
-    ghost use Rattle.f77_symbols.specs.Index.{AreNumbers, names_of};
+    ghost use Rattle.f77_symbols.specs.Index.{Indexes, names_of};
     ghost use Rattle.f77_ast.specs.contracts.expr.Expr as expr;
     ghost use Rattle.std.specs.Coded.{codes};
 
@@ -32,9 +30,9 @@ impl Model for Symbols {
 
     ghost coded = { Prim.hlevel (codes, expr.the_row.coded) };
 
-    ghost view = { λ s. s.list };
+    ghost view = { λ s. s.list.items };
 
-    ghost invariant = { λ s. AreNumbers (names_of s.list) s.numbers };
+    ghost invariant = { λ s. Indexes s.index (names_of s.list.items) };
 }
 
 impl Symbols {
@@ -43,8 +41,8 @@ impl Symbols {
         ensures { result ≡ [] }
     {
         Symbols {
-            list: List::new(alloc),
-            numbers: HashMap::new(alloc),
+            list: Vec::new(alloc),
+            index: NameIndex::new(alloc),
         }
     }
 
@@ -53,20 +51,9 @@ impl Symbols {
         ensures ok { OnOk result (self.new ≡ self.old ++ symbol ∷ []) }
         ensures err { OnErr result (self.new ≡ self.old) }
     {
-        if self.number(&symbol.name).is_some() {
-            self.list.push(symbol)?;
-            return Ok(());
-        }
-        let number = next_number(self.list.len())?;
-        let key = Vec::from_slice(alloc, symbol.name.as_slice())?;
-        self.list.push(symbol)?;
-        match self.numbers.insert(key, number) {
-            Ok(_) => Ok(()),
-            Err(_) => {
-                let _ = self.list.pop();
-                Err(Memory)
-            }
-        }
+        let name = Vec::from_slice(alloc, symbol.name.as_slice())?;
+        self.index.push(name, &mut self.list, symbol)?;
+        Ok(())
     }
 
     pub fn as_slice(&self) -> &[Symbol]
@@ -95,18 +82,7 @@ impl Symbols {
     pub fn number(&self, name: &Text) -> Option<u32>
         ensures { result ≡ number_from 1 (names_of self.now) name.now }
     {
-        self.numbers.get(name.as_slice()).copied()
-    }
-}
-
-/// The number after so many.
-fn next_number(count: usize) -> Result<u32, Memory>
-    ensures { IfOk result (λ n. n ≡ count + 1) }
-{
-    if count < u32::MAX as usize {
-        Ok(count as u32 + 1)
-    } else {
-        Err(Memory)
+        self.index.number(name)
     }
 }
 

@@ -1,8 +1,8 @@
 //! How many units a variable takes.
-ghost use Rattle.std.specs.Prelude.{◌≡◌, map, pos, ◌+ℤ◌, ◌-ℤ◌};
+ghost use Rattle.std.specs.Prelude.{◌≡◌, ◌-◌, ◌^◌, map, min, nat_lt, pos, ◌+ℤ◌, ◌-ℤ◌};
 ghost use Rattle.f77_ast.specs.Places.{as_count};
 ghost use Rattle.f77_symbols.specs.Symbols.{bound_tree, symbol_tree, value_in};
-ghost use Rattle.f77_symbols.specs.Units.{bound_units, span_units, units_in, bounds_units};
+ghost use Rattle.f77_symbols.specs.Units.{bound_units, bounds_units, in_64_bits, span_units, units_in};
 
 use crate::{Bound, Symbol, Symbols};
 use f77_constants::{Constant, Worth, worth_of};
@@ -34,20 +34,33 @@ fn bound_units(symbols: &Symbols, bound: &Bound) -> u64
     }
 }
 
-#[tactic(auto, using(f77_ast::proofs::PlainlyDecl::decl_lists))]
-fn bounds_units(symbols: &Symbols, bounds: &[Bound]) -> u64
-    ensures { result ≡ bounds_units (value_in (map symbol_tree symbols.now)) 1 (map bound_tree bounds.now) }
+/// The elements of an array, at most 2^128-1.
+#[tactic(auto, using(crate::proofs::UnitsLaws::unit_steps))]
+fn elements(symbols: &Symbols, bounds: &[Bound]) -> u128
+    ensures { result ≡ min (bounds_units (value_in (map symbol_tree symbols.now)) (map bound_tree bounds.now)) (2 ^ 128 - 1) }
 {
-    let mut units = 1u64;
+    let mut units = 1u128;
     for bound in bounds {
-        units = units.saturating_mul(bound_units(symbols, bound));
+        units = units.saturating_mul(u128::from(bound_units(symbols, bound)));
     }
     units
 }
 
-/// The units of a variable whose bounds are constant, at most 2^64-1; none of another one. Takes no memory.
-pub fn units_of(symbols: &Symbols, symbol: &Symbol) -> u64
-    ensures { result ≡ units_in (map symbol_tree symbols.now) (symbol_tree symbol.now) }
+/// The units of a variable whose bounds are constant; none of another one. None where they have no number of 64 bits. Takes no memory.
+pub fn units_of(symbols: &Symbols, symbol: &Symbol) -> Option<u64>
+    ensures { result ≡ in_64_bits (units_in (map symbol_tree symbols.now) (symbol_tree symbol.now)) }
 {
-    bounds_units(symbols, symbol.bounds.as_slice())
+    let units = elements(symbols, symbol.bounds.as_slice());
+    if units <= u128::from(u64::MAX) {
+        Some(units as u64)
+    } else {
+        None
+    }
+}
+
+/// Whether a variable has more than so many units. Takes no memory.
+pub fn has_more(symbols: &Symbols, symbol: &Symbol, count: u64) -> bool
+    ensures { result ≡ nat_lt count (units_in (map symbol_tree symbols.now) (symbol_tree symbol.now)) }
+{
+    u128::from(count) < elements(symbols, symbol.bounds.as_slice())
 }

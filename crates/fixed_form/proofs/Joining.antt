@@ -8,7 +8,7 @@ use Rattle.fixed_form.specs.declared.progress.Progress.{Progress}
 use Rattle.fixed_form.specs.Cards.{columns, label_field}
 use Rattle.fixed_form.specs.Body.{stripped, quoted_after}
 use Rattle.fixed_form.specs.Reading.{Rest, with_comment, with_initial, with_continuation, label_of, rest_from}
-use Rattle.fixed_form.specs.Steps.{finished, commented, initial, continuation, continued, continuing}
+use Rattle.fixed_form.specs.Steps.{finish_all, keep_comment, initial, continuation, continue_line, continuing}
 
 pub stripped-append : (q : Bool) (a b : List ℕ) → stripped q (a ++ b) ≡ stripped q a ++ stripped (quoted_after q a) b
 stripped-append q [] b = refl
@@ -43,8 +43,8 @@ behind done (Some c) rest = whole (done ++ completed c rest ∷ rest.statements)
 unfoldable pub joined : Progress → Rest → Rest
 joined p rest = behind p.done p.current (with_comments p.comments rest)
 
-pub joined-commented : (line : List ℕ) (p : Progress) (rest : Rest) → joined (commented line p) rest ≡ joined p (with_comment line rest)
-unfolding joined commented
+pub joined-commented : (line : List ℕ) (p : Progress) (rest : Rest) → joined (keep_comment line p) rest ≡ joined p (with_comment line rest)
+unfolding joined keep_comment
 joined-commented line p rest = ap (behind p.done p.current) (with_comments-append p.comments line rest)
 
 -- comments before an initial line
@@ -71,7 +71,7 @@ line-nil l =
     ∙ ap (λ cs. record l { comments = cs }) (append-nil l.comments)
 
 finished-behind : (o : Option Current) (done : List Line) (s : Line) (ss : List Line) (cs : List (List ℕ))
-    → whole ((done ++ finished o) ++ s ∷ ss) cs ≡ behind done o (whole (s ∷ ss) cs)
+    → whole ((done ++ finish_all o) ++ s ∷ ss) cs ≡ behind done o (whole (s ∷ ss) cs)
 finished-behind None done s ss cs = ap (λ x. whole (x ++ s ∷ ss) cs) (append-nil done)
 finished-behind (Some c) done s ss cs =
     ap (λ x. whole x cs) (append_assoc done (c.line ∷ []) (s ∷ ss) ∙ sym (ap (λ l. done ++ l ∷ s ∷ ss) (line-nil c.line)))
@@ -86,12 +86,12 @@ joined-initial n card p rest =
       body = b;
       comments = p.comments ++ rest.inside;
     } in
-    ap (λ b. whole ((p.done ++ finished p.current) ++ line b ∷ rest.statements) rest.closing) (sym (stripped-append false (columns card) rest.more))
+    ap (λ b. whole ((p.done ++ finish_all p.current) ++ line b ∷ rest.statements) rest.closing) (sym (stripped-append false (columns card) rest.more))
     ∙ finished-behind p.current p.done (line (stripped false (columns card ++ rest.more))) rest.statements rest.closing
     ∙ ap (behind p.done p.current) (sym (with_comments-initial p.comments n card rest))
 
 completed-continued : (n : ℕ) (card : List ℕ) (comments : List (List ℕ)) (c : Current) (rest : Rest)
-    → completed (continued n card comments c) rest
+    → completed (continue_line n card comments c) rest
     ≡ completed c (record rest { more = columns card ++ rest.more; last = Some (unwrap_or rest.last n); inside = comments ++ rest.inside })
 completed-continued n card comments c rest =
     let line : List ℕ → List (List ℕ) → Line = λ b cs. record c.line { last = unwrap_or rest.last n; body = b; comments = cs } in
@@ -121,10 +121,10 @@ with_comments-end : (cs : List (List ℕ)) → with_comments cs (whole [] []) �
 with_comments-end [] = refl
 with_comments-end (c ∷ cs) = ap (with_comment c) (with_comments-end cs)
 
-behind-end : (o : Option Current) (done : List Line) (cs : List (List ℕ)) → behind done o (whole [] cs) ≡ whole (done ++ finished o) cs
+behind-end : (o : Option Current) (done : List Line) (cs : List (List ℕ)) → behind done o (whole [] cs) ≡ whole (done ++ finish_all o) cs
 behind-end None done cs = refl
 behind-end (Some c) done cs = ap (λ l. whole (done ++ l ∷ []) cs) (line-nil c.line)
 
-pub joined-end : (n : ℕ) (p : Progress) → joined p (rest_from n []) ≡ whole (p.done ++ finished p.current) p.comments
+pub joined-end : (n : ℕ) (p : Progress) → joined p (rest_from n []) ≡ whole (p.done ++ finish_all p.current) p.comments
 unfolding joined rest_from
 joined-end n p = ap (behind p.done p.current) (with_comments-end p.comments) ∙ behind-end p.current p.done p.comments

@@ -6,7 +6,7 @@ use Rattle.std.proofs.lemmas.List.Elements.{All-nil, All-cons}
 use Rattle.std.proofs.lemmas.List.Kept.{AllPairs-cons}
 use Rattle.std.specs.Prelude.{unwrap_or, is_some, IfSome, IfOk, All}
 use Rattle.std.specs.List.{list_all}
-use Rattle.fixed_form.specs.declared.fault.Fault.{Fault}
+use Rattle.refusal_codes.specs.declared.code.Code.{Code}
 use Rattle.fixed_form.specs.declared.label.LabelField.TheVariants.{Blank, Label, Bad}
 use Rattle.fixed_form.specs.declared.line.Line.{Line}
 use Rattle.fixed_form.specs.declared.line.Lines.{Lines}
@@ -205,7 +205,7 @@ lawful-lines ss f e = (
   spans 1 ss (omega arith) f,
 )
 
-lawful-by : (o : Option (ℕ × Fault)) (last : ℕ) (rest : Rest) (read : Lines) → AreFine 1 (2 ^ 28) rest.statements
+lawful-by : (o : Option (ℕ × Code)) (last : ℕ) (rest : Rest) (read : Lines) → AreFine 1 (2 ^ 28) rest.statements
     → outcome o last rest ≡ Ok read → IsRead read.lines × AreSpans read.lines
 lawful-by (Some found) last rest read f h = cc
 lawful-by None last rest read f h =

@@ -1,8 +1,8 @@
 -- One line more of the pass over a text.
 use Rattle.std.proofs.Common.{◌≡◌, ℕ, ◌+◌, ◌<◌, ◌≤◌, List, [], ◌∷◌, ◌++◌, length, refl, ap, sym, ◌∙◌, arith, Option, Some, None, Bool, true, false, if◌then◌else◌, Result, Err}
 use Rattle.std.specs.Prelude.{option_map}
-use Rattle.fixed_form.specs.declared.fault.Fault.{Fault}
-use Rattle.fixed_form.specs.declared.fault.Fault.TheVariants.{NonAscii, Tab, BadLabelField}
+use Rattle.refusal_codes.specs.declared.code.Code.{Code}
+use Rattle.refusal_codes.specs.declared.code.Code.TheVariants.{NonAscii, Tab, BadLabelField}
 use Rattle.fixed_form.specs.declared.line.Line.{Line}
 use Rattle.fixed_form.specs.declared.line.Lines.{Lines}
 use Rattle.fixed_form.specs.declared.line.ReadRefusal.{ReadRefusal}
@@ -12,9 +12,10 @@ use Rattle.fixed_form.specs.declared.progress.Progress.{Progress}
 use Rattle.fixed_form.specs.TextLines.{text_lines, without_returns}
 use Rattle.fixed_form.specs.Cards.{is_comment, is_dropped, card, is_initial, columns}
 use Rattle.fixed_form.specs.Body.{quoted_after}
-use Rattle.fixed_form.specs.Faults.{number, fault_of, continuation_fault, continuations_of, is_quoted, begun_behind, or_later, first_fault}
+use Rattle.refusal_codes.specs.Refusals.{number_of}
+use Rattle.fixed_form.specs.Faults.{fault_of, continuation_fault, continuations_of, is_quoted, begun_behind, or_later, first_fault}
 use Rattle.fixed_form.specs.Reading.{Rest, with_comment, with_initial, with_continuation, with_line, rest_from, outcome, reading, Gives}
-use Rattle.fixed_form.specs.Steps.{first_line, after_line, begun_of, commented, initial, continuing, continuation, step, line_fault, line_step, outcome_at, Takes}
+use Rattle.fixed_form.specs.Steps.{first_line, after_line, begun_of, keep_comment, initial, continuing, continuation, step, line_fault, line_step, outcome_at, Takes}
 use Rattle.fixed_form.proofs.TextLineLemmas.{text_lines-first}
 use Rattle.fixed_form.proofs.Joining.{joined, joined-commented, joined-initial, joined-continuation, behind, joined-end, with_comments}
 
@@ -59,8 +60,8 @@ begun-step n card p h = begun-step-by (is_initial card) n card p (begun-there p.
 first_fault-taken-by : (b d : Bool) (n : ℕ) (line card : List ℕ) (ls : List (List ℕ)) (p : Progress) → (if b then None else fault_of (begun_of p.current) card) ≡ None
     → (if b then first_fault (begun_of p.current) (n + 1) ls
     else or_later n (fault_of (begun_of p.current) card) (first_fault (Some (begun_behind (begun_of p.current) card)) (n + 1) ls))
-    ≡ first_fault (begun_of (if b then (if d then p else commented line p) else step n card p).current) (n + 1) ls
-unfolding commented
+    ≡ first_fault (begun_of (if b then (if d then p else keep_comment line p) else step n card p).current) (n + 1) ls
+unfolding keep_comment
 first_fault-taken-by true true n line card ls p h = refl
 first_fault-taken-by true false n line card ls p h = refl
 first_fault-taken-by false d n line card ls p h =
@@ -73,27 +74,27 @@ first_fault-taken : (n : ℕ) (line : List ℕ) (ls : List (List ℕ)) (p : Prog
 unfolding first_fault
 first_fault-taken n line ls p h = first_fault-taken-by (is_comment line) (is_dropped line) n line (card line) ls p h
 
-refused-by : (b : Bool) (o : Option Fault) (n code last : ℕ) (x y : Option (ℕ × Fault)) (rest : Rest)
-    → option_map number (if b then None else o) ≡ Some code → outcome (if b then x else or_later n o y) last rest ≡ Err (n, code)
+refused-by : (b : Bool) (o : Option Code) (n code last : ℕ) (x y : Option (ℕ × Code)) (rest : Rest)
+    → option_map number_of (if b then None else o) ≡ Some code → outcome (if b then x else or_later n o y) last rest ≡ Err (n, code)
 refused-by true o n code last x y rest h = cc
 refused-by false None n code last x y rest h = cc
 refused-by false (Some f) n code last x y rest h = cc
 
 -- a refused line is the answer
 outcome-refused : (n : ℕ) (line : List ℕ) (ls : List (List ℕ)) (o : Option Current) (code last : ℕ) (rest : Rest)
-    → option_map number (line_fault o line) ≡ Some code → outcome (first_fault (begun_of o) n (line ∷ ls)) last rest ≡ Err (n, code)
+    → option_map number_of (line_fault o line) ≡ Some code → outcome (first_fault (begun_of o) n (line ∷ ls)) last rest ≡ Err (n, code)
 unfolding first_fault
 outcome-refused n line ls o code last rest h = refused-by (is_comment line) (fault_of (begun_of o) (card line)) n code last _ _ rest h
 
 joined-by : (b d i : Bool) (n : ℕ) (line card : List ℕ) (p : Progress) (rest : Rest) → (b ≡ false → i ≡ false → (c : Current) × (p.current ≡ Some c))
-    → joined (if b then (if d then p else commented line p) else (if i then initial n card p else continuation n card p)) rest
+    → joined (if b then (if d then p else keep_comment line p) else (if i then initial n card p else continuation n card p)) rest
     ≡ joined p (if b then (if d then rest else with_comment line rest) else (if i then with_initial n card rest else with_continuation n card rest))
 joined-by true true i n line card p rest h = refl
 joined-by true false i n line card p rest h = joined-commented line p rest
 joined-by false d true n line card p rest h = joined-initial n card p rest
 joined-by false d false n line card p rest h = let open_ = h refl refl in joined-continuation n card p rest open_.0 open_.1
 
-fault-there : (b : Bool) (o : Option Fault) → (if b then None else o) ≡ None → b ≡ false → o ≡ None
+fault-there : (b : Bool) (o : Option Code) → (if b then None else o) ≡ None → b ≡ false → o ≡ None
 fault-there true o h e = cc
 fault-there false o h e = h
 
@@ -143,7 +144,7 @@ left-line text p q n rest line more l is h e =
     }
 
 pub left-refused : (text : List ℕ) (p : Progress) (n code : ℕ) (rest line : List ℕ) → 0 < length rest → Left text p n rest
-    → line ≡ without_returns (first_line rest) → option_map number (line_fault p.current line) ≡ Some code → reading text ≡ Err (n, code)
+    → line ≡ without_returns (first_line rest) → option_map number_of (line_fault p.current line) ≡ Some code → reading text ≡ Err (n, code)
 unfolding reading
 left-refused text p n code rest line more l is h =
     let ls = text_lines (after_line rest) in
@@ -173,8 +174,8 @@ continuations-next true k m h = omega arith
 continuations-next false k m h = omega arith
 
 continuations-by : (b d : Bool) (n : ℕ) (line card : List ℕ) (p : Progress) → (if b then None else fault_of (begun_of p.current) card) ≡ None
-    → continuations_of (begun_of (if b then (if d then p else commented line p) else step n card p).current) ≤ continuations_of (begun_of p.current) + 1
-unfolding commented
+    → continuations_of (begun_of (if b then (if d then p else keep_comment line p) else step n card p).current) ≤ continuations_of (begun_of p.current) + 1
+unfolding keep_comment
 continuations-by true true n line card p h = omega arith
 continuations-by true false n line card p h = omega arith
 continuations-by false d n line card p h = continuations-next (is_initial card) _ _ (ap continuations_of (begun-step n card p h))

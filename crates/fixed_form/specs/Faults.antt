@@ -3,21 +3,12 @@ use Rattle.std.specs.Prelude.{ℕ, ◌+◌, List, [], ◌∷◌, take, Option, S
 use Rattle.std.specs.List.{list_all, list_any}
 use Rattle.fixed_form.specs.declared.label.LabelField.{LabelField}
 use Rattle.fixed_form.specs.declared.label.LabelField.TheVariants.{Blank, Label, Bad}
-use Rattle.fixed_form.specs.declared.fault.Fault.{Fault}
-use Rattle.fixed_form.specs.declared.fault.Fault.TheVariants.{NonAscii, Tab, BadLabelField, ContinuationFirst, TooManyContinuations, NoEnd}
+use Rattle.refusal_codes.specs.declared.code.Code.{Code}
+use Rattle.refusal_codes.specs.declared.code.Code.TheVariants.{NonAscii, Tab, BadLabelField, ContinuationFirst, TooManyContinuations}
 use Rattle.fixed_form.specs.declared.fault.Begun.{Begun}
 use Rattle.fixed_form.specs.Characters.{is_allowed, is_space, is_tab}
 use Rattle.fixed_form.specs.Cards.{is_comment, card, field, columns, is_initial, label_field}
 use Rattle.fixed_form.specs.Body.{quoted_after, has_tab}
-
--- the code of each fault
-abbrev pub number : Fault → ℕ
-number NonAscii = 1
-number Tab = 2
-number BadLabelField = 3
-number ContinuationFirst = 4
-number TooManyContinuations = 5
-number NoEnd = 6
 
 -- whether a constant is open behind the last line of the statement begun before
 abbrev pub is_quoted : Option Begun → Bool
@@ -38,12 +29,12 @@ abbrev pub has_bad_field : List ℕ → Bool
 has_bad_field card = if is_initial card then is_bad (label_field card) else not (list_all is_space (field card))
 
 -- a continuation line goes on with a statement that has at most eighteen so far, and so nineteen with it (§3.2.3)
-abbrev pub continuation_fault : Option Begun → Option Fault
+abbrev pub continuation_fault : Option Begun → Option Code
 continuation_fault None = Some ContinuationFirst
 continuation_fault (Some begun) = if nat_le 19 begun.continuations then Some TooManyContinuations else None
 
 -- the first fault of a statement line, behind the statement begun before it
-unfoldable pub fault_of : Option Begun → List ℕ → Option Fault
+unfoldable pub fault_of : Option Begun → List ℕ → Option Code
 fault_of begun card =
     if not (list_all is_allowed card) then Some NonAscii
     else if list_any is_tab (take 6 card) || has_tab (starts_quoted begun card) (columns card) then Some Tab
@@ -62,12 +53,12 @@ begun_behind begun card = record {
   continuations = if is_initial card then 0 else continuations_of begun + 1;
 }
 
-abbrev pub or_later : ℕ → Option Fault → Option (ℕ × Fault) → Option (ℕ × Fault)
+abbrev pub or_later : ℕ → Option Code → Option (ℕ × Code) → Option (ℕ × Code)
 or_later n None later = later
 or_later n (Some fault) later = Some (n, fault)
 
 -- the first line, from line n on, that has a fault, with its number
-unfoldable pub first_fault : Option Begun → ℕ → List (List ℕ) → Option (ℕ × Fault)
+unfoldable pub first_fault : Option Begun → ℕ → List (List ℕ) → Option (ℕ × Code)
 first_fault begun n [] = None
 first_fault begun n (l ∷ ls) =
     if is_comment l then first_fault begun (n + 1) ls

@@ -2,8 +2,8 @@
 use Rattle.std.specs.Prelude.{◌≡◌, ℕ, ◌+◌, List, [], ◌∷◌, ◌++◌, length, Option, Some, None, Result, Ok, Err, Bool, true, false, if◌then◌else◌, is_some, unwrap_or, bytes_eq, codes}
 use Rattle.fixed_form.specs.declared.label.LabelField.{LabelField}
 use Rattle.fixed_form.specs.declared.label.LabelField.TheVariants.{Blank, Label, Bad}
-use Rattle.fixed_form.specs.declared.fault.Fault.{Fault}
-use Rattle.fixed_form.specs.declared.fault.Fault.TheVariants.{NoEnd}
+use Rattle.refusal_codes.specs.declared.code.Code.{Code}
+use Rattle.refusal_codes.specs.declared.code.Code.TheVariants.{NoEnd}
 use Rattle.fixed_form.specs.declared.line.Line.{Line}
 use Rattle.fixed_form.specs.declared.line.Lines.{Lines}
 use Rattle.fixed_form.specs.declared.line.ReadRefusal.{ReadRefusal}
@@ -11,7 +11,8 @@ use Rattle.fixed_form.specs.declared.line.ReadRefusal.TheVariants.{At, Memory}
 use Rattle.fixed_form.specs.TextLines.{text_lines}
 use Rattle.fixed_form.specs.Cards.{is_comment, is_dropped, card, columns, is_initial, label_field}
 use Rattle.fixed_form.specs.Body.{stripped}
-use Rattle.fixed_form.specs.Faults.{first_fault, number}
+use Rattle.refusal_codes.specs.Refusals.{number_of}
+use Rattle.fixed_form.specs.Faults.{first_fault}
 
 -- what the lines from some line on give: first what they add to a statement begun before them
 pub record Rest : Type 0 where
@@ -79,10 +80,10 @@ ends_well (s ∷ []) = is_end s
 ends_well (s ∷ t ∷ ss) = ends_well (t ∷ ss)
 
 -- without a fault in a line the statements must end with END; that is asked at the last line
-abbrev pub outcome : Option (ℕ × Fault) → ℕ → Rest → Result Lines (ℕ × ℕ)
-outcome (Some found) last rest = Err (found.0, number found.1)
+abbrev pub outcome : Option (ℕ × Code) → ℕ → Rest → Result Lines (ℕ × ℕ)
+outcome (Some found) last rest = Err (found.0, number_of found.1)
 outcome None last rest =
-    if ends_well rest.statements then Ok (record { lines = rest.statements; closing = rest.closing }) else Err (last, number NoEnd)
+    if ends_well rest.statements then Ok (record { lines = rest.statements; closing = rest.closing }) else Err (last, number_of NoEnd)
 
 -- the statements of a text, or the line and the code of its first fault
 unfoldable pub reading : List ℕ → Result Lines (ℕ × ℕ)

@@ -1,44 +1,12 @@
 //! What a line can break, and the first thing that it does.
 
 ghost use Rattle.std.specs.Prelude.{◌≡◌, length};
-ghost use Rattle.fixed_form.specs.Faults.{number, fault_of, has_bad_field, starts_quoted};
+ghost use Rattle.fixed_form.specs.Faults.{fault_of, has_bad_field, starts_quoted};
 
 use crate::cards::is_initial;
 use crate::label::{LabelField, label_field};
 use crate::strip::{all_allowed, all_spaces, any_tab, has_tab};
-
-/// The rules of the form, in the order in which a line that breaks several is reported.
-#[derive(Clone, Copy, Debug)]
-pub enum Fault {
-    /// Columns 1 to 72 of a statement line hold a byte that is neither printable ASCII nor a tab.
-    NonAscii,
-    /// A tab stands outside a character constant.
-    Tab,
-    /// Columns 1 to 5 hold neither a label nor blanks, or on a continuation line anything but blanks.
-    BadLabelField,
-    /// A continuation line stands before the first initial line.
-    ContinuationFirst,
-    /// A statement has a twentieth continuation line.
-    TooManyContinuations,
-    /// The last statement is not END.
-    NoEnd,
-}
-
-impl Fault {
-    /// The code under which it is reported.
-    pub fn number(self) -> u32
-        ensures { result ≡ number self }
-    {
-        match self {
-            Fault::NonAscii => 1,
-            Fault::Tab => 2,
-            Fault::BadLabelField => 3,
-            Fault::ContinuationFirst => 4,
-            Fault::TooManyContinuations => 5,
-            Fault::NoEnd => 6,
-        }
-    }
-}
+use refusal_codes::Code;
 
 /// The statement that a continuation line would go on with.
 #[derive(Clone, Copy, Debug)]
@@ -76,29 +44,29 @@ fn starts_quoted(begun: Option<Begun>, card: &[u8]) -> bool
 
 /// The first rule that a statement line breaks, behind the statement that was begun before it.
 #[tactic(auto, unfolding(crate::specs::Faults::fault_of))]
-pub fn fault_of(begun: Option<Begun>, card: &[u8]) -> Option<Fault>
+pub fn fault_of(begun: Option<Begun>, card: &[u8]) -> Option<Code>
     requires { length card.now ≡ 72 }
     ensures { result ≡ fault_of begun card.now }
 {
     if !all_allowed(card) {
-        return Some(Fault::NonAscii);
+        return Some(Code::NonAscii);
     }
     if any_tab(&card[..6]) || has_tab(starts_quoted(begun, card), &card[6..]) {
-        return Some(Fault::Tab);
+        return Some(Code::Tab);
     }
     if has_bad_field(card) {
-        return Some(Fault::BadLabelField);
+        return Some(Code::BadLabelField);
     }
     if is_initial(card) {
         return None;
     }
     match begun {
-        None => Some(Fault::ContinuationFirst),
+        None => Some(Code::ContinuationFirst),
         Some(Begun { continuations, .. }) => {
             if continuations < 19 {
                 None
             } else {
-                Some(Fault::TooManyContinuations)
+                Some(Code::TooManyContinuations)
             }
         }
     }

@@ -4,7 +4,7 @@ ghost use Rattle.std.specs.Prelude.{◌≡◌, ◌<◌, ◌^◌, ◌++◌, lengt
 ghost use Rattle.fixed_form.specs.Cards.{label_field};
 ghost use Rattle.fixed_form.specs.Faults.{continuations_of};
 ghost use Rattle.fixed_form.specs.Reading.{label_of};
-ghost use Rattle.fixed_form.specs.Steps.{begun_of, finished, commented, initial, continued, continuation, step};
+ghost use Rattle.fixed_form.specs.Steps.{begun_of, finish_all, keep_comment, initial, continue_line, continuation, step};
 
 use crate::cards::is_initial;
 use crate::fault::Begun;
@@ -42,9 +42,9 @@ pub fn begun_of(current: &Option<Current>) -> Option<Begun>
 }
 
 /// A kept comment waits for the next statement line.
-#[tactic(auto, unfolding(crate::specs::Steps::commented))]
-pub fn commented(alloc: Global, progress: Progress, line: &[u8]) -> Result<Progress, Memory>
-    ensures { IfOk result (λ p. p ≡ commented line.now progress) }
+#[tactic(auto, unfolding(crate::specs::Steps::keep_comment))]
+pub fn keep_comment(alloc: Global, progress: Progress, line: &[u8]) -> Result<Progress, Memory>
+    ensures { IfOk result (λ p. p ≡ keep_comment line.now progress) }
 {
     let mut progress = progress;
     progress.comments.push(Text::from_bytes(alloc, line)?)?;
@@ -52,8 +52,8 @@ pub fn commented(alloc: Global, progress: Progress, line: &[u8]) -> Result<Progr
 }
 
 /// All statements, with the current one last.
-pub fn finished(done: List<Line>, current: Option<Current>) -> Result<List<Line>, Memory>
-    ensures { IfOk result (λ all. all ≡ done ++ finished current) }
+pub fn finish_all(done: List<Line>, current: Option<Current>) -> Result<List<Line>, Memory>
+    ensures { IfOk result (λ all. all ≡ done ++ finish_all current) }
 {
     let mut all = done;
     match current {
@@ -85,7 +85,7 @@ fn initial(alloc: Global, progress: Progress, number: u32, card: &[u8]) -> Resul
         current,
         comments,
     } = progress;
-    let done = finished(done, current)?;
+    let done = finish_all(done, current)?;
     let mut body = Text::new(alloc);
     let quoted = strip(&mut body, false, &card[6..])?;
     let line = Line {
@@ -115,7 +115,7 @@ fn joined(first: List<Text>, second: List<Text>) -> Result<List<Text>, Memory>
     Ok(List::from_vec(all))
 }
 
-fn continued(
+fn continue_line(
     number: u32,
     card: &[u8],
     comments: List<Text>,
@@ -123,7 +123,7 @@ fn continued(
 ) -> Result<Current, Memory>
     requires length { length card.now ≡ 72 }
     requires room { current.begun.continuations < 2 ^ 30 }
-    ensures { IfOk result (λ c. c ≡ continued number card.now comments current) }
+    ensures { IfOk result (λ c. c ≡ continue_line number card.now comments current) }
 {
     let Current { line, begun } = current;
     let Line {
@@ -175,7 +175,7 @@ fn continuation(
             comments,
         }),
         Some(current) => {
-            let current = continued(number, card, comments, current)?;
+            let current = continue_line(number, card, comments, current)?;
             Ok(Progress {
                 done,
                 current: Some(current),

@@ -7,11 +7,12 @@ ghost use Rattle.fixed_form.specs.Laws.{IsRead, AreSpans};
 ghost use Rattle.fixed_form.specs.Steps.{begun_of, step, line_fault, line_step, Takes, outcome_at};
 
 use crate::cards::{card, is_comment, is_dropped};
-use crate::fault::{Fault, fault_of};
+use crate::fault::fault_of;
 use crate::line::{Line, Lines, ReadRefusal};
-use crate::progress::{Progress, begun_of, commented, finished, stepped};
+use crate::progress::{Progress, begun_of, finish_all, keep_comment, stepped};
 use crate::text_lines::{first_line, without_returns};
 use fx_lists::{List, Text};
+use refusal_codes::Code;
 use std::alloc::Global;
 
 /// A line that is no comment.
@@ -26,7 +27,7 @@ fn statement_line(
     ensures { Takes number (fault_of (begun_of progress.current) card.now) (step number card.now progress) result }
 {
     match fault_of(begun_of(&progress.current), card) {
-        Some(fault) => Err(ReadRefusal::At(number, fault.number())),
+        Some(code) => Err(ReadRefusal::At(number, code.number())),
         None => Ok(stepped(alloc, progress, number, card)?),
     }
 }
@@ -44,7 +45,7 @@ fn take_line(
         if is_dropped(line) {
             return Ok(progress);
         }
-        return Ok(commented(alloc, progress, line)?);
+        return Ok(keep_comment(alloc, progress, line)?);
     }
     let card = card(alloc, line)?;
     statement_line(alloc, progress, number, card.as_slice())
@@ -67,9 +68,9 @@ fn finish(progress: Progress, count: u32) -> Result<Lines, ReadRefusal>
         current,
         comments,
     } = progress;
-    let lines = finished(done, current)?;
+    let lines = finish_all(done, current)?;
     if !ends_well(lines.as_slice()) {
-        return Err(ReadRefusal::At(count, Fault::NoEnd.number()));
+        return Err(ReadRefusal::At(count, Code::NoEnd.number()));
     }
     Ok(Lines {
         lines,

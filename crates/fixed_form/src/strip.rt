@@ -3,7 +3,7 @@
 ghost use Rattle.std.specs.Prelude.{◌≡◌, ◌++◌, IfOk, OnOk};
 ghost use Rattle.std.specs.List.{list_all, list_any};
 ghost use Rattle.fixed_form.specs.Characters.{is_space, is_tab, is_allowed, folded};
-ghost use Rattle.fixed_form.specs.Body.{stripped, quoted_behind, quoted_after, has_tab};
+ghost use Rattle.fixed_form.specs.Body.{stripped, quoted_after_byte, quoted_after, has_tab};
 
 use fx_lists::Text;
 use std::alloc::AllocError as Memory;
@@ -14,8 +14,8 @@ fn folded(b: u8) -> u8
     if b >= b'a' && b <= b'z' { b - 32 } else { b }
 }
 
-fn quoted_behind(quoted: bool, b: u8) -> bool
-    ensures { result ≡ quoted_behind quoted b }
+fn quoted_after_byte(quoted: bool, b: u8) -> bool
+    ensures { result ≡ quoted_after_byte quoted b }
 {
     if b == b'\'' { !quoted } else { quoted }
 }
@@ -32,7 +32,7 @@ pub fn strip(body: &mut Text, quoted: bool, columns: &[u8]) -> Result<bool, Memo
         } else if *b != b' ' {
             body.push(folded(*b))?;
         }
-        inside = quoted_behind(inside, *b);
+        inside = quoted_after_byte(inside, *b);
     }
     Ok(inside)
 }
@@ -46,7 +46,7 @@ pub fn has_tab(quoted: bool, columns: &[u8]) -> bool
         if *b == b'\t' && !inside {
             return true;
         }
-        inside = quoted_behind(inside, *b);
+        inside = quoted_after_byte(inside, *b);
     }
     false
 }

@@ -1,14 +1,14 @@
 -- Cleaning keeps the points, and keeps rows as they are.
 use Rattle.std.proofs.Common.{◌≡◌, ◌↔◌, ◌≤◌, Bool, false, not, List, [], ◌∷◌, ◌++◌, length, arith, inl, inr, ⊎_elim}
+use Rattle.std.proofs.lemmas.Bool.{and_parts}
 use Rattle.affine_systems.specs.declared.row.Row.{Row}
 use Rattle.affine_systems.specs.declared.row.System.{System}
 use Rattle.affine_systems.specs.Rows.{false_row, AllRows}
 use Rattle.affine_systems.specs.Points.{Point, HoldsAll}
 use Rattle.affine_systems.specs.Given.{AreNormal, IsNormalAs, Fits}
 use Rattle.hull_projection.specs.Refute.{entails}
-use Rattle.hull_projection.specs.Clean.{is_spare, cleaned_behind, cleaned, clean}
+use Rattle.hull_projection.specs.Clean.{is_spare, cleaned_behind, clean_rows, clean}
 use Rattle.affine_systems.proofs.Basics.{if_cases}
-use Rattle.affine_systems.proofs.TermLaws.{both_true}
 use Rattle.affine_systems.proofs.CallLaws.{append_all}
 use Rattle.hull_projection.proofs.RefuteLaws.{entailed_holds}
 
@@ -33,7 +33,7 @@ cleaned_behind_same p front (r ∷ rs) =
     let there = λ (h : HoldsAll p (front ++ r ∷ rs)). k.1 (ih.0 (g.0 h)) in
     let back = λ (h : HoldsAll p (front ++ r ∷ after)). g.1 (ih.1 (k.0 h)) in
     if_cases (λ (ss : List Row). HoldsAll p (front ++ r ∷ rs) ↔ HoldsAll p (front ++ ss)) (is_spare (front ++ after) r) after (r ∷ after)
-    (λ e. let t = both_true (not r.equal) (entails (front ++ after) r) e in (
+    (λ e. let t = and_parts (not r.equal) (entails (front ++ after) r) e in (
       (λ h. let l = a.1 (there h) in b.0 (l.0, l.1.1)),
       (λ h. let l = b.1 h in back (a.0 (l.0, (entailed_holds p (front ++ after) r t.1 h, l.1)))),
     ))
@@ -59,12 +59,12 @@ cleaned_length front (r ∷ rs) =
     let ih = cleaned_length (front ++ r ∷ []) rs in
     if_cases (λ (ss : List Row). length ss ≤ length (r ∷ rs)) (is_spare (front ++ after) r) after (r ∷ after) (λ e. omega (arith, ih)) (λ e. omega (arith, ih))
 
-cleaned_one : (q : Bool) (rs : List Row) → rs ≡ false_row ∷ [] → AreNormal q (cleaned rs)
+cleaned_one : (q : Bool) (rs : List Row) → rs ≡ false_row ∷ [] → AreNormal q (clean_rows rs)
 cleaned_one q [] e = cc
 cleaned_one q (r ∷ []) e = if_cases (AreNormal q) (is_spare [] r) [] (r ∷ []) (λ b. inr tt) (λ b. inl e)
 cleaned_one q (r ∷ (s ∷ ss)) e = cc
 
-cleaned_normal : (q : Bool) (rs : List Row) → AreNormal q rs → AreNormal q (cleaned rs)
+cleaned_normal : (q : Bool) (rs : List Row) → AreNormal q rs → AreNormal q (clean_rows rs)
 cleaned_normal q rs h = ⊎_elim (λ e. cleaned_one q rs e) (λ k. inr (cleaned_all (IsNormalAs q) [] rs k)) h
 
 pub clean_fits : (s : System) → Fits s → Fits (clean s)

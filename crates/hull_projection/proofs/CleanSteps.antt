@@ -6,7 +6,7 @@ use Rattle.affine_systems.specs.declared.row.Row.{Row}
 use Rattle.affine_systems.specs.Rows.{row, AllRows}
 use Rattle.affine_systems.specs.Given.{IsGiven, IsSmallRow}
 use Rattle.hull_projection.specs.Refute.{refuted, above, all_refuted, negations, entails}
-use Rattle.hull_projection.specs.Clean.{is_spare, unless_spare, cleaned_behind, cleaned}
+use Rattle.hull_projection.specs.Clean.{is_spare, unless_spare, cleaned_behind, clean_rows}
 use Rattle.affine_systems.proofs.ItemSteps.{popped}
 use Rattle.affine_systems.proofs.FitLaws.{small_given}
 use Rattle.affine_systems.proofs.RenameSteps.{given_append}
@@ -73,7 +73,7 @@ onto-nothing front (r ∷ rs) = ap (unless_spare front r) (onto-nothing (front +
 
 -- what is left to clean, and what is done, from the last on
 pub record IsCleaned (front behind all : List Row) : Type 0 where
-  pub value : onto [] front (reverse behind) ≡ cleaned all
+  pub value : onto [] front (reverse behind) ≡ clean_rows all
   pub left : AllRows IsSmallRow front
   pub done : AllRows IsSmallRow behind
 
@@ -95,5 +95,5 @@ cleaned-more front more behind new all r e n s h = record {
   done = s;
 }
 
-pub cleaned-end : (front behind all : List Row) → front ≡ [] → IsCleaned front behind all → reverse behind ≡ cleaned all
+pub cleaned-end : (front behind all : List Row) → front ≡ [] → IsCleaned front behind all → reverse behind ≡ clean_rows all
 cleaned-end front behind all e h = ap (λ rs. onto [] rs (reverse behind)) (sym e) ∙ h.value

@@ -1,8 +1,9 @@
--- The closure has each pair of stores that any number of turns joins.
+-- The closure has each pair of stores that any number of iterations joins.
 use Rattle.std.proofs.Common.{◌≡◌, ℕ, zero, suc, ◌+◌, ◌-◌, ◌<◌, ◌≤◌, Bool, true, false, ◌||◌, List, [], ◌∷◌, ◌++◌, map, length, ℤ, pos, neg_ℤ, ◌+ℤ◌, ◌-ℤ◌, ◌*ℤ◌, arith, ap, refl, sym, subst, ◌∙◌, ⊎_elim, ◌⊎◌, inl, inr}
 use Rattle.std.specs.Prelude.{nat_lt}
 use Rattle.std.proofs.lemmas.Int.{ints}
 use Rattle.std.proofs.lemmas.Bool.Decides.{nat_tests}
+use Rattle.std.proofs.lemmas.Bool.{cases_Bool}
 use Rattle.affine_systems.specs.declared.row.Var.{Var}
 use Rattle.affine_systems.specs.declared.row.Var.TheVariants.{Cell, Exit, Phi, Aux}
 use Rattle.affine_systems.specs.declared.row.Term.{Term}
@@ -18,10 +19,10 @@ use Rattle.hull_projection.specs.Variables.{in_order, with_terms, row_vars}
 use Rattle.hull_projection.specs.Project.{shadow, eliminate_each, project}
 use Rattle.hull_projection.specs.Fresh.{fresh_after, is_old, old_vars}
 use Rattle.hull_projection.specs.Hull.{at_least_0}
-use Rattle.hull_projection.specs.Closure.{IsCell, AreCells, exit_of, step_row, step_rows, same_row, cell_terms, exit_terms, turns_var, many_turns, steps, changes_of, is_false, turn_rows, some_turns, no_turn, closure_of, closure}
-use Rattle.hull_projection.specs.Turns.{Store, between, Joined}
-use Rattle.hull_projection.specs.Laws.{IsOneOf, HasTurns}
-use Rattle.affine_systems.proofs.Basics.{if_cases, either, distributes, distributes_right, neg_mul, mul_comm}
+use Rattle.hull_projection.specs.Closure.{IsCell, AreCells, exit_of, step_row, step_rows, same_row, cell_terms, exit_terms, iterations_var, many_iterations, steps, changes_of, is_false, iteration_rows, some_iterations, no_iteration, closure_of, closure}
+use Rattle.hull_projection.specs.Iterations.{Store, between, Joined}
+use Rattle.hull_projection.specs.Laws.{IsOneOf, ContainsIterations}
+use Rattle.affine_systems.proofs.Basics.{if_cases, distributes, distributes_right, neg_mul, mul_comm}
 use Rattle.affine_systems.proofs.TermLaws.{var_eq-true, true-var_eq, value-term_before}
 use Rattle.affine_systems.proofs.TidyLaws.{tidy_holds, is_false_row-true, clash}
 use Rattle.affine_systems.proofs.ElimLaws.{eliminate_holds}
@@ -33,7 +34,7 @@ use Rattle.hull_projection.proofs.ProjectLaws.{in_order-from, cleaned_nil, each_
 use Rattle.hull_projection.proofs.VarLaws.{TermsIn, RowsIn, rows_covered, terms_covered, IsOld, fresh_old}
 use Rattle.hull_projection.proofs.LiftLaws.{with_aux, aux_eq, aux_apart, old_apart, with_aux_old, moves_back, value-agrees, agree_from, agree_hold, value-zero, value-append}
 
--- ---- what one turn changes
+-- ---- what one iteration changes
 
 -- the difference of two stores at a cell
 abbrev change : Store → Store → Var → ℤ
@@ -109,7 +110,7 @@ in_or_not v [] = inr (λ h. h)
 in_or_not v (w ∷ ws) =
     ⊎_elim (λ e. inl (inl (var_eq-true v w e)))
     (λ e. ⊎_elim (λ h. inl (inr h)) (λ h. inr (λ k. ⊎_elim (λ s. clash (var_eq v w) (true-var_eq v w s) e) h k)) (in_or_not v ws))
-    (either (var_eq v w))
+    (cases_Bool (var_eq v w))
 
 apart_from : (v : Var) (xs : List Var) (ts : List Term) → (IsOneOf v xs → ⊥) → TermsIn xs ts → Apart v ts
 apart_from v xs [] f h = tt
@@ -194,8 +195,8 @@ d_or_gone p s u n cs t e o (Aux m) =
     let j : m - n < length cs = grind (arith, nat_tests) in
     inl (aux_at p (change s u) n cs m (m - n) i j ∙ sym (aux_at zero_point (change s u) n cs m (m - n) i j)))
     (λ k. let i : n + length cs ≤ m = grind (arith, nat_tests) in inr (high_gone n cs t m e o i))
-    (either (nat_lt m (n + length cs))))
-    (either (nat_lt m n))
+    (cases_Bool (nat_lt m (n + length cs))))
+    (cases_Bool (nat_lt m n))
 
 -- ---- from the lifted point to the changes
 
@@ -209,7 +210,7 @@ moved_to_in p q (w ∷ vs) v h =
     ⊎_elim
     (λ e. rw e (ap q (var_eq-true w v e)))
     (λ e. rw e (moved_to_in p q vs v (⊎_elim (λ k. clash (var_eq w v) (true-var_eq w v (sym k)) e) (λ k. k) h)))
-    (either (var_eq w v))
+    (cases_Bool (var_eq w v))
 
 moved_to_same : (p q : Point) (vs : List Var) (v : Var) → p v ≡ q v → moved_to p q vs v ≡ q v
 moved_to_same p q [] v h = h
@@ -217,7 +218,7 @@ moved_to_same p q (w ∷ vs) v h =
     ⊎_elim
     (λ e. rw e (ap q (var_eq-true w v e)))
     (λ e. rw e (moved_to_same p q vs v h))
-    (either (var_eq w v))
+    (cases_Bool (var_eq w v))
 
 value-moved_to : (p q : Point) (vs : List Var) (ts : List Term) → ((v : Var) → (p v ≡ q v) ⊎ (value (only v) ts ≡ pos 0)) → value (moved_to p q vs) ts ≡ value p ts
 value-moved_to p q [] ts f = refl
@@ -239,7 +240,7 @@ value-elsewhere p q ts f =
     let vs = with_terms [] ts in
     sym (value-moved_to p q vs ts f) ∙ value-agrees (moved_to p q vs) q ts (agree_from (moved_to p q vs) q vs ts (λ v h. moved_to_in p q vs v h) (terms_covered [] ts))
 
-rows_elsewhere : (p q : Point) (rs : List Row) → ((v : Var) → (p v ≡ q v) ⊎ RowsNil (only v) rs) → HoldsAll p rs → HoldsAll q rs
+pub rows_elsewhere : (p q : Point) (rs : List Row) → ((v : Var) → (p v ≡ q v) ⊎ RowsNil (only v) rs) → HoldsAll p rs → HoldsAll q rs
 rows_elsewhere p q [] f h = tt
 rows_elsewhere p q (r ∷ rs) f h = (
   subst (λ (x : ℤ). Meets r.equal x r.bound) (value-elsewhere p q r.terms (λ v. ⊎_elim (λ k. inl k) (λ k. inr k.0) (f v))) h.0,
@@ -249,7 +250,7 @@ rows_elsewhere p q (r ∷ rs) f h = (
 between_stores : (p : Point) (n : ℕ) (xs : List ℤ) (s u : Store) → HasStores (with_aux (between p s u) n xs) s u
 between_stores p n xs s u m = (with_aux_old (between p s u) n xs (Cell m) tt, with_aux_old (between p s u) n xs (Exit m) tt)
 
--- the rows of one turn hold at its changes
+-- the rows of one iteration hold at its changes
 turn_holds : (p : Point) (s u : Store) (n : ℕ) (cs : List Var) (t : System) → n ≡ fresh_after (row_vars t.rows) → AreCells cs → HoldsAll (between p s u) t.rows → HoldsAll (changes_on zero_point n cs s u) (changes_of n cs t).rows
 turn_holds p s u n cs t e o h =
     let b = between p s u in
@@ -265,7 +266,7 @@ turn_holds p s u n cs t e o h =
     rows_elsewhere q (changes_on zero_point n cs s u) (changes_of n cs t).rows (d_or_gone b s u n cs t e o)
     ((clean_same q r.system).0 (each_holds q (shadow w true) (in_order vs) (tidy_holds q (system (t.rows ++ step_rows n cs) t.weak) raw)))
 
--- ---- many turns
+-- ---- many iterations
 
 change_sum : (s u w : Store) (c : Var) → change s w c ≡ change s u c +ℤ change u w c
 change_sum s u w (Cell n) = omega (arith, ints)
@@ -310,7 +311,7 @@ sum_none n (c ∷ cs) f ts e =
     let k : factor_of (Aux n) ts *ℤ f c ≡ factor_of (Aux n) ts *ℤ pos 0 = ap (λ x. factor_of (Aux n) ts *ℤ x) (e c) in
     omega (arith, ints, ih, k)
 
--- the changes of so many turns, against so many times each bound
+-- the changes of so many iterations, against so many times each bound
 abbrev Total : ℕ → List Var → (Var → ℤ) → ℕ → List Row → Type 0
 Total n cs f k [] = Unit {0}
 Total n cs f k (r ∷ rs) = Meets r.equal (sum_at n cs f r.terms) (pos k *ℤ r.bound) × Total n cs f k rs
@@ -331,14 +332,14 @@ total_more n cs f g h k (r ∷ rs) e o t =
     go true w x y z b i e h t = let d = distributes_right (pos 1) (pos k) b in omega (arith, ints, d, i, e, h, t)
     go false w x y z b i e h t = let d = distributes_right (pos 1) (pos k) b in omega (arith, ints, d, i, e, h, t)
 
--- so many turns change cells by so many times the bounds
+-- so many iterations change cells by so many times the bounds
 total_of : (k n : ℕ) (cs : List Var) (t : System) (s w : Store) → n ≡ fresh_after (row_vars t.rows) → AreCells cs → Joined k t s w → Total n cs (change s w) k (changes_of n cs t).rows
 total_of zero n cs t s w e o j = total_none n cs (change s w) (changes_of n cs t).rows (change_none s w j)
 total_of (suc k) n cs t s w e o j =
     let u = j.0 in
     total_more n cs (change s u) (change u w) (change s w) k (changes_of n cs t).rows (change_sum s u w) (turn_holds j.1 s u n cs t e o j.2) (total_of k n cs t u w e o j.3)
 
--- ---- the rows of many turns
+-- ---- the rows of many iterations
 
 value-cell_terms : (q : Point) (s w : Store) (n : ℕ) (cs : List Var) (ts : List Term) → HasStores q s w → AreCells cs → value q (cell_terms n cs ts) +ℤ value q (exit_terms n cs ts) ≡ sum_at n cs (change s w) ts
 value-cell_terms q s w n [] ts f o = refl
@@ -353,17 +354,17 @@ value-cell_terms q s w n (c ∷ cs) ts f o =
     let l = mul_neg g (q c) in
     omega (arith, ints, ih, a, b, k, d, m, l)
 
-many_turns_hold : (q : Point) (s w : Store) (n : ℕ) (cs : List Var) (k : ℕ) (rs : List Row) → HasStores q s w → AreCells cs → q (turns_var n cs) ≡ pos k → Total n cs (change s w) k rs → HoldsAll q (map (many_turns n cs) rs)
+many_turns_hold : (q : Point) (s w : Store) (n : ℕ) (cs : List Var) (k : ℕ) (rs : List Row) → HasStores q s w → AreCells cs → q (iterations_var n cs) ≡ pos k → Total n cs (change s w) k rs → HoldsAll q (map (many_iterations n cs) rs)
 many_turns_hold q s w n cs k [] f o g h = tt
 many_turns_hold q s w n cs k (r ∷ rs) f o g h =
-    let v = value-append q (cell_terms n cs r.terms ++ exit_terms n cs r.terms) (term_before (turns_var n cs) (neg_ℤ r.bound) []) in
+    let v = value-append q (cell_terms n cs r.terms ++ exit_terms n cs r.terms) (term_before (iterations_var n cs) (neg_ℤ r.bound) []) in
     let a = value-append q (cell_terms n cs r.terms) (exit_terms n cs r.terms) in
-    let b = value-term_before q (turns_var n cs) (neg_ℤ r.bound) [] in
+    let b = value-term_before q (iterations_var n cs) (neg_ℤ r.bound) [] in
     let c = value-cell_terms q s w n cs r.terms f o in
-    let m : neg_ℤ r.bound *ℤ q (turns_var n cs) ≡ neg_ℤ r.bound *ℤ pos k = ap (λ z. neg_ℤ r.bound *ℤ z) g in
+    let m : neg_ℤ r.bound *ℤ q (iterations_var n cs) ≡ neg_ℤ r.bound *ℤ pos k = ap (λ z. neg_ℤ r.bound *ℤ z) g in
     let d = neg_mul r.bound (pos k) in
     let l = mul_comm r.bound (pos k) in (
-      go r.equal (sum_at n cs (change s w) r.terms) (pos k *ℤ r.bound) (value q (many_turns n cs r).terms) (omega (arith, ints, v, a, b, c, m, d, l)) h.0,
+      go r.equal (sum_at n cs (change s w) r.terms) (pos k *ℤ r.bound) (value q (many_iterations n cs r).terms) (omega (arith, ints, v, a, b, c, m, d, l)) h.0,
       many_turns_hold q s w n cs k rs f o g h.1,
     )
   where
@@ -383,13 +384,13 @@ same_rows_hold p s w (c ∷ cs) f o = (one c o.0, same_rows_hold p s w cs f o.1)
 false_none : (p : Point) (rs : List Row) → is_false rs ≡ true → HoldsAll p rs → ⊥
 false_none p [] e h = clash false e refl
 false_none p (r ∷ rs) e h =
-    ⊎_elim (λ k. is_false_row-true p r k h.0) (λ k. false_none p rs (rest (is_false_row r) (is_false rs) k e) h.1) (either (is_false_row r))
+    ⊎_elim (λ k. is_false_row-true p r k h.0) (λ k. false_none p rs (rest (is_false_row r) (is_false rs) k e) h.1) (cases_Bool (is_false_row r))
   where
     rest : (a b : Bool) → a ≡ false → (a || b) ≡ true → b ≡ true
     rest true b f e = clash true refl f
     rest false b f e = e
 
--- where no turn is possible, the stores are the same
+-- where no iteration is possible, the stores are the same
 no_turns : (k : ℕ) (p : Point) (n : ℕ) (cs : List Var) (t : System) (s w : Store) → n ≡ fresh_after (row_vars t.rows) → AreCells cs → is_false (changes_of n cs t).rows ≡ true → Joined k t s w → HoldsAll (between p s w) (map same_row cs)
 no_turns zero p n cs t s w e o f j = same_rows_hold p s w cs j o
 no_turns (suc k) p n cs t s w e o f j =
@@ -398,17 +399,17 @@ no_turns (suc k) p n cs t s w e o f j =
 count_holds : (q : Point) (v : Var) (k : ℕ) → q v ≡ pos k → Holds q (at_least_0 v)
 count_holds q v k e = rw e (omega (arith, ints))
 
-some_hold : (k : ℕ) (p : Point) (n : ℕ) (cs : List Var) (t : System) (s w : Store) → n ≡ fresh_after (row_vars t.rows) → AreCells cs → Joined k t s w → HoldsAll (between p s w) (some_turns n cs (changes_of n cs t)).rows
+some_hold : (k : ℕ) (p : Point) (n : ℕ) (cs : List Var) (t : System) (s w : Store) → n ≡ fresh_after (row_vars t.rows) → AreCells cs → Joined k t s w → HoldsAll (between p s w) (some_iterations n cs (changes_of n cs t)).rows
 some_hold k p n cs t s w e o j =
     let a = changes_of n cs t in
-    let v = turns_var n cs in
+    let v = iterations_var n cs in
     let b = between p s w in
     let m = n + length cs in
     let q = with_aux b m (pos k ∷ []) in
     let at : q v ≡ pos k = aux_first b m (pos k) [] in
-    let many = system (turn_rows n cs a.rows) a.weak in
+    let many = system (iteration_rows n cs a.rows) a.weak in
     let rows = many_turns_hold q s w n cs k a.rows (between_stores p m (pos k ∷ []) s w) o at (total_of k n cs t s w e o j) in
-    let all = (append_all q (map (many_turns n cs) a.rows) (at_least_0 v ∷ [])).0 (rows, (count_holds q v k at, tt)) in
+    let all = (append_all q (map (many_iterations n cs) a.rows) (at_least_0 v ∷ [])).0 (rows, (count_holds q v k at, tt)) in
     let left = eliminate_holds q (tidy many) v (tidy_holds q many all) in
     (clean_same b (eliminate (tidy many) v).system).0
     (moves_back b v (pos k) (eliminate (tidy many) v).system.rows (eliminate_lacks (tidy many) v) left)
@@ -416,7 +417,7 @@ some_hold k p n cs t s w e o j =
 turns_hold : (k : ℕ) (p : Point) (n : ℕ) (cs : List Var) (t : System) (s w : Store) → n ≡ fresh_after (row_vars t.rows) → AreCells cs → Joined k t s w → HoldsAll (between p s w) (closure_of n cs t).rows
 turns_hold k p n cs t s w e o j =
     let a = changes_of n cs t in
-    if_cases (λ (z : System). HoldsAll (between p s w) z.rows) (is_false a.rows) (no_turn cs a.weak) (some_turns n cs a)
+    if_cases (λ (z : System). HoldsAll (between p s w) z.rows) (is_false a.rows) (no_iteration cs a.weak) (some_iterations n cs a)
     (λ g. tidy_holds (between p s w) (system (map same_row cs) a.weak) (no_turns k p n cs t s w e o g j))
     (λ g. some_hold k p n cs t s w e o j)
 
@@ -432,6 +433,6 @@ cell_one v (w ∷ ws) o (inr h) = cell_one v ws o.1 h
 pub cells_in_order : (vs : List Var) → AreCells vs → AreCells (in_order vs)
 cells_in_order vs o = cells_from (in_order vs) (λ v h. cell_one v vs o (in_order-from v vs h))
 
--- the closure has each pair of stores that any number of turns joins
-pub closure_holds : (changes : List Var) (t : System) → AreCells changes → HasTurns t (closure changes t)
+-- the closure has each pair of stores that any number of iterations joins
+pub closure_holds : (changes : List Var) (t : System) → AreCells changes → ContainsIterations t (closure changes t)
 closure_holds changes t o n p s w j = turns_hold n p (fresh_after (row_vars t.rows)) (in_order changes) t s w refl (cells_in_order changes o) j

@@ -1,6 +1,7 @@
--- Lifted rows, rows of steps and rows of turns are such as tidying takes; what hull, difference and closure give fits.
+-- Lifted rows, rows of steps and rows of iterations are such as tidying takes; what hull, difference and closure give fits.
 use Rattle.std.proofs.Common.{◌≡◌, ℕ, suc, ◌+◌, ◌<◌, ◌^◌, true, false, List, [], ◌∷◌, ◌++◌, map, length, ℤ, pos, negsuc, neg_ℤ, arith, ap, refl, sym, subst, int_eq, unsigned_abs, inl}
 use Rattle.std.proofs.lemmas.Int.{ints}
+use Rattle.std.proofs.lemmas.Bool.{false_from_ne_true}
 use Rattle.affine_systems.specs.declared.row.Var.{Var}
 use Rattle.affine_systems.specs.declared.row.Var.TheVariants.{Cell, Exit, Phi, Aux}
 use Rattle.affine_systems.specs.declared.row.Term.{Term}
@@ -14,12 +15,12 @@ use Rattle.affine_systems.specs.Items.{rows_of}
 use Rattle.affine_systems.specs.Given.{FactorsBelow, IsGiven, IsSmallRow, ItemsSmall, ItemsFit}
 use Rattle.hull_projection.specs.Variables.{IsBeforeAll, VarsAscend, in_order, row_vars}
 use Rattle.hull_projection.specs.Fresh.{fresh_after}
-use Rattle.hull_projection.specs.Hull.{copy_of, share_of, scaled, rest_scaled, at_least_0, at_most_1, lifted, both_vars}
-use Rattle.hull_projection.specs.Closure.{IsCell, AreCells, AreOrdered, exit_of, step_row, step_rows, same_row, cell_terms, exit_terms, turns_var, many_turns, turn_rows}
+use Rattle.hull_projection.specs.Hull.{copy_of, share_of, scaled, rest_scaled, at_least_0, at_most_1, lift_rows, both_vars}
+use Rattle.hull_projection.specs.Closure.{IsCell, AreCells, AreOrdered, exit_of, step_row, step_rows, same_row, cell_terms, exit_terms, iterations_var, many_iterations, iteration_rows}
 use Rattle.hull_projection.specs.Laws.{IsOneOf}
 use Rattle.affine_systems.proofs.Basics.{if_cases, int_eq-true}
 use Rattle.affine_systems.proofs.TidyLaws.{clash}
-use Rattle.affine_systems.proofs.AscendLaws.{not_true, parts_lt, before-term_before, ascends-term_before, factor_below}
+use Rattle.affine_systems.proofs.AscendLaws.{parts_lt, before-term_before, ascends-term_before, factor_below}
 use Rattle.affine_systems.proofs.FitLaws.{neg_small, small_given}
 use Rattle.affine_systems.proofs.RenameSteps.{given_append}
 use Rattle.hull_projection.proofs.VarLaws.{TermsIn, RowsIn, IsOld, fresh_old, aux_lt, old_lt, place_below, place_lt, ascend-with_rows, ascend-with_vars}
@@ -106,7 +107,7 @@ same_not_zero : (z : ℤ) → int_eq z (pos 0) ≡ false → int_eq z (pos 0) �
 same_not_zero z h = h
 
 neg_not_zero : (z : ℤ) → int_eq z (pos 0) ≡ false → int_eq (neg_ℤ z) (pos 0) ≡ false
-neg_not_zero z h = not_true (int_eq (neg_ℤ z) (pos 0)) (λ e. let k = int_eq-true (neg_ℤ z) (pos 0) e in let i : z ≡ pos 0 = omega (arith, ints, k) in clash (int_eq z (pos 0)) (ap (λ x. int_eq x (pos 0)) i) h)
+neg_not_zero z h = false_from_ne_true (int_eq (neg_ℤ z) (pos 0)) (λ e. let k = int_eq-true (neg_ℤ z) (pos 0) e in let i : z ≡ pos 0 = omega (arith, ints, k) in clash (int_eq z (pos 0)) (ap (λ x. int_eq x (pos 0)) i) h)
 
 zero_below : unsigned_abs (pos 0) < 2 ^ 62
 zero_below = omega (arith, ints)
@@ -154,7 +155,7 @@ at_least_0_given v = single_given v (negsuc 0) (pos 0) refl (omega (arith, ints)
 at_most_1_given : (v : Var) → IsGiven (at_most_1 v)
 at_most_1_given v = single_given v (pos 1) (pos 1) refl (omega (arith, ints)) (omega (arith, ints))
 
-pub lifted_given : (n : ℕ) (xs : List Var) (a b : System) (rows : List Row) → xs ≡ both_vars a b → n ≡ fresh_after xs → AllRows IsSmallRow a.rows → AllRows IsSmallRow b.rows → rows ≡ lifted n xs a.rows b.rows → AllRows IsGiven rows
+pub lifted_given : (n : ℕ) (xs : List Var) (a b : System) (rows : List Row) → xs ≡ both_vars a b → n ≡ fresh_after xs → AllRows IsSmallRow a.rows → AllRows IsSmallRow b.rows → rows ≡ lift_rows n xs a.rows b.rows → AllRows IsGiven rows
 lifted_given n xs a b rows e f h k r =
     let cover = both_covered a b in
     let i : RowsIn xs a.rows = subst (λ (vs : List Var). RowsIn vs a.rows) (sym e) cover.0 in
@@ -166,7 +167,7 @@ lifted_given n xs a b rows e f h k r =
     (given_append (map (scaled n xs) a.rows) (map (rest_scaled n xs) b.rows) (all_scaled_given n xs a.rows s i h) (all_rest_given n xs b.rows s o j k))
     (at_least_0_given (share_of n xs), (at_most_1_given (share_of n xs), tt)))
 
--- ---- rows of steps and of turns
+-- ---- rows of steps and of iterations
 
 exit_after : (c : Var) → IsCell c → var_lt c (exit_of c) ≡ true
 exit_after (Cell n) h = parts_lt (Cell n) (Exit n) (inl (omega arith))
@@ -268,25 +269,25 @@ exits_before_aux n k f [] ts o = tt
 exits_before_aux n k f (c ∷ cs) ts o =
     before_term (exit_of c) (factor_of (Aux n) ts) (exit_terms (suc n) cs ts) (term (Aux k) f ∷ []) (old_lt k k (exit_of c) (cell_old k c o.0).1 (omega arith), tt) (exits_before_aux (suc n) k f cs ts o.1)
 
-many_given : (n : ℕ) (cs : List Var) (r : Row) → AreOrdered cs → IsSmallRow r → IsGiven (many_turns n cs r)
+many_given : (n : ℕ) (cs : List Var) (r : Row) → AreOrdered cs → IsSmallRow r → IsGiven (many_iterations n cs r)
 many_given n cs r o h =
     let xs = cell_terms n cs r.terms in
     let ys = exit_terms n cs r.terms in
     let z = neg_ℤ r.bound in
-    given_from (many_turns n cs r)
-    (ascends-last (turns_var n cs) z (xs ++ ys)
+    given_from (many_iterations n cs r)
+    (ascends-last (iterations_var n cs) z (xs ++ ys)
     (ascends-append xs ys (cells_ascend n cs r.terms o.ascend) (exits_ascend n cs r.terms o.cells o.ascend) (cells_before_exits n n cs cs r.terms o.cells o.cells))
-    (all_before_append xs ys (term (turns_var n cs) z ∷ []) (cells_before_aux n (n + length cs) z cs r.terms o.cells) (exits_before_aux n (n + length cs) z cs r.terms o.cells)))
+    (all_before_append xs ys (term (iterations_var n cs) z ∷ []) (cells_before_aux n (n + length cs) z cs r.terms o.cells) (exits_before_aux n (n + length cs) z cs r.terms o.cells)))
     zero_below
-    (below-last (turns_var n cs) z (xs ++ ys) (neg_small r.bound h.1) (factors_append (2 ^ 62) xs ys (cells_below n cs r.terms h.0 h.2) (exits_below n cs r.terms h.0 h.2)))
+    (below-last (iterations_var n cs) z (xs ++ ys) (neg_small r.bound h.1) (factors_append (2 ^ 62) xs ys (cells_below n cs r.terms h.0 h.2) (exits_below n cs r.terms h.0 h.2)))
 
-all_many_given : (n : ℕ) (cs : List Var) (rs : List Row) → AreOrdered cs → AllRows IsSmallRow rs → AllRows IsGiven (map (many_turns n cs) rs)
+all_many_given : (n : ℕ) (cs : List Var) (rs : List Row) → AreOrdered cs → AllRows IsSmallRow rs → AllRows IsGiven (map (many_iterations n cs) rs)
 all_many_given n cs [] o h = tt
 all_many_given n cs (r ∷ rs) o h = (many_given n cs r o h.0, all_many_given n cs rs o h.1)
 
-pub turns_given : (n : ℕ) (cs : List Var) (rs rows : List Row) → AreOrdered cs → AllRows IsSmallRow rs → rows ≡ turn_rows n cs rs → AllRows IsGiven rows
+pub turns_given : (n : ℕ) (cs : List Var) (rs rows : List Row) → AreOrdered cs → AllRows IsSmallRow rs → rows ≡ iteration_rows n cs rs → AllRows IsGiven rows
 turns_given n cs rs rows o h e =
-    subst (λ (ss : List Row). AllRows IsGiven ss) (sym e) (given_append (map (many_turns n cs) rs) (at_least_0 (turns_var n cs) ∷ []) (all_many_given n cs rs o h) (at_least_0_given (turns_var n cs), tt))
+    subst (λ (ss : List Row). AllRows IsGiven ss) (sym e) (given_append (map (many_iterations n cs) rs) (at_least_0 (iterations_var n cs) ∷ []) (all_many_given n cs rs o h) (at_least_0_given (iterations_var n cs), tt))
 
 pub ordered_cells : (vs : List Var) → AreCells vs → AreOrdered (in_order vs)
 ordered_cells vs o = record { cells = cells_in_order vs o; ascend = ascend-with_vars [] vs tt }

@@ -17,7 +17,7 @@ use Rattle.affine_systems.specs.Eliminate.{eliminate_item}
 use Rattle.hull_projection.specs.Refute.{has_few, count_pairs, left_after, eliminate_all, all_left, refuted}
 use Rattle.hull_projection.specs.Variables.{row_vars}
 use Rattle.hull_projection.specs.Fresh.{fresh_after, aux_from}
-use Rattle.hull_projection.specs.Hull.{place_of, copy_of, share_of, copies, negated_copies, scaled, rest_scaled, at_least_0, at_most_1, lifted, hull_left, lifted_hull, both_vars, hull}
+use Rattle.hull_projection.specs.Hull.{place_of, copy_of, share_of, copies, negated_copies, scaled, rest_scaled, at_least_0, at_most_1, lift_rows, hull_left, lifted_hull, both_vars, hull}
 use Rattle.hull_projection.specs.Laws.{IsOneOf, HasBoth}
 use Rattle.affine_systems.proofs.Basics.{if_cases, neg_mul}
 use Rattle.affine_systems.proofs.TermLaws.{value-term_before}
@@ -144,10 +144,10 @@ hull_left_holds p w s h =
     let t = system (rows_of s.items) (w || s.lost) in
     (clean_same p (tidy t)).0 (tidy_holds p t ((rows_of_same p s.items).0 h))
 
-lifted_hull_holds : (p : Point) (a b : System) (xs : List Var) (n : ℕ) (zs : List ℤ) → length zs ≡ suc (length xs) → HoldsAll (with_aux p n zs) (lifted n xs a.rows b.rows) → HoldsAll p (lifted_hull n xs a b).rows
+lifted_hull_holds : (p : Point) (a b : System) (xs : List Var) (n : ℕ) (zs : List ℤ) → length zs ≡ suc (length xs) → HoldsAll (with_aux p n zs) (lift_rows n xs a.rows b.rows) → HoldsAll p (lifted_hull n xs a b).rows
 lifted_hull_holds p a b xs n zs e h =
     let q = with_aux p n zs in
-    let rs = lifted n xs a.rows b.rows in
+    let rs = lift_rows n xs a.rows b.rows in
     let t = tidy_items true (items_from 0 rs) in
     let k = tidied_holds q true (items_from 0 rs) ((items_from_same q 0 rs).0 h) in
     let s = all_left t.items in
@@ -162,7 +162,7 @@ length_lift : (f : Var → ℤ) (z : ℤ) (xs : List Var) → length (map f xs +
 length_lift f z [] = refl
 length_lift f z (x ∷ xs) = ap suc (length_lift f z xs)
 
-lifted_holds : (q : Point) (n : ℕ) (xs : List Var) (rs ss : List Row) → HoldsAll q (map (scaled n xs) rs) → HoldsAll q (map (rest_scaled n xs) ss) → HoldsAll q (at_least_0 (share_of n xs) ∷ at_most_1 (share_of n xs) ∷ []) → HoldsAll q (lifted n xs rs ss)
+lifted_holds : (q : Point) (n : ℕ) (xs : List Var) (rs ss : List Row) → HoldsAll q (map (scaled n xs) rs) → HoldsAll q (map (rest_scaled n xs) ss) → HoldsAll q (at_least_0 (share_of n xs) ∷ at_most_1 (share_of n xs) ∷ []) → HoldsAll q (lift_rows n xs rs ss)
 lifted_holds q n xs rs ss h k l =
     (append_all q (map (scaled n xs) rs ++ map (rest_scaled n xs) ss) (at_least_0 (share_of n xs) ∷ at_most_1 (share_of n xs) ∷ [])).0
     ((append_all q (map (scaled n xs) rs) (map (rest_scaled n xs) ss)).0 (h, k), l)

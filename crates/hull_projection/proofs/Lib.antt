@@ -12,7 +12,7 @@ pub mod VarSteps
 pub mod FreshSteps
 pub mod HullSteps
 pub mod PartSteps
-pub mod TurnSteps
+pub mod IterationSteps
 pub mod RefuteSteps
 pub mod CleanSteps
 pub mod Example

@@ -2,6 +2,7 @@
 use Rattle.std.proofs.Common.{◌≡◌, ℕ, zero, suc, ◌+◌, ◌<◌, Bool, true, false, List, [], ◌∷◌, ◌++◌, map, length, ℤ, pos, ◌-ℤ◌, ◌*ℤ◌, ◌+ℤ◌, arith, ap, refl, sym, subst, ◌∙◌, ⊎_elim}
 use Rattle.std.proofs.lemmas.Int.{ints}
 use Rattle.std.proofs.lemmas.Bool.Decides.{Decides-eqb}
+use Rattle.std.proofs.lemmas.Bool.{cases_Bool}
 use Rattle.affine_systems.specs.declared.row.Var.{Var}
 use Rattle.affine_systems.specs.declared.row.Var.TheVariants.{Aux}
 use Rattle.affine_systems.specs.declared.row.Term.{Term}
@@ -10,7 +11,6 @@ use Rattle.affine_systems.specs.Terms.{var_eq, number}
 use Rattle.affine_systems.specs.Points.{Point, value, Meets, HoldsAll, moved, only, factor_of}
 use Rattle.hull_projection.specs.Hull.{place_of}
 use Rattle.hull_projection.specs.Laws.{IsOneOf}
-use Rattle.affine_systems.proofs.Basics.{either}
 use Rattle.affine_systems.proofs.TermLaws.{var_eq-true, true-var_eq}
 use Rattle.affine_systems.proofs.TidyLaws.{clash}
 use Rattle.affine_systems.proofs.ExactLaws.{value-moved}
@@ -56,7 +56,7 @@ lift_at p f z n (w ∷ ws) v h m e =
     let l : n < m = omega (arith, k) in
     let i : IsOneOf v ws = ⊎_elim (λ s. clash (var_eq v w) (true-var_eq v w s) t) (λ s. s) h in
     rw (aux_apart n m l) (lift_at p f z (suc n) ws v i m k))
-    (either (var_eq v w))
+    (cases_Bool (var_eq v w))
 
 pub lift_last : (p : Point) (f : Var → ℤ) (z : ℤ) (n : ℕ) (xs : List Var) (m : ℕ) → m ≡ n + length xs → lift p f z n xs (Aux m) ≡ z
 lift_last p f z n [] m e = let k : n ≡ m = omega (arith, e) in rw (aux_eq n m k) refl

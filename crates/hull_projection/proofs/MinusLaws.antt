@@ -2,6 +2,7 @@
 use Rattle.std.proofs.Common.{◌≡◌, Bool, true, false, ◌||◌, List, [], ◌∷◌, ◌++◌, arith, Some, ⊎_elim, ◌⊎◌, inl, inr}
 use Rattle.std.specs.Prelude.{MatchOption}
 use Rattle.std.proofs.lemmas.Int.{ints}
+use Rattle.std.proofs.lemmas.Bool.{or_parts}
 use Rattle.affine_systems.specs.declared.row.Row.{Row}
 use Rattle.affine_systems.specs.declared.row.System.{System}
 use Rattle.hull_projection.specs.declared.parts.Minus.{Minus}
@@ -14,7 +15,6 @@ use Rattle.hull_projection.specs.Minus.{difference, all_negations, parts, hull_a
 use Rattle.hull_projection.specs.Laws.{HasOutside, HasNothingElse}
 use Rattle.affine_systems.proofs.Basics.{if_cases}
 use Rattle.affine_systems.proofs.NormalLaws.{value-negated}
-use Rattle.affine_systems.proofs.TidyLaws.{either_false}
 use Rattle.affine_systems.proofs.CallLaws.{push_row_holds, push_row_back, meet_holds}
 use Rattle.hull_projection.proofs.RefuteLaws.{refuted_none, SomeHolds, holds_or_not}
 use Rattle.hull_projection.proofs.CleanLaws.{clean_same}
@@ -119,7 +119,7 @@ parts_say a (n ∷ ns) =
 minus_parts_exact : (a b : System) (ss : List System) (w : Bool) → PartsSay a (all_negations b.rows) ss → HasNothingElse a b (minus_parts ss w)
 minus_parts_exact a b [] w h e = tt
 minus_parts_exact a b (s ∷ []) w h e =
-    λ f p k. let l = h.0 p (either_false s.weak w f).0 ((clean_same p s).1 k) in (l.0, outside p b.rows l.1)
+    λ f p k. let l = h.0 p (or_parts s.weak w f).0 ((clean_same p s).1 k) in (l.0, outside p b.rows l.1)
 minus_parts_exact a b (s ∷ (t ∷ ts)) w h e = cc
 
 pub minus_exact : (a b : System) → HasNothingElse a b (minus a b)

@@ -1,6 +1,7 @@
 -- A projection loses no point and has none of its variables; where it is exact, each of its points extends.
 use Rattle.std.proofs.Common.{◌≡◌, true, false, List, [], ◌∷◌, ◌++◌, ℤ, refl, sym, ap, subst, ◌∙◌, ⊎_elim, ◌⊎◌, inl, inr}
 use Rattle.std.specs.Prelude.{if◌then◌else◌, ◌+ℤ◌, ◌*ℤ◌}
+use Rattle.std.proofs.lemmas.Bool.{cases_Bool, and_parts}
 use Rattle.affine_systems.specs.declared.row.Var.{Var}
 use Rattle.affine_systems.specs.declared.row.Term.{Term}
 use Rattle.affine_systems.specs.declared.row.Row.{Row}
@@ -15,8 +16,8 @@ use Rattle.hull_projection.specs.Variables.{with_var, with_vars, in_order}
 use Rattle.hull_projection.specs.Clean.{is_spare, cleaned_behind}
 use Rattle.hull_projection.specs.Project.{shadow, shadow_after, eliminate_each, project}
 use Rattle.hull_projection.specs.Laws.{IsOneOf, DiffersAt, ProjectsPoints, ExtendsPoints, LacksAll}
-use Rattle.affine_systems.proofs.Basics.{if_cases, either}
-use Rattle.affine_systems.proofs.TermLaws.{var_eq-true, true-var_eq, both_true}
+use Rattle.affine_systems.proofs.Basics.{if_cases}
+use Rattle.affine_systems.proofs.TermLaws.{var_eq-true, true-var_eq}
 use Rattle.affine_systems.proofs.TidyLaws.{clash}
 use Rattle.affine_systems.proofs.ElimLaws.{eliminate_holds}
 use Rattle.affine_systems.proofs.ExactLaws.{eliminate_extends}
@@ -128,15 +129,15 @@ project_keeps s vs p q d h =
 
 exact_before : (s : Shadow) (vs : List Var) → (eliminate_each s vs).exact ≡ true → s.exact ≡ true
 exact_before s [] e = e
-exact_before s (v ∷ vs) e = (both_true s.exact (eliminate s.system v).exact (exact_before (shadow_after s (eliminate s.system v)) vs e)).0
+exact_before s (v ∷ vs) e = (and_parts s.exact (eliminate s.system v).exact (exact_before (shadow_after s (eliminate s.system v)) vs e)).0
 
 each_extends : (p : Point) (s : Shadow) (vs : List Var) → (eliminate_each s vs).exact ≡ true → HoldsAll p (eliminate_each s vs).system.rows → (q : Point) × DiffersAt vs p q × HoldsAll q s.system.rows
 each_extends p s [] e h = (p, (λ w n. refl), h)
 each_extends p s (v ∷ vs) e h =
-    let t = both_true s.exact (eliminate s.system v).exact (exact_before (shadow_after s (eliminate s.system v)) vs e) in
+    let t = and_parts s.exact (eliminate s.system v).exact (exact_before (shadow_after s (eliminate s.system v)) vs e) in
     let k = each_extends p (shadow_after s (eliminate s.system v)) vs e h in
     let x = eliminate_extends k.0 s.system v t.1 k.2 in
-    (moved k.0 v x.0, (λ w n. ⊎_elim (λ c. absurd (n (inl (sym (var_eq-true v w c))))) (λ c. rw c (k.1 w (λ i. n (inr i)))) (either (var_eq v w))), x.1)
+    (moved k.0 v x.0, (λ w n. ⊎_elim (λ c. absurd (n (inl (sym (var_eq-true v w c))))) (λ c. rw c (k.1 w (λ i. n (inr i)))) (cases_Bool (var_eq v w))), x.1)
 
 pub project_extends : (s : System) (vs : List Var) → ExtendsPoints s vs (project s vs)
 project_extends s vs e p h =

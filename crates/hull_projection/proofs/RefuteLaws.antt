@@ -1,6 +1,7 @@
 -- Refuted rows have no point, and entailed rows hold. Dropping rows only adds points, so a drop never refutes.
 use Rattle.std.proofs.Common.{◌≡◌, ℕ, suc, Bool, true, false, List, [], ◌∷◌, ◌++◌, arith, ⊎_elim, ◌⊎◌, inl, inr}
 use Rattle.std.proofs.lemmas.Int.{ints, by_lt_z}
+use Rattle.std.proofs.lemmas.Bool.{and_parts}
 use Rattle.affine_systems.specs.declared.row.Var.{Var}
 use Rattle.affine_systems.specs.declared.row.Row.{Row}
 use Rattle.affine_systems.specs.declared.items.Item.{Item}
@@ -12,7 +13,6 @@ use Rattle.affine_systems.specs.Tidy.{tidy_items}
 use Rattle.affine_systems.specs.Eliminate.{eliminate_item}
 use Rattle.hull_projection.specs.Variables.{row_vars}
 use Rattle.hull_projection.specs.Refute.{with_originals, has_few, with_few, count_pairs, left_after, eliminate_all, all_left, refuted, negations, all_refuted, entails}
-use Rattle.affine_systems.proofs.TermLaws.{both_true}
 use Rattle.affine_systems.proofs.NormalLaws.{value-negated}
 use Rattle.affine_systems.proofs.TidyLaws.{HoldsItems, any_false-true, items_from_same}
 use Rattle.affine_systems.proofs.ElimLaws.{tidied_holds, keep_holds, eliminate_item_holds}
@@ -66,10 +66,10 @@ holds_or_not p r = go r.equal where
 none_holds : (p : Point) (rs ns : List Row) → all_refuted rs ns ≡ true → HoldsAll p rs → SomeHolds p ns → ⊥
 none_holds p rs [] e h s = s
 none_holds p rs (n ∷ ns) e h (inl k) =
-    let t = both_true (refuted (rs ++ n ∷ [])) (all_refuted rs ns) e in
+    let t = and_parts (refuted (rs ++ n ∷ [])) (all_refuted rs ns) e in
     refuted_none p (rs ++ n ∷ []) t.0 ((append_all p rs (n ∷ [])).0 (h, (k, tt)))
 none_holds p rs (n ∷ ns) e h (inr k) =
-    let t = both_true (refuted (rs ++ n ∷ [])) (all_refuted rs ns) e in
+    let t = and_parts (refuted (rs ++ n ∷ [])) (all_refuted rs ns) e in
     none_holds p rs ns t.1 h k
 
 -- an entailed row holds at each point

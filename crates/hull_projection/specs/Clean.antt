@@ -18,8 +18,8 @@ abbrev pub cleaned_behind : List Row → List Row → List Row
 cleaned_behind front [] = []
 cleaned_behind front (r ∷ rs) = unless_spare front r (cleaned_behind (front ++ r ∷ []) rs)
 
-abbrev pub cleaned : List Row → List Row
-cleaned rs = cleaned_behind [] rs
+abbrev pub clean_rows : List Row → List Row
+clean_rows rs = cleaned_behind [] rs
 
 abbrev pub clean : System → System
-clean s = system (cleaned s.rows) s.weak
+clean s = system (clean_rows s.rows) s.weak

@@ -1,5 +1,5 @@
--- The closure: what any number of turns changes.
--- A row on the changes d of one turn, a.d <= b, gives a.(Exit - Cell) <= b k for k turns.
+-- The closure: what any number of iterations changes.
+-- A row on the changes d of one iteration, a.d <= b, gives a.(Exit - Cell) <= b k for k iterations.
 use Rattle.std.specs.Prelude.{ℕ, suc, ◌+◌, Bool, true, if◌then◌else◌, List, [], ◌∷◌, ◌++◌, length, map, pos, negsuc, neg_ℤ}
 use Rattle.std.specs.List.{list_any}
 use Rattle.affine_systems.specs.declared.row.Var.{Var}
@@ -64,13 +64,13 @@ exit_terms n [] ts = []
 exit_terms n (c ∷ cs) ts = term_before (exit_of c) (factor_of (Aux n) ts) (exit_terms (suc n) cs ts)
 
 -- k comes after the d
-abbrev pub turns_var : ℕ → List Var → Var
-turns_var n cs = Aux (n + length cs)
+abbrev pub iterations_var : ℕ → List Var → Var
+iterations_var n cs = Aux (n + length cs)
 
 -- a.d <= b as a.(Exit - Cell) - b k <= 0
-abbrev pub many_turns : ℕ → List Var → Row → Row
-many_turns n cs r =
-    row r.equal ((cell_terms n cs r.terms ++ exit_terms n cs r.terms) ++ term_before (turns_var n cs) (neg_ℤ r.bound) []) (pos 0)
+abbrev pub many_iterations : ℕ → List Var → Row → Row
+many_iterations n cs r =
+    row r.equal ((cell_terms n cs r.terms ++ exit_terms n cs r.terms) ++ term_before (iterations_var n cs) (neg_ℤ r.bound) []) (pos 0)
 
 -- the body and d == Exit - Cell, without all but the d
 abbrev pub steps : ℕ → List Var → System → System
@@ -82,20 +82,20 @@ changes_of n cs t = (project (steps n cs t) (old_vars n (row_vars (steps n cs t)
 abbrev pub is_false : List Row → Bool
 is_false rs = list_any is_false_row rs
 
-abbrev pub turn_rows : ℕ → List Var → List Row → List Row
-turn_rows n cs rs = map (many_turns n cs) rs ++ at_least_0 (turns_var n cs) ∷ []
+abbrev pub iteration_rows : ℕ → List Var → List Row → List Row
+iteration_rows n cs rs = map (many_iterations n cs) rs ++ at_least_0 (iterations_var n cs) ∷ []
 
-abbrev pub some_turns : ℕ → List Var → System → System
-some_turns n cs s = clean (eliminate (tidy (system (turn_rows n cs s.rows) s.weak)) (turns_var n cs)).system
+abbrev pub some_iterations : ℕ → List Var → System → System
+some_iterations n cs s = clean (eliminate (tidy (system (iteration_rows n cs s.rows) s.weak)) (iterations_var n cs)).system
 
-abbrev pub no_turn : List Var → Bool → System
-no_turn cs w = tidy (system (map same_row cs) w)
+abbrev pub no_iteration : List Var → Bool → System
+no_iteration cs w = tidy (system (map same_row cs) w)
 
-abbrev pub turns_of : ℕ → List Var → System → System
-turns_of n cs s = if is_false s.rows then no_turn cs s.weak else some_turns n cs s
+abbrev pub iterations_of : ℕ → List Var → System → System
+iterations_of n cs s = if is_false s.rows then no_iteration cs s.weak else some_iterations n cs s
 
 abbrev pub closure_of : ℕ → List Var → System → System
-closure_of n cs t = turns_of n cs (changes_of n cs t)
+closure_of n cs t = iterations_of n cs (changes_of n cs t)
 
 abbrev pub closure : List Var → System → System
 closure changes t = closure_of (fresh_after (row_vars t.rows)) (in_order changes) t

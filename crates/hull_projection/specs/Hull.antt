@@ -51,8 +51,8 @@ at_least_0 v = row false (term v (negsuc 0) ∷ []) (pos 0)
 abbrev pub at_most_1 : Var → Row
 at_most_1 v = row false (term v (pos 1) ∷ []) (pos 1)
 
-abbrev pub lifted : ℕ → List Var → List Row → List Row → List Row
-lifted n xs rs ss =
+abbrev pub lift_rows : ℕ → List Var → List Row → List Row → List Row
+lift_rows n xs rs ss =
     (map (scaled n xs) rs ++ map (rest_scaled n xs) ss) ++ at_least_0 (share_of n xs) ∷ at_most_1 (share_of n xs) ∷ []
 
 -- from here on rows are whole again
@@ -65,7 +65,7 @@ hull_tidied n xs w t = hull_left (w || t.lost) (eliminate_all true (all_left t.i
 
 -- rational rows until the y and l are gone
 abbrev pub lifted_hull : ℕ → List Var → System → System → System
-lifted_hull n xs a b = hull_tidied n xs (a.weak || b.weak) (tidy_items true (items_from 0 (lifted n xs a.rows b.rows)))
+lifted_hull n xs a b = hull_tidied n xs (a.weak || b.weak) (tidy_items true (items_from 0 (lift_rows n xs a.rows b.rows)))
 
 -- the variables of both
 abbrev pub both_vars : System → System → List Var

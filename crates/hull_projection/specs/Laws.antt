@@ -7,7 +7,7 @@ use Rattle.affine_systems.specs.Points.{Point, Holds, HoldsAll}
 use Rattle.affine_systems.specs.Laws.{Lacks}
 use Rattle.hull_projection.specs.declared.projection.Shadow.{Shadow}
 use Rattle.hull_projection.specs.declared.parts.Minus.{Minus}
-use Rattle.hull_projection.specs.Turns.{Store, between, Joined}
+use Rattle.hull_projection.specs.Iterations.{Store, between, Joined}
 
 -- no point is one of all rows
 abbrev pub HasNoPoint : List Row → Type 0
@@ -52,6 +52,6 @@ HasNothingElse a b m =
     m.exact ≡ true →
     MatchOption m.system (Unit {0}) (λ s. s.weak ≡ false → (p : Point) → HoldsAll p s.rows → HoldsAll p a.rows × (HoldsAll p b.rows → ⊥))
 
--- each pair of stores that any number of turns joins is in the closure
-abbrev pub HasTurns : System → System → Type 0
-HasTurns t c = (n : ℕ) (p : Point) (s w : Store) → Joined n t s w → HoldsAll (between p s w) c.rows
+-- each pair of stores that any number of iterations joins is in the closure
+abbrev pub ContainsIterations : System → System → Type 0
+ContainsIterations t c = (n : ℕ) (p : Point) (s w : Store) → Joined n t s w → HoldsAll (between p s w) c.rows

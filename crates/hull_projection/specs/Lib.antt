@@ -6,5 +6,5 @@ pub mod Fresh
 pub mod Hull
 pub mod Minus
 pub mod Closure
-pub mod Turns
+pub mod Iterations
 pub mod Laws

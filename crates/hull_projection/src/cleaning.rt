@@ -3,7 +3,7 @@ ghost use Rattle.std.specs.Prelude.{◌≡◌, ◌++◌, reverse, IfOk, OnOk};
 ghost use Rattle.affine_systems.specs.Rows.{AllRows};
 ghost use Rattle.affine_systems.specs.Given.{IsSmallRow, Fits};
 ghost use Rattle.affine_systems.specs.Laws.{KeepsPoints};
-ghost use Rattle.hull_projection.specs.Clean.{is_spare as is_spare_is, unless_spare, cleaned as cleaned_is, clean as clean_is};
+ghost use Rattle.hull_projection.specs.Clean.{is_spare as is_spare_is, unless_spare, clean_rows as clean_rows_is, clean as clean_is};
 
 use crate::entailment::above;
 use crate::refutation::refuted_rows;
@@ -22,7 +22,7 @@ fn copy_reversed(alloc: Global, rows: &[Row]) -> Result<Vec<Row>, Memory>
 }
 
 #[tactic(auto, using(crate::proofs::CleanSteps::spare))]
-/// Whether the rows in front and those behind, from the last on, entail an at-most row.
+/// Whether the rows before and those after, from the last on, entail an at-most row.
 fn is_spare(alloc: Global, front: &[Row], behind: &[Row], row: &Row) -> Result<bool, Memory>
     requires front { AllRows IsSmallRow front.now }
     requires behind { AllRows IsSmallRow behind.now }
@@ -41,7 +41,7 @@ fn is_spare(alloc: Global, front: &[Row], behind: &[Row], row: &Row) -> Result<b
 }
 
 #[tactic(auto, using(crate::proofs::CleanSteps::spare))]
-/// Adds a row to those behind it, unless they and the rows in front entail it.
+/// Adds a row to those after it, unless they and the rows before it entail it.
 fn push_unless_spare(
     alloc: Global,
     front: &[Row],
@@ -51,7 +51,7 @@ fn push_unless_spare(
     requires front { AllRows IsSmallRow front.now }
     requires behind { AllRows IsSmallRow behind.old.items }
     requires row { IsSmallRow row }
-    ensures value { OnOk result (reverse behind.new.items ≡ unless_spare front.now row (reverse behind.old.items)) }
+    ensures defined { OnOk result (reverse behind.new.items ≡ unless_spare front.now row (reverse behind.old.items)) }
     ensures small { OnOk result (AllRows IsSmallRow behind.new.items) }
 {
     let spare = is_spare(alloc, front, behind.as_slice(), &row)?;
@@ -63,9 +63,9 @@ fn push_unless_spare(
 }
 
 /// The rows without those at-most rows that the others entail, from the last to the first.
-pub fn cleaned(alloc: Global, rows: Rows) -> Result<Rows, Memory>
+pub fn clean_rows(alloc: Global, rows: Rows) -> Result<Rows, Memory>
     requires { AllRows IsSmallRow rows }
-    ensures { IfOk result (λ rs. rs ≡ cleaned_is rows) }
+    ensures { IfOk result (λ rs. rs ≡ clean_rows_is rows) }
 {
     let mut front = rows.into_vec();
     let mut behind = Vec::new(alloc);
@@ -80,13 +80,13 @@ pub fn cleaned(alloc: Global, rows: Rows) -> Result<Rows, Memory>
 pub fn clean(alloc: Global, sys: &System) -> Result<System, Memory>
     requires fits { Fits sys.now }
     ensures defined { IfOk result (λ s. s ≡ clean_is sys.now) }
-    ensures gives { IfOk result Fits }
-    ensures keeps { IfOk result (KeepsPoints sys.now) }
-    ensures adds_none { IfOk result (λ s. KeepsPoints s sys.now) }
+    ensures fits { IfOk result Fits }
+    ensures sound { IfOk result (KeepsPoints sys.now) }
+    ensures no_new_points { IfOk result (λ s. KeepsPoints s sys.now) }
 {
     let rows = copy_rows(alloc, sys.rows.as_slice())?;
     Ok(System {
-        rows: cleaned(alloc, List::from_vec(rows))?,
+        rows: clean_rows(alloc, List::from_vec(rows))?,
         weak: sys.weak,
     })
 }

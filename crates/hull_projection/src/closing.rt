@@ -1,16 +1,16 @@
-//! The closure of a turn: what any number of turns changes.
+//! The closure of an iteration: what any number of iterations changes.
 ghost use Rattle.std.specs.Prelude.{◌≡◌, ◌+◌, ◌<◌, ◌^◌, length, IfOk};
 ghost use Rattle.affine_systems.specs.Given.{Fits};
 ghost use Rattle.affine_systems.specs.Items.{is_false_row as is_false_row_is};
 ghost use Rattle.hull_projection.specs.Variables.{row_vars as row_vars_is};
 ghost use Rattle.hull_projection.specs.Fresh.{fresh_after};
-ghost use Rattle.hull_projection.specs.Closure.{AreCells, AreOrdered, steps as steps_is, changes_of as changes_of_is, is_false as is_false_is, no_turn as no_turn_is, some_turns as some_turns_is, turns_of, closure_of, closure as closure_is};
-ghost use Rattle.hull_projection.specs.Laws.{HasTurns};
+ghost use Rattle.hull_projection.specs.Closure.{AreCells, AreOrdered, steps as steps_is, changes_of as changes_of_is, is_false as is_false_is, no_iteration as no_iteration_is, some_iterations as some_iterations_is, iterations_of, closure_of, closure as closure_is};
+ghost use Rattle.hull_projection.specs.Laws.{ContainsIterations};
 
 use crate::cleaning::clean;
 use crate::fresh::{fresh_number, old_vars};
+use crate::iterations::{iteration_rows, iterations_var, push_steps, same_rows};
 use crate::projection::project;
-use crate::turns::{push_steps, same_rows, turn_rows, turns_var};
 use crate::variables::{add_rows, in_order};
 use affine_systems::items::copy_rows;
 use affine_systems::{Row, System, Var, Vars, eliminate, tidy};
@@ -32,7 +32,7 @@ fn steps(alloc: Global, first: u32, cells: &[Var], body: &System) -> Result<Syst
     requires cells { AreOrdered cells.now }
     requires fits { Fits body.now }
     ensures defined { IfOk result (λ s. s ≡ steps_is first cells.now body.now) }
-    ensures gives { IfOk result Fits }
+    ensures fits { IfOk result Fits }
 {
     let mut rows = copy_rows(alloc, body.rows.as_slice())?;
     push_steps(alloc, &mut rows, first, cells)?;
@@ -49,7 +49,7 @@ fn changes_of(alloc: Global, first: u32, cells: &[Var], body: &System) -> Result
     requires cells { AreOrdered cells.now }
     requires fits { Fits body.now }
     ensures defined { IfOk result (λ s. s ≡ changes_of_is first cells.now body.now) }
-    ensures gives { IfOk result Fits }
+    ensures fits { IfOk result Fits }
 {
     let sys = steps(alloc, first, cells, body)?;
     let vars = old_vars(first, row_vars(alloc, sys.rows.as_slice())?);
@@ -63,18 +63,18 @@ fn is_false_row(row: &Row) -> bool
     !row.equal && row.terms.is_empty() && row.bound < 0
 }
 
-/// Whether a row never holds.
+/// Whether a row is infeasible.
 fn is_false(rows: &[Row]) -> bool
     ensures { result ≡ is_false_is rows.now }
 {
     rows.iter().any(|row| is_false_row(row))
 }
 
-/// No turn: each cell stays as it is.
-fn no_turn(alloc: Global, cells: &[Var], weak: bool) -> Result<System, Memory>
+/// No iteration: each cell stays as it is.
+fn no_iteration(alloc: Global, cells: &[Var], weak: bool) -> Result<System, Memory>
     requires { AreOrdered cells.now }
-    ensures defined { IfOk result (λ s. s ≡ no_turn_is cells.now weak) }
-    ensures gives { IfOk result Fits }
+    ensures defined { IfOk result (λ s. s ≡ no_iteration_is cells.now weak) }
+    ensures fits { IfOk result Fits }
 {
     let sys = System {
         rows: List::from_vec(same_rows(alloc, cells)?),
@@ -83,60 +83,65 @@ fn no_turn(alloc: Global, cells: &[Var], weak: bool) -> Result<System, Memory>
     tidy(alloc, &sys)
 }
 
-/// Any number of turns with such changes.
-fn some_turns(alloc: Global, first: u32, cells: &[Var], changes: &System) -> Result<System, Memory>
+/// Any number of iterations with such changes.
+fn some_iterations(
+    alloc: Global,
+    first: u32,
+    cells: &[Var],
+    changes: &System,
+) -> Result<System, Memory>
     requires room { first + length cells.now < 2 ^ 32 }
     requires cells { AreOrdered cells.now }
     requires fits { Fits changes.now }
-    ensures defined { IfOk result (λ s. s ≡ some_turns_is first cells.now changes.now) }
-    ensures gives { IfOk result Fits }
+    ensures defined { IfOk result (λ s. s ≡ some_iterations_is first cells.now changes.now) }
+    ensures fits { IfOk result Fits }
 {
     let sys = System {
-        rows: List::from_vec(turn_rows(alloc, first, cells, changes.rows.as_slice())?),
+        rows: List::from_vec(iteration_rows(alloc, first, cells, changes.rows.as_slice())?),
         weak: changes.weak,
     };
     let many = tidy(alloc, &sys)?;
-    let left = eliminate(alloc, &many, turns_var(first, cells))?;
+    let left = eliminate(alloc, &many, iterations_var(first, cells))?;
     clean(alloc, &left.system)
 }
 
-/// Any number of turns with such changes; none where a turn is not possible.
-fn turned(alloc: Global, first: u32, cells: &[Var], once: &System) -> Result<System, Memory>
+/// Any number of iterations with such changes; none where an iteration is not possible.
+fn any_iterations(alloc: Global, first: u32, cells: &[Var], once: &System) -> Result<System, Memory>
     requires room { first + length cells.now < 2 ^ 32 }
     requires cells { AreOrdered cells.now }
     requires fits { Fits once.now }
-    ensures defined { IfOk result (λ s. s ≡ turns_of first cells.now once.now) }
-    ensures gives { IfOk result Fits }
+    ensures defined { IfOk result (λ s. s ≡ iterations_of first cells.now once.now) }
+    ensures fits { IfOk result Fits }
 {
     if is_false(once.rows.as_slice()) {
-        no_turn(alloc, cells, once.weak)
+        no_iteration(alloc, cells, once.weak)
     } else {
-        some_turns(alloc, first, cells, once)
+        some_iterations(alloc, first, cells, once)
     }
 }
 
-fn closed(alloc: Global, cells: &[Var], body: &System) -> Result<System, Memory>
+fn ordered_closure(alloc: Global, cells: &[Var], body: &System) -> Result<System, Memory>
     requires cells { AreOrdered cells.now }
     requires fits { Fits body.now }
     ensures defined { IfOk result (λ s. s ≡ closure_of (fresh_after (row_vars_is body.now.rows)) cells.now body.now) }
-    ensures gives { IfOk result Fits }
+    ensures fits { IfOk result Fits }
 {
     let vars = row_vars(alloc, body.rows.as_slice())?;
     let first = fresh_number(vars.as_slice(), cells.len())?;
     let once = changes_of(alloc, first, cells, body)?;
-    turned(alloc, first, cells, &once)
+    any_iterations(alloc, first, cells, &once)
 }
 
-/// Each pair of stores that any number of turns joins, where the body describes one turn from cells to exits. `changes`
-/// are the cells that a turn may change. Memory also where there are no numbers below 2^32 for a fresh variable for each
-/// changed cell and one more.
+/// Contains the reflexive transitive closure of the relation from cells to exits that `body` describes: each pair of
+/// stores that any number of iterations joins. `changes` are the cells that an iteration may change. Memory also where
+/// there are no numbers below 2^32 for a fresh variable for each changed cell and one more.
 pub fn closure(alloc: Global, changes: &Vars, body: &System) -> Result<System, Memory>
     requires cells { AreCells changes.now }
     requires fits { Fits body.now }
     ensures defined { IfOk result (λ s. s ≡ closure_is changes.now body.now) }
-    ensures gives { IfOk result Fits }
-    ensures keeps { IfOk result (HasTurns body.now) }
+    ensures fits { IfOk result Fits }
+    ensures sound { IfOk result (ContainsIterations body.now) }
 {
     let cells = in_order(alloc, changes.as_slice())?;
-    closed(alloc, cells.as_slice(), body)
+    ordered_closure(alloc, cells.as_slice(), body)
 }

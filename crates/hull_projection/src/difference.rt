@@ -14,7 +14,7 @@ fn difference(alloc: Global, one: &System, other: &System) -> Result<Minus, Memo
     requires fits { Fits one.now }
     requires other_fits { Fits other.now }
     ensures defined { IfOk result (λ m. m ≡ minus_is one.now other.now) }
-    ensures gives { IfOk result (λ m. IfSome m.system Fits) }
+    ensures fits { IfOk result (λ m. IfSome m.system Fits) }
 {
     let both = meet(alloc, one, other)?;
     if refuted(alloc, &both)? {
@@ -33,8 +33,8 @@ pub fn minus(alloc: Global, one: &System, other: &System) -> Result<Minus, Memor
     requires fits { Fits one.now }
     requires other_fits { Fits other.now }
     ensures defined { IfOk result (λ m. m ≡ minus_is one.now other.now) }
-    ensures gives { IfOk result (λ m. IfSome m.system Fits) }
-    ensures keeps { IfOk result (HasOutside one.now other.now) }
+    ensures fits { IfOk result (λ m. IfSome m.system Fits) }
+    ensures sound { IfOk result (HasOutside one.now other.now) }
     ensures exact { IfOk result (HasNothingElse one.now other.now) }
 {
     difference(alloc, one, other)

@@ -83,7 +83,7 @@ fn eliminate_more(alloc: Global, rational: bool, v: Var, left: Left) -> Result<L
     requires fits { ItemsFit rational left.items }
     requires room { left.pairs + 1 < 2 ^ 64 }
     ensures defined { IfOk result (λ s. s ≡ left_after left (eliminate_item_is rational v left.items)) }
-    ensures gives { IfOk result (λ s. ItemsFit rational s.items) }
+    ensures fits { IfOk result (λ s. ItemsFit rational s.items) }
     ensures pairs { IfOk result (λ s. s.pairs ≤ left.pairs + 1) }
 {
     let e = eliminate_item(alloc, rational, v, left.items)?;
@@ -105,7 +105,7 @@ pub fn eliminate_all(
     requires fits { ItemsFit rational left.items }
     requires first { left.pairs ≡ 0 }
     ensures defined { IfOk result (λ s. s ≡ eliminate_all_is rational left vars.now) }
-    ensures gives { IfOk result (λ s. ItemsFit rational s.items) }
+    ensures fits { IfOk result (λ s. ItemsFit rational s.items) }
 {
     let mut left = left;
     for v in vars {

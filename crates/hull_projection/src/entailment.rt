@@ -12,7 +12,7 @@ use affine_systems::{Row, System, Term, Terms};
 use fx_lists::List;
 use std::alloc::{AllocError as Memory, Global};
 
-/// A term with the sign of its factor turned.
+/// The negated term.
 fn negated(t: Term) -> Term
     requires { unsigned_abs t.factor < 2 ^ 62 }
     ensures { result ≡ term t.var (neg_ℤ t.factor) }

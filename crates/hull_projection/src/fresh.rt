@@ -12,7 +12,7 @@ const NUMBERS: u64 = 1 << 32;
 /// The least number that is above the variable's, where that is an auxiliary one, and not below another.
 fn above_aux(v: Var, least: u64) -> u64
     requires { least ≤ 2 ^ 32 }
-    ensures value { result ≡ above_aux_is v least }
+    ensures defined { result ≡ above_aux_is v least }
     ensures below { result ≤ 2 ^ 32 }
 {
     match v {
@@ -26,7 +26,7 @@ fn above_aux(v: Var, least: u64) -> u64
 #[tactic(auto, using(crate::proofs::FreshSteps::fresh_loop))]
 /// The least number above those of the auxiliary variables.
 fn fresh_after(vars: &[Var]) -> u64
-    ensures value { result ≡ fresh_after_is vars.now }
+    ensures defined { result ≡ fresh_after_is vars.now }
     ensures below { result ≤ 2 ^ 32 }
 {
     let mut least = 0;
@@ -38,7 +38,7 @@ fn fresh_after(vars: &[Var]) -> u64
 
 /// The least number above those of the auxiliary variables. Memory where it and `more` after it are not all below 2^32.
 pub fn fresh_number(vars: &[Var], more: usize) -> Result<u32, Memory>
-    ensures value { IfOk result (λ n. n ≡ fresh_after_is vars.now) }
+    ensures defined { IfOk result (λ n. n ≡ fresh_after_is vars.now) }
     ensures room { IfOk result (λ n. n + more < 2 ^ 32) }
 {
     let least = fresh_after(vars);

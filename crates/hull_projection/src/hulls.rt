@@ -8,7 +8,7 @@ ghost use Rattle.hull_projection.specs.Laws.{HasBoth};
 use crate::cleaning::clean;
 use crate::elimination::{Left, all_left, eliminate_all};
 use crate::fresh::{aux_from, fresh_number};
-use crate::lifting::lifted;
+use crate::lifting::lift_rows;
 use crate::refutation::refuted;
 use crate::variables::add_rows;
 use affine_systems::items::{copy_rows, items_of, rows_of, tidy_items};
@@ -35,7 +35,7 @@ pub fn either(one: bool, other: bool) -> bool
 fn hull_left(alloc: Global, weak: bool, left: Left) -> Result<System, Memory>
     requires { ItemsFit true left.items }
     ensures defined { IfOk result (λ s. s ≡ hull_left_is weak left) }
-    ensures gives { IfOk result Fits }
+    ensures fits { IfOk result Fits }
 {
     let rows = rows_of(alloc, left.items)?;
     let sys = System {
@@ -60,9 +60,9 @@ fn lifted_hull(
     requires number { first ≡ fresh_after vars.now }
     requires vars { vars.now ≡ both_vars_is one.now other.now }
     ensures defined { IfOk result (λ s. s ≡ lifted_hull_is first vars.now one.now other.now) }
-    ensures gives { IfOk result Fits }
+    ensures fits { IfOk result Fits }
 {
-    let rows = lifted(
+    let rows = lift_rows(
         alloc,
         first,
         vars,
@@ -92,7 +92,7 @@ fn hull_of(alloc: Global, one: &System, other: &System) -> Result<System, Memory
     requires fits { Fits one.now }
     requires other_fits { Fits other.now }
     ensures defined { IfOk result (λ s. s ≡ hull_is one.now other.now) }
-    ensures gives { IfOk result Fits }
+    ensures fits { IfOk result Fits }
 {
     if refuted(alloc, one)? {
         return copy_system(alloc, other);
@@ -111,8 +111,8 @@ pub fn hull(alloc: Global, one: &System, other: &System) -> Result<System, Memor
     requires fits { Fits one.now }
     requires other_fits { Fits other.now }
     ensures defined { IfOk result (λ s. s ≡ hull_is one.now other.now) }
-    ensures gives { IfOk result Fits }
-    ensures keeps { IfOk result (HasBoth one.now other.now) }
+    ensures fits { IfOk result Fits }
+    ensures sound { IfOk result (HasBoth one.now other.now) }
 {
     hull_of(alloc, one, other)
 }

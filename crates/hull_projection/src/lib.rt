@@ -8,11 +8,11 @@ mod elimination;
 mod entailment;
 mod fresh;
 mod hulls;
+mod iterations;
 mod lifting;
 mod parts;
 mod projection;
 mod refutation;
-mod turns;
 mod variables;
 
 pub use cleaning::clean;
@@ -23,3 +23,4 @@ pub use hulls::hull;
 pub use parts::Minus;
 pub use projection::{Shadow, project};
 pub use refutation::refuted;
+pub use variables::{add_rows, add_var};

@@ -3,7 +3,7 @@ ghost use Rattle.std.specs.Prelude.{◌≡◌, ◌+◌, ◌<◌, ◌≤◌, ◌^
 ghost use Rattle.affine_systems.specs.Terms.{term};
 ghost use Rattle.affine_systems.specs.Rows.{AllRows};
 ghost use Rattle.affine_systems.specs.Given.{AreSmall, IsSmallRow};
-ghost use Rattle.hull_projection.specs.Hull.{place_of as place_of_is, copy_of as copy_of_is, share_of as share_of_is, copies, negated_copies, scaled as scaled_is, rest_scaled as rest_scaled_is, at_least_0 as at_least_0_is, at_most_1 as at_most_1_is, lifted as lifted_is};
+ghost use Rattle.hull_projection.specs.Hull.{place_of as place_of_is, copy_of as copy_of_is, share_of as share_of_is, copies, negated_copies, scaled as scaled_is, rest_scaled as rest_scaled_is, at_least_0 as at_least_0_is, at_most_1 as at_most_1_is, lift_rows as lift_rows_is};
 
 use affine_systems::terms::push_term;
 use affine_systems::{Row, Term, Var};
@@ -13,7 +13,7 @@ use std::alloc::{AllocError as Memory, Global};
 #[tactic(auto, using(crate::proofs::FreshSteps::place_loop))]
 /// The place of a variable in a list, or its length where the variable is not there.
 fn place_of(v: Var, vars: &[Var]) -> usize
-    ensures value { result ≡ place_of_is v vars.now }
+    ensures defined { result ≡ place_of_is v vars.now }
     ensures within { result ≤ length vars.now }
 {
     for i in 0..vars.len() {
@@ -177,7 +177,7 @@ fn push_rest(
 }
 
 /// The rows of both systems, lifted, and the multiplier between 0 and 1.
-pub fn lifted(
+pub fn lift_rows(
     alloc: Global,
     first: u32,
     vars: &[Var],
@@ -187,7 +187,7 @@ pub fn lifted(
     requires room { first + length vars.now < 2 ^ 32 }
     requires one { AllRows IsSmallRow one.now }
     requires other { AllRows IsSmallRow other.now }
-    ensures { IfOk result (λ rs. rs.items ≡ lifted_is first vars.now one.now other.now) }
+    ensures { IfOk result (λ rs. rs.items ≡ lift_rows_is first vars.now one.now other.now) }
 {
     let mut rows = Vec::new(alloc);
     push_scaled(alloc, &mut rows, first, vars, one)?;

@@ -26,8 +26,8 @@ fn push_part(alloc: Global, out: &mut Vec<System>, sys: &System, row: &Row) -> R
     requires fits { Fits sys.now }
     requires row { IsGiven row.now }
     requires out { AllFit out.old.items }
-    ensures value { OnOk result (out.new.items ≡ out.old.items ++ parts_is sys.now (row.now ∷ [])) }
-    ensures gives { OnOk result (AllFit out.new.items) }
+    ensures added { OnOk result (out.new.items ≡ out.old.items ++ parts_is sys.now (row.now ∷ [])) }
+    ensures fits { OnOk result (AllFit out.new.items) }
 {
     let part = push_row(alloc, sys, row)?;
     if !refuted(alloc, &part)? {
@@ -42,8 +42,8 @@ fn push_parts(alloc: Global, out: &mut Vec<System>, sys: &System, row: &Row) -> 
     requires fits { Fits sys.now }
     requires row { IsSmallRow row.now }
     requires out { AllFit out.old.items }
-    ensures value { OnOk result (out.new.items ≡ out.old.items ++ parts_is sys.now (negations row.now)) }
-    ensures gives { OnOk result (AllFit out.new.items) }
+    ensures added { OnOk result (out.new.items ≡ out.old.items ++ parts_is sys.now (negations row.now)) }
+    ensures fits { OnOk result (AllFit out.new.items) }
 {
     let over = above(alloc, row)?;
     push_part(alloc, out, sys, &over)?;
@@ -59,8 +59,8 @@ fn push_parts(alloc: Global, out: &mut Vec<System>, sys: &System, row: &Row) -> 
 pub fn parts(alloc: Global, sys: &System, rows: &[Row]) -> Result<Vec<System>, Memory>
     requires fits { Fits sys.now }
     requires rows { AllRows IsSmallRow rows.now }
-    ensures value { IfOk result (λ ss. ss.items ≡ parts_is sys.now (all_negations rows.now)) }
-    ensures gives { IfOk result (λ ss. AllFit ss.items) }
+    ensures defined { IfOk result (λ ss. ss.items ≡ parts_is sys.now (all_negations rows.now)) }
+    ensures fits { IfOk result (λ ss. AllFit ss.items) }
 {
     let mut out = Vec::new(alloc);
     for row in rows {
@@ -75,7 +75,7 @@ fn hull_all(alloc: Global, first: System, more: &[System]) -> Result<System, Mem
     requires first { Fits first }
     requires more { AllFit more.now }
     ensures defined { IfOk result (λ s. s ≡ hull_all_is first more.now) }
-    ensures gives { IfOk result Fits }
+    ensures fits { IfOk result Fits }
 {
     let mut result = first;
     for sys in more {
@@ -97,7 +97,7 @@ fn weaker(sys: System, weak: bool) -> System
 pub fn joined_parts(alloc: Global, parts: Vec<System>, weak: bool) -> Result<Minus, Memory>
     requires { AllFit parts.items }
     ensures defined { IfOk result (λ m. m ≡ minus_parts parts.items weak) }
-    ensures gives { IfOk result (λ m. IfSome m.system Fits) }
+    ensures fits { IfOk result (λ m. IfSome m.system Fits) }
 {
     let mut parts = parts;
     if parts.is_empty() {

@@ -1,6 +1,6 @@
 //! Projection: variables are eliminated in ascending order, and the rest is cleaned.
 
-use crate::cleaning::cleaned;
+use crate::cleaning::clean_rows;
 use crate::variables::in_order;
 use affine_systems::items::copy_rows;
 use affine_systems::{System, Var, Vars, eliminate};
@@ -26,7 +26,7 @@ ghost use Rattle.hull_projection.specs.Laws.{ProjectsPoints, ExtendsPoints, Lack
 fn eliminate_more(alloc: Global, s: Shadow, v: Var) -> Result<Shadow, Memory>
     requires { Fits s.system }
     ensures defined { IfOk result (λ t. t ≡ shadow_after s (eliminate_is s.system v)) }
-    ensures gives { IfOk result (λ t. Fits t.system) }
+    ensures fits { IfOk result (λ t. Fits t.system) }
 {
     let e = eliminate(alloc, &s.system, v)?;
     Ok(Shadow {
@@ -35,11 +35,11 @@ fn eliminate_more(alloc: Global, s: Shadow, v: Var) -> Result<Shadow, Memory>
     })
 }
 
-/// The variables eliminated in turn.
+/// The variables eliminated one after the other.
 fn eliminate_each(alloc: Global, s: Shadow, vars: &[Var]) -> Result<Shadow, Memory>
     requires { Fits s.system }
     ensures defined { IfOk result (λ t. t ≡ eliminate_each_is s vars.now) }
-    ensures gives { IfOk result (λ t. Fits t.system) }
+    ensures fits { IfOk result (λ t. Fits t.system) }
 {
     let mut s = s;
     for v in vars {
@@ -55,7 +55,7 @@ fn cleaned_system(alloc: Global, s: Shadow) -> Result<Shadow, Memory>
 {
     let Shadow { system, exact } = s;
     let System { rows, weak } = system;
-    let rows = cleaned(alloc, rows)?;
+    let rows = clean_rows(alloc, rows)?;
     Ok(Shadow {
         system: System { rows, weak },
         exact,
@@ -79,9 +79,9 @@ fn whole(alloc: Global, sys: &System) -> Result<Shadow, Memory>
 pub fn project(alloc: Global, sys: &System, vars: &Vars) -> Result<Shadow, Memory>
     requires fits { Fits sys.now }
     ensures defined { IfOk result (λ s. s ≡ project_is sys.now vars.now) }
-    ensures gives { IfOk result (λ s. Fits s.system) }
+    ensures fits { IfOk result (λ s. Fits s.system) }
     ensures gone { IfOk result (λ s. LacksAll vars.now s.system.rows) }
-    ensures keeps { IfOk result (ProjectsPoints sys.now vars.now) }
+    ensures sound { IfOk result (ProjectsPoints sys.now vars.now) }
     ensures exact { IfOk result (ExtendsPoints sys.now vars.now) }
 {
     let order = in_order(alloc, vars.as_slice())?;

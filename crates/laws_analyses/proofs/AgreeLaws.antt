@@ -17,10 +17,10 @@ use Rattle.f77_symbols.specs.declared.variable.Unit.{Unit as BlockUnit}
 use Rattle.f77_symbols.specs.Symbols.{SymbolTree, number_from, constant_of, constant_in, constant_at, value_in}
 use Rattle.f77_symbols.specs.Shared.{numbered, symbol_at}
 use Rattle.storage_layout.specs.Symbols.{symbols_of}
-use Rattle.tracked_cells.specs.Equivalences.{equivalenced}
+use Rattle.tracked_cells.specs.Equivalences.{equivalenced_names}
 use Rattle.tracked_cells.specs.Standing.{is_plain}
 use Rattle.tracked_cells.specs.Tracked.{is_alone, is_tracked, tracked_of}
-use Rattle.call_graph.specs.Actuals.{named}
+use Rattle.call_graph.specs.Actuals.{symbol_with_name}
 use Rattle.laws_tables.specs.Shapes.{symbol_named}
 use Rattle.f77_meaning.specs.Modules.{tag_of, is_function, meant_by, meant_at, meant_in, symbol_names, names}
 use Rattle.laws_storage.proofs.ActualLaws.{Meaning, meaning}
@@ -30,11 +30,11 @@ use Rattle.laws_analyses.specs.ScalarLaws.{LogicalsAreTruths, NamesAgree}
 
 -- ---- constants
 
-same_named : (ss : List SymbolTree) (x : List ℕ) → symbol_named ss x ≡ named ss x
+same_named : (ss : List SymbolTree) (x : List ℕ) → symbol_named ss x ≡ symbol_with_name ss x
 same_named [] x = refl
 same_named (s ∷ ss) x = go (bytes_eq x s.name) (same_named ss x)
   where
-    go : (b : Bool) → symbol_named ss x ≡ named ss x → (if b then Some s else symbol_named ss x) ≡ (if b then Some s else named ss x)
+    go : (b : Bool) → symbol_named ss x ≡ symbol_with_name ss x → (if b then Some s else symbol_named ss x) ≡ (if b then Some s else symbol_with_name ss x)
     go true h = refl
     go false h = h
 
@@ -131,11 +131,11 @@ cell_meant names ss untracked t n (place.Constant k) h = cc
 cell_named : (p : ParsedTree) (ss : List SymbolTree) (untracked : List BlockUnit) (x : List ℕ) (n : ℕ) → cell_in (symbol_names ss) (tracked_of p.module_read ss untracked) x ≡ Some n → (names ss x ≡ Function → ⊥) → names ss x ≡ Variable n
 cell_named p ss untracked x n h f =
     let c = cell_of ss (tracked_of p.module_read ss untracked) x n h in
-    let s = flagged (is_tracked (equivalenced p.module_read) ss untracked) ss n c.flag in
-    let a = (and_parts (is_plain (equivalenced p.module_read) s.symbol) (is_alone (equivalenced p.module_read) ss untracked s.symbol.place) s.flag).1 in
+    let s = flagged (is_tracked (equivalenced_names p.module_read) ss untracked) ss n c.flag in
+    let a = (and_parts (is_plain (equivalenced_names p.module_read) s.symbol) (is_alone (equivalenced_names p.module_read) ss untracked s.symbol.place) s.flag).1 in
     let means : names ss x ≡ meant_at n (Some s.symbol) = ap (meant_in ss) c.number ∙ ap (meant_at n) s.is_symbol in
     unless_function (is_function s.symbol) (meant_by s.symbol.scalar n s.symbol.place) (names ss x) means f
-    ∙ cell_meant (equivalenced p.module_read) ss untracked s.symbol.scalar n s.symbol.place a
+    ∙ cell_meant (equivalenced_names p.module_read) ss untracked s.symbol.scalar n s.symbol.place a
 
 pub names_agree : LogicalsAreTruths → NamesAgree
 names_agree truths p ss untracked t = record {

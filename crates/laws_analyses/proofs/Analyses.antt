@@ -19,7 +19,7 @@ use Rattle.preconditions.specs.Entry.{main_entry, sites_entry, entry_of}
 use Rattle.preconditions.specs.Modules.{preconditions_of}
 use Rattle.laws_storage.specs.Programs.{IsLinked, IsModule, known}
 use Rattle.laws_statements.specs.CallsIn.{CallAt, Each, list_calls}
-use Rattle.laws_statements.specs.Numbers.{IsNumbered, list_numbers}
+use Rattle.f77_ast.specs.StatementNumbers.{IsNumbered, list_numbers}
 use Rattle.laws_statements.specs.Results.{or_no_rows, found_in as found_of_module, pre_in}
 use Rattle.laws_statements.proofs.MainResults.{found_at}
 use Rattle.laws_statements.proofs.NumberLaws.{ids, in_order, p_list}
@@ -45,7 +45,7 @@ module _ (ps : List ParsedTree) (sss : List (List SymbolTree)) (g : Graph) (l : 
   all = callees_of_all (known_of ps sss) g
 
   -- modules behind those that call them, after modules with these names
-  abbrev Fronted : List (List ℕ) → List Found → Type 0
+  abbrev pub Fronted : List (List ℕ) → List Found → Type 0
   Fronted ns [] = Unit {0}
   Fronted ns (f ∷ fs) = NotIn f.known.read.name ns × ((y : List ℕ) → Calls ps sss g l f.known y → NotIn y ns × (bytes_eq f.known.read.name y ≡ false)) × Fronted (f.known.read.name ∷ ns) fs
 
@@ -55,7 +55,7 @@ module _ (ps : List ParsedTree) (sss : List (List SymbolTree)) (g : Graph) (l : 
   fronted_more ns (x ∷ xs) f h n e c =
       (h.0, h.1, fronted_more (x.known.read.name ∷ ns) xs f h.2 (e.0, n) e.1 (λ y k. (let r = c y k in ((r.1.0, r.0), r.1.1, r.2))))
 
-  fronted : (fs : List Found) → InOrder ps sss g l fs → Fronted [] (reverse fs)
+  pub fronted : (fs : List Found) → InOrder ps sss g l fs → Fronted [] (reverse fs)
   fronted [] s = tt
   fronted (f ∷ fs) s =
       subst (Fronted []) (sym (reverse-cons f fs))
@@ -95,10 +95,10 @@ module _ (ps : List ParsedTree) (sss : List (List SymbolTree)) (g : Graph) (l : 
   picked P (f ∷ fs) done h k (inl e) = (next g.untracked done f, h.0, e)
   picked P (f ∷ fs) done h k (inr has) = picked P fs (done ++ next g.untracked done f ∷ []) h.1 k has
 
-  abbrev in_order_found : List Found
+  abbrev pub in_order_found : List Found
   in_order_found = found_in g.untracked (known_of ps sss) no_callees g.order
 
-  analyses_are : analyses (known_of ps sss) g ≡ run g.untracked [] (reverse in_order_found)
+  pub analyses_are : analyses (known_of ps sss) g ≡ run g.untracked [] (reverse in_order_found)
   analyses_are = run_is g.untracked [] (reverse in_order_found)
 
   -- each analysis is so
@@ -111,7 +111,7 @@ module _ (ps : List ParsedTree) (sss : List (List SymbolTree)) (g : Graph) (l : 
   pub all_located : Each (Located (analyses (known_of ps sss) g)) (analyses (known_of ps sss) g)
   all_located = subst (Each (Located (analyses (known_of ps sss) g))) (sym analyses_are) each_located
 
-  analysis_of_module : (i : ℕ) (p : ParsedTree) (ss : List SymbolTree) → IsModule ps sss i p ss → (a : Analysis) × Located (analyses (known_of ps sss) g) a × (a.found.known ≡ known p ss)
+  pub analysis_of_module : (i : ℕ) (p : ParsedTree) (ss : List SymbolTree) → IsModule ps sss i p ss → (a : Analysis) × Located (analyses (known_of ps sss) g) a × (a.found.known ≡ known p ss)
   analysis_of_module i p ss m =
       picked (Located (analyses (known_of ps sss) g)) (reverse in_order_found) [] each_located (known p ss)
       (known_reversed (known p ss) in_order_found (found_has ps sss g l g.order no_callees p.module_read.name (known p ss) (module_found ps sss g l i p ss m) (each_stands ps sss g l i p m.parsed)))

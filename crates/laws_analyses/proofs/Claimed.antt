@@ -19,7 +19,7 @@ use Rattle.transformers.specs.Modules.{transformers_of}
 use Rattle.preconditions.specs.Modules.{preconditions_of}
 use Rattle.laws_storage.specs.Programs.{IsLinked, IsModule, known}
 use Rattle.laws_statements.specs.CallsIn.{Each}
-use Rattle.laws_statements.specs.Numbers.{IsNumbered}
+use Rattle.f77_ast.specs.StatementNumbers.{IsNumbered}
 use Rattle.laws_statements.specs.Results.{SystemHolds, Relates, or_no_rows, pre_in, found_in}
 use Rattle.laws_calls.specs.Parts.{Part}
 use Rattle.laws_calls.specs.ProgramLaws.{ScalarsHold, EachHolds}

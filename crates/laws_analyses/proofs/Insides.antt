@@ -2,6 +2,7 @@
 use Rattle.std.proofs.Common.{◌≡◌, ◌⊎◌, inl, inr, ℕ, ◌+◌, ◌≤◌, ◌<◌, Bool, true, false, List, [], ◌∷◌, length, nat_eq, Some, None, Option, refl, sym, ap, ◌∙◌, subst, arith, true≢false}
 use Rattle.std.specs.Prelude.{if◌then◌else◌, ◌||◌}
 use Rattle.std.proofs.lemmas.Bool.Decides.{nat_tests}
+use Rattle.std.proofs.lemmas.Bool.{or_from}
 use Rattle.f77_ast.specs.Trees.{StmtTrees}
 use Rattle.f77_structure.specs.declared.blocks.Landing.{Landing}
 use Rattle.roundtrip_modules.proofs.Outlines.{Going, Outline, innermost, outer, begins, leaves}
@@ -33,10 +34,6 @@ same_is a b h = grind (arith, nat_tests)
 is_same : (a : ℕ) → nat_eq a a ≡ true
 is_same a = grind (arith, nat_tests)
 
-or_none : (a b : Bool) → a ≡ false → b ≡ false → (a || b) ≡ false
-or_none true b h k = cc
-or_none false b h k = k
-
 or_split : {P : Type 0} (a b : Bool) → (a || b) ≡ true → (a ≡ true → P) → (b ≡ true → P) → P
 or_split true b h f g = f refl
 or_split false b h f g = g h
@@ -49,7 +46,7 @@ taken_away (m ∷ ms) ns l h = go (has ns m) refl (nat_eq m l) refl (taken_away 
     go : (b : Bool) → has ns m ≡ b → (c : Bool) → nat_eq m l ≡ c → has (others ms ns) l ≡ false → has (if b then others ms ns else m ∷ others ms ns) l ≡ false
     go true p c q ih = ih
     go false p true q ih = absurd (true≢false (sym h ∙ ap (has ns) (sym (same_is m l q)) ∙ p))
-    go false p false q ih = or_none (nat_eq m l) (has (others ms ns) l) q ih
+    go false p false q ih = or_from (nat_eq m l) (has (others ms ns) l) q ih
 
 -- nor one that was not there
 pub not_there : (ms ns : List ℕ) (l : ℕ) → has ms l ≡ false → has (others ms ns) l ≡ false
@@ -59,7 +56,7 @@ not_there (m ∷ ms) ns l h = go (has ns m) (nat_eq m l) refl h (not_there ms ns
     go : (b c : Bool) → nat_eq m l ≡ c → (c || has ms l) ≡ false → (has ms l ≡ false → has (others ms ns) l ≡ false) → has (if b then others ms ns else m ∷ others ms ns) l ≡ false
     go b true q k ih = cc
     go true false q k ih = ih k
-    go false false q k ih = or_none (nat_eq m l) (has (others ms ns) l) q (ih k)
+    go false false q k ih = or_from (nat_eq m l) (has (others ms ns) l) q (ih k)
 
 -- ---- parts of a way
 

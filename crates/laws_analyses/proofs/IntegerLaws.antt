@@ -21,7 +21,7 @@ use Rattle.f77_names.specs.declared.kinds.Kind.TheVariants as kind
 use Rattle.f77_names.specs.declared.lines.Sited.TheVariants.{Decl}
 use Rattle.f77_names.specs.Lines.{LineTable, line_or}
 use Rattle.f77_names.specs.Entries.{EntryTree, find, of_entry, changed, with_value, value_among}
-use Rattle.f77_names.specs.Tables.{kind_in, entry_kind, table_of, names_judged}
+use Rattle.f77_names.specs.Tables.{kind_in, entry_kind, table_of, check_names}
 use Rattle.f77_checks.specs.Parameters.{Valued, given_typed, given_worth, setting_valued, settings_valued, decl_valued, decls_valued}
 use Rattle.roundtrip_statements.specs.Formed.{Each}
 use Rattle.roundtrip_statements.specs.Declared.{IsSetting}
@@ -136,7 +136,7 @@ values_fit p b =
     let at = lines_in p in
     let m = p.module_read in
     let begin = table_found (λ e. e.value ≡ None) (λ x line. refl) (λ n e h. h) none_said at m in
-    decls_fit at m.decls 0 (record { table = table_of at m; found = names_judged at m }) (decls_formed m b.formed) (λ y e h. none_fits e.value (begin y e h))
+    decls_fit at m.decls 0 (record { table = table_of at m; found = check_names at m }) (decls_formed m b.formed) (λ y e h. none_fits e.value (begin y e h))
 
 integer_number : (k : Kind) (c : Constant) → OfKind k c → MaybeFits (Some c) → scalar_of k ≡ scalar.Int → in_range (number_of c) ≡ true
 integer_number kind.Int (constant.Int n) o f e = f

@@ -1,27 +1,26 @@
 -- No GO TO of statements leads out of all the lists around it.
-use Rattle.std.proofs.Common.{◌≡◌, ◌⊎◌, inl, inr, ℕ, ◌+◌, ◌≤◌, ◌<◌, Bool, true, false, not, List, [], ◌∷◌, ◌++◌, length, nat_eq, nat_lt, Some, None, Option, refl, sym, ap, ◌∙◌, subst, arith}
-use Rattle.std.specs.Prelude.{if◌then◌else◌, ◌||◌, ◌&&◌}
+use Rattle.std.proofs.Common.{◌≡◌, inl, inr, ℕ, ◌+◌, Bool, true, false, not, List, [], ◌∷◌, nat_eq, Option, refl, sym, ap, ◌∙◌, subst, arith}
+use Rattle.std.specs.Prelude.{◌||◌, ◌&&◌}
 use Rattle.std.specs.List.{list_any, list_all}
 use Rattle.std.proofs.lemmas.Bool.{or_from}
 use Rattle.std.proofs.lemmas.Bool.Decides.{nat_tests}
-use Rattle.f77_ast.specs.Trees.{StmtTree, stmt, WhatTree, assign, block_if, logical_if, do_loop, call, goto, continue, return, stop, print, read, arm, ArmTrees, no_arms, more_arms, ElseTree, no_else, otherwise, LoopTree, loop, StmtTrees, no_stmts, more_stmts}
+use Rattle.f77_ast.specs.Trees.{stmt, WhatTree, assign, block_if, logical_if, do_loop, call, goto, continue, return, stop, print, read, arm, ArmTrees, no_arms, more_arms, ElseTree, no_else, otherwise, LoopTree, loop, StmtTrees, no_stmts, more_stmts}
 use Rattle.f77_structure.specs.declared.mark.Action.TheVariants.{Goto}
 use Rattle.f77_structure.specs.declared.blocks.Landing.{Landing}
-use Rattle.f77_structure.specs.Jumps.{stands}
 use Rattle.f77_parser.specs.Roles.{action_of}
 use Rattle.roundtrip_statements.specs.Phrased.{IsWhat}
 use Rattle.roundtrip_modules.proofs.Outlines.{Going, Outline, lands, goes, begins, leaves}
-use Rattle.roundtrip_modules.proofs.TreeOutlines.{outline_of, outline_by, outline_body, outline_arms, outline_else, outline_in}
+use Rattle.roundtrip_modules.proofs.TreeOutlines.{outline_by, outline_body, outline_arms, outline_else, outline_in}
 use Rattle.roundtrip_modules.proofs.Shown as lists
 use Rattle.roundtrip_modules.proofs.Reached.{AllReach}
 use Rattle.roundtrip_modules.specs.Numbered.{last_of, last_arms, last_in}
-use Rattle.laws_programs.proofs.Ordered.{StmtOrdered, BelowOrdered, LoopOrdered, ArmsOrdered, ElseOrdered, ListOrdered}
+use Rattle.laws_programs.proofs.Ordered.{BelowOrdered, LoopOrdered, ArmsOrdered, ElseOrdered, ListOrdered}
 use Rattle.transformer_algebra.specs.Cells.{has, others}
 use Rattle.transformers.specs.Jumps.{labels}
-use Rattle.laws_statements.specs.Leads.{stmt_leads, what_leads, each_leads, arms_lead, arm_leads, else_leads, loop_leads}
+use Rattle.laws_statements.specs.Leads.{what_leads, each_leads, arms_lead, arm_leads, else_leads, loop_leads}
 use Rattle.laws_analyses.proofs.Members.{Member, member_last}
-use Rattle.laws_analyses.proofs.Sizes.{one_going, goings_of, goings_by, goings_body, goings_arms, goings_else, goings_in}
-use Rattle.laws_analyses.proofs.Steps.{Step, Never, Own, InLabels, step_then, lands_step, goes_step, list_step_in, list_step, what_step, body_step, arms_step, else_step}
+use Rattle.laws_analyses.proofs.Sizes.{one_going, goings_by, goings_body, goings_arms, goings_else, goings_in}
+use Rattle.laws_analyses.proofs.Steps.{Never, Own, InLabels, step_then, lands_step, list_step_in, list_step, what_step, body_step, arms_step, else_step}
 use Rattle.laws_analyses.proofs.Insides.{In, Inside, first_part, second_part, list_part}
 
 -- ---- a GO TO reaches a statement with its label in a list around it
@@ -53,21 +52,14 @@ reached F (y ∷ G) r g (inr h) = reached F G r.others g h
 -- ---- statements
 
 module _ (F : List Landing) (G : List Going) (reach : AllReach F G) where
-  -- a GO TO is kept, as there are few
-  goes_there : (l : ℕ) (o : Outline) → length o.goings + 1 ≤ 4096 → Member (record { label = l; lists = o.within }) (goes (Goto l) o).goings
-  goes_there l o h = go (nat_lt (length o.goings) 4097) small
-    where
-      small : nat_lt (length o.goings) 4097 ≡ true
-      small = grind (arith, nat_tests)
-
-      go : (b : Bool) → b ≡ true → Member (record { label = l; lists = o.within }) (if b then o.goings ++ record { label = l; lists = o.within } ∷ [] else o.goings)
-      go true e = member_last (record { label = l; lists = o.within }) o.goings
-      go false e = cc
+  -- a GO TO is kept
+  goes_there : (l : ℕ) (o : Outline) → Member (record { label = l; lists = o.within }) (goes (Goto l) o).goings
+  goes_there l o = member_last (record { label = l; lists = o.within }) o.goings
 
   goto_stays : (label : Option ℕ) (l : ℕ) (o : Outline) (ms : List ℕ) → Inside F G o (lands label (goes (Goto l) o)) ms 1 → has ms l ≡ false
   goto_stays label l o ms i =
       let g : Going = record { label = l; lists = o.within } in
-      let r = reached F G reach g (i.later g ((lands_step label (goes (Goto l) o)).goings g (goes_there l o i.few))) in
+      let r = reached F G reach g (i.later g ((lands_step label (goes (Goto l) o)).goings g (goes_there l o))) in
       ap (has ms) (sym r.label) ∙ i.covered r.landing r.stands r.within
 
   plain_stays : (label : Option ℕ) (w : WhatTree) → IsWhat w → (o : Outline) (ms : List ℕ) → Inside F G o (lands label (goes (action_of w) o)) ms (one_going (action_of w)) → what_leads w ms ≡ false

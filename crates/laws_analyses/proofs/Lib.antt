@@ -5,7 +5,6 @@ pub mod IntegerLaws
 pub mod DataLaws
 pub mod AgreeLaws
 pub mod TargetLaws
-pub mod NumberLaws
 pub mod MainCallees
 pub mod ThroughoutLaws
 pub mod MainLaws
@@ -34,4 +33,5 @@ pub mod Founds
 pub mod Passes
 pub mod Analyses
 pub mod Claimed
+pub mod Coverage
 pub mod Whole

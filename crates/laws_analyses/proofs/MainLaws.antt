@@ -1,5 +1,5 @@
 -- A main program that calls no module is such as the law on its runs asks, where the program is read.
-use Rattle.std.proofs.Common.{◌≡◌, ℕ, zero, suc, ◌-◌, ◌^◌, ◌<◌, Bool, true, false, not, length, List, [], ◌∷◌, Option, Some, None, Result, Ok, refl, sym, ap, ◌∙◌, subst}
+use Rattle.std.proofs.Common.{◌≡◌, ℕ, zero, suc, ◌-◌, Bool, true, false, not, length, List, [], ◌∷◌, Option, Some, None, Result, Ok, refl, sym, ap, ◌∙◌, subst}
 use Rattle.std.specs.Prelude.{if◌then◌else◌, ◌&&◌, ◌||◌, slice_get}
 use Rattle.std.proofs.lemmas.Bool.{and_parts, or_from, not-true}
 use Rattle.f77_ast.specs.Trees.{StmtTrees}
@@ -13,7 +13,7 @@ use Rattle.f77_symbols.specs.Symbols.{SymbolTree}
 use Rattle.f77_symbols.specs.Shared.{symbol_at}
 use Rattle.roundtrip_statements.specs.Formed.{Each}
 use Rattle.laws_tables.specs.Shapes.{BodiesAreShaped}
-use Rattle.tracked_cells.specs.Equivalences.{equivalenced}
+use Rattle.tracked_cells.specs.Equivalences.{equivalenced_names}
 use Rattle.tracked_cells.specs.Standing.{is_plain, spoils}
 use Rattle.tracked_cells.specs.Untracked.{untracked_of}
 use Rattle.tracked_cells.specs.Tracked.{is_alone, is_tracked, tracked_of}
@@ -24,7 +24,7 @@ use Rattle.call_graph.specs.Modules.{too_many, name_twice, main_twice, no_main}
 use Rattle.call_graph.specs.Links.{module_fault, joined_of, named_of, link_of}
 use Rattle.f77_meaning.specs.Areas.{Area, block, group}
 use Rattle.f77_meaning.specs.Modules.{Known, known_of, fixed}
-use Rattle.f77_meaning.specs.Linked.{numbering, room_for, main_of, initial, program_of}
+use Rattle.f77_meaning.specs.Linked.{numbering, main_of, initial, program_of}
 use Rattle.f77_meaning.specs.Laws.{area_of, LinkedHaveBlocks, CommonCellsAreAlone}
 use Rattle.f77_meaning.specs.Occurrences.{Occurrence}
 use Rattle.f77_meaning.specs.Claimed.{InEveryRun}
@@ -50,7 +50,7 @@ use Rattle.laws_statements.specs.Laws.{scope_of, no_callees, is_dummy, has_dummy
 use Rattle.laws_analyses.specs.ScalarLaws.{AcceptedDataStaysInLocals, NamesAgree, MainsAreAlone, ResultsHold, ReadMainsHold}
 use Rattle.laws_analyses.proofs.ThroughoutLaws.{throughout_more}
 use Rattle.laws_analyses.proofs.MainCallees.{callees_aside}
-use Rattle.laws_analyses.proofs.NumberLaws.{is_numbered}
+use Rattle.laws_programs.proofs.Numbers.{is_numbered}
 use Rattle.laws_analyses.proofs.TargetLaws.{body_lacks_none}
 
 -- ---- the main program among the modules
@@ -136,7 +136,7 @@ cell_alone names ss us (place.Constant v) d h f = cc
 -- ---- programs
 
 module _ (names_agree : NamesAgree) (data_lies : AcceptedDataStaysInLocals) (are_read : ModulesAreRead) (go_up : NumbersGoUp) (are_linked : ProgramsAreLinked) (are_shaped : BodiesAreShaped) (tell : FlagsTellCells) (are_scalars : CellsAreScalars) (begin : DataInitialisesScalars) (common_alone : CommonCellsAreAlone) (have_blocks : LinkedHaveBlocks) where
-  module _ (ps : List ParsedTree) (sss : List (List SymbolTree)) (g : Graph) (x : IsProgram ps sss g) (small : room_for (known_of ps sss) < 2 ^ 64) (r : MainOf ps sss) where
+  module _ (ps : List ParsedTree) (sss : List (List SymbolTree)) (g : Graph) (x : IsProgram ps sss g) (r : MainOf ps sss) where
     abbrev p : ParsedTree
     p = r.parsed
 
@@ -147,7 +147,7 @@ module _ (names_agree : NamesAgree) (data_lies : AcceptedDataStaysInLocals) (are
     flags = tracked_of p.module_read ss g.untracked
 
     linked : IsLinked ps sss g
-    linked = (are_linked ps sss g x small).0
+    linked = (are_linked ps sss g x).0
 
     is_scope : IsScopeOf g p ss (scope_of ss flags)
     is_scope = record { symbols = refl; tracked = refl }
@@ -165,16 +165,16 @@ module _ (names_agree : NamesAgree) (data_lies : AcceptedDataStaysInLocals) (are
         go (s, c) =
             let at = numbered_place ss n s c.is_symbol in
             let d = none_at ss none (n - 1) s at in
-            let h = (and_parts (is_plain (equivalenced p.module_read) s) (is_alone (equivalenced p.module_read) ss g.untracked s.place) c.tracked).1 in
-            let a = cell_area p.module_read.name (equivalenced p.module_read) ss g.untracked s.place d h in
-            let tracked = subst (λ us. is_tracked (equivalenced p.module_read) ss us s ≡ true) (untracked_are ps sss g x.links) c.tracked in
+            let h = (and_parts (is_plain (equivalenced_names p.module_read) s) (is_alone (equivalenced_names p.module_read) ss g.untracked s.place) c.tracked).1 in
+            let a = cell_area p.module_read.name (equivalenced_names p.module_read) ss g.untracked s.place d h in
+            let tracked = subst (λ us. is_tracked (equivalenced_names p.module_read) ss us s ≡ true) (untracked_are ps sss g x.links) c.tracked in
             record {
               symbol = s;
               is_symbol = c.is_symbol;
               scalar = (are_scalars g p ss n s c).1;
               area = a.0;
               lies = a.1;
-              alone = cell_alone (equivalenced p.module_read) ss g.untracked s.place d h (λ b o q. common_alone ps sss r.at (n - 1) (equivalenced p.module_read) ss s b o r.is_module.table at q tracked r.at p ss r.is_module.parsed r.is_module.table);
+              alone = cell_alone (equivalenced_names p.module_read) ss g.untracked s.place d h (λ b o q. common_alone ps sss r.at (n - 1) (equivalenced_names p.module_read) ss s b o r.is_module.table at q tracked r.at p ss r.is_module.parsed r.is_module.table);
             }
 
     first_value : (n : ℕ) (s : SymbolTree) → symbol_at ss n ≡ Some s → is_cell flags n ≡ true → FirstValue s.initial (initial (known_of ps sss) g (fixed (numbering (known_of ps sss) g) (known p ss) n).first).number
@@ -187,13 +187,12 @@ module _ (names_agree : NamesAgree) (data_lies : AcceptedDataStaysInLocals) (are
     alone : list_calls p.module_read.body ≡ [] → IsMainAlone (known_of ps sss) g (known p ss) flags
     alone c =
         let built = built_at ps (all_built x.lines ps x.parsed) r.at p r.is_module.parsed in
-        let table = (are_linked ps sss g x small).1 r.at p ss r.is_module in
+        let table = (are_linked ps sss g x).1 r.at p ss r.is_module in
         record {
           at = r.at;
           is_module = known_module ps sss r.at p ss r.is_module;
           is_main = r.is_main;
           blocks = have_blocks ps sss g linked.many x.links;
-          room = small;
           no_call = c;
           targets = body_lacks_none ss p.module_read built.well.body built.formed (are_shaped p ss table);
           no_dummy = has_none ss none;
@@ -204,9 +203,9 @@ module _ (names_agree : NamesAgree) (data_lies : AcceptedDataStaysInLocals) (are
         }
 
   pub mains_are_alone : MainsAreAlone
-  mains_are_alone ps sss g x small =
+  mains_are_alone ps sss g x =
       let r = main_from ps sss x.tables (some_main ps sss g x.links) in
-      subst (λ (k : Known). list_calls k.read.body ≡ [] → IsMainAlone (known_of ps sss) g k (tracked_of k.read k.symbols g.untracked)) (sym r.is_main) (alone ps sss g x small r)
+      subst (λ (k : Known). list_calls k.read.body ≡ [] → IsMainAlone (known_of ps sss) g k (tracked_of k.read k.symbols g.untracked)) (sym r.is_main) (alone ps sss g x r)
 
 -- ---- results
 
@@ -217,7 +216,7 @@ says body m zero x h = h
 says body m (suc n) x h = h
 
 pub read_mains_hold : MainsAreAlone → MainHolds → ReadMainsHold
-read_mains_hold alone holds ps sss g cs x small c =
+read_mains_hold alone holds ps sss g cs x c =
     let ks = known_of ps sss in
     let k = main_of ks in
     let flags = tracked_of k.read k.symbols g.untracked in
@@ -227,4 +226,4 @@ read_mains_hold alone holds ps sss g cs x small c =
     subst (λ ts. InEveryRun ks g (λ y. ResultsHold m ts (preconditions_of body m (transformer_at ts.at) (main_entry m)) y.spot.statement y)) (callees_aside m no_callees cs body c)
     (λ turns input. throughout_more (λ y. ScalarsHold body m no_callees (main_entry m) y.spot.statement y)
     (λ y. let ts = transformers_of body m no_callees in ResultsHold m ts (preconditions_of body m (transformer_at ts.at) (main_entry m)) y.spot.statement y)
-    (λ y h. says body m y.spot.statement y h) (program_plan plan turns) plan.initial input (λ f s i. []) (holds ks g k flags (alone ps sss g x small c) turns input))
+    (λ y h. says body m y.spot.statement y h) (program_plan plan turns) plan.initial input (λ f s i. []) (holds ks g k flags (alone ps sss g x c) turns input))

@@ -73,7 +73,7 @@ module _ (ps : List ParsedTree) (sss : List (List SymbolTree)) (g : Graph) (l : 
   fixed_solid x v e h n = go (lying ss v (variable_of ss x v e))
     where
       one : (s : SymbolTree) → symbol_at ss v ≡ Some s → units_in ss s ≡ 1
-      one s is = ap (bounds_units (value_in ss) 1) (scalar_bounds ss x v s e h is)
+      one s is = ap (bounds_units (value_in ss)) (scalar_bounds ss x v s e h is)
 
       go : Lying ss v → 0 < (fixed (units ps sss g) (known p ss) v).extent
       go (lying_dummy d) = let z : true ≡ false = sym d ∙ cells.not_listed (dummies_from 1 ss) v n in cc

@@ -1,18 +1,18 @@
 -- What statements do to an outline: the labels that they add stand in the open list or in lists that begin in them, and what stood stays.
-use Rattle.std.proofs.Common.{◌≡◌, ◌⊎◌, inl, inr, ℕ, ◌+◌, ◌≤◌, ◌<◌, Bool, true, false, List, [], ◌∷◌, ◌++◌, length, nat_lt, nat_eq, Some, None, Option, refl, sym, ap, ◌∙◌, subst, arith, length-append}
-use Rattle.std.specs.Prelude.{if◌then◌else◌, ◌||◌}
+use Rattle.std.proofs.Common.{◌≡◌, ◌⊎◌, inl, inr, ℕ, ◌+◌, ◌≤◌, ◌<◌, Bool, true, false, List, [], ◌∷◌, length, nat_eq, Some, None, Option, refl, sym, ap, ◌∙◌, arith, length-append}
+use Rattle.std.specs.Prelude.{◌||◌}
 use Rattle.std.proofs.lemmas.Bool.Decides.{nat_tests}
-use Rattle.f77_ast.specs.Trees.{StmtTree, stmt, WhatTree, assign, block_if, logical_if, do_loop, call, goto, continue, return, stop, print, read, arm, ArmTrees, no_arms, more_arms, ElseTree, no_else, otherwise, LoopTree, loop, StmtTrees, no_stmts, more_stmts}
+use Rattle.f77_ast.specs.Trees.{stmt, WhatTree, assign, block_if, logical_if, do_loop, call, goto, continue, return, stop, print, read, arm, ArmTrees, no_arms, more_arms, ElseTree, no_else, otherwise, LoopTree, loop, StmtTrees, no_stmts, more_stmts}
 use Rattle.f77_structure.specs.declared.mark.Action.{Action}
 use Rattle.f77_structure.specs.declared.mark.Action.TheVariants.{Goto, Return, Stop, Other}
 use Rattle.f77_structure.specs.declared.blocks.Landing.{Landing}
 use Rattle.f77_parser.specs.Roles.{action_of}
 use Rattle.roundtrip_modules.proofs.Outlines.{Going, Outline, innermost, outer, lands, goes, begins, leaves}
-use Rattle.roundtrip_modules.proofs.TreeOutlines.{outline_of, outline_by, outline_body, outline_arms, outline_else, outline_in}
+use Rattle.roundtrip_modules.proofs.TreeOutlines.{outline_by, outline_body, outline_arms, outline_else, outline_in}
 use Rattle.transformer_algebra.specs.Cells.{has}
-use Rattle.transformers.specs.Jumps.{label_of, before_labels, labels}
-use Rattle.laws_analyses.proofs.Members.{Member, member_more, member_last, member_split}
-use Rattle.laws_analyses.proofs.Sizes.{one_going, goings_of, goings_by, goings_body, goings_arms, goings_else, goings_in}
+use Rattle.transformers.specs.Jumps.{before_labels, labels}
+use Rattle.laws_analyses.proofs.Members.{Member, member_more, member_split}
+use Rattle.laws_analyses.proofs.Sizes.{one_going, goings_by, goings_body, goings_arms, goings_else, goings_in}
 
 -- where a labelled statement stands: where it stood before, in the open list with such a label, or in a list that began since
 pub data Came (o p : Outline) (P : ℕ → Type 0) (x : Landing) : Type 0 where
@@ -94,20 +94,12 @@ goes_step (Goto l) o = record {
   within = refl;
   count = omega arith;
   landings = λ x h. before h;
-  goings = λ g h. kept g h (nat_lt (length o.goings) 4097);
-  few = fewer (nat_lt (length o.goings) 4097);
+  goings = λ g h. member_more g new o.goings h;
+  few = let e = length-append o.goings (new ∷ []) in omega (arith, e);
 }
   where
     new : Going
     new = record { label = l; lists = o.within }
-
-    kept : (g : Going) → Member g o.goings → (b : Bool) → Member g (if b then o.goings ++ new ∷ [] else o.goings)
-    kept g h true = member_more g new o.goings h
-    kept g h false = h
-
-    fewer : (b : Bool) → length (if b then o.goings ++ new ∷ [] else o.goings) ≤ length o.goings + 1
-    fewer true = let e = length-append o.goings (new ∷ []) in omega (arith, e)
-    fewer false = omega arith
 
 -- a list within these statements
 pub list_step_in : (o p : Outline) (P : ℕ → Type 0) (n : ℕ) → Step (begins o) p P n → Step o (leaves p) Never n

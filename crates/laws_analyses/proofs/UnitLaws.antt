@@ -1,5 +1,5 @@
 -- Units of blocks that are tracked, and the variables that stand there.
-use Rattle.std.proofs.Common.{◌≡◌, ℕ, zero, suc, ◌+◌, ◌-◌, ◌^◌, ◌<◌, ◌≤◌, true, false, List, [], ◌∷◌, Option, Some, None, refl, sym, ap, ◌∙◌, arith}
+use Rattle.std.proofs.Common.{◌≡◌, ℕ, zero, suc, ◌+◌, ◌-◌, ◌<◌, ◌≤◌, true, false, List, [], ◌∷◌, Option, Some, None, refl, sym, ap, ◌∙◌, arith}
 use Rattle.std.specs.Prelude.{bytes_eq, nat_le, nat_lt, slice_get, is_some}
 use Rattle.std.proofs.lemmas.Bool.{and_from, le-leb, lt-ltb}
 use Rattle.std.proofs.lemmas.Bool.Decides.{nat_tests}
@@ -10,7 +10,7 @@ use Rattle.f77_ast.specs.Calls.{in_place}
 use Rattle.f77_symbols.specs.declared.symbol.Place.TheVariants as place
 use Rattle.f77_symbols.specs.declared.variable.Unit.{Unit as BlockUnit}
 use Rattle.f77_symbols.specs.Symbols.{SymbolTree}
-use Rattle.f77_symbols.specs.Units.{units_in, capped}
+use Rattle.f77_symbols.specs.Units.{units_in}
 use Rattle.tracked_cells.specs.Standing.{place_has, stands_at, reaches}
 use Rattle.call_graph.specs.declared.graph.Graph.{Graph}
 use Rattle.f77_meaning.specs.Areas.{block, group, unit_at}
@@ -95,9 +95,9 @@ module _ (ps : List ParsedTree) (sss : List (List SymbolTree)) (g : Graph) (l : 
 
 -- ---- variables at units of blocks
 
-block_stands : (x : List ℕ) (o n d : ℕ) → o ≤ d → d < o + n → o + n < 2 ^ 64 → place_has (place.Block x o) n (place.Block x d) ≡ true
-block_stands x o n d a b c =
-    and_from (bytes_eq x x) (reaches o n d) ((bytes_eq-Decides x x).1 refl) (and_from (nat_le o d) (nat_lt d (capped (o + n))) (le-leb o d a) (lt-ltb d (capped (o + n)) (omega (arith, a, b, c))))
+block_stands : (x : List ℕ) (o n d : ℕ) → o ≤ d → d < o + n → place_has (place.Block x o) n (place.Block x d) ≡ true
+block_stands x o n d a b =
+    and_from (bytes_eq x x) (reaches o n d) ((bytes_eq-Decides x x).1 refl) (and_from (nat_le o d) (nat_lt d (o + n)) (le-leb o d a) (lt-ltb d (o + n) b))
 
 module _ (ps : List ParsedTree) (sss : List (List SymbolTree)) (g : Graph) (l : IsLinked ps sss g) (i : ℕ) (p : ParsedTree) (ss : List SymbolTree) (m : IsModule ps sss i p ss) (u : BlockUnit) (t : TrackedBy ps sss g u) where
   -- a variable that is no dummy has it only where it stands there
@@ -120,6 +120,6 @@ module _ (ps : List ParsedTree) (sss : List (List SymbolTree)) (g : Graph) (l : 
       let area = both.0 in
       let name : u.block ≡ b = cc in
       let offset : offset_in s.place ≡ o = ap (λ q. offset_in q) at in
-      let there = block_stands b o (units_in ss s) u.offset (omega (arith, offset, x.from, both.1)) (omega (arith, offset, x.below, both.1)) (omega (arith, offset, fits, l.room)) in
+      let there = block_stands b o (units_in ss s) u.offset (omega (arith, offset, x.from, both.1)) (omega (arith, offset, x.below, both.1)) in
       let stands : stands_at ss (place.Block u.block u.offset) s ≡ true = ap (λ q. place_has q (units_in ss s) (place.Block u.block u.offset)) at ∙ ap (λ y. place_has (place.Block b o) (units_in ss s) (place.Block y u.offset)) name ∙ there in
       found_any (stands_at ss (place.Block u.block u.offset)) ss (v - 1) s (numbered_place ss v s is) stands

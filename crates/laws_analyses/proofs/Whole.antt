@@ -1,12 +1,12 @@
 -- The analyses of a program that is read hold in every run.
-use Rattle.std.proofs.Common.{ℕ, List, [], ◌<◌, ◌^◌}
+use Rattle.std.proofs.Common.{ℕ, List, []}
 use Rattle.f77_ast.specs.DeclTrees.{ParsedTree}
 use Rattle.f77_ast.specs.Programs.{program_plan}
 use Rattle.f77_symbols.specs.Symbols.{SymbolTree}
 use Rattle.call_graph.specs.declared.graph.Graph.{Graph}
 use Rattle.laws_tables.proofs.ShapeLaws.{bodies_are_shaped}
 use Rattle.f77_meaning.specs.Modules.{known_of}
-use Rattle.f77_meaning.specs.Linked.{program_of, room_for}
+use Rattle.f77_meaning.specs.Linked.{program_of}
 use Rattle.laws_storage.specs.Programs.{IsModule}
 use Rattle.laws_programs.specs.Programs.{IsProgram}
 use Rattle.laws_programs.proofs.Sources.{all_built}
@@ -14,7 +14,7 @@ use Rattle.laws_programs.proofs.Tables.{programs_are_linked}
 use Rattle.laws_programs.proofs.Whole.{numbers_go_up}
 use Rattle.laws_analyses.specs.ScalarLaws.{NamesAgree, AcceptedDataStaysInLocals}
 use Rattle.laws_analyses.proofs.MainLaws.{built_at}
-use Rattle.laws_analyses.proofs.NumberLaws.{is_numbered}
+use Rattle.laws_programs.proofs.Numbers.{is_numbered}
 use Rattle.laws_analyses.proofs.TargetLaws.{body_lacks_none}
 use Rattle.laws_analyses.proofs.ThroughoutLaws.{throughout_more}
 use Rattle.laws_analyses.specs.JumpLaws.{JumpsStayInside}
@@ -32,14 +32,14 @@ pub analyses_follow : AnalysesFollow
 analyses_follow ps sss g l numbered = are_analysed ps sss g l numbered
 
 pub whole_analyses_hold : AnalysedProgramsHold → WholeAnalysesHold
-whole_analyses_hold holds ps sss g x small lies settled =
-    holds ps sss g x small lies settled (callees_of_all (known_of ps sss) g) (analysed_sites (known_of ps sss) g) (analysed_entry (known_of ps sss) g)
-    (analyses_follow ps sss g (programs_are_linked ps sss g x small).0 (λ i p ss m. (settled i p ss m).numbered))
+whole_analyses_hold holds ps sss g x lies settled =
+    holds ps sss g x lies settled (callees_of_all (known_of ps sss) g) (analysed_sites (known_of ps sss) g) (analysed_entry (known_of ps sss) g)
+    (analyses_follow ps sss g (programs_are_linked ps sss g x).0 (λ i p ss m. (settled i p ss m).numbered))
 
-module _ (names : NamesAgree) (stays : JumpsStayInside) (ps : List ParsedTree) (sss : List (List SymbolTree)) (g : Graph) (x : IsProgram ps sss g) (small : room_for (known_of ps sss) < 2 ^ 64) where
+module _ (names : NamesAgree) (stays : JumpsStayInside) (ps : List ParsedTree) (sss : List (List SymbolTree)) (g : Graph) (x : IsProgram ps sss g) where
   settled : (i : ℕ) (p : ParsedTree) (ss : List SymbolTree) → IsModule ps sss i p ss → Settled g p ss
   settled i p ss m =
-      let table = (programs_are_linked ps sss g x small).1 i p ss m in
+      let table = (programs_are_linked ps sss g x).1 i p ss m in
       let built = built_at ps (all_built x.lines ps x.parsed) i p m.parsed in
       record {
         agrees = names p ss g.untracked table;
@@ -49,9 +49,9 @@ module _ (names : NamesAgree) (stays : JumpsStayInside) (ps : List ParsedTree) (
       }
 
 pub read_analyses_hold : NamesAgree → AcceptedDataStaysInLocals → JumpsStayInside → WholeAnalysesHold → ReadAnalysesHold
-read_analyses_hold names lies stays holds ps sss g x small turns input =
+read_analyses_hold names lies stays holds ps sss g x turns input =
     let of = part_named (known_of ps sss) g (callees_of_all (known_of ps sss) g) (analysed_entry (known_of ps sss) g) in
-    let s = settled names stays ps sss g x small in
+    let s = settled names stays ps sss g x in
     throughout_more (EachHolds (callees_of_all (known_of ps sss) g) of) (AnalysesHold g (analyses (known_of ps sss) g))
-    (follows ps sss g (programs_are_linked ps sss g x small).0 (λ i p ss m. (s i p ss m).numbered)) (program_plan (program_of (known_of ps sss) g) turns) (program_of (known_of ps sss) g).initial input (λ f z j. [])
-    (holds ps sss g x small (lies x.lines ps sss x.parsed x.tables) s turns input)
+    (follows ps sss g (programs_are_linked ps sss g x).0 (λ i p ss m. (s i p ss m).numbered)) (program_plan (program_of (known_of ps sss) g) turns) (program_of (known_of ps sss) g).initial input (λ f z j. [])
+    (holds ps sss g x (lies x.lines ps sss x.parsed x.tables) s turns input)

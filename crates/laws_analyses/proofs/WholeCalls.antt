@@ -11,8 +11,8 @@ use Rattle.laws_analyses.proofs.Subscripts.{built_have}
 use Rattle.laws_analyses.proofs.Programs.{all_hold}
 
 pub analysed_programs_hold : ProgramHolds → AnalysedProgramsHold
-analysed_programs_hold holds ps sss g x small lies settled cs sites entry analysed =
-    let linked = programs_are_linked ps sss g x small in
+analysed_programs_hold holds ps sss g x lies settled cs sites entry analysed =
+    let linked = programs_are_linked ps sss g x in
     let r = main_from ps sss x.tables (some_main ps sss g x.links) in
     let k = known_module ps sss r.at r.parsed r.table r.is_module in
     let alone = (modules_are_read x.lines ps sss x.parsed x.tables r.at (known r.parsed r.table) k).main r.main in

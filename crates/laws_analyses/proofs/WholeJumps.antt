@@ -8,7 +8,7 @@ use Rattle.f77_statements.specs.Phrases.{end_module}
 use Rattle.f77_structure.specs.declared.blocks.Landing.{Landing}
 use Rattle.f77_structure.specs.Checks.{fault_of}
 use Rattle.f77_parser.specs.Statements.{StatementTree, marks_of}
-use Rattle.f77_parser.specs.Building.{built}
+use Rattle.f77_parser.specs.Building.{build_module}
 use Rattle.roundtrip_statements.specs.Formed.{Each}
 use Rattle.roundtrip_modules.specs.Cards.{cards_in}
 use Rattle.roundtrip_modules.specs.ModuleLaws.{IsStatement}
@@ -63,9 +63,9 @@ body_stays t a few reach ls =
 record Stays (p : ParsedTree) : Type 0 where
   stays : StaysIn p.module_read.body
 
-one_stays : (closing : List (List ℕ)) (begun : List StatementTree) (s : StatementTree) → s.phrase ≡ end_module → Each IsStatement (begun ++ s ∷ []) → fault_of (marks_of (begun ++ s ∷ [])) ≡ None → Stays (built closing (begun ++ s ∷ []))
+one_stays : (closing : List (List ℕ)) (begun : List StatementTree) (s : StatementTree) → s.phrase ≡ end_module → Each IsStatement (begun ++ s ∷ []) → fault_of (marks_of (begun ++ s ∷ [])) ≡ None → Stays (build_module closing (begun ++ s ∷ []))
 one_stays closing begun s e i f =
-    let p = built closing (begun ++ s ∷ []) in
+    let p = build_module closing (begun ++ s ∷ []) in
     let b = is_built closing begun s e i f in
     let body = p.module_read.body in
     let some = goings_few body b.well.body in

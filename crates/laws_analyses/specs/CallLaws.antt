@@ -1,11 +1,10 @@
 -- What tables, layout and links give of programs that are read, as laws on the runs of whole programs ask, and what holds of these runs.
-use Rattle.std.specs.Prelude.{◌≡◌, ℕ, ◌^◌, ◌<◌, false, List}
+use Rattle.std.specs.Prelude.{◌≡◌, ℕ, false, List}
 use Rattle.affine_systems.specs.declared.row.System.{System}
 use Rattle.f77_ast.specs.DeclTrees.{ParsedTree}
 use Rattle.f77_symbols.specs.Symbols.{SymbolTree}
 use Rattle.call_graph.specs.declared.graph.Graph.{Graph}
 use Rattle.f77_meaning.specs.Modules.{Known, known_of, names}
-use Rattle.f77_meaning.specs.Linked.{room_for}
 use Rattle.f77_meaning.specs.Claimed.{InEveryRun}
 use Rattle.affine_forms.specs.Scalars.{is_cell}
 use Rattle.affine_forms.specs.Claims.{Agrees}
@@ -18,7 +17,7 @@ use Rattle.laws_storage.specs.Calls.{AreLaidOut}
 use Rattle.laws_programs.specs.Programs.{IsProgram}
 use Rattle.laws_statements.specs.Leads.{StaysIn}
 use Rattle.laws_statements.specs.Targets.{lacks_targets}
-use Rattle.laws_statements.specs.Numbers.{IsNumbered}
+use Rattle.f77_ast.specs.StatementNumbers.{IsNumbered}
 use Rattle.laws_statements.specs.Laws.{is_scalar}
 use Rattle.laws_calls.specs.Parts.{Sane}
 use Rattle.laws_calls.specs.ProgramLaws.{EachHolds}
@@ -45,6 +44,6 @@ pub record Settled (g : Graph) (p : ParsedTree) (ss : List SymbolTree) : Type 0 
 
 -- then in every run of a program that is read, up to its first fault, the preconditions and transformers hold that such summaries and entries give
 abbrev pub AnalysedProgramsHold : Type 0
-AnalysedProgramsHold = (ps : List ParsedTree) (sss : List (List SymbolTree)) (g : Graph) → IsProgram ps sss g → room_for (known_of ps sss) < 2 ^ 64 → DataLies ps sss →
+AnalysedProgramsHold = (ps : List ParsedTree) (sss : List (List SymbolTree)) (g : Graph) → IsProgram ps sss g → DataLies ps sss →
     ((i : ℕ) (p : ParsedTree) (ss : List SymbolTree) → IsModule ps sss i p ss → Settled g p ss) →
     (cs : Callees) (sites : List ℕ → List HoldingSite) (entry : Known → System) → AreAnalysed (known_of ps sss) g cs sites entry → InEveryRun (known_of ps sss) g (EachHolds cs (part_named (known_of ps sss) g cs entry))

@@ -5,4 +5,5 @@ pub mod Analysed
 pub mod CallLaws
 pub mod Results
 pub mod Claims
+pub mod Coverage
 pub mod Laws

@@ -1,5 +1,5 @@
 -- Preconditions and transformers of main programs that call no module, of programs that are read.
-use Rattle.std.specs.Prelude.{◌≡◌, ℕ, zero, suc, ℤ, ◌^◌, ◌<◌, List, [], Ok, Some}
+use Rattle.std.specs.Prelude.{◌≡◌, ℕ, zero, suc, ℤ, List, [], Ok, Some}
 use Rattle.affine_systems.specs.declared.row.System.{System}
 use Rattle.fixed_form.specs.declared.line.Lines.{Lines}
 use Rattle.f77_ast.specs.DeclTrees.{ParsedTree}
@@ -16,7 +16,7 @@ use Rattle.tracked_cells.specs.Tracked.{tracked_of}
 use Rattle.call_graph.specs.declared.graph.Graph.{Graph}
 use Rattle.f77_results.specs.declared.results.Results.{Results}
 use Rattle.f77_meaning.specs.Modules.{known_of, names}
-use Rattle.f77_meaning.specs.Linked.{room_for, main_of}
+use Rattle.f77_meaning.specs.Linked.{main_of}
 use Rattle.f77_meaning.specs.Occurrences.{Occurrence}
 use Rattle.f77_meaning.specs.Claims.{PreconditionHolds, TransformerHolds}
 use Rattle.f77_meaning.specs.Claimed.{InEveryRun}
@@ -62,7 +62,7 @@ NamesAgree = (p : ParsedTree) (ss : List SymbolTree) (untracked : List BlockUnit
 
 -- a main program that calls no module is such as the law on its runs asks
 abbrev pub MainsAreAlone : Type 0
-MainsAreAlone = (ps : List ParsedTree) (sss : List (List SymbolTree)) (g : Graph) → IsProgram ps sss g → room_for (known_of ps sss) < 2 ^ 64 →
+MainsAreAlone = (ps : List ParsedTree) (sss : List (List SymbolTree)) (g : Graph) → IsProgram ps sss g →
     (let k = main_of (known_of ps sss) in list_calls k.read.body ≡ [] → IsMainAlone (known_of ps sss) g k (tracked_of k.read k.symbols g.untracked))
 
 -- what the results of a module with this scope say of an execution, by the number of its statement: at each arrival its precondition holds, and its transformer
@@ -75,7 +75,7 @@ ResultsHold m ts ps (suc n) x =
 
 -- so its results hold in every run, up to its first fault, whatever is known of other modules
 abbrev pub ReadMainsHold : Type 0
-ReadMainsHold = (ps : List ParsedTree) (sss : List (List SymbolTree)) (g : Graph) (cs : Callees) → IsProgram ps sss g → room_for (known_of ps sss) < 2 ^ 64 →
+ReadMainsHold = (ps : List ParsedTree) (sss : List (List SymbolTree)) (g : Graph) (cs : Callees) → IsProgram ps sss g →
     (let k = main_of (known_of ps sss) in
     let m = scope_of k.symbols (tracked_of k.read k.symbols g.untracked) in
     let ts = transformers_of k.read.body m cs in

@@ -1,5 +1,5 @@
 //! The laws of the analyses of whole programs.
-ghost use Rattle.laws_analyses.specs.Laws.{AnalysesFollow, ReadAnalysesHold, WholeAnalysesHold};
+ghost use Rattle.laws_analyses.specs.Laws.{AnalysesAreWhole, AnalysesFollow, ReadAnalysesHold, WholeAnalysesHold};
 
 use crate::{
     accepted_data_stays_in_locals, analysed_programs_hold, jumps_stay_inside, names_agree,
@@ -27,3 +27,8 @@ pub fn read_analyses_hold()
     jumps_stay_inside();
     whole_analyses_hold();
 }
+
+/// Each module of a program that is read has one analysis, each of its statements a precondition and a transformer.
+pub fn analyses_are_whole()
+    ensures { AnalysesAreWhole }
+{}

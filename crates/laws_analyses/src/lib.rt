@@ -6,7 +6,9 @@ mod call_laws;
 mod jump_laws;
 mod scalar_laws;
 
-pub use analysis_laws::{analyses_follow, read_analyses_hold, whole_analyses_hold};
+pub use analysis_laws::{
+    analyses_are_whole, analyses_follow, read_analyses_hold, whole_analyses_hold,
+};
 pub use call_laws::{analysed_programs_hold, modules_meet_hypotheses};
 pub use jump_laws::jumps_stay_inside;
 pub use scalar_laws::{

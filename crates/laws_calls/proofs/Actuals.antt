@@ -2,6 +2,7 @@
 use Rattle.std.proofs.Common.{◌≡◌, ℕ, zero, suc, ◌+◌, ◌-◌, ◌<◌, List, [], ◌∷◌, Option, Some, None, Bool, true, false, refl, sym, ap, ◌∙◌, subst, arith, ℤ, nat_eq, nat_lt, true≢false}
 use Rattle.std.specs.Prelude.{if◌then◌else◌, slice_get, is_some}
 use Rattle.std.proofs.lemmas.Bool.Decides.{nat_tests}
+use Rattle.std.proofs.lemmas.Bool.{and_parts}
 use Rattle.f77_ast.specs.Trees.{ExprTree, ExprTrees}
 use Rattle.f77_ast.specs.Trees as tree
 use Rattle.f77_ast.specs.Store.{Content, Store}
@@ -19,7 +20,6 @@ use Rattle.laws_statements.specs.Evaluations.{AreMany}
 use Rattle.laws_statements.proofs.Ends.{more}
 use Rattle.laws_statements.proofs.Evaluations.{value_leads, values_leads}
 use Rattle.laws_statements.specs.Activation.{is_locked}
-use Rattle.laws_statements.proofs.Basics.{and_out}
 use Rattle.laws_statements.proofs.Loops.{lock_more}
 use Rattle.laws_calls.specs.Parts.{nth}
 use Rattle.laws_calls.specs.Sites.{has_subscript, have_subscripts}
@@ -94,8 +94,8 @@ module _ (w : Names) (at : Places) (own : ℕ → ℕ) where
   actuals_leads tree.no_exprs n s i h = tt
   actuals_leads (tree.more_exprs e es) n s i h =
       leads_then (actual e w at (own n)) _ s i _ (more (run (actual e w at (own n)) (Whole s) i) (λ x z j. Stands e n x) _ (λ x z j l.
-      leads_then (actuals es (suc n) w at own) _ z j _ (more (run (actuals es (suc n) w at own) (Whole z) j) (λ xs y k. StandFor es (suc n) xs) _ (λ xs y k ls. (l, ls)) (actuals_leads es (suc n) z j (and_out (has_subscript e) (have_subscripts es) h).1)))
-      (actual_leads e n s i (and_out (has_subscript e) (have_subscripts es) h).0))
+      leads_then (actuals es (suc n) w at own) _ z j _ (more (run (actuals es (suc n) w at own) (Whole z) j) (λ xs y k. StandFor es (suc n) xs) _ (λ xs y k ls. (l, ls)) (actuals_leads es (suc n) z j (and_parts (has_subscript e) (have_subscripts es) h).1)))
+      (actual_leads e n s i (and_parts (has_subscript e) (have_subscripts es) h).0))
 
   -- the actual at a place
   pub record StandsAt (xs : List Actual) (e : ExprTree) (i n : ℕ) : Type 0 where

@@ -2,6 +2,7 @@
 use Rattle.std.proofs.Common.{◌≡◌, ℕ, zero, suc, ◌≤◌, List, [], ◌∷◌, ◌⊎◌, inl, inr, Option, Some, None, Bool, true, false, refl, sym, ap, ◌∙◌, subst, arith, nat_eq, nat_le, ◌||◌, true≢false, ⊎_elim}
 use Rattle.std.specs.Prelude.{if◌then◌else◌, slice_get}
 use Rattle.std.proofs.lemmas.Bool.Decides.{nat_tests}
+use Rattle.std.proofs.lemmas.Bool.{or_left, or_right}
 use Rattle.f77_ast.specs.Store.{Content, Store, put}
 use Rattle.f77_ast.specs.Faults.{Bounds}
 use Rattle.f77_ast.specs.Steps.{Done}
@@ -12,7 +13,6 @@ use Rattle.f77_ast.specs.Trees.{ExprTree}
 use Rattle.f77_ast.proofs.StepLaws.{Leads, leads_then}
 use Rattle.transformer_algebra.proofs.CellLaws.{nat_same, nat_eq_same}
 use Rattle.laws_statements.proofs.Evaluations.{value_leads}
-use Rattle.laws_statements.proofs.Basics.{or_in_left, or_in_right}
 use Rattle.laws_calls.specs.Parts.{NoDummy, nth, in_bound}
 
 abbrev pub Distinct : List Dummy → Type 0
@@ -126,8 +126,8 @@ module _ (w : Names) (at0 : Places) (s : Store) (i : List Content) where
 
 pub bound_at : (ds : List Dummy) (ps : List Place) (i : ℕ) (d : Dummy) (u : ℕ) → slice_get ds i ≡ Some d → in_place (nth ps i) u ≡ true → in_bound ds ps u ≡ true
 bound_at [] ps i d u e h = cc
-bound_at (f ∷ ds) ps zero d u e h = or_in_left (in_place (first_place ps) u) (in_bound ds (other_places ps) u) h
-bound_at (f ∷ ds) ps (suc i) d u e h = or_in_right (in_place (first_place ps) u) (in_bound ds (other_places ps) u) (bound_at ds (other_places ps) i d u e h)
+bound_at (f ∷ ds) ps zero d u e h = or_left (in_place (first_place ps) u) (in_bound ds (other_places ps) u) h
+bound_at (f ∷ ds) ps (suc i) d u e h = or_right (in_place (first_place ps) u) (in_bound ds (other_places ps) u) (bound_at ds (other_places ps) i d u e h)
 
 -- a dummy to which a unit is offered
 pub record Offered (ds : List Dummy) (ps : List Place) (u : ℕ) : Type 0 where

@@ -2,6 +2,7 @@
 use Rattle.std.proofs.Common.{◌≡◌, ℕ, suc, ◌+◌, ◌-◌, ◌<◌, List, [], inl, ◌||◌, ◌&&◌, not, Option, Some, None, Bool, true, false, refl, sym, ap, ◌∙◌, subst, arith, nat_eq, true≢false, ⊎_elim}
 use Rattle.std.specs.Prelude.{slice_get}
 use Rattle.std.proofs.lemmas.Bool.Decides.{nat_tests}
+use Rattle.std.proofs.lemmas.Bool.{not-true, or_left, or_right, and_parts}
 use Rattle.affine_systems.specs.declared.row.System.{System}
 use Rattle.f77_ast.specs.Trees.{ExprTree, ExprTrees}
 use Rattle.f77_ast.specs.Trees as tree
@@ -21,7 +22,6 @@ use Rattle.call_translation.specs.Call.{CallTree}
 use Rattle.call_translation.specs.Sites.{HoldingSite}
 use Rattle.transformers.specs.Given.{Callees}
 use Rattle.laws_statements.specs.Activation.{is_locked, Still}
-use Rattle.laws_statements.proofs.Basics.{or_in_left, or_in_right, and_out}
 use Rattle.laws_calls.specs.Scenes.{IsInBlock, IsSceneOf, outside}
 use Rattle.laws_calls.specs.Bindings.{Binds, Begins, Reached, lent_to, shared_with, passed_by, untouched, FarReached, far_shared_with, far_passed_by, Runs}
 use Rattle.laws_calls.proofs.AllLaws.{entry_rules_hold}
@@ -31,7 +31,7 @@ use Rattle.laws_calls.proofs.BeginLaws.{begin_dummies}
 use Rattle.laws_calls.specs.Parts.{Blocks, Part, DummyOf, NoDummy, nth, in_bound, places_in, far_in, scene_in, reach, still_in, Sane}
 use Rattle.laws_calls.specs.Sites.{Site, Entered}
 use Rattle.laws_calls.proofs.Bound.{scalars_fixed, scalars_dummy, Made, Offered, offered_to}
-use Rattle.laws_calls.proofs.Enter.{or_cases, bool_cases, not_true, find_dummy, Fits}
+use Rattle.laws_calls.proofs.Enter.{or_cases, bool_cases, find_dummy, Fits}
 use Rattle.laws_calls.proofs.Actuals.{Stands, as_name, as_part, as_value, StandFor, StandsAt, stands_at, stands_back, nth_place, own_more, own_less, OwnUnit, own_unit_of}
 
 -- a module that runs is a scene of its table
@@ -40,7 +40,7 @@ scene_of b k sane ps at made = record {
   tracked = λ c. refl;
   blocks = λ c x o t i. (let q = sane.in_block c x o t i in ap (λ p. p.first) (made.other c q.0 ∙ scalars_fixed k.routine.dummies ps k.routine.fixed c q.0) ∙ q.1);
   apart = λ c d x o t r i j. sane.one_each c d x o t r i j;
-  hidden = λ u f. not_true (declares k.scope u.block u.offset) (and_out (not (declares k.scope u.block u.offset)) (not (in_bound k.routine.dummies ps (b.place u))) (and_out (b.track u) (not (declares k.scope u.block u.offset) && not (in_bound k.routine.dummies ps (b.place u))) f).1).0;
+  hidden = λ u f. not-true (declares k.scope u.block u.offset) (and_parts (not (declares k.scope u.block u.offset)) (not (in_bound k.routine.dummies ps (b.place u))) (and_parts (b.track u) (not (declares k.scope u.block u.offset) && not (in_bound k.routine.dummies ps (b.place u))) f).1).0;
 }
 
 -- nothing is made of the places yet
@@ -53,7 +53,7 @@ scene_begun b k sane ps = record {
   tracked = λ c. refl;
   blocks = λ c x o t i. (let q = sane.in_block c x o t i in ap (λ p. p.first) (scalars_fixed k.routine.dummies ps k.routine.fixed c q.0) ∙ q.1);
   apart = λ c d x o t r i j. sane.one_each c d x o t r i j;
-  hidden = λ u f. not_true (declares k.scope u.block u.offset) (and_out (not (declares k.scope u.block u.offset)) (not (in_bound k.routine.dummies ps (b.place u))) (and_out (b.track u) (not (declares k.scope u.block u.offset) && not (in_bound k.routine.dummies ps (b.place u))) f).1).0;
+  hidden = λ u f. not-true (declares k.scope u.block u.offset) (and_parts (not (declares k.scope u.block u.offset)) (not (in_bound k.routine.dummies ps (b.place u))) (and_parts (b.track u) (not (declares k.scope u.block u.offset) && not (in_bound k.routine.dummies ps (b.place u))) f).1).0;
 }
 
 offset_in : (p : Place) (u : ℕ) → in_place p u ≡ true → (n : ℕ) × (n < p.extent) × (p.first + n ≡ u)
@@ -80,7 +80,7 @@ module _ (b : Blocks) (cs : Callees) (sites : List ℕ → List HoldingSite) (h 
     agrees = sane_h.names_fit.agrees;
     apart = λ i j e. site.own_each n i j e;
     cells = λ i c t e. true≢false (sym (site.own_below n i) ∙ (ap h.below e ∙ cell_low c t));
-    far = λ i u f e. sane_h.no_block (own i) (sane_h.below_owned (own i) (site.own_below n i)) u (and_out (b.track u) _ f).0 (sym e);
+    far = λ i u f e. sane_h.no_block (own i) (sane_h.below_owned (own i) (site.own_below n i)) u (and_parts (b.track u) _ f).0 (sym e);
   }
 
   not_owned : (u : ℕ) → h.below u ≡ false → k.owns u ≡ false
@@ -215,13 +215,13 @@ module _ (b : Blocks) (cs : Callees) (sites : List ℕ → List HoldingSite) (h 
     keeps_still u s = go (reach k ps u) refl
       where
         locked_there : is_locked locked u ≡ true → still_in k ps passed u ≡ true
-        locked_there l = or_in_left (is_locked passed u) (not (reach k ps u)) (own_more locked (own_units xs) u l)
+        locked_there l = or_left (is_locked passed u) (not (reach k ps u)) (own_more locked (own_units xs) u l)
 
         low_off : {A : Type 0} → h.below u ≡ true → A
         low_off w = clashes (h.below u) w (fits.hidden u s)
 
         go : (r : Bool) → reach k ps u ≡ r → still_in k ps passed u ≡ true
-        go false q = or_in_right (is_locked passed u) (not (reach k ps u)) (ap not q)
+        go false q = or_right (is_locked passed u) (not (reach k ps u)) (ap not q)
         go true q =
             or_cases (in_bound ds ps u) (k.routine.common u || k.owns u) (still_in k ps passed u ≡ true) q
             (λ o. offered_cases u (still_in k ps passed u ≡ true) o
@@ -234,7 +234,7 @@ module _ (b : Blocks) (cs : Callees) (sites : List ℕ → List HoldingSite) (h 
 
     -- a unit that is locked stays in what is called
     pub locked_still : (u : ℕ) → is_locked locked u ≡ true → still_in k ps passed u ≡ true
-    locked_still u l = or_in_left (is_locked passed u) (not (reach k ps u)) (own_more locked (own_units xs) u l)
+    locked_still u l = or_left (is_locked passed u) (not (reach k ps u)) (own_more locked (own_units xs) u l)
 
     -- ---- how it ends
 
@@ -279,7 +279,7 @@ module _ (b : Blocks) (cs : Callees) (sites : List ℕ → List HoldingSite) (h 
 
       -- not reached by what is called
       apart_way : (v : ℕ) → in_bound ds ps (unit_in at v) ≡ false → k.routine.common (unit_in at v) ≡ false → k.owns (unit_in at v) ≡ false → Way v
-      apart_way v o c w = untouched (steady (unit_in at v) (or_in_right (is_locked passed (unit_in at v)) (not (reach k ps (unit_in at v))) (ap not (not_reached (in_bound ds ps (unit_in at v)) (k.routine.common (unit_in at v)) (k.owns (unit_in at v)) o c w))))
+      apart_way v o c w = untouched (steady (unit_in at v) (or_right (is_locked passed (unit_in at v)) (not (reach k ps (unit_in at v))) (ap not (not_reached (in_bound ds ps (unit_in at v)) (k.routine.common (unit_in at v)) (k.owns (unit_in at v)) o c w))))
         where
           not_reached : (p q r : Bool) → p ≡ false → q ≡ false → r ≡ false → (p || (q || r)) ≡ false
           not_reached true q r e f g = absurd (true≢false e)
@@ -325,7 +325,7 @@ module _ (b : Blocks) (cs : Callees) (sites : List ℕ → List HoldingSite) (h 
 
       far_way : (u : BlockUnit) → far_in b h psm u ≡ true → FarReached call eh ek (numbers_of s) (numbers_of y) u
       far_way u f =
-          let tr = (and_out (b.track u) (not (declares h.scope u.block u.offset) && not (in_bound h.routine.dummies psm (b.place u))) f).0 in
+          let tr = (and_parts (b.track u) (not (declares h.scope u.block u.offset) && not (in_bound h.routine.dummies psm (b.place u))) f).0 in
           bool_cases (declares k.scope u.block u.offset) (FarReached call eh ek (numbers_of s) (numbers_of y) u)
           (λ d. (let g = sane_k.full u tr d in far_shared_with g.0 g.1 g.2))
           (λ d. bool_cases (in_bound ds ps (b.place u)) (FarReached call eh ek (numbers_of s) (numbers_of y) u)

@@ -1,13 +1,11 @@
 -- The transformer of a CALL describes the way of the CALL.
 use Rattle.std.proofs.Common.{◌≡◌, ℕ, suc, List, [], ◌∷◌, ◌++◌, ◌&&◌, Option, Some, None, Bool, true, false, refl, sym, ap, ◌∙◌, arith, ℤ, pos, ◌⊎◌, inl, inr, ⊎_elim}
 use Rattle.std.specs.Prelude.{if◌then◌else◌}
-use Rattle.std.proofs.lemmas.Bool.{and_from}
+use Rattle.std.proofs.lemmas.Bool.{and_from, cases_Bool, and_parts}
 use Rattle.std.proofs.lemmas.Int.{ints}
 use Rattle.affine_systems.specs.declared.row.Var.{Var}
 use Rattle.affine_systems.specs.declared.row.Var.TheVariants.{Cell, Exit, Phi, Aux}
 use Rattle.affine_systems.specs.Points.{Point, HoldsAll}
-use Rattle.affine_systems.proofs.Basics.{either}
-use Rattle.affine_systems.proofs.TermLaws.{both_true}
 use Rattle.affine_systems.proofs.CallLaws.{append_all}
 use Rattle.hull_projection.specs.Variables.{with_vars}
 use Rattle.hull_projection.specs.Laws.{IsOneOf}
@@ -112,17 +110,17 @@ module _ (c : CallTree) (t : Transformer) (h k : Scene) (x y z w : ℕ → ℤ) 
     cell_stands n a None e = refl
     cell_stands n a (Some v) e = λ m.
         let s = shared_is c (place_at c.symbols a) v e in
-        let u = found_unit c h k r.binds a s.block s.offset v (both_true (k.tracked a) (goes_out c.symbols a) m).0 s.is s.found in
+        let u = found_unit c h k r.binds a s.block s.offset v (and_parts (k.tracked a) (goes_out c.symbols a) m).0 s.is s.found in
         cell_is a v u.0 u.1
 
     exit_stands : (n a : ℕ) (lent : List ℕ) (o : Option ℕ) → exit_of c lent (place_at c.symbols a) ≡ o → StandsFor own p must n (Exit a) (exit_or_aux n o)
     exit_stands n a lent None e = refl
     exit_stands n a lent (Some v) e = λ m.
-        let b = both_true (k.tracked a && goes_out c.symbols a) (has t.cells a) m in
+        let b = and_parts (k.tracked a && goes_out c.symbols a) (has t.cells a) m in
         ⊎_elim
         (λ (s : IsLent c (place_at c.symbols a) v). let u = r.binds.lent a s.dummy v s.is s.names in exit_same a v u.0 u.1 b.1 (ap (cell_at c) s.is ∙ s.names))
         (λ (s : IsShared c (place_at c.symbols a) v).
-        let u = found_unit c h k r.binds a s.block s.offset v (both_true (k.tracked a) (goes_out c.symbols a) b.0).0 s.is s.found in
+        let u = found_unit c h k r.binds a s.block s.offset v (and_parts (k.tracked a) (goes_out c.symbols a) b.0).0 s.is s.found in
         exit_same a v u.0 u.1 b.1 (ap (cell_at c) s.is ∙ s.found))
         (exit_is c lent (place_at c.symbols a) v e)
 
@@ -163,7 +161,7 @@ module _ (c : CallTree) (t : Transformer) (h k : Scene) (x y z w : ℕ → ℤ) 
           ⊎_elim
           (λ e. rw e (sym (found own p must q n ns v (named n [] (summary_vars t)) filled_q (λ u f. lifted_plain own p ns u f) e (is_named c n [] (summary_vars t) v i))))
           (λ e. rw e refl)
-          (either (must v))
+          (cases_Bool (must v))
 
       -- ---- rows of dummies
 

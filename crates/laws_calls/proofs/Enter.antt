@@ -2,6 +2,7 @@
 use Rattle.std.proofs.Common.{◌≡◌, ℕ, zero, suc, ◌+◌, ◌-◌, ◌<◌, List, [], ◌∷◌, ◌⊎◌, inl, inr, ◌||◌, ◌&&◌, not, Option, Some, None, Bool, true, false, refl, sym, ap, ◌∙◌, subst, arith, nat_eq, true≢false, ⊎_elim}
 use Rattle.std.specs.Prelude.{if◌then◌else◌, slice_get, is_some}
 use Rattle.std.proofs.lemmas.Bool.Decides.{nat_tests}
+use Rattle.std.proofs.lemmas.Bool.{not-true, and_from, or_left, or_right, and_parts}
 use Rattle.f77_ast.specs.Faults.{Fault, Locked, Shared}
 use Rattle.f77_ast.specs.Places.{Variable, Place, Places, scalar_place}
 use Rattle.f77_ast.specs.Writes.{Locks, lock, first_lock}
@@ -12,7 +13,6 @@ use Rattle.affine_forms.specs.Claims.{unit_in}
 use Rattle.transformer_algebra.proofs.CellLaws.{nat_eq_same, nat_same, clashes}
 use Rattle.call_translation.specs.Common.{declares}
 use Rattle.laws_statements.specs.Activation.{is_locked, Fit}
-use Rattle.laws_statements.proofs.Basics.{or_in_left, or_in_right, and_out}
 use Rattle.laws_statements.proofs.Loops.{also, lock_more, lock_both, fit_lock}
 use Rattle.laws_calls.specs.Parts.{Blocks, Part, DummyOf, NoDummy, nth, in_bound, places_in, far_in, scene_in, reach, still_in, Sane}
 use Rattle.laws_calls.specs.Sites.{Entered}
@@ -25,10 +25,6 @@ or_cases false b X h f g = g h
 pub bool_cases : (b : Bool) (X : Type 0) → (b ≡ true → X) → (b ≡ false → X) → X
 bool_cases true X f g = f refl
 bool_cases false X f g = g refl
-
-pub not_true : (b : Bool) → not b ≡ true → b ≡ false
-not_true true h = sym h
-not_true false h = refl
 
 -- ---- dummies
 
@@ -46,30 +42,26 @@ find_dummy (d ∷ ds) v = go (nat_eq d.symbol v) refl (find_dummy ds v)
 
 in_dummies_at : (ds : List Dummy) (at : Places) (i : ℕ) (d : Dummy) (u : ℕ) → slice_get ds i ≡ Some d → in_place (at d.symbol) u ≡ true → in_dummies ds at u ≡ true
 in_dummies_at [] at i d u e h = cc
-in_dummies_at (f ∷ ds) at zero d u e h = let same : f ≡ d = cc in or_in_left (in_place (at f.symbol) u) (in_dummies ds at u) (ap (λ y. in_place (at y.symbol) u) same ∙ h)
-in_dummies_at (f ∷ ds) at (suc i) d u e h = or_in_right (in_place (at f.symbol) u) (in_dummies ds at u) (in_dummies_at ds at i d u e h)
-
-and_in : (a b : Bool) → a ≡ true → b ≡ true → (a && b) ≡ true
-and_in true b h k = k
-and_in false b h k = absurd (true≢false (sym h))
+in_dummies_at (f ∷ ds) at zero d u e h = let same : f ≡ d = cc in or_left (in_place (at f.symbol) u) (in_dummies ds at u) (ap (λ y. in_place (at y.symbol) u) same ∙ h)
+in_dummies_at (f ∷ ds) at (suc i) d u e h = or_right (in_place (at f.symbol) u) (in_dummies ds at u) (in_dummies_at ds at i d u e h)
 
 doubly_common : (ds : List Dummy) (at : Places) (common : ℕ → Bool) (i : ℕ) (d : Dummy) (u : ℕ) → slice_get ds i ≡ Some d → in_place (at d.symbol) u ≡ true → common u ≡ true → doubly_reached ds at common u ≡ true
 doubly_common [] at common i d u e h c = cc
 doubly_common (f ∷ ds) at common zero d u e h c =
     let same : f ≡ d = cc in
-    or_in_left (in_place (at f.symbol) u && (in_dummies ds at u || common u)) (doubly_reached ds at common u) (and_in (in_place (at f.symbol) u) (in_dummies ds at u || common u) (ap (λ y. in_place (at y.symbol) u) same ∙ h) (or_in_right (in_dummies ds at u) (common u) c))
-doubly_common (f ∷ ds) at common (suc i) d u e h c = or_in_right (in_place (at f.symbol) u && (in_dummies ds at u || common u)) (doubly_reached ds at common u) (doubly_common ds at common i d u e h c)
+    or_left (in_place (at f.symbol) u && (in_dummies ds at u || common u)) (doubly_reached ds at common u) (and_from (in_place (at f.symbol) u) (in_dummies ds at u || common u) (ap (λ y. in_place (at y.symbol) u) same ∙ h) (or_right (in_dummies ds at u) (common u) c))
+doubly_common (f ∷ ds) at common (suc i) d u e h c = or_right (in_place (at f.symbol) u && (in_dummies ds at u || common u)) (doubly_reached ds at common u) (doubly_common ds at common i d u e h c)
 
 doubly_two : (ds : List Dummy) (at : Places) (common : ℕ → Bool) (i j : ℕ) (d f : Dummy) (u : ℕ) → slice_get ds i ≡ Some d → slice_get ds j ≡ Some f → (d.symbol ≡ f.symbol → ⊥) → in_place (at d.symbol) u ≡ true → in_place (at f.symbol) u ≡ true → doubly_reached ds at common u ≡ true
 doubly_two [] at common i j d f u e q n h k = cc
 doubly_two (g ∷ ds) at common zero zero d f u e q n h k = absurd (n (let same : d ≡ f = cc in ap (λ y. y.symbol) same))
 doubly_two (g ∷ ds) at common zero (suc j) d f u e q n h k =
     let same : g ≡ d = cc in
-    or_in_left (in_place (at g.symbol) u && (in_dummies ds at u || common u)) (doubly_reached ds at common u) (and_in (in_place (at g.symbol) u) (in_dummies ds at u || common u) (ap (λ y. in_place (at y.symbol) u) same ∙ h) (or_in_left (in_dummies ds at u) (common u) (in_dummies_at ds at j f u q k)))
+    or_left (in_place (at g.symbol) u && (in_dummies ds at u || common u)) (doubly_reached ds at common u) (and_from (in_place (at g.symbol) u) (in_dummies ds at u || common u) (ap (λ y. in_place (at y.symbol) u) same ∙ h) (or_left (in_dummies ds at u) (common u) (in_dummies_at ds at j f u q k)))
 doubly_two (g ∷ ds) at common (suc i) zero d f u e q n h k =
     let same : g ≡ f = cc in
-    or_in_left (in_place (at g.symbol) u && (in_dummies ds at u || common u)) (doubly_reached ds at common u) (and_in (in_place (at g.symbol) u) (in_dummies ds at u || common u) (ap (λ y. in_place (at y.symbol) u) same ∙ k) (or_in_left (in_dummies ds at u) (common u) (in_dummies_at ds at i d u e h)))
-doubly_two (g ∷ ds) at common (suc i) (suc j) d f u e q n h k = or_in_right (in_place (at g.symbol) u && (in_dummies ds at u || common u)) (doubly_reached ds at common u) (doubly_two ds at common i j d f u e q n h k)
+    or_left (in_place (at g.symbol) u && (in_dummies ds at u || common u)) (doubly_reached ds at common u) (and_from (in_place (at g.symbol) u) (in_dummies ds at u || common u) (ap (λ y. in_place (at y.symbol) u) same ∙ k) (or_left (in_dummies ds at u) (common u) (in_dummies_at ds at i d u e h)))
+doubly_two (g ∷ ds) at common (suc i) (suc j) d f u e q n h k = or_right (in_place (at g.symbol) u && (in_dummies ds at u || common u)) (doubly_reached ds at common u) (doubly_two ds at common i j d f u e q n h k)
 
 first_some : (o : Option Fault) (f : Fault) → is_some (first_lock o f) ≡ true
 first_some None f = refl
@@ -97,7 +89,7 @@ doubly_dummy : (ds : List Dummy) (at : Places) (common : ℕ → Bool) (u : ℕ)
 doubly_dummy [] at common u h = absurd (true≢false (sym h))
 doubly_dummy (d ∷ ds) at common u h =
     or_cases (in_place (at d.symbol) u && (in_dummies ds at u || common u)) (doubly_reached ds at common u) ((i : ℕ) × (f : Dummy) × (slice_get (d ∷ ds) i ≡ Some f) × (in_place (at f.symbol) u ≡ true)) h
-    (λ q. (zero, d, refl, (and_out (in_place (at d.symbol) u) (in_dummies ds at u || common u) q).0))
+    (λ q. (zero, d, refl, (and_parts (in_place (at d.symbol) u) (in_dummies ds at u || common u) q).0))
     (λ q. (let r = doubly_dummy ds at common u q in (suc r.0, r.1, r.2, r.3)))
 
 -- ---- an activation
@@ -183,20 +175,20 @@ module _ (b : Blocks) (k : Part) (sane : Sane b k) (ps : List Place) (locked : L
   reached : (x : List ℕ) (v n : ℕ) → k.routine.names x ≡ Variable v → n < (at v).extent → reach k ps ((at v).first + n) ≡ true
   reached x v n e h =
       unit_cases v n (reach k ps ((at v).first + n) ≡ true) h
-      (λ i d s q o. or_in_left (in_bound ds ps ((at v).first + n)) (common ((at v).first + n) || k.owns ((at v).first + n)) o)
-      (λ nd q l. or_in_right (in_bound ds ps ((at v).first + n)) (common ((at v).first + n) || k.owns ((at v).first + n)) (⊎_elim (λ c. or_in_left (common ((at v).first + n)) (k.owns ((at v).first + n)) c) (λ o. or_in_right (common ((at v).first + n)) (k.owns ((at v).first + n)) o) (fixed_lies x v n e nd q l)))
+      (λ i d s q o. or_left (in_bound ds ps ((at v).first + n)) (common ((at v).first + n) || k.owns ((at v).first + n)) o)
+      (λ nd q l. or_right (in_bound ds ps ((at v).first + n)) (common ((at v).first + n) || k.owns ((at v).first + n)) (⊎_elim (λ c. or_left (common ((at v).first + n)) (k.owns ((at v).first + n)) c) (λ o. or_right (common ((at v).first + n)) (k.owns ((at v).first + n)) o) (fixed_lies x v n e nd q l)))
 
   lock_or : (u : ℕ) (X : Type 0) → still u ≡ true → (is_locked locked u ≡ true → X) → (reach k ps u ≡ false → X) → X
-  lock_or u X h f g = or_cases (is_locked locked u) (not (reach k ps u)) X h f (λ q. g (not_true (reach k ps u) q))
+  lock_or u X h f g = or_cases (is_locked locked u) (not (reach k ps u)) X h f (λ q. g (not-true (reach k ps u) q))
 
   stays : (x : List ℕ) (v n : ℕ) → k.routine.names x ≡ Variable v → n < (at v).extent → still ((at v).first + n) ≡ true → is_locked locks ((at v).first + n) ≡ true
   stays x v n e h s = lock_or ((at v).first + n) (is_locked locks ((at v).first + n) ≡ true) s (λ l. still_locks locked ds at common ((at v).first + n) l) (λ r. clashes (reach k ps ((at v).first + n)) (reached x v n e h) r)
 
   far_parts : (u : BlockUnit) → far_in b k ps u ≡ true → (b.track u ≡ true) × (declares k.scope u.block u.offset ≡ false) × (in_bound ds ps (b.place u) ≡ false)
   far_parts u f =
-      let a = and_out (b.track u) (not (declares k.scope u.block u.offset) && not (in_bound ds ps (b.place u))) f in
-      let c = and_out (not (declares k.scope u.block u.offset)) (not (in_bound ds ps (b.place u))) a.1 in
-      (a.0, not_true (declares k.scope u.block u.offset) c.0, not_true (in_bound ds ps (b.place u)) c.1)
+      let a = and_parts (b.track u) (not (declares k.scope u.block u.offset) && not (in_bound ds ps (b.place u))) f in
+      let c = and_parts (not (declares k.scope u.block u.offset)) (not (in_bound ds ps (b.place u))) a.1 in
+      (a.0, not-true (declares k.scope u.block u.offset) c.0, not-true (in_bound ds ps (b.place u)) c.1)
 
   near : (x : List ℕ) (v n : ℕ) → k.routine.names x ≡ Variable v → n < (at v).extent → (u : BlockUnit) → far_in b k ps u ≡ true → b.place u ≡ (at v).first + n → ⊥
   near x v n e h u f q =
@@ -294,8 +286,8 @@ module _ (b : Blocks) (k : Part) (sane : Sane b k) (ps : List Place) (locked : L
   pub begin_fits : Fits b k ps at locks still
   begin_fits = record {
     base = record { apart = apart; stays = stays; near = near; solid = solid; flat = λ x v e t. cell_flat v t };
-    commons = λ u s c. lock_or u (is_locked locks u ≡ true) s (λ l. still_locks locked ds at common u l) (λ r. clashes (reach k ps u) (or_in_right (in_bound ds ps u) (common u || k.owns u) (or_in_left (common u) (k.owns u) c)) r);
-    hidden = λ u s. lock_or u (k.below u ≡ false) s (λ l. not_below u (ent.locks u l)) (λ r. bool_cases (k.below u) (k.below u ≡ false) (λ w. clashes (reach k ps u) (or_in_right (in_bound ds ps u) (common u || k.owns u) (or_in_right (common u) (k.owns u) (sane.below_owned u w))) r) (λ w. w));
+    commons = λ u s c. lock_or u (is_locked locks u ≡ true) s (λ l. still_locks locked ds at common u l) (λ r. clashes (reach k ps u) (or_right (in_bound ds ps u) (common u || k.owns u) (or_left (common u) (k.owns u) c)) r);
+    hidden = λ u s. lock_or u (k.below u ≡ false) s (λ l. not_below u (ent.locks u l)) (λ r. bool_cases (k.below u) (k.below u ≡ false) (λ w. clashes (reach k ps u) (or_right (in_bound ds ps u) (common u || k.owns u) (or_right (common u) (k.owns u) (sane.below_owned u w))) r) (λ w. w));
     free = free;
     doubled = λ c t o m. doubly_locks locked ds at common (unit_in at c) (doubly_common ds at common o.at o.dummy (unit_in at c) o.is_dummy (subst (λ y. in_place (at y) (unit_in at c) ≡ true) (sym o.symbol) (cell_in c t)) m);
     low = low;

@@ -1,10 +1,10 @@
 -- What holds at one of the CALLs of a module, or of the values from DATA, holds as its entry says.
 use Rattle.std.proofs.Common.{◌≡◌, ℕ, suc, List, [], ◌∷◌, map, Some, Bool, true, false, refl, ◌∙◌, arith, ℤ, inl, inr}
 use Rattle.std.proofs.lemmas.Int.{ints}
+use Rattle.std.proofs.lemmas.Bool.{and_parts}
 use Rattle.affine_systems.specs.declared.row.Var.TheVariants.{Cell}
 use Rattle.affine_systems.specs.declared.row.System.{System}
 use Rattle.affine_systems.specs.Points.{Point, HoldsAll}
-use Rattle.affine_systems.proofs.TermLaws.{both_true}
 use Rattle.affine_systems.proofs.CallLaws.{append_all}
 use Rattle.hull_projection.specs.Hull.{hull}
 use Rattle.hull_projection.proofs.HullLaws.{hull_holds}
@@ -70,4 +70,4 @@ holds_main s m x d p st = of_rows_holds (initial_from s.tracked 1 s.symbols) p (
 -- ---- inside and outside
 
 pub holds_inside : (ss : List SymbolTree) (m : Scene) (t : System) (x : ℕ → ℤ) → HoldsAt (outside ss m) t x → HoldsAt m t x
-holds_inside ss m t x h p st = h p (λ c e. st c (both_true (m.tracked c) (goes_out ss c) e).0)
+holds_inside ss m t x h p st = h p (λ c e. st c (and_parts (m.tracked c) (goes_out ss c) e).0)

@@ -2,9 +2,9 @@
 use Rattle.std.proofs.Common.{◌≡◌, ℕ, zero, suc, ◌+◌, ◌-◌, List, [], ◌∷◌, Option, Some, None, Bool, true, false, refl, sym, ap, ◌∙◌, subst, arith, ℤ, pos, ◌⊎◌, inl, inr, ⊎_elim}
 use Rattle.std.specs.Prelude.{if◌then◌else◌, nat_eq, codes, slice_get}
 use Rattle.std.proofs.lemmas.Int.{ints}
+use Rattle.std.proofs.lemmas.Bool.{and_parts}
 use Rattle.affine_systems.specs.declared.row.Var.TheVariants.{Cell, Exit}
 use Rattle.affine_systems.specs.Terms.{term}
-use Rattle.affine_systems.proofs.TermLaws.{both_true}
 use Rattle.f77_symbols.specs.declared.symbol.Place.{Place}
 use Rattle.f77_symbols.specs.declared.symbol.Place.TheVariants.{Local, Dummy, Block, Constant}
 use Rattle.f77_symbols.specs.Symbols.{SymbolTree}
@@ -213,7 +213,7 @@ summary_does = record {
         (same_holds (var_form (Exit 3)) (affine (term (Cell 3) (pos 1) ∷ []) (pos 1)) p (omega (arith, ints, d, f)), tt),
       ));
   kept = record {
-    cells = λ c t e. each_at Stays called.tracked c true stay (flag_is (numbered called.tracked c) (both_true (is_cell called.tracked c) (goes_out called.symbols c) t).0) e;
+    cells = λ c t e. each_at Stays called.tracked c true stay (flag_is (numbered called.tracked c) (and_parts (is_cell called.tracked c) (goes_out called.symbols c) t).0) e;
     foreign = λ u f i. clashes false f refl;
   };
 }

@@ -1,6 +1,6 @@
 -- The cells of the caller that a CALL does not list, and its far units, keep their numbers.
 use Rattle.std.proofs.Common.{◌≡◌, ℕ, List, ◌&&◌, Some, true, false, refl, sym, ap, ◌∙◌, ℤ}
-use Rattle.std.proofs.lemmas.Bool.{and_from}
+use Rattle.std.proofs.lemmas.Bool.{and_from, false_from_ne_true}
 use Rattle.f77_symbols.specs.declared.variable.Unit.{Unit as BlockUnit}
 use Rattle.f77_symbols.specs.Shared.{place_at}
 use Rattle.tracked_cells.specs.Scalars.{unit}
@@ -15,7 +15,7 @@ use Rattle.transformers.specs.Modules.{is_seen, goes_out}
 use Rattle.laws_calls.specs.Scenes.{outside, IsInBlock}
 use Rattle.laws_calls.specs.Bindings.{IsDummy, Binds, Reached, lent_to, shared_with, passed_by, untouched, FarReached, far_shared_with, far_passed_by, far_untouched, Runs}
 use Rattle.laws_calls.proofs.TableLaws.{tracked_at_cell, tracked_at_finds}
-use Rattle.laws_calls.proofs.ListLaws.{out_of, cells_of_has, unit_cells_has, hidden_has, units_of_has}
+use Rattle.laws_calls.proofs.ListLaws.{cells_of_has, unit_cells_has, hidden_has, units_of_has}
 
 -- ---- the same units
 
@@ -47,7 +47,7 @@ module _ (c : CallTree) (t : Transformer) (h k : Scene) (x y z w : ℕ → ℤ) 
   -- a cell that is the same unit in the callee
   stays : (d v : ℕ) → (k.tracked d && goes_out c.symbols d) ≡ true → k.unit d ≡ h.unit v → cell_at c (place_at c.symbols d) ≡ Some v → has called.cells v ≡ false → z (h.unit v) ≡ y (h.unit v)
   stays d v u q f e =
-      let n : has t.cells d ≡ false = out_of (has t.cells d) (λ i. clashes (has called.cells v) (right_in (unit_cells c t.foreign) (cells_of c t.cells) v (cells_of_has c t.cells d v i f)) e) in
+      let n : has t.cells d ≡ false = false_from_ne_true (has t.cells d) (λ i. clashes (has called.cells v) (right_in (unit_cells c t.foreign) (cells_of c t.cells) v (cells_of_has c t.cells d v i f)) e) in
       ap z (sym q) ∙ (s.cells d u n ∙ ap y q)
 
   cell_stays : (v : ℕ) → h.tracked v ≡ true → has called.cells v ≡ false → Reached c h k y z v → z (h.unit v) ≡ y (h.unit v)
@@ -65,7 +65,7 @@ module _ (c : CallTree) (t : Transformer) (h k : Scene) (x y z w : ℕ → ℤ) 
   far_stays u i f (far_shared_with d j m) =
       let g = r.binds.caller.hidden u i in
       let p : k.unit d ≡ h.place u = r.binds.callee d u.block u.offset j m ∙ r.binds.places u in
-      let n : has t.cells d ≡ false = out_of (has t.cells d) (λ a. f (unit_right (hidden_units c t.foreign) (hidden_units c (units_of c t.cells)) u (hidden_has c (units_of c t.cells) u (units_of_has c t.cells d u a m) g))) in
+      let n : has t.cells d ≡ false = false_from_ne_true (has t.cells d) (λ a. f (unit_right (hidden_units c t.foreign) (hidden_units c (units_of c t.cells)) u (hidden_has c (units_of c t.cells) u (units_of_has c t.cells d u a m) g))) in
       ap z (sym p) ∙ (s.cells d (shared_seen c h k r.binds d u.block u.offset j m) n ∙ ap y p)
   far_stays u i f (far_passed_by j) =
       let g = r.binds.caller.hidden u i in

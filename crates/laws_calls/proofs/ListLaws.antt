@@ -1,22 +1,18 @@
 -- Which cells and units a CALL lists as changed.
 use Rattle.std.proofs.Common.{◌≡◌, ℕ, List, [], ◌∷◌, ◌++◌, ◌||◌, Option, Some, Bool, true, false, refl, sym, ap, ◌∙◌, subst, inl, inr, ⊎_elim, nat_eq}
 use Rattle.std.specs.Prelude.{if◌then◌else◌, filter}
+use Rattle.std.proofs.lemmas.Bool.{or_right}
 use Rattle.f77_symbols.specs.declared.symbol.Place.TheVariants.{Block}
 use Rattle.f77_symbols.specs.declared.variable.Unit.{Unit as BlockUnit}
 use Rattle.f77_symbols.specs.Shared.{place_at}
 use Rattle.transformer_algebra.specs.Cells.{has}
 use Rattle.transformer_algebra.specs.Claims.{IsIn}
-use Rattle.transformer_algebra.proofs.CellLaws.{clashes, nat_same, nat_eq_same, or_in_right}
+use Rattle.transformer_algebra.proofs.CellLaws.{clashes, nat_same, nat_eq_same}
 use Rattle.call_translation.specs.Common.{tracked_at, declares}
 use Rattle.call_translation.specs.Actuals.{one_cell}
 use Rattle.call_translation.specs.Call.{CallTree, cell_at}
 use Rattle.call_translation.specs.Summary.{unit_cell, unit_cells, cells_of, if_hidden, hidden_units, unit_of, units_of}
 use Rattle.laws_calls.specs.Scenes.{IsInBlock}
-
--- what is not so is false
-pub out_of : (b : Bool) → (b ≡ true → ⊥) → b ≡ false
-out_of true f = absurd (f refl)
-out_of false f = refl
 
 -- ---- cells
 
@@ -25,7 +21,7 @@ has-filter f [] c h e = h
 has-filter f (d ∷ cs) c h e = go (nat_eq d c) refl h (λ k. has-filter f cs c k e)
   where
     skip : (b : Bool) → has (filter f cs) c ≡ true → has (if b then d ∷ filter f cs else filter f cs) c ≡ true
-    skip true k = or_in_right (nat_eq d c) (has (filter f cs) c) k
+    skip true k = or_right (nat_eq d c) (has (filter f cs) c) k
     skip false k = k
 
     go : (b : Bool) → nat_eq d c ≡ b → (b || has cs c) ≡ true → (has cs c ≡ true → has (filter f cs) c ≡ true) → has (if f d then d ∷ filter f cs else filter f cs) c ≡ true
@@ -42,7 +38,7 @@ has_left (a ∷ as') bs c h = go (nat_eq a c) h (λ k. has_left as' bs c k)
 
 has_right : (as' bs : List ℕ) (c : ℕ) → has bs c ≡ true → has (as' ++ bs) c ≡ true
 has_right [] bs c h = h
-has_right (a ∷ as') bs c h = or_in_right (nat_eq a c) (has (as' ++ bs) c) (has_right as' bs c h)
+has_right (a ∷ as') bs c h = or_right (nat_eq a c) (has (as' ++ bs) c) (has_right as' bs c h)
 
 has_one : (o : Option ℕ) (c : ℕ) → o ≡ Some c → has (one_cell o) c ≡ true
 has_one o c e = subst (λ (p : Option ℕ). has (one_cell p) c ≡ true) (sym e) (ap (λ b. b || false) (nat_eq_same c))

@@ -1,11 +1,11 @@
 -- Points that have other numbers at some variables: at auxiliary ones, those of what they stand for.
 use Rattle.std.proofs.Common.{◌≡◌, ℕ, suc, ◌≤◌, List, [], ◌∷◌, ◌++◌, Bool, true, false, refl, sym, ap, ◌∙◌, subst, arith, ◌⊎◌, inl, inr, ⊎_elim}
 use Rattle.std.specs.Prelude.{if◌then◌else◌, filter}
+use Rattle.std.proofs.lemmas.Bool.{cases_Bool}
 use Rattle.affine_systems.specs.declared.row.Var.{Var}
 use Rattle.affine_systems.specs.declared.row.Var.TheVariants.{Cell, Exit, Phi, Aux}
 use Rattle.affine_systems.specs.Terms.{var_eq}
 use Rattle.affine_systems.specs.Points.{Point}
-use Rattle.affine_systems.proofs.Basics.{either}
 use Rattle.affine_systems.proofs.TermLaws.{var_eq-true, true-var_eq}
 use Rattle.affine_systems.proofs.AscendLaws.{var_eq-sym}
 use Rattle.hull_projection.specs.Laws.{IsOneOf}
@@ -28,7 +28,7 @@ patched_in p r (v ∷ vs) w h =
     ⊎_elim
     (λ e. rw e refl)
     (λ e. rw e (patched_in p r vs w (⊎_elim (λ k. clashes (var_eq v w) (true-var_eq v w (sym k)) e) (λ k. k) h)))
-    (either (var_eq v w))
+    (cases_Bool (var_eq v w))
 
 pub patched_off : (p r : Point) (vs : List Var) (w : Var) → (IsOneOf w vs → ⊥) → patched p r vs w ≡ p w
 patched_off p r [] w f = refl
@@ -36,7 +36,7 @@ patched_off p r (v ∷ vs) w f =
     ⊎_elim
     (λ e. absurd (f (inl (sym (var_eq-true v w e)))))
     (λ e. rw e (patched_off p r vs w (λ h. f (inr h))))
-    (either (var_eq v w))
+    (cases_Bool (var_eq v w))
 
 pub patched_same : (p r : Point) (vs : List Var) (w : Var) → p w ≡ r w → patched p r vs w ≡ r w
 patched_same p r [] w h = h
@@ -44,7 +44,7 @@ patched_same p r (v ∷ vs) w h =
     ⊎_elim
     (λ e. rw e refl)
     (λ e. rw e (patched_same p r vs w h))
-    (either (var_eq v w))
+    (cases_Bool (var_eq v w))
 
 pub filter_var : (f : Var → Bool) (vs : List Var) (w : Var) → IsOneOf w vs → f w ≡ true → IsOneOf w (filter f vs)
 filter_var f [] w h e = h
@@ -151,7 +151,7 @@ module _ (r p : Point) (must : Var → Bool) where
       ⊎_elim
       (λ t. let s : v ≡ a.from = var_eq-true v a.from t in rw t (is a.to h.0 f.0 (ap must (sym s) ∙ m) ∙ ap r (sym s)))
       (λ t. rw t (found q (suc n) ns v h.1 f.1 e m (⊎_elim (λ k. clashes (var_eq v a.from) (true-var_eq v a.from k) t) (λ k. k) i)))
-      (either (var_eq v a.from))
+      (cases_Bool (var_eq v a.from))
     where
       is : (t : Var) → StandsFor n a.from t → ((k : ℕ) → t ≡ Aux k → q (Aux k) ≡ r a.from) → must a.from ≡ true → q t ≡ r a.from
       is (Cell c) s g j = e (Cell c) (λ x. x) ∙ s j

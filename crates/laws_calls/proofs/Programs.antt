@@ -1,6 +1,7 @@
 -- The modules of a program, from the last to the first.
 use Rattle.std.proofs.Common.{◌≡◌, ℕ, zero, suc, List, [], ◌∷◌, ◌&&◌, Option, Some, None, Bool, true, false, refl, sym, ap, ◌∙◌, subst, true≢false}
 use Rattle.std.specs.Prelude.{if◌then◌else◌, slice_get, bytes_eq}
+use Rattle.std.proofs.lemmas.Bool.{and_from}
 use Rattle.affine_systems.specs.declared.row.System.{System}
 use Rattle.f77_ast.specs.Store.{Content, Store}
 use Rattle.f77_ast.specs.Places.{Places}
@@ -45,10 +46,6 @@ seen_outer (Some s) = go s.place
     go (place.Block b o) = refl
     go (place.Constant v) = refl
 
-and_both : (a b : Bool) → a ≡ true → b ≡ true → (a && b) ≡ true
-and_both true b h k = k
-and_both false b h k = absurd (true≢false (sym h))
-
 module _ (b : Blocks) (cs : Callees) (sites : List ℕ → List HoldingSite) (of : List ℕ → Part) (turns : ℕ) where
   abbrev C : Claim
   C = said (EachHolds cs of)
@@ -60,7 +57,7 @@ module _ (b : Blocks) (cs : Callees) (sites : List ℕ → List HoldingSite) (of
     (λ n ag p hp. hold p (λ c t. hp c ∙ ag c t)),
     more q (λ f y i. is_normal (suc j) f ≡ true → Does (scene_in b k ps at) (k.found.transformer (suc j)) (numbers_of z) (numbers_of y)) _
         (λ f y i dd n. (let w = dd n in (
-          (λ a e agrees changed p before after. w.relates p (λ c t. before c ∙ agrees c t) (λ c t v. after c ∙ changed c (and_both (is_cell k.scope.tracked c) (has (k.found.transformer (suc j)).cells c) t v))),
+          (λ a e agrees changed p before after. w.relates p (λ c t. before c ∙ agrees c t) (λ c t v. after c ∙ changed c (and_from (is_cell k.scope.tracked c) (has (k.found.transformer (suc j)).cells c) t v))),
           (λ c t v. w.kept.cells c t v),
         ))) d,
   )
@@ -70,7 +67,7 @@ module _ (b : Blocks) (cs : Callees) (sites : List ℕ → List HoldingSite) (of
     (λ n ag p hp. hold p (λ c t. hp c ∙ (ag c t ∙ at_unit z c))),
     more q (λ f y i. is_normal 0 f ≡ true → Does (outside k.scope.symbols (scene_in b k ps (places_in k ps))) (summary cs k) (numbers_of z) (numbers_of y)) _
         (λ f y i dd n. (let w = dd n in (
-          (λ a e agrees changed p before after. w.relates p (λ c t. before c ∙ (agrees c (spoken c t) ∙ at_unit z c)) (λ c t v. after c ∙ (changed c (and_both _ (has (summary cs k).cells c) (spoken c t) v) ∙ at_unit y c))),
+          (λ a e agrees changed p before after. w.relates p (λ c t. before c ∙ (agrees c (spoken c t) ∙ at_unit z c)) (λ c t v. after c ∙ (changed c (and_from _ (has (summary cs k).cells c) (spoken c t) v) ∙ at_unit y c))),
           (λ c t v. at_unit y c ∙ (w.kept.cells c (seen c t) v ∙ sym (at_unit z c))),
         ))) d,
   )

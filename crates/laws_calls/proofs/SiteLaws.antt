@@ -1,14 +1,13 @@
 -- What holds at a CALL holds where the module is entered from there.
 use Rattle.std.proofs.Common.{◌≡◌, ℕ, suc, List, [], ◌∷◌, map, Option, Some, None, Bool, true, false, refl, sym, ap, ◌∙◌, arith, ℤ, pos, inl, inr, ⊎_elim}
 use Rattle.std.specs.Prelude.{if◌then◌else◌}
-use Rattle.std.proofs.lemmas.Bool.{and_from}
+use Rattle.std.proofs.lemmas.Bool.{and_from, cases_Bool}
 use Rattle.std.proofs.lemmas.Int.{ints}
 use Rattle.affine_systems.specs.declared.row.Var.{Var}
 use Rattle.affine_systems.specs.declared.row.Var.TheVariants.{Cell, Exit, Phi, Aux}
 use Rattle.affine_systems.specs.declared.row.Row.{Row}
 use Rattle.affine_systems.specs.Points.{Point, HoldsAll}
 use Rattle.affine_systems.specs.Rows.{renamed_row}
-use Rattle.affine_systems.proofs.Basics.{either}
 use Rattle.affine_systems.proofs.CallLaws.{append_all, renamed_same}
 use Rattle.hull_projection.specs.Variables.{with_rows}
 use Rattle.hull_projection.specs.Laws.{IsOneOf}
@@ -127,7 +126,7 @@ module _ (s : ScopeTree) (c : HoldingSite) (h k : Scene) (x y : ℕ → ℤ) (r 
           ⊎_elim
           (λ e. rw e (sym (found own p must q n ns v (named n vs) (filled own p must n ns (named n vs)) (λ u f. lifted_plain own p ns u f) e (is_named s c n vs v i))))
           (λ e. rw e refl)
-          (either (must v))
+          (cases_Bool (must v))
 
       -- ---- rows of dummies
 

@@ -1,12 +1,11 @@
 -- A summary describes, for those that see the module from outside, what the transformer of the body describes.
 use Rattle.std.proofs.Common.{◌≡◌, ℕ, List, not, Bool, true, false, refl, sym, ap, ℤ}
 use Rattle.std.specs.Prelude.{if◌then◌else◌, filter}
-use Rattle.std.proofs.lemmas.Bool.{and_from}
+use Rattle.std.proofs.lemmas.Bool.{and_from, and_parts, false_from_ne_true}
 use Rattle.affine_systems.specs.declared.row.Var.{Var}
 use Rattle.affine_systems.specs.declared.row.Var.TheVariants.{Cell, Exit, Phi, Aux}
 use Rattle.affine_systems.specs.Terms.{number}
 use Rattle.affine_systems.specs.Points.{Point}
-use Rattle.affine_systems.proofs.TermLaws.{both_true}
 use Rattle.hull_projection.specs.Variables.{row_vars}
 use Rattle.hull_projection.specs.Laws.{IsOneOf}
 use Rattle.hull_projection.proofs.ProjectLaws.{project_keeps}
@@ -20,7 +19,7 @@ use Rattle.transformer_algebra.proofs.CellLaws.{clashes}
 use Rattle.transformers.specs.Modules.{goes_out, stays_in, hidden_vars, summary_of}
 use Rattle.laws_calls.specs.Scenes.{outside}
 use Rattle.laws_calls.proofs.PointLaws.{patched, patched_in, patched_off, patched_same, filter_var}
-use Rattle.laws_calls.proofs.ListLaws.{out_of, has-filter}
+use Rattle.laws_calls.proofs.ListLaws.{has-filter}
 
 module _ (m : Scene) (ss : List SymbolTree) (t : Transformer) (x y : ℕ → ℤ) (d : Does m t x y) where
   -- a point with the numbers of what does not go out
@@ -66,7 +65,7 @@ module _ (m : Scene) (ss : List SymbolTree) (t : Transformer) (x y : ℕ → ℤ
     relates = λ p st en. project_keeps t.system (hidden_vars ss t.system) (hidden p st en) p (λ w f. sym (patched_off p (full p) (hidden_vars ss t.system) w f))
         (agree_hold (full p) (hidden p st en) (row_vars t.system.rows) t.system.rows (agrees p st en) (rows_covered _ t.system.rows) (d.relates (full p) (full_start p st en) (full_end p st en)));
     kept = record {
-      cells = λ c k e. let b = both_true (m.tracked c) (goes_out ss c) k in d.kept.cells c b.0 (out_of (has t.cells c) (λ h. clashes (has (filter (goes_out ss) t.cells) c) (has-filter (goes_out ss) t.cells c h b.1) e));
+      cells = λ c k e. let b = and_parts (m.tracked c) (goes_out ss c) k in d.kept.cells c b.0 (false_from_ne_true (has t.cells c) (λ h. clashes (has (filter (goes_out ss) t.cells) c) (has-filter (goes_out ss) t.cells c h b.1) e));
       foreign = d.kept.foreign;
     };
   }

@@ -1,10 +1,8 @@
 -- What is found in tables: the symbol of each number, and the tracked cell at a unit of a block.
 use Rattle.std.proofs.Common.{◌≡◌, ℕ, zero, suc, ◌+◌, ◌-◌, List, [], ◌∷◌, Option, Some, None, Bool, true, false, refl, sym, ap, ap₂, ◌∙◌, subst, arith, ⊎_elim}
 use Rattle.std.specs.Prelude.{if◌then◌else◌, nat_eq, bytes_eq, slice_get, ◌&&◌}
-use Rattle.std.proofs.lemmas.Bool.{and_from}
+use Rattle.std.proofs.lemmas.Bool.{and_from, cases_Bool, and_parts}
 use Rattle.std.proofs.lemmas.Slice.Eq.{bytes_eq-Decides}
-use Rattle.affine_systems.proofs.Basics.{either}
-use Rattle.affine_systems.proofs.TermLaws.{both_true}
 use Rattle.f77_symbols.specs.declared.symbol.Place.{Place}
 use Rattle.f77_symbols.specs.declared.symbol.Place.TheVariants.{Local, Dummy, Block, Constant}
 use Rattle.f77_symbols.specs.Symbols.{SymbolTree}
@@ -28,7 +26,7 @@ abbrev pub IsRest : {A : Type 0} → ℕ → List A → List A → Type 0
 IsRest n xs whole = (k : ℕ) → slice_get xs k ≡ numbered whole (n + k)
 
 not_zero : (k : ℕ) → nat_eq (1 + k) 0 ≡ false
-not_zero k = ⊎_elim (λ e. let q = nat_same (1 + k) 0 e in absurd (omega (arith, q))) (λ e. e) (either (nat_eq (1 + k) 0))
+not_zero k = ⊎_elim (λ e. let q = nat_same (1 + k) 0 e in absurd (omega (arith, q))) (λ e. e) (cases_Bool (nat_eq (1 + k) 0))
 
 pub whole_rest : {A : Type 0} (xs : List A) → IsRest 1 xs xs
 whole_rest xs k = let e : (1 + k) - 1 ≡ k = omega arith in rw (not_zero k, e) refl
@@ -57,7 +55,7 @@ pub unit_is : (b : List ℕ) (o : ℕ) (p : Place) → is_unit b o p ≡ true �
 unit_is b o (Local g k) e = clashes false e refl
 unit_is b o (Dummy m) e = clashes false e refl
 unit_is b o (Block c k) e =
-    let q = both_true (bytes_eq b c) (nat_eq o k) e in
+    let q = and_parts (bytes_eq b c) (nat_eq o k) e in
     ap₂ (λ x y. Block x y) (sym ((bytes_eq-Decides b c).0 q.0)) (sym (nat_same o k q.1))
 unit_is b o (Constant m) e = clashes false e refl
 
@@ -77,7 +75,7 @@ tracked_found (s ∷ ss) (f ∷ fs) whole flags n b o v r i e =
     go : (g : Bool) → (f && is_unit b o s.place) ≡ g → (if g then Some n else tracked_from (suc n) ss fs b o) ≡ Some v →
         (tracked_from (suc n) ss fs b o ≡ Some v → (is_cell flags v ≡ true) × IsInBlock whole v b o) → (is_cell flags v ≡ true) × IsInBlock whole v b o
     go true t k ih =
-        let q = both_true f (is_unit b o s.place) t in
+        let q = and_parts f (is_unit b o s.place) t in
         subst (λ (j : ℕ). (is_cell flags j ≡ true) × IsInBlock whole j b o) (some_same n v k) (here q.0 (unit_is b o s.place q.1))
     go false t k ih = ih k
 

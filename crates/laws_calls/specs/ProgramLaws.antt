@@ -18,7 +18,7 @@ use Rattle.preconditions.specs.Entry.{main_entry}
 use Rattle.transformers.specs.Jumps.{list_has}
 use Rattle.laws_statements.specs.Targets.{lacks_targets}
 use Rattle.laws_statements.specs.CallsIn.{CallAt, Each, list_calls}
-use Rattle.laws_statements.specs.Numbers.{IsNumbered}
+use Rattle.f77_ast.specs.StatementNumbers.{IsNumbered}
 use Rattle.laws_statements.specs.Results.{SystemHolds, Relates, found_in, pre_in}
 use Rattle.laws_calls.specs.Entries.{BeginsWithData}
 use Rattle.laws_calls.specs.Parts.{Blocks, Part, summary, scene_in, Sane}

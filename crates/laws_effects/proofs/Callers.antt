@@ -19,7 +19,7 @@ use Rattle.f77_meaning.specs.Areas.{block, unit_at, is_own_unit}
 use Rattle.f77_meaning.specs.Modules.{Known, symbol_names, fixed, fixed_place, fixed_maybe, laid_at}
 use Rattle.f77_meaning.specs.Linked.{numbering}
 use Rattle.f77_meaning.specs.Claims.{size_in, block_place, saved_place}
-use Rattle.effects.specs.Names.{named}
+use Rattle.effects.specs.Names.{variable_named}
 use Rattle.effects.specs.Modules.{place_goes_out, symbol_goes_out, goes_out}
 use Rattle.effects.specs.Callee.{first_like, or_block, actual_variable, if_saved, at_place, symbol_in_caller, in_caller, all_in_caller}
 use Rattle.laws_effects.specs.Tables.{is_dummy, is_plain, DummiesLead}
@@ -85,7 +85,7 @@ module _ (ks : List Known) (g : Graph) (k : Known) (at : Places) (es : ExprTrees
 
   -- ---- dummies
 
-  of_actual : (e : ExprTree) (p : Place) (u : ℕ) → IsOwn ks g k at p ⊎ IsLent k at e p → in_place p u ≡ true → IsOfCaller (named e k.symbols) u
+  of_actual : (e : ExprTree) (p : Place) (u : ℕ) → IsOwn ks g k at p ⊎ IsLent k at e p → in_place p u ≡ true → IsOfCaller (variable_named e k.symbols) u
   of_actual e p u (inl o) h =
       let b = in_bounds p u h in
       let one = o.0 in

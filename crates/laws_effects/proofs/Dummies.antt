@@ -72,7 +72,7 @@ abbrev pub offered : List Known → Graph → Known → List Place → Places
 offered ks g l ps n = offered_symbol (fixed (numbering ks g) l n) ps (symbol_at l.symbols n)
 
 pub scalar_units : (ss : List SymbolTree) (s : SymbolTree) (bs : List BoundTree) → s.bounds ≡ bs → has_bounds bs ≡ false → units_in ss s ≡ 1
-scalar_units ss s [] e h = ap (bounds_units (value_in ss) 1) e
+scalar_units ss s [] e h = ap (bounds_units (value_in ss)) e
 scalar_units ss s (b ∷ bs) e h = cc
 
 scalar_reaches : (ks : List Known) (g : Graph) (l : Known) (s : SymbolTree) (p : SymbolPlace) → IsVariable p → is_dummy p ≡ false → has_bounds s.bounds ≡ false → 1 ≤ (fixed_place (numbering ks g) l.read.name l.symbols s p).extent

@@ -165,4 +165,4 @@ summarised (suc (suc i)) p ss e h j c q n k m named = cc
 -- ---- and what it says
 
 holds : InEveryRun (known_of programs symbols) links (λ x. IsOfModule (known_of programs symbols) links tables x)
-holds = effects_are_of_runs programs symbols links tables refl linked (omega arith) all_read summarised
+holds = effects_are_of_runs programs symbols links tables refl linked all_read summarised

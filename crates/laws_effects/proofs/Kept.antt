@@ -5,7 +5,7 @@ use Rattle.f77_ast.specs.Trees as tree
 use Rattle.f77_symbols.specs.declared.variable.Variable.{Variable}
 use Rattle.f77_symbols.specs.Symbols.{BoundTree, SymbolTree}
 use Rattle.f77_results.specs.Variables.{union}
-use Rattle.effects.specs.Names.{named}
+use Rattle.effects.specs.Names.{variable_named}
 use Rattle.effects.specs.Reads.{reads, with_reads, inner_reads, actual_reads, with_actuals, with_items, with_named}
 use Rattle.effects.specs.Statement.{test_reads, with_tests, step_reads}
 use Rattle.effects.specs.Modules.{with_bounds, with_symbols}
@@ -27,7 +27,7 @@ module _ (ss : List SymbolTree) (v : Variable) where
 
   pub kept_named : (es : ExprTrees) (vs : List Variable) → Stands v vs → Stands v (with_named es ss vs)
   kept_named tree.no_exprs vs h = h
-  kept_named (tree.more_exprs e es) vs h = kept_named es (union vs (named e ss)) (in_union v vs (named e ss) (inl h))
+  kept_named (tree.more_exprs e es) vs h = kept_named es (union vs (variable_named e ss)) (in_union v vs (variable_named e ss) (inl h))
 
   pub kept_tests : (arms : ArmTrees) (vs : List Variable) → Stands v vs → Stands v (with_tests arms ss vs)
   kept_tests tree.no_arms vs h = h

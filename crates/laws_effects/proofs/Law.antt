@@ -16,17 +16,17 @@ use Rattle.laws_effects.proofs.Sound.{sound}
 use Rattle.laws_effects.proofs.Programs.{main_in, in_every_run}
 
 pub effects_are_of_runs : EffectsAreOfRuns
-effects_are_of_runs ps sss g tables same e small read summarised =
+effects_are_of_runs ps sss g tables same e read summarised =
     let ks : List Known = known_of ps sss in
     let has = linked_main ps sss g same e in
     let m = main_in ks has in
     let at = index_of (main_of ks) ks m.0 in
     let r = read at.0 (main_of ks) at.1 in
     let none : DummiesLead 0 1 (main_of ks).symbols = subst (λ ds. DummiesLead (length ds) 1 (main_of ks).symbols) (r.main m.1) r.dummies in
-    in_every_run ks g tables (blocks_reach ks g (linked_have_blocks ps sss g same e) small) (saved_found ks g (names_once ps sss g e)) (sound ps sss g tables same e read summarised) has none
+    in_every_run ks g tables (blocks_reach ks g (linked_have_blocks ps sss g same e)) (saved_found ks g (names_once ps sss g e)) (sound ps sss g tables same e read summarised) has none
 
 pub all_effects_hold : AllEffectsHold
-all_effects_hold ps sss g tables same e small read summarised numbers turns input =
+all_effects_hold ps sss g tables same e read summarised numbers turns input =
     let ks : List Known = known_of ps sss in
     throughout_more (λ x. IsOfModule ks g tables x) (λ x. AllHold ks g tables x) (all_hold ks g tables (names_once ps sss g e) numbers) (program_plan (program_of ks g) turns) (program_of ks g).initial input (λ f s i. [])
-    (effects_are_of_runs ps sss g tables same e small read summarised turns input)
+    (effects_are_of_runs ps sss g tables same e read summarised turns input)

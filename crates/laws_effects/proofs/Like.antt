@@ -13,7 +13,7 @@ use Rattle.f77_constants.specs.Constants.{worth}
 use Rattle.f77_symbols.specs.declared.symbol.Place.{Place}
 use Rattle.f77_symbols.specs.declared.symbol.Place.TheVariants as place
 use Rattle.f77_symbols.specs.Symbols.{BoundTree, SymbolTree, value_in}
-use Rattle.f77_symbols.specs.Units.{span_units, span_to, bound_units, capped, bounds_units, units_in}
+use Rattle.f77_symbols.specs.Units.{span_units, span_to, bound_units, bounds_units, units_in}
 use Rattle.effects.specs.Callee.{is_number, same_number, same_high, same_bound, same_bounds, same_scalar, is_at, is_like, first_like}
 
 -- ---- the same constant bounds
@@ -41,13 +41,13 @@ module _ (f h : List ℕ → Option Constant) where
       let p = and_parts (same_number (worth f a.low) (worth h b.low)) (same_high f a.high h b.high) e in
       same_span (worth f a.low) (worth h b.low) a.high b.high (same_worth (worth f a.low) (worth h b.low) p.0) p.1
 
-  same_size : (n m : ℕ) (as' bs : List BoundTree) → n ≡ m → same_bounds f as' h bs ≡ true → bounds_units f n as' ≡ bounds_units h m bs
-  same_size n m [] [] e s = e
-  same_size n m [] (b ∷ bs) e s = cc
-  same_size n m (a ∷ as') [] e s = cc
-  same_size n m (a ∷ as') (b ∷ bs) e s =
+  same_size : (as' bs : List BoundTree) → same_bounds f as' h bs ≡ true → bounds_units f as' ≡ bounds_units h bs
+  same_size [] [] s = refl
+  same_size [] (b ∷ bs) s = cc
+  same_size (a ∷ as') [] s = cc
+  same_size (a ∷ as') (b ∷ bs) s =
       let p = and_parts (same_bound f a h b) (same_bounds f as' h bs) s in
-      same_size (capped (n * bound_units f a)) (capped (m * bound_units h b)) as' bs (λ i. capped (e i * same_units a b p.0 i)) p.1
+      λ i. same_units a b p.0 i * same_size as' bs p.1 i
 
 -- ---- the first that is like it
 
@@ -68,7 +68,7 @@ alike : (b : List ℕ) (o : ℕ) (cs : List SymbolTree) (s : SymbolTree) (ss : L
 alike b o cs s ss t e =
     let p = and_parts (is_at b o t.place && same_scalar s.scalar t.scalar) (same_bounds (value_in cs) s.bounds (value_in ss) t.bounds) e in
     let q = and_parts (is_at b o t.place) (same_scalar s.scalar t.scalar) p.0 in
-    record { lies = at_block b o t.place q.0; size = same_size (value_in cs) (value_in ss) 1 1 s.bounds t.bounds refl p.1 }
+    record { lies = at_block b o t.place q.0; size = same_size (value_in cs) (value_in ss) s.bounds t.bounds p.1 }
 
 pub like_found : (n j : ℕ) (ts : List SymbolTree) (b : List ℕ) (o : ℕ) (cs : List SymbolTree) (s : SymbolTree) (ss : List SymbolTree) → first_like n ts b o cs s ss ≡ Some j →
     (t : SymbolTree) × (n ≤ j) × (slice_get ts (j - n) ≡ Some t) × IsLikeIt b o cs s ss t

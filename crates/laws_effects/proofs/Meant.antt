@@ -9,7 +9,7 @@ use Rattle.f77_symbols.specs.declared.symbol.Place.{Place}
 use Rattle.f77_symbols.specs.declared.symbol.Place.TheVariants as place
 use Rattle.f77_symbols.specs.Symbols.{SymbolTree, number_from}
 use Rattle.f77_symbols.specs.Shared.{symbol_at}
-use Rattle.call_graph.specs.Actuals.{named}
+use Rattle.call_graph.specs.Actuals.{symbol_with_name}
 use Rattle.f77_meaning.specs.Modules.{symbol_names, is_function, meant_by, meant_at, meant_in, names}
 use Rattle.f77_meaning.proofs.UnitLaws.{number_least}
 use Rattle.effects.specs.Names.{variable_number, number_of}
@@ -26,19 +26,19 @@ pub record StandsFor (ss : List SymbolTree) (x : List ℕ) (n : ℕ) : Type 0 wh
   pub symbol : SymbolTree
   pub is_symbol : symbol_at ss n ≡ Some symbol
   pub is_first : number_from 1 (symbol_names ss) symbol.name ≡ Some n
-  pub is_named : named ss x ≡ Some symbol
+  pub is_named : symbol_with_name ss x ≡ Some symbol
   pub is_variable : IsVariable symbol.place
   pub is_number : number_of 1 ss x ≡ Some n
 
 -- what the search for a name finds
 found : (n m : ℕ) (ss : List SymbolTree) (x : List ℕ) → number_from n (symbol_names ss) x ≡ Some m →
-    (s : SymbolTree) × (slice_get ss (m - n) ≡ Some s) × (named ss x ≡ Some s) × (s.name ≡ x) × (number_of n ss x ≡ variable_number m s)
+    (s : SymbolTree) × (slice_get ss (m - n) ≡ Some s) × (symbol_with_name ss x ≡ Some s) × (s.name ≡ x) × (number_of n ss x ≡ variable_number m s)
 found n m [] x e = cc
 found n m (t ∷ ss) x e = go (bytes_eq x t.name) refl e (found (suc n) m ss x)
   where
     go : (b : Bool) → bytes_eq x t.name ≡ b → (if b then Some n else number_from (suc n) (symbol_names ss) x) ≡ Some m →
-        (number_from (suc n) (symbol_names ss) x ≡ Some m → (s : SymbolTree) × (slice_get ss (m - suc n) ≡ Some s) × (named ss x ≡ Some s) × (s.name ≡ x) × (number_of (suc n) ss x ≡ variable_number m s)) →
-        (s : SymbolTree) × (slice_get (t ∷ ss) (m - n) ≡ Some s) × ((if b then Some t else named ss x) ≡ Some s) × (s.name ≡ x) × ((if b then variable_number n t else number_of (suc n) ss x) ≡ variable_number m s)
+        (number_from (suc n) (symbol_names ss) x ≡ Some m → (s : SymbolTree) × (slice_get ss (m - suc n) ≡ Some s) × (symbol_with_name ss x ≡ Some s) × (s.name ≡ x) × (number_of (suc n) ss x ≡ variable_number m s)) →
+        (s : SymbolTree) × (slice_get (t ∷ ss) (m - n) ≡ Some s) × ((if b then Some t else symbol_with_name ss x) ≡ Some s) × (s.name ≡ x) × ((if b then variable_number n t else number_of (suc n) ss x) ≡ variable_number m s)
     go true q h ih =
         let same : n ≡ m = cc in
         let z : m - n ≡ zero = omega arith in

@@ -16,7 +16,7 @@ use Rattle.f77_meaning.specs.Modules.{Known}
 use Rattle.f77_meaning.specs.Occurrences.{Occurrence, Onward, Throughout, places_in, events_from, events_after}
 use Rattle.effects.specs.List.{Callees, at as result_at, at_stmt, at_parts, at_list, at_arms, at_arm, at_else, at_loop}
 use Rattle.effects.specs.Modules.{cumulated_of}
-use Rattle.laws_effects.specs.Numbers.{stmt_numbers, part_numbers, list_numbers, arms_numbers, arm_numbers, else_numbers, loop_numbers, StandOnce}
+use Rattle.f77_ast.specs.StatementNumbers.{stmt_numbers, part_numbers, list_numbers, arms_numbers, arm_numbers, else_numbers, loop_numbers, StandOnce}
 use Rattle.laws_effects.specs.Claims.{EffectsHold, GivesEffect, IsOfModule}
 use Rattle.laws_effects.specs.Laws.{AllHold}
 use Rattle.laws_effects.proofs.Once.{NamesOnce}

@@ -19,7 +19,7 @@ use Rattle.call_graph.specs.Actuals.{has_bounds, place_offer, name_offer, offer_
 use Rattle.f77_meaning.specs.Areas.{is_own_unit}
 use Rattle.f77_meaning.specs.Modules.{Known, names}
 use Rattle.f77_meaning.specs.Linked.{numbering}
-use Rattle.effects.specs.Names.{named}
+use Rattle.effects.specs.Names.{variable_named}
 use Rattle.effects.specs.Reads.{with_reads, actual_reads, with_actuals}
 use Rattle.effects.specs.Callee.{actual_variable}
 use Rattle.laws_effects.specs.Trees.{StandsIndexed, IsActual, AreActuals}
@@ -35,7 +35,7 @@ use Rattle.laws_effects.proofs.Values.{stands_own, stands_array, in_extent, not_
 pub record IsLent (k : Known) (at : Places) (e : ExprTree) (p : Place) : Type 0 where
   pub number : ℕ
   pub symbol : SymbolTree
-  pub is_named : Stands (Own number) (named e k.symbols)
+  pub is_named : Stands (Own number) (variable_named e k.symbols)
   pub is_symbol : symbol_at k.symbols number ≡ Some symbol
   pub is_known : IsKnownBy k.symbols number symbol symbol.place
   pub within : (u : ℕ) → in_place p u ≡ true → in_place (at number) u ≡ true
@@ -153,7 +153,7 @@ pub record OfferAt (ks : List Known) (g : Graph) (k : Known) (at : Places) (es :
   pub expr : ExprTree
   pub place : Place
   pub offers : IsOwn ks g k at place ⊎ IsLent k at expr place
-  pub names_it : actual_variable es c k.symbols ≡ named expr k.symbols
+  pub names_it : actual_variable es c k.symbols ≡ variable_named expr k.symbols
   pub is_place : first_place (others_after c ps) ≡ place
   pub is_actual : slice_get (actuals_of es k.symbols) c ≡ Some (actual_of expr k.symbols)
 

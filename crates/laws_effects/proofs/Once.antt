@@ -9,7 +9,7 @@ use Rattle.f77_symbols.specs.Symbols.{SymbolTree, number_from}
 use Rattle.call_graph.specs.declared.graph.Graph.{Graph}
 use Rattle.call_graph.specs.declared.refusal.Fault.{Fault}
 use Rattle.call_graph.specs.declared.refusal.Fault.TheVariants as fault
-use Rattle.call_graph.specs.declared.refusal.Cause.TheVariants.{ModuleTwice}
+use Rattle.refusal_codes.specs.declared.code.Code.TheVariants.{ModuleTwice}
 use Rattle.call_graph.specs.Faults.{or_fault, unless}
 use Rattle.call_graph.specs.Modules.{too_many, module_line, is_place, twice_from, name_twice, main_twice, no_main, names_of}
 use Rattle.call_graph.specs.Links.{module_fault, joined_of, named_of, link_of}

@@ -7,7 +7,7 @@ use Rattle.f77_ast.specs.Numbers.{kept}
 use Rattle.f77_ast.specs.Values.{given}
 use Rattle.f77_ast.specs.Plans.{Flow, Normal, Jump, Returned, Stopped, Plan, Ends, Breaks, Set, first, on_normal}
 use Rattle.f77_ast.specs.Lists.{Part, is_label, has_label, from_label, go_on, in_order, with_jumps, list_plan}
-use Rattle.f77_ast.specs.Loops.{turns_from}
+use Rattle.f77_ast.specs.Loops.{iterations_from}
 use Rattle.f77_ast.specs.Calls.{forget_all, after_call}
 use Rattle.f77_meaning.specs.Occurrences.{Occurrence}
 use Rattle.laws_effects.proofs.Access.{Writing, Allowed, EndsIn, Passing}
@@ -61,12 +61,12 @@ module _ (L : Passing) (C : Occurrence → Type 0) (A : Allowed) where
   on_normal_fine t h Returned e = tt
   on_normal_fine t h Stopped e = e
 
-  pub turns_fine : (k : ℕ) (n step : ℤ) (u : ℕ) (body : Plan) → A (Writing u) → Fine body L C A → Fine (turns_from k n step u body) L C A
+  pub turns_fine : (k : ℕ) (n step : ℤ) (u : ℕ) (body : Plan) → A (Writing u) → Fine body L C A → Fine (iterations_from k n step u body) L C A
   turns_fine zero n step u body w h = tt
   turns_fine (suc k) n step u body w h =
-      fine_then L C body (λ f. on_normal f (first (given Int (kept (n +ℤ step))) (λ c. Set u c (turns_from k c.number step u body)))) A h
-      (on_normal_fine (first (given Int (kept (n +ℤ step))) (λ c. Set u c (turns_from k c.number step u body)))
-      (fine_first L C (given Int (kept (n +ℤ step))) (λ c. Set u c (turns_from k c.number step u body)) A Anything (given_does A Int (kept (n +ℤ step)))
+      fine_then L C body (λ f. on_normal f (first (given Int (kept (n +ℤ step))) (λ c. Set u c (iterations_from k c.number step u body)))) A h
+      (on_normal_fine (first (given Int (kept (n +ℤ step))) (λ c. Set u c (iterations_from k c.number step u body)))
+      (fine_first L C (given Int (kept (n +ℤ step))) (λ c. Set u c (iterations_from k c.number step u body)) A Anything (given_does A Int (kept (n +ℤ step)))
       (λ c o. (w, turns_fine k c.number step u body w h))))
 
   -- ---- ends of calls

@@ -7,8 +7,8 @@ use Rattle.f77_symbols.specs.declared.variable.Variable.{Variable}
 use Rattle.f77_symbols.specs.Symbols.{BoundTree, SymbolTree}
 use Rattle.f77_results.specs.declared.effect_set.EffectSet.{EffectSet}
 use Rattle.f77_results.specs.Variables.{union}
-use Rattle.call_graph.specs.Actuals.{named as symbol_of, is_array}
-use Rattle.effects.specs.Names.{number_of, one, own, array, named}
+use Rattle.call_graph.specs.Actuals.{symbol_with_name as symbol_of, is_array}
+use Rattle.effects.specs.Names.{number_of, one, own, array, variable_named}
 use Rattle.effects.specs.Reads.{reads, with_reads, inner_reads, actual_reads, with_actuals, with_items, with_named}
 use Rattle.effects.specs.Statement.{proper_of, test_reads, with_tests, step_reads}
 use Rattle.effects.specs.Modules.{goes_out, with_bounds, with_symbols, summary_of}
@@ -30,7 +30,7 @@ plain_array x ss = go (is_array (symbol_of ss x))
     go true = plain_own x ss
     go false = tt
 
-pub plain_named : (e : ExprTree) (ss : List SymbolTree) → ArePlain (named e ss)
+pub plain_named : (e : ExprTree) (ss : List SymbolTree) → ArePlain (variable_named e ss)
 plain_named (tree.int n) ss = tt
 plain_named (tree.log b) ss = tt
 plain_named (tree.name x) ss = plain_own x ss
@@ -88,7 +88,7 @@ module _ (ss : List SymbolTree) where
 
   plain_all_named : (es : ExprTrees) (vs : List Variable) → ArePlain vs → ArePlain (with_named es ss vs)
   plain_all_named tree.no_exprs vs p = p
-  plain_all_named (tree.more_exprs e es) vs p = plain_all_named es (union vs (named e ss)) (plain_union vs (named e ss) p (plain_named e ss))
+  plain_all_named (tree.more_exprs e es) vs p = plain_all_named es (union vs (variable_named e ss)) (plain_union vs (variable_named e ss) p (plain_named e ss))
 
   plain_test : (a : ArmTree) → ArePlain (test_reads a ss)
   plain_test (tree.arm test body) = plain_reads test

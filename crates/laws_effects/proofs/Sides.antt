@@ -15,7 +15,7 @@ use Rattle.f77_symbols.specs.declared.variable.Variable.{Variable as Named}
 use Rattle.f77_results.specs.Variables.{union}
 use Rattle.call_graph.specs.declared.graph.Graph.{Graph}
 use Rattle.f77_meaning.specs.Modules.{Known, names}
-use Rattle.effects.specs.Names.{own, array, named}
+use Rattle.effects.specs.Names.{own, array, variable_named}
 use Rattle.effects.specs.Reads.{reads, with_reads, inner_reads, with_items, with_named}
 use Rattle.effects.specs.Statement.{step_reads}
 use Rattle.laws_effects.specs.Trees.{StandsBare, StandsIndexed, IsShaped, AreShaped, OfMaybe}
@@ -45,7 +45,7 @@ module _ (ks : List Known) (g : Graph) (k : Known) (at : Places) (scalars : Scal
   element_target_does A x Function ns e indexed lets = tt
 
   -- it reads its subscripts, and what it names may be written
-  pub target_does : (e : ExprTree) (A : Allowed) → IsShaped e k.symbols → Lets ks g k at Reading A (inner_reads e k.symbols) → Lets ks g k at Writing A (named e k.symbols) → Doing (target e (names k.symbols) at) A (MayWrite A)
+  pub target_does : (e : ExprTree) (A : Allowed) → IsShaped e k.symbols → Lets ks g k at Reading A (inner_reads e k.symbols) → Lets ks g k at Writing A (variable_named e k.symbols) → Doing (target e (names k.symbols) at) A (MayWrite A)
   target_does (tree.int n) A h lets may = tt
   target_does (tree.log b) A h lets may = tt
   target_does (tree.name x) A h lets may = name_target_does A x (names k.symbols x) refl h may
@@ -66,7 +66,7 @@ module _ (ks : List Known) (g : Graph) (k : Known) (at : Places) (scalars : Scal
   pub write_does : (A : Allowed) (locked : Locks) (u : ℕ) (c : Content) → A (Writing u) → Doing (write locked u c) A Anything
   write_does A locked u c h = written_does A (locked u) u c h
 
-  pub assigned_does : (a b : ExprTree) (A : Allowed) (locked : Locks) → IsShaped a k.symbols → IsShaped b k.symbols → Lets ks g k at Reading A (union (reads b k.symbols) (inner_reads a k.symbols)) → Lets ks g k at Writing A (named a k.symbols) →
+  pub assigned_does : (a b : ExprTree) (A : Allowed) (locked : Locks) → IsShaped a k.symbols → IsShaped b k.symbols → Lets ks g k at Reading A (union (reads b k.symbols) (inner_reads a k.symbols)) → Lets ks g k at Writing A (variable_named a k.symbols) →
       Doing (assigned a b (names k.symbols) at locked) A Anything
   assigned_does a b A locked ha hb lets may =
       doing_bind (value b (names k.symbols) at) (λ c. target a (names k.symbols) at >>= λ t. write locked t.unit (content t.tag c.number)) A Anything Anything
@@ -90,10 +90,10 @@ module _ (ks : List Known) (g : Graph) (k : Known) (at : Places) (scalars : Scal
   items_do tree.no_exprs A locked vs ws h talk lets may = tt
   items_do (tree.more_exprs e es) A locked vs ws h talk lets may =
       let here : Lets ks g k at Reading A (union vs (inner_reads e k.symbols)) = λ v u s m. lets v u (kept_items k.symbols v es (union vs (inner_reads e k.symbols)) s) m in
-      let there : Lets ks g k at Writing A (union ws (named e k.symbols)) = λ v u s m. may v u (kept_named k.symbols v es (union ws (named e k.symbols)) s) m in
-      let rest = items_do es A locked (union vs (inner_reads e k.symbols)) (union ws (named e k.symbols)) h.1 talk lets may in
+      let there : Lets ks g k at Writing A (union ws (variable_named e k.symbols)) = λ v u s m. may v u (kept_named k.symbols v es (union ws (variable_named e k.symbols)) s) m in
+      let rest = items_do es A locked (union vs (inner_reads e k.symbols)) (union ws (variable_named e k.symbols)) h.1 talk lets may in
       doing_bind (target e (names k.symbols) at) (λ t. Take (taken locked t) >>= λ o. items_read es (names k.symbols) at locked) A (MayWrite A) Anything
-      (target_does e A h.0 (lets_second ks g k at Reading A vs (inner_reads e k.symbols) here) (lets_second ks g k at Writing A ws (named e k.symbols) there)) (λ t w.
+      (target_does e A h.0 (lets_second ks g k at Reading A vs (inner_reads e k.symbols) here) (lets_second ks g k at Writing A ws (variable_named e k.symbols) there)) (λ t w.
       doing_bind (Take (taken locked t)) (λ o. items_read es (names k.symbols) at locked) A Anything Anything (talk, λ o. taken_does A locked t o w) (λ o z. rest))
 
   -- ---- PRINT

@@ -1,5 +1,5 @@
 -- The variables of a block end within the size that linking gives it.
-use Rattle.std.proofs.Common.{◌≡◌, ℕ, zero, suc, ◌+◌, ◌-◌, ◌^◌, ◌≤◌, ◌<◌, max, Bool, true, false, List, [], ◌∷◌, map, Some, refl, sym, ap, ◌∙◌, subst, arith}
+use Rattle.std.proofs.Common.{◌≡◌, ℕ, zero, suc, ◌+◌, ◌-◌, ◌≤◌, max, Bool, true, false, List, [], ◌∷◌, map, Some, refl, sym, ap, ◌∙◌, subst, arith}
 use Rattle.std.specs.Prelude.{if◌then◌else◌, bytes_eq, slice_get}
 use Rattle.std.specs.declared.cmp.Ordering.{Ordering}
 use Rattle.std.specs.declared.cmp.Ordering.TheVariants.{Less, Equal, Greater}
@@ -9,15 +9,14 @@ use Rattle.std.proofs.lemmas.Slice.Eq.{bytes_eq-Decides}
 use Rattle.f77_symbols.specs.declared.symbol.Place.{Place}
 use Rattle.f77_symbols.specs.declared.symbol.Place.TheVariants as place
 use Rattle.f77_symbols.specs.Symbols.{SymbolTree}
-use Rattle.f77_symbols.specs.Units.{capped, units_in}
+use Rattle.f77_symbols.specs.Units.{units_in}
 use Rattle.call_graph.specs.declared.graph.Graph.{Graph}
 use Rattle.call_graph.specs.declared.graph.Block.{Block}
 use Rattle.call_graph.specs.Blocks.{name_cmp, block, known_size, block_put, block_grown, place_grown, symbols_grown, tables_grown}
 use Rattle.f77_meaning.specs.Modules.{Known}
-use Rattle.f77_meaning.specs.Linked.{offset_in, room_for}
 use Rattle.f77_meaning.specs.Claims.{size_in}
 use Rattle.f77_meaning.specs.Laws.{HasBlocks}
-use Rattle.f77_meaning.proofs.ModuleLaws.{offsets_fit, numbered_place}
+use Rattle.f77_meaning.proofs.ModuleLaws.{numbered_place}
 use Rattle.laws_effects.proofs.Callers.{BlocksReach}
 
 -- ---- one block
@@ -83,7 +82,7 @@ grown_more x y n bs = go (bytes_eq x y) refl
 place_more : (y : List ℕ) (p : Place) (n : ℕ) (bs : List Block) → size_in bs y ≤ size_in (place_grown p n bs) y
 place_more y (place.Local g o) n bs = omega arith
 place_more y (place.Dummy m) n bs = omega arith
-place_more y (place.Block x o) n bs = grown_more x y (capped (o + n)) bs
+place_more y (place.Block x o) n bs = grown_more x y (o + n) bs
 place_more y (place.Constant m) n bs = omega arith
 
 symbols_more : (y : List ℕ) (ss rest : List SymbolTree) (bs : List Block) → size_in bs y ≤ size_in (symbols_grown ss rest bs) y
@@ -100,34 +99,27 @@ tables_more y (ss ∷ sss) bs =
     let b = tables_more y sss (symbols_grown ss ss bs) in
     omega (arith, a, b)
 
-symbol_reach : (ss rest : List SymbolTree) (bs : List Block) (i : ℕ) (s : SymbolTree) (x : List ℕ) (o : ℕ) → slice_get rest i ≡ Some s → s.place ≡ place.Block x o → capped (o + units_in ss s) ≤ size_in (symbols_grown ss rest bs) x
+symbol_reach : (ss rest : List SymbolTree) (bs : List Block) (i : ℕ) (s : SymbolTree) (x : List ℕ) (o : ℕ) → slice_get rest i ≡ Some s → s.place ≡ place.Block x o → o + units_in ss s ≤ size_in (symbols_grown ss rest bs) x
 symbol_reach ss [] bs i s x o e d = cc
 symbol_reach ss (t ∷ rest) bs zero s x o e d =
     let same : t ≡ s = cc in
-    let own : capped (o + units_in ss s) ≤ size_in (place_grown (place.Block x o) (units_in ss s) bs) x = grown_itself x (capped (o + units_in ss s)) bs in
-    let here : capped (o + units_in ss s) ≤ size_in (place_grown t.place (units_in ss t) bs) x =
-    subst (λ z. capped (o + units_in ss s) ≤ size_in (place_grown z.place (units_in ss z) bs) x) (sym same) (subst (λ p. capped (o + units_in ss s) ≤ size_in (place_grown p (units_in ss s) bs) x) (sym d) own) in
+    let own : o + units_in ss s ≤ size_in (place_grown (place.Block x o) (units_in ss s) bs) x = grown_itself x (o + units_in ss s) bs in
+    let here : o + units_in ss s ≤ size_in (place_grown t.place (units_in ss t) bs) x =
+    subst (λ z. o + units_in ss s ≤ size_in (place_grown z.place (units_in ss z) bs) x) (sym same) (subst (λ p. o + units_in ss s ≤ size_in (place_grown p (units_in ss s) bs) x) (sym d) own) in
     let more = symbols_more x ss rest (place_grown t.place (units_in ss t) bs) in
     omega (arith, here, more)
 symbol_reach ss (t ∷ rest) bs (suc i) s x o e d = symbol_reach ss rest (place_grown t.place (units_in ss t) bs) i s x o e d
 
-table_reach : (ks : List Known) (bs : List Block) (i : ℕ) (k : Known) (n : ℕ) (s : SymbolTree) (x : List ℕ) (o : ℕ) → slice_get ks i ≡ Some k → slice_get k.symbols n ≡ Some s → s.place ≡ place.Block x o → capped (o + units_in k.symbols s) ≤ size_in (tables_grown (map (λ l. l.symbols) ks) bs) x
+table_reach : (ks : List Known) (bs : List Block) (i : ℕ) (k : Known) (n : ℕ) (s : SymbolTree) (x : List ℕ) (o : ℕ) → slice_get ks i ≡ Some k → slice_get k.symbols n ≡ Some s → s.place ≡ place.Block x o → o + units_in k.symbols s ≤ size_in (tables_grown (map (λ l. l.symbols) ks) bs) x
 table_reach [] bs i k n s x o e h d = cc
 table_reach (l ∷ ks) bs zero k n s x o e h d =
     let same : l ≡ k = cc in
-    let here : capped (o + units_in k.symbols s) ≤ size_in (symbols_grown l.symbols l.symbols bs) x = subst (λ z. capped (o + units_in k.symbols s) ≤ size_in (symbols_grown z.symbols z.symbols bs) x) (sym same) (symbol_reach k.symbols k.symbols bs n s x o h d) in
+    let here : o + units_in k.symbols s ≤ size_in (symbols_grown l.symbols l.symbols bs) x = subst (λ z. o + units_in k.symbols s ≤ size_in (symbols_grown z.symbols z.symbols bs) x) (sym same) (symbol_reach k.symbols k.symbols bs n s x o h d) in
     let more = tables_more x (map (λ z. z.symbols) ks) (symbols_grown l.symbols l.symbols bs) in
     omega (arith, here, more)
 table_reach (l ∷ ks) bs (suc i) k n s x o e h d = table_reach ks (symbols_grown l.symbols l.symbols bs) i k n s x o e h d
 
-uncapped : (n m : ℕ) → n ≤ m → m < 2 ^ 64 → capped n ≡ n
-uncapped n m h i = omega (arith, h, i)
-
--- where offsets are below 2^64
-pub blocks_reach : (ks : List Known) (g : Graph) → HasBlocks ks g → room_for ks < 2 ^ 64 → BlocksReach ks g
-blocks_reach ks g has small i l n s b o is e d =
-    let fits = offsets_fit ks l n s (record { at = i; is_module = is; is_symbol = e }) in
-    let fits' : o + units_in l.symbols s ≤ room_for ks = subst (λ p. offset_in p + units_in l.symbols s ≤ room_for ks) d fits in
+pub blocks_reach : (ks : List Known) (g : Graph) → HasBlocks ks g → BlocksReach ks g
+blocks_reach ks g has i l n s b o is e d =
     let sized = table_reach ks [] i l (n - 1) s b o is (numbered_place l.symbols n s e) d in
-    let whole : capped (o + units_in l.symbols s) ≤ size_in g.blocks b = subst (λ bs. capped (o + units_in l.symbols s) ≤ size_in bs b) (sym has) sized in
-    subst (λ z. z ≤ size_in g.blocks b) (uncapped (o + units_in l.symbols s) (room_for ks) fits' small) whole
+    subst (λ bs. o + units_in l.symbols s ≤ size_in bs b) (sym has) sized

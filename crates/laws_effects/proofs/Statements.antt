@@ -11,7 +11,7 @@ use Rattle.f77_ast.specs.Values.{value, name_target, all_shown}
 use Rattle.f77_ast.specs.Writes.{Locks, lock, write, assigned, items_read}
 use Rattle.f77_ast.specs.Plans.{Normal, Plan, Ends, Show, first}
 use Rattle.f77_ast.specs.Lists.{list_plan}
-use Rattle.f77_ast.specs.Loops.{range_of, turn_count, turns_from, loop_plan}
+use Rattle.f77_ast.specs.Loops.{range_of, iteration_count, iterations_from, loop_plan}
 use Rattle.f77_ast.specs.Calls.{Meaning, actuals, call_plan}
 use Rattle.f77_ast.specs.Statements.{Scope, spot, statement_plan, execution, arms_plan, arm_plan, else_plan, do_plan, parts}
 use Rattle.f77_ast.specs.Programs.{scope}
@@ -67,12 +67,12 @@ module _ (ks : List Known) (g : Graph) (k : Known) (turns : ℕ) (callee : List 
       ((l : Locks) → Fine (body l) L C A) → Fine (loop_plan (range_of e1 e2 e3 (names k.symbols) at) (name_target (names k.symbols index) at) locked body) L C A
   loop_fine index e1 e2 e3 A locked body ranges targets h =
       fine_first L C (range_of e1 e2 e3 (names k.symbols) at)
-      (λ r. first (name_target (names k.symbols index) at) (λ t. first (write locked t.unit (content Int r.from)) (λ o. turns_from (turn_count r.from r.last r.step) r.from r.step t.unit (body (lock locked t.unit Locked))))) A Anything ranges (λ r z.
+      (λ r. first (name_target (names k.symbols index) at) (λ t. first (write locked t.unit (content Int r.from)) (λ o. iterations_from (iteration_count r.from r.last r.step) r.from r.step t.unit (body (lock locked t.unit Locked))))) A Anything ranges (λ r z.
       fine_first L C (name_target (names k.symbols index) at)
-      (λ t. first (write locked t.unit (content Int r.from)) (λ o. turns_from (turn_count r.from r.last r.step) r.from r.step t.unit (body (lock locked t.unit Locked)))) A (MayWrite A) targets (λ t w.
+      (λ t. first (write locked t.unit (content Int r.from)) (λ o. iterations_from (iteration_count r.from r.last r.step) r.from r.step t.unit (body (lock locked t.unit Locked)))) A (MayWrite A) targets (λ t w.
       fine_first L C (write locked t.unit (content Int r.from))
-      (λ o. turns_from (turn_count r.from r.last r.step) r.from r.step t.unit (body (lock locked t.unit Locked))) A Anything (write_does ks g k at scalars A locked t.unit (content Int r.from) w) (λ o y.
-      turns_fine L C A (turn_count r.from r.last r.step) r.from r.step t.unit (body (lock locked t.unit Locked)) w (h (lock locked t.unit Locked)))))
+      (λ o. iterations_from (iteration_count r.from r.last r.step) r.from r.step t.unit (body (lock locked t.unit Locked))) A Anything (write_does ks g k at scalars A locked t.unit (content Int r.from) w) (λ o y.
+      turns_fine L C A (iteration_count r.from r.last r.step) r.from r.step t.unit (body (lock locked t.unit Locked)) w (h (lock locked t.unit Locked)))))
 
   mutual
     pub stmt_fine : (s : StmtTree) (locked : Locks) (A : Allowed) → OwnAreFree ks g A → StmtFits s k.symbols Q → Among (at_stmt s cs k.symbols) → LetsAll ks g k at A (stmt_effect s cs k.symbols) → Fine (statement_plan s sc at locked) L C A

@@ -16,7 +16,7 @@ use Rattle.f77_symbols.specs.declared.variable.Variable.TheVariants.{Own}
 use Rattle.f77_symbols.specs.Symbols.{SymbolTree}
 use Rattle.f77_results.specs.Variables.{union}
 use Rattle.call_graph.specs.declared.graph.Graph.{Graph}
-use Rattle.call_graph.specs.Actuals.{named as symbol_of, is_array}
+use Rattle.call_graph.specs.Actuals.{symbol_with_name as symbol_of, is_array}
 use Rattle.f77_meaning.specs.Modules.{Known, names}
 use Rattle.effects.specs.Names.{own, one, array}
 use Rattle.effects.specs.Reads.{reads, with_reads}

@@ -1,5 +1,5 @@
 -- The effects of modules hold in every run.
-use Rattle.std.specs.Prelude.{◌≡◌, ℕ, ◌^◌, ◌<◌, List, length, Ok, Some, slice_get}
+use Rattle.std.specs.Prelude.{◌≡◌, ℕ, List, length, Ok, Some, slice_get}
 use Rattle.f77_ast.specs.DeclTrees.{ParsedTree}
 use Rattle.f77_symbols.specs.Symbols.{SymbolTree}
 use Rattle.f77_results.specs.Summaries.{SummaryTree}
@@ -9,13 +9,12 @@ use Rattle.call_graph.specs.declared.calls.Called.{Called}
 use Rattle.call_graph.specs.Calls.{calls_of}
 use Rattle.call_graph.specs.Links.{link_of}
 use Rattle.f77_meaning.specs.Modules.{Known, known_of}
-use Rattle.f77_meaning.specs.Linked.{room_for}
 use Rattle.f77_meaning.specs.Claimed.{InEveryRun}
 use Rattle.effects.specs.List.{Callees}
 use Rattle.effects.specs.Modules.{cumulated_of}
 use Rattle.laws_effects.specs.Tables.{IsRead}
 use Rattle.f77_meaning.specs.Occurrences.{Occurrence}
-use Rattle.laws_effects.specs.Numbers.{list_numbers, StandOnce}
+use Rattle.f77_ast.specs.StatementNumbers.{list_numbers, StandOnce}
 use Rattle.laws_effects.specs.Claims.{EffectsHold, GivesEffect, IsOfModule}
 
 -- what callers know of a module
@@ -36,7 +35,7 @@ AreRead ks = (n : ℕ) (k : Known) → slice_get ks n ≡ Some k → IsRead k
 -- of modules that link, in every run, also in one that a fault ends
 abbrev pub EffectsAreOfRuns : Type 0
 EffectsAreOfRuns = (ps : List ParsedTree) (sss : List (List SymbolTree)) (g : Graph) (tables : List ℕ → Callees) →
-    length ps ≡ length sss → link_of ps sss ≡ Ok g → room_for (known_of ps sss) < 2 ^ 64 → AreRead (known_of ps sss) → AreSummarised ps sss tables →
+    length ps ≡ length sss → link_of ps sss ≡ Ok g → AreRead (known_of ps sss) → AreSummarised ps sss tables →
     InEveryRun (known_of ps sss) g (λ x. IsOfModule (known_of ps sss) g tables x)
 
 -- whatever effects a module's results give an execution in it hold
@@ -50,5 +49,5 @@ AreNumberedOnce ks = (n : ℕ) (k : Known) → slice_get ks n ≡ Some k → Sta
 -- where numbers stand once in a module, they are all that its results give
 abbrev pub AllEffectsHold : Type 0
 AllEffectsHold = (ps : List ParsedTree) (sss : List (List SymbolTree)) (g : Graph) (tables : List ℕ → Callees) →
-    length ps ≡ length sss → link_of ps sss ≡ Ok g → room_for (known_of ps sss) < 2 ^ 64 → AreRead (known_of ps sss) → AreSummarised ps sss tables → AreNumberedOnce (known_of ps sss) →
+    length ps ≡ length sss → link_of ps sss ≡ Ok g → AreRead (known_of ps sss) → AreSummarised ps sss tables → AreNumberedOnce (known_of ps sss) →
     InEveryRun (known_of ps sss) g (λ x. AllHold (known_of ps sss) g tables x)

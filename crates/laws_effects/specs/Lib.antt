@@ -1,5 +1,4 @@
 pub mod Trees
-pub mod Numbers
 pub mod Tables
 pub mod Claims
 pub mod Laws

@@ -4,18 +4,18 @@ use Rattle.f77_ast.specs.Trees.{ExprTree, ExprTrees, StmtTree, WhatTree, ArmTree
 use Rattle.f77_ast.specs.Trees as tree
 use Rattle.f77_ast.specs.Places.{Function}
 use Rattle.f77_symbols.specs.Symbols.{SymbolTree}
-use Rattle.call_graph.specs.Actuals.{named, is_array}
+use Rattle.call_graph.specs.Actuals.{symbol_with_name, is_array}
 use Rattle.f77_meaning.specs.Modules.{names}
 
 -- ---- expressions
 
 -- a name without subscripts is that of no array
 abbrev pub StandsBare : List ℕ → List SymbolTree → Type 0
-StandsBare x ss = is_array (named ss x) ≡ false
+StandsBare x ss = is_array (symbol_with_name ss x) ≡ false
 
 -- a name with parentheses is that of an array or of an intrinsic function
 abbrev pub StandsIndexed : List ℕ → List SymbolTree → Type 0
-StandsIndexed x ss = (is_array (named ss x) ≡ true) ⊎ (names ss x ≡ Function)
+StandsIndexed x ss = (is_array (symbol_with_name ss x) ≡ true) ⊎ (names ss x ≡ Function)
 
 abbrev mutual
   pub IsShaped : ExprTree → List SymbolTree → Type 0

@@ -7,7 +7,7 @@ use Rattle.f77_ast.specs.Trees.{ExprTree, ExprTrees}
 use Rattle.f77_ast.specs.Trees as tree
 use Rattle.f77_ast.specs.DeclTrees.{DeclTree}
 use Rattle.f77_ast.specs.DeclTrees as decl
-use Rattle.f77_names.specs.declared.refusal.Refusal.{Refusal}
+use Rattle.refusal_codes.specs.declared.refusal.Refusal.{Refusal}
 use Rattle.f77_names.specs.declared.lines.Sited.TheVariants.{Decl}
 use Rattle.f77_names.specs.Lines.{LineTable, line_or}
 use Rattle.f77_names.specs.Entries.{find, place_in}
@@ -16,7 +16,7 @@ use Rattle.tracked_cells.specs.Equivalences.{item_names}
 use Rattle.tracked_cells.specs.Equivalences as names
 use Rattle.storage_groups.specs.declared.seat.Home.{Home}
 use Rattle.storage_groups.specs.declared.seat.Seat.{Seat}
-use Rattle.storage_groups.specs.Seats.{same_home, is_block, moved, all_moved, Joined, joined_at, joined_seats, joined}
+use Rattle.storage_groups.specs.Seats.{same_home, is_block, move_seat, all_moved, Joined, joined_at, joined_seats, joined}
 use Rattle.storage_groups.proofs.BlockLaws.{same_home-is}
 use Rattle.storage_data.specs.Units.{place_of}
 use Rattle.storage_data.specs.Items.{item_name, item_position}
@@ -86,20 +86,20 @@ module _ (ds : List DeclTree) where
     pub record Old (ss : List Seat) (from to : Home) (shift : ℤ) (m : ℕ) (s : Seat) : Type 0 where
       pub old : Seat
       pub is : slice_get ss m ≡ Some old
-      pub now : moved from to shift old ≡ s
+      pub now : move_seat from to shift old ≡ s
 
     pub old_of : (ss : List Seat) (from to : Home) (shift : ℤ) (m : ℕ) (s : Seat) → slice_get (all_moved from to shift ss) m ≡ Some s → Old ss from to shift m s
     old_of ss from to shift m s e = go (slice_get ss m) refl (sym (moved_get ss from to shift m) ∙ e)
       where
-        go : (o : Option Seat) → slice_get ss m ≡ o → option_map (moved from to shift) o ≡ Some s → Old ss from to shift m s
+        go : (o : Option Seat) → slice_get ss m ≡ o → option_map (move_seat from to shift) o ≡ Some s → Old ss from to shift m s
         go None q k = cc
-        go (Some r) q k = let same : moved from to shift r ≡ s = cc in record { old = r; is = q; now = same }
+        go (Some r) q k = let same : move_seat from to shift r ≡ s = cc in record { old = r; is = q; now = same }
 
     -- where a seat went
-    pub home_now : (from to : Home) (shift : ℤ) (o s : Seat) (b : Bool) → same_home o.home from ≡ b → moved from to shift o ≡ s → s.home ≡ (if b then to else o.home)
+    pub home_now : (from to : Home) (shift : ℤ) (o s : Seat) (b : Bool) → same_home o.home from ≡ b → move_seat from to shift o ≡ s → s.home ≡ (if b then to else o.home)
     home_now from to shift o s b q e = ap (λ (z : Seat). z.home) (sym e) ∙ go b q
       where
-        go : (c : Bool) → same_home o.home from ≡ c → (moved from to shift o).home ≡ (if c then to else o.home)
+        go : (c : Bool) → same_home o.home from ≡ c → (move_seat from to shift o).home ≡ (if c then to else o.home)
         go true k = ap (λ z. (let r : Seat = if z then record { home = to; offset = o.offset +ℤ shift } else o in r.home)) k
         go false k = ap (λ z. (let r : Seat = if z then record { home = to; offset = o.offset +ℤ shift } else o in r.home)) k
 

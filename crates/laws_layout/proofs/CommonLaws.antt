@@ -8,19 +8,19 @@ use Rattle.f77_constants.specs.declared.constant.Constant.{Constant}
 use Rattle.f77_symbols.specs.declared.symbol.Place.TheVariants as place
 use Rattle.f77_symbols.specs.Symbols.{SymbolTree, number_from}
 use Rattle.f77_symbols.specs.Units.{units_in}
-use Rattle.f77_names.specs.declared.refusal.Cause.TheVariants.{RealName, CommonTwice, BadDimension}
-use Rattle.f77_names.specs.declared.refusal.Refusal.{Refusal}
+use Rattle.refusal_codes.specs.declared.code.Code.TheVariants.{RealName, CommonTwice, BadDimension}
+use Rattle.refusal_codes.specs.declared.refusal.Refusal.{Refusal}
 use Rattle.f77_names.specs.declared.kinds.Kind.{Kind}
 use Rattle.f77_names.specs.declared.lines.Sited.TheVariants.{Title}
-use Rattle.f77_names.specs.Refusals.{noted}
+use Rattle.refusal_codes.specs.Refusals.{refuse_if}
 use Rattle.f77_names.specs.Lines.{line_or}
 use Rattle.f77_names.specs.Kinds.{kinds_of}
 use Rattle.f77_names.specs.Functions.{arrays_named}
 use Rattle.f77_names.specs.Entries.{EntryTree, find, place_in, of_entry, changed, with_value}
 use Rattle.f77_names.specs.Declaring.{Told, dummies_told, decls_told}
-use Rattle.f77_names.specs.Tables.{NameTable, entry_kind, is_real, no_names, told_of, in_common_too, entry_judged, entries_judged, table_of, names_judged}
+use Rattle.f77_names.specs.Tables.{NameTable, entry_kind, is_real, no_names, told_of, in_common_too, check_entry, check_entries, table_of, check_names}
 use Rattle.f77_names.proofs.NamesLaws.{number_from-least}
-use Rattle.f77_checks.specs.Dimensions.{is_bad_shape, bounds_judged, shape_judged, shapes_judged}
+use Rattle.f77_checks.specs.Dimensions.{is_bad_shape, check_bounds, check_shape, check_shapes}
 use Rattle.storage_groups.specs.declared.seat.Home.TheVariants.{Block}
 use Rattle.storage_data.specs.Units.{place_of, units_by, units_of_entry, units_of}
 use Rattle.storage_layout.specs.Blocks.{block_number, sits_in_block}
@@ -40,7 +40,8 @@ use Rattle.laws_layout.proofs.CommonNames.{InCommon, seen_shared, said_shared, c
 use Rattle.laws_layout.proofs.StayLaws.{shared_stays}
 use Rattle.laws_layout.proofs.RowLaws.{InARow, Standing, no_block, a_row, laid_rows}
 use Rattle.laws_layout.proofs.ValueKeeps.{values_keep}
-use Rattle.laws_layout.proofs.SizeLaws.{ShapeFits, entry_known, units_same}
+use Rattle.laws_layout.proofs.SizeLaws.{ShapeFits, entry_known}
+use Rattle.laws_storage.proofs.UnitLaws.{units_are}
 
 -- ---- entries
 
@@ -58,26 +59,33 @@ common_plain e (Some line) o q h =
     let parts = or_parts (is_some e.dummy) e.parameter (noted_none (is_some e.dummy || e.parameter) line CommonTwice o q).0 in
     (no_some e.dummy parts.0, parts.1)
 
-judged_plain : (ks : List Kind) (es : List EntryTree) (o : Option Refusal) → entries_judged ks es o ≡ None → AllFound Plain es
+judged_plain : (ks : List Kind) (es : List EntryTree) (o : Option Refusal) → check_entries ks es o ≡ None → AllFound Plain es
 unfolding find
 judged_plain ks [] o q y e h = cc
-judged_plain ks (x ∷ es) o q y e h = go (bytes_eq y x.name) h (judged_plain ks es (entry_judged ks x o) q y e)
+judged_plain ks (x ∷ es) o q y e h = go (bytes_eq y x.name) h (judged_plain ks es (check_entry ks x o) q y e)
   where
     go : (b : Bool) → (if b then Some x else find y es) ≡ Some e → (find y es ≡ Some e → Plain e) → Plain e
-    go true k ih = let same : x ≡ e = cc in subst Plain same (λ c. common_plain x x.common (noted (is_real (entry_kind ks x)) x.line RealName o) (entries_back ks es (entry_judged ks x o) q) c)
+    go true k ih = let same : x ≡ e = cc in subst Plain same (λ c. common_plain x x.common (refuse_if (is_real (entry_kind ks x)) x.line RealName o) (entries_back ks es (check_entry ks x o) q) c)
     go false k ih = ih k
 
-shape_fits : (t : NameTable) (x : EntryTree) (o : Option Refusal) → shape_judged t (is_some x.dummy) x.shape o ≡ None → ShapeFits t x
-shape_fits t x o q s w = (noted_none (is_bad_shape t (is_some x.dummy) s.bounds) s.line BadDimension (bounds_judged t s.bounds s.line o) (ap (λ z. shape_judged t (is_some x.dummy) z o) (sym w) ∙ q)).0
+shape_fits : (t : NameTable) (x : EntryTree) (o : Option Refusal) → check_shape t (is_some x.dummy) x.shape o ≡ None → ShapeFits t x
+shape_fits t x o q s w = (noted_none (is_bad_shape t (is_some x.dummy) s.bounds) s.line BadDimension (check_bounds t s.bounds s.line o) (ap (λ z. check_shape t (is_some x.dummy) z o) (sym w) ∙ q)).0
 
-shapes_found : (t : NameTable) (es : List EntryTree) (o : Option Refusal) → shapes_judged t es o ≡ None → AllFound (ShapeFits t) es
+shapes_found : (t : NameTable) (es : List EntryTree) (o : Option Refusal) → check_shapes t es o ≡ None → AllFound (ShapeFits t) es
 unfolding find
 shapes_found t [] o q y e h = cc
-shapes_found t (x ∷ es) o q y e h = go (bytes_eq y x.name) h (shapes_found t es (shape_judged t (is_some x.dummy) x.shape o) q y e)
+shapes_found t (x ∷ es) o q y e h = go (bytes_eq y x.name) h (shapes_found t es (check_shape t (is_some x.dummy) x.shape o) q y e)
   where
     go : (b : Bool) → (if b then Some x else find y es) ≡ Some e → (find y es ≡ Some e → ShapeFits t e) → ShapeFits t e
-    go true k ih = let same : x ≡ e = cc in subst (ShapeFits t) same (shape_fits t x o (shapes_back t es (shape_judged t (is_some x.dummy) x.shape o) q))
+    go true k ih = let same : x ≡ e = cc in subst (ShapeFits t) same (shape_fits t x o (shapes_back t es (check_shape t (is_some x.dummy) x.shape o) q))
     go false k ih = ih k
+
+-- by place
+shapes_placed : (t : NameTable) (es : List EntryTree) (o : Option Refusal) → check_shapes t es o ≡ None → (n : ℕ) (e : EntryTree) → slice_get es n ≡ Some e → ShapeFits t e
+shapes_placed t [] o q zero e h = cc
+shapes_placed t [] o q (suc n) e h = cc
+shapes_placed t (x ∷ es) o q zero e h = let same : x ≡ e = cc in subst (ShapeFits t) same (shape_fits t x o (shapes_back t es (check_shape t (is_some x.dummy) x.shape o) q))
+shapes_placed t (x ∷ es) o q (suc n) e h = shapes_placed t es (check_shape t (is_some x.dummy) x.shape o) q n e h
 
 valued_found : (G : EntryTree → Type 0) → ((c : Constant) (e : EntryTree) → G e → G (with_value c e)) → (x : List ℕ) (c : Constant) (es : List EntryTree) → AllFound G es → AllFound G (changed x (with_value c) es)
 valued_found G keeps x c es all y d k =
@@ -147,7 +155,7 @@ block_named names b n h = let same : n - 0 ≡ n = omega arith in ap (slice_get 
 abbrev pub told_in : ParsedTree → Told
 told_in p = decls_told (arrays_named p.module_read.decls) (lines_in p) p.module_read.decls 0 (dummies_told p.module_read.dummies 1 (line_or (lines_in p) Title 0) no_names)
 
-told_quiet : (p : ParsedTree) → names_judged (lines_in p) p.module_read ≡ None → (told_in p).found ≡ None
+told_quiet : (p : ParsedTree) → check_names (lines_in p) p.module_read ≡ None → (told_in p).found ≡ None
 told_quiet p e =
     let t = told_of (arrays_named p.module_read.decls) (lines_in p) p.module_read in
     entries_back (kinds_of p.module_read.decls) t.entries t.found e
@@ -157,25 +165,31 @@ unfolding valued
 kept_common p y h =
     let at = lines_in p in
     let m = p.module_read in
-    values_keep (InCommon y) (λ x c es k. changed_shared y x (with_value c) (λ e. refl) (λ e i. i) es k) at m.decls 0 (record { table = table_of at m; found = names_judged at m })
+    values_keep (InCommon y) (λ x c es k. changed_shared y x (with_value c) (λ e. refl) (λ e i. i) es k) at m.decls 0 (record { table = table_of at m; found = check_names at m })
     (stmts_keep (InCommon y) (seen_shared y) (said_shared y) (arrays_named m.decls) at m.body 0 (told_in p).entries h)
 
-plain_names : (p : ParsedTree) → names_judged (lines_in p) p.module_read ≡ None → AllFound Plain (names_in p).entries
+plain_names : (p : ParsedTree) → check_names (lines_in p) p.module_read ≡ None → AllFound Plain (names_in p).entries
 unfolding valued
 plain_names p e =
     let at = lines_in p in
     let m = p.module_read in
     let t = told_of (arrays_named m.decls) at m in
-    values_keep (AllFound Plain) (valued_found Plain (λ c d g. g)) at m.decls 0 (record { table = table_of at m; found = names_judged at m }) (judged_plain (kinds_of m.decls) t.entries t.found e)
+    values_keep (AllFound Plain) (valued_found Plain (λ c d g. g)) at m.decls 0 (record { table = table_of at m; found = check_names at m }) (judged_plain (kinds_of m.decls) t.entries t.found e)
 
 pub shaped_names : (p : ParsedTree) → found_in p ≡ None → AllFound (ShapeFits (names_in p)) (names_in p).entries
 unfolding checked
 shaped_names p e =
     let v = valued (lines_in p) p.module_read in
-    shapes_found v.table v.table.entries v.found (stmts_back v.table (lines_in p) p.module_read.body 0 (shapes_judged v.table v.table.entries v.found) e)
+    shapes_found v.table v.table.entries v.found (stmts_back v.table (lines_in p) p.module_read.body 0 (check_shapes v.table v.table.entries v.found) e)
+
+pub shapes_at : (p : ParsedTree) → found_in p ≡ None → (n : ℕ) (e : EntryTree) → slice_get (names_in p).entries n ≡ Some e → ShapeFits (names_in p) e
+unfolding checked
+shapes_at p e =
+    let v = valued (lines_in p) p.module_read in
+    shapes_placed v.table v.table.entries v.found (stmts_back v.table (lines_in p) p.module_read.body 0 (check_shapes v.table v.table.entries v.found) e)
 
 module _ (p : ParsedTree) (ss : List SymbolTree) (a : Answered p ss) (fit : ConstantsFit ss) where
-  quiet : names_judged (lines_in p) p.module_read ≡ None
+  quiet : check_names (lines_in p) p.module_read ≡ None
   quiet = names_none p (values_none p (found_none p ss a))
 
   -- the symbol of a member
@@ -201,7 +215,7 @@ module _ (p : ParsedTree) (ss : List SymbolTree) (a : Answered p ss) (fit : Cons
             ∙ ap (λ d. unless_dummy d (seat_place l (slice_get l.seats k))) plain.0
             ∙ ap (seat_place l) after
             ∙ ap (λ o. place.Block (unwrap_or o []) from) name;
-        units = units_same p ss a fit k e.entry dims.0 dims.1 ∙ sym (ap (units_of_entry (names_in p)) e.found ∙ ap units_by dims.1);
+        units = units_are p ss a fit k e.entry dims.0 dims.1 ∙ sym (ap (units_of_entry (names_in p)) e.found ∙ ap units_by dims.1);
       }
 
   in_a_row : (b : List ℕ) (n : ℕ) → slice_get (laid_in p).names n ≡ Some b → ((x : List ℕ) (k from : ℕ) → place_of (names_in p) x ≡ Some k → slice_get (laid_in p).seats k ≡ Some (record { home = Block n; offset = pos from }) → InCommon x (names_in p).entries) →

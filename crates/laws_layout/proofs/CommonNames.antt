@@ -5,7 +5,7 @@ use Rattle.std.proofs.lemmas.Slice.Eq.{bytes_eq-Decides}
 use Rattle.f77_ast.specs.Trees.{ExprTree}
 use Rattle.f77_ast.specs.DeclTrees.{ExtentTree, EntityTree, CommonTree, DeclTree}
 use Rattle.f77_ast.specs.DeclTrees as decl
-use Rattle.f77_names.specs.declared.refusal.Cause.TheVariants.{CommonTwice}
+use Rattle.refusal_codes.specs.declared.code.Code.TheVariants.{CommonTwice}
 use Rattle.f77_names.specs.declared.functions.Function.{Function}
 use Rattle.f77_names.specs.Entries.{EntryTree, fresh, find, seen, changed, or_this, of_entry, has_common, with_common}
 use Rattle.f77_names.specs.Appearing.{maybe_seen}

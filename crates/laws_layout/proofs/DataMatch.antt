@@ -14,7 +14,7 @@ use Rattle.f77_names.specs.Lines.{line_or}
 use Rattle.f77_names.specs.Functions.{arrays_named}
 use Rattle.f77_names.specs.Entries.{EntryTree, find, with_value}
 use Rattle.f77_names.specs.Declaring.{dummies_told}
-use Rattle.f77_names.specs.Tables.{no_names, table_of, names_judged}
+use Rattle.f77_names.specs.Tables.{no_names, table_of, check_names}
 use Rattle.f77_checks.specs.Dimensions.{dims_in}
 use Rattle.storage_data.specs.declared.targets.Target.TheVariants.{Excluded, Open}
 use Rattle.storage_data.specs.Units.{place_of, units_by, units_of_entry, units_of}
@@ -26,11 +26,11 @@ use Rattle.laws_tables.specs.Shapes.{symbol_named}
 use Rattle.laws_tables.proofs.KeptNames.{stmts_keep}
 use Rattle.laws_tables.proofs.Answers.{Answered, lines_in, names_in, found_in, laid_in, shared_in, filled_in, layout_in, answered_by, found_none}
 use Rattle.laws_storage.specs.DataLaws.{ConstantsFit}
-use Rattle.laws_storage.proofs.UnitLaws.{values_same}
+use Rattle.laws_storage.proofs.UnitLaws.{units_are, values_same}
 use Rattle.laws_layout.specs.Layout.{Target, targets_from, whole, one_target, one_element, targets_in, targets, written_out, GivesItsValues, data_lists}
 use Rattle.laws_layout.specs.Laws.{DataFillsInOrder}
 use Rattle.laws_layout.proofs.CommonLaws.{placed_symbol, no_some, shaped_names, told_in}
-use Rattle.laws_layout.proofs.SizeLaws.{entry_known, units_same}
+use Rattle.laws_layout.proofs.SizeLaws.{entry_known}
 use Rattle.laws_layout.proofs.ItemLaws.{position_same}
 use Rattle.laws_layout.proofs.ValueKeeps.{values_keep}
 use Rattle.laws_layout.proofs.GroupLaws.{shared_seated}
@@ -47,7 +47,7 @@ unfolding valued
 kept_data p y h =
     let at = lines_in p in
     let m = p.module_read in
-    values_keep (InData y) (λ x c es k. changed_data y x (with_value c) (λ e. refl) (λ e i. i) es k) at m.decls 0 (record { table = table_of at m; found = names_judged at m })
+    values_keep (InData y) (λ x c es k. changed_data y x (with_value c) (λ e. refl) (λ e i. i) es k) at m.decls 0 (record { table = table_of at m; found = check_names at m })
     (stmts_keep (InData y) (seen_data y) (said_data y) (arrays_named m.decls) at m.body 0 (told_in p).entries h)
 
 module _ (p : ParsedTree) (ss : List SymbolTree) (a : Answered p ss) (fit : ConstantsFit ss) where
@@ -67,7 +67,7 @@ module _ (p : ParsedTree) (ss : List SymbolTree) (a : Answered p ss) (fit : Cons
       let l = layout_in p in
       let same : y ≡ x = cc in
       let named : symbol_named ss y ≡ Some (symbol_of l place e) = ap (symbol_named ss) same ∙ ap (λ z. symbol_named z x) a.table ∙ placed_symbol l x e place f at in
-      let units : units_of t y ≡ units_in ss (symbol_of l place e) = ap (units_of t) same ∙ ap (units_of_entry t) f ∙ ap units_by known ∙ sym (units_same p ss a fit place e ds known) in
+      let units : units_of t y ≡ units_in ss (symbol_of l place e) = ap (units_of t) same ∙ ap (units_of_entry t) f ∙ ap units_by known ∙ sym (units_are p ss a fit place e ds known) in
       subst (λ z. Match p ss a fit (slots_from place 0 (units_of t y)) (whole ss y z)) (sym named)
       (subst (λ z. Match p ss a fit (slots_from place 0 z) (targets_from y 0 (units_in ss (symbol_of l place e)))) (sym units)
       (match_from y place 0 (units_in ss (symbol_of l place e)) (ap (place_of t) same ∙ at) (subst (λ z. InData z t.entries) (sym same) marked)))

@@ -8,8 +8,8 @@ use Rattle.f77_ast.specs.Trees as tree
 use Rattle.f77_ast.specs.DeclTrees.{DataTree, DeclTree}
 use Rattle.f77_ast.specs.DeclTrees as decl
 use Rattle.f77_ast.specs.Places.{Dim}
-use Rattle.f77_names.specs.declared.refusal.Cause.TheVariants.{InitialMismatch}
-use Rattle.f77_names.specs.declared.refusal.Refusal.{Refusal}
+use Rattle.refusal_codes.specs.declared.code.Code.TheVariants.{InitialMismatch}
+use Rattle.refusal_codes.specs.declared.refusal.Refusal.{Refusal}
 use Rattle.f77_names.specs.declared.lines.Sited.TheVariants.{Decl}
 use Rattle.f77_names.specs.Lines.{LineTable, line_or}
 use Rattle.f77_names.specs.Entries.{EntryTree, find}
@@ -22,7 +22,7 @@ use Rattle.storage_data.specs.declared.values.Run.{Run}
 use Rattle.storage_data.specs.declared.deals.Piece.{Piece}
 use Rattle.storage_data.specs.declared.initials.Filled.{Filled}
 use Rattle.storage_data.specs.Units.{place_of}
-use Rattle.storage_data.specs.Items.{item_name, item_fault, item_position, both, items_judged}
+use Rattle.storage_data.specs.Items.{item_name, item_fault, item_position, both, check_items}
 use Rattle.storage_data.specs.Initials.{is_excluded, is_open, covers_element, covers, is_barred, entry_target, named_target, target_of, targets_of, units_in, values_in, runs_of, dealt, mismatch, given, targets_filled, faulted, group_filled, groups_filled, decl_filled, decls_filled}
 use Rattle.laws_tables.proofs.StatementRefusals.{noted_none}
 use Rattle.laws_tables.proofs.Answers.{filled_back}
@@ -48,7 +48,7 @@ covers_closed t place (tree.chars x) = refl
 
 both_none : (a b : Option Refusal) → both a b ≡ None → (a ≡ None) × (b ≡ None)
 both_none None b e = (refl, e)
-both_none (Some r) b e = let z = (noted_none true r.line r.cause b e).0 in cc
+both_none (Some r) b e = let z = (noted_none true r.line r.code b e).0 in cc
 
 module _ (t : NameTable) (ss : List Seat) (known : (x : List ℕ) (e : EntryTree) (k : ℕ) → find x t.entries ≡ Some e → is_barred e (slice_get ss k) ≡ false → (ds : List Dim) × (dims_in t e ≡ Some ds)) where
   closed : (i : ExprTree) → item_fault t i 0 ≡ None → is_open (target_of t ss i) ≡ false
@@ -73,11 +73,11 @@ module _ (t : NameTable) (ss : List Seat) (known : (x : List ℕ) (e : EntryTree
   or_none true b e f = cc
   or_none false b e f = f
 
-  judged_back : (is : List ExprTree) (line : ℕ) (o : Option Refusal) → items_judged t is line o ≡ None → o ≡ None
+  judged_back : (is : List ExprTree) (line : ℕ) (o : Option Refusal) → check_items t is line o ≡ None → o ≡ None
   judged_back [] line o e = e
   judged_back (i ∷ is) line o e = (both_none (item_fault t i line) o (judged_back is line (both (item_fault t i line) o) e)).1
 
-  all_closed : (is : List ExprTree) (line : ℕ) (o : Option Refusal) → items_judged t is line o ≡ None → list_any is_open (targets_of t ss is) ≡ false
+  all_closed : (is : List ExprTree) (line : ℕ) (o : Option Refusal) → check_items t is line o ≡ None → list_any is_open (targets_of t ss is) ≡ false
   all_closed [] line o e = refl
   all_closed (i ∷ is) line o e =
       let here = (both_none (item_fault t i line) o (judged_back is line (both (item_fault t i line) o) e)).0 in

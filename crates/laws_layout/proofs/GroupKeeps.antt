@@ -5,9 +5,9 @@ use Rattle.std.proofs.lemmas.Bool.{or_parts}
 use Rattle.f77_ast.specs.Trees.{ExprTree}
 use Rattle.f77_ast.specs.DeclTrees.{DeclTree}
 use Rattle.f77_ast.specs.DeclTrees as decl
-use Rattle.f77_names.specs.declared.refusal.Cause.TheVariants.{EquivalenceClash, EquivalenceExtendsBack}
+use Rattle.refusal_codes.specs.declared.code.Code.TheVariants.{EquivalenceClash, EquivalenceExtendsBack}
 use Rattle.f77_names.specs.declared.lines.Sited.TheVariants.{Decl}
-use Rattle.f77_names.specs.Refusals.{noted}
+use Rattle.refusal_codes.specs.Refusals.{refuse_if}
 use Rattle.f77_names.specs.Lines.{LineTable, line_or}
 use Rattle.f77_names.specs.Entries.{find}
 use Rattle.f77_names.specs.Tables.{NameTable}
@@ -112,7 +112,7 @@ pub record Quiet (t : NameTable) (is : List ExprTree) (s : Shared) : Type 0 wher
 pub group_quiet : (t : NameTable) (is : List ExprTree) (line : ℕ) (s : Shared) → (group_shared t is line s).late ≡ None → Quiet t is s
 group_quiet t is line s e =
     let g = items_joined t is (begun s.group) in
-    let last = noted_none (items_extend t g.seats is) line EquivalenceExtendsBack (noted g.clash line EquivalenceClash s.late) e in
+    let last = noted_none (items_extend t g.seats is) line EquivalenceExtendsBack (refuse_if g.clash line EquivalenceClash s.late) e in
     let first = noted_none g.clash line EquivalenceClash s.late last.1 in
     record { calm = first.0; before = first.1 }
 

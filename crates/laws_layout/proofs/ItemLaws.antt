@@ -17,7 +17,7 @@ use Rattle.f77_meaning.specs.Modules.{as_number, constant_high, dim_of}
 use Rattle.storage_data.specs.Items.{with_number, numbers_of, position_at}
 use Rattle.storage_layout.specs.Table.{bounds_in}
 use Rattle.laws_layout.specs.Layout.{subscripts}
-use Rattle.laws_layout.proofs.SizeLaws.{parts_of}
+use Rattle.laws_storage.proofs.UnitLaws.{parts_of}
 
 module _ (t : NameTable) (ss : List SymbolTree) (same : value_in ss ≡ value_among t.entries) where
   worth_same : (e : ExprTree) → worth (value_in ss) e ≡ worth_in t e

@@ -6,7 +6,7 @@ use Rattle.std.specs.Ordering.{int_eq}
 use Rattle.std.proofs.lemmas.Int.{ints}
 use Rattle.storage_groups.specs.declared.seat.Home.{Home}
 use Rattle.storage_groups.specs.declared.seat.Seat.{Seat}
-use Rattle.storage_groups.specs.Seats.{same_home, is_block, moved, all_moved, Joined, joined_at, joined_seats, joined}
+use Rattle.storage_groups.specs.Seats.{same_home, is_block, move_seat, all_moved, Joined, joined_at, joined_seats, joined}
 use Rattle.storage_groups.proofs.BlockLaws.{same_home-refl, same_home-is}
 
 -- unit p of one variable is unit q of another
@@ -18,20 +18,20 @@ pub record OneUnit (ss : List Seat) (m : ℕ) (p : ℤ) (n : ℕ) (q : ℤ) : Ty
   pub home : first.home ≡ second.home
   pub unit : first.offset +ℤ p ≡ second.offset +ℤ q
 
-pub moved_get : (ss : List Seat) (from to : Home) (shift : ℤ) (k : ℕ) → slice_get (all_moved from to shift ss) k ≡ option_map (moved from to shift) (slice_get ss k)
+pub moved_get : (ss : List Seat) (from to : Home) (shift : ℤ) (k : ℕ) → slice_get (all_moved from to shift ss) k ≡ option_map (move_seat from to shift) (slice_get ss k)
 moved_get [] from to shift zero = refl
 moved_get [] from to shift (suc k) = refl
 moved_get (s ∷ ss) from to shift zero = refl
 moved_get (s ∷ ss) from to shift (suc k) = moved_get ss from to shift k
 
-moved_at : (ss : List Seat) (from to : Home) (shift : ℤ) (k : ℕ) (s : Seat) → slice_get ss k ≡ Some s → slice_get (all_moved from to shift ss) k ≡ Some (moved from to shift s)
-moved_at ss from to shift k s e = moved_get ss from to shift k ∙ ap (option_map (moved from to shift)) e
+moved_at : (ss : List Seat) (from to : Home) (shift : ℤ) (k : ℕ) (s : Seat) → slice_get ss k ≡ Some s → slice_get (all_moved from to shift ss) k ≡ Some (move_seat from to shift s)
+moved_at ss from to shift k s e = moved_get ss from to shift k ∙ ap (option_map (move_seat from to shift)) e
 
 -- a seat of the group that goes, and one of another group
-goes : (from to : Home) (shift : ℤ) (s : Seat) → s.home ≡ from → moved from to shift s ≡ record { home = to; offset = s.offset +ℤ shift }
+goes : (from to : Home) (shift : ℤ) (s : Seat) → s.home ≡ from → move_seat from to shift s ≡ record { home = to; offset = s.offset +ℤ shift }
 goes from to shift s e = ap (λ b. if b then record { home = to; offset = s.offset +ℤ shift } else s) (subst (λ h. same_home s.home h ≡ true) e (same_home-refl s.home))
 
-stays : (from to : Home) (shift : ℤ) (s : Seat) → same_home s.home from ≡ false → moved from to shift s ≡ s
+stays : (from to : Home) (shift : ℤ) (s : Seat) → same_home s.home from ≡ false → move_seat from to shift s ≡ s
 stays from to shift s e = ap (λ b. if b then record { home = to; offset = s.offset +ℤ shift } else s) e
 
 -- ---- what was one unit stays one
@@ -130,8 +130,8 @@ seat_at ss a b shift k s e = go (same_home a.home b.home) (is_block b.home) (is_
     go : (same inner outer : Bool) → (let j : Joined = if same then record { seats = ss; clash = not (int_eq shift (pos 0)) } else if inner then (if outer then record { seats = ss; clash = true } else record { seats = all_moved a.home b.home (neg_ℤ shift) ss; clash = false }) else record { seats = all_moved b.home a.home shift ss; clash = false } in (r : Seat) × (slice_get j.seats k ≡ Some r))
     go true inner outer = (s, e)
     go false true true = (s, e)
-    go false true false = (moved a.home b.home (neg_ℤ shift) s, moved_at ss a.home b.home (neg_ℤ shift) k s e)
-    go false false outer = (moved b.home a.home shift s, moved_at ss b.home a.home shift k s e)
+    go false true false = (move_seat a.home b.home (neg_ℤ shift) s, moved_at ss a.home b.home (neg_ℤ shift) k s e)
+    go false false outer = (move_seat b.home a.home shift s, moved_at ss b.home a.home shift k s e)
 
 pub seats_stay : (ss : List Seat) (i : ℕ) (r : ℤ) (j : ℕ) (q : ℤ) → SameSeats ss (joined ss i r j q).seats
 seats_stay ss i r j q k s e = go (slice_get ss i) (slice_get ss j)

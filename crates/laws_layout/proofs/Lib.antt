@@ -28,3 +28,5 @@ pub mod OnceLaws
 pub mod StretchLaws
 pub mod DataOrder
 pub mod DataMatch
+pub mod ReachLaws
+pub mod EndLaws

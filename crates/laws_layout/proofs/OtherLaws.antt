@@ -30,11 +30,10 @@ use Rattle.storage_layout.specs.Symbols.{filled}
 use Rattle.laws_tables.specs.Shapes.{symbol_named}
 use Rattle.laws_tables.proofs.Answers.{Answered, lines_in, names_in, shared_in, filled_in, layout_in, answered_by}
 use Rattle.laws_storage.specs.DataLaws.{ConstantsFit}
-use Rattle.laws_storage.proofs.UnitLaws.{values_same}
+use Rattle.laws_storage.proofs.UnitLaws.{units_are, values_same}
 use Rattle.laws_layout.specs.Layout.{Has, data_in, data_lists, Target, targets_from, whole, one_target, one_element, targets_in, targets, value_at}
 use Rattle.laws_layout.specs.Laws.{OthersBeginUndefined}
 use Rattle.laws_layout.proofs.CommonLaws.{placed_symbol}
-use Rattle.laws_layout.proofs.SizeLaws.{units_same}
 use Rattle.laws_layout.proofs.ItemLaws.{position_same}
 use Rattle.laws_layout.proofs.ChainLaws.{has_left, has_right}
 use Rattle.laws_layout.proofs.RowLaws.{one_number}
@@ -160,7 +159,7 @@ module _ (p : ParsedTree) (ss : List SymbolTree) (a : Answered p ss) (fit : Cons
       let same : y ≡ x = cc in
       let w = within_slots place 0 (units_of t y) n u h in
       let named : symbol_named ss y ≡ Some (symbol_of l place e) = ap (symbol_named ss) same ∙ ap (λ z. symbol_named z x) a.table ∙ placed_symbol l x e place f at in
-      let units : units_of t y ≡ units_in ss (symbol_of l place e) = ap (units_of t) same ∙ ap (units_of_entry t) f ∙ ap units_by known ∙ sym (units_same p ss a fit place e ds known) in
+      let units : units_of t y ≡ units_in ss (symbol_of l place e) = ap (units_of t) same ∙ ap (units_of_entry t) f ∙ ap units_by known ∙ sym (units_are p ss a fit place e ds known) in
       let high : u < 0 + units_in ss (symbol_of l place e) = subst (λ z. u < 0 + z) units w.2 in
       (w.0, subst (λ z. Has (whole ss y z) (record { name = x; unit = u })) (sym named) (subst (λ z. Has (targets_from z 0 (units_in ss (symbol_of l place e))) (record { name = x; unit = u })) (sym same) (has_target x 0 (units_in ss (symbol_of l place e)) u w.1 high)))
   covers_are (tree.element y es) x place n u e ds q at f known h = go (item_position (names_in p) (tree.element y es)) refl h

@@ -29,19 +29,19 @@ use Rattle.laws_layout.proofs.StayLaws.{BlocksRemain}
 
 -- ---- lists
 
-set_length : {X : Type 0} (xs : List X) (i : ℕ) (v : X) → length (slice_set xs i v) ≡ length xs
+pub set_length : {X : Type 0} (xs : List X) (i : ℕ) (v : X) → length (slice_set xs i v) ≡ length xs
 set_length [] zero v = refl
 set_length [] (suc i) v = refl
 set_length (x ∷ xs) zero v = refl
 set_length (x ∷ xs) (suc i) v = ap suc (set_length xs i v)
 
-set_here : {X : Type 0} (xs : List X) (i : ℕ) (v x : X) → slice_get xs i ≡ Some x → slice_get (slice_set xs i v) i ≡ Some v
+pub set_here : {X : Type 0} (xs : List X) (i : ℕ) (v x : X) → slice_get xs i ≡ Some x → slice_get (slice_set xs i v) i ≡ Some v
 set_here [] zero v x e = cc
 set_here [] (suc i) v x e = cc
 set_here (y ∷ xs) zero v x e = refl
 set_here (y ∷ xs) (suc i) v x e = set_here xs i v x e
 
-set_other : {X : Type 0} (xs : List X) (i k : ℕ) (v : X) → (i ≡ k → ⊥) → slice_get (slice_set xs i v) k ≡ slice_get xs k
+pub set_other : {X : Type 0} (xs : List X) (i k : ℕ) (v : X) → (i ≡ k → ⊥) → slice_get (slice_set xs i v) k ≡ slice_get xs k
 set_other [] zero k v h = refl
 set_other [] (suc i) k v h = refl
 set_other (y ∷ xs) zero zero v h = absurd (h refl)
@@ -49,7 +49,7 @@ set_other (y ∷ xs) zero (suc k) v h = refl
 set_other (y ∷ xs) (suc i) zero v h = refl
 set_other (y ∷ xs) (suc i) (suc k) v h = set_other xs i k v (λ q. h (ap suc q))
 
-get_more : {X : Type 0} (xs : List X) (i : ℕ) (v x : X) → slice_get xs i ≡ Some x → slice_get (xs ++ v ∷ []) i ≡ Some x
+pub get_more : {X : Type 0} (xs : List X) (i : ℕ) (v x : X) → slice_get xs i ≡ Some x → slice_get (xs ++ v ∷ []) i ≡ Some x
 get_more [] zero v x e = cc
 get_more [] (suc i) v x e = cc
 get_more (y ∷ xs) zero v x e = e

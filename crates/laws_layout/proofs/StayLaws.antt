@@ -4,7 +4,7 @@ use Rattle.std.specs.Prelude.{slice_get, if◌then◌else◌}
 use Rattle.f77_ast.specs.Trees.{ExprTree}
 use Rattle.f77_ast.specs.DeclTrees.{DeclTree}
 use Rattle.f77_ast.specs.DeclTrees as decl
-use Rattle.f77_names.specs.declared.refusal.Refusal.{Refusal}
+use Rattle.refusal_codes.specs.declared.refusal.Refusal.{Refusal}
 use Rattle.f77_names.specs.declared.lines.Sited.TheVariants.{Decl}
 use Rattle.f77_names.specs.Lines.{LineTable, line_or}
 use Rattle.f77_names.specs.Entries.{find}

@@ -1,11 +1,13 @@
 -- What holds of the table of every module that is not refused, in the words of the standard.
-use Rattle.std.specs.Prelude.{◌≡◌, ◌<◌, ◌⊎◌, ℕ, suc, ℤ, List, map, slice_get, Some, Ok}
+use Rattle.std.specs.Prelude.{◌≡◌, ◌+◌, ◌*◌, ◌<◌, ◌≤◌, ◌⊎◌, ℕ, suc, ℤ, List, length, map, slice_get, Some, Ok}
 use Rattle.std.specs.List.{AllByRecursion}
 use Rattle.f77_ast.specs.DeclTrees.{DataTree, ParsedTree}
 use Rattle.f77_ast.specs.Places.{Dim, position}
 use Rattle.f77_symbols.specs.declared.symbol.Place.TheVariants.{Block}
 use Rattle.f77_symbols.specs.Symbols.{SymbolTree}
+use Rattle.f77_symbols.specs.Units.{units_in}
 use Rattle.f77_symbols.specs.Shared.{OneUnit, group_unit, block_unit, HasUnit}
+use Rattle.f77_meaning.specs.Linked.{offset_in}
 use Rattle.storage_layout.specs.Symbols.{symbols_of}
 use Rattle.laws_storage.specs.DataLaws.{ConstantsFit}
 use Rattle.laws_layout.specs.Layout.{members, LieInARow, IsNext, equivalences, ShareTheirFirst, Has, Chained, data_lists, Target, targets, begins_with, GivesItsValues}
@@ -52,3 +54,7 @@ DataFillsInOrder = (p : ParsedTree) (ss : List SymbolTree) → symbols_of p ≡ 
 abbrev pub OthersBeginUndefined : Type 0
 OthersBeginUndefined = (p : ParsedTree) (ss : List SymbolTree) → symbols_of p ≡ Ok ss → ConstantsFit ss → (t : Target) (v : ℤ) → begins_with ss t ≡ Some v →
     (g : DataTree) × Has (data_lists p.module_read.decls) g × Has (targets ss g.targets) t
+
+-- a variable ends at most 2147483647 units for each symbol behind the first unit of its block or group
+abbrev pub EndsAreBounded : Type 0
+EndsAreBounded = (p : ParsedTree) (ss : List SymbolTree) → symbols_of p ≡ Ok ss → ConstantsFit ss → (n : ℕ) (s : SymbolTree) → slice_get ss n ≡ Some s → offset_in s.place + units_in ss s ≤ 2147483647 * length ss

@@ -1,5 +1,5 @@
 //! Laws of storage.
-ghost use Rattle.laws_layout.specs.Laws.{BlocksHaveAChain, ColumnsComeFirst, CommonFollowsTheText, DataFillsInOrder, EquivalencedItemsShare, FirstElementIsFirst, OthersBeginUndefined, SharingHasAChain};
+ghost use Rattle.laws_layout.specs.Laws.{BlocksHaveAChain, ColumnsComeFirst, CommonFollowsTheText, DataFillsInOrder, EndsAreBounded, EquivalencedItemsShare, FirstElementIsFirst, OthersBeginUndefined, SharingHasAChain};
 
 /// The element with all lower bounds is the first of its array.
 pub fn first_element_is_first()
@@ -39,4 +39,9 @@ pub fn data_fills_in_order()
 /// Only units that an item of DATA stands for have a value at the start.
 pub fn others_begin_undefined()
     ensures { OthersBeginUndefined }
+{}
+
+/// Each variable ends at most 2^31-1 units for each symbol of its module behind the first unit of its block or group.
+pub fn ends_are_bounded()
+    ensures { EndsAreBounded }
 {}

@@ -12,16 +12,16 @@ use Rattle.f77_constants.specs.declared.constant.Worth.{Worth}
 use Rattle.f77_constants.specs.declared.constant.Worth.TheVariants.{Is, Faults, Varies}
 use Rattle.f77_constants.specs.Constants.{turns_logical, gives_logical, unary_worth, binary_worth, worth}
 use Rattle.f77_symbols.specs.Symbols.{BoundTree, SymbolTree}
-use Rattle.f77_names.specs.declared.refusal.Cause.TheVariants.{BadDimension}
-use Rattle.f77_names.specs.declared.refusal.Refusal.{Refusal}
+use Rattle.refusal_codes.specs.declared.code.Code.TheVariants.{BadDimension}
+use Rattle.refusal_codes.specs.declared.refusal.Refusal.{Refusal}
 use Rattle.f77_names.specs.Entries.{ShapeTree, EntryTree, find, of_entry, has_shape, value_among}
 use Rattle.f77_names.specs.Tables.{NameTable}
-use Rattle.f77_checks.specs.Expressions.{expr_judged}
-use Rattle.f77_checks.specs.Dimensions.{is_adjustable, is_bad_worth, worth_in, is_bad_limit, is_below, is_bad_high, is_bad_bound, is_last, has_bad_bound, dims_of, is_too_big, is_bad_shape, maybe_judged, bounds_judged, shape_judged, shapes_judged}
+use Rattle.f77_checks.specs.Expressions.{check_expr}
+use Rattle.f77_checks.specs.Dimensions.{is_adjustable, is_bad_worth, worth_in, is_bad_limit, is_below, is_bad_high, is_bad_bound, is_last, has_bad_bound, dims_of, is_too_big, is_bad_shape, check_maybe, check_bounds, check_shape, check_shapes}
 use Rattle.tracked_cells.specs.Standing.{has_bounds}
 use Rattle.storage_layout.specs.Symbols.{valued, checked}
 use Rattle.storage_layout.specs.Table.{Layout, bounds_in, symbol_of, symbols_from, symbols_in}
-use Rattle.call_graph.specs.Actuals.{named, is_array}
+use Rattle.call_graph.specs.Actuals.{symbol_with_name, is_array}
 use Rattle.laws_tables.specs.Shapes.{Shaped}
 use Rattle.laws_tables.proofs.StatementRefusals.{noted_none, expr_back, stmts_back}
 use Rattle.laws_tables.proofs.NameRefusals.{shapes_back}
@@ -93,13 +93,13 @@ flat_limit t dummy e h = go (worth_in t e) refl h
 
 -- ---- refusals
 
-maybe_back : (t : NameTable) (x : Option ExprTree) (line : ℕ) (o : Option Refusal) → maybe_judged t x line o ≡ None → o ≡ None
+maybe_back : (t : NameTable) (x : Option ExprTree) (line : ℕ) (o : Option Refusal) → check_maybe t x line o ≡ None → o ≡ None
 maybe_back t None line o e = e
 maybe_back t (Some x) line o e = expr_back t x line o e
 
-bounds_back : (t : NameTable) (bs : List BoundTree) (line : ℕ) (o : Option Refusal) → bounds_judged t bs line o ≡ None → o ≡ None
+bounds_back : (t : NameTable) (bs : List BoundTree) (line : ℕ) (o : Option Refusal) → check_bounds t bs line o ≡ None → o ≡ None
 bounds_back t [] line o e = e
-bounds_back t (b ∷ bs) line o e = expr_back t b.low line o (maybe_back t b.high line (expr_judged t b.low line o) (bounds_back t bs line (maybe_judged t b.high line (expr_judged t b.low line o)) e))
+bounds_back t (b ∷ bs) line o e = expr_back t b.low line o (maybe_back t b.high line (check_expr t b.low line o) (bounds_back t bs line (check_maybe t b.high line (check_expr t b.low line o)) e))
 
 -- ---- bounds that are not refused
 
@@ -120,36 +120,36 @@ module _ (t : NameTable) (ss : List SymbolTree) (bare : (x : List ℕ) → has_s
   is_bound (tree.binary o a b) h f = (is_bound a h.0 f.0, is_bound b h.1 f.1)
   is_bound (tree.chars x) h f = tt
 
-  limit : (dummy : Bool) (e : ExprTree) (line : ℕ) (o : Option Refusal) → expr_judged t e line o ≡ None → is_bad_limit t dummy e ≡ false → IsBound e ss
+  limit : (dummy : Bool) (e : ExprTree) (line : ℕ) (o : Option Refusal) → check_expr t e line o ≡ None → is_bad_limit t dummy e ≡ false → IsBound e ss
   limit dummy e line o j h = is_bound e (expr_shaped t Scalar anything bare (λ x es i. tt) e line o j) (flat_limit t dummy e h)
 
-  high : (dummy last : Bool) (low : ExprTree) (e : Option ExprTree) (line : ℕ) (o : Option Refusal) → maybe_judged t e line o ≡ None → is_bad_high t dummy last low e ≡ false → IsHigh e ss
+  high : (dummy last : Bool) (low : ExprTree) (e : Option ExprTree) (line : ℕ) (o : Option Refusal) → check_maybe t e line o ≡ None → is_bad_high t dummy last low e ≡ false → IsHigh e ss
   high dummy last low None line o j h = tt
   high dummy last low (Some e) line o j h = limit dummy e line o j (or_parts (is_bad_limit t dummy e) (is_below (worth_in t e) (worth_in t low)) h).0
 
-  bounds_hold : (dummy : Bool) (bs : List BoundTree) (line : ℕ) (o : Option Refusal) → bounds_judged t bs line o ≡ None → has_bad_bound t dummy bs ≡ false → AreBounds bs ss
+  bounds_hold : (dummy : Bool) (bs : List BoundTree) (line : ℕ) (o : Option Refusal) → check_bounds t bs line o ≡ None → has_bad_bound t dummy bs ≡ false → AreBounds bs ss
   bounds_hold dummy [] line o j h = tt
   bounds_hold dummy (b ∷ bs) line o j h =
-      let first = expr_judged t b.low line o in
-      let second = maybe_judged t b.high line first in
+      let first = check_expr t b.low line o in
+      let second = check_maybe t b.high line first in
       let one = bounds_back t bs line second j in
       let two = maybe_back t b.high line first one in
       let all = or_parts (is_bad_bound t dummy (is_last bs) b) (has_bad_bound t dummy bs) h in
       let own = or_parts (is_bad_limit t dummy b.low) (is_bad_high t dummy (is_last bs) b.low b.high) all.0 in
       (limit dummy b.low line o two own.0, high dummy (is_last bs) b.low b.high line first one own.1, bounds_hold dummy bs line second j all.1)
 
-  shape_holds : (dummy : Bool) (s : Option ShapeTree) (o : Option Refusal) → shape_judged t dummy s o ≡ None → AreBounds (bounds_in s) ss
+  shape_holds : (dummy : Bool) (s : Option ShapeTree) (o : Option Refusal) → check_shape t dummy s o ≡ None → AreBounds (bounds_in s) ss
   shape_holds dummy None o j = tt
   shape_holds dummy (Some s) o j =
-      let r = noted_none (is_bad_shape t dummy s.bounds) s.line BadDimension (bounds_judged t s.bounds s.line o) j in
+      let r = noted_none (is_bad_shape t dummy s.bounds) s.line BadDimension (check_bounds t s.bounds s.line o) j in
       let few = or_parts (nat_lt 7 (length s.bounds)) (has_bad_bound t dummy s.bounds || is_too_big (dims_of t s.bounds)) r.0 in
       let good = or_parts (has_bad_bound t dummy s.bounds) (is_too_big (dims_of t s.bounds)) few.1 in
       bounds_hold dummy s.bounds s.line o r.1 good.0
 
-  all_bounds : (l : Layout) (n : ℕ) (es : List EntryTree) (o : Option Refusal) → shapes_judged t es o ≡ None → AllBounds (symbols_from l n es) ss
+  all_bounds : (l : Layout) (n : ℕ) (es : List EntryTree) (o : Option Refusal) → check_shapes t es o ≡ None → AllBounds (symbols_from l n es) ss
   all_bounds l n [] o j = tt
   all_bounds l n (e ∷ es) o j =
-      let next = shape_judged t (is_some e.dummy) e.shape o in
+      let next = check_shape t (is_some e.dummy) e.shape o in
       (shape_holds (is_some e.dummy) e.shape o (shapes_back t es next j), all_bounds l (n + 1) es next j)
 
 -- ---- tables
@@ -158,12 +158,12 @@ no_bounds : (s : Option ShapeTree) → is_some s ≡ false → has_bounds (bound
 no_bounds None h = refl
 no_bounds (Some s) h = cc
 
-bare_from : (l : Layout) (n : ℕ) (es : List EntryTree) (x : List ℕ) → has_shape x es ≡ false → is_array (named (symbols_from l n es) x) ≡ false
+bare_from : (l : Layout) (n : ℕ) (es : List EntryTree) (x : List ℕ) → has_shape x es ≡ false → is_array (symbol_with_name (symbols_from l n es) x) ≡ false
 unfolding find
 bare_from l n [] x h = refl
 bare_from l n (e ∷ es) x h = go (bytes_eq x e.name) h (bare_from l (n + 1) es x)
   where
-    go : (b : Bool) → of_entry false (λ y. is_some y.shape) (if b then Some e else find x es) ≡ false → (has_shape x es ≡ false → is_array (named (symbols_from l (n + 1) es) x) ≡ false) → is_array (if b then Some (symbol_of l n e) else named (symbols_from l (n + 1) es) x) ≡ false
+    go : (b : Bool) → of_entry false (λ y. is_some y.shape) (if b then Some e else find x es) ≡ false → (has_shape x es ≡ false → is_array (symbol_with_name (symbols_from l (n + 1) es) x) ≡ false) → is_array (if b then Some (symbol_of l n e) else symbol_with_name (symbols_from l (n + 1) es) x) ≡ false
     go true k ih = no_bounds e.shape k
     go false k ih = ih k
 
@@ -172,5 +172,5 @@ unfolding checked
 bounds_are_scalars p ss a =
     let v = valued (lines_in p) p.module_read in
     let l = layout_in p in
-    let none = stmts_back v.table (lines_in p) p.module_read.body 0 (shapes_judged v.table v.table.entries v.found) (found_none p ss a) in
+    let none = stmts_back v.table (lines_in p) p.module_read.body 0 (check_shapes v.table v.table.entries v.found) (found_none p ss a) in
     subst (λ z. AllBounds z z) (sym a.table) (all_bounds v.table (symbols_in l) (bare_from l 0 v.table.entries) l 0 v.table.entries v.found none)

@@ -9,7 +9,7 @@ use Rattle.f77_ast.specs.Numbers.{intrinsic_named}
 use Rattle.f77_ast.specs.Places.{Function}
 use Rattle.f77_symbols.specs.Symbols.{BoundTree, SymbolTree}
 use Rattle.tracked_cells.specs.Standing.{has_bounds}
-use Rattle.call_graph.specs.Actuals.{named, is_array}
+use Rattle.call_graph.specs.Actuals.{symbol_with_name, is_array}
 use Rattle.f77_meaning.specs.Modules.{is_function, meant_by, names}
 use Rattle.laws_tables.specs.Shapes.{symbol_named, has_any, bounds_of, Shaped, AllShaped, ShapedActual, ShapedActuals, ShapedStep, ShapedStmt, ShapedWhat, ShapedArms, ShapedElse, ShapedLoop, ShapedList}
 use Rattle.laws_tables.specs.Shapes as laid
@@ -22,19 +22,19 @@ use Rattle.laws_programs.proofs.Ordered.{StmtOrdered, BelowOrdered, LoopOrdered,
 
 -- ---- names
 
-same_named : (ss : List SymbolTree) (x : List ℕ) → symbol_named ss x ≡ named ss x
+same_named : (ss : List SymbolTree) (x : List ℕ) → symbol_named ss x ≡ symbol_with_name ss x
 same_named [] x = refl
 same_named (s ∷ ss) x = go (bytes_eq x s.name) (same_named ss x)
   where
-    go : (b : Bool) → symbol_named ss x ≡ named ss x → (if b then Some s else symbol_named ss x) ≡ (if b then Some s else named ss x)
+    go : (b : Bool) → symbol_named ss x ≡ symbol_with_name ss x → (if b then Some s else symbol_named ss x) ≡ (if b then Some s else symbol_with_name ss x)
     go true h = refl
     go false h = h
 
-name_of : (ss : List SymbolTree) (x : List ℕ) (s : SymbolTree) → named ss x ≡ Some s → x ≡ s.name
+name_of : (ss : List SymbolTree) (x : List ℕ) (s : SymbolTree) → symbol_with_name ss x ≡ Some s → x ≡ s.name
 name_of [] x s e = cc
 name_of (y ∷ ss) x s e = go (bytes_eq x y.name) refl e (name_of ss x s)
   where
-    go : (b : Bool) → bytes_eq x y.name ≡ b → (if b then Some y else named ss x) ≡ Some s → (named ss x ≡ Some s → x ≡ s.name) → x ≡ s.name
+    go : (b : Bool) → bytes_eq x y.name ≡ b → (if b then Some y else symbol_with_name ss x) ≡ Some s → (symbol_with_name ss x ≡ Some s → x ≡ s.name) → x ≡ s.name
     go true t h ih = let same : y ≡ s = cc in (bytes_eq-Decides x y.name).0 t ∙ ap (λ z. z.name) same
     go false t h ih = ih h
 
@@ -51,10 +51,10 @@ no_array None h = refl
 no_array (Some s) h = ap has_bounds h
 
 -- what has the name of a function and no bounds is one
-function_named : (ss : List SymbolTree) (x : List ℕ) → bounds_of (named ss x) ≡ [] → is_some (intrinsic_named x) ≡ true → names ss x ≡ Function
-function_named ss x b i = go (named ss x) refl b
+function_named : (ss : List SymbolTree) (x : List ℕ) → bounds_of (symbol_with_name ss x) ≡ [] → is_some (intrinsic_named x) ≡ true → names ss x ≡ Function
+function_named ss x b i = go (symbol_with_name ss x) refl b
   where
-    go : (o : Option SymbolTree) → named ss x ≡ o → bounds_of o ≡ [] → names ss x ≡ Function
+    go : (o : Option SymbolTree) → symbol_with_name ss x ≡ o → bounds_of o ≡ [] → names ss x ≡ Function
     go None e h = no_meaning ss x e
     go (Some s) e h =
         let m = meaning ss x s e in
@@ -85,10 +85,10 @@ module _ (ss : List SymbolTree) where
   Indexed = laid.StandsIndexed ss
 
   is_bare : (x : List ℕ) → Bare x → StandsBare x ss
-  is_bare x h = no_array (named ss x) (ap bounds_of (sym (same_named ss x)) ∙ h)
+  is_bare x h = no_array (symbol_with_name ss x) (ap bounds_of (sym (same_named ss x)) ∙ h)
 
   is_indexed : (x : List ℕ) (es : ExprTrees) → Indexed x es → StandsIndexed x ss
-  is_indexed x es (inl h) = inl (any_array (named ss x) (subst (λ o. has_any (bounds_of o)) (same_named ss x) h.0))
+  is_indexed x es (inl h) = inl (any_array (symbol_with_name ss x) (subst (λ o. has_any (bounds_of o)) (same_named ss x) h.0))
   is_indexed x es (inr h) = inr (function_named ss x (ap bounds_of (sym (same_named ss x)) ∙ h.0) h.1)
 
   -- ---- expressions

@@ -7,13 +7,13 @@ use Rattle.f77_ast.specs.DeclTrees.{ParsedTree}
 use Rattle.f77_statements.specs.declared.refusal.Cause.{Cause}
 use Rattle.f77_statements.specs.Phrases.{PhraseTree, program, subroutine, specification, simple, logical_if, block_if, else_if, else_part, end_if, do_head, end_do, end_module}
 use Rattle.f77_statements.specs.Statements.{phrase_of}
-use Rattle.f77_structure.specs.declared.fault.Found.{Found}
+use Rattle.refusal_codes.specs.declared.refusal.Refusal.{Refusal}
 use Rattle.f77_structure.specs.Checks.{fault_of}
 use Rattle.f77_structure.specs.Depth.{is_deep}
 use Rattle.f77_structure.specs.Lists.{is_none_of}
 use Rattle.f77_parser.specs.Gives.{Refused, and_then}
 use Rattle.f77_parser.specs.Statements.{StatementTree, read_as, all_read, marks_of}
-use Rattle.f77_parser.specs.Building.{built}
+use Rattle.f77_parser.specs.Building.{build_module}
 use Rattle.f77_parser.specs.Modules.{ends_module, closing_at, unless_faulty, modules_from, parse_of}
 use Rattle.roundtrip_statements.specs.Formed.{Each}
 use Rattle.roundtrip_statements.specs.Phrased.{IsPhrase}
@@ -62,7 +62,7 @@ kind = record {
   labelled = tt;
 }
 
-pub is_built : (closing : List (List ℕ)) (begun : List StatementTree) (s : StatementTree) → s.phrase ≡ end_module → Each IsStatement (begun ++ s ∷ []) → fault_of (marks_of (begun ++ s ∷ [])) ≡ None → IsBuilt (built closing (begun ++ s ∷ []))
+pub is_built : (closing : List (List ℕ)) (begun : List StatementTree) (s : StatementTree) → s.phrase ≡ end_module → Each IsStatement (begun ++ s ∷ []) → fault_of (marks_of (begun ++ s ∷ [])) ≡ None → IsBuilt (build_module closing (begun ++ s ∷ []))
 is_built closing begun s e i f = record {
   well = built_well closing begun s e i f;
   formed = all_held AnyLabel IsPhrase IsPhrase kind closing (begun ++ s ∷ []) (each-map IsStatement (Stated AnyLabel IsPhrase) (begun ++ s ∷ []) (λ x h. (tt, h)) i);
@@ -100,10 +100,10 @@ ends-module end_module h = refl
 
 -- of a module that goes up to its END, of statements that the grammar gives, without a fault
 abbrev pub OfBuilt : (ParsedTree → Type 0) → Type 0
-OfBuilt P = (closing : List (List ℕ)) (begun : List StatementTree) (s : StatementTree) → s.phrase ≡ end_module → Each IsStatement (begun ++ s ∷ []) → fault_of (marks_of (begun ++ s ∷ [])) ≡ None → P (built closing (begun ++ s ∷ []))
+OfBuilt P = (closing : List (List ℕ)) (begun : List StatementTree) (s : StatementTree) → s.phrase ≡ end_module → Each IsStatement (begun ++ s ∷ []) → fault_of (marks_of (begun ++ s ∷ [])) ≡ None → P (build_module closing (begun ++ s ∷ []))
 
 module _ (P : ParsedTree → Type 0) (one : OfBuilt P) where
-  faultless-on : (f : Option Found) (q : ParsedTree) (k : ParsedTree → Result (List ParsedTree) Refused) (ps : List ParsedTree) → and_then (unless_faulty f q) k ≡ Ok ps
+  faultless-on : (f : Option Refusal) (q : ParsedTree) (k : ParsedTree → Result (List ParsedTree) Refused) (ps : List ParsedTree) → and_then (unless_faulty f q) k ≡ Ok ps
       → (f ≡ None → k q ≡ Ok ps → Each P ps) → Each P ps
   faultless-on None q k ps h g = g refl h
   faultless-on (Some f) q k ps h g = cc
@@ -121,10 +121,10 @@ module _ (P : ParsedTree → Type 0) (one : OfBuilt P) where
       let own = closing_at (is_none_of ss) closing in
       let more : Each IsStatement whole = Each-append IsStatement begun (s ∷ []) b (record { first = i.first; others = tt }) in
       choice-on (ends_module s.phrase)
-      (and_then (unless_faulty (fault_of (marks_of whole)) (built own whole)) (λ p. modules_from closing (done ++ p ∷ []) [] ss)) (modules_from closing done whole ss) ps h
-      (λ e g. faultless-on (fault_of (marks_of whole)) (built own whole) (λ p. modules_from closing (done ++ p ∷ []) [] ss) ps g
-      (λ f x. all-go closing ss (done ++ built own whole ∷ []) ps []
-      (Each-append P done (built own whole ∷ []) d (record { first = one own begun s (ends-module s.phrase e) more f; others = tt })) tt i.others x))
+      (and_then (unless_faulty (fault_of (marks_of whole)) (build_module own whole)) (λ p. modules_from closing (done ++ p ∷ []) [] ss)) (modules_from closing done whole ss) ps h
+      (λ e g. faultless-on (fault_of (marks_of whole)) (build_module own whole) (λ p. modules_from closing (done ++ p ∷ []) [] ss) ps g
+      (λ f x. all-go closing ss (done ++ build_module own whole ∷ []) ps []
+      (Each-append P done (build_module own whole ∷ []) d (record { first = one own begun s (ends-module s.phrase e) more f; others = tt })) tt i.others x))
       (λ g. all-go closing ss done ps whole d more i.others g)
 
 -- ---- lines

@@ -23,5 +23,5 @@ laid_out (q ∷ ps) (rs ∷ sss) t zero p ss e f =
 laid_out (q ∷ ps) (rs ∷ sss) t (suc i) p ss e f = laid_out ps sss t.1 i p ss e f
 
 pub programs_are_linked : ProgramsAreLinked
-programs_are_linked ps sss g x small =
-    (record { many = as_many ps sss x.tables; links = x.links; room = small }, λ i p ss m. laid_out ps sss x.tables i p ss m.parsed m.table)
+programs_are_linked ps sss g x =
+    (record { many = as_many ps sss x.tables; links = x.links }, λ i p ss m. laid_out ps sss x.tables i p ss m.parsed m.table)

@@ -9,7 +9,7 @@ use Rattle.laws_tables.proofs.Answers.{answered_by}
 use Rattle.laws_tables.proofs.DummyLaws.{dummies_come_first}
 use Rattle.laws_tables.proofs.ShapeLaws.{bodies_are_shaped}
 use Rattle.f77_meaning.specs.Modules.{Known, known_of}
-use Rattle.laws_effects.specs.Numbers.{list_numbers}
+use Rattle.f77_ast.specs.StatementNumbers.{list_numbers}
 use Rattle.laws_effects.specs.Tables.{IsRead}
 use Rattle.laws_effects.specs.Laws.{AreRead, AreNumberedOnce}
 use Rattle.laws_programs.specs.Programs.{AreTables, GoUp}

@@ -1,16 +1,15 @@
 -- What laws on runs ask of modules and their tables holds of programs that are read.
-use Rattle.std.specs.Prelude.{◌≡◌, ℕ, ◌^◌, ◌<◌, List, Ok, Some, slice_get}
+use Rattle.std.specs.Prelude.{◌≡◌, ℕ, List, Ok, Some, slice_get}
 use Rattle.fixed_form.specs.declared.line.Lines.{Lines}
 use Rattle.f77_ast.specs.DeclTrees.{ParsedTree}
 use Rattle.f77_parser.specs.Modules.{parse_of}
 use Rattle.f77_symbols.specs.Symbols.{SymbolTree}
 use Rattle.call_graph.specs.declared.graph.Graph.{Graph}
 use Rattle.f77_meaning.specs.Modules.{known_of}
-use Rattle.f77_meaning.specs.Linked.{room_for}
 use Rattle.f77_meaning.specs.Claimed.{InEveryRun}
 use Rattle.laws_storage.specs.Programs.{IsLinked}
 use Rattle.laws_storage.specs.Calls.{AreLaidOut}
-use Rattle.laws_effects.specs.Numbers.{list_numbers}
+use Rattle.f77_ast.specs.StatementNumbers.{list_numbers}
 use Rattle.laws_effects.specs.Claims.{IsOfModule}
 use Rattle.laws_effects.specs.Laws.{AreRead, AreNumberedOnce, AllHold}
 use Rattle.laws_effects.specs.Summaries.{bottom_up}
@@ -30,14 +29,14 @@ NumbersStandOnce = (lines : Lines) (ps : List ParsedTree) (sss : List (List Symb
 
 -- they are linked, and each table is that of its module, as laws on cells and CALLs ask
 abbrev pub ProgramsAreLinked : Type 0
-ProgramsAreLinked = (ps : List ParsedTree) (sss : List (List SymbolTree)) (g : Graph) → IsProgram ps sss g → room_for (known_of ps sss) < 2 ^ 64 → IsLinked ps sss g × AreLaidOut ps sss
+ProgramsAreLinked = (ps : List ParsedTree) (sss : List (List SymbolTree)) (g : Graph) → IsProgram ps sss g → IsLinked ps sss g × AreLaidOut ps sss
 
 -- the effects that are made bottom-up hold in every run of a program that is read
 abbrev pub EffectsAreOfPrograms : Type 0
-EffectsAreOfPrograms = (ps : List ParsedTree) (sss : List (List SymbolTree)) (g : Graph) → IsProgram ps sss g → room_for (known_of ps sss) < 2 ^ 64 →
+EffectsAreOfPrograms = (ps : List ParsedTree) (sss : List (List SymbolTree)) (g : Graph) → IsProgram ps sss g →
     InEveryRun (known_of ps sss) g (λ x. IsOfModule (known_of ps sss) g (bottom_up (known_of ps sss) g) x)
 
 -- whatever effects the results give
 abbrev pub AllAreOfPrograms : Type 0
-AllAreOfPrograms = (ps : List ParsedTree) (sss : List (List SymbolTree)) (g : Graph) → IsProgram ps sss g → room_for (known_of ps sss) < 2 ^ 64 →
+AllAreOfPrograms = (ps : List ParsedTree) (sss : List (List SymbolTree)) (g : Graph) → IsProgram ps sss g →
     InEveryRun (known_of ps sss) g (λ x. AllHold (known_of ps sss) g (bottom_up (known_of ps sss) g) x)

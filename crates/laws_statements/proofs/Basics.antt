@@ -1,26 +1,10 @@
 -- Truths and numbers of stores.
-use Rattle.std.proofs.Common.{◌≡◌, ℕ, Bool, true, false, ◌||◌, ◌&&◌, refl, sym, ap, ◌∙◌, nat_eq, true≢false, Option, Some, None}
+use Rattle.std.proofs.Common.{◌≡◌, ℕ, Bool, true, false, refl, sym, ap, ◌∙◌, nat_eq, true≢false, Option, Some, None}
 use Rattle.std.specs.Prelude.{if◌then◌else◌, is_some}
 use Rattle.f77_ast.specs.Store.{Content, Store, put}
 use Rattle.f77_ast.specs.Faults.{Fault}
 use Rattle.affine_forms.specs.Claims.{numbers_of}
 use Rattle.transformer_algebra.proofs.CellLaws.{nat_same, nat_eq_same}
-
-pub or_in_left : (a b : Bool) → a ≡ true → (a || b) ≡ true
-or_in_left true b h = refl
-or_in_left false b h = absurd (true≢false (sym h))
-
-pub or_in_right : (a b : Bool) → b ≡ true → (a || b) ≡ true
-or_in_right true b h = refl
-or_in_right false b h = h
-
-pub or_out : (a b : Bool) → (a || b) ≡ false → (a ≡ false) × (b ≡ false)
-or_out true b h = absurd (true≢false h)
-or_out false b h = (refl, h)
-
-pub and_out : (a b : Bool) → (a && b) ≡ true → (a ≡ true) × (b ≡ true)
-and_out true b h = (refl, h)
-and_out false b h = absurd (true≢false (sym h))
 
 pub not_locked : {A : Type 0} (o : Option Fault) → o ≡ None → is_some o ≡ true → A
 not_locked o e h = absurd (true≢false (sym h ∙ ap is_some e))

@@ -6,7 +6,7 @@ use Rattle.std.proofs.lemmas.Nat.{div-mul-add}
 use Rattle.std.specs.Prelude.{int_lt}
 use Rattle.std.specs.Ordering.{int_eq}
 use Rattle.f77_ast.specs.Places.{as_count}
-use Rattle.f77_ast.specs.Loops.{turn_count}
+use Rattle.f77_ast.specs.Loops.{iteration_count}
 use Rattle.transformer_algebra.specs.Loops.{goes_up}
 use Rattle.transformer_algebra.specs.Claims.{NotBeyond, Beyond}
 
@@ -94,7 +94,7 @@ downwards n = go (int_lt (pos 0) (negsuc n)) refl
 -- m is not beyond b, and the turns from the next number on are one fewer
 pub record More (m b s : ℤ) (k : ℕ) : Type 0 where
   pub in_range : NotBeyond (goes_up s) m b
-  pub rest : turn_count (m +ℤ s) b s ≡ k
+  pub rest : iteration_count (m +ℤ s) b s ≡ k
 
 abbrev pub NotZero : ℤ → Type 0
 NotZero (pos zero) = ⊥
@@ -106,7 +106,7 @@ not_zero (pos zero) e = true≢false e
 not_zero (pos (suc n)) e = tt
 not_zero (negsuc n) e = tt
 
-pub count_more : (m b s : ℤ) (k : ℕ) → NotZero s → turn_count m b s ≡ suc k → More m b s k
+pub count_more : (m b s : ℤ) (k : ℕ) → NotZero s → iteration_count m b s ≡ suc k → More m b s k
 count_more m b (pos zero) k z e = absurd z
 count_more m b (pos (suc n)) k z e =
     let u = up_more ((b -ℤ m) +ℤ pos (suc n)) n k e in
@@ -119,7 +119,7 @@ count_more m b (negsuc n) k z e =
     let f : (b -ℤ (m +ℤ negsuc n)) +ℤ negsuc n ≡ ((b -ℤ m) +ℤ negsuc n) -ℤ negsuc n = omega (arith, ints) in
     record { in_range = subst (λ d. NotBeyond d m b) (sym (downwards n)) (omega (arith, ints)); rest = ap (λ y. as_count (int_div y (negsuc n))) f ∙ u.rest }
 
-pub count_none : (m b s : ℤ) → NotZero s → turn_count m b s ≡ 0 → Beyond (goes_up s) m b
+pub count_none : (m b s : ℤ) → NotZero s → iteration_count m b s ≡ 0 → Beyond (goes_up s) m b
 count_none m b (pos zero) z e = absurd z
 count_none m b (pos (suc n)) z e = let h = up_none ((b -ℤ m) +ℤ pos (suc n)) n e in subst (λ d. Beyond d m b) (sym (upwards n)) (omega (arith, ints))
 count_none m b (negsuc n) z e = let h = down_none ((b -ℤ m) +ℤ negsuc n) n e in subst (λ d. Beyond d m b) (sym (downwards n)) (omega (arith, ints))

@@ -1,13 +1,13 @@
 -- GO TOs that lead out are GO TOs.
 use Rattle.std.proofs.Common.{◌≡◌, ℕ, List, [], ◌∷◌, ◌||◌, Bool, true, false, refl, sym, ap, ◌∙◌, nat_eq, true≢false}
 use Rattle.std.specs.Prelude.{if◌then◌else◌}
+use Rattle.std.proofs.lemmas.Bool.{or_left, or_right}
 use Rattle.f77_ast.specs.Trees.{StmtTree, WhatTree, ArmTree, ArmTrees, ElseTree, LoopTree, StmtTrees}
 use Rattle.f77_ast.specs.Trees as tree
 use Rattle.transformer_algebra.specs.Cells.{has, others}
 use Rattle.transformer_algebra.proofs.CellLaws.{nat_same, clashes}
 use Rattle.transformers.specs.Jumps.{labels, stmt_has, parts_have, list_has, arms_have, arm_has, else_has, loop_has, goes_to}
 use Rattle.laws_statements.specs.Leads.{stmt_leads, what_leads, each_leads, arms_lead, arm_leads, else_leads, loop_leads}
-use Rattle.laws_statements.proofs.Basics.{or_in_left, or_in_right}
 
 -- what is among the first and not among the second
 pub in_others : (ls ms : List ℕ) (l : ℕ) → has ls l ≡ true → has ms l ≡ false → has (others ls ms) l ≡ true
@@ -17,8 +17,8 @@ in_others (a ∷ ls) ms l h k = go (has ms a) refl (nat_eq a l) refl h (λ q. in
     go : (b : Bool) → has ms a ≡ b → (c : Bool) → nat_eq a l ≡ c → (c || has ls l) ≡ true → (has ls l ≡ true → has (others ls ms) l ≡ true) → has (if b then others ls ms else a ∷ others ls ms) l ≡ true
     go true p true q r ih = clashes (has ms l) (ap (has ms) (sym (nat_same a l q)) ∙ p) k
     go true p false q r ih = ih r
-    go false p true q r ih = or_in_left (nat_eq a l) (has (others ls ms) l) q
-    go false p false q r ih = or_in_right (nat_eq a l) (has (others ls ms) l) (ih r)
+    go false p true q r ih = or_left (nat_eq a l) (has (others ls ms) l) q
+    go false p false q r ih = or_right (nat_eq a l) (has (others ls ms) l) (ih r)
 
 pub others_in : (ls ms : List ℕ) (l : ℕ) → has (others ls ms) l ≡ true → has ls l ≡ true
 others_in [] ms l h = h
@@ -29,12 +29,12 @@ others_in (a ∷ ls) ms l h = go (has ms a) h (λ q. others_in ls ms l q)
     split false r ih = ih r
 
     go : (b : Bool) → has (if b then others ls ms else a ∷ others ls ms) l ≡ true → (has (others ls ms) l ≡ true → has ls l ≡ true) → (nat_eq a l || has ls l) ≡ true
-    go true r ih = or_in_right (nat_eq a l) (has ls l) (ih r)
+    go true r ih = or_right (nat_eq a l) (has ls l) (ih r)
     go false r ih = split (nat_eq a l) r ih
 
 or_map : (a b c d : Bool) → (a ≡ true → c ≡ true) → (b ≡ true → d ≡ true) → (a || b) ≡ true → (c || d) ≡ true
-or_map true b c d f g h = or_in_left c d (f refl)
-or_map false b c d f g h = or_in_right c d (g h)
+or_map true b c d f g h = or_left c d (f refl)
+or_map false b c d f g h = or_right c d (g h)
 
 abbrev Sub : List ℕ → List ℕ → Type 0
 Sub ms ls = (l : ℕ) → has ms l ≡ true → has ls l ≡ true
@@ -52,7 +52,7 @@ mutual
   what_has (tree.logical_if e s) ms ls f h = leads_has s ms ls f h
   what_has (tree.do_loop l) ms ls f h = loop_goes l ms ls f h
   what_has (tree.call x es) ms ls f h = absurd (true≢false (sym h))
-  what_has (tree.goto l) ms ls f h = or_in_left (has ls l) false (f l h)
+  what_has (tree.goto l) ms ls f h = or_left (has ls l) false (f l h)
   what_has tree.continue ms ls f h = absurd (true≢false (sym h))
   what_has tree.return ms ls f h = absurd (true≢false (sym h))
   what_has (tree.stop text) ms ls f h = absurd (true≢false (sym h))

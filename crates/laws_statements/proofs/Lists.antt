@@ -1,6 +1,7 @@
 -- Lists of statements, from what their statements do.
 use Rattle.std.proofs.Common.{◌≡◌, ℕ, zero, suc, ◌<◌, List, [], ◌∷◌, ◌||◌, ◌&&◌, Option, Some, None, Bool, true, false, refl, sym, ap, ap₂, ◌∙◌, subst, arith, true≢false}
 use Rattle.std.specs.Prelude.{if◌then◌else◌}
+use Rattle.std.proofs.lemmas.Bool.{or_left, or_right, or_parts, and_parts}
 use Rattle.affine_systems.specs.declared.row.System.{System}
 use Rattle.f77_ast.specs.Trees.{ExprTrees, StmtTree, WhatTree, StmtTrees}
 use Rattle.f77_ast.specs.Trees as tree
@@ -36,7 +37,6 @@ use Rattle.laws_statements.proofs.ListRules.{Choice, Next_holds, Verified, jumps
 use Rattle.laws_statements.specs.Leads.{stmt_leads, each_leads, list_leads}
 use Rattle.laws_statements.specs.Activation.{scene_at, Still, Stayed, Done, Jumps, Ended}
 use Rattle.laws_statements.specs.Placed.{Found, Either, PlacedAt, Placed, PlacedEach, PlacedAll, PlacedList}
-use Rattle.laws_statements.proofs.Basics.{or_in_left, or_in_right, or_out, and_out}
 use Rattle.laws_statements.proofs.LeadLaws.{in_others, leads_has}
 use Rattle.laws_statements.proofs.Rows.{labelled, returned_last, added, row_from, row_in_order, SoFar, so_far_done, so_far_stayed, so_far_end, row_stayed}
 
@@ -52,9 +52,9 @@ inc_all m cs whole all = record { leads = λ ls h. h; jumps = λ ls h. h; rets =
 
 pub inc_next : (m : ScopeTree) (cs : Callees) (whole : Bool) (s : StmtTree) (rest all : StmtTrees) → Inc m cs whole (tree.more_stmts s rest) all → Inc m cs whole rest all
 inc_next m cs whole s rest all i = record {
-  leads = λ ls h. i.leads ls (or_in_right (stmt_leads s ls) (each_leads rest ls) h);
-  jumps = λ ls h. i.jumps ls (or_in_right (stmt_has (goes_to ls) s) (list_has (goes_to ls) rest) h);
-  rets = λ h. i.rets (or_in_right (stmt_has is_return s) (list_has is_return rest) h);
+  leads = λ ls h. i.leads ls (or_right (stmt_leads s ls) (each_leads rest ls) h);
+  jumps = λ ls h. i.jumps ls (or_right (stmt_has (goes_to ls) s) (list_has (goes_to ls) rest) h);
+  rets = λ h. i.rets (or_right (stmt_has is_return s) (list_has is_return rest) h);
   inside = λ t h. i.inside t (there h);
 }
 
@@ -197,10 +197,10 @@ module _ (C : Claim) (m : ScopeTree) (cs : Callees) (r : Found) (covers : List �
         stayed y d = row_stayed e still A (each_transformer rest m cs whole) z0 y (so_far_stayed e still acc T z0 z y sf d)
 
         gone : (ls : List ℕ) → stmt_leads now ls ≡ true → list_has (goes_to ls) all ≡ true
-        gone ls h = inc.jumps ls (or_in_left (stmt_has (goes_to ls) now) (list_has (goes_to ls) rest) (leads_has now ls ls (λ l q. q) h))
+        gone ls h = inc.jumps ls (or_left (stmt_has (goes_to ls) now) (list_has (goes_to ls) rest) (leads_has now ls ls (λ l q. q) h))
 
         lifted : (ls : List ℕ) → stmt_leads now ls ≡ true → each_leads all ls ≡ true
-        lifted ls h = inc.leads ls (or_in_left (stmt_leads now ls) (each_leads rest ls) h)
+        lifted ls h = inc.leads ls (or_left (stmt_leads now ls) (each_leads rest ls) h)
 
         jumps_out : (l : ℕ) (y : Store) → Jumps (λ ls. stmt_leads now ls) l → Stayed e (row_from (Some A) (each_transformer rest m cs whole)) still z0 y → Good C (on (Jump l)) y R
         jumps_out l y k st = go (has_label l (parts all sc at locked)) refl
@@ -214,19 +214,19 @@ module _ (C : Claim) (m : ScopeTree) (cs : Callees) (r : Found) (covers : List �
 
         returned : (y : Store) → stmt_has is_return now ≡ true → ((whole && is_end rest) && is_return v ≡ true → Done e T P' still z y) → whole ≡ true → Done e (row_from (Some A) (each_transformer rest m cs whole)) (after_each rest m r.transformer P') still z0 y
         returned y h d wh =
-            let o = or_out (returns_early (is_end rest) now) (early_return rest) (straight.1 wh) in
+            let o = or_parts (returns_early (is_end rest) now) (early_return rest) (straight.1 wh) in
             let k = returned_last v rest o.0 h in
             own_done y (d (and_both whole (is_end rest) (is_return v) wh k.1 k.0)) k.1
 
         next : (f : Flow) (y : Store) → Stmt_ended now (whole && is_end rest) P still z f y → Good C (on f) y R
         next Normal y d = onward y (so_far_done e still acc T z0 z y sf d.does d.steady) d.after
         next (Jump l) y d = jumps_out l y d.0 (stayed y d.1)
-        next Returned y d = good_ends C Returned y R (inc.rets (or_in_left (stmt_has is_return now) (list_has is_return rest) d.0), stayed y d.1, returned y d.0 d.2)
+        next Returned y d = good_ends C Returned y R (inc.rets (or_left (stmt_has is_return now) (list_has is_return rest) d.0), stayed y d.1, returned y d.0 d.2)
         next Stopped y d = good_ends C Stopped y R tt
 
   pub row_one : (s : StmtTree) (rest all : StmtTrees) (whole : Bool) (jump : ℕ → Plan) (locked : Locks) (still : ℕ → Bool) (acc : Option Transformer) (P : System) (z0 z : Store) → Straight all whole (tree.more_stmts s rest) → Inc m cs whole (tree.more_stmts s rest) all → SoFar e still acc z0 z → Good C (statement_plan s sc at locked) z (Stmt_ended s (whole && is_end rest) P still z) → (Straight all whole rest → (y : Store) → SoFar e still (Some (added acc (stmt_transformer s m cs (whole && is_end rest)))) z0 y → H (after s m r.transformer P) y → Good C (in_order jump (parts all sc at locked) (parts rest sc at locked)) y (E (row_from (Some (added acc (stmt_transformer s m cs (whole && is_end rest)))) (each_transformer rest m cs whole)) (after_each rest m r.transformer (after s m r.transformer P)) (goes_in all) (list_has is_return all) whole still z0)) → Good C (in_order jump (parts all sc at locked) (parts (tree.more_stmts s rest) sc at locked)) z (E (row_from acc (each_transformer (tree.more_stmts s rest) m cs whole)) (after_each (tree.more_stmts s rest) m r.transformer P) (goes_in all) (list_has is_return all) whole still z0)
   row_one (tree.stmt n label v) rest all whole jump locked still acc P z0 z straight inc sf g onward =
-      row_next n label v rest all whole jump locked still acc P z0 z straight inc sf g (onward (straight.0, λ h. (or_out (returns_early (is_end rest) (tree.stmt n label v)) (early_return rest) (straight.1 h)).1))
+      row_next n label v rest all whole jump locked still acc P z0 z straight inc sf g (onward (straight.0, λ h. (or_parts (returns_early (is_end rest) (tree.stmt n label v)) (early_return rest) (straight.1 h)).1))
 
   -- ---- a list, from its two cases
 
@@ -234,7 +234,7 @@ module _ (C : Claim) (m : ScopeTree) (cs : Callees) (r : Found) (covers : List �
   list_from ss whole P locked still z hp pl row loosely = go (unstructured whole ss) refl pl
     where
       straight : unstructured whole ss ≡ false → Straight ss whole ss
-      straight q = let o = or_out (list_has (goes_to (labels ss)) ss) (whole && early_return ss) q in (o.0, λ h. early whole (early_return ss) h o.1)
+      straight q = let o = or_parts (list_has (goes_to (labels ss)) ss) (whole && early_return ss) q in (o.0, λ h. early whole (early_return ss) h o.1)
         where
           early : (a b : Bool) → a ≡ true → (a && b) ≡ false → b ≡ false
           early true b h k = k

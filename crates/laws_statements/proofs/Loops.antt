@@ -1,6 +1,7 @@
 -- A DO: its turns, one after the other.
 use Rattle.std.proofs.Common.{⊎_elim, ◌⊎◌, ◌≡◌, ℕ, suc, ◌+◌, ◌<◌, List, [], ◌∷◌, ◌||◌, Option, Some, None, Bool, true, false, refl, sym, ap, ◌∙◌, subst, arith, ℤ, pos, ◌+ℤ◌, nat_eq, inl, inr}
 use Rattle.std.specs.Prelude.{if◌then◌else◌, is_some}
+use Rattle.std.proofs.lemmas.Bool.{or_right}
 use Rattle.affine_systems.specs.declared.row.System.{System}
 use Rattle.affine_systems.specs.Points.{Point, HoldsAll}
 use Rattle.f77_ast.specs.Store.{Content, content, Int, Store, put}
@@ -10,7 +11,7 @@ use Rattle.f77_ast.specs.Places.{Names, Places, Variable}
 use Rattle.f77_ast.specs.Writes.{Locks, lock, first_lock}
 use Rattle.f77_ast.specs.Plans.{Flow, Normal, Jump, Returned, Stopped, Plan}
 use Rattle.f77_ast.specs.Executions.{Claim}
-use Rattle.f77_ast.specs.Loops.{turn_count, turns_from}
+use Rattle.f77_ast.specs.Loops.{iteration_count, iterations_from}
 use Rattle.f77_symbols.specs.declared.variable.Unit.{Unit as BlockUnit}
 use Rattle.affine_forms.specs.Claims.{unit_in, numbers_of}
 use Rattle.affine_forms.proofs.FormLaws.{kept_is}
@@ -18,8 +19,8 @@ use Rattle.transformer_algebra.specs.declared.transformer.Transformer.{Transform
 use Rattle.transformer_algebra.specs.declared.loop_parts.LoopParts.{LoopParts}
 use Rattle.transformer_algebra.specs.Cells.{has}
 use Rattle.transformer_algebra.specs.Transformers.{without}
-use Rattle.transformer_algebra.specs.Loops.{own_cells, goes_up, turn, counted_by, loop_transformer, turn_by, at_turn, end_by, after_loop}
-use Rattle.transformer_algebra.specs.Claims.{Scene, HoldsAt, Kept, Does, Wrote, Chain, none_yet, then_turn, Tracks, Means, NotBeyond, Beyond, IsIn}
+use Rattle.transformer_algebra.specs.Loops.{own_cells, goes_up, iteration, counted_by, loop_transformer, iteration_by, at_iteration, end_by, after_loop}
+use Rattle.transformer_algebra.specs.Claims.{Scene, HoldsAt, Kept, Does, Wrote, Chain, none_yet, then_iteration, Tracks, Means, NotBeyond, Beyond, IsIn}
 use Rattle.transformer_algebra.specs.Laws.{Begun, LoopRulesHold}
 use Rattle.transformer_algebra.proofs.CellLaws.{nat_same, nat_eq_same, clashes, left_out, right_out, right_in, unit_left}
 use Rattle.transformer_algebra.proofs.RuleLaws.{holds_without}
@@ -30,7 +31,7 @@ use Rattle.laws_statements.specs.Good.{Good}
 use Rattle.laws_statements.proofs.Rules.{good_more}
 use Rattle.laws_statements.proofs.Turns.{Turn_ends, turns_good}
 use Rattle.laws_statements.specs.Activation.{NamesFit, scene_at, is_locked, Fit, Still, Stayed, Done, Ended}
-use Rattle.laws_statements.proofs.Basics.{or_in_right, put_here}
+use Rattle.laws_statements.proofs.Basics.{put_here}
 use Rattle.laws_statements.proofs.Writes.{put_cells, put_far, put_still}
 use Rattle.laws_statements.proofs.Tracks.{turn_tracks}
 use Rattle.laws_statements.proofs.Counts.{NotZero, count_more, count_none}
@@ -78,7 +79,7 @@ module _ (C : Claim) (w : Names) (m : ScopeTree) (scalar : List ℕ → Bool) (a
   rules = loop_rules_hold
 
   abbrev t : Transformer
-  t = turn lp
+  t = iteration lp
 
   abbrev still' : ℕ → Bool
   still' = also still unit
@@ -87,7 +88,7 @@ module _ (C : Claim) (w : Names) (m : ScopeTree) (scalar : List ℕ → Bool) (a
   still_own = ap (λ b. b || still unit) (nat_eq_same unit)
 
   still_more : (x : ℕ) → still x ≡ true → still' x ≡ true
-  still_more x h = or_in_right (nat_eq x unit) (still x) h
+  still_more x h = or_right (nat_eq x unit) (still x) h
 
   zero_off : unit ≡ unit + 0
   zero_off = omega arith
@@ -160,7 +161,7 @@ module _ (C : Claim) (w : Names) (m : ScopeTree) (scalar : List ℕ → Bool) (a
     record Turning (k : ℕ) (n : ℤ) (y : Store) : Type 0 where
       number : numbers_of y unit ≡ n
       chain : Chain e t (numbers_of s1) (numbers_of y)
-      left : turn_count n b s ≡ k
+      left : iteration_count n b s ≡ k
       steady : Still still z y
       came : ((s1 ≡ y) × (n ≡ a)) ⊎ Later n y
 
@@ -184,7 +185,7 @@ module _ (C : Claim) (w : Names) (m : ScopeTree) (scalar : List ℕ → Bool) (a
         let dt = rules.turn_does e lp t s a b (numbers_of z) (numbers_of s1) begun n (numbers_of y) (numbers_of v) (numbers_of v3) d.does e2 wr in
         record {
           number = wr.there;
-          chain = then_turn i.chain dt;
+          chain = then_iteration i.chain dt;
           left = cm.rest;
           steady = λ x f. wrote_still (n +ℤ s) v x f ∙ (d.steady x (still_more x f) ∙ i.steady x f);
           came = inr (record { number = n; from = y; ended = v; chain = i.chain; from_number = i.number; guard = guard_of n y cm.in_range i.came; in_range = cm.in_range; does = dt; after = d.after; ended_number = e2; wrote_next = wr });
@@ -209,9 +210,9 @@ module _ (C : Claim) (w : Names) (m : ScopeTree) (scalar : List ℕ → Bool) (a
         })
         i.came
 
-    pub counted_good : ((y : Store) → HoldsAt e (at_turn lp t P) (numbers_of y) → Good C body y (Ended e lp.body Pb goes ret false still' y)) → Good C (turns_from (turn_count a b s) a s unit body) s1 Q
+    pub counted_good : ((y : Store) → HoldsAt e (at_iteration lp t P) (numbers_of y) → Good C body y (Ended e lp.body Pb goes ret false still' y)) → Good C (iterations_from (iteration_count a b s) a s unit body) s1 Q
     counted_good body_good =
-        turns_good C s unit body Turning Q turns at_end (turn_count a b s) a s1
+        turns_good C s unit body Turning Q turns at_end (iteration_count a b s) a s1
         (record { number = (wrote a z).there; chain = none_yet; left = refl; steady = wrote_still a z; came = inl (refl, refl) })
       where
         ends : (k : ℕ) (n : ℤ) (y : Store) → Turning (suc k) n y → (f : Flow) (v : Store) → Ended e lp.body Pb goes ret false still' y f v → Turn_ends C s unit body Turning Q k n f v
@@ -257,7 +258,7 @@ module _ (C : Claim) (w : Names) (m : ScopeTree) (scalar : List ℕ → Bool) (a
         Holds_all : Point → System → Type 0
         Holds_all p q = HoldsAll p q.rows
 
-    pub loose_good : ((y : Store) → HoldsAt e (at_turn lp t P) (numbers_of y) → Good C body y (Ended e lp.body Pb goes ret false still' y)) → Good C (turns_from n0 a c unit body) (put z unit (content Int a)) Q'
+    pub loose_good : ((y : Store) → HoldsAt e (at_iteration lp t P) (numbers_of y) → Good C body y (Ended e lp.body Pb goes ret false still' y)) → Good C (iterations_from n0 a c unit body) (put z unit (content Int a)) Q'
     loose_good body_good =
         turns_good C c unit body (λ k n y. I y) Q' turns (λ n y h. loose_done y h) n0 a (put z unit (content Int a))
         (put_stayed a z (record { kept = record { cells = λ d r q. refl; foreign = λ u r q. refl }; steady = λ x f. refl }))
@@ -271,4 +272,4 @@ module _ (C : Claim) (w : Names) (m : ScopeTree) (scalar : List ℕ → Bool) (a
         turns : (k : ℕ) (n : ℤ) (y : Store) → I y → Good C body y (Turn_ends C c unit body (λ k n y. I y) Q' k n)
         turns k n y i =
             good_more C body y (Ended e lp.body Pb goes ret false still' y) (Turn_ends C c unit body (λ k n y. I y) Q' k n) (ends k n y i)
-            (body_good y (subst (λ o. HoldsAt e (turn_by o lp t P) (numbers_of y)) (sym step) (holds_without e t.cells t.foreign P (numbers_of z) (numbers_of y) hp i.kept)))
+            (body_good y (subst (λ o. HoldsAt e (iteration_by o lp t P) (numbers_of y)) (sym step) (holds_without e t.cells t.foreign P (numbers_of z) (numbers_of y) hp i.kept)))

@@ -2,6 +2,7 @@
 use Rattle.std.proofs.Common.{◌≡◌, ℕ, zero, suc, ◌+◌, ◌-◌, ◌<◌, List, [], ◌∷◌, ◌++◌, ◌||◌, ◌&&◌, not, map, Option, Some, None, Bool, true, false, refl, sym, ap, ◌∙◌, subst, arith, nat_eq, true≢false}
 use Rattle.std.specs.Prelude.{if◌then◌else◌, slice_get, is_some}
 use Rattle.std.proofs.lemmas.Bool.Decides.{nat_tests}
+use Rattle.std.proofs.lemmas.Bool.{or_parts}
 use Rattle.affine_systems.proofs.Basics.{if_cases}
 use Rattle.f77_ast.specs.declared.decl.Scalar.{Scalar}
 use Rattle.f77_ast.specs.Places.{Meant, Constant, Variable, Function, Place, Places}
@@ -13,7 +14,7 @@ use Rattle.f77_symbols.specs.declared.variable.Unit.{Unit as BlockUnit}
 use Rattle.f77_symbols.specs.Symbols.{BoundTree, SymbolTree, number_from, value_in}
 use Rattle.f77_symbols.specs.Units.{units_in, bounds_units}
 use Rattle.f77_symbols.specs.Shared.{symbol_at}
-use Rattle.tracked_cells.specs.Equivalences.{equivalenced}
+use Rattle.tracked_cells.specs.Equivalences.{equivalenced_names}
 use Rattle.tracked_cells.specs.Standing.{has_bounds}
 use Rattle.call_graph.specs.declared.graph.Graph.{Graph}
 use Rattle.f77_meaning.specs.Areas.{Area, block, group, Numbering}
@@ -28,7 +29,6 @@ use Rattle.affine_forms.specs.Claims.{unit_in}
 use Rattle.call_translation.specs.Scopes.{ScopeTree}
 use Rattle.laws_statements.specs.Activation.{NamesFit, scene_at, Fit}
 use Rattle.laws_statements.specs.Laws.{scope_of, is_dummy, has_dummy, is_scalar_symbol, scalar_at, is_scalar, IsAlone, IsMainAlone}
-use Rattle.laws_statements.proofs.Basics.{or_out}
 
 -- ---- what a name of a variable stands for
 
@@ -62,8 +62,8 @@ variable_of ss x v e = go (number_from 1 (symbol_names ss) x) refl e
 
 none_dummy : (ss : List SymbolTree) (i : ℕ) (s : SymbolTree) → has_dummy ss ≡ false → slice_get ss i ≡ Some s → is_dummy s.place ≡ false
 none_dummy [] i s h e = cc
-none_dummy (t ∷ ss) zero s h e = let same : t ≡ s = cc in ap (λ y. is_dummy y.place) (sym same) ∙ (or_out (is_dummy t.place) (has_dummy ss) h).0
-none_dummy (t ∷ ss) (suc i) s h e = none_dummy ss i s (or_out (is_dummy t.place) (has_dummy ss) h).1 e
+none_dummy (t ∷ ss) zero s h e = let same : t ≡ s = cc in ap (λ y. is_dummy y.place) (sym same) ∙ (or_parts (is_dummy t.place) (has_dummy ss) h).0
+none_dummy (t ∷ ss) (suc i) s h e = none_dummy ss i s (or_parts (is_dummy t.place) (has_dummy ss) h).1 e
 
 no_dummy_of : (n : ℕ) (s : SymbolTree) (p : SymbolPlace) → is_dummy p ≡ false → as_dummy n s p ≡ []
 no_dummy_of n s (place.Local g o) h = refl
@@ -73,7 +73,7 @@ no_dummy_of n s (place.Constant c) h = refl
 
 pub no_dummies : (n : ℕ) (ss : List SymbolTree) → has_dummy ss ≡ false → dummies_from n ss ≡ []
 no_dummies n [] h = refl
-no_dummies n (s ∷ ss) h = let o = or_out (is_dummy s.place) (has_dummy ss) h in ap (λ ds. ds ++ dummies_from (suc n) ss) (no_dummy_of n s s.place o.0) ∙ no_dummies (suc n) ss o.1
+no_dummies n (s ∷ ss) h = let o = or_parts (is_dummy s.place) (has_dummy ss) h in ap (λ ds. ds ++ dummies_from (suc n) ss) (no_dummy_of n s s.place o.0) ∙ no_dummies (suc n) ss o.1
 
 -- ---- places
 
@@ -97,7 +97,7 @@ laid_symbol : (g : Numbering) (k : Known) (n : ℕ) (s : SymbolTree) (a : Area) 
 laid_symbol g k n s a q e = subst (λ o. LaidOut (fixed_maybe g k.read.name k.symbols o) k.symbols s) (sym q) (laid g k.read.name k.symbols s s.place a e)
 
 pub one_unit : (ss : List SymbolTree) (s : SymbolTree) → s.bounds ≡ [] → units_in ss s ≡ 1
-one_unit ss s e = ap (bounds_units (value_in ss) 1) e
+one_unit ss s e = ap (bounds_units (value_in ss)) e
 
 in_own : (p : Place) (n : ℕ) → n < p.extent → in_place p (p.first + n) ≡ true
 in_own p n h = grind (arith, nat_tests)
@@ -159,7 +159,7 @@ module _ (ks : List Known) (g : Graph) (k : Known) (flags : List Bool) (h : IsMa
       let b = area_there k.read.name y.symbol.scalar v y.symbol.place p y.meant in
       let dc = declared c a.symbol a.is_symbol in
       let dv = declared v y.symbol y.is_symbol in
-      let no = cells_are_alone ks g k c v a.symbol y.symbol a.area b.0 (equivalenced k.read) (unit_in at c) dc dv (other_number v c d) a.lies b.1 (areas_are_known ks g k c a.symbol a.area h.blocks dc a.lies) (areas_are_known ks g k v y.symbol b.0 h.blocks dv b.1) h.room a.scalar a.alone (first_in c t) in
+      let no = cells_are_alone ks g k c v a.symbol y.symbol a.area b.0 (equivalenced_names k.read) (unit_in at c) dc dv (other_number v c d) a.lies b.1 (areas_are_known ks g k c a.symbol a.area h.blocks dc a.lies) (areas_are_known ks g k v y.symbol b.0 h.blocks dv b.1) a.scalar a.alone (first_in c t) in
       true≢false (sym (subst (λ u. in_place (at v) u ≡ true) q (in_own (at v) n small)) ∙ no)
 
   solid : (x : List ℕ) (v : ℕ) → names k.symbols x ≡ Variable v → is_scalar k.symbols x ≡ true → 0 < (at v).extent

@@ -1,8 +1,9 @@
 -- A main program that calls no module: its preconditions and transformers hold in every run.
-use Rattle.std.proofs.Common.{◌≡◌, ℕ, zero, suc, ◌+◌, ◌-◌, ◌<◌, List, [], ◌∷◌, ◌++◌, ◌||◌, ◌&&◌, Option, Some, None, Bool, true, false, refl, sym, ap, ◌∙◌, subst, arith, ℤ, pos, nat_eq, true≢false}
+use Rattle.std.proofs.Common.{◌≡◌, ℕ, zero, suc, ◌+◌, ◌-◌, ◌<◌, List, [], ◌∷◌, ◌++◌, ◌||◌, Option, Some, None, Bool, true, false, refl, sym, ap, ◌∙◌, subst, arith, ℤ, pos, nat_eq, true≢false}
 use Rattle.std.specs.Prelude.{if◌then◌else◌, slice_get}
 use Rattle.std.proofs.lemmas.Int.{ints}
 use Rattle.std.proofs.lemmas.Bool.Decides.{nat_tests}
+use Rattle.std.proofs.lemmas.Bool.{and_from}
 use Rattle.affine_systems.specs.declared.row.Var.TheVariants.{Cell}
 use Rattle.affine_systems.specs.declared.row.Row.{Row}
 use Rattle.affine_systems.specs.declared.row.System.{System}
@@ -92,10 +93,6 @@ first_list tree.no_stmts sc at locked (suc n) z i = refl
 first_list (tree.more_stmts (tree.stmt n label v) rest) sc at locked zero z i = refl
 first_list (tree.more_stmts (tree.stmt n label v) rest) sc at locked (suc m) z i = refl
 
-and_true : (a b : Bool) → a ≡ true → b ≡ true → (a && b) ≡ true
-and_true true b h k = k
-and_true false b h k = absurd (true≢false (sym h))
-
 -- no CALL stands there
 abbrev no_covers : List ℕ → ExprTrees → System → Type 0
 no_covers x es p = ⊥
@@ -138,7 +135,7 @@ module _ (ks : List Known) (g : Graph) (k : Known) (flags : List Bool) (h : IsMa
     (λ n ag p hp. hold p (λ c t. hp c ∙ ag c t)),
     more q (λ f y i. is_normal (suc j) f ≡ true → Does e (r.transformer (suc j)) (numbers_of z) (numbers_of y)) _
         (λ f y i dd n. (let w = dd n in (
-          (λ a b agrees changed p before after. w.relates p (λ c t. before c ∙ agrees c t) (λ c t v. after c ∙ changed c (and_true (is_cell flags c) (has (r.transformer (suc j)).cells c) t v))),
+          (λ a b agrees changed p before after. w.relates p (λ c t. before c ∙ agrees c t) (λ c t v. after c ∙ changed c (and_from (is_cell flags c) (has (r.transformer (suc j)).cells c) t v))),
           (λ c t v. w.kept.cells c t v),
         ))) d,
   )

@@ -10,8 +10,8 @@ use Rattle.transformers.specs.Given.{Callees}
 use Rattle.transformers.specs.Jumps.{is_end, unstructured}
 use Rattle.transformers.specs.Statement as transformers
 use Rattle.preconditions.specs.Statement as preconditions
-use Rattle.preconditions.specs.Statement.{Found, if_true, past_arm, past_arms, each_turn, throughout, after}
-use Rattle.laws_statements.specs.Numbers.{stmt_numbers, part_numbers, list_numbers, arms_numbers, arm_numbers, else_numbers, loop_numbers, IsNumbered}
+use Rattle.preconditions.specs.Statement.{Found, if_true, past_arm, past_arms, each_iteration, throughout, after}
+use Rattle.f77_ast.specs.StatementNumbers.{stmt_numbers, part_numbers, list_numbers, arms_numbers, arm_numbers, else_numbers, loop_numbers, IsNumbered}
 use Rattle.laws_statements.specs.Laws.{InOrder}
 
 abbrev pub ids : {T : Type 0} → List (At T) → List ℕ
@@ -109,7 +109,7 @@ module _ (m : ScopeTree) (t : Found) where
 
     p_loop : (l : LoopTree) (p : System) → ids (preconditions.at_loop l m t p) ≡ loop_numbers l
     p_loop (tree.loop index first last step body) p =
-        let q = each_turn (tree.loop index first last step body) m t p in
+        let q = each_iteration (tree.loop index first last step body) m t p in
         either_ids (unstructured false body) (preconditions.at_all body m t (throughout false body t q)) (preconditions.at_each body m t q) (list_numbers body) (p_all body (throughout false body t q)) (p_each body q)
 
   pub p_list : (whole : Bool) (ss : StmtTrees) (p : System) → ids (preconditions.at_list whole ss m t p) ≡ list_numbers ss

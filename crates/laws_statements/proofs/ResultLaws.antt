@@ -11,7 +11,7 @@ use Rattle.preconditions.specs.Modules.{preconditions_of}
 use Rattle.laws_statements.specs.Targets.{lacks_targets}
 use Rattle.laws_statements.specs.Placed.{Found, PlacedList}
 use Rattle.laws_statements.specs.CallsIn.{Each, list_calls}
-use Rattle.laws_statements.specs.Numbers.{IsNumbered}
+use Rattle.f77_ast.specs.StatementNumbers.{IsNumbered}
 use Rattle.laws_statements.specs.Results.{or_no_rows, found_in, pre_in}
 use Rattle.laws_statements.proofs.Placing.{Owed, placed_list}
 use Rattle.laws_statements.proofs.MainResults.{each_found_at}

@@ -2,6 +2,7 @@
 use Rattle.std.proofs.Common.{◌≡◌, ℕ, List, [], ◌∷◌, ◌||◌, ◌&&◌, not, Option, Some, None, Bool, true, false, refl, sym, ap, ◌∙◌, subst, arith, nat_eq, true≢false}
 use Rattle.std.specs.Prelude.{if◌then◌else◌}
 use Rattle.std.proofs.lemmas.Bool.Decides.{nat_tests}
+use Rattle.std.proofs.lemmas.Bool.{or_left, or_right, or_parts, and_parts}
 use Rattle.affine_systems.specs.declared.row.System.{System}
 use Rattle.f77_ast.specs.Trees.{StmtTree, WhatTree, StmtTrees}
 use Rattle.f77_ast.specs.Trees as tree
@@ -21,7 +22,6 @@ use Rattle.transformer_algebra.proofs.RuleLaws.{does_then, kept_then}
 use Rattle.transformers.specs.Jumps.{stmt_has, parts_have, list_has, label_of, before_labels, labels, goes_to, is_return, is_end, returns_early, early_return}
 use Rattle.transformers.specs.Lists.{followed_by, in_order}
 use Rattle.laws_statements.specs.Activation.{Still, Stayed, Done}
-use Rattle.laws_statements.proofs.Basics.{or_in_left, or_in_right, or_out, and_out}
 
 -- ---- labels
 

@@ -2,6 +2,7 @@
 use Rattle.std.proofs.Common.{◌≡◌, ℕ, List, [], ◌∷◌, ◌++◌, ◌||◌, ◌&&◌, Option, Some, None, Bool, true, false, refl, sym, ap, ◌∙◌, subst, arith, ℤ, nat_eq, true≢false}
 use Rattle.std.specs.Prelude.{if◌then◌else◌}
 use Rattle.std.proofs.lemmas.Int.{ints}
+use Rattle.std.proofs.lemmas.Bool.{or_parts, and_parts}
 use Rattle.affine_systems.specs.declared.row.Var.{Var}
 use Rattle.affine_systems.specs.declared.row.Var.TheVariants.{Exit}
 use Rattle.affine_systems.specs.declared.row.System.{System}
@@ -29,7 +30,7 @@ use Rattle.affine_forms.proofs.RowLaws.{same_holds}
 use Rattle.affine_forms.proofs.ValueLaws.{value_leads}
 use Rattle.transformer_algebra.specs.declared.transformer.Transformer.{Transformer}
 use Rattle.transformer_algebra.specs.Cells.{has, joined_cells}
-use Rattle.transformer_algebra.specs.Transformers.{exit_system, assigned, unchanging, forgotten, apply}
+use Rattle.transformer_algebra.specs.Transformers.{exit_system, assign, unchanging, forgotten, apply}
 use Rattle.transformer_algebra.specs.Claims.{Scene, AtStart, HoldsAt, Kept, Does, Wrote, Means}
 use Rattle.transformer_algebra.proofs.CellLaws.{nat_eq_same, left_out}
 use Rattle.transformer_algebra.proofs.RuleLaws.{holds_apply, does_test}
@@ -42,7 +43,6 @@ use Rattle.laws_statements.proofs.Rules.{good_ends, good_first, good_show}
 use Rattle.laws_statements.proofs.Evaluations.{target_leads, all_shown_leads}
 use Rattle.laws_statements.specs.Targets.{is_target, are_targets}
 use Rattle.laws_statements.specs.Activation.{NamesFit, scene_at, Fit, Still, Stayed, Done, Ended}
-use Rattle.laws_statements.proofs.Basics.{or_out, and_out}
 use Rattle.laws_statements.proofs.Writes.{Hit, hit_of, hit_still, hit_kept, hit_wrote}
 
 pub write_leads : (locked : Locks) (u : ℕ) (c : Content) (s : Store) (i : List Content) (Q : Unit {0} → Store → List Content → Type 0) → (locked u ≡ None → Q tt (put s u c) i) → Leads (write locked u c) s i Q
@@ -71,10 +71,10 @@ module _ (e : Scene) where
   exit_holds d None x n h p st q = tt
   exit_holds d (Some f) x n h p st q = of_rows_holds (same_row (var_form (Exit d)) f ∷ []) p (same_holds (var_form (Exit d)) f p (var_value (Exit d) p n q ∙ sym (h p st)), tt)
 
-  pub does_assigned : (d : ℕ) (f : Option Affine) (n : ℤ) (x y : ℕ → ℤ) → e.tracked d ≡ true → Means e f x n → Wrote e d n x y → Does e (assigned d f) x y
+  pub does_assigned : (d : ℕ) (f : Option Affine) (n : ℤ) (x y : ℕ → ℤ) → e.tracked d ≡ true → Means e f x n → Wrote e d n x y → Does e (assign d f) x y
   does_assigned d f n x y t h wr = record {
     relates = λ p st en. exit_holds d f x n h p st (en d t (ap (λ b. b || false) (nat_eq_same d)) ∙ wr.there);
-    kept = record { cells = λ g r k. wr.cells g r (or_out (nat_eq d g) false k).0; foreign = λ b r k. wr.foreign b r };
+    kept = record { cells = λ g r k. wr.cells g r (or_parts (nat_eq d g) false k).0; foreign = λ b r k. wr.foreign b r };
   }
 
   pub does_unchanging : (x y : ℕ → ℤ) → Kept e [] [] x y → Does e unchanging x y
@@ -158,10 +158,10 @@ module _ (C : Claim) (w : Names) (m : ScopeTree) (scalar : List ℕ → Bool) (a
   items_leads (tree.more_exprs a es) k s i =
       leads_then (target a w at) _ s i _ (target_leads w at s i a _ (λ t q.
       leads_then (taken locked t (first_of i)) _ s (rest_of i) _ (taken_leads locked t (first_of i) s (rest_of i) _ (λ c free.
-      (let hit = hit_of w m scalar at far place nf locked still fit a t (and_out (is_target scalar a) (are_targets scalar es) k).0 q in
+      (let hit = hit_of w m scalar at far place nf locked still fit a t (and_parts (is_target scalar a) (are_targets scalar es) k).0 q in
       more (run (items_read es w at locked) (Whole (put s t.unit c)) (rest_of i)) (λ o z j. ReadSo es (put s t.unit c) z) (λ o z j. ReadSo (tree.more_exprs a es) s z)
       (λ o z j h. read_more a es s (put s t.unit c) z (hit_kept w m scalar at far place nf locked still fit a s c t.unit hit free) (hit_still w m scalar at far place nf locked still fit a s c t.unit hit free) h)
-      (items_leads es (and_out (is_target scalar a) (are_targets scalar es) k).1 (put s t.unit c) (rest_of i)))))))
+      (items_leads es (and_parts (is_target scalar a) (are_targets scalar es) k).1 (put s t.unit c) (rest_of i)))))))
 
   module _ (goes : List ℕ → Bool) (ret own : Bool) (P : System) (z : Store) (hp : HoldsAt e P (numbers_of z)) where
     pub read_good : (es : ExprTrees) → are_targets scalar es ≡ true → Good C (first (items_read es w at locked) (λ o. Ends Normal)) z (Ended e (reading m.scalars es) (apply (reading m.scalars es) P) goes ret own still z)

@@ -2,6 +2,7 @@
 use Rattle.std.proofs.Common.{◌≡◌, ℕ, zero, suc, ◌<◌, List, [], ◌∷◌, ◌++◌, ◌||◌, ◌&&◌, Option, Some, None, Bool, true, false, refl, sym, ap, ◌∙◌, subst, ℤ, pos, nat_eq, true≢false}
 use Rattle.std.specs.Prelude.{if◌then◌else◌, unwrap_or}
 use Rattle.std.specs.Ordering.{int_eq}
+use Rattle.std.proofs.lemmas.Bool.{or_left, or_right, and_parts}
 use Rattle.affine_systems.specs.declared.row.System.{System}
 use Rattle.affine_systems.specs.Calls.{meet}
 use Rattle.affine_systems.proofs.CallLaws.{meet_holds}
@@ -16,7 +17,7 @@ use Rattle.f77_ast.specs.Writes.{Locks, lock, write}
 use Rattle.f77_ast.specs.Plans.{Flow, Normal, Jump, Returned, Stopped, Plan, Ends, first}
 use Rattle.f77_ast.specs.Executions.{Claim}
 use Rattle.f77_ast.specs.Lists.{Part, in_order, list_plan}
-use Rattle.f77_ast.specs.Loops.{Range, range_of, turn_count, turns_from, loop_plan}
+use Rattle.f77_ast.specs.Loops.{Range, range_of, iteration_count, iterations_from, loop_plan}
 use Rattle.f77_ast.specs.Calls.{actuals, call_plan}
 use Rattle.f77_ast.specs.Statements.{Scope, spot, statement_plan, execution, arms_plan, else_plan, do_plan, parts}
 use Rattle.f77_symbols.specs.declared.variable.Unit.{Unit as BlockUnit}
@@ -30,7 +31,7 @@ use Rattle.transformer_algebra.specs.declared.transformer.Transformer.{Transform
 use Rattle.transformer_algebra.specs.declared.loop_parts.LoopParts.{LoopParts}
 use Rattle.transformer_algebra.specs.Cells.{has}
 use Rattle.transformer_algebra.specs.Transformers.{unchanging, nowhere, without, apply, all_cells}
-use Rattle.transformer_algebra.specs.Loops.{turn, at_turn, after_loop}
+use Rattle.transformer_algebra.specs.Loops.{iteration, at_iteration, after_loop}
 use Rattle.transformer_algebra.specs.Claims.{Scene, HoldsAt, Tracks, Means}
 use Rattle.transformer_algebra.specs.Laws.{In, here, there}
 use Rattle.transformer_algebra.proofs.RuleLaws.{does_test}
@@ -42,7 +43,7 @@ use Rattle.transformers.specs.Jumps.{stmt_has, parts_have, list_has, arms_have, 
 use Rattle.transformers.specs.Lists.{list_of, each_at, list_at}
 use Rattle.transformers.specs.Loops.{step_of, number_in, loop_parts}
 use Rattle.transformers.specs.Statement.{parts_do, where_holds, if_does, choice, without_arm, without_arms, stmt_transformer, what_transformer, each_transformer, arm_transformers, arm_transformer, else_transformer, body_transformer}
-use Rattle.preconditions.specs.Statement.{some_holds, if_true, if_false, past_arm, past_arms, parts_of, each_turn, throughout, after, after_what, after_each, after_arms, after_arm, after_else, after_loop_of, after_list}
+use Rattle.preconditions.specs.Statement.{some_holds, if_true, if_false, past_arm, past_arms, parts_of, each_iteration, throughout, after, after_what, after_each, after_arms, after_arm, after_else, after_loop_of, after_list}
 use Rattle.laws_statements.specs.Good.{Good}
 use Rattle.laws_statements.proofs.Rules.{good_ends, good_more, good_first, good_write, good_at}
 use Rattle.laws_statements.proofs.ListRules.{Verified}
@@ -51,7 +52,6 @@ use Rattle.laws_statements.specs.Targets.{has_index}
 use Rattle.laws_statements.specs.Leads.{stmt_leads, what_leads, each_leads, arms_lead, else_leads, loop_leads, list_leads}
 use Rattle.laws_statements.specs.Activation.{NamesFit, scene_at, Fit, Stayed, Done, Ended}
 use Rattle.laws_statements.specs.Placed.{Found, PlacedAt, Placed, PlacedParts, PlacedEach, PlacedAll, PlacedArms, PlacedArm, PlacedElse, PlacedLoop, PlacedList}
-use Rattle.laws_statements.proofs.Basics.{or_in_left, or_in_right, and_out}
 use Rattle.laws_statements.proofs.Simple.{same_kept, idle_done, idle_good, nowhere_stayed, assign_good, print_good, read_good}
 use Rattle.laws_statements.proofs.Tracks.{all_track, what_tracks, arms_track, else_tracks, body_tracks, stmt_tracks}
 use Rattle.laws_statements.proofs.Counts.{not_zero}
@@ -81,7 +81,7 @@ module _ (C : Claim) (m : ScopeTree) (cs : Callees) (r : Found) (covers : List �
   bodies body l = list_plan sc.turns (parts body sc at l)
 
   no_own : (last : Bool) → (last && false) ≡ true → ⊥
-  no_own last h = true≢false (sym (and_out last false h).1)
+  no_own last h = true≢false (sym (and_parts last false h).1)
 
   is : (c : ℕ) → is_cell m.tracked c ≡ true → e.tracked c ≡ true
   is c h = h
@@ -116,7 +116,7 @@ module _ (C : Claim) (m : ScopeTree) (cs : Callees) (r : Found) (covers : List �
     lp = loop_parts m L (body_transformer L m cs)
 
     abbrev Pb : System
-    Pb = after_list false body m r.transformer (each_turn L m r.transformer P)
+    Pb = after_list false body m r.transformer (each_iteration L m r.transformer P)
 
     abbrev G : List ℕ → Bool
     G = goes_in C m cs r covers scalar sc at far place body
@@ -125,7 +125,7 @@ module _ (C : Claim) (m : ScopeTree) (cs : Callees) (r : Found) (covers : List �
     R = list_has is_return body
 
     abbrev Q : Flow → Store → Type 0
-    Q = Ends_as (parts_do lp) (after_loop lp (turn lp) P Pb) G R (last && false) still z
+    Q = Ends_as (parts_do lp) (after_loop lp (iteration lp) P Pb) G R (last && false) still z
 
     abbrev unit : ℕ
     unit = unit_in at lp.index
@@ -137,27 +137,27 @@ module _ (C : Claim) (m : ScopeTree) (cs : Callees) (r : Found) (covers : List �
     named v h = h ∙ ap Variable (sym (is_index v h))
 
     abbrev Inner : Type 0
-    Inner = (u : ℕ) → Fits (lock locked u Locked) (also still u) → (y : Store) → Hs (each_turn L m r.transformer P) y → Good C (bodies body (lock locked u Locked)) y (Ends_as (body_transformer L m cs) Pb G R false (also still u) y)
+    Inner = (u : ℕ) → Fits (lock locked u Locked) (also still u) → (y : Store) → Hs (each_iteration L m r.transformer P) y → Good C (bodies body (lock locked u Locked)) y (Ends_as (body_transformer L m cs) Pb G R false (also still u) y)
 
     module _ (path : list_at r.transformer false body ≡ body_transformer L m cs) (inner : Inner) where
-      body_at : Fits (lock locked unit Locked) (also still unit) → (y : Store) → Hs (at_turn lp (turn lp) P) y → Good C (bodies body (lock locked unit Locked)) y (Ends_as lp.body Pb G R false (also still unit) y)
-      body_at f y hy = inner unit f y (subst (λ x. Hs (at_turn (loop_parts m L x) (turn (loop_parts m L x)) P) y) (sym path) hy)
+      body_at : Fits (lock locked unit Locked) (also still unit) → (y : Store) → Hs (at_iteration lp (iteration lp) P) y → Good C (bodies body (lock locked unit Locked)) y (Ends_as lp.body Pb G R false (also still unit) y)
+      body_at f y hy = inner unit f y (subst (λ x. Hs (at_iteration (loop_parts m L x) (iteration (loop_parts m L x)) P) y) (sym path) hy)
 
-      turns : (a b c : ℤ) → Means e lp.first (numbers_of z) a → Means e lp.last (numbers_of z) b → StepIs lp.step c → int_eq c (pos 0) ≡ false → sc.names index ≡ Variable lp.index → locked unit ≡ None → Good C (turns_from (turn_count a b c) a c unit (bodies body (lock locked unit Locked))) (put z unit (content Int a)) Q
+      turns : (a b c : ℤ) → Means e lp.first (numbers_of z) a → Means e lp.last (numbers_of z) b → StepIs lp.step c → int_eq c (pos 0) ≡ false → sc.names index ≡ Variable lp.index → locked unit ≡ None → Good C (iterations_from (iteration_count a b c) a c unit (bodies body (lock locked unit Locked))) (put z unit (content Int a)) Q
       turns a b c ma mb mc nz nm free = go lp.step refl mc
         where
-          go : (o : Option ℤ) → lp.step ≡ o → StepIs o c → Good C (turns_from (turn_count a b c) a c unit (bodies body (lock locked unit Locked))) (put z unit (content Int a)) Q
+          go : (o : Option ℤ) → lp.step ≡ o → StepIs o c → Good C (iterations_from (iteration_count a b c) a c unit (bodies body (lock locked unit Locked))) (put z unit (content Int a)) Q
           go None q k =
-              loose_good C sc.names m scalar at far place nf locked still (base locked still fit) index lp nm sx free (back lp.index) (body_tracks e sc.names m nf is back cs calls_track L) (bodies body (lock locked unit Locked)) G R (last && false) (no_own last) P Pb z hp (turn_count a b c) a c q
+              loose_good C sc.names m scalar at far place nf locked still (base locked still fit) index lp nm sx free (back lp.index) (body_tracks e sc.names m nf is back cs calls_track L) (bodies body (lock locked unit Locked)) G R (last && false) (no_own last) P Pb z hp (iteration_count a b c) a c q
               (body_at (more_fits locked still index lp.index nm sx fit))
           go (Some s) q k =
-              subst (λ x. Good C (turns_from (turn_count a b x) a x unit (bodies body (lock locked unit Locked))) (put z unit (content Int a)) Q) (sym k)
+              subst (λ x. Good C (iterations_from (iteration_count a b x) a x unit (bodies body (lock locked unit Locked))) (put z unit (content Int a)) Q) (sym k)
               (counted_good C sc.names m scalar at far place nf locked still (base locked still fit) index lp nm sx free (back lp.index) (body_tracks e sc.names m nf is back cs calls_track L) (bodies body (lock locked unit Locked)) G R (last && false) (no_own last) P Pb z hp s a b (not_zero s (ap (λ x. int_eq x (pos 0)) (sym k) ∙ nz)) q ma mb
               (body_at (more_fits locked still index lp.index nm sx fit)))
 
-      at_unit : (a b c : ℤ) → Means e lp.first (numbers_of z) a → Means e lp.last (numbers_of z) b → StepIs lp.step c → int_eq c (pos 0) ≡ false → (u : ℕ) → u ≡ unit → sc.names index ≡ Variable lp.index → Good C (first (write locked u (content Int a)) (λ o. turns_from (turn_count a b c) a c u (bodies body (lock locked u Locked)))) z Q
+      at_unit : (a b c : ℤ) → Means e lp.first (numbers_of z) a → Means e lp.last (numbers_of z) b → StepIs lp.step c → int_eq c (pos 0) ≡ false → (u : ℕ) → u ≡ unit → sc.names index ≡ Variable lp.index → Good C (first (write locked u (content Int a)) (λ o. iterations_from (iteration_count a b c) a c u (bodies body (lock locked u Locked)))) z Q
       at_unit a b c ma mb mc nz u eq nm =
-          subst (λ x. Good C (first (write locked x (content Int a)) (λ o. turns_from (turn_count a b c) a c x (bodies body (lock locked x Locked)))) z Q) (sym eq)
+          subst (λ x. Good C (first (write locked x (content Int a)) (λ o. iterations_from (iteration_count a b c) a c x (bodies body (lock locked x Locked)))) z Q) (sym eq)
           (good_write C locked unit (content Int a) _ z Q (λ free. turns a b c ma mb mc nz nm free))
 
       loop_good : Good C (do_plan L sc at locked) z Q
@@ -167,10 +167,10 @@ module _ (C : Claim) (m : ScopeTree) (cs : Callees) (r : Found) (covers : List �
           at_unit a b c ma mb mc nz u.unit (h.unit ∙ ap (λ v. (at v).first) (sym (is_index h.variable h.names))) (named h.variable h.names)))))
 
       do_found : Good C (do_plan L sc at locked) z (Ends_as (parts_do lp) (after_loop_of L m r.transformer P) G R (last && false) still z)
-      do_found = subst (λ x. Good C (do_plan L sc at locked) z (Ends_as (parts_do lp) (after_loop (loop_parts m L x) (turn (loop_parts m L x)) P Pb) G R (last && false) still z)) (sym path) loop_good
+      do_found = subst (λ x. Good C (do_plan L sc at locked) z (Ends_as (parts_do lp) (after_loop (loop_parts m L x) (iteration (loop_parts m L x)) P Pb) G R (last && false) still z)) (sym path) loop_good
 
-    do_good : PlacedList r covers m cs scalar body false (each_turn L m r.transformer P) → Inner → Good C (do_plan L sc at locked) z (Ends_as (parts_do lp) (after_loop_of L m r.transformer P) G R (last && false) still z)
-    do_good pl inner = do_found (ap (λ xs. list_of false body xs) (list_found C m cs r covers scalar sc at far place body false (each_turn L m r.transformer P) pl)) inner
+    do_good : PlacedList r covers m cs scalar body false (each_iteration L m r.transformer P) → Inner → Good C (do_plan L sc at locked) z (Ends_as (parts_do lp) (after_loop_of L m r.transformer P) G R (last && false) still z)
+    do_good pl inner = do_found (ap (λ xs. list_of false body xs) (list_found C m cs r covers scalar sc at far place body false (each_iteration L m r.transformer P) pl)) inner
 
   -- ---- tests
 
@@ -253,7 +253,7 @@ module _ (C : Claim) (m : ScopeTree) (cs : Callees) (r : Found) (covers : List �
         (arm_ends e still z bt (else_transformer other m cs) (after_else other m r.transformer bp) (AllT tree.no_arms bt) (AllP tree.no_arms bp) (λ ls. else_leads other ls) (GoA tree.no_arms) (else_has is_return other) (RtA tree.no_arms) false h here here (λ ls k. k) (λ k. k)) g
 
     from_first : (a b c : Bool) → a ≡ true → ((a || b) || c) ≡ true
-    from_first a b c h = or_in_left (a || b) c (or_in_left a b h)
+    from_first a b c h = or_left (a || b) c (or_left a b h)
 
     from_rest : (a b c : Bool) → (b || c) ≡ true → ((a || b) || c) ≡ true
     from_rest true b c h = refl
@@ -332,9 +332,9 @@ module _ (C : Claim) (m : ScopeTree) (cs : Callees) (r : Found) (covers : List �
     loop_list : (l : LoopTree) (last : Bool) (locked : Locks) (still : ℕ → Bool) → Fits locked still → (P : System) (z : Store) → Hs P z → has_index scalar l ≡ true → PlacedLoop r covers m cs scalar l P → Good C (do_plan l sc at locked) z (Ends_as (parts_do (loop_parts m l (body_transformer l m cs))) (after_loop_of l m r.transformer P) (λ ls. loop_leads l ls) (loop_has is_return l) (last && false) still z)
     loop_list (tree.loop index e1 e2 e3 body) last locked still fit P z hp sx pl =
         do_good index e1 e2 e3 body last locked still fit P z hp sx pl
-        (λ u f y hy. list_from C m cs r covers scalar sc at far place body false (each_turn (tree.loop index e1 e2 e3 body) m r.transformer P) (lock locked u Locked) (also still u) y hy pl
-        (λ jump st pe. row_good body body false jump (lock locked u Locked) (also still u) f None (each_turn (tree.loop index e1 e2 e3 body) m r.transformer P) y y st (inc_all m cs false body) refl hy pe)
-        (λ pa. each_good body body false (each_turn (tree.loop index e1 e2 e3 body) m r.transformer P) (lock locked u Locked) (also still u) f y hy 0 (inc_all m cs false body) pa))
+        (λ u f y hy. list_from C m cs r covers scalar sc at far place body false (each_iteration (tree.loop index e1 e2 e3 body) m r.transformer P) (lock locked u Locked) (also still u) y hy pl
+        (λ jump st pe. row_good body body false jump (lock locked u Locked) (also still u) f None (each_iteration (tree.loop index e1 e2 e3 body) m r.transformer P) y y st (inc_all m cs false body) refl hy pe)
+        (λ pa. each_good body body false (each_iteration (tree.loop index e1 e2 e3 body) m r.transformer P) (lock locked u Locked) (also still u) f y hy 0 (inc_all m cs false body) pa))
 
     arms_good : (arms : ArmTrees) (other : ElseTree) (locked : Locks) (still : ℕ → Bool) → Fits locked still → (bt bp : System) (z : Store) → Hs bt z → Hs bp z → PlacedArms r covers m cs scalar arms bp → (Hs (past_arms arms m bp) z → Good C (else_plan other sc at locked) z (Ends_as (else_transformer other m cs) (after_else other m r.transformer (past_arms arms m bp)) (λ ls. else_leads other ls) (else_has is_return other) false still z)) → Arms other locked still z arms bt bp
     arms_good tree.no_arms other locked still fit bt bp z ht hp pl else_ok = no_arm_good other locked still z bt bp ht (else_ok hp)
@@ -367,7 +367,7 @@ module _ (C : Claim) (m : ScopeTree) (cs : Callees) (r : Found) (covers : List �
     each_good (tree.more_stmts t ss) all whole P locked still fit s hp k inc pl = (
       (λ y h. good_more C (statement_plan t sc at locked) y (Stmt_ended C m cs r covers scalar sc at far place t (whole && is_end ss) (without (all_cells (each_transformer all m cs whole)) P) still y) _
           (loose_next C m cs r covers scalar sc at far place all whole P locked still s hp k (stmt_transformer t m cs (whole && is_end ss)) (after t m r.transformer (without (all_cells (each_transformer all m cs whole)) P)) (λ ls. stmt_leads t ls) (stmt_has is_return t) (own_of (whole && is_end ss) t)
-          (inc.inside (stmt_transformer t m cs (whole && is_end ss)) here) (λ ls q. inc.leads ls (or_in_left (stmt_leads t ls) (each_leads ss ls) q)) (λ q. inc.rets (or_in_left (stmt_has is_return t) (list_has is_return ss) q)) y h)
+          (inc.inside (stmt_transformer t m cs (whole && is_end ss)) here) (λ ls q. inc.leads ls (or_left (stmt_leads t ls) (each_leads ss ls) q)) (λ q. inc.rets (or_left (stmt_has is_return t) (list_has is_return ss) q)) y h)
           (stmt_good t (whole && is_end ss) locked still fit (without (all_cells (each_transformer all m cs whole)) P) y (loose_holds C m cs r covers scalar sc at far place all whole P locked still s hp y h) pl.0)),
       each_good ss all whole P locked still fit s hp (suc k) (inc_next m cs whole t ss all inc) pl.1,
     )

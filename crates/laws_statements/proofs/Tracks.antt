@@ -15,7 +15,7 @@ use Rattle.transformer_algebra.specs.declared.transformer.Transformer.{Transform
 use Rattle.transformer_algebra.specs.declared.loop_parts.LoopParts.{LoopParts}
 use Rattle.transformer_algebra.specs.Cells.{has, joined_cells}
 use Rattle.transformer_algebra.specs.Transformers.{test, unchanging, followed, cells_from, all_cells, one_of}
-use Rattle.transformer_algebra.specs.Loops.{own_cells, turn, loop_transformer}
+use Rattle.transformer_algebra.specs.Loops.{own_cells, iteration, loop_transformer}
 use Rattle.transformer_algebra.specs.Claims.{Scene, Tracks}
 use Rattle.transformer_algebra.proofs.CellLaws.{nat_same, joined_in}
 use Rattle.call_translation.specs.Scopes.{ScopeTree}
@@ -100,7 +100,7 @@ module _ (e : Scene) where
       go false r = none
 
   -- the turn of a DO
-  pub turn_tracks : (l : LoopParts) → e.tracked l.index ≡ l.tracked → T l.body.cells → T (turn l).cells
+  pub turn_tracks : (l : LoopParts) → e.tracked l.index ≡ l.tracked → T l.body.cells → T (iteration l).cells
   turn_tracks l q f = joined l.body.cells (own_cells l) f (own_tracks l q)
 
   test_tracks : (p : System) (t : Transformer) → T t.cells → T (followed (test p) t).cells

@@ -5,7 +5,7 @@ use Rattle.f77_ast.specs.Numbers.{kept}
 use Rattle.f77_ast.specs.Values.{given}
 use Rattle.f77_ast.specs.Plans.{Flow, Normal, Jump, Returned, Stopped, Plan, first, on_normal, Set as SetPlan}
 use Rattle.f77_ast.specs.Executions.{Claim}
-use Rattle.f77_ast.specs.Loops.{turns_from}
+use Rattle.f77_ast.specs.Loops.{iterations_from}
 use Rattle.laws_statements.specs.Good.{Good}
 use Rattle.laws_statements.proofs.Rules.{good_ends, good_breaks, good_more, good_then, good_set}
 
@@ -17,18 +17,18 @@ module _ (C : Claim) (step : ℤ) (u : ℕ) (body : Plan) (I : ℕ → ℤ → S
   Turn_ends k m Returned y = Q Returned y
   Turn_ends k m Stopped y = Q Stopped y
 
-  pub turns_good : ((k : ℕ) (m : ℤ) (z : Store) → I (suc k) m z → Good C body z (Turn_ends k m)) → ((m : ℤ) (z : Store) → I 0 m z → Q Normal z) → (k : ℕ) (m : ℤ) (z : Store) → I k m z → Good C (turns_from k m step u body) z Q
+  pub turns_good : ((k : ℕ) (m : ℤ) (z : Store) → I (suc k) m z → Good C body z (Turn_ends k m)) → ((m : ℤ) (z : Store) → I 0 m z → Q Normal z) → (k : ℕ) (m : ℤ) (z : Store) → I k m z → Good C (iterations_from k m step u body) z Q
   turns_good turn last zero m z i = good_ends C Normal z Q (last m z i)
   turns_good turn last (suc k) m z i =
-      good_then C body (λ f. on_normal f (first (given Int (kept (m +ℤ step))) (λ c. SetPlan u c (turns_from k c.number step u body)))) z Q
+      good_then C body (λ f. on_normal f (first (given Int (kept (m +ℤ step))) (λ c. SetPlan u c (iterations_from k c.number step u body)))) z Q
       (good_more C body z (Turn_ends k m) _ (λ f y h. next f y h (λ n x. turns_good turn last k n (put y u (content Int n)) x)) (turn k m z i))
     where
-      next : (f : Flow) (y : Store) → Turn_ends k m f y → ((n : ℤ) → I k n (put y u (content Int n)) → Good C (turns_from k n step u body) (put y u (content Int n)) Q) → Good C (on_normal f (first (given Int (kept (m +ℤ step))) (λ c. SetPlan u c (turns_from k c.number step u body)))) y Q
+      next : (f : Flow) (y : Store) → Turn_ends k m f y → ((n : ℤ) → I k n (put y u (content Int n)) → Good C (iterations_from k n step u body) (put y u (content Int n)) Q) → Good C (on_normal f (first (given Int (kept (m +ℤ step))) (λ c. SetPlan u c (iterations_from k c.number step u body)))) y Q
       next Normal y h ih = go (kept (m +ℤ step)) refl
         where
-          go : (o : Option ℤ) → kept (m +ℤ step) ≡ o → Good C (first (given Int o) (λ c. SetPlan u c (turns_from k c.number step u body))) y Q
+          go : (o : Option ℤ) → kept (m +ℤ step) ≡ o → Good C (first (given Int o) (λ c. SetPlan u c (iterations_from k c.number step u body))) y Q
           go None e = good_breaks C _ y Q
-          go (Some n) e = good_set C u (content Int n) (turns_from k n step u body) y Q (ih n (h n e))
+          go (Some n) e = good_set C u (content Int n) (iterations_from k n step u body) y Q (ih n (h n e))
       next (Jump l) y h ih = good_ends C (Jump l) y Q h
       next Returned y h ih = good_ends C Returned y Q h
       next Stopped y h ih = good_ends C Stopped y Q h

@@ -1,5 +1,5 @@
 -- What is claimed of the runs of a main program that calls no module.
-use Rattle.std.specs.Prelude.{◌≡◌, ℕ, suc, ◌^◌, ◌<◌, ℤ, Bool, true, false, not, ◌&&◌, ◌||◌, List, [], ◌∷◌, map, length, Option, Some, None, slice_get}
+use Rattle.std.specs.Prelude.{◌≡◌, ℕ, suc, ℤ, Bool, true, false, not, ◌&&◌, ◌||◌, List, [], ◌∷◌, map, length, Option, Some, None, slice_get}
 use Rattle.affine_systems.specs.declared.row.System.{System}
 use Rattle.f77_ast.specs.Store.{Store}
 use Rattle.f77_symbols.specs.declared.symbol.Place.{Place}
@@ -8,12 +8,12 @@ use Rattle.f77_symbols.specs.declared.symbol.InitialRun.{InitialRun}
 use Rattle.f77_symbols.specs.Symbols.{SymbolTree, number_from, value_in}
 use Rattle.f77_symbols.specs.Shared.{symbol_at}
 use Rattle.f77_results.specs.declared.results.At.{At}
-use Rattle.tracked_cells.specs.Equivalences.{equivalenced}
+use Rattle.tracked_cells.specs.Equivalences.{equivalenced_names}
 use Rattle.tracked_cells.specs.Standing.{has_bounds, spoils}
 use Rattle.call_graph.specs.declared.graph.Graph.{Graph}
 use Rattle.f77_meaning.specs.Areas.{Area}
 use Rattle.f77_meaning.specs.Modules.{Known, symbol_names, names, fixed}
-use Rattle.f77_meaning.specs.Linked.{numbering, room_for, main_of, initial}
+use Rattle.f77_meaning.specs.Linked.{numbering, main_of, initial}
 use Rattle.f77_meaning.specs.Laws.{HasBlocks, area_of}
 use Rattle.f77_meaning.specs.Occurrences.{Occurrence}
 use Rattle.f77_meaning.specs.Claimed.{InEveryRun}
@@ -30,7 +30,7 @@ use Rattle.preconditions.specs.Entry.{main_entry}
 use Rattle.laws_statements.specs.Targets.{lacks_targets}
 use Rattle.preconditions.specs.Modules.{preconditions_of}
 use Rattle.laws_statements.specs.CallsIn.{list_calls}
-use Rattle.laws_statements.specs.Numbers.{IsNumbered}
+use Rattle.f77_ast.specs.StatementNumbers.{IsNumbered}
 use Rattle.laws_statements.specs.Results.{found_in, ScalarsHold}
 
 -- a module with a flag for each symbol whether it is a tracked cell, as analyses look at it
@@ -71,7 +71,7 @@ pub record IsAlone (k : Known) (n : ℕ) : Type 0 where
   pub scalar : symbol.bounds ≡ []
   pub area : Area
   pub lies : area_of k.read.name symbol.place ≡ Some area
-  pub alone : spoils (equivalenced k.read) k.symbols symbol.place ≡ false
+  pub alone : spoils (equivalenced_names k.read) k.symbols symbol.place ≡ false
 
 -- DATA gives a tracked cell its first value, if any
 abbrev pub FirstValue : List InitialRun → ℤ → Type 0
@@ -88,7 +88,6 @@ pub record IsMainAlone (ks : List Known) (g : Graph) (k : Known) (flags : List B
   pub is_module : slice_get ks at ≡ Some k
   pub is_main : main_of ks ≡ k
   pub blocks : HasBlocks ks g
-  pub room : room_for ks < 2 ^ 64
   pub no_call : list_calls k.read.body ≡ []
   -- left sides, items of READ and indices of DO are scalars or elements with subscripts, as reading makes them
   pub targets : list_has (lacks_targets (is_scalar k.symbols)) k.read.body ≡ false

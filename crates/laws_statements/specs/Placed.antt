@@ -8,7 +8,7 @@ use Rattle.call_translation.specs.Scopes.{ScopeTree}
 use Rattle.transformers.specs.Jumps.{is_end, unstructured}
 use Rattle.transformers.specs.Statement.{what_transformer}
 use Rattle.transformers.specs.Given.{Callees}
-use Rattle.preconditions.specs.Statement.{if_true, past_arm, past_arms, each_turn, throughout, after}
+use Rattle.preconditions.specs.Statement.{if_true, past_arm, past_arms, each_iteration, throughout, after}
 use Rattle.laws_statements.specs.Targets.{has_targets}
 
 -- results of a module by the numbers of its statements
@@ -69,8 +69,8 @@ module _ (r : Found) (covers : List ℕ → ExprTrees → System → Type 0) (m 
 
     pub PlacedLoop : LoopTree → System → Type 0
     PlacedLoop (tree.loop index first last step body) p =
-        Either (unstructured false body) (PlacedAll body false (throughout false body r.transformer (each_turn (tree.loop index first last step body) m r.transformer p)))
-        (PlacedEach body false (each_turn (tree.loop index first last step body) m r.transformer p))
+        Either (unstructured false body) (PlacedAll body false (throughout false body r.transformer (each_iteration (tree.loop index first last step body) m r.transformer p)))
+        (PlacedEach body false (each_iteration (tree.loop index first last step body) m r.transformer p))
 
   -- a list; `whole` says that it is the body of the module
   abbrev pub PlacedList : StmtTrees → Bool → System → Type 0

@@ -6,7 +6,7 @@ use Rattle.f77_ast.specs.Trees.{ExprTree, ExprTrees, StmtTree, WhatTree, ArmTree
 use Rattle.f77_ast.specs.Trees as tree
 use Rattle.f77_ast.specs.DeclTrees.{ParsedTree}
 use Rattle.f77_symbols.specs.Symbols.{SymbolTree, number_from}
-use Rattle.tracked_cells.specs.Equivalences.{equivalenced}
+use Rattle.tracked_cells.specs.Equivalences.{equivalenced_names}
 use Rattle.tracked_cells.specs.Standing.{is_int_scalar, is_plain}
 use Rattle.tracked_cells.specs.Tracked.{is_alone}
 use Rattle.call_graph.specs.declared.calls.Called.{Called}
@@ -139,7 +139,7 @@ calls_fit ps sss g l laid i p ss m = list_calls ss (λ n x es. CallFits ps sss s
 
 pub dummies_are_tracked : DummiesAreTracked
 dummies_are_tracked g p ss laid n k s e d int =
-    let names = equivalenced p.module_read in
+    let names = equivalenced_names p.module_read in
     let none = dummies_stand_alone p ss laid (n - 1) k s (numbered_place ss n s e) d in
     let plain = and_from (is_int_scalar s) (is_none (number_from 0 names s.name)) int (ap is_none none) in
     record { is_symbol = e; tracked = and_from (is_plain names s) (is_alone names ss g.untracked s.place) plain (ap (is_alone names ss g.untracked) d) }

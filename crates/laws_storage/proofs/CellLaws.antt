@@ -14,7 +14,7 @@ use Rattle.f77_symbols.specs.declared.symbol.Place.TheVariants as place
 use Rattle.f77_symbols.specs.Symbols.{BoundTree, SymbolTree, number_from, value_in}
 use Rattle.f77_symbols.specs.Units.{units_in, bounds_units}
 use Rattle.f77_symbols.specs.Shared.{symbol_at}
-use Rattle.tracked_cells.specs.Equivalences.{equivalenced}
+use Rattle.tracked_cells.specs.Equivalences.{equivalenced_names}
 use Rattle.tracked_cells.specs.Standing.{is_int, has_bounds, is_int_scalar, is_plain, spoils}
 use Rattle.tracked_cells.specs.Untracked.{untracked_of}
 use Rattle.tracked_cells.specs.Tracked.{is_unit, is_alone, is_tracked}
@@ -45,18 +45,18 @@ pub integer_scalar : (ss : List SymbolTree) (s : SymbolTree) → is_int_scalar s
 integer_scalar ss s h =
     let parts = and_parts (is_int s.scalar) (not (has_bounds s.bounds)) h in
     let none = no_bounds s.bounds (not-true (has_bounds s.bounds) parts.1) in
-    (is_integer s.scalar parts.0, none, ap (bounds_units (value_in ss) 1) none)
+    (is_integer s.scalar parts.0, none, ap (bounds_units (value_in ss)) none)
 
 pub cells_are_scalars : CellsAreScalars
 cells_are_scalars g p ss n s c =
-    let plain = (and_parts (is_plain (equivalenced p.module_read) s) (is_alone (equivalenced p.module_read) ss g.untracked s.place) c.tracked).0 in
-    integer_scalar ss s (and_parts (is_int_scalar s) (is_none (number_from 0 (equivalenced p.module_read) s.name)) plain).0
+    let plain = (and_parts (is_plain (equivalenced_names p.module_read) s) (is_alone (equivalenced_names p.module_read) ss g.untracked s.place) c.tracked).0 in
+    integer_scalar ss s (and_parts (is_int_scalar s) (is_none (number_from 0 (equivalenced_names p.module_read) s.name)) plain).0
 
 -- ---- where they lie
 
 -- a place of this type and with these bounds
 abbrev laid_by : ℕ → List SymbolTree → Scalar → List BoundTree → RunPlace
-laid_by first ss t bs = record { first = first; extent = bounds_units (value_in ss) 1 bs; tag = tag_of t; dims = map (dim_of ss) bs }
+laid_by first ss t bs = record { first = first; extent = bounds_units (value_in ss) bs; tag = tag_of t; dims = map (dim_of ss) bs }
 
 scalar_laid : (first : ℕ) (ss : List SymbolTree) (s : SymbolTree) → s.scalar ≡ scalar.Int → s.bounds ≡ [] → laid_at first ss s ≡ scalar_place first tag.Int
 scalar_laid first ss s e f = ap (λ t. laid_by first ss t s.bounds) e ∙ ap (laid_by first ss scalar.Int) f
@@ -76,21 +76,21 @@ cells_have_places ps sss g p ss n s a c e =
 
 -- the table has nothing else at the unit
 unspoilt : (ps : List ParsedTree) (sss : List (List SymbolTree)) (g : Graph) → IsLinked ps sss g → (i : ℕ) (p : ParsedTree) (ss : List SymbolTree) → IsModule ps sss i p ss →
-    (n : ℕ) (s : SymbolTree) (a : Area) → IsCell g p ss n s → area_of p.module_read.name s.place ≡ Some a → spoils (equivalenced p.module_read) ss s.place ≡ false
+    (n : ℕ) (s : SymbolTree) (a : Area) → IsCell g p ss n s → area_of p.module_read.name s.place ≡ Some a → spoils (equivalenced_names p.module_read) ss s.place ≡ false
 unspoilt ps sss g l i p ss m n s a c e = go s.place refl e
   where
     names : List (List ℕ)
-    names = equivalenced p.module_read
+    names = equivalenced_names p.module_read
 
-    alone : is_alone (equivalenced p.module_read) ss g.untracked s.place ≡ true
-    alone = (and_parts (is_plain (equivalenced p.module_read) s) (is_alone (equivalenced p.module_read) ss g.untracked s.place) c.tracked).1
+    alone : is_alone (equivalenced_names p.module_read) ss g.untracked s.place ≡ true
+    alone = (and_parts (is_plain (equivalenced_names p.module_read) s) (is_alone (equivalenced_names p.module_read) ss g.untracked s.place) c.tracked).1
 
-    go : (q : Place) → s.place ≡ q → area_of p.module_read.name q ≡ Some a → spoils (equivalenced p.module_read) ss s.place ≡ false
-    go (place.Local h o) f k = ap (spoils (equivalenced p.module_read) ss) f ∙ not-true (spoils (equivalenced p.module_read) ss (place.Local h o)) (sym (ap (is_alone (equivalenced p.module_read) ss g.untracked) f) ∙ alone)
+    go : (q : Place) → s.place ≡ q → area_of p.module_read.name q ≡ Some a → spoils (equivalenced_names p.module_read) ss s.place ≡ false
+    go (place.Local h o) f k = ap (spoils (equivalenced_names p.module_read) ss) f ∙ not-true (spoils (equivalenced_names p.module_read) ss (place.Local h o)) (sym (ap (is_alone (equivalenced_names p.module_read) ss g.untracked) f) ∙ alone)
     go (place.Dummy d) f k = cc
     go (place.Block x o) f k =
-        let tracked = subst (λ us. is_tracked (equivalenced p.module_read) ss us s ≡ true) (untracked_are ps sss g l.links) c.tracked in
-        ap (spoils (equivalenced p.module_read) ss) f ∙ common_cells_are_alone ps sss i (n - 1) (equivalenced p.module_read) ss s x o m.table (numbered_place ss n s c.is_symbol) f tracked i p ss m.parsed m.table
+        let tracked = subst (λ us. is_tracked (equivalenced_names p.module_read) ss us s ≡ true) (untracked_are ps sss g l.links) c.tracked in
+        ap (spoils (equivalenced_names p.module_read) ss) f ∙ common_cells_are_alone ps sss i (n - 1) (equivalenced_names p.module_read) ss s x o m.table (numbered_place ss n s c.is_symbol) f tracked i p ss m.parsed m.table
     go (place.Constant v) f k = cc
 
 pub cells_stand_alone : CellsStandAlone
@@ -98,6 +98,6 @@ cells_stand_alone ps sss g l i p ss m n s a c e v u apart h = go (lies (units ps
   where
     go : Lies (units ps sss g) (known p ss) v → in_place (fixed (units ps sss g) (known p ss) v) u ≡ false
     go (somewhere t b f k) =
-        cells_are_alone (known_of ps sss) g (known p ss) n v s t a b (equivalenced p.module_read) u (declared ps sss i p ss m n s c.is_symbol) (declared ps sss i p ss m v t f) (λ z. apart (sym z)) e k
-        (area_known ps sss g l i p ss m n s a c.is_symbol e) (area_known ps sss g l i p ss m v t b f k) l.room (cells_are_scalars g p ss n s c).1 (unspoilt ps sss g l i p ss m n s a c e) h
+        cells_are_alone (known_of ps sss) g (known p ss) n v s t a b (equivalenced_names p.module_read) u (declared ps sss i p ss m n s c.is_symbol) (declared ps sss i p ss m v t f) (λ z. apart (sym z)) e k
+        (area_known ps sss g l i p ss m n s a c.is_symbol e) (area_known ps sss g l i p ss m v t b f k) (cells_are_scalars g p ss n s c).1 (unspoilt ps sss g l i p ss m n s a c e) h
     go (missing f) = missing_has_none (units ps sss g) (known p ss) v u f (unit_of_name ps sss g l i p ss m n u s a c.is_symbol e h)

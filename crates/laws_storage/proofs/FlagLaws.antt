@@ -4,7 +4,7 @@ use Rattle.std.specs.Prelude.{if◌then◌else◌, nat_eq, slice_get, option_map
 use Rattle.f77_ast.specs.DeclTrees.{ParsedTree}
 use Rattle.f77_symbols.specs.Symbols.{SymbolTree}
 use Rattle.f77_symbols.specs.Shared.{numbered, symbol_at}
-use Rattle.tracked_cells.specs.Equivalences.{equivalenced}
+use Rattle.tracked_cells.specs.Equivalences.{equivalenced_names}
 use Rattle.tracked_cells.specs.Tracked.{is_tracked}
 use Rattle.call_graph.specs.declared.graph.Graph.{Graph}
 use Rattle.affine_forms.specs.Scalars.{flag_of, is_cell}
@@ -26,7 +26,7 @@ numbered-map {A = A} {B = B} f xs n = go (nat_eq n 0)
 
 -- the flag of a symbol
 abbrev pub flag : Graph → ParsedTree → List SymbolTree → SymbolTree → Bool
-flag g p ss s = is_tracked (equivalenced p.module_read) ss g.untracked s
+flag g p ss s = is_tracked (equivalenced_names p.module_read) ss g.untracked s
 
 flag_at : (g : Graph) (p : ParsedTree) (ss : List SymbolTree) (m : ScopeTree) → IsScopeOf g p ss m → (n : ℕ) → is_cell m.tracked n ≡ flag_of (option_map (flag g p ss) (symbol_at ss n))
 flag_at g p ss m is n = ap (λ fs. is_cell fs n) is.tracked ∙ ap flag_of (numbered-map (flag g p ss) ss n)

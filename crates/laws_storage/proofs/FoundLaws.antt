@@ -13,9 +13,9 @@ use Rattle.f77_symbols.specs.declared.symbol.Place.{Place}
 use Rattle.f77_symbols.specs.declared.symbol.Place.TheVariants as place
 use Rattle.f77_symbols.specs.declared.symbol.InitialRun.{InitialRun}
 use Rattle.f77_symbols.specs.Symbols.{SymbolTree}
-use Rattle.f77_symbols.specs.Units.{units_in, capped}
+use Rattle.f77_symbols.specs.Units.{units_in}
 use Rattle.f77_symbols.specs.Shared.{symbol_at}
-use Rattle.tracked_cells.specs.Equivalences.{equivalenced}
+use Rattle.tracked_cells.specs.Equivalences.{equivalenced_names}
 use Rattle.tracked_cells.specs.Standing.{reaches, place_has, stands_at}
 use Rattle.tracked_cells.specs.Untracked.{untracked_of}
 use Rattle.tracked_cells.specs.Tracked.{is_tracked}
@@ -132,9 +132,9 @@ stands_there b o (place.Local h r) e = cc
 stands_there b o (place.Dummy d) e = cc
 stands_there b o (place.Block y r) e =
     let p = and_parts (bytes_eq y b) (reaches r 1 o) e in
-    let q = and_parts (nat_le r o) (nat_lt o (capped (r + 1))) p.1 in
+    let q = and_parts (nat_le r o) (nat_lt o (r + 1)) p.1 in
     let low = leb-true r o q.0 in
-    let high = ltb-true o (capped (r + 1)) q.1 in
+    let high = ltb-true o (r + 1) q.1 in
     let same : r ≡ o = omega (arith, low, high) in
     ap (λ z. place.Block z r) ((bytes_eq-Decides y b).0 p.0) ∙ ap (place.Block b) same
 stands_there b o (place.Constant v) e = cc
@@ -143,9 +143,9 @@ pub common_scalars_are_tracked_together : CommonScalarsAreTrackedTogether
 common_scalars_are_tracked_together ps sss g l i j p q ss tt' m mq scope is n s b o c at d =
     let untracked = untracked_are ps sss g l.links in
     let any = any_found (stands_at tt' (place.Block b o)) tt' (ap (λ z. list_any (stands_at z (place.Block b o)) z) (sym is.symbols) ∙ d) in
-    let mine = subst (λ us. is_tracked (equivalenced p.module_read) ss us s ≡ true) untracked c.tracked in
-    let other = common_cells_are_cells ps sss i (n - 1) (equivalenced p.module_read) ss s b o m.table (numbered_place ss n s c.is_symbol) at mine j q tt' mq.parsed mq.table any.place any.item any.is_item any.holds in
-    let theirs = subst (λ us. is_tracked (equivalenced q.module_read) tt' us any.item ≡ true) (sym untracked) other in
+    let mine = subst (λ us. is_tracked (equivalenced_names p.module_read) ss us s ≡ true) untracked c.tracked in
+    let other = common_cells_are_cells ps sss i (n - 1) (equivalenced_names p.module_read) ss s b o m.table (numbered_place ss n s c.is_symbol) at mine j q tt' mq.parsed mq.table any.place any.item any.is_item any.holds in
+    let theirs = subst (λ us. is_tracked (equivalenced_names q.module_read) tt' us any.item ≡ true) (sym untracked) other in
     let one = (cells_are_scalars g q tt' (suc any.place) any.item (record { is_symbol = next_symbol tt' any.place any.item any.is_item; tracked = theirs })).2 in
     let there = stands_there b o any.item.place (ap (λ z. place_has any.item.place z (place.Block b o)) (sym one) ∙ any.holds) in
     let some = some_found (flag g q tt') 1 tt' b o any.place any.item any.is_item theirs (there_is b o any.item.place there) in

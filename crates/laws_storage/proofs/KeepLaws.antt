@@ -62,7 +62,7 @@ at_first : (p : RunPlace) (u : ℕ) (t : Tag) → p ≡ scalar_place u t → p �
 at_first p u t e = e ∙ ap (λ z. scalar_place z t) (sym (ap (λ q. q.first) e))
 
 abbrev laid_by : ℕ → List SymbolTree → Tag → List BoundTree → RunPlace
-laid_by first ss t bs = record { first = first; extent = bounds_units (value_in ss) 1 bs; tag = t; dims = map (dim_of ss) bs }
+laid_by first ss t bs = record { first = first; extent = bounds_units (value_in ss) bs; tag = t; dims = map (dim_of ss) bs }
 
 scalar_laid : (g : Numbering) (m : List ℕ) (ss : List SymbolTree) (s : SymbolTree) (q : Place) → s.bounds ≡ [] → (h : (u : ℕ) × (fixed_place g m ss s q ≡ laid_at u ss s)) → fixed_place g m ss s q ≡ scalar_place (fixed_place g m ss s q).first (tag_of s.scalar)
 scalar_laid g m ss s q b h = at_first (fixed_place g m ss s q) h.0 (tag_of s.scalar) (h.1 ∙ ap (laid_by h.0 ss (tag_of s.scalar)) b)

@@ -10,7 +10,7 @@ use Rattle.f77_symbols.specs.declared.symbol.Place.{Place}
 use Rattle.f77_symbols.specs.declared.symbol.Place.TheVariants as place
 use Rattle.f77_symbols.specs.Symbols.{SymbolTree, number_from}
 use Rattle.f77_symbols.specs.Shared.{is_in, symbol_at}
-use Rattle.tracked_cells.specs.Equivalences.{equivalenced}
+use Rattle.tracked_cells.specs.Equivalences.{equivalenced_names}
 use Rattle.tracked_cells.specs.Standing.{is_plain}
 use Rattle.tracked_cells.specs.Tracked.{is_alone}
 use Rattle.call_graph.specs.declared.graph.Graph.{Graph}
@@ -167,6 +167,6 @@ cell_variable g p ss c s cell = record { symbol = s; is_symbol = cell.is_symbol;
   where
     no : (v : _) → s.place ≡ place.Constant v → ⊥
     no v e =
-        let alone = (and_parts (is_plain (equivalenced p.module_read) s) (is_alone (equivalenced p.module_read) ss g.untracked s.place) cell.tracked).1 in
-        let z : true ≡ false = sym alone ∙ ap (is_alone (equivalenced p.module_read) ss g.untracked) e in
+        let alone = (and_parts (is_plain (equivalenced_names p.module_read) s) (is_alone (equivalenced_names p.module_read) ss g.untracked s.place) cell.tracked).1 in
+        let z : true ≡ false = sym alone ∙ ap (is_alone (equivalenced_names p.module_read) ss g.untracked) e in
         cc

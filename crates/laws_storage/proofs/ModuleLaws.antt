@@ -9,7 +9,7 @@ use Rattle.tracked_cells.specs.Untracked.{untracked_of}
 use Rattle.call_graph.specs.declared.graph.Graph.{Graph}
 use Rattle.call_graph.specs.declared.refusal.Fault.{Fault}
 use Rattle.call_graph.specs.declared.refusal.Fault.TheVariants as fault
-use Rattle.call_graph.specs.declared.refusal.Cause.TheVariants.{ModuleTwice}
+use Rattle.refusal_codes.specs.declared.code.Code.TheVariants.{ModuleTwice}
 use Rattle.call_graph.specs.Faults.{unless, or_fault}
 use Rattle.call_graph.specs.Modules.{too_many, names_of, module_line, is_place, twice_from, name_twice, main_twice, no_main}
 use Rattle.call_graph.specs.Links.{unfit, cyclic, graph_of, module_fault, acyclic_of, joined_of, named_of, link_of}

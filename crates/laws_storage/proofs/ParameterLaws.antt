@@ -18,7 +18,7 @@ use Rattle.f77_names.specs.Functions.{arrays_named}
 use Rattle.f77_names.specs.Kinds.{kinds_of, kind_of_name}
 use Rattle.f77_names.specs.Entries.{EntryTree, fresh, find, seen, changed, of_entry, is_parameter, as_parameter, with_value, value_among}
 use Rattle.f77_names.specs.Declaring.{Told, dummies_told, setting_told, settings_told, decl_told, decls_told}
-use Rattle.f77_names.specs.Tables.{NameTable, entry_kind, kind_in, no_names, table_of, names_judged}
+use Rattle.f77_names.specs.Tables.{NameTable, entry_kind, kind_in, no_names, table_of, check_names}
 use Rattle.f77_checks.specs.Parameters.{Valued, given_typed, given_worth, setting_valued, settings_valued, decl_valued, decls_valued}
 use Rattle.storage_layout.specs.Symbols.{valued}
 use Rattle.laws_tables.proofs.KeptNames.{Said, with_said, Typed, Shaped, Shared, Parameter, Saved, Initial, Nothing, expr_keeps, settings_keep, decls_keep, stmts_keep}
@@ -316,6 +316,6 @@ names_right p =
     let m = p.module_read in
     let ks = kinds_of m.decls in
     let begin = table_found (λ e. e.value ≡ None) (λ x line. refl) (λ n e h. h) none_said at m in
-    let v : Valued = record { table = table_of at m; found = names_judged at m } in
+    let v : Valued = record { table = table_of at m; found = check_names at m } in
     let kept = decls_kept ks at m.decls 0 v (table_named at m) (record { kinds = refl; right = λ y e h. no_value (begin y e h) }) in
     record { right = subst (λ zs. AllFound (Right zs) (names_in p).entries) (sym kept.kinds) kept.right }

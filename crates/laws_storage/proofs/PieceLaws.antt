@@ -45,7 +45,7 @@ entry_at n k (z ∷ es) x e h f = go (bytes_eq x z.name) h f (entry_at (suc n) k
     go true h f ih = let same : n ≡ k = cc in let none : k - n ≡ zero = omega (arith, same) in ap (slice_get (z ∷ es)) none ∙ f
     go false h f ih = let low = number_from-least (suc n) k (map (λ y. y.name) es) x h in let less : k - n ≡ suc (k - suc n) = omega (arith, low) in ap (slice_get (z ∷ es)) less ∙ ih h f
 
-entry_placed : (es : List EntryTree) (x : List ℕ) (k : ℕ) (e : EntryTree) → place_in es x ≡ Some k → find x es ≡ Some e → slice_get es k ≡ Some e
+pub entry_placed : (es : List EntryTree) (x : List ℕ) (k : ℕ) (e : EntryTree) → place_in es x ≡ Some k → find x es ≡ Some e → slice_get es k ≡ Some e
 unfolding place_in
 entry_placed es x k e h f = let none : k - 0 ≡ k = omega arith in ap (slice_get es) (sym none) ∙ entry_at 0 k es x e h f
 
@@ -76,7 +76,7 @@ closed_all : (t : NameTable) (bs : List BoundTree) (ds : List Dim) → dims_of t
 closed_all t [] ds e = let same : [] ≡ ds = cc in subst Closed same tt
 closed_all t (b ∷ bs) ds e = closed_with (dim_of t b) (dims_of t bs) ds (λ d h. closed_dim t (worth_in t b.low) b.high d h) (λ es h. closed_all t bs es h) e
 
-closed_entry : (t : NameTable) (dummy : Bool) (s : Option ShapeTree) (ds : List Dim) → entry_dims t dummy s ≡ Some ds → Closed ds
+pub closed_entry : (t : NameTable) (dummy : Bool) (s : Option ShapeTree) (ds : List Dim) → entry_dims t dummy s ≡ Some ds → Closed ds
 closed_entry t dummy None ds e = let same : [] ≡ ds = cc in subst Closed same tt
 closed_entry t dummy (Some s) ds e = go (is_bad_shape t dummy s.bounds) e
   where

@@ -12,7 +12,7 @@ use Rattle.f77_symbols.specs.declared.symbol.Place.{Place}
 use Rattle.f77_symbols.specs.declared.symbol.Place.TheVariants as place
 use Rattle.f77_symbols.specs.Symbols.{BoundTree, SymbolTree}
 use Rattle.tracked_cells.specs.Standing.{has_bounds}
-use Rattle.call_graph.specs.Actuals.{named, is_array}
+use Rattle.call_graph.specs.Actuals.{symbol_with_name, is_array}
 use Rattle.f77_meaning.specs.Modules.{is_function, meant_by, names}
 use Rattle.storage_layout.specs.Symbols.{symbols_of}
 use Rattle.laws_tables.specs.Shapes.{symbol_named, has_any, bounds_of, StandsBare, StandsIndexed, AllShaped, ShapedActual, ShapedActuals, ShapedStmt, ShapedWhat, ShapedArms, ShapedArm, ShapedElse, ShapedLoop, ShapedList}
@@ -23,19 +23,19 @@ use Rattle.laws_storage.proofs.ActualLaws.{Meaning, meaning, no_meaning}
 
 -- ---- names
 
-same_named : (ss : List SymbolTree) (x : List ℕ) → symbol_named ss x ≡ named ss x
+same_named : (ss : List SymbolTree) (x : List ℕ) → symbol_named ss x ≡ symbol_with_name ss x
 same_named [] x = refl
 same_named (s ∷ ss) x = go (bytes_eq x s.name) (same_named ss x)
   where
-    go : (b : Bool) → symbol_named ss x ≡ named ss x → (if b then Some s else symbol_named ss x) ≡ (if b then Some s else named ss x)
+    go : (b : Bool) → symbol_named ss x ≡ symbol_with_name ss x → (if b then Some s else symbol_named ss x) ≡ (if b then Some s else symbol_with_name ss x)
     go true h = refl
     go false h = h
 
-name_of : (ss : List SymbolTree) (x : List ℕ) (s : SymbolTree) → named ss x ≡ Some s → x ≡ s.name
+name_of : (ss : List SymbolTree) (x : List ℕ) (s : SymbolTree) → symbol_with_name ss x ≡ Some s → x ≡ s.name
 name_of [] x s e = cc
 name_of (y ∷ ss) x s e = go (bytes_eq x y.name) refl e (name_of ss x s)
   where
-    go : (b : Bool) → bytes_eq x y.name ≡ b → (if b then Some y else named ss x) ≡ Some s → (named ss x ≡ Some s → x ≡ s.name) → x ≡ s.name
+    go : (b : Bool) → bytes_eq x y.name ≡ b → (if b then Some y else symbol_with_name ss x) ≡ Some s → (symbol_with_name ss x ≡ Some s → x ≡ s.name) → x ≡ s.name
     go true t h ih = let same : y ≡ s = cc in (bytes_eq-Decides x y.name).0 t ∙ ap (λ z. z.name) same
     go false t h ih = ih h
 
@@ -48,30 +48,30 @@ any_array (Some s) h = go s.bounds h
     go (b ∷ bs) k = refl
 
 -- what has the name of a function and no bounds is one
-function_named : (ss : List SymbolTree) (x : List ℕ) → bounds_of (named ss x) ≡ [] → is_some (intrinsic_named x) ≡ true → names ss x ≡ Function
-function_named ss x b i = go (named ss x) refl b
+function_named : (ss : List SymbolTree) (x : List ℕ) → bounds_of (symbol_with_name ss x) ≡ [] → is_some (intrinsic_named x) ≡ true → names ss x ≡ Function
+function_named ss x b i = go (symbol_with_name ss x) refl b
   where
-    go : (o : Option SymbolTree) → named ss x ≡ o → bounds_of o ≡ [] → names ss x ≡ Function
+    go : (o : Option SymbolTree) → symbol_with_name ss x ≡ o → bounds_of o ≡ [] → names ss x ≡ Function
     go None e h = no_meaning ss x e
     go (Some s) e h =
         let m = meaning ss x s e in
         let is : is_function s ≡ true = and_from (not (has_bounds s.bounds)) (is_some (intrinsic_named s.name)) (ap (λ bs. not (has_bounds bs)) h) (ap (λ n. is_some (intrinsic_named n)) (sym (name_of ss x s e)) ∙ i) in
         m.meant ∙ ap (λ c. if c then Function else meant_by s.scalar m.number s.place) is
 
-array_kept : (ss : List SymbolTree) (x : List ℕ) (c : _) → ((s : SymbolTree) (k : _) → named ss x ≡ Some s → s.place ≡ place.Constant k → s.bounds ≡ []) → is_array (named ss x) ≡ true → names ss x ≡ Constant c → ⊥
-array_kept ss x c flat a n = go (named ss x) refl a
+array_kept : (ss : List SymbolTree) (x : List ℕ) (c : _) → ((s : SymbolTree) (k : _) → symbol_with_name ss x ≡ Some s → s.place ≡ place.Constant k → s.bounds ≡ []) → is_array (symbol_with_name ss x) ≡ true → names ss x ≡ Constant c → ⊥
+array_kept ss x c flat a n = go (symbol_with_name ss x) refl a
   where
-    by_place : (s : SymbolTree) (q : Place) (k : ℕ) → named ss x ≡ Some s → has_bounds s.bounds ≡ true → s.place ≡ q → meant_by s.scalar k q ≡ Constant c → ⊥
+    by_place : (s : SymbolTree) (q : Place) (k : ℕ) → symbol_with_name ss x ≡ Some s → has_bounds s.bounds ≡ true → s.place ≡ q → meant_by s.scalar k q ≡ Constant c → ⊥
     by_place s (place.Local g o) k e h p f = cc
     by_place s (place.Dummy d) k e h p f = cc
     by_place s (place.Block b o) k e h p f = cc
     by_place s (place.Constant v) k e h p f = let z : true ≡ false = sym h ∙ ap has_bounds (flat s v e p) in cc
 
-    by_function : (s : SymbolTree) (b : Bool) (k : ℕ) → named ss x ≡ Some s → has_bounds s.bounds ≡ true → (if b then Function else meant_by s.scalar k s.place) ≡ Constant c → ⊥
+    by_function : (s : SymbolTree) (b : Bool) (k : ℕ) → symbol_with_name ss x ≡ Some s → has_bounds s.bounds ≡ true → (if b then Function else meant_by s.scalar k s.place) ≡ Constant c → ⊥
     by_function s true k e h f = cc
     by_function s false k e h f = by_place s s.place k e h refl f
 
-    go : (o : Option SymbolTree) → named ss x ≡ o → is_array o ≡ true → ⊥
+    go : (o : Option SymbolTree) → symbol_with_name ss x ≡ o → is_array o ≡ true → ⊥
     go None e h = cc
     go (Some s) e h = let m = meaning ss x s e in by_function s (is_function s) m.number e h (sym m.meant ∙ n)
 
@@ -82,7 +82,7 @@ module _ (p : ParsedTree) (ss : List SymbolTree) (laid : symbols_of p ≡ Ok ss)
   not_misread e h (indexed x es q a f) =
       let s = (subst (ShapedActual (StandsBare ss) (StandsIndexed ss)) q h).0 in
       elim s [
-        | inl w ↦ (let z : true ≡ false = sym (any_array (named ss x) (subst (λ o. has_any (bounds_of o)) (same_named ss x) w.0)) ∙ a in cc)
+        | inl w ↦ (let z : true ≡ false = sym (any_array (symbol_with_name ss x) (subst (λ o. has_any (bounds_of o)) (same_named ss x) w.0)) ∙ a in cc)
         | inr w ↦ f (function_named ss x (ap bounds_of (sym (same_named ss x)) ∙ w.0) w.1)
       ]
   not_misread e h (constant_array x c a n) = array_kept ss x c (λ s k i j. constants_are_scalars p ss laid x s k (same_named ss x ∙ i) j) a n

@@ -1,9 +1,8 @@
 -- The units of a variable are as many as its dimensions say.
-use Rattle.std.proofs.Common.{◌≡◌, ℕ, zero, suc, ◌+◌, ◌*◌, ◌-◌, ◌^◌, ◌<◌, ◌≤◌, min, Bool, true, false, not, ℤ, pos, List, [], ◌∷◌, length, Option, Some, None, ◌⊎◌, inl, inr, refl, sym, ap, ◌∙◌, subst, arith}
+use Rattle.std.proofs.Common.{◌≡◌, ℕ, zero, suc, ◌+◌, ◌*◌, Bool, true, false, not, ℤ, pos, List, [], ◌∷◌, length, Option, Some, None, ◌⊎◌, inl, inr, refl, sym, ap, ◌∙◌, subst, arith}
 use Rattle.std.specs.Prelude.{if◌then◌else◌, bytes_eq, nat_lt, ◌||◌, is_some, slice_get}
 use Rattle.std.proofs.lemmas.Bool.{or_parts, ltb-false, cases_lt}
 use Rattle.std.proofs.Math.Path.{fun_ext}
-use Rattle.std.proofs.Math.Nat.{mul_assoc, le-mul_of_pos_right}
 use Rattle.f77_ast.specs.Trees.{ExprTree}
 use Rattle.f77_ast.specs.DeclTrees.{ParsedTree}
 use Rattle.f77_ast.specs.declared.decl.Scalar.{Scalar}
@@ -19,7 +18,7 @@ use Rattle.f77_constants.specs.Constants.{number_of, worth}
 use Rattle.f77_symbols.specs.declared.symbol.Place.{Place}
 use Rattle.f77_symbols.specs.declared.symbol.Place.TheVariants as place
 use Rattle.f77_symbols.specs.Symbols.{BoundTree, SymbolTree, constant_of, constant_in, constant_at, value_in}
-use Rattle.f77_symbols.specs.Units.{to_high, span_units, span_to, bound_units, capped, bounds_units, units_in}
+use Rattle.f77_symbols.specs.Units.{to_high, span_units, span_to, bound_units, bounds_units, units_in}
 use Rattle.f77_names.specs.declared.kinds.Kind.{Kind}
 use Rattle.f77_names.specs.declared.kinds.Kind.TheVariants as kind
 use Rattle.f77_names.specs.Entries.{ShapeTree, EntryTree, find, of_entry, value_among}
@@ -91,59 +90,38 @@ span_is t w None d e = cc
 span_is t w (Some high) d e = span_from w (worth_in t high) d e
 
 -- the first dimension and the others
-record Parts (t : NameTable) (b : BoundTree) (bs : List BoundTree) (ds : List Dim) : Type 0 where
-  first : Dim
-  rest : List Dim
-  is_first : dim_of t b ≡ Some first
-  is_rest : dims_of t bs ≡ Some rest
-  are : first ∷ rest ≡ ds
+pub record Parts (t : NameTable) (b : BoundTree) (bs : List BoundTree) (ds : List Dim) : Type 0 where
+  pub first : Dim
+  pub rest : List Dim
+  pub is_first : dim_of t b ≡ Some first
+  pub is_rest : dims_of t bs ≡ Some rest
+  pub are : first ∷ rest ≡ ds
 
-parts : (t : NameTable) (b : BoundTree) (bs : List BoundTree) (ds : List Dim) → dims_of t (b ∷ bs) ≡ Some ds → Parts t b bs ds
-parts t b bs ds e = go (dim_of t b) (dims_of t bs) refl refl e
+pub parts_of : (t : NameTable) (b : BoundTree) (bs : List BoundTree) (ds : List Dim) → dims_of t (b ∷ bs) ≡ Some ds → Parts t b bs ds
+parts_of t b bs ds e = go (dim_of t b) (dims_of t bs) refl refl e
   where
     go : (o : Option Dim) (q : Option (List Dim)) → dim_of t b ≡ o → dims_of t bs ≡ q → with_dim o q ≡ Some ds → Parts t b bs ds
     go None q f h i = cc
     go (Some d) None f h i = cc
     go (Some d) (Some es) f h i = let same : d ∷ es ≡ ds = cc in record { first = d; rest = es; is_first = f; is_rest = h; are = same }
 
-zero_times : (m t : ℕ) → t < 1 → m * t ≡ 0
-zero_times m zero h = omega arith
-zero_times m (suc t) h = absurd (omega (arith, h))
+-- ---- units
 
--- in 64 bits
-capped_units : (t : NameTable) (n : ℕ) (bs : List BoundTree) (ds : List Dim) → dims_of t bs ≡ Some ds → n * total_size ds ≤ 2 ^ 64 - 1 → n * total_size ds ≤ bounds_units (value_among t.entries) n bs
-capped_units t n [] ds e h = let same : [] ≡ ds = cc in subst (λ z. n * total_size z ≤ n) same (omega arith)
-capped_units t n (b ∷ bs) ds e h =
-    let r = parts t b bs ds e in
+bounds_total : (t : NameTable) (bs : List BoundTree) (ds : List Dim) → dims_of t bs ≡ Some ds → bounds_units (value_among t.entries) bs ≡ total_size ds
+bounds_total t [] ds e = let same : [] ≡ ds = cc in ap total_size same
+bounds_total t (b ∷ bs) ds e =
+    let r = parts_of t b bs ds e in
     let size = span_is t (worth_in t b.low) b.high r.first r.is_first in
-    let all : n * total_size ds ≡ (n * dim_size r.first) * total_size r.rest = ap (λ z. n * total_size z) (sym r.are) ∙ sym (mul_assoc n (dim_size r.first) (total_size r.rest)) in
-    let small : (n * dim_size r.first) * total_size r.rest ≤ 2 ^ 64 - 1 = subst (λ z. z ≤ 2 ^ 64 - 1) all h in
-    subst (λ z. z ≤ bounds_units (value_among t.entries) (capped (n * bound_units (value_among t.entries) b)) bs) (sym all)
-    (subst (λ z. (n * dim_size r.first) * total_size r.rest ≤ bounds_units (value_among t.entries) (capped (n * z)) bs) (sym size)
-    (go (n * dim_size r.first) (total_size r.rest) small (cases_lt (2 ^ 64 - 1) (n * dim_size r.first)) (λ k. capped_units t (n * dim_size r.first) bs r.rest r.is_rest k)))
-  where
-    go : (m z : ℕ) → m * z ≤ 2 ^ 64 - 1 → (2 ^ 64 - 1 < m) ⊎ (m ≤ 2 ^ 64 - 1) → (m * z ≤ 2 ^ 64 - 1 → m * z ≤ bounds_units (value_among t.entries) m bs) → m * z ≤ bounds_units (value_among t.entries) (capped m) bs
-    go m z s (inr l) ih = let same : m ≡ capped m = omega (arith, l) in subst (λ c. m * z ≤ bounds_units (value_among t.entries) c bs) same (ih s)
-    go m z s (inl l) ih = none (cases_lt z 1)
-      where
-        none : (z < 1) ⊎ (1 ≤ z) → m * z ≤ bounds_units (value_among t.entries) (capped m) bs
-        none (inl q) = let no : m * z ≡ 0 = zero_times m z q in omega (arith, no)
-        none (inr q) = let some : 0 < z = omega (arith, q) in let more : m ≤ m * z = le-mul_of_pos_right {m = z} m some in absurd (omega (arith, more, s, l))
+    let product : bounds_units (value_among t.entries) (b ∷ bs) ≡ total_size (r.first ∷ r.rest) = λ i. size i * bounds_total t bs r.rest r.is_rest i in
+    product ∙ ap total_size r.are
 
-dims_units : (t : NameTable) (dummy : Bool) (s : Option ShapeTree) (ds : List Dim) → entry_dims t dummy s ≡ Some ds → total_size ds ≤ bounds_units (value_among t.entries) 1 (bounds_in s)
-dims_units t dummy None ds e = let same : [] ≡ ds = cc in subst (λ z. total_size z ≤ 1) same (omega arith)
-dims_units t dummy (Some s) ds e = go (is_bad_shape t dummy s.bounds) refl e
+shape_total : (t : NameTable) (dummy : Bool) (s : Option ShapeTree) (ds : List Dim) → entry_dims t dummy s ≡ Some ds → bounds_units (value_among t.entries) (bounds_in s) ≡ total_size ds
+shape_total t dummy None ds e = let same : [] ≡ ds = cc in ap total_size same
+shape_total t dummy (Some s) ds e = go (is_bad_shape t dummy s.bounds) e
   where
-    go : (b : Bool) → is_bad_shape t dummy s.bounds ≡ b → (if b then None else dims_of t s.bounds) ≡ Some ds → total_size ds ≤ bounds_units (value_among t.entries) 1 s.bounds
-    go true q h = cc
-    go false q h =
-        let some = (or_parts (nat_lt 7 (length s.bounds)) (has_bad_bound t dummy s.bounds || is_too_big (dims_of t s.bounds)) q).1 in
-        let big : is_too_big (Some ds) ≡ false = ap is_too_big (sym h) ∙ (or_parts (has_bad_bound t dummy s.bounds) (is_too_big (dims_of t s.bounds)) some).1 in
-        let less = ltb-false 2147483647 (total_size ds) big in
-        let one : 1 * total_size ds ≡ total_size ds = omega arith in
-        let units = capped_units t 1 s.bounds ds h (omega (arith, less, one)) in
-        omega (arith, units, one)
+    go : (b : Bool) → (if b then None else dims_of t s.bounds) ≡ Some ds → bounds_units (value_among t.entries) s.bounds ≡ total_size ds
+    go true h = cc
+    go false h = bounds_total t s.bounds ds h
 
-pub units_are : (p : ParsedTree) (ss : List SymbolTree) → Answered p ss → ConstantsFit ss → (n : ℕ) (e : EntryTree) (ds : List Dim) → dims_in (names_in p) e ≡ Some ds → total_size ds ≤ units_in ss (symbol_of (layout_in p) n e)
-units_are p ss a fit n e ds k =
-    subst (λ v. total_size ds ≤ bounds_units v 1 (bounds_in e.shape)) (sym (values_same p ss a fit)) (dims_units (names_in p) (is_some e.dummy) e.shape ds k)
+pub units_are : (p : ParsedTree) (ss : List SymbolTree) → Answered p ss → ConstantsFit ss → (n : ℕ) (e : EntryTree) (ds : List Dim) → dims_in (names_in p) e ≡ Some ds → units_in ss (symbol_of (layout_in p) n e) ≡ total_size ds
+units_are p ss a fit n e ds k = ap (λ v. bounds_units v (bounds_in e.shape)) (values_same p ss a fit) ∙ shape_total (names_in p) (is_some e.dummy) e.shape ds k

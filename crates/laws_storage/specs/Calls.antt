@@ -15,7 +15,7 @@ use Rattle.tracked_cells.specs.Standing.{has_bounds, is_int_scalar}
 use Rattle.storage_layout.specs.Symbols.{symbols_of}
 use Rattle.laws_tables.specs.Laws.{NoDummies}
 use Rattle.call_graph.specs.declared.graph.Graph.{Graph}
-use Rattle.call_graph.specs.Actuals.{named, is_array}
+use Rattle.call_graph.specs.Actuals.{symbol_with_name, is_array}
 use Rattle.f77_meaning.specs.Modules.{names}
 use Rattle.laws_storage.specs.Programs.{IsLinked, IsModule, IsCell}
 
@@ -32,8 +32,8 @@ pub record IsNamed (ss : List SymbolTree) (x : List ℕ) (v : ℕ) (s : SymbolTr
 
 -- what reading refuses: parentheses behind a name that is none of an array or of a function, or an array that is a constant
 pub data IsMisread (ss : List SymbolTree) (e : ExprTree) : Type 0 where
-  indexed : (x : List ℕ) (es : ExprTrees) → e ≡ tree.element x es → is_array (named ss x) ≡ false → (names ss x ≡ Function → ⊥) → IsMisread ss e
-  constant_array : (x : List ℕ) (c : Content) → is_array (named ss x) ≡ true → names ss x ≡ Constant c → IsMisread ss e
+  indexed : (x : List ℕ) (es : ExprTrees) → e ≡ tree.element x es → is_array (symbol_with_name ss x) ≡ false → (names ss x ≡ Function → ⊥) → IsMisread ss e
+  constant_array : (x : List ℕ) (c : Content) → is_array (symbol_with_name ss x) ≡ true → names ss x ≡ Constant c → IsMisread ss e
 
 -- a dummy d of what is called takes the actual e of a module with these symbols
 pub data Takes (ss : List SymbolTree) (e : ExprTree) (d : SymbolTree) : Type 0 where

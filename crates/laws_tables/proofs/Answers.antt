@@ -6,25 +6,25 @@ use Rattle.f77_ast.specs.Trees.{ExprTree}
 use Rattle.f77_ast.specs.DeclTrees.{DataTree, DeclTree, ParsedTree}
 use Rattle.f77_ast.specs.DeclTrees as decl
 use Rattle.f77_symbols.specs.Symbols.{SymbolTree}
-use Rattle.f77_names.specs.declared.refusal.Cause.TheVariants.{InitialMismatch}
-use Rattle.f77_names.specs.declared.refusal.Refusal.{Refusal}
+use Rattle.refusal_codes.specs.declared.code.Code.TheVariants.{InitialMismatch}
+use Rattle.refusal_codes.specs.declared.refusal.Refusal.{Refusal}
 use Rattle.f77_names.specs.declared.lines.Sited.TheVariants.{Decl}
 use Rattle.f77_names.specs.Lines.{LineTable, lines_of, line_or}
-use Rattle.f77_names.specs.Tables.{NameTable, table_of, names_judged}
+use Rattle.f77_names.specs.Tables.{NameTable, table_of, check_names}
 use Rattle.f77_checks.specs.Parameters.{Valued, decls_valued}
-use Rattle.f77_checks.specs.Dimensions.{shapes_judged}
-use Rattle.f77_checks.specs.Statements.{stmts_judged}
+use Rattle.f77_checks.specs.Dimensions.{check_shapes}
+use Rattle.f77_checks.specs.Statements.{check_stmts}
 use Rattle.storage_groups.specs.declared.seat.Seat.{Seat}
 use Rattle.storage_data.specs.declared.initials.Filled.{Filled}
 use Rattle.storage_data.specs.declared.targets.Target.{Target}
 use Rattle.storage_data.specs.declared.values.Run.{Run}
-use Rattle.storage_data.specs.Items.{item_fault, both, items_judged}
+use Rattle.storage_data.specs.Items.{item_fault, both, check_items}
 use Rattle.storage_data.specs.Initials.{is_excluded, is_open, units_in, values_in, runs_of, targets_of, dealt, stretches_of, is_mistyped, meet_twice, mismatch, given, targets_filled, faulted, group_filled, groups_filled, decl_filled, decls_filled, unfilled}
 use Rattle.storage_layout.specs.declared.blocks.Laid.{Laid}
 use Rattle.storage_layout.specs.declared.equivalences.Shared.{Shared}
 use Rattle.storage_layout.specs.Equivalences.{group_shared, groups_shared, decl_shared, decls_shared}
 use Rattle.storage_layout.specs.Table.{Layout, symbols_in}
-use Rattle.storage_layout.specs.Symbols.{laid, unshared, shared, filled, answer, layout_for, answered, after_shared, after_laid, laid_out, valued, checked, after_valued, symbols_at, symbols_of}
+use Rattle.storage_layout.specs.Symbols.{laid, unshared, shared, filled, answer, layout_for, symbols_or_refusal, after_shared, lay_shared_and_data, lay_out, valued, checked, check_and_lay_out, symbols_at, symbols_of}
 use Rattle.laws_tables.proofs.StatementRefusals.{noted_back, stmts_back}
 use Rattle.laws_tables.proofs.NameRefusals.{shapes_back}
 use Rattle.laws_tables.proofs.Values.{values_back, values_keep}
@@ -65,7 +65,7 @@ none_given None (Some r) l ss e = cc
 none_given None None l ss e = let same : symbols_in l ≡ ss = cc in (refl, refl, sym same)
 
 pub answered_by : (p : ParsedTree) (ss : List SymbolTree) → symbols_of p ≡ Ok ss → Answered p ss
-unfolding answered after_shared after_laid laid_out after_valued symbols_at symbols_of
+unfolding symbols_or_refusal after_shared lay_shared_and_data lay_out check_and_lay_out symbols_at symbols_of
 answered_by p ss e =
     let r = none_given (filled_in p).found (shared_in p).late (layout_in p) ss e in
     record { found = r.0; late = r.1; table = r.2 }
@@ -74,9 +74,9 @@ answered_by p ss e =
 
 both_back : (a b : Option Refusal) → both a b ≡ None → b ≡ None
 both_back None b e = e
-both_back (Some r) b e = noted_back true r.line r.cause b e
+both_back (Some r) b e = noted_back true r.line r.code b e
 
-items_back : (t : NameTable) (is : List ExprTree) (line : ℕ) (o : Option Refusal) → items_judged t is line o ≡ None → o ≡ None
+items_back : (t : NameTable) (is : List ExprTree) (line : ℕ) (o : Option Refusal) → check_items t is line o ≡ None → o ≡ None
 items_back t [] line o e = e
 items_back t (i ∷ is) line o e = both_back (item_fault t i line) o (items_back t is line (both (item_fault t i line) o) e)
 
@@ -151,15 +151,15 @@ pub values_none : (p : ParsedTree) → found_in p ≡ None → (valued (lines_in
 unfolding checked
 values_none p e =
     let v = valued (lines_in p) p.module_read in
-    shapes_back v.table v.table.entries v.found (stmts_back v.table (lines_in p) p.module_read.body 0 (shapes_judged v.table v.table.entries v.found) e)
+    shapes_back v.table v.table.entries v.found (stmts_back v.table (lines_in p) p.module_read.body 0 (check_shapes v.table v.table.entries v.found) e)
 
-pub names_none : (p : ParsedTree) → (valued (lines_in p) p.module_read).found ≡ None → names_judged (lines_in p) p.module_read ≡ None
+pub names_none : (p : ParsedTree) → (valued (lines_in p) p.module_read).found ≡ None → check_names (lines_in p) p.module_read ≡ None
 unfolding valued
-names_none p e = values_back (lines_in p) p.module_read.decls 0 (record { table = table_of (lines_in p) p.module_read; found = names_judged (lines_in p) p.module_read }) e
+names_none p e = values_back (lines_in p) p.module_read.decls 0 (record { table = table_of (lines_in p) p.module_read; found = check_names (lines_in p) p.module_read }) e
 
-valued_dummies : (p : ParsedTree) → names_judged (lines_in p) p.module_read ≡ None → Dummies (length p.module_read.dummies) (names_in p).entries
+valued_dummies : (p : ParsedTree) → check_names (lines_in p) p.module_read ≡ None → Dummies (length p.module_read.dummies) (names_in p).entries
 unfolding valued
-valued_dummies p e = values_keep (length p.module_read.dummies) (lines_in p) p.module_read.decls 0 (record { table = table_of (lines_in p) p.module_read; found = names_judged (lines_in p) p.module_read }) (table_dummies (lines_in p) p.module_read e)
+valued_dummies p e = values_keep (length p.module_read.dummies) (lines_in p) p.module_read.decls 0 (record { table = table_of (lines_in p) p.module_read; found = check_names (lines_in p) p.module_read }) (table_dummies (lines_in p) p.module_read e)
 
 pub names_have_dummies : (p : ParsedTree) (ss : List SymbolTree) → Answered p ss → Dummies (length p.module_read.dummies) (names_in p).entries
 names_have_dummies p ss a = valued_dummies p (names_none p (values_none p (found_none p ss a)))

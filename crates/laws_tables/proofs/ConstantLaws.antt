@@ -11,13 +11,13 @@ use Rattle.f77_constants.specs.declared.constant.Worth.TheVariants.{Is, Faults, 
 use Rattle.f77_constants.specs.Constants.{worth}
 use Rattle.f77_symbols.specs.declared.symbol.Place.TheVariants as place
 use Rattle.f77_symbols.specs.Symbols.{SymbolTree}
-use Rattle.f77_names.specs.declared.refusal.Cause.TheVariants.{NotAnArray, BadParameter}
+use Rattle.refusal_codes.specs.declared.code.Code.TheVariants.{NotAnArray, BadParameter}
 use Rattle.f77_names.specs.declared.kinds.Kind.{Kind}
 use Rattle.f77_names.specs.declared.kinds.Kind.TheVariants.{Int, Log, Real}
 use Rattle.f77_names.specs.declared.lines.Sited.TheVariants.{Decl}
 use Rattle.f77_names.specs.Lines.{LineTable, line_or}
 use Rattle.f77_names.specs.Entries.{ShapeTree, EntryTree, find, of_entry, changed, with_value, has_shape, value_among}
-use Rattle.f77_names.specs.Tables.{kind_in, table_of, names_judged}
+use Rattle.f77_names.specs.Tables.{kind_in, table_of, check_names}
 use Rattle.f77_checks.specs.Parameters.{Valued, given_typed, given_worth, setting_valued, settings_valued, decl_valued, decls_valued}
 use Rattle.storage_groups.specs.declared.seat.Home.{Home}
 use Rattle.storage_groups.specs.declared.seat.Home.TheVariants.{Block, Own}
@@ -108,7 +108,7 @@ names_flat p e =
     let at = lines_in p in
     let m = p.module_read in
     let begin = table_found NoValue (λ x line. refl) (λ n d h. h) said_none at m in
-    values_flat at m.decls 0 (record { table = table_of at m; found = names_judged at m }) e (λ y d h. inl (begin y d h))
+    values_flat at m.decls 0 (record { table = table_of at m; found = check_names at m }) e (λ y d h. inl (begin y d h))
 
 -- ---- symbols
 

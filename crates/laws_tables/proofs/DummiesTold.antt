@@ -5,13 +5,13 @@ use Rattle.std.proofs.lemmas.Slice.Eq.{bytes_eq-Decides}
 use Rattle.f77_ast.specs.DeclTrees.{ModuleTree}
 use Rattle.f77_names.specs.declared.functions.Function.{Function}
 use Rattle.f77_names.specs.declared.lines.Sited.TheVariants.{Title}
-use Rattle.f77_names.specs.declared.refusal.Cause.TheVariants.{DeclaredTwice}
+use Rattle.refusal_codes.specs.declared.code.Code.TheVariants.{DeclaredTwice}
 use Rattle.f77_names.specs.Lines.{LineTable, line_or}
 use Rattle.f77_names.specs.Functions.{arrays_named}
 use Rattle.f77_names.specs.Kinds.{kinds_of}
 use Rattle.f77_names.specs.Entries.{EntryTree, fresh, find, seen, changed, of_entry, has_dummy, with_dummy}
 use Rattle.f77_names.specs.Declaring.{Told, dummy_told, dummies_told, decls_told}
-use Rattle.f77_names.specs.Tables.{NameTable, no_names, told_of, table_of, names_judged}
+use Rattle.f77_names.specs.Tables.{NameTable, no_names, told_of, table_of, check_names}
 use Rattle.laws_tables.proofs.StatementRefusals.{noted_none}
 use Rattle.laws_tables.proofs.NameRefusals.{decls_back, dummies_back, entries_back}
 use Rattle.laws_tables.proofs.KeptNames.{decls_keep, stmts_keep}
@@ -103,5 +103,5 @@ told_dummies fs at m e =
     let begin : Dummies n t.entries = record { others = 0; are = all_told m.dummies 1 (line_or at Title 0) no_names none_yet quiet ∙ sym (append-nil (dummy_marks 1 n)) } in
     stmts_keep (Dummies n) (seen_dummies n) (said_dummies n) fs at m.body 0 (decls_told fs at m.decls 0 t).entries (decls_keep (Dummies n) (seen_dummies n) (said_dummies n) fs at m.decls 0 t begin)
 
-pub table_dummies : (at : LineTable) (m : ModuleTree) → names_judged at m ≡ None → Dummies (length m.dummies) (table_of at m).entries
+pub table_dummies : (at : LineTable) (m : ModuleTree) → check_names at m ≡ None → Dummies (length m.dummies) (table_of at m).entries
 table_dummies at m e = told_dummies (arrays_named m.decls) at m (entries_back (kinds_of m.decls) (told_of (arrays_named m.decls) at m).entries (told_of (arrays_named m.decls) at m).found e)

@@ -10,13 +10,13 @@ use Rattle.f77_ast.specs.DeclTrees.{DeclTree, ParsedTree}
 use Rattle.f77_ast.specs.DeclTrees as decl
 use Rattle.f77_symbols.specs.declared.symbol.Place.TheVariants as place
 use Rattle.f77_symbols.specs.Symbols.{SymbolTree, number_from}
-use Rattle.f77_names.specs.declared.refusal.Cause.TheVariants.{EquivalenceClash, EquivalenceExtendsBack}
+use Rattle.refusal_codes.specs.declared.code.Code.TheVariants.{EquivalenceClash, EquivalenceExtendsBack}
 use Rattle.f77_names.specs.declared.lines.Sited.TheVariants.{Decl}
-use Rattle.f77_names.specs.Refusals.{noted}
+use Rattle.refusal_codes.specs.Refusals.{refuse_if}
 use Rattle.f77_names.specs.Lines.{LineTable, line_or}
 use Rattle.f77_names.specs.Entries.{EntryTree, find, of_entry, has_dummy}
 use Rattle.f77_names.specs.Tables.{NameTable}
-use Rattle.tracked_cells.specs.Equivalences.{equivalenced}
+use Rattle.tracked_cells.specs.Equivalences.{equivalenced_names}
 use Rattle.tracked_cells.specs.Equivalences as names
 use Rattle.storage_groups.specs.Seats.{joined}
 use Rattle.storage_data.specs.Units.{place_of}
@@ -104,7 +104,7 @@ record Quiet (t : NameTable) (is : List ExprTree) (s : Shared) : Type 0 where
 group_quiet : (t : NameTable) (is : List ExprTree) (line : ℕ) (s : Shared) → (group_shared t is line s).late ≡ None → Quiet t is s
 group_quiet t is line s e =
     let g = items_joined t is (begun s.group) in
-    let last = noted_none (items_extend t g.seats is) line EquivalenceExtendsBack (noted g.clash line EquivalenceClash s.late) e in
+    let last = noted_none (items_extend t g.seats is) line EquivalenceExtendsBack (refuse_if g.clash line EquivalenceClash s.late) e in
     let first = noted_none g.clash line EquivalenceClash s.late last.1 in
     record { calm = first.0; before = first.1 }
 
@@ -155,7 +155,7 @@ decls_join t at (d ∷ ds) n s e x h =
       | inr b ↦ decls_join t at ds (n + 1) next e x b
     ]
 
-shared_join : (p : ParsedTree) → (shared_in p).late ≡ None → (x : List ℕ) → list_any (bytes_eq x) (equivalenced p.module_read) ≡ true → may_join (find x (names_in p).entries) ≡ true
+shared_join : (p : ParsedTree) → (shared_in p).late ≡ None → (x : List ℕ) → list_any (bytes_eq x) (equivalenced_names p.module_read) ≡ true → may_join (find x (names_in p).entries) ≡ true
 unfolding shared
 shared_join p e x h = decls_join (names_in p) (lines_in p) p.module_read.decls 0 (unshared (laid_in p).seats (found_in p)) e x h
 
@@ -224,11 +224,11 @@ dummies_stand_alone p ss e i k s h d =
     let r = entry_of (layout_in p) 0 (names_in p).entries i s (subst (λ z. slice_get z i ≡ Some s) a.table h) in
     let is = dummy_entry (layout_in p) r.entry (slice_get (layout_in p).seats r.place) k (ap (λ z. z.place) (sym r.symbol) ∙ d) in
     let first = first_is_dummy 1 (length p.module_read.dummies) dummies.others (names_in p).entries i r.entry dummies.are r.is_entry is in
-    not_named 0 (equivalenced p.module_read) s.name (go p r.entry.name a first (ap (λ z. z.name) r.symbol))
+    not_named 0 (equivalenced_names p.module_read) s.name (go p r.entry.name a first (ap (λ z. z.name) r.symbol))
   where
-    go : (p : ParsedTree) (x : List ℕ) → Answered p ss → has_dummy x (names_in p).entries ≡ true → s.name ≡ x → list_any (bytes_eq s.name) (equivalenced p.module_read) ≡ false
-    go p x a first q = inner (list_any (bytes_eq s.name) (equivalenced p.module_read)) refl
+    go : (p : ParsedTree) (x : List ℕ) → Answered p ss → has_dummy x (names_in p).entries ≡ true → s.name ≡ x → list_any (bytes_eq s.name) (equivalenced_names p.module_read) ≡ false
+    go p x a first q = inner (list_any (bytes_eq s.name) (equivalenced_names p.module_read)) refl
       where
-        inner : (b : Bool) → list_any (bytes_eq s.name) (equivalenced p.module_read) ≡ b → b ≡ false
+        inner : (b : Bool) → list_any (bytes_eq s.name) (equivalenced_names p.module_read) ≡ b → b ≡ false
         inner true z = absurd (bars (find s.name (names_in p).entries) (ap (λ y. has_dummy y (names_in p).entries) q ∙ first) (shared_join p a.late s.name z))
         inner false z = refl

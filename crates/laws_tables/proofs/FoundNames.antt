@@ -16,7 +16,7 @@ use Rattle.f77_names.specs.Lines.{LineTable, line_or}
 use Rattle.f77_names.specs.Functions.{arrays_named}
 use Rattle.f77_names.specs.Entries.{EntryTree, fresh, find, seen, changed, with_dummy, with_value, value_among}
 use Rattle.f77_names.specs.Declaring.{Told, dummy_told, dummies_told, decls_told}
-use Rattle.f77_names.specs.Tables.{no_names, told_of, kind_in, table_of, names_judged}
+use Rattle.f77_names.specs.Tables.{no_names, told_of, kind_in, table_of, check_names}
 use Rattle.f77_checks.specs.Parameters.{Valued, given_typed, given_worth, setting_valued, settings_valued, decl_valued, decls_valued}
 use Rattle.f77_ast.specs.DeclTrees.{ParsedTree}
 use Rattle.storage_layout.specs.Symbols.{valued}
@@ -152,4 +152,4 @@ module _ (G : EntryTree → Type 0) (new : (x : List ℕ) (line : ℕ) → G (fr
 
     pub names_found : (p : ParsedTree) → AllFound G (names_in p).entries
     unfolding valued
-    names_found p = values_found (lines_in p) p.module_read.decls 0 (record { table = table_of (lines_in p) p.module_read; found = names_judged (lines_in p) p.module_read }) (table_found (lines_in p) p.module_read)
+    names_found p = values_found (lines_in p) p.module_read.decls 0 (record { table = table_of (lines_in p) p.module_read; found = check_names (lines_in p) p.module_read }) (table_found (lines_in p) p.module_read)

@@ -10,18 +10,18 @@ use Rattle.f77_ast.specs.Trees as tree
 use Rattle.f77_ast.specs.DeclTrees.{ExtentTree, EntityTree, SettingTree, CommonTree, DataTree, DeclTree}
 use Rattle.f77_ast.specs.DeclTrees as decl
 use Rattle.f77_symbols.specs.Symbols.{BoundTree}
-use Rattle.f77_names.specs.declared.refusal.Cause.TheVariants.{RealName, DeclaredTwice, CommonTwice, BadDimension}
-use Rattle.f77_names.specs.declared.refusal.Refusal.{Refusal}
+use Rattle.refusal_codes.specs.declared.code.Code.TheVariants.{RealName, DeclaredTwice, CommonTwice, BadDimension}
+use Rattle.refusal_codes.specs.declared.refusal.Refusal.{Refusal}
 use Rattle.f77_names.specs.declared.functions.Function.{Function}
 use Rattle.f77_names.specs.declared.kinds.Kind.{Kind}
 use Rattle.f77_names.specs.declared.lines.Sited.TheVariants.{Decl}
-use Rattle.f77_names.specs.Refusals.{noted}
+use Rattle.refusal_codes.specs.Refusals.{refuse_if}
 use Rattle.f77_names.specs.Lines.{LineTable, line_or}
 use Rattle.f77_names.specs.Entries.{ShapeTree, EntryTree, seen, has_dummy, has_type, has_shape, has_common, as_initial}
 use Rattle.f77_names.specs.Declaring.{Told, typed, shaped, in_common, dummy_told, dummies_told, entity_seen, typed_entity, typed_entities, shaped_entities, members_told, blocks_told, setting_told, settings_told, item_told, items_told, groups_told, targets_told, save_told, saves_told, decl_told, decls_told}
-use Rattle.f77_names.specs.Tables.{NameTable, entry_kind, is_real, in_common_too, entry_judged, entries_judged}
-use Rattle.f77_checks.specs.Expressions.{expr_judged}
-use Rattle.f77_checks.specs.Dimensions.{is_bad_shape, maybe_judged, bounds_judged, shape_judged, shapes_judged}
+use Rattle.f77_names.specs.Tables.{NameTable, entry_kind, is_real, in_common_too, check_entry, check_entries}
+use Rattle.f77_checks.specs.Expressions.{check_expr}
+use Rattle.f77_checks.specs.Dimensions.{is_bad_shape, check_maybe, check_bounds, check_shape, check_shapes}
 use Rattle.laws_tables.proofs.StatementRefusals.{noted_back, expr_back}
 
 -- ---- what is said of names
@@ -112,26 +112,26 @@ common_back : (x : EntryTree) (c : Option ℕ) (o : Option Refusal) → in_commo
 common_back x None o e = e
 common_back x (Some line) o e = noted_back (is_some x.dummy || x.parameter) line CommonTwice o e
 
-pub entries_back : (ks : List Kind) (es : List EntryTree) (o : Option Refusal) → entries_judged ks es o ≡ None → o ≡ None
+pub entries_back : (ks : List Kind) (es : List EntryTree) (o : Option Refusal) → check_entries ks es o ≡ None → o ≡ None
 entries_back ks [] o e = e
 entries_back ks (x ∷ es) o e =
     noted_back (is_real (entry_kind ks x)) x.line RealName o
-    (common_back x x.common (noted (is_real (entry_kind ks x)) x.line RealName o) (entries_back ks es (entry_judged ks x o) e))
+    (common_back x x.common (refuse_if (is_real (entry_kind ks x)) x.line RealName o) (entries_back ks es (check_entry ks x o) e))
 
 -- ---- bounds
 
-maybe_back : (t : NameTable) (x : Option ExprTree) (line : ℕ) (o : Option Refusal) → maybe_judged t x line o ≡ None → o ≡ None
+maybe_back : (t : NameTable) (x : Option ExprTree) (line : ℕ) (o : Option Refusal) → check_maybe t x line o ≡ None → o ≡ None
 maybe_back t None line o e = e
 maybe_back t (Some x) line o e = expr_back t x line o e
 
-bounds_back : (t : NameTable) (bs : List BoundTree) (line : ℕ) (o : Option Refusal) → bounds_judged t bs line o ≡ None → o ≡ None
+bounds_back : (t : NameTable) (bs : List BoundTree) (line : ℕ) (o : Option Refusal) → check_bounds t bs line o ≡ None → o ≡ None
 bounds_back t [] line o e = e
-bounds_back t (b ∷ bs) line o e = expr_back t b.low line o (maybe_back t b.high line (expr_judged t b.low line o) (bounds_back t bs line (maybe_judged t b.high line (expr_judged t b.low line o)) e))
+bounds_back t (b ∷ bs) line o e = expr_back t b.low line o (maybe_back t b.high line (check_expr t b.low line o) (bounds_back t bs line (check_maybe t b.high line (check_expr t b.low line o)) e))
 
-shape_back : (t : NameTable) (dummy : Bool) (s : Option ShapeTree) (o : Option Refusal) → shape_judged t dummy s o ≡ None → o ≡ None
+shape_back : (t : NameTable) (dummy : Bool) (s : Option ShapeTree) (o : Option Refusal) → check_shape t dummy s o ≡ None → o ≡ None
 shape_back t dummy None o e = e
-shape_back t dummy (Some s) o e = bounds_back t s.bounds s.line o (noted_back (is_bad_shape t dummy s.bounds) s.line BadDimension (bounds_judged t s.bounds s.line o) e)
+shape_back t dummy (Some s) o e = bounds_back t s.bounds s.line o (noted_back (is_bad_shape t dummy s.bounds) s.line BadDimension (check_bounds t s.bounds s.line o) e)
 
-pub shapes_back : (t : NameTable) (es : List EntryTree) (o : Option Refusal) → shapes_judged t es o ≡ None → o ≡ None
+pub shapes_back : (t : NameTable) (es : List EntryTree) (o : Option Refusal) → check_shapes t es o ≡ None → o ≡ None
 shapes_back t [] o e = e
-shapes_back t (x ∷ es) o e = shape_back t (is_some x.dummy) x.shape o (shapes_back t es (shape_judged t (is_some x.dummy) x.shape o) e)
+shapes_back t (x ∷ es) o e = shape_back t (is_some x.dummy) x.shape o (shapes_back t es (check_shape t (is_some x.dummy) x.shape o) e)

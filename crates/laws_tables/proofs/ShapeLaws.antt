@@ -14,7 +14,7 @@ use Rattle.f77_names.specs.Functions.{function_named, same_function, unless_arra
 use Rattle.f77_names.specs.Entries.{ShapeTree, EntryTree, fresh, find, of_entry, or_this, with_dummy, with_value, has_shape}
 use Rattle.f77_names.specs.Tables.{NameTable}
 use Rattle.f77_checks.specs.Expressions.{count, dimensions, dimensions_of}
-use Rattle.f77_checks.specs.Dimensions.{shapes_judged}
+use Rattle.f77_checks.specs.Dimensions.{check_shapes}
 use Rattle.storage_layout.specs.Symbols.{valued, checked}
 use Rattle.storage_layout.specs.Table.{Layout, bounds_in, symbol_of, symbols_from}
 use Rattle.laws_tables.specs.Shapes.{symbol_named, has_any, bounds_of, is_given, StandsBare, StandsIndexed, ShapedList, BodiesAreShaped}
@@ -135,7 +135,7 @@ module _ (p : ParsedTree) (ss : List SymbolTree) (a : Answered p ss) where
 
   pub body_shaped : ShapedList (StandsBare ss) (StandsIndexed ss) p.module_read.body
   unfolding checked
-  body_shaped = (let v = valued (lines_in p) p.module_read in stmts_shaped v.table (StandsBare ss) (StandsIndexed ss) is_bare is_indexed (lines_in p) p.module_read.body 0 (shapes_judged v.table v.table.entries v.found) (found_none p ss a))
+  body_shaped = (let v = valued (lines_in p) p.module_read in stmts_shaped v.table (StandsBare ss) (StandsIndexed ss) is_bare is_indexed (lines_in p) p.module_read.body 0 (check_shapes v.table v.table.entries v.found) (found_none p ss a))
 
 pub bodies_are_shaped : BodiesAreShaped
 bodies_are_shaped p ss e = body_shaped p ss (answered_by p ss e)

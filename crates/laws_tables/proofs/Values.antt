@@ -9,24 +9,24 @@ use Rattle.f77_constants.specs.declared.constant.Constant.TheVariants as constan
 use Rattle.f77_constants.specs.declared.constant.Worth.{Worth}
 use Rattle.f77_constants.specs.declared.constant.Worth.TheVariants.{Is, Faults, Varies}
 use Rattle.f77_constants.specs.Constants.{worth}
-use Rattle.f77_names.specs.declared.refusal.Cause.TheVariants.{BadParameter, NotAnArray}
+use Rattle.refusal_codes.specs.declared.code.Code.TheVariants.{BadParameter, NotAnArray}
 use Rattle.f77_names.specs.declared.kinds.Kind.{Kind}
 use Rattle.f77_names.specs.declared.kinds.Kind.TheVariants.{Int, Log, Real}
 use Rattle.f77_names.specs.declared.lines.Sited.TheVariants.{Decl}
-use Rattle.f77_names.specs.Refusals.{noted}
+use Rattle.refusal_codes.specs.Refusals.{refuse_if}
 use Rattle.f77_names.specs.Lines.{LineTable, line_or}
 use Rattle.f77_names.specs.Entries.{with_value, has_dummy, has_shape, has_value, value_among}
 use Rattle.f77_names.specs.Tables.{kind_in}
-use Rattle.f77_checks.specs.Expressions.{expr_judged}
+use Rattle.f77_checks.specs.Expressions.{check_expr}
 use Rattle.f77_checks.specs.Parameters.{Valued, is_bad_parameter, given_value, given_typed, given_worth, setting_valued, settings_valued, decl_valued, decls_valued}
 use Rattle.laws_tables.proofs.StatementRefusals.{noted_back, expr_back}
 use Rattle.laws_tables.proofs.Marks.{Dummies, changed_other}
 
 abbrev pub shape_noted : SettingTree → ℕ → Valued → Valued
-shape_noted s line v = record v { found = noted (has_shape s.name v.table.entries) line NotAnArray v.found }
+shape_noted s line v = record v { found = refuse_if (has_shape s.name v.table.entries) line NotAnArray v.found }
 
 abbrev pub judged : SettingTree → ℕ → Valued → Valued
-judged s line v = let w = shape_noted s line v in record w { found = expr_judged w.table s.value line w.found }
+judged s line v = let w = shape_noted s line v in record w { found = check_expr w.table s.value line w.found }
 
 abbrev pub chosen : Bool → SettingTree → ℕ → Valued → Valued
 chosen true s line v = is_bad_parameter line (shape_noted s line v)

@@ -3,7 +3,7 @@ use Rattle.std.specs.Prelude.{◌≡◌, ℤ, ℕ, zero, suc, List, [], ◌∷�
 use Rattle.f77_ast.specs.DeclTrees.{ParsedTree}
 use Rattle.f77_symbols.specs.declared.symbol.Place.TheVariants.{Dummy, Constant}
 use Rattle.f77_symbols.specs.Symbols.{SymbolTree, number_from}
-use Rattle.tracked_cells.specs.Equivalences.{equivalenced}
+use Rattle.tracked_cells.specs.Equivalences.{equivalenced_names}
 use Rattle.storage_layout.specs.Symbols.{symbols_of}
 use Rattle.laws_tables.specs.Shapes.{symbol_named}
 
@@ -24,7 +24,7 @@ DummiesComeFirst = (p : ParsedTree) (ss : List SymbolTree) → symbols_of p ≡ 
 
 -- and stand in no EQUIVALENCE (§8.2.3)
 abbrev pub DummiesStandAlone : Type 0
-DummiesStandAlone = (p : ParsedTree) (ss : List SymbolTree) → symbols_of p ≡ Ok ss → (i k : ℕ) (s : SymbolTree) → slice_get ss i ≡ Some s → s.place ≡ Dummy k → number_from 0 (equivalenced p.module_read) s.name ≡ None
+DummiesStandAlone = (p : ParsedTree) (ss : List SymbolTree) → symbols_of p ≡ Ok ss → (i k : ℕ) (s : SymbolTree) → slice_get ss i ≡ Some s → s.place ≡ Dummy k → number_from 0 (equivalenced_names p.module_read) s.name ≡ None
 
 -- what a name stands for is no constant with bounds (§8.6)
 abbrev pub ConstantsAreScalars : Type 0

@@ -6,4 +6,3 @@ pub mod ReadBack
 pub mod Soundness
 pub mod Stopping
 pub mod SymbolLaws
-pub mod RoomLaws

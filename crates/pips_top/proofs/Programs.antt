@@ -6,14 +6,14 @@ use Rattle.f77_ast.specs.DeclTrees.{ParsedTree}
 use Rattle.f77_parser.specs.Gives.{Refused, and_then}
 use Rattle.f77_parser.specs.Modules.{parse_of}
 use Rattle.f77_symbols.specs.Symbols.{SymbolTree}
-use Rattle.f77_names.specs.declared.refusal.Refusal.{Refusal}
+use Rattle.refusal_codes.specs.declared.refusal.Refusal.{Refusal}
 use Rattle.storage_layout.specs.Symbols.{symbols_of}
 use Rattle.call_graph.specs.declared.graph.Graph.{Graph}
 use Rattle.call_graph.specs.declared.refusal.Fault.{Fault}
 use Rattle.call_graph.specs.Links.{link_of}
 use Rattle.laws_programs.specs.Programs.{AreTables, IsProgram}
-use Rattle.laws_analyses.specs.Laws.{ReadAnalysesHold}
-use Rattle.pips_top.specs.Laws.{ReadClaimsHold}
+use Rattle.laws_analyses.specs.Laws.{AnalysesAreWhole, ReadAnalysesHold}
+use Rattle.pips_top.specs.Laws.{ReadAllSaid, ReadClaimsHold}
 use Rattle.pips_top.specs.Program.{ProgramTree}
 use Rattle.pips_top.specs.Reading.{lines_or, table_or, tables_of, graph_or, linked_by, program_of, reading}
 use Rattle.pips_top.specs.declared.words.Show.TheVariants.{All, Bare, Why}
@@ -85,6 +85,11 @@ is_program text p e =
     of_parts f.0 f.1 p f.3 (linked_from f.1 p f.4)
 
 pub claims_from : ReadAnalysesHold → ReadClaimsHold
-claims_from law All bytes p e room = law p.modules p.tables p.graph (is_program bytes p e) room
-claims_from law Bare bytes p e room = tt
-claims_from law Why bytes p e room = tt
+claims_from law All bytes p e = law p.modules p.tables p.graph (is_program bytes p e)
+claims_from law Bare bytes p e = tt
+claims_from law Why bytes p e = tt
+
+pub all_said_from : AnalysesAreWhole → ReadAllSaid
+all_said_from law All bytes p e = law p.modules p.tables p.graph (is_program bytes p e)
+all_said_from law Bare bytes p e = tt
+all_said_from law Why bytes p e = tt

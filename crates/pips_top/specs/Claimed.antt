@@ -1,12 +1,12 @@
 -- What is said of the modules of a program, the lines that say it, and what it claims of every run.
-use Rattle.std.specs.Prelude.{ℕ, ◌^◌, ◌<◌, List, [], ◌∷◌, Option, Some, None, bytes_eq, if◌then◌else◌}
+use Rattle.std.specs.Prelude.{ℕ, List, [], ◌∷◌, Option, Some, None, bytes_eq, if◌then◌else◌}
 use Rattle.f77_printer.specs.declared.added.Added.{Added}
 use Rattle.f77_meaning.specs.Modules.{known_of, symbol_names}
-use Rattle.f77_meaning.specs.Linked.{room_for}
 use Rattle.f77_meaning.specs.Claimed.{InEveryRun}
 use Rattle.claim_lines.specs.ScalarLines.{scalar_lines_of}
 use Rattle.scalar_phases.specs.Phases.{Analysis, analyses}
 use Rattle.laws_analyses.specs.Claims.{AnalysesHold}
+use Rattle.laws_analyses.specs.Coverage.{AreWhole}
 use Rattle.pips_top.specs.Program.{ProgramTree}
 use Rattle.pips_top.specs.declared.words.Show.{Show}
 use Rattle.pips_top.specs.declared.words.Show.TheVariants.{All, Bare, Why}
@@ -36,8 +36,8 @@ ClaimsHold All p = InEveryRun (known_of p.modules p.tables) p.graph (AnalysesHol
 ClaimsHold Bare p = Unit {0}
 ClaimsHold Why p = Unit {0}
 
--- where something is said, the units of the program's variables have numbers of 64 bits
-abbrev pub HasRoom : Show → ProgramTree → Type 0
-HasRoom All p = room_for (known_of p.modules p.tables) < 2 ^ 64
-HasRoom Bare p = Unit {0}
-HasRoom Why p = Unit {0}
+-- and nothing is left out: each module has one analysis, each of its statements a precondition and a transformer
+abbrev pub SaysAll : Show → ProgramTree → Type 0
+SaysAll All p = AreWhole (known_of p.modules p.tables) (analyses (known_of p.modules p.tables) p.graph)
+SaysAll Bare p = Unit {0}
+SaysAll Why p = Unit {0}

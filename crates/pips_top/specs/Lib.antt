@@ -10,3 +10,4 @@ pub mod Codes
 pub mod Status
 pub mod Answer
 pub mod Run
+pub mod Replies

@@ -1,9 +1,8 @@
 -- What becomes of a text: it is refused, or the written program.
-use Rattle.std.specs.Prelude.{◌≡◌, ℕ, List, Result, Ok, Err}
+use Rattle.std.specs.Prelude.{ℕ, List, Result, Ok, Err}
 use Rattle.f77_parser.specs.Gives.{Refused}
 use Rattle.pips_top.specs.Program.{ProgramTree}
 use Rattle.pips_top.specs.Reading.{reading}
-use Rattle.pips_top.specs.Claimed.{HasRoom}
 use Rattle.pips_top.specs.Written.{written}
 use Rattle.pips_top.specs.declared.words.Show.{Show}
 use Rattle.pips_top.specs.declared.make.Made.{Made}
@@ -19,13 +18,3 @@ made_of show (Err r) = Refuses r.line r.code r.keyword
 
 abbrev pub made : Show → List ℕ → Made
 made show bytes = made_of show (reading bytes)
-
--- what was read has room, if anything is said of it
-abbrev pub ReadsWithRoom : Show → Result ProgramTree Refused → Type 0
-ReadsWithRoom show (Ok p) = HasRoom show p
-ReadsWithRoom show (Err r) = Unit {0}
-
--- the written text of what these bytes are read as
-pub record IsTextOf (show : Show) (bytes text : List ℕ) : Type 0 where
-  pub made_so : made show bytes ≡ Writes text
-  pub room : ReadsWithRoom show (reading bytes)

@@ -8,15 +8,14 @@ use Rattle.f77_parser.specs.Modules.{parse_of}
 use Rattle.f77_parser.specs.declared.refusal.ParseRefusal.{ParseRefusal}
 use Rattle.f77_parser.specs.declared.refusal.ParseRefusal.TheVariants as parse
 use Rattle.f77_symbols.specs.Symbols.{SymbolTree}
-use Rattle.f77_names.specs.declared.refusal.Refusal.{Refusal}
-use Rattle.f77_names.specs.Refusals as symbol
+use Rattle.refusal_codes.specs.declared.refusal.Refusal.{Refusal}
+use Rattle.refusal_codes.specs.Refusals.{number_of}
 use Rattle.storage_layout.specs.Symbols.{symbols_of}
 use Rattle.call_graph.specs.declared.graph.Graph.{Graph}
 use Rattle.call_graph.specs.declared.refusal.Fault.{Fault}
 use Rattle.call_graph.specs.declared.refusal.Fault.TheVariants.{NoMain, At}
 use Rattle.call_graph.specs.declared.refusal.LinkRefusal.{LinkRefusal}
 use Rattle.call_graph.specs.declared.refusal.LinkRefusal.TheVariants as unlinked
-use Rattle.call_graph.specs.Faults as link
 use Rattle.call_graph.specs.Links.{link_of}
 use Rattle.pips_top.specs.Program.{ProgramTree}
 
@@ -32,7 +31,7 @@ lines_or (Err at) = Err (refused_at at.0 at.1)
 -- a table of symbols, with the line and the code of a refusal
 abbrev pub table_or : Result (List SymbolTree) Refusal → Result (List SymbolTree) Refused
 table_or (Ok table) = Ok table
-table_or (Err r) = Err (refused_at r.line (symbol.number_of r.cause))
+table_or (Err r) = Err (refused_at r.line (number_of r.code))
 
 -- the table of symbols of each module, or the first refusal: modules in the order of the text
 abbrev pub tables_of : List ParsedTree → Result (List (List SymbolTree)) Refused
@@ -43,7 +42,7 @@ tables_of (m ∷ ms) = and_then (table_or (symbols_of m)) (λ t. and_then (table
 -- program, which has no place, is refused at line 1
 abbrev pub refused_for : Fault → Refused
 refused_for NoMain = refused_at 1 50
-refused_for (At place line cause) = refused_at line (link.number_of cause)
+refused_for (At place line cause) = refused_at line (number_of cause)
 
 -- the same of what linking returns
 abbrev pub in_reading : LinkRefusal → ParseRefusal

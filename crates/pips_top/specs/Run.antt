@@ -1,6 +1,5 @@
 -- What a run answers, by its words and by what it finds outside, and what it leaves there.
-use Rattle.std.specs.Prelude.{◌≡◌, ℕ, ◌≤◌, ◌⊎◌, List, [], length, take, codes, Option, Some, None, IsSomeAnd, Result, Ok, Err, Bool, true, false}
-use Rattle.std.specs.declared.alloc.AllocError.{AllocError}
+use Rattle.std.specs.Prelude.{◌≡◌, ℕ, ◌≤◌, ◌⊎◌, List, [], length, take, codes, Option, Some, None, IsSomeAnd, Ok, Bool, true, false}
 use Rattle.fx_base.specs.Counts.{Rose}
 use Rattle.fx_base.specs.Files.{Files}
 use Rattle.fx_base.specs.Sink.{appended}
@@ -10,10 +9,10 @@ use Rattle.fx_base.specs.declared.store.Role.{Role}
 use Rattle.fx_base.specs.declared.store.Role.TheVariants.{Input, Base}
 use Rattle.fx_base.specs.declared.store.Fetched.{Fetched}
 use Rattle.fx_base.specs.declared.store.Fetched.TheVariants as fetched
-use Rattle.pips_top.specs.Made.{made, input_limit, IsTextOf}
+use Rattle.pips_top.specs.Made.{made, input_limit}
 use Rattle.pips_top.specs.Program.{ProgramTree}
 use Rattle.pips_top.specs.Reading.{reading}
-use Rattle.pips_top.specs.Claimed.{ClaimsHold}
+use Rattle.pips_top.specs.Claimed.{ClaimsHold, SaysAll}
 use Rattle.pips_top.specs.ReadBack.{ReadsBack}
 use Rattle.pips_top.specs.Written.{written}
 use Rattle.pips_top.specs.Words.{asked}
@@ -22,8 +21,6 @@ use Rattle.pips_top.specs.Answer.{answer}
 use Rattle.pips_top.specs.declared.words.Request.{Request}
 use Rattle.pips_top.specs.declared.words.Show.{Show}
 use Rattle.pips_top.specs.declared.make.Made.TheVariants.{Refuses}
-use Rattle.pips_top.specs.declared.reply.Reply.{Reply}
-use Rattle.pips_top.specs.declared.reply.Reply.TheVariants.{Writing, Stopping, NoMemory}
 use Rattle.pips_top.specs.declared.status.Status.{Status}
 use Rattle.pips_top.specs.declared.status.Status.TheVariants.{Done, Refused, Usage, NoInput, TooLong, ReadFault, WriteFault, BadBase, StaleBase, BaseFault, Memory}
 
@@ -39,13 +36,6 @@ pub record Outside : Type 0 where
 -- INPUT was fetched, with this answer
 abbrev pub Answered : Request → Option Files → Tally → Tally → Fetched → Type 0
 Answered r files old new answer = FetchedBy files old new r.input input_limit answer
-
--- the words name an input whose bytes make this text
-abbrev pub DefinesFor : Option Files → Tally → Tally → List ℕ → Request → Type 0
-DefinesFor files old new text r = (bytes : List ℕ) × Answered r files old new (fetched.Got bytes) × IsTextOf r.show bytes text
-
-abbrev pub Defines : List (List ℕ) → Option Files → Tally → Tally → List ℕ → Type 0
-Defines words files old new text = IsSomeAnd (asked words) (DefinesFor files old new text)
 
 -- the words name an input whose bytes are refused
 abbrev pub RefusesFor : Option Files → Tally → Tally → ℕ → ℕ → List ℕ → Request → Type 0
@@ -71,57 +61,35 @@ StopsBy words files old new StaleBase text = ⊥
 StopsBy words files old new BaseFault text = ⊥
 StopsBy words files old new Memory text = text ≡ codes "pips: out of memory\n"
 
--- what is to be written, or the status with its line
-abbrev pub RepliesBy : List (List ℕ) → Option Files → Tally → Tally → Reply → Type 0
-RepliesBy words files old new (Writing text) = Defines words files old new text
-RepliesBy words files old new (Stopping status line) = StopsBy words files old new status line
-RepliesBy words files old new NoMemory = Unit {0}
-
--- the status with its line where there was memory for it
-abbrev pub StopsOr : Status → Result (List ℕ) AllocError → Reply → Type 0
-StopsOr status (Ok line) reply = reply ≡ Stopping status line
-StopsOr status (Err error) reply = reply ≡ NoMemory
-
--- what was made is to be written, or its refusal with its line
-abbrev pub RepliesTo : Show → List ℕ → Reply → Type 0
-RepliesTo show bytes (Writing text) = IsTextOf show bytes text
-RepliesTo show bytes (Stopping status line) = (at : ℕ) × (code : ℕ) × (keyword : List ℕ) × (made show bytes ≡ Refuses at code keyword) × (status ≡ Refused at code) × (line ≡ refusal_line at code keyword)
-RepliesTo show bytes NoMemory = Unit {0}
-
 -- the whole text was appended, or its first n bytes where the count rose
 abbrev pub Gains : Option (List ℕ) → Option (List ℕ) → ℕ → ℕ → List ℕ → Type 0
 Gains old new before after text =
     (new ≡ appended old text) ⊎ ((n : ℕ) × (n ≤ length text) × (new ≡ appended old (take n text)) × Rose before after)
 
--- each status with its cause and its line on err, and what out gained
+-- the words name an input, and its bytes were read as a program
+pub record Reads (words : List (List ℕ)) (old new : Outside) : Type 0 where
+  pub request : Request
+  pub named : asked words ≡ Some request
+  pub bytes : List ℕ
+  pub got : Answered request old.files (old.counts Input) (new.counts Input) (fetched.Got bytes)
+  pub program : ProgramTree
+  pub as_program : reading bytes ≡ Ok program
+
+-- what is written of a program with what is said of it: this is true of every run and leaves nothing out, and the text is read again as the same program
+pub record IsSound (show : Show) (p : ProgramTree) : Type 0 where
+  pub claims : ClaimsHold show p
+  pub whole : SaysAll show p
+  pub back : ReadsBack show p
+
+-- each status with its cause and its line on err, and what out gained: the whole text of the program that was read, or its first n bytes, or nothing
 abbrev pub CausedBy : List (List ℕ) → Outside → Outside → Status → List ℕ → Type 0
 CausedBy words old new Done line =
-    (text : List ℕ) × Defines words old.files (old.counts Input) (new.counts Input) text × (new.out ≡ appended old.out text) × (line ≡ [])
+    (r : Reads words old new) × IsSound r.request.show r.program × (new.out ≡ appended old.out (written r.request.show r.program)) × (line ≡ [])
 CausedBy words old new WriteFault line =
-    (text : List ℕ) × Defines words old.files (old.counts Input) (new.counts Input) text × Rose old.out_faults new.out_faults
-    × ((n : ℕ) × (n ≤ length text) × (new.out ≡ appended old.out (take n text))) × (line ≡ codes "pips: cannot write\n")
+    (r : Reads words old new) × IsSound r.request.show r.program × Rose old.out_faults new.out_faults
+    × ((n : ℕ) × (n ≤ length (written r.request.show r.program)) × (new.out ≡ appended old.out (take n (written r.request.show r.program))))
+    × (line ≡ codes "pips: cannot write\n")
 CausedBy words old new status line = StopsBy words old.files (old.counts Input) (new.counts Input) status line × (new.out ≡ old.out)
-
--- a program was read from INPUT, and what is claimed of it is true of every run
-abbrev pub ClaimsFor : Outside → Outside → ProgramTree → Request → Type 0
-ClaimsFor old new p r =
-    (bytes : List ℕ) × Answered r old.files (old.counts Input) (new.counts Input) (fetched.Got bytes) × (reading bytes ≡ Ok p) × ClaimsHold r.show p
-
--- out gained that program's text, which is read again as the same program
-abbrev pub WritesFor : Outside → Outside → Request → Type 0
-WritesFor old new r = (p : ProgramTree) × ClaimsFor old new p r × ReadsBack r.show p × (new.out ≡ appended old.out (written r.show p))
-
--- or a prefix of it
-abbrev pub BeginsFor : Outside → Outside → Request → Type 0
-BeginsFor old new r =
-    (p : ProgramTree) × ClaimsFor old new p r
-    × ((n : ℕ) × (n ≤ length (written r.show p)) × (new.out ≡ appended old.out (take n (written r.show p))))
-
--- what was written is the text of a program that was read, or a prefix of it, and its claims hold
-abbrev pub SoundBy : List (List ℕ) → Outside → Outside → Status → Type 0
-SoundBy words old new Done = IsSomeAnd (asked words) (WritesFor old new)
-SoundBy words old new WriteFault = IsSomeAnd (asked words) (BeginsFor old new)
-SoundBy words old new status = Unit {0}
 
 -- no fault was counted
 pub record NoFault (old new : Outside) : Type 0 where
@@ -139,11 +107,10 @@ is_settled status = true
 
 -- a run, from the outside as it began to the outside as it ended
 pub record Runs (words : List (List ℕ)) (old new : Outside) (status : Status) : Type 0 where
-  -- the line on err, and why the status came
+  -- the line on err, and why the status came, with what was read where a text was written
   pub line : List ℕ
   pub cause : CausedBy words old new status line
   pub err : Gains old.err new.err old.err_faults new.err_faults line
-  pub sound : SoundBy words old new status
   pub files : new.files ≡ old.files
   pub counts : OnlyCounts old.counts new.counts Input
   pub out_faults : old.out_faults ≤ new.out_faults

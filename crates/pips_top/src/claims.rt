@@ -1,11 +1,10 @@
 //! What is said of modules: the analyses of their tracked cells, and the lines that say it.
 ghost use Rattle.std.specs.Prelude.{◌≡◌, List, length, map, IfOk, option_copied, option_map};
 ghost use Rattle.scalar_phases.specs.Views.{analysis_tree};
-ghost use Rattle.pips_top.specs.Claimed.{HasRoom, analysis_for, lines_for, said_of};
+ghost use Rattle.pips_top.specs.Claimed.{analysis_for, lines_for, said_of};
 ghost use Rattle.pips_top.specs.Program.{program_tree};
 
 use crate::program::Program;
-use crate::room::has_room;
 use crate::words::Show;
 use call_graph::Graph;
 use claim_lines::scalar_lines;
@@ -15,24 +14,17 @@ use fx_base::{List, Text};
 use scalar_phases::{Analysis, analyses};
 use std::alloc::{AllocError as Memory, Global};
 
-/// What is said of the modules of a program: for `All` the analyses of their tracked cells. It fails as without memory where the units of a program
-/// of which something is said have no numbers of 64 bits.
+/// What is said of the modules of a program: for `All` the analyses of their tracked cells.
 pub fn said_of<'a>(
     alloc: Global,
     show: Show,
     program: &'a Program,
 ) -> Result<Vec<Analysis<'a>>, Memory>
     requires one_each { length program.now.modules ≡ length program.now.tables }
-    ensures defined { IfOk result (λ all. map analysis_tree all.items ≡ said_of show (program_tree program.now)) }
-    ensures room { IfOk result (λ _. HasRoom show (program_tree program.now)) }
+    ensures { IfOk result (λ all. map analysis_tree all.items ≡ said_of show (program_tree program.now)) }
 {
     match show {
-        Show::All => {
-            if !has_room(&program.tables) {
-                return Err(Memory);
-            }
-            analyses(alloc, &program.modules, &program.tables, &program.graph)
-        }
+        Show::All => analyses(alloc, &program.modules, &program.tables, &program.graph),
         Show::Bare | Show::Why => Ok(Vec::new(alloc)),
     }
 }

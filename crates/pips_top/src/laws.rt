@@ -1,7 +1,7 @@
-//! What is said of a program that was read is true, and what is written of it is read again.
-ghost use Rattle.pips_top.specs.Laws.{ReadClaimsHold, ReadWrittenBack};
+//! What is said of a program that was read is true and leaves nothing out, and what is written of it is read again.
+ghost use Rattle.pips_top.specs.Laws.{ReadAllSaid, ReadClaimsHold, ReadWrittenBack};
 
-use laws_analyses::read_analyses_hold;
+use laws_analyses::{analyses_are_whole, read_analyses_hold};
 use roundtrip_programs::{lines_are_passed_over, names_are_shown, programs_read_back};
 
 /// What is said of a program that was read holds in every run of it, up to its end or its first fault.
@@ -9,6 +9,13 @@ pub fn claims_hold()
     ensures { ReadClaimsHold }
 {
     read_analyses_hold();
+}
+
+/// Each module of a program that was read has one analysis, each of its statements a precondition and a transformer.
+pub fn all_is_said()
+    ensures { ReadAllSaid }
+{
+    analyses_are_whole();
 }
 
 /// What is written of a program that was read is read again as the same program.

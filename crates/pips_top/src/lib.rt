@@ -7,7 +7,6 @@ mod make;
 mod program;
 mod reading;
 mod reply;
-mod room;
 mod status;
 mod top;
 mod words;

@@ -1,7 +1,6 @@
 //! What becomes of a text.
 ghost use Rattle.std.specs.Prelude.{◌≡◌, ◌≤◌, length, IfOk};
-ghost use Rattle.pips_top.specs.Made.{made, input_limit, ReadsWithRoom};
-ghost use Rattle.pips_top.specs.Reading.{reading};
+ghost use Rattle.pips_top.specs.Made.{made, input_limit};
 
 use crate::reading::read;
 use crate::words::Show;
@@ -18,11 +17,10 @@ pub enum Made {
     Refuses(u32, u32, Text),
 }
 
-/// Reads a text and makes the written one. It fails as without memory where something is to be said of a program whose units have no numbers of 64 bits.
+/// Reads a text and makes the written one.
 pub fn make(alloc: Global, show: Show, text: &Text) -> Result<Made, Memory>
     requires { length text.now ≤ input_limit }
-    ensures defined { IfOk result (λ m. m ≡ made show text.now) }
-    ensures room { IfOk result (λ _. ReadsWithRoom show (reading text.now)) }
+    ensures { IfOk result (λ m. m ≡ made show text.now) }
 {
     match read(alloc, text) {
         Ok(program) => Ok(Made::Writes(write_program(alloc, show, &program)?)),

@@ -16,6 +16,7 @@ use f77_parser::{ModuleTrees, ParseRefusal, parse};
 use f77_symbols::Symbols;
 use fixed_form::{ReadRefusal, statements};
 use fx_base::{List, Text};
+use refusal_codes::Code;
 use std::alloc::Global;
 use storage_layout::{LayoutRefusal, symbols};
 
@@ -36,7 +37,7 @@ fn table_of(alloc: Global, parsed: &Parsed) -> Result<Symbols, ParseRefusal>
 /// The symbols of each module, or the refusal of the first that has none.
 #[tactic(auto, using(crate::proofs::SymbolLaws::symbol_steps))]
 fn tables_of(alloc: Global, modules: &ModuleTrees) -> Result<List<Symbols>, ParseRefusal>
-    ensures gives { Gives (map (map symbol_tree)) result (tables_of (map parsed_tree modules.now)) }
+    ensures defined { Gives (map (map symbol_tree)) result (tables_of (map parsed_tree modules.now)) }
     ensures one_each { IfOk result (λ tables. length modules.now ≡ length tables) }
 {
     let mut tables = List::new(alloc);
@@ -54,7 +55,7 @@ fn in_reading(alloc: Global, refusal: LinkRefusal) -> ParseRefusal
     ensures { result ≡ in_reading refusal }
 {
     match refusal {
-        LinkRefusal::NoMain => ParseRefusal::At(1, 50, Text::new(alloc)),
+        LinkRefusal::NoMain => { ParseRefusal::At(1, Code::NoMain.number(), Text::new(alloc)) }
         LinkRefusal::At(_, line, code) => ParseRefusal::At(line, code, Text::new(alloc)),
         LinkRefusal::Memory => ParseRefusal::Memory,
     }
@@ -78,7 +79,7 @@ fn graph_of(
 /// The program of modules: their symbols, then their links.
 #[tactic(auto, unfolding(crate::specs::Reading::program_of))]
 fn program_of(alloc: Global, modules: ModuleTrees) -> Result<Program, ParseRefusal>
-    ensures gives { Gives program_tree result (program_of (map parsed_tree modules)) }
+    ensures defined { Gives program_tree result (program_of (map parsed_tree modules)) }
     ensures one_each { IfOk result (λ p. length p.modules ≡ length p.tables) }
 {
     let tables = match tables_of(alloc, &modules) {
@@ -102,7 +103,7 @@ fn program_of(alloc: Global, modules: ModuleTrees) -> Result<Program, ParseRefus
 #[tactic(auto, using(f77_parser::proofs::SizeLemmas::short_texts), unfolding(crate::specs::Reading::reading))]
 pub fn read(alloc: Global, text: &Text) -> Result<Program, ParseRefusal>
     requires { length text.now ≤ input_limit }
-    ensures gives { Gives program_tree result (reading text.now) }
+    ensures defined { Gives program_tree result (reading text.now) }
     ensures one_each { IfOk result (λ p. length p.modules ≡ length p.tables) }
 {
     let lines = match statements(alloc, text) {

@@ -3,7 +3,7 @@ ghost use Rattle.std.specs.Prelude.{◌≡◌, ◌≤◌, length};
 ghost use Rattle.fx_base.specs.declared.store.Role.TheVariants.{Input};
 ghost use Rattle.fx_base.specs.Store.{OnlyCounts};
 ghost use Rattle.pips_top.specs.Made.{input_limit};
-ghost use Rattle.pips_top.specs.Run.{RepliesBy, RepliesTo, StopsOr};
+ghost use Rattle.pips_top.specs.Replies.{RepliesBy, RepliesTo, StopsOr};
 
 use crate::Status;
 use crate::make::{Made, make};

@@ -4,6 +4,7 @@ ghost use Rattle.pips_top.specs.Codes.{code_name};
 ghost use Rattle.pips_top.specs.Status.{keyword_text, naming, number_of, refusal_line, usage_line};
 
 use fx_base::Text;
+use refusal_codes::Code;
 use std::alloc::{AllocError as Memory, Global};
 
 /// How a run ended. A refusal has its line, from 1, and its code; BadBase has its code. The statuses about a base are not
@@ -64,52 +65,13 @@ pub fn naming_line(alloc: Global, words: &[u8], name: &Text) -> Result<Text, Mem
     Ok(line)
 }
 
-/// The name of a code of refusal.
+/// The name of the code with this number.
 fn code_name(code: u32) -> &'static str
     ensures { result.now ≡ code_name code }
 {
-    match code {
-        1 => "NonAscii",
-        2 => "Tab",
-        3 => "BadLabelField",
-        4 => "ContinuationFirst",
-        5 => "TooManyContinuations",
-        6 => "NoEnd",
-        10 => "Syntax",
-        11 => "OutOfProfile",
-        12 => "RealConstant",
-        13 => "NumberTooBig",
-        14 => "NameTooLong",
-        15 => "UnclosedDo",
-        16 => "UnclosedIf",
-        17 => "StrayPart",
-        18 => "BadTerminal",
-        19 => "LabelTwice",
-        20 => "LabelMissing",
-        21 => "JumpIntoBlock",
-        22 => "TooManyStatements",
-        23 => "TooDeep",
-        30 => "RealName",
-        31 => "DeclaredTwice",
-        32 => "BadDimension",
-        33 => "BadParameter",
-        34 => "CommonTwice",
-        35 => "EquivalenceClash",
-        36 => "EquivalenceExtendsBack",
-        37 => "InitialMismatch",
-        38 => "SubscriptCount",
-        39 => "TypeMismatch",
-        40 => "AssignToConstant",
-        41 => "NotAnArray",
-        50 => "NoMain",
-        51 => "TwoMains",
-        52 => "ModuleTwice",
-        53 => "NoSuchModule",
-        54 => "ArgumentCount",
-        55 => "ArgumentType",
-        56 => "Recursion",
-        57 => "TooManyModules",
-        _ => "",
+    match Code::with_number(code) {
+        Some(code) => code.name(),
+        None => "",
     }
 }
 

@@ -3,7 +3,7 @@ ghost use Rattle.std.specs.Prelude.{◌≤◌};
 ghost use Rattle.pips_top.specs.Run.{Gains, Outside, Runs};
 
 use crate::Status;
-use crate::laws::{claims_hold, written_reads_back};
+use crate::laws::{all_is_said, claims_hold, written_reads_back};
 use crate::reply::{Reply, reply_to};
 use fx_base::{Sent, Sink, Store, Words, send, send_bytes};
 use std::alloc::Global;
@@ -47,6 +47,7 @@ pub fn run<F: Store, O: Sink, E: Sink>(
         Runs words.now old new result }
 {
     claims_hold();
+    all_is_said();
     written_reads_back();
     match reply_to(alloc, words, files) {
         Reply::Writing(text) => match send(out, &text) {

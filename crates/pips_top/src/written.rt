@@ -2,7 +2,6 @@
 ghost use Rattle.std.specs.Prelude.{◌≡◌, IfOk, length, map};
 ghost use Rattle.f77_ast.specs.PlainDecl.{parsed_tree};
 ghost use Rattle.scalar_phases.specs.Views.{analysis_tree};
-ghost use Rattle.pips_top.specs.Claimed.{HasRoom};
 ghost use Rattle.pips_top.specs.Program.{program_tree};
 ghost use Rattle.pips_top.specs.Written.{modules_text, parsed_text, written};
 
@@ -50,8 +49,7 @@ fn modules_text(
 /// The written text. Takes time in proportion to it, beside the analysis of what is claimed.
 pub fn write_program(alloc: Global, show: Show, program: &Program) -> Result<Text, Memory>
     requires one_each { length program.now.modules ≡ length program.now.tables }
-    ensures defined { IfOk result (λ text. text ≡ written show (program_tree program.now)) }
-    ensures room { IfOk result (λ _. HasRoom show (program_tree program.now)) }
+    ensures { IfOk result (λ text. text ≡ written show (program_tree program.now)) }
 {
     let all = said_of(alloc, show, program)?;
     modules_text(

@@ -1,5 +1,5 @@
 -- Steps of the loops over systems, CALLs and symbols.
-use Rattle.std.proofs.Common.{◌≡◌, ℕ, zero, suc, ◌+◌, ◌-◌, ◌<◌, ◌≤◌, Bool, List, [], ◌∷◌, ◌++◌, length, take, take_all, drop, length-drop, get_or, drop-cons, drop_of_length-le, add-one, append_assoc, append-nil, map, ap, ap₂, sym, subst, ◌∙◌, arith}
+use Rattle.std.proofs.Common.{◌≡◌, ℕ, zero, suc, ◌+◌, ◌-◌, ◌<◌, ◌≤◌, Bool, List, [], ◌∷◌, ◌++◌, length, take, take_all, drop, length-drop, get_or, drop_of_length-le, add-one, append_assoc, append-nil, map, ap, ap₂, sym, subst, ◌∙◌, arith}
 use Rattle.std.proofs.lemmas.List.Elements.{All-get_or}
 use Rattle.affine_systems.specs.declared.row.Row.{Row}
 use Rattle.affine_systems.specs.declared.row.System.{System}
@@ -10,7 +10,7 @@ use Rattle.f77_symbols.specs.Symbols.{symbol_tree}
 use Rattle.affine_forms.specs.Scalars.{is_cell}
 use Rattle.call_translation.specs.declared.sites.Site.{Site}
 use Rattle.call_translation.specs.Scopes.{ScopeTree}
-use Rattle.call_translation.specs.Sites.{HoldingSite, AllSitesFit, site_tree}
+use Rattle.call_translation.specs.Sites.{AllSitesFit, site_tree}
 use Rattle.call_translation.specs.SiteEntry.{site_entry}
 use Rattle.call_translation.proofs.Steps.{at_place}
 use Rattle.preconditions.specs.Statement.{hull_from, some_holds, AllFit}

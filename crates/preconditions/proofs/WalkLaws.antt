@@ -13,12 +13,12 @@ use Rattle.f77_ast.proofs.PlainlyStmt.{stmt_trees-drop, arm_trees-drop_at}
 use Rattle.f77_results.specs.declared.results.At.{At}
 use Rattle.transformer_algebra.specs.declared.transformer.Transformer.{Transformer}
 use Rattle.transformer_algebra.specs.declared.loop_parts.LoopParts.{LoopParts}
-use Rattle.transformer_algebra.specs.Loops.{turn, at_turn, after_loop}
+use Rattle.transformer_algebra.specs.Loops.{iteration, at_iteration, after_loop}
 use Rattle.call_translation.specs.Scopes.{ScopeTree}
 use Rattle.transformers.specs.Lists.{list_at}
 use Rattle.transformers.specs.Loops.{loop_parts}
 use Rattle.transformers.specs.Statement.{at}
-use Rattle.preconditions.specs.Statement.{Found, EachFits, AllFit, parts_of, each_turn, done, if_true, if_false, past_arms, after_arms, after_list, after_loop_of, at_stmt, at_all, at_arms, at_list, at_loop}
+use Rattle.preconditions.specs.Statement.{Found, EachFits, AllFit, parts_of, each_iteration, done, if_true, if_false, past_arms, after_arms, after_list, after_loop_of, at_stmt, at_all, at_arms, at_list, at_loop}
 
 -- ---- one more
 
@@ -71,37 +71,37 @@ arm_added m t p q s old new xs i a l g e h k =
     ∙ (ap₂ (λ (x y : System). old ++ (here x ++ rest y)) e h
     ∙ ap (λ (ys : List (At System)). old ++ ys) (sym (ap (λ (ys : ArmTrees). at_arms ys m t p) (arm_trees-drop_at xs i a l g)))))
 
--- ---- a DO: e holds at the beginning of each turn, q at the end of its body, and r after it
+-- ---- a DO: e holds at the beginning of each iteration, q at the end of its body, and r after it
 
-turn_is : (l : LoopTree) (m : ScopeTree) (t : Found) (p e : System) (once : Transformer) (parts : LoopParts) → parts ≡ parts_of l m t → once ≡ turn parts → e ≡ at_turn parts once p → e ≡ each_turn l m t p
+turn_is : (l : LoopTree) (m : ScopeTree) (t : Found) (p e : System) (once : Transformer) (parts : LoopParts) → parts ≡ parts_of l m t → once ≡ iteration parts → e ≡ at_iteration parts once p → e ≡ each_iteration l m t p
 turn_is l m t p e once parts a b c =
-    c ∙ (ap (λ (o : Transformer). at_turn parts o p) b ∙ ap (λ (ps : LoopParts). at_turn ps (turn ps) p) a)
+    c ∙ (ap (λ (o : Transformer). at_iteration parts o p) b ∙ ap (λ (ps : LoopParts). at_iteration ps (iteration ps) p) a)
 
-done_is : (l : LoopTree) (m : ScopeTree) (t : Found) (p q r : System) (once : Transformer) (parts : LoopParts) → parts ≡ parts_of l m t → once ≡ turn parts → r ≡ after_loop parts once p q → r ≡ done l m t p q
+done_is : (l : LoopTree) (m : ScopeTree) (t : Found) (p q r : System) (once : Transformer) (parts : LoopParts) → parts ≡ parts_of l m t → once ≡ iteration parts → r ≡ after_loop parts once p q → r ≡ done l m t p q
 done_is l m t p q r once parts a b c =
-    c ∙ (ap (λ (o : Transformer). after_loop parts o p q) b ∙ ap (λ (ps : LoopParts). after_loop ps (turn ps) p q) a)
+    c ∙ (ap (λ (o : Transformer). after_loop parts o p q) b ∙ ap (λ (ps : LoopParts). after_loop ps (iteration ps) p q) a)
 
 parts_are : (l : LoopTree) (m : ScopeTree) (t : Found) (index : List ℕ) (first last : ExprTree) (step : Option ExprTree) (body : StmtTrees) (x : Transformer) (parts : LoopParts) → l ≡ tree.loop index first last step body → x ≡ list_at t false body → parts ≡ loop_parts m l x → parts ≡ parts_of l m t
 parts_are l m t index first last step body x parts e f g =
     let s = tree.loop index first last step body in
     g ∙ (ap (λ (k : LoopTree). loop_parts m k x) e ∙ (ap (loop_parts m s) f ∙ sym (ap (λ (k : LoopTree). parts_of k m t) e)))
 
-pub loop_value : (l : LoopTree) (m : ScopeTree) (t : Found) (p e q r : System) (index : List ℕ) (first last : ExprTree) (step : Option ExprTree) (body : StmtTrees) (x once : Transformer) (parts : LoopParts) → l ≡ tree.loop index first last step body → x ≡ list_at t false body → parts ≡ loop_parts m l x → once ≡ turn parts → e ≡ at_turn parts once p → q ≡ after_list false body m t e → r ≡ after_loop parts once p q → r ≡ after_loop_of l m t p
+pub loop_value : (l : LoopTree) (m : ScopeTree) (t : Found) (p e q r : System) (index : List ℕ) (first last : ExprTree) (step : Option ExprTree) (body : StmtTrees) (x once : Transformer) (parts : LoopParts) → l ≡ tree.loop index first last step body → x ≡ list_at t false body → parts ≡ loop_parts m l x → once ≡ iteration parts → e ≡ at_iteration parts once p → q ≡ after_list false body m t e → r ≡ after_loop parts once p q → r ≡ after_loop_of l m t p
 loop_value l m t p e q r index first last step body x once parts is a b c d f g =
     let s = tree.loop index first last step body in
     let same : parts ≡ parts_of l m t = parts_are l m t index first last step body x parts is a b in
-    let begin : e ≡ each_turn l m t p = turn_is l m t p e once parts same c d in
-    let end : q ≡ after_list false body m t (each_turn l m t p) = f ∙ ap (λ (y : System). after_list false body m t y) begin in
+    let begin : e ≡ each_iteration l m t p = turn_is l m t p e once parts same c d in
+    let end : q ≡ after_list false body m t (each_iteration l m t p) = f ∙ ap (λ (y : System). after_list false body m t y) begin in
     done_is l m t p q r once parts same c g
     ∙ (ap (λ (y : System). done l m t p y) end
-    ∙ (ap (λ (k : LoopTree). done k m t p (after_list false body m t (each_turn k m t p))) is
+    ∙ (ap (λ (k : LoopTree). done k m t p (after_list false body m t (each_iteration k m t p))) is
     ∙ sym (ap (λ (k : LoopTree). after_loop_of k m t p) is)))
 
-pub loop_added : (l : LoopTree) (m : ScopeTree) (t : Found) (p e : System) (index : List ℕ) (first last : ExprTree) (step : Option ExprTree) (body : StmtTrees) (x once : Transformer) (parts : LoopParts) (old new : List (At System)) → l ≡ tree.loop index first last step body → x ≡ list_at t false body → parts ≡ loop_parts m l x → once ≡ turn parts → e ≡ at_turn parts once p → new ≡ old ++ at_list false body m t e → new ≡ old ++ at_loop l m t p
+pub loop_added : (l : LoopTree) (m : ScopeTree) (t : Found) (p e : System) (index : List ℕ) (first last : ExprTree) (step : Option ExprTree) (body : StmtTrees) (x once : Transformer) (parts : LoopParts) (old new : List (At System)) → l ≡ tree.loop index first last step body → x ≡ list_at t false body → parts ≡ loop_parts m l x → once ≡ iteration parts → e ≡ at_iteration parts once p → new ≡ old ++ at_list false body m t e → new ≡ old ++ at_loop l m t p
 loop_added l m t p e index first last step body x once parts old new is a b c d f =
     let same : parts ≡ parts_of l m t = parts_are l m t index first last step body x parts is a b in
-    let begin : e ≡ each_turn l m t p = turn_is l m t p e once parts same c d in
+    let begin : e ≡ each_iteration l m t p = turn_is l m t p e once parts same c d in
     f
     ∙ (ap (λ (y : System). old ++ at_list false body m t y) begin
-    ∙ (ap (λ (k : LoopTree). old ++ at_list false body m t (each_turn k m t p)) is
+    ∙ (ap (λ (k : LoopTree). old ++ at_list false body m t (each_iteration k m t p)) is
     ∙ sym (ap (λ (k : LoopTree). old ++ at_loop k m t p) is)))

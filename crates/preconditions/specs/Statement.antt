@@ -8,11 +8,11 @@ use Rattle.hull_projection.specs.Hull.{hull}
 use Rattle.f77_ast.specs.Trees.{ExprTree, StmtTree, WhatTree, ArmTree, ArmTrees, ElseTree, LoopTree, StmtTrees}
 use Rattle.f77_ast.specs.Trees as tree
 use Rattle.f77_results.specs.declared.results.At.{At}
-use Rattle.affine_forms.specs.Conditions.{nothing, condition_of}
+use Rattle.affine_forms.specs.Conditions.{infeasible, condition_of}
 use Rattle.transformer_algebra.specs.declared.transformer.Transformer.{Transformer}
 use Rattle.transformer_algebra.specs.declared.loop_parts.LoopParts.{LoopParts}
 use Rattle.transformer_algebra.specs.Transformers.{apply, without}
-use Rattle.transformer_algebra.specs.Loops.{turn, at_turn, after_loop}
+use Rattle.transformer_algebra.specs.Loops.{iteration, at_iteration, after_loop}
 use Rattle.call_translation.specs.Scopes.{ScopeTree}
 use Rattle.transformers.specs.Jumps.{unstructured}
 use Rattle.transformers.specs.Lists.{list_at}
@@ -38,7 +38,7 @@ hull_from s (r ∷ rs) = hull_from (hull s r) rs
 
 -- what holds where one of some does
 abbrev pub some_holds : List System → System
-some_holds [] = nothing
+some_holds [] = infeasible
 some_holds (s ∷ ss) = hull_from s ss
 
 -- a test is true, or false, where p holds
@@ -52,13 +52,13 @@ if_false m e p = meet p (condition_of m.scalars e).no
 abbrev pub parts_of : LoopTree → ScopeTree → Found → LoopParts
 parts_of (tree.loop index first last step body) m t = loop_parts m (tree.loop index first last step body) (list_at t false body)
 
--- at the beginning of each turn of a DO, where p holds before it
-abbrev pub each_turn : LoopTree → ScopeTree → Found → System → System
-each_turn l m t p = let parts = parts_of l m t in at_turn parts (turn parts) p
+-- at the beginning of each iteration of a DO, where p holds before it
+abbrev pub each_iteration : LoopTree → ScopeTree → Found → System → System
+each_iteration l m t p = let parts = parts_of l m t in at_iteration parts (iteration parts) p
 
 -- after it, where q holds at the end of its body
 abbrev pub done : LoopTree → ScopeTree → Found → System → System → System
-done l m t p q = let parts = parts_of l m t in after_loop parts (turn parts) p q
+done l m t p q = let parts = parts_of l m t in after_loop parts (iteration parts) p q
 
 -- in a list that does not run from the first statement to the last: what it changes is not known
 abbrev pub throughout : Bool → StmtTrees → Found → System → System
@@ -111,8 +111,8 @@ abbrev mutual
   pub after_loop_of : LoopTree → ScopeTree → Found → System → System
   after_loop_of (tree.loop index first last step body) m t p =
       done (tree.loop index first last step body) m t p
-      (if unstructured false body then throughout false body t (each_turn (tree.loop index first last step body) m t p)
-      else after_each body m t (each_turn (tree.loop index first last step body) m t p))
+      (if unstructured false body then throughout false body t (each_iteration (tree.loop index first last step body) m t p)
+      else after_each body m t (each_iteration (tree.loop index first last step body) m t p))
 
 -- ---- where each statement begins, in the order of the text
 
@@ -156,8 +156,8 @@ abbrev mutual
 
   pub at_loop : LoopTree → ScopeTree → Found → System → List (At System)
   at_loop (tree.loop index first last step body) m t p =
-      if unstructured false body then at_all body m t (throughout false body t (each_turn (tree.loop index first last step body) m t p))
-      else at_each body m t (each_turn (tree.loop index first last step body) m t p)
+      if unstructured false body then at_all body m t (throughout false body t (each_iteration (tree.loop index first last step body) m t p))
+      else at_each body m t (each_iteration (tree.loop index first last step body) m t p)
 
 -- a list; `whole` says that it is the body of the module
 abbrev pub after_list : Bool → StmtTrees → ScopeTree → Found → System → System

@@ -8,7 +8,7 @@ ghost use Rattle.call_translation.specs.Sites.{site_tree, sites_in, AllSitesFit}
 ghost use Rattle.preconditions.specs.Statement.{hull_from};
 ghost use Rattle.preconditions.specs.Entry.{entries_of, initial_row, main_entry as main_entry_is, sites_entry as sites_entry_is, entry_of};
 
-use affine_forms::{is_cell, nothing};
+use affine_forms::{infeasible, is_cell};
 use affine_systems::{Row, System, Term, Var};
 use call_translation::{CallSites, Scope, Site, next_number, site_entry, tracked_of};
 use f77_results::View;
@@ -28,7 +28,7 @@ fn add_initial(
 ) -> Result<(), Memory>
     requires { AllRows IsGiven rows.old.items }
     ensures added { IfOk result (λ _. rows.new.items ≡ rows.old.items ++ initial_row number tracked (symbol_tree symbol.now)) }
-    ensures given { IfOk result (λ _. AllRows IsGiven rows.new.items) }
+    ensures fits { IfOk result (λ _. AllRows IsGiven rows.new.items) }
 {
     if !tracked {
         return Ok(());
@@ -54,7 +54,7 @@ fn add_initial(
 /// Of a main program: its tracked cells begin with their values from DATA.
 fn main_entry(alloc: Global, scope: &Scope<'_>) -> Result<System, Memory>
     ensures defined { IfOk result (λ s. s ≡ main_entry_is (scope_tree scope.now.symbols.now scope.now.tracked.now)) }
-    ensures gives { IfOk result Fits }
+    ensures fits { IfOk result Fits }
 {
     let mut rows = Vec::new(alloc);
     let mut number = 0u32;
@@ -77,7 +77,7 @@ fn hull_with_sites(
     requires first { Fits first }
     requires more { AllSitesFit (map site_tree more.now) }
     ensures defined { IfOk result (λ s. s ≡ hull_from first (entries_of (scope_tree scope.now.symbols.now scope.now.tracked.now) more.now)) }
-    ensures gives { IfOk result Fits }
+    ensures fits { IfOk result Fits }
 {
     let mut all = first;
     for site in more {
@@ -92,10 +92,10 @@ fn hull_with_sites(
 fn sites_entry(alloc: Global, scope: &Scope<'_>, sites: &[Site<System>]) -> Result<System, Memory>
     requires { AllSitesFit (map site_tree sites.now) }
     ensures defined { IfOk result (λ s. s ≡ sites_entry_is (scope_tree scope.now.symbols.now scope.now.tracked.now) (map site_tree sites.now)) }
-    ensures gives { IfOk result Fits }
+    ensures fits { IfOk result Fits }
 {
     match sites {
-        [] => nothing(alloc),
+        [] => infeasible(alloc),
         [first, more @ ..] => {
             let entry = site_entry(alloc, scope, first)?;
             hull_with_sites(alloc, scope, entry, more)
@@ -112,7 +112,7 @@ pub fn entry_from(
 ) -> Result<System, Memory>
     requires { AllSitesFit (sites_in calls.now) }
     ensures defined { IfOk result (λ s. s ≡ entry_of view.now.«module».now.main (scope_of view.now.«module».now view.now.symbols.now view.now.graph.now.untracked) (sites_in calls.now)) }
-    ensures gives { IfOk result Fits }
+    ensures fits { IfOk result Fits }
 {
     let tracked = tracked_of(alloc, view)?;
     let scope = Scope {

@@ -27,7 +27,7 @@ pub fn preconditions(
     requires own { ResultsFit own.now.at }
     requires entry { Fits entry.now }
     ensures defined { IfOk result (λ r. r ≡ preconditions_of (stmt_trees view.now.«module».now.body) (scope_of view.now.«module».now view.now.symbols.now view.now.graph.now.untracked) (transformer_at_is own.now.at) entry.now) }
-    ensures gives { IfOk result (λ r. EachFits r.at) }
+    ensures fits { IfOk result (λ r. EachFits r.at) }
 {
     let tracked = tracked_of(alloc, view)?;
     let scope = Scope {

@@ -9,7 +9,7 @@ ghost use Rattle.transformers.specs.Statement.{at as at_is};
 ghost use Rattle.preconditions.specs.Statement.{after as after_is, after_what as after_what_is, after_each as after_each_is, after_list as after_list_is, after_arms as after_arms_is, after_loop_of, past_arms, if_true, if_false, hull_from, some_holds as some_holds_is, throughout as throughout_is, at_stmt, at_parts, at_each, at_all, at_list, at_arms, at_loop, AllFit, EachFits};
 ghost use Rattle.preconditions.specs.Known.{scope_in, found_in, KnownFits};
 
-use affine_forms::{condition_of, nothing};
+use affine_forms::{condition_of, infeasible};
 use affine_systems::{System, meet};
 use call_translation::Scope;
 use f77_ast::{Arm, Expr, Loop, Stmt, StmtId, What};
@@ -17,7 +17,9 @@ use f77_results::At;
 use fx_lists::List;
 use hull_projection::hull;
 use std::alloc::{AllocError as Memory, Global};
-use transformer_algebra::{Transformer, after_loop, apply, at_turn, turn, unchanging, without};
+use transformer_algebra::{
+    Transformer, after_loop, apply, at_iteration, iteration, unchanging, without,
+};
 use transformers::{is_unstructured, list_at, loop_parts, value_at};
 
 /// What is known around a statement: what its module is looked at with, and the transformers of its statements.
@@ -33,8 +35,8 @@ pub type Found = List<At<System>>;
 /// A copy.
 fn copy_system(s: &System) -> Result<System, Memory>
     requires { Fits s.now }
-    ensures value { IfOk result (λ t. t ≡ s.now) }
-    ensures gives { IfOk result Fits }
+    ensures defined { IfOk result (λ t. t ≡ s.now) }
+    ensures fits { IfOk result Fits }
 {
     Ok(s.clone()?)
 }
@@ -62,7 +64,7 @@ fn both_sides(alloc: Global, known: &Known<'_>, test: &Expr, p: &System) -> Resu
     requires { Fits p.now }
     ensures yes { IfOk result (λ r. r.yes ≡ if_true (scope_in known.now) (expr_tree test.now) p.now) }
     ensures no { IfOk result (λ r. r.no ≡ if_false (scope_in known.now) (expr_tree test.now) p.now) }
-    ensures gives { IfOk result (λ r. Fits r.yes × Fits r.no) }
+    ensures fits { IfOk result (λ r. Fits r.yes × Fits r.no) }
 {
     let condition = condition_of(alloc, known.scope.symbols, known.scope.tracked, test)?;
     Ok(Sides {
@@ -73,11 +75,11 @@ fn both_sides(alloc: Global, known: &Known<'_>, test: &Expr, p: &System) -> Resu
 
 /// After a statement without parts.
 #[tactic(auto, using(crate::proofs::StatementLaws::results_found))]
-fn applied(alloc: Global, known: &Known<'_>, id: StmtId, p: &System) -> Result<System, Memory>
+fn after_leaf(alloc: Global, known: &Known<'_>, id: StmtId, p: &System) -> Result<System, Memory>
     requires known { KnownFits known.now }
     requires before { Fits p.now }
-    ensures value { IfOk result (λ q. q ≡ apply (found_in known.now id) p.now) }
-    ensures gives { IfOk result Fits }
+    ensures defined { IfOk result (λ q. q ≡ apply (found_in known.now id) p.now) }
+    ensures fits { IfOk result Fits }
 {
     match value_at(known.own, id) {
         None => apply(alloc, &unchanging(alloc), p),
@@ -90,8 +92,8 @@ fn applied(alloc: Global, known: &Known<'_>, id: StmtId, p: &System) -> Result<S
 fn hull_with(alloc: Global, first: System, more: &[System]) -> Result<System, Memory>
     requires first { Fits first }
     requires more { AllFit more.now }
-    ensures value { IfOk result (λ q. q ≡ hull_from first more.now) }
-    ensures gives { IfOk result Fits }
+    ensures defined { IfOk result (λ q. q ≡ hull_from first more.now) }
+    ensures fits { IfOk result Fits }
 {
     let mut hulls = first;
     for s in more {
@@ -103,11 +105,11 @@ fn hull_with(alloc: Global, first: System, more: &[System]) -> Result<System, Me
 /// The hulls, from left to right.
 fn some_holds(alloc: Global, all: &[System]) -> Result<System, Memory>
     requires { AllFit all.now }
-    ensures value { IfOk result (λ q. q ≡ some_holds_is all.now) }
-    ensures gives { IfOk result Fits }
+    ensures defined { IfOk result (λ q. q ≡ some_holds_is all.now) }
+    ensures fits { IfOk result Fits }
 {
     match all {
-        [] => nothing(alloc),
+        [] => infeasible(alloc),
         [first, more @ ..] => {
             let first = copy_system(first)?;
             hull_with(alloc, first, more)
@@ -119,8 +121,8 @@ fn some_holds(alloc: Global, all: &[System]) -> Result<System, Memory>
 fn after_some(alloc: Global, mut ends: Vec<System>, last: System) -> Result<System, Memory>
     requires ends { AllFit ends.items }
     requires last { Fits last }
-    ensures value { IfOk result (λ q. q ≡ some_holds_is (ends.items ++ last ∷ [])) }
-    ensures gives { IfOk result Fits }
+    ensures defined { IfOk result (λ q. q ≡ some_holds_is (ends.items ++ last ∷ [])) }
+    ensures fits { IfOk result Fits }
 {
     ends.push(last)?;
     some_holds(alloc, ends.as_slice())
@@ -136,8 +138,8 @@ fn throughout(
 ) -> Result<System, Memory>
     requires known { KnownFits known.now }
     requires before { Fits p.now }
-    ensures value { IfOk result (λ q. q ≡ throughout_is whole (stmt_trees list.now) (found_in known.now) p.now) }
-    ensures gives { IfOk result Fits }
+    ensures defined { IfOk result (λ q. q ≡ throughout_is whole (stmt_trees list.now) (found_in known.now) p.now) }
+    ensures fits { IfOk result Fits }
 {
     let t = list_at(alloc, list, whole, known.own)?;
     without(alloc, t.cells.as_slice(), p)
@@ -156,10 +158,10 @@ fn after(
     requires known { KnownFits known.now }
     requires before { Fits p }
     requires found { EachFits at.old }
-    ensures value { IfOk result (λ q. q ≡ after_is (stmt_tree s.now) (scope_in known.now) (found_in known.now) p) }
-    ensures gives { IfOk result Fits }
+    ensures defined { IfOk result (λ q. q ≡ after_is (stmt_tree s.now) (scope_in known.now) (found_in known.now) p) }
+    ensures fits { IfOk result Fits }
     ensures added { IfOk result (λ _. at.new ≡ at.old ++ at_stmt (stmt_tree s.now) (scope_in known.now) (found_in known.now) p) }
-    ensures fits { IfOk result (λ _. EachFits at.new) }
+    ensures results_fit { IfOk result (λ _. EachFits at.new) }
 {
     push_found(at, s.id, &p)?;
     after_what(alloc, known, &s.what, s.id, p, at)
@@ -179,10 +181,10 @@ fn after_what(
     requires known { KnownFits known.now }
     requires before { Fits p }
     requires found { EachFits at.old }
-    ensures value { IfOk result (λ q. q ≡ after_what_is (what_tree what.now) id (scope_in known.now) (found_in known.now) p) }
-    ensures gives { IfOk result Fits }
+    ensures defined { IfOk result (λ q. q ≡ after_what_is (what_tree what.now) id (scope_in known.now) (found_in known.now) p) }
+    ensures fits { IfOk result Fits }
     ensures added { IfOk result (λ _. at.new ≡ at.old ++ at_parts (what_tree what.now) (scope_in known.now) (found_in known.now) p) }
-    ensures fits { IfOk result (λ _. EachFits at.new) }
+    ensures results_fit { IfOk result (λ _. EachFits at.new) }
 {
     match what {
         What::If(arms, other) => {
@@ -209,7 +211,7 @@ fn after_what(
         | What::Return
         | What::Stop(_)
         | What::Print(_)
-        | What::Read(_) => applied(alloc, known, id, &p),
+        | What::Read(_) => after_leaf(alloc, known, id, &p),
     }
 }
 
@@ -227,10 +229,10 @@ pub fn after_list(
     requires known { KnownFits known.now }
     requires before { Fits p }
     requires found { EachFits at.old }
-    ensures value { IfOk result (λ q. q ≡ after_list_is whole (stmt_trees list.now) (scope_in known.now) (found_in known.now) p) }
-    ensures gives { IfOk result Fits }
+    ensures defined { IfOk result (λ q. q ≡ after_list_is whole (stmt_trees list.now) (scope_in known.now) (found_in known.now) p) }
+    ensures fits { IfOk result Fits }
     ensures added { IfOk result (λ _. at.new ≡ at.old ++ at_list whole (stmt_trees list.now) (scope_in known.now) (found_in known.now) p) }
-    ensures fits { IfOk result (λ _. EachFits at.new) }
+    ensures results_fit { IfOk result (λ _. EachFits at.new) }
 {
     if is_unstructured(alloc, list, whole)? {
         let all = throughout(alloc, known, list, whole, &p)?;
@@ -277,10 +279,10 @@ fn after_each(
     requires known { KnownFits known.now }
     requires before { Fits p }
     requires found { EachFits at.old }
-    ensures value { IfOk result (λ q. q ≡ after_each_is (stmt_trees list.now) (scope_in known.now) (found_in known.now) p) }
-    ensures gives { IfOk result Fits }
+    ensures defined { IfOk result (λ q. q ≡ after_each_is (stmt_trees list.now) (scope_in known.now) (found_in known.now) p) }
+    ensures fits { IfOk result Fits }
     ensures added { IfOk result (λ _. at.new ≡ at.old ++ at_each (stmt_trees list.now) (scope_in known.now) (found_in known.now) p) }
-    ensures fits { IfOk result (λ _. EachFits at.new) }
+    ensures results_fit { IfOk result (λ _. EachFits at.new) }
 {
     let mut holds = p;
     for s in list.as_slice() {
@@ -305,12 +307,12 @@ fn after_arms(
     requires before { Fits p }
     requires ends { AllFit ends.old.items }
     requires found { EachFits at.old }
-    ensures value { IfOk result (λ q. q ≡ past_arms (arm_trees arms.now) (scope_in known.now) p) }
-    ensures gives { IfOk result Fits }
+    ensures defined { IfOk result (λ q. q ≡ past_arms (arm_trees arms.now) (scope_in known.now) p) }
+    ensures fits { IfOk result Fits }
     ensures ends { IfOk result (λ _. ends.new.items ≡ ends.old.items ++ after_arms_is (arm_trees arms.now) (scope_in known.now) (found_in known.now) p) }
     ensures ends_fit { IfOk result (λ _. AllFit ends.new.items) }
     ensures added { IfOk result (λ _. at.new ≡ at.old ++ at_arms (arm_trees arms.now) (scope_in known.now) (found_in known.now) p) }
-    ensures fits { IfOk result (λ _. EachFits at.new) }
+    ensures results_fit { IfOk result (λ _. EachFits at.new) }
 {
     let mut before = p;
     for arm in arms.as_slice() {
@@ -335,15 +337,15 @@ fn after_do(
     requires known { KnownFits known.now }
     requires before { Fits p.now }
     requires found { EachFits at.old }
-    ensures value { IfOk result (λ q. q ≡ after_loop_of (loop_tree l.now) (scope_in known.now) (found_in known.now) p.now) }
-    ensures gives { IfOk result Fits }
+    ensures defined { IfOk result (λ q. q ≡ after_loop_of (loop_tree l.now) (scope_in known.now) (found_in known.now) p.now) }
+    ensures fits { IfOk result Fits }
     ensures added { IfOk result (λ _. at.new ≡ at.old ++ at_loop (loop_tree l.now) (scope_in known.now) (found_in known.now) p.now) }
-    ensures fits { IfOk result (λ _. EachFits at.new) }
+    ensures results_fit { IfOk result (λ _. EachFits at.new) }
 {
     let body = list_at(alloc, &l.body, false, known.own)?;
     let parts = loop_parts(alloc, known.scope, l, body)?;
-    let once = turn(alloc, &parts)?;
-    let each = at_turn(alloc, &parts, &once, p)?;
+    let once = iteration(alloc, &parts)?;
+    let each = at_iteration(alloc, &parts, &once, p)?;
     let end = after_list(alloc, known, &l.body, false, each, at)?;
     after_loop(alloc, &parts, &once, p, &end)
 }

@@ -1,5 +1,6 @@
 -- What the calls on systems keep backwards, where no row was lost; and that a result which lost no row has operands that lost none.
 use Rattle.std.proofs.Common.{◌≡◌, List, [], ◌∷◌, ◌++◌, map, ◌||◌, true, false}
+use Rattle.std.proofs.lemmas.Bool.{or_parts}
 use Rattle.affine_systems.specs.declared.row.Var.{Var}
 use Rattle.affine_systems.specs.declared.row.Row.{Row}
 use Rattle.affine_systems.specs.declared.row.System.{System}
@@ -9,7 +10,7 @@ use Rattle.affine_systems.specs.Items.{items_from}
 use Rattle.affine_systems.specs.Tidy.{tidy, tidy_items}
 use Rattle.affine_systems.specs.Calls.{meet}
 use Rattle.affine_systems.specs.Eliminate.{eliminate, eliminate_item}
-use Rattle.affine_systems.proofs.TidyLaws.{tidy_back, either_false}
+use Rattle.affine_systems.proofs.TidyLaws.{tidy_back}
 use Rattle.affine_systems.proofs.CallLaws.{append_all, renamed_same}
 use Rattle.hull_projection.specs.declared.projection.Shadow.{Shadow}
 use Rattle.hull_projection.specs.Project.{shadow, shadow_after, eliminate_each, project}
@@ -20,7 +21,7 @@ use Rattle.system_renaming.specs.Renaming.{renamed_by, rename_all, push_rows}
 -- ---- no row was lost
 
 pub tidy_weak : (s : System) → (tidy s).weak ≡ false → s.weak ≡ false
-tidy_weak s h = (either_false s.weak (tidy_items false (items_from 0 s.rows)).lost h).0
+tidy_weak s h = (or_parts s.weak (tidy_items false (items_from 0 s.rows)).lost h).0
 
 pub rename_weak : (ns : List Naming) (s : System) → (rename_all ns s).weak ≡ false → s.weak ≡ false
 rename_weak ns s h = tidy_weak (system (map (renamed_row (renamed_by ns)) s.rows) s.weak) h
@@ -29,10 +30,10 @@ pub push_weak : (s : System) (rs : List Row) → (push_rows s rs).weak ≡ false
 push_weak s rs h = tidy_weak (system (s.rows ++ rs) s.weak) h
 
 pub meet_weak : (a b : System) → (meet a b).weak ≡ false → (a.weak ≡ false) × (b.weak ≡ false)
-meet_weak a b h = either_false a.weak b.weak (tidy_weak (system (a.rows ++ b.rows) (a.weak || b.weak)) h)
+meet_weak a b h = or_parts a.weak b.weak (tidy_weak (system (a.rows ++ b.rows) (a.weak || b.weak)) h)
 
 eliminate_weak : (s : System) (v : Var) → (eliminate s v).system.weak ≡ false → s.weak ≡ false
-eliminate_weak s v h = (either_false s.weak (eliminate_item false v (items_from 0 s.rows)).lost h).0
+eliminate_weak s v h = (or_parts s.weak (eliminate_item false v (items_from 0 s.rows)).lost h).0
 
 each_weak : (s : Shadow) (vs : List Var) → (eliminate_each s vs).system.weak ≡ false → s.system.weak ≡ false
 each_weak s [] h = h

@@ -1,6 +1,7 @@
 -- A system that describes subscripts after a statement is one before it; where it is exact, a point before has one after.
 use Rattle.std.proofs.Common.{◌≡◌, ℕ, List, [], ◌∷◌, ◌||◌, ◌&&◌, Bool, true, false, refl, sym, ap, ◌∙◌, subst, ℤ, ◌↔◌, nat_eq, Option, Some, None, ◌⊎◌, inl, inr, ⊎_elim, true≢false}
 use Rattle.std.specs.Prelude.{if◌then◌else◌, not}
+use Rattle.std.proofs.lemmas.Bool.{or_parts, or_left, or_right, and_parts, not-true}
 use Rattle.affine_systems.specs.declared.row.Var.{Var}
 use Rattle.affine_systems.specs.declared.row.Var.TheVariants.{Cell, Exit, Phi, Aux}
 use Rattle.affine_systems.specs.declared.row.Term.{Term}
@@ -13,7 +14,7 @@ use Rattle.affine_systems.specs.Tidy.{is_unit, by_row}
 use Rattle.affine_systems.specs.Calls.{meet, unless_too_big, substitute}
 use Rattle.affine_systems.proofs.TermLaws.{var_eq-true}
 use Rattle.affine_systems.proofs.NormalLaws.{Agrees, normal_agrees}
-use Rattle.affine_systems.proofs.TidyLaws.{tidy_holds, tidy_back, either_false, equally, not_false_row}
+use Rattle.affine_systems.proofs.TidyLaws.{tidy_holds, tidy_back, equally, not_false_row}
 use Rattle.affine_systems.proofs.CallLaws.{meet_holds, HoldsIf, substitute_same}
 use Rattle.affine_systems.proofs.LackLaws.{Nil, RowsNil}
 use Rattle.hull_projection.specs.declared.projection.Shadow.{Shadow}
@@ -26,11 +27,11 @@ use Rattle.transformer_algebra.specs.declared.transformer.Transformer.{Transform
 use Rattle.transformer_algebra.specs.Cells.{has}
 use Rattle.transformer_algebra.specs.Claims.{Scene, AtStart, Does}
 use Rattle.transformer_algebra.proofs.CellLaws.{nat_same, nat_eq_same, clashes, exit_same}
-use Rattle.transformer_algebra.proofs.ElsewhereLaws.{rows_elsewhere}
+use Rattle.hull_projection.proofs.ClosureLaws.{rows_elsewhere}
 use Rattle.region_sets.specs.Naming.{in_terms, in_rows, named_cells, to_exits, exit_vars}
-use Rattle.region_sets.specs.Compose.{is_other_exit, has_other_exit, is_exit_row, exit_row, settled_by, settled, put_in, before_rows, put_in_all, is_lost, loses_row, put_exit, on_row, put_exits, led_to, put_or_led, composed, compose_piece}
+use Rattle.region_sets.specs.Compose.{is_other_exit, has_other_exit, is_exit_row, exit_row, settled_by, normal_form, put_in, before_rows, put_in_all, is_lost, loses_row, put_exit, on_row, put_exits, led_to, put_or_led, through_transformer, compose_piece}
 use Rattle.region_sets.specs.Claims.{HasSubscripts, Describes}
-use Rattle.region_sets.proofs.NameLaws.{or_left, or_right, and_both, not_true, Agree, flip, terms_agree, rows_agree, has_named, named_has, exit_of_named, cell_of_other, stays_exit, stays_phi, stays_aux}
+use Rattle.region_sets.proofs.NameLaws.{Agree, flip, terms_agree, rows_agree, has_named, named_has, exit_of_named, cell_of_other, stays_exit, stays_phi, stays_aux}
 use Rattle.region_sets.proofs.NilLaws.{NormalNil, normal_nil, by_row_nil, by_row_gone, off_terms}
 use Rattle.region_sets.proofs.BackLaws.{tidy_weak, rename_all_back}
 
@@ -50,11 +51,11 @@ record Says (c : ℕ) (e : Row) : Type 0 where
 
 says : (c : ℕ) (e : Row) → is_exit_row c e ≡ true → Says c e
 says c e h =
-    let a = and_both e.equal (is_unit (factor_of (Exit c) e.terms) && not (has_other_exit c e.terms)) h in
-    let b = and_both (is_unit (factor_of (Exit c) e.terms)) (not (has_other_exit c e.terms)) a.1 in
-    record { equal = a.0; unit = b.0; other = not_true (has_other_exit c e.terms) b.1 }
+    let a = and_parts e.equal (is_unit (factor_of (Exit c) e.terms) && not (has_other_exit c e.terms)) h in
+    let b = and_parts (is_unit (factor_of (Exit c) e.terms)) (not (has_other_exit c e.terms)) a.1 in
+    record { equal = a.0; unit = b.0; other = not-true (has_other_exit c e.terms) b.1 }
 
-settled_same : (q : Point) (P : Type 0) (o : Option Row) → HoldsIf q P o → HoldsIf q P (settled o)
+settled_same : (q : Point) (P : Type 0) (o : Option Row) → HoldsIf q P o → HoldsIf q P (normal_form o)
 settled_same q P None h = h
 settled_same q P (Some r) h = go (normal false r) (normal_agrees q false r)
   where
@@ -68,7 +69,7 @@ settled_same q P (Some r) h = go (normal false r) (normal_agrees q false r)
 put_same : (q : Point) (c : ℕ) (e r : Row) → value q e.terms ≡ e.bound → HoldsIf q (Holds q r) (put_in c e r)
 put_same q c e r h = go (in_terms (Exit c) r.terms)
   where
-    go : (b : Bool) → HoldsIf q (Holds q r) (if b then settled (substitute r (Exit c) e) else Some r)
+    go : (b : Bool) → HoldsIf q (Holds q r) (if b then normal_form (substitute r (Exit c) e) else Some r)
     go true = settled_same q (Holds q r) (substitute r (Exit c) e) (substitute_same q r (Exit c) e h)
     go false = ((λ k. k), (λ k. k))
 
@@ -100,7 +101,7 @@ too_big_nil u r Always k h = h
 too_big_nil u r Never k h = h
 too_big_nil u r TooBig k h = tt
 
-settled_nil : (u : Point) (o : Option Row) → NilIf u o → NilIf u (settled o)
+settled_nil : (u : Point) (o : Option Row) → NilIf u o → NilIf u (normal_form o)
 settled_nil u None h = h
 settled_nil u (Some r) h = go (normal false r) (normal_nil u false r h)
   where
@@ -110,21 +111,21 @@ settled_nil u (Some r) h = go (normal false r) (normal_nil u false r h)
     go Never k = refl
     go TooBig k = h
 
-substitute_nil : (u : Point) (r : Row) (v : Var) (e : Row) → Nil u (by_row r v e) → NilIf u (settled (substitute r v e))
+substitute_nil : (u : Point) (r : Row) (v : Var) (e : Row) → Nil u (by_row r v e) → NilIf u (normal_form (substitute r v e))
 substitute_nil u r v e h = settled_nil u (substitute r v e) (too_big_nil u (by_row r v e) (normal false (by_row r v e)) (normal_nil u false (by_row r v e) h) h)
 
 -- the exit is gone
 put_gone : (c : ℕ) (e r : Row) → Says c e → NilIf (only (Exit c)) (put_in c e r)
 put_gone c e r s = go (in_terms (Exit c) r.terms) refl
   where
-    go : (b : Bool) → in_terms (Exit c) r.terms ≡ b → NilIf (only (Exit c)) (if b then settled (substitute r (Exit c) e) else Some r)
+    go : (b : Bool) → in_terms (Exit c) r.terms ≡ b → NilIf (only (Exit c)) (if b then normal_form (substitute r (Exit c) e) else Some r)
     go true k = substitute_nil (only (Exit c)) r (Exit c) e (by_row_gone r (Exit c) e s.unit)
     go false k = off_terms (Exit c) r.terms k
 
 put_nil : (u : Point) (c : ℕ) (e r : Row) → Nil u e → Nil u r → NilIf u (put_in c e r)
 put_nil u c e r z h = go (in_terms (Exit c) r.terms)
   where
-    go : (b : Bool) → NilIf u (if b then settled (substitute r (Exit c) e) else Some r)
+    go : (b : Bool) → NilIf u (if b then normal_form (substitute r (Exit c) e) else Some r)
     go true = substitute_nil u r (Exit c) e (by_row_nil u r (Exit c) e h z)
     go false = h
 
@@ -295,8 +296,8 @@ module _ (m : Scene) (t : Transformer) (x y : ℕ → ℤ) (d : Does m t x y) (s
           let is_there = λ (p : Point) (h : HoldsAll (at_all p) t.system.rows). row_there e c p mine w.row_says (w.holds (at_all p) h) in
           record {
             forward = λ p h z. r.forward p h (put_holds (at_named p) c e a.rows (is_there p h) z);
-            backward = λ l p h z. put_back (at_named p) c e a.rows (is_there p h) (either_false a.weak (loses_row c e a.rows) (r.strong l)).1 (r.backward l p h z);
-            strong = λ l. (either_false a.weak (loses_row c e a.rows) (r.strong l)).0;
+            backward = λ l p h z. put_back (at_named p) c e a.rows (is_there p h) (or_parts a.weak (loses_row c e a.rows) (r.strong l)).1 (r.backward l p h z);
+            strong = λ l. (or_parts a.weak (loses_row c e a.rows) (r.strong l)).0;
             off = λ z h. r.off z (exit_nil c z e a.rows w.row_says h);
             gone = λ z h. one z (nat_eq c z) refl h (λ l. r.gone z l) (r.off c (all_gone c e a.rows w.row_says));
           }
@@ -333,7 +334,7 @@ module _ (m : Scene) (t : Transformer) (x y : ℕ → ℤ) (d : Does m t x y) (s
   by_cells [] w = shadow s true
   by_cells (c ∷ cs) w = put_or_led w (c ∷ cs) t s
 
-  composed_is : (cs : List ℕ) → by_cells cs (put_exits cs t.system.rows (rename_all (to_exits cs) s)) ≡ composed cs t s
+  composed_is : (cs : List ℕ) → by_cells cs (put_exits cs t.system.rows (rename_all (to_exits cs) s)) ≡ through_transformer cs t s
   composed_is [] = refl
   composed_is (c ∷ cs) = refl
 

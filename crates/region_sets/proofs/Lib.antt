@@ -11,3 +11,5 @@ pub mod SetSteps
 pub mod PutSteps
 pub mod RowSteps
 pub mod ListSteps
+pub mod SetLaws
+pub mod StepLaws

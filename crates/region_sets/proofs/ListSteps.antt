@@ -6,12 +6,12 @@ use Rattle.f77_results.specs.declared.results.At.{At}
 use Rattle.transformer_algebra.specs.declared.transformer.Transformer.{Transformer}
 use Rattle.transformers.specs.Lists.{first_at, or_first, value_at}
 use Rattle.region_sets.specs.declared.region.Region.{Region}
-use Rattle.region_sets.specs.Sets.{SetFits, gathered}
+use Rattle.region_sets.specs.Sets.{SetFits, unite_all}
 use Rattle.region_sets.specs.Lists.{SetsFit, all_composed, in_order}
 
-pub order_step : (t : ℕ → Transformer) (f : ℕ → List Region) (ns : List ℕ) (i d : ℕ) (set new : List Region) → i < length ns → set ≡ in_order t f (drop (i + 1) ns) → new ≡ gathered (f (get_or ns i d) ++ all_composed (t (get_or ns i d)) set) → new ≡ in_order t f (drop i ns)
+pub order_step : (t : ℕ → Transformer) (f : ℕ → List Region) (ns : List ℕ) (i d : ℕ) (set new : List Region) → i < length ns → set ≡ in_order t f (drop (i + 1) ns) → new ≡ unite_all (f (get_or ns i d) ++ all_composed (t (get_or ns i d)) set) → new ≡ in_order t f (drop i ns)
 order_step t f ns i d set new l e h =
-    h ∙ (ap (λ (us : List Region). gathered (f (get_or ns i d) ++ all_composed (t (get_or ns i d)) us)) (e ∙ ap (λ n. in_order t f (drop n ns)) (add-one i)) ∙ ap (in_order t f) (sym (drop-cons ns i d l)))
+    h ∙ (ap (λ (us : List Region). unite_all (f (get_or ns i d) ++ all_composed (t (get_or ns i d)) us)) (e ∙ ap (λ n. in_order t f (drop n ns)) (add-one i)) ∙ ap (in_order t f) (sym (drop-cons ns i d l)))
 
 -- ---- sets that are looked up
 

@@ -3,6 +3,7 @@ use Rattle.std.proofs.Common.{◌≡◌, ℕ, zero, suc, List, [], ◌∷◌, �
 use Rattle.std.specs.Prelude.{if◌then◌else◌, is_some}
 use Rattle.std.proofs.lemmas.Int.{ints}
 use Rattle.std.proofs.lemmas.Bool.Decides.{nat_tests}
+use Rattle.std.proofs.lemmas.Bool.{or_left, and_parts}
 use Rattle.affine_systems.specs.declared.row.Var.{Var}
 use Rattle.affine_systems.specs.declared.row.Var.TheVariants.{Cell, Exit, Phi, Aux}
 use Rattle.affine_systems.specs.declared.row.System.{System}
@@ -24,7 +25,7 @@ use Rattle.affine_forms.specs.Claims.{form_value}
 use Rattle.affine_forms.specs.Comparisons.{var_form, at_most_row, same_row}
 use Rattle.affine_forms.proofs.RowLaws.{at_most_holds, same_holds}
 use Rattle.transformer_algebra.specs.Cells.{has, others}
-use Rattle.transformer_algebra.specs.Transformers.{unchanging, assigned, exit_system, closed}
+use Rattle.transformer_algebra.specs.Transformers.{unchanging, assign, exit_system, iterate}
 use Rattle.transformer_algebra.specs.Loops.{goes_up, within_row, if_counted}
 use Rattle.transformer_algebra.specs.Claims.{Scene, AtStart, AtEnd, Does, Means, NotBeyond}
 use Rattle.transformer_algebra.proofs.CellLaws.{nat_same, nat_eq_same, clashes, right_in}
@@ -32,9 +33,9 @@ use Rattle.transformer_algebra.proofs.RuleLaws.{does_then}
 use Rattle.transformer_algebra.proofs.TurnLaws.{kept_chain, does_closed}
 use Rattle.region_sets.specs.declared.range.Range.{Range}
 use Rattle.region_sets.specs.Naming.{in_rows, named_cells, to_exits, exit_vars}
-use Rattle.region_sets.specs.Loops.{index_form, start_of, step_rows, first_rows, last_rows, counted_rows, range_rows, is_counted, begun, turns, turns_at, at_index, loop_vars, led_to, looped, loop_piece}
+use Rattle.region_sets.specs.Loops.{index_form, start_of, step_rows, first_rows, last_rows, counted_rows, range_rows, is_counted, first_assignment, iterations, iterations_at, at_index, loop_vars, led_to, through_loop, loop_piece}
 use Rattle.region_sets.specs.Claims.{Describes, InRange, Iteration, Begins}
-use Rattle.region_sets.proofs.NameLaws.{or_left, and_both, Agree, flip, rows_agree, has_named, named_has, has_others, others_has, exit_of_named, cell_of_other, stays_exit, stays_phi, stays_aux}
+use Rattle.region_sets.proofs.NameLaws.{Agree, flip, rows_agree, has_named, named_has, has_others, others_has, exit_of_named, cell_of_other, stays_exit, stays_phi, stays_aux}
 use Rattle.region_sets.proofs.BackLaws.{push_weak, project_weak, rename_all_back, push_rows_back}
 use Rattle.region_sets.proofs.ComposeLaws.{ends_at, ends_off}
 
@@ -217,7 +218,7 @@ module _ (m : Scene) (g : Range) (x : ℕ → ℤ) (a b : ℤ) (bg : Begins m g 
 
   -- ---- from the DO to an iteration
 
-  does_begun : (n : ℤ) (k : ℕ) (y : ℕ → ℤ) (it : Iteration m g x a b n k y) → Does m (begun g) x it.begin
+  does_begun : (n : ℤ) (k : ℕ) (y : ℕ → ℤ) (it : Iteration m g x a b n k y) → Does m (first_assignment g) x it.begin
   does_begun n k y it = go (has g.turn.cells g.index) refl
     where
       no_rest : (c : ℕ) → (nat_eq g.index c || false) ≡ false → nat_eq g.index c ≡ false
@@ -236,7 +237,7 @@ module _ (m : Scene) (g : Range) (x : ℕ → ℤ) (a b : ℤ) (bg : Begins m g 
       means None = tt
       means (Some s) = bg.first
 
-      go : (h : Bool) → has g.turn.cells g.index ≡ h → Does m (if h then assigned g.index (if_counted g.step g.first) else unchanging) x it.begin
+      go : (h : Bool) → has g.turn.cells g.index ≡ h → Does m (if h then assign g.index (if_counted g.step g.first) else unchanging) x it.begin
       go true h = record {
         relates = λ p st en. exit_holds (if_counted g.step g.first) p (means g.step) st (en g.index (bg.tracks g.index h) (or_left (nat_eq g.index g.index) false (nat_eq_same g.index)) ∙ it.wrote.there);
         kept = record { cells = λ c t e. it.wrote.cells c t (no_rest c e); foreign = λ u t e. it.wrote.foreign u t };
@@ -250,8 +251,8 @@ module _ (m : Scene) (g : Range) (x : ℕ → ℤ) (a b : ℤ) (bg : Begins m g 
           off c t true e = clashes (has g.turn.cells g.index) (bg.index (subst (λ (j : ℕ). m.tracked j ≡ true) (sym (nat_same g.index c e)) t)) h
           off c t false e = refl
 
-  does_turns : (n : ℤ) (k : ℕ) (y : ℕ → ℤ) → Iteration m g x a b n k y → Does m (turns g) x y
-  does_turns n k y it = does_then m (begun g) (closed g.turn) x it.begin y (does_begun n k y it) (does_closed m g.turn it.begin y bg.tracks it.chain)
+  does_turns : (n : ℤ) (k : ℕ) (y : ℕ → ℤ) → Iteration m g x a b n k y → Does m (iterations g) x y
+  does_turns n k y it = does_then m (first_assignment g) (iterate g.turn) x it.begin y (does_begun n k y it) (does_closed m g.turn it.begin y bg.tracks it.chain)
 
   module _ (s : System) where
     abbrev ns : List ℕ
@@ -284,7 +285,7 @@ module _ (m : Scene) (g : Range) (x : ℕ → ℤ) (a b : ℤ) (bg : Begins m g 
     plain e n y q h0 (Aux c) r = sym (ap q (no_cell (Aux c) g.index (aux_no_cell c g.index)))
 
     abbrev ended : (ℕ → ℤ) → Point → Var → ℤ
-    ended y p = ends_at (turns g).cells (yc y) p
+    ended y p = ends_at (iterations g).cells (yc y) p
 
     -- what stands for a variable in the renamed system
     abbrev stands : Var → Var
@@ -298,7 +299,7 @@ module _ (m : Scene) (g : Range) (x : ℕ → ℤ) (a b : ℤ) (bg : Begins m g 
         stands_cell d = ap (renamed_by (to_exits ns)) (other_is g.index c d)
 
         two : (j : Bool) → has g.turn.cells c ≡ j → nat_eq g.index c ≡ false → (w : Bool) → has ns c ≡ w → (if j then yc y c else p (Cell c)) ≡ ended y p (stands (Cell c))
-        two true f d true k = sym (ap (ended y p) (stands_cell d ∙ exit_of_named ns c k) ∙ ap (λ (z : Bool). if z then yc y c else p (Exit c)) (right_in (begun g).cells g.turn.cells c f))
+        two true f d true k = sym (ap (ended y p) (stands_cell d ∙ exit_of_named ns c k) ∙ ap (λ (z : Bool). if z then yc y c else p (Exit c)) (right_in (first_assignment g).cells g.turn.cells c f))
         two true f d false k = clashes (has ns c) (has_named (others g.turn.cells (g.index ∷ [])) s c (has_others g.index g.turn.cells c d f) r) k
         two false f d true k = clashes (has g.turn.cells c) (others_has g.index g.turn.cells c (named_has (others g.turn.cells (g.index ∷ [])) s c k)).0 f
         two false f d false k = sym (ap (ended y p) (stands_cell d ∙ cell_of_other ns c k))
@@ -313,7 +314,7 @@ module _ (m : Scene) (g : Range) (x : ℕ → ℤ) (a b : ℤ) (bg : Begins m g 
     pub piece_of_turn : (n : ℤ) (k : ℕ) (y : ℕ → ℤ) → Iteration m g x a b n k y → (phi : ℕ → ℤ) → Describes m s y phi → Describes m (loop_piece g s).system x phi
     piece_of_turn n k y it phi l = go ns refl
       where
-        go : (cs : List ℕ) → ns ≡ cs → Describes m (looped cs g s).system x phi
+        go : (cs : List ℕ) → ns ≡ cs → Describes m (through_loop cs g s).system x phi
         go [] e = λ p st ph.
             let p1 = with_turn n k p in
             let here = rename_all_holds (naming (Cell g.index) (Aux 0) ∷ []) s p1 (rows_agree s.rows (in_it n y p1) (λ v. p1 (renamed_by (naming (Cell g.index) (Aux 0) ∷ []) v)) (plain e n y p1 refl) (l (in_it n y p1) (starts_turn n k y p p1 it st (λ c. refl)) ph)) in
@@ -324,16 +325,16 @@ module _ (m : Scene) (g : Range) (x : ℕ → ℤ) (a b : ℤ) (bg : Begins m g 
             let p2 = ended y p1 in
             let at_p2 = l (in_it n y p2) (starts_turn n k y p p2 it st (λ c. refl)) ph in
             let here = rename_all_holds (to_exits ns) (at_index g.index s) p2 (rename_all_holds (naming (Cell g.index) (Aux 0) ∷ []) s (λ v. p2 (renamed_by (to_exits ns) v)) (rows_agree s.rows (in_it n y p2) (λ v. p2 (stands v)) (moving n y p1 refl) at_p2)) in
-            let turned = rename_all_holds (naming (Exit g.index) (Aux 0) ∷ []) (turns g).system p2 ((does_turns n k y it).relates (λ v. p2 (renamed_by (naming (Exit g.index) (Aux 0) ∷ []) v)) (starts p st) (ends p)) in
+            let turned = rename_all_holds (naming (Exit g.index) (Aux 0) ∷ []) (iterations g).system p2 ((does_turns n k y it).relates (λ v. p2 (renamed_by (naming (Exit g.index) (Aux 0) ∷ []) v)) (starts p st) (ends p)) in
             subst (λ (z : List ℕ). HoldsAll p (project (led_to z g s) loop_vars).system.rows) e
             (project_keeps (led_to ns g s) loop_vars p1 p (λ v f. turn_off n k p v f)
-            (project_keeps (meet (push_rows (rename_all (to_exits ns) (at_index g.index s)) (range_rows g)) (turns_at g)) (exit_vars (turns g).cells) p2 p1 (λ v f. ends_off (turns g).cells (yc y) p1 v f)
-            (meet_holds p2 (push_rows (rename_all (to_exits ns) (at_index g.index s)) (range_rows g)) (turns_at g) (push_rows_holds (rename_all (to_exits ns) (at_index g.index s)) (range_rows g) p2 here (rows_hold n k p2 it.range st refl refl), turned))))
+            (project_keeps (meet (push_rows (rename_all (to_exits ns) (at_index g.index s)) (range_rows g)) (iterations_at g)) (exit_vars (iterations g).cells) p2 p1 (λ v f. ends_off (iterations g).cells (yc y) p1 v f)
+            (meet_holds p2 (push_rows (rename_all (to_exits ns) (at_index g.index s)) (range_rows g)) (iterations_at g) (push_rows_holds (rename_all (to_exits ns) (at_index g.index s)) (range_rows g) p2 here (rows_hold n k p2 it.range st refl refl), turned))))
           where
             starts : (p : Point) → AtStart m x p → AtStart m x (λ v. ended y (with_turn n k p) (renamed_by (naming (Exit g.index) (Aux 0) ∷ []) v))
             starts p st c h = ap (ended y (with_turn n k p)) (no_exit (Cell c) g.index (cell_no_exit c g.index)) ∙ st c h
 
-            ends : (p : Point) → AtEnd m (turns g).cells y (λ v. ended y (with_turn n k p) (renamed_by (naming (Exit g.index) (Aux 0) ∷ []) v))
+            ends : (p : Point) → AtEnd m (iterations g).cells y (λ v. ended y (with_turn n k p) (renamed_by (naming (Exit g.index) (Aux 0) ∷ []) v))
             ends p c h f = one (nat_eq g.index c) refl
               where
                 one : (i : Bool) → nat_eq g.index c ≡ i → ended y (with_turn n k p) (renamed_by (naming (Exit g.index) (Aux 0) ∷ []) (Exit c)) ≡ y (m.unit c)
@@ -379,8 +380,8 @@ module _ (m : Scene) (g : Range) (x : ℕ → ℤ) (a b : ℤ) (bg : Begins m g 
 
     ranged : (q : Point) → ((st : ℤ) → g.step ≡ Some st → st ≡ pos 0 → ⊥) → AtStart m x q → is_counted g ≡ true → HoldsAll q (range_rows g) → Ranged q
     ranged q nz sq e h =
-        let e2 = and_both (is_some g.step) (is_some g.first && is_some g.last) e in
-        let e3 = and_both (is_some g.first) (is_some g.last) e2.1 in
+        let e2 = and_parts (is_some g.step) (is_some g.first && is_some g.last) e in
+        let e3 = and_parts (is_some g.first) (is_some g.last) e2.1 in
         go g.step refl e2.0 g.first bg.first e3.0 g.last bg.last e3.1 h
       where
         go : (w : Option ℤ) → g.step ≡ w → is_some w ≡ true → (f : Option Affine) → Means m f x a → is_some f ≡ true → (l : Option Affine) → Means m l x b → is_some l ≡ true → HoldsAll q (counted_rows w f l) → Ranged q
@@ -408,11 +409,11 @@ module _ (m : Scene) (g : Range) (x : ℕ → ℤ) (a b : ℤ) (bg : Begins m g 
         phi_no_aux : (c n : ℕ) → Phi c ≡ Aux n → ⊥
         phi_no_aux c n q = cc
 
-        go : (cs : List ℕ) → ns ≡ cs → (looped cs g s).exact ≡ true → (looped cs g s).system.weak ≡ false → HoldsAll p (looped cs g s).system.rows → Turned p
+        go : (cs : List ℕ) → ns ≡ cs → (through_loop cs g s).exact ≡ true → (through_loop cs g s).system.weak ≡ false → HoldsAll p (through_loop cs g s).system.rows → Turned p
         go (c ∷ cs) e x1 w h = clashes false x1 refl
         go [] e x1 w h =
             let inner = push_rows (at_index g.index s) (range_rows g) in
-            let x2 = and_both (project inner loop_vars).exact (is_counted g) x1 in
+            let x2 = and_parts (project inner loop_vars).exact (is_counted g) x1 in
             let back = project_extends inner loop_vars x2.0 p h in
             let q = back.0 in
             let off = back.1 in

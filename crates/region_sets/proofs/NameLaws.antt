@@ -1,6 +1,7 @@
 -- A system speaks of the variables that it names alone; and what namings of cells read.
-use Rattle.std.proofs.Common.{◌≡◌, ℕ, List, [], ◌∷◌, ◌||◌, ◌&&◌, Bool, true, false, refl, sym, ap, ap₂, ◌∙◌, subst, ℤ, ◌+ℤ◌, ◌*ℤ◌, nat_eq}
-use Rattle.std.specs.Prelude.{if◌then◌else◌, not}
+use Rattle.std.proofs.Common.{◌≡◌, ℕ, List, [], ◌∷◌, ◌||◌, Bool, true, false, refl, sym, ap, ap₂, ◌∙◌, subst, ℤ, ◌+ℤ◌, ◌*ℤ◌, nat_eq}
+use Rattle.std.specs.Prelude.{if◌then◌else◌}
+use Rattle.std.proofs.lemmas.Bool.{or_left, or_right}
 use Rattle.affine_systems.specs.declared.row.Var.{Var}
 use Rattle.affine_systems.specs.declared.row.Var.TheVariants.{Cell, Exit, Phi, Aux}
 use Rattle.affine_systems.specs.declared.row.Term.{Term}
@@ -15,22 +16,6 @@ use Rattle.transformer_algebra.proofs.CellLaws.{nat_same, nat_eq_same, clashes, 
 use Rattle.region_sets.specs.Naming.{in_terms, in_rows, named_cells, to_exits}
 
 -- ---- tests
-
-pub or_left : (a b : Bool) → a ≡ true → (a || b) ≡ true
-or_left true b h = refl
-or_left false b h = clashes false h refl
-
-pub or_right : (a b : Bool) → b ≡ true → (a || b) ≡ true
-or_right true b h = refl
-or_right false b h = h
-
-pub and_both : (a b : Bool) → (a && b) ≡ true → (a ≡ true) × (b ≡ true)
-and_both true b h = (refl, h)
-and_both false b h = clashes false h refl
-
-pub not_true : (a : Bool) → not a ≡ true → a ≡ false
-not_true true h = sym h
-not_true false h = refl
 
 -- ---- points that agree on what is named
 

@@ -1,9 +1,9 @@
 -- What a rule keeps of each piece it keeps of the region.
 use Rattle.std.proofs.Common.{◌≡◌, ℕ, ℤ, List, [], ◌∷◌, map, ◌&&◌, true, false, subst, inl, inr, ⊎_elim}
 use Rattle.std.specs.Prelude.{not}
+use Rattle.std.proofs.lemmas.Bool.{or_parts, and_parts, not-true}
 use Rattle.affine_systems.specs.declared.row.System.{System}
 use Rattle.affine_systems.specs.Points.{Point, HoldsAll}
-use Rattle.affine_systems.proofs.TidyLaws.{either_false}
 use Rattle.hull_projection.specs.declared.projection.Shadow.{Shadow}
 use Rattle.transformer_algebra.specs.declared.transformer.Transformer.{Transformer}
 use Rattle.transformer_algebra.specs.Laws.{In, here, there}
@@ -14,7 +14,6 @@ use Rattle.region_sets.specs.Compose.{compose_piece, compose}
 use Rattle.region_sets.specs.Loops.{loop_piece, over_loop}
 use Rattle.region_sets.specs.Claims.{HoldsSome, Accessed}
 use Rattle.region_sets.specs.Laws.{MovesUnits, MovesSharp, HasIterations, HasIterationsAlone}
-use Rattle.region_sets.proofs.NameLaws.{and_both, not_true}
 use Rattle.region_sets.proofs.ComposeLaws.{piece_describes, piece_back}
 use Rattle.region_sets.proofs.LoopLaws.{piece_of_turn, piece_turned}
 
@@ -34,8 +33,8 @@ record Made (f : System → Shadow) (p : Point) (ss : List System) : Type 0 wher
 made : (f : System → Shadow) (p : Point) (ss : List System) → all_exact (map f ss) ≡ true → any_weak (systems (map f ss)) ≡ false → HoldsSome p (systems (map f ss)) → Made f p ss
 made f p [] e w h = absurd h
 made f p (s ∷ ss) e w h =
-    let e2 = and_both (f s).exact (all_exact (map f ss)) e in
-    let w2 = either_false (f s).system.weak (any_weak (systems (map f ss))) w in
+    let e2 = and_parts (f s).exact (all_exact (map f ss)) e in
+    let w2 = or_parts (f s).system.weak (any_weak (systems (map f ss))) w in
     ⊎_elim
     (λ k. record { piece = s; exact = e2.0; strong = w2.0; holds = k; back = λ q l. inl l })
     (λ k. let r = made f p ss e2.1 w2.1 k in record { piece = r.piece; exact = r.exact; strong = r.strong; holds = r.holds; back = λ q l. inr (r.back q l) })
@@ -48,9 +47,9 @@ record Exactly (f : System → Shadow) (r : Region) : Type 0 where
 
 exactly : (f : System → Shadow) (r : Region) → ((r.exact && all_exact (map f r.pieces)) && not (any_weak (systems (map f r.pieces)))) ≡ true → Exactly f r
 exactly f r h =
-    let a = and_both (r.exact && all_exact (map f r.pieces)) (not (any_weak (systems (map f r.pieces)))) h in
-    let b = and_both r.exact (all_exact (map f r.pieces)) a.0 in
-    record { region = b.0; each = b.1; strong = not_true (any_weak (systems (map f r.pieces))) a.1 }
+    let a = and_parts (r.exact && all_exact (map f r.pieces)) (not (any_weak (systems (map f r.pieces)))) h in
+    let b = and_parts r.exact (all_exact (map f r.pieces)) a.0 in
+    record { region = b.0; each = b.1; strong = not-true (any_weak (systems (map f r.pieces))) a.1 }
 
 pub compose_moves : (r : Region) (t : Transformer) → MovesUnits t r (compose r t)
 compose_moves r t m at x y d u l = record {

@@ -2,6 +2,7 @@
 use Rattle.std.proofs.Common.{arith, ◌≡◌, ℕ, zero, suc, ◌+◌, ◌<◌, ◌≤◌, length, drop, get_or, drop-cons, drop_of_length-le, add-one, ap₂, ◌%◌, Bool, true, false, ◌&&◌, ◌||◌, List, [], ◌∷◌, ◌++◌, Option, Some, None, refl, sym, ap, subst, ◌∙◌, nat_eq, unsigned_abs, ℤ, pos, append_assoc, append-nil}
 use Rattle.std.specs.Prelude.{if◌then◌else◌, not}
 use Rattle.std.specs.Int.{int_div_euclid}
+use Rattle.std.proofs.lemmas.Bool.{and_parts}
 use Rattle.affine_systems.specs.declared.row.Var.{Var}
 use Rattle.affine_systems.specs.declared.row.Var.TheVariants.{Exit}
 use Rattle.affine_systems.specs.declared.row.Term.{Term}
@@ -21,8 +22,7 @@ use Rattle.affine_systems.proofs.RenameSteps.{normal_small_row}
 use Rattle.transformer_algebra.proofs.CellLaws.{clashes}
 use Rattle.region_sets.specs.Ready.{IsReady}
 use Rattle.region_sets.specs.Naming.{in_terms}
-use Rattle.region_sets.specs.Compose.{has_other_exit, is_exit_row, exit_row, settled_by, settled, put_in, before_rows, put_in_all, is_lost, loses_row}
-use Rattle.region_sets.proofs.NameLaws.{and_both}
+use Rattle.region_sets.specs.Compose.{has_other_exit, is_exit_row, exit_row, settled_by, normal_form, put_in, before_rows, put_in_all, is_lost, loses_row}
 use Rattle.region_sets.proofs.Steps.{ready-push, or_assoc}
 
 pub in_some : (v : Var) (ts : List Term) → in_terms v ts ≡ true → has_no_terms ts ≡ false
@@ -30,10 +30,10 @@ in_some v [] h = clashes false h refl
 in_some v (t ∷ ts) h = refl
 
 pub exit_equal : (c : ℕ) (e : Row) → is_exit_row c e ≡ true → e.equal ≡ true
-exit_equal c e h = (and_both e.equal (is_unit (factor_of (Exit c) e.terms) && not (has_other_exit c e.terms)) h).0
+exit_equal c e h = (and_parts e.equal (is_unit (factor_of (Exit c) e.terms) && not (has_other_exit c e.terms)) h).0
 
 pub exit_unit : (c : ℕ) (e : Row) → is_exit_row c e ≡ true → is_unit (factor_of (Exit c) e.terms) ≡ true
-exit_unit c e h = (and_both (is_unit (factor_of (Exit c) e.terms)) (not (has_other_exit c e.terms)) (and_both e.equal (is_unit (factor_of (Exit c) e.terms) && not (has_other_exit c e.terms)) h).1).0
+exit_unit c e h = (and_parts (is_unit (factor_of (Exit c) e.terms)) (not (has_other_exit c e.terms)) (and_parts e.equal (is_unit (factor_of (Exit c) e.terms) && not (has_other_exit c e.terms)) h).1).0
 
 pub named_normal : (c : ℕ) (r : Row) → IsReady r → in_terms (Exit c) r.terms ≡ true → IsNormal r
 named_normal c r h e = h.normal (in_some (Exit c) r.terms e)
@@ -77,13 +77,13 @@ some_is : {A : Type 0} (x y : A) → Some x ≡ Some y → x ≡ y
 some_is x y q = cc
 
 -- what is put in is ready
-made_ready : (b new : Row) → IsGiven b → settled (unless_too_big (normal false b) b) ≡ Some new → IsReady new
+made_ready : (b new : Row) → IsGiven b → normal_form (unless_too_big (normal false b) b) ≡ Some new → IsReady new
 made_ready b new h q = go (normal false b) refl q
   where
     kept : (s : Row) → normal false b ≡ Kept s → normal false s ≡ Kept s
     kept s e = normal-reduced false s (kept-reduced false b s h.0 e)
 
-    go : (n : Normal) → normal false b ≡ n → settled (unless_too_big n b) ≡ Some new → IsReady new
+    go : (n : Normal) → normal false b ≡ n → normal_form (unless_too_big n b) ≡ Some new → IsReady new
     go (Kept s) e k =
         let same : s ≡ new = some_is s new (ap (λ (z : Normal). Some (settled_by z s)) (sym (kept s e)) ∙ k) in
         subst IsReady same (normal_ready s (kept-ascends false b s h.0 e, kept s e))
@@ -98,7 +98,7 @@ made_ready b new h q = go (normal false b) refl q
 pub put_ready : (c : ℕ) (e r new : Row) → IsNormal e → is_exit_row c e ≡ true → IsReady r → put_in c e r ≡ Some new → IsReady new
 put_ready c e r new n x h q = go (in_terms (Exit c) r.terms) refl q
   where
-    go : (b : Bool) → in_terms (Exit c) r.terms ≡ b → (if b then settled (substitute r (Exit c) e) else Some r) ≡ Some new → IsReady new
+    go : (b : Bool) → in_terms (Exit c) r.terms ≡ b → (if b then normal_form (substitute r (Exit c) e) else Some r) ≡ Some new → IsReady new
     go true i k = made_ready (by_row r (Exit c) e) new (by_row_given r (Exit c) e (exit_unit c e x) (normal_small_row r (named_normal c r h i)) (normal_small_row e n)) k
     go false i k = subst IsReady (some_is r new k) h
 

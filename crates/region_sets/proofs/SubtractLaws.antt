@@ -1,12 +1,12 @@
 -- What is of the first region alone stays in the difference; an exact one has nothing else.
 use Rattle.std.proofs.Common.{◌≡◌, ℕ, ℤ, pos, List, [], ◌∷◌, ◌||◌, ◌&&◌, Bool, true, false, refl, sym, subst, ap, ◌∙◌, Option, Some, None, inl, inr, ⊎_elim}
 use Rattle.std.specs.Prelude.{if◌then◌else◌, not, MatchOption}
+use Rattle.std.proofs.lemmas.Bool.{or_parts, and_parts, not-true}
 use Rattle.affine_systems.specs.declared.row.Var.{Var}
 use Rattle.affine_systems.specs.declared.row.Var.TheVariants.{Cell, Exit, Phi, Aux}
 use Rattle.affine_systems.specs.declared.row.System.{System}
 use Rattle.affine_systems.specs.Points.{Point, HoldsAll}
 use Rattle.affine_systems.specs.Calls.{meet}
-use Rattle.affine_systems.proofs.TidyLaws.{either_false}
 use Rattle.affine_systems.proofs.CallLaws.{meet_holds}
 use Rattle.hull_projection.specs.declared.parts.Minus.{Minus}
 use Rattle.hull_projection.specs.Refute.{refuted}
@@ -21,7 +21,6 @@ use Rattle.transformer_algebra.specs.Laws.{In, here, there}
 use Rattle.transformer_algebra.specs.Claims.{Scene, AtStart}
 use Rattle.region_sets.specs.Claims.{HoldsSome, HasSubscripts, Describes, LiesIn}
 use Rattle.region_sets.specs.Laws.{KeepsRest, HasRestAlone}
-use Rattle.region_sets.proofs.NameLaws.{and_both, not_true}
 
 -- ---- options
 
@@ -107,8 +106,8 @@ minus_weak a b s e w = go (refuted (meet a b).rows) e
 
     of_parts : (ps : List System) → (minus_parts ps (a.weak || b.weak)).system ≡ Some s → a.weak ≡ false
     of_parts [] k = absurd (cc)
-    of_parts (u ∷ []) k = let q = ap (λ (z : System). z.weak) (some_same _ _ k) in (either_false a.weak b.weak (either_false _ (a.weak || b.weak) (q ∙ w)).1).0
-    of_parts (u ∷ (v ∷ us)) k = let q = ap (λ (z : System). z.weak) (some_same _ _ k) in (either_false a.weak b.weak (either_false _ (a.weak || b.weak) (q ∙ w)).1).0
+    of_parts (u ∷ []) k = let q = ap (λ (z : System). z.weak) (some_same _ _ k) in (or_parts a.weak b.weak (or_parts _ (a.weak || b.weak) (q ∙ w)).1).0
+    of_parts (u ∷ (v ∷ us)) k = let q = ap (λ (z : System). z.weak) (some_same _ _ k) in (or_parts a.weak b.weak (or_parts _ (a.weak || b.weak) (q ∙ w)).1).0
 
     go : (m : Bool) → (if m then difference (Some a) true else minus_parts (parts a (all_negations b.rows)) (a.weak || b.weak)).system ≡ Some s → a.weak ≡ false
     go true k = ap (λ (z : System). z.weak) (some_same _ _ k) ∙ w
@@ -137,7 +136,7 @@ each_alone p m (s ∷ ss) t x e w h = go m.system refl (each_alone p (less_one m
     go : (o : Option System) → m.system ≡ o → Alone p (less_from o m s) ss t → Alone p m (s ∷ ss) t
     go None k r = none_some r.from (sym k ∙ r.was)
     go (Some q) k r =
-        let x2 = and_both (minus q s).exact m.exact r.exact in
+        let x2 = and_parts (minus q s).exact m.exact r.exact in
         let both = minus_alone p q s r.from x2.0 r.was r.weak r.of_it in
         record {
           exact = x2.1;
@@ -153,10 +152,10 @@ OfFirst p ps ss = HoldsSome p ps × (HoldsSome p ss → ⊥)
 
 left_alone : (p : Point) (ps ss : List System) → all_left_exactly ps ss ≡ true → any_weak (left_of ps ss) ≡ false → HoldsSome p (left_of ps ss) → OfFirst p ps ss
 left_alone p [] ss x w h = absurd h
-left_alone p (q ∷ ps) ss x w h = go (less_all q ss).system refl w h (λ l k. left_alone p ps ss (and_both (less_all q ss).exact (all_left_exactly ps ss) x).1 l k)
+left_alone p (q ∷ ps) ss x w h = go (less_all q ss).system refl w h (λ l k. left_alone p ps ss (and_parts (less_all q ss).exact (all_left_exactly ps ss) x).1 l k)
   where
     x2 : ((less_all q ss).exact ≡ true) × (all_left_exactly ps ss ≡ true)
-    x2 = and_both (less_all q ss).exact (all_left_exactly ps ss) x
+    x2 = and_parts (less_all q ss).exact (all_left_exactly ps ss) x
 
     more : OfFirst p ps ss → OfFirst p (q ∷ ps) ss
     more k = (inr k.0, k.1)
@@ -164,7 +163,7 @@ left_alone p (q ∷ ps) ss x w h = go (less_all q ss).system refl w h (λ l k. l
     go : (o : Option System) → (less_all q ss).system ≡ o → any_weak (before_left o (left_of ps ss)) ≡ false → HoldsSome p (before_left o (left_of ps ss)) → (any_weak (left_of ps ss) ≡ false → HoldsSome p (left_of ps ss) → OfFirst p ps ss) → OfFirst p (q ∷ ps) ss
     go None e w h ih = more (ih w h)
     go (Some t) e w h ih =
-        let w2 = either_false t.weak (any_weak (left_of ps ss)) w in
+        let w2 = or_parts t.weak (any_weak (left_of ps ss)) w in
         ⊎_elim
         (λ k. let r = each_alone p (difference (Some q) true) ss t x2.0 e w2.0 k in (inl (subst (λ (z : System). HoldsAll p z.rows) (sym (some_is q r.from r.was)) r.of_it), r.of_none))
         (λ k. more (ih w2.1 k))
@@ -173,13 +172,13 @@ left_alone p (q ∷ ps) ss x w h = go (less_all q ss).system refl w h (λ l k. l
 apart_none : (p : Point) (q : System) (ss : List System) → are_apart q ss ≡ true → HoldsAll p q.rows → HoldsSome p ss → ⊥
 apart_none p q [] e h k = k
 apart_none p q (s ∷ ss) e h k =
-    let e2 = and_both (refuted (meet q s).rows) (are_apart q ss) e in
+    let e2 = and_parts (refuted (meet q s).rows) (are_apart q ss) e in
     ⊎_elim (λ l. refuted_none p (meet q s).rows e2.0 (meet_holds p q s (h, l))) (λ l. apart_none p q ss e2.1 h l) k
 
 all_apart_none : (p : Point) (ps ss : List System) → all_apart ps ss ≡ true → HoldsSome p ps → HoldsSome p ss → ⊥
 all_apart_none p [] ss e h k = h
 all_apart_none p (q ∷ ps) ss e h k =
-    let e2 = and_both (are_apart q ss) (all_apart ps ss) e in
+    let e2 = and_parts (are_apart q ss) (all_apart ps ss) e in
     ⊎_elim (λ l. apart_none p q ss e2.0 l k) (λ l. all_apart_none p ps ss e2.1 l k) h
 
 pub subtract_exact : (a b : Region) → HasRestAlone a b (subtract a b)
@@ -188,14 +187,14 @@ subtract_exact a b = go b.exact
     of_left : (ss : List System) → ss ≡ left_of a.pieces b.pieces → MatchOption (unless_empty a (a.exact && all_left_exactly a.pieces b.pieces) ss) (Unit {0}) (λ r. r.exact ≡ true → (a.exact ≡ true) × ((p : Point) → HoldsSome p r.pieces → HoldsSome p a.pieces × (HoldsSome p b.pieces → ⊥)))
     of_left [] e = tt
     of_left (s ∷ ss) e = λ x.
-        let x2 = and_both (a.exact && all_left_exactly a.pieces b.pieces) (not (any_weak (s ∷ ss))) x in
-        let x3 = and_both a.exact (all_left_exactly a.pieces b.pieces) x2.0 in
-        let w : any_weak (left_of a.pieces b.pieces) ≡ false = subst (λ (z : List System). any_weak z ≡ false) e (not_true (any_weak (s ∷ ss)) x2.1) in
+        let x2 = and_parts (a.exact && all_left_exactly a.pieces b.pieces) (not (any_weak (s ∷ ss))) x in
+        let x3 = and_parts a.exact (all_left_exactly a.pieces b.pieces) x2.0 in
+        let w : any_weak (left_of a.pieces b.pieces) ≡ false = subst (λ (z : List System). any_weak z ≡ false) e (not-true (any_weak (s ∷ ss)) x2.1) in
         (x3.0, λ p h. left_alone p a.pieces b.pieces x3.1 w (subst (λ (z : List System). HoldsSome p z) e h))
 
     go : (m : Bool) → HasRestAlone a b (if m then unless_empty a (a.exact && all_left_exactly a.pieces b.pieces) (left_of a.pieces b.pieces) else Some (remade a (a.exact && all_apart a.pieces b.pieces) a.pieces))
     go true = of_left (left_of a.pieces b.pieces) refl
     go false = λ x.
-        let x2 = and_both (a.exact && all_apart a.pieces b.pieces) (not (any_weak a.pieces)) x in
-        let x3 = and_both a.exact (all_apart a.pieces b.pieces) x2.0 in
+        let x2 = and_parts (a.exact && all_apart a.pieces b.pieces) (not (any_weak a.pieces)) x in
+        let x3 = and_parts a.exact (all_apart a.pieces b.pieces) x2.0 in
         (x3.0, λ p h. (h, λ k. all_apart_none p a.pieces b.pieces x3.1 h k))

@@ -1,6 +1,7 @@
 -- A union has the points of both regions; an exact one has those of one of them alone.
 use Rattle.std.proofs.Common.{◌≡◌, List, [], ◌∷◌, ◌++◌, ◌||◌, Bool, true, false, refl, sym, inl, inr, true≢false}
 use Rattle.std.specs.Prelude.{if◌then◌else◌, not}
+use Rattle.std.proofs.lemmas.Bool.{and_parts}
 use Rattle.affine_systems.specs.declared.row.Row.{Row}
 use Rattle.affine_systems.specs.declared.row.System.{System}
 use Rattle.affine_systems.specs.Terms.{has_no_terms}
@@ -15,7 +16,6 @@ use Rattle.region_sets.specs.Regions.{any_weak, remade, hull_of}
 use Rattle.region_sets.specs.Unite.{gives_row, gives_rows, within_one, all_within, unite}
 use Rattle.transformer_algebra.specs.Laws.{In, here, there}
 use Rattle.region_sets.specs.Laws.{WithinOne, HasBoth, IsOneExact}
-use Rattle.region_sets.proofs.NameLaws.{and_both}
 
 gives_holds : (p : Point) (rs : List Row) (r : Row) → gives_row rs r ≡ true → HoldsAll p rs → Holds p r
 gives_holds p rs r e h = go (has_no_terms r.terms) e
@@ -26,7 +26,7 @@ gives_holds p rs r e h = go (has_no_terms r.terms) e
 
 all_given : (p : Point) (rs qs : List Row) → gives_rows rs qs ≡ true → HoldsAll p rs → HoldsAll p qs
 all_given p rs [] e h = tt
-all_given p rs (q ∷ qs) e h = let k = and_both (gives_row rs q) (gives_rows rs qs) e in (gives_holds p rs q k.0 h, all_given p rs qs k.1 h)
+all_given p rs (q ∷ qs) e h = let k = and_parts (gives_row rs q) (gives_rows rs qs) e in (gives_holds p rs q k.0 h, all_given p rs qs k.1 h)
 
 -- ---- a piece within another
 
@@ -46,8 +46,8 @@ one_within (q ∷ ps) s e = go (gives_rows s.rows q.rows) refl e (λ k. one_with
 
 each_within : (ps ss : List System) → all_within ps ss ≡ true → (s : System) → In s ss → WithinOne s ps
 each_within ps [] e s i = elim i [ ]
-each_within ps (u ∷ ss) e s here = one_within ps s (and_both (within_one ps s) (all_within ps ss) e).0
-each_within ps (u ∷ ss) e s (there i) = each_within ps ss (and_both (within_one ps u) (all_within ps ss) e).1 s i
+each_within ps (u ∷ ss) e s here = one_within ps s (and_parts (within_one ps s) (all_within ps ss) e).0
+each_within ps (u ∷ ss) e s (there i) = each_within ps ss (and_parts (within_one ps u) (all_within ps ss) e).1 s i
 
 in_left : (s : System) (ss us : List System) → In s ss → In s (ss ++ us)
 in_left s [] us i = elim i [ ]
@@ -89,6 +89,6 @@ pub unite_exact : (a b : Region) → IsOneExact a b (unite a b)
 unite_exact a b = go (all_within a.pieces b.pieces) (all_within b.pieces a.pieces)
   where
     go : (m n : Bool) → IsOneExact a b (if m then remade a a.exact a.pieces else if n then remade b b.exact b.pieces else remade a false (hull_of (a.pieces ++ b.pieces) ∷ []))
-    go true n = λ e. inl ((and_both a.exact (not (any_weak a.pieces)) e).0, λ p h. h)
-    go false true = λ e. inr ((and_both b.exact (not (any_weak b.pieces)) e).0, λ p h. h)
+    go true n = λ e. inl ((and_parts a.exact (not (any_weak a.pieces)) e).0, λ p h. h)
+    go false true = λ e. inr ((and_parts b.exact (not (any_weak b.pieces)) e).0, λ p h. h)
     go false false = λ e. absurd (true≢false (sym e))

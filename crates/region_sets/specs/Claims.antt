@@ -1,14 +1,19 @@
 -- What regions say of the units of storage. A claim is one on each point that has the numbers of the tracked cells; so what a system says of other
 -- variables does not matter.
 use Rattle.std.specs.Prelude.{◌≡◌, ◌⊎◌, ℕ, Bool, true, List, [], ◌∷◌, Option, Some, ℤ, pos, ◌+ℤ◌, ◌*ℤ◌}
+use Rattle.std.specs.declared.cmp.Ordering.TheVariants.{Equal}
 use Rattle.affine_systems.specs.declared.row.Var.TheVariants.{Phi}
 use Rattle.affine_systems.specs.declared.row.System.{System}
 use Rattle.affine_systems.specs.Points.{Point, HoldsAll}
 use Rattle.transformer_algebra.specs.Cells.{has}
 use Rattle.transformer_algebra.specs.Loops.{goes_up}
 use Rattle.transformer_algebra.specs.Laws.{In}
-use Rattle.transformer_algebra.specs.Claims.{Scene, AtStart, Chain, Wrote, Tracks, Means, NotBeyond}
+use Rattle.transformer_algebra.specs.Claims.{Scene, AtStart, Does, Chain, Wrote, Tracks, Means, NotBeyond}
+use Rattle.f77_symbols.specs.declared.variable.Variable.{Variable}
+use Rattle.f77_results.specs.Variables.{variable_cmp}
+use Rattle.transformer_algebra.specs.declared.transformer.Transformer.{Transformer}
 use Rattle.region_sets.specs.declared.range.Range.{Range}
+use Rattle.region_sets.specs.declared.region.Access.{Access}
 use Rattle.region_sets.specs.declared.region.Region.{Region}
 
 -- a point is one of a piece
@@ -46,6 +51,39 @@ pub record Accessed (at : Elements) (accessed : ℕ → Bool) (phi : ℕ → ℤ
 abbrev pub IsSharp : Scene → Elements → Region → (ℕ → ℤ) → (ℕ → Bool) → Type 0
 IsSharp m at r x accessed = r.exact ≡ true → (p : Point) → AtStart m x p → HoldsSome p r.pieces → Accessed at accessed (λ k. p (Phi k))
 
+-- ---- sets
+
+-- the elements of each variable
+abbrev pub Places : Type 0
+Places = Variable → Elements
+
+-- variables that the order of variables does not tell apart have the same elements
+abbrev pub AreByOrder : Places → Type 0
+AreByOrder at = (v w : Variable) → variable_cmp v w ≡ Equal → at v ≡ at w
+
+-- a unit lies in a region of a kind
+pub record LiesInSet (m : Scene) (at : Places) (k : Access) (rs : List Region) (x : ℕ → ℤ) (u : ℕ) : Type 0 where
+  pub region : Region
+  pub is_one : In region rs
+  pub kind : region.kind ≡ k
+  pub lies : LiesIn m (at region.variable) region x u
+
+-- each element that an exact one describes is accessed as its kind says
+abbrev pub IsSharpSet : Scene → Places → List Region → (ℕ → ℤ) → (Access → ℕ → Bool) → Type 0
+IsSharpSet m at rs x accessed = (r : Region) → In r rs → IsSharp m (at r.variable) r x (accessed r.kind)
+
+-- ---- statements one after another, by their numbers: t has the transformer of each, f the set
+
+-- the statement with the number n is reached at the numbers z, from the first of a list at others
+pub data Reached (m : Scene) (t : ℕ → Transformer) (n : ℕ) (z : ℕ → ℤ) : List ℕ → (ℕ → ℤ) → Type 0 where
+  arrived : {ns : List ℕ} → Reached m t n z (n ∷ ns) z
+  past : {j : ℕ} {ns : List ℕ} {x y : ℕ → ℤ} → Does m (t j) x y → Reached m t n z ns y → Reached m t n z (j ∷ ns) x
+
+-- all statements of a list are executed, and each accesses what its set certainly says
+pub data AllSharp (m : Scene) (at : Places) (t : ℕ → Transformer) (f : ℕ → List Region) (accessed : Access → ℕ → Bool) : List ℕ → (ℕ → ℤ) → Type 0 where
+  no_more : {x : ℕ → ℤ} → AllSharp m at t f accessed [] x
+  before_more : {n : ℕ} {ns : List ℕ} {x y : ℕ → ℤ} → IsSharpSet m at (f n) x accessed → Does m (t n) x y → AllSharp m at t f accessed ns y → AllSharp m at t f accessed (n ∷ ns) x
+
 -- ---- iterations
 
 -- n is the number of the index that is reached from a after k steps, and not beyond b
@@ -63,7 +101,7 @@ pub record Iteration (m : Scene) (g : Range) (x : ℕ → ℤ) (a b n : ℤ) (k 
   pub number : y (m.unit g.index) ≡ n
   pub range : (s : ℤ) → g.step ≡ Some s → InRange a b s n k
 
--- the values of the expressions, and that a turn changes tracked cells alone, and the index where that is one
+-- the values of the expressions, and that an iteration changes tracked cells alone, and the index where that is one
 pub record Begins (m : Scene) (g : Range) (x : ℕ → ℤ) (a b : ℤ) : Type 0 where
   pub first : Means m g.first x a
   pub last : Means m g.last x b

@@ -49,13 +49,13 @@ settled_by Always r = r
 settled_by Never r = false_row
 settled_by TooBig r = r
 
-abbrev pub settled : Option Row → Option Row
-settled None = None
-settled (Some r) = Some (settled_by (normal false r) r)
+abbrev pub normal_form : Option Row → Option Row
+normal_form None = None
+normal_form (Some r) = Some (settled_by (normal false r) r)
 
 -- a row with the exit replaced by what it is; None where a number reaches 2^62
 abbrev pub put_in : ℕ → Row → Row → Option Row
-put_in c e r = if in_terms (Exit c) r.terms then settled (substitute r (Exit c) e) else Some r
+put_in c e r = if in_terms (Exit c) r.terms then normal_form (substitute r (Exit c) e) else Some r
 
 abbrev pub before_rows : Option Row → List Row → List Row
 before_rows None rs = rs
@@ -96,11 +96,11 @@ put_or_led None cs t s = shadow (led_to cs t s) false
 put_or_led (Some p) cs t s = shadow (tidy p) true
 
 -- no changed cell is named; or what the named ones become can be put in; or some numbers are
-abbrev pub composed : List ℕ → Transformer → System → Shadow
-composed cs t s = if has_none cs then shadow s true else put_or_led (put_exits cs t.system.rows (rename_all (to_exits cs) s)) cs t s
+abbrev pub through_transformer : List ℕ → Transformer → System → Shadow
+through_transformer cs t s = if has_none cs then shadow s true else put_or_led (put_exits cs t.system.rows (rename_all (to_exits cs) s)) cs t s
 
 abbrev pub compose_piece : Transformer → System → Shadow
-compose_piece t s = composed (named_cells t.cells s) t s
+compose_piece t s = through_transformer (named_cells t.cells s) t s
 
 abbrev pub compose : Region → Transformer → Region
 compose r t = each_piece (compose_piece t) r

@@ -3,11 +3,17 @@ use Rattle.std.specs.Prelude.{◌≡◌, ◌⊎◌, ℕ, Bool, true, false, List
 use Rattle.affine_systems.specs.declared.row.System.{System}
 use Rattle.affine_systems.specs.Points.{Point, HoldsAll}
 use Rattle.transformer_algebra.specs.declared.transformer.Transformer.{Transformer}
-use Rattle.transformer_algebra.specs.Claims.{Scene, Does}
+use Rattle.f77_symbols.specs.declared.variable.Unit.{Unit as BlockUnit}
+use Rattle.transformer_algebra.specs.Claims.{Scene, Kept, Does}
 use Rattle.transformer_algebra.specs.Laws.{In}
+use Rattle.f77_ast.specs.Trees.{StmtTrees}
+use Rattle.transformers.specs.Jumps.{unstructured}
+use Rattle.transformers.specs.Lists.{list_at}
 use Rattle.region_sets.specs.declared.range.Range.{Range}
 use Rattle.region_sets.specs.declared.region.Region.{Region}
-use Rattle.region_sets.specs.Claims.{HoldsSome, Elements, LiesIn, IsSharp, InRange, Iteration, Begins}
+use Rattle.region_sets.specs.declared.region.Access.{Access}
+use Rattle.region_sets.specs.Lists.{numbers}
+use Rattle.region_sets.specs.Claims.{HoldsSome, Elements, LiesIn, IsSharp, Places, AreByOrder, LiesInSet, IsSharpSet, Reached, AllSharp, InRange, Iteration, Begins}
 
 -- ---- of two regions
 
@@ -46,6 +52,44 @@ MovesUnits t r q = (m : Scene) (at : Elements) (x y : ℕ → ℤ) → Does m t 
 
 abbrev pub MovesSharp : Transformer → Region → Region → Type 0
 MovesSharp t r q = (m : Scene) (at : Elements) (x y : ℕ → ℤ) → Does m t x y → (accessed : ℕ → Bool) → IsSharp m at r y accessed → IsSharp m at q x accessed
+
+-- ---- of sets
+
+-- a unit that lies in a region of the first lies in one of that kind of the second
+abbrev pub HasUnits : List Region → List Region → Type 0
+HasUnits rs qs = (m : Scene) (at : Places) → AreByOrder at → (k : Access) (x : ℕ → ℤ) (u : ℕ) → LiesInSet m at k rs x u → LiesInSet m at k qs x u
+
+-- what exact regions of the second say is so, where it is so of the first
+abbrev pub IsAsSharp : List Region → List Region → Type 0
+IsAsSharp rs qs = (m : Scene) (at : Places) → AreByOrder at → (x : ℕ → ℤ) (accessed : Access → ℕ → Bool) → IsSharpSet m at rs x accessed → IsSharpSet m at qs x accessed
+
+-- ---- of lists of statements, by their numbers, with the transformer and the set of each
+
+-- a unit that lies in the set of a statement where that is reached lies in the set at the beginning of the list
+abbrev pub HasSteps : (ℕ → Transformer) → (ℕ → List Region) → List ℕ → List Region → Type 0
+HasSteps t f ns qs =
+    (m : Scene) (at : Places) → AreByOrder at → (k : Access) (n : ℕ) (x y : ℕ → ℤ) (u : ℕ) → Reached m t n y ns x → LiesInSet m at k (f n) y u → LiesInSet m at k qs x u
+
+abbrev pub HasStepsAlone : (ℕ → Transformer) → (ℕ → List Region) → List ℕ → List Region → Type 0
+HasStepsAlone t f ns qs =
+    (m : Scene) (at : Places) → AreByOrder at → (x : ℕ → ℤ) (accessed : Access → ℕ → Bool) → AllSharp m at t f accessed ns x → IsSharpSet m at qs x accessed
+
+-- a unit that lies in the set of any statement of a list, at numbers that differ in these cells, lies in a set; in which nothing is exact
+abbrev pub HasAnyStep : List ℕ → (ℕ → List Region) → List ℕ → List Region → Type 0
+HasAnyStep cs f ns qs =
+    (m : Scene) (at : Places) → AreByOrder at → (k : Access) (n : ℕ) → In n ns → (us : List BlockUnit) (x y : ℕ → ℤ) → Kept m cs us x y → (u : ℕ) → LiesInSet m at k (f n) y u → LiesInSet m at k qs x u
+
+abbrev pub NoneExact : List Region → Type 0
+NoneExact qs = (r : Region) → In r qs → r.exact ≡ false
+
+-- of a list that is executed from the first statement to the last, and of one whose statements are executed in any order
+pub record HasList (t : ℕ → Transformer) (f : ℕ → List Region) (whole : Bool) (body : StmtTrees) (qs : List Region) : Type 0 where
+  pub in_order : unstructured whole body ≡ false → HasSteps t f (numbers body) qs
+  pub in_any_order : unstructured whole body ≡ true → HasAnyStep (list_at t whole body).cells f (numbers body) qs
+
+pub record HasListAlone (t : ℕ → Transformer) (f : ℕ → List Region) (whole : Bool) (body : StmtTrees) (qs : List Region) : Type 0 where
+  pub in_order : unstructured whole body ≡ false → HasStepsAlone t f (numbers body) qs
+  pub in_any_order : unstructured whole body ≡ true → NoneExact qs
 
 -- ---- from the iterations of a DO to the DO
 

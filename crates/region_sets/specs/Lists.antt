@@ -12,7 +12,7 @@ use Rattle.region_sets.specs.declared.region.Access.TheVariants.{Read, Write, In
 use Rattle.region_sets.specs.declared.region.Region.{Region}
 use Rattle.region_sets.specs.Regions.{remade}
 use Rattle.region_sets.specs.Compose.{compose}
-use Rattle.region_sets.specs.Sets.{SetFits, gathered}
+use Rattle.region_sets.specs.Sets.{SetFits, unite_all}
 
 abbrev pub SetsFit : List (At (List Region)) → Type 0
 SetsFit [] = Unit {0}
@@ -47,7 +47,7 @@ all_composed t rs = map (λ r. compose r t) rs
 -- what a statement accesses, and what the rest does after it; of statements by their numbers
 abbrev pub in_order : (ℕ → Transformer) → (ℕ → List Region) → List ℕ → List Region
 in_order t f [] = []
-in_order t f (n ∷ ns) = gathered (f n ++ all_composed (t n) (in_order t f ns))
+in_order t f (n ∷ ns) = unite_all (f n ++ all_composed (t n) (in_order t f ns))
 
 -- ---- in any order
 
@@ -69,7 +69,7 @@ abbrev pub all_inexact : List Region → List Region
 all_inexact rs = map inexact rs
 
 abbrev pub in_any_order : List ℕ → (ℕ → List Region) → List ℕ → List Region
-in_any_order cs f ns = all_inexact (gathered (all_forgetting cs (all_accesses f ns)))
+in_any_order cs f ns = all_inexact (unite_all (all_forgetting cs (all_accesses f ns)))
 
 -- the numbers of the statements of a list
 abbrev pub numbers : StmtTrees → List ℕ

@@ -16,14 +16,14 @@ use Rattle.affine_forms.specs.Forms.{affine, IsSmallForm}
 use Rattle.affine_forms.specs.Comparisons.{var_form, same_row}
 use Rattle.transformer_algebra.specs.declared.transformer.Transformer.{Transformer}
 use Rattle.transformer_algebra.specs.Cells.{has, others}
-use Rattle.transformer_algebra.specs.Transformers.{unchanging, assigned, followed, closed}
+use Rattle.transformer_algebra.specs.Transformers.{unchanging, assign, followed, iterate}
 use Rattle.transformer_algebra.specs.Loops.{within_row, if_counted}
 use Rattle.region_sets.specs.declared.range.Range.{Range}
 use Rattle.region_sets.specs.declared.region.Region.{Region}
 use Rattle.region_sets.specs.Regions.{each_piece}
 use Rattle.region_sets.specs.Naming.{has_none, named_cells, to_exits, exit_vars}
 
--- its forms are small, and its turn's system is one that calls take
+-- its forms are small, and its iteration's system is one that calls take
 abbrev pub RangeFits : Range → Type 0
 RangeFits g = IfSome g.first IsSmallForm × IfSome g.last IsSmallForm × Fits g.turn.system
 
@@ -64,15 +64,15 @@ is_counted g = is_some g.step && (is_some g.first && is_some g.last)
 -- ---- the cells at an iteration
 
 -- the index becomes the first value, where it is a cell that changes
-abbrev pub begun : Range → Transformer
-begun g = if has g.turn.cells g.index then assigned g.index (if_counted g.step g.first) else unchanging
+abbrev pub first_assignment : Range → Transformer
+first_assignment g = if has g.turn.cells g.index then assign g.index (if_counted g.step g.first) else unchanging
 
 -- from the DO to any iteration
-abbrev pub turns : Range → Transformer
-turns g = followed (begun g) (closed g.turn)
+abbrev pub iterations : Range → Transformer
+iterations g = followed (first_assignment g) (iterate g.turn)
 
-abbrev pub turns_at : Range → System
-turns_at g = rename_all (naming (Exit g.index) (Aux 0) ∷ []) (turns g).system
+abbrev pub iterations_at : Range → System
+iterations_at g = rename_all (naming (Exit g.index) (Aux 0) ∷ []) (iterations g).system
 
 -- ---- the rule
 
@@ -84,19 +84,19 @@ loop_vars = Aux 0 ∷ (Aux 1 ∷ [])
 
 -- the other cells are as some iterations left them
 abbrev pub led_to : List ℕ → Range → System → System
-led_to cs g s = (project (meet (push_rows (rename_all (to_exits cs) (at_index g.index s)) (range_rows g)) (turns_at g)) (exit_vars (turns g).cells)).system
+led_to cs g s = (project (meet (push_rows (rename_all (to_exits cs) (at_index g.index s)) (range_rows g)) (iterations_at g)) (exit_vars (iterations g).cells)).system
 
 abbrev pub counted : Range → Shadow → Shadow
 counted g s = shadow s.system (s.exact && is_counted g)
 
 -- where no cell is named that changes, but the index; and where some are
-abbrev pub looped : List ℕ → Range → System → Shadow
-looped cs g s =
+abbrev pub through_loop : List ℕ → Range → System → Shadow
+through_loop cs g s =
     if has_none cs then counted g (project (push_rows (at_index g.index s) (range_rows g)) loop_vars)
     else shadow (project (led_to cs g s) loop_vars).system false
 
 abbrev pub loop_piece : Range → System → Shadow
-loop_piece g s = looped (named_cells (others g.turn.cells (g.index ∷ [])) s) g s
+loop_piece g s = through_loop (named_cells (others g.turn.cells (g.index ∷ [])) s) g s
 
 abbrev pub over_loop : Region → Range → Region
 over_loop r g = each_piece (loop_piece g) r

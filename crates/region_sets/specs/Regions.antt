@@ -5,7 +5,7 @@ use Rattle.affine_systems.specs.declared.row.System.{System}
 use Rattle.hull_projection.specs.declared.projection.Shadow.{Shadow}
 use Rattle.hull_projection.specs.Minus.{AllFit, hull_all}
 use Rattle.f77_symbols.specs.declared.variable.Variable.{Variable}
-use Rattle.affine_forms.specs.Conditions.{nothing}
+use Rattle.affine_forms.specs.Conditions.{infeasible}
 use Rattle.region_sets.specs.declared.region.Access.{Access}
 use Rattle.region_sets.specs.declared.region.Region.{Region}
 
@@ -37,5 +37,5 @@ each_piece f r = remade r (r.exact && all_exact (map f r.pieces)) (systems (map 
 
 -- from left to right; of no systems that without points
 abbrev pub hull_of : List System → System
-hull_of [] = nothing
+hull_of [] = infeasible
 hull_of (s ∷ ss) = hull_all s ss

@@ -59,5 +59,5 @@ live [] = []
 live (r ∷ rs) = with_pieces r (live_pieces r.pieces) (λ s. s ∷ live rs) (live rs)
 
 -- regions united from left to right
-abbrev pub gathered : List Region → List Region
-gathered rs = live (with_regions [] rs)
+abbrev pub unite_all : List Region → List Region
+unite_all rs = live (with_regions [] rs)

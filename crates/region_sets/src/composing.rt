@@ -6,7 +6,7 @@ ghost use Rattle.affine_systems.specs.Given.{IsNormal, Fits};
 ghost use Rattle.affine_systems.specs.Terms.{Ascends};
 ghost use Rattle.region_sets.specs.Regions.{RegionFits};
 ghost use Rattle.region_sets.specs.Ready.{IsReady};
-ghost use Rattle.region_sets.specs.Compose.{is_other_exit as is_other_exit_is, has_other_exit as has_other_exit_is, is_exit_row as is_exit_row_is, exit_row as exit_row_is, settled as settled_is, put_in as put_in_is, before_rows, is_lost, put_in_all, loses_row, put_exit as put_exit_is, put_exits as put_exits_is, led_to as led_to_is, composed as composed_is, compose_piece as compose_piece_is, compose as compose_is};
+ghost use Rattle.region_sets.specs.Compose.{is_other_exit as is_other_exit_is, has_other_exit as has_other_exit_is, is_exit_row as is_exit_row_is, exit_row as exit_row_is, normal_form as normal_form_is, put_in as put_in_is, before_rows, is_lost, put_in_all, loses_row, put_exit as put_exit_is, put_exits as put_exits_is, led_to as led_to_is, through_transformer as through_transformer_is, compose_piece as compose_piece_is, compose as compose_is};
 ghost use Rattle.region_sets.specs.Laws.{MovesUnits, MovesSharp};
 
 use crate::Region;
@@ -81,8 +81,8 @@ fn false_row(alloc: Global) -> Row
 }
 
 /// A row in normal form; 0 <= -1 where it never holds.
-fn settled(alloc: Global, row: Option<Row>) -> Option<Row>
-    ensures { result ≡ settled_is row }
+fn normal_form(alloc: Global, row: Option<Row>) -> Option<Row>
+    ensures { result ≡ normal_form_is row }
 {
     match row {
         None => None,
@@ -103,7 +103,7 @@ fn put_in(alloc: Global, cell: u32, by: &Row, row: &Row) -> Result<Option<Row>, 
 {
     if in_terms(Var::Exit(cell), row.terms.as_slice()) {
         let put = substitute(alloc, row, Var::Exit(cell), by)?;
-        Ok(settled(alloc, put))
+        Ok(normal_form(alloc, put))
     } else {
         Ok(Some(row.clone()?))
     }
@@ -123,7 +123,7 @@ fn push_put(
     requires out { AllRows IsReady out.old.items }
     requires row { IsReady row.now }
     ensures lost { IfOk result (λ l. l ≡ is_lost (put_in_is cell by.now row.now)) }
-    ensures value { IfOk result (λ _. out.new.items ≡ out.old.items ++ before_rows (put_in_is cell by.now row.now) []) }
+    ensures added { IfOk result (λ _. out.new.items ≡ out.old.items ++ before_rows (put_in_is cell by.now row.now) []) }
     ensures ready { IfOk result (λ _. AllRows IsReady out.new.items) }
 {
     match put_in(alloc, cell, by, row)? {
@@ -155,7 +155,7 @@ fn put_all(
     requires out { AllRows IsReady out.old.items }
     requires rows { AllRows IsReady rows.now }
     ensures lost { IfOk result (λ l. l ≡ loses_row cell by.now rows.now) }
-    ensures value { IfOk result (λ _. out.new.items ≡ out.old.items ++ put_in_all cell by.now rows.now) }
+    ensures added { IfOk result (λ _. out.new.items ≡ out.old.items ++ put_in_all cell by.now rows.now) }
     ensures ready { IfOk result (λ _. AllRows IsReady out.new.items) }
 {
     let mut lost = false;
@@ -212,7 +212,7 @@ fn led_to(alloc: Global, cells: &[u32], t: &Transformer, s: &System) -> Result<S
     requires transformer { Fits t.now.system }
     requires fits { Fits s.now }
     ensures defined { IfOk result (λ r. r ≡ led_to_is cells.now t.now s.now) }
-    ensures gives { IfOk result Fits }
+    ensures fits { IfOk result Fits }
 {
     let names = to_exits(alloc, cells)?;
     let after = rename_all(alloc, s, names.as_slice())?;
@@ -223,11 +223,16 @@ fn led_to(alloc: Global, cells: &[u32], t: &Transformer, s: &System) -> Result<S
 
 /// Where these are the changed cells that the system names.
 #[tactic(auto, using(crate::proofs::Steps::ready_rows))]
-fn composed(alloc: Global, cells: &[u32], t: &Transformer, s: &System) -> Result<Shadow, Memory>
+fn through_transformer(
+    alloc: Global,
+    cells: &[u32],
+    t: &Transformer,
+    s: &System,
+) -> Result<Shadow, Memory>
     requires transformer { Fits t.now.system }
     requires fits { Fits s.now }
-    ensures defined { IfOk result (λ r. r ≡ composed_is cells.now t.now s.now) }
-    ensures gives { IfOk result (λ r. Fits r.system) }
+    ensures defined { IfOk result (λ r. r ≡ through_transformer_is cells.now t.now s.now) }
+    ensures fits { IfOk result (λ r. Fits r.system) }
 {
     if has_none(cells) {
         return Ok(Shadow {
@@ -253,10 +258,10 @@ fn compose_piece(alloc: Global, t: &Transformer, s: &System) -> Result<Shadow, M
     requires transformer { Fits t.now.system }
     requires fits { Fits s.now }
     ensures defined { IfOk result (λ r. r ≡ compose_piece_is t.now s.now) }
-    ensures gives { IfOk result (λ r. Fits r.system) }
+    ensures fits { IfOk result (λ r. Fits r.system) }
 {
     let cells = named_cells(alloc, t.cells.as_slice(), s)?;
-    composed(alloc, cells.as_slice(), t, s)
+    through_transformer(alloc, cells.as_slice(), t, s)
 }
 
 #[tactic(auto, using(crate::proofs::Steps::fitting))]
@@ -264,7 +269,7 @@ fn of_all(alloc: Global, r: &Region, t: &Transformer) -> Result<Region, Memory>
     requires region { RegionFits r.now }
     requires transformer { Fits t.now.system }
     ensures defined { IfOk result (λ q. q ≡ compose_is r.now t.now) }
-    ensures gives { IfOk result RegionFits }
+    ensures fits { IfOk result RegionFits }
 {
     let mut pieces = List::new(alloc);
     let mut exact = true;
@@ -285,7 +290,7 @@ pub fn compose(alloc: Global, r: &Region, t: &Transformer) -> Result<Region, Mem
     requires region { RegionFits r.now }
     requires transformer { Fits t.now.system }
     ensures defined { IfOk result (λ q. q ≡ compose_is r.now t.now) }
-    ensures gives { IfOk result RegionFits }
+    ensures fits { IfOk result RegionFits }
     ensures sound { IfOk result (MovesUnits t.now r.now) }
     ensures exact { IfOk result (MovesSharp t.now r.now) }
 {

@@ -15,12 +15,13 @@ mod text;
 mod uniting;
 
 pub use composing::compose;
-pub use list::list_regions;
+pub use list::{list_regions, push_composed};
 pub use loops::over_loop;
 pub use marks::{Kinds, Mark, Private, Reason, SiteOut};
+pub use naming::{has_none, named_cells};
 pub use range::Range;
-pub use region::{Access, Region, RegionSet};
-pub use sets::gathered;
+pub use region::{Access, Region, RegionSet, copy_region, push_system, remade};
+pub use sets::{push_region, unite_all};
 pub use subtracting::subtract;
 pub use text::{region_line, region_text};
 pub use uniting::unite;

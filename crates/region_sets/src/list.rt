@@ -5,12 +5,13 @@ ghost use Rattle.hull_projection.specs.Minus.{AllFit};
 ghost use Rattle.f77_ast.specs.PlainStmt.{stmt_trees};
 ghost use Rattle.transformers.specs.Given.{ResultsFit};
 ghost use Rattle.transformers.specs.Lists.{transformer_at as transformer_at_is};
+ghost use Rattle.region_sets.specs.Laws.{HasList, HasListAlone};
 ghost use Rattle.region_sets.specs.Regions.{RegionFits};
-ghost use Rattle.region_sets.specs.Sets.{SetFits, gathered as gathered_is};
+ghost use Rattle.region_sets.specs.Sets.{SetFits, unite_all as unite_all_is};
 ghost use Rattle.region_sets.specs.Lists.{SetsFit, is_access as is_access_is, accesses, accesses_at, all_composed, in_order as in_order_is, forgetting as forgetting_is, all_forgetting, inexact as inexact_is, numbers as numbers_is, all_inexact as all_inexact_is, all_accesses as all_accesses_is, in_any_order as in_any_order_is, list_regions as list_regions_is};
 
-use crate::region::{copy_region, marked, push_system, remade};
-use crate::sets::{gathered, push_region};
+use crate::region::{copy_region, push_system, remade, with_flag};
+use crate::sets::{push_region, unite_all};
 use crate::{Access, Region, RegionSet, compose};
 use f77_ast::{Stmt, StmtId};
 use f77_results::{At, Results, View};
@@ -33,8 +34,8 @@ fn is_access(kind: Access) -> bool
 fn push_accesses(alloc: Global, out: &mut RegionSet, set: &[Region]) -> Result<(), Memory>
     requires out { SetFits out.old }
     requires set { SetFits set.now }
-    ensures value { OnOk result (out.new ≡ out.old ++ accesses set.now) }
-    ensures gives { OnOk result (SetFits out.new) }
+    ensures added { OnOk result (out.new ≡ out.old ++ accesses set.now) }
+    ensures fits { OnOk result (SetFits out.new) }
 {
     let mut rest = set;
     while let [r, more @ ..] = rest {
@@ -55,8 +56,8 @@ fn push_accesses_at(
 ) -> Result<(), Memory>
     requires out { SetFits out.old }
     requires at { SetsFit at.now }
-    ensures value { OnOk result (out.new ≡ out.old ++ accesses_at at.now id) }
-    ensures gives { OnOk result (SetFits out.new) }
+    ensures added { OnOk result (out.new ≡ out.old ++ accesses_at at.now id) }
+    ensures fits { OnOk result (SetFits out.new) }
 {
     match value_at(at, id) {
         None => Ok(()),
@@ -66,7 +67,7 @@ fn push_accesses_at(
 
 /// Adds regions as seen from before a statement.
 #[tactic(auto, using(crate::proofs::Steps::fitting))]
-fn push_composed(
+pub fn push_composed(
     alloc: Global,
     out: &mut RegionSet,
     t: &Transformer,
@@ -75,8 +76,8 @@ fn push_composed(
     requires out { SetFits out.old }
     requires transformer { Fits t.now.system }
     requires set { SetFits set.now }
-    ensures value { OnOk result (out.new ≡ out.old ++ all_composed t.now set.now) }
-    ensures gives { OnOk result (SetFits out.new) }
+    ensures added { OnOk result (out.new ≡ out.old ++ all_composed t.now set.now) }
+    ensures fits { OnOk result (SetFits out.new) }
 {
     let mut rest = set;
     while let [r, more @ ..] = rest {
@@ -97,14 +98,14 @@ fn with_rest(
     requires own { ResultsFit own.now }
     requires at { SetsFit at.now }
     requires rest { SetFits rest.now }
-    ensures defined { IfOk result (λ qs. qs ≡ gathered_is (accesses_at at.now id ++ all_composed (transformer_at_is own.now id) rest.now)) }
-    ensures gives { IfOk result SetFits }
+    ensures defined { IfOk result (λ qs. qs ≡ unite_all_is (accesses_at at.now id ++ all_composed (transformer_at_is own.now id) rest.now)) }
+    ensures fits { IfOk result SetFits }
 {
     let mut all = List::new(alloc);
     push_accesses_at(alloc, &mut all, at, id)?;
     let t = transformer_at(alloc, own, id)?;
     push_composed(alloc, &mut all, &t, rest)?;
-    gathered(alloc, all.as_slice())
+    unite_all(alloc, all.as_slice())
 }
 
 /// The numbers of the statements of a list.
@@ -132,7 +133,7 @@ fn in_order(
     requires own { ResultsFit own.now }
     requires at { SetsFit at.now }
     ensures defined { IfOk result (λ qs. qs ≡ in_order_is (transformer_at_is own.now) (accesses_at at.now) ids.now) }
-    ensures gives { IfOk result SetFits }
+    ensures fits { IfOk result SetFits }
 {
     let mut set = List::new(alloc);
     let mut left = ids.len();
@@ -148,7 +149,7 @@ fn in_order(
 fn forgetting(alloc: Global, cells: &[u32], r: &Region) -> Result<Region, Memory>
     requires { RegionFits r.now }
     ensures defined { IfOk result (λ q. q ≡ forgetting_is cells.now r.now) }
-    ensures gives { IfOk result RegionFits }
+    ensures fits { IfOk result RegionFits }
 {
     let mut pieces = List::new(alloc);
     let mut rest = r.pieces.as_slice();
@@ -169,8 +170,8 @@ fn push_forgetting(
 ) -> Result<(), Memory>
     requires out { SetFits out.old }
     requires set { SetFits set.now }
-    ensures value { OnOk result (out.new ≡ out.old ++ all_forgetting cells.now set.now) }
-    ensures gives { OnOk result (SetFits out.new) }
+    ensures added { OnOk result (out.new ≡ out.old ++ all_forgetting cells.now set.now) }
+    ensures fits { OnOk result (SetFits out.new) }
 {
     let mut rest = set;
     while let [r, more @ ..] = rest {
@@ -188,7 +189,7 @@ fn all_accesses(
 ) -> Result<RegionSet, Memory>
     requires { SetsFit at.now }
     ensures defined { IfOk result (λ qs. qs ≡ all_accesses_is (accesses_at at.now) ids.now) }
-    ensures gives { IfOk result SetFits }
+    ensures fits { IfOk result SetFits }
 {
     let mut out = List::new(alloc);
     let mut rest = ids;
@@ -204,12 +205,12 @@ fn all_accesses(
 fn all_inexact(alloc: Global, set: &[Region]) -> Result<RegionSet, Memory>
     requires { SetFits set.now }
     ensures defined { IfOk result (λ qs. qs ≡ all_inexact_is set.now) }
-    ensures gives { IfOk result SetFits }
+    ensures fits { IfOk result SetFits }
 {
     let mut out = List::new(alloc);
     let mut rest = set;
     while let [r, more @ ..] = rest {
-        push_region(&mut out, marked(alloc, r, false)?)?;
+        push_region(&mut out, with_flag(alloc, r, false)?)?;
         rest = more;
     }
     Ok(out)
@@ -224,13 +225,34 @@ fn in_any_order(
 ) -> Result<RegionSet, Memory>
     requires { SetsFit at.now }
     ensures defined { IfOk result (λ qs. qs ≡ in_any_order_is cells.now (accesses_at at.now) ids.now) }
-    ensures gives { IfOk result SetFits }
+    ensures fits { IfOk result SetFits }
 {
     let all = all_accesses(alloc, ids, at)?;
     let mut free = List::new(alloc);
     push_forgetting(alloc, &mut free, cells, all.as_slice())?;
-    let set = gathered(alloc, free.as_slice())?;
+    let set = unite_all(alloc, free.as_slice())?;
     all_inexact(alloc, set.as_slice())
+}
+
+fn of_list(
+    alloc: Global,
+    list: &List<Stmt>,
+    whole: bool,
+    own: &Results<Transformer>,
+    at: &List<At<RegionSet>>,
+) -> Result<RegionSet, Memory>
+    requires own { ResultsFit own.now.at }
+    requires at { SetsFit at.now }
+    ensures defined { IfOk result (λ qs. qs ≡ list_regions_is (transformer_at_is own.now.at) (accesses_at at.now) whole (stmt_trees list.now)) }
+    ensures fits { IfOk result SetFits }
+{
+    let ids = numbers(alloc, list.as_slice())?;
+    if is_unstructured(alloc, list, whole)? {
+        let t = list_at(alloc, list, whole, &own.at)?;
+        in_any_order(alloc, t.cells.as_slice(), ids.as_slice(), at)
+    } else {
+        in_order(alloc, ids.as_slice(), &own.at, at)
+    }
 }
 
 /// READ and WRITE of a list, from those that `at` has for its direct statements and the transformers of these; `whole` says that the
@@ -247,13 +269,9 @@ pub fn list_regions(
     requires own { ResultsFit own.now.at }
     requires at { SetsFit at.now }
     ensures defined { IfOk result (λ qs. qs ≡ list_regions_is (transformer_at_is own.now.at) (accesses_at at.now) whole (stmt_trees list.now)) }
-    ensures gives { IfOk result SetFits }
+    ensures fits { IfOk result SetFits }
+    ensures sound { IfOk result (HasList (transformer_at_is own.now.at) (accesses_at at.now) whole (stmt_trees list.now)) }
+    ensures exact { IfOk result (HasListAlone (transformer_at_is own.now.at) (accesses_at at.now) whole (stmt_trees list.now)) }
 {
-    let ids = numbers(alloc, list.as_slice())?;
-    if is_unstructured(alloc, list, whole)? {
-        let t = list_at(alloc, list, whole, &own.at)?;
-        in_any_order(alloc, t.cells.as_slice(), ids.as_slice(), at)
-    } else {
-        in_order(alloc, ids.as_slice(), &own.at, at)
-    }
+    of_list(alloc, list, whole, own, at)
 }

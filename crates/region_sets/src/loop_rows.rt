@@ -18,7 +18,7 @@ fn within_row(alloc: Global, step: i32, f: &Affine, g: &Affine) -> Result<Row, M
     requires first { IsSmallForm f.now }
     requires last { IsSmallForm g.now }
     ensures defined { IfOk result (λ r. r ≡ within_row_is step f.now g.now) }
-    ensures given { IfOk result IsGiven }
+    ensures fits { IfOk result IsGiven }
 {
     if step > 0 {
         at_most_row(alloc, f, g)
@@ -63,8 +63,8 @@ fn at_least_0(alloc: Global, v: Var) -> Result<Row, Memory>
 fn push_steps(alloc: Global, out: &mut Vec<Row>, step: i32, first: &Affine) -> Result<(), Memory>
     requires rows { AllRows IsGiven out.old.items }
     requires first { IsSmallForm first.now }
-    ensures value { OnOk result (out.new.items ≡ out.old.items ++ step_rows step first.now) }
-    ensures given { OnOk result (AllRows IsGiven out.new.items) }
+    ensures added { OnOk result (out.new.items ≡ out.old.items ++ step_rows step first.now) }
+    ensures fits { OnOk result (AllRows IsGiven out.new.items) }
 {
     if step.unsigned_abs() > 1 {
         let start = start_of(alloc, step)?;
@@ -84,8 +84,8 @@ fn push_first(
 ) -> Result<(), Memory>
     requires rows { AllRows IsGiven out.old.items }
     requires first { IfSome first.now IsSmallForm }
-    ensures value { OnOk result (out.new.items ≡ out.old.items ++ first_rows step first.now) }
-    ensures given { OnOk result (AllRows IsGiven out.new.items) }
+    ensures added { OnOk result (out.new.items ≡ out.old.items ++ first_rows step first.now) }
+    ensures fits { OnOk result (AllRows IsGiven out.new.items) }
 {
     match first {
         None => Ok(()),
@@ -107,8 +107,8 @@ fn push_last(
 ) -> Result<(), Memory>
     requires rows { AllRows IsGiven out.old.items }
     requires last { IfSome last.now IsSmallForm }
-    ensures value { OnOk result (out.new.items ≡ out.old.items ++ last_rows step last.now) }
-    ensures given { OnOk result (AllRows IsGiven out.new.items) }
+    ensures added { OnOk result (out.new.items ≡ out.old.items ++ last_rows step last.now) }
+    ensures fits { OnOk result (AllRows IsGiven out.new.items) }
 {
     match last {
         None => Ok(()),
@@ -124,7 +124,7 @@ fn push_last(
 pub fn range_rows(alloc: Global, g: &Range) -> Result<Vec<Row>, Memory>
     requires { RangeFits g.now }
     ensures defined { IfOk result (λ rs. rs.items ≡ range_rows_is g.now) }
-    ensures given { IfOk result (λ rs. AllRows IsGiven rs.items) }
+    ensures fits { IfOk result (λ rs. AllRows IsGiven rs.items) }
 {
     let mut rows = Vec::new(alloc);
     if let Some(step) = g.step {

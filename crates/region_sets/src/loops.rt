@@ -2,7 +2,7 @@
 ghost use Rattle.std.specs.Prelude.{◌≡◌, IfOk};
 ghost use Rattle.affine_systems.specs.Given.{Fits};
 ghost use Rattle.region_sets.specs.Regions.{RegionFits};
-ghost use Rattle.region_sets.specs.Loops.{RangeFits, is_counted as is_counted_is, begun as begun_is, turns as turns_is, turns_at as turns_at_is, at_index as at_index_is, loop_vars as loop_vars_is, led_to as led_to_is, looped as looped_is, loop_piece as loop_piece_is, over_loop as over_loop_is};
+ghost use Rattle.region_sets.specs.Loops.{RangeFits, is_counted as is_counted_is, first_assignment as first_assignment_is, iterations as iterations_is, iterations_at as iterations_at_is, at_index as at_index_is, loop_vars as loop_vars_is, led_to as led_to_is, through_loop as through_loop_is, loop_piece as loop_piece_is, over_loop as over_loop_is};
 ghost use Rattle.region_sets.specs.Laws.{HasIterations, HasIterationsAlone};
 
 use crate::loop_rows::range_rows;
@@ -14,7 +14,7 @@ use fx_lists::List;
 use hull_projection::{Shadow, project};
 use std::alloc::{AllocError as Memory, Global};
 use system_renaming::{Naming, push_rows, rename_all};
-use transformer_algebra::{Transformer, assigned, closed, has, others, then, unchanging};
+use transformer_algebra::{Transformer, assign, has, iterate, others, then, unchanging};
 
 fn is_counted(g: &Range) -> bool
     ensures { result ≡ is_counted_is g.now }
@@ -23,28 +23,28 @@ fn is_counted(g: &Range) -> bool
 }
 
 /// The index becomes the first value, where it is a cell that changes.
-fn begun(alloc: Global, g: &Range) -> Result<Transformer, Memory>
+fn first_assignment(alloc: Global, g: &Range) -> Result<Transformer, Memory>
     requires { RangeFits g.now }
-    ensures defined { IfOk result (λ t. t ≡ begun_is g.now) }
-    ensures gives { IfOk result (λ t. Fits t.system) }
+    ensures defined { IfOk result (λ t. t ≡ first_assignment_is g.now) }
+    ensures fits { IfOk result (λ t. Fits t.system) }
 {
     if !has(g.turn.cells.as_slice(), g.index) {
         return Ok(unchanging(alloc));
     }
     match g.step {
-        None => assigned(alloc, g.index, &None),
-        Some(_) => assigned(alloc, g.index, &g.first),
+        None => assign(alloc, g.index, &None),
+        Some(_) => assign(alloc, g.index, &g.first),
     }
 }
 
 /// From the DO to any iteration.
-fn turns(alloc: Global, g: &Range) -> Result<Transformer, Memory>
+fn iterations(alloc: Global, g: &Range) -> Result<Transformer, Memory>
     requires { RangeFits g.now }
-    ensures defined { IfOk result (λ t. t ≡ turns_is g.now) }
-    ensures gives { IfOk result (λ t. Fits t.system) }
+    ensures defined { IfOk result (λ t. t ≡ iterations_is g.now) }
+    ensures fits { IfOk result (λ t. Fits t.system) }
 {
-    let first = begun(alloc, g)?;
-    let some = closed(alloc, &g.turn)?;
+    let first = first_assignment(alloc, g)?;
+    let some = iterate(alloc, &g.turn)?;
     then(alloc, &first, &some)
 }
 
@@ -52,7 +52,7 @@ fn turns(alloc: Global, g: &Range) -> Result<Transformer, Memory>
 fn at_index(alloc: Global, index: u32, s: &System) -> Result<System, Memory>
     requires { Fits s.now }
     ensures defined { IfOk result (λ r. r ≡ at_index_is index s.now) }
-    ensures gives { IfOk result Fits }
+    ensures fits { IfOk result Fits }
 {
     let name = Naming {
         from: Var::Cell(index),
@@ -69,11 +69,11 @@ fn loop_vars(alloc: Global) -> Result<List<Var>, Memory>
 }
 
 /// What holds of the cells at an iteration, with its index for the exit of the cell.
-fn turns_at(alloc: Global, g: &Range, t: &Transformer) -> Result<System, Memory>
+fn iterations_at(alloc: Global, g: &Range, t: &Transformer) -> Result<System, Memory>
     requires fits { Fits t.now.system }
-    requires turns { t.now ≡ turns_is g.now }
-    ensures defined { IfOk result (λ s. s ≡ turns_at_is g.now) }
-    ensures gives { IfOk result Fits }
+    requires turns { t.now ≡ iterations_is g.now }
+    ensures defined { IfOk result (λ s. s ≡ iterations_at_is g.now) }
+    ensures fits { IfOk result Fits }
 {
     let name = Naming {
         from: Var::Exit(g.index),
@@ -87,25 +87,25 @@ fn led_to(alloc: Global, cells: &[u32], g: &Range, s: &System) -> Result<System,
     requires range { RangeFits g.now }
     requires fits { Fits s.now }
     ensures defined { IfOk result (λ r. r ≡ led_to_is cells.now g.now s.now) }
-    ensures gives { IfOk result Fits }
+    ensures fits { IfOk result Fits }
 {
     let indexed = at_index(alloc, g.index, s)?;
     let names = to_exits(alloc, cells)?;
     let after = rename_all(alloc, &indexed, names.as_slice())?;
     let within = push_rows(alloc, &after, range_rows(alloc, g)?)?;
-    let some = turns(alloc, g)?;
-    let there = turns_at(alloc, g, &some)?;
+    let some = iterations(alloc, g)?;
+    let there = iterations_at(alloc, g, &some)?;
     let both = meet(alloc, &within, &there)?;
     let vars = exit_vars(alloc, some.cells.as_slice())?;
     Ok(project(alloc, &both, &vars)?.system)
 }
 
 /// Where these are the changed cells that the system names beside the index.
-fn looped(alloc: Global, cells: &[u32], g: &Range, s: &System) -> Result<Shadow, Memory>
+fn through_loop(alloc: Global, cells: &[u32], g: &Range, s: &System) -> Result<Shadow, Memory>
     requires range { RangeFits g.now }
     requires fits { Fits s.now }
-    ensures defined { IfOk result (λ r. r ≡ looped_is cells.now g.now s.now) }
-    ensures gives { IfOk result (λ r. Fits r.system) }
+    ensures defined { IfOk result (λ r. r ≡ through_loop_is cells.now g.now s.now) }
+    ensures fits { IfOk result (λ r. Fits r.system) }
 {
     let vars = loop_vars(alloc)?;
     if has_none(cells) {
@@ -128,11 +128,11 @@ fn loop_piece(alloc: Global, g: &Range, s: &System) -> Result<Shadow, Memory>
     requires range { RangeFits g.now }
     requires fits { Fits s.now }
     ensures defined { IfOk result (λ r. r ≡ loop_piece_is g.now s.now) }
-    ensures gives { IfOk result (λ r. Fits r.system) }
+    ensures fits { IfOk result (λ r. Fits r.system) }
 {
     let changed = others(alloc, g.turn.cells.as_slice(), &[g.index])?;
     let cells = named_cells(alloc, changed.as_slice(), s)?;
-    looped(alloc, cells.as_slice(), g, s)
+    through_loop(alloc, cells.as_slice(), g, s)
 }
 
 #[tactic(auto, using(crate::proofs::Steps::fitting))]
@@ -140,7 +140,7 @@ fn of_all(alloc: Global, r: &Region, g: &Range) -> Result<Region, Memory>
     requires region { RegionFits r.now }
     requires range { RangeFits g.now }
     ensures defined { IfOk result (λ q. q ≡ over_loop_is r.now g.now) }
-    ensures gives { IfOk result RegionFits }
+    ensures fits { IfOk result RegionFits }
 {
     let mut pieces = List::new(alloc);
     let mut exact = true;
@@ -162,7 +162,7 @@ pub fn over_loop(alloc: Global, r: &Region, g: &Range) -> Result<Region, Memory>
     requires region { RegionFits r.now }
     requires range { RangeFits g.now }
     ensures defined { IfOk result (λ q. q ≡ over_loop_is r.now g.now) }
-    ensures gives { IfOk result RegionFits }
+    ensures fits { IfOk result RegionFits }
     ensures sound { IfOk result (HasIterations g.now r.now) }
     ensures exact { IfOk result (HasIterationsAlone g.now r.now) }
 {

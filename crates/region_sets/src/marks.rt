@@ -7,7 +7,7 @@ use transformer_algebra::Transformer;
 
 /// How two iterations meet at a unit: the earlier one writes it and the later one reads it; it is read and then written; both write
 /// it.
-#[derive(Clone, Copy, Debug, PartialEq, Eq)]
+#[derive(Clone, Copy)]
 pub enum Kinds {
     WriteRead,
     ReadWrite,
@@ -16,7 +16,7 @@ pub enum Kinds {
 
 /// Whether each iteration may have its own copy of a variable; if not, the first reason: its name does not allow it, a later
 /// iteration reads what an earlier one wrote, what is written is read after the loop.
-#[derive(Clone, Copy, Debug, PartialEq, Eq)]
+#[derive(Clone, Copy)]
 pub enum Private {
     Yes,
     Name,
@@ -26,7 +26,7 @@ pub enum Private {
 
 /// Why a loop is serial: control may leave its body; it reads or prints; its step is no constant; its index is needed afterwards or
 /// is not its own; iterations meet at a unit of a variable.
-#[derive(Debug, PartialEq, Eq, Drop)]
+#[derive(Drop)]
 pub enum Reason {
     Jump,
     InputOutput,
@@ -36,14 +36,14 @@ pub enum Reason {
 }
 
 /// The iterations of a loop may run at once, each with its own copies of these variables; or why not.
-#[derive(Debug, PartialEq, Eq, Drop)]
+#[derive(Drop)]
 pub enum Mark {
     Parallel(List<u32>),
     Serial(Reason),
 }
 
 /// What a module is told of a CALL of it: the transformers of the caller, and OUT of the CALL.
-#[derive(Debug, PartialEq, Eq, Drop)]
+#[derive(Drop)]
 pub struct SiteOut {
     pub own: Results<Transformer>,
     pub out: RegionSet,

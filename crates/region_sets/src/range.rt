@@ -4,7 +4,7 @@ use transformer_algebra::Transformer;
 
 /// What a DO is to the regions of its body: the number of its index; the forms of its first and last value; its step where that is
 /// a constant that is not 0; and the transformer of one iteration, with the increment of the index.
-#[derive(Debug, PartialEq, Eq, Drop)]
+#[derive(Drop)]
 pub struct Range {
     pub index: u32,
     pub first: Option<Affine>,

@@ -12,7 +12,7 @@ use std::alloc::{AllocError as Memory, Global};
 
 /// How elements are accessed: they are read; they are written; they are read before they are written; they are written, and read
 /// later before they are written again.
-#[derive(Clone, Copy, Debug, PartialEq, Eq)]
+#[derive(Clone, Copy)]
 pub enum Access {
     Read,
     Write,
@@ -23,7 +23,7 @@ pub enum Access {
 /// The elements of a variable with the subscripts (`Phi`, from 1) of which one of the systems holds, at the numbers of the cells
 /// (`Cell`) where a statement begins. Where it is `exact`, each of them is accessed in each execution that ends normally;
 /// otherwise it may be. There is one system.
-#[derive(Debug, PartialEq, Eq, Drop)]
+#[derive(Drop)]
 pub struct Region {
     pub variable: Variable,
     pub kind: Access,
@@ -53,7 +53,7 @@ pub fn any_weak(pieces: &[System]) -> bool
 pub fn remade(r: &Region, exact: bool, pieces: List<System>) -> Result<Region, Memory>
     requires { AllFit pieces }
     ensures defined { IfOk result (λ q. q ≡ remade_is r.now exact pieces) }
-    ensures gives { IfOk result RegionFits }
+    ensures fits { IfOk result RegionFits }
 {
     let weak = any_weak(pieces.as_slice());
     Ok(Region {
@@ -69,8 +69,8 @@ pub fn remade(r: &Region, exact: bool, pieces: List<System>) -> Result<Region, M
 pub fn push_system(out: &mut List<System>, s: System) -> Result<(), Memory>
     requires all { AllFit out.old }
     requires s { Fits s }
-    ensures value { IfOk result (λ _. out.new ≡ out.old ++ s ∷ []) }
-    ensures gives { IfOk result (λ _. AllFit out.new) }
+    ensures added { IfOk result (λ _. out.new ≡ out.old ++ s ∷ []) }
+    ensures fits { IfOk result (λ _. AllFit out.new) }
 {
     out.push(s)?;
     Ok(())
@@ -90,8 +90,8 @@ pub fn copy_system(piece: &System) -> Result<System, Memory>
 pub fn push_copies(out: &mut List<System>, pieces: &[System]) -> Result<(), Memory>
     requires all { AllFit out.old }
     requires pieces { AllFit pieces.now }
-    ensures value { IfOk result (λ _. out.new ≡ out.old ++ pieces.now) }
-    ensures gives { IfOk result (λ _. AllFit out.new) }
+    ensures added { IfOk result (λ _. out.new ≡ out.old ++ pieces.now) }
+    ensures fits { IfOk result (λ _. AllFit out.new) }
 {
     let mut rest = pieces;
     while let [piece, more @ ..] = rest {
@@ -102,10 +102,10 @@ pub fn push_copies(out: &mut List<System>, pieces: &[System]) -> Result<(), Memo
 }
 
 /// A copy with another flag; not exact where a row was lost.
-pub fn marked(alloc: Global, r: &Region, exact: bool) -> Result<Region, Memory>
+pub fn with_flag(alloc: Global, r: &Region, exact: bool) -> Result<Region, Memory>
     requires { RegionFits r.now }
     ensures defined { IfOk result (λ q. q ≡ remade_is r.now exact r.now.pieces) }
-    ensures gives { IfOk result RegionFits }
+    ensures fits { IfOk result RegionFits }
 {
     let mut pieces = List::new(alloc);
     push_copies(&mut pieces, r.pieces.as_slice())?;
@@ -115,7 +115,7 @@ pub fn marked(alloc: Global, r: &Region, exact: bool) -> Result<Region, Memory>
 pub fn copy_region(alloc: Global, r: &Region) -> Result<Region, Memory>
     requires { RegionFits r.now }
     ensures defined { IfOk result (λ q. q ≡ r.now) }
-    ensures gives { IfOk result RegionFits }
+    ensures fits { IfOk result RegionFits }
 {
     let mut pieces = List::new(alloc);
     push_copies(&mut pieces, r.pieces.as_slice())?;

@@ -2,7 +2,8 @@
 ghost use Rattle.std.specs.Prelude.{◌≡◌, ◌++◌, ◌∷◌, [], IfOk, OnOk};
 ghost use Rattle.hull_projection.specs.Minus.{AllFit};
 ghost use Rattle.region_sets.specs.Regions.{RegionFits};
-ghost use Rattle.region_sets.specs.Sets.{SetFits, access_number as access_number_is, region_cmp, live_pieces as live_pieces_is, with_region as with_region_is, with_live as with_live_is, with_regions, live as live_is, gathered as gathered_is};
+ghost use Rattle.region_sets.specs.Laws.{HasUnits, IsAsSharp};
+ghost use Rattle.region_sets.specs.Sets.{SetFits, access_number as access_number_is, region_cmp, live_pieces as live_pieces_is, with_region as with_region_is, with_live as with_live_is, with_regions, live as live_is, unite_all as unite_all_is};
 
 use crate::region::{copy_system, push_system, remade};
 use crate::{Access, Region, RegionSet, unite};
@@ -38,7 +39,7 @@ fn region_order(a: &Region, b: &Region) -> Ordering
 fn live_pieces(alloc: Global, pieces: &[System]) -> Result<List<System>, Memory>
     requires { AllFit pieces.now }
     ensures defined { IfOk result (λ ss. ss ≡ live_pieces_is pieces.now) }
-    ensures gives { IfOk result AllFit }
+    ensures fits { IfOk result AllFit }
 {
     let mut out = List::new(alloc);
     let mut rest = pieces;
@@ -56,8 +57,8 @@ fn live_pieces(alloc: Global, pieces: &[System]) -> Result<List<System>, Memory>
 pub fn push_region(out: &mut RegionSet, r: Region) -> Result<(), Memory>
     requires set { SetFits out.old }
     requires r { RegionFits r }
-    ensures value { OnOk result (out.new ≡ out.old ++ r ∷ []) }
-    ensures gives { OnOk result (SetFits out.new) }
+    ensures added { OnOk result (out.new ≡ out.old ++ r ∷ []) }
+    ensures fits { OnOk result (SetFits out.new) }
 {
     out.push(r)?;
     Ok(())
@@ -69,7 +70,7 @@ fn with_region(alloc: Global, set: RegionSet, r: Region) -> Result<RegionSet, Me
     requires set { SetFits set }
     requires r { RegionFits r }
     ensures defined { IfOk result (λ qs. qs ≡ with_region_is r set) }
-    ensures gives { IfOk result SetFits }
+    ensures fits { IfOk result SetFits }
 {
     let mut regions = set.into_vec();
     for i in 0..regions.len() {
@@ -94,7 +95,7 @@ fn with_live(alloc: Global, set: RegionSet, r: &Region) -> Result<RegionSet, Mem
     requires set { SetFits set }
     requires r { RegionFits r.now }
     ensures defined { IfOk result (λ qs. qs ≡ with_live_is r.now set) }
-    ensures gives { IfOk result SetFits }
+    ensures fits { IfOk result SetFits }
 {
     let pieces = live_pieces(alloc, r.pieces.as_slice())?;
     if pieces.is_empty() {
@@ -109,8 +110,8 @@ fn with_live(alloc: Global, set: RegionSet, r: &Region) -> Result<RegionSet, Mem
 fn push_live(alloc: Global, out: &mut RegionSet, r: &Region) -> Result<(), Memory>
     requires out { SetFits out.old }
     requires r { RegionFits r.now }
-    ensures value { OnOk result (out.new ≡ out.old ++ live_is (r.now ∷ [])) }
-    ensures gives { OnOk result (SetFits out.new) }
+    ensures added { OnOk result (out.new ≡ out.old ++ live_is (r.now ∷ [])) }
+    ensures fits { OnOk result (SetFits out.new) }
 {
     let pieces = live_pieces(alloc, r.pieces.as_slice())?;
     if pieces.is_empty() {
@@ -124,7 +125,7 @@ fn push_live(alloc: Global, out: &mut RegionSet, r: &Region) -> Result<(), Memor
 fn live(alloc: Global, regions: &[Region]) -> Result<RegionSet, Memory>
     requires { SetFits regions.now }
     ensures defined { IfOk result (λ qs. qs ≡ live_is regions.now) }
-    ensures gives { IfOk result SetFits }
+    ensures fits { IfOk result SetFits }
 {
     let mut out = List::new(alloc);
     let mut rest = regions;
@@ -135,11 +136,11 @@ fn live(alloc: Global, regions: &[Region]) -> Result<RegionSet, Memory>
     Ok(out)
 }
 
-/// A set of regions that are united from left to right. One that is refuted is left out. Each is looked up among those before it.
-pub fn gathered(alloc: Global, regions: &[Region]) -> Result<RegionSet, Memory>
+/// Regions that are united from left to right. Each is looked up among those before it.
+fn all_gathered(alloc: Global, regions: &[Region]) -> Result<RegionSet, Memory>
     requires { SetFits regions.now }
-    ensures defined { IfOk result (λ qs. qs ≡ gathered_is regions.now) }
-    ensures gives { IfOk result SetFits }
+    ensures defined { IfOk result (λ qs. qs ≡ unite_all_is regions.now) }
+    ensures fits { IfOk result SetFits }
 {
     let mut set = List::new(alloc);
     let mut rest = regions;
@@ -148,4 +149,15 @@ pub fn gathered(alloc: Global, regions: &[Region]) -> Result<RegionSet, Memory>
         rest = more;
     }
     live(alloc, set.as_slice())
+}
+
+/// A set of regions that are united from left to right. One that is refuted is left out.
+pub fn unite_all(alloc: Global, regions: &[Region]) -> Result<RegionSet, Memory>
+    requires { SetFits regions.now }
+    ensures defined { IfOk result (λ qs. qs ≡ unite_all_is regions.now) }
+    ensures fits { IfOk result SetFits }
+    ensures sound { IfOk result (HasUnits regions.now) }
+    ensures exact { IfOk result (IsAsSharp regions.now) }
+{
+    all_gathered(alloc, regions)
 }

@@ -7,7 +7,7 @@ ghost use Rattle.region_sets.specs.Subtract.{less_one as less_one_is, less_each 
 ghost use Rattle.region_sets.specs.Laws.{KeepsRest, HasRestAlone};
 
 use crate::Region;
-use crate::region::{marked, push_system, remade};
+use crate::region::{push_system, remade, with_flag};
 use affine_systems::{System, meet};
 use fx_lists::List;
 use hull_projection::{Minus, minus, refuted};
@@ -18,7 +18,7 @@ fn less_one(alloc: Global, m: Minus, s: &System) -> Result<Minus, Memory>
     requires left { IfSome m.system Fits }
     requires fits { Fits s.now }
     ensures defined { IfOk result (λ n. n ≡ less_one_is m s.now) }
-    ensures gives { IfOk result (λ n. IfSome n.system Fits) }
+    ensures fits { IfOk result (λ n. IfSome n.system Fits) }
 {
     match &m.system {
         None => Ok(m),
@@ -37,7 +37,7 @@ fn less_all(alloc: Global, piece: &System, systems: &[System]) -> Result<Minus, 
     requires piece { Fits piece.now }
     requires systems { AllFit systems.now }
     ensures defined { IfOk result (λ m. m ≡ less_all_is piece.now systems.now) }
-    ensures gives { IfOk result (λ m. IfSome m.system Fits) }
+    ensures fits { IfOk result (λ m. IfSome m.system Fits) }
 {
     let mut left = Minus {
         system: Some(piece.clone()?),
@@ -63,8 +63,8 @@ fn push_left(
     requires piece { Fits piece.now }
     requires systems { AllFit systems.now }
     ensures exact { IfOk result (λ e. e ≡ (less_all_is piece.now systems.now).exact) }
-    ensures value { IfOk result (λ _. out.new ≡ out.old ++ left_of (piece.now ∷ []) systems.now) }
-    ensures gives { IfOk result (λ _. AllFit out.new) }
+    ensures added { IfOk result (λ _. out.new ≡ out.old ++ left_of (piece.now ∷ []) systems.now) }
+    ensures fits { IfOk result (λ _. AllFit out.new) }
 {
     let left = less_all(alloc, piece, systems)?;
     let Minus { system, exact } = left;
@@ -86,8 +86,8 @@ fn push_all_left(
     requires pieces { AllFit pieces.now }
     requires systems { AllFit systems.now }
     ensures exact { IfOk result (λ e. e ≡ all_left_exactly pieces.now systems.now) }
-    ensures value { IfOk result (λ _. out.new ≡ out.old ++ left_of pieces.now systems.now) }
-    ensures gives { IfOk result (λ _. AllFit out.new) }
+    ensures added { IfOk result (λ _. out.new ≡ out.old ++ left_of pieces.now systems.now) }
+    ensures fits { IfOk result (λ _. AllFit out.new) }
 {
     let mut all = true;
     let mut rest = pieces;
@@ -134,7 +134,7 @@ fn all_apart(alloc: Global, pieces: &[System], systems: &[System]) -> Result<boo
 fn unless_empty(r: &Region, exact: bool, pieces: List<System>) -> Result<Option<Region>, Memory>
     requires { AllFit pieces }
     ensures defined { IfOk result (λ o. o ≡ unless_empty_is r.now exact pieces) }
-    ensures gives { IfOk result (λ o. IfSome o RegionFits) }
+    ensures fits { IfOk result (λ o. IfSome o RegionFits) }
 {
     if pieces.is_empty() {
         return Ok(None);
@@ -146,7 +146,7 @@ fn subtracted(alloc: Global, a: &Region, b: &Region) -> Result<Option<Region>, M
     requires first { RegionFits a.now }
     requires second { RegionFits b.now }
     ensures defined { IfOk result (λ o. o ≡ subtract_is a.now b.now) }
-    ensures gives { IfOk result (λ o. IfSome o RegionFits) }
+    ensures fits { IfOk result (λ o. IfSome o RegionFits) }
 {
     if b.exact {
         let mut pieces = List::new(alloc);
@@ -154,7 +154,7 @@ fn subtracted(alloc: Global, a: &Region, b: &Region) -> Result<Option<Region>, M
         return unless_empty(a, a.exact && just, pieces);
     }
     let apart = all_apart(alloc, a.pieces.as_slice(), b.pieces.as_slice())?;
-    Ok(Some(marked(alloc, a, a.exact && apart)?))
+    Ok(Some(with_flag(alloc, a, a.exact && apart)?))
 }
 
 /// A region less another of the same variable, of the kind of the first; None where nothing is left. What the second only may
@@ -163,7 +163,7 @@ pub fn subtract(alloc: Global, a: &Region, b: &Region) -> Result<Option<Region>,
     requires first { RegionFits a.now }
     requires second { RegionFits b.now }
     ensures defined { IfOk result (λ o. o ≡ subtract_is a.now b.now) }
-    ensures gives { IfOk result (λ o. IfSome o RegionFits) }
+    ensures fits { IfOk result (λ o. IfSome o RegionFits) }
     ensures sound { IfOk result (KeepsRest a.now b.now) }
     ensures exact { IfOk result (HasRestAlone a.now b.now) }
 {

@@ -10,8 +10,8 @@ ghost use Rattle.region_sets.specs.Ready.{IsReady};
 ghost use Rattle.region_sets.specs.Laws.{HasBoth, IsOneExact};
 
 use crate::Region;
-use crate::region::{marked, push_copies, push_system, remade};
-use affine_forms::nothing;
+use crate::region::{push_copies, push_system, remade, with_flag};
+use affine_forms::infeasible;
 use affine_systems::{Row, System};
 use fx_lists::List;
 use hull_projection::{entails, hull, refuted};
@@ -92,7 +92,7 @@ fn hull_all(alloc: Global, first: System, systems: &[System]) -> Result<System, 
     requires first { Fits first }
     requires systems { AllFit systems.now }
     ensures defined { IfOk result (λ s. s ≡ hull_all_is first systems.now) }
-    ensures gives { IfOk result Fits }
+    ensures fits { IfOk result Fits }
 {
     let mut whole = first;
     let mut rest = systems;
@@ -107,10 +107,10 @@ fn hull_all(alloc: Global, first: System, systems: &[System]) -> Result<System, 
 fn hull_of(alloc: Global, systems: &[System]) -> Result<System, Memory>
     requires { AllFit systems.now }
     ensures defined { IfOk result (λ s. s ≡ hull_of_is systems.now) }
-    ensures gives { IfOk result Fits }
+    ensures fits { IfOk result Fits }
 {
     match systems {
-        [] => nothing(alloc),
+        [] => infeasible(alloc),
         [first, more @ ..] => hull_all(alloc, first.clone()?, more),
     }
 }
@@ -120,7 +120,7 @@ fn joined(alloc: Global, a: &Region, b: &Region) -> Result<List<System>, Memory>
     requires first { RegionFits a.now }
     requires second { RegionFits b.now }
     ensures defined { IfOk result (λ ss. ss ≡ hull_of_is (a.now.pieces ++ b.now.pieces) ∷ []) }
-    ensures gives { IfOk result AllFit }
+    ensures fits { IfOk result AllFit }
 {
     let mut all = List::new(alloc);
     push_copies(&mut all, a.pieces.as_slice())?;
@@ -134,13 +134,13 @@ fn united(alloc: Global, a: &Region, b: &Region) -> Result<Region, Memory>
     requires first { RegionFits a.now }
     requires second { RegionFits b.now }
     ensures defined { IfOk result (λ r. r ≡ unite_is a.now b.now) }
-    ensures gives { IfOk result RegionFits }
+    ensures fits { IfOk result RegionFits }
 {
     if all_within(alloc, a.pieces.as_slice(), b.pieces.as_slice())? {
-        return marked(alloc, a, a.exact);
+        return with_flag(alloc, a, a.exact);
     }
     if all_within(alloc, b.pieces.as_slice(), a.pieces.as_slice())? {
-        return marked(alloc, b, b.exact);
+        return with_flag(alloc, b, b.exact);
     }
     remade(a, false, joined(alloc, a, b)?)
 }
@@ -151,7 +151,7 @@ pub fn unite(alloc: Global, a: &Region, b: &Region) -> Result<Region, Memory>
     requires first { RegionFits a.now }
     requires second { RegionFits b.now }
     ensures defined { IfOk result (λ r. r ≡ unite_is a.now b.now) }
-    ensures gives { IfOk result RegionFits }
+    ensures fits { IfOk result RegionFits }
     ensures sound { IfOk result (HasBoth a.now b.now) }
     ensures exact { IfOk result (IsOneExact a.now b.now) }
 {

@@ -5,13 +5,13 @@ use Rattle.std.specs.List.{list_all}
 use Rattle.std.proofs.lemmas.Bool.{and_parts, and_from, le-leb, leb-true, leb-false, or_left}
 use Rattle.std.proofs.lemmas.List.{length-drop}
 use Rattle.std.proofs.lemmas.List.Folds.{list_all-append}
-use Rattle.fixed_form.specs.declared.fault.Fault.{Fault}
-use Rattle.fixed_form.specs.declared.fault.Fault.TheVariants.{NonAscii, Tab, BadLabelField, TooManyContinuations}
+use Rattle.refusal_codes.specs.declared.code.Code.{Code}
+use Rattle.refusal_codes.specs.declared.code.Code.TheVariants.{NonAscii, Tab, BadLabelField, TooManyContinuations}
 use Rattle.fixed_form.specs.declared.fault.Begun.{Begun}
 use Rattle.fixed_form.specs.declared.line.Line.{Line}
 use Rattle.fixed_form.specs.declared.line.Lines.{Lines}
 use Rattle.fixed_form.specs.Characters.{is_allowed, is_space, is_tab, folded}
-use Rattle.fixed_form.specs.Body.{stripped, quoted_behind}
+use Rattle.fixed_form.specs.Body.{stripped, quoted_after_byte}
 use Rattle.fixed_form.specs.Cards.{is_comment, is_dropped, card, columns, is_initial}
 use Rattle.fixed_form.specs.Faults.{fault_of, continuation_fault, begun_behind, continuations_of, first_fault, or_later}
 use Rattle.fixed_form.specs.Reading.{Rest, before_statements, with_comment, with_initial, with_continuation, rest_from, ends_well, outcome, reading}
@@ -23,10 +23,10 @@ use Rattle.roundtrip_lines.specs.Laws.{BodiesAreShort}
 -- ---- stripping
 
 strip_length : (q s : Bool) (b : ℕ) (bs : List ℕ) → ((r : Bool) → length (stripped r bs) ≤ length bs)
-    → length (if q then b ∷ stripped (quoted_behind q b) bs else if s then stripped q bs else folded b ∷ stripped (quoted_behind q b) bs) ≤ length (b ∷ bs)
-strip_length true s b bs h = let l = h (quoted_behind true b) in omega arith
+    → length (if q then b ∷ stripped (quoted_after_byte q b) bs else if s then stripped q bs else folded b ∷ stripped (quoted_after_byte q b) bs) ≤ length (b ∷ bs)
+strip_length true s b bs h = let l = h (quoted_after_byte true b) in omega arith
 strip_length false true b bs h = let l = h false in omega arith
-strip_length false false b bs h = let l = h (quoted_behind false b) in omega arith
+strip_length false false b bs h = let l = h (quoted_after_byte false b) in omega arith
 
 stripped_length : (t : List ℕ) (q : Bool) → length (stripped q t) ≤ length t
 stripped_length [] q = omega arith
@@ -43,10 +43,10 @@ folded_allowed : (b : ℕ) → is_allowed b ≡ true → is_allowed (folded b) �
 folded_allowed b h = folded_by (nat_le 97 b && nat_le b 122) b refl h
 
 strip_allowed : (q s : Bool) (b : ℕ) (bs : List ℕ) → is_allowed b ≡ true → ((r : Bool) → list_all is_allowed (stripped r bs) ≡ true)
-    → list_all is_allowed (if q then b ∷ stripped (quoted_behind q b) bs else if s then stripped q bs else folded b ∷ stripped (quoted_behind q b) bs) ≡ true
-strip_allowed true s b bs p h = and_from (is_allowed b) (list_all is_allowed (stripped (quoted_behind true b) bs)) p (h (quoted_behind true b))
+    → list_all is_allowed (if q then b ∷ stripped (quoted_after_byte q b) bs else if s then stripped q bs else folded b ∷ stripped (quoted_after_byte q b) bs) ≡ true
+strip_allowed true s b bs p h = and_from (is_allowed b) (list_all is_allowed (stripped (quoted_after_byte true b) bs)) p (h (quoted_after_byte true b))
 strip_allowed false true b bs p h = h false
-strip_allowed false false b bs p h = and_from (is_allowed (folded b)) (list_all is_allowed (stripped (quoted_behind false b) bs)) (folded_allowed b p) (h (quoted_behind false b))
+strip_allowed false false b bs p h = and_from (is_allowed (folded b)) (list_all is_allowed (stripped (quoted_after_byte false b) bs)) (folded_allowed b p) (h (quoted_after_byte false b))
 
 stripped_allowed : (t : List ℕ) (q : Bool) → list_all is_allowed t ≡ true → list_all is_allowed (stripped q t) ≡ true
 stripped_allowed [] q h = refl
@@ -66,7 +66,7 @@ drop_allowed (suc n) (c ∷ cs) h = drop_allowed n cs (and_parts (is_allowed c) 
 
 -- ---- what a line without a fault has
 
-fault_parts : (a b d i : Bool) (o : Option Fault) → (if not a then Some NonAscii else if b then Some Tab else if d then Some BadLabelField else if i then None else o) ≡ None
+fault_parts : (a b d i : Bool) (o : Option Code) → (if not a then Some NonAscii else if b then Some Tab else if d then Some BadLabelField else if i then None else o) ≡ None
     → record { allowed : a ≡ true; next : i ≡ false → o ≡ None }
 fault_parts true false false true o h = record { allowed = refl; next = λ e. cc }
 fault_parts true false false false o h = record { allowed = refl; next = λ e. h }
@@ -140,7 +140,7 @@ card_fine false begun n line rest e f h =
     let p = faultless_card begun (card line) f in
     continuation_fine (is_initial (card line)) begun n (card line) rest e (columns_length line) p.allowed (p.next e) h.short h.allowed h.bodies
 
-later_none : (n : ℕ) (o : Option Fault) (x : Option (ℕ × Fault)) → or_later n o x ≡ None → (o ≡ None) × (x ≡ None)
+later_none : (n : ℕ) (o : Option Code) (x : Option (ℕ × Code)) → or_later n o x ≡ None → (o ≡ None) × (x ≡ None)
 later_none n None x h = (refl, h)
 later_none n (Some f) x h = cc
 
@@ -165,7 +165,7 @@ ok_lines true ss closing e read h =
     ap (λ x. x.lines) same
 ok_lines false ss closing e read h = cc
 
-outcome_fine : (o : Option (ℕ × Fault)) (last : ℕ) (rest : Rest) (read : Lines) → outcome o last rest ≡ Ok read → (o ≡ None → AreBodies rest.statements) → AreBodies read.lines
+outcome_fine : (o : Option (ℕ × Code)) (last : ℕ) (rest : Rest) (read : Lines) → outcome o last rest ≡ Ok read → (o ≡ None → AreBodies rest.statements) → AreBodies read.lines
 outcome_fine (Some f) last rest read h g = cc
 outcome_fine None last rest read h g = subst AreBodies (ok_lines (ends_well rest.statements) rest.statements rest.closing _ read h) (g refl)
 

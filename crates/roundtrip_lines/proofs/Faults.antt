@@ -1,6 +1,6 @@
 -- No line that is written has a fault.
 use Rattle.std.proofs.Common.{◌≡◌, ℕ, ap, sym, ◌∙◌, ◌+◌, ◌≤◌, List, [], ◌∷◌, ◌++◌, length, map, refl, arith, Option, Some, None, Bool, true, false, if◌then◌else◌}
-use Rattle.fixed_form.specs.declared.fault.Fault.{Fault}
+use Rattle.refusal_codes.specs.declared.code.Code.{Code}
 use Rattle.fixed_form.specs.declared.fault.Begun.{Begun}
 use Rattle.fixed_form.specs.Cards.{is_comment, card, columns, is_initial}
 use Rattle.fixed_form.specs.Body.{quoted_after, has_tab}
@@ -18,7 +18,7 @@ use Rattle.roundtrip_lines.proofs.Fit.{has_tab-append}
 abbrev pub Faultless : List (List ℕ) → Type 0
 Faultless ls = (begun : Option Begun) (n : ℕ) → first_fault begun n ls ≡ None
 
-comment_by : (b : Bool) (x y : Option (ℕ × Fault)) → b ≡ true → x ≡ None → (if b then x else y) ≡ None
+comment_by : (b : Bool) (x y : Option (ℕ × Code)) → b ≡ true → x ≡ None → (if b then x else y) ≡ None
 comment_by true x y p h = h
 comment_by false x y p h = cc
 
@@ -27,7 +27,7 @@ unfolding first_fault
 comments_faultless [] more h f begun n = f begun n
 comments_faultless (l ∷ ls) more h f begun n = comment_by (is_comment l) _ _ h.first.comment (comments_faultless ls more h.others f begun (n + 1))
 
-line_by : (b : Bool) (o : Option Fault) (n : ℕ) (x y : Option (ℕ × Fault)) → b ≡ false → o ≡ None → y ≡ None → (if b then x else or_later n o y) ≡ None
+line_by : (b : Bool) (o : Option Code) (n : ℕ) (x y : Option (ℕ × Code)) → b ≡ false → o ≡ None → y ≡ None → (if b then x else or_later n o y) ≡ None
 line_by false None n x y p q h = h
 line_by false (Some f) n x y p q h = cc
 line_by true o n x y p q h = cc

@@ -39,8 +39,8 @@ folds b = folds_at (nat_le 97 b && nat_le b 122) b refl
 
 outside_at : (s : Bool) (b : ℕ) (bs u : List ℕ) → nat_eq b 32 ≡ s
     → ((q : Bool) → body.stripped q (body.stripped q bs ++ u) ≡ body.stripped q bs ++ body.stripped (body.quoted_after q bs) u)
-    → body.stripped false ((if s then body.stripped false bs else folded b ∷ body.stripped (body.quoted_behind false b) bs) ++ u)
-    ≡ (if s then body.stripped false bs else folded b ∷ body.stripped (body.quoted_behind false b) bs) ++ body.stripped (body.quoted_after (body.quoted_behind false b) bs) u
+    → body.stripped false ((if s then body.stripped false bs else folded b ∷ body.stripped (body.quoted_after_byte false b) bs) ++ u)
+    ≡ (if s then body.stripped false bs else folded b ∷ body.stripped (body.quoted_after_byte false b) bs) ++ body.stripped (body.quoted_after (body.quoted_after_byte false b) bs) u
 outside_at true b bs u e h =
     let n = eqb-true b 32 e in
     let a : nat_eq b 39 ≡ false = ne_eqb b 39 (λ q. omega arith) in
@@ -48,16 +48,16 @@ outside_at true b bs u e h =
 outside_at false b bs u e h =
     let f = folds b in
     let s : nat_eq (folded b) 32 ≡ false = f.blank ∙ e in
-    let a : body.quoted_behind false (folded b) ≡ body.quoted_behind false b = ap (λ (t : Bool). if t then true else false) f.apostrophe in
-    ap (λ (t : Bool). if t then body.stripped false (body.stripped (body.quoted_behind false b) bs ++ u)
-    else folded (folded b) ∷ body.stripped (body.quoted_behind false (folded b)) (body.stripped (body.quoted_behind false b) bs ++ u)) s
-    ∙ ap (λ (c : ℕ). c ∷ body.stripped (body.quoted_behind false (folded b)) (body.stripped (body.quoted_behind false b) bs ++ u)) f.same
-    ∙ ap (λ (t : Bool). folded b ∷ body.stripped t (body.stripped (body.quoted_behind false b) bs ++ u)) a
-    ∙ ap (λ (x : List ℕ). folded b ∷ x) (h (body.quoted_behind false b))
+    let a : body.quoted_after_byte false (folded b) ≡ body.quoted_after_byte false b = ap (λ (t : Bool). if t then true else false) f.apostrophe in
+    ap (λ (t : Bool). if t then body.stripped false (body.stripped (body.quoted_after_byte false b) bs ++ u)
+    else folded (folded b) ∷ body.stripped (body.quoted_after_byte false (folded b)) (body.stripped (body.quoted_after_byte false b) bs ++ u)) s
+    ∙ ap (λ (c : ℕ). c ∷ body.stripped (body.quoted_after_byte false (folded b)) (body.stripped (body.quoted_after_byte false b) bs ++ u)) f.same
+    ∙ ap (λ (t : Bool). folded b ∷ body.stripped t (body.stripped (body.quoted_after_byte false b) bs ++ u)) a
+    ∙ ap (λ (x : List ℕ). folded b ∷ x) (h (body.quoted_after_byte false b))
 
 pub twice : (t u : List ℕ) (q : Bool) → body.stripped q (body.stripped q t ++ u) ≡ body.stripped q t ++ body.stripped (body.quoted_after q t) u
 twice [] u q = refl
-twice (b ∷ bs) u true = ap (λ (x : List ℕ). b ∷ x) (twice bs u (body.quoted_behind true b))
+twice (b ∷ bs) u true = ap (λ (x : List ℕ). b ∷ x) (twice bs u (body.quoted_after_byte true b))
 twice (b ∷ bs) u false = outside_at (nat_eq b 32) b bs u refl (λ q. twice bs u q)
 
 -- ---- blanks behind a text
@@ -103,7 +103,7 @@ fitted_read text k h = read_by (nat_lt 1320 (length text)) text k h
 -- ---- no tab stands outside its constants
 
 tab_at : (s : Bool) (b : ℕ) (bs : List ℕ) → nat_eq b 32 ≡ s → ((q : Bool) → body.has_tab q (body.stripped q bs) ≡ body.has_tab q bs)
-    → body.has_tab false (if s then body.stripped false bs else folded b ∷ body.stripped (body.quoted_behind false b) bs) ≡ ((nat_eq b 9 && true) || body.has_tab (body.quoted_behind false b) bs)
+    → body.has_tab false (if s then body.stripped false bs else folded b ∷ body.stripped (body.quoted_after_byte false b) bs) ≡ ((nat_eq b 9 && true) || body.has_tab (body.quoted_after_byte false b) bs)
 tab_at true b bs e h =
     let n = eqb-true b 32 e in
     let a : nat_eq b 39 ≡ false = ne_eqb b 39 (λ q. omega arith) in
@@ -111,21 +111,21 @@ tab_at true b bs e h =
     rw (a, t) (h false)
 tab_at false b bs e h =
     let f = folds b in
-    let a : body.quoted_behind false (folded b) ≡ body.quoted_behind false b = ap (λ (t : Bool). if t then true else false) f.apostrophe in
-    ap (λ (t : Bool). (t && true) || body.has_tab (body.quoted_behind false (folded b)) (body.stripped (body.quoted_behind false b) bs)) f.tab
-    ∙ ap (λ (t : Bool). (nat_eq b 9 && true) || body.has_tab t (body.stripped (body.quoted_behind false b) bs)) a
-    ∙ ap (λ (t : Bool). (nat_eq b 9 && true) || t) (h (body.quoted_behind false b))
+    let a : body.quoted_after_byte false (folded b) ≡ body.quoted_after_byte false b = ap (λ (t : Bool). if t then true else false) f.apostrophe in
+    ap (λ (t : Bool). (t && true) || body.has_tab (body.quoted_after_byte false (folded b)) (body.stripped (body.quoted_after_byte false b) bs)) f.tab
+    ∙ ap (λ (t : Bool). (nat_eq b 9 && true) || body.has_tab t (body.stripped (body.quoted_after_byte false b) bs)) a
+    ∙ ap (λ (t : Bool). (nat_eq b 9 && true) || t) (h (body.quoted_after_byte false b))
 
 tabs_kept : (t : List ℕ) (q : Bool) → body.has_tab q (body.stripped q t) ≡ body.has_tab q t
 tabs_kept [] q = refl
-tabs_kept (b ∷ bs) true = ap (λ (t : Bool). (nat_eq b 9 && false) || t) (tabs_kept bs (body.quoted_behind true b))
+tabs_kept (b ∷ bs) true = ap (λ (t : Bool). (nat_eq b 9 && false) || t) (tabs_kept bs (body.quoted_after_byte true b))
 tabs_kept (b ∷ bs) false = tab_at (nat_eq b 32) b bs refl (λ q. tabs_kept bs q)
 
 pub has_tab-append : (a b : List ℕ) (q : Bool) → body.has_tab q (a ++ b) ≡ (body.has_tab q a || body.has_tab (body.quoted_after q a) b)
 has_tab-append [] b q = refl
 has_tab-append (c ∷ cs) b q =
-    ap (λ (t : Bool). (nat_eq c 9 && not q) || t) (has_tab-append cs b (body.quoted_behind q c))
-    ∙ sym (or-assoc (nat_eq c 9 && not q) (body.has_tab (body.quoted_behind q c) cs) (body.has_tab (body.quoted_after (body.quoted_behind q c) cs) b))
+    ap (λ (t : Bool). (nat_eq c 9 && not q) || t) (has_tab-append cs b (body.quoted_after_byte q c))
+    ∙ sym (or-assoc (nat_eq c 9 && not q) (body.has_tab (body.quoted_after_byte q c) cs) (body.has_tab (body.quoted_after (body.quoted_after_byte q c) cs) b))
   where
     or-assoc : (x y z : Bool) → ((x || y) || z) ≡ (x || (y || z))
     or-assoc true y z = refl

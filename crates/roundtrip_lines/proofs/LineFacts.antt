@@ -6,8 +6,8 @@ use Rattle.std.proofs.lemmas.Bool.{or_parts, ne_eqb, not-true, and_parts, and_fr
 use Rattle.std.proofs.lemmas.List.{take_all, take_at, drop_at, get_or_at}
 use Rattle.std.proofs.lemmas.List.Folds.{list_all-append}
 use Rattle.fixed_form.specs.declared.label.LabelField.{LabelField}
-use Rattle.fixed_form.specs.declared.fault.Fault.{Fault}
-use Rattle.fixed_form.specs.declared.fault.Fault.TheVariants.{NonAscii, Tab, BadLabelField, TooManyContinuations}
+use Rattle.refusal_codes.specs.declared.code.Code.{Code}
+use Rattle.refusal_codes.specs.declared.code.Code.TheVariants.{NonAscii, Tab, BadLabelField, TooManyContinuations}
 use Rattle.fixed_form.specs.declared.fault.Begun.{Begun}
 use Rattle.fixed_form.specs.Characters.{is_allowed, is_tab, is_blank, is_space}
 use Rattle.fixed_form.specs.Body.{has_tab}
@@ -67,7 +67,7 @@ no_tab (c ∷ cs) h =
 
 -- ---- faults
 
-fault_by : (a b d i : Bool) (o : Option Fault) → a ≡ true → b ≡ false → d ≡ false → (i ≡ false → o ≡ None)
+fault_by : (a b d i : Bool) (o : Option Code) → a ≡ true → b ≡ false → d ≡ false → (i ≡ false → o ≡ None)
     → (if not a then Some NonAscii else if b then Some Tab else if d then Some BadLabelField else if i then None else o) ≡ None
 fault_by true false false true o p q r f = refl
 fault_by true false false false o p q r f = f refl

@@ -1,7 +1,7 @@
 -- The law of the whole text.
 use Rattle.std.proofs.Common.{◌≡◌, ℕ, ◌+◌, List, [], ◌∷◌, ◌++◌, length, map, refl, ap, sym, ◌∙◌, append-nil, Option, Some, None, true, false}
 use Rattle.std.specs.Prelude.{Ok, bytes_eq, codes}
-use Rattle.fixed_form.specs.declared.fault.Fault.{Fault}
+use Rattle.refusal_codes.specs.declared.code.Code.{Code}
 use Rattle.fixed_form.specs.TextLines.{text_lines}
 use Rattle.fixed_form.specs.Faults.{first_fault}
 use Rattle.fixed_form.specs.Reading.{Rest, rest_from, ends_well, outcome, reading}
@@ -74,7 +74,7 @@ ended [] n h = refl
 ended (c ∷ []) n h = end_is (stripped false c.text) h
 ended (c ∷ d ∷ cs) n h = ended (d ∷ cs) (n + length c.comments + continuations c.text + 1) h
 
-outcome_by : (o : Option (ℕ × Fault)) (last : ℕ) (rest : Rest) → o ≡ None → ends_well rest.statements ≡ true → outcome o last rest ≡ Ok (record { lines = rest.statements; closing = rest.closing })
+outcome_by : (o : Option (ℕ × Code)) (last : ℕ) (rest : Rest) → o ≡ None → ends_well rest.statements ≡ true → outcome o last rest ≡ Ok (record { lines = rest.statements; closing = rest.closing })
 outcome_by None last rest p e = rw e
 outcome_by (Some f) last rest p e = cc
 

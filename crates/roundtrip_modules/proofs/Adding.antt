@@ -9,8 +9,8 @@ use Rattle.f77_statements.specs.Phrases.{PhraseTree, program, subroutine, specif
 use Rattle.f77_structure.specs.Marks.{statements_by, label_by, returns_in, is_return}
 use Rattle.f77_parser.specs.Roles.{role_of, action_of}
 use Rattle.f77_parser.specs.declared.progress.Heading.{Heading}
-use Rattle.f77_parser.specs.SoFar.{OpeningTree, opening_loop, branches, AroundTree, SoFar, with_spot, stated, conditioned, entered, left_one, is_loop_to, ended_by, ended_at, closed_from, closed}
-use Rattle.f77_parser.specs.Building.{closed_arms, divided_from, continued, with_phrase}
+use Rattle.f77_parser.specs.SoFar.{OpeningTree, opening_loop, branches, AroundTree, SoFar, add_spot, add_executable, add_logical_if, open_block, leave_block, is_loop_to, leave_loops, end_loops_at, close_innermost, close_block}
+use Rattle.f77_parser.specs.Building.{close_arm, divide_innermost, add_continue, add_phrase}
 use Rattle.roundtrip_statements.specs.Formed.{Each}
 use Rattle.roundtrip_statements.specs.Phrased.{IsWhat, IsPhrase}
 use Rattle.roundtrip_modules.specs.Cards.{Card, card, head_of, cards_of, cards_by, cards_in, within}
@@ -102,7 +102,7 @@ end-behind : (id : ℕ) (o : OpeningTree) → IsBehind (close_of id o) × (label
 end-behind id (opening_loop d) = (tt, refl, refl, refl)
 end-behind id (branches arms test) = (tt, refl, refl, refl)
 
-left-adds : (a : AroundTree) (os : List AroundTree) (p : SoFar) → AreStarted (a ∷ os) → AddsIn (a ∷ os) p (left_one a os p)
+left-adds : (a : AroundTree) (os : List AroundTree) (p : SoFar) → AreStarted (a ∷ os) → AddsIn (a ∷ os) p (leave_block a os p)
 left-adds a os p h =
     let c = close_of a.id a.opening in let e = end-behind a.id a.opening in record {
       cards = c ∷ [];
@@ -119,26 +119,26 @@ either-adds : (h : Heading) (before : List Card) (v : Bool) (x y : SoFar) → Ad
 either-adds h before true x y g e = g
 either-adds h before false x y g e = e
 
-ended_by-adds : (l : ℕ) (os : List AroundTree) (p : SoFar) → p.around ≡ os → AreStarted os → AddsEnds p.heading (executed p) (ended_by l os p)
+ended_by-adds : (l : ℕ) (os : List AroundTree) (p : SoFar) → p.around ≡ os → AreStarted os → AddsEnds p.heading (executed p) (leave_loops l os p)
 ended_by-adds l [] p e h = nothing-added p.heading (executed p) p refl refl (started-at [] p e h)
 ended_by-adds l (a ∷ os) p e h =
-    let q = left_one a os p in
-    either-adds p.heading (executed p) (is_loop_to l a.opening) (ended_by l os q) p
-    (then-ends [] 0 false p.heading (executed p) q (ended_by l os q) (at-around (a ∷ os) p q e (left-adds a os p h)) (ended_by-adds l os q refl h.others))
+    let q = leave_block a os p in
+    either-adds p.heading (executed p) (is_loop_to l a.opening) (leave_loops l os q) p
+    (then-ends [] 0 false p.heading (executed p) q (leave_loops l os q) (at-around (a ∷ os) p q e (left-adds a os p h)) (ended_by-adds l os q refl h.others))
     (nothing-added p.heading (executed p) p refl refl (started-at (a ∷ os) p e h))
 
-ended_at-adds : (label : Option ℕ) (p : SoFar) → AreStarted p.around → AddsEnds p.heading (executed p) (ended_at label p)
+ended_at-adds : (label : Option ℕ) (p : SoFar) → AreStarted p.around → AddsEnds p.heading (executed p) (end_loops_at label p)
 ended_at-adds None p h = nothing-added p.heading (executed p) p refl refl h
 ended_at-adds (Some l) p h = ended_by-adds l p.around p refl h
 
-closed_from-adds : (os : List AroundTree) (f : ℕ) (cs : List (List ℕ)) (p : SoFar) → p.around ≡ os → AreStarted os → AddsEnds p.heading (executed p) (closed_from os f cs p)
-unfolding with_spot
+closed_from-adds : (os : List AroundTree) (f : ℕ) (cs : List (List ℕ)) (p : SoFar) → p.around ≡ os → AreStarted os → AddsEnds p.heading (executed p) (close_innermost os f cs p)
+unfolding add_spot
 closed_from-adds [] f cs p e h = nothing-added p.heading (executed p) p refl refl (started-at [] p e h)
 closed_from-adds (a ∷ os) f cs p e h =
-    let q = left_one a os p in let x = at-around (a ∷ os) p q e (left-adds a os p h) in
+    let q = leave_block a os p in let x = at-around (a ∷ os) p q e (left-adds a os p h) in
     record { cards = x.cards; same = x.same; labels = x.labels; count = x.count; quiet = x.quiet; behind = x.behind; heading = x.heading; started = x.started }
 
-closed-adds : (f : ℕ) (cs : List (List ℕ)) (p : SoFar) → AreStarted p.around → AddsEnds p.heading (executed p) (closed f cs p)
+closed-adds : (f : ℕ) (cs : List (List ℕ)) (p : SoFar) → AreStarted p.around → AddsEnds p.heading (executed p) (close_block f cs p)
 closed-adds f cs p h = closed_from-adds p.around f cs p refl h
 
 -- ---- statements
@@ -162,36 +162,36 @@ list-added p s =
     ap (λ cs. around_cards p.around ++ cs) (list-cards p.list s) ∙ sym (append_assoc (around_cards p.around) (cards_in (stmts_of p.list)) (cards_of s))
 
 stated-adds : (f : ℕ) (label : Option ℕ) (cs : List (List ℕ)) (w : WhatTree) (p : SoFar) → IsWhat w → AreStarted p.around
-    → Adds (listed label) 1 (is_return (action_of w)) p.heading (executed p) (stated f label cs w p)
-unfolding stated with_spot
+    → Adds (listed label) 1 (is_return (action_of w)) p.heading (executed p) (add_executable f label cs w p)
+unfolding add_executable add_spot
 stated-adds f label cs w p i h =
     let n = p.count + 1 in let c = card (parts.Stmt n) label (simple w) in
-    one-added c p.heading (executed p) (stated f label cs w p)
+    one-added c p.heading (executed p) (add_executable f label cs w p)
     (list-added p (stmt n label w) ∙ ap (λ x. executed p ++ x) (plain-cards n label w i)) tt refl h
 
 conditioned-adds : (f : ℕ) (label : Option ℕ) (cs : List (List ℕ)) (e : ExprTree) (w : WhatTree) (p : SoFar) → AreStarted p.around
-    → Adds (listed label) 2 (is_return (action_of w)) p.heading (executed p) (conditioned f label cs e w p)
-unfolding conditioned with_spot
+    → Adds (listed label) 2 (is_return (action_of w)) p.heading (executed p) (add_logical_if f label cs e w p)
+unfolding add_logical_if add_spot
 conditioned-adds f label cs e w p h =
     let n = p.count + 1 in let s = stmt (n + 1) None w in
-    one-added (within n label e s) p.heading (executed p) (conditioned f label cs e w p) (list-added p (stmt n label (trees.logical_if e s))) tt refl h
+    one-added (within n label e s) p.heading (executed p) (add_logical_if f label cs e w p) (list-added p (stmt n label (trees.logical_if e s))) tt refl h
 
 opened : (p : SoFar) (x : List Card) → around_cards p.around ++ cards_in (stmts_of p.list) ++ x ++ [] ≡ executed p ++ x
 opened p x = append-nil (executed p ++ x)
 
 loop-adds : (f : ℕ) (label : Option ℕ) (cs : List (List ℕ)) (d : DoTree) (p : SoFar) → AreStarted p.around
-    → Adds (listed label) 1 false p.heading (executed p) (entered f label cs (opening_loop d) p)
-unfolding entered with_spot
+    → Adds (listed label) 1 false p.heading (executed p) (open_block f label cs (opening_loop d) p)
+unfolding open_block add_spot
 loop-adds f label cs d p h =
     let c = card (parts.Stmt (p.count + 1)) label (head_of (trees.loop d.index d.first d.last d.step trees.no_stmts)) in
-    one-added c p.heading (executed p) (entered f label cs (opening_loop d) p) (opened p (c ∷ [])) tt refl (record { first = tt; others = h })
+    one-added c p.heading (executed p) (open_block f label cs (opening_loop d) p) (opened p (c ∷ [])) tt refl (record { first = tt; others = h })
 
 block-adds : (f : ℕ) (label : Option ℕ) (cs : List (List ℕ)) (e : ExprTree) (p : SoFar) → AreStarted p.around
-    → Adds (listed label) 1 false p.heading (executed p) (entered f label cs (branches [] (Some e)) p)
-unfolding entered with_spot
+    → Adds (listed label) 1 false p.heading (executed p) (open_block f label cs (branches [] (Some e)) p)
+unfolding open_block add_spot
 block-adds f label cs e p h =
     let c = card (parts.Stmt (p.count + 1)) label (block_if e) in
-    one-added c p.heading (executed p) (entered f label cs (branches [] (Some e)) p) (opened p (c ∷ [])) tt refl (record { first = tt; others = h })
+    one-added c p.heading (executed p) (open_block f label cs (branches [] (Some e)) p) (opened p (c ∷ [])) tt refl (record { first = tt; others = h })
 
 -- ---- parts
 
@@ -206,21 +206,21 @@ part-cards a os p now c e =
     ap (λ cs. x ++ before ++ cs ++ []) e ∙ regrouped x before (open_cards a.id a.label a.opening) (cards_in (stmts_of p.list)) c
 
 else_if-adds : (os : List AroundTree) (f : ℕ) (cs : List (List ℕ)) (e : ExprTree) (p : SoFar) → Divisible os → AreStarted os
-    → AddsIn os p (divided_from os f cs (Some e) p)
-unfolding with_spot
+    → AddsIn os p (divide_innermost os f cs (Some e) p)
+unfolding add_spot
 else_if-adds [] f cs e p d h = absurd d
 else_if-adds (a ∷ os) f cs e p d h =
     let r = part-another a.id a.label a.opening p.list e d in let c = card (parts.ElseIf a.id r.place) None (else_if e) in
-    one-added c p.heading (around_cards (a ∷ os) ++ cards_in (stmts_of p.list)) (divided_from (a ∷ os) f cs (Some e) p)
-    (part-cards a os p (open_cards a.id a.label (branches (closed_arms a.opening p.list) (Some e))) (c ∷ []) r.same) tt refl (record { first = tt; others = h.others })
+    one-added c p.heading (around_cards (a ∷ os) ++ cards_in (stmts_of p.list)) (divide_innermost (a ∷ os) f cs (Some e) p)
+    (part-cards a os p (open_cards a.id a.label (branches (close_arm a.opening p.list) (Some e))) (c ∷ []) r.same) tt refl (record { first = tt; others = h.others })
 
-else-adds : (os : List AroundTree) (f : ℕ) (cs : List (List ℕ)) (p : SoFar) → Divisible os → AreStarted os → AddsIn os p (divided_from os f cs None p)
-unfolding with_spot
+else-adds : (os : List AroundTree) (f : ℕ) (cs : List (List ℕ)) (p : SoFar) → Divisible os → AreStarted os → AddsIn os p (divide_innermost os f cs None p)
+unfolding add_spot
 else-adds [] f cs p d h = absurd d
 else-adds (a ∷ os) f cs p d h =
     let c = card (parts.Else a.id) None else_part in
-    one-added c p.heading (around_cards (a ∷ os) ++ cards_in (stmts_of p.list)) (divided_from (a ∷ os) f cs None p)
-    (part-cards a os p (open_cards a.id a.label (branches (closed_arms a.opening p.list) None)) (c ∷ []) (part-last a.id a.label a.opening p.list d)) tt refl
+    one-added c p.heading (around_cards (a ∷ os) ++ cards_in (stmts_of p.list)) (divide_innermost (a ∷ os) f cs None p)
+    (part-cards a os p (open_cards a.id a.label (branches (close_arm a.opening p.list) None)) (c ∷ []) (part-last a.id a.label a.opening p.list d)) tt refl
     (record { first = last-started a.opening p.list d; others = h.others })
 
 -- ---- each statement
@@ -245,37 +245,37 @@ abbrev pub AddsBy : PhraseTree → Option ℕ → SoFar → SoFar → Type 0
 AddsBy phrase label p q =
     Adds (listed (label_by (role_of phrase) label)) (statements_by (role_of phrase) label) (returns_in (role_of phrase)) (heading_by phrase p.heading) (executed p) q
 
-continued-adds : (f l : ℕ) (cs : List (List ℕ)) (p : SoFar) → AreStarted p.around → Adds (l ∷ []) 1 false p.heading (executed p) (continued f l cs p)
+continued-adds : (f l : ℕ) (cs : List (List ℕ)) (p : SoFar) → AreStarted p.around → Adds (l ∷ []) 1 false p.heading (executed p) (add_continue f l cs p)
 continued-adds f l cs p h =
-    let q = stated f (Some l) cs continue p in
+    let q = add_executable f (Some l) cs continue p in
     let x = stated-adds f (Some l) cs continue p tt h in
-    then-ends (l ∷ []) 1 false p.heading (executed p) q (ended_at (Some l) q) x (ended_at-adds (Some l) q x.started)
+    then-ends (l ∷ []) 1 false p.heading (executed p) q (end_loops_at (Some l) q) x (ended_at-adds (Some l) q x.started)
 
 pub phrase-adds : (f : ℕ) (label : Option ℕ) (cs : List (List ℕ)) (phrase : PhraseTree) (p : SoFar) → IsPhrase phrase → Allowed phrase p.around → AreStarted p.around
-    → AddsBy phrase label p (with_phrase f label cs phrase p)
-unfolding with_spot
-phrase-adds f label cs (program n) p i d h = nothing-added _ (executed p) (with_phrase f label cs (program n) p) refl refl h
-phrase-adds f label cs (subroutine n ds) p i d h = nothing-added _ (executed p) (with_phrase f label cs (subroutine n ds) p) refl refl h
-phrase-adds f label cs (specification x) p i d h = nothing-added _ (executed p) (with_phrase f label cs (specification x) p) refl refl h
+    → AddsBy phrase label p (add_phrase f label cs phrase p)
+unfolding add_spot
+phrase-adds f label cs (program n) p i d h = nothing-added _ (executed p) (add_phrase f label cs (program n) p) refl refl h
+phrase-adds f label cs (subroutine n ds) p i d h = nothing-added _ (executed p) (add_phrase f label cs (subroutine n ds) p) refl refl h
+phrase-adds f label cs (specification x) p i d h = nothing-added _ (executed p) (add_phrase f label cs (specification x) p) refl refl h
 phrase-adds f label cs (simple w) p i d h =
-    let q = stated f label cs w p in let x = stated-adds f label cs w p i h in
-    then-ends (listed label) 1 (is_return (action_of w)) p.heading (executed p) q (ended_at label q) x (ended_at-adds label q x.started)
+    let q = add_executable f label cs w p in let x = stated-adds f label cs w p i h in
+    then-ends (listed label) 1 (is_return (action_of w)) p.heading (executed p) q (end_loops_at label q) x (ended_at-adds label q x.started)
 phrase-adds f label cs (logical_if e w) p i d h =
-    let q = conditioned f label cs e w p in let x = conditioned-adds f label cs e w p h in
-    then-ends (listed label) 2 (is_return (action_of w)) p.heading (executed p) q (ended_at label q) x (ended_at-adds label q x.started)
+    let q = add_logical_if f label cs e w p in let x = conditioned-adds f label cs e w p h in
+    then-ends (listed label) 2 (is_return (action_of w)) p.heading (executed p) q (end_loops_at label q) x (ended_at-adds label q x.started)
 phrase-adds f label cs (block_if e) p i d h = block-adds f label cs e p h
 phrase-adds f label cs (else_if e) p i d h = else_if-adds p.around f cs e p d h
 phrase-adds f label cs else_part p i d h = else-adds p.around f cs p d h
 phrase-adds f None cs end_if p i d h = closed-adds f cs p h
 phrase-adds f (Some l) cs end_if p i d h =
-    let q = closed f cs p in let x = closed-adds f cs p h in let r = continued f l [] q in let y = continued-adds f l [] q x.started in
+    let q = close_block f cs p in let x = closed-adds f cs p h in let r = add_continue f l [] q in let y = continued-adds f l [] q x.started in
     ends-then (l ∷ []) 1 false p.heading (executed p) q r x y
 phrase-adds f label cs (do_head x) p i d h = loop-adds f label cs x p h
 phrase-adds f None cs end_do p i d h = closed-adds f cs p h
 phrase-adds f (Some l) cs end_do p i d h =
-    let q = continued f l cs p in let x = continued-adds f l cs p h in
-    then-ends (l ∷ []) 1 false p.heading (executed p) q (closed f [] q) x (closed-adds f [] q x.started)
-phrase-adds f None cs end_module p i d h = nothing-added p.heading (executed p) (with_phrase f None cs end_module p) refl refl h
+    let q = add_continue f l cs p in let x = continued-adds f l cs p h in
+    then-ends (l ∷ []) 1 false p.heading (executed p) q (close_block f [] q) x (closed-adds f [] q x.started)
+phrase-adds f None cs end_module p i d h = nothing-added p.heading (executed p) (add_phrase f None cs end_module p) refl refl h
 phrase-adds f (Some l) cs end_module p i d h =
     let x = continued-adds f l cs p h in
     record { cards = x.cards; same = x.same; labels = x.labels; count = x.count; quiet = x.quiet; behind = x.behind; heading = x.heading; started = x.started }

@@ -8,7 +8,7 @@ use Rattle.f77_ast.specs.DeclTrees.{DeclTree, ModuleTree, ParsedTree}
 use Rattle.f77_statements.specs.Phrases.{program, subroutine, end_module, end_do, end_if}
 use Rattle.f77_parser.specs.Gives.{and_then}
 use Rattle.f77_parser.specs.Statements.{StatementTree}
-use Rattle.f77_parser.specs.Building.{built}
+use Rattle.f77_parser.specs.Building.{build_module}
 use Rattle.f77_parser.specs.Modules.{ends_module, closing_at, unless_faulty, module_read, modules_from}
 use Rattle.f77_parser.specs.Modules as modules
 use Rattle.f77_structure.specs.Lists.{is_none_of}
@@ -131,7 +131,7 @@ read_next m closing done ss more written h =
     let inside = join (title ++ decls) body (join title decls (title_inside (m.titled || not m.main) m) (decls_inside 0 m.decls)) (list_inside m.body) in
     let own = closing_at (is_none_of more) closing in
     wholly (title ++ decls ++ body) (card parts.End None end_module) closing done [] ss more inside refl written
-    ∙ ap (λ f. and_then (unless_faulty f (built own ss)) (λ p. modules_from closing (done ++ p ∷ []) [] more)) h
+    ∙ ap (λ f. and_then (unless_faulty f (build_module own ss)) (λ p. modules_from closing (done ++ p ∷ []) [] more)) h
 
 pub read_alone : ReadAlone
 read_alone m closing ss well written h = record {

@@ -8,8 +8,8 @@ use Rattle.f77_ast.specs.DeclTrees.{CommonTree, DataTree}
 use Rattle.f77_exprs.specs.State.{State, take_word, ◌>>=◌}
 use Rattle.f77_exprs.specs.Lexical.{number, number_first}
 use Rattle.f77_exprs.specs.Grammar.{items, items_by, more_by, variable, literal}
-use Rattle.f77_statements.specs.Lists.{ending, past, past_comma}
-use Rattle.f77_statements.specs.Parts.{entity, block_name, unless, member_comma, members, block, first_block, or_this, next_block, integer, signed_integer, data_constant, repeated, counted, data_value, data_group, next_of, next_group}
+use Rattle.f77_statements.specs.Lists.{ending, past, skip_comma}
+use Rattle.f77_statements.specs.Parts.{entity, block_name, unless, member_comma, members, block, first_block, or_this, next_block, integer, signed_integer, data_constant, repeat_value, value_or_count, data_value, data_group, next_of, next_group}
 use Rattle.f77_printer.specs.ExprText.{expr_text}
 use Rattle.f77_printer.specs.DeclText.{entity_text, block_text, common_text, other_commons_text, commons_text, data_value_text, data_group_text, other_groups_text, data_text}
 use Rattle.roundtrip_statements.specs.Formed.{Each}
@@ -103,15 +103,15 @@ constant-even n s h =
     (else_word (codes "+") s (signed_integer Plus) _ n n (Level expr_text n) h (λ r i. signed-even Plus n (record s { rest = r }) i)
     (else_word (codes "-") s (signed_integer Minus) _ n n (Level expr_text n) h (λ r i. signed-even Minus n (record s { rest = r }) i) (integer-even n s h))))
 
-counted-even : (k n : ℕ) (s : State) → Leads n n (decimal k) → IsShallow n s.rest → Within (counted k s) n (Level data_value_text n)
-unfolding counted repeated
+counted-even : (k n : ℕ) (s : State) → Leads n n (decimal k) → IsShallow n s.rest → Within (value_or_count k s) n (Level data_value_text n)
+unfolding value_or_count repeat_value
 counted-even k n s x h =
-    done_word (codes "*") (record { repeat = None; value = int (pos k) }) s (repeated k) n (Level data_value_text n) h (join (plain n [] refl) x)
+    done_word (codes "*") (record { repeat = None; value = int (pos k) }) s (repeat_value k) n (Level data_value_text n) h (join (plain n [] refl) x)
     (λ r i. then_read data_constant (Level expr_text) (λ c. Some (record { repeat = Some k; value = c.0 }, c.1)) (record s { rest = r }) n n (Level data_value_text n) constant-even i
     (λ c y j. (join (join x (plain n (codes "*") refl)) y, j)))
 
 value_by : (b : Bool) (n : ℕ) (s : State) → IsShallow n s.rest
-    → Within (if b then counted (number s).0 (number s).1 else (data_constant s >>= λ c. Some (record { repeat = None; value = c.0 }, c.1))) n (Level data_value_text n)
+    → Within (if b then value_or_count (number s).0 (number s).1 else (data_constant s >>= λ c. Some (record { repeat = None; value = c.0 }, c.1))) n (Level data_value_text n)
 value_by true n s h = let k = number_even n s h in counted-even (number s).0 n (number s).1 k.0 k.1
 value_by false n s h =
     then_read data_constant (Level expr_text) (λ c. Some (record { repeat = None; value = c.0 }, c.1)) s n n (Level data_value_text n) constant-even h (λ c x i. (join (plain n [] refl) x, i))
@@ -133,7 +133,7 @@ past_shallow : (o : Option State) (n : ℕ) (s : State) → IsShallow n s.rest �
 past_shallow None n s h x = h
 past_shallow (Some t) n s h x = x
 
-pub past_comma-shallow : (n : ℕ) (s : State) → IsShallow n s.rest → IsShallow n (past_comma s).rest
+pub past_comma-shallow : (n : ℕ) (s : State) → IsShallow n s.rest → IsShallow n (skip_comma s).rest
 past_comma-shallow n s h = past_shallow (take_word (codes ",") s) n s h (comma_passes n s h)
 
 group_rest : (t : List ℕ) (n : ℕ) (s : State) → IsShallow n s.rest → Rest n (next_of t s)

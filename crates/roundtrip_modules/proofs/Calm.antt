@@ -1,9 +1,9 @@
 -- What a step does to the blocks of a module where no fault is found.
 use Rattle.std.proofs.Common.{◌≡◌, ℕ, Bool, true, false, List, [], ◌∷◌, length, refl, sym, ap, ◌∙◌}
 use Rattle.std.specs.Prelude.{Option, Some, None, not, nat_le, if◌then◌else◌}
-use Rattle.f77_structure.specs.declared.fault.Fault.{Fault}
-use Rattle.f77_structure.specs.declared.fault.Fault.TheVariants.{BadTerminal, TooDeep}
-use Rattle.f77_structure.specs.declared.fault.Found.{Found}
+use Rattle.refusal_codes.specs.declared.code.Code.{Code}
+use Rattle.refusal_codes.specs.declared.code.Code.TheVariants.{BadTerminal, TooDeep}
+use Rattle.refusal_codes.specs.declared.refusal.Refusal.{Refusal}
 use Rattle.f77_structure.specs.declared.mark.Action.{Action}
 use Rattle.f77_structure.specs.declared.mark.Action.TheVariants.{Goto, Return, Stop, Other}
 use Rattle.f77_structure.specs.declared.mark.Role.{Role}
@@ -15,12 +15,13 @@ use Rattle.f77_structure.specs.declared.open.Span.{Span}
 use Rattle.f77_structure.specs.declared.blocks.Blocks.{Blocks}
 use Rattle.f77_structure.specs.declared.blocks.Landing.{Landing}
 use Rattle.f77_structure.specs.declared.blocks.Jump.{Jump}
-use Rattle.f77_structure.specs.Faults.{noted}
+use Rattle.refusal_codes.specs.Refusals.{refuse_if}
 use Rattle.f77_structure.specs.Lists.{first_of}
-use Rattle.f77_structure.specs.Opens.{ends_at, is_if, fits, within_if}
-use Rattle.f77_structure.specs.Blocks.{left_one, left_from, left, ended_by, unclosed, down_to, pushed, entered, stray, landed, stood, jumped}
+use Rattle.f77_structure.specs.Opens.{is_if, fits, within_if}
+use Rattle.f77_structure.specs.Blocks.{left_one, left_from, left, unclosed, down_to, pushed, entered, stray, landed, jumped}
 use Rattle.f77_structure.specs.Terminals.{spoiled, spoiled_run, ends_one, spoil, spoil_behind, spoil_around, spoil_within, spoil_part, is_forbidden, is_part, spoiled_by}
 use Rattle.f77_structure.specs.Steps.{is_else, divided, divided_in, part, ended}
+pub use Rattle.f77_structure.proofs.Roles.{ended_by-found, stood-found, jumped-found, landed-found}
 
 pub some-none : {A : Type 0} (x : A) → Some x ≡ None → ⊥
 some-none x h = cc
@@ -28,14 +29,14 @@ some-none x h = cc
 pub true-false : true ≡ false → ⊥
 true-false h = cc
 
-pub noted-none : (w : Bool) (line : ℕ) (f : Fault) (found : Option Found) → noted w line f found ≡ None → (w ≡ false) × (found ≡ None)
-unfolding noted
+pub noted-none : (w : Bool) (line : ℕ) (f : Code) (found : Option Refusal) → refuse_if w line f found ≡ None → (w ≡ false) × (found ≡ None)
+unfolding refuse_if
 noted-none true line f found h = absurd (some-none _ h)
 noted-none false line f found h = (refl, h)
 
 -- nothing is noted, and what was found stays
-pub noted-same : (w : Bool) (line : ℕ) (f : Fault) (found : Option Found) → noted w line f found ≡ None → noted w line f found ≡ found
-unfolding noted
+pub noted-same : (w : Bool) (line : ℕ) (f : Code) (found : Option Refusal) → refuse_if w line f found ≡ None → refuse_if w line f found ≡ found
+unfolding refuse_if
 noted-same true line f found h = absurd (some-none _ h)
 noted-same false line f found h = refl
 
@@ -50,21 +51,6 @@ left-found : (os : List Open) (b : Blocks) → (left_from os b).found ≡ b.foun
 left-found [] b = refl
 left-found (o ∷ os) b = refl
 
-pub ended_by-found : (l : ℕ) (os : List Open) (b : Blocks) → (ended_by l os b).found ≡ b.found
-ended_by-found l [] b = refl
-ended_by-found l (o ∷ os) b = either (λ x. x.found ≡ b.found) (ends_at l o.kind) (ended_by l os (left_one o os b)) b (ended_by-found l os (left_one o os b)) refl
-
-pub stood-found : (label : Option ℕ) (b : Blocks) → (stood label b).found ≡ b.found
-unfolding stood
-stood-found None b = refl
-stood-found (Some l) b = ended_by-found l b.stack (landed (Some l) b)
-
-pub jumped-found : (a : Action) (line : ℕ) (b : Blocks) → (jumped a line b).found ≡ b.found
-jumped-found (Goto l) line b = refl
-jumped-found Return line b = refl
-jumped-found Stop line b = refl
-jumped-found Other line b = refl
-
 pub jumped-stack : (a : Action) (line : ℕ) (b : Blocks) → (jumped a line b).stack ≡ b.stack
 jumped-stack (Goto l) line b = refl
 jumped-stack Return line b = refl
@@ -74,10 +60,6 @@ jumped-stack Other line b = refl
 pub landed-stack : (label : Option ℕ) (b : Blocks) → (landed label b).stack ≡ b.stack
 landed-stack None b = refl
 landed-stack (Some l) b = refl
-
-pub landed-found : (label : Option ℕ) (b : Blocks) → (landed label b).found ≡ b.found
-landed-found None b = refl
-landed-found (Some l) b = refl
 
 -- ---- a fault that is found stays
 
@@ -135,7 +117,7 @@ pub record Divides (next : Kind) (line : ℕ) (o : Open) (b : Blocks) : Type 0 w
   pub same : part next line b ≡ pushed next o.line (left b)
 
 -- blocks of these parts
-abbrev pub blocks : ℕ → List Open → List Span → List Landing → List Jump → Option Found → Blocks
+abbrev pub blocks : ℕ → List Open → List Span → List Landing → List Jump → Option Refusal → Blocks
 blocks place stack spans landings jumps found = record { place = place; stack = stack; spans = spans; landings = landings; jumps = jumps; found = found }
 
 pub part-none : (next : Kind) (line : ℕ) (b : Blocks) → b.stack ≡ [] → (part next line b).found ≡ None → ⊥
@@ -152,7 +134,7 @@ within-calm : (v : Bool) (x y : Blocks) → (if v then x else y).found ≡ None 
 within-calm true x y h e = refl
 within-calm false x y h e = absurd (e h)
 
-pub part-calm : (next : Kind) (line place : ℕ) (o : Open) (os : List Open) (spans : List Span) (landings : List Landing) (jumps : List Jump) (found : Option Found)
+pub part-calm : (next : Kind) (line place : ℕ) (o : Open) (os : List Open) (spans : List Span) (landings : List Landing) (jumps : List Jump) (found : Option Refusal)
     → o.spoiled ≡ false → (part next line (blocks place (o ∷ os) spans landings jumps found)).found ≡ None → Divides next line o (blocks place (o ∷ os) spans landings jumps found)
 part-calm next line place o os spans landings jumps found f h =
     let b = blocks place (o ∷ os) spans landings jumps found in
@@ -189,7 +171,7 @@ spoil-calm : (l line : ℕ) (b : Blocks) → Unspoiled b (spoil l line b)
 spoil-calm l line b h =
     let n = noted-none _ _ _ _ h in (
       n.1,
-      ap (λ s. record b { stack = s; found = noted (ends_one l (first_of b.stack)) line BadTerminal b.found }) (run-same l b.stack n.0)
+      ap (λ s. record b { stack = s; found = refuse_if (ends_one l (first_of b.stack)) line BadTerminal b.found }) (run-same l b.stack n.0)
           ∙ ap (λ f. record b { found = f }) (noted-same _ line BadTerminal b.found h),
     )
 
@@ -198,8 +180,8 @@ behind-calm l line [] b e h = (h, refl)
 behind-calm l line (o ∷ os) b e h =
     let n = noted-none _ _ _ _ h in (
       n.1,
-      ap (λ s. record b { stack = o ∷ s; found = noted (ends_one l (first_of os)) line BadTerminal b.found }) (run-same l os n.0)
-          ∙ ap (λ s. record b { stack = s; found = noted (ends_one l (first_of os)) line BadTerminal b.found }) (sym e)
+      ap (λ s. record b { stack = o ∷ s; found = refuse_if (ends_one l (first_of os)) line BadTerminal b.found }) (run-same l os n.0)
+          ∙ ap (λ s. record b { stack = s; found = refuse_if (ends_one l (first_of os)) line BadTerminal b.found }) (sym e)
           ∙ ap (λ f. record b { found = f }) (noted-same _ line BadTerminal b.found h),
     )
 

@@ -3,7 +3,7 @@ use Rattle.std.proofs.Common.{ℕ, List, [], ◌∷◌, refl}
 use Rattle.std.specs.Prelude.{Option}
 use Rattle.f77_statements.specs.Phrases.{PhraseTree}
 use Rattle.f77_parser.specs.Statements.{StatementTree}
-use Rattle.f77_parser.specs.Building.{built}
+use Rattle.f77_parser.specs.Building.{build_module}
 use Rattle.roundtrip_statements.specs.Formed.{Each}
 use Rattle.roundtrip_statements.specs.Phrased.{IsPhrase}
 use Rattle.roundtrip_modules.specs.Cards.{statements_of}
@@ -39,4 +39,4 @@ both (s ∷ ss) h f = record { first = (tt, (h.first, f.first)); others = both s
 
 pub cards_flat : CardsFlat
 cards_flat closing ss h f =
-    each-map (Held Any IsFlat) FlatCard (statements_of (built closing ss).module_read) (λ c x. x.1) (all_held Any IsFlatPhrase IsFlat kind closing ss (both ss h f))
+    each-map (Held Any IsFlat) FlatCard (statements_of (build_module closing ss).module_read) (λ c x. x.1) (all_held Any IsFlatPhrase IsFlat kind closing ss (both ss h f))

@@ -6,8 +6,8 @@ use Rattle.f77_ast.specs.PlainStmt.{stmts_of, arms_of}
 use Rattle.f77_statements.specs.Phrases.{PhraseTree, program, subroutine, specification, simple, block_if, else_if, else_part, end_if, do_head, end_do, end_module}
 use Rattle.f77_statements.specs.Phrases as phrases
 use Rattle.f77_parser.specs.declared.progress.Heading.{Heading}
-use Rattle.f77_parser.specs.SoFar.{OpeningTree, opening_loop, branches, AroundTree, SoFar, with_spot, stated, conditioned, entered, what_of, left_one, is_loop_to, ended_by, ended_at, closed_from, closed}
-use Rattle.f77_parser.specs.Building.{closed_arms, divided_from, continued, with_phrase}
+use Rattle.f77_parser.specs.SoFar.{OpeningTree, opening_loop, branches, AroundTree, SoFar, add_spot, add_executable, add_logical_if, open_block, what_of, leave_block, is_loop_to, leave_loops, end_loops_at, close_innermost, close_block}
+use Rattle.f77_parser.specs.Building.{close_arm, divide_innermost, add_continue, add_phrase}
 use Rattle.roundtrip_statements.specs.Phrased.{IsWhat, IsPhrase}
 use Rattle.roundtrip_modules.specs.Numbered.{last_of, last_by, last_in, IsNumbered, NumberedBelow, AreNumbered, TitleFits}
 use Rattle.roundtrip_modules.proofs.Counting.{more-numbered, last-more, block-arms, more-arms, last-arms-more, plain-below, start_by, start_of, OpeningFits, AroundFits, whole-below, whole-last}
@@ -27,7 +27,7 @@ Counts p = CountsIn p.around p
 
 -- ---- blocks end
 
-left-counts : (a : AroundTree) (others : List AroundTree) (p : SoFar) → CountsIn (a ∷ others) p → Counts (left_one a others p)
+left-counts : (a : AroundTree) (others : List AroundTree) (p : SoFar) → CountsIn (a ∷ others) p → Counts (leave_block a others p)
 left-counts a others p c =
     let n = last_in (start_of others) (stmts_of a.before) in
     let w = what_of a.opening p.list in
@@ -47,22 +47,22 @@ either-counts false x y h e = e
 at-around : (os : List AroundTree) (p : SoFar) → p.around ≡ os → CountsIn os p → Counts p
 at-around os p e c = let P : List AroundTree → Type 0 = λ x. CountsIn x p in subst P (sym e) c
 
-ended_by-counts : (l : ℕ) (os : List AroundTree) (p : SoFar) → p.around ≡ os → CountsIn os p → Counts (ended_by l os p)
+ended_by-counts : (l : ℕ) (os : List AroundTree) (p : SoFar) → p.around ≡ os → CountsIn os p → Counts (leave_loops l os p)
 ended_by-counts l [] p e c = at-around [] p e c
 ended_by-counts l (a ∷ others) p e c =
-    either-counts (is_loop_to l a.opening) (ended_by l others (left_one a others p)) p
-    (ended_by-counts l others (left_one a others p) refl (left-counts a others p c)) (at-around (a ∷ others) p e c)
+    either-counts (is_loop_to l a.opening) (leave_loops l others (leave_block a others p)) p
+    (ended_by-counts l others (leave_block a others p) refl (left-counts a others p c)) (at-around (a ∷ others) p e c)
 
-ended_at-counts : (label : Option ℕ) (p : SoFar) → Counts p → Counts (ended_at label p)
+ended_at-counts : (label : Option ℕ) (p : SoFar) → Counts p → Counts (end_loops_at label p)
 ended_at-counts None p c = c
 ended_at-counts (Some l) p c = ended_by-counts l p.around p refl c
 
-closed_from-counts : (os : List AroundTree) (f : ℕ) (cs : List (List ℕ)) (p : SoFar) → p.around ≡ os → CountsIn os p → Counts (closed_from os f cs p)
-unfolding with_spot
+closed_from-counts : (os : List AroundTree) (f : ℕ) (cs : List (List ℕ)) (p : SoFar) → p.around ≡ os → CountsIn os p → Counts (close_innermost os f cs p)
+unfolding add_spot
 closed_from-counts [] f cs p e c = at-around [] p e c
 closed_from-counts (a ∷ others) f cs p e c = let l = left-counts a others p c in record { heading = l.heading; around = l.around; list = l.list; count = l.count }
 
-closed-counts : (f : ℕ) (cs : List (List ℕ)) (p : SoFar) → Counts p → Counts (closed f cs p)
+closed-counts : (f : ℕ) (cs : List (List ℕ)) (p : SoFar) → Counts p → Counts (close_block f cs p)
 closed-counts f cs p c = closed_from-counts p.around f cs p refl c
 
 -- ---- statements
@@ -76,22 +76,22 @@ stood-counts s p n c i e =
       sym e ∙ ap (λ x. last_of x s) c.count ∙ sym (last-more (start_of p.around) p.list s),
     )
 
-stated-counts : (f : ℕ) (label : Option ℕ) (cs : List (List ℕ)) (w : WhatTree) (p : SoFar) → IsWhat w → Counts p → Counts (stated f label cs w p)
-unfolding stated with_spot
+stated-counts : (f : ℕ) (label : Option ℕ) (cs : List (List ℕ)) (w : WhatTree) (p : SoFar) → IsWhat w → Counts p → Counts (add_executable f label cs w p)
+unfolding add_executable add_spot
 stated-counts f label cs w p h c =
     let b = plain-below w (p.count + 1) h in
     let s = stood-counts (stmt (p.count + 1) label w) p (p.count + 1) c (record { number = refl; below = b.0 }) b.1 in
     record { heading = c.heading; around = c.around; list = s.0; count = s.1 }
 
-conditioned-counts : (f : ℕ) (label : Option ℕ) (cs : List (List ℕ)) (e : ExprTree) (w : WhatTree) (p : SoFar) → Counts p → Counts (conditioned f label cs e w p)
-unfolding conditioned with_spot
+conditioned-counts : (f : ℕ) (label : Option ℕ) (cs : List (List ℕ)) (e : ExprTree) (w : WhatTree) (p : SoFar) → Counts p → Counts (add_logical_if f label cs e w p)
+unfolding add_logical_if add_spot
 conditioned-counts f label cs e w p c =
     let n = p.count + 1 in
     let s = stood-counts (stmt n label (logical_if e (stmt (n + 1) None w))) p (n + 1) c (record { number = refl; below = record { number = refl; bare = refl } }) refl in
     record { heading = c.heading; around = c.around; list = s.0; count = s.1 }
 
-entered-counts : (f : ℕ) (label : Option ℕ) (cs : List (List ℕ)) (o : OpeningTree) (p : SoFar) → OpeningFits (p.count + 1) o → start_by (p.count + 1) o ≡ p.count + 1 → Counts p → Counts (entered f label cs o p)
-unfolding entered with_spot
+entered-counts : (f : ℕ) (label : Option ℕ) (cs : List (List ℕ)) (o : OpeningTree) (p : SoFar) → OpeningFits (p.count + 1) o → start_by (p.count + 1) o ≡ p.count + 1 → Counts p → Counts (open_block f label cs o p)
+unfolding open_block add_spot
 entered-counts f label cs o p h e c = record {
   heading = c.heading;
   around = record { list = c.list; number = ap (λ x. x + 1) c.count; closed = h; outer = c.around };
@@ -110,15 +110,15 @@ Divisible [] = ⊥
 Divisible (a ∷ others) = IsOpenIf a.opening
 
 part-fits : (id : ℕ) (o : OpeningTree) (l : List StmtTree) (test : Option ExprTree) → IsOpenIf o → OpeningFits id o → AreNumbered (start_by id o) (stmts_of l)
-    → OpeningFits id (branches (closed_arms o l) test) × (last_in (start_by id o) (stmts_of l) ≡ start_by id (branches (closed_arms o l) test))
+    → OpeningFits id (branches (close_arm o l) test) × (last_in (start_by id o) (stmts_of l) ≡ start_by id (branches (close_arm o l) test))
 part-fits id (opening_loop d) l test d' h i = absurd d'
 part-fits id (branches arms None) l test d' h i = absurd d'
 part-fits id (branches arms (Some t)) l None d' h i = (more-arms id arms t (stmts_of l) h i, sym (last-arms-more id arms t (stmts_of l)))
 part-fits id (branches arms (Some t)) l (Some u) d' h i =
     (block-arms id (arms_of (arms ++ arm t (stmts_of l) ∷ [])) (more-arms id arms t (stmts_of l) h i), sym (last-arms-more id arms t (stmts_of l)))
 
-divided-counts : (os : List AroundTree) (f : ℕ) (cs : List (List ℕ)) (test : Option ExprTree) (p : SoFar) → Divisible os → CountsIn os p → Counts (divided_from os f cs test p)
-unfolding with_spot
+divided-counts : (os : List AroundTree) (f : ℕ) (cs : List (List ℕ)) (test : Option ExprTree) (p : SoFar) → Divisible os → CountsIn os p → Counts (divide_innermost os f cs test p)
+unfolding add_spot
 divided-counts [] f cs test p d c = absurd d
 divided-counts (a ∷ others) f cs test p d c =
     let q = part-fits a.id a.opening p.list test d c.around.closed c.list in record {
@@ -128,8 +128,8 @@ divided-counts (a ∷ others) f cs test p d c =
       count = c.count ∙ q.1;
     }
 
-continued-counts : (f l : ℕ) (cs : List (List ℕ)) (p : SoFar) → Counts p → Counts (continued f l cs p)
-continued-counts f l cs p c = ended_at-counts (Some l) (stated f (Some l) cs continue p) (stated-counts f (Some l) cs continue p tt c)
+continued-counts : (f l : ℕ) (cs : List (List ℕ)) (p : SoFar) → Counts p → Counts (add_continue f l cs p)
+continued-counts f l cs p c = ended_at-counts (Some l) (add_executable f (Some l) cs continue p) (stated-counts f (Some l) cs continue p tt c)
 
 -- what a part asks of the open blocks
 abbrev pub Allowed : PhraseTree → List AroundTree → Type 0
@@ -138,21 +138,21 @@ Allowed else_part around = Divisible around
 Allowed _ around = Unit {0}
 
 pub phrase-counts : (f : ℕ) (label : Option ℕ) (cs : List (List ℕ)) (phrase : PhraseTree) (p : SoFar) → IsPhrase phrase → Allowed phrase p.around → Counts p
-    → Counts (with_phrase f label cs phrase p)
-unfolding with_spot
+    → Counts (add_phrase f label cs phrase p)
+unfolding add_spot
 phrase-counts f label cs (program n) p h d c = record { heading = refl; around = c.around; list = c.list; count = c.count }
 phrase-counts f label cs (subroutine n ds) p h d c = record { heading = refl; around = c.around; list = c.list; count = c.count }
 phrase-counts f label cs (specification x) p h d c = record { heading = c.heading; around = c.around; list = c.list; count = c.count }
-phrase-counts f label cs (simple w) p h d c = ended_at-counts label (stated f label cs w p) (stated-counts f label cs w p h c)
-phrase-counts f label cs (phrases.logical_if e w) p h d c = ended_at-counts label (conditioned f label cs e w p) (conditioned-counts f label cs e w p c)
+phrase-counts f label cs (simple w) p h d c = ended_at-counts label (add_executable f label cs w p) (stated-counts f label cs w p h c)
+phrase-counts f label cs (phrases.logical_if e w) p h d c = ended_at-counts label (add_logical_if f label cs e w p) (conditioned-counts f label cs e w p c)
 phrase-counts f label cs (block_if e) p h d c = entered-counts f label cs (branches [] (Some e)) p tt refl c
 phrase-counts f label cs (else_if e) p h d c = divided-counts p.around f cs (Some e) p d c
 phrase-counts f label cs else_part p h d c = divided-counts p.around f cs None p d c
 phrase-counts f None cs end_if p h d c = closed-counts f cs p c
-phrase-counts f (Some l) cs end_if p h d c = continued-counts f l [] (closed f cs p) (closed-counts f cs p c)
+phrase-counts f (Some l) cs end_if p h d c = continued-counts f l [] (close_block f cs p) (closed-counts f cs p c)
 phrase-counts f label cs (do_head x) p h d c = entered-counts f label cs (opening_loop x) p tt refl c
 phrase-counts f None cs end_do p h d c = closed-counts f cs p c
-phrase-counts f (Some l) cs end_do p h d c = closed-counts f [] (continued f l cs p) (continued-counts f l cs p c)
+phrase-counts f (Some l) cs end_do p h d c = closed-counts f [] (add_continue f l cs p) (continued-counts f l cs p c)
 phrase-counts f None cs end_module p h d c = record { heading = c.heading; around = c.around; list = c.list; count = c.count }
 phrase-counts f (Some l) cs end_module p h d c =
     let q = continued-counts f l cs p c in record { heading = q.heading; around = q.around; list = q.list; count = q.count }

@@ -179,14 +179,14 @@ unfolding grammar.relation
 relation-even I e n s h =
     then_read (grammar.arithmetic I) (Level expr_text) (λ l. grammar.comparison I l.0 l.1) s n n (Level expr_text n) (arithmetic-even I e) h (λ l v i. comparison-even I l.0 e n l.1 v i)
 
-denied-even : (I : Inner) → Inside I → (n : ℕ) (s : State) → IsShallow n s.rest → Within (grammar.denied I s) n (Level expr_text n)
-unfolding grammar.denied
+denied-even : (I : Inner) → Inside I → (n : ℕ) (s : State) → IsShallow n s.rest → Within (grammar.negated_relation I s) n (Level expr_text n)
+unfolding grammar.negated_relation
 denied-even I e n s h =
     then_read (grammar.relation I) (Level expr_text) (λ r. Some (unary Not r.0, r.1)) s n n (Level expr_text n) (relation-even I e) h (λ r v i. (join (unary_leads n Not) v, i))
 
 negation-even : (I : Inner) → Inside I → EvenExpr (grammar.negation I)
 unfolding grammar.negation
-negation-even I e n s h = else_word (codes ".NOT.") s (grammar.denied I) _ n n (Level expr_text n) h (λ r i. denied-even I e n (record s { rest = r }) i) (relation-even I e n s h)
+negation-even I e n s h = else_word (codes ".NOT.") s (grammar.negated_relation I) _ n n (Level expr_text n) h (λ r i. denied-even I e n (record s { rest = r }) i) (relation-even I e n s h)
 
 equivalence-even : (I : Inner) → Inside I → EvenExpr (grammar.equivalence I)
 equivalence-even I e =

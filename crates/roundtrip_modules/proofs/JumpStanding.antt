@@ -1,5 +1,5 @@
 -- What a step does to blocks that show an outline.
-use Rattle.std.proofs.Common.{◌≡◌, ℕ, ◌+◌, ◌≤◌, List, [], ◌∷◌, ◌++◌, length, nat_lt, slice_set, refl, ap, ◌∙◌, subst, arith, le_refl, length-append, length-set}
+use Rattle.std.proofs.Common.{◌≡◌, ℕ, ◌+◌, ◌≤◌, List, [], ◌∷◌, ◌++◌, slice_set, refl, ap, ◌∙◌, subst, arith, le_refl, length-append, length-set}
 use Rattle.std.specs.Prelude.{Option, Some, None}
 use Rattle.f77_structure.specs.declared.mark.Action.{Action}
 use Rattle.f77_structure.specs.declared.mark.Action.TheVariants.{Goto, Return, Stop, Other}
@@ -10,9 +10,9 @@ use Rattle.f77_structure.specs.declared.blocks.Blocks.{Blocks}
 use Rattle.f77_structure.specs.declared.blocks.Landing.{Landing}
 use Rattle.f77_structure.specs.Lists.{first_of}
 use Rattle.f77_structure.specs.Blocks.{left_one, pushed, list_at, landed, jumped}
-use Rattle.roundtrip_modules.proofs.Places.{more-last}
+use Rattle.f77_structure.proofs.Places.{more-last}
 use Rattle.roundtrip_modules.proofs.Outlines.{Outline, innermost, outer, lands, goes, begins, leaves}
-use Rattle.roundtrip_modules.proofs.Shown.{path_of, Within, span, ShowsIn, Before, Shows, ended-before, ended-behind, begun-before, begun-behind, new-list, ended-open, begun-open, kept-at, kept-more, kept-length, kept-if}
+use Rattle.roundtrip_modules.proofs.Shown.{path_of, Within, span, ShowsIn, Before, Shows, ended-before, ended-behind, begun-before, begun-behind, new-list, ended-open, begun-open, kept-at, kept-more}
 
 -- from places before n on to those before k, and from m on to l on
 pub later : (os : List Open) (at n m k l : ℕ) (b : Blocks) (x : Outline) → ShowsIn os at n m b x → n ≤ k → m ≤ l → ShowsIn os at k l b x
@@ -71,12 +71,8 @@ goes-shown (Goto l) line at b x s =
       within = s.within;
       count = s.count;
       landings = s.landings;
-      jumps = kept-if (at + 1) b.spans (nat_lt (length b.jumps) 4097) (nat_lt (length x.goings) 4097)
-          (b.jumps ++ record { line = line; label = l; place = b.place } ∷ []) b.jumps (x.goings ++ record { label = l; lists = x.within } ∷ []) x.goings
-          (ap (λ k. nat_lt k 4097) (kept-length at b.spans b.jumps x.goings s.jumps))
-          (kept-more (at + 1) b.spans b.jumps x.goings (record { line = line; label = l; place = b.place }) (record { label = l; lists = x.within }) t.jumps refl
-          (omega (arith, s.place)) (subst P s.within here))
-          t.jumps;
+      jumps = kept-more (at + 1) b.spans b.jumps x.goings (record { line = line; label = l; place = b.place }) (record { label = l; lists = x.within }) t.jumps refl
+          (omega (arith, s.place)) (subst P s.within here);
       stack = s.stack;
       now = t.now;
     }

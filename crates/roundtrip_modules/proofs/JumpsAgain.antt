@@ -9,13 +9,13 @@ use Rattle.f77_structure.specs.declared.open.End.TheVariants as ends
 use Rattle.f77_structure.specs.declared.blocks.Blocks.{Blocks}
 use Rattle.f77_structure.specs.declared.blocks.Landing.{Landing}
 use Rattle.f77_structure.specs.Opens.{contains}
-use Rattle.f77_structure.specs.Jumps.{all_judged}
-use Rattle.f77_structure.specs.Checks.{block_fault, fault_of}
+use Rattle.f77_structure.specs.Jumps.{all_judged, block_fault}
+use Rattle.f77_structure.specs.Checks.{fault_of}
 use Rattle.f77_structure.specs.Steps.{by_role, stepped, all_stepped, nothing_open, blocks_of}
 use Rattle.f77_parser.specs.Roles.{role_of}
 use Rattle.f77_parser.specs.Statements.{StatementTree, mark_of, marks_of}
 use Rattle.f77_parser.specs.SoFar.{AroundTree, SoFar}
-use Rattle.f77_parser.specs.Building.{with_statement, all_stated, nothing_stated, built}
+use Rattle.f77_parser.specs.Building.{add_statement, add_all, no_statements, build_module}
 use Rattle.roundtrip_statements.specs.Formed.{Each}
 use Rattle.roundtrip_modules.specs.Numbered.{IsWell}
 use Rattle.roundtrip_modules.specs.ModuleLaws.{IsStatement, AreWritten}
@@ -45,7 +45,7 @@ record Shown (b : Blocks) (x : Outline) : Type 0 where
   shown : Before at (record b { place = at }) x
 
 all-stand : (ss : List StatementTree) (at : ℕ) (p : SoFar) (b : Blocks) → Each IsAlone ss → Matches p.around b.stack → Before at (record b { place = at }) (outline_so p)
-    → (all_stepped at (marks_of ss) b).found ≡ None → Shown (all_stepped at (marks_of ss) b) (outline_so (all_stated ss p))
+    → (all_stepped at (marks_of ss) b).found ≡ None → Shown (all_stepped at (marks_of ss) b) (outline_so (add_all ss p))
 all-stand [] at p b i m s h = record { at = at; shown = s }
 all-stand (x ∷ ss) at p b i m s h =
     let next = stepped at (mark_of x) b in
@@ -54,7 +54,7 @@ all-stand (x ∷ ss) at p b i m s h =
     let e = all-found (at + 1) (marks_of ss) next h in
     let c = step-calm at (mark_of x) b e in
     let g : after.found ≡ None = sym (ap (λ y. y.found) c.same) ∙ e in
-    let q = with_statement x p in
+    let q = add_statement x p in
     let t = phrase-matched x.first x.label x.comments x.phrase x.first p here m g in
     let u = at-blocks at (at + 1) after next (outline_so q) (sym c.same) (phrase-stands at x.first x.label x.comments x.phrase x.first p here i.first m g s) in
     all-stand ss (at + 1) q next i.others (on-stack q.around after.stack next.stack (ap (λ y. y.stack) (sym c.same)) t.matched)
@@ -77,11 +77,11 @@ all-alone (s ∷ ss) h = record { first = phrase-alone s.phrase h.first; others 
 body-outline : (p : SoFar) → p.around ≡ [] → outline_so p ≡ outline_in (stmts_of p.list) nothing_outlined
 body-outline p e = ap (λ (xs : List AroundTree). outline_with xs p) e
 
-written-outline : (m : ModuleTree) (ss : List StatementTree) → IsWell m → AreWritten m ss → outline_so (all_stated ss nothing_stated) ≡ outline_in m.body nothing_outlined
+written-outline : (m : ModuleTree) (ss : List StatementTree) → IsWell m → AreWritten m ss → outline_so (add_all ss no_statements) ≡ outline_in m.body nothing_outlined
 written-outline m ss well written =
-    ap outline_so (all_stated-bare ss nothing_stated
-    ∙ ap (λ ls. all_turned ls nothing_stated) written
-    ∙ sym (all_made-turned (statements_of m) nothing_stated)
+    ap outline_so (all_stated-bare ss no_statements
+    ∙ ap (λ ls. all_turned ls no_statements) written
+    ∙ sym (all_made-turned (statements_of m) no_statements)
     ∙ made m well)
     ∙ ap (λ t. outline_in t nothing_outlined) (stmts_of-list_of m.body)
 
@@ -99,29 +99,29 @@ none-faulty b x s e r =
 
 -- in a module that is read each GO TO reaches its label
 pub all_reach_there : (closing : List (List ℕ)) (begun : List StatementTree) (s : StatementTree) → s.phrase ≡ end_module → Each IsStatement (begun ++ s ∷ []) → fault_of (marks_of (begun ++ s ∷ [])) ≡ None
-    → (let x = outline_in (built closing (begun ++ s ∷ [])).module_read.body nothing_outlined in AllReach x.landings x.goings)
-unfolding built
+    → (let x = outline_in (build_module closing (begun ++ s ∷ [])).module_read.body nothing_outlined in AllReach x.landings x.goings)
+unfolding build_module
 all_reach_there closing begun s e i h =
     let rs = begun ++ s ∷ [] in
     let f = no-fault (marks_of rs) h in
-    let p = all_stated rs nothing_stated in
-    let read = all-stand rs 0 nothing_stated nothing_open (all-alone rs i) tt nothing-shown f.2 in
-    let same = body-outline p (all-closed begun s 0 nothing_stated nothing_open e i nothing-goes f.2) in
+    let p = add_all rs no_statements in
+    let read = all-stand rs 0 no_statements nothing_open (all-alone rs i) tt nothing-shown f.2 in
+    let same = body-outline p (all-closed begun s 0 no_statements nothing_open e i nothing-goes f.2) in
     let P : Outline → Type 0 = λ x. AllReach x.landings x.goings in
     subst P same (all-reach (blocks_of (marks_of rs)) (outline_so p) read f.1)
 
 pub jumps_again : JumpsAgain
-unfolding built
+unfolding build_module
 jumps_again closing begun s ss e i h written =
     let rs = begun ++ s ∷ [] in
-    let m = (built closing rs).module_read in
+    let m = (build_module closing rs).module_read in
     let f = no-fault (marks_of rs) h in
     let well = built_well closing begun s e i h in
-    let p = all_stated rs nothing_stated in
-    let q = all_stated ss nothing_stated in
+    let p = add_all rs no_statements in
+    let q = add_all ss no_statements in
     let g = blocks_again m ss (built_nested closing begun s e i h) written in
-    let read = all-stand rs 0 nothing_stated nothing_open (all-alone rs i) tt nothing-shown f.2 in
-    let again = all-stand ss 0 nothing_stated nothing_open (written_alone m ss written) tt nothing-shown g in
-    let same : outline_so p ≡ outline_so q = body-outline p (all-closed begun s 0 nothing_stated nothing_open e i nothing-goes f.2) ∙ sym (written-outline m ss well written) in
+    let read = all-stand rs 0 no_statements nothing_open (all-alone rs i) tt nothing-shown f.2 in
+    let again = all-stand ss 0 no_statements nothing_open (written_alone m ss written) tt nothing-shown g in
+    let same : outline_so p ≡ outline_so q = body-outline p (all-closed begun s 0 no_statements nothing_open e i nothing-goes f.2) ∙ sym (written-outline m ss well written) in
     let P : Outline → Type 0 = λ x. AllReach x.landings x.goings in
     none-faulty (blocks_of (marks_of ss)) (outline_so q) again g (subst P same (all-reach (blocks_of (marks_of rs)) (outline_so p) read f.1))

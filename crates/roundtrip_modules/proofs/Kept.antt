@@ -9,8 +9,8 @@ use Rattle.f77_ast.specs.DeclTrees.{DeclTree, ModuleTree}
 use Rattle.f77_ast.specs.PlainStmt.{stmts_of, arms_of}
 use Rattle.f77_statements.specs.Phrases.{PhraseTree, program, subroutine, specification, simple, logical_if, block_if, else_if, else_part, end_if, do_head, end_do, end_module}
 use Rattle.f77_parser.specs.Statements.{StatementTree}
-use Rattle.f77_parser.specs.SoFar.{OpeningTree, opening_loop, branches, AroundTree, SoFar, with_spot, stated, conditioned, entered, what_of, left_one, is_loop_to, ended_by, ended_at, closed_from, closed}
-use Rattle.f77_parser.specs.Building.{closed_arms, divided_from, continued, with_phrase, with_statement, all_stated, nothing_stated, built}
+use Rattle.f77_parser.specs.SoFar.{OpeningTree, opening_loop, branches, AroundTree, SoFar, add_spot, add_executable, add_logical_if, open_block, what_of, leave_block, is_loop_to, leave_loops, end_loops_at, close_innermost, close_block}
+use Rattle.f77_parser.specs.Building.{close_arm, divide_innermost, add_continue, add_phrase, add_statement, add_all, no_statements, build_module}
 use Rattle.roundtrip_statements.specs.Formed.{Each}
 use Rattle.roundtrip_statements.specs.Phrased.{IsWhat, IsPhrase}
 use Rattle.roundtrip_statements.specs.Written.{as_written}
@@ -137,7 +137,7 @@ module _ (M : Option ℕ → Type 0) (S P : PhraseTree → Type 0) (k : Kind M S
     pub list : ListHolds p.list
     pub around : Each AroundHolds p.around
 
-  left-holds : (a : AroundTree) (os : List AroundTree) (p : SoFar) → AroundHolds a → Each AroundHolds os → Holds p → Holds (left_one a os p)
+  left-holds : (a : AroundTree) (os : List AroundTree) (p : SoFar) → AroundHolds a → Each AroundHolds os → Holds p → Holds (leave_block a os p)
   left-holds a os p h e g = record {
     title = g.title;
     decls = g.decls;
@@ -149,17 +149,17 @@ module _ (M : Option ℕ → Type 0) (S P : PhraseTree → Type 0) (k : Kind M S
   either-holds true x y h e = h
   either-holds false x y h e = e
 
-  ended_by-holds : (l : ℕ) (os : List AroundTree) (p : SoFar) → Each AroundHolds os → Holds p → Holds (ended_by l os p)
+  ended_by-holds : (l : ℕ) (os : List AroundTree) (p : SoFar) → Each AroundHolds os → Holds p → Holds (leave_loops l os p)
   ended_by-holds l [] p h g = g
   ended_by-holds l (a ∷ os) p h g =
-      either-holds (is_loop_to l a.opening) (ended_by l os (left_one a os p)) p (ended_by-holds l os (left_one a os p) h.others (left-holds a os p h.first h.others g)) g
+      either-holds (is_loop_to l a.opening) (leave_loops l os (leave_block a os p)) p (ended_by-holds l os (leave_block a os p) h.others (left-holds a os p h.first h.others g)) g
 
-  ended_at-holds : (label : Option ℕ) (p : SoFar) → Holds p → Holds (ended_at label p)
+  ended_at-holds : (label : Option ℕ) (p : SoFar) → Holds p → Holds (end_loops_at label p)
   ended_at-holds None p g = g
   ended_at-holds (Some l) p g = ended_by-holds l p.around p g.around g
 
-  closed-holds : (os : List AroundTree) (f : ℕ) (cs : List (List ℕ)) (p : SoFar) → Each AroundHolds os → Holds p → Holds (closed_from os f cs p)
-  unfolding with_spot
+  closed-holds : (os : List AroundTree) (f : ℕ) (cs : List (List ℕ)) (p : SoFar) → Each AroundHolds os → Holds p → Holds (close_innermost os f cs p)
+  unfolding add_spot
   closed-holds [] f cs p h g = g
   closed-holds (a ∷ os) f cs p h g = let x = left-holds a os p h.first h.others g in record { title = x.title; decls = x.decls; list = x.list; around = x.around }
 
@@ -178,14 +178,14 @@ module _ (M : Option ℕ → Type 0) (S P : PhraseTree → Type 0) (k : Kind M S
   simple-holds id label (trees.logical_if e s) m f h = absurd f
   simple-holds id label (trees.do_loop l) m f h = absurd f
 
-  stated-holds : (f : ℕ) (label : Option ℕ) (cs : List (List ℕ)) (w : WhatTree) (p : SoFar) → M label → IsWhat w → P (simple w) → Holds p → Holds (stated f label cs w p)
-  unfolding stated with_spot
+  stated-holds : (f : ℕ) (label : Option ℕ) (cs : List (List ℕ)) (w : WhatTree) (p : SoFar) → M label → IsWhat w → P (simple w) → Holds p → Holds (add_executable f label cs w p)
+  unfolding add_executable add_spot
   stated-holds f label cs w p m i h g =
       record { title = g.title; decls = g.decls; around = g.around; list = list-more p.list (stmt (p.count + 1) label w) g.list (simple-holds (p.count + 1) label w m i h) }
 
   conditioned-holds : (f : ℕ) (label : Option ℕ) (cs : List (List ℕ)) (e : ExprTree) (w : WhatTree) (p : SoFar) → M label → P (logical_if e w) → Holds p
-      → Holds (conditioned f label cs e w p)
-  unfolding conditioned with_spot
+      → Holds (add_logical_if f label cs e w p)
+  unfolding add_logical_if add_spot
   conditioned-holds f label cs e w p m h g = record {
     title = g.title;
     decls = g.decls;
@@ -194,70 +194,70 @@ module _ (M : Option ℕ → Type 0) (S P : PhraseTree → Type 0) (k : Kind M S
         (record { first = (m, h); others = tt });
   }
 
-  entered-holds : (f : ℕ) (label : Option ℕ) (cs : List (List ℕ)) (o : OpeningTree) (p : SoFar) → M label → OpeningHolds o → Holds p → Holds (entered f label cs o p)
-  unfolding entered with_spot
+  entered-holds : (f : ℕ) (label : Option ℕ) (cs : List (List ℕ)) (o : OpeningTree) (p : SoFar) → M label → OpeningHolds o → Holds p → Holds (open_block f label cs o p)
+  unfolding open_block add_spot
   entered-holds f label cs o p m h g =
       record { title = g.title; decls = g.decls; list = tt; around = record { first = record { label = m; list = g.list; opening = h }; others = g.around } }
 
-  arms-hold : (o : OpeningTree) (l : List StmtTree) → OpeningHolds o → ListHolds l → BlockHolds (closed_arms o l)
+  arms-hold : (o : OpeningTree) (l : List StmtTree) → OpeningHolds o → ListHolds l → BlockHolds (close_arm o l)
   arms-hold (opening_loop d) l h g = tt
   arms-hold (branches arms (Some test)) l h g = block-more arms test l h.parts h.test g
   arms-hold (branches arms None) l h g = h
 
   divided-holds : (os : List AroundTree) (f : ℕ) (cs : List (List ℕ)) (test : Option ExprTree) (p : SoFar)
-      → ((arms : List ArmTree) → BlockHolds arms → OpeningHolds (branches arms test)) → Each AroundHolds os → Holds p → Holds (divided_from os f cs test p)
-  unfolding with_spot
+      → ((arms : List ArmTree) → BlockHolds arms → OpeningHolds (branches arms test)) → Each AroundHolds os → Holds p → Holds (divide_innermost os f cs test p)
+  unfolding add_spot
   divided-holds [] f cs test p t h g = g
   divided-holds (a ∷ os) f cs test p t h g = record {
     title = g.title;
     decls = g.decls;
     list = tt;
-    around = record { first = record { label = h.first.label; list = h.first.list; opening = t (closed_arms a.opening p.list) (arms-hold a.opening p.list h.first.opening g.list) }; others = h.others };
+    around = record { first = record { label = h.first.label; list = h.first.list; opening = t (close_arm a.opening p.list) (arms-hold a.opening p.list h.first.opening g.list) }; others = h.others };
   }
 
-  continued-holds : (f l : ℕ) (cs : List (List ℕ)) (p : SoFar) → M (Some l) → Holds p → Holds (continued f l cs p)
-  continued-holds f l cs p m g = ended_at-holds (Some l) (stated f (Some l) cs continue p) (stated-holds f (Some l) cs continue p m tt k.labelled g)
+  continued-holds : (f l : ℕ) (cs : List (List ℕ)) (p : SoFar) → M (Some l) → Holds p → Holds (add_continue f l cs p)
+  continued-holds f l cs p m g = ended_at-holds (Some l) (add_executable f (Some l) cs continue p) (stated-holds f (Some l) cs continue p m tt k.labelled g)
 
   test-holds : (e : ExprTree) → S (else_if e) → (arms : List ArmTree) → BlockHolds arms → OpeningHolds (branches arms (Some e))
   test-holds e h [] b = record { parts = tt; test = k.first e (k.written (else_if e) h) }
   test-holds e h (a ∷ arms) b = record { parts = b; test = k.written (else_if e) h }
 
-  phrase-holds : (f : ℕ) (label : Option ℕ) (cs : List (List ℕ)) (phrase : PhraseTree) (p : SoFar) → M label → S phrase → Holds p → Holds (with_phrase f label cs phrase p)
-  unfolding with_spot
+  phrase-holds : (f : ℕ) (label : Option ℕ) (cs : List (List ℕ)) (phrase : PhraseTree) (p : SoFar) → M label → S phrase → Holds p → Holds (add_phrase f label cs phrase p)
+  unfolding add_spot
   phrase-holds f label cs (program n) p m h g =
       record { title = one parts.Title None (program n) k.bare (k.written (program n) h); decls = g.decls; list = g.list; around = g.around }
   phrase-holds f label cs (subroutine n ds) p m h g =
       record { title = one parts.Title None (subroutine n ds) k.bare (k.written (subroutine n ds) h); decls = g.decls; list = g.list; around = g.around }
   phrase-holds f label cs (specification d) p m h g =
       record { title = g.title; decls = Each-append (λ x. P (specification x)) p.decls (d ∷ []) g.decls (record { first = k.written (specification d) h; others = tt }); list = g.list; around = g.around }
-  phrase-holds f label cs (simple w) p m h g = ended_at-holds label (stated f label cs w p) (stated-holds f label cs w p m (k.formed (simple w) h) (k.written (simple w) h) g)
-  phrase-holds f label cs (logical_if e w) p m h g = ended_at-holds label (conditioned f label cs e w p) (conditioned-holds f label cs e w p m (k.written (logical_if e w) h) g)
+  phrase-holds f label cs (simple w) p m h g = ended_at-holds label (add_executable f label cs w p) (stated-holds f label cs w p m (k.formed (simple w) h) (k.written (simple w) h) g)
+  phrase-holds f label cs (logical_if e w) p m h g = ended_at-holds label (add_logical_if f label cs e w p) (conditioned-holds f label cs e w p m (k.written (logical_if e w) h) g)
   phrase-holds f label cs (block_if e) p m h g = entered-holds f label cs (branches [] (Some e)) p m (record { parts = tt; test = k.written (block_if e) h }) g
   phrase-holds f label cs (else_if e) p m h g = divided-holds p.around f cs (Some e) p (test-holds e h) g.around g
   phrase-holds f label cs else_part p m h g = divided-holds p.around f cs None p (λ arms x. x) g.around g
   phrase-holds f None cs end_if p m h g = closed-holds p.around f cs p g.around g
-  phrase-holds f (Some l) cs end_if p m h g = continued-holds f l [] (closed f cs p) m (closed-holds p.around f cs p g.around g)
+  phrase-holds f (Some l) cs end_if p m h g = continued-holds f l [] (close_block f cs p) m (closed-holds p.around f cs p g.around g)
   phrase-holds f label cs (do_head d) p m h g = entered-holds f label cs (opening_loop d) p m (k.written (do_head d) h) g
   phrase-holds f None cs end_do p m h g = closed-holds p.around f cs p g.around g
   phrase-holds f (Some l) cs end_do p m h g =
-      let q = continued f l cs p in let c = continued-holds f l cs p m g in closed-holds q.around f [] q c.around c
+      let q = add_continue f l cs p in let c = continued-holds f l cs p m g in closed-holds q.around f [] q c.around c
   phrase-holds f None cs end_module p m h g = record { title = g.title; decls = g.decls; list = g.list; around = g.around }
   phrase-holds f (Some l) cs end_module p m h g =
       let c = continued-holds f l cs p m g in record { title = c.title; decls = c.decls; list = c.list; around = c.around }
 
-  all-hold : (ss : List StatementTree) (p : SoFar) → Each (Stated M S) ss → Holds p → Holds (all_stated ss p)
+  all-hold : (ss : List StatementTree) (p : SoFar) → Each (Stated M S) ss → Holds p → Holds (add_all ss p)
   all-hold [] p h g = g
-  all-hold (s ∷ ss) p h g = all-hold ss (with_statement s p) h.others (phrase-holds s.first s.label s.comments s.phrase p h.first.0 h.first.1 g)
+  all-hold (s ∷ ss) p h g = all-hold ss (add_statement s p) h.others (phrase-holds s.first s.label s.comments s.phrase p h.first.0 h.first.1 g)
 
   decls-hold : (place : ℕ) (ds : List DeclTree) → Each (λ d. P (specification d)) ds → AllCards (decl_cards place ds)
   decls-hold place [] h = tt
   decls-hold place (d ∷ ds) h = record { first = (k.bare, h.first); others = decls-hold (place + 1) ds h.others }
 
-  pub all_held : (closing : List (List ℕ)) (ss : List StatementTree) → Each (Stated M S) ss → Each (Held M P) (statements_of (built closing ss).module_read)
-  unfolding built statements_of
+  pub all_held : (closing : List (List ℕ)) (ss : List StatementTree) → Each (Stated M S) ss → Each (Held M P) (statements_of (build_module closing ss).module_read)
+  unfolding build_module statements_of
   all_held closing ss h =
-      let p = all_stated ss nothing_stated in
-      let g = all-hold ss nothing_stated h (record { title = tt; decls = tt; list = tt; around = tt }) in
+      let p = add_all ss no_statements in
+      let g = all-hold ss no_statements h (record { title = tt; decls = tt; list = tt; around = tt }) in
       let title = title_cards (titled p) in let decls = decl_cards 0 p.decls in let body = cards_in (stmts_of p.list) in
       join (title ++ decls ++ body) (card parts.End None end_module ∷ [])
       (join (title ++ decls) body (join title decls g.title (decls-hold 0 p.decls g.decls)) g.list)
@@ -301,5 +301,5 @@ kind = record {
 
 pub cards_read : CardsRead
 cards_read closing ss h =
-    each-map (Held MaybeLabel IsWritten) IsCard (statements_of (built closing ss).module_read) (λ c x. record { label = x.0; phrase = x.1.0; same = x.1.1 })
+    each-map (Held MaybeLabel IsWritten) IsCard (statements_of (build_module closing ss).module_read) (λ c x. record { label = x.0; phrase = x.1.0; same = x.1.1 })
     (all_held MaybeLabel IsPhrase IsWritten kind closing ss (each-map IsRead (Stated MaybeLabel IsPhrase) ss (λ s x. (x.label, x.phrase)) h))

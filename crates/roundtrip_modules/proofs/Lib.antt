@@ -35,7 +35,6 @@ mod Standing
 mod Adding
 mod Reading
 pub mod Writing
-mod Places
 pub mod Outlines
 pub mod TreeOutlines
 mod SoFarOutlines

@@ -6,7 +6,7 @@ use Rattle.f77_ast.specs.Trees.{ExprTree}
 use Rattle.f77_ast.specs.Plain.{exprs_of}
 use Rattle.f77_exprs.specs.State.{State, Reader, take_word, or_done, ◌>>=◌}
 use Rattle.f77_exprs.specs.Grammar.{Between, comma, more_by, items_by, items}
-use Rattle.f77_statements.specs.Lists.{ending, or_end, items_left, enclosed, maybe_enclosed, maybe_listed}
+use Rattle.f77_statements.specs.Lists.{ending, or_end, items_left, in_parentheses, maybe_in_parentheses, maybe_after_comma}
 use Rattle.f77_printer.specs.ExprText.{expr_text, exprs_text, items_text}
 use Rattle.f77_printer.specs.DeclText.{others_by, joined_by}
 use Rattle.roundtrip_statements.specs.Formed.{Each}
@@ -111,17 +111,17 @@ wrap : {A : Type 0} (V : ℕ → A → Type 0) (n : ℕ) (xs : List A) → Leads
 wrap V n [] o h = tt
 wrap V n (x ∷ xs) o h = (o, h)
 
-enclosed-even : {A : Type 0} (one : Reader A) (V : ℕ → A → Type 0) (n : ℕ) (s : State) → Even one V → Leads n (n + 1) (codes "(") → IsShallow (n + 1) s.rest → Within (enclosed one s) n (Wrapped V n)
-unfolding enclosed
+enclosed-even : {A : Type 0} (one : Reader A) (V : ℕ → A → Type 0) (n : ℕ) (s : State) → Even one V → Leads n (n + 1) (codes "(") → IsShallow (n + 1) s.rest → Within (in_parentheses one s) n (Wrapped V n)
+unfolding in_parentheses
 enclosed-even one V n s e o h =
     else_word (codes ")") s (λ t. Some ([], t)) (ending (codes ")") (items one) s) (n + 1) n (Wrapped V n) h (λ r i. (tt, closed n r i))
     (lower (ending (codes ")") (items one) s) n (Each (V (n + 1))) (Wrapped V n) (ending_closed (items one) (λ m. Each (V m)) n s (items-even one V e) h) (λ xs. wrap V n xs o))
 
-pub maybe_enclosed-even : {A : Type 0} (one : Reader A) (V : ℕ → A → Type 0) → Even one V → Even (maybe_enclosed one) (Wrapped V)
-unfolding maybe_enclosed
+pub maybe_enclosed-even : {A : Type 0} (one : Reader A) (V : ℕ → A → Type 0) → Even one V → Even (maybe_in_parentheses one) (Wrapped V)
+unfolding maybe_in_parentheses
 maybe_enclosed-even one V e n s h =
-    done_word (codes "(") [] s (enclosed one) n (Wrapped V n) h tt (λ r i. enclosed-even one V n (record s { rest = r }) e (opens n r i) (opened n r i))
+    done_word (codes "(") [] s (in_parentheses one) n (Wrapped V n) h tt (λ r i. enclosed-even one V n (record s { rest = r }) e (opens n r i) (opened n r i))
 
-pub maybe_listed-even : {A : Type 0} (one : Reader A) (V : ℕ → A → Type 0) → Even one V → Even (maybe_listed one) (λ n. Each (V n))
-unfolding maybe_listed
+pub maybe_listed-even : {A : Type 0} (one : Reader A) (V : ℕ → A → Type 0) → Even one V → Even (maybe_after_comma one) (λ n. Each (V n))
+unfolding maybe_after_comma
 maybe_listed-even one V e n s h = done_word (codes ",") [] s (items one) n (Each (V n)) h tt (λ r i. items-even one V e n (record s { rest = r }) i)

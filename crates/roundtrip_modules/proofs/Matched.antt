@@ -17,8 +17,8 @@ use Rattle.f77_structure.specs.Blocks as steps
 use Rattle.f77_structure.specs.Blocks.{left, landed, stood, jumped}
 use Rattle.f77_structure.specs.Steps.{is_else, part, ended, by_role}
 use Rattle.f77_parser.specs.Roles.{role_of, action_of}
-use Rattle.f77_parser.specs.SoFar.{OpeningTree, opening_loop, branches, AroundTree, SoFar, with_spot, stated, conditioned, entered, left_one, is_label, is_loop_to, ended_by, ended_at, closed_from, closed}
-use Rattle.f77_parser.specs.Building.{closed_arms, divided_from, continued, with_phrase}
+use Rattle.f77_parser.specs.SoFar.{OpeningTree, opening_loop, branches, AroundTree, SoFar, add_spot, add_executable, add_logical_if, open_block, leave_block, is_label, is_loop_to, leave_loops, end_loops_at, close_innermost, close_block}
+use Rattle.f77_parser.specs.Building.{close_arm, divide_innermost, add_continue, add_phrase}
 use Rattle.roundtrip_modules.proofs.Calm.{Fresh, Fitting, true-false, part-none, part-calm, ended-calm, down-calm, stood-found, jumped-stack, landed-stack}
 use Rattle.roundtrip_modules.proofs.Counted.{IsOpenIf, Divisible, Allowed}
 
@@ -62,44 +62,44 @@ on-around : (os : List Open) (x y : List AroundTree) → x ≡ y → Matches x o
 on-around os x y e m = let P : List AroundTree → Type 0 = λ s. Matches s os in subst P e m
 
 ended_by-matched : (l : ℕ) (xs : List AroundTree) (os : List Open) (p : SoFar) (b : Blocks) → p.around ≡ xs → b.stack ≡ os → Matches xs os
-    → Matches (ended_by l xs p).around (steps.ended_by l os b).stack
+    → Matches (leave_loops l xs p).around (steps.ended_by l os b).stack
 ended_by-matched l [] [] p b e f m = on-around b.stack [] p.around (sym e) (on-stack [] [] b.stack (sym f) m)
 ended_by-matched l [] (o ∷ os) p b e f m = absurd m
 ended_by-matched l (a ∷ xs) [] p b e f m = absurd m
 ended_by-matched l (a ∷ xs) (o ∷ os) p b e f m =
-    both-if (is_loop_to l a.opening) (ends_at l o.kind) (ended_by l xs (left_one a xs p)) p (steps.ended_by l os (steps.left_one o os b)) b
+    both-if (is_loop_to l a.opening) (ends_at l o.kind) (leave_loops l xs (leave_block a xs p)) p (steps.ended_by l os (steps.left_one o os b)) b
     (loop-same l a.opening ∙ ap (ends_at l) m.kind)
-    (ended_by-matched l xs os (left_one a xs p) (steps.left_one o os b) refl refl m.outer)
+    (ended_by-matched l xs os (leave_block a xs p) (steps.left_one o os b) refl refl m.outer)
     (on-around b.stack (a ∷ xs) p.around (sym e) (on-stack (a ∷ xs) (o ∷ os) b.stack (sym f) m))
 
 -- a statement that stands in the open list, and ends the DOs to its label
-pub stood-matched : (label : Option ℕ) (p : SoFar) (b : Blocks) → Matches p.around b.stack → Matches (ended_at label p).around (stood label b).stack
+pub stood-matched : (label : Option ℕ) (p : SoFar) (b : Blocks) → Matches p.around b.stack → Matches (end_loops_at label p).around (stood label b).stack
 unfolding stood
 stood-matched None p b m = m
 stood-matched (Some l) p b m = ended_by-matched l p.around b.stack p (landed (Some l) b) refl refl m
 
-pub continued-matched : (f l : ℕ) (cs : List (List ℕ)) (p : SoFar) (b : Blocks) → Matches p.around b.stack → Matches (continued f l cs p).around (stood (Some l) b).stack
-unfolding stated with_spot
-continued-matched f l cs p b m = stood-matched (Some l) (stated f (Some l) cs continue p) b m
+pub continued-matched : (f l : ℕ) (cs : List (List ℕ)) (p : SoFar) (b : Blocks) → Matches p.around b.stack → Matches (add_continue f l cs p).around (stood (Some l) b).stack
+unfolding add_executable add_spot
+continued-matched f l cs p b m = stood-matched (Some l) (add_executable f (Some l) cs continue p) b m
 
 closed-from-matched : (xs : List AroundTree) (os : List Open) (f : ℕ) (cs : List (List ℕ)) (p : SoFar) (b : Blocks) → p.around ≡ xs → b.stack ≡ os → Matches xs os
-    → Matches (closed_from xs f cs p).around (steps.left_from os b).stack
-unfolding with_spot
+    → Matches (close_innermost xs f cs p).around (steps.left_from os b).stack
+unfolding add_spot
 closed-from-matched [] [] f cs p b e g m = on-around b.stack [] p.around (sym e) (on-stack [] [] b.stack (sym g) m)
 closed-from-matched [] (o ∷ os) f cs p b e g m = absurd m
 closed-from-matched (a ∷ xs) [] f cs p b e g m = absurd m
 closed-from-matched (a ∷ xs) (o ∷ os) f cs p b e g m = m.outer
 
 pub closed-matched : (what : Sought) (within : Bool) (line f : ℕ) (cs : List (List ℕ)) (p : SoFar) (b : Blocks) → Matches p.around b.stack
-    → (ended what within line b).found ≡ None → Matches (closed f cs p).around (ended what within line b).stack
+    → (ended what within line b).found ≡ None → Matches (close_block f cs p).around (ended what within line b).stack
 closed-matched what within line f cs p b m h =
     let c = ended-calm what within line b (fresh-matched p.around b.stack m) h in
-    on-stack (closed f cs p).around (left b).stack (ended what within line b).stack (ap (λ x. x.stack) (sym c.0))
+    on-stack (close_block f cs p).around (left b).stack (ended what within line b).stack (ap (λ x. x.stack) (sym c.0))
     (closed-from-matched p.around b.stack f cs p b refl refl m)
 
 entered-matched : (kind : Kind) (line f : ℕ) (label : Option ℕ) (cs : List (List ℕ)) (o : OpeningTree) (p : SoFar) (b : Blocks) → kind_of o ≡ kind → Matches p.around b.stack
-    → Matches (entered f label cs o p).around (steps.entered kind line (landed label b)).stack
-unfolding entered with_spot
+    → Matches (open_block f label cs o p).around (steps.entered kind line (landed label b)).stack
+unfolding open_block add_spot
 entered-matched kind line f label cs o p b e m = record { kind = e; fresh = refl; outer = on-stack p.around b.stack (landed label b).stack (sym (landed-stack label b)) m }
 
 -- ---- parts
@@ -111,7 +111,7 @@ open-if (branches arms None) k e i n = let x : is_else k ≡ true = ap is_else (
 
 pub record Divided (next : Kind) (line f : ℕ) (cs : List (List ℕ)) (test : Option ExprTree) (xs : List AroundTree) (p : SoFar) (b : Blocks) : Type 0 where
   pub may : Divisible xs
-  pub matched : Matches (divided_from xs f cs test p).around (part next line b).stack
+  pub matched : Matches (divide_innermost xs f cs test p).around (part next line b).stack
 
 abbrev next_kind : Option ExprTree → Kind
 next_kind None = Else
@@ -123,7 +123,7 @@ next-same arms (Some test) = refl
 
 divided-matched : (line f : ℕ) (cs : List (List ℕ)) (test : Option ExprTree) (xs : List AroundTree) (os : List Open) (p : SoFar) (b : Blocks) → b.stack ≡ os → Matches xs os
     → (part (next_kind test) line b).found ≡ None → Divided (next_kind test) line f cs test xs p b
-unfolding with_spot
+unfolding add_spot
 divided-matched line f cs test [] [] p b e m h = absurd (part-none (next_kind test) line b e h)
 divided-matched line f cs test [] (o ∷ os) p b e m h = absurd m
 divided-matched line f cs test (a ∷ xs) [] p b e m h = absurd m
@@ -131,21 +131,21 @@ divided-matched line f cs test (a ∷ xs) (o ∷ os) p b e m h =
     let c = record b { stack = o ∷ os } in
     let same : c ≡ b = ap (λ s. record b { stack = s }) (sym e) in
     let d = part-calm (next_kind test) line b.place o os b.spans b.landings b.jumps b.found m.fresh (ap (λ x. (part (next_kind test) line x).found) same ∙ h) in
-    let out = (divided_from (a ∷ xs) f cs test p).around in
+    let out = (divide_innermost (a ∷ xs) f cs test p).around in
     let now = (steps.pushed (next_kind test) o.line (left c)).stack in
     record {
       may = open-if a.opening o.kind m.kind d.is_if d.is_else;
       matched = on-stack out now (part (next_kind test) line b).stack (sym (ap (λ x. x.stack) d.same) ∙ ap (λ x. (part (next_kind test) line x).stack) same)
-          (record { kind = next-same (closed_arms a.opening p.list) test; fresh = refl; outer = m.outer });
+          (record { kind = next-same (close_arm a.opening p.list) test; fresh = refl; outer = m.outer });
     }
 
 -- ---- each statement
 
 pub record Turned (f : ℕ) (label : Option ℕ) (cs : List (List ℕ)) (phrase : PhraseTree) (line : ℕ) (p : SoFar) (b : Blocks) : Type 0 where
   pub may : Allowed phrase p.around
-  pub matched : Matches (with_phrase f label cs phrase p).around (by_role (role_of phrase) label line b).stack
+  pub matched : Matches (add_phrase f label cs phrase p).around (by_role (role_of phrase) label line b).stack
 
-simply-matched : (label : Option ℕ) (a : Action) (line : ℕ) (p : SoFar) (b : Blocks) → Matches p.around b.stack → Matches (ended_at label p).around (stood label (jumped a line b)).stack
+simply-matched : (label : Option ℕ) (a : Action) (line : ℕ) (p : SoFar) (b : Blocks) → Matches p.around b.stack → Matches (end_loops_at label p).around (stood label (jumped a line b)).stack
 simply-matched label a line p b m = stood-matched label p (jumped a line b) (on-stack p.around b.stack (jumped a line b).stack (sym (jumped-stack a line b)) m)
 
 -- nothing is open at the end
@@ -163,12 +163,12 @@ module-matched p b m h = on-stack p.around b.stack _ (ap (λ x. x.stack) (sym (m
 
 pub phrase-matched : (f : ℕ) (label : Option ℕ) (cs : List (List ℕ)) (phrase : PhraseTree) (line : ℕ) (p : SoFar) (b : Blocks) → Matches p.around b.stack
     → (by_role (role_of phrase) label line b).found ≡ None → Turned f label cs phrase line p b
-unfolding with_spot stated conditioned
+unfolding add_spot add_executable add_logical_if
 phrase-matched f label cs (program n) line p b m h = record { may = tt; matched = m }
 phrase-matched f label cs (subroutine n ds) line p b m h = record { may = tt; matched = m }
 phrase-matched f label cs (specification d) line p b m h = record { may = tt; matched = m }
-phrase-matched f label cs (simple w) line p b m h = record { may = tt; matched = simply-matched label (action_of w) line (stated f label cs w p) b m }
-phrase-matched f label cs (logical_if e w) line p b m h = record { may = tt; matched = simply-matched label (action_of w) line (conditioned f label cs e w p) b m }
+phrase-matched f label cs (simple w) line p b m h = record { may = tt; matched = simply-matched label (action_of w) line (add_executable f label cs w p) b m }
+phrase-matched f label cs (logical_if e w) line p b m h = record { may = tt; matched = simply-matched label (action_of w) line (add_logical_if f label cs e w p) b m }
 phrase-matched f label cs (block_if e) line p b m h = record { may = tt; matched = entered-matched If line f label cs (branches [] (Some e)) p b refl m }
 phrase-matched f label cs (else_if e) line p b m h =
     let d = divided-matched line f cs (Some e) p.around b.stack p b refl m h in record { may = d.may; matched = d.matched }
@@ -176,17 +176,17 @@ phrase-matched f label cs else_part line p b m h =
     let d = divided-matched line f cs None p.around b.stack p b refl m h in record { may = d.may; matched = d.matched }
 phrase-matched f None cs end_if line p b m h =
     let x = ended sought.BlockIf (within_if (first_of b.stack)) line b in
-    record { may = tt; matched = stood-matched None (closed f cs p) x (closed-matched sought.BlockIf (within_if (first_of b.stack)) line f cs p b m (sym (stood-found None x) ∙ h)) }
+    record { may = tt; matched = stood-matched None (close_block f cs p) x (closed-matched sought.BlockIf (within_if (first_of b.stack)) line f cs p b m (sym (stood-found None x) ∙ h)) }
 phrase-matched f (Some l) cs end_if line p b m h =
     let x = ended sought.BlockIf (within_if (first_of b.stack)) line b in
-    record { may = tt; matched = continued-matched f l [] (closed f cs p) x (closed-matched sought.BlockIf (within_if (first_of b.stack)) line f cs p b m (sym (stood-found (Some l) x) ∙ h)) }
+    record { may = tt; matched = continued-matched f l [] (close_block f cs p) x (closed-matched sought.BlockIf (within_if (first_of b.stack)) line f cs p b m (sym (stood-found (Some l) x) ∙ h)) }
 phrase-matched f label cs (do_head d) line p b m h = record { may = tt; matched = entered-matched (Do d.label) line f label cs (opening_loop d) p b refl m }
 phrase-matched f None cs end_do line p b m h =
     let x = stood None b in
     record { may = tt; matched = closed-matched sought.PlainDo (within_do (first_of x.stack)) line f cs p x (stood-matched None p b m) h }
 phrase-matched f (Some l) cs end_do line p b m h =
     let x = stood (Some l) b in
-    record { may = tt; matched = closed-matched sought.PlainDo (within_do (first_of x.stack)) line f [] (continued f l cs p) x (continued-matched f l cs p b m) h }
+    record { may = tt; matched = closed-matched sought.PlainDo (within_do (first_of x.stack)) line f [] (add_continue f l cs p) x (continued-matched f l cs p b m) h }
 phrase-matched f None cs end_module line p b m h = record { may = tt; matched = module-matched p (stood None b) (stood-matched None p b m) h }
 phrase-matched f (Some l) cs end_module line p b m h =
-    record { may = tt; matched = module-matched (continued f l cs p) (stood (Some l) b) (continued-matched f l cs p b m) h }
+    record { may = tt; matched = module-matched (add_continue f l cs p) (stood (Some l) b) (continued-matched f l cs p b m) h }

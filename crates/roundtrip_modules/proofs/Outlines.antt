@@ -1,6 +1,6 @@
 -- The lists, the labels and the GO TOs of a module without the places of its text: which lists contain each GO TO.
-use Rattle.std.proofs.Common.{ℕ, ◌+◌, List, [], ◌∷◌, ◌++◌, length, nat_lt}
-use Rattle.std.specs.Prelude.{Option, Some, None, if◌then◌else◌}
+use Rattle.std.proofs.Common.{ℕ, ◌+◌, List, [], ◌∷◌, ◌++◌}
+use Rattle.std.specs.Prelude.{Option, Some, None}
 use Rattle.f77_structure.specs.declared.mark.Action.{Action}
 use Rattle.f77_structure.specs.declared.mark.Action.TheVariants.{Goto, Return, Stop, Other}
 use Rattle.f77_structure.specs.declared.blocks.Landing.{Landing}
@@ -35,7 +35,7 @@ lands None o = o
 lands (Some l) o = record o { landings = o.landings ++ record { label = l; list = innermost o.within } ∷ [] }
 
 abbrev pub goes : Action → Outline → Outline
-goes (Goto l) o = record o { goings = if nat_lt (length o.goings) 4097 then o.goings ++ record { label = l; lists = o.within } ∷ [] else o.goings }
+goes (Goto l) o = record o { goings = o.goings ++ record { label = l; lists = o.within } ∷ [] }
 goes Return o = o
 goes Stop o = o
 goes Other o = o

@@ -10,7 +10,7 @@ use Rattle.f77_exprs.specs.Grammar.{expression}
 use Rattle.f77_forms.specs.declared.form.FormId.{FormId}
 use Rattle.f77_forms.specs.declared.form.FormId.TheVariants as forms
 use Rattle.f77_statements.specs.declared.refusal.Cause.{Cause}
-use Rattle.f77_statements.specs.Lists.{past_comma, maybe_enclosed}
+use Rattle.f77_statements.specs.Lists.{skip_comma, maybe_in_parentheses}
 use Rattle.f77_statements.specs.Phrases.{PhraseTree, program, subroutine, specification, simple, block_if, else_if, else_part, end_if, do_head, end_do, end_module}
 use Rattle.f77_statements.specs.Phrases as phrases
 use Rattle.f77_statements.specs.Specifications.{implicit_statement, integer_statement, logical_statement, dimension_statement, parameter_statement, common_statement, equivalence_statement, save_statement, data_statement}
@@ -52,7 +52,7 @@ unfolding subroutine_statement
 subroutine-even n s h =
     then_word (codes "SUBROUTINE") s _ n n (Level phrase_text n) h
     (λ r i. then_read name_at (Level (λ x. x)) _ (record s { rest = r }) n n (Level phrase_text n) name-even i
-    (λ f x j. then_read (maybe_enclosed name_at) (Wrapped (Level (λ y. y))) _ f.1 n n (Level phrase_text n) (maybe_enclosed-even name_at (Level (λ y. y)) name-even) j
+    (λ f x j. then_read (maybe_in_parentheses name_at) (Wrapped (Level (λ y. y))) _ f.1 n n (Level phrase_text n) (maybe_enclosed-even name_at (Level (λ y. y)) name-even) j
     (λ ds y k. (join (join (plain n (codes "SUBROUTINE ") refl) x) (dummies_leads n ds.0 y), k))))
 
 -- ---- IF
@@ -95,8 +95,8 @@ logical-even n s h =
 
 -- ---- DO
 
-terminal_by : (b : Bool) (n : ℕ) (s : State) → IsShallow n s.rest → Within (if b then (label_at s >>= λ l. Some (Some l.0, past_comma l.1)) else Some (None, s)) n (λ l. Unit {0})
-terminal_by true n s h = then_read label_at (Level decimal) (λ l. Some (Some l.0, past_comma l.1)) s n n (λ l. Unit {0}) label-even h (λ l x i. (tt, past_comma-shallow n l.1 i))
+terminal_by : (b : Bool) (n : ℕ) (s : State) → IsShallow n s.rest → Within (if b then (label_at s >>= λ l. Some (Some l.0, skip_comma l.1)) else Some (None, s)) n (λ l. Unit {0})
+terminal_by true n s h = then_read label_at (Level decimal) (λ l. Some (Some l.0, skip_comma l.1)) s n n (λ l. Unit {0}) label-even h (λ l x i. (tt, past_comma-shallow n l.1 i))
 terminal_by false n s h = (tt, h)
 
 terminal-even : Even terminal (λ n l. Unit {0})

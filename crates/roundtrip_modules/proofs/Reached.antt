@@ -2,12 +2,12 @@
 use Rattle.std.proofs.Common.{◌≡◌, ℕ, Bool, true, false, List, [], ◌∷◌, nat_eq, refl, sym, ap, ap₂, ◌∙◌}
 use Rattle.std.specs.Prelude.{Option, None, ◌||◌, ◌&&◌, not, if◌then◌else◌}
 use Rattle.std.specs.List.{list_all}
-use Rattle.f77_structure.specs.declared.fault.Fault.TheVariants.{LabelMissing, JumpIntoBlock}
-use Rattle.f77_structure.specs.declared.fault.Found.{Found}
+use Rattle.refusal_codes.specs.declared.code.Code.TheVariants.{LabelMissing, JumpIntoBlock}
+use Rattle.refusal_codes.specs.declared.refusal.Refusal.{Refusal}
 use Rattle.f77_structure.specs.declared.open.Span.{Span}
 use Rattle.f77_structure.specs.declared.blocks.Landing.{Landing}
 use Rattle.f77_structure.specs.declared.blocks.Jump.{Jump}
-use Rattle.f77_structure.specs.Faults.{noted}
+use Rattle.refusal_codes.specs.Refusals.{refuse_if}
 use Rattle.f77_structure.specs.Jumps.{stands, reaches, judged, all_judged}
 use Rattle.roundtrip_statements.specs.Formed.{Each}
 use Rattle.roundtrip_modules.proofs.Calm.{true-false, noted-none}
@@ -30,13 +30,13 @@ reaches-meets spans j g [] e w = refl
 reaches-meets spans j g (x ∷ ls) e w =
     ap₂ (λ v u. v && u) (ap₂ (λ l v. not (nat_eq x.label l) || v) e (w x.list)) (reaches-meets spans j g ls e w)
 
-judged-by : (s r : Bool) (line : ℕ) (found : Option Found)
-    → (if s then noted (not r) line JumpIntoBlock found else noted true line LabelMissing found) ≡ None → (s ≡ true) × (r ≡ true)
+judged-by : (s r : Bool) (line : ℕ) (found : Option Refusal)
+    → (if s then refuse_if (not r) line JumpIntoBlock found else refuse_if true line LabelMissing found) ≡ None → (s ≡ true) × (r ≡ true)
 judged-by true true line found h = (refl, refl)
 judged-by true false line found h = absurd (true-false (noted-none _ _ _ _ h).0)
 judged-by false r line found h = absurd (true-false (noted-none _ _ _ _ h).0)
 
-pub judged-reach : (n : ℕ) (spans : List Span) (landings : List Landing) (js : List Jump) (gs : List Going) (found : Option Found) → AreKept n spans js gs
+pub judged-reach : (n : ℕ) (spans : List Span) (landings : List Landing) (js : List Jump) (gs : List Going) (found : Option Refusal) → AreKept n spans js gs
     → all_judged spans landings js found ≡ None → AllReach landings gs
 judged-reach n spans landings [] [] found k h = tt
 judged-reach n spans landings [] (g ∷ gs) found k h = absurd k
@@ -52,9 +52,9 @@ judged-reach n spans landings (j ∷ js) (g ∷ gs) found k h =
       others = judged-reach n spans landings js gs next k.others h;
     }
 
-judged-none : (s r : Bool) (line : ℕ) → s ≡ true → r ≡ true → (if s then noted (not r) line JumpIntoBlock None else noted true line LabelMissing None) ≡ None
-unfolding noted
-judged-none s r line h e = ap₂ (λ v u. if v then noted (not u) line JumpIntoBlock None else noted true line LabelMissing None) h e
+judged-none : (s r : Bool) (line : ℕ) → s ≡ true → r ≡ true → (if s then refuse_if (not r) line JumpIntoBlock None else refuse_if true line LabelMissing None) ≡ None
+unfolding refuse_if
+judged-none s r line h e = ap₂ (λ v u. if v then refuse_if (not u) line JumpIntoBlock None else refuse_if true line LabelMissing None) h e
 
 pub reach-judged : (n : ℕ) (spans : List Span) (landings : List Landing) (js : List Jump) (gs : List Going) → AreKept n spans js gs → AllReach landings gs
     → all_judged spans landings js None ≡ None

@@ -1,6 +1,6 @@
 -- What is written of a module has the labels and the number of executable statements of what was read of it, and no RETURN where none may be.
 use Rattle.std.proofs.Common.{◌≡◌, ℕ, ◌+◌, ◌≤◌, Bool, true, false, List, [], ◌∷◌, ◌++◌, refl, sym, ap, ◌∙◌, subst, append-nil, arith}
-use Rattle.std.specs.Prelude.{Option, Some, None, ◌&&◌, nat_le}
+use Rattle.std.specs.Prelude.{Option, Some, None, ◌&&◌}
 use Rattle.std.proofs.lemmas.Bool.Decides.{nat_tests}
 use Rattle.f77_statements.specs.Phrases.{PhraseTree, program, subroutine, specification, simple, logical_if, block_if, else_if, else_part, end_if, do_head, end_do, end_module}
 use Rattle.f77_structure.specs.declared.mark.Mark.{Mark}
@@ -13,7 +13,7 @@ use Rattle.f77_parser.specs.Roles.{role_of, action_of}
 use Rattle.f77_parser.specs.Statements.{StatementTree, mark_of, marks_of}
 use Rattle.f77_parser.specs.declared.progress.Heading.{Heading}
 use Rattle.f77_parser.specs.SoFar.{SoFar}
-use Rattle.f77_parser.specs.Building.{with_statement, all_stated, nothing_stated}
+use Rattle.f77_parser.specs.Building.{add_statement, add_all, no_statements}
 use Rattle.roundtrip_statements.specs.Formed.{Each}
 use Rattle.roundtrip_modules.specs.Cards.{Card}
 use Rattle.roundtrip_modules.specs.ModuleLaws.{IsStatement}
@@ -28,10 +28,10 @@ use Rattle.roundtrip_modules.proofs.Adding.{heading_by, AddsBy, phrase-adds}
 
 -- ---- a statement in which no fault is found
 
--- the label of an executable statement is new, where so few stand before it that it is judged
+-- the label of an executable statement is new
 abbrev IsUnused : Option ℕ → Order → Type 0
 IsUnused None o = Unit {0}
-IsUnused (Some l) o = (nat_le o.count 4096 && has_label l o.labels) ≡ false
+IsUnused (Some l) o = has_label l o.labels ≡ false
 
 pub record Passes (label : Option ℕ) (m : Mark) (o : Order) (next : Order) : Type 0 where
   pub before : o.found ≡ None
@@ -102,12 +102,9 @@ pub record Orders (p : SoFar) (o : Order) : Type 0 where
 still-few : (count new : ℕ) → passes_most count new ≡ false → count ≤ 4096 → new ≤ 4096
 still-few count new h c = grind (arith, nat_tests)
 
-not-had : (count : ℕ) (b : Bool) → (nat_le count 4096 && b) ≡ false → count ≤ 4096 → b ≡ false
-not-had count b h c = let e : nat_le count 4096 ≡ true = grind (arith, nat_tests) in sym (ap (λ v. v && b) e) ∙ h
-
-still-new : (label : Option ℕ) (o : Order) → AreNew [] o.labels → IsUnused label o → o.count ≤ 4096 → AreNew [] (o.labels ++ listed label)
-still-new None o a u c = let P : List ℕ → Type 0 = λ x. AreNew [] x in subst P (sym (append-nil o.labels)) a
-still-new (Some l) o a u c = one-new [] o.labels l a (not-had o.count (has_label l o.labels) u c)
+still-new : (label : Option ℕ) (o : Order) → AreNew [] o.labels → IsUnused label o → AreNew [] (o.labels ++ listed label)
+still-new None o a u = let P : List ℕ → Type 0 = λ x. AreNew [] x in subst P (sym (append-nil o.labels)) a
+still-new (Some l) o a u = one-new [] o.labels l a u
 
 one-ordered : (s : StatementTree) (p q : SoFar) (o : Order) → AddsBy s.phrase s.label p q → Orders p o → (ordered (mark_of s) o).found ≡ None → Orders q (ordered (mark_of s) o)
 one-ordered s p q o a g h =
@@ -126,12 +123,12 @@ one-ordered s p q o a g h =
       main = x.main ∙ t.after ∙ sym heading;
       unbegun = λ e. absurd (true-false (sym x.begun ∙ e));
       started = a.started;
-      new = subst New (sym x.labels) (still-new (label_in m) o g.new x.unused g.few);
+      new = subst New (sym x.labels) (still-new (label_in m) o g.new x.unused);
       few = subst Few (sym x.count) (still-few o.count (o.count + statements_in m) x.few g.few);
     }
 
 pub all-ordered : (ss : List StatementTree) (place : ℕ) (p : SoFar) (b : Blocks) (o : Order) → Each IsStatement ss → Goes p b
-    → (all_stepped place (marks_of ss) b).found ≡ None → Orders p o → (all_ordered (marks_of ss) o).found ≡ None → Orders (all_stated ss p) (all_ordered (marks_of ss) o)
+    → (all_stepped place (marks_of ss) b).found ≡ None → Orders p o → (all_ordered (marks_of ss) o).found ≡ None → Orders (add_all ss p) (all_ordered (marks_of ss) o)
 all-ordered [] place p b o i g f r h = r
 all-ordered (s ∷ ss) place p b o i g f r h =
     let next = stepped place (mark_of s) b in
@@ -140,10 +137,10 @@ all-ordered (s ∷ ss) place p b o i g f r h =
     let t = phrase-matched s.first s.label s.comments s.phrase s.first p (record b { place = place }) g.matched (sym (ap (λ x. x.found) c.same) ∙ e) in
     let a = phrase-adds s.first s.label s.comments s.phrase p i.first t.may r.started in
     let then = ordered (mark_of s) o in
-    all-ordered ss (place + 1) (with_statement s p) next then i.others (one-goes s place p b i.first g e) f
-    (one-ordered s p (with_statement s p) o a r (order-found (marks_of ss) then h)) h
+    all-ordered ss (place + 1) (add_statement s p) next then i.others (one-goes s place p b i.first g e) f
+    (one-ordered s p (add_statement s p) o a r (order-found (marks_of ss) then h)) h
 
-pub nothing-ordered : Orders nothing_stated nothing_ordered
+pub nothing-ordered : Orders no_statements nothing_ordered
 nothing-ordered =
     let few : 0 ≤ 4096 = omega arith in
     record { labels = refl; count = refl; quiet = λ x. tt; behind = tt; main = refl; unbegun = λ x. refl; started = tt; new = tt; few = few }

@@ -6,7 +6,7 @@ use Rattle.f77_ast.specs.Trees.{ExprTree, StmtTree, stmt, WhatTree, assign, do_l
 use Rattle.f77_ast.specs.Trees as trees
 use Rattle.f77_statements.specs.Phrases.{block_if, else_if, else_part, end_do, end_if}
 use Rattle.f77_structure.specs.declared.mark.Role.TheVariants as roles
-use Rattle.f77_structure.specs.declared.fault.Found.{Found}
+use Rattle.refusal_codes.specs.declared.refusal.Refusal.{Refusal}
 use Rattle.f77_structure.specs.declared.open.Kind.{Kind}
 use Rattle.f77_structure.specs.declared.open.Kind.TheVariants as kinds
 use Rattle.f77_structure.specs.declared.open.Open.{Open}
@@ -26,13 +26,13 @@ set-append P f place (x ∷ xs) ys b h = set-append P f (place + 1) xs ys (stepp
 abbrev IsPlain : Kind → Type 0
 IsPlain k = (l : ℕ) → ends_at l k ≡ false
 
-top-unlabelled : (k : Kind) (os : List Open) (found : Option Found) (c : Blocks) → IsPlain k → Within k os found c → Unlabelled c.stack
+top-unlabelled : (k : Kind) (os : List Open) (found : Option Refusal) (c : Blocks) → IsPlain k → Within k os found c → Unlabelled c.stack
 top-unlabelled k os found c p w = unlabelled-at (w.top ∷ os) c.stack (sym w.stack) (λ l. ap (ends_at l) w.kind ∙ p l)
 
 shallow-at : (x y : List Open) (body : StmtTrees) → x ≡ y → AreShallow (length x) body → AreShallow (length y) body
 shallow-at x y body e h = let P : List Open → Type 0 = λ s. AreShallow (length s) body in subst P e h
 
-moved : (k : Kind) (os : List Open) (found : Option Found) (c d : Blocks) → Within k os found c → Stays c d → Within k os found d
+moved : (k : Kind) (os : List Open) (found : Option Refusal) (c d : Blocks) → Within k os found c → Stays c d → Within k os found d
 moved k os found c d w s = record { top = w.top; kind = w.kind; stack = s.stack ∙ w.stack; same = s.found ∙ w.same }
 
 mutual
@@ -73,7 +73,7 @@ mutual
   what_set f place id label (read es) b u h = simply-set f place (parts.Stmt id) label (read es) b u
 
   -- the other parts of a block IF, where this ends it
-  parts_set : (f : ℕ → ℕ) (place id at : ℕ) (others : ArmTrees) (end : List Card) (os : List Open) (found : Option Found) (c : Blocks) → Within kinds.If os found c
+  parts_set : (f : ℕ → ℕ) (place id at : ℕ) (others : ArmTrees) (end : List Card) (os : List Open) (found : Option Refusal) (c : Blocks) → Within kinds.If os found c
       → ShallowArms (suc (length os)) others → ((r : ℕ) (d : Blocks) → Within kinds.If os found d → Around os found (all_set f r end d))
       → Around os found (all_set f place (part_cards id at others end) c)
   parts_set f place id at no_arms end os found c w h e = e place c w
@@ -86,7 +86,7 @@ mutual
       (list_set f (place + 1) body d (top-unlabelled kinds.If os found d (λ l. refl) v) (shallow-at (v.top ∷ os) d.stack body (sym v.stack) h.below)))
       h.parts e)
 
-  else_set : (f : ℕ → ℕ) (place id : ℕ) (other : ElseTree) (os : List Open) (found : Option Found) (c : Blocks) → Within kinds.If os found c
+  else_set : (f : ℕ → ℕ) (place id : ℕ) (other : ElseTree) (os : List Open) (found : Option Refusal) (c : Blocks) → Within kinds.If os found c
       → ShallowElse (suc (length os)) other → Around os found (all_set f place (else_cards id other ++ card (parts.Close id) None end_if ∷ []) c)
   else_set f place id no_else os found c w h = close-if f place id os found c w
   else_set f place id (otherwise body) os found c w h =

@@ -1,39 +1,11 @@
 -- Blocks that show an outline: their lists reach over just the places of the GO TOs that are in them.
-use Rattle.std.proofs.Common.{◌≡◌, ℕ, suc, ◌+◌, ◌<◌, ◌≤◌, Bool, true, false, List, [], ◌∷◌, ◌++◌, length, nat_eq, nat_le, slice_get, slice_set, refl, sym, ap, ◌∙◌, subst, arith, ⊎_elim, le_refl}
-use Rattle.std.specs.Prelude.{Some, ◌||◌, ◌&&◌, if◌then◌else◌}
-use Rattle.std.specs.List.{list_any}
-use Rattle.std.proofs.lemmas.Option.{slice_get_past}
-use Rattle.std.proofs.lemmas.Bool.Decides.{eqb_tells, nat_tests}
+use Rattle.std.proofs.Common.{◌≡◌, ℕ, ◌+◌, ◌<◌, ◌≤◌, List, [], ◌∷◌, ◌++◌, length, arith}
 use Rattle.f77_structure.specs.declared.open.Open.{Open}
-use Rattle.f77_structure.specs.declared.open.End.{End}
-use Rattle.f77_structure.specs.declared.open.End.TheVariants as ends
 use Rattle.f77_structure.specs.declared.open.Span.{Span}
 use Rattle.f77_structure.specs.declared.blocks.Blocks.{Blocks}
 use Rattle.f77_structure.specs.declared.blocks.Jump.{Jump}
-use Rattle.f77_structure.specs.Opens.{contains}
-use Rattle.f77_structure.specs.Jumps.{contained_in, contained}
-use Rattle.roundtrip_modules.proofs.Places.{set-same, set-other, more-last, more-other, more-before}
+pub use Rattle.f77_structure.proofs.Shown.{path_of, has, Within, span, AreOpen, ended-before, ended-behind, begun-before, begun-behind, new-list, ended-open, begun-open}
 use Rattle.roundtrip_modules.proofs.Outlines.{Going, Outline}
-
--- the numbers of the open lists, the innermost first
-abbrev pub path_of : List Open → List ℕ
-path_of [] = 0 ∷ []
-path_of (o ∷ os) = o.list ∷ path_of os
-
-abbrev pub has : ℕ → List ℕ → Bool
-has k ks = list_any (λ x. nat_eq x k) ks
-
--- just these lists contain the place
-abbrev pub Within : List Span → ℕ → List ℕ → Type 0
-Within spans place ks = (k : ℕ) → contained spans k place ≡ has k ks
-
-abbrev pub span : ℕ → End → Span
-span from end = record { from = from; end = end }
-
--- the list of each open block is open, and that of no block around it
-abbrev pub AreOpen : List Span → List Open → Type 0
-AreOpen spans [] = Unit {0}
-AreOpen spans (o ∷ os) = record { own : slice_get spans o.list ≡ Some (span o.from ends.Open); other : has o.list (path_of os) ≡ false; outer : AreOpen spans os }
 
 -- the same GO TOs, before a place
 abbrev pub AreKept : ℕ → List Span → List Jump → List Going → Type 0
@@ -60,100 +32,6 @@ Before at b x = ShowsIn b.stack at at at b x
 abbrev pub Shows : ℕ → ℕ → Blocks → Outline → Type 0
 Shows at n b x = ShowsIn b.stack at n (at + 1) b x
 
--- ---- what lists contain
-
-pub same-or-not : {P : Type 0} (a b : ℕ) → (a ≡ b → nat_eq a b ≡ true → P) → ((a ≡ b → ⊥) → nat_eq a b ≡ false → P) → P
-same-or-not a b h e = ⊎_elim (λ t. h t.1 t.0) (λ t. e t.1 t.0) (eqb_tells a b)
-
--- a list that ends at a place contains what it did before, and nothing behind
-pub ended-before : (spans : List Span) (i from at q : ℕ) → slice_get spans i ≡ Some (span from ends.Open) → q ≤ at
-    → (k : ℕ) → contained (slice_set spans i (span from (ends.At at))) k q ≡ contained spans k q
-unfolding contains
-ended-before spans i from at q h l k =
-    same-or-not i k
-    (λ e t.
-    let P : ℕ → Type 0 = λ x. contained (slice_set spans i (span from (ends.At at))) x q ≡ contained spans x q in
-    let past : nat_le q at ≡ true = grind (arith, nat_tests) in
-    subst P e
-    (ap (λ x. contained_in x q) (set-same spans i (span from (ends.At at)) (span from ends.Open) h)
-    ∙ ap (λ v. nat_le from q && v) past
-    ∙ sym (ap (λ x. contained_in x q) h)))
-    (λ e t. ap (λ x. contained_in x q) (set-other spans i k (span from (ends.At at)) e))
-
-and-false : (v : Bool) → (v && false) ≡ false
-and-false true = refl
-and-false false = refl
-
-pub ended-behind : (spans : List Span) (i from at q : ℕ) (ks : List ℕ) → slice_get spans i ≡ Some (span from ends.Open) → at < q → has i ks ≡ false
-    → Within spans q (i ∷ ks) → Within (slice_set spans i (span from (ends.At at))) q ks
-unfolding contains
-ended-behind spans i from at q ks h l n w k =
-    same-or-not i k
-    (λ e t.
-    let P : ℕ → Type 0 = λ x. contained (slice_set spans i (span from (ends.At at))) x q ≡ has x ks in
-    let past : nat_le q at ≡ false = grind (arith, nat_tests) in
-    subst P e
-    (ap (λ x. contained_in x q) (set-same spans i (span from (ends.At at)) (span from ends.Open) h)
-    ∙ ap (λ v. nat_le from q && v) past
-    ∙ and-false (nat_le from q)
-    ∙ sym n))
-    (λ e t. ap (λ x. contained_in x q) (set-other spans i k (span from (ends.At at)) e) ∙ w k ∙ ap (λ v. v || has k ks) t)
-
--- no list that is yet to begin contains a place
-no-list : (spans : List Span) (q : ℕ) → contained spans (length spans) q ≡ false
-no-list spans q = ap (λ x. contained_in x q) (slice_get_past spans (length spans) (le_refl (length spans)))
-
--- a list that begins at a place contains nothing before it, and what comes then
-pub begun-before : (spans : List Span) (at q : ℕ) (ks : List ℕ) → q < at → Within spans q ks → Within (spans ++ span at ends.Open ∷ []) q ks
-unfolding contains
-begun-before spans at q ks l w k =
-    same-or-not (length spans) k
-    (λ e t.
-    let P : ℕ → Type 0 = λ x. contained (spans ++ span at ends.Open ∷ []) x q ≡ has x ks in
-    let early : nat_le at q ≡ false = grind (arith, nat_tests) in
-    subst P e
-    (ap (λ x. contained_in x q) (more-last spans (span at ends.Open))
-    ∙ ap (λ v. v && true) early
-    ∙ sym (no-list spans q)
-    ∙ w (length spans)))
-    (λ e t. ap (λ x. contained_in x q) (more-other spans k (span at ends.Open) e) ∙ w k)
-
-pub begun-behind : (spans : List Span) (at q : ℕ) (ks : List ℕ) → at ≤ q → Within spans q ks → Within (spans ++ span at ends.Open ∷ []) q (length spans ∷ ks)
-unfolding contains
-begun-behind spans at q ks l w k =
-    same-or-not (length spans) k
-    (λ e t.
-    let P : ℕ → Type 0 = λ x. contained (spans ++ span at ends.Open ∷ []) x q ≡ has x (length spans ∷ ks) in
-    let late : nat_le at q ≡ true = grind (arith, nat_tests) in
-    let own : nat_eq (length spans) (length spans) ≡ true = grind (arith, nat_tests) in
-    subst P e
-    (ap (λ x. contained_in x q) (more-last spans (span at ends.Open))
-    ∙ ap (λ v. v && true) late
-    ∙ sym (ap (λ v. v || has (length spans) ks) own)))
-    (λ e t. ap (λ x. contained_in x q) (more-other spans k (span at ends.Open) e) ∙ w k ∙ sym (ap (λ v. v || has k ks) t))
-
-pub new-list : (spans : List Span) (q : ℕ) (ks : List ℕ) → Within spans q ks → has (length spans) ks ≡ false
-new-list spans q ks w = sym (w (length spans)) ∙ no-list spans q
-
--- ---- what is open
-
-or-false : (v w : Bool) → (v || w) ≡ false → (v ≡ false) × (w ≡ false)
-or-false true w h = cc
-or-false false w h = (refl, h)
-
--- a list that no block has ends
-pub ended-open : (spans : List Span) (i : ℕ) (s : Span) (os : List Open) → AreOpen spans os → has i (path_of os) ≡ false → AreOpen (slice_set spans i s) os
-ended-open spans i s [] h n = tt
-ended-open spans i s (o ∷ os) h n =
-    let t = or-false (nat_eq o.list i) (has i (path_of os)) n in
-    let apart : i ≡ o.list → ⊥ = λ e. let own : nat_eq o.list i ≡ true = grind (arith, nat_tests, e) in absurd (cc (own, t.0)) in
-    record { own = set-other spans i o.list s apart ∙ h.own; other = h.other; outer = ended-open spans i s os h.outer t.1 }
-
-pub begun-open : (spans : List Span) (s : Span) (os : List Open) → AreOpen spans os → AreOpen (spans ++ s ∷ []) os
-begun-open spans s [] h = tt
-begun-open spans s (o ∷ os) h =
-    record { own = more-before spans o.list s (span o.from ends.Open) h.own; other = h.other; outer = begun-open spans s os h.outer }
-
 -- ---- the GO TOs
 
 -- where the lists contain what they did at the places before n
@@ -172,16 +50,3 @@ kept-more n spans [] (h ∷ gs) j g k l b w = absurd k
 kept-more n spans (i ∷ js) [] j g k l b w = absurd k
 kept-more n spans (i ∷ js) (h ∷ gs) j g k l b w =
     record { label = k.label; before = k.before; within = k.within; others = kept-more n spans js gs j g k.others l b w }
-
-pub kept-length : (n : ℕ) (spans : List Span) (js : List Jump) (gs : List Going) → AreKept n spans js gs → length js ≡ length gs
-kept-length n spans [] [] k = refl
-kept-length n spans [] (g ∷ gs) k = absurd k
-kept-length n spans (j ∷ js) [] k = absurd k
-kept-length n spans (j ∷ js) (g ∷ gs) k = ap suc (kept-length n spans js gs k.others)
-
-pub kept-if : (n : ℕ) (spans : List Span) (v w : Bool) (is js : List Jump) (fs gs : List Going) → v ≡ w → AreKept n spans is fs → AreKept n spans js gs
-    → AreKept n spans (if v then is else js) (if w then fs else gs)
-kept-if n spans true true is js fs gs e h k = h
-kept-if n spans false false is js fs gs e h k = k
-kept-if n spans true false is js fs gs e h k = absurd (cc e)
-kept-if n spans false true is js fs gs e h k = absurd (cc e)

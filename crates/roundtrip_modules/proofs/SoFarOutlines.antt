@@ -5,8 +5,8 @@ use Rattle.f77_ast.specs.Trees.{ExprTree, StmtTree, stmt, WhatTree, assign, bloc
 use Rattle.f77_ast.specs.PlainStmt.{stmts_of, arms_of}
 use Rattle.f77_statements.specs.Phrases.{PhraseTree, simple}
 use Rattle.f77_parser.specs.Roles.{action_of}
-use Rattle.f77_parser.specs.SoFar.{OpeningTree, opening_loop, branches, AroundTree, SoFar, with_spot, stated, conditioned, what_of, left_one}
-use Rattle.f77_parser.specs.Building.{closed_arms}
+use Rattle.f77_parser.specs.SoFar.{OpeningTree, opening_loop, branches, AroundTree, SoFar, add_spot, add_executable, add_logical_if, what_of, leave_block}
+use Rattle.f77_parser.specs.Building.{close_arm}
 use Rattle.roundtrip_statements.specs.Phrased.{IsWhat, IsPhrase}
 use Rattle.roundtrip_modules.proofs.Counted.{IsOpenIf}
 use Rattle.roundtrip_modules.proofs.Outlines.{Outline, nothing_outlined, lands, goes, begins, leaves}
@@ -47,14 +47,14 @@ whole label (branches arms None) l o = refl
 
 -- ---- each change of what is so far
 
-pub left-outline : (a : AroundTree) (xs : List AroundTree) (p : SoFar) → outline_so (left_one a xs p) ≡ leaves (outline_with (a ∷ xs) p)
+pub left-outline : (a : AroundTree) (xs : List AroundTree) (p : SoFar) → outline_so (leave_block a xs p) ≡ leaves (outline_with (a ∷ xs) p)
 left-outline a xs p =
     list-more a.before (stmt a.id a.label (what_of a.opening p.list)) (outline_around xs)
     ∙ whole a.label a.opening p.list (outline_in (stmts_of a.before) (outline_around xs))
 
 -- the list that a part of a block IF begins
 pub next-outline : (opening : OpeningTree) (l : List StmtTree) (test : Option ExprTree) (o : Outline) → IsOpenIf opening
-    → outline_opening (branches (closed_arms opening l) test) o ≡ begins (leaves (outline_in (stmts_of l) (outline_opening opening o)))
+    → outline_opening (branches (close_arm opening l) test) o ≡ begins (leaves (outline_in (stmts_of l) (outline_opening opening o)))
 next-outline (opening_loop d) l test o h = absurd h
 next-outline (branches arms None) l test o h = absurd h
 next-outline (branches arms (Some t)) l test o h = ap begins (arms-more arms t (stmts_of l) o)
@@ -82,11 +82,11 @@ phrase-alone (simple w) h = what-alone w h
 phrase-alone _ h = tt
 
 pub stated-outline : (f : ℕ) (label : Option ℕ) (cs : List (List ℕ)) (w : WhatTree) (p : SoFar) → StandsAlone (simple w)
-    → outline_so (stated f label cs w p) ≡ lands label (goes (action_of w) (outline_so p))
-unfolding stated with_spot
+    → outline_so (add_executable f label cs w p) ≡ lands label (goes (action_of w) (outline_so p))
+unfolding add_executable add_spot
 stated-outline f label cs w p h = list-more p.list (stmt _ label w) (outline_around p.around) ∙ h label (outline_so p)
 
 pub conditioned-outline : (f : ℕ) (label : Option ℕ) (cs : List (List ℕ)) (e : ExprTree) (w : WhatTree) (p : SoFar)
-    → outline_so (conditioned f label cs e w p) ≡ lands label (goes (action_of w) (outline_so p))
-unfolding conditioned with_spot
+    → outline_so (add_logical_if f label cs e w p) ≡ lands label (goes (action_of w) (outline_so p))
+unfolding add_logical_if add_spot
 conditioned-outline f label cs e w p = list-more p.list (stmt _ label (logical_if e (stmt _ None w))) (outline_around p.around)

@@ -5,8 +5,8 @@ use Rattle.f77_ast.specs.declared.places.Part.TheVariants as parts
 use Rattle.f77_ast.specs.Trees.{ExprTree, StmtTree, stmt, ArmTree, arm, loop, StmtTrees, no_stmts}
 use Rattle.f77_ast.specs.PlainStmt.{stmts_of, arms_of}
 use Rattle.f77_statements.specs.Phrases.{block_if, else_if, else_part, end_if, end_do}
-use Rattle.f77_parser.specs.SoFar.{OpeningTree, opening_loop, branches, AroundTree, SoFar, what_of, left_one}
-use Rattle.f77_parser.specs.Building.{closed_arms}
+use Rattle.f77_parser.specs.SoFar.{OpeningTree, opening_loop, branches, AroundTree, SoFar, what_of, leave_block}
+use Rattle.f77_parser.specs.Building.{close_arm}
 use Rattle.roundtrip_statements.specs.Formed.{Each}
 use Rattle.roundtrip_modules.specs.Cards.{Card, card, head_of, cards_of, block_cards, part_cards, cards_in}
 use Rattle.roundtrip_modules.proofs.Counted.{IsOpenIf}
@@ -105,7 +105,7 @@ next-another id label [] t body e = block-another id label t body [] e
 next-another id label (arm u b ∷ xs) t body e = block-another id label u b (xs ++ arm t body ∷ []) e
 
 pub part-another : (id : ℕ) (label : Option ℕ) (o : OpeningTree) (l : List StmtTree) (e : ExprTree) → IsOpenIf o
-    → Another id (open_cards id label o ++ cards_in (stmts_of l)) (open_cards id label (branches (closed_arms o l) (Some e))) e
+    → Another id (open_cards id label o ++ cards_in (stmts_of l)) (open_cards id label (branches (close_arm o l) (Some e))) e
 part-another id label (opening_loop d) l e h = absurd h
 part-another id label (branches arms None) l e h = absurd h
 part-another id label (branches arms (Some t)) l e h =
@@ -118,7 +118,7 @@ part-another id label (branches arms (Some t)) l e h =
 
 -- or ELSE begins the last
 pub part-last : (id : ℕ) (label : Option ℕ) (o : OpeningTree) (l : List StmtTree) → IsOpenIf o
-    → open_cards id label (branches (closed_arms o l) None) ≡ open_cards id label o ++ cards_in (stmts_of l) ++ card (parts.Else id) None else_part ∷ []
+    → open_cards id label (branches (close_arm o l) None) ≡ open_cards id label o ++ cards_in (stmts_of l) ++ card (parts.Else id) None else_part ∷ []
 part-last id label (opening_loop d) l h = absurd h
 part-last id label (branches arms None) l h = absurd h
 part-last id label (branches arms (Some t)) l h =
@@ -126,7 +126,7 @@ part-last id label (branches arms (Some t)) l h =
     block-cards id label arms t (stmts_of l) c
     ∙ sym (append_assoc (open_cards id label (branches arms (Some t))) (cards_in (stmts_of l)) c)
 
-pub last-started : (o : OpeningTree) (l : List StmtTree) → IsOpenIf o → IsStarted (branches (closed_arms o l) None)
+pub last-started : (o : OpeningTree) (l : List StmtTree) → IsOpenIf o → IsStarted (branches (close_arm o l) None)
 last-started (opening_loop d) l h = absurd h
 last-started (branches arms None) l h = absurd h
 last-started (branches [] (Some t)) l h = tt
@@ -150,7 +150,7 @@ regroup : (a b o l c : List Card) → a ++ (b ++ (o ++ (l ++ c))) ≡ a ++ b ++ 
 regroup a b o l c = simp append_assoc
 
 pub left-cards : (a : AroundTree) (os : List AroundTree) (p : SoFar) → IsStarted a.opening
-    → executed (left_one a os p) ≡ around_cards (a ∷ os) ++ cards_in (stmts_of p.list) ++ close_of a.id a.opening ∷ []
+    → executed (leave_block a os p) ≡ around_cards (a ∷ os) ++ cards_in (stmts_of p.list) ++ close_of a.id a.opening ∷ []
 left-cards a os p h =
     let x = around_cards os in let before = cards_in (stmts_of a.before) in
     ap (λ cs. x ++ cs) (list-cards a.before (stmt a.id a.label (what_of a.opening p.list)))

@@ -1,8 +1,8 @@
 -- A fault that is found stays: without one at the end there is none before.
 use Rattle.std.proofs.Common.{◌≡◌, ℕ, ◌+◌, Bool, true, false, List, [], ◌∷◌, refl, sym, ap, ◌∙◌}
 use Rattle.std.specs.Prelude.{Option, Some, None, not, if◌then◌else◌}
-use Rattle.f77_structure.specs.declared.fault.Found.{Found}
-use Rattle.f77_structure.specs.declared.fault.Fault.TheVariants.{LabelMissing, JumpIntoBlock}
+use Rattle.refusal_codes.specs.declared.refusal.Refusal.{Refusal}
+use Rattle.refusal_codes.specs.declared.code.Code.TheVariants.{LabelMissing, JumpIntoBlock}
 use Rattle.f77_structure.specs.declared.mark.Role.{Role}
 use Rattle.f77_structure.specs.declared.mark.Role.TheVariants.{Program, Subroutine, Specification, Plain, LogicalIf, BlockIf, ElseIf, Else, EndIf, Do, EndDo, End}
 use Rattle.f77_structure.specs.declared.mark.Mark.{Mark}
@@ -12,15 +12,17 @@ use Rattle.f77_structure.specs.declared.open.Span.{Span}
 use Rattle.f77_structure.specs.declared.blocks.Blocks.{Blocks}
 use Rattle.f77_structure.specs.declared.blocks.Landing.{Landing}
 use Rattle.f77_structure.specs.declared.blocks.Jump.{Jump}
-use Rattle.f77_structure.specs.Faults.{noted}
+use Rattle.refusal_codes.specs.Refusals.{refuse_if}
 use Rattle.f77_structure.specs.Lists.{first_of}
 use Rattle.f77_structure.specs.Opens.{within_if, within_do}
 use Rattle.f77_structure.specs.Blocks.{landed, stood, jumped}
 use Rattle.f77_structure.specs.Terminals.{spoiled_by}
 use Rattle.f77_structure.specs.Steps.{by_role, stepped, all_stepped, blocks_of}
-use Rattle.f77_structure.specs.Jumps.{stands, reaches, judged, all_judged}
+use Rattle.f77_structure.specs.Jumps.{stands, reaches, judged, all_judged, block_fault}
 use Rattle.f77_structure.specs.Order.{order_of}
-use Rattle.f77_structure.specs.Checks.{first_fault, block_fault, fault_of}
+use Rattle.f77_structure.specs.First.{first_fault}
+use Rattle.f77_structure.specs.Checks.{fault_of}
+use Rattle.f77_structure.proofs.AsCode.{as_code}
 use Rattle.roundtrip_modules.proofs.Calm.{true-false, noted-none, down-found, part-found, ended-found, entered-calm, stood-found, jumped-found, landed-found, spoiled-calm}
 
 role-found : (role : Role) (label : Option ℕ) (line : ℕ) (b : Blocks) → (by_role role label line b).found ≡ None → b.found ≡ None
@@ -54,22 +56,21 @@ pub all-found : (place : ℕ) (ms : List Mark) (b : Blocks) → (all_stepped pla
 all-found place [] b h = h
 all-found place (m ∷ ms) b h = (step-calm place m b (all-found (place + 1) ms (stepped place m b) h)).before
 
-judged-by : (s r : Bool) (line : ℕ) (found : Option Found)
-    → (if s then noted (not r) line JumpIntoBlock found else noted true line LabelMissing found) ≡ None → found ≡ None
+judged-by : (s r : Bool) (line : ℕ) (found : Option Refusal)
+    → (if s then refuse_if (not r) line JumpIntoBlock found else refuse_if true line LabelMissing found) ≡ None → found ≡ None
 judged-by true r line found h = (noted-none _ _ _ _ h).1
 judged-by false r line found h = (noted-none _ _ _ _ h).1
 
-pub judged-found : (spans : List Span) (landings : List Landing) (js : List Jump) (found : Option Found) → all_judged spans landings js found ≡ None → found ≡ None
+pub judged-found : (spans : List Span) (landings : List Landing) (js : List Jump) (found : Option Refusal) → all_judged spans landings js found ≡ None → found ≡ None
 judged-found spans landings [] found h = h
 judged-found spans landings (j ∷ js) found h =
     judged-by (stands landings j.label) (reaches spans landings j) j.line found (judged-found spans landings js (judged spans landings j found) h)
 
-first-none : (a b : Option Found) → first_fault a b ≡ None → (a ≡ None) × (b ≡ None)
+first-none : (a b : Option Refusal) → first_fault a b ≡ None → (a ≡ None) × (b ≡ None)
 first-none None b h = (refl, h)
 first-none (Some f) b h = absurd (true-false (noted-none true _ _ _ h).0)
 
 pub no-fault : (ms : List Mark) → fault_of ms ≡ None → (order_of ms ≡ None) × (block_fault (blocks_of ms) ≡ None) × ((blocks_of ms).found ≡ None)
-unfolding fault_of
 no-fault ms h =
-    let f = first-none (order_of ms) (block_fault (blocks_of ms)) h in let b = blocks_of ms in
+    let f = first-none (order_of ms) (block_fault (blocks_of ms)) (as_code ms ∙ h) in let b = blocks_of ms in
     (f.0, f.1, judged-found b.spans b.landings b.jumps b.found f.1)

@@ -10,14 +10,14 @@ use Rattle.f77_structure.specs.declared.mark.Action.{Action}
 use Rattle.f77_structure.specs.declared.mark.Role.{Role}
 use Rattle.f77_structure.specs.declared.mark.Role.TheVariants as roles
 use Rattle.f77_structure.specs.declared.mark.Mark.{Mark}
-use Rattle.f77_structure.specs.declared.fault.Fault.{Fault}
-use Rattle.f77_structure.specs.declared.fault.Fault.TheVariants.{TooDeep, BadTerminal}
-use Rattle.f77_structure.specs.declared.fault.Found.{Found}
+use Rattle.refusal_codes.specs.declared.code.Code.{Code}
+use Rattle.refusal_codes.specs.declared.code.Code.TheVariants.{TooDeep, BadTerminal}
+use Rattle.refusal_codes.specs.declared.refusal.Refusal.{Refusal}
 use Rattle.f77_structure.specs.declared.open.Kind.{Kind}
 use Rattle.f77_structure.specs.declared.open.Kind.TheVariants as kinds
 use Rattle.f77_structure.specs.declared.open.Open.{Open}
 use Rattle.f77_structure.specs.declared.blocks.Blocks.{Blocks}
-use Rattle.f77_structure.specs.Faults.{noted}
+use Rattle.refusal_codes.specs.Refusals.{refuse_if}
 use Rattle.f77_structure.specs.Lists.{first_of}
 use Rattle.f77_structure.specs.Opens.{ends_at, can_spoil}
 use Rattle.f77_structure.specs.Blocks.{left, left_one, ended_by, opened, pushed, entered, landed, ended_at, stood, jumped}
@@ -74,9 +74,9 @@ run-stays : (l : ℕ) (os : List Open) → ends_one l (first_of os) ≡ false �
 run-stays l [] h = refl
 run-stays l (o ∷ os) h = ap (λ v. if v then spoiled o ∷ spoiled_run l os else o ∷ os) h
 
-noted-not : (w : Bool) (line : ℕ) (f : Fault) (found : Option Found) → w ≡ false → noted w line f found ≡ found
-unfolding noted
-noted-not w line f found h = ap (λ v. noted v line f found) h
+noted-not : (w : Bool) (line : ℕ) (f : Code) (found : Option Refusal) → w ≡ false → refuse_if w line f found ≡ found
+unfolding refuse_if
+noted-not w line f found h = ap (λ v. refuse_if v line f found) h
 
 spoil-stays : (l line : ℕ) (b : Blocks) → Unlabelled b.stack → Stays b (spoil l line b)
 spoil-stays l line b u =
@@ -120,14 +120,14 @@ within-set f place id label e (stmt inner own w) b u =
 -- ---- blocks
 
 -- a block of this kind is open in these
-pub record Within (k : Kind) (os : List Open) (found : Option Found) (c : Blocks) : Type 0 where
+pub record Within (k : Kind) (os : List Open) (found : Option Refusal) (c : Blocks) : Type 0 where
   pub top : Open
   pub kind : top.kind ≡ k
   pub stack : c.stack ≡ top ∷ os
   pub same : c.found ≡ found
 
 -- these are open, and this is found
-pub record Around (os : List Open) (found : Option Found) (c : Blocks) : Type 0 where
+pub record Around (os : List Open) (found : Option Refusal) (c : Blocks) : Type 0 where
   pub stack : c.stack ≡ os
   pub same : c.found ≡ found
 
@@ -137,7 +137,7 @@ enters k role label line place b p u room =
     let c = spoiled_by role label line (record b { place = place }) in let d = landed label c in
     let s = spoiled-stays role label line (record b { place = place }) p u in
     let e : d.stack ≡ b.stack = landed-stack label c ∙ s.stack in
-    let at = record d { found = noted (nat_le 64 (length d.stack)) line TooDeep d.found } in
+    let at = record d { found = refuse_if (nat_le 64 (length d.stack)) line TooDeep d.found } in
     record {
       top = opened k line at;
       kind = refl;
@@ -146,11 +146,11 @@ enters k role label line place b p u room =
     }
 
 -- the blocks with the innermost one of this kind, as it is
-literal : (k : Kind) (os : List Open) (found : Option Found) (place : ℕ) (c : Blocks) (w : Within k os found c)
+literal : (k : Kind) (os : List Open) (found : Option Refusal) (place : ℕ) (c : Blocks) (w : Within k os found c)
     → record c { place = place; stack = record w.top { kind = k } ∷ os } ≡ record c { place = place }
 literal k os found place c w = ap (λ s. record c { place = place; stack = s }) (ap (λ q. record w.top { kind = q } ∷ os) (sym w.kind) ∙ sym w.stack)
 
-ends : (role : Role) (k : Kind) (os : List Open) (found : Option Found) (line place : ℕ) (c : Blocks) (w : Within k os found c)
+ends : (role : Role) (k : Kind) (os : List Open) (found : Option Refusal) (line place : ℕ) (c : Blocks) (w : Within k os found c)
     → (let at = record c { place = place; stack = record w.top { kind = k } ∷ os } in ((by_role role None line at).stack ≡ os) × ((by_role role None line at).found ≡ c.found))
     → Around os found (by_role role None line (record c { place = place }))
 ends role k os found line place c w h =
@@ -159,19 +159,19 @@ ends role k os found line place c w h =
       same = sym (ap (λ x. (by_role role None line x).found) e) ∙ h.1 ∙ w.same;
     }
 
-pub close-do : (f : ℕ → ℕ) (place id : ℕ) (os : List Open) (found : Option Found) (c : Blocks) → Within (kinds.Do None) os found c → Around os found (all_set f place (card (parts.Close id) None end_do ∷ []) c)
+pub close-do : (f : ℕ → ℕ) (place id : ℕ) (os : List Open) (found : Option Refusal) (c : Blocks) → Within (kinds.Do None) os found c → Around os found (all_set f place (card (parts.Close id) None end_do ∷ []) c)
 unfolding stepped stood
 close-do f place id os found c w = ends roles.EndDo (kinds.Do None) os found (f place) place c w (refl, refl)
 
-pub close-if : (f : ℕ → ℕ) (place id : ℕ) (os : List Open) (found : Option Found) (c : Blocks) → Within kinds.If os found c → Around os found (all_set f place (card (parts.Close id) None end_if ∷ []) c)
+pub close-if : (f : ℕ → ℕ) (place id : ℕ) (os : List Open) (found : Option Refusal) (c : Blocks) → Within kinds.If os found c → Around os found (all_set f place (card (parts.Close id) None end_if ∷ []) c)
 unfolding stepped stood
 close-if f place id os found c w = ends roles.EndIf kinds.If os found (f place) place c w (refl, refl)
 
-pub close-else : (f : ℕ → ℕ) (place id : ℕ) (os : List Open) (found : Option Found) (c : Blocks) → Within kinds.Else os found c → Around os found (all_set f place (card (parts.Close id) None end_if ∷ []) c)
+pub close-else : (f : ℕ → ℕ) (place id : ℕ) (os : List Open) (found : Option Refusal) (c : Blocks) → Within kinds.Else os found c → Around os found (all_set f place (card (parts.Close id) None end_if ∷ []) c)
 unfolding stepped stood
 close-else f place id os found c w = ends roles.EndIf kinds.Else os found (f place) place c w (refl, refl)
 
-pub next-if : (f : ℕ → ℕ) (place : ℕ) (part : Part) (t : ExprTree) (os : List Open) (found : Option Found) (c : Blocks) → Within kinds.If os found c
+pub next-if : (f : ℕ → ℕ) (place : ℕ) (part : Part) (t : ExprTree) (os : List Open) (found : Option Refusal) (c : Blocks) → Within kinds.If os found c
     → Within kinds.If os found (stepped place (mark_at f place (card part None (else_if t))) c)
 unfolding stepped
 next-if f place part t os found c w =
@@ -183,7 +183,7 @@ next-if f place part t os found c w =
       same = sym (ap (λ x. (by_role roles.ElseIf None (f place) x).found) e) ∙ w.same;
     }
 
-pub next-else : (f : ℕ → ℕ) (place : ℕ) (part : Part) (os : List Open) (found : Option Found) (c : Blocks) → Within kinds.If os found c
+pub next-else : (f : ℕ → ℕ) (place : ℕ) (part : Part) (os : List Open) (found : Option Refusal) (c : Blocks) → Within kinds.If os found c
     → Within kinds.Else os found (stepped place (mark_at f place (card part None else_part)) c)
 unfolding stepped
 next-else f place part os found c w =

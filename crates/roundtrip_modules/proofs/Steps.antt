@@ -14,7 +14,7 @@ use Rattle.f77_structure.specs.Steps.{by_role, stepped, all_stepped, nothing_ope
 use Rattle.f77_parser.specs.Roles.{role_of}
 use Rattle.f77_parser.specs.Statements.{StatementTree, mark_of, marks_of}
 use Rattle.f77_parser.specs.SoFar.{AroundTree, SoFar}
-use Rattle.f77_parser.specs.Building.{with_statement, all_stated, nothing_stated, built}
+use Rattle.f77_parser.specs.Building.{add_statement, add_all, no_statements, build_module}
 use Rattle.roundtrip_statements.specs.Formed.{Each}
 use Rattle.roundtrip_modules.specs.Cards.{Card, card, cards_in, title_of, title_cards, decl_cards, statements_of}
 use Rattle.roundtrip_modules.specs.Shallow.{AreShallow}
@@ -29,24 +29,24 @@ use Rattle.roundtrip_modules.proofs.Setting.{set-append, list_set}
 -- ---- what was read
 
 all-nest : (ss : List StatementTree) (place : ℕ) (p : SoFar) (b : Blocks) → Each IsStatement ss → Goes p b → Nests p → (all_stepped place (marks_of ss) b).found ≡ None
-    → Nests (all_stated ss p)
+    → Nests (add_all ss p)
 all-nest [] place p b i g n h = n
 all-nest (s ∷ ss) place p b i g n h =
     let next = stepped place (mark_of s) b in
     let e = all-found (place + 1) (marks_of ss) next h in
     let c = step-calm place (mark_of s) b e in
-    all-nest ss (place + 1) (with_statement s p) next i.others (one-goes s place p b i.first g e)
+    all-nest ss (place + 1) (add_statement s p) next i.others (one-goes s place p b i.first g e)
     (phrase-nests s.first s.label s.comments s.phrase s.first p (record b { place = place }) i.first g.matched (sym (ap (λ x. x.found) c.same) ∙ e) n) h
 
 pub built_nested : BuiltNested
-unfolding built
+unfolding build_module
 built_nested closing begun s e i h =
     let ss = begun ++ s ∷ [] in
     let f = (no-fault (marks_of ss) h).2 in
-    let n = all-nest ss 0 nothing_stated nothing_open i nothing-goes (record { around = tt; list = tt }) f in
-    let p = all_stated ss nothing_stated in
+    let n = all-nest ss 0 no_statements nothing_open i nothing-goes (record { around = tt; list = tt }) f in
+    let p = add_all ss no_statements in
     let P : List AroundTree → Type 0 = λ xs. AreShallow (length xs) (stmts_of p.list) in
-    subst P (all-closed begun s 0 nothing_stated nothing_open e i nothing-goes f) n.list
+    subst P (all-closed begun s 0 no_statements nothing_open e i nothing-goes f) n.list
 
 -- ---- what is written, at the lines of statements
 

@@ -9,7 +9,7 @@ use Rattle.f77_ast.specs.DeclTrees.{DeclTree}
 use Rattle.f77_ast.specs.PlainStmt.{stmts_of, arms_of}
 use Rattle.f77_statements.specs.Phrases.{simple, end_do, end_if, DoTree}
 use Rattle.f77_parser.specs.declared.progress.Heading.{Heading}
-use Rattle.f77_parser.specs.SoFar.{SoFar, AroundTree, OpeningTree, opening_loop, branches, with_spot, stated, conditioned, entered, ended_by}
+use Rattle.f77_parser.specs.SoFar.{SoFar, AroundTree, OpeningTree, opening_loop, branches, add_spot, add_executable, add_logical_if, open_block, leave_loops}
 use Rattle.roundtrip_modules.specs.Cards.{Card, card, cards_of, cards_by, part_cards, else_cards, cards_in, within}
 use Rattle.roundtrip_modules.specs.Numbered.{last_of, last_by, last_in, last_arms, last_else, IsInner, IsNumbered, NumberedBelow, NumberedArms, NumberedElse, AreNumbered}
 use Rattle.roundtrip_modules.proofs.Bare.{bare, all_made, all_made-append}
@@ -21,7 +21,7 @@ so h ds n list around = record { heading = h; decls = ds; count = n; spots = [];
 
 -- no label ends a DO: the innermost has none
 abbrev pub Keeps : List AroundTree → Type 0
-Keeps a = (l : ℕ) (p : SoFar) → ended_by l a p ≡ p
+Keeps a = (l : ℕ) (p : SoFar) → leave_loops l a p ≡ p
 
 -- an open block
 abbrev pub block : ℕ → Option ℕ → List StmtTree → OpeningTree → AroundTree
@@ -37,20 +37,20 @@ Ends h ds n a own label before end N other = (l : List StmtTree) (done : List Ar
 
 simply : (h : Heading) (ds : List DeclTree) (n : ℕ) (l : List StmtTree) (a : List AroundTree) (part : Part) (id : ℕ) (label : Option ℕ) (w : WhatTree)
     → Keeps a → id ≡ n + 1 → all_made (card part label (simple w) ∷ []) (so h ds n l a) ≡ so h ds (n + 1) (l ++ stmt id label w ∷ []) a
-unfolding with_spot stated
+unfolding add_spot add_executable
 simply h ds n l a part id None w k i = ap (λ x. so h ds (n + 1) (l ++ stmt x None w ∷ []) a) (sym i)
 simply h ds n l a part id (Some m) w k i =
-    ap bare (k m (stated 0 (Some m) [] w (so h ds n l a))) ∙ ap (λ x. so h ds (n + 1) (l ++ stmt x (Some m) w ∷ []) a) (sym i)
+    ap bare (k m (add_executable 0 (Some m) [] w (so h ds n l a))) ∙ ap (λ x. so h ds (n + 1) (l ++ stmt x (Some m) w ∷ []) a) (sym i)
 
 conditioned-made : (h : Heading) (ds : List DeclTree) (n : ℕ) (l : List StmtTree) (a : List AroundTree) (id : ℕ) (label : Option ℕ) (e : ExprTree) (s : StmtTree)
     → Keeps a → id ≡ n + 1 → IsInner (n + 1) s → all_made (within id label e s ∷ []) (so h ds n l a) ≡ so h ds (n + 1 + 1) (l ++ stmt id label (trees.logical_if e s) ∷ []) a
-unfolding with_spot conditioned
+unfolding add_spot add_logical_if
 conditioned-made h ds n l a id None e (stmt inner lab w) k i b =
     ap (λ x. so h ds (n + 1 + 1) (l ++ stmt x None (trees.logical_if e (stmt (n + 1 + 1) None w)) ∷ []) a) (sym i)
     ∙ ap (λ x. so h ds (n + 1 + 1) (l ++ stmt id None (trees.logical_if e (stmt x None w)) ∷ []) a) (sym b.number)
     ∙ ap (λ x. so h ds (n + 1 + 1) (l ++ stmt id None (trees.logical_if e (stmt inner x w)) ∷ []) a) (sym b.bare)
 conditioned-made h ds n l a id (Some m) e (stmt inner lab w) k i b =
-    ap bare (k m (conditioned 0 (Some m) [] e w (so h ds n l a)))
+    ap bare (k m (add_logical_if 0 (Some m) [] e w (so h ds n l a)))
     ∙ ap (λ x. so h ds (n + 1 + 1) (l ++ stmt x (Some m) (trees.logical_if e (stmt (n + 1 + 1) None w)) ∷ []) a) (sym i)
     ∙ ap (λ x. so h ds (n + 1 + 1) (l ++ stmt id (Some m) (trees.logical_if e (stmt x None w)) ∷ []) a) (sym b.number)
     ∙ ap (λ x. so h ds (n + 1 + 1) (l ++ stmt id (Some m) (trees.logical_if e (stmt inner x w)) ∷ []) a) (sym b.bare)
@@ -58,7 +58,7 @@ conditioned-made h ds n l a id (Some m) e (stmt inner lab w) k i b =
 -- ---- statements with statements in them
 
 mutual
-  unfolding with_spot entered
+  unfolding add_spot open_block
 
   pub stmt_back : (h : Heading) (ds : List DeclTree) (n : ℕ) (l : List StmtTree) (a : List AroundTree) (s : StmtTree)
       → Keeps a → IsNumbered n s → all_made (cards_of s) (so h ds n l a) ≡ so h ds (last_of n s) (l ++ s ∷ []) a

@@ -10,8 +10,8 @@ use Rattle.f77_exprs.specs.Lexical.{name_at, label_at, digit_first, skip_digits,
 use Rattle.f77_exprs.specs.Grammar.{expression, variable}
 use Rattle.f77_forms.specs.declared.form.FormId.{FormId}
 use Rattle.f77_forms.specs.declared.form.FormId.TheVariants as forms
-use Rattle.f77_statements.specs.Lists.{items_left, maybe_enclosed, maybe_listed}
-use Rattle.f77_statements.specs.Executables.{assignment, call_statement, goto_statement, continue_statement, return_statement, five_digits, message, stop_text, stop_statement, print_statement, written, write_statement, read_listed, read_left, read_statement}
+use Rattle.f77_statements.specs.Lists.{items_left, maybe_in_parentheses, maybe_after_comma}
+use Rattle.f77_statements.specs.Executables.{assignment, call_statement, goto_statement, continue_statement, return_statement, five_digits, message, stop_text, stop_statement, print_statement, write_list, write_statement, read_listed, read_left, read_statement}
 use Rattle.f77_statements.specs.Statements.{what_by}
 use Rattle.f77_printer.specs.ExprText.{expr_text, doubled}
 use Rattle.f77_printer.specs.StatementText.{actuals_text, message_text, what_text}
@@ -43,7 +43,7 @@ unfolding call_statement
 call-even n s h =
     then_word (codes "CALL") s _ n n (Level what_text n) h
     (λ r i. then_read name_at (Level (λ x. x)) _ (record s { rest = r }) n n (Level what_text n) name-even i
-    (λ f x j. then_read (maybe_enclosed expression) (Wrapped (Level expr_text)) _ f.1 n n (Level what_text n) (maybe_enclosed-even expression (Level expr_text) expression_even) j
+    (λ f x j. then_read (maybe_in_parentheses expression) (Wrapped (Level expr_text)) _ f.1 n n (Level what_text n) (maybe_enclosed-even expression (Level expr_text) expression_even) j
     (λ es y k. (join (join (plain n (codes "CALL ") refl) x) (actuals-leads n es.0 y), k))))
 
 goto-even : Even goto_statement (Level what_text)
@@ -113,11 +113,11 @@ print-even : Even print_statement (Level what_text)
 unfolding print_statement
 print-even n s h =
     then_word (codes "PRINT*") s _ n n (Level what_text n) h
-    (λ r i. then_read (maybe_listed expression) (λ m. Each (Level expr_text m)) _ (record s { rest = r }) n n (Level what_text n) (maybe_listed-even expression (Level expr_text) expression_even) i
+    (λ r i. then_read (maybe_after_comma expression) (λ m. Each (Level expr_text m)) _ (record s { rest = r }) n n (Level what_text n) (maybe_listed-even expression (Level expr_text) expression_even) i
     (λ es x j. (print-text n es.0 x, j)))
 
-written-even : Even written (Level what_text)
-unfolding written
+written-even : Even write_list (Level what_text)
+unfolding write_list
 written-even n s h =
     then_read (items_left expression) (λ m. Each (Level expr_text m)) _ s n n (Level what_text n) (items_left-even expression (Level expr_text) expression_even) h (λ es x i. (print-text n es.0 x, i))
 
@@ -125,13 +125,13 @@ written-even n s h =
 write-even : Even write_statement (Level what_text)
 unfolding write_statement
 write-even n s h =
-    else_word (codes "WRITE(*,*)") s written _ n n (Level what_text n) h (λ r i. written-even n (record s { rest = r }) (closed n r (opened n (codes "*,*)" ++ r) i)))
-    (else_word (codes "WRITE(6,*)") s written None n n (Level what_text n) h (λ r i. written-even n (record s { rest = r }) (closed n r (opened n (codes "6,*)" ++ r) i))) tt)
+    else_word (codes "WRITE(*,*)") s write_list _ n n (Level what_text n) h (λ r i. written-even n (record s { rest = r }) (closed n r (opened n (codes "*,*)" ++ r) i)))
+    (else_word (codes "WRITE(6,*)") s write_list None n n (Level what_text n) h (λ r i. written-even n (record s { rest = r }) (closed n r (opened n (codes "6,*)" ++ r) i))) tt)
 
 listed-even : Even read_listed (Level what_text)
 unfolding read_listed
 listed-even n s h =
-    then_read (maybe_listed variable) (λ m. Each (Level expr_text m)) _ s n n (Level what_text n) (maybe_listed-even variable (Level expr_text) variable_even) h (λ es x i. (read-text n es.0 x, i))
+    then_read (maybe_after_comma variable) (λ m. Each (Level expr_text m)) _ s n n (Level what_text n) (maybe_listed-even variable (Level expr_text) variable_even) h (λ es x i. (read-text n es.0 x, i))
 
 left-even : Even read_left (Level what_text)
 unfolding read_left

@@ -6,14 +6,14 @@ use Rattle.f77_ast.specs.declared.places.Part.TheVariants as parts
 use Rattle.f77_ast.specs.DeclTrees.{DeclTree, ModuleTree}
 use Rattle.f77_ast.specs.PlainStmt.{stmts_of}
 use Rattle.f77_statements.specs.Phrases.{program, subroutine, specification, end_module}
-use Rattle.f77_structure.specs.declared.fault.Fault.{Fault}
-use Rattle.f77_structure.specs.declared.fault.Fault.TheVariants.{StrayPart, LabelTwice, TooManyStatements, TooDeep}
-use Rattle.f77_structure.specs.declared.fault.Found.{Found}
+use Rattle.refusal_codes.specs.declared.code.Code.{Code}
+use Rattle.refusal_codes.specs.declared.code.Code.TheVariants.{StrayPart, LabelTwice, TooManyStatements, TooDeep}
+use Rattle.refusal_codes.specs.declared.refusal.Refusal.{Refusal}
 use Rattle.f77_structure.specs.declared.mark.Role.{Role}
 use Rattle.f77_structure.specs.declared.mark.Role.TheVariants.{Program, Subroutine, Specification, Plain, LogicalIf, BlockIf, ElseIf, Else, EndIf, Do, EndDo, End}
 use Rattle.f77_structure.specs.declared.mark.Mark.{Mark}
 use Rattle.f77_structure.specs.declared.order.Order.{Order}
-use Rattle.f77_structure.specs.Faults.{noted}
+use Rattle.refusal_codes.specs.Refusals.{refuse_if}
 use Rattle.f77_structure.specs.Marks.{statements_in, returns_in}
 use Rattle.f77_structure.specs.Order.{is_main_after, is_out_of_order, has_label, labelled, passes_most, counted, ordered, all_ordered, nothing_ordered}
 use Rattle.f77_structure.specs.Steps.{nothing_open}
@@ -21,7 +21,7 @@ use Rattle.f77_structure.specs.Checks.{fault_of}
 use Rattle.f77_parser.specs.Roles.{role_of}
 use Rattle.f77_parser.specs.Statements.{StatementTree, marks_of}
 use Rattle.f77_parser.specs.SoFar.{SoFar}
-use Rattle.f77_parser.specs.Building.{all_stated, nothing_stated, built}
+use Rattle.f77_parser.specs.Building.{add_all, no_statements, build_module}
 use Rattle.roundtrip_statements.specs.Formed.{Each}
 use Rattle.roundtrip_modules.specs.Cards.{Card, card, cards_in, title_cards, decl_cards, statements_of}
 use Rattle.roundtrip_modules.specs.ModuleLaws.{Labelled, of_statement, of_card, IsStatement}
@@ -59,9 +59,9 @@ Clear cs o = (ns : List ℕ) → (all_ordered (marks_at ns (map of_card cs)) o).
 
 -- ---- nothing is noted
 
-unnoted : (w : Bool) (line : ℕ) (f : Fault) (found : Option Found) → w ≡ false → found ≡ None → noted w line f found ≡ None
-unfolding noted
-unnoted w line f found e h = ap (λ v. noted v line f found) e ∙ h
+unnoted : (w : Bool) (line : ℕ) (f : Code) (found : Option Refusal) → w ≡ false → found ≡ None → refuse_if w line f found ≡ None
+unfolding refuse_if
+unnoted w line f found e h = ap (λ v. refuse_if v line f found) e ∙ h
 
 and-false : (v w : Bool) → w ≡ false → (v && w) ≡ false
 and-false true w e = e
@@ -113,7 +113,7 @@ onward-by : (label : Option ℕ) (m : Mark) (o : Order) (rest : List ℕ) (k : �
     → m.deep ≡ false → is_out_of_order o.begun o.main o.count m.role ≡ false → o.found ≡ None → Onward m o (counted m (labelled m.line label o)) rest k
 onward-by None m o rest k a f d r h = record { new = a; few = omega arith; main = refl; found = counts-found m o d (omega arith) r h }
 onward-by (Some l) m o rest k a f d r h =
-    let e = unnoted (nat_le o.count 4096 && has_label l o.labels) m.line LabelTwice o.found (and-false (nat_le o.count 4096) (has_label l o.labels) a.new) h in
+    let e = unnoted (has_label l o.labels) m.line LabelTwice o.found a.new h in
     record { new = a.others; few = omega arith; main = refl; found = counts-found m (labelled m.line (Some l) o) d (omega arith) r e }
 
 -- what stands behind the heading and the specifications
@@ -169,7 +169,7 @@ decls-clear place (d ∷ ds) rest main f o b (n ∷ ns) = decls-clear (place + 1
 
 title-clear : (m : ModuleTree) (main titled : Bool) (rest : List Card) → Follows main rest
     → Clear ((if titled || not main then card parts.Title None (if main then program m.name else subroutine m.name m.dummies) ∷ [] else []) ++ rest) nothing_ordered
-unfolding ordered noted
+unfolding ordered refuse_if
 title-clear m true true rest f [] = refl
 title-clear m true true rest f (n ∷ ns) = f _ (record { same = refl; count = refl; labels = refl; found = refl }) ns
 title-clear m true false rest f ns = f nothing_ordered (record { same = refl; count = refl; labels = refl; found = refl }) ns
@@ -203,30 +203,30 @@ body-follows p o e r at b =
 
 -- a module that is read has at most 4,096 statements
 pub few_stand : (closing : List (List ℕ)) (begun : List StatementTree) (s : StatementTree) → s.phrase ≡ end_module → Each IsStatement (begun ++ s ∷ []) → fault_of (marks_of (begun ++ s ∷ [])) ≡ None
-    → count_of (cards_in (built closing (begun ++ s ∷ [])).module_read.body) ≤ 4096
-unfolding built
+    → count_of (cards_in (build_module closing (begun ++ s ∷ [])).module_read.body) ≤ 4096
+unfolding build_module
 few_stand closing begun s e i h =
     let read = begun ++ s ∷ [] in
-    let p = all_stated read nothing_stated in
+    let p = add_all read no_statements in
     let o = all_ordered (marks_of read) nothing_ordered in
     let none = no-fault (marks_of read) h in
-    let r = all-ordered read 0 nothing_stated nothing_open nothing_ordered i nothing-goes none.2 nothing-ordered none.0 in
-    let closed = all-closed begun s 0 nothing_stated nothing_open e i nothing-goes none.2 in
+    let r = all-ordered read 0 no_statements nothing_open nothing_ordered i nothing-goes none.2 nothing-ordered none.0 in
+    let closed = all-closed begun s 0 no_statements nothing_open e i nothing-goes none.2 in
     let body = cards_in (stmts_of p.list) in
     let here = ap (λ xs. around_cards xs ++ body) closed in
     let Few : ℕ → Type 0 = λ n. n ≤ 4096 in
     subst Few (sym (sym (ap count_of here) ∙ r.count)) r.few
 
 pub order_again : OrderAgain
-unfolding built statements_of
+unfolding build_module statements_of
 order_again closing begun s ss e i h written flat =
     let read = begun ++ s ∷ [] in
-    let p = all_stated read nothing_stated in
+    let p = add_all read no_statements in
     let o = all_ordered (marks_of read) nothing_ordered in
     let none = no-fault (marks_of read) h in
-    let r = all-ordered read 0 nothing_stated nothing_open nothing_ordered i nothing-goes none.2 nothing-ordered none.0 in
-    let closed = all-closed begun s 0 nothing_stated nothing_open e i nothing-goes none.2 in
-    let m = (built closing read).module_read in
+    let r = all-ordered read 0 no_statements nothing_open nothing_ordered i nothing-goes none.2 nothing-ordered none.0 in
+    let closed = all-closed begun s 0 no_statements nothing_open e i nothing-goes none.2 in
+    let m = (build_module closing read).module_read in
     let title = title_cards m in let decls = decl_cards 0 p.decls in let body = cards_in (stmts_of p.list) in let end = card parts.End None end_module ∷ [] in
     let rest = decls ++ (body ++ end) in
     let all : title ++ decls ++ body ++ end ≡ title ++ rest = simp append_assoc in

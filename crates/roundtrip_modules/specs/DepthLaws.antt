@@ -5,7 +5,7 @@ use Rattle.f77_structure.specs.Depth.{is_deep}
 use Rattle.f77_statements.specs.Phrases.{PhraseTree, simple, else_part, end_if, end_do, end_module}
 use Rattle.f77_statements.specs.Statements.{phrase_of}
 use Rattle.f77_parser.specs.Statements.{StatementTree}
-use Rattle.f77_parser.specs.Building.{built}
+use Rattle.f77_parser.specs.Building.{build_module}
 use Rattle.roundtrip_statements.specs.Formed.{Each}
 use Rattle.roundtrip_statements.specs.Written.{as_written}
 use Rattle.roundtrip_modules.specs.Cards.{Card, statements_of}
@@ -32,4 +32,4 @@ FlatCard c = IsFlat c.phrase
 
 -- each statement that is written of a module stands no deeper than those that the module was built of
 abbrev pub CardsFlat : Type 0
-CardsFlat = (closing : List (List ℕ)) (ss : List StatementTree) → Each IsStatement ss → Each FlatStatement ss → Each FlatCard (statements_of (built closing ss).module_read)
+CardsFlat = (closing : List (List ℕ)) (ss : List StatementTree) → Each IsStatement ss → Each FlatStatement ss → Each FlatCard (statements_of (build_module closing ss).module_read)

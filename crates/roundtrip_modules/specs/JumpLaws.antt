@@ -2,9 +2,10 @@
 use Rattle.std.specs.Prelude.{◌≡◌, ℕ, List, [], ◌∷◌, ◌++◌, None}
 use Rattle.f77_statements.specs.Phrases.{end_module}
 use Rattle.f77_structure.specs.Steps.{blocks_of}
-use Rattle.f77_structure.specs.Checks.{block_fault, fault_of}
+use Rattle.f77_structure.specs.Jumps.{block_fault}
+use Rattle.f77_structure.specs.Checks.{fault_of}
 use Rattle.f77_parser.specs.Statements.{StatementTree, marks_of}
-use Rattle.f77_parser.specs.Building.{built}
+use Rattle.f77_parser.specs.Building.{build_module}
 use Rattle.roundtrip_statements.specs.Formed.{Each}
 use Rattle.roundtrip_modules.specs.ModuleLaws.{AreWritten, IsStatement}
 
@@ -12,4 +13,4 @@ use Rattle.roundtrip_modules.specs.ModuleLaws.{AreWritten, IsStatement}
 -- the GO TOs have a fault: each leads to an executable statement of a list that contains it
 abbrev pub JumpsAgain : Type 0
 JumpsAgain = (closing : List (List ℕ)) (begun : List StatementTree) (s : StatementTree) (ss : List StatementTree) → s.phrase ≡ end_module → Each IsStatement (begun ++ s ∷ [])
-    → fault_of (marks_of (begun ++ s ∷ [])) ≡ None → AreWritten (built closing (begun ++ s ∷ [])).module_read ss → block_fault (blocks_of (marks_of ss)) ≡ None
+    → fault_of (marks_of (begun ++ s ∷ [])) ≡ None → AreWritten (build_module closing (begun ++ s ∷ [])).module_read ss → block_fault (blocks_of (marks_of ss)) ≡ None

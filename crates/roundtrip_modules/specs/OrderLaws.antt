@@ -4,7 +4,7 @@ use Rattle.f77_statements.specs.Phrases.{end_module}
 use Rattle.f77_structure.specs.Order.{order_of}
 use Rattle.f77_structure.specs.Checks.{fault_of}
 use Rattle.f77_parser.specs.Statements.{StatementTree, marks_of}
-use Rattle.f77_parser.specs.Building.{built}
+use Rattle.f77_parser.specs.Building.{build_module}
 use Rattle.roundtrip_statements.specs.Formed.{Each}
 use Rattle.roundtrip_modules.specs.ModuleLaws.{IsStatement, AreWritten}
 
@@ -16,4 +16,4 @@ IsFlat s = s.deep ≡ false
 abbrev pub OrderAgain : Type 0
 OrderAgain = (closing : List (List ℕ)) (begun : List StatementTree) (s : StatementTree) (ss : List StatementTree) → s.phrase ≡ end_module
     → Each IsStatement (begun ++ s ∷ []) → fault_of (marks_of (begun ++ s ∷ [])) ≡ None
-    → AreWritten (built closing (begun ++ s ∷ [])).module_read ss → Each IsFlat ss → order_of (marks_of ss) ≡ None
+    → AreWritten (build_module closing (begun ++ s ∷ [])).module_read ss → Each IsFlat ss → order_of (marks_of ss) ≡ None

@@ -4,13 +4,13 @@ use Rattle.std.specs.Prelude.{if◌then◌else◌, ◌&&◌, ◌||◌, slice_get
 use Rattle.std.proofs.lemmas.Option.{slice_get-map}
 use Rattle.f77_ast.specs.DeclTrees.{ModuleTree, ParsedTree}
 use Rattle.f77_symbols.specs.Symbols.{SymbolTree, number_from}
-use Rattle.tracked_cells.specs.Equivalences.{equivalenced}
+use Rattle.tracked_cells.specs.Equivalences.{equivalenced_names}
 use Rattle.tracked_cells.specs.Scalars.{all_scalars}
-use Rattle.tracked_cells.specs.Untracked.{all_equivalenced, spoilt}
+use Rattle.tracked_cells.specs.Untracked.{equivalenced_names_of_all, spoilt}
 use Rattle.call_graph.specs.declared.calls.Called.{Called}
 use Rattle.call_graph.specs.declared.graph.Graph.{Graph}
-use Rattle.call_graph.specs.declared.refusal.Cause.{Cause}
-use Rattle.call_graph.specs.declared.refusal.Cause.TheVariants.{TwoMains, ModuleTwice}
+use Rattle.refusal_codes.specs.declared.code.Code.{Code}
+use Rattle.refusal_codes.specs.declared.code.Code.TheVariants.{TwoMains, ModuleTwice}
 use Rattle.call_graph.specs.declared.refusal.Fault.{Fault}
 use Rattle.call_graph.specs.declared.refusal.Fault.TheVariants as fault
 use Rattle.call_graph.specs.Faults.{or_fault, unless}
@@ -118,7 +118,7 @@ first_bare (c ∷ cs) names all sss =
     ap (λ x. or_later c.at x (first_in cs names all sss)) (against_bare c (number_from 0 names c.callee) all sss)
     ∙ ap (or_later c.at (call_cause c names (bares all) sss)) (first_bare cs names all sss)
 
-unfit_by : (k : ℕ) (p : ParsedTree) (x : Option (ℕ × Cause)) (f g : Option Fault) → SameFault f g → SameFault (unfit_at k p x f) (unfit_at k (bare p) x g)
+unfit_by : (k : ℕ) (p : ParsedTree) (x : Option (ℕ × Code)) (f g : Option Fault) → SameFault f g → SameFault (unfit_at k p x f) (unfit_at k (bare p) x g)
 unfit_by k p None f g h = h
 unfit_by k p (Some (n, cause)) f g h = record { same = refl }
 
@@ -141,9 +141,9 @@ cyclic_same back k (p ∷ ps) (cs ∷ css) names = cyclic_by k p (cyclic_in (λ 
 
 -- ---- the graph
 
-equivalenced_bare : (ps : List ParsedTree) → all_equivalenced ps ≡ all_equivalenced (bares ps)
+equivalenced_bare : (ps : List ParsedTree) → equivalenced_names_of_all ps ≡ equivalenced_names_of_all (bares ps)
 equivalenced_bare [] = refl
-equivalenced_bare (p ∷ ps) = ap (λ (xs : List (List (List ℕ))). equivalenced p.module_read ∷ xs) (equivalenced_bare ps)
+equivalenced_bare (p ∷ ps) = ap (λ (xs : List (List (List ℕ))). equivalenced_names p.module_read ∷ xs) (equivalenced_bare ps)
 
 callees_bare : (ps : List ParsedTree) (sss : List (List SymbolTree)) → callees_of ps sss ≡ callees_of (bares ps) sss
 callees_bare ps sss = ap (λ xs. all_places xs (program_calls ps sss)) (names_bare ps) ∙ ap (all_places (names_of (bares ps))) (calls_bare ps sss)

@@ -3,12 +3,12 @@ use Rattle.std.proofs.Common.{◌≡◌, ℕ, Bool, true, false, List, [], ◌�
 use Rattle.f77_ast.specs.Trees.{ExprTree, ExprTrees}
 use Rattle.f77_ast.specs.Trees as tree
 use Rattle.f77_symbols.specs.Symbols.{number_from}
-use Rattle.f77_names.specs.declared.refusal.Refusal.{Refusal}
+use Rattle.refusal_codes.specs.declared.refusal.Refusal.{Refusal}
 use Rattle.f77_names.specs.Entries.{EntryTree, find, place_in, has_shape}
 use Rattle.f77_names.specs.Tables.{NameTable}
 use Rattle.f77_checks.specs.Dimensions.{dims_in, worth_in}
 use Rattle.storage_data.specs.Units.{place_of, units_by, units_of_entry, units_of}
-use Rattle.storage_data.specs.Items.{element_fault, item_fault, both, items_judged, with_number, numbers_of, position_at, element_position, item_position}
+use Rattle.storage_data.specs.Items.{element_fault, item_fault, both, check_items, with_number, numbers_of, position_at, element_position, item_position}
 use Rattle.roundtrip_programs.proofs.Found.{SameFound, noted_same}
 use Rattle.roundtrip_programs.proofs.Bare.{bare, bares, bare_found, bare_table, find_bare, shape_bare}
 use Rattle.roundtrip_programs.proofs.Sorts.{expr_same, subscripts_same}
@@ -78,6 +78,6 @@ both_same None (Some s) f g k h = let e = k.same in cc
 both_same (Some r) None f g k h = let e = k.same in cc
 both_same (Some r) (Some s) f g k h = noted_same _ _ _ _ _ _ refl h
 
-pub items_same : (t : NameTable) (is : List ExprTree) (l m : ℕ) {f g : Option Refusal} → SameFound f g → SameFound (items_judged t is l f) (items_judged (bare_table t) is m g)
+pub items_same : (t : NameTable) (is : List ExprTree) (l m : ℕ) {f g : Option Refusal} → SameFound f g → SameFound (check_items t is l f) (check_items (bare_table t) is m g)
 items_same t [] l m h = h
 items_same t (i ∷ is) l m {f} {g} h = items_same t is l m (both_same (item_fault t i l) (item_fault (bare_table t) i m) f g (fault_same t i l m) h)

@@ -9,16 +9,16 @@ use Rattle.f77_constants.specs.declared.constant.Worth.{Worth}
 use Rattle.f77_constants.specs.declared.constant.Worth.TheVariants.{Is, Faults, Varies}
 use Rattle.f77_constants.specs.Constants.{worth}
 use Rattle.f77_symbols.specs.Symbols.{SymbolTree}
-use Rattle.f77_names.specs.declared.refusal.Refusal.{Refusal}
+use Rattle.refusal_codes.specs.declared.refusal.Refusal.{Refusal}
 use Rattle.f77_names.specs.declared.kinds.Kind.{Kind}
 use Rattle.f77_names.specs.declared.kinds.Kind.TheVariants.{Int, Log, Real}
 use Rattle.f77_names.specs.declared.lines.Sited.TheVariants.{Decl}
 use Rattle.f77_names.specs.Lines.{LineTable, lines_of, line_or}
 use Rattle.f77_names.specs.Entries.{EntryTree, has_dummy, has_value, value_among, with_value}
-use Rattle.f77_names.specs.Tables.{table_of, names_judged, kind_in}
+use Rattle.f77_names.specs.Tables.{table_of, check_names, kind_in}
 use Rattle.f77_checks.specs.Parameters.{Valued, given_value, given_typed, given_worth, setting_valued, settings_valued, decl_valued, decls_valued}
 use Rattle.storage_layout.specs.Table.{Layout, symbols_from, symbols_in}
-use Rattle.storage_layout.specs.Symbols.{answer, answered, after_shared, after_laid, laid_out, valued, after_valued, symbols_at, symbols_of}
+use Rattle.storage_layout.specs.Symbols.{answer, symbols_or_refusal, after_shared, lay_shared_and_data, lay_out, valued, check_and_lay_out, symbols_at, symbols_of}
 use Rattle.roundtrip_programs.specs.Lines.{AreShown}
 use Rattle.roundtrip_programs.proofs.Named.{AreNamed, changed_named}
 
@@ -71,7 +71,7 @@ decls_named at (d ∷ ds) n v h = decls_named at ds (n + 1) (decl_valued d (line
 
 valued_named : (at : LineTable) (m : ModuleTree) → AreNamed (table_of at m).entries → Keeps (valued at m)
 unfolding valued
-valued_named at m h = decls_named at m.decls 0 (record { table = table_of at m; found = names_judged at m }) h
+valued_named at m h = decls_named at m.decls 0 (record { table = table_of at m; found = check_names at m }) h
 
 -- ---- symbols
 
@@ -88,5 +88,5 @@ answer_shown None (Some r) l ss h e = cc
 answer_shown None None l ss h e = let same : symbols_in l ≡ ss = cc in subst AreSymbolsShown same (symbols_shown l 0 l.table.entries h)
 
 pub table_shown : (p : ParsedTree) (ss : List SymbolTree) → AreNamed (table_of (lines_of p.places.spots) p.module_read).entries → symbols_of p ≡ Ok ss → AreSymbolsShown ss
-unfolding answered after_shared after_laid laid_out after_valued symbols_at symbols_of
+unfolding symbols_or_refusal after_shared lay_shared_and_data lay_out check_and_lay_out symbols_at symbols_of
 table_shown p ss h e = answer_shown _ _ _ ss (valued_named (lines_of p.places.spots) p.module_read h) e

@@ -8,10 +8,10 @@ use Rattle.f77_constants.specs.declared.constant.Worth.{Worth}
 use Rattle.f77_constants.specs.declared.constant.Worth.TheVariants.{Is, Faults, Varies}
 use Rattle.f77_constants.specs.Constants.{turns_logical, gives_logical}
 use Rattle.f77_symbols.specs.Symbols.{BoundTree}
-use Rattle.f77_names.specs.declared.refusal.Refusal.{Refusal}
+use Rattle.refusal_codes.specs.declared.refusal.Refusal.{Refusal}
 use Rattle.f77_names.specs.Entries.{ShapeTree, EntryTree}
 use Rattle.f77_names.specs.Tables.{NameTable, entry_kind}
-use Rattle.f77_checks.specs.Dimensions.{is_int_kind, may_adjust, is_adjustable, is_bad_worth, worth_in, is_bad_limit, is_below, is_bad_high, is_bad_bound, is_last, has_bad_bound, dim_from, dim_up_to, dim_of, with_dim, dims_of, is_too_big, is_bad_shape, entry_dims, dims_in, maybe_judged, bounds_judged, shape_judged, shapes_judged}
+use Rattle.f77_checks.specs.Dimensions.{is_int_kind, may_adjust, is_adjustable, is_bad_worth, worth_in, is_bad_limit, is_below, is_bad_high, is_bad_bound, is_last, has_bad_bound, dim_from, dim_up_to, dim_of, with_dim, dims_of, is_too_big, is_bad_shape, entry_dims, dims_in, check_maybe, check_bounds, check_shape, check_shapes}
 use Rattle.roundtrip_programs.proofs.Found.{SameFound, noted_same}
 use Rattle.roundtrip_programs.proofs.Bare.{bare, bares, bare_shape, bare_table, asked, some_line}
 use Rattle.roundtrip_programs.proofs.Sorts.{expr_same}
@@ -100,18 +100,18 @@ dims_bare t e = entry_dims_bare t (is_some e.dummy) e.shape
 
 -- ---- refusals
 
-maybe_same : (t : NameTable) (e : Option ExprTree) (l m : ℕ) {f g : Option Refusal} → SameFound f g → SameFound (maybe_judged t e l f) (maybe_judged (bare_table t) e m g)
+maybe_same : (t : NameTable) (e : Option ExprTree) (l m : ℕ) {f g : Option Refusal} → SameFound f g → SameFound (check_maybe t e l f) (check_maybe (bare_table t) e m g)
 maybe_same t None l m h = h
 maybe_same t (Some e) l m h = expr_same t e l m h
 
-bounds_same : (t : NameTable) (bs : List BoundTree) (l m : ℕ) {f g : Option Refusal} → SameFound f g → SameFound (bounds_judged t bs l f) (bounds_judged (bare_table t) bs m g)
+bounds_same : (t : NameTable) (bs : List BoundTree) (l m : ℕ) {f g : Option Refusal} → SameFound f g → SameFound (check_bounds t bs l f) (check_bounds (bare_table t) bs m g)
 bounds_same t [] l m h = h
 bounds_same t (b ∷ bs) l m h = bounds_same t bs l m (maybe_same t b.high l m (expr_same t b.low l m h))
 
-shape_same : (t : NameTable) (dummy : Bool) (s : Option ShapeTree) {f g : Option Refusal} → SameFound f g → SameFound (shape_judged t dummy s f) (shape_judged (bare_table t) dummy (bare_shape s) g)
+shape_same : (t : NameTable) (dummy : Bool) (s : Option ShapeTree) {f g : Option Refusal} → SameFound f g → SameFound (check_shape t dummy s f) (check_shape (bare_table t) dummy (bare_shape s) g)
 shape_same t dummy None h = h
 shape_same t dummy (Some s) h = noted_same _ _ _ _ _ _ (bad_shape_bare t dummy s.bounds) (bounds_same t s.bounds s.line 0 h)
 
-pub shapes_same : (t : NameTable) (es : List EntryTree) {f g : Option Refusal} → SameFound f g → SameFound (shapes_judged t es f) (shapes_judged (bare_table t) (bares es) g)
+pub shapes_same : (t : NameTable) (es : List EntryTree) {f g : Option Refusal} → SameFound f g → SameFound (check_shapes t es f) (check_shapes (bare_table t) (bares es) g)
 shapes_same t [] h = h
 shapes_same t (e ∷ es) h = shapes_same t es (shape_same t (is_some e.dummy) e.shape h)

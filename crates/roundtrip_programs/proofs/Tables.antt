@@ -3,7 +3,7 @@ use Rattle.std.proofs.Common.{◌≡◌, ℕ, List, [], Option, Some, None, Resu
 use Rattle.std.proofs.lemmas.List.{length-map}
 use Rattle.f77_ast.specs.DeclTrees.{DeclTree, ModuleTree}
 use Rattle.f77_symbols.specs.Symbols.{SymbolTree}
-use Rattle.f77_names.specs.declared.refusal.Refusal.{Refusal}
+use Rattle.refusal_codes.specs.declared.refusal.Refusal.{Refusal}
 use Rattle.f77_names.specs.Lines.{LineTable, lines_of}
 use Rattle.f77_names.specs.Tables.{NameTable}
 use Rattle.f77_checks.specs.Parameters.{Valued}
@@ -16,7 +16,7 @@ use Rattle.storage_layout.specs.declared.equivalences.Grouping.{Grouping}
 use Rattle.storage_layout.specs.declared.equivalences.Shared.{Shared}
 use Rattle.storage_layout.specs.Blocks.{decls_put}
 use Rattle.storage_layout.specs.Table.{Layout}
-use Rattle.storage_layout.specs.Symbols.{alone, laid, shared, filled, answer, layout_for, answered, after_shared, after_laid, laid_out, valued, checked, after_valued, symbols_at, symbols_of}
+use Rattle.storage_layout.specs.Symbols.{alone, laid, shared, filled, answer, layout_for, symbols_or_refusal, after_shared, lay_shared_and_data, lay_out, valued, checked, check_and_lay_out, symbols_at, symbols_of}
 use Rattle.roundtrip_programs.specs.Laws.{TablesIgnorePlaces}
 use Rattle.roundtrip_programs.proofs.Found.{SameFound}
 use Rattle.roundtrip_programs.proofs.Bare.{no_lines, bare, bare_table}
@@ -51,8 +51,8 @@ answer_same (Some r) None a b l h k = let e = h.same in cc
 -- ---- storage
 
 answered_same : (t : NameTable) (ds : List DeclTree) (names : List (List ℕ)) (ss : List Seat) (a b : Option Refusal) (f g : Filled) → SameFound a b → SameFilled f g
-    → SameAnswer (answered t ds names ss a f) (answered (bare_table t) ds names ss b g)
-unfolding answered
+    → SameAnswer (symbols_or_refusal t ds names ss a f) (symbols_or_refusal (bare_table t) ds names ss b g)
+unfolding symbols_or_refusal
 answered_same t ds names ss a b f g k h =
     subst (λ (ps : List Piece). SameAnswer (answer f.found a (layout_for t ds ss names f)) (answer g.found b (record (layout_for (bare_table t) ds ss names g) { pieces = ps }))) h.pieces
     (answer_same f.found g.found a b (layout_for t ds ss names f) h.found k)
@@ -63,11 +63,11 @@ unfolding after_shared filled
 after_shared_same t at ds names s r h =
     let all : SameFilled (filled t s.group.seats at ds s.found) (filled (bare_table t) s.group.seats no_lines ds r.found) =
     initials.decls_same t s.group.seats at ds 0 (record { pieces = refl; stretches = refl; found = h.found }) in
-    subst (λ (g : Grouping). SameAnswer (answered t ds names s.group.seats s.late (filled t s.group.seats at ds s.found)) (answered (bare_table t) ds names g.seats r.late (filled (bare_table t) g.seats no_lines ds r.found))) h.group
+    subst (λ (g : Grouping). SameAnswer (symbols_or_refusal t ds names s.group.seats s.late (filled t s.group.seats at ds s.found)) (symbols_or_refusal (bare_table t) ds names g.seats r.late (filled (bare_table t) g.seats no_lines ds r.found))) h.group
     (answered_same t ds names s.group.seats s.late r.late (filled t s.group.seats at ds s.found) (filled (bare_table t) s.group.seats no_lines ds r.found) h.late all)
 
-after_laid_same : (t : NameTable) (at : LineTable) (ds : List DeclTree) (f g : Option Refusal) (l : Laid) → SameFound f g → SameAnswer (after_laid t at ds f l) (after_laid (bare_table t) no_lines ds g l)
-unfolding after_laid shared
+after_laid_same : (t : NameTable) (at : LineTable) (ds : List DeclTree) (f g : Option Refusal) (l : Laid) → SameFound f g → SameAnswer (lay_shared_and_data t at ds f l) (lay_shared_and_data (bare_table t) no_lines ds g l)
+unfolding lay_shared_and_data shared
 after_laid_same t at ds f g l h =
     after_shared_same t at ds l.names (shared t at ds l.seats f) (shared (bare_table t) no_lines ds l.seats g)
     (groups.decls_same t at ds 0 (record { group = refl; found = h; late = record { same = refl } }))
@@ -78,10 +78,10 @@ laid_bare t ds =
     decls_bare t ds (alone t)
     ∙ ap (λ n. decls_put (bare_table t) ds (record { seats = alone_from 0 n; names = []; sizes = [] })) (sym (length-map t.entries bare))
 
-laid_out_same : (t : NameTable) (at : LineTable) (ds : List DeclTree) (f g : Option Refusal) → SameFound f g → SameAnswer (laid_out t at ds f) (laid_out (bare_table t) no_lines ds g)
-unfolding laid_out
+laid_out_same : (t : NameTable) (at : LineTable) (ds : List DeclTree) (f g : Option Refusal) → SameFound f g → SameAnswer (lay_out t at ds f) (lay_out (bare_table t) no_lines ds g)
+unfolding lay_out
 laid_out_same t at ds f g h =
-    subst (λ l. SameAnswer (laid_out t at ds f) (after_laid (bare_table t) no_lines ds g l)) (laid_bare t ds) (after_laid_same t at ds f g (laid t ds) h)
+    subst (λ l. SameAnswer (lay_out t at ds f) (lay_shared_and_data (bare_table t) no_lines ds g l)) (laid_bare t ds) (after_laid_same t at ds f g (laid t ds) h)
 
 -- ---- names and checks
 
@@ -93,10 +93,10 @@ checked_same : (at : LineTable) (m : ModuleTree) (v : Valued) (g : Option Refusa
 unfolding checked
 checked_same at m v g h = stmts_same v.table at m.body 0 (shapes_same v.table v.table.entries h)
 
-after_valued_same : (at : LineTable) (m : ModuleTree) (v w : Valued) → SameValued v w → SameAnswer (after_valued at m v) (after_valued no_lines m w)
-unfolding after_valued
+after_valued_same : (at : LineTable) (m : ModuleTree) (v w : Valued) → SameValued v w → SameAnswer (check_and_lay_out at m v) (check_and_lay_out no_lines m w)
+unfolding check_and_lay_out
 after_valued_same at m v w h =
-    subst (λ t. SameAnswer (after_valued at m v) (after_valued no_lines m (record { table = t; found = w.found }))) h.table
+    subst (λ t. SameAnswer (check_and_lay_out at m v) (check_and_lay_out no_lines m (record { table = t; found = w.found }))) h.table
     (laid_out_same v.table at m.decls (checked at m v) (checked no_lines m (record { table = bare_table v.table; found = w.found })) (checked_same at m v w.found h.found))
 
 symbols_same : (at : LineTable) (m : ModuleTree) → SameAnswer (symbols_at at m) (symbols_at no_lines m)

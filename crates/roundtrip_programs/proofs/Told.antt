@@ -9,7 +9,7 @@ use Rattle.f77_ast.specs.Trees as tree
 use Rattle.f77_ast.specs.DeclTrees.{ExtentTree, EntityTree, SettingTree, CommonTree, DataTree, DeclTree, ModuleTree}
 use Rattle.f77_ast.specs.DeclTrees as decl
 use Rattle.f77_symbols.specs.Symbols.{BoundTree}
-use Rattle.f77_names.specs.declared.refusal.Refusal.{Refusal}
+use Rattle.refusal_codes.specs.declared.refusal.Refusal.{Refusal}
 use Rattle.f77_names.specs.declared.functions.Function.{Function}
 use Rattle.f77_names.specs.declared.kinds.Kind.{Kind}
 use Rattle.f77_names.specs.declared.lines.Sited.TheVariants.{Title, Decl}
@@ -18,7 +18,7 @@ use Rattle.f77_names.specs.Kinds.{kinds_of}
 use Rattle.f77_names.specs.Functions.{arrays_named}
 use Rattle.f77_names.specs.Entries.{ShapeTree, EntryTree, seen, or_this, with_dummy, with_type, with_shape, with_common, as_parameter, as_saved, as_initial, has_dummy, has_type, has_shape, has_common}
 use Rattle.f77_names.specs.Declaring.{Told, typed, shaped, bound_of, in_common, dummy_told, dummies_told, extents_seen, entity_seen, typed_entities, shaped_entities, members_told, blocks_told, setting_told, settings_told, mention_told, item_told, items_told, groups_told, targets_told, save_told, saves_told, decl_told, decls_told}
-use Rattle.f77_names.specs.Tables.{entry_kind, no_names, told_of, in_common_too, entry_judged, entries_judged, table_of, names_judged}
+use Rattle.f77_names.specs.Tables.{entry_kind, no_names, told_of, in_common_too, check_entry, check_entries, table_of, check_names}
 use Rattle.roundtrip_programs.proofs.Found.{SameFound, noted_same}
 use Rattle.roundtrip_programs.proofs.Bare.{no_lines, bare, bares, bare_shape, bare_line, bare_table, Bare, of_bare, dummy_bare, type_bare, shape_bare, common_bare, seen_same, changed_same}
 use Rattle.roundtrip_programs.proofs.Seen.{expr_same, exprs_same, maybe_same, stmts_same}
@@ -179,16 +179,16 @@ common_same : (e : EntryTree) (l : Option ℕ) {f g : Option Refusal} → SameFo
 common_same e None h = h
 common_same e (Some line) h = noted_same _ _ _ _ _ _ refl h
 
-entry_same : (ks : List Kind) (e : EntryTree) {f g : Option Refusal} → SameFound f g → SameFound (entry_judged ks e f) (entry_judged ks (bare e) g)
+entry_same : (ks : List Kind) (e : EntryTree) {f g : Option Refusal} → SameFound f g → SameFound (check_entry ks e f) (check_entry ks (bare e) g)
 unfolding entry_kind
 entry_same ks e h = common_same e e.common (noted_same _ _ _ _ _ _ refl h)
 
-entries_same : (ks : List Kind) (es : List EntryTree) {f g : Option Refusal} → SameFound f g → SameFound (entries_judged ks es f) (entries_judged ks (bares es) g)
+entries_same : (ks : List Kind) (es : List EntryTree) {f g : Option Refusal} → SameFound f g → SameFound (check_entries ks es f) (check_entries ks (bares es) g)
 entries_same ks [] h = h
 entries_same ks (e ∷ es) h = entries_same ks es (entry_same ks e h)
 
-pub judged_same : (at : LineTable) (m : ModuleTree) → SameFound (names_judged at m) (names_judged no_lines m)
+pub judged_same : (at : LineTable) (m : ModuleTree) → SameFound (check_names at m) (check_names no_lines m)
 judged_same at m =
     let t = told_same (arrays_named m.decls) at m in
-    subst (λ es. SameFound (names_judged at m) (entries_judged (kinds_of m.decls) es (told_of (arrays_named m.decls) no_lines m).found)) t.entries.is
+    subst (λ es. SameFound (check_names at m) (check_entries (kinds_of m.decls) es (told_of (arrays_named m.decls) no_lines m).found)) t.entries.is
     (entries_same (kinds_of m.decls) (told_of (arrays_named m.decls) at m).entries t.found)

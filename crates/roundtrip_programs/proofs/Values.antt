@@ -10,16 +10,16 @@ use Rattle.f77_constants.specs.declared.constant.Constant.TheVariants as constan
 use Rattle.f77_constants.specs.declared.constant.Worth.{Worth}
 use Rattle.f77_constants.specs.declared.constant.Worth.TheVariants.{Is, Faults, Varies}
 use Rattle.f77_constants.specs.Constants.{worth}
-use Rattle.f77_names.specs.declared.refusal.Cause.TheVariants.{NotAnArray}
-use Rattle.f77_names.specs.declared.refusal.Refusal.{Refusal}
-use Rattle.f77_names.specs.Refusals.{noted}
+use Rattle.refusal_codes.specs.declared.code.Code.TheVariants.{NotAnArray}
+use Rattle.refusal_codes.specs.declared.refusal.Refusal.{Refusal}
+use Rattle.refusal_codes.specs.Refusals.{refuse_if}
 use Rattle.f77_names.specs.declared.kinds.Kind.{Kind}
 use Rattle.f77_names.specs.declared.kinds.Kind.TheVariants.{Int, Log, Real}
 use Rattle.f77_names.specs.declared.lines.Sited.TheVariants.{Decl}
 use Rattle.f77_names.specs.Lines.{LineTable, line_or}
 use Rattle.f77_names.specs.Entries.{EntryTree, has_dummy, has_shape, has_value, value_among, with_value}
 use Rattle.f77_names.specs.Tables.{NameTable, kind_in}
-use Rattle.f77_checks.specs.Expressions.{expr_judged}
+use Rattle.f77_checks.specs.Expressions.{check_expr}
 use Rattle.f77_checks.specs.Parameters.{Valued, is_bad_parameter, given_value, given_typed, given_worth, setting_valued, settings_valued, decl_valued, decls_valued}
 use Rattle.roundtrip_programs.proofs.Found.{SameFound, noted_same}
 use Rattle.roundtrip_programs.proofs.Bare.{no_lines, bares, bare_table, Bare, dummy_bare, shape_bare, has_value_bare, value_bare, changed_same}
@@ -70,11 +70,11 @@ pub worth_bare : (t : NameTable) (e : ExprTree) → worth (value_among t.entries
 worth_bare t e = ap (λ f. worth f e) (fun_ext (λ x. value_bare t.entries x))
 
 abbrev with_setting : Bool → SettingTree → Worth → ℕ → NameTable → Option Refusal → Valued
-with_setting b s w line t f = if b then is_bad_parameter line (with_found t f) else given_worth s.name w line (with_found t (expr_judged t s.value line f))
+with_setting b s w line t f = if b then is_bad_parameter line (with_found t f) else given_worth s.name w line (with_found t (check_expr t s.value line f))
 
 setting_by : (b : Bool) (s : SettingTree) (w : Worth) (line : ℕ) (t : NameTable) (f r : Option Refusal) → SameFound f r → SameValued (with_setting b s w line t f) (with_setting b s w 0 (bare_table t) r)
 setting_by true s w line t f r h = bad_same line (record { table = refl; found = h })
-setting_by false s w line t f r h = worth_same s.name w line (with_found t (expr_judged t s.value line f)) (expr_judged (bare_table t) s.value 0 r) (expr_same t s.value line 0 h)
+setting_by false s w line t f r h = worth_same s.name w line (with_found t (check_expr t s.value line f)) (check_expr (bare_table t) s.value 0 r) (expr_same t s.value line 0 h)
 
 is_given : (x : List ℕ) (es : List EntryTree) → (has_dummy x es || has_value x es) ≡ (has_dummy x (bares es) || has_value x (bares es))
 is_given x es = ap (λ b. b || has_value x es) (dummy_bare x es) ∙ ap (λ b. has_dummy x (bares es) || b) (has_value_bare x es)
@@ -84,8 +84,8 @@ setting_same s line v r h =
     let es = v.table.entries in
     let b = has_dummy s.name es || has_value s.name es in
     let w = worth (value_among es) s.value in
-    let f = noted (has_shape s.name es) line NotAnArray v.found in
-    let q = noted (has_shape s.name (bares es)) 0 NotAnArray r in
+    let f = refuse_if (has_shape s.name es) line NotAnArray v.found in
+    let q = refuse_if (has_shape s.name (bares es)) 0 NotAnArray r in
     let g : SameFound f q = noted_same _ _ _ _ _ _ (shape_bare s.name es) h in
     subst (λ z. SameValued (with_setting b s w line v.table f) (with_setting (has_dummy s.name (bares es) || has_value s.name (bares es)) s z 0 (bare_table v.table) q)) (worth_bare v.table s.value)
     (subst (λ c. SameValued (with_setting b s w line v.table f) (with_setting c s w 0 (bare_table v.table) q)) (is_given s.name es) (setting_by b s w line v.table f q g))

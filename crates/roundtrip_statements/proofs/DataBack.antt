@@ -11,7 +11,7 @@ use Rattle.f77_exprs.specs.Lexical.{letter_first, digit_first, number_first, aft
 use Rattle.f77_exprs.specs.Grammar.{comma, items, items_by, more_by, variable, literal}
 use Rattle.f77_forms.specs.declared.form.FormId.TheVariants as forms
 use Rattle.f77_statements.specs.Lists.{past, ending}
-use Rattle.f77_statements.specs.Parts.{integer, signed_integer, data_constant, repeated, counted, data_value, data_group, next_group}
+use Rattle.f77_statements.specs.Parts.{integer, signed_integer, data_constant, repeat_value, value_or_count, data_value, data_group, next_group}
 use Rattle.f77_statements.specs.Specifications.{data_statement}
 use Rattle.f77_statements.specs.Statements.{form_at}
 use Rattle.f77_printer.specs.ExprText.{expr_text}
@@ -85,18 +85,18 @@ constant_back (whole n h) t k s =
 constant_back (raised n h) t k s = ap (λ (o : Option (ExprTree × State)). o >>= λ n. Some (unary Plus n.0, n.1)) (integer_back n t k h s)
 constant_back (lowered n h) t k s = ap (λ (o : Option (ExprTree × State)). o >>= λ n. Some (unary Minus n.0, n.1)) (integer_back n t k h s)
 
-counted_none : (n : ℕ) (t : List ℕ) (k : Notes) → EndsValue t → counted n (standing t k) ≡ Some (record { repeat = None; value = int (pos n) }, standing t k)
-unfolding counted
+counted_none : (n : ℕ) (t : List ℕ) (k : Notes) → EndsValue t → value_or_count n (standing t k) ≡ Some (record { repeat = None; value = int (pos n) }, standing t k)
+unfolding value_or_count
 counted_none n t k s = let z : after (codes "*") t ≡ None = s.star in rw z
 
 value_at : (r : Option ℕ) {e : ExprTree} → MaybeCount r → IsConstant e → (t : List ℕ) (k : Notes) → EndsValue t
     → data_value (standing ((repeat_text r ++ expr_text e) ++ t) k) ≡ Some (record { repeat = r; value = e }, standing t k)
-unfolding data_value counted repeated
+unfolding data_value value_or_count repeat_value
 value_at None g (truth true) t k s = ap (λ (o : Option (ExprTree × State)). o >>= λ c. Some (record { repeat = None; value = c.0 }, c.1)) (constant_back (truth true) t k s)
 value_at None g (truth false) t k s = ap (λ (o : Option (ExprTree × State)). o >>= λ c. Some (record { repeat = None; value = c.0 }, c.1)) (constant_back (truth false) t k s)
 value_at None g (whole n h) t k s =
     let f : number_first (decimal n ++ t) ≡ true = number_first-digit (decimal n ++ t) (decimal_first n t h) in
-    rw f (ap (λ (x : ℕ × State). counted x.0 x.1) (number-back n t k h s.digit s.point s.exponent) ∙ counted_none n t k s)
+    rw f (ap (λ (x : ℕ × State). value_or_count x.0 x.1) (number-back n t k h s.digit s.point s.exponent) ∙ counted_none n t k s)
 value_at None g (raised n h) t k s = ap (λ (o : Option (ExprTree × State)). o >>= λ c. Some (record { repeat = None; value = c.0 }, c.1)) (constant_back (raised n h) t k s)
 value_at None g (lowered n h) t k s = ap (λ (o : Option (ExprTree × State)). o >>= λ c. Some (record { repeat = None; value = c.0 }, c.1)) (constant_back (lowered n h) t k s)
 value_at (Some m) {e} g c t k s =
@@ -106,7 +106,7 @@ value_at (Some m) {e} g c t k s =
     ∙ times f
   where
     times : number_first (decimal m ++ (42 ∷ (expr_text e ++ t))) ≡ true → data_value (standing (decimal m ++ (42 ∷ (expr_text e ++ t))) k) ≡ Some (record { repeat = Some m; value = e }, standing t k)
-    times f = rw f (ap (λ (x : ℕ × State). counted x.0 x.1) (number-back m (42 ∷ (expr_text e ++ t)) k g refl refl refl)
+    times f = rw f (ap (λ (x : ℕ × State). value_or_count x.0 x.1) (number-back m (42 ∷ (expr_text e ++ t)) k g refl refl refl)
         ∙ ap (λ (o : Option (ExprTree × State)). o >>= λ c. Some (record { repeat = Some m; value = c.0 }, c.1)) (constant_back c t k s))
 
 values_listed : Listed comma data_value data_value_text EndsValue IsValue

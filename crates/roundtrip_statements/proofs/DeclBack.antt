@@ -15,7 +15,7 @@ use Rattle.f77_exprs.specs.Words.{after}
 use Rattle.f77_exprs.specs.State.{State, ◌>>=◌}
 use Rattle.f77_exprs.specs.Lexical.{letter_first}
 use Rattle.f77_exprs.specs.Grammar.{comma, items}
-use Rattle.f77_forms.specs.Words.{behind}
+use Rattle.f77_forms.specs.Words.{rest_after}
 use Rattle.f77_forms.specs.declared.form.FormId.TheVariants as forms
 use Rattle.f77_forms.specs.declared.choice.Choice.TheVariants.{Chosen}
 use Rattle.f77_forms.specs.Choice.{keyword_choice}
@@ -74,11 +74,11 @@ lacks_at true o p h f = f h
 lacks_at false o p h f = refl
 
 -- a word that does not stand in the front of a name does not stand before what follows the name
-lacks : (w n u : List ℕ) → after w n ≡ None → all_letters w ≡ true → letter_first u ≡ false → behind w (n ++ u) ≡ None
+lacks : (w n u : List ℕ) → after w n ≡ None → all_letters w ≡ true → letter_first u ≡ false → rest_after w (n ++ u) ≡ None
 lacks [] n u h a f = cc
 lacks (x ∷ xs) [] [] h a f = refl
-lacks (x ∷ xs) [] (c ∷ cs) h a f = apart (nat_eq c x) c x (behind xs cs) refl f (and_parts (is_ascii_uppercase x) (all_letters xs) a).0
-lacks (x ∷ xs) (c ∷ cs) u h a f = lacks_at (nat_eq c x) (after xs cs) (behind xs (cs ++ u)) h (λ g. lacks xs cs u g (and_parts (is_ascii_uppercase x) (all_letters xs) a).1 f)
+lacks (x ∷ xs) [] (c ∷ cs) h a f = apart (nat_eq c x) c x (rest_after xs cs) refl f (and_parts (is_ascii_uppercase x) (all_letters xs) a).0
+lacks (x ∷ xs) (c ∷ cs) u h a f = lacks_at (nat_eq c x) (after xs cs) (rest_after xs (cs ++ u)) h (λ g. lacks xs cs u g (and_parts (is_ascii_uppercase x) (all_letters xs) a).1 f)
 
 no_letter : (bs : List ExtentTree) (es : List EntityTree) → letter_first (bounds_text bs ++ others_by entity_text es) ≡ false
 no_letter [] [] = refl
@@ -86,10 +86,10 @@ no_letter [] (e ∷ es) = refl
 no_letter (b ∷ bs) es = refl
 
 -- no FUNCTION stands behind the keyword
-no_function : (es : List EntityTree) → AreTyped es → behind (codes "FUNCTION") (joined_by entity_text es) ≡ None
+no_function : (es : List EntityTree) → AreTyped es → rest_after (codes "FUNCTION") (joined_by entity_text es) ≡ None
 no_function [] h = refl
 no_function (e ∷ es) h =
-    ap (behind (codes "FUNCTION")) (append_assoc e.name (bounds_text e.bounds) (others_by entity_text es))
+    ap (rest_after (codes "FUNCTION")) (append_assoc e.name (bounds_text e.bounds) (others_by entity_text es))
     ∙ lacks (codes "FUNCTION") e.name (bounds_text e.bounds ++ others_by entity_text es) h.function refl (no_letter e.bounds es)
 
 pub typed_balanced : (es : List EntityTree) → AreTyped es → Balanced listed (joined_by entity_text es)
@@ -113,10 +113,10 @@ logical_back [] k h = absurd h
 logical_back (e ∷ es) k h =
     ap (λ (o : Option (List EntityTree × State)). o >>= λ es. Some (logical es.0, es.1)) (items_end comma entity entity_text Calm IsEntity entities_listed e es k h.first h.others calm_end refl)
 
-integer_chosen : (x : List ℕ) → behind (codes "FUNCTION") x ≡ None → keyword_choice profile (codes "INTEGER" ++ x) ≡ Chosen forms.Integer
+integer_chosen : (x : List ℕ) → rest_after (codes "FUNCTION") x ≡ None → keyword_choice profile (codes "INTEGER" ++ x) ≡ Chosen forms.Integer
 integer_chosen x h = rw h
 
-logical_chosen : (x : List ℕ) → behind (codes "FUNCTION") x ≡ None → keyword_choice profile (codes "LOGICAL" ++ x) ≡ Chosen forms.Logical
+logical_chosen : (x : List ℕ) → rest_after (codes "FUNCTION") x ≡ None → keyword_choice profile (codes "LOGICAL" ++ x) ≡ Chosen forms.Logical
 logical_chosen x h = rw h
 
 pub integer_form : (es : List EntityTree) → AreTyped es → form_at (codes "INTEGER" ++ joined_by entity_text es) ≡ Ok forms.Integer

@@ -195,15 +195,15 @@ unfolding grammar.relation
 relation-sound I h s =
     seq (grammar.arithmetic I s) (λ l. grammar.comparison I l.0 l.1) s.notes (Formed of_sum) (Formed of_comparison) (arithmetic-sound I h s) (λ l. comparison-sound I l.0 h l.1)
 
-denied-sound : (I : Inner) → Inside I → Sound (grammar.denied I) (Formed of_negation)
-unfolding grammar.denied
+denied-sound : (I : Inner) → Inside I → Sound (grammar.negated_relation I) (Formed of_negation)
+unfolding grammar.negated_relation
 denied-sound I h s =
     seq (grammar.relation I s) (λ r. Some (unary Not r.0, r.1)) s.notes (Formed of_comparison) (Formed of_negation) (relation-sound I h s) (λ r c. (c, λ f. formed.denied r.0 f))
 
 negation-sound : (I : Inner) → Inside I → Sound (grammar.negation I) (Formed of_negation)
 unfolding grammar.negation
 negation-sound I h s =
-    else_word (codes ".NOT.") s (grammar.denied I) _ (Formed of_negation) (λ r. denied-sound I h (record s { rest = r }))
+    else_word (codes ".NOT.") s (grammar.negated_relation I) _ (Formed of_negation) (λ r. denied-sound I h (record s { rest = r }))
     (weaken (grammar.relation I s) s.notes (Formed of_comparison) (Formed of_negation) (relation-sound I h s) formed.asserted)
 
 IsAnd : BinaryOp → Type 0

@@ -8,8 +8,8 @@ use Rattle.f77_forms.specs.declared.choice.Choice.TheVariants.{Chosen}
 use Rattle.f77_forms.specs.declared.outline.Outline.{Outline}
 use Rattle.f77_forms.specs.declared.outline.Marks.{Marks}
 use Rattle.f77_forms.specs.declared.outline.Marks.TheVariants.{NoEqual, Equal}
-use Rattle.f77_forms.specs.Words.{behind}
-use Rattle.f77_forms.specs.Outline.{front, is_outer, is_one_deep, has_comma, marks_of, behind_close}
+use Rattle.f77_forms.specs.Words.{rest_after}
+use Rattle.f77_forms.specs.Outline.{front, is_outer, is_one_deep, has_comma, marks_of, rest_after_close}
 use Rattle.f77_forms.specs.Choice.{if_body, if_choice, keyword_choice, marked_choice}
 use Rattle.f77_forms.specs.Profile.{profile}
 use Rattle.f77_statements.specs.Statements.{form_in, form_at}
@@ -69,9 +69,9 @@ two_letters true true x h = h
 two_letters true false x h = refl
 two_letters false b x h = refl
 
-pub no_if : (n u : List ℕ) → IsName n → if_body u ≡ None → behind (70 ∷ []) u ≡ None → if_choice (n ++ u) ≡ None
+pub no_if : (n u : List ℕ) → IsName n → if_body u ≡ None → rest_after (70 ∷ []) u ≡ None → if_choice (n ++ u) ≡ None
 no_if [] u h b f = let g = h.letter in cc
-no_if (c ∷ []) u h b f = one_letter (nat_eq c 73) (behind (70 ∷ []) u) f
+no_if (c ∷ []) u h b f = one_letter (nat_eq c 73) (rest_after (70 ∷ []) u) f
 no_if (c ∷ d ∷ []) u h b f = two_letters (nat_eq c 73) (nat_eq d 70) u b
 no_if (c ∷ d ∷ e ∷ cs) u h b f =
     let p = first_in_name (in_name c) c (d ∷ e ∷ cs) refl h.whole in
@@ -80,9 +80,9 @@ no_if (c ∷ d ∷ e ∷ cs) u h b f =
     two_letters (nat_eq c 73) (nat_eq d 70) (e ∷ (cs ++ u)) (not_open e (cs ++ u) r.first)
 
 -- the parenthesis is closed before what follows
-pub closes_before : (t u : List ℕ) → Balanced deep t → behind_close front (40 ∷ (t ++ (41 ∷ u))) ≡ Some u
+pub closes_before : (t u : List ℕ) → Balanced deep t → rest_after_close front (40 ∷ (t ++ (41 ∷ u))) ≡ Some u
 closes_before t u b =
     let l : Level 1 (opened front) = record { plain = refl; depth = refl } in
-    let p = passes behind_close CloseFine close_scanner b (opened front) (41 ∷ u) 1 l (omega arith) in
+    let p = passes rest_after_close CloseFine close_scanner b (opened front) (41 ∷ u) 1 l (omega arith) in
     let d : is_one_deep p.reached ≡ true = deep-yes p.reached p.level in
     p.same ∙ rw d

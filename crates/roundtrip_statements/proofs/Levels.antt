@@ -11,7 +11,7 @@ use Rattle.f77_exprs.specs.declared.at.Notes.{Notes}
 use Rattle.f77_exprs.specs.Words.{after}
 use Rattle.f77_exprs.specs.State.{State, or_done, ◌>>=◌}
 use Rattle.f77_exprs.specs.Operators.{one_of, relations, equivalences, sums, products}
-use Rattle.f77_exprs.specs.Grammar.{primary, exponent, factor, term, signed, signed_term, arithmetic, comparison, relation, denied, negation}
+use Rattle.f77_exprs.specs.Grammar.{primary, exponent, factor, term, signed, signed_term, arithmetic, comparison, relation, negated_relation, negation}
 use Rattle.f77_exprs.specs.Laws.{inside}
 use Rattle.f77_exprs.proofs.Depth.{is_grammar}
 use Rattle.f77_printer.specs.ExprText.{expr_text}
@@ -120,5 +120,5 @@ negation_alone e f x t k h =
     rw d (x t k h)
 
 pub negation_denied : (e : ExprTree) → Back (relation inside) (expr_text e) e BehindComparison → Back (negation inside) (expr_text (unary Not e)) (unary Not e) BehindComparison
-unfolding negation denied
+unfolding negation negated_relation
 negation_denied e x t k h = ap (λ (o : Option (ExprTree × State)). o >>= λ r. Some (unary Not r.0, r.1)) (x t k h)

@@ -10,8 +10,8 @@ use Rattle.f77_exprs.specs.Words.{after}
 use Rattle.f77_exprs.specs.State.{State, take_word, ◌>>=◌}
 use Rattle.f77_exprs.specs.Lexical.{number, number_first}
 use Rattle.f77_exprs.specs.Grammar.{items, items_by, more_by, variable, literal}
-use Rattle.f77_statements.specs.Lists.{ending, past, past_comma}
-use Rattle.f77_statements.specs.Parts.{entity, block_name, unless, member_comma, members, block, first_block, or_this, next_block, integer, signed_integer, data_constant, repeated, counted, data_value, data_group, next_of, next_group}
+use Rattle.f77_statements.specs.Lists.{ending, past, skip_comma}
+use Rattle.f77_statements.specs.Parts.{entity, block_name, unless, member_comma, members, block, first_block, or_this, next_block, integer, signed_integer, data_constant, repeat_value, value_or_count, data_value, data_group, next_of, next_group}
 use Rattle.f77_printer.specs.ExprText.{expr_text}
 use Rattle.f77_printer.specs.DeclText.{joined_by, entity_text, data_value_text}
 use Rattle.roundtrip_statements.specs.Weights.{Weight, weigh}
@@ -131,17 +131,17 @@ module _ (w : Weight) where
   abbrev vw : DataValueTree → ℕ
   vw v = weigh w (data_value_text v)
 
-  counted-light : (n e : ℕ) (s : State) → Within w (counted n s) ((e + weigh w (decimal n)) + weigh w s.rest) (λ v. e + vw v)
-  unfolding counted repeated
+  counted-light : (n e : ℕ) (s : State) → Within w (value_or_count n s) ((e + weigh w (decimal n)) + weigh w s.rest) (λ v. e + vw v)
+  unfolding value_or_count repeat_value
   counted-light n e s =
-      done_word w (codes "*") (record { repeat = None; value = int (pos n) }) s (repeated n) (e + weigh w (decimal n)) (λ v. e + vw v) (omega arith)
+      done_word w (codes "*") (record { repeat = None; value = int (pos n) }) s (repeat_value n) (e + weigh w (decimal n)) (λ v. e + vw v) (omega arith)
       (λ r. then_read w data_constant (ew w) (λ c. Some (record { repeat = Some n; value = c.0 }, c.1)) (record s { rest = r }) ((e + weigh w (decimal n)) + weigh w (codes "*")) (λ v. e + vw v) constant-light
       (λ c. simp (weigh-append w) (omega arith)))
 
   value_by : (b : Bool) (s : State) (e : ℕ) → number_first s.rest ≡ b
-      → Within w (if b then counted (number s).0 (number s).1 else (data_constant s >>= λ c. Some (record { repeat = None; value = c.0 }, c.1))) (e + weigh w s.rest) (λ v. e + vw v)
+      → Within w (if b then value_or_count (number s).0 (number s).1 else (data_constant s >>= λ c. Some (record { repeat = None; value = c.0 }, c.1))) (e + weigh w s.rest) (λ v. e + vw v)
   value_by true s e h =
-      widen w (counted (number s).0 (number s).1) ((e + weigh w (decimal (number s).0)) + weigh w (number s).1.rest) (e + weigh w s.rest) (λ v. e + vw v) (number_light w s e h) (counted-light (number s).0 e (number s).1)
+      widen w (value_or_count (number s).0 (number s).1) ((e + weigh w (decimal (number s).0)) + weigh w (number s).1.rest) (e + weigh w s.rest) (λ v. e + vw v) (number_light w s e h) (counted-light (number s).0 e (number s).1)
   value_by false s e h = then_read w data_constant (ew w) (λ c. Some (record { repeat = None; value = c.0 }, c.1)) s e (λ v. e + vw v) constant-light (λ c. omega arith)
 
   value-light : Light w data_value vw
@@ -163,7 +163,7 @@ module _ (w : Weight) where
   past_light word None s h = omega arith
   past_light word (Some r) s h = omega arith
 
-  pub past_comma_light : (s : State) → weigh w (past_comma s).rest ≤ weigh w s.rest
+  pub past_comma_light : (s : State) → weigh w (skip_comma s).rest ≤ weigh w s.rest
   past_comma_light s = past_light (codes ",") (after (codes ",") s.rest) s (cheaper w 0 (weigh w (codes ",")) s (take_word (codes ",") s) (omega arith) (word_costs w (codes ",") s))
 
   group_cost : (t : List ℕ) (s : State) → Cost w 0 s (next_of t s)

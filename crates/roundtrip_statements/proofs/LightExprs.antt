@@ -174,14 +174,14 @@ module _ (w : Weight) where
   relation-light I h e s =
       then_read w (grammar.arithmetic I) (ew w) (λ l. grammar.comparison I l.0 l.1) s e (λ x. e + ew w x) (arithmetic-light I h) (λ l. comparison-light I l.0 h e l.1)
 
-  denied-light : (I : Inner) → Inside I → (e : ℕ) (s : State) → Within w (grammar.denied I s) ((e + weigh w (codes ".NOT.")) + weigh w s.rest) (λ x. e + ew w x)
-  unfolding grammar.denied
+  denied-light : (I : Inner) → Inside I → (e : ℕ) (s : State) → Within w (grammar.negated_relation I s) ((e + weigh w (codes ".NOT.")) + weigh w s.rest) (λ x. e + ew w x)
+  unfolding grammar.negated_relation
   denied-light I h e s =
       then_read w (grammar.relation I) (ew w) (λ r. Some (unary Not r.0, r.1)) s (e + weigh w (codes ".NOT.")) (λ x. e + ew w x) (relation-light I h) (λ r. omega (arith, unary_weight Not r.0))
 
   negation-light : (I : Inner) → Inside I → LightExpr (grammar.negation I)
   unfolding grammar.negation
-  negation-light I h e s = else_word w (codes ".NOT.") s (grammar.denied I) _ e (λ x. e + ew w x) (λ r. denied-light I h e (record s { rest = r })) (relation-light I h e s)
+  negation-light I h e s = else_word w (codes ".NOT.") s (grammar.negated_relation I) _ e (λ x. e + ew w x) (λ r. denied-light I h e (record s { rest = r })) (relation-light I h e s)
 
   equivalence-light : (I : Inner) → Inside I → LightExpr (grammar.equivalence I)
   equivalence-light I h =

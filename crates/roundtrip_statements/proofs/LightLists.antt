@@ -6,7 +6,7 @@ use Rattle.f77_ast.specs.Plain.{exprs_of}
 use Rattle.f77_exprs.specs.Words.{after}
 use Rattle.f77_exprs.specs.State.{State, Reader, take_word, or_done, ◌>>=◌}
 use Rattle.f77_exprs.specs.Grammar.{Between, comma, more_by, items_by, items}
-use Rattle.f77_statements.specs.Lists.{ending, or_end, items_left, enclosed, maybe_enclosed, maybe_listed}
+use Rattle.f77_statements.specs.Lists.{ending, or_end, items_left, in_parentheses, maybe_in_parentheses, maybe_after_comma}
 use Rattle.f77_printer.specs.ExprText.{expr_text, exprs_text, items_text}
 use Rattle.f77_printer.specs.DeclText.{others_by, joined_by}
 use Rattle.roundtrip_statements.specs.Weights.{Weight, weigh}
@@ -139,20 +139,20 @@ module _ (w : Weight) where
   wrapped-le u e (x ∷ xs) = omega arith
 
   enclosed-light : {A : Type 0} (one : Reader A) (u : A → ℕ) → Light w one u → (e : ℕ) (s : State)
-      → Within w (enclosed one s) ((e + weigh w (codes "(")) + weigh w s.rest) (λ xs. e + wrapped u xs)
-  unfolding enclosed
+      → Within w (in_parentheses one s) ((e + weigh w (codes "(")) + weigh w s.rest) (λ xs. e + wrapped u xs)
+  unfolding in_parentheses
   enclosed-light one u h e s =
       let b : ℕ = e + weigh w (codes "(") in
       else_word w (codes ")") s (λ t. Some ([], t)) (ending (codes ")") (items one) s) b (λ xs. e + wrapped u xs) (λ r. omega arith)
       (lower w (ending (codes ")") (items one) s) (b + weigh w s.rest) (λ xs. b + (parted (w.of 44) u xs + weigh w (codes ")"))) (λ xs. e + wrapped u xs) (wrapped-le u e)
       (ending-light (codes ")") (items one) (parted (w.of 44) u) (items-light one u h) b s))
 
-  pub maybe_enclosed-light : {A : Type 0} (one : Reader A) (u : A → ℕ) → Light w one u → Light w (maybe_enclosed one) (wrapped u)
-  unfolding maybe_enclosed
-  maybe_enclosed-light one u h e s = done_word w (codes "(") [] s (enclosed one) e (λ xs. e + wrapped u xs) (omega arith) (λ r. enclosed-light one u h e (record s { rest = r }))
+  pub maybe_enclosed-light : {A : Type 0} (one : Reader A) (u : A → ℕ) → Light w one u → Light w (maybe_in_parentheses one) (wrapped u)
+  unfolding maybe_in_parentheses
+  maybe_enclosed-light one u h e s = done_word w (codes "(") [] s (in_parentheses one) e (λ xs. e + wrapped u xs) (omega arith) (λ r. enclosed-light one u h e (record s { rest = r }))
 
-  pub maybe_listed-light : {A : Type 0} (one : Reader A) (u : A → ℕ) → Light w one u → Light w (maybe_listed one) (led (w.of 44) u)
-  unfolding maybe_listed
+  pub maybe_listed-light : {A : Type 0} (one : Reader A) (u : A → ℕ) → Light w one u → Light w (maybe_after_comma one) (led (w.of 44) u)
+  unfolding maybe_after_comma
   maybe_listed-light one u h e s =
       done_word w (codes ",") [] s (items one) e (λ xs. e + led (w.of 44) u xs) (omega arith)
       (λ r. let t : State = record s { rest = r } in

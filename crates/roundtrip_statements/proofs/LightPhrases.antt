@@ -9,7 +9,7 @@ use Rattle.f77_exprs.specs.Grammar.{expression}
 use Rattle.f77_forms.specs.declared.form.FormId.{FormId}
 use Rattle.f77_forms.specs.declared.form.FormId.TheVariants as forms
 use Rattle.f77_statements.specs.declared.refusal.Cause.{Cause}
-use Rattle.f77_statements.specs.Lists.{past_comma, maybe_enclosed}
+use Rattle.f77_statements.specs.Lists.{skip_comma, maybe_in_parentheses}
 use Rattle.f77_statements.specs.Phrases.{PhraseTree, program, subroutine, specification, simple, block_if, else_if, else_part, end_if, do_head, end_do, end_module}
 use Rattle.f77_statements.specs.Phrases as phrases
 use Rattle.f77_statements.specs.Specifications.{implicit_statement, integer_statement, logical_statement, dimension_statement, parameter_statement, common_statement, equivalence_statement, save_statement, data_statement}
@@ -82,7 +82,7 @@ module _ (w : Weight) where
   subroutine-light e s =
       then_word w (codes "SUBROUTINE") s _ e (λ p. e + hw p)
       (λ r. then_read w name_at (weigh w) _ (record s { rest = r }) _ (λ p. e + hw p) (name-light w)
-      (λ n. then_read w (maybe_enclosed name_at) (wrapped w (weigh w)) _ n.1 _ (λ p. e + hw p) (maybe_enclosed-light w name_at (weigh w) (name-light w))
+      (λ n. then_read w (maybe_in_parentheses name_at) (wrapped w (weigh w)) _ n.1 _ (λ p. e + hw p) (maybe_enclosed-light w name_at (weigh w) (name-light w))
       (λ ds. omega (arith, weigh-append w n.0 (dummies_text ds.0), dummies_weight ds.0))))
 
   test-light : Light w if_test (λ x. ew w x + weigh w (codes ")"))
@@ -120,8 +120,8 @@ module _ (w : Weight) where
 
   -- ---- DO
 
-  terminal_by : (b : Bool) (e : ℕ) (s : State) → Within w (if b then (label_at s >>= λ l. Some (Some l.0, past_comma l.1)) else Some (None, s)) (e + weigh w s.rest) (λ x. e + 0)
-  terminal_by true e s = then_read w label_at (λ n. weigh w (decimal n)) (λ l. Some (Some l.0, past_comma l.1)) s e (λ x. e + 0) (label-light w) (λ l. omega (arith, past_comma_light w l.1))
+  terminal_by : (b : Bool) (e : ℕ) (s : State) → Within w (if b then (label_at s >>= λ l. Some (Some l.0, skip_comma l.1)) else Some (None, s)) (e + weigh w s.rest) (λ x. e + 0)
+  terminal_by true e s = then_read w label_at (λ n. weigh w (decimal n)) (λ l. Some (Some l.0, skip_comma l.1)) s e (λ x. e + 0) (label-light w) (λ l. omega (arith, past_comma_light w l.1))
   terminal_by false e s = omega arith
 
   terminal-light : Light w terminal (λ x. 0)

@@ -9,8 +9,8 @@ use Rattle.f77_exprs.specs.Lexical.{name_at, label_at, digit_first, skip_digits,
 use Rattle.f77_exprs.specs.Grammar.{expression, variable}
 use Rattle.f77_forms.specs.declared.form.FormId.{FormId}
 use Rattle.f77_forms.specs.declared.form.FormId.TheVariants as forms
-use Rattle.f77_statements.specs.Lists.{items_left, maybe_enclosed, maybe_listed}
-use Rattle.f77_statements.specs.Executables.{assignment, call_statement, goto_statement, continue_statement, return_statement, five_digits, message, stop_text, stop_statement, print_statement, written, write_statement, read_listed, read_left, read_statement}
+use Rattle.f77_statements.specs.Lists.{items_left, maybe_in_parentheses, maybe_after_comma}
+use Rattle.f77_statements.specs.Executables.{assignment, call_statement, goto_statement, continue_statement, return_statement, five_digits, message, stop_text, stop_statement, print_statement, write_list, write_statement, read_listed, read_left, read_statement}
 use Rattle.f77_statements.specs.Statements.{what_by}
 use Rattle.f77_printer.specs.ExprText.{exprs_text, doubled}
 use Rattle.f77_printer.specs.StatementText.{actuals_text}
@@ -44,7 +44,7 @@ module _ (w : Weight) where
   call-light e s =
       then_word w (codes "CALL") s _ e (λ x. e + cw x)
       (λ r. then_read w name_at (weigh w) _ (record s { rest = r }) _ (λ x. e + cw x) (name-light w)
-      (λ n. then_read w (maybe_enclosed expression) (wrapped w (ew w)) _ n.1 _ (λ x. e + cw x) (maybe_enclosed-light w expression (ew w) (expression_light w))
+      (λ n. then_read w (maybe_in_parentheses expression) (wrapped w (ew w)) _ n.1 _ (λ x. e + cw x) (maybe_enclosed-light w expression (ew w) (expression_light w))
       (λ es. omega (arith, weigh-append w n.0 (actuals_text (exprs_of es.0)), actuals_weight es.0))))
 
   goto-light : Light w goto_statement cw
@@ -111,7 +111,7 @@ module _ (w : Weight) where
   unfolding print_statement
   print-light e s =
       then_word w (codes "PRINT*") s _ e (λ x. e + cw x)
-      (λ r. then_read w (maybe_listed expression) (led (w.of 44) (ew w)) _ (record s { rest = r }) _ (λ x. e + cw x) (maybe_listed-light w expression (ew w) (expression_light w))
+      (λ r. then_read w (maybe_after_comma expression) (led (w.of 44) (ew w)) _ (record s { rest = r }) _ (λ x. e + cw x) (maybe_listed-light w expression (ew w) (expression_light w))
       (λ es. omega (arith, items_weight w es.0)))
 
   led_parted : (xs : List ExprTree) → led (w.of 44) (ew w) xs ≤ w.of 44 + parted (w.of 44) (ew w) xs
@@ -119,8 +119,8 @@ module _ (w : Weight) where
   led_parted (x ∷ xs) = omega arith
 
   -- PRINT and a comma weigh less than WRITE and its unit
-  written-light : (e : ℕ) (s : State) (d : ℕ) → weigh w (codes "PRINT*,") ≤ d → Within w (written s) ((e + d) + weigh w s.rest) (λ x. e + cw x)
-  unfolding written
+  written-light : (e : ℕ) (s : State) (d : ℕ) → weigh w (codes "PRINT*,") ≤ d → Within w (write_list s) ((e + d) + weigh w s.rest) (λ x. e + cw x)
+  unfolding write_list
   written-light e s d h =
       then_read w (items_left expression) (parted (w.of 44) (ew w)) _ s (e + d) (λ x. e + cw x) (items_left-light w expression (ew w) (expression_light w))
       (λ es. omega (arith, items_weight w es.0, led_parted es.0))
@@ -134,13 +134,13 @@ module _ (w : Weight) where
   write-light : Light w write_statement cw
   unfolding write_statement
   write-light e s =
-      else_word w (codes "WRITE(*,*)") s written _ e (λ x. e + cw x) (λ r. written-light e (record s { rest = r }) (weigh w (codes "WRITE(*,*)")) wide)
-      (else_word w (codes "WRITE(6,*)") s written None e (λ x. e + cw x) (λ r. written-light e (record s { rest = r }) (weigh w (codes "WRITE(6,*)")) numbered) tt)
+      else_word w (codes "WRITE(*,*)") s write_list _ e (λ x. e + cw x) (λ r. written-light e (record s { rest = r }) (weigh w (codes "WRITE(*,*)")) wide)
+      (else_word w (codes "WRITE(6,*)") s write_list None e (λ x. e + cw x) (λ r. written-light e (record s { rest = r }) (weigh w (codes "WRITE(6,*)")) numbered) tt)
 
   listed-light : (e : ℕ) (s : State) → Within w (read_listed s) ((e + weigh w (codes "READ*")) + weigh w s.rest) (λ x. e + cw x)
   unfolding read_listed
   listed-light e s =
-      then_read w (maybe_listed variable) (led (w.of 44) (ew w)) _ s (e + weigh w (codes "READ*")) (λ x. e + cw x) (maybe_listed-light w variable (ew w) (variable_light w))
+      then_read w (maybe_after_comma variable) (led (w.of 44) (ew w)) _ s (e + weigh w (codes "READ*")) (λ x. e + cw x) (maybe_listed-light w variable (ew w) (variable_light w))
       (λ es. omega (arith, items_weight w es.0))
 
   left-light : (e : ℕ) (s : State) (d : ℕ) → weigh w (codes "READ*,") ≤ d → Within w (read_left s) ((e + d) + weigh w s.rest) (λ x. e + cw x)

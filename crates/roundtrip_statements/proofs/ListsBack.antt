@@ -6,7 +6,7 @@ use Rattle.f77_exprs.specs.declared.at.Notes.{Notes}
 use Rattle.f77_exprs.specs.Words.{after}
 use Rattle.f77_exprs.specs.State.{State, Reader, take_word, ◌>>=◌}
 use Rattle.f77_exprs.specs.Grammar.{Between, comma, items, items_by, expression, variable}
-use Rattle.f77_statements.specs.Lists.{ending, enclosed, maybe_listed}
+use Rattle.f77_statements.specs.Lists.{ending, in_parentheses, maybe_after_comma}
 use Rattle.f77_printer.specs.ExprText.{expr_text, items_text}
 use Rattle.f77_printer.specs.DeclText.{joined_by}
 use Rattle.roundtrip_statements.specs.Formed.{AllFormed, more, none, IsExpression, IsVariable}
@@ -39,8 +39,8 @@ ending_back one x s t k h = ap (λ (o : Option (_ × State)). o >>= λ r. take_w
 -- in parentheses
 pub enclosed_back : {A : Type 0} (one : Reader A) (text : A → List ℕ) (Stops : List ℕ → Type 0) (P : A → Type 0) → Listed comma one text Stops P
     → (x : A) (xs : List A) (t : List ℕ) (k : Notes) → P x → Each P xs → Stops (41 ∷ t) → after (codes ")") (joined_by text (x ∷ xs) ++ (41 ∷ t)) ≡ None
-    → enclosed one (standing (joined_by text (x ∷ xs) ++ (41 ∷ t)) k) ≡ Some (x ∷ xs, standing t k)
-unfolding enclosed ending
+    → in_parentheses one (standing (joined_by text (x ∷ xs) ++ (41 ∷ t)) k) ≡ Some (x ∷ xs, standing t k)
+unfolding in_parentheses ending
 enclosed_back one text Stops P l x xs t k p e s n =
     rw n (ap (λ (o : Option (List _ × State)). o >>= λ r. take_word (codes ")") r.1 >>= λ t. Some (r.0, t)) (items_back comma one text Stops P l x xs (41 ∷ t) k p e s refl))
 
@@ -60,15 +60,15 @@ pub each_variable : (es : ExprTrees) → AllVariables es → Each IsVariable (li
 each_variable no_exprs h = tt
 each_variable (more_exprs e es) h = record { first = h.first; others = each_variable es h.others }
 
-pub expressions_left : {es : ExprTrees} → AllFormed es → (k : Notes) → maybe_listed expression (standing (items_text es) k) ≡ Some (list_of es, standing [] k)
-unfolding maybe_listed
+pub expressions_left : {es : ExprTrees} → AllFormed es → (k : Notes) → maybe_after_comma expression (standing (items_text es) k) ≡ Some (list_of es, standing [] k)
+unfolding maybe_after_comma
 expressions_left none k = refl
 expressions_left (more e es f fs) k =
     ap (λ (y : List ℕ). items expression (standing (expr_text e ++ y) k)) (items-text es)
     ∙ items_end comma expression expr_text BehindEquivalence IsExpression expressions_listed e (list_of es) k f (each_formed fs) at_end refl
 
-pub variables_left : (es : ExprTrees) (k : Notes) → AllVariables es → maybe_listed variable (standing (items_text es) k) ≡ Some (list_of es, standing [] k)
-unfolding maybe_listed
+pub variables_left : (es : ExprTrees) (k : Notes) → AllVariables es → maybe_after_comma variable (standing (items_text es) k) ≡ Some (list_of es, standing [] k)
+unfolding maybe_after_comma
 variables_left no_exprs k h = refl
 variables_left (more_exprs e es) k h =
     ap (λ (y : List ℕ). items variable (standing (expr_text e ++ y) k)) (items-text es)

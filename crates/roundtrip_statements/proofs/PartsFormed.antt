@@ -16,7 +16,7 @@ use Rattle.f77_exprs.specs.State.{State, take_word, or_done, ◌>>=◌}
 use Rattle.f77_exprs.specs.Lexical.{name_at, number, number_first}
 use Rattle.f77_exprs.specs.Grammar.{comma, items, items_by, more_by, expression, variable, literal}
 use Rattle.f77_statements.specs.Lists.{ending, past}
-use Rattle.f77_statements.specs.Parts.{letter, letter_of, letters, ranges, implicit_part, upper, extent, bounds, entity, array, setting, group, block_name, save_item, unless, member_comma, members, block, first_block, or_this, next_block, integer, signed_integer, data_constant, repeated, counted, data_value, data_group, next_of, next_group}
+use Rattle.f77_statements.specs.Parts.{letter, letter_of, letters, ranges, implicit_part, upper, extent, bounds, entity, array, setting, group, block_name, save_item, unless, member_comma, members, block, first_block, or_this, next_block, integer, signed_integer, data_constant, repeat_value, value_or_count, data_value, data_group, next_of, next_group}
 use Rattle.f77_statements.specs.Parts as parts
 use Rattle.roundtrip_statements.specs.Formed.{IsName, Filled, IsExpression, IsVariable}
 use Rattle.roundtrip_statements.specs.Declared.{IsExtent, IsEntity, IsArray, IsRange, IsPart, IsSetting, IsBlock, IsCommon, IsGroup, IsSaved, IsConstant, truth, whole, raised, lowered, IsValue, IsInitial}
@@ -268,16 +268,16 @@ constant-sound s =
     seq (integer t) (λ n. Some (unary Minus n.0, n.1)) s.notes (λ e. (n : ℕ) × (n < 2147483648) × (e ≡ int (pos n))) IsConstant (integer-sound t) (λ n c. (c, λ h. minus_constant n.0 h)))
     (weaken (integer s) s.notes (λ e. (n : ℕ) × (n < 2147483648) × (e ≡ int (pos n))) IsConstant (integer-sound s) plain_constant))))
 
-counted-sound : (n : ℕ) → Sound (counted n) (λ v. n < 2147483648 → IsValue v)
-unfolding counted repeated
+counted-sound : (n : ℕ) → Sound (value_or_count n) (λ v. n < 2147483648 → IsValue v)
+unfolding value_or_count repeat_value
 counted-sound n s =
-    done_word (codes "*") (record { repeat = None; value = int (pos n) }) s (repeated n) (λ v. n < 2147483648 → IsValue v) (λ h. record { repeat = tt; value = whole n h })
+    done_word (codes "*") (record { repeat = None; value = int (pos n) }) s (repeat_value n) (λ v. n < 2147483648 → IsValue v) (λ h. record { repeat = tt; value = whole n h })
     (λ r. let t : State = record s { rest = r } in
     seq (data_constant t) (λ c. Some (record { repeat = Some n; value = c.0 }, c.1)) s.notes IsConstant (λ v. n < 2147483648 → IsValue v) (constant-sound t)
     (λ c d. (d, λ h g. record { repeat = g; value = h })))
 
-value_in : (b : Bool) (s : State) → After (if b then counted (number s).0 (number s).1 else (data_constant s >>= λ c. Some (record { repeat = None; value = c.0 }, c.1))) s.notes IsValue
-value_in true s = seq (Some (number s)) (λ n. counted n.0 n.1) s.notes (λ n. n < 2147483648) IsValue (number-formed s) (λ n. counted-sound n.0 n.1)
+value_in : (b : Bool) (s : State) → After (if b then value_or_count (number s).0 (number s).1 else (data_constant s >>= λ c. Some (record { repeat = None; value = c.0 }, c.1))) s.notes IsValue
+value_in true s = seq (Some (number s)) (λ n. value_or_count n.0 n.1) s.notes (λ n. n < 2147483648) IsValue (number-formed s) (λ n. counted-sound n.0 n.1)
 value_in false s = seq (data_constant s) (λ c. Some (record { repeat = None; value = c.0 }, c.1)) s.notes IsConstant IsValue (constant-sound s) (λ c d. (d, λ h. record { repeat = tt; value = h }))
 
 value-sound : Sound data_value IsValue

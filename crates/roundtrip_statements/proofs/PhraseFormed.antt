@@ -9,7 +9,7 @@ use Rattle.f77_exprs.specs.Lexical.{name_at, label_at, digit_first}
 use Rattle.f77_exprs.specs.Grammar.{expression}
 use Rattle.f77_forms.specs.declared.form.FormId.{FormId}
 use Rattle.f77_statements.specs.declared.refusal.Cause.{Cause}
-use Rattle.f77_statements.specs.Lists.{past, past_comma, maybe_enclosed}
+use Rattle.f77_statements.specs.Lists.{past, skip_comma, maybe_in_parentheses}
 use Rattle.f77_statements.specs.Phrases.{PhraseTree, program, subroutine, block_if, else_if, do_head}
 use Rattle.f77_statements.specs.Phrases as phrases
 use Rattle.f77_statements.specs.Statements.{program_statement, subroutine_statement, if_test, block_if_statement, else_if_statement, what_of, what_at, form_at, logical_if_statement, terminal, some_step, step, range, do_statement, alone, simply}
@@ -32,10 +32,10 @@ program-formed s =
 pub subroutine-formed : Sound subroutine_statement IsPhrase
 unfolding subroutine_statement
 subroutine-formed s =
-    then_word (codes "SUBROUTINE") s (λ t. name_at t >>= λ n. maybe_enclosed name_at n.1 >>= λ ds. Some (subroutine n.0 ds.0, ds.1)) IsPhrase
+    then_word (codes "SUBROUTINE") s (λ t. name_at t >>= λ n. maybe_in_parentheses name_at n.1 >>= λ ds. Some (subroutine n.0 ds.0, ds.1)) IsPhrase
     (λ r. let t : State = record s { rest = r } in
-    seq (name_at t) (λ n. maybe_enclosed name_at n.1 >>= λ ds. Some (subroutine n.0 ds.0, ds.1)) s.notes IsName IsPhrase (name-formed t)
-    (λ n. seq (maybe_enclosed name_at n.1) (λ ds. Some (subroutine n.0 ds.0, ds.1)) n.1.notes (Each IsName) (λ p. IsName n.0 → IsPhrase p) (maybe_enclosed-sound name_at IsName name-formed n.1)
+    seq (name_at t) (λ n. maybe_in_parentheses name_at n.1 >>= λ ds. Some (subroutine n.0 ds.0, ds.1)) s.notes IsName IsPhrase (name-formed t)
+    (λ n. seq (maybe_in_parentheses name_at n.1) (λ ds. Some (subroutine n.0 ds.0, ds.1)) n.1.notes (Each IsName) (λ p. IsName n.0 → IsPhrase p) (maybe_enclosed-sound name_at IsName name-formed n.1)
     (λ ds c. (c, λ e h. record { name = h; dummies = e }))))
 
 test-sound : Sound if_test IsExpression
@@ -81,11 +81,11 @@ past_kept : (o : Option (List ℕ)) (s : State) → (past s (option_map (λ r. r
 past_kept None s = refl
 past_kept (Some r) s = refl
 
-label_step : (o : Option (ℕ × State)) (k : Notes) → After o k (λ n. n < 2147483648) → After (o >>= λ l. Some (Some l.0, past_comma l.1)) k (λ (x : Option ℕ). Unit {0})
+label_step : (o : Option (ℕ × State)) (k : Notes) → After o k (λ n. n < 2147483648) → After (o >>= λ l. Some (Some l.0, skip_comma l.1)) k (λ (x : Option ℕ). Unit {0})
 label_step None k h = tt
 label_step (Some l) k h = λ c. let p = h (subst IsClean (past_kept (after (codes ",") l.1.rest) l.1) c) in (p.0, tt)
 
-terminal_at : (b : Bool) (s : State) → After (if b then (label_at s >>= λ l. Some (Some l.0, past_comma l.1)) else Some (None, s)) s.notes (λ (x : Option ℕ). Unit {0})
+terminal_at : (b : Bool) (s : State) → After (if b then (label_at s >>= λ l. Some (Some l.0, skip_comma l.1)) else Some (None, s)) s.notes (λ (x : Option ℕ). Unit {0})
 terminal_at true s = label_step (label_at s) s.notes (label-formed s)
 terminal_at false s = λ c. (c, tt)
 

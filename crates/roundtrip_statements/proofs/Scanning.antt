@@ -4,7 +4,7 @@ use Rattle.std.specs.Prelude.{nat_eq, nat_le, ◌&&◌}
 use Rattle.std.proofs.lemmas.Bool.{lt-leb, le-leb, ne_eqb, eq-eqb, and_right, and_left}
 use Rattle.f77_forms.specs.declared.outline.Outline.{Outline}
 use Rattle.f77_forms.specs.declared.outline.Marks.{Marks}
-use Rattle.f77_forms.specs.Outline.{step, is_outer, is_one_deep, has_comma, marks_of, behind_close}
+use Rattle.f77_forms.specs.Outline.{step, is_outer, is_one_deep, has_comma, marks_of, rest_after_close}
 use Rattle.f77_printer.specs.ExprText.{doubled}
 use Rattle.roundtrip_statements.proofs.Balanced.{Kind, tight, listed, deep, Balanced, empty, char, comma, inner_comma, equal, quoted, nested, pair}
 use Rattle.roundtrip_statements.proofs.Stripping.{Quiet, quiet_parts}
@@ -195,15 +195,15 @@ deep-yes o l =
     let q : nat_eq o.opens (o.closes + 1) ≡ true = eq-eqb o.opens (o.closes + 1) e in
     rw (p, q)
 
-pub close_scanner : Scanner behind_close CloseFine
+pub close_scanner : Scanner rest_after_close CloseFine
 close_scanner = record {
-  quiet = λ c o cs q p. close_unless (nat_eq c 41 && is_one_deep o) _ (behind_close (step c o) cs) (and_left (nat_eq c 41) (is_one_deep o) q.closing) ∙ ap (λ (x : Outline). behind_close x cs) (step_quiet c o q p);
-  comma = λ o d cs l f. ap (λ (x : Outline). behind_close x cs) (step_other o);
-  equal = λ o d cs l f. ap (λ (x : Outline). behind_close x cs) (step_other o);
-  opening = λ o cs p. ap (λ (x : Outline). behind_close x cs) (step_plain o.quoted o (opened o) p);
-  closing = λ o d cs l i k f. close_unless (is_one_deep o) _ (behind_close (step 41 o) cs) (deep-no o d l f) ∙ ap (λ (x : Outline). behind_close x cs) (step_plain o.quoted o (closed o) l.plain);
+  quiet = λ c o cs q p. close_unless (nat_eq c 41 && is_one_deep o) _ (rest_after_close (step c o) cs) (and_left (nat_eq c 41) (is_one_deep o) q.closing) ∙ ap (λ (x : Outline). rest_after_close x cs) (step_quiet c o q p);
+  comma = λ o d cs l f. ap (λ (x : Outline). rest_after_close x cs) (step_other o);
+  equal = λ o d cs l f. ap (λ (x : Outline). rest_after_close x cs) (step_other o);
+  opening = λ o cs p. ap (λ (x : Outline). rest_after_close x cs) (step_plain o.quoted o (opened o) p);
+  closing = λ o d cs l i k f. close_unless (is_one_deep o) _ (rest_after_close (step 41 o) cs) (deep-no o d l f) ∙ ap (λ (x : Outline). rest_after_close x cs) (step_plain o.quoted o (closed o) l.plain);
   apostrophe = λ o cs. refl;
-  inside = λ c o cs p n. close_unless (nat_eq c 41 && is_one_deep o) _ (behind_close (step c o) cs) (and_right (nat_eq c 41) (is_one_deep o) (quoted-not_deep o p)) ∙ ap (λ (x : Outline). behind_close x cs) (step_inside c o p n);
+  inside = λ c o cs p n. close_unless (nat_eq c 41 && is_one_deep o) _ (rest_after_close (step c o) cs) (and_right (nat_eq c 41) (is_one_deep o) (quoted-not_deep o p)) ∙ ap (λ (x : Outline). rest_after_close x cs) (step_inside c o p n);
   inner = λ k d f. omega arith;
   commas = λ d f. f;
 }

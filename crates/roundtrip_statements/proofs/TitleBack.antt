@@ -7,7 +7,7 @@ use Rattle.f77_exprs.specs.State.{State, ◌>>=◌}
 use Rattle.f77_exprs.specs.Lexical.{skip_name, name_at}
 use Rattle.f77_exprs.specs.Grammar.{comma}
 use Rattle.f77_forms.specs.declared.form.FormId.TheVariants as forms
-use Rattle.f77_statements.specs.Lists.{maybe_enclosed}
+use Rattle.f77_statements.specs.Lists.{maybe_in_parentheses}
 use Rattle.f77_statements.specs.Phrases.{program, subroutine}
 use Rattle.f77_statements.specs.Statements.{form_at, program_statement, subroutine_statement}
 use Rattle.f77_printer.specs.Layout.{stripped}
@@ -69,8 +69,8 @@ subroutine_form n ds h e =
     (pair listed n (dummies_text ds) (name_balanced n h listed) (dummies_balanced ds e listed)))
     refl
 
-dummies_back : (ds : List (List ℕ)) (k : Notes) → Each IsName ds → maybe_enclosed name_at (standing (dummies_text ds) k) ≡ Some (ds, standing [] k)
-unfolding maybe_enclosed
+dummies_back : (ds : List (List ℕ)) (k : Notes) → Each IsName ds → maybe_in_parentheses name_at (standing (dummies_text ds) k) ≡ Some (ds, standing [] k)
+unfolding maybe_in_parentheses
 dummies_back [] k h = refl
 dummies_back (x ∷ xs) k h =
     let n : after (codes ")") (joined_by (λ n. n) (x ∷ xs) ++ (41 ∷ [])) ≡ None =
@@ -85,5 +85,5 @@ pub subroutine_back : (n : List ℕ) (ds : List (List ℕ)) (k : Notes) → IsNa
     → subroutine_statement (standing (codes "SUBROUTINE" ++ (n ++ dummies_text ds)) k) ≡ Some (subroutine n ds, standing [] k)
 unfolding subroutine_statement
 subroutine_back n ds k h e =
-    ap (λ (o : Option (List ℕ × State)). o >>= λ n. maybe_enclosed name_at n.1 >>= λ ds. Some (subroutine n.0 ds.0, ds.1)) (before_dummies n ds k h)
+    ap (λ (o : Option (List ℕ × State)). o >>= λ n. maybe_in_parentheses name_at n.1 >>= λ ds. Some (subroutine n.0 ds.0, ds.1)) (before_dummies n ds k h)
     ∙ ap (λ (o : Option (List (List ℕ) × State)). o >>= λ ds. Some (subroutine n ds.0, ds.1)) (dummies_back ds k e)

@@ -7,7 +7,7 @@ use Rattle.f77_exprs.specs.Words.{after}
 use Rattle.f77_exprs.specs.State.{State, start, ◌>>=◌}
 use Rattle.f77_exprs.specs.Lexical.{name_at, skip_name}
 use Rattle.f77_exprs.specs.Grammar.{comma, items, items_by, more_by}
-use Rattle.f77_forms.specs.Words.{behind}
+use Rattle.f77_forms.specs.Words.{rest_after}
 use Rattle.f77_forms.specs.declared.form.FormId.TheVariants as forms
 use Rattle.f77_forms.specs.declared.choice.Choice.TheVariants.{OutOfProfile}
 use Rattle.f77_forms.specs.declared.refused.Refused.TheVariants.{IntegerFunction, LogicalFunction}
@@ -28,7 +28,7 @@ use Rattle.roundtrip_statements.proofs.Verdicts.{clean}
 
 -- ---- words at the front
 
-same_word : (w t : List ℕ) → behind w t ≡ after w t
+same_word : (w t : List ℕ) → rest_after w t ≡ after w t
 same_word [] t = refl
 same_word (x ∷ xs) [] = refl
 same_word (x ∷ xs) (c ∷ cs) = ap (λ (o : Option (List ℕ)). if nat_eq c x then o else None) (same_word xs cs)
@@ -53,7 +53,7 @@ front_lacks (x ∷ xs) (c ∷ cs) u h = front_at (nat_eq c x) (after xs (cs ++ u
 
 -- ---- no FUNCTION stands behind the keyword
 
-integer_by : (m : Marks) (o : Option (List ℕ)) (x : List ℕ) → behind (codes "FUNCTION") x ≡ o → form_in (marked_choice m profile (codes "INTEGER" ++ x)) ≡ Ok forms.Integer → o ≡ None
+integer_by : (m : Marks) (o : Option (List ℕ)) (x : List ℕ) → rest_after (codes "FUNCTION") x ≡ o → form_in (marked_choice m profile (codes "INTEGER" ++ x)) ≡ Ok forms.Integer → o ≡ None
 integer_by NoEqual None x e h = refl
 integer_by NoEqual (Some y) x e h =
     let c : keyword_choice profile (codes "INTEGER" ++ x) ≡ OutOfProfile IntegerFunction = rw e refl in
@@ -63,9 +63,9 @@ integer_by EqualAndComma o x e h = cc
 
 integer_alone : (x : List ℕ) → form_at (codes "INTEGER" ++ x) ≡ Ok forms.Integer → after (codes "FUNCTION") x ≡ None
 unfolding form_at
-integer_alone x h = sym (same_word (codes "FUNCTION") x) ∙ integer_by (marks_of front (codes "INTEGER" ++ x)) (behind (codes "FUNCTION") x) x refl h
+integer_alone x h = sym (same_word (codes "FUNCTION") x) ∙ integer_by (marks_of front (codes "INTEGER" ++ x)) (rest_after (codes "FUNCTION") x) x refl h
 
-logical_by : (m : Marks) (o : Option (List ℕ)) (x : List ℕ) → behind (codes "FUNCTION") x ≡ o → form_in (marked_choice m profile (codes "LOGICAL" ++ x)) ≡ Ok forms.Logical → o ≡ None
+logical_by : (m : Marks) (o : Option (List ℕ)) (x : List ℕ) → rest_after (codes "FUNCTION") x ≡ o → form_in (marked_choice m profile (codes "LOGICAL" ++ x)) ≡ Ok forms.Logical → o ≡ None
 logical_by NoEqual None x e h = refl
 logical_by NoEqual (Some y) x e h =
     let c : keyword_choice profile (codes "LOGICAL" ++ x) ≡ OutOfProfile LogicalFunction = rw e refl in
@@ -75,7 +75,7 @@ logical_by EqualAndComma o x e h = cc
 
 logical_alone : (x : List ℕ) → form_at (codes "LOGICAL" ++ x) ≡ Ok forms.Logical → after (codes "FUNCTION") x ≡ None
 unfolding form_at
-logical_alone x h = sym (same_word (codes "FUNCTION") x) ∙ logical_by (marks_of front (codes "LOGICAL" ++ x)) (behind (codes "FUNCTION") x) x refl h
+logical_alone x h = sym (same_word (codes "FUNCTION") x) ∙ logical_by (marks_of front (codes "LOGICAL" ++ x)) (rest_after (codes "FUNCTION") x) x refl h
 
 -- ---- the names
 

@@ -9,7 +9,7 @@ use Rattle.f77_exprs.specs.Words.{after, before}
 use Rattle.f77_exprs.specs.State.{State, take_word, ◌>>=◌}
 use Rattle.f77_exprs.specs.Lexical.{digit_first, skip_digits, name_at, label_at}
 use Rattle.f77_exprs.specs.Grammar.{expression}
-use Rattle.f77_statements.specs.Lists.{or_end, enclosed, maybe_enclosed}
+use Rattle.f77_statements.specs.Lists.{or_end, in_parentheses, maybe_in_parentheses}
 use Rattle.f77_statements.specs.Executables.{assignment, call_statement, goto_statement, continue_statement, return_statement, five_digits, message, stop_text, stop_statement, print_statement, read_listed, read_statement}
 use Rattle.f77_statements.specs.Statements.{what_by}
 use Rattle.f77_printer.specs.ExprText.{expr_text, items_text, doubled}
@@ -40,12 +40,12 @@ assign_back v e k h g =
 no_close : (e : ExprTree) (u : List ℕ) → IsExpression e → after (codes ")") (expr_text e ++ u) ≡ None
 no_close e u f = (fronted f).close u
 
-actuals_back : {es : ExprTrees} → AllFormed es → (k : Notes) → maybe_enclosed expression (standing (actuals_text es) k) ≡ Some (list_of es, standing [] k)
-unfolding maybe_enclosed
+actuals_back : {es : ExprTrees} → AllFormed es → (k : Notes) → maybe_in_parentheses expression (standing (actuals_text es) k) ≡ Some (list_of es, standing [] k)
+unfolding maybe_in_parentheses
 actuals_back none k = refl
 actuals_back (more e es f fs) k =
     let n : after (codes ")") (joined_by expr_text (e ∷ list_of es) ++ (41 ∷ [])) ≡ None = ap (after (codes ")")) (append_assoc (expr_text e) _ (41 ∷ [])) ∙ no_close e _ f in
-    ap (λ (y : List ℕ). enclosed expression (standing ((expr_text e ++ y) ++ (41 ∷ [])) k)) (items-text es)
+    ap (λ (y : List ℕ). in_parentheses expression (standing ((expr_text e ++ y) ++ (41 ∷ [])) k)) (items-text es)
     ∙ enclosed_back expression expr_text BehindEquivalence IsExpression expressions_listed e (list_of es) [] k f (each_formed fs) (at_close []) n
 
 -- a name before arguments that may be left out
@@ -56,7 +56,7 @@ before_actuals n k h (more e es f fs) = name-back n _ k h refl
 call_back : (n : List ℕ) (es : ExprTrees) (k : Notes) → IsName n → AllFormed es → call_statement (standing (codes "CALL" ++ (n ++ actuals_text es)) k) ≡ Some (call n es, standing [] k)
 unfolding call_statement
 call_back n es k h fs =
-    ap (λ (o : Option (List ℕ × State)). o >>= λ n. maybe_enclosed expression n.1 >>= λ es. Some (call n.0 (exprs_of es.0), es.1)) (before_actuals n k h fs)
+    ap (λ (o : Option (List ℕ × State)). o >>= λ n. maybe_in_parentheses expression n.1 >>= λ es. Some (call n.0 (exprs_of es.0), es.1)) (before_actuals n k h fs)
     ∙ ap (λ (o : Option (List ExprTree × State)). o >>= λ es. Some (call n (exprs_of es.0), es.1)) (actuals_back fs k)
     ∙ ap (λ (x : ExprTrees). Some (call n x, standing [] k)) (exprs_of-list es)
 

@@ -8,8 +8,8 @@ use Rattle.f77_exprs.specs.Lexical.{name_at, label_at}
 use Rattle.f77_exprs.specs.Grammar.{comma, items, expression, variable}
 use Rattle.f77_forms.specs.declared.form.FormId.{FormId}
 use Rattle.f77_forms.specs.declared.form.FormId.TheVariants as forms
-use Rattle.f77_statements.specs.Lists.{or_end, ending, items_left, enclosed, maybe_enclosed, maybe_listed}
-use Rattle.f77_statements.specs.Executables.{assignment, call_statement, goto_statement, continue_statement, return_statement, stop_text, stop_statement, print_statement, written, write_statement, read_listed, read_left, read_statement}
+use Rattle.f77_statements.specs.Lists.{or_end, ending, items_left, in_parentheses, maybe_in_parentheses, maybe_after_comma}
+use Rattle.f77_statements.specs.Executables.{assignment, call_statement, goto_statement, continue_statement, return_statement, stop_text, stop_statement, print_statement, write_list, write_statement, read_listed, read_left, read_statement}
 use Rattle.f77_statements.specs.Statements.{what_by}
 use Rattle.roundtrip_statements.specs.Formed.{IsName, IsExpression, IsVariable}
 use Rattle.roundtrip_statements.specs.Phrased.{AllVariables, MaybeMessage, IsWhat}
@@ -43,18 +43,18 @@ unfolding items_left
 items_left-sound one P h s =
     end_at s.rest s [] (items one s) (Each P) tt (weaken (items one s) s.notes (Filled P) (Each P) (items_by-sound comma one P comma_keeps h s) (each_of P))
 
-pub enclosed-sound : {A : Type 0} (one : Reader A) (P : A → Type 0) → Sound one P → Sound (enclosed one) (Each P)
-unfolding enclosed
+pub enclosed-sound : {A : Type 0} (one : Reader A) (P : A → Type 0) → Sound one P → Sound (in_parentheses one) (Each P)
+unfolding in_parentheses
 enclosed-sound one P h s =
     else_word (codes ")") s (λ t. Some ([], t)) (ending (codes ")") (items one) s) (Each P) (λ r c. (c, tt))
     (weaken (ending (codes ")") (items one) s) s.notes (Filled P) (Each P) (ending-sound (codes ")") (items one) (Filled P) (items_by-sound comma one P comma_keeps h) s) (each_of P))
 
-pub maybe_enclosed-sound : {A : Type 0} (one : Reader A) (P : A → Type 0) → Sound one P → Sound (maybe_enclosed one) (Each P)
-unfolding maybe_enclosed
-maybe_enclosed-sound one P h s = done_word (codes "(") [] s (enclosed one) (Each P) tt (λ r. enclosed-sound one P h (record s { rest = r }))
+pub maybe_enclosed-sound : {A : Type 0} (one : Reader A) (P : A → Type 0) → Sound one P → Sound (maybe_in_parentheses one) (Each P)
+unfolding maybe_in_parentheses
+maybe_enclosed-sound one P h s = done_word (codes "(") [] s (in_parentheses one) (Each P) tt (λ r. enclosed-sound one P h (record s { rest = r }))
 
-pub maybe_listed-sound : {A : Type 0} (one : Reader A) (P : A → Type 0) → Sound one P → Sound (maybe_listed one) (Each P)
-unfolding maybe_listed
+pub maybe_listed-sound : {A : Type 0} (one : Reader A) (P : A → Type 0) → Sound one P → Sound (maybe_after_comma one) (Each P)
+unfolding maybe_after_comma
 maybe_listed-sound one P h s =
     done_word (codes ",") [] s (items one) (Each P) tt
     (λ r. weaken (items one (record s { rest = r })) s.notes (Filled P) (Each P) (items_by-sound comma one P comma_keeps h (record s { rest = r })) (each_of P))
@@ -77,10 +77,10 @@ assignment-formed s =
 call-formed : Sound call_statement IsWhat
 unfolding call_statement
 call-formed s =
-    then_word (codes "CALL") s (λ t. name_at t >>= λ n. maybe_enclosed expression n.1 >>= λ es. Some (call n.0 (exprs_of es.0), es.1)) IsWhat
+    then_word (codes "CALL") s (λ t. name_at t >>= λ n. maybe_in_parentheses expression n.1 >>= λ es. Some (call n.0 (exprs_of es.0), es.1)) IsWhat
     (λ r. let t : State = record s { rest = r } in
-    seq (name_at t) (λ n. maybe_enclosed expression n.1 >>= λ es. Some (call n.0 (exprs_of es.0), es.1)) s.notes IsName IsWhat (name-formed t)
-    (λ n. seq (maybe_enclosed expression n.1) (λ es. Some (call n.0 (exprs_of es.0), es.1)) n.1.notes (Each IsExpression) (λ w. IsName n.0 → IsWhat w)
+    seq (name_at t) (λ n. maybe_in_parentheses expression n.1 >>= λ es. Some (call n.0 (exprs_of es.0), es.1)) s.notes IsName IsWhat (name-formed t)
+    (λ n. seq (maybe_in_parentheses expression n.1) (λ es. Some (call n.0 (exprs_of es.0), es.1)) n.1.notes (Each IsExpression) (λ w. IsName n.0 → IsWhat w)
     (maybe_enclosed-sound expression IsExpression expression-formed n.1)
     (λ es c. (c, λ f h. record { callee = h; actuals = all_formed es.0 f }))))
 
@@ -109,13 +109,13 @@ stop-formed s =
 print-formed : Sound print_statement IsWhat
 unfolding print_statement
 print-formed s =
-    then_word (codes "PRINT*") s (λ t. maybe_listed expression t >>= λ es. Some (print (exprs_of es.0), es.1)) IsWhat
+    then_word (codes "PRINT*") s (λ t. maybe_after_comma expression t >>= λ es. Some (print (exprs_of es.0), es.1)) IsWhat
     (λ r. let t : State = record s { rest = r } in
-    seq (maybe_listed expression t) (λ es. Some (print (exprs_of es.0), es.1)) s.notes (Each IsExpression) IsWhat (maybe_listed-sound expression IsExpression expression-formed t)
+    seq (maybe_after_comma expression t) (λ es. Some (print (exprs_of es.0), es.1)) s.notes (Each IsExpression) IsWhat (maybe_listed-sound expression IsExpression expression-formed t)
     (λ es c. (c, λ h. all_formed es.0 h)))
 
-written-formed : Sound written IsWhat
-unfolding written
+written-formed : Sound write_list IsWhat
+unfolding write_list
 written-formed s =
     seq (items_left expression s) (λ es. Some (print (exprs_of es.0), es.1)) s.notes (Each IsExpression) IsWhat (items_left-sound expression IsExpression expression-formed s)
     (λ es c. (c, λ h. all_formed es.0 h))
@@ -123,13 +123,13 @@ written-formed s =
 write-formed : Sound write_statement IsWhat
 unfolding write_statement
 write-formed s =
-    else_word (codes "WRITE(*,*)") s written _ IsWhat (λ r. written-formed (record s { rest = r }))
-    (else_word (codes "WRITE(6,*)") s written None IsWhat (λ r. written-formed (record s { rest = r })) tt)
+    else_word (codes "WRITE(*,*)") s write_list _ IsWhat (λ r. written-formed (record s { rest = r }))
+    (else_word (codes "WRITE(6,*)") s write_list None IsWhat (λ r. written-formed (record s { rest = r })) tt)
 
 listed-formed : Sound read_listed IsWhat
 unfolding read_listed
 listed-formed s =
-    seq (maybe_listed variable s) (λ es. Some (read (exprs_of es.0), es.1)) s.notes (Each IsVariable) IsWhat (maybe_listed-sound variable IsVariable variable-formed s)
+    seq (maybe_after_comma variable s) (λ es. Some (read (exprs_of es.0), es.1)) s.notes (Each IsVariable) IsWhat (maybe_listed-sound variable IsVariable variable-formed s)
     (λ es c. (c, λ h. all_variables es.0 h))
 
 left-formed : Sound read_left IsWhat

@@ -1,9 +1,9 @@
 -- Names and numbers are read as they were written.
-use Rattle.std.proofs.Common.{◌≡◌, ℕ, zero, suc, ◌+◌, ◌-◌, ◌*◌, ◌/◌, ◌%◌, ◌^◌, ◌<◌, ◌≤◌, Bool, true, false, List, [], ◌∷◌, ◌++◌, length, get_or, refl, sym, ap, subst, ◌∙◌, arith, append_assoc, append-nil, Some, None, decimal}
+use Rattle.std.proofs.Common.{◌≡◌, ℕ, zero, suc, ◌+◌, ◌-◌, ◌*◌, ◌/◌, ◌%◌, ◌^◌, ◌<◌, ◌≤◌, true, false, List, [], ◌∷◌, ◌++◌, length, get_or, refl, sym, ap, subst, ◌∙◌, arith, append_assoc, append-nil, Some, None, decimal}
 use Rattle.std.specs.Prelude.{nat_eq, nat_le, ◌||◌, bytes_eq}
 use Rattle.std.specs.List.{list_all, IsDistinct, AllByRecursion}
 use Rattle.std.specs.Char.{is_ascii_digit, is_ascii_uppercase}
-use Rattle.std.proofs.lemmas.Bool.{and_from, and_parts, and_right, le-leb, leb-true, lt-leb, ne_eqb}
+use Rattle.std.proofs.lemmas.Bool.{and_from, and_parts, and_right, le-leb, leb-true, lt-leb, ne_eqb, or_left, or_right}
 use Rattle.std.proofs.lemmas.Fmt.{decimal_by_steps_wide}
 use Rattle.std.proofs.lemmas.Slice.Eq.{bytes_eq-Decides}
 use Rattle.system_text.specs.SystemText.{name_at}
@@ -32,22 +32,14 @@ all_made : (x : Bytes) → list_all in_name x ≡ true → IsMade x
 all_made [] h = tt
 all_made (c ∷ cs) h = let p = and_parts (in_name c) (list_all in_name cs) h in (p.0, all_made cs p.1)
 
-true-or : (a b : Bool) → a ≡ true → (a || b) ≡ true
-true-or true b h = refl
-true-or false b h = cc
-
-or-true : (a b : Bool) → b ≡ true → (a || b) ≡ true
-or-true true b h = refl
-or-true false b h = h
-
 digit_in_name : (c : ℕ) → is_ascii_digit c ≡ true → in_name c ≡ true
-digit_in_name c h = or-true (is_ascii_uppercase c) (is_ascii_digit c || nat_eq c 95) (true-or (is_ascii_digit c) (nat_eq c 95) h)
+digit_in_name c h = or_right (is_ascii_uppercase c) (is_ascii_digit c || nat_eq c 95) (or_left (is_ascii_digit c) (nat_eq c 95) h)
 
 pub name_made : (x : Bytes) → is_name x ≡ true → IsMade x
 name_made [] h = tt
 name_made (c ∷ cs) h =
     let p = and_parts (is_ascii_uppercase c) (list_all in_name cs) h in
-    (true-or (is_ascii_uppercase c) (is_ascii_digit c || nat_eq c 95) p.0, all_made cs p.1)
+    (or_left (is_ascii_uppercase c) (is_ascii_digit c || nat_eq c 95) p.0, all_made cs p.1)
 
 letter_is_no_digit : (c : ℕ) → is_ascii_uppercase c ≡ true → is_ascii_digit c ≡ false
 letter_is_no_digit c h =

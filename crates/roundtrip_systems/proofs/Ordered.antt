@@ -1,11 +1,11 @@
 -- Systems that fit are ordered.
 use Rattle.std.proofs.Common.{◌≡◌, true, false, ◌&&◌, not, List, [], ◌∷◌, inl, inr, refl, sym, subst, int_lt, pos}
+use Rattle.std.proofs.lemmas.Bool.{and_parts}
 use Rattle.affine_systems.specs.declared.row.Row.{Row}
 use Rattle.affine_systems.specs.declared.row.System.{System}
 use Rattle.affine_systems.specs.Terms.{has_no_terms}
 use Rattle.affine_systems.specs.Rows.{false_row, AllRows}
 use Rattle.affine_systems.specs.Given.{IsGiven, IsNormal, AreNormal}
-use Rattle.affine_systems.proofs.TermLaws.{both_true}
 use Rattle.affine_systems.proofs.ReducedLaws.{IsReduced, kept-reduced}
 use Rattle.affine_systems.proofs.FitLaws.{IsTidy, tidy_small, small_given}
 use Rattle.system_text.specs.SystemText.{is_never, are_never}
@@ -25,8 +25,8 @@ normal_given (r ∷ rs) h = (tidy_given r (inl (h.0.0, reduced r h.0)), normal_g
 -- a normal row has terms
 normal_may_hold : (r : Row) → IsNormal r → is_never r ≡ true → ⊥
 normal_may_hold r h e =
-    let a = both_true (not r.equal) (has_no_terms r.terms && int_lt r.bound (pos 0)) e in
-    let b = both_true (has_no_terms r.terms) (int_lt r.bound (pos 0)) a.1 in
+    let a = and_parts (not r.equal) (has_no_terms r.terms && int_lt r.bound (pos 0)) e in
+    let b = and_parts (has_no_terms r.terms) (int_lt r.bound (pos 0)) a.1 in
     let c = (reduced r h).some in
     cc
 

@@ -1,7 +1,8 @@
 -- Texts cut at marks that do not stand in their pieces.
-use Rattle.std.proofs.Common.{◌≡◌, ℕ, Bool, true, false, List, [], ◌∷◌, ◌++◌, refl, sym, ap, ◌∙◌, append-nil, eq-eqb, Some, None}
+use Rattle.std.proofs.Common.{◌≡◌, ℕ, true, false, List, [], ◌∷◌, ◌++◌, refl, sym, ap, ◌∙◌, append-nil, eq-eqb, Some, None}
 use Rattle.std.specs.Prelude.{nat_eq, option_map, bytes_eq, codes}
 use Rattle.std.proofs.lemmas.Slice.Eq.{bytes_eq-Decides}
+use Rattle.std.proofs.lemmas.Bool.{false_from_ne_true}
 use Rattle.system_text.specs.SystemText.{each_after}
 use Rattle.roundtrip_systems.specs.Reading.{Bytes, cut, longer, pieces}
 
@@ -77,9 +78,5 @@ pieces-spaced x xs h k = ap (λ z. pieces 44 (x ++ z)) (each_after-spaced xs) �
 
 -- ---- texts that are not the same
 
-pub never_true : (b : Bool) → (b ≡ true → ⊥) → b ≡ false
-never_true true h = absurd (h refl)
-never_true false h = refl
-
 pub other_text : (x y : Bytes) → (x ≡ y → ⊥) → bytes_eq x y ≡ false
-other_text x y h = never_true (bytes_eq x y) (λ e. h ((bytes_eq-Decides x y).0 e))
+other_text x y h = false_from_ne_true (bytes_eq x y) (λ e. h ((bytes_eq-Decides x y).0 e))

@@ -4,13 +4,16 @@ use Rattle.std.specs.Prelude.{Option, Some, None}
 use Rattle.f77_ast.specs.DeclTrees.{ParsedTree}
 use Rattle.f77_structure.specs.declared.mark.Mark.{Mark}
 use Rattle.f77_structure.specs.declared.order.Order.{Order}
-use Rattle.f77_structure.specs.Checks.{first_fault, block_fault, fault_of}
+use Rattle.f77_structure.specs.First.{first_fault}
+use Rattle.f77_structure.specs.Jumps.{block_fault}
+use Rattle.f77_structure.specs.Checks.{fault_of}
 use Rattle.f77_structure.specs.Depth.{is_deep}
 use Rattle.f77_structure.specs.Marks.{label_in}
 use Rattle.f77_structure.specs.Order.{labelled, ordered, all_ordered, nothing_ordered, order_of}
 use Rattle.f77_structure.specs.Steps.{blocks_of}
+use Rattle.f77_structure.proofs.AsCode.{as_code}
 use Rattle.f77_parser.specs.Statements.{StatementTree, mark_of, marks_of}
-use Rattle.f77_parser.specs.Building.{built}
+use Rattle.f77_parser.specs.Building.{build_module}
 use Rattle.f77_printer.specs.Layout.{stripped}
 use Rattle.roundtrip_statements.specs.Formed.{Each}
 use Rattle.roundtrip_statements.specs.Written.{phrase_text}
@@ -74,8 +77,7 @@ written-shallow (s ∷ ss) (c ∷ cs) e f h =
     }
 
 none-found : (ms : List Mark) → order_of ms ≡ None → block_fault (blocks_of ms) ≡ None → fault_of ms ≡ None
-unfolding fault_of
-none-found ms h e = ap (λ x. first_fault x (block_fault (blocks_of ms))) h ∙ e
+none-found ms h e = sym (as_code ms) ∙ ap (λ x. first_fault x (block_fault (blocks_of ms))) h ∙ e
 
 formed : (s : StatementTree) → IsSourced s → IsStatement s
 formed s h = statements_read_back.formed h.body s.phrase h.read
@@ -90,10 +92,10 @@ StaysFaultless p = (ss : List StatementTree) → AreWritten p.module_read ss →
 pub again-faultless : (p : ParsedTree) → IsParsed p → StaysFaultless p
 again-faultless p h = subst StaysFaultless (sym h.is) again
   where
-    again : StaysFaultless (built h.closing (h.begun ++ h.end ∷ []))
+    again : StaysFaultless (build_module h.closing (h.begun ++ h.end ∷ []))
     again ss w d =
         let i = all-formed (h.begun ++ h.end ∷ []) h.sourced in
         let shallow = all-shallow (h.begun ++ h.end ∷ []) nothing_ordered (no-fault (marks_of (h.begun ++ h.end ∷ [])) h.faultless).0 in
         let flat = cards_flat h.closing (h.begun ++ h.end ∷ []) i (all-flat (h.begun ++ h.end ∷ []) h.sourced shallow) in
-        let own = written-shallow ss (statements_of (built h.closing (h.begun ++ h.end ∷ [])).module_read) w flat d in
+        let own = written-shallow ss (statements_of (build_module h.closing (h.begun ++ h.end ∷ [])).module_read) w flat d in
         none-found (marks_of ss) (order_again h.closing h.begun h.end ss h.ends i h.faultless w own) (jumps_again h.closing h.begun h.end ss h.ends i h.faultless w)

@@ -6,13 +6,13 @@ use Rattle.f77_ast.specs.DeclTrees.{ParsedTree}
 use Rattle.f77_statements.specs.declared.refusal.Cause.{Cause}
 use Rattle.f77_statements.specs.Phrases.{PhraseTree, program, subroutine, specification, simple, logical_if, block_if, else_if, else_part, end_if, do_head, end_do, end_module}
 use Rattle.f77_statements.specs.Statements.{phrase_of}
-use Rattle.f77_structure.specs.declared.fault.Found.{Found}
+use Rattle.refusal_codes.specs.declared.refusal.Refusal.{Refusal}
 use Rattle.f77_structure.specs.Checks.{fault_of}
 use Rattle.f77_structure.specs.Depth.{is_deep}
 use Rattle.f77_structure.specs.Lists.{is_none_of}
 use Rattle.f77_parser.specs.Gives.{Refused, and_then}
 use Rattle.f77_parser.specs.Statements.{StatementTree, read_as, all_read, marks_of}
-use Rattle.f77_parser.specs.Building.{built}
+use Rattle.f77_parser.specs.Building.{build_module}
 use Rattle.f77_parser.specs.Modules.{ends_module, closing_at, unless_faulty, modules_from, parse_of}
 use Rattle.roundtrip_lines.specs.Good.{IsBody, AreBodies}
 use Rattle.roundtrip_lines.proofs.Bodies.{bodies_are_short}
@@ -56,7 +56,7 @@ pub record IsParsed (p : ParsedTree) : Type 0 where
   pub closing : List (List ℕ)
   pub begun : List StatementTree
   pub end : StatementTree
-  pub is : p ≡ built closing (begun ++ end ∷ [])
+  pub is : p ≡ build_module closing (begun ++ end ∷ [])
   pub ends : end.phrase ≡ end_module
   pub kept : AreKept closing
   pub sourced : AreSourced (begun ++ end ∷ [])
@@ -105,7 +105,7 @@ module-more closing done ps q (s ∷ ss) p c h g = record { more = q ∷ g.more;
     before [] = tt
     before (x ∷ qs) = c
 
-faultless-on : (f : Option Found) (q : ParsedTree) (k : ParsedTree → Result (List ParsedTree) Refused) (done ps : List ParsedTree) → and_then (unless_faulty f q) k ≡ Ok ps
+faultless-on : (f : Option Refusal) (q : ParsedTree) (k : ParsedTree → Result (List ParsedTree) Refused) (done ps : List ParsedTree) → and_then (unless_faulty f q) k ≡ Ok ps
     → (f ≡ None → k q ≡ Ok ps → GoesOn done ps) → GoesOn done ps
 faultless-on None q k done ps h g = g refl h
 faultless-on (Some f) q k done ps h g = cc
@@ -117,18 +117,18 @@ choice-on false x y done ps h f g = g h
 
 all-go : (closing : List (List ℕ)) (ss : List StatementTree) (done ps : List ParsedTree) (begun : List StatementTree) → AreKept closing → AreSourced begun → AreSourced ss
     → modules_from closing done begun ss ≡ Ok ps → GoesOn done ps
-unfolding built
+unfolding build_module
 all-go closing [] done ps begun k b i h = let same : done ≡ ps = cc in record { more = []; is = sym same ∙ sym (append-nil done); parsed = tt }
 all-go closing (s ∷ ss) done ps begun k b i h =
     let whole = begun ++ s ∷ [] in
     let own = closing_at (is_none_of ss) closing in
     let more : AreSourced whole = Each-append IsSourced begun (s ∷ []) b (record { first = i.first; others = tt }) in
     choice-on (ends_module s.phrase)
-    (and_then (unless_faulty (fault_of (marks_of whole)) (built own whole)) (λ p. modules_from closing (done ++ p ∷ []) [] ss)) (modules_from closing done whole ss) done ps h
-    (λ e g. faultless-on (fault_of (marks_of whole)) (built own whole) (λ p. modules_from closing (done ++ p ∷ []) [] ss) done ps g
-    (λ f x. module-more closing done ps (built own whole) ss
+    (and_then (unless_faulty (fault_of (marks_of whole)) (build_module own whole)) (λ p. modules_from closing (done ++ p ∷ []) [] ss)) (modules_from closing done whole ss) done ps h
+    (λ e g. faultless-on (fault_of (marks_of whole)) (build_module own whole) (λ p. modules_from closing (done ++ p ∷ []) [] ss) done ps g
+    (λ f x. module-more closing done ps (build_module own whole) ss
     (record { closing = own; begun = begun; end = s; is = refl; ends = ends-module s.phrase e; kept = at-kept (is_none_of ss) closing k; sourced = more; faultless = f })
-    refl x (all-go closing ss (done ++ built own whole ∷ []) ps [] k tt i.others x)))
+    refl x (all-go closing ss (done ++ build_module own whole ∷ []) ps [] k tt i.others x)))
     (λ g. all-go closing ss done ps whole k more i.others g)
 
 -- ---- texts

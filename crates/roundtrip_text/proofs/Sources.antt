@@ -3,7 +3,7 @@ use Rattle.std.proofs.Common.{◌≡◌, ℕ, ◌+◌, List, [], ◌∷◌, map,
 use Rattle.std.specs.Prelude.{nat_eq, is_some, if◌then◌else◌, Ok, Err}
 use Rattle.std.specs.List.{list_any}
 use Rattle.std.proofs.lemmas.Bool.{eqb-false, ne_eqb, or_parts, or_from}
-use Rattle.fixed_form.specs.declared.fault.Fault.{Fault}
+use Rattle.refusal_codes.specs.declared.code.Code.{Code}
 use Rattle.fixed_form.specs.declared.line.Line.{Line}
 use Rattle.fixed_form.specs.declared.line.Lines.{Lines}
 use Rattle.fixed_form.specs.Cards.{is_comment, is_dropped, card, is_initial}
@@ -124,7 +124,7 @@ ok-given true rest e read h g =
     subst Given same (record { statements = g.statements; closing = g.closing })
 ok-given false rest e read h g = cc
 
-outcome-given : (o : Option (ℕ × Fault)) (last : ℕ) (rest : Rest) (read : Lines) → outcome o last rest ≡ Ok read → Gives rest → Given read
+outcome-given : (o : Option (ℕ × Code)) (last : ℕ) (rest : Rest) (read : Lines) → outcome o last rest ≡ Ok read → Gives rest → Given read
 outcome-given (Some f) last rest read h g = cc
 outcome-given None last rest read h g = ok-given (ends_well rest.statements) rest _ read h g
 

@@ -11,8 +11,8 @@ use Rattle.f77_ast.specs.PlainStmt.{stmts_of}
 use Rattle.f77_statements.specs.Phrases.{DoTree, program, subroutine, simple, block_if, else_if, else_part, end_if, end_do, end_module}
 use Rattle.f77_parser.specs.declared.progress.Heading.{Heading}
 use Rattle.f77_parser.specs.Statements.{StatementTree}
-use Rattle.f77_parser.specs.SoFar.{OpeningTree, opening_loop, branches, AroundTree, SoFar, spot, with_spot, stated, conditioned, entered, left_one, is_loop_to, ended_by, ended_at, closed_from}
-use Rattle.f77_parser.specs.Building.{divided_from, with_phrase, with_statement, all_stated, nothing_stated, built}
+use Rattle.f77_parser.specs.SoFar.{OpeningTree, opening_loop, branches, AroundTree, SoFar, spot, add_spot, add_executable, add_logical_if, open_block, leave_block, is_loop_to, leave_loops, end_loops_at, close_innermost}
+use Rattle.f77_parser.specs.Building.{divide_innermost, add_phrase, add_statement, add_all, no_statements, build_module}
 use Rattle.roundtrip_modules.specs.Cards.{Card, card, within, cards_of, cards_by, part_cards, else_cards, cards_in, title_of, title_cards, decl_cards, statements_of}
 use Rattle.roundtrip_modules.specs.Numbered.{last_of, last_in, last_arms, IsInner, IsNumbered, NumberedBelow, NumberedArms, NumberedElse, AreNumbered, IsWell}
 use Rattle.roundtrip_modules.specs.ModuleLaws.{AreWritten, Labelled, of_statement, of_card}
@@ -32,7 +32,7 @@ own_spots f cs c = spot c.part f cs ∷ inner_spots f c.inner
 
 -- the statement stands at that part, where this is so far, the spots aside
 abbrev Stands : Card → SoFar → Type 0
-Stands c p = (f : ℕ) (cs : List (List ℕ)) (q : SoFar) → bare q ≡ p → (with_phrase f c.label cs c.phrase q).spots ≡ q.spots ++ own_spots f cs c
+Stands c p = (f : ℕ) (cs : List (List ℕ)) (q : SoFar) → bare q ≡ p → (add_phrase f c.label cs c.phrase q).spots ≡ q.spots ++ own_spots f cs c
 
 abbrev AllStand : List Card → SoFar → Type 0
 AllStand [] p = Unit {0}
@@ -52,11 +52,11 @@ either : (v : Bool) (x y : SoFar) (l : List Spot) → x.spots ≡ l → y.spots 
 either true x y l h e = h
 either false x y l h e = e
 
-ended-spots : (l : ℕ) (os : List AroundTree) (p : SoFar) → (ended_by l os p).spots ≡ p.spots
+ended-spots : (l : ℕ) (os : List AroundTree) (p : SoFar) → (leave_loops l os p).spots ≡ p.spots
 ended-spots l [] p = refl
-ended-spots l (a ∷ os) p = either (is_loop_to l a.opening) (ended_by l os (left_one a os p)) p p.spots (ended-spots l os (left_one a os p)) refl
+ended-spots l (a ∷ os) p = either (is_loop_to l a.opening) (leave_loops l os (leave_block a os p)) p p.spots (ended-spots l os (leave_block a os p)) refl
 
-at-spots : (label : Option ℕ) (p : SoFar) → (ended_at label p).spots ≡ p.spots
+at-spots : (label : Option ℕ) (p : SoFar) → (end_loops_at label p).spots ≡ p.spots
 at-spots None p = refl
 at-spots (Some l) p = ended-spots l p.around p
 
@@ -68,50 +68,50 @@ around-is h ds n l a q e = ap (λ x. x.around) e
 
 simply-stands : (h : Heading) (ds : List DeclTree) (n : ℕ) (l : List StmtTree) (a : List AroundTree) (id : ℕ) (label : Option ℕ) (w : WhatTree) → id ≡ n + 1
     → Stands (card (parts.Stmt id) label (simple w)) (so h ds n l a)
-unfolding stated with_spot
+unfolding add_executable add_spot
 simply-stands h ds n l a id label w i f cs q e =
-    at-spots label (stated f label cs w q) ∙ ap (λ k. q.spots ++ spot (parts.Stmt k) f cs ∷ []) (counted h ds n l a id q i e)
+    at-spots label (add_executable f label cs w q) ∙ ap (λ k. q.spots ++ spot (parts.Stmt k) f cs ∷ []) (counted h ds n l a id q i e)
 
 within-stands : (h : Heading) (ds : List DeclTree) (n : ℕ) (l : List StmtTree) (a : List AroundTree) (id : ℕ) (label : Option ℕ) (e : ExprTree) (s : StmtTree) → id ≡ n + 1 → IsInner (n + 1) s
     → Stands (within id label e s) (so h ds n l a)
-unfolding conditioned with_spot
+unfolding add_logical_if add_spot
 within-stands h ds n l a id label e (stmt inner own w) i b f cs q g =
     let c = counted h ds n l a id q i g in
     let d : q.count + 1 + 1 ≡ inner = ap (λ k. k + 1) (ap (λ x. x.count + 1) g) ∙ sym b.number in
-    at-spots label (conditioned f label cs e w q)
+    at-spots label (add_logical_if f label cs e w q)
     ∙ append_assoc q.spots (spot (parts.Stmt (q.count + 1)) f cs ∷ []) (spot (parts.Stmt (q.count + 1 + 1)) f [] ∷ [])
     ∙ ap (λ k. q.spots ++ (spot (parts.Stmt k) f cs ∷ spot (parts.Stmt (q.count + 1 + 1)) f [] ∷ [])) c
     ∙ ap (λ k. q.spots ++ (spot (parts.Stmt id) f cs ∷ spot (parts.Stmt k) f [] ∷ [])) d
 
 -- a statement that opens a block
 entered-stands : (h : Heading) (ds : List DeclTree) (n : ℕ) (l : List StmtTree) (a : List AroundTree) (id : ℕ) (label : Option ℕ) (o : OpeningTree) (f : ℕ) (cs : List (List ℕ)) (q : SoFar)
-    → id ≡ n + 1 → bare q ≡ so h ds n l a → (entered f label cs o q).spots ≡ q.spots ++ spot (parts.Stmt id) f cs ∷ []
-unfolding entered with_spot
+    → id ≡ n + 1 → bare q ≡ so h ds n l a → (open_block f label cs o q).spots ≡ q.spots ++ spot (parts.Stmt id) f cs ∷ []
+unfolding open_block add_spot
 entered-stands h ds n l a id label o f cs q i e = ap (λ k. q.spots ++ spot (parts.Stmt k) f cs ∷ []) (counted h ds n l a id q i e)
 
 -- one that ends the innermost
 close-stands : (h : Heading) (ds : List DeclTree) (n : ℕ) (l : List StmtTree) (a : List AroundTree) (id own : ℕ) (label : Option ℕ) (before : List StmtTree) (o : OpeningTree) (f : ℕ) (cs : List (List ℕ)) (q : SoFar)
-    → own ≡ id → bare q ≡ so h ds n l (block own label before o ∷ a) → (closed_from q.around f cs q).spots ≡ q.spots ++ spot (parts.Close id) f cs ∷ []
-unfolding with_spot
+    → own ≡ id → bare q ≡ so h ds n l (block own label before o ∷ a) → (close_innermost q.around f cs q).spots ≡ q.spots ++ spot (parts.Close id) f cs ∷ []
+unfolding add_spot
 close-stands h ds n l a id own label before o f cs q i e =
-    ap (λ os. (closed_from os f cs q).spots) (around-is h ds n l (block own label before o ∷ a) q e) ∙ ap (λ k. q.spots ++ spot (parts.Close k) f cs ∷ []) i
+    ap (λ os. (close_innermost os f cs q).spots) (around-is h ds n l (block own label before o ∷ a) q e) ∙ ap (λ k. q.spots ++ spot (parts.Close k) f cs ∷ []) i
 
 -- ELSE IF, where these parts are done and this is the test of the open one
 else_if-stands : (h : Heading) (ds : List DeclTree) (n : ℕ) (l : List StmtTree) (a : List AroundTree) (id own place : ℕ) (label : Option ℕ) (before : List StmtTree)
     (done : List ArmTree) (test t : ExprTree) → own ≡ id → place ≡ length done + 1
     → Stands (card (parts.ElseIf id place) None (else_if t)) (so h ds n l (block own label before (branches done (Some test)) ∷ a))
-unfolding with_spot
+unfolding add_spot
 else_if-stands h ds n l a id own place label before done test t i k f cs q e =
     let p : length (done ++ arm test (stmts_of q.list) ∷ []) ≡ place = length-append done (arm test (stmts_of q.list) ∷ []) ∙ sym k in
-    ap (λ os. (divided_from os f cs (Some t) q).spots) (around-is h ds n l (block own label before (branches done (Some test)) ∷ a) q e)
+    ap (λ os. (divide_innermost os f cs (Some t) q).spots) (around-is h ds n l (block own label before (branches done (Some test)) ∷ a) q e)
     ∙ ap (λ x. q.spots ++ spot (parts.ElseIf own x) f cs ∷ []) p
     ∙ ap (λ x. q.spots ++ spot (parts.ElseIf x place) f cs ∷ []) i
 
 else-stands : (h : Heading) (ds : List DeclTree) (n : ℕ) (l : List StmtTree) (a : List AroundTree) (id own : ℕ) (label : Option ℕ) (before : List StmtTree) (o : OpeningTree) → own ≡ id
     → Stands (card (parts.Else id) None else_part) (so h ds n l (block own label before o ∷ a))
-unfolding with_spot
+unfolding add_spot
 else-stands h ds n l a id own label before o i f cs q e =
-    ap (λ os. (divided_from os f cs None q).spots) (around-is h ds n l (block own label before o ∷ a) q e)
+    ap (λ os. (divide_innermost os f cs None q).spots) (around-is h ds n l (block own label before o ∷ a) q e)
     ∙ ap (λ x. q.spots ++ spot (parts.Else x) f cs ∷ []) i
 
 -- ---- statements with statements in them
@@ -120,7 +120,7 @@ place-more : (place : ℕ) (done : List ArmTree) (x : ArmTree) → place ≡ len
 place-more place done x e = omega (arith, length-append done (x ∷ []))
 
 mutual
-  unfolding with_spot entered
+  unfolding add_spot open_block
 
   stmt_stands : (h : Heading) (ds : List DeclTree) (n : ℕ) (l : List StmtTree) (a : List AroundTree) (s : StmtTree) → Keeps a → IsNumbered n s → AllStand (cards_of s) (so h ds n l a)
   stmt_stands h ds n l a (stmt id label w) k i = what_stands h ds n l a id label w k i.number i.below
@@ -203,15 +203,15 @@ mutual
 -- ---- modules
 
 decls-stand : (h : Heading) (done : List DeclTree) (place : ℕ) (ds : List DeclTree) → place ≡ length done → AllStand (decl_cards place ds) (so h done 0 [] [])
-unfolding with_spot
+unfolding add_spot
 decls-stand h done place [] e = tt
 decls-stand h done place (d ∷ ds) e = record {
   first = λ f cs q g. ap (λ x. q.spots ++ spot (parts.Decl (length x.decls)) f cs ∷ []) g ∙ ap (λ k. q.spots ++ spot (parts.Decl k) f cs ∷ []) (sym e);
   others = decls-stand h (done ++ d ∷ []) (place + 1) ds (omega (arith, length-append done (d ∷ [])));
 }
 
-title-spots : (b : Bool) (n : List ℕ) (ds : List (List ℕ)) (f : ℕ) (cs : List (List ℕ)) (q : SoFar) → (with_phrase f None cs (if b then program n else subroutine n ds) q).spots ≡ q.spots ++ spot parts.Title f cs ∷ []
-unfolding with_spot
+title-spots : (b : Bool) (n : List ℕ) (ds : List (List ℕ)) (f : ℕ) (cs : List (List ℕ)) (q : SoFar) → (add_phrase f None cs (if b then program n else subroutine n ds) q).spots ≡ q.spots ++ spot parts.Title f cs ∷ []
+unfolding add_spot
 title-spots true n ds f cs q = refl
 title-spots false n ds f cs q = refl
 
@@ -220,19 +220,19 @@ title-stands true m p = record { first = λ f cs q e. title-spots m.main m.name 
 title-stands false m p = tt
 
 end-stands : (p : SoFar) → AllStand (card parts.End None end_module ∷ []) p
-unfolding with_spot
+unfolding add_spot
 end-stands p = record { first = λ f cs q e. refl; others = tt }
 
-module-stands : (m : ModuleTree) → IsWell m → AllStand (statements_of m) nothing_stated
+module-stands : (m : ModuleTree) → IsWell m → AllStand (statements_of m) no_statements
 unfolding statements_of
 module-stands m well =
     let h = heading_of m in
     let title = title_cards m in let decls = decl_cards 0 m.decls in let body = cards_in m.body in
     let titled = title_by m.main m.titled m refl refl well.title in
-    let specified = all_made-append title decls nothing_stated ∙ ap (all_made decls) titled ∙ decls_back h [] 0 m.decls in
-    stand-append (title ++ decls ++ body) (card parts.End None end_module ∷ []) nothing_stated
-    (stand-then (title ++ decls) body nothing_stated (so h m.decls 0 [] []) specified
-    (stand-then title decls nothing_stated (so h [] 0 [] []) titled (title-stands (m.titled || not m.main) m nothing_stated) (decls-stand h [] 0 m.decls refl))
+    let specified = all_made-append title decls no_statements ∙ ap (all_made decls) titled ∙ decls_back h [] 0 m.decls in
+    stand-append (title ++ decls ++ body) (card parts.End None end_module ∷ []) no_statements
+    (stand-then (title ++ decls) body no_statements (so h m.decls 0 [] []) specified
+    (stand-then title decls no_statements (so h [] 0 [] []) titled (title-stands (m.titled || not m.main) m no_statements) (decls-stand h [] 0 m.decls refl))
     (list_stands h m.decls 0 [] [] m.body (λ l p. refl) well.body))
     (end-stands _)
 
@@ -243,19 +243,19 @@ spots_of [] ss = []
 spots_of (c ∷ cs) [] = []
 spots_of (c ∷ cs) (s ∷ ss) = own_spots s.first s.comments c ++ spots_of cs ss
 
-all-stand : (ss : List StatementTree) (cs : List Card) (q : SoFar) → map of_statement ss ≡ map of_card cs → AllStand cs (bare q) → (all_stated ss q).spots ≡ q.spots ++ spots_of cs ss
+all-stand : (ss : List StatementTree) (cs : List Card) (q : SoFar) → map of_statement ss ≡ map of_card cs → AllStand cs (bare q) → (add_all ss q).spots ≡ q.spots ++ spots_of cs ss
 all-stand [] [] q e h = sym (append-nil q.spots)
 all-stand [] (c ∷ cs) q e h = absurd (some-first _ _ e)
 all-stand (s ∷ ss) [] q e h = absurd (some-first _ _ (sym e))
 all-stand (s ∷ ss) (c ∷ cs) q e h =
     let p = first-same (of_statement s) (of_card c) (map of_statement ss) (map of_card cs) e in
-    let next : bare (with_statement s q) ≡ turned (of_card c) (bare q) = with_phrase-bare s.first s.label s.comments s.phrase q ∙ ap (λ x. turned x (bare q)) p.0 in
-    let one : (with_statement s q).spots ≡ q.spots ++ own_spots s.first s.comments c =
-    ap (λ (x : Labelled). (with_phrase s.first x.label s.comments x.phrase q).spots) p.0 ∙ h.first s.first s.comments q refl in
-    all-stand ss cs (with_statement s q) p.1 (subst (AllStand cs) (sym next) h.others)
+    let next : bare (add_statement s q) ≡ turned (of_card c) (bare q) = with_phrase-bare s.first s.label s.comments s.phrase q ∙ ap (λ x. turned x (bare q)) p.0 in
+    let one : (add_statement s q).spots ≡ q.spots ++ own_spots s.first s.comments c =
+    ap (λ (x : Labelled). (add_phrase s.first x.label s.comments x.phrase q).spots) p.0 ∙ h.first s.first s.comments q refl in
+    all-stand ss cs (add_statement s q) p.1 (subst (AllStand cs) (sym next) h.others)
     ∙ ap (λ x. x ++ spots_of cs ss) one
     ∙ append_assoc q.spots (own_spots s.first s.comments c) (spots_of cs ss)
 
-pub built-spots : (m : ModuleTree) (closing : List (List ℕ)) (ss : List StatementTree) → IsWell m → AreWritten m ss → (built closing ss).places.spots ≡ spots_of (statements_of m) ss
-unfolding built
-built-spots m closing ss well w = all-stand ss (statements_of m) nothing_stated w (module-stands m well)
+pub built-spots : (m : ModuleTree) (closing : List (List ℕ)) (ss : List StatementTree) → IsWell m → AreWritten m ss → (build_module closing ss).places.spots ≡ spots_of (statements_of m) ss
+unfolding build_module
+built-spots m closing ss well w = all-stand ss (statements_of m) no_statements w (module-stands m well)

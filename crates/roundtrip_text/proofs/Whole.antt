@@ -9,7 +9,7 @@ use Rattle.f77_statements.specs.Phrases.{end_module}
 use Rattle.f77_structure.specs.Lists.{is_none_of}
 use Rattle.f77_parser.specs.Gives.{and_then}
 use Rattle.f77_parser.specs.Statements.{StatementTree}
-use Rattle.f77_parser.specs.Building.{built}
+use Rattle.f77_parser.specs.Building.{build_module}
 use Rattle.f77_parser.specs.Modules.{closing_at, modules_from, parse_of}
 use Rattle.f77_printer.specs.declared.added.Added.{Added}
 use Rattle.f77_printer.specs.PageText.{is_part}
@@ -68,14 +68,14 @@ abbrev CommentsKept : StatementTree → Type 0
 CommentsKept s = AreKept s.comments
 
 sound : (p : ParsedTree) → IsParsed p → IsSound p
-unfolding built
+unfolding build_module
 sound p h =
     let whole = h.begun ++ h.end ∷ [] in
     let read = cards_read h.closing whole (each-map IsSourced IsRead whole is-read h.sourced) in
     let fits = all_held MaybeLabel IsFitting Fits fitting h.closing whole (each-map IsSourced (Stated MaybeLabel IsFitting) whole stated h.sourced) in
     subst IsSound (sym h.is) (record {
       well = built_well h.closing h.begun h.end h.ends (all-formed whole h.sourced) h.faultless;
-      cards = good (statements_of (built h.closing whole).module_read) read fits;
+      cards = good (statements_of (build_module h.closing whole).module_read) read fits;
       spots = built-kept h.closing whole (each-map IsSourced CommentsKept whole (λ s k. k.comments) h.sourced);
       closing = h.kept;
     })
@@ -169,7 +169,7 @@ as-written (r ∷ rs) n = record { first = refl; others = as-written rs _ }
 -- what a module is read as, before others
 abbrev again_of : (ParsedTree → List Added) → List (List ℕ) → ℕ → ParsedTree → List ParsedTree → ParsedTree
 again_of added closing n p ps =
-    built (closing_at (is_none_of (read_rows (lines_behind n (module_rows added p)) (all_rows added ps))) closing) (read_rows n (module_rows added p))
+    build_module (closing_at (is_none_of (read_rows (lines_behind n (module_rows added p)) (all_rows added ps))) closing) (read_rows n (module_rows added p))
 
 abbrev all_again : (ParsedTree → List Added) → List (List ℕ) → ℕ → List ParsedTree → List ParsedTree
 all_again added closing n [] = []
@@ -212,17 +212,17 @@ module-filled added p n more =
     let m = p.module_read in
     rows-filled (added_lines (first_part m) (added p)) p.places.spots (title_cards m ++ decl_cards 0 m.decls ++ cards_in m.body) (card parts.End None end_module) n more
 
-again-closing : (closing : List (List ℕ)) (ss : List StatementTree) → (built closing ss).places.closing ≡ closing
-unfolding built
+again-closing : (closing : List (List ℕ)) (ss : List StatementTree) → (build_module closing ss).places.closing ≡ closing
+unfolding build_module
 again-closing closing ss = refl
 
 one-text : (added : ParsedTree → List Added) (n : ℕ) (p : ParsedTree) (closing : List (List ℕ)) → Each IsPassedOver (added p) → IsSound p → closing ≡ p.places.closing
-    → plain_text (built closing (read_rows n (module_rows added p))) ≡ plain_text p
+    → plain_text (build_module closing (read_rows n (module_rows added p))) ≡ plain_text p
 one-text added n p closing a h c =
     let own = read_rows n (module_rows added p) in
     let w = again-written added n p in
     let first = first_part p.module_read in
-    same-text p (built closing own) h.well (built_again p.module_read closing own h.well w) (again-closing closing own ∙ c)
+    same-text p (build_module closing own) h.well (built_again p.module_read closing own h.well w) (again-closing closing own ∙ c)
     (ap (λ x. page_text (λ part. []) x (statements_of p.module_read)) (built-spots p.module_read closing own h.well w)
     ∙ same-page (added_lines first (added p)) p.places.spots (statements_of p.module_read) n (λ x. added-dropped first (added p) x a) h.spots)
 

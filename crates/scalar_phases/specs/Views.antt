@@ -12,7 +12,7 @@ use Rattle.f77_results.specs.declared.view.View.{View}
 use Rattle.f77_meaning.specs.Modules.{Known, known_of}
 use Rattle.transformer_algebra.specs.declared.transformer.Transformer.{Transformer}
 use Rattle.call_translation.specs.declared.sites.CallSites.{CallSites}
-use Rattle.call_translation.specs.Sites.{HoldingSite, sites_in, AllSitesFit}
+use Rattle.call_translation.specs.Sites.{HoldingSite, caller_tree, sites_in, AllSitesFit}
 use Rattle.transformers.specs.Given.{ResultsFit}
 use Rattle.transformers.specs.Lists.{value_at}
 use Rattle.preconditions.specs.Statement.{EachFits}
@@ -22,7 +22,7 @@ use Rattle.scalar_phases.specs.declared.sites.Sites.{Sites}
 use Rattle.scalar_phases.specs.declared.walk.Caller as walk
 use Rattle.scalar_phases.specs.declared.holds.Analysis as all
 use Rattle.scalar_phases.specs.Phases as phases
-use Rattle.scalar_phases.specs.Phases.{module_names, scope_of}
+use Rattle.scalar_phases.specs.Phases.{module_names}
 
 -- ---- modules
 
@@ -71,4 +71,4 @@ abbrev pub SitesFit : Sites → Type 0
 SitesFit ss = (x : List ℕ) → AllSitesFit (sites_for ss x)
 
 abbrev pub caller_in : walk.Caller → phases.Caller
-caller_in c = record { scope = scope_of c.view.now.graph.now.untracked (known_in c.view.now); holds = value_at c.holds.now }
+caller_in c = record { scope = caller_tree c.scope.now.value; holds = value_at c.holds.now }

@@ -40,7 +40,7 @@ fn own_of(
 ) -> Result<Results<Transformer>, Memory>
     requires { CalleesFit (summary_in callees.now) }
     ensures defined { IfOk result (λ r. r ≡ transformers_of (known_in view.now).read.body (scope_of view.now.graph.now.untracked (known_in view.now)) (summary_in callees.now)) }
-    ensures gives { IfOk result OwnFits }
+    ensures fits { IfOk result OwnFits }
 {
     transformers(alloc, view, &no_effects(alloc), callees)
 }
@@ -73,8 +73,8 @@ fn add_module<'a>(
     requires all { All FoundFits all.old.items }
     ensures added { IfOk result (λ _. map found_tree all.new.items ≡ map found_tree all.old.items ++ found_of view.entry.graph.now.untracked (summary_in callees.old) (known_in view.entry) ∷ []) }
     ensures callees { IfOk result (λ _. (x : List ℕ) → summary_in callees.new x ≡ with_callee (Some (found_of view.entry.graph.now.untracked (summary_in callees.old) (known_in view.entry))) (summary_in callees.old) x) }
-    ensures fit { IfOk result (λ _. CalleesFit (summary_in callees.new)) }
-    ensures gives { IfOk result (λ _. All FoundFits all.new.items) }
+    ensures callees_fit { IfOk result (λ _. CalleesFit (summary_in callees.new)) }
+    ensures fits { IfOk result (λ _. All FoundFits all.new.items) }
 {
     let own = own_of(alloc, &view, callees)?;
     add_summary(alloc, &view, &own, callees)?;
@@ -100,8 +100,8 @@ fn add_named<'a>(
     requires all { All FoundFits all.old.items }
     ensures added { IfOk result (λ _. map found_tree all.new.items ≡ map found_tree all.old.items ++ option_to_list (maybe_found program.now.graph.now.untracked (summary_in callees.old) (module_of_is (modules_in program.now) name.now))) }
     ensures callees { IfOk result (λ _. (x : List ℕ) → summary_in callees.new x ≡ with_callee (maybe_found program.now.graph.now.untracked (summary_in callees.old) (module_of_is (modules_in program.now) name.now)) (summary_in callees.old) x) }
-    ensures fit { IfOk result (λ _. CalleesFit (summary_in callees.new)) }
-    ensures gives { IfOk result (λ _. All FoundFits all.new.items) }
+    ensures callees_fit { IfOk result (λ _. CalleesFit (summary_in callees.new)) }
+    ensures fits { IfOk result (λ _. All FoundFits all.new.items) }
 {
     match module_of(program, name) {
         None => Ok(()),
@@ -114,7 +114,7 @@ fn add_named<'a>(
 pub fn found_in<'a>(alloc: Global, program: &Program<'a>) -> Result<Vec<Found<'a>>, Memory>
     requires { IsNamed program.now }
     ensures defined { IfOk result (λ all. map found_tree all.items ≡ found_in_is program.now.graph.now.untracked (modules_in program.now) no_callees program.now.graph.now.order) }
-    ensures gives { IfOk result (λ all. All FoundFits all.items) }
+    ensures fits { IfOk result (λ all. All FoundFits all.items) }
 {
     let mut all = Vec::new(alloc);
     let mut callees = Summaries::new(alloc);

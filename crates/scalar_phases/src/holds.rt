@@ -19,7 +19,7 @@ use crate::sites::Sites;
 use crate::walk::{Caller, add_list};
 use affine_systems::System;
 use call_graph::Graph;
-use call_translation::CallSites;
+use call_translation::{CallSites, caller_scope};
 use f77_ast::Parsed;
 use f77_results::{Results, View};
 use f77_symbols::Symbols;
@@ -40,7 +40,7 @@ pub struct Analysis<'a> {
 fn entry_with(alloc: Global, view: &View<'_>, calls: &CallSites<System>) -> Result<System, Memory>
     requires { AllSitesFit (sites_in calls.now) }
     ensures defined { IfOk result (λ s. s ≡ entry_of_is (known_in view.now).read.main (scope_of view.now.graph.now.untracked (known_in view.now)) (sites_in calls.now)) }
-    ensures gives { IfOk result Fits }
+    ensures fits { IfOk result Fits }
 {
     entry_from(alloc, view, calls)
 }
@@ -49,7 +49,7 @@ fn entry_with(alloc: Global, view: &View<'_>, calls: &CallSites<System>) -> Resu
 fn entry_of(alloc: Global, view: &View<'_>, sites: &Sites) -> Result<System, Memory>
     requires { SitesFit sites.now }
     ensures defined { IfOk result (λ s. s ≡ entry_of_is (known_in view.now).read.main (scope_of view.now.graph.now.untracked (known_in view.now)) (sites_for sites.now (known_in view.now).read.name)) }
-    ensures gives { IfOk result Fits }
+    ensures fits { IfOk result Fits }
 {
     match sites.of(&view.module.name) {
         None => entry_with(alloc, view, &CallSites::new(alloc)),
@@ -67,7 +67,7 @@ fn holds_of(
     requires own { OwnFits own.now }
     requires entry { Fits entry.now }
     ensures defined { IfOk result (λ r. r ≡ preconditions_of (known_in view.now).read.body (scope_of view.now.graph.now.untracked (known_in view.now)) (transformer_at own.now.at) entry.now) }
-    ensures gives { IfOk result (λ r. EachFits r.at) }
+    ensures fits { IfOk result (λ r. EachFits r.at) }
 {
     preconditions(alloc, view, own, entry)
 }
@@ -82,7 +82,7 @@ fn analysis_of<'a>(
     requires found { FoundFits found }
     requires sites { SitesFit sites.now }
     ensures defined { IfOk result (λ a. analysis_tree a ≡ analysis_of_is graph.now.untracked (sites_for sites.now (found_tree found.entry).known.read.name) (found_tree found.entry)) }
-    ensures gives { IfOk result AnalysisFits }
+    ensures fits { IfOk result AnalysisFits }
 {
     let view = View {
         module: found.module,
@@ -95,7 +95,12 @@ fn analysis_of<'a>(
 }
 
 /// Adds the CALLs of a module that was looked at.
-fn add_sites(graph: &Graph, analysis: &Analysis<'_>, sites: &mut Sites) -> Result<(), Memory>
+fn add_sites(
+    alloc: Global,
+    graph: &Graph,
+    analysis: &Analysis<'_>,
+    sites: &mut Sites,
+) -> Result<(), Memory>
     requires analysis { AnalysisFits analysis.now }
     requires sites { SitesFit sites.old }
     ensures added { IfOk result (λ _. (x : List ℕ) → sites_for sites.new x ≡ sites_for sites.old x ++ list_sites (analysis_tree analysis.now).found.known.read.body (caller_of graph.now.untracked (analysis_tree analysis.now)) x) }
@@ -106,8 +111,9 @@ fn add_sites(graph: &Graph, analysis: &Analysis<'_>, sites: &mut Sites) -> Resul
         symbols: analysis.found.symbols,
         graph,
     };
+    let scope = caller_scope(alloc, &view)?;
     let caller = Caller {
-        view: &view,
+        scope: &scope,
         holds: &analysis.holds.at,
     };
     add_list(&caller, &analysis.found.module.body, sites)
@@ -127,11 +133,11 @@ fn add_analysis<'a>(
     requires all { All AnalysisFits all.old.items }
     ensures added { IfOk result (λ _. map analysis_tree all.new.items ≡ map analysis_tree all.old.items ++ analysis_of_is graph.now.untracked (sites_for sites.old (found_tree found.entry).known.read.name) (found_tree found.entry) ∷ []) }
     ensures sites { IfOk result (λ _. let a = analysis_of_is graph.now.untracked (sites_for sites.old (found_tree found.entry).known.read.name) (found_tree found.entry) in (x : List ℕ) → sites_for sites.new x ≡ sites_for sites.old x ++ list_sites a.found.known.read.body (caller_of graph.now.untracked a) x) }
-    ensures fits { IfOk result (λ _. SitesFit sites.new) }
-    ensures gives { IfOk result (λ _. All AnalysisFits all.new.items) }
+    ensures sites_fit { IfOk result (λ _. SitesFit sites.new) }
+    ensures fits { IfOk result (λ _. All AnalysisFits all.new.items) }
 {
     let analysis = analysis_of(alloc, graph, found, sites)?;
-    add_sites(graph, &analysis, sites)?;
+    add_sites(alloc, graph, &analysis, sites)?;
     all.push(analysis)?;
     Ok(())
 }
@@ -145,7 +151,7 @@ fn all_from<'a>(
 ) -> Result<Vec<Analysis<'a>>, Memory>
     requires { All FoundFits left.items }
     ensures defined { IfOk result (λ all. map analysis_tree all.items ≡ analyses_from graph.now.untracked [] (reverse (map found_tree left.entry.items))) }
-    ensures gives { IfOk result (λ all. All AnalysisFits all.items) }
+    ensures fits { IfOk result (λ all. All AnalysisFits all.items) }
 {
     let mut sites = Sites::new(alloc);
     let mut all = Vec::new(alloc);
@@ -166,7 +172,7 @@ pub fn analyses<'a>(
 ) -> Result<Vec<Analysis<'a>>, Memory>
     requires one_each { length modules.now ≡ length tables.now }
     ensures defined { IfOk result (λ all. map analysis_tree all.items ≡ analyses_is (known_of (map parsed_tree modules.now) (map (map symbol_tree) tables.now)) graph.now) }
-    ensures gives { IfOk result (λ all. All AnalysisFits all.items) }
+    ensures fits { IfOk result (λ all. All AnalysisFits all.items) }
 {
     let names = Names::of(alloc, modules)?;
     let program = Program {

@@ -2,17 +2,16 @@
 ghost use Rattle.std.specs.Prelude.{◌≡◌, ◌++◌, ◌∷◌, [], ℕ, List, IfOk, option_map, option_copied, bytes_eq, if◌then◌else◌};
 ghost use Rattle.affine_systems.specs.Given.{Fits};
 ghost use Rattle.f77_ast.specs.PlainStmt.{what_tree};
-ghost use Rattle.call_translation.specs.Sites.{HoldingSite, actuals_in, sites_in, AllSitesFit};
-ghost use Rattle.scalar_phases.specs.Phases.{scope_of};
-ghost use Rattle.scalar_phases.specs.Views.{known_in, sites_or_none, sites_for, SitesFit};
+ghost use Rattle.call_translation.specs.Sites.{HoldingSite, caller_tree, actuals_in, sites_in, AllSitesFit};
+ghost use Rattle.scalar_phases.specs.Views.{sites_or_none, sites_for, SitesFit};
 
 use affine_systems::System;
-use call_translation::CallSites;
+use call_translation::{CallSites, CallerScope};
 use f77_ast::Stmt;
-use f77_results::View;
 use fx_lists::Text;
 use std::alloc::{AllocError as Memory, Global};
 use std::collections::HashMap;
+use std::rc::Rc;
 
 /// The CALLs of modules by the names of what they call, with what holds where each begins. A name is looked up in constant time.
 #[derive(Drop)]
@@ -24,13 +23,13 @@ pub struct Sites {
 /// Adds a CALL to others of the same module.
 fn add_site(
     calls: &mut CallSites<System>,
-    caller: &View<'_>,
+    caller: &Rc<CallerScope>,
     call: &Stmt,
     value: System,
 ) -> Result<(), Memory>
-    ensures { IfOk result (λ _. sites_in calls.new ≡ sites_in calls.old ++ record { caller = scope_of caller.now.graph.now.untracked (known_in caller.now); actuals = actuals_in (what_tree call.now.what); value = value } ∷ []) }
+    ensures { IfOk result (λ _. sites_in calls.new ≡ sites_in calls.old ++ record { caller = caller_tree caller.now.value; actuals = actuals_in (what_tree call.now.what); value = value } ∷ []) }
 {
-    calls.add(caller, call, value)
+    calls.add_from(caller, call, value)
 }
 
 impl Sites {
@@ -73,17 +72,17 @@ impl Sites {
         }
     }
 
-    /// Adds a CALL of the module of a name behind the others of it. What is lent is copied.
+    /// Adds a CALL of the module of a name after the others of it, of a module with this scope. Its actuals are copied.
     pub fn add(
         &mut self,
         name: &Text,
-        caller: &View<'_>,
+        caller: &Rc<CallerScope>,
         call: &Stmt,
         value: System,
     ) -> Result<(), Memory>
         requires fits { SitesFit self.old }
         requires value { Fits value }
-        ensures added { IfOk result (λ _. (x : List ℕ) → sites_for self.new x ≡ sites_for self.old x ++ (if bytes_eq name.now x then record { caller = scope_of caller.now.graph.now.untracked (known_in caller.now); actuals = actuals_in (what_tree call.now.what); value = value } ∷ [] else [])) }
+        ensures added { IfOk result (λ _. (x : List ℕ) → sites_for self.new x ≡ sites_for self.old x ++ (if bytes_eq name.now x then record { caller = caller_tree caller.now.value; actuals = actuals_in (what_tree call.now.what); value = value } ∷ [] else [])) }
         ensures fits { IfOk result (λ _. SitesFit self.new) }
     {
         let mut calls = self.take(name);

@@ -5,25 +5,27 @@ ghost use Rattle.f77_ast.specs.PlainStmt.{stmt_tree, stmt_trees, what_tree, loop
 ghost use Rattle.call_translation.specs.Sites.{actuals_in};
 ghost use Rattle.preconditions.specs.Statement.{EachFits};
 ghost use Rattle.transformers.specs.Lists.{value_at};
-ghost use Rattle.scalar_phases.specs.Phases.{scope_of, site, stmt_sites, list_sites, arms_sites, loop_sites};
-ghost use Rattle.scalar_phases.specs.Views.{known_in, sites_for, SitesFit, caller_in};
+ghost use Rattle.scalar_phases.specs.Phases.{site, stmt_sites, list_sites, arms_sites, loop_sites};
+ghost use Rattle.scalar_phases.specs.Views.{sites_for, SitesFit, caller_in};
 
 use crate::sites::Sites;
 use affine_systems::System;
+use call_translation::CallerScope;
 use f77_ast::{Arm, Loop, Stmt, What};
-use f77_results::{At, View};
+use f77_results::At;
 use fx_lists::{List, Text};
 use std::alloc::AllocError as Memory;
+use std::rc::Rc;
 use transformers::value_at;
 
-/// A module whose CALLs are looked at, and what holds where its statements begin.
+/// The scope of a module whose CALLs are looked at, and what holds where its statements begin.
 #[derive(Drop)]
 pub struct Caller<'a> {
-    pub view: &'a View<'a>,
+    pub scope: &'a Rc<CallerScope>,
     pub holds: &'a List<At<System>>,
 }
 
-fn copied(system: &System) -> Result<System, Memory>
+fn copy_system(system: &System) -> Result<System, Memory>
     ensures { IfOk result (λ s. s ≡ system.now) }
 {
     system.clone()
@@ -42,8 +44,8 @@ fn add_known(
     ensures added { IfOk result (λ _. (x : List ℕ) → sites_for sites.new x ≡ sites_for sites.old x ++ (if bytes_eq callee.now x then site (caller_in caller.now).scope (actuals_in (what_tree call.now.what)) (Some holds.now) else [])) }
     ensures fits { IfOk result (λ _. SitesFit sites.new) }
 {
-    let value = copied(holds)?;
-    sites.add(callee, caller.view, call, value)
+    let value = copy_system(holds)?;
+    sites.add(callee, caller.scope, call, value)
 }
 
 /// Adds a CALL to those of what it calls; one without a result is passed over.

@@ -10,12 +10,12 @@ use Rattle.f77_constants.specs.declared.constant.Constant.TheVariants as constan
 use Rattle.f77_constants.specs.declared.constant.Worth.{Worth}
 use Rattle.f77_constants.specs.declared.constant.Worth.TheVariants.{Is, Faults, Varies}
 use Rattle.f77_constants.specs.Constants.{worth}
-use Rattle.f77_names.specs.declared.refusal.Cause.TheVariants.{InitialMismatch}
-use Rattle.f77_names.specs.declared.refusal.Refusal.{Refusal}
+use Rattle.refusal_codes.specs.declared.code.Code.TheVariants.{InitialMismatch}
+use Rattle.refusal_codes.specs.declared.refusal.Refusal.{Refusal}
 use Rattle.f77_names.specs.declared.kinds.Kind.{Kind}
 use Rattle.f77_names.specs.declared.kinds.Kind.TheVariants.{Int, Log, Real}
 use Rattle.f77_names.specs.declared.lines.Sited.TheVariants.{Decl}
-use Rattle.f77_names.specs.Refusals.{noted}
+use Rattle.refusal_codes.specs.Refusals.{refuse_if}
 use Rattle.f77_names.specs.Lines.{LineTable, line_or}
 use Rattle.f77_names.specs.Entries.{EntryTree, find}
 use Rattle.f77_names.specs.Tables.{NameTable, entry_kind}
@@ -29,7 +29,7 @@ use Rattle.storage_data.specs.declared.deals.Piece.{Piece}
 use Rattle.storage_data.specs.declared.stretches.Stretch.{Stretch}
 use Rattle.storage_data.specs.declared.initials.Filled.{Filled}
 use Rattle.storage_data.specs.Units.{place_of, units_of}
-use Rattle.storage_data.specs.Items.{item_name, item_fault, item_position, items_judged}
+use Rattle.storage_data.specs.Items.{item_name, item_fault, item_position, check_items}
 
 -- ---- targets
 
@@ -209,14 +209,14 @@ abbrev pub unfilled : Option Refusal → Filled
 unfilled found = record { pieces = []; stretches = []; found = found }
 
 abbrev pub mismatch : Bool → ℕ → Filled → Filled
-mismatch wrong line f = record f { found = noted wrong line InitialMismatch f.found }
+mismatch wrong line f = record f { found = refuse_if wrong line InitialMismatch f.found }
 
 -- as many values as units: they are given, and refused where a type differs or a unit has one
 abbrev pub given_pieces : NameTable → List Piece → List Stretch → ℕ → Filled → Filled
 given_pieces t ps new line f = record {
   pieces = f.pieces ++ ps;
   stretches = f.stretches ++ new;
-  found = noted (list_any (is_mistyped t) ps || meet_twice f.stretches new) line InitialMismatch f.found;
+  found = refuse_if (list_any (is_mistyped t) ps || meet_twice f.stretches new) line InitialMismatch f.found;
 }
 
 abbrev pub given : NameTable → List Seat → List Target → List Run → ℕ → Filled → Filled
@@ -231,7 +231,7 @@ targets_filled t ss cs rs line f =
     else given t ss cs rs line f
 
 abbrev pub faulted : NameTable → List ExprTree → ℕ → Filled → Filled
-faulted t is line f = record f { found = items_judged t is line f.found }
+faulted t is line f = record f { found = check_items t is line f.found }
 
 abbrev pub group_filled : NameTable → List Seat → DataTree → ℕ → Filled → Filled
 group_filled t ss g line f = targets_filled t ss (targets_of t ss g.targets) (runs_of g.values) line (faulted t g.targets line f)

@@ -6,12 +6,12 @@ use Rattle.f77_ast.specs.Places.{Dim, position}
 use Rattle.f77_constants.specs.declared.constant.Constant.TheVariants.{Int, Log}
 use Rattle.f77_constants.specs.declared.constant.Worth.{Worth}
 use Rattle.f77_constants.specs.declared.constant.Worth.TheVariants.{Is, Faults, Varies}
-use Rattle.f77_names.specs.declared.refusal.Cause.TheVariants.{NotAnArray}
-use Rattle.f77_names.specs.declared.refusal.Refusal.{Refusal}
-use Rattle.f77_names.specs.Refusals.{noted}
+use Rattle.refusal_codes.specs.declared.code.Code.TheVariants.{NotAnArray}
+use Rattle.refusal_codes.specs.declared.refusal.Refusal.{Refusal}
+use Rattle.refusal_codes.specs.Refusals.{refuse_if}
 use Rattle.f77_names.specs.Entries.{EntryTree, find, has_shape}
 use Rattle.f77_names.specs.Tables.{NameTable}
-use Rattle.f77_checks.specs.Expressions.{expr_judged, subscripts_judged}
+use Rattle.f77_checks.specs.Expressions.{check_expr, check_subscripts}
 use Rattle.f77_checks.specs.Dimensions.{dims_in, worth_in}
 
 abbrev pub item_name : ExprTree → Option (List ℕ)
@@ -27,8 +27,8 @@ item_name (tree.chars x) = None
 -- ---- what is asked of subscripts
 
 abbrev pub element_fault : Bool → NameTable → List ℕ → ExprTrees → ℕ → Option Refusal
-element_fault true t x es line = expr_judged t (tree.element x es) line None
-element_fault false t x es line = noted true line NotAnArray (subscripts_judged t es line None)
+element_fault true t x es line = check_expr t (tree.element x es) line None
+element_fault false t x es line = refuse_if true line NotAnArray (check_subscripts t es line None)
 
 -- the first refusal of an item alone; an array may stand whole
 abbrev pub item_fault : NameTable → ExprTree → ℕ → Option Refusal
@@ -44,12 +44,12 @@ item_fault t (tree.chars x) line = None
 -- the first of two refusals
 abbrev pub both : Option Refusal → Option Refusal → Option Refusal
 both None found = found
-both (Some r) found = noted true r.line r.cause found
+both (Some r) found = refuse_if true r.line r.code found
 
 -- the first refusal, also of these items
-abbrev pub items_judged : NameTable → List ExprTree → ℕ → Option Refusal → Option Refusal
-items_judged t [] line found = found
-items_judged t (i ∷ is) line found = items_judged t is line (both (item_fault t i line) found)
+abbrev pub check_items : NameTable → List ExprTree → ℕ → Option Refusal → Option Refusal
+check_items t [] line found = found
+check_items t (i ∷ is) line found = check_items t is line (both (item_fault t i line) found)
 
 -- ---- positions
 

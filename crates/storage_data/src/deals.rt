@@ -19,7 +19,7 @@ pub struct Piece {
 }
 
 /// The values in the opposite order, so that the next one is the last.
-fn turned(runs: List<Run>) -> List<Run>
+fn reverse_runs(runs: List<Run>) -> List<Run>
     ensures { result ≡ reverse runs }
 {
     let mut turned = runs.into_vec();
@@ -90,7 +90,7 @@ pub fn dealt(alloc: Global, targets: &[Target], runs: List<Run>) -> Result<List<
 {
     let mut dealing = Dealing {
         pieces: List::new(alloc),
-        left: turned(runs),
+        left: reverse_runs(runs),
     };
     for target in targets {
         dealing.take_for(*target)?;

@@ -8,15 +8,16 @@ ghost use Rattle.f77_names.specs.Views.{line_in, table_tree};
 ghost use Rattle.storage_data.specs.Initials.{given, group_filled, groups_filled, decl_filled, decls_filled, has_other_type, is_mistyped, kind_at, mismatch, targets_filled, unfilled};
 
 use crate::deals::{Piece, dealt};
-use crate::items::items_judged;
+use crate::items::check_items;
 use crate::stretches::{Stretch, meet_twice, stretches_of};
 use crate::targets::{Target, some_excluded, some_open, targets_of, units_in};
 use crate::values::{Run, runs_of, values_in};
 use f77_ast::{DataGroup, Decl};
 use f77_checks::decl_line;
 use f77_constants::Constant;
-use f77_names::{Cause, Kind, LineTable, NameTable, Refusal, noted};
+use f77_names::{Kind, LineTable, NameTable};
 use fx_lists::List;
+use refusal_codes::{Code, Refusal, refuse_if};
 use std::alloc::{AllocError as Memory, Global};
 use storage_groups::Groups;
 
@@ -92,7 +93,7 @@ impl Filled {
     fn note(&mut self, wrong: bool, line: u32)
         ensures { self.new ≡ mismatch wrong line self.old }
     {
-        self.found = noted(wrong, line, Cause::InitialMismatch, self.found);
+        self.found = refuse_if(wrong, line, Code::InitialMismatch, self.found);
     }
 
     fn give(
@@ -112,7 +113,7 @@ impl Filled {
         let twice = meet_twice(&mut self.stretches, new.as_slice())?;
         let mistyped = some_mistyped(table, pieces.as_slice());
         add_pieces(&mut self.pieces, pieces.as_slice())?;
-        self.found = noted(mistyped || twice, line, Cause::InitialMismatch, self.found);
+        self.found = refuse_if(mistyped || twice, line, Code::InitialMismatch, self.found);
         Ok(())
     }
 
@@ -154,7 +155,7 @@ impl Filled {
             (self.new ≡ group_filled (table_tree table.now) seats.now (data_tree group.now) line self.old) }
     {
         let items = group.targets.as_slice();
-        self.found = items_judged(table, items, line, self.found);
+        self.found = check_items(table, items, line, self.found);
         let targets = targets_of(alloc, table, seats, items)?;
         let runs = runs_of(alloc, group.values.as_slice())?;
         self.fill_targets(alloc, table, seats, targets.as_slice(), runs, line)

@@ -4,13 +4,14 @@ ghost use Rattle.std.specs.Option.{option_copied};
 ghost use Rattle.f77_ast.specs.Plain.{expr_tree, expr_trees};
 ghost use Rattle.f77_names.specs.Entries.{has_shape};
 ghost use Rattle.f77_names.specs.Views.{table_tree};
-ghost use Rattle.storage_data.specs.Items.{both, element_fault, item_fault, item_name, item_position, items_judged};
+ghost use Rattle.storage_data.specs.Items.{both, element_fault, item_fault, item_name, item_position, check_items};
 
 use crate::positions::element_position;
 use f77_ast::Expr;
-use f77_checks::{element_judged, subscripts_judged};
-use f77_names::{Cause, NameTable, Refusal, noted};
+use f77_checks::{check_element, check_subscripts};
+use f77_names::NameTable;
 use fx_lists::{List, Text};
+use refusal_codes::{Code, Refusal, refuse_if};
 use std::alloc::{AllocError as Memory, Global};
 
 #[tactic(auto, using(f77_ast::proofs::Plainly::expr_cases))]
@@ -33,10 +34,10 @@ fn element_fault(table: &NameTable, name: &Text, es: &List<Expr>, line: u32) -> 
         ≡ element_fault (has_shape name.now (table_tree table.now).entries) (table_tree table.now) name.now (expr_trees es.now) line }
 {
     if table.names.is_array(name) {
-        element_judged(table, name, es, line, None)
+        check_element(table, name, es, line, None)
     } else {
-        let found = subscripts_judged(table, es, line, None);
-        noted(true, line, Cause::NotAnArray, found)
+        let found = check_subscripts(table, es, line, None);
+        refuse_if(true, line, Code::NotAnArray, found)
     }
 }
 
@@ -63,19 +64,19 @@ fn both(one: Option<Refusal>, found: Option<Refusal>) -> Option<Refusal>
 {
     match one {
         None => found,
-        Some(refusal) => noted(true, refusal.line, refusal.cause, found),
+        Some(refusal) => refuse_if(true, refusal.line, refusal.code, found),
     }
 }
 
 /// The first refusal, also of these items.
 #[tactic(auto, using(f77_ast::proofs::PlainlyDecl::decl_lists))]
-pub fn items_judged(
+pub fn check_items(
     table: &NameTable,
     items: &[Expr],
     line: u32,
     mut found: Option<Refusal>,
 ) -> Option<Refusal>
-    ensures { result ≡ items_judged (table_tree table.now) (map expr_tree items.now) line found }
+    ensures { result ≡ check_items (table_tree table.now) (map expr_tree items.now) line found }
 {
     for item in items {
         found = both(item_fault(table, item, line), found);

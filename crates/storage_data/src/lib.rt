@@ -14,7 +14,7 @@ mod values;
 
 pub use deals::Piece;
 pub use initials::Filled;
-pub use items::{item_name, item_position, items_judged};
+pub use items::{check_items, item_name, item_position};
 pub use numbers::{as_count, as_number, as_offset, sum};
 pub use runs::initial_of;
 pub use stretches::Stretch;

@@ -16,7 +16,7 @@ pub struct Stretch {
     pub end: i64,
 }
 
-fn behind(from: i64, count: u64) -> Result<i64, Memory>
+fn end_of(from: i64, count: u64) -> Result<i64, Memory>
     ensures { IfOk result (λ n. n ≡ from +ℤ pos count) }
 {
     match from.checked_add(as_offset(count)?) {
@@ -28,11 +28,11 @@ fn behind(from: i64, count: u64) -> Result<i64, Memory>
 fn stretch_at(seat: Seat, offset: u64, count: u64) -> Result<Stretch, Memory>
     ensures { IfOk result (λ s. s ∷ [] ≡ stretch_at (Some seat) offset count) }
 {
-    let from = behind(seat.offset, offset)?;
+    let from = end_of(seat.offset, offset)?;
     Ok(Stretch {
         home: seat.home,
         from,
-        end: behind(from, count)?,
+        end: end_of(from, count)?,
     })
 }
 

@@ -7,7 +7,7 @@ use Rattle.std.proofs.lemmas.Bool.{eq-eqb, eqb-true}
 use Rattle.storage_groups.specs.declared.seat.Home.{Home}
 use Rattle.storage_groups.specs.declared.seat.Home.TheVariants.{Block, Own}
 use Rattle.storage_groups.specs.declared.seat.Seat.{Seat}
-use Rattle.storage_groups.specs.Seats.{same_home, is_block, moved, all_moved, Joined, joined_at, joined_seats}
+use Rattle.storage_groups.specs.Seats.{same_home, is_block, move_seat, all_moved, Joined, joined_at, joined_seats}
 use Rattle.storage_groups.specs.Laws.{BlocksStay, OneLiesWith, BlocksTakeGroups}
 
 pub same_home-refl : (h : Home) → same_home h h ≡ true
@@ -21,7 +21,7 @@ apart (Own m) k t f = cc
 
 -- ---- groups that move
 
-moved_get : (ss : List Seat) (from to : Home) (shift : ℤ) (k : ℕ) → slice_get (all_moved from to shift ss) k ≡ option_map (moved from to shift) (slice_get ss k)
+pub moved_get : (ss : List Seat) (from to : Home) (shift : ℤ) (k : ℕ) → slice_get (all_moved from to shift ss) k ≡ option_map (move_seat from to shift) (slice_get ss k)
 moved_get [] from to shift zero = refl
 moved_get [] from to shift (suc k) = refl
 moved_get (s ∷ ss) from to shift zero = refl
@@ -29,7 +29,7 @@ moved_get (s ∷ ss) from to shift (suc k) = moved_get ss from to shift k
 
 stay : (ss : List Seat) (from to : Home) (shift : ℤ) (k : ℕ) (s : Seat) → is_block from ≡ false → slice_get ss k ≡ Some s → is_block s.home ≡ true → slice_get (all_moved from to shift ss) k ≡ Some s
 stay ss from to shift k s f e t =
-    moved_get ss from to shift k ∙ ap (option_map (moved from to shift)) e ∙ ap (λ b. Some (if b then record { home = to; offset = s.offset +ℤ shift } else s)) (apart s.home from t f)
+    moved_get ss from to shift k ∙ ap (option_map (move_seat from to shift)) e ∙ ap (λ b. Some (if b then record { home = to; offset = s.offset +ℤ shift } else s)) (apart s.home from t f)
 
 back : (ss : List Seat) (from to : Home) (shift : ℤ) (k : ℕ) (s : Seat) → slice_get (all_moved from to shift ss) k ≡ Some s → (slice_get ss k ≡ Some s) ⊎ (s.home ≡ to)
 back ss from to shift k s e = go (slice_get ss k) (sym (moved_get ss from to shift k) ∙ e)
@@ -38,7 +38,7 @@ back ss from to shift k s e = go (slice_get ss k) (sym (moved_get ss from to shi
     one true r q = let there : record { home = to; offset = r.offset +ℤ shift } ≡ s = cc in inr (ap (λ (x : Seat). x.home) (sym there))
     one false r q = inl q
 
-    go : (o : Option Seat) → option_map (moved from to shift) o ≡ Some s → (o ≡ Some s) ⊎ (s.home ≡ to)
+    go : (o : Option Seat) → option_map (move_seat from to shift) o ≡ Some s → (o ≡ Some s) ⊎ (s.home ≡ to)
     go None q = cc
     go (Some r) q = one (same_home r.home from) r q
 

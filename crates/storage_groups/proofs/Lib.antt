@@ -2,3 +2,4 @@ pub mod AloneLaws
 pub mod MoveLaws
 pub mod LowestLaws
 pub mod BlockLaws
+pub mod SpanLaws

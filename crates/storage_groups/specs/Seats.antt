@@ -23,11 +23,11 @@ alone_from n zero = []
 alone_from n (suc k) = record { home = Own n; offset = pos 0 } ∷ alone_from (n + 1) k
 
 -- the whole group of a variable goes to another group
-abbrev pub moved : Home → Home → ℤ → Seat → Seat
-moved from to shift s = if same_home s.home from then record { home = to; offset = s.offset +ℤ shift } else s
+abbrev pub move_seat : Home → Home → ℤ → Seat → Seat
+move_seat from to shift s = if same_home s.home from then record { home = to; offset = s.offset +ℤ shift } else s
 
 abbrev pub all_moved : Home → Home → ℤ → List Seat → List Seat
-all_moved from to shift ss = map (moved from to shift) ss
+all_moved from to shift ss = map (move_seat from to shift) ss
 
 -- the groups behind a join, and whether it contradicts them
 pub record Joined : Type 0 where

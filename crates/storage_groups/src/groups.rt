@@ -28,7 +28,7 @@ impl Model for Groups {
 impl Groups {
     /// So many variables, each in a group of its own.
     #[tactic(auto, using(crate::proofs::AloneLaws::alone_next))]
-    pub fn alone(alloc: Global, count: u32) -> Result<Groups, Memory>
+    pub fn singletons(alloc: Global, count: u32) -> Result<Groups, Memory>
         ensures { IfOk result (λ g. g ≡ alone_from 0 count) }
     {
         let mut seats = Vec::new(alloc);

@@ -7,5 +7,7 @@ mod moves;
 mod seat;
 
 pub use groups::Groups;
-pub use laws::{blocks_stay, blocks_take_groups, lowest_is_least, lowest_is_reached};
+pub use laws::{
+    blocks_stay, blocks_take_groups, joins_keep_compact, lowest_is_least, lowest_is_reached,
+};
 pub use seat::{Home, Seat};

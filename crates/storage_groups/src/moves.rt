@@ -3,15 +3,15 @@ ghost use Rattle.std.specs.Prelude.{◌≡◌, ℕ, IfSome, IfOk, OnOk, None, na
 ghost use Rattle.std.specs.Bool.{OnTrue};
 ghost use Rattle.std.specs.HashMap.{get};
 ghost use Rattle.storage_groups.specs.declared.seat.Home.TheVariants.{Own};
-ghost use Rattle.storage_groups.specs.Seats.{all_moved, begins_before, lowest_from, lower, moved, with_low};
+ghost use Rattle.storage_groups.specs.Seats.{all_moved, begins_before, lowest_from, lower, move_seat, with_low};
 
 use crate::{Home, Seat};
 use std::alloc::{AllocError as Memory, Global};
 use std::collections::HashMap;
 
 /// A variable whose group goes to another one, its offset higher by the shift; None where that leaves 64 bits.
-fn moved(seat: Seat, from: Home, to: Home, shift: i64) -> Option<Seat>
-    ensures { IfSome result (λ s. s ≡ moved from to shift seat) }
+fn move_seat(seat: Seat, from: Home, to: Home, shift: i64) -> Option<Seat>
+    ensures { IfSome result (λ s. s ≡ move_seat from to shift seat) }
 {
     if !seat.home.is_same(from) {
         return Some(seat);
@@ -27,7 +27,7 @@ pub fn move_group(seats: &mut [Seat], from: Home, to: Home, shift: i64) -> bool
     ensures { OnTrue result (seats.new ≡ all_moved from to shift seats.old) }
 {
     for at in 0..seats.len() {
-        match moved(seats[at], from, to, shift) {
+        match move_seat(seats[at], from, to, shift) {
             None => return false,
             Some(seat) => seats[at] = seat,
         }

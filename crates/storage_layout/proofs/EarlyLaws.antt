@@ -3,14 +3,15 @@ use Rattle.std.proofs.Common.{◌≡◌, ℕ, zero, suc, ◌+◌, Bool, true, fa
 use Rattle.std.specs.Prelude.{◌<ℤ◌, ◌&&◌, ◌||◌, int_lt, slice_get, slice_set, if◌then◌else◌}
 use Rattle.std.specs.List.{list_any}
 use Rattle.std.proofs.lemmas.Int.{ints}
+use Rattle.std.proofs.lemmas.Bool.{or_right as or_true, and_from as and_true}
 use Rattle.f77_ast.specs.Trees.{ExprTree}
 use Rattle.f77_ast.specs.DeclTrees.{EntityTree, CommonTree, DeclTree}
 use Rattle.f77_ast.specs.DeclTrees as decl
-use Rattle.f77_names.specs.declared.refusal.Cause.{Cause}
-use Rattle.f77_names.specs.declared.refusal.Cause.TheVariants.{EquivalenceClash, EquivalenceExtendsBack}
-use Rattle.f77_names.specs.declared.refusal.Refusal.{Refusal}
+use Rattle.refusal_codes.specs.declared.code.Code.{Code}
+use Rattle.refusal_codes.specs.declared.code.Code.TheVariants.{EquivalenceClash, EquivalenceExtendsBack}
+use Rattle.refusal_codes.specs.declared.refusal.Refusal.{Refusal}
 use Rattle.f77_names.specs.declared.lines.Sited.TheVariants.{Decl}
-use Rattle.f77_names.specs.Refusals.{noted}
+use Rattle.refusal_codes.specs.Refusals.{refuse_if}
 use Rattle.f77_names.specs.Lines.{LineTable, line_or}
 use Rattle.f77_names.specs.Entries.{find}
 use Rattle.f77_names.specs.Tables.{NameTable}
@@ -32,14 +33,6 @@ abbrev pub NoneBefore : List Seat → Type 0
 NoneBefore ss = (n : ℕ) (s : Seat) → slice_get ss n ≡ Some s → is_block s.home ≡ true → pos 0 ≤ℤ s.offset
 
 -- ---- tests on lists
-
-or_true : (b c : Bool) → c ≡ true → (b || c) ≡ true
-or_true true c e = refl
-or_true false c e = e
-
-and_true : (b c : Bool) → b ≡ true → c ≡ true → (b && c) ≡ true
-and_true true c e f = f
-and_true false c e f = cc
 
 any_at : {X : Type 0} (f : X → Bool) (xs : List X) (k : ℕ) (x : X) → slice_get xs k ≡ Some x → f x ≡ true → list_any f xs ≡ true
 any_at f [] zero x e t = cc
@@ -182,8 +175,8 @@ items_step t all (i ∷ is) g sub h =
 
 -- ---- a group
 
-noted_none : (b : Bool) (line : ℕ) (c : Cause) (o : Option Refusal) → noted b line c o ≡ None → (b ≡ false) × (o ≡ None)
-unfolding noted
+noted_none : (b : Bool) (line : ℕ) (c : Code) (o : Option Refusal) → refuse_if b line c o ≡ None → (b ≡ false) × (o ≡ None)
+unfolding refuse_if
 noted_none true line c o e = cc
 noted_none false line c o e = (refl, e)
 
@@ -215,7 +208,7 @@ IsSound s = s.late ≡ None → NoneBefore s.group.seats
 
 group_sound : (t : NameTable) (is : List ExprTree) (line : ℕ) (s : Shared) → IsSound s → IsSound (group_shared t is line s)
 group_sound t is line s h e =
-    let last = noted_none (items_extend t (items_joined t is (begun s.group)).seats is) line EquivalenceExtendsBack (noted (items_joined t is (begun s.group)).clash line EquivalenceClash s.late) e in
+    let last = noted_none (items_extend t (items_joined t is (begun s.group)).seats is) line EquivalenceExtendsBack (refuse_if (items_joined t is (begun s.group)).clash line EquivalenceClash s.late) e in
     let first = noted_none (items_joined t is (begun s.group)).clash line EquivalenceClash s.late last.1 in
     ends_none t is (items_joined t is (begun s.group)) (items_step t is is (begun s.group) (λ k i f. (k, f)) (fresh (h first.1))) last.0
   where

@@ -9,12 +9,12 @@ use Rattle.f77_ast.specs.DeclTrees.{EntityTree, DeclTree, integer, common, equiv
 use Rattle.f77_symbols.specs.declared.symbol.Place.{Place}
 use Rattle.f77_symbols.specs.declared.symbol.Place.TheVariants.{Local, Block}
 use Rattle.f77_symbols.specs.Symbols.{BoundTree, SymbolTree}
-use Rattle.f77_names.specs.declared.refusal.Cause.TheVariants.{EquivalenceExtendsBack, InitialMismatch, TypeMismatch}
-use Rattle.f77_names.specs.Refusals.{noted, is_before}
+use Rattle.refusal_codes.specs.declared.code.Code.TheVariants.{EquivalenceExtendsBack, InitialMismatch, TypeMismatch}
+use Rattle.refusal_codes.specs.Refusals.{refuse_if, is_before}
 use Rattle.f77_names.specs.Entries.{find, place_in}
 use Rattle.f77_names.specs.Functions.{function_of}
 use Rattle.f77_names.specs.Tables.{entry_kind, kind_in}
-use Rattle.storage_layout.specs.Symbols.{laid, shared, filled, answered, after_shared, after_laid, laid_out, valued, checked, after_valued, symbols_at, symbols_of}
+use Rattle.storage_layout.specs.Symbols.{laid, shared, filled, symbols_or_refusal, after_shared, lay_shared_and_data, lay_out, valued, checked, check_and_lay_out, symbols_at, symbols_of}
 
 abbrev i : ExprTree
 i = name (codes "I")
@@ -70,21 +70,21 @@ shares_with_block :
     ≡ Ok (scalar_at (codes "I") (Block (codes "B") 0)
     ∷ record { name = codes "J"; scalar = Int; bounds = one_to_five; place = Block (codes "B") 0; saved = false; initial = [] }
     ∷ [])
-unfolding find place_in function_of kind_in entry_kind noted is_before laid shared filled answered after_shared after_laid laid_out valued checked after_valued symbols_at symbols_of
+unfolding find place_in function_of kind_in entry_kind refuse_if is_before laid shared filled symbols_or_refusal after_shared lay_shared_and_data lay_out valued checked check_and_lay_out symbols_at symbols_of
 shares_with_block = refl
 
 -- with J(2) the block would begin before I
 extends_back :
     symbols_of (parsed (in_block ∷ integer (five ∷ []) ∷ together (int (pos 2)) ∷ []) (int (pos 1)))
-    ≡ Err (record { line = 4; cause = EquivalenceExtendsBack })
-unfolding find place_in function_of kind_in entry_kind noted is_before laid shared filled answered after_shared after_laid laid_out valued checked after_valued symbols_at symbols_of
+    ≡ Err (record { line = 4; code = EquivalenceExtendsBack })
+unfolding find place_in function_of kind_in entry_kind refuse_if is_before laid shared filled symbols_or_refusal after_shared lay_shared_and_data lay_out valued checked check_and_lay_out symbols_at symbols_of
 extends_back = refl
 
 -- a wrong type on a later line comes first
 type_comes_first :
     symbols_of (parsed (in_block ∷ integer (five ∷ []) ∷ together (int (pos 2)) ∷ []) (log true))
-    ≡ Err (record { line = 9; cause = TypeMismatch })
-unfolding find place_in function_of kind_in entry_kind noted is_before laid shared filled answered after_shared after_laid laid_out valued checked after_valued symbols_at symbols_of
+    ≡ Err (record { line = 9; code = TypeMismatch })
+unfolding find place_in function_of kind_in entry_kind refuse_if is_before laid shared filled symbols_or_refusal after_shared lay_shared_and_data lay_out valued checked check_and_lay_out symbols_at symbols_of
 type_comes_first = refl
 
 -- INTEGER J(5); EQUIVALENCE (I,J(2)); DATA J/2*0,3*7/: both are saved, and J has two runs
@@ -107,12 +107,12 @@ initial_values :
     }
     ∷ record { name = codes "I"; scalar = Int; bounds = []; place = Local 1 1; saved = true; initial = [] }
     ∷ [])
-unfolding find place_in function_of kind_in entry_kind noted is_before laid shared filled answered after_shared after_laid laid_out valued checked after_valued symbols_at symbols_of
+unfolding find place_in function_of kind_in entry_kind refuse_if is_before laid shared filled symbols_or_refusal after_shared lay_shared_and_data lay_out valued checked check_and_lay_out symbols_at symbols_of
 initial_values = refl
 
 -- DATA on the block by EQUIVALENCE
 no_data_in_block :
     symbols_of (parsed (in_block ∷ integer (five ∷ []) ∷ together (int (pos 1)) ∷ values ∷ []) (int (pos 1)))
-    ≡ Err (record { line = 5; cause = InitialMismatch })
-unfolding find place_in function_of kind_in entry_kind noted is_before laid shared filled answered after_shared after_laid laid_out valued checked after_valued symbols_at symbols_of
+    ≡ Err (record { line = 5; code = InitialMismatch })
+unfolding find place_in function_of kind_in entry_kind refuse_if is_before laid shared filled symbols_or_refusal after_shared lay_shared_and_data lay_out valued checked check_and_lay_out symbols_at symbols_of
 no_data_in_block = refl

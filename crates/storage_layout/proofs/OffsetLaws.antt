@@ -5,7 +5,7 @@ use Rattle.std.proofs.lemmas.Int.{ints}
 use Rattle.f77_ast.specs.Places.{as_count}
 use Rattle.f77_ast.specs.DeclTrees.{DeclTree}
 use Rattle.f77_symbols.specs.Symbols.{SymbolTree}
-use Rattle.f77_names.specs.declared.refusal.Refusal.{Refusal}
+use Rattle.refusal_codes.specs.declared.refusal.Refusal.{Refusal}
 use Rattle.f77_names.specs.Lines.{LineTable, lines_of}
 use Rattle.f77_names.specs.Tables.{NameTable}
 use Rattle.storage_groups.specs.declared.seat.Home.{Home}
@@ -14,7 +14,7 @@ use Rattle.storage_groups.specs.declared.seat.Seat.{Seat}
 use Rattle.storage_groups.specs.Seats.{is_block, lowest}
 use Rattle.storage_groups.proofs.LowestLaws.{lowest_is_least}
 use Rattle.storage_layout.specs.Table.{Layout, symbols_in}
-use Rattle.storage_layout.specs.Symbols.{alone, laid, unshared, shared, filled, answer, layout_for, answered, after_shared, after_laid, laid_out, valued, checked, after_valued, symbols_at, symbols_of}
+use Rattle.storage_layout.specs.Symbols.{alone, laid, unshared, shared, filled, answer, layout_for, symbols_or_refusal, after_shared, lay_shared_and_data, lay_out, valued, checked, check_and_lay_out, symbols_at, symbols_of}
 use Rattle.storage_layout.specs.Laws.{BeginsAt, KeepsOffsets, TablesKeepOffsets}
 use Rattle.storage_layout.proofs.EarlyLaws.{NoneBefore, IsSound, alone_none_at, decls_none, decls_sound}
 
@@ -45,8 +45,8 @@ shared_sound : (t : NameTable) (at : LineTable) (ds : List DeclTree) (found : Op
 unfolding laid shared
 shared_sound t at ds found = decls_sound t at ds 0 (unshared (laid t ds).seats found) (λ e. decls_none t ds (alone t) (alone_none_at (length t.entries)))
 
-laid_right : (t : NameTable) (at : LineTable) (ds : List DeclTree) (found : Option Refusal) (ss : List SymbolTree) → laid_out t at ds found ≡ Ok ss → KeepsOffsets ss
-unfolding answered after_shared after_laid laid_out
+laid_right : (t : NameTable) (at : LineTable) (ds : List DeclTree) (found : Option Refusal) (ss : List SymbolTree) → lay_out t at ds found ≡ Ok ss → KeepsOffsets ss
+unfolding symbols_or_refusal after_shared lay_shared_and_data lay_out
 laid_right t at ds found ss e =
     let r = given (filled t (shared t at ds (laid t ds).seats found).group.seats at ds (shared t at ds (laid t ds).seats found).found).found (shared t at ds (laid t ds).seats found).late (layout_for t ds (shared t at ds (laid t ds).seats found).group.seats (laid t ds).names (filled t (shared t at ds (laid t ds).seats found).group.seats at ds (shared t at ds (laid t ds).seats found).found)) ss e in
     record {
@@ -56,6 +56,6 @@ laid_right t at ds found ss e =
     }
 
 pub tables_keep_offsets : TablesKeepOffsets
-unfolding after_valued symbols_at symbols_of
+unfolding check_and_lay_out symbols_at symbols_of
 tables_keep_offsets p ss e =
     laid_right (valued (lines_of p.places.spots) p.module_read).table (lines_of p.places.spots) p.module_read.decls (checked (lines_of p.places.spots) p.module_read (valued (lines_of p.places.spots) p.module_read)) ss e

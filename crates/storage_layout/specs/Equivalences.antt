@@ -5,9 +5,9 @@ use Rattle.std.specs.List.{list_any}
 use Rattle.f77_ast.specs.Trees.{ExprTree}
 use Rattle.f77_ast.specs.DeclTrees.{DeclTree}
 use Rattle.f77_ast.specs.DeclTrees as decl
-use Rattle.f77_names.specs.declared.refusal.Cause.TheVariants.{EquivalenceClash, EquivalenceExtendsBack}
+use Rattle.refusal_codes.specs.declared.code.Code.TheVariants.{EquivalenceClash, EquivalenceExtendsBack}
 use Rattle.f77_names.specs.declared.lines.Sited.TheVariants.{Decl}
-use Rattle.f77_names.specs.Refusals.{noted}
+use Rattle.refusal_codes.specs.Refusals.{refuse_if}
 use Rattle.f77_names.specs.Lines.{LineTable, line_or}
 use Rattle.f77_names.specs.Entries.{EntryTree, find, of_entry}
 use Rattle.f77_names.specs.Tables.{NameTable}
@@ -17,7 +17,7 @@ use Rattle.storage_layout.specs.declared.equivalences.Anchor.{Anchor}
 use Rattle.storage_layout.specs.declared.equivalences.Grouping.{Grouping}
 use Rattle.storage_layout.specs.declared.equivalences.Shared.{Shared}
 use Rattle.storage_data.specs.Units.{place_of}
-use Rattle.storage_data.specs.Items.{item_name, item_position, items_judged}
+use Rattle.storage_data.specs.Items.{item_name, item_position, check_items}
 
 -- dummies and PARAMETER names have no units to share
 abbrev pub may_join : Option EntryTree → Bool
@@ -72,8 +72,8 @@ begun g = record { seats = g.seats; anchor = None; clash = false }
 abbrev pub after_items : NameTable → List ExprTree → ℕ → Grouping → Shared → Shared
 after_items t is line g s = record {
   group = g;
-  found = items_judged t is line s.found;
-  late = noted (items_extend t g.seats is) line EquivalenceExtendsBack (noted g.clash line EquivalenceClash s.late);
+  found = check_items t is line s.found;
+  late = refuse_if (items_extend t g.seats is) line EquivalenceExtendsBack (refuse_if g.clash line EquivalenceClash s.late);
 }
 
 abbrev pub group_shared : NameTable → List ExprTree → ℕ → Shared → Shared

@@ -2,15 +2,15 @@
 use Rattle.std.specs.Prelude.{◌≡◌, ℕ, List, map, Result, Ok, Err}
 use Rattle.f77_symbols.specs.declared.symbol.Symbol.{Symbol}
 use Rattle.f77_symbols.specs.Symbols.{SymbolTree, symbol_tree}
-use Rattle.f77_names.specs.declared.refusal.Refusal.{Refusal}
-use Rattle.f77_names.specs.Refusals.{number_of}
+use Rattle.refusal_codes.specs.declared.refusal.Refusal.{Refusal}
+use Rattle.refusal_codes.specs.Refusals.{number_of}
 use Rattle.storage_layout.specs.declared.refusal.LayoutRefusal.{LayoutRefusal}
 use Rattle.storage_layout.specs.declared.refusal.LayoutRefusal.TheVariants.{At, Memory}
 
 -- a refusal at this line with this number
 abbrev pub IsRefusal : Result (List SymbolTree) Refusal → ℕ → ℕ → Type 0
 IsRefusal (Ok ss) line code = ⊥
-IsRefusal (Err r) line code = (r.line ≡ line) × (number_of r.cause ≡ code)
+IsRefusal (Err r) line code = (r.line ≡ line) × (number_of r.code ≡ code)
 
 -- the table or the refusal of the definition, unless memory ran out
 abbrev pub Gives : Result (List Symbol) LayoutRefusal → Result (List SymbolTree) Refusal → Type 0

@@ -3,12 +3,12 @@ use Rattle.std.specs.Prelude.{ℕ, false, List, [], length, Option, Some, None, 
 use Rattle.std.specs.List.{list_any}
 use Rattle.f77_ast.specs.DeclTrees.{DeclTree, ModuleTree, ParsedTree}
 use Rattle.f77_symbols.specs.Symbols.{SymbolTree}
-use Rattle.f77_names.specs.declared.refusal.Refusal.{Refusal}
+use Rattle.refusal_codes.specs.declared.refusal.Refusal.{Refusal}
 use Rattle.f77_names.specs.Lines.{LineTable, lines_of}
-use Rattle.f77_names.specs.Tables.{NameTable, table_of, names_judged}
+use Rattle.f77_names.specs.Tables.{NameTable, table_of, check_names}
 use Rattle.f77_checks.specs.Parameters.{Valued, decls_valued}
-use Rattle.f77_checks.specs.Dimensions.{shapes_judged}
-use Rattle.f77_checks.specs.Statements.{stmts_judged}
+use Rattle.f77_checks.specs.Dimensions.{check_shapes}
+use Rattle.f77_checks.specs.Statements.{check_stmts}
 use Rattle.storage_groups.specs.declared.seat.Seat.{Seat}
 use Rattle.storage_groups.specs.Seats.{alone_from}
 use Rattle.storage_layout.specs.declared.blocks.Laid.{Laid}
@@ -47,30 +47,30 @@ answer None None l = Ok (symbols_in l)
 abbrev pub layout_for : NameTable → List DeclTree → List Seat → List (List ℕ) → Filled → Layout
 layout_for t ds ss names f = record { table = t; seats = ss; names = names; pieces = f.pieces; save_all = list_any is_save_all ds }
 
-unfoldable pub answered : NameTable → List DeclTree → List (List ℕ) → List Seat → Option Refusal → Filled → Result (List SymbolTree) Refusal
-answered t ds names ss late f = answer f.found late (layout_for t ds ss names f)
+unfoldable pub symbols_or_refusal : NameTable → List DeclTree → List (List ℕ) → List Seat → Option Refusal → Filled → Result (List SymbolTree) Refusal
+symbols_or_refusal t ds names ss late f = answer f.found late (layout_for t ds ss names f)
 
 unfoldable pub after_shared : NameTable → LineTable → List DeclTree → List (List ℕ) → Shared → Result (List SymbolTree) Refusal
-after_shared t at ds names s = answered t ds names s.group.seats s.late (filled t s.group.seats at ds s.found)
+after_shared t at ds names s = symbols_or_refusal t ds names s.group.seats s.late (filled t s.group.seats at ds s.found)
 
-unfoldable pub after_laid : NameTable → LineTable → List DeclTree → Option Refusal → Laid → Result (List SymbolTree) Refusal
-after_laid t at ds found l = after_shared t at ds l.names (shared t at ds l.seats found)
+unfoldable pub lay_shared_and_data : NameTable → LineTable → List DeclTree → Option Refusal → Laid → Result (List SymbolTree) Refusal
+lay_shared_and_data t at ds found l = after_shared t at ds l.names (shared t at ds l.seats found)
 
-unfoldable pub laid_out : NameTable → LineTable → List DeclTree → Option Refusal → Result (List SymbolTree) Refusal
-laid_out t at ds found = after_laid t at ds found (laid t ds)
+unfoldable pub lay_out : NameTable → LineTable → List DeclTree → Option Refusal → Result (List SymbolTree) Refusal
+lay_out t at ds found = lay_shared_and_data t at ds found (laid t ds)
 
 -- names, then PARAMETER values, the bounds of arrays, and executable statements
 unfoldable pub valued : LineTable → ModuleTree → Valued
-valued at m = decls_valued at m.decls 0 (record { table = table_of at m; found = names_judged at m })
+valued at m = decls_valued at m.decls 0 (record { table = table_of at m; found = check_names at m })
 
 unfoldable pub checked : LineTable → ModuleTree → Valued → Option Refusal
-checked at m v = stmts_judged v.table at m.body 0 (shapes_judged v.table v.table.entries v.found)
+checked at m v = check_stmts v.table at m.body 0 (check_shapes v.table v.table.entries v.found)
 
-unfoldable pub after_valued : LineTable → ModuleTree → Valued → Result (List SymbolTree) Refusal
-after_valued at m v = laid_out v.table at m.decls (checked at m v)
+unfoldable pub check_and_lay_out : LineTable → ModuleTree → Valued → Result (List SymbolTree) Refusal
+check_and_lay_out at m v = lay_out v.table at m.decls (checked at m v)
 
 unfoldable pub symbols_at : LineTable → ModuleTree → Result (List SymbolTree) Refusal
-symbols_at at m = after_valued at m (valued at m)
+symbols_at at m = check_and_lay_out at m (valued at m)
 
 -- of a module that was read, the table or the line and the cause of its first refusal
 unfoldable pub symbols_of : ParsedTree → Result (List SymbolTree) Refusal

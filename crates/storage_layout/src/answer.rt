@@ -6,7 +6,7 @@ ghost use Rattle.f77_symbols.specs.Index.{names_of};
 ghost use Rattle.f77_names.specs.Views.{line_in, table_tree};
 ghost use Rattle.f77_checks.specs.Views.{valued_tree};
 ghost use Rattle.storage_layout.specs.Gives.{Gives};
-ghost use Rattle.storage_layout.specs.Symbols.{after_laid, after_shared, after_valued, answered, filled, laid, laid_out, shared, symbols_at, symbols_of};
+ghost use Rattle.storage_layout.specs.Symbols.{lay_shared_and_data, after_shared, check_and_lay_out, symbols_or_refusal, filled, laid, lay_out, shared, symbols_at, symbols_of};
 
 use crate::LayoutRefusal;
 use crate::blocks::Laid;
@@ -14,22 +14,23 @@ use crate::equivalences::{Grouping, Shared};
 use crate::layout::Layout;
 use crate::table::is_save_all;
 use f77_ast::{Decl, Module, Parsed};
-use f77_checks::{list_judged, parameters_valued, shapes_judged};
-use f77_names::{LineTable, NameTable, Refusal, table_of};
+use f77_checks::{check_list, check_shapes, parameters_valued};
+use f77_names::{LineTable, NameTable, table_of};
 use f77_symbols::Symbols;
 use fx_lists::{List, Text};
+use refusal_codes::Refusal;
 use std::alloc::{AllocError as Memory, Global};
 use storage_data::{Filled, as_number};
 use storage_groups::Groups;
 
 /// Where the names lie after COMMON.
 #[tactic(auto, unfolding(crate::specs::Symbols::laid))]
-fn laid_of(alloc: Global, table: &NameTable, decls: &[Decl]) -> Result<Laid, Memory>
+fn lay_common(alloc: Global, table: &NameTable, decls: &[Decl]) -> Result<Laid, Memory>
     ensures { IfOk result (λ l. l ≡ laid (table_tree table.now) (map decl_tree decls.now)) }
 {
     let count = as_number(table.names.as_slice().len())?;
     let mut laid = Laid {
-        seats: Groups::alone(alloc, count)?,
+        seats: Groups::singletons(alloc, count)?,
         names: List::new(alloc),
         sizes: List::new(alloc),
     };
@@ -39,7 +40,7 @@ fn laid_of(alloc: Global, table: &NameTable, decls: &[Decl]) -> Result<Laid, Mem
 
 /// Where they lie after EQUIVALENCE.
 #[tactic(auto, unfolding(crate::specs::Symbols::shared))]
-fn shared_of(
+fn lay_equivalence(
     alloc: Global,
     table: &NameTable,
     lines: &LineTable,
@@ -66,7 +67,7 @@ fn shared_of(
 
 /// The values of DATA.
 #[tactic(auto, unfolding(crate::specs::Symbols::filled))]
-fn filled_of(
+fn lay_data(
     alloc: Global,
     table: &NameTable,
     seats: &Groups,
@@ -83,8 +84,8 @@ fn filled_of(
 }
 
 /// The first refusal, or the symbols.
-#[tactic(auto, unfolding(crate::specs::Symbols::answered))]
-fn answered(
+#[tactic(auto, unfolding(crate::specs::Symbols::symbols_or_refusal))]
+fn symbols_or_refusal(
     alloc: Global,
     table: &NameTable,
     decls: &[Decl],
@@ -94,11 +95,11 @@ fn answered(
     filled: &Filled,
 ) -> Result<Symbols, LayoutRefusal>
     ensures { Gives result
-        (answered (table_tree table.now) (map decl_tree decls.now) names.now seats.now late filled.now) }
+        (symbols_or_refusal (table_tree table.now) (map decl_tree decls.now) names.now seats.now late filled.now) }
 {
     match (filled.found, late) {
         (Some(refusal), _) | (None, Some(refusal)) => {
-            Err(LayoutRefusal::At(refusal.line, refusal.cause.number()))
+            Err(LayoutRefusal::At(refusal.line, refusal.code.number()))
         }
         (None, None) => {
             let save_all = is_save_all(decls);
@@ -109,8 +110,8 @@ fn answered(
 }
 
 /// Lays EQUIVALENCE and DATA out.
-#[tactic(auto, unfolding(crate::specs::Symbols::after_laid, crate::specs::Symbols::after_shared))]
-fn after_laid(
+#[tactic(auto, unfolding(crate::specs::Symbols::lay_shared_and_data, crate::specs::Symbols::after_shared))]
+fn lay_shared_and_data(
     alloc: Global,
     table: &NameTable,
     lines: &LineTable,
@@ -119,22 +120,22 @@ fn after_laid(
     laid: Laid,
 ) -> Result<Symbols, LayoutRefusal>
     ensures { Gives result
-        (after_laid (table_tree table.now) (line_in lines.now) (map decl_tree decls.now) found laid) }
+        (lay_shared_and_data (table_tree table.now) (line_in lines.now) (map decl_tree decls.now) found laid) }
 {
     let Laid {
         seats,
         names,
         sizes: _,
     } = laid;
-    let shared = shared_of(alloc, table, lines, decls, seats, found)?;
+    let shared = lay_equivalence(alloc, table, lines, decls, seats, found)?;
     let seats = &shared.group.seats;
-    let filled = filled_of(alloc, table, seats, lines, decls, shared.found)?;
-    answered(alloc, table, decls, &names, seats, shared.late, &filled)
+    let filled = lay_data(alloc, table, seats, lines, decls, shared.found)?;
+    symbols_or_refusal(alloc, table, decls, &names, seats, shared.late, &filled)
 }
 
 /// Lays COMMON, EQUIVALENCE and DATA out, in this order. Refusals of EQUIVALENCE come after all others.
-#[tactic(auto, unfolding(crate::specs::Symbols::laid_out))]
-fn laid_out(
+#[tactic(auto, unfolding(crate::specs::Symbols::lay_out))]
+fn lay_out(
     alloc: Global,
     table: &NameTable,
     lines: &LineTable,
@@ -142,15 +143,15 @@ fn laid_out(
     found: Option<Refusal>,
 ) -> Result<Symbols, LayoutRefusal>
     ensures { Gives result
-        (laid_out (table_tree table.now) (line_in lines.now) (map decl_tree decls.now) found) }
+        (lay_out (table_tree table.now) (line_in lines.now) (map decl_tree decls.now) found) }
 {
-    let laid = laid_of(alloc, table, decls)?;
-    after_laid(alloc, table, lines, decls, found, laid)
+    let laid = lay_common(alloc, table, decls)?;
+    lay_shared_and_data(alloc, table, lines, decls, found, laid)
 }
 
 /// The names and the first refusal are known: bounds, statements, storage.
-#[tactic(auto, unfolding(crate::specs::Symbols::after_valued, crate::specs::Symbols::checked))]
-fn after_valued(
+#[tactic(auto, unfolding(crate::specs::Symbols::check_and_lay_out, crate::specs::Symbols::checked))]
+fn check_and_lay_out(
     alloc: Global,
     lines: &LineTable,
     module: &Module,
@@ -158,11 +159,11 @@ fn after_valued(
     found: Option<Refusal>,
 ) -> Result<Symbols, LayoutRefusal>
     ensures { Gives result
-        (after_valued (line_in lines.now) (module_tree «module».now) (valued_tree table.now found)) }
+        (check_and_lay_out (line_in lines.now) (module_tree «module».now) (valued_tree table.now found)) }
 {
-    let found = shapes_judged(table, found);
-    let found = list_judged(table, lines, &module.body, 0, found)?;
-    laid_out(alloc, table, lines, module.decls.as_slice(), found)
+    let found = check_shapes(table, found);
+    let found = check_list(table, lines, &module.body, 0, found)?;
+    lay_out(alloc, table, lines, module.decls.as_slice(), found)
 }
 
 fn symbols_at(alloc: Global, lines: &LineTable, module: &Module) -> Result<Symbols, LayoutRefusal>
@@ -170,7 +171,7 @@ fn symbols_at(alloc: Global, lines: &LineTable, module: &Module) -> Result<Symbo
 {
     let (mut table, found) = table_of(alloc, lines, module)?;
     let found = parameters_valued(&mut table, lines, &module.decls, found)?;
-    after_valued(alloc, lines, module, &table, found)
+    check_and_lay_out(alloc, lines, module, &table, found)
 }
 
 /// The symbols of a module that was read, or its first refusal: the earliest line, then the lowest code, where 35 and 36 come

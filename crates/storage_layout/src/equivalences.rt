@@ -10,10 +10,11 @@ ghost use Rattle.storage_layout.specs.Equivalences.{begun, decl_shared, decls_sh
 
 use f77_ast::{Decl, Expr};
 use f77_checks::decl_line;
-use f77_names::{Cause, LineTable, NameTable, Refusal, noted};
+use f77_names::{LineTable, NameTable};
 use fx_lists::{List, Text};
+use refusal_codes::{Code, Refusal, refuse_if};
 use std::alloc::{AllocError as Memory, Global};
-use storage_data::{as_offset, item_name, item_position, items_judged};
+use storage_data::{as_offset, check_items, item_name, item_position};
 use storage_groups::{Groups, Seat};
 
 /// A unit of a variable.
@@ -182,9 +183,9 @@ impl Shared {
         begin(&mut self.group);
         join_items(alloc, table, items, &mut self.group)?;
         let back = items_extend(table, &self.group.seats, items);
-        let late = noted(self.group.clash, line, Cause::EquivalenceClash, self.late);
-        self.late = noted(back, line, Cause::EquivalenceExtendsBack, late);
-        self.found = items_judged(table, items, line, self.found);
+        let late = refuse_if(self.group.clash, line, Code::EquivalenceClash, self.late);
+        self.late = refuse_if(back, line, Code::EquivalenceExtendsBack, late);
+        self.found = check_items(table, items, line, self.found);
         Ok(())
     }
 

@@ -1,11 +1,11 @@
 //! The storage groups of locals, numbered in the order of their first symbols.
-ghost use Rattle.std.specs.Prelude.{◌≡◌, ◌+◌, ◌||◌, ℕ, IfOk, OnOk, [], is_some, map, nat_eq, slice_get};
+ghost use Rattle.std.specs.Prelude.{◌≡◌, ◌||◌, ℕ, IfOk, OnOk, OnErr, [], is_some, map, nat_eq};
 ghost use Rattle.std.specs.HashMap.{get};
 ghost use Rattle.f77_names.specs.Entries.{entry_tree};
 ghost use Rattle.storage_layout.specs.Groups.{groups_from, index_from, keeps, some_keeps, with_entry, with_group};
 
 use f77_names::Entry;
-use fx_lists::List;
+use indexmap::IndexSet;
 use std::alloc::{AllocError as Memory, Global};
 use std::collections::HashMap;
 use std::marker::Model;
@@ -14,34 +14,20 @@ use storage_groups::{Groups, Home, Seat};
 /// Groups by the numbers of the variables that they began with; a group is looked up in constant time.
 #[derive(Drop)]
 pub struct Numbering {
-    began: List<u32>,
-    numbers: HashMap<u32, u32>,
+    began: IndexSet<u32>,
 }
 
 impl Model for Numbering {
-    ghost use Rattle.std.specs.Prelude.{◌≡◌, List, ℕ, nat_eq};
-    ghost use Rattle.std.specs.HashMap.{get};
+    ghost use Rattle.std.specs.Prelude.{◌<◌, ◌^◌, List, ℕ, length};
     ghost use Rattle.std.specs.Coded.{coded_list, coded_ℕ};
-    ghost use Rattle.storage_layout.specs.Groups.{index_from};
 
     ghost Value = { List ℕ };
 
     ghost coded = { coded_list coded_ℕ };
 
-    ghost view = { λ n. n.began };
+    ghost view = { λ n. n.began.keys };
 
-    ghost invariant = { λ n. (h : ℕ) → get nat_eq n.numbers h ≡ index_from 1 n.began h };
-}
-
-/// The number after so many.
-fn next_number(count: usize) -> Result<u32, Memory>
-    ensures { IfOk result (λ n. n ≡ count + 1) }
-{
-    if count < u32::MAX as usize {
-        Ok(count as u32 + 1)
-    } else {
-        Err(Memory)
-    }
+    ghost invariant = { λ n. length n.began.keys < 2 ^ 32 };
 }
 
 impl Numbering {
@@ -49,8 +35,7 @@ impl Numbering {
         ensures { result ≡ [] }
     {
         Numbering {
-            began: List::new(alloc),
-            numbers: HashMap::new(alloc),
+            began: IndexSet::new(alloc),
         }
     }
 
@@ -58,25 +43,22 @@ impl Numbering {
     pub fn number(&self, began: u32) -> Option<u32>
         ensures { result ≡ index_from 1 self.now began }
     {
-        self.numbers.get(&began).copied()
+        match self.began.get_index_of(&began) {
+            None => None,
+            Some(index) => Some(index as u32 + 1),
+        }
     }
 
-    /// Adds a group at the end unless it is there.
+    /// Adds a group at the end unless it is there. Err also where there are 2^32 - 1 groups.
     fn add(&mut self, began: u32) -> Result<(), Memory>
-        ensures { OnOk result (self.new ≡ with_group began self.old) }
+        ensures ok { OnOk result (self.new ≡ with_group began self.old) }
+        ensures err { OnErr result (self.new ≡ self.old) }
     {
-        if self.number(began).is_some() {
-            return Ok(());
+        if self.began.len() >= u32::MAX as usize {
+            return Err(Memory);
         }
-        let number = next_number(self.began.len())?;
-        self.began.push(began)?;
-        match self.numbers.insert(began, number) {
-            Ok(_) => Ok(()),
-            Err(_) => {
-                let _ = self.began.pop();
-                Err(Memory)
-            }
-        }
+        self.began.insert(began)?;
+        Ok(())
     }
 
     fn add_entry(&mut self, entry: &Entry, seat: Option<Seat>) -> Result<(), Memory>

@@ -12,7 +12,7 @@ const NUMBERS: u64 = 1 << 32;
 /// The least number that is above the variable's, where that is an auxiliary one, and not below another.
 fn above_aux(v: Var, least: u64) -> u64
     requires { least ≤ 2 ^ 32 }
-    ensures value { result ≡ above_aux_is v least }
+    ensures defined { result ≡ above_aux_is v least }
     ensures below { result ≤ 2 ^ 32 }
 {
     match v {
@@ -23,7 +23,7 @@ fn above_aux(v: Var, least: u64) -> u64
 
 fn above_terms(mut least: u64, terms: &[Term]) -> u64
     requires { least ≤ 2 ^ 32 }
-    ensures value { result ≡ above_terms_is least terms.now }
+    ensures defined { result ≡ above_terms_is least terms.now }
     ensures below { result ≤ 2 ^ 32 }
 {
     for t in terms {
@@ -34,7 +34,7 @@ fn above_terms(mut least: u64, terms: &[Term]) -> u64
 
 fn above_rows(mut least: u64, rows: &[Row]) -> u64
     requires { least ≤ 2 ^ 32 }
-    ensures value { result ≡ above_rows_is least rows.now }
+    ensures defined { result ≡ above_rows_is least rows.now }
     ensures below { result ≤ 2 ^ 32 }
 {
     for row in rows {
@@ -46,7 +46,7 @@ fn above_rows(mut least: u64, rows: &[Row]) -> u64
 /// The least number above those of the auxiliary variables of both systems. Memory where it and `more` after it are not
 /// all below 2^32.
 pub fn fresh_over(one: &System, other: &System, more: usize) -> Result<u32, Memory>
-    ensures value { IfOk result (λ n. n ≡ fresh_over_is one.now other.now) }
+    ensures defined { IfOk result (λ n. n ≡ fresh_over_is one.now other.now) }
     ensures room { IfOk result (λ n. n + more < 2 ^ 32) }
 {
     let least = above_rows(above_rows(0, one.rows.as_slice()), other.rows.as_slice());

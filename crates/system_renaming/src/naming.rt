@@ -1,17 +1,17 @@
-//! What stands for a variable.
+//! The replacement of a variable.
 ghost use Rattle.std.specs.Prelude.{◌≡◌};
 ghost use Rattle.system_renaming.specs.Renaming.{renamed_by};
 
 use affine_systems::Var;
 
-/// A variable and what stands for it.
+/// A variable and its replacement.
 #[derive(Clone, Copy, PartialEq, Eq, Debug)]
 pub struct Naming {
     pub from: Var,
     pub to: Var,
 }
 
-/// What stands for a variable: what the first naming of it says, or itself. Looks at each naming before that.
+/// The replacement of a variable: that of the first naming of it, or itself. Looks at each naming before that.
 pub fn renamed(names: &[Naming], v: Var) -> Var
     ensures { result ≡ renamed_by names.now v }
 {

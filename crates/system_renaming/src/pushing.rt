@@ -14,7 +14,7 @@ use std::alloc::{AllocError as Memory, Global};
 pub fn of_rows(alloc: Global, rows: Vec<Row>) -> Result<System, Memory>
     requires { AllRows IsGiven rows.items }
     ensures defined { IfOk result (λ s. s ≡ of_rows_is rows.items) }
-    ensures gives { IfOk result Fits }
+    ensures fits { IfOk result Fits }
 {
     tidy(
         alloc,
@@ -30,9 +30,9 @@ pub fn push_rows(alloc: Global, sys: &System, mut more: Vec<Row>) -> Result<Syst
     requires fits { Fits sys.now }
     requires rows { AllRows IsGiven more.items }
     ensures defined { IfOk result (λ s. s ≡ push_rows_is sys.now more.items) }
-    ensures gives { IfOk result Fits }
-    ensures keeps { IfOk result (KeepsCommonPoints sys.now.rows more.items) }
-    ensures adds_none { IfOk result (AddsNoCommonPoint sys.now.rows more.items) }
+    ensures fits { IfOk result Fits }
+    ensures sound { IfOk result (KeepsCommonPoints sys.now.rows more.items) }
+    ensures no_new_points { IfOk result (AddsNoCommonPoint sys.now.rows more.items) }
 {
     let mut rows = copy_rows(alloc, sys.rows.as_slice())?;
     rows.append(&mut more)?;

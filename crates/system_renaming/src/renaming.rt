@@ -16,7 +16,7 @@ use std::alloc::{AllocError as Memory, Global};
 fn renamed_terms(alloc: Global, names: &[Naming], terms: &[Term]) -> Result<Vec<Term>, Memory>
     requires { AreSmall terms.now }
     ensures defined { IfOk result (λ ts. ts.items ≡ renamed_terms_is (renamed_by names.now) terms.now) }
-    ensures given { IfOk result (λ ts. FactorsGiven ts.items) }
+    ensures fits { IfOk result (λ ts. FactorsGiven ts.items) }
 {
     let mut out = Vec::new(alloc);
     let mut left = terms.len();
@@ -28,11 +28,11 @@ fn renamed_terms(alloc: Global, names: &[Naming], terms: &[Term]) -> Result<Vec<
     Ok(out)
 }
 
-/// A row with what stands for each variable in its place.
+/// A row with the replacement of each variable.
 pub fn renamed_row(alloc: Global, names: &[Naming], row: &Row) -> Result<Row, Memory>
     requires { IsSmallRow row.now }
     ensures defined { IfOk result (λ r. r ≡ renamed_row_is (renamed_by names.now) row.now) }
-    ensures given { IfOk result IsGiven }
+    ensures fits { IfOk result IsGiven }
 {
     Ok(Row {
         equal: row.equal,
@@ -44,7 +44,7 @@ pub fn renamed_row(alloc: Global, names: &[Naming], row: &Row) -> Result<Row, Me
 fn renamed_rows(alloc: Global, names: &[Naming], rows: &[Row]) -> Result<Vec<Row>, Memory>
     requires { AllRows IsSmallRow rows.now }
     ensures defined { IfOk result (λ rs. rs.items ≡ map (renamed_row_is (renamed_by names.now)) rows.now) }
-    ensures given { IfOk result (λ rs. AllRows IsGiven rs.items) }
+    ensures fits { IfOk result (λ rs. AllRows IsGiven rs.items) }
 {
     let mut out = Vec::new(alloc);
     for row in rows {
@@ -53,12 +53,12 @@ fn renamed_rows(alloc: Global, names: &[Naming], rows: &[Row]) -> Result<Vec<Row
     Ok(out)
 }
 
-/// The rows with what stands for each variable in its place, tidied. Each variable is looked up among the namings.
+/// The rows with the replacement of each variable, tidied. Each variable is looked up among the namings.
 pub fn rename_all(alloc: Global, sys: &System, names: &[Naming]) -> Result<System, Memory>
     requires fits { Fits sys.now }
     ensures defined { IfOk result (λ s. s ≡ rename_all_is names.now sys.now) }
-    ensures gives { IfOk result Fits }
-    ensures keeps { IfOk result (RenamesPoints names.now sys.now) }
+    ensures fits { IfOk result Fits }
+    ensures sound { IfOk result (RenamesPoints names.now sys.now) }
 {
     let rows = List::from_vec(renamed_rows(alloc, names, sys.rows.as_slice())?);
     tidy(

@@ -120,7 +120,7 @@ fn put_row(out: &mut Vec<u8>, names: &[Text], row: &Row) -> Result<(), Memory>
     put_side(out, names, true, row)
 }
 
-/// Whether the row is `0<=-1`, or never holds in another way for want of terms.
+/// Whether the row has no terms and is infeasible, as `0<=-1`.
 fn is_never(row: &Row) -> bool
     ensures { result ≡ is_never_row row.now }
 {

@@ -1,3 +1,3 @@
-pub mod PlaceLaws
 pub mod ScalarLaws
 pub mod TrackedLaws
+pub mod ReachLaws

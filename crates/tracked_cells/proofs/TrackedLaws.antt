@@ -1,28 +1,20 @@
 -- What is known of a unit that is tracked.
-use Rattle.std.proofs.Common.{◌≡◌, ℕ, zero, suc, Bool, true, false, not, ◌&&◌, ◌||◌, List, [], ◌∷◌, Option, Some, None, refl, sym, ap, ◌∙◌, subst}
+use Rattle.std.proofs.Common.{◌≡◌, ℕ, zero, suc, Bool, true, false, not, ◌&&◌, ◌||◌, List, [], ◌∷◌, Some, refl, sym, subst}
 use Rattle.std.specs.Prelude.{nat_eq, bytes_eq, slice_get, filter, cond}
 use Rattle.std.specs.List.{list_any}
 use Rattle.std.specs.Cmp.Lexicographic.{bytes_decides}
-use Rattle.std.proofs.lemmas.Bool.{eqb-true}
+use Rattle.std.proofs.lemmas.Bool.{eqb-true, and_parts as and-true, or_parts as or-false}
 use Rattle.f77_ast.specs.DeclTrees.{ParsedTree}
 use Rattle.f77_symbols.specs.declared.variable.Unit.{Unit as BlockUnit}
 use Rattle.f77_symbols.specs.Symbols.{SymbolTree}
 use Rattle.f77_symbols.specs.declared.symbol.Place.{Place}
 use Rattle.f77_symbols.specs.declared.symbol.Place.TheVariants.{Block}
-use Rattle.tracked_cells.specs.Equivalences.{equivalenced}
+use Rattle.tracked_cells.specs.Equivalences.{equivalenced_names}
 use Rattle.tracked_cells.specs.Standing.{is_plain, stands_at, spoils_at, two_at, spoils}
 use Rattle.tracked_cells.specs.Scalars.{all_scalars}
-use Rattle.tracked_cells.specs.Untracked.{some_spoils, all_equivalenced, begin_of, untracked_of}
+use Rattle.tracked_cells.specs.Untracked.{some_spoils, equivalenced_names_of_all, begin_of}
 use Rattle.tracked_cells.specs.Tracked.{is_unit}
 use Rattle.tracked_cells.specs.Laws.{among, TrackedUnitsArePlain}
-
-and-true : (a b : Bool) → (a && b) ≡ true → (a ≡ true) × (b ≡ true)
-and-true true b e = (refl, e)
-and-true false b e = cc
-
-or-false : (a b : Bool) → (a || b) ≡ false → (a ≡ false) × (b ≡ false)
-or-false true b e = cc
-or-false false b e = (refl, e)
 
 -- what holds of a unit holds of the one that is it
 of_unit : (f : Place → Bool) (u v : BlockUnit) → is_unit u.block u.offset v ≡ true → f (begin_of v) ≡ false → f (begin_of u) ≡ false
@@ -45,17 +37,17 @@ left_out f u (v ∷ us) e h = go (is_unit u.block u.offset v) (f (begin_of v)) r
     go false false is t e h ih = ih e h
 
 -- no module spoils it
-unspoilt : (ps : List ParsedTree) (sss : List (List SymbolTree)) (at : Place) → some_spoils (all_equivalenced ps) sss at ≡ false → (k : ℕ) (p : ParsedTree) (ss : List SymbolTree) → slice_get ps k ≡ Some p → slice_get sss k ≡ Some ss → spoils (equivalenced p.module_read) ss at ≡ false
+unspoilt : (ps : List ParsedTree) (sss : List (List SymbolTree)) (at : Place) → some_spoils (equivalenced_names_of_all ps) sss at ≡ false → (k : ℕ) (p : ParsedTree) (ss : List SymbolTree) → slice_get ps k ≡ Some p → slice_get sss k ≡ Some ss → spoils (equivalenced_names p.module_read) ss at ≡ false
 unspoilt [] sss at e k p ss a b = cc
 unspoilt (q ∷ ps) [] at e k p ss a b = cc
 unspoilt (q ∷ ps) (ts ∷ sss) at e zero p ss a b =
-    let parts = or-false (spoils (equivalenced q.module_read) ts at) (some_spoils (all_equivalenced ps) sss at) e in
+    let parts = or-false (spoils (equivalenced_names q.module_read) ts at) (some_spoils (equivalenced_names_of_all ps) sss at) e in
     let x : q ≡ p = cc in
     let y : ts ≡ ss = cc in
-    subst (λ (z : ParsedTree). spoils (equivalenced z.module_read) ss at ≡ false) x
-    (subst (λ (z : List SymbolTree). spoils (equivalenced q.module_read) z at ≡ false) y parts.0)
+    subst (λ (z : ParsedTree). spoils (equivalenced_names z.module_read) ss at ≡ false) x
+    (subst (λ (z : List SymbolTree). spoils (equivalenced_names q.module_read) z at ≡ false) y parts.0)
 unspoilt (q ∷ ps) (ts ∷ sss) at e (suc k) p ss a b =
-    unspoilt ps sss at (or-false (spoils (equivalenced q.module_read) ts at) (some_spoils (all_equivalenced ps) sss at) e).1 k p ss a b
+    unspoilt ps sss at (or-false (spoils (equivalenced_names q.module_read) ts at) (some_spoils (equivalenced_names_of_all ps) sss at) e).1 k p ss a b
 
 none_of : (f : SymbolTree → Bool) (ss : List SymbolTree) → list_any f ss ≡ false → (n : ℕ) (s : SymbolTree) → slice_get ss n ≡ Some s → f s ≡ false
 none_of f [] e n s a = cc
@@ -70,8 +62,8 @@ plain_from false b e h = cc
 
 pub are_plain : TrackedUnitsArePlain
 are_plain ps sss u there out k p ss a b n s at stands =
-    let names = equivalenced p.module_read in
-    let calm : some_spoils (all_equivalenced ps) sss (begin_of u) ≡ false = left_out (λ v. some_spoils (all_equivalenced ps) sss v) u (all_scalars sss []) there out in
+    let names = equivalenced_names p.module_read in
+    let calm : some_spoils (equivalenced_names_of_all ps) sss (begin_of u) ≡ false = left_out (λ v. some_spoils (equivalenced_names_of_all ps) sss v) u (all_scalars sss []) there out in
     let alone : spoils names ss (begin_of u) ≡ false = unspoilt ps sss (begin_of u) calm k p ss a b in
     let none = (or-false (list_any (spoils_at names ss (begin_of u)) ss) (two_at ss (begin_of u) ss) alone).0 in
     plain_from (stands_at ss (begin_of u) s) (is_plain names s) (none_of (spoils_at names ss (begin_of u)) ss none n s at) stands

@@ -40,5 +40,5 @@ decls_names [] = []
 decls_names (d ∷ ds) = decl_names d ++ decls_names ds
 
 -- the names that stand in an EQUIVALENCE of a module
-abbrev pub equivalenced : ModuleTree → List (List ℕ)
-equivalenced m = decls_names m.decls
+abbrev pub equivalenced_names : ModuleTree → List (List ℕ)
+equivalenced_names m = decls_names m.decls

@@ -1,10 +1,10 @@
 -- What is known of a unit that is tracked.
-use Rattle.std.specs.Prelude.{◌≡◌, ℕ, Bool, true, false, List, [], slice_get, Option, Some}
+use Rattle.std.specs.Prelude.{◌≡◌, ℕ, Bool, true, false, List, [], slice_get, Some}
 use Rattle.std.specs.List.{list_any}
 use Rattle.f77_ast.specs.DeclTrees.{ParsedTree}
 use Rattle.f77_symbols.specs.Symbols.{SymbolTree}
 use Rattle.f77_symbols.specs.declared.variable.Unit.{Unit as BlockUnit}
-use Rattle.tracked_cells.specs.Equivalences.{equivalenced}
+use Rattle.tracked_cells.specs.Equivalences.{equivalenced_names}
 use Rattle.tracked_cells.specs.Standing.{is_plain, stands_at}
 use Rattle.tracked_cells.specs.Scalars.{all_scalars}
 use Rattle.tracked_cells.specs.Untracked.{begin_of, untracked_of}
@@ -19,4 +19,4 @@ abbrev pub TrackedUnitsArePlain : Type 0
 TrackedUnitsArePlain = (ps : List ParsedTree) (sss : List (List SymbolTree)) (u : BlockUnit) →
     among u (all_scalars sss []) ≡ true → among u (untracked_of ps sss) ≡ false →
     (k : ℕ) (p : ParsedTree) (ss : List SymbolTree) → slice_get ps k ≡ Some p → slice_get sss k ≡ Some ss →
-    (n : ℕ) (s : SymbolTree) → slice_get ss n ≡ Some s → stands_at ss (begin_of u) s ≡ true → is_plain (equivalenced p.module_read) s ≡ true
+    (n : ℕ) (s : SymbolTree) → slice_get ss n ≡ Some s → stands_at ss (begin_of u) s ≡ true → is_plain (equivalenced_names p.module_read) s ≡ true

@@ -6,7 +6,7 @@ use Rattle.f77_ast.specs.declared.decl.Scalar.TheVariants.{Int, Log}
 use Rattle.f77_symbols.specs.declared.symbol.Place.{Place}
 use Rattle.f77_symbols.specs.declared.symbol.Place.TheVariants.{Local, Dummy, Block, Constant}
 use Rattle.f77_symbols.specs.Symbols.{BoundTree, SymbolTree, number_from}
-use Rattle.f77_symbols.specs.Units.{capped, units_in}
+use Rattle.f77_symbols.specs.Units.{units_in}
 
 -- ---- variables
 
@@ -27,9 +27,9 @@ is_plain names s = is_int_scalar s && is_none (number_from 0 names s.name)
 
 -- ---- variables at a unit
 
--- so many units from an offset on, in 64 bits, have this one among them
+-- so many units from an offset on have this one among them
 abbrev pub reaches : ℕ → ℕ → ℕ → Bool
-reaches o n k = nat_le o k && nat_lt k (capped (o + n))
+reaches o n k = nat_le o k && nat_lt k (o + n)
 
 -- so many units of a storage group, from an offset on, have the one at which a place begins
 abbrev pub group_has : ℕ → ℕ → ℕ → Place → Bool

@@ -6,7 +6,7 @@ use Rattle.f77_symbols.specs.declared.symbol.Place.{Place}
 use Rattle.f77_symbols.specs.declared.symbol.Place.TheVariants.{Local, Dummy, Block, Constant}
 use Rattle.f77_symbols.specs.declared.variable.Unit.{Unit as BlockUnit}
 use Rattle.f77_symbols.specs.Symbols.{SymbolTree}
-use Rattle.tracked_cells.specs.Equivalences.{equivalenced}
+use Rattle.tracked_cells.specs.Equivalences.{equivalenced_names}
 use Rattle.tracked_cells.specs.Standing.{is_plain, spoils}
 
 abbrev pub is_unit : List ℕ → ℕ → BlockUnit → Bool
@@ -25,4 +25,4 @@ is_tracked names ss untracked s = is_plain names s && is_alone names ss untracke
 
 -- for each symbol of a module whether it is a tracked cell
 abbrev pub tracked_of : ModuleTree → List SymbolTree → List BlockUnit → List Bool
-tracked_of m ss untracked = map (is_tracked (equivalenced m) ss untracked) ss
+tracked_of m ss untracked = map (is_tracked (equivalenced_names m) ss untracked) ss

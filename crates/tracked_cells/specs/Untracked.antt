@@ -5,7 +5,7 @@ use Rattle.f77_symbols.specs.declared.symbol.Place.{Place}
 use Rattle.f77_symbols.specs.declared.symbol.Place.TheVariants.{Block}
 use Rattle.f77_symbols.specs.declared.variable.Unit.{Unit as BlockUnit}
 use Rattle.f77_symbols.specs.Symbols.{SymbolTree}
-use Rattle.tracked_cells.specs.Equivalences.{equivalenced}
+use Rattle.tracked_cells.specs.Equivalences.{equivalenced_names}
 use Rattle.tracked_cells.specs.Standing.{spoils}
 use Rattle.tracked_cells.specs.Scalars.{all_scalars}
 
@@ -16,8 +16,8 @@ some_spoils (names ∷ more) [] at = false
 some_spoils (names ∷ more) (ss ∷ sss) at = spoils names ss at || some_spoils more sss at
 
 -- the names in the EQUIVALENCEs of each module
-abbrev pub all_equivalenced : List ParsedTree → List (List (List ℕ))
-all_equivalenced ps = map (λ p. equivalenced p.module_read) ps
+abbrev pub equivalenced_names_of_all : List ParsedTree → List (List (List ℕ))
+equivalenced_names_of_all ps = map (λ p. equivalenced_names p.module_read) ps
 
 abbrev pub begin_of : BlockUnit → Place
 begin_of u = Block u.block u.offset
@@ -32,4 +32,4 @@ spoilt names sss us = filter (λ u. some_spoils names sss (begin_of u)) us
 
 -- the units at which some module has an INTEGER scalar, and which some module spoils
 abbrev pub untracked_of : List ParsedTree → List (List SymbolTree) → List BlockUnit
-untracked_of ps sss = spoilt (all_equivalenced ps) sss (all_scalars sss [])
+untracked_of ps sss = spoilt (equivalenced_names_of_all ps) sss (all_scalars sss [])

@@ -5,7 +5,7 @@ ghost use Rattle.f77_ast.specs.PlainDecl.{module_tree};
 ghost use Rattle.f77_symbols.specs.Symbols.{symbol_tree};
 ghost use Rattle.tracked_cells.specs.Tracked.{is_unit, is_alone, is_tracked, tracked_of};
 
-use crate::equivalences::equivalenced;
+use crate::equivalences::equivalenced_names;
 use crate::names::Names;
 use crate::standing::{is_plain, spoils};
 use f77_ast::Module;
@@ -65,7 +65,7 @@ fn all_tracked(
 /// For each symbol of a module whether it is a tracked cell: an INTEGER scalar that is in no EQUIVALENCE and shares its unit with
 /// no other variable of the module, and, in a block, stands at none of the untracked units of the program. In time of the number
 /// of symbols times that of symbols and units.
-pub fn tracked(
+pub fn tracked_flags(
     alloc: Global,
     module: &Module,
     symbols: &Symbols,
@@ -73,6 +73,6 @@ pub fn tracked(
 ) -> Result<List<bool>, Memory>
     ensures { IfOk result (λ cells. cells ≡ tracked_of (module_tree «module».now) (map symbol_tree symbols.now) untracked.now) }
 {
-    let names = equivalenced(alloc, module)?;
+    let names = equivalenced_names(alloc, module)?;
     all_tracked(alloc, &names, symbols, untracked)
 }

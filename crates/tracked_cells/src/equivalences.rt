@@ -2,8 +2,8 @@
 ghost use Rattle.std.specs.Prelude.{◌≡◌, ◌++◌, map, IfOk};
 ghost use Rattle.f77_ast.specs.Plain.{expr_tree};
 ghost use Rattle.f77_ast.specs.PlainDecl.{decl_tree, module_tree, parsed_tree};
-ghost use Rattle.tracked_cells.specs.Equivalences.{item_name, item_names, group_names, decl_names, equivalenced};
-ghost use Rattle.tracked_cells.specs.Untracked.{all_equivalenced};
+ghost use Rattle.tracked_cells.specs.Equivalences.{item_name, item_names, group_names, decl_names, equivalenced_names};
+ghost use Rattle.tracked_cells.specs.Untracked.{equivalenced_names_of_all};
 
 use crate::names::Names;
 use f77_ast::{Decl, Expr, Module, Parsed};
@@ -64,8 +64,8 @@ fn add_decl(names: &mut Names, alloc: Global, decl: &Decl) -> Result<(), Memory>
 }
 
 /// The names that stand in an EQUIVALENCE.
-pub fn equivalenced(alloc: Global, module: &Module) -> Result<Names, Memory>
-    ensures { IfOk result (λ names. names ≡ equivalenced (module_tree «module».now)) }
+pub fn equivalenced_names(alloc: Global, module: &Module) -> Result<Names, Memory>
+    ensures { IfOk result (λ names. names ≡ equivalenced_names (module_tree «module».now)) }
 {
     let mut names = Names::new(alloc);
     let mut rest = module.decls.as_slice();
@@ -77,13 +77,16 @@ pub fn equivalenced(alloc: Global, module: &Module) -> Result<Names, Memory>
 }
 
 /// The names that stand in an EQUIVALENCE of each module.
-pub fn all_equivalenced(alloc: Global, modules: &List<Parsed>) -> Result<List<Names>, Memory>
-    ensures { IfOk result (λ all. all ≡ all_equivalenced (map parsed_tree modules.now)) }
+pub fn equivalenced_names_of_all(
+    alloc: Global,
+    modules: &List<Parsed>,
+) -> Result<List<Names>, Memory>
+    ensures { IfOk result (λ all. all ≡ equivalenced_names_of_all (map parsed_tree modules.now)) }
 {
     let mut all = List::new(alloc);
     let mut rest = modules.as_slice();
     while let [parsed, more @ ..] = rest {
-        all.push(equivalenced(alloc, &parsed.module)?)?;
+        all.push(equivalenced_names(alloc, &parsed.module)?)?;
         rest = more;
     }
     Ok(all)

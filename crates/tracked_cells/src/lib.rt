@@ -10,8 +10,8 @@ mod spoilt;
 mod standing;
 mod untracked;
 
-pub use cells::tracked;
+pub use cells::tracked_flags;
 pub use laws::tracked_units_are_plain;
 pub use names::Names;
-pub use standing::has_bounds;
+pub use standing::{has_bounds, reaches};
 pub use untracked::untracked_of;

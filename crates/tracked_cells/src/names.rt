@@ -1,32 +1,32 @@
 //! Lists of names.
-ghost use Rattle.std.specs.Prelude.{◌≡◌, ◌++◌, ◌∷◌, [], map, slice_get, IfOk};
+ghost use Rattle.std.specs.Prelude.{◌≡◌, ◌++◌, ◌∷◌, [], map, slice_get, IfOk, OnOk, OnErr};
 ghost use Rattle.std.specs.Option.{option_copied};
 ghost use Rattle.f77_ast.specs.PlainDecl.{parsed_tree};
 ghost use Rattle.f77_symbols.specs.Symbols.{number_from};
 ghost use Rattle.tracked_cells.specs.Names.{names_of};
 
 use f77_ast::Parsed;
+use f77_symbols::NameIndex;
 use fx_lists::{List, Text};
 use std::alloc::{AllocError as Memory, Global};
-use std::collections::HashMap;
 use std::marker::Model;
 
 /// Names at their places, from 0. The first place of a name is found in constant time.
 #[derive(Drop)]
 pub struct Names {
-    names: List<Text>,
-    places: HashMap<Vec<u8>, u32>,
+    names: Vec<Text>,
+    index: NameIndex,
 }
 
 impl Model for Names {
     ghost use Rattle.std.specs.Prelude.{List, ℕ};
-    ghost use Rattle.tracked_cells.specs.Names.{ArePlaces};
+    ghost use Rattle.f77_symbols.specs.Index.{Indexes};
 
     ghost Value = { List (List ℕ) };
 
-    ghost view = { λ n. n.names };
+    ghost view = { λ n. n.names.items };
 
-    ghost invariant = { λ n. ArePlaces n.names n.places };
+    ghost invariant = { λ n. Indexes n.index n.names.items };
 }
 
 impl Names {
@@ -35,8 +35,8 @@ impl Names {
         ensures { result ≡ [] }
     {
         Names {
-            names: List::new(alloc),
-            places: HashMap::new(alloc),
+            names: Vec::new(alloc),
+            index: NameIndex::new(alloc),
         }
     }
 
@@ -44,7 +44,7 @@ impl Names {
     pub fn place(&self, name: &Text) -> Option<u32>
         ensures { result ≡ number_from 0 self.now name.now }
     {
-        self.places.get(name.as_slice()).copied()
+        self.index.place(name)
     }
 
     /// The name at a place.
@@ -62,22 +62,13 @@ impl Names {
 
     /// Adds a name at the end.
     pub fn push(&mut self, alloc: Global, name: &Text) -> Result<(), Memory>
-        ensures { IfOk result (λ _. self.new ≡ self.old ++ name.now ∷ []) }
+        ensures ok { OnOk result (self.new ≡ self.old ++ name.now ∷ []) }
+        ensures err { OnErr result (self.new ≡ self.old) }
     {
-        if self.place(name).is_some() {
-            self.names.push(name.clone()?)?;
-            return Ok(());
-        }
-        let place = place_after(self.names.len())?;
         let key = Vec::from_slice(alloc, name.as_slice())?;
-        self.names.push(name.clone()?)?;
-        match self.places.insert(key, place) {
-            Ok(_) => Ok(()),
-            Err(_) => {
-                let _ = self.names.pop();
-                Err(Memory)
-            }
-        }
+        let name = name.clone()?;
+        self.index.push(key, &mut self.names, name)?;
+        Ok(())
     }
 
     /// The names of modules in the order of the text.
@@ -89,16 +80,5 @@ impl Names {
             names.push(alloc, &parsed.module.name)?;
         }
         Ok(names)
-    }
-}
-
-/// The place after so many.
-fn place_after(count: usize) -> Result<u32, Memory>
-    ensures { IfOk result (λ n. n ≡ count) }
-{
-    if count < u32::MAX as usize {
-        Ok(count as u32)
-    } else {
-        Err(Memory)
     }
 }

@@ -67,7 +67,7 @@ pub fn all_scalars(alloc: Global, tables: &List<Symbols>) -> Result<UnitKeys, Me
 }
 
 /// Units in a list, in the same order.
-pub fn listed(alloc: Global, units: UnitKeys) -> Result<Vec<UnitKey>, Memory>
+pub fn unit_list(alloc: Global, units: UnitKeys) -> Result<Vec<UnitKey>, Memory>
     ensures { IfOk result (λ keys. keys.items ≡ units.keys) }
 {
     units.into_iter().collect(alloc)

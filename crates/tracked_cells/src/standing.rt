@@ -2,12 +2,12 @@
 ghost use Rattle.std.specs.Prelude.{◌≡◌, map};
 ghost use Rattle.std.specs.List.{list_any};
 ghost use Rattle.f77_symbols.specs.Symbols.{symbol_tree};
-ghost use Rattle.tracked_cells.specs.Standing.{has_bounds, is_int_scalar, is_plain, reaches, group_has, block_has, place_has, stands_at, spoils_at, two_at, spoils};
+ghost use Rattle.f77_symbols.specs.Units.{units_in};
+ghost use Rattle.tracked_cells.specs.Standing.{has_bounds, is_int_scalar, is_plain, reaches, stands_at, spoils_at, two_at, spoils};
 
 use crate::names::Names;
 use f77_ast::Scalar;
-use f77_symbols::{Place, Symbol, Symbols, units_of};
-use fx_lists::Text;
+use f77_symbols::{Place, Symbol, Symbols, has_more};
 
 /// Whether a symbol is an array.
 pub fn has_bounds(symbol: &Symbol) -> bool
@@ -36,46 +36,27 @@ pub fn is_plain(names: &Names, symbol: &Symbol) -> bool
     is_int_scalar(symbol) && names.place(&symbol.name).is_none()
 }
 
-/// Whether so many units from an offset on have this one among them.
-fn reaches(offset: u64, units: u64, unit: u64) -> bool
-    ensures { result ≡ reaches offset units unit }
+/// Whether the units of a variable, from an offset on, have this one among them.
+#[tactic(auto, using(crate::proofs::ReachLaws::reach_tests))]
+pub fn reaches(table: &Symbols, symbol: &Symbol, offset: u64, unit: u64) -> bool
+    ensures { result ≡ reaches offset (units_in (map symbol_tree table.now) (symbol_tree symbol.now)) unit }
 {
-    offset <= unit && unit < offset.saturating_add(units)
+    offset <= unit && has_more(table, symbol, unit - offset)
 }
 
-fn group_has(group: u32, offset: u64, units: u64, at: &Place) -> bool
-    ensures { result ≡ group_has group offset units at.now }
-{
-    match at {
-        Place::Local(other, unit) => group == *other && reaches(offset, units, *unit),
-        Place::Dummy(_) | Place::Block(..) | Place::Constant(_) => false,
-    }
-}
-
-fn block_has(block: &Text, offset: u64, units: u64, at: &Place) -> bool
-    ensures { result ≡ block_has block.now offset units at.now }
-{
-    match at {
-        Place::Block(other, unit) => *block == *other && reaches(offset, units, *unit),
-        Place::Local(..) | Place::Dummy(_) | Place::Constant(_) => false,
-    }
-}
-
-/// Whether so many units from a place on have the one at which another begins.
-fn place_has(place: &Place, units: u64, at: &Place) -> bool
-    ensures { result ≡ place_has place.now units at.now }
-{
-    match place {
-        Place::Local(group, offset) => group_has(*group, *offset, units, at),
-        Place::Block(block, offset) => block_has(block, *offset, units, at),
-        Place::Dummy(_) | Place::Constant(_) => false,
-    }
-}
-
+/// Whether a symbol has the unit at which a place begins.
 fn stands_at(table: &Symbols, at: &Place, symbol: &Symbol) -> bool
     ensures { result ≡ stands_at (map symbol_tree table.now) at.now (symbol_tree symbol.now) }
 {
-    place_has(&symbol.place, units_of(table, symbol), at)
+    match (&symbol.place, at) {
+        (Place::Local(m, offset), Place::Local(n, unit)) => {
+            m == n && reaches(table, symbol, *offset, *unit)
+        }
+        (Place::Block(x, offset), Place::Block(y, unit)) => {
+            x == y && reaches(table, symbol, *offset, *unit)
+        }
+        _ => false,
+    }
 }
 
 fn spoils_at(names: &Names, table: &Symbols, at: &Place, symbol: &Symbol) -> bool

@@ -4,8 +4,8 @@ ghost use Rattle.f77_ast.specs.PlainDecl.{parsed_tree};
 ghost use Rattle.f77_symbols.specs.Symbols.{symbol_tree};
 ghost use Rattle.tracked_cells.specs.Untracked.{untracked_of};
 
-use crate::equivalences::all_equivalenced;
-use crate::scalars::{all_scalars, listed};
+use crate::equivalences::equivalenced_names_of_all;
+use crate::scalars::{all_scalars, unit_list};
 use crate::spoilt::spoilt;
 use f77_ast::Parsed;
 use f77_symbols::{Symbols, Unit};
@@ -21,8 +21,8 @@ pub fn untracked_of(
 ) -> Result<List<Unit>, Memory>
     ensures { IfOk result (λ units. units ≡ untracked_of (map parsed_tree modules.now) (map (map symbol_tree) tables.now)) }
 {
-    let names = all_equivalenced(alloc, modules)?;
+    let names = equivalenced_names_of_all(alloc, modules)?;
     let units = all_scalars(alloc, tables)?;
-    let keys = listed(alloc, units)?;
+    let keys = unit_list(alloc, units)?;
     spoilt(alloc, &names, tables, keys.as_slice())
 }

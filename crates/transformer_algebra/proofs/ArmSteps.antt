@@ -13,7 +13,7 @@ use Rattle.f77_symbols.specs.declared.variable.Unit.{Unit as BlockUnit}
 use Rattle.transformer_algebra.specs.declared.transformer.Transformer.{Transformer}
 use Rattle.transformer_algebra.specs.Cells.{has, joined_cells}
 use Rattle.transformer_algebra.specs.Units.{unit_cmp, with_unit, with_units, joined_units}
-use Rattle.transformer_algebra.specs.Transformers.{cells_from, units_from, hulled, completed, AllFit}
+use Rattle.transformer_algebra.specs.Transformers.{cells_from, units_from, hull_of_arms, complete, AllFit}
 use Rattle.transformer_algebra.specs.Loops.{terms_stay}
 
 -- ---- units
@@ -79,11 +79,11 @@ units_from-end us ts i l = ap (units_from us) (drop_of_length-le ts l)
 
 pub ruleset all_units_loop = (units_from-more, units_from-end)
 
-pub hulled-more : (cs : List ℕ) (s r : System) (ts : List Transformer) (i : ℕ) (t : Transformer) → i < length ts → t ≡ get_or ts i t → r ≡ hull s (completed cs t) → hulled cs r (drop (i + 1) ts) ≡ hulled cs s (drop i ts)
-hulled-more cs s r ts i t l g e = ap₂ (λ (x : System) n. hulled cs x (drop n ts)) e (add-one i) ∙ sym (ap (hulled cs s) (arm_at ts i t l g))
+pub hulled-more : (cs : List ℕ) (s r : System) (ts : List Transformer) (i : ℕ) (t : Transformer) → i < length ts → t ≡ get_or ts i t → r ≡ hull s (complete cs t) → hull_of_arms cs r (drop (i + 1) ts) ≡ hull_of_arms cs s (drop i ts)
+hulled-more cs s r ts i t l g e = ap₂ (λ (x : System) n. hull_of_arms cs x (drop n ts)) e (add-one i) ∙ sym (ap (hull_of_arms cs s) (arm_at ts i t l g))
 
-pub hulled-end : (cs : List ℕ) (s : System) (ts : List Transformer) (i : ℕ) → length ts ≤ i → hulled cs s (drop i ts) ≡ s
-hulled-end cs s ts i l = ap (hulled cs s) (drop_of_length-le ts l)
+pub hulled-end : (cs : List ℕ) (s : System) (ts : List Transformer) (i : ℕ) → length ts ≤ i → hull_of_arms cs s (drop i ts) ≡ s
+hulled-end cs s ts i l = ap (hull_of_arms cs s) (drop_of_length-le ts l)
 
 pub arm_fits : (ts : List Transformer) (i : ℕ) (t : Transformer) → i < length ts → t ≡ get_or ts i t → AllFit (drop i ts) → Fits t.system
 arm_fits ts i t l g h = (subst AllFit (arm_at ts i t l g) h).0

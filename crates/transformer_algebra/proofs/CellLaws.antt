@@ -6,6 +6,7 @@ use Rattle.std.specs.Ordering.{match_ordering, ordering_then, nat_cmp}
 use Rattle.std.specs.Cmp.Lexicographic.{slice_cmp}
 use Rattle.std.proofs.lemmas.Bool.Decides.{nat_tests}
 use Rattle.std.proofs.lemmas.Map.Lookups.{exact_unsigned, exact_bytes}
+use Rattle.std.proofs.lemmas.Bool.{or_left as or_in_left, or_right as or_in_right, or_cases}
 use Rattle.affine_systems.specs.declared.row.Var.TheVariants.{Cell, Exit}
 use Rattle.affine_systems.specs.Terms.{var_eq, number}
 use Rattle.affine_systems.proofs.Basics.{if_cases}
@@ -76,18 +77,6 @@ pub or_right : (m n : Bool) → (m || n) ≡ false → n ≡ false
 or_right true n h = clashes true refl h
 or_right false n h = h
 
-or_in_left : (m n : Bool) → m ≡ true → (m || n) ≡ true
-or_in_left true n h = refl
-or_in_left false n h = clashes false h refl
-
-pub or_in_right : (m n : Bool) → n ≡ true → (m || n) ≡ true
-or_in_right true n h = refl
-or_in_right false n h = h
-
-or_either : (m n : Bool) → (m || n) ≡ true → (m ≡ true) ⊎ (n ≡ true)
-or_either true n h = inl refl
-or_either false n h = inr h
-
 pub left_out : (as' bs : List ℕ) (c : ℕ) → has (joined_cells as' bs) c ≡ false → has as' c ≡ false
 left_out as' bs c e = or_left (has as' c) (has bs c) (sym (has-joined as' bs c) ∙ e)
 
@@ -101,7 +90,7 @@ pub right_in : (as' bs : List ℕ) (c : ℕ) → has bs c ≡ true → has (join
 right_in as' bs c e = has-joined as' bs c ∙ or_in_right (has as' c) (has bs c) e
 
 pub joined_in : (as' bs : List ℕ) (c : ℕ) → has (joined_cells as' bs) c ≡ true → (has as' c ≡ true) ⊎ (has bs c ≡ true)
-joined_in as' bs c e = or_either (has as' c) (has bs c) (sym (has-joined as' bs c) ∙ e)
+joined_in as' bs c e = or_cases (has as' c) (has bs c) (sym (has-joined as' bs c) ∙ e)
 
 -- ---- units
 
@@ -160,4 +149,4 @@ cell_same c d e = ap number (var_eq-true (Cell c) (Cell d) e)
 
 -- d is c, or c is among the rest
 pub tail_has : (d c : ℕ) (ds : List ℕ) → (nat_eq d c || has ds c) ≡ true → (d ≡ c → ⊥) → has ds c ≡ true
-tail_has d c ds h f = ⊎_elim (λ e. absurd (f (nat_same d c e))) (λ r. r) (or_either (nat_eq d c) (has ds c) h)
+tail_has d c ds h f = ⊎_elim (λ e. absurd (f (nat_same d c e))) (λ r. r) (or_cases (nat_eq d c) (has ds c) h)

@@ -1,79 +1,27 @@
--- A row holds at a point that differs only at variables that the row does not have; and which variables the rows of a closure have.
-use Rattle.std.proofs.Common.{◌≡◌, ℕ, suc, ◌+◌, List, [], ◌∷◌, ◌++◌, map, ℤ, pos, negsuc, neg_ℤ, ◌-ℤ◌, ◌*ℤ◌, arith, ap, refl, sym, subst, ◌∙◌, ⊎_elim, ◌⊎◌, inl, inr}
+-- Which variables the rows of a closure have.
+use Rattle.std.proofs.Common.{◌≡◌, ℕ, suc, ◌+◌, List, [], ◌∷◌, ◌++◌, map, ℤ, pos, negsuc, neg_ℤ, ◌*ℤ◌, arith, ap, refl, inl, inr}
 use Rattle.std.proofs.lemmas.Int.{ints}
 use Rattle.affine_systems.specs.declared.row.Var.{Var}
 use Rattle.affine_systems.specs.declared.row.Var.TheVariants.{Aux}
 use Rattle.affine_systems.specs.declared.row.Term.{Term}
 use Rattle.affine_systems.specs.declared.row.Row.{Row}
 use Rattle.affine_systems.specs.declared.row.System.{System}
-use Rattle.affine_systems.specs.Terms.{var_eq, term_before}
+use Rattle.affine_systems.specs.Terms.{term_before}
 use Rattle.affine_systems.specs.Rows.{system}
-use Rattle.affine_systems.specs.Points.{Point, value, Meets, HoldsAll, moved, only, factor_of}
+use Rattle.affine_systems.specs.Points.{Point, value, factor_of}
 use Rattle.affine_systems.specs.Tidy.{tidy}
 use Rattle.affine_systems.specs.Eliminate.{eliminate}
-use Rattle.affine_systems.proofs.Basics.{if_cases, either}
-use Rattle.affine_systems.proofs.TermLaws.{var_eq-true, true-var_eq, value-term_before}
-use Rattle.affine_systems.proofs.TidyLaws.{clash}
-use Rattle.affine_systems.proofs.ExactLaws.{value-moved}
-use Rattle.affine_systems.proofs.LackLaws.{Nil, RowsNil, factor-only, tidy_nil, eliminate_nil}
-use Rattle.hull_projection.specs.Variables.{in_order, with_terms}
-use Rattle.hull_projection.specs.Closure.{exit_of, same_row, cell_terms, exit_terms, turns_var, many_turns, turn_rows, is_false, some_turns, no_turn, turns_of, changes_of, closure}
+use Rattle.affine_systems.proofs.Basics.{if_cases}
+use Rattle.affine_systems.proofs.TermLaws.{value-term_before}
+use Rattle.affine_systems.proofs.LackLaws.{Nil, RowsNil, tidy_nil, eliminate_nil}
+use Rattle.hull_projection.specs.Variables.{in_order}
+use Rattle.hull_projection.specs.Closure.{exit_of, same_row, cell_terms, exit_terms, iterations_var, many_iterations, iteration_rows, is_false, some_iterations, no_iteration, iterations_of, changes_of, closure}
 use Rattle.hull_projection.specs.Fresh.{fresh_after}
 use Rattle.hull_projection.specs.Variables.{row_vars}
 use Rattle.hull_projection.specs.Hull.{at_least_0}
 use Rattle.hull_projection.specs.Laws.{IsOneOf}
 use Rattle.hull_projection.proofs.ProjectLaws.{in_order-from, cleaned_nil}
-use Rattle.hull_projection.proofs.VarLaws.{terms_covered}
-use Rattle.hull_projection.proofs.LiftLaws.{value-agrees, agree_from, value-append}
-
--- ---- points that differ elsewhere
-
-abbrev moved_to : Point → Point → List Var → Point
-moved_to p q [] = p
-moved_to p q (v ∷ vs) = moved (moved_to p q vs) v (q v)
-
-moved_to_in : (p q : Point) (vs : List Var) (v : Var) → IsOneOf v vs → moved_to p q vs v ≡ q v
-moved_to_in p q [] v h = absurd h
-moved_to_in p q (w ∷ vs) v h =
-    ⊎_elim
-    (λ e. rw e (ap q (var_eq-true w v e)))
-    (λ e. rw e (moved_to_in p q vs v (⊎_elim (λ k. clash (var_eq w v) (true-var_eq w v (sym k)) e) (λ k. k) h)))
-    (either (var_eq w v))
-
-moved_to_same : (p q : Point) (vs : List Var) (v : Var) → p v ≡ q v → moved_to p q vs v ≡ q v
-moved_to_same p q [] v h = h
-moved_to_same p q (w ∷ vs) v h =
-    ⊎_elim
-    (λ e. rw e (ap q (var_eq-true w v e)))
-    (λ e. rw e (moved_to_same p q vs v h))
-    (either (var_eq w v))
-
-value-moved_to : (p q : Point) (vs : List Var) (ts : List Term) → ((v : Var) → (p v ≡ q v) ⊎ (value (only v) ts ≡ pos 0)) → value (moved_to p q vs) ts ≡ value p ts
-value-moved_to p q [] ts f = refl
-value-moved_to p q (v ∷ vs) ts f =
-    let ih = value-moved_to p q vs ts f in
-    let m = value-moved (moved_to p q vs) v (q v) ts in
-    ⊎_elim
-    (λ h. let e = moved_to_same p q vs v h in
-    let z : q v -ℤ moved_to p q vs v ≡ pos 0 = omega (arith, ints, e) in
-    let k : factor_of v ts *ℤ (q v -ℤ moved_to p q vs v) ≡ factor_of v ts *ℤ pos 0 = ap (λ y. factor_of v ts *ℤ y) z in
-    m ∙ omega (arith, ints, ih, k))
-    (λ h. let z : factor_of v ts ≡ pos 0 = factor-only v ts ∙ h in
-    let k : factor_of v ts *ℤ (q v -ℤ moved_to p q vs v) ≡ pos 0 *ℤ (q v -ℤ moved_to p q vs v) = ap (λ y. y *ℤ (q v -ℤ moved_to p q vs v)) z in
-    m ∙ omega (arith, ints, ih, k))
-    (f v)
-
-value-elsewhere : (p q : Point) (ts : List Term) → ((v : Var) → (p v ≡ q v) ⊎ (value (only v) ts ≡ pos 0)) → value p ts ≡ value q ts
-value-elsewhere p q ts f =
-    let vs = with_terms [] ts in
-    sym (value-moved_to p q vs ts f) ∙ value-agrees (moved_to p q vs) q ts (agree_from (moved_to p q vs) q vs ts (λ v h. moved_to_in p q vs v h) (terms_covered [] ts))
-
-pub rows_elsewhere : (p q : Point) (rs : List Row) → ((v : Var) → (p v ≡ q v) ⊎ RowsNil (only v) rs) → HoldsAll p rs → HoldsAll q rs
-rows_elsewhere p q [] f h = tt
-rows_elsewhere p q (r ∷ rs) f h = (
-  subst (λ (x : ℤ). Meets r.equal x r.bound) (value-elsewhere p q r.terms (λ v. ⊎_elim (λ k. inl k) (λ k. inr k.0) (f v))) h.0,
-  rows_elsewhere p q rs (λ v. ⊎_elim (λ k. inl k) (λ k. inr k.1) (f v)) h.1,
-)
+use Rattle.hull_projection.proofs.LiftLaws.{value-append}
 
 -- ---- the variables of a closure: the changed cells and their exits
 
@@ -100,11 +48,11 @@ exits_nil : (u : Point) (n : ℕ) (cs : List Var) (ts : List Term) → Off u cs 
 exits_nil u n [] ts h = refl
 exits_nil u n (c ∷ cs) ts h = no_term u (exit_of c) (factor_of (Aux n) ts) (exit_terms (suc n) cs ts) h.1 (exits_nil u (suc n) cs ts h.2)
 
-many_nil : (u : Point) (n : ℕ) (cs : List Var) (r : Row) → Off u cs → u (turns_var n cs) ≡ pos 0 → Nil u (many_turns n cs r)
+many_nil : (u : Point) (n : ℕ) (cs : List Var) (r : Row) → Off u cs → u (iterations_var n cs) ≡ pos 0 → Nil u (many_iterations n cs r)
 many_nil u n cs r h k =
-    let v = value-append u (cell_terms n cs r.terms ++ exit_terms n cs r.terms) (term_before (turns_var n cs) (neg_ℤ r.bound) []) in
+    let v = value-append u (cell_terms n cs r.terms ++ exit_terms n cs r.terms) (term_before (iterations_var n cs) (neg_ℤ r.bound) []) in
     let a = value-append u (cell_terms n cs r.terms) (exit_terms n cs r.terms) in
-    let b = no_term u (turns_var n cs) (neg_ℤ r.bound) [] k refl in
+    let b = no_term u (iterations_var n cs) (neg_ℤ r.bound) [] k refl in
     let c = cells_nil u n cs r.terms h in
     let d = exits_nil u n cs r.terms h in
     omega (arith, ints, v, a, b, c, d)
@@ -112,8 +60,8 @@ many_nil u n cs r h k =
 count_nil : (u : Point) (v : Var) → u v ≡ pos 0 → Nil u (at_least_0 v)
 count_nil u v k = let b : negsuc 0 *ℤ u v ≡ negsuc 0 *ℤ pos 0 = ap (λ z. negsuc 0 *ℤ z) k in omega (arith, ints, b)
 
-turns_nil : (u : Point) (n : ℕ) (cs : List Var) (rs : List Row) → Off u cs → u (turns_var n cs) ≡ pos 0 → RowsNil u (turn_rows n cs rs)
-turns_nil u n cs [] h k = (count_nil u (turns_var n cs) k, tt)
+turns_nil : (u : Point) (n : ℕ) (cs : List Var) (rs : List Row) → Off u cs → u (iterations_var n cs) ≡ pos 0 → RowsNil u (iteration_rows n cs rs)
+turns_nil u n cs [] h k = (count_nil u (iterations_var n cs) k, tt)
 turns_nil u n cs (r ∷ rs) h k = (many_nil u n cs r h k, turns_nil u n cs rs h k)
 
 same_nil : (u : Point) (cs : List Var) → Off u cs → RowsNil u (map same_row cs)
@@ -123,12 +71,12 @@ same_nil u (c ∷ cs) h =
     let b = h.1 in
     (omega (arith, ints, a, b), same_nil u cs h.2)
 
-turned_nil : (u : Point) (n : ℕ) (cs : List Var) (s : System) → Off u cs → u (turns_var n cs) ≡ pos 0 → RowsNil u (turns_of n cs s).rows
+turned_nil : (u : Point) (n : ℕ) (cs : List Var) (s : System) → Off u cs → u (iterations_var n cs) ≡ pos 0 → RowsNil u (iterations_of n cs s).rows
 turned_nil u n cs s h k =
-    if_cases (λ (t : System). RowsNil u t.rows) (is_false s.rows) (no_turn cs s.weak) (some_turns n cs s)
+    if_cases (λ (t : System). RowsNil u t.rows) (is_false s.rows) (no_iteration cs s.weak) (some_iterations n cs s)
     (λ e. tidy_nil u (system (map same_row cs) s.weak) (same_nil u cs h))
-    (λ e. let many = system (turn_rows n cs s.rows) s.weak in
-    cleaned_nil u [] (eliminate (tidy many) (turns_var n cs)).system.rows (eliminate_nil u (tidy many) (turns_var n cs) (tidy_nil u many (turns_nil u n cs s.rows h k))))
+    (λ e. let many = system (iteration_rows n cs s.rows) s.weak in
+    cleaned_nil u [] (eliminate (tidy many) (iterations_var n cs)).system.rows (eliminate_nil u (tidy many) (iterations_var n cs) (tidy_nil u many (turns_nil u n cs s.rows h k))))
 
 -- no row of a closure has a variable that is neither a changed cell nor its exit nor auxiliary
 pub closure_nil : (u : Point) (cs : List Var) (t : System) → ((c : Var) → IsOneOf c cs → (u c ≡ pos 0) × (u (exit_of c) ≡ pos 0)) → ((n : ℕ) → u (Aux n) ≡ pos 0) → RowsNil u (closure cs t).rows

@@ -2,6 +2,7 @@
 use Rattle.std.proofs.Common.{◌≡◌, ℕ, List, [], ◌∷◌, ◌++◌, Bool, true, false, not, ◌&&◌, ◌||◌, Option, Some, None, refl, sym, ap, ◌∙◌, subst, arith, ℤ, pos, ◌+ℤ◌, ◌*ℤ◌, nat_eq, ◌⊎◌, inl, inr, ⊎_elim}
 use Rattle.std.specs.Prelude.{if◌then◌else◌}
 use Rattle.std.proofs.lemmas.Int.{ints}
+use Rattle.std.proofs.lemmas.Bool.{not-true}
 use Rattle.affine_systems.specs.declared.row.Var.{Var}
 use Rattle.affine_systems.specs.declared.row.Var.TheVariants.{Cell, Exit, Phi, Aux}
 use Rattle.affine_systems.specs.declared.row.Term.{Term}
@@ -25,8 +26,8 @@ use Rattle.affine_forms.proofs.RowLaws.{at_most_holds, below_holds, same_holds}
 use Rattle.transformer_algebra.specs.declared.transformer.Transformer.{Transformer}
 use Rattle.transformer_algebra.specs.declared.loop_parts.LoopParts.{LoopParts}
 use Rattle.transformer_algebra.specs.Cells.{has, joined_cells, others}
-use Rattle.transformer_algebra.specs.Transformers.{exit_system, followed, apply, equals, closed}
-use Rattle.transformer_algebra.specs.Loops.{own_cells, index_becomes, if_counted, stepped, start, next, goes_up, within_row, beyond_row, within_rows, beyond_rows, index_form, guard, unguard, inside, past, with_rows, turn, zero_turns, first_turns, some_turns, counted_by, loop_transformer, terms_stay, stays, if_stays, before_turns, turn_by, at_turn, end_by, after_loop}
+use Rattle.transformer_algebra.specs.Transformers.{exit_system, followed, apply, equals, iterate}
+use Rattle.transformer_algebra.specs.Loops.{own_cells, index_becomes, if_counted, stepped, start, next, goes_up, within_row, beyond_row, within_rows, beyond_rows, index_form, guard, unguard, inside, beyond_last, with_rows, iteration, zero_iterations, first_iterations, some_iterations, counted_by, loop_transformer, terms_stay, stays, if_stays, before_iterations, iteration_by, at_iteration, end_by, after_loop}
 use Rattle.transformer_algebra.specs.Claims.{Scene, AtStart, AtEnd, HoldsAt, Kept, Does, Chain, Wrote, Tracks, Means, NotBeyond, Beyond}
 use Rattle.transformer_algebra.proofs.CellLaws.{clashes, nat_same, nat_eq_same, left_in, joined_in}
 use Rattle.transformer_algebra.proofs.RuleLaws.{does_then, holds_apply, equals_hold, old_point, at_old}
@@ -93,10 +94,6 @@ step_value i s k p e = omega (arith, ints, e)
 
 -- ---- forms of which no cell changes
 
-not_false : (b : Bool) → not b ≡ true → b ≡ false
-not_false true h = clashes true refl (sym h)
-not_false false h = refl
-
 and_left : (a b : Bool) → (a && b) ≡ true → a ≡ true
 and_left true b h = refl
 and_left false b h = h
@@ -115,7 +112,7 @@ module _ (m : Scene) where
   terms_old : (cs : List ℕ) (x : ℕ → ℤ) (p : Point) (ts : List Term) → terms_stay cs ts ≡ true → value (old_point m cs x p) ts ≡ value p ts
   terms_old cs x p [] h = refl
   terms_old cs x p (t ∷ ts) h =
-      let a = var_old cs x p t.var (not_false (has cs (number t.var)) (and_left _ _ h)) in
+      let a = var_old cs x p t.var (not-true (has cs (number t.var)) (and_left _ _ h)) in
       let b = terms_old cs x p ts (and_right (not (has cs (number t.var))) _ h) in
       ap (λ z. (t.factor *ℤ z) +ℤ value (old_point m cs x p) ts) a ∙ ap (λ z. (t.factor *ℤ p t.var) +ℤ z) b
 
@@ -156,7 +153,7 @@ module _ (m : Scene) where
     kept = kept_wrote l n x y tr w;
   }
 
-  -- a loop with a constant step, begun at x, where its expressions have these values; its turn changes tracked cells alone, and the index
+  -- a loop with a constant step, begun at x, where its expressions have these values; its iteration changes tracked cells alone, and the index
   module _ (l : LoopParts) (t : Transformer) (s a b : ℤ) (x x1 : ℕ → ℤ) (step : l.step ≡ Some s) (tr : m.tracked l.index ≡ l.tracked) (trs : Tracks m t.cells) (sub : (c : ℕ) → has (own_cells l) c ≡ true → has t.cells c ≡ true) (mf : Means m l.first x a) (ml : Means m l.last x b) (begun : Wrote m l.index a x x1) where
     pub does_start : Does m (start l) x x1
     does_start = does_becomes l (if_counted l.step l.first) a x x1 tr begun (λ p st e. subst (λ o. ValueAt p (if_counted o l.first) a) (sym step) (means_at m l.first x a p mf st))
@@ -164,7 +161,7 @@ module _ (m : Scene) where
     pub does_next : (n : ℤ) (w z : ℕ → ℤ) → w (m.unit l.index) ≡ n → Wrote m l.index (n +ℤ s) w z → Does m (next l) w z
     does_next n w z e wr = does_becomes l (stepped l.index l.step) (n +ℤ s) w z tr wr (λ p st q. subst (λ o. ValueAt p (stepped l.index o) (n +ℤ s)) (sym step) (step_value l.index s n p (st l.index (tr ∙ q) ∙ e)))
 
-    pub does_turn : (n : ℤ) (y w z : ℕ → ℤ) → Does m l.body y w → w (m.unit l.index) ≡ n → Wrote m l.index (n +ℤ s) w z → Does m (turn l) y z
+    pub does_turn : (n : ℤ) (y w z : ℕ → ℤ) → Does m l.body y w → w (m.unit l.index) ≡ n → Wrote m l.index (n +ℤ s) w z → Does m (iteration l) y z
     does_turn n y w z d e wr = does_then m l.body (next l) y w z d (does_next n w z e wr)
 
     own_gone : (c : ℕ) → has t.cells c ≡ false → has (own_cells l) c ≡ false
@@ -194,18 +191,18 @@ module _ (m : Scene) where
     inside_holds : (v : Var) (n : ℤ) (p : Point) → (l.tracked ≡ true → p v ≡ n) → ValueAt p l.last b → NotBeyond (goes_up s) n b → HoldsAll p (inside l v)
     inside_holds v n p e k h = subst (λ o. HoldsAll p (within_rows o (index_form l v) l.last)) (sym step) (within_rows_hold s (index_form l v) l.last p n b (index_at l v p n e) k h)
 
-    past_holds : (v : Var) (n : ℤ) (p : Point) → (l.tracked ≡ true → p v ≡ n) → ValueAt p l.last b → Beyond (goes_up s) n b → HoldsAll p (past l v)
+    past_holds : (v : Var) (n : ℤ) (p : Point) → (l.tracked ≡ true → p v ≡ n) → ValueAt p l.last b → Beyond (goes_up s) n b → HoldsAll p (beyond_last l v)
     past_holds v n p e k h = subst (λ o. HoldsAll p (beyond_rows o (index_form l v) l.last)) (sym step) (beyond_rows_hold s (index_form l v) l.last p n b (index_at l v p n e) k h)
 
-    counted : (p : Point) → HoldsAll p (hull (zero_turns l t) (some_turns l t).system).rows → HoldsAll p (loop_transformer l t).system.rows
+    counted : (p : Point) → HoldsAll p (hull (zero_iterations l t) (some_iterations l t).system).rows → HoldsAll p (loop_transformer l t).system.rows
     counted p h = subst (λ o. HoldsAll p (counted_by o l t).rows) (sym step) h
 
     -- ---- the transformer
 
-    -- no turn
+    -- no iteration
     pub does_zero : Beyond (goes_up s) a b → Does m (loop_transformer l t) x x1
     does_zero h = record {
-      relates = λ p st en. counted p (hull_holds (zero_turns l t) (some_turns l t).system p (inl
+      relates = λ p st en. counted p (hull_holds (zero_iterations l t) (some_iterations l t).system p (inl
           (push_rows_holds (start l).system (unguard l ++ equals (others t.cells (start l).cells)) p (does_start.relates p st (λ c r e. en c r (sub c e)))
           ((append_all p (unguard l) (equals (others t.cells (start l).cells))).0 (
             unguard_holds p st h,
@@ -214,27 +211,27 @@ module _ (m : Scene) where
       kept = kept_start;
     }
 
-    -- at least one turn: the last begins at y
+    -- at least one iteration: the last begins at y
     pub does_some : NotBeyond (goes_up s) a b → (y z : ℕ → ℤ) → Chain m t x1 y → NotBeyond (goes_up s) (y (m.unit l.index)) b → Does m t y z → Beyond (goes_up s) (z (m.unit l.index)) b → Does m (loop_transformer l t) x z
     does_some g y z ch n d e =
         let first = with_rows (start l) (guard l) in
         let d1 : Does m first x x1 = does_rows (start l) (guard l) x x1 does_start (λ p st en. guard_holds p st g) in
-        let d2 : Does m (followed first (closed t)) x y = does_then m first (closed t) x x1 y d1 (does_closed m t x1 y trs ch) in
-        let d3 : Does m (first_turns l t) x y = does_rows (followed first (closed t)) (inside l (Exit l.index)) x y d2 (λ p st en. inside_holds (Exit l.index) (y (m.unit l.index)) p (λ q. en l.index (tr ∙ q) (left_in first.cells t.cells l.index (own_in l q))) (means_at m l.last x b p ml st) n) in
-        let d4 : Does m (followed (first_turns l t) t) x z = does_then m (first_turns l t) t x y z d3 d in
-        let d5 : Does m (some_turns l t) x z = does_rows (followed (first_turns l t) t) (past l (Exit l.index)) x z d4 (λ p st en. past_holds (Exit l.index) (z (m.unit l.index)) p (λ q. en l.index (tr ∙ q) (left_in (first_turns l t).cells t.cells l.index (left_in first.cells t.cells l.index (own_in l q)))) (means_at m l.last x b p ml st) e) in
+        let d2 : Does m (followed first (iterate t)) x y = does_then m first (iterate t) x x1 y d1 (does_closed m t x1 y trs ch) in
+        let d3 : Does m (first_iterations l t) x y = does_rows (followed first (iterate t)) (inside l (Exit l.index)) x y d2 (λ p st en. inside_holds (Exit l.index) (y (m.unit l.index)) p (λ q. en l.index (tr ∙ q) (left_in first.cells t.cells l.index (own_in l q))) (means_at m l.last x b p ml st) n) in
+        let d4 : Does m (followed (first_iterations l t) t) x z = does_then m (first_iterations l t) t x y z d3 d in
+        let d5 : Does m (some_iterations l t) x z = does_rows (followed (first_iterations l t) t) (beyond_last l (Exit l.index)) x z d4 (λ p st en. past_holds (Exit l.index) (z (m.unit l.index)) p (λ q. en l.index (tr ∙ q) (left_in (first_iterations l t).cells t.cells l.index (left_in first.cells t.cells l.index (own_in l q)))) (means_at m l.last x b p ml st) e) in
         record {
-          relates = λ p st en. counted p (hull_holds (zero_turns l t) (some_turns l t).system p (inr (d5.relates p st (λ c r h. en c r (all_in c h)))));
+          relates = λ p st en. counted p (hull_holds (zero_iterations l t) (some_iterations l t).system p (inr (d5.relates p st (λ c r h. en c r (all_in c h)))));
           kept = record { cells = λ c r h. d.kept.cells c r h ∙ (kept_to y ch).cells c r h; foreign = λ u r f. d.kept.foreign u r f ∙ (kept_to y ch).foreign u r f };
         }
       where
-        all_in : (c : ℕ) → has (some_turns l t).cells c ≡ true → has t.cells c ≡ true
+        all_in : (c : ℕ) → has (some_iterations l t).cells c ≡ true → has t.cells c ≡ true
         all_in c h = ⊎_elim (λ k. ⊎_elim (λ j. sub c j) (λ j. j) (joined_in (own_cells l) t.cells c k)) (λ k. k) (joined_in (joined_cells (own_cells l) t.cells) t.cells c h)
 
     -- ---- what holds
 
     module _ (P : System) (hp : HoldsAt m P x) where
-      holds_begun : NotBeyond (goes_up s) a b → HoldsAt m (before_turns l P) x1
+      holds_begun : NotBeyond (goes_up s) a b → HoldsAt m (before_iterations l P) x1
       holds_begun g = holds_apply m (start l) (push_rows P (guard l)) x x1 (λ p st. push_rows_holds P (guard l) p (hp p st) (guard_holds p st g)) does_start
 
       if_stays_holds : (r : System) (rs : List Row) (y : ℕ → ℤ) (p : Point) → HoldsAll p r.rows → (stays t.cells l.last ≡ true → HoldsAll p rs) → HoldsAll p (if_stays l t r rs).rows
@@ -244,25 +241,25 @@ module _ (m : Scene) where
           go true f = push_rows_holds r rs p h (f refl)
           go false f = h
 
-      -- at the beginning of each turn
-      pub holds_turn : NotBeyond (goes_up s) a b → (y : ℕ → ℤ) → Chain m t x1 y → NotBeyond (goes_up s) (y (m.unit l.index)) b → HoldsAt m (at_turn l t P) y
+      -- at the beginning of each iteration
+      pub holds_turn : NotBeyond (goes_up s) a b → (y : ℕ → ℤ) → Chain m t x1 y → NotBeyond (goes_up s) (y (m.unit l.index)) b → HoldsAt m (at_iteration l t P) y
       holds_turn g y ch n p st =
-          let reached = apply (closed t) (before_turns l P) in
-          let at_y = holds_apply m (closed t) (before_turns l P) x1 y (holds_begun g) (does_closed m t x1 y trs ch) p st in
+          let reached = apply (iterate t) (before_iterations l P) in
+          let at_y = holds_apply m (iterate t) (before_iterations l P) x1 y (holds_begun g) (does_closed m t x1 y trs ch) p st in
           let last = λ (e : stays t.cells l.last ≡ true). means_at m l.last y b p (means_stays t.cells t.foreign l.last x y b e ml (kept_to y ch)) st in
-          subst (λ o. HoldsAll p (turn_by o l t P).rows) (sym step)
+          subst (λ o. HoldsAll p (iteration_by o l t P).rows) (sym step)
           ((clean_same p (if_stays l t reached (inside l (Cell l.index)))).0
           (if_stays_holds reached (inside l (Cell l.index)) y p at_y (λ e. inside_holds (Cell l.index) (y (m.unit l.index)) p (λ q. st l.index (tr ∙ q)) (last e) n)))
 
-      -- after no turn
+      -- after no iteration
       pub holds_zero : Beyond (goes_up s) a b → (Q : System) → HoldsAt m (after_loop l t P Q) x1
       holds_zero h Q p st =
           let none = apply (start l) (push_rows P (unguard l)) in
-          let some = if_stays l t (apply (next l) Q) (past l (Cell l.index)) in
+          let some = if_stays l t (apply (next l) Q) (beyond_last l (Cell l.index)) in
           subst (λ o. HoldsAll p (end_by o l t P Q).rows) (sym step)
           (hull_holds none some p (inl (holds_apply m (start l) (push_rows P (unguard l)) x x1 (λ q sq. push_rows_holds P (unguard l) q (hp q sq) (unguard_holds q sq h)) does_start p st)))
 
-      -- after the last turn, whose body ends at w with the index n
+      -- after the last iteration, whose body ends at w with the index n
       pub holds_some : (Q : System) (n : ℤ) (w z : ℕ → ℤ) → HoldsAt m Q w → w (m.unit l.index) ≡ n → Wrote m l.index (n +ℤ s) w z → Chain m t x1 z → Beyond (goes_up s) (z (m.unit l.index)) b → HoldsAt m (after_loop l t P Q) z
       holds_some Q n w z hq e wr ch h p st =
           let none = apply (start l) (push_rows P (unguard l)) in
@@ -270,5 +267,5 @@ module _ (m : Scene) where
           let at_z = holds_apply m (next l) Q w z hq (does_next n w z e wr) p st in
           let last = λ (k : stays t.cells l.last ≡ true). means_at m l.last z b p (means_stays t.cells t.foreign l.last x z b k ml (kept_to z ch)) st in
           subst (λ o. HoldsAll p (end_by o l t P Q).rows) (sym step)
-          (hull_holds none (if_stays l t done (past l (Cell l.index))) p
-          (inr (if_stays_holds done (past l (Cell l.index)) z p at_z (λ k. past_holds (Cell l.index) (z (m.unit l.index)) p (λ q. st l.index (tr ∙ q)) (last k) h))))
+          (hull_holds none (if_stays l t done (beyond_last l (Cell l.index))) p
+          (inr (if_stays_holds done (beyond_last l (Cell l.index)) z p at_z (λ k. past_holds (Cell l.index) (z (m.unit l.index)) p (λ q. st l.index (tr ∙ q)) (last k) h))))

@@ -22,7 +22,7 @@ use Rattle.transformer_algebra.specs.declared.transformer.Transformer.{Transform
 use Rattle.transformer_algebra.specs.Cells.{has, joined_cells, others}
 use Rattle.transformer_algebra.specs.Units.{joined_units}
 use Rattle.transformer_algebra.specs.Halves.{first_names, second_names, middle, to_cells, cell_vars}
-use Rattle.transformer_algebra.specs.Transformers.{test, followed_from, followed, without, apply, equal, equals, completed, cells_from, all_cells, units_from, all_units, hulled, one_of}
+use Rattle.transformer_algebra.specs.Transformers.{test, followed_from, followed, without, apply, equal, equals, complete, cells_from, all_cells, units_from, all_units, hull_of_arms, one_of}
 use Rattle.transformer_algebra.specs.Laws.{In, here, there}
 use Rattle.transformer_algebra.specs.Claims.{Scene, AtStart, AtEnd, HoldsAt, IsIn, Kept, Does, Tracks}
 use Rattle.transformer_algebra.proofs.CellLaws.{clashes, nat_eq_same, left_out, right_out, left_in, right_in, unit_left, unit_right}
@@ -149,19 +149,19 @@ module _ (m : Scene) where
       go true e ih = ih
       go false e ih = (row (k a (tr a a_in) e), ih)
 
-  pub completed_holds : (cs : List ℕ) (t : Transformer) (x y : ℕ → ℤ) (p : Point) → Tracks m cs → ((c : ℕ) → has t.cells c ≡ true → has cs c ≡ true) → Does m t x y → AtStart m x p → AtEnd m cs y p → HoldsAll p (completed cs t).rows
+  pub completed_holds : (cs : List ℕ) (t : Transformer) (x y : ℕ → ℤ) (p : Point) → Tracks m cs → ((c : ℕ) → has t.cells c ≡ true → has cs c ≡ true) → Does m t x y → AtStart m x p → AtEnd m cs y p → HoldsAll p (complete cs t).rows
   completed_holds cs t x y p tr sub d st en =
       push_rows_holds t.system (equals (others cs t.cells)) p (d.relates p st (λ c r h. en c r (sub c h)))
       (equals_hold cs t.cells x y p tr st (λ c h. en c (tr c h) h) d.kept.cells)
 
-  hulled_first : (cs : List ℕ) (s : System) (ts : List Transformer) (p : Point) → HoldsAll p s.rows → HoldsAll p (hulled cs s ts).rows
+  hulled_first : (cs : List ℕ) (s : System) (ts : List Transformer) (p : Point) → HoldsAll p s.rows → HoldsAll p (hull_of_arms cs s ts).rows
   hulled_first cs s [] p h = h
-  hulled_first cs s (t ∷ ts) p h = hulled_first cs (hull s (completed cs t)) ts p (hull_holds s (completed cs t) p (inl h))
+  hulled_first cs s (t ∷ ts) p h = hulled_first cs (hull s (complete cs t)) ts p (hull_holds s (complete cs t) p (inl h))
 
-  hulled_among : (cs : List ℕ) (s : System) (t : Transformer) (ts : List Transformer) (p : Point) → In t ts → HoldsAll p (completed cs t).rows → HoldsAll p (hulled cs s ts).rows
+  hulled_among : (cs : List ℕ) (s : System) (t : Transformer) (ts : List Transformer) (p : Point) → In t ts → HoldsAll p (complete cs t).rows → HoldsAll p (hull_of_arms cs s ts).rows
   hulled_among cs s t [] p i h = elim i [ ]
-  hulled_among cs s t (b ∷ ts) p here h = hulled_first cs (hull s (completed cs t)) ts p (hull_holds s (completed cs t) p (inr h))
-  hulled_among cs s t (b ∷ ts) p (there i) h = hulled_among cs (hull s (completed cs b)) t ts p i h
+  hulled_among cs s t (b ∷ ts) p here h = hulled_first cs (hull s (complete cs t)) ts p (hull_holds s (complete cs t) p (inr h))
+  hulled_among cs s t (b ∷ ts) p (there i) h = hulled_among cs (hull s (complete cs b)) t ts p i h
 
   cells_more : (cs : List ℕ) (ts : List Transformer) (c : ℕ) → has cs c ≡ true → has (cells_from cs ts) c ≡ true
   cells_more cs [] c h = h
@@ -192,9 +192,9 @@ module _ (m : Scene) where
     foreign = λ u r f. k.foreign u r (λ h. f (units_in [] t ts u i h));
   }
 
-  one_holds : (cs : List ℕ) (t b : Transformer) (ts : List Transformer) (p : Point) → In t (b ∷ ts) → HoldsAll p (completed cs t).rows → HoldsAll p (hulled cs (completed cs b) ts).rows
-  one_holds cs t b ts p here h = hulled_first cs (completed cs t) ts p h
-  one_holds cs t b ts p (there i) h = hulled_among cs (completed cs b) t ts p i h
+  one_holds : (cs : List ℕ) (t b : Transformer) (ts : List Transformer) (p : Point) → In t (b ∷ ts) → HoldsAll p (complete cs t).rows → HoldsAll p (hull_of_arms cs (complete cs b) ts).rows
+  one_holds cs t b ts p here h = hulled_first cs (complete cs t) ts p h
+  one_holds cs t b ts p (there i) h = hulled_among cs (complete cs b) t ts p i h
 
   -- the transformer of a choice describes what one of its parts describes
   pub does_one : (t : Transformer) (ts : List Transformer) (x y : ℕ → ℤ) → Tracks m (all_cells ts) → In t ts → Does m t x y → Does m (one_of ts) x y

@@ -1,13 +1,14 @@
--- Any number of turns.
+-- Any number of iterations.
 use Rattle.std.proofs.Common.{◌≡◌, ℕ, zero, suc, List, [], ◌∷◌, Bool, true, false, refl, sym, ap, ◌∙◌, subst, ℤ, pos, nat_eq, ◌||◌, ◌⊎◌, inl, inr}
 use Rattle.std.specs.Prelude.{if◌then◌else◌}
+use Rattle.std.proofs.lemmas.Bool.{or_right}
 use Rattle.affine_systems.specs.declared.row.Var.{Var}
 use Rattle.affine_systems.specs.declared.row.Var.TheVariants.{Cell, Exit, Phi, Aux}
 use Rattle.affine_systems.specs.declared.row.System.{System}
 use Rattle.affine_systems.specs.Terms.{var_eq}
 use Rattle.affine_systems.specs.Points.{Point, HoldsAll, only}
 use Rattle.affine_systems.proofs.LackLaws.{RowsNil}
-use Rattle.hull_projection.specs.Turns.{Store, between, Joined}
+use Rattle.hull_projection.specs.Iterations.{Store, between, Joined}
 use Rattle.hull_projection.specs.Closure.{AreCells, exit_of, closure}
 use Rattle.hull_projection.specs.Laws.{IsOneOf}
 use Rattle.hull_projection.proofs.ProjectLaws.{all-agree}
@@ -17,12 +18,13 @@ use Rattle.affine_systems.proofs.AscendLaws.{var_eq-sym}
 use Rattle.transformer_algebra.specs.declared.transformer.Transformer.{Transformer}
 use Rattle.transformer_algebra.specs.Cells.{has}
 use Rattle.transformer_algebra.specs.Halves.{cell_vars}
-use Rattle.transformer_algebra.specs.Transformers.{closed}
-use Rattle.transformer_algebra.specs.Claims.{Scene, AtStart, AtEnd, Kept, Does, Chain, none_yet, then_turn, Tracks}
-use Rattle.transformer_algebra.proofs.CellLaws.{clashes, or_in_right, nat_eq_same, cell_exit, exit_cell, cell_same, exit_same}
-use Rattle.transformer_algebra.proofs.ElsewhereLaws.{rows_elsewhere, closure_nil}
+use Rattle.transformer_algebra.specs.Transformers.{iterate}
+use Rattle.transformer_algebra.specs.Claims.{Scene, AtStart, AtEnd, Kept, Does, Chain, none_yet, then_iteration, Tracks}
+use Rattle.transformer_algebra.proofs.CellLaws.{clashes, nat_eq_same, cell_exit, exit_cell, cell_same, exit_same}
+use Rattle.hull_projection.proofs.ClosureLaws.{rows_elsewhere}
+use Rattle.transformer_algebra.proofs.ElsewhereLaws.{closure_nil}
 
--- one turn more at the end
+-- one iteration more at the end
 between_same : (q : Point) (s u w : Store) → ((c : ℕ) → s c ≡ u c) → (v : Var) → between q s w v ≡ between q u w v
 between_same q s u w f (Cell c) = f c
 between_same q s u w f (Exit c) = refl
@@ -50,7 +52,7 @@ absent cs c d e h q = clashes (has cs c) (ap (has cs) q ∙ h) e
 one_cell : (cs : List ℕ) (w : Var) → IsOneOf w (cell_vars cs) → (d : ℕ) × (w ≡ Cell d) × (has cs d ≡ true)
 one_cell [] w h = absurd h
 one_cell (c ∷ cs) w (inl e) = (c, e, ap (λ b. b || has cs c) (nat_eq_same c))
-one_cell (c ∷ cs) w (inr h) = let k = one_cell cs w h in (k.0, k.1, or_in_right (nat_eq c k.0) (has cs k.0) k.2)
+one_cell (c ∷ cs) w (inr h) = let k = one_cell cs w h in (k.0, k.1, or_right (nat_eq c k.0) (has cs k.0) k.2)
 
 cell_off : (cs : List ℕ) (c : ℕ) → has cs c ≡ false → (w : Var) → IsOneOf w (cell_vars cs) → (only (Cell c) w ≡ pos 0) × (only (Cell c) (exit_of w) ≡ pos 0)
 cell_off cs c e w h =
@@ -81,13 +83,13 @@ module _ (m : Scene) where
 
   pub joined_of : (t : Transformer) (x y : ℕ → ℤ) → Chain m t x y → (n : ℕ) × Joined n t.system (numbers x) (numbers y)
   joined_of t x y none_yet = (zero, λ c. refl)
-  joined_of t x z (then_turn {y = y} c d) =
+  joined_of t x z (then_iteration {y = y} c d) =
       let k = joined_of t x y c in
       (suc k.0, joined_more k.0 t.system (numbers x) (numbers y) (numbers z) zero_point k.1 (d.relates (between zero_point (numbers y) (numbers z)) (λ c r. refl) (λ c r h. refl)))
 
   pub kept_chain : (t : Transformer) (x y : ℕ → ℤ) → Chain m t x y → Kept m t.cells t.foreign x y
   kept_chain t x y none_yet = record { cells = λ c r e. refl; foreign = λ u r f. refl }
-  kept_chain t x z (then_turn {y = y} c d) =
+  kept_chain t x z (then_iteration {y = y} c d) =
       let k = kept_chain t x y c in
       record { cells = λ c r e. d.kept.cells c r e ∙ k.cells c r e; foreign = λ u r f. d.kept.foreign u r f ∙ k.foreign u r f }
 
@@ -106,8 +108,8 @@ module _ (m : Scene) where
   point_agrees t x y p tr st en (Phi c) = inl refl
   point_agrees t x y p tr st en (Aux c) = inl refl
 
-  -- any number of turns; the turn changes tracked cells alone
-  pub does_closed : (t : Transformer) (x y : ℕ → ℤ) → Tracks m t.cells → Chain m t x y → Does m (closed t) x y
+  -- any number of iterations; the iteration changes tracked cells alone
+  pub does_closed : (t : Transformer) (x y : ℕ → ℤ) → Tracks m t.cells → Chain m t x y → Does m (iterate t) x y
   does_closed t x y tr ch = record {
     relates = λ p st en.
         let k = joined_of t x y ch in

@@ -42,10 +42,10 @@ pub record Does (m : Scene) (t : Transformer) (x y : ℕ → ℤ) : Type 0 where
   pub relates : (p : Point) → AtStart m x p → AtEnd m t.cells y p → HoldsAll p t.system.rows
   pub kept : Kept m t.cells t.foreign x y
 
--- one turn after the other
+-- one iteration after the other
 pub data Chain (m : Scene) (t : Transformer) (x : ℕ → ℤ) : (ℕ → ℤ) → Type 0 where
   none_yet : Chain m t x x
-  then_turn : {y z : ℕ → ℤ} → Chain m t x y → Does m t y z → Chain m t x z
+  then_iteration : {y z : ℕ → ℤ} → Chain m t x y → Does m t y z → Chain m t x z
 
 -- a variable was given a number: nothing else that counts has changed
 pub record Wrote (m : Scene) (i : ℕ) (n : ℤ) (x y : ℕ → ℤ) : Type 0 where

@@ -1,4 +1,4 @@
--- The transformer of a DO, and what holds at its turns and after it. Rows of which one side has no form are left out, and where the step is no
+-- The transformer of a DO, and what holds at its iterations and after it. Rows of which one side has no form are left out, and where the step is no
 -- constant there are no rows.
 use Rattle.std.specs.Prelude.{ℕ, List, [], ◌∷◌, ◌++◌, Option, Some, None, IfSome, Bool, false, not, if◌then◌else◌, ℤ, pos, int_lt}
 use Rattle.std.specs.List.{list_all}
@@ -19,7 +19,7 @@ use Rattle.affine_forms.specs.Conditions.{no_rows}
 use Rattle.transformer_algebra.specs.declared.transformer.Transformer.{Transformer}
 use Rattle.transformer_algebra.specs.declared.loop_parts.LoopParts.{LoopParts}
 use Rattle.transformer_algebra.specs.Cells.{has, others}
-use Rattle.transformer_algebra.specs.Transformers.{transformer, exit_system, followed, without, apply, equals, closed}
+use Rattle.transformer_algebra.specs.Transformers.{transformer, exit_system, followed, without, apply, equals, iterate}
 
 -- its forms are small, and the body's system is one that calls take
 abbrev pub LoopFits : LoopParts → Type 0
@@ -94,32 +94,32 @@ unguard l = beyond_rows l.step l.first l.last
 abbrev pub inside : LoopParts → Var → List Row
 inside l v = within_rows l.step (index_form l v) l.last
 
-abbrev pub past : LoopParts → Var → List Row
-past l v = beyond_rows l.step (index_form l v) l.last
+abbrev pub beyond_last : LoopParts → Var → List Row
+beyond_last l v = beyond_rows l.step (index_form l v) l.last
 
 -- ---- the transformer
 
 abbrev pub with_rows : Transformer → List Row → Transformer
 with_rows t rs = transformer t.cells t.foreign (push_rows t.system rs)
 
--- one turn
-abbrev pub turn : LoopParts → Transformer
-turn l = followed l.body (next l)
+-- one iteration
+abbrev pub iteration : LoopParts → Transformer
+iteration l = followed l.body (next l)
 
--- in what follows t is the turn
-abbrev pub zero_turns : LoopParts → Transformer → System
-zero_turns l t = push_rows (start l).system (unguard l ++ equals (others t.cells (start l).cells))
+-- in what follows t is the iteration
+abbrev pub zero_iterations : LoopParts → Transformer → System
+zero_iterations l t = push_rows (start l).system (unguard l ++ equals (others t.cells (start l).cells))
 
--- up to the last turn
-abbrev pub first_turns : LoopParts → Transformer → Transformer
-first_turns l t = with_rows (followed (with_rows (start l) (guard l)) (closed t)) (inside l (Exit l.index))
+-- up to the last iteration
+abbrev pub first_iterations : LoopParts → Transformer → Transformer
+first_iterations l t = with_rows (followed (with_rows (start l) (guard l)) (iterate t)) (inside l (Exit l.index))
 
-abbrev pub some_turns : LoopParts → Transformer → Transformer
-some_turns l t = with_rows (followed (first_turns l t) t) (past l (Exit l.index))
+abbrev pub some_iterations : LoopParts → Transformer → Transformer
+some_iterations l t = with_rows (followed (first_iterations l t) t) (beyond_last l (Exit l.index))
 
 abbrev pub counted_by : Option ℤ → LoopParts → Transformer → System
 counted_by None l t = no_rows
-counted_by (Some s) l t = hull (zero_turns l t) (some_turns l t).system
+counted_by (Some s) l t = hull (zero_iterations l t) (some_iterations l t).system
 
 abbrev pub counted_system : LoopParts → Transformer → System
 counted_system l t = counted_by l.step l t
@@ -141,23 +141,23 @@ stays cs (Some f) = terms_stay cs f.terms
 abbrev pub if_stays : LoopParts → Transformer → System → List Row → System
 if_stays l t s rs = if stays t.cells l.last then push_rows s rs else s
 
--- before the first turn
-abbrev pub before_turns : LoopParts → System → System
-before_turns l p = apply (start l) (push_rows p (guard l))
+-- before the first iteration
+abbrev pub before_iterations : LoopParts → System → System
+before_iterations l p = apply (start l) (push_rows p (guard l))
 
-abbrev pub counted_turn : LoopParts → Transformer → System → System
-counted_turn l t p = clean (if_stays l t (apply (closed t) (before_turns l p)) (inside l (Cell l.index)))
+abbrev pub counted_iteration : LoopParts → Transformer → System → System
+counted_iteration l t p = clean (if_stays l t (apply (iterate t) (before_iterations l p)) (inside l (Cell l.index)))
 
-abbrev pub turn_by : Option ℤ → LoopParts → Transformer → System → System
-turn_by None l t p = without t.cells p
-turn_by (Some s) l t p = counted_turn l t p
+abbrev pub iteration_by : Option ℤ → LoopParts → Transformer → System → System
+iteration_by None l t p = without t.cells p
+iteration_by (Some s) l t p = counted_iteration l t p
 
--- at the beginning of each turn
-abbrev pub at_turn : LoopParts → Transformer → System → System
-at_turn l t p = turn_by l.step l t p
+-- at the beginning of each iteration
+abbrev pub at_iteration : LoopParts → Transformer → System → System
+at_iteration l t p = iteration_by l.step l t p
 
 abbrev pub counted_end : LoopParts → Transformer → System → System → System
-counted_end l t p q = hull (apply (start l) (push_rows p (unguard l))) (if_stays l t (apply (next l) q) (past l (Cell l.index)))
+counted_end l t p q = hull (apply (start l) (push_rows p (unguard l))) (if_stays l t (apply (next l) q) (beyond_last l (Cell l.index)))
 
 abbrev pub end_by : Option ℤ → LoopParts → Transformer → System → System → System
 end_by None l t p q = without t.cells p

@@ -13,7 +13,7 @@ use Rattle.system_renaming.specs.Renaming.{rename_all, of_rows, push_rows}
 use Rattle.system_renaming.specs.Fresh.{fresh_over}
 use Rattle.affine_forms.specs.declared.affine.Affine.{Affine}
 use Rattle.affine_forms.specs.Comparisons.{var_form, same_row}
-use Rattle.affine_forms.specs.Conditions.{no_rows, nothing}
+use Rattle.affine_forms.specs.Conditions.{no_rows, infeasible}
 use Rattle.transformer_algebra.specs.declared.transformer.Transformer.{Transformer}
 use Rattle.transformer_algebra.specs.Cells.{joined_cells, others}
 use Rattle.transformer_algebra.specs.Units.{joined_units}
@@ -33,7 +33,7 @@ unchanging = test no_rows
 
 -- of a statement that never ends normally
 abbrev pub nowhere : Transformer
-nowhere = test nothing
+nowhere = test infeasible
 
 -- nothing is known of these cells afterwards
 abbrev pub forgotten : List ℕ → Transformer
@@ -44,8 +44,8 @@ abbrev pub exit_system : ℕ → Option Affine → System
 exit_system c None = no_rows
 exit_system c (Some f) = of_rows (same_row (var_form (Exit c)) f ∷ [])
 
-abbrev pub assigned : ℕ → Option Affine → Transformer
-assigned c f = transformer (c ∷ []) [] (exit_system c f)
+abbrev pub assign : ℕ → Option Affine → Transformer
+assign c f = transformer (c ∷ []) [] (exit_system c f)
 
 -- ---- one after the other
 
@@ -75,8 +75,8 @@ abbrev pub equals : List ℕ → List Row
 equals cs = map equal cs
 
 -- for more cells: those that do not change stay
-abbrev pub completed : List ℕ → Transformer → System
-completed cs t = push_rows t.system (equals (others cs t.cells))
+abbrev pub complete : List ℕ → Transformer → System
+complete cs t = push_rows t.system (equals (others cs t.cells))
 
 abbrev pub cells_from : List ℕ → List Transformer → List ℕ
 cells_from cs [] = cs
@@ -93,20 +93,20 @@ abbrev pub all_units : List Transformer → List BlockUnit
 all_units ts = units_from [] ts
 
 -- hulls from left to right
-abbrev pub hulled : List ℕ → System → List Transformer → System
-hulled cs s [] = s
-hulled cs s (t ∷ ts) = hulled cs (hull s (completed cs t)) ts
+abbrev pub hull_of_arms : List ℕ → System → List Transformer → System
+hull_of_arms cs s [] = s
+hull_of_arms cs s (t ∷ ts) = hull_of_arms cs (hull s (complete cs t)) ts
 
 -- what one of them does, whichever that is
 abbrev pub one_of : List Transformer → Transformer
 one_of [] = nowhere
-one_of (t ∷ ts) = let cs = all_cells (t ∷ ts) in transformer cs (all_units (t ∷ ts)) (hulled cs (completed cs t) ts)
+one_of (t ∷ ts) = let cs = all_cells (t ∷ ts) in transformer cs (all_units (t ∷ ts)) (hull_of_arms cs (complete cs t) ts)
 
 abbrev pub AllFit : List Transformer → Type 0
 AllFit [] = Unit {0}
 AllFit (t ∷ ts) = Fits t.system × AllFit ts
 
--- ---- any number of turns
+-- ---- any number of iterations
 
-abbrev pub closed : Transformer → Transformer
-closed t = transformer t.cells t.foreign (closure (cell_vars t.cells) t.system)
+abbrev pub iterate : Transformer → Transformer
+iterate t = transformer t.cells t.foreign (closure (cell_vars t.cells) t.system)

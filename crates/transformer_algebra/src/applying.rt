@@ -14,7 +14,7 @@ use system_renaming::rename_all;
 pub fn without(alloc: Global, cells: &[u32], p: &System) -> Result<System, Memory>
     requires { Fits p.now }
     ensures defined { IfOk result (λ s. s ≡ without_is cells.now p.now) }
-    ensures gives { IfOk result Fits }
+    ensures fits { IfOk result Fits }
 {
     let vars = cell_vars(alloc, cells)?;
     Ok(project(alloc, p, &vars)?.system)
@@ -25,7 +25,7 @@ pub fn apply(alloc: Global, t: &Transformer, p: &System) -> Result<System, Memor
     requires transformer { Fits t.now.system }
     requires before { Fits p.now }
     ensures defined { IfOk result (λ s. s ≡ apply_is t.now p.now) }
-    ensures gives { IfOk result Fits }
+    ensures fits { IfOk result Fits }
 {
     let met = meet(alloc, &t.system, p)?;
     let left = without(alloc, t.cells.as_slice(), &met)?;

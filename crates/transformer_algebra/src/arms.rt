@@ -2,7 +2,7 @@
 ghost use Rattle.std.specs.Prelude.{◌≡◌, IfOk};
 ghost use Rattle.affine_systems.specs.Rows.{AllRows};
 ghost use Rattle.affine_systems.specs.Given.{IsGiven, Fits};
-ghost use Rattle.transformer_algebra.specs.Transformers.{AllFit, equal as equal_is, equals as equals_is, completed as completed_is, all_cells as all_cells_is, all_units as all_units_is, hulled as hulled_is, one_of as one_of_is};
+ghost use Rattle.transformer_algebra.specs.Transformers.{AllFit, equal as equal_is, equals as equals_is, complete as complete_is, all_cells as all_cells_is, all_units as all_units_is, hull_of_arms as hull_of_arms_is, one_of as one_of_is};
 
 use crate::{Transformer, joined_cells, joined_units, nowhere, others};
 use affine_forms::{same_row, var_form};
@@ -16,7 +16,7 @@ use system_renaming::push_rows;
 /// That the exit of a cell is the cell.
 fn equal(alloc: Global, cell: u32) -> Result<Row, Memory>
     ensures defined { IfOk result (λ r. r ≡ equal_is cell) }
-    ensures given { IfOk result IsGiven }
+    ensures fits { IfOk result IsGiven }
 {
     let exit = var_form(alloc, Var::Exit(cell))?;
     let entry = var_form(alloc, Var::Cell(cell))?;
@@ -26,7 +26,7 @@ fn equal(alloc: Global, cell: u32) -> Result<Row, Memory>
 /// That the exits of cells are the cells.
 pub fn equals(alloc: Global, cells: &[u32]) -> Result<Vec<Row>, Memory>
     ensures defined { IfOk result (λ rs. rs.items ≡ equals_is cells.now) }
-    ensures given { IfOk result (λ rs. AllRows IsGiven rs.items) }
+    ensures fits { IfOk result (λ rs. AllRows IsGiven rs.items) }
 {
     let mut out = Vec::new(alloc);
     for c in cells {
@@ -36,10 +36,10 @@ pub fn equals(alloc: Global, cells: &[u32]) -> Result<Vec<Row>, Memory>
 }
 
 /// The system of a transformer for more cells: those that it does not change stay.
-pub fn completed(alloc: Global, cells: &[u32], t: &Transformer) -> Result<System, Memory>
+pub fn complete(alloc: Global, cells: &[u32], t: &Transformer) -> Result<System, Memory>
     requires { Fits t.now.system }
-    ensures defined { IfOk result (λ s. s ≡ completed_is cells.now t.now) }
-    ensures gives { IfOk result Fits }
+    ensures defined { IfOk result (λ s. s ≡ complete_is cells.now t.now) }
+    ensures fits { IfOk result Fits }
 {
     let rest = others(alloc, cells, t.cells.as_slice())?;
     let rows = equals(alloc, rest.as_slice())?;
@@ -71,7 +71,7 @@ fn all_units(alloc: Global, arms: &[Transformer]) -> Result<List<Unit>, Memory>
 
 #[tactic(auto, using(crate::proofs::ArmSteps::hulled_loop))]
 /// The hulls, from left to right.
-fn hulled(
+fn hull_of_arms(
     alloc: Global,
     cells: &[u32],
     first: System,
@@ -79,12 +79,12 @@ fn hulled(
 ) -> Result<System, Memory>
     requires first { Fits first }
     requires arms { AllFit arms.now }
-    ensures defined { IfOk result (λ s. s ≡ hulled_is cells.now first arms.now) }
-    ensures gives { IfOk result Fits }
+    ensures defined { IfOk result (λ s. s ≡ hull_of_arms_is cells.now first arms.now) }
+    ensures fits { IfOk result Fits }
 {
     let mut hulls = first;
     for t in arms {
-        let next = completed(alloc, cells, t)?;
+        let next = complete(alloc, cells, t)?;
         hulls = hull(alloc, &hulls, &next)?;
     }
     Ok(hulls)
@@ -95,14 +95,14 @@ fn hulled(
 pub fn one_of(alloc: Global, arms: &[Transformer]) -> Result<Transformer, Memory>
     requires { AllFit arms.now }
     ensures defined { IfOk result (λ t. t ≡ one_of_is arms.now) }
-    ensures gives { IfOk result (λ t. Fits t.system) }
+    ensures fits { IfOk result (λ t. Fits t.system) }
 {
     match arms {
         [] => nowhere(alloc),
         [t, more @ ..] => {
             let cells = all_cells(alloc, arms)?;
-            let first = completed(alloc, cells.as_slice(), t)?;
-            let system = hulled(alloc, cells.as_slice(), first, more)?;
+            let first = complete(alloc, cells.as_slice(), t)?;
+            let system = hull_of_arms(alloc, cells.as_slice(), first, more)?;
             Ok(Transformer {
                 cells,
                 foreign: all_units(alloc, arms)?,

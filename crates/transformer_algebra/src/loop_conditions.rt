@@ -1,12 +1,13 @@
-//! What holds before the turns of a DO, at each turn, and after it.
+//! What holds before the iterations of a DO, at each iteration, and after it.
 ghost use Rattle.std.specs.Prelude.{◌≡◌, IfOk};
 ghost use Rattle.affine_systems.specs.Rows.{AllRows};
 ghost use Rattle.affine_systems.specs.Given.{IsGiven, Fits};
 ghost use Rattle.affine_systems.specs.Terms.{number as number_is};
-ghost use Rattle.transformer_algebra.specs.Loops.{LoopFits, terms_stay as terms_stay_is, stays as stays_is, if_stays as if_stays_is, before_turns as before_turns_is, counted_turn as counted_turn_is, at_turn as at_turn_is, counted_end as counted_end_is, after_loop as after_loop_is};
+ghost use Rattle.transformer_algebra.specs.Loops.{LoopFits, terms_stay as terms_stay_is, stays as stays_is, if_stays as if_stays_is, before_iterations as before_iterations_is, counted_iteration as counted_iteration_is, at_iteration as at_iteration_is, counted_end as counted_end_is, after_loop as after_loop_is};
 
 use crate::{
-    LoopParts, Transformer, apply, closed, guard, has, inside, next, past, start, unguard, without,
+    LoopParts, Transformer, apply, beyond_last, guard, has, inside, iterate, next, start, unguard,
+    without,
 };
 use affine_forms::Affine;
 use affine_systems::{Row, System, Term, Var};
@@ -57,7 +58,7 @@ fn if_stays(
     requires fits { Fits s }
     requires rows { AllRows IsGiven rows.items }
     ensures defined { IfOk result (λ r. r ≡ if_stays_is l.now t.now s rows.items) }
-    ensures gives { IfOk result Fits }
+    ensures fits { IfOk result Fits }
 {
     if stays(t.cells.as_slice(), &l.last) {
         push_rows(alloc, &s, rows)
@@ -66,43 +67,53 @@ fn if_stays(
     }
 }
 
-/// What holds before the first turn, where `p` holds before the DO.
-pub fn before_turns(alloc: Global, l: &LoopParts, p: &System) -> Result<System, Memory>
+/// What holds before the first iteration, where `p` holds before the DO.
+pub fn before_iterations(alloc: Global, l: &LoopParts, p: &System) -> Result<System, Memory>
     requires parts { LoopFits l.now }
     requires before { Fits p.now }
-    ensures defined { IfOk result (λ s. s ≡ before_turns_is l.now p.now) }
-    ensures gives { IfOk result Fits }
+    ensures defined { IfOk result (λ s. s ≡ before_iterations_is l.now p.now) }
+    ensures fits { IfOk result Fits }
 {
     let guarded = push_rows(alloc, p, guard(alloc, l)?)?;
     let first = start(alloc, l)?;
     apply(alloc, &first, &guarded)
 }
 
-fn counted_turn(alloc: Global, l: &LoopParts, t: &Transformer, p: &System) -> Result<System, Memory>
+fn counted_iteration(
+    alloc: Global,
+    l: &LoopParts,
+    t: &Transformer,
+    p: &System,
+) -> Result<System, Memory>
     requires parts { LoopFits l.now }
     requires turn { Fits t.now.system }
     requires before { Fits p.now }
-    ensures defined { IfOk result (λ s. s ≡ counted_turn_is l.now t.now p.now) }
-    ensures gives { IfOk result Fits }
+    ensures defined { IfOk result (λ s. s ≡ counted_iteration_is l.now t.now p.now) }
+    ensures fits { IfOk result Fits }
 {
-    let begun = before_turns(alloc, l, p)?;
-    let turns = closed(alloc, t)?;
+    let begun = before_iterations(alloc, l, p)?;
+    let turns = iterate(alloc, t)?;
     let reached = apply(alloc, &turns, &begun)?;
     let within = if_stays(alloc, l, t, reached, inside(alloc, l, Var::Cell(l.index))?)?;
     clean(alloc, &within)
 }
 
-/// What holds at the beginning of each turn, where `p` holds before the DO and it has this turn.
-pub fn at_turn(alloc: Global, l: &LoopParts, t: &Transformer, p: &System) -> Result<System, Memory>
+/// What holds at the beginning of each iteration, where `p` holds before the DO and it has this iteration.
+pub fn at_iteration(
+    alloc: Global,
+    l: &LoopParts,
+    t: &Transformer,
+    p: &System,
+) -> Result<System, Memory>
     requires parts { LoopFits l.now }
     requires turn { Fits t.now.system }
     requires before { Fits p.now }
-    ensures defined { IfOk result (λ s. s ≡ at_turn_is l.now t.now p.now) }
-    ensures gives { IfOk result Fits }
+    ensures defined { IfOk result (λ s. s ≡ at_iteration_is l.now t.now p.now) }
+    ensures fits { IfOk result Fits }
 {
     match l.step {
         None => without(alloc, t.cells.as_slice(), p),
-        Some(_) => counted_turn(alloc, l, t, p),
+        Some(_) => counted_iteration(alloc, l, t, p),
     }
 }
 
@@ -117,16 +128,22 @@ fn counted_end(
     requires before { Fits p.now }
     requires after { Fits after.now }
     ensures defined { IfOk result (λ s. s ≡ counted_end_is l.now t.now p.now after.now) }
-    ensures gives { IfOk result Fits }
+    ensures fits { IfOk result Fits }
 {
     let beyond = push_rows(alloc, p, unguard(alloc, l)?)?;
     let none = apply(alloc, &start(alloc, l)?, &beyond)?;
     let ended = apply(alloc, &next(alloc, l)?, after)?;
-    let some = if_stays(alloc, l, t, ended, past(alloc, l, Var::Cell(l.index))?)?;
+    let some = if_stays(
+        alloc,
+        l,
+        t,
+        ended,
+        beyond_last(alloc, l, Var::Cell(l.index))?,
+    )?;
     hull(alloc, &none, &some)
 }
 
-/// What holds after a DO with this turn, where `p` holds before it and `after` at the end of its body.
+/// What holds after a DO with this iteration, where `p` holds before it and `after` at the end of its body.
 pub fn after_loop(
     alloc: Global,
     l: &LoopParts,
@@ -138,7 +155,7 @@ pub fn after_loop(
     requires before { Fits p.now }
     requires after { Fits after.now }
     ensures defined { IfOk result (λ s. s ≡ after_loop_is l.now t.now p.now after.now) }
-    ensures gives { IfOk result Fits }
+    ensures fits { IfOk result Fits }
 {
     match l.step {
         None => without(alloc, t.cells.as_slice(), p),

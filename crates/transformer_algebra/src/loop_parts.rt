@@ -1,4 +1,4 @@
-//! What a DO consists of, and what is done before its first turn and at the end of each (ANSI X3.9-1978 §11.10.3 to §11.10.7).
+//! What a DO consists of, and what is done before its first iteration and at the end of each (ANSI X3.9-1978 §11.10.3 to §11.10.7).
 ghost use Rattle.std.specs.Prelude.{◌≡◌, IfOk, IfSome};
 ghost use Rattle.affine_systems.specs.Given.{Fits};
 ghost use Rattle.affine_forms.specs.Forms.{IsSmallForm};
@@ -38,7 +38,7 @@ fn own_cells(alloc: Global, l: &LoopParts) -> Result<List<u32>, Memory>
 fn index_becomes(alloc: Global, l: &LoopParts, form: &Option<Affine>) -> Result<Transformer, Memory>
     requires { IfSome form.now IsSmallForm }
     ensures defined { IfOk result (λ t. t ≡ index_becomes_is l.now form.now) }
-    ensures gives { IfOk result (λ t. Fits t.system) }
+    ensures fits { IfOk result (λ t. Fits t.system) }
 {
     let known = if l.tracked {
         exit_system(alloc, l.index, form)?
@@ -64,7 +64,7 @@ fn start_form(l: &LoopParts) -> Result<Option<Affine>, Memory>
     }
 }
 
-/// The form that the index is given after a turn.
+/// The form that the index is given after an iteration.
 fn next_form(alloc: Global, l: &LoopParts) -> Result<Option<Affine>, Memory>
     ensures defined { IfOk result (λ f. f ≡ next_form_is l.now) }
     ensures small { IfOk result (λ f. IfSome f IsSmallForm) }
@@ -89,7 +89,7 @@ fn next_form(alloc: Global, l: &LoopParts) -> Result<Option<Affine>, Memory>
 pub fn start(alloc: Global, l: &LoopParts) -> Result<Transformer, Memory>
     requires { LoopFits l.now }
     ensures defined { IfOk result (λ t. t ≡ start_is l.now) }
-    ensures gives { IfOk result (λ t. Fits t.system) }
+    ensures fits { IfOk result (λ t. Fits t.system) }
 {
     let form = start_form(l)?;
     index_becomes(alloc, l, &form)
@@ -98,7 +98,7 @@ pub fn start(alloc: Global, l: &LoopParts) -> Result<Transformer, Memory>
 /// The index becomes what it is and the step.
 pub fn next(alloc: Global, l: &LoopParts) -> Result<Transformer, Memory>
     ensures defined { IfOk result (λ t. t ≡ next_is l.now) }
-    ensures gives { IfOk result (λ t. Fits t.system) }
+    ensures fits { IfOk result (λ t. Fits t.system) }
 {
     let form = next_form(alloc, l)?;
     index_becomes(alloc, l, &form)

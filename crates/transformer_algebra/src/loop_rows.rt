@@ -4,7 +4,7 @@ ghost use Rattle.std.specs.Prelude.{◌≡◌, IfOk, IfSome};
 ghost use Rattle.affine_systems.specs.Rows.{AllRows};
 ghost use Rattle.affine_systems.specs.Given.{IsGiven};
 ghost use Rattle.affine_forms.specs.Forms.{IsSmallForm};
-ghost use Rattle.transformer_algebra.specs.Loops.{LoopFits, goes_up as goes_up_is, within_row as within_row_is, beyond_row as beyond_row_is, within_rows as within_rows_is, beyond_rows as beyond_rows_is, index_form as index_form_is, guard as guard_is, unguard as unguard_is, inside as inside_is, past as past_is};
+ghost use Rattle.transformer_algebra.specs.Loops.{LoopFits, goes_up as goes_up_is, within_row as within_row_is, beyond_row as beyond_row_is, within_rows as within_rows_is, beyond_rows as beyond_rows_is, index_form as index_form_is, guard as guard_is, unguard as unguard_is, inside as inside_is, beyond_last as beyond_last_is};
 
 use crate::LoopParts;
 use affine_forms::{Affine, at_most_row, below_row, var_form};
@@ -22,7 +22,7 @@ fn within_row(alloc: Global, step: i32, f: &Affine, g: &Affine) -> Result<Row, M
     requires first { IsSmallForm f.now }
     requires last { IsSmallForm g.now }
     ensures defined { IfOk result (λ r. r ≡ within_row_is step f.now g.now) }
-    ensures given { IfOk result IsGiven }
+    ensures fits { IfOk result IsGiven }
 {
     if goes_up(step) {
         at_most_row(alloc, f, g)
@@ -36,7 +36,7 @@ fn beyond_row(alloc: Global, step: i32, f: &Affine, g: &Affine) -> Result<Row, M
     requires first { IsSmallForm f.now }
     requires last { IsSmallForm g.now }
     ensures defined { IfOk result (λ r. r ≡ beyond_row_is step f.now g.now) }
-    ensures given { IfOk result IsGiven }
+    ensures fits { IfOk result IsGiven }
 {
     if goes_up(step) {
         below_row(alloc, g, f)
@@ -55,7 +55,7 @@ fn within_rows(
     requires first { IfSome f.now IsSmallForm }
     requires last { IfSome g.now IsSmallForm }
     ensures defined { IfOk result (λ rs. rs.items ≡ within_rows_is step.now f.now g.now) }
-    ensures given { IfOk result (λ rs. AllRows IsGiven rs.items) }
+    ensures fits { IfOk result (λ rs. AllRows IsGiven rs.items) }
 {
     let mut rows = Vec::new(alloc);
     if let (Some(step), Some(f), Some(g)) = (step, f, g) {
@@ -74,7 +74,7 @@ fn beyond_rows(
     requires first { IfSome f.now IsSmallForm }
     requires last { IfSome g.now IsSmallForm }
     ensures defined { IfOk result (λ rs. rs.items ≡ beyond_rows_is step.now f.now g.now) }
-    ensures given { IfOk result (λ rs. AllRows IsGiven rs.items) }
+    ensures fits { IfOk result (λ rs. AllRows IsGiven rs.items) }
 {
     let mut rows = Vec::new(alloc);
     if let (Some(step), Some(f), Some(g)) = (step, f, g) {
@@ -99,7 +99,7 @@ fn index_form(alloc: Global, l: &LoopParts, var: Var) -> Result<Option<Affine>, 
 pub fn guard(alloc: Global, l: &LoopParts) -> Result<Vec<Row>, Memory>
     requires { LoopFits l.now }
     ensures defined { IfOk result (λ rs. rs.items ≡ guard_is l.now) }
-    ensures given { IfOk result (λ rs. AllRows IsGiven rs.items) }
+    ensures fits { IfOk result (λ rs. AllRows IsGiven rs.items) }
 {
     within_rows(alloc, &l.step, &l.first, &l.last)
 }
@@ -108,7 +108,7 @@ pub fn guard(alloc: Global, l: &LoopParts) -> Result<Vec<Row>, Memory>
 pub fn unguard(alloc: Global, l: &LoopParts) -> Result<Vec<Row>, Memory>
     requires { LoopFits l.now }
     ensures defined { IfOk result (λ rs. rs.items ≡ unguard_is l.now) }
-    ensures given { IfOk result (λ rs. AllRows IsGiven rs.items) }
+    ensures fits { IfOk result (λ rs. AllRows IsGiven rs.items) }
 {
     beyond_rows(alloc, &l.step, &l.first, &l.last)
 }
@@ -117,17 +117,17 @@ pub fn unguard(alloc: Global, l: &LoopParts) -> Result<Vec<Row>, Memory>
 pub fn inside(alloc: Global, l: &LoopParts, var: Var) -> Result<Vec<Row>, Memory>
     requires { LoopFits l.now }
     ensures defined { IfOk result (λ rs. rs.items ≡ inside_is l.now var) }
-    ensures given { IfOk result (λ rs. AllRows IsGiven rs.items) }
+    ensures fits { IfOk result (λ rs. AllRows IsGiven rs.items) }
 {
     let index = index_form(alloc, l, var)?;
     within_rows(alloc, &l.step, &index, &l.last)
 }
 
 /// That a variable which stands for the index is beyond the last value.
-pub fn past(alloc: Global, l: &LoopParts, var: Var) -> Result<Vec<Row>, Memory>
+pub fn beyond_last(alloc: Global, l: &LoopParts, var: Var) -> Result<Vec<Row>, Memory>
     requires { LoopFits l.now }
-    ensures defined { IfOk result (λ rs. rs.items ≡ past_is l.now var) }
-    ensures given { IfOk result (λ rs. AllRows IsGiven rs.items) }
+    ensures defined { IfOk result (λ rs. rs.items ≡ beyond_last_is l.now var) }
+    ensures fits { IfOk result (λ rs. AllRows IsGiven rs.items) }
 {
     let index = index_form(alloc, l, var)?;
     beyond_rows(alloc, &l.step, &index, &l.last)

@@ -22,7 +22,7 @@ fn followed_from(
     requires first { Fits a.now.system }
     requires second { Fits b.now.system }
     ensures defined { IfOk result (λ s. s ≡ followed_from_is first a.now b.now) }
-    ensures gives { IfOk result Fits }
+    ensures fits { IfOk result Fits }
 {
     let again = b.cells.as_slice();
     let cells = a.cells.as_slice();
@@ -40,7 +40,7 @@ pub fn then(alloc: Global, a: &Transformer, b: &Transformer) -> Result<Transform
     requires first { Fits a.now.system }
     requires second { Fits b.now.system }
     ensures defined { IfOk result (λ t. t ≡ followed_is a.now b.now) }
-    ensures gives { IfOk result (λ t. Fits t.system) }
+    ensures fits { IfOk result (λ t. Fits t.system) }
 {
     let first = fresh_over(&a.system, &b.system, a.cells.len())?;
     Ok(Transformer {

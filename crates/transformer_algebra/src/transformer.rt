@@ -2,10 +2,10 @@
 ghost use Rattle.std.specs.Prelude.{◌≡◌, IfOk, IfSome};
 ghost use Rattle.affine_systems.specs.Given.{Fits};
 ghost use Rattle.affine_forms.specs.Forms.{IsSmallForm};
-ghost use Rattle.transformer_algebra.specs.Transformers.{unchanging as unchanging_is, nowhere as nowhere_is, test as test_is, forgotten as forgotten_is, exit_system as exit_system_is, assigned as assigned_is};
+ghost use Rattle.transformer_algebra.specs.Transformers.{unchanging as unchanging_is, nowhere as nowhere_is, test as test_is, forgotten as forgotten_is, exit_system as exit_system_is, assign as assign_is};
 
 use crate::joined_cells;
-use affine_forms::{Affine, no_rows, nothing, same_row, var_form};
+use affine_forms::{Affine, infeasible, no_rows, same_row, var_form};
 use affine_systems::{System, Var};
 use f77_symbols::Unit;
 use fx_lists::List;
@@ -26,7 +26,7 @@ pub struct Transformer {
 pub fn test(alloc: Global, system: System) -> Transformer
     requires { Fits system }
     ensures defined { result ≡ test_is system }
-    ensures gives { Fits result.system }
+    ensures fits { Fits result.system }
 {
     Transformer {
         cells: List::new(alloc),
@@ -38,7 +38,7 @@ pub fn test(alloc: Global, system: System) -> Transformer
 /// Nothing changes.
 pub fn unchanging(alloc: Global) -> Transformer
     ensures defined { result ≡ unchanging_is }
-    ensures gives { Fits result.system }
+    ensures fits { Fits result.system }
 {
     test(alloc, no_rows(alloc))
 }
@@ -46,16 +46,16 @@ pub fn unchanging(alloc: Global) -> Transformer
 /// Of a statement that never ends normally.
 pub fn nowhere(alloc: Global) -> Result<Transformer, Memory>
     ensures defined { IfOk result (λ t. t ≡ nowhere_is) }
-    ensures gives { IfOk result (λ t. Fits t.system) }
+    ensures fits { IfOk result (λ t. Fits t.system) }
 {
-    let system = nothing(alloc)?;
+    let system = infeasible(alloc)?;
     Ok(test(alloc, system))
 }
 
 /// Nothing is known of these cells afterwards.
 pub fn forgotten(alloc: Global, cells: &[u32]) -> Result<Transformer, Memory>
     ensures defined { IfOk result (λ t. t ≡ forgotten_is cells.now) }
-    ensures gives { IfOk result (λ t. Fits t.system) }
+    ensures fits { IfOk result (λ t. Fits t.system) }
 {
     Ok(Transformer {
         cells: joined_cells(alloc, cells, &[])?,
@@ -69,7 +69,7 @@ pub fn forgotten(alloc: Global, cells: &[u32]) -> Result<Transformer, Memory>
 pub fn exit_system(alloc: Global, cell: u32, form: &Option<Affine>) -> Result<System, Memory>
     requires { IfSome form.now IsSmallForm }
     ensures defined { IfOk result (λ s. s ≡ exit_system_is cell form.now) }
-    ensures gives { IfOk result Fits }
+    ensures fits { IfOk result Fits }
 {
     match form {
         None => Ok(no_rows(alloc)),
@@ -84,10 +84,10 @@ pub fn exit_system(alloc: Global, cell: u32, form: &Option<Affine>) -> Result<Sy
 }
 
 /// The cell becomes the value of an expression of this form.
-pub fn assigned(alloc: Global, cell: u32, form: &Option<Affine>) -> Result<Transformer, Memory>
+pub fn assign(alloc: Global, cell: u32, form: &Option<Affine>) -> Result<Transformer, Memory>
     requires { IfSome form.now IsSmallForm }
-    ensures defined { IfOk result (λ t. t ≡ assigned_is cell form.now) }
-    ensures gives { IfOk result (λ t. Fits t.system) }
+    ensures defined { IfOk result (λ t. t ≡ assign_is cell form.now) }
+    ensures fits { IfOk result (λ t. Fits t.system) }
 {
     let mut cells = List::new(alloc);
     cells.push(cell)?;

@@ -1,3 +1,4 @@
 pub mod Steps
 pub mod StatementLaws
 pub mod WhatLaws
+pub mod PartLaws

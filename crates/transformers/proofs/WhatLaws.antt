@@ -14,7 +14,7 @@ use Rattle.affine_forms.specs.Conditions.{no_rows, condition_of}
 use Rattle.transformer_algebra.specs.declared.transformer.Transformer.{Transformer}
 use Rattle.transformer_algebra.specs.declared.loop_parts.LoopParts.{LoopParts}
 use Rattle.transformer_algebra.specs.Transformers.{unchanging, one_of}
-use Rattle.transformer_algebra.specs.Loops.{turn, loop_transformer}
+use Rattle.transformer_algebra.specs.Loops.{iteration, loop_transformer}
 use Rattle.call_translation.specs.Scopes.{ScopeTree}
 use Rattle.transformers.specs.Given.{Callees}
 use Rattle.transformers.specs.Loops.{loop_parts}
@@ -40,7 +40,7 @@ block_if-made arms other m cs last ts b t e f g =
 
 -- ---- a DO
 
-pub parts-made : (l : LoopParts) (once : Transformer) → once ≡ turn l → loop_transformer l once ≡ parts_do l
+pub parts-made : (l : LoopParts) (once : Transformer) → once ≡ iteration l → loop_transformer l once ≡ parts_do l
 parts-made l once e = ap (λ (z : Transformer). loop_transformer l z) e
 
 pub body-made : (l : Loop) (m : ScopeTree) (cs : Callees) → list_transformer (stmt_trees (out-Loop l).body) m cs false ≡ body_transformer (loop_tree l) m cs

@@ -3,6 +3,8 @@ use Rattle.std.specs.Prelude.{ℕ, Bool, true, false, not, ◌&&◌, ◌||◌, L
 use Rattle.f77_ast.specs.Trees.{StmtTree, WhatTree, ArmTree, ArmTrees, ElseTree, LoopTree, StmtTrees}
 use Rattle.f77_ast.specs.Trees as tree
 use Rattle.transformer_algebra.specs.Cells.{has}
+use Rattle.transformers.specs.declared.jumps.Sought.{Sought}
+use Rattle.transformers.specs.declared.jumps.Sought.TheVariants.{Jump, Return}
 
 -- ---- a statement among others
 
@@ -84,6 +86,11 @@ is_return tree.return = true
 is_return (tree.stop text) = false
 is_return (tree.print es) = false
 is_return (tree.read es) = false
+
+-- what the code looks for
+abbrev pub such_of : Sought → WhatTree → Bool
+such_of (Jump ls) w = goes_to ls.now w
+such_of Return w = is_return w
 
 abbrev pub is_end : StmtTrees → Bool
 is_end tree.no_stmts = true

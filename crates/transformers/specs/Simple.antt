@@ -6,12 +6,12 @@ use Rattle.affine_forms.specs.declared.affine.Affine.{Affine}
 use Rattle.affine_forms.specs.Scalars.{Scalars}
 use Rattle.affine_forms.specs.Forms.{affine_of}
 use Rattle.transformer_algebra.specs.declared.transformer.Transformer.{Transformer}
-use Rattle.transformer_algebra.specs.Transformers.{unchanging, forgotten, assigned}
+use Rattle.transformer_algebra.specs.Transformers.{unchanging, forgotten, assign}
 use Rattle.call_translation.specs.Actuals.{named_cell, one_cell}
 
 abbrev pub becomes : Option ℕ → Option Affine → Transformer
 becomes None f = unchanging
-becomes (Some c) f = assigned c f
+becomes (Some c) f = assign c f
 
 -- the left side becomes the right one
 abbrev pub assignment : Scalars → ExprTree → ExprTree → Transformer

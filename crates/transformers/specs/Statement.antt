@@ -10,7 +10,7 @@ use Rattle.affine_forms.specs.Conditions.{no_rows, condition_of}
 use Rattle.transformer_algebra.specs.declared.transformer.Transformer.{Transformer}
 use Rattle.transformer_algebra.specs.declared.loop_parts.LoopParts.{LoopParts}
 use Rattle.transformer_algebra.specs.Transformers.{test, unchanging, nowhere, followed, one_of}
-use Rattle.transformer_algebra.specs.Loops.{turn, loop_transformer}
+use Rattle.transformer_algebra.specs.Loops.{iteration, loop_transformer}
 use Rattle.call_translation.specs.Scopes.{ScopeTree, scope_tree}
 use Rattle.call_translation.specs.Summary.{call_transformer}
 use Rattle.transformers.specs.declared.statement.Known.{Known}
@@ -30,7 +30,7 @@ callees_in k = summary_in k.callees.now
 
 -- a DO with these parts
 abbrev pub parts_do : LoopParts → Transformer
-parts_do l = loop_transformer l (turn l)
+parts_do l = loop_transformer l (iteration l)
 
 -- where a system holds, as t does
 abbrev pub where_holds : System → Transformer → Transformer

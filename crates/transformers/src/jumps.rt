@@ -1,35 +1,20 @@
 //! Lists of statements that do not run from the first to the last.
-ghost use Rattle.std.specs.Prelude.{◌≡◌, IfOk, map};
-ghost use Rattle.f77_ast.specs.PlainStmt.{stmt_tree, stmt_trees, what_tree, loop_tree, arm_trees};
-ghost use Rattle.transformers.specs.Jumps.{goes_to, is_return, is_end, stmt_has, parts_have, list_has, arms_have, loop_has, labels as labels_is, returns_early, early_return, unstructured};
+ghost use Rattle.std.specs.Prelude.{◌≡◌, IfOk};
+ghost use Rattle.f77_ast.specs.PlainStmt.{stmt_tree, stmt_trees, what_tree, arm_trees};
+ghost use Rattle.transformers.specs.Jumps.{such_of, goes_to, is_return, is_end, stmt_has, parts_have, list_has, arms_have, labels as labels_is, returns_early, early_return, unstructured};
 
-use f77_ast::{Arm, Loop, Stmt, What};
+use f77_ast::{Arm, Shape, Stmt, What, shape_of};
 use fx_lists::List;
 use std::alloc::{AllocError as Memory, Global};
 use transformer_algebra::has;
 
-/// Whether a GO TO one of some labels is a part of a statement.
-#[cycle(jumps)]
-#[tactic(auto, using(f77_ast::proofs::PlainlyStmt::what_calls))]
-fn parts_jump(labels: &[u32], what: &What) -> bool
-    ensures { result ≡ parts_have (goes_to labels.now) (what_tree what.now) }
-{
-    match what {
-        What::If(arms, other) => match other {
-            None => arms_jump(labels, arms),
-            Some(body) => arms_jump(labels, arms) || list_jumps(labels, body),
-        },
-        What::LogicalIf(_, s) => stmt_jumps(labels, s),
-        What::Do(l) => loop_jumps(labels, l),
-        What::Assign(..)
-        | What::Call(..)
-        | What::Goto(_)
-        | What::Continue
-        | What::Return
-        | What::Stop(_)
-        | What::Print(_)
-        | What::Read(_) => false,
-    }
+/// What is looked for among statements.
+#[derive(Drop)]
+pub enum Sought<'a> {
+    /// A GO TO one of these labels (ANSI X3.9-1978 §11.1).
+    Jump(&'a [u32]),
+    /// A RETURN (§15.8).
+    Return,
 }
 
 #[tactic(auto, using(f77_ast::proofs::PlainlyStmt::what_cases))]
@@ -43,72 +28,6 @@ fn goes(labels: &[u32], what: &What) -> bool
         | What::LogicalIf(..)
         | What::Do(_)
         | What::Call(..)
-        | What::Continue
-        | What::Return
-        | What::Stop(_)
-        | What::Print(_)
-        | What::Read(_) => false,
-    }
-}
-
-#[cycle(jumps)]
-#[tactic(auto, using(f77_ast::proofs::PlainlyStmt::what_calls))]
-fn stmt_jumps(labels: &[u32], s: &Stmt) -> bool
-    ensures { result ≡ stmt_has (goes_to labels.now) (stmt_tree s.now) }
-{
-    goes(labels, &s.what) || parts_jump(labels, &s.what)
-}
-
-#[cycle(jumps)]
-#[tactic(auto, using(f77_ast::proofs::PlainlyStmt::list_calls))]
-fn list_jumps(labels: &[u32], list: &List<Stmt>) -> bool
-    ensures { result ≡ list_has (goes_to labels.now) (stmt_trees list.now) }
-{
-    for s in list.as_slice() {
-        if stmt_jumps(labels, s) {
-            return true;
-        }
-    }
-    false
-}
-
-#[cycle(jumps)]
-#[tactic(auto, using(f77_ast::proofs::PlainlyStmt::arm_calls))]
-fn arms_jump(labels: &[u32], arms: &List<Arm>) -> bool
-    ensures { result ≡ arms_have (goes_to labels.now) (arm_trees arms.now) }
-{
-    for arm in arms.as_slice() {
-        if list_jumps(labels, &arm.body) {
-            return true;
-        }
-    }
-    false
-}
-
-#[cycle(jumps)]
-#[tactic(auto, using(f77_ast::proofs::PlainlyStmt::loop_calls))]
-fn loop_jumps(labels: &[u32], l: &Loop) -> bool
-    ensures { result ≡ loop_has (goes_to labels.now) (loop_tree l.now) }
-{
-    list_jumps(labels, &l.body)
-}
-
-/// Whether a RETURN is a part of a statement.
-#[cycle(returns)]
-#[tactic(auto, using(f77_ast::proofs::PlainlyStmt::what_calls))]
-fn parts_return(what: &What) -> bool
-    ensures { result ≡ parts_have is_return (what_tree what.now) }
-{
-    match what {
-        What::If(arms, other) => match other {
-            None => arms_return(arms),
-            Some(body) => arms_return(arms) || list_returns(body),
-        },
-        What::LogicalIf(_, s) => stmt_returns(s),
-        What::Do(l) => loop_returns(l),
-        What::Assign(..)
-        | What::Call(..)
-        | What::Goto(_)
         | What::Continue
         | What::Return
         | What::Stop(_)
@@ -136,46 +55,65 @@ fn is_return(what: &What) -> bool
     }
 }
 
-#[cycle(returns)]
-#[tactic(auto, using(f77_ast::proofs::PlainlyStmt::what_calls))]
-fn stmt_returns(s: &Stmt) -> bool
-    ensures { result ≡ stmt_has is_return (stmt_tree s.now) }
+/// Whether a statement is what is looked for.
+fn is_sought(sought: &Sought<'_>, what: &What) -> bool
+    ensures { result ≡ such_of sought.now (what_tree what.now) }
 {
-    is_return(&s.what) || parts_return(&s.what)
+    match sought {
+        Sought::Jump(labels) => goes(labels, what),
+        Sought::Return => is_return(what),
+    }
 }
 
-#[cycle(returns)]
+/// Whether a part of a statement is what is looked for.
+#[cycle(parts)]
+#[tactic(auto, using(crate::proofs::PartLaws::part_calls))]
+fn parts_have(sought: &Sought<'_>, what: &What) -> bool
+    ensures { result ≡ parts_have (such_of sought.now) (what_tree what.now) }
+{
+    match shape_of(what) {
+        Shape::Leaf => false,
+        Shape::Inner(_, s) => stmt_has(sought, s),
+        Shape::Body(l) => list_has(sought, &l.body),
+        Shape::Arms(arms, other) => match other {
+            None => arms_have(sought, arms),
+            Some(body) => arms_have(sought, arms) || list_has(sought, body),
+        },
+    }
+}
+
+#[cycle(parts)]
+#[tactic(auto, using(crate::proofs::PartLaws::part_calls))]
+fn stmt_has(sought: &Sought<'_>, s: &Stmt) -> bool
+    ensures { result ≡ stmt_has (such_of sought.now) (stmt_tree s.now) }
+{
+    is_sought(sought, &s.what) || parts_have(sought, &s.what)
+}
+
+#[cycle(parts)]
 #[tactic(auto, using(f77_ast::proofs::PlainlyStmt::list_calls))]
-fn list_returns(list: &List<Stmt>) -> bool
-    ensures { result ≡ list_has is_return (stmt_trees list.now) }
+fn list_has(sought: &Sought<'_>, list: &List<Stmt>) -> bool
+    ensures { result ≡ list_has (such_of sought.now) (stmt_trees list.now) }
 {
     for s in list.as_slice() {
-        if stmt_returns(s) {
+        if stmt_has(sought, s) {
             return true;
         }
     }
     false
 }
 
-#[cycle(returns)]
+#[cycle(parts)]
 #[tactic(auto, using(f77_ast::proofs::PlainlyStmt::arm_calls))]
-fn arms_return(arms: &List<Arm>) -> bool
-    ensures { result ≡ arms_have is_return (arm_trees arms.now) }
+fn arms_have(sought: &Sought<'_>, arms: &List<Arm>) -> bool
+    ensures { result ≡ arms_have (such_of sought.now) (arm_trees arms.now) }
 {
     for arm in arms.as_slice() {
-        if list_returns(&arm.body) {
+        if list_has(sought, &arm.body) {
             return true;
         }
     }
     false
-}
-
-#[cycle(returns)]
-#[tactic(auto, using(f77_ast::proofs::PlainlyStmt::loop_calls))]
-fn loop_returns(l: &Loop) -> bool
-    ensures { result ≡ loop_has is_return (loop_tree l.now) }
-{
-    list_returns(&l.body)
 }
 
 /// Whether there is no statement.
@@ -192,7 +130,7 @@ pub fn is_end(list: &[Stmt]) -> bool
 fn returns_early(last: bool, s: &Stmt) -> bool
     ensures { result ≡ returns_early last (stmt_tree s.now) }
 {
-    parts_return(&s.what) || (is_return(&s.what) && !last)
+    parts_have(&Sought::Return, &s.what) || (is_return(&s.what) && !last)
 }
 
 /// Whether there is a RETURN that is not the last statement of a list.
@@ -231,5 +169,6 @@ pub fn is_unstructured(alloc: Global, list: &List<Stmt>, whole: bool) -> Result<
     ensures { IfOk result (λ b. b ≡ unstructured whole (stmt_trees list.now)) }
 {
     let labels = labels_in(alloc, list.as_slice())?;
-    Ok(list_jumps(labels.as_slice(), list) || (whole && early_return(list.as_slice())))
+    let jump = Sought::Jump(labels.as_slice());
+    Ok(list_has(&jump, list) || (whole && early_return(list.as_slice())))
 }

@@ -47,7 +47,7 @@ pub fn push_transformer(all: &mut Vec<Transformer>, t: Transformer) -> Result<()
     requires all { AllFit all.old.items }
     requires t { Fits t.system }
     ensures items { OnOk result (all.new.items ≡ all.old.items ++ t ∷ []) }
-    ensures gives { OnOk result (AllFit all.new.items) }
+    ensures fits { OnOk result (AllFit all.new.items) }
 {
     all.push(t)?;
     Ok(())
@@ -62,7 +62,7 @@ fn followed_by(
     requires first { Fits first.system }
     requires all { AllFit all.now }
     ensures defined { IfOk result (λ t. t ≡ followed_by first all.now) }
-    ensures gives { IfOk result (λ t. Fits t.system) }
+    ensures fits { IfOk result (λ t. Fits t.system) }
 {
     let mut whole = first;
     let mut rest = all;
@@ -77,7 +77,7 @@ fn followed_by(
 fn in_order(alloc: Global, all: &[Transformer]) -> Result<Transformer, Memory>
     requires { AllFit all.now }
     ensures defined { IfOk result (λ t. t ≡ in_order_is all.now) }
-    ensures gives { IfOk result (λ t. Fits t.system) }
+    ensures fits { IfOk result (λ t. Fits t.system) }
 {
     match all {
         [] => Ok(unchanging(alloc)),
@@ -91,7 +91,7 @@ fn in_order(alloc: Global, all: &[Transformer]) -> Result<Transformer, Memory>
 /// Each any number of times, in any order. Each cell is looked up among those before it.
 fn in_any_order(alloc: Global, all: &[Transformer]) -> Result<Transformer, Memory>
     ensures defined { IfOk result (λ t. t ≡ in_any_order_is all.now) }
-    ensures gives { IfOk result (λ t. Fits t.system) }
+    ensures fits { IfOk result (λ t. Fits t.system) }
 {
     let mut cells = List::new(alloc);
     let mut foreign = List::new(alloc);
@@ -117,7 +117,7 @@ pub fn list_of(
 ) -> Result<Transformer, Memory>
     requires { AllFit all.now }
     ensures defined { IfOk result (λ t. t ≡ list_of_is whole (stmt_trees list.now) all.now) }
-    ensures gives { IfOk result (λ t. Fits t.system) }
+    ensures fits { IfOk result (λ t. Fits t.system) }
 {
     if is_unstructured(alloc, list, whole)? {
         in_any_order(alloc, all)
@@ -174,7 +174,7 @@ pub fn transformer_at(
 ) -> Result<Transformer, Memory>
     requires { ResultsFit all.now }
     ensures defined { IfOk result (λ t. t ≡ transformer_at_is all.now id) }
-    ensures gives { IfOk result (λ t. Fits t.system) }
+    ensures fits { IfOk result (λ t. Fits t.system) }
 {
     match value_at(all, id) {
         None => Ok(unchanging(alloc)),
@@ -192,7 +192,7 @@ pub fn list_at(
 ) -> Result<Transformer, Memory>
     requires { ResultsFit at.now }
     ensures defined { IfOk result (λ t. t ≡ list_at_is (transformer_at_is at.now) whole (stmt_trees list.now)) }
-    ensures gives { IfOk result (λ t. Fits t.system) }
+    ensures fits { IfOk result (λ t. Fits t.system) }
 {
     let mut all = Vec::new(alloc);
     let mut rest = list.as_slice();
@@ -215,7 +215,7 @@ pub fn list_transformer(
 ) -> Result<Transformer, Memory>
     requires { ResultsFit at.now }
     ensures defined { IfOk result (λ t. t ≡ list_at_is (transformer_at_is at.now) whole (stmt_trees list.now)) }
-    ensures gives { IfOk result (λ t. Fits t.system) }
+    ensures fits { IfOk result (λ t. Fits t.system) }
 {
     list_at(alloc, list, whole, at)
 }

@@ -11,11 +11,11 @@ ghost use Rattle.transformers.specs.Modules.{goes_out as goes_out_is, hidden_var
 
 use crate::statement::{Known, with_list};
 use affine_systems::{System, Var};
-use call_translation::{Scope, add_rows, tracked_of};
+use call_translation::{Scope, tracked_of};
 use f77_results::{EffectSet, Results, Summaries, View};
 use f77_symbols::{Place, Symbols};
 use fx_lists::List;
-use hull_projection::project;
+use hull_projection::{add_rows, project};
 use std::alloc::{AllocError as Memory, Global};
 use transformer_algebra::Transformer;
 
@@ -80,7 +80,7 @@ fn seen_cells(alloc: Global, symbols: &Symbols, cells: &[u32]) -> Result<List<u3
 fn summary_of(alloc: Global, symbols: &Symbols, whole: Transformer) -> Result<Transformer, Memory>
     requires { Fits whole.system }
     ensures defined { IfOk result (λ t. t ≡ summary_of_is (map symbol_tree symbols.now) whole) }
-    ensures gives { IfOk result (λ t. Fits t.system) }
+    ensures fits { IfOk result (λ t. Fits t.system) }
 {
     let hidden = hidden_vars(alloc, symbols, &whole.system)?;
     Ok(Transformer {
@@ -101,7 +101,7 @@ pub fn transformers(
 ) -> Result<Results<Transformer>, Memory>
     requires { CalleesFit (summary_in callees.now) }
     ensures defined { IfOk result (λ r. r ≡ transformers_of (stmt_trees view.now.«module».now.body) (scope_of view.now.«module».now view.now.symbols.now view.now.graph.now.untracked) (summary_in callees.now)) }
-    ensures gives { IfOk result (λ r. ResultsFit r.at × Fits r.summary.system) }
+    ensures fits { IfOk result (λ r. ResultsFit r.at × Fits r.summary.system) }
 {
     let tracked = tracked_of(alloc, view)?;
     let scope = Scope {

@@ -1,9 +1,8 @@
 //! Transformers of assignments and READs.
-ghost use Rattle.std.specs.Prelude.{◌≡◌, ◌++◌, map, IfOk, OnOk};
+ghost use Rattle.std.specs.Prelude.{◌≡◌, ◌++◌, IfOk};
 ghost use Rattle.affine_systems.specs.Given.{Fits};
 ghost use Rattle.f77_ast.specs.Plain.{expr_tree, expr_trees};
 ghost use Rattle.affine_forms.specs.Scalars.{scalars};
-ghost use Rattle.call_translation.specs.Actuals.{named_cell as named_cell_is, one_cell};
 ghost use Rattle.transformers.specs.Simple.{assignment as assignment_is, named_cells as named_cells_is, reading as reading_is};
 
 use affine_forms::affine_of;
@@ -11,7 +10,7 @@ use call_translation::{Scope, named_cell, push_cell};
 use f77_ast::Expr;
 use fx_lists::List;
 use std::alloc::{AllocError as Memory, Global};
-use transformer_algebra::{Transformer, assigned, forgotten, unchanging};
+use transformer_algebra::{Transformer, assign, forgotten, unchanging};
 
 /// Of an assignment: nothing changes where the left side is no tracked cell.
 pub fn assignment(
@@ -21,13 +20,13 @@ pub fn assignment(
     right: &Expr,
 ) -> Result<Transformer, Memory>
     ensures defined { IfOk result (λ t. t ≡ assignment_is (scalars scope.now.symbols.now scope.now.tracked.now) (expr_tree left.now) (expr_tree right.now)) }
-    ensures gives { IfOk result (λ t. Fits t.system) }
+    ensures fits { IfOk result (λ t. Fits t.system) }
 {
     match named_cell(scope, left) {
         None => Ok(unchanging(alloc)),
         Some(cell) => {
             let form = affine_of(alloc, scope.symbols, scope.tracked, right)?;
-            assigned(alloc, cell, &form)
+            assign(alloc, cell, &form)
         }
     }
 }
@@ -46,7 +45,7 @@ fn named_cells(alloc: Global, scope: &Scope<'_>, items: &[Expr]) -> Result<Vec<u
 /// Of a READ: nothing is known of what is read.
 pub fn reading(alloc: Global, scope: &Scope<'_>, items: &List<Expr>) -> Result<Transformer, Memory>
     ensures defined { IfOk result (λ t. t ≡ reading_is (scalars scope.now.symbols.now scope.now.tracked.now) (expr_trees items.now)) }
-    ensures gives { IfOk result (λ t. Fits t.system) }
+    ensures fits { IfOk result (λ t. Fits t.system) }
 {
     let cells = named_cells(alloc, scope, items.as_slice())?;
     forgotten(alloc, cells.as_slice())

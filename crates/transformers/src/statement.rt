@@ -24,7 +24,7 @@ use f77_results::{At, Summaries};
 use fx_lists::List;
 use std::alloc::{AllocError as Memory, Global};
 use transformer_algebra::{
-    LoopParts, Transformer, loop_transformer, nowhere, one_of, test, then, turn, unchanging,
+    LoopParts, Transformer, iteration, loop_transformer, nowhere, one_of, test, then, unchanging,
 };
 
 /// What is known around a statement: what its module is looked at with, and the summaries of what it calls.
@@ -43,7 +43,7 @@ fn push_result(found: &mut Found, id: StmtId, value: Transformer) -> Result<(), 
     requires results { ResultsFit found.old }
     requires value { Fits value.system }
     ensures added { OnOk result (found.new ≡ found.old ++ at id value ∷ []) }
-    ensures fit { OnOk result (ResultsFit found.new) }
+    ensures results_fit { OnOk result (ResultsFit found.new) }
 {
     found.push(At { id, value })?;
     Ok(())
@@ -62,10 +62,10 @@ fn stmt_transformer(
 ) -> Result<Transformer, Memory>
     requires callees { CalleesFit (callees_in known.now) }
     requires results { ResultsFit at.old }
-    ensures value { IfOk result (λ t. t ≡ stmt_transformer_is (stmt_tree s.now) (scope_in known.now) (callees_in known.now) last) }
-    ensures gives { IfOk result (λ t. Fits t.system) }
+    ensures defined { IfOk result (λ t. t ≡ stmt_transformer_is (stmt_tree s.now) (scope_in known.now) (callees_in known.now) last) }
+    ensures fits { IfOk result (λ t. Fits t.system) }
     ensures added { IfOk result (λ _. at.new ≡ at.old ++ at_stmt (stmt_tree s.now) (scope_in known.now) (callees_in known.now) last) }
-    ensures fit { IfOk result (λ _. ResultsFit at.new) }
+    ensures results_fit { IfOk result (λ _. ResultsFit at.new) }
 {
     let place = at.len();
     push_result(at, s.id, unchanging(alloc))?;
@@ -86,10 +86,10 @@ fn what_transformer(
 ) -> Result<Transformer, Memory>
     requires callees { CalleesFit (callees_in known.now) }
     requires results { ResultsFit at.old }
-    ensures value { IfOk result (λ t. t ≡ what_transformer_is (what_tree what.now) (scope_in known.now) (callees_in known.now) last) }
-    ensures gives { IfOk result (λ t. Fits t.system) }
+    ensures defined { IfOk result (λ t. t ≡ what_transformer_is (what_tree what.now) (scope_in known.now) (callees_in known.now) last) }
+    ensures fits { IfOk result (λ t. Fits t.system) }
     ensures added { IfOk result (λ _. at.new ≡ at.old ++ at_parts (what_tree what.now) (scope_in known.now) (callees_in known.now)) }
-    ensures fit { IfOk result (λ _. ResultsFit at.new) }
+    ensures results_fit { IfOk result (λ _. ResultsFit at.new) }
 {
     match what {
         What::Assign(a, b) => assignment(alloc, known.scope, a, b),
@@ -129,7 +129,7 @@ fn where_holds(alloc: Global, system: System, does: &Transformer) -> Result<Tran
     requires system { Fits system }
     requires does { Fits does.now.system }
     ensures defined { IfOk result (λ t. t ≡ where_holds system does.now) }
-    ensures gives { IfOk result (λ t. Fits t.system) }
+    ensures fits { IfOk result (λ t. Fits t.system) }
 {
     then(alloc, &test(alloc, system), does)
 }
@@ -143,7 +143,7 @@ fn if_transformer(
 ) -> Result<Transformer, Memory>
     requires { Fits does.now.system }
     ensures defined { IfOk result (λ t. t ≡ if_does (scope_tree scope.now.symbols.now scope.now.tracked.now) (expr_tree e.now) does.now) }
-    ensures gives { IfOk result (λ t. Fits t.system) }
+    ensures fits { IfOk result (λ t. Fits t.system) }
 {
     let condition = condition_of(alloc, scope.symbols, scope.tracked, e)?;
     let before = no_rows(alloc);
@@ -175,10 +175,10 @@ pub fn with_list(
 ) -> Result<Transformer, Memory>
     requires callees { CalleesFit (callees_in known.now) }
     requires results { ResultsFit at.old }
-    ensures value { IfOk result (λ t. t ≡ list_transformer_is (stmt_trees list.now) (scope_in known.now) (callees_in known.now) whole) }
-    ensures gives { IfOk result (λ t. Fits t.system) }
+    ensures defined { IfOk result (λ t. t ≡ list_transformer_is (stmt_trees list.now) (scope_in known.now) (callees_in known.now) whole) }
+    ensures fits { IfOk result (λ t. Fits t.system) }
     ensures added { IfOk result (λ _. at.new ≡ at.old ++ at_list (stmt_trees list.now) (scope_in known.now) (callees_in known.now) whole) }
-    ensures fit { IfOk result (λ _. ResultsFit at.new) }
+    ensures results_fit { IfOk result (λ _. ResultsFit at.new) }
 {
     let mut all = Vec::new(alloc);
     let statements = list.as_slice();
@@ -208,11 +208,11 @@ fn arm_transformers(
 ) -> Result<Tried, Memory>
     requires callees { CalleesFit (callees_in known.now) }
     requires results { ResultsFit at.old }
-    ensures value { IfOk result (λ r. r.all.items ≡ arm_transformers_is (arm_trees arms.now) (scope_in known.now) (callees_in known.now) no_rows_is) }
+    ensures defined { IfOk result (λ r. r.all.items ≡ arm_transformers_is (arm_trees arms.now) (scope_in known.now) (callees_in known.now) no_rows_is) }
     ensures before { IfOk result (λ r. r.before ≡ without_arms (arm_trees arms.now) (scope_in known.now) no_rows_is) }
-    ensures gives { IfOk result (λ r. AllFit r.all.items × Fits r.before) }
+    ensures fits { IfOk result (λ r. AllFit r.all.items × Fits r.before) }
     ensures added { IfOk result (λ _. at.new ≡ at.old ++ at_arms (arm_trees arms.now) (scope_in known.now) (callees_in known.now)) }
-    ensures fit { IfOk result (λ _. ResultsFit at.new) }
+    ensures results_fit { IfOk result (λ _. ResultsFit at.new) }
 {
     let scope = known.scope;
     let mut all = Vec::new(alloc);
@@ -233,7 +233,7 @@ fn choice(alloc: Global, tried: Tried, other: &Transformer) -> Result<Transforme
     requires arms { AllFit tried.all.items × Fits tried.before }
     requires other { Fits other.now.system }
     ensures defined { IfOk result (λ t. t ≡ choice tried.all.items tried.before other.now) }
-    ensures gives { IfOk result (λ t. Fits t.system) }
+    ensures fits { IfOk result (λ t. Fits t.system) }
 {
     let Tried { mut all, before } = tried;
     let t = where_holds(alloc, before, other)?;
@@ -245,9 +245,9 @@ fn choice(alloc: Global, tried: Tried, other: &Transformer) -> Result<Transforme
 fn parts_do(alloc: Global, l: &LoopParts) -> Result<Transformer, Memory>
     requires { LoopFits l.now }
     ensures defined { IfOk result (λ t. t ≡ parts_do l.now) }
-    ensures gives { IfOk result (λ t. Fits t.system) }
+    ensures fits { IfOk result (λ t. Fits t.system) }
 {
-    let once = turn(alloc, l)?;
+    let once = iteration(alloc, l)?;
     loop_transformer(alloc, l, &once)
 }
 
@@ -262,10 +262,10 @@ fn loop_does(
 ) -> Result<Transformer, Memory>
     requires callees { CalleesFit (callees_in known.now) }
     requires results { ResultsFit at.old }
-    ensures value { IfOk result (λ t. t ≡ parts_do (loop_parts_is (scope_in known.now) (loop_tree l.now) (body_transformer (loop_tree l.now) (scope_in known.now) (callees_in known.now)))) }
-    ensures gives { IfOk result (λ t. Fits t.system) }
+    ensures defined { IfOk result (λ t. t ≡ parts_do (loop_parts_is (scope_in known.now) (loop_tree l.now) (body_transformer (loop_tree l.now) (scope_in known.now) (callees_in known.now)))) }
+    ensures fits { IfOk result (λ t. Fits t.system) }
     ensures added { IfOk result (λ _. at.new ≡ at.old ++ at_loop (loop_tree l.now) (scope_in known.now) (callees_in known.now)) }
-    ensures fit { IfOk result (λ _. ResultsFit at.new) }
+    ensures results_fit { IfOk result (λ _. ResultsFit at.new) }
 {
     let body = with_list(alloc, known, &l.body, false, at)?;
     let parts = loop_parts(alloc, known.scope, l, body)?;

@@ -4,8 +4,8 @@ use Rattle.affine_forms.proofs.RowLaws.{difference_given}
 use Rattle.affine_forms.proofs.SmallLaws.{unchanged}
 use Rattle.affine_forms.proofs.rows.same_row.Goals as goal
 
-pub returns-clause-given : goal.returns-clause-given
-returns-clause-given c =
-    let b = c.above-bound.ensures.below in
-    difference_given true _ (to_z w128 (of_z w128 c.above-bound.result)) c.args.left.now c.args.right.now c.in_ok-terms.ensures c.requires.left c.requires.right
-    (subst (λ z. unsigned_abs z < 2 ^ 126) (sym (unchanged c.above-bound.result b)) b)
+pub returns-clause-fits : goal.returns-clause-fits
+returns-clause-fits c =
+    let b = c.bound_difference-bound.ensures.below in
+    difference_given true _ (to_z w128 (of_z w128 c.bound_difference-bound.result)) c.args.left.now c.args.right.now c.in_ok-terms.ensures c.requires.left c.requires.right
+    (subst (λ z. unsigned_abs z < 2 ^ 126) (sym (unchanged c.bound_difference-bound.result b)) b)

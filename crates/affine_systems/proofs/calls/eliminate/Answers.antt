@@ -23,8 +23,8 @@ returns-clause-gone c =
     let r : c.in_ok-rows_of.field-0 ≡ (eliminate c.args.sys.now c.args.var).system.rows = c.in_ok-rows_of.ensures ∙ ap (λ (e : Eliminated). rows_of e.items) d in
     subst (Lacks c.args.var) (sym r) (eliminate_gone c.args.sys.now c.args.var)
 
-pub returns-clause-keeps : goal.returns-clause-keeps
-returns-clause-keeps c p x h =
+pub returns-clause-sound : goal.returns-clause-sound
+returns-clause-sound c p x h =
     let i : c.in_ok-items.items ≡ items_from 0 c.args.sys.now.rows = c.in_ok-items.ensures ∙ ap (items_from 0) (c.in_ok-rows.ensures ∙ c.as_slice.ensures) in
     let d : c.in_ok-e.e ≡ eliminate_item false c.args.var (items_from 0 c.args.sys.now.rows) = c.in_ok-e.ensures.defined ∙ ap (eliminate_item false c.args.var) i in
     let r : c.in_ok-rows_of.field-0 ≡ (eliminate c.args.sys.now c.args.var).system.rows = c.in_ok-rows_of.ensures ∙ ap (λ (e : Eliminated). rows_of e.items) d in

@@ -13,17 +13,17 @@ pub tidied-requires : goal.tidied-requires
 tidied-requires c =
     let e : c.append.new.self.items ≡ c.args.one.now.rows ++ c.args.other.now.rows
     = c.in_ok-append.ensures.items ∙ ap₂ (λ (rs ss : List Row). rs ++ ss) (c.in_ok-rows.ensures ∙ c.as_slice.ensures) (c.in_ok-more.ensures ∙ c.as_slice-2.ensures) in
-    record { given = subst (λ (rs : List Row). AllRows IsGiven rs) (sym e) (given_append c.args.one.now.rows c.args.other.now.rows (fits_given c.args.one.now.rows c.requires.fits) (fits_given c.args.other.now.rows c.requires.other_fits)) }
+    record { fits = subst (λ (rs : List Row). AllRows IsGiven rs) (sym e) (given_append c.args.one.now.rows c.args.other.now.rows (fits_given c.args.one.now.rows c.requires.fits) (fits_given c.args.other.now.rows c.requires.other_fits)) }
 
-pub returns-clause-keeps : goal.returns-clause-keeps
-returns-clause-keeps c =
+pub returns-clause-sound : goal.returns-clause-sound
+returns-clause-sound c =
     let e : c.append.new.self.items ≡ c.args.one.now.rows ++ c.args.other.now.rows
     = c.in_ok-append.ensures.items ∙ ap₂ (λ (rs ss : List Row). rs ++ ss) (c.in_ok-rows.ensures ∙ c.as_slice.ensures) (c.in_ok-more.ensures ∙ c.as_slice-2.ensures) in
     IfOk-weaker c.tidied.result (λ (t : System). t ≡ tidy (system c.append.new.self.items c.if-one.tidied)) (KeepsCommonPoints c.args.one.now.rows c.args.other.now.rows)
     (λ t h. common_keeps c.args.one.now.rows c.args.other.now.rows c.append.new.self.items c.if-one.tidied t e h) c.tidied.ensures.defined
 
-pub returns-clause-adds_none : goal.returns-clause-adds_none
-returns-clause-adds_none c =
+pub returns-clause-no_new_points : goal.returns-clause-no_new_points
+returns-clause-no_new_points c =
     let e : c.append.new.self.items ≡ c.args.one.now.rows ++ c.args.other.now.rows
     = c.in_ok-append.ensures.items ∙ ap₂ (λ (rs ss : List Row). rs ++ ss) (c.in_ok-rows.ensures ∙ c.as_slice.ensures) (c.in_ok-more.ensures ∙ c.as_slice-2.ensures) in
     IfOk-weaker c.tidied.result (λ (t : System). t ≡ tidy (system c.append.new.self.items c.if-one.tidied)) (AddsNoCommonPoint c.args.one.now.rows c.args.other.now.rows)

@@ -13,17 +13,17 @@ pub tidied-requires : goal.tidied-requires
 tidied-requires c =
     let e : c.push.new.self.items ≡ c.args.sys.now.rows ++ c.args.row.now ∷ []
     = c.in_ok-push.ensures.items ∙ ap₂ (λ (rs : List Row) r. rs ++ r ∷ []) (c.in_ok-rows.ensures ∙ c.as_slice.ensures) c.in_ok-copy_row.ensures in
-    record { given = subst (λ (rs : List Row). AllRows IsGiven rs) (sym e) (given_append c.args.sys.now.rows (c.args.row.now ∷ []) (fits_given c.args.sys.now.rows c.requires.fits) (c.requires.row, tt)) }
+    record { fits = subst (λ (rs : List Row). AllRows IsGiven rs) (sym e) (given_append c.args.sys.now.rows (c.args.row.now ∷ []) (fits_given c.args.sys.now.rows c.requires.fits) (c.requires.row, tt)) }
 
-pub returns-clause-keeps : goal.returns-clause-keeps
-returns-clause-keeps c =
+pub returns-clause-sound : goal.returns-clause-sound
+returns-clause-sound c =
     let e : c.push.new.self.items ≡ c.args.sys.now.rows ++ c.args.row.now ∷ []
     = c.in_ok-push.ensures.items ∙ ap₂ (λ (rs : List Row) r. rs ++ r ∷ []) (c.in_ok-rows.ensures ∙ c.as_slice.ensures) c.in_ok-copy_row.ensures in
     IfOk-weaker c.tidied.result (λ (t : System). t ≡ tidy (system c.push.new.self.items c.args.sys.now.weak)) (KeepsCommonPoints c.args.sys.now.rows (c.args.row.now ∷ []))
     (λ t h. common_keeps c.args.sys.now.rows (c.args.row.now ∷ []) c.push.new.self.items c.args.sys.now.weak t e h) c.tidied.ensures.defined
 
-pub returns-clause-adds_none : goal.returns-clause-adds_none
-returns-clause-adds_none c =
+pub returns-clause-no_new_points : goal.returns-clause-no_new_points
+returns-clause-no_new_points c =
     let e : c.push.new.self.items ≡ c.args.sys.now.rows ++ c.args.row.now ∷ []
     = c.in_ok-push.ensures.items ∙ ap₂ (λ (rs : List Row) r. rs ++ r ∷ []) (c.in_ok-rows.ensures ∙ c.as_slice.ensures) c.in_ok-copy_row.ensures in
     IfOk-weaker c.tidied.result (λ (t : System). t ≡ tidy (system c.push.new.self.items c.args.sys.now.weak)) (AddsNoCommonPoint c.args.sys.now.rows (c.args.row.now ∷ []))

@@ -16,16 +16,16 @@ renamed_rows-requires c = subst (λ (rs : List Row). AllRows IsSmallRow rs) (sym
 pub tidied-requires : goal.tidied-requires
 tidied-requires c =
     let e = c.in_ok-rows.ensures ∙ ap (map (renamed_row (one_by c.args.from c.args.to))) c.as_slice.ensures in
-    record { given = subst (λ (rs : List Row). AllRows IsGiven rs) (sym e) (renamed_given c.args.from c.args.to c.args.sys.now.rows (fits_small c.args.sys.now.rows c.requires.fits)) }
+    record { fits = subst (λ (rs : List Row). AllRows IsGiven rs) (sym e) (renamed_given c.args.from c.args.to c.args.sys.now.rows (fits_small c.args.sys.now.rows c.requires.fits)) }
 
-pub returns-clause-keeps : goal.returns-clause-keeps
-returns-clause-keeps c =
+pub returns-clause-sound : goal.returns-clause-sound
+returns-clause-sound c =
     let rows = c.in_ok-rows.rows.items in
     IfOk-weaker c.tidied.result (λ (t : System). t ≡ tidy (system rows c.args.sys.now.weak)) (RenamesPoints c.args.from c.args.to c.args.sys.now)
     (λ t h. rename_keeps c.args.sys.now c.args.from c.args.to rows t (c.in_ok-rows.ensures ∙ ap (map (renamed_row (one_by c.args.from c.args.to))) c.as_slice.ensures) h) c.tidied.ensures.defined
 
-pub returns-clause-adds_none : goal.returns-clause-adds_none
-returns-clause-adds_none c =
+pub returns-clause-no_new_points : goal.returns-clause-no_new_points
+returns-clause-no_new_points c =
     let rows = c.in_ok-rows.rows.items in
     IfOk-weaker c.tidied.result (λ (t : System). t ≡ tidy (system rows c.args.sys.now.weak)) (RenamesNoPointMore c.args.from c.args.to c.args.sys.now)
     (λ t h. rename_adds_none c.args.sys.now c.args.from c.args.to rows t (c.in_ok-rows.ensures ∙ ap (map (renamed_row (one_by c.args.from c.args.to))) c.as_slice.ensures) h) c.tidied.ensures.defined

@@ -6,4 +6,4 @@ pub cancel_by-requires-clause-each : goal.cancel_by-requires-clause-each
 cancel_by-requires-clause-each c = fit_small c.args.rational c.args.items.items c.requires.fits
 
 pub tidy_items-requires : goal.tidy_items-requires
-tidy_items-requires c = record { given = by_given c.args.rational c.args.v c.args.items.items c.from_vec.result c.args.at c.requires.fits c.requires.within (c.from_vec.ensures ∙ c.in_ok-rest.ensures) }
+tidy_items-requires c = record { fits = by_given c.args.rational c.args.v c.args.items.items c.from_vec.result c.args.at c.requires.fits c.requires.within (c.from_vec.ensures ∙ c.in_ok-rest.ensures) }

@@ -29,13 +29,13 @@ returns-in-Some-clause-defined c =
     IfOk-weaker c.eliminate_by.result (λ (e : Eliminated). e ≡ by_result q v c.into_vec-items.result.items c.in-Some.at true) (λ (e : Eliminated). e ≡ eliminate_item q v is)
     (λ e h. elim_unit q v is c.in-Some.at e a u (h ∙ ap (λ (js : List Item). by_result q v js c.in-Some.at true) c.into_vec-items.ensures)) c.eliminate_by.ensures
 
-pub returns-in-Some-clause-gives : goal.returns-in-Some-clause-gives
-returns-in-Some-clause-gives c =
+pub returns-in-Some-clause-fits : goal.returns-in-Some-clause-fits
+returns-in-Some-clause-fits c =
     IfOk-weaker c.eliminate_by.result (λ (e : Eliminated). e ≡ eliminate_item c.args.rational c.args.v c.args.items) (λ (e : Eliminated). ItemsFit c.args.rational e.items)
     (λ e h. subst (λ (x : Eliminated). ItemsFit c.args.rational x.items) (sym h) (eliminated_fits c.args.rational c.args.v c.args.items c.requires.fits)) (returns-in-Some-clause-defined c)
 
-pub returns-in-Some-find_equal-clause-gives : goal.returns-in-Some-find_equal-clause-gives
-returns-in-Some-find_equal-clause-gives c =
+pub returns-in-Some-find_equal-clause-fits : goal.returns-in-Some-find_equal-clause-fits
+returns-in-Some-find_equal-clause-fits c =
     let q = c.args.rational in
     let v = c.args.v in
     let is = c.args.items in
@@ -48,8 +48,8 @@ returns-in-Some-find_equal-clause-gives c =
     (λ e h. let d = elim_equal q v is c.in-Some-find_equal.at e a u w (h ∙ ap (λ (js : List Item). by_result q v js c.in-Some-find_equal.at false) c.into_vec-items.ensures) in
     subst (λ (x : Eliminated). ItemsFit q x.items) (sym d) (eliminated_fits q v is c.requires.fits)) c.eliminate_by-in-Some-find_equal.ensures
 
-pub returns-clause-gives : goal.returns-clause-gives
-returns-clause-gives c =
+pub returns-clause-fits : goal.returns-clause-fits
+returns-clause-fits c =
     let q = c.args.rational in
     let v = c.args.v in
     let is = c.args.items in

@@ -44,7 +44,7 @@ loop-i-preserved-in-Less c =
     let q = to_z w128 (of_z w128 c.args.q) in
     let f : SFits w128 t.factor = search rules in
     let g : SFits w128 c.scale.result = search rules in
-    let e : to_z w128 (of_z w128 c.scale.result) ≡ p *ℤ t.factor = to_z-of_z g ∙ (c.scale.ensures.value ∙ ap (λ x. p *ℤ x) (to_z-of_z f)) in
+    let e : to_z w128 (of_z w128 c.scale.result) ≡ p *ℤ t.factor = to_z-of_z g ∙ (c.scale.ensures.defined ∙ ap (λ x. p *ℤ x) (to_z-of_z f)) in
     record {
       within_first = omega arith;
       within_second = omega arith;
@@ -64,7 +64,7 @@ loop-i-preserved-in-Equal c =
     let h : SFits w128 u.factor = search rules in
     let g : SFits w128 c.blend.result = search rules in
     let e : to_z w128 (of_z w128 c.blend.result) ≡ (p *ℤ t.factor) +ℤ (q *ℤ u.factor)
-    = to_z-of_z g ∙ (c.blend.ensures.value ∙ ap₂ (λ x y. (p *ℤ x) +ℤ (q *ℤ y)) (to_z-of_z f) (to_z-of_z h)) in
+    = to_z-of_z g ∙ (c.blend.ensures.defined ∙ ap₂ (λ x y. (p *ℤ x) +ℤ (q *ℤ y)) (to_z-of_z f) (to_z-of_z h)) in
     record {
       within_first = omega arith;
       within_second = omega arith;
@@ -81,7 +81,7 @@ loop-i-preserved c =
     let q = to_z w128 (of_z w128 c.args.q) in
     let f : SFits w128 u.factor = search rules in
     let g : SFits w128 c.scale-in-Greater.result = search rules in
-    let e : to_z w128 (of_z w128 c.scale-in-Greater.result) ≡ q *ℤ u.factor = to_z-of_z g ∙ (c.scale-in-Greater.ensures.value ∙ ap (λ x. q *ℤ x) (to_z-of_z f)) in
+    let e : to_z w128 (of_z w128 c.scale-in-Greater.result) ≡ q *ℤ u.factor = to_z-of_z g ∙ (c.scale-in-Greater.ensures.defined ∙ ap (λ x. q *ℤ x) (to_z-of_z f)) in
     record {
       within_first = omega arith;
       within_second = omega arith;

@@ -18,7 +18,7 @@ loop-t-preserved c =
     let g : SFits w128 c.scale.result = search rules in
     let p = to_z w128 (of_z w128 c.args.p) in
     let e : to_z w128 (of_z w128 c.scale.result) ≡ p *ℤ t.factor
-    = to_z-of_z g ∙ (c.scale.ensures.value ∙ ap (λ x. p *ℤ x) (to_z-of_z f)) in
+    = to_z-of_z g ∙ (c.scale.ensures.defined ∙ ap (λ x. p *ℤ x) (to_z-of_z f)) in
     scaled_more c.loop-t.out.items c.push_term.new.out.items p c.args.terms.now (c.args.out.now.items ++ add_terms p c.args.terms.now []) c.loop-t.t-index (term (Cell 0) (pos 0))
     c.loop-t-test.true c.requires.small.0 (c.in_ok-push_term.ensures ∙ ap (λ z. c.loop-t.out.items ++ term_before t.var z []) e) c.loop-t.invariant
 

@@ -3,8 +3,8 @@ use Rattle.affine_systems.proofs.Numbers.{product_fits}
 use Rattle.affine_systems.proofs.FitLaws.{product_below}
 use Rattle.affine_systems.proofs.terms.scale.Goals as goal
 
-pub returns-clause-value : goal.returns-clause-value
-returns-clause-value c = product_fits c.args.p c.args.x c.requires.factor c.requires.number
+pub returns-clause-defined : goal.returns-clause-defined
+returns-clause-defined c = product_fits c.args.p c.args.x c.requires.factor c.requires.number
 
 pub returns-clause-below : goal.returns-clause-below
 returns-clause-below c =

@@ -10,7 +10,7 @@ use Rattle.affine_systems.proofs.tidying.tidy_items.Goals.{then-lost, else-lost,
 use Rattle.affine_systems.proofs.tidying.tidy_items.Goals as goal
 
 pub loop-turns-init : goal.loop-turns-init
-loop-turns-init c = rw c.into_vec-items.ensures (turns_begin c.args.rational c.args.items 17592186044416 refl c.requires.given)
+loop-turns-init c = rw c.into_vec-items.ensures (turns_begin c.args.rational c.args.items 17592186044416 refl c.requires.fits)
 
 pub find_pivot-requires : goal.find_pivot-requires
 find_pivot-requires c =
@@ -31,9 +31,9 @@ returns-in-None-clause-defined c =
     ∙ turns_stop c.args.rational c.loop-turns.items.items c.loop-turns.lost c.loop-turns.turns _ c.loop-turns.invariant c.in_ok-some.some.items c.in_ok-some.less c.in_ok-some.ensures.items c.in_ok-some.ensures.lost
     c.loop-turns-test.true e c.if-lost.lost a
 
-pub returns-in-None-clause-gives : goal.returns-in-None-clause-gives
-returns-in-None-clause-gives c =
-    subst (ItemsFit c.args.rational) (ap (λ (t : Tidied). t.items) (sym (returns-in-None-clause-defined c))) (tidied_fits c.args.rational c.args.items c.requires.given)
+pub returns-in-None-clause-fits : goal.returns-in-None-clause-fits
+returns-in-None-clause-fits c =
+    subst (ItemsFit c.args.rational) (ap (λ (t : Tidied). t.items) (sym (returns-in-None-clause-defined c))) (tidied_fits c.args.rational c.args.items c.requires.fits)
 
 pub loop-turns-preserved : goal.loop-turns-preserved
 loop-turns-preserved c =
@@ -59,6 +59,6 @@ returns-clause-defined c =
     ∙ turns_end c.args.rational c.loop-turns.items.items c.loop-turns.lost c.loop-turns.turns _ c.loop-turns.invariant c.in_ok-some-2.some.items c.in_ok-some-2.less c.in_ok-some-2.ensures.items c.in_ok-some-2.ensures.lost
     z c.if-lost-2.result a
 
-pub returns-clause-gives : goal.returns-clause-gives
-returns-clause-gives c =
-    subst (ItemsFit c.args.rational) (ap (λ (t : Tidied). t.items) (sym (returns-clause-defined c))) (tidied_fits c.args.rational c.args.items c.requires.given)
+pub returns-clause-fits : goal.returns-clause-fits
+returns-clause-fits c =
+    subst (ItemsFit c.args.rational) (ap (λ (t : Tidied). t.items) (sym (returns-clause-defined c))) (tidied_fits c.args.rational c.args.items c.requires.fits)

@@ -14,12 +14,12 @@ returns-in-Some c =
     let sss = map (map symbol_tree) c.args.tables.now in
     refused_by (too_many ps) c.in-Some.fault c.refusal_of.result (named_of ps sss) (sym c.in-Some.ensures) c.refusal_of.ensures
 
-pub named-requires : goal.named-requires
-named-requires c =
+pub link_few-requires : goal.link_few-requires
+link_few-requires c =
     omega (arith, few (map parsed_tree c.args.modules.now) (sym c.in-None.ensures), length-map parsed_tree c.args.modules.now)
 
 pub returns-in-None : goal.returns-in-None
 returns-in-None c =
     let ps = map parsed_tree c.args.modules.now in
     let sss = map (map symbol_tree) c.args.tables.now in
-    passed (too_many ps) c.named.result (named_of ps sss) (sym c.in-None.ensures) c.named.ensures
+    passed (too_many ps) c.link_few.result (named_of ps sss) (sym c.in-None.ensures) c.link_few.ensures

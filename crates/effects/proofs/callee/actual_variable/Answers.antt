@@ -20,4 +20,4 @@ returns-in-Some c =
     let ss = map symbol_tree c.args.symbols.now in
     let e : c.saturating_sub-place.result ≡ c.args.dummy - 1 = omega arith in
     let same = sym (actual-some es c.saturating_sub-place.result ss c.in-Some.actual.now (sym c.in-Some.ensures)) ∙ ap (λ n. actual_variable (expr_trees es) n ss) e in
-    subst (λ (ws : List Variable). IfOk c.named.result (λ vs. vs ≡ ws)) same c.named.ensures
+    subst (λ (ws : List Variable). IfOk c.variable_named.result (λ vs. vs ≡ ws)) same c.variable_named.ensures

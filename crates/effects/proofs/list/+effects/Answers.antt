@@ -16,4 +16,4 @@ stmt_effect-returns-clause-added t c =
     let n = c.args.s.now.id in
     let behind : c.with_parts.new.at ≡ (xs ++ at n c.none.result ∷ []) ++ ys = c.in_ok-all.ensures.added ∙ ap (λ zs. zs ++ ys) c.in_ok-push.ensures.ok in
     c.set.ensures ∙ filled xs ys c.with_parts.new.at (at n c.none.result) (at n c.in_ok-value.value) c.len-place.result behind c.len-place.ensures
-    ∙ ap (λ v. xs ++ at n v ∷ ys) (c.in_ok-value.ensures ∙ c.in_ok-all.ensures.value ∙ ap (λ e. with_parts w cs ss e) c.in_ok-own.ensures)
+    ∙ ap (λ v. xs ++ at n v ∷ ys) (c.in_ok-value.ensures ∙ c.in_ok-all.ensures.defined ∙ ap (λ e. with_parts w cs ss e) c.in_ok-own.ensures)

@@ -62,8 +62,8 @@ decreases-comparison l = l.depth * 40 + 18
 abbrev pub decreases-relation : goal.decreases-relation
 decreases-relation l = l.depth * 40 + 19
 
-abbrev pub decreases-denied : goal.decreases-denied
-decreases-denied l = l.depth * 40 + 20
+abbrev pub decreases-negated_relation : goal.decreases-negated_relation
+decreases-negated_relation l = l.depth * 40 + 20
 
 abbrev pub decreases-negation : goal.decreases-negation
 decreases-negation l = l.depth * 40 + 21

@@ -1,6 +1,6 @@
 use Rattle.std.proofs.Common.{◌∙◌, ◌++◌, ◌∷◌, [], length, ap, arith}
 use Rattle.affine_systems.specs.declared.items.Item.{Item}
-use Rattle.hull_projection.proofs.TurnSteps.{originals-more}
+use Rattle.hull_projection.proofs.IterationSteps.{originals-more}
 use Rattle.hull_projection.proofs.elimination.with_originals.Goals as goal
 
 pub loop-item-preserved : goal.loop-item-preserved

@@ -14,7 +14,7 @@ pub eliminate_each-requires : goal.eliminate_each-requires
 eliminate_each-requires c = subst (λ (t : Shadow). Fits t.system) (sym c.in_ok-start.ensures) c.requires.fits
 
 pub cleaned_system-requires : goal.cleaned_system-requires
-cleaned_system-requires c = fits_small c.in_ok-left.left.system.rows c.in_ok-left.ensures.gives
+cleaned_system-requires c = fits_small c.in_ok-left.left.system.rows c.in_ok-left.ensures.fits
 
 pub returns-clause-defined : goal.returns-clause-defined
 returns-clause-defined c =
@@ -23,8 +23,8 @@ returns-clause-defined c =
     IfOk-weaker c.cleaned_system.result (λ (t : Shadow). t ≡ cleaned_shadow c.in_ok-left.left) (λ (t : Shadow). t ≡ project c.args.sys.now c.args.vars.now)
     (λ t e. e ∙ ap cleaned_shadow r) c.cleaned_system.ensures
 
-pub returns-clause-gives : goal.returns-clause-gives
-returns-clause-gives c =
+pub returns-clause-fits : goal.returns-clause-fits
+returns-clause-fits c =
     let r : c.in_ok-left.left ≡ eliminate_each (shadow c.args.sys.now true) (in_order c.args.vars.now)
     = c.in_ok-left.ensures.defined ∙ ap₂ (λ (s : Shadow) (vs : List Var). eliminate_each s vs) c.in_ok-start.ensures (c.as_slice-2.ensures.value ∙ (c.in_ok-order.ensures ∙ ap in_order c.as_slice.ensures)) in
     IfOk-weaker c.cleaned_system.result (λ (t : Shadow). t ≡ cleaned_shadow c.in_ok-left.left) (λ (t : Shadow). Fits t.system)
@@ -37,8 +37,8 @@ returns-clause-gone c =
     IfOk-weaker c.cleaned_system.result (λ (t : Shadow). t ≡ cleaned_shadow c.in_ok-left.left) (λ (t : Shadow). LacksAll c.args.vars.now t.system.rows)
     (λ t e. subst (λ (x : Shadow). LacksAll c.args.vars.now x.system.rows) (sym (e ∙ ap cleaned_shadow r)) (project_gone c.args.sys.now c.args.vars.now)) c.cleaned_system.ensures
 
-pub returns-clause-keeps : goal.returns-clause-keeps
-returns-clause-keeps c =
+pub returns-clause-sound : goal.returns-clause-sound
+returns-clause-sound c =
     let r : c.in_ok-left.left ≡ eliminate_each (shadow c.args.sys.now true) (in_order c.args.vars.now)
     = c.in_ok-left.ensures.defined ∙ ap₂ (λ (s : Shadow) (vs : List Var). eliminate_each s vs) c.in_ok-start.ensures (c.as_slice-2.ensures.value ∙ (c.in_ok-order.ensures ∙ ap in_order c.as_slice.ensures)) in
     IfOk-weaker c.cleaned_system.result (λ (t : Shadow). t ≡ cleaned_shadow c.in_ok-left.left) (ProjectsPoints c.args.sys.now c.args.vars.now)

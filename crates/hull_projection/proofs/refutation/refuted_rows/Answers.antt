@@ -6,7 +6,7 @@ use Rattle.hull_projection.proofs.RefuteSteps.{refutes_rows}
 use Rattle.hull_projection.proofs.refutation.refuted_rows.Goals as goal
 
 pub tidy_items-requires : goal.tidy_items-requires
-tidy_items-requires c = record { given = items_given_from c.args.rows.items c.in_ok-items.items c.requires c.in_ok-items.ensures }
+tidy_items-requires c = record { fits = items_given_from c.args.rows.items c.in_ok-items.items c.requires c.in_ok-items.ensures }
 
 pub returns : goal.returns
 returns c =

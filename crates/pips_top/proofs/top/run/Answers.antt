@@ -1,10 +1,14 @@
 use Rattle.std.proofs.Common.{rules, ℕ, List, [], codes, inl, refl}
 use Rattle.fx_base.specs.declared.store.Role.TheVariants.{Input}
+use Rattle.pips_top.specs.Laws.{ReadClaimsHold, ReadAllSaid, ReadWrittenBack}
 use Rattle.pips_top.specs.Run.{CausedBy, Outside, StopsBy}
 use Rattle.pips_top.specs.declared.status.Status.TheVariants.{Done, WriteFault}
-use Rattle.pips_top.proofs.Soundness.{sound_from, defined_from}
+use Rattle.pips_top.proofs.Soundness.{Laws, Sent, CutOff, caused_done, caused_fault, defined_from}
 use Rattle.pips_top.proofs.Stopping.{stop_caused, stop_defined, stop_complete}
 use Rattle.pips_top.proofs.top.run.Goals as goal
+
+laws : ReadClaimsHold → ReadAllSaid → ReadWrittenBack → Laws
+laws holds all back = record { holds = holds; all = all; back = back }
 
 pub returns-in-All : goal.returns-in-All
 returns-in-All g c =
@@ -24,12 +28,12 @@ returns-in-All g c =
       err = g.E.Sink.taken c.args.err.now;
       err_faults = g.E.Sink.faults c.args.err.now;
     } in
-    let cause : CausedBy c.args.words.now old new Done [] = search rules in
+    let sent : Sent c.args.words.now old new = search rules in
+    let cause : CausedBy c.args.words.now old new Done [] = caused_done (laws c.claims_hold.ensures c.all_is_said.ensures c.written_reads_back.ensures) c.args.words.now old new sent in
     record {
       line = [];
       cause = cause;
       err = search rules;
-      sound = sound_from c.claims_hold.ensures c.written_reads_back.ensures c.args.words.now old new Done [] cause;
       files = search rules;
       counts = search rules;
       out_faults = search rules;
@@ -57,18 +61,18 @@ returns-in-Writing g c =
       err_faults = g.E.Sink.faults c.tell.new.err;
     } in
     let line : List ℕ = codes "pips: cannot write\n" in
-    let cause : CausedBy c.args.words.now old new WriteFault line = search rules in
+    let cut : CutOff c.args.words.now old new = search rules in
+    let cause : CausedBy c.args.words.now old new WriteFault line = caused_fault (laws c.claims_hold.ensures c.all_is_said.ensures c.written_reads_back.ensures) c.args.words.now old new cut in
     record {
       line = line;
       cause = cause;
       err = search rules;
-      sound = sound_from c.claims_hold.ensures c.written_reads_back.ensures c.args.words.now old new WriteFault line cause;
       files = search rules;
       counts = search rules;
       out_faults = search rules;
       err_faults = search rules;
       defined = λ held is settled. cc;
-      complete = λ held is done none. elim (none.out cause.2) [ ];
+      complete = λ held is done none. elim (none.out cut.2) [ ];
     }
 
 pub returns-in-Stopping : goal.returns-in-Stopping
@@ -98,7 +102,6 @@ returns-in-Stopping g c =
       line = line;
       cause = cause;
       err = search rules;
-      sound = sound_from c.claims_hold.ensures c.written_reads_back.ensures words old new status line cause;
       files = search rules;
       counts = search rules;
       out_faults = search rules;

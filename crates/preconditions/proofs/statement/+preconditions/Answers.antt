@@ -28,10 +28,10 @@ at_each_the_same-loop-s-preserved t c =
     let ss = c.as_slice-s-items.result.now in
     let s = c.s-item.result in
     let old = c.loop-s.at in
-    let here : c.after.new.at ≡ old ++ at_stmt (stmt_tree s) m k p = c.in_ok-after.ensures.added ∙ ap (λ (x : System). old ++ at_stmt (stmt_tree s) m k x) c.in_ok-same.ensures.value in
+    let here : c.after.new.at ≡ old ++ at_stmt (stmt_tree s) m k p = c.in_ok-after.ensures.added ∙ ap (λ (x : System). old ++ at_stmt (stmt_tree s) m k x) c.in_ok-same.ensures.defined in
     record {
       added = same_added m k p old c.after.new.at ss c.loop-s.s-index s c.loop-s-test.true c.s-item.is here ∙ c.loop-s.invariant.added;
-      fits = c.in_ok-after.ensures.fits;
+      fits = c.in_ok-after.ensures.results_fit;
     }
 
 pub after_arms-loop-arm-preserved : goal.after_arms-loop-arm-preserved
@@ -47,15 +47,15 @@ after_arms-loop-arm-preserved t c =
     let no = c.in_ok-tests.ensures.no in
     record {
       value = arm_value m p tests.no xs i a c.loop-arm-test.true c.arm-item.is no ∙ c.loop-arm.invariant.value;
-      gives = c.in_ok-tests.ensures.gives.1;
-      ends = arm_end m k p tests.yes c.in_ok-end.end tests.no c.loop-arm.ends.items c.push.new.self.items xs i a c.loop-arm-test.true c.arm-item.is yes c.in_ok-end.ensures.value no c.in_ok-push.ensures.items ∙ c.loop-arm.invariant.ends;
-      ends_fit = all_pushed c.loop-arm.ends.items c.push.new.self.items c.in_ok-end.end c.in_ok-push.ensures.items c.loop-arm.invariant.ends_fit c.in_ok-end.ensures.gives;
+      gives = c.in_ok-tests.ensures.fits.1;
+      ends = arm_end m k p tests.yes c.in_ok-end.end tests.no c.loop-arm.ends.items c.push.new.self.items xs i a c.loop-arm-test.true c.arm-item.is yes c.in_ok-end.ensures.defined no c.in_ok-push.ensures.items ∙ c.loop-arm.invariant.ends;
+      ends_fit = all_pushed c.loop-arm.ends.items c.push.new.self.items c.in_ok-end.end c.in_ok-push.ensures.items c.loop-arm.invariant.ends_fit c.in_ok-end.ensures.fits;
       added = arm_added m k p tests.yes tests.no c.loop-arm.at c.after_list.new.at xs i a c.loop-arm-test.true c.arm-item.is yes no c.in_ok-end.ensures.added ∙ c.loop-arm.invariant.added;
-      fits = c.in_ok-end.ensures.fits;
+      fits = c.in_ok-end.ensures.results_fit;
     }
 
-pub after_do-returns-clause-value : goal.after_do-returns-clause-value
-after_do-returns-clause-value t c =
+pub after_do-returns-clause-defined : goal.after_do-returns-clause-defined
+after_do-returns-clause-defined t c =
     let l = c.args.l.now in
     let o = out-Loop l in
     let p = c.args.p.now in
@@ -63,7 +63,7 @@ after_do-returns-clause-value t c =
     let once = c.in_ok-once.once in
     let end = c.in_ok-end.end in
     subst (λ (x : System). IfOk c.after_loop.result (λ q. q ≡ x))
-    (loop_value (loop_tree l) (scope_in c.args.known.now) (found_in c.args.known.now) p c.in_ok-each.each end (after_loop parts once p end) o.index (expr_tree o.first) (expr_tree o.last) (maybe_tree o.step) (stmt_trees o.body) c.in_ok-body.body once parts (loop_tree-out l) c.in_ok-body.ensures.defined c.in_ok-parts.ensures.defined c.in_ok-once.ensures.defined c.in_ok-each.ensures.defined c.in_ok-end.ensures.value refl)
+    (loop_value (loop_tree l) (scope_in c.args.known.now) (found_in c.args.known.now) p c.in_ok-each.each end (after_loop parts once p end) o.index (expr_tree o.first) (expr_tree o.last) (maybe_tree o.step) (stmt_trees o.body) c.in_ok-body.body once parts (loop_tree-out l) c.in_ok-body.ensures.defined c.in_ok-parts.ensures.defined c.in_ok-once.ensures.defined c.in_ok-each.ensures.defined c.in_ok-end.ensures.defined refl)
     c.after_loop.ensures.defined
 
 pub after_do-returns-clause-added : goal.after_do-returns-clause-added

@@ -6,4 +6,4 @@ use Rattle.preconditions.proofs.statement.copy_system.Goals as goal
 pub returns : goal.returns
 returns c =
     let same = system_same c.args.s.now c.in_ok-clone.field-0 c.in_ok-clone.ensures.cases in
-    record { value = same; gives = subst Fits (sym same) c.requires }
+    record { defined = same; fits = subst Fits (sym same) c.requires }

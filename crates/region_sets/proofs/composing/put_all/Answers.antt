@@ -12,7 +12,7 @@ loop-row-preserved c =
     let i = c.loop-row.row-index in
     let r : Row = c.row-item.result in
     let out = c.loop-row.out.items in
-    let value = c.in_ok-one.ensures.value ∙ ap (λ (x : Row). out ++ before_rows (put_in cell by x) []) c.row-item.is in
+    let value = c.in_ok-one.ensures.added ∙ ap (λ (x : Row). out ++ before_rows (put_in cell by x) []) c.row-item.is in
     let gone = c.in_ok-one.ensures.lost ∙ ap (λ (x : Row). is_lost (put_in cell by x)) c.row-item.is in
     record {
       same = put-step cell by rows out c.push_put.new.out.items _ i r c.loop-row-test.true value c.loop-row.invariant.same;

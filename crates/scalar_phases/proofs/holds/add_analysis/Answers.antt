@@ -4,5 +4,5 @@ use Rattle.std.proofs.lemmas.List.Elements.{All-push}
 use Rattle.scalar_phases.specs.Views.{AnalysisFits}
 use Rattle.scalar_phases.proofs.holds.add_analysis.Goals as goal
 
-pub returns-clause-gives : goal.returns-clause-gives
-returns-clause-gives c = subst (All AnalysisFits) (sym c.in_ok-push.ensures.items) (All-push AnalysisFits c.args.all.now.items c.in_ok-analysis.analysis c.requires.all c.in_ok-analysis.ensures.gives)
+pub returns-clause-fits : goal.returns-clause-fits
+returns-clause-fits c = subst (All AnalysisFits) (sym c.in_ok-push.ensures.items) (All-push AnalysisFits c.args.all.now.items c.in_ok-analysis.analysis c.requires.all c.in_ok-analysis.ensures.fits)

@@ -14,9 +14,9 @@ loop-found-preserved c =
           ∙ sym (ap (analyses_from u (map analysis_tree c.loop-found.all.items)) (popped found_tree _ _ c.in-Some.found c.in-Some.ensures.items))
           ∙ c.loop-found.invariant.same;
       sites = sites-more u _ _ f (sites_for c.loop-found.sites) c.loop-found.invariant.sites c.in_ok-add_analysis.ensures.added (sites_for c.add_analysis.new.sites) c.in_ok-add_analysis.ensures.sites;
-      fits = c.in_ok-add_analysis.ensures.fits;
+      fits = c.in_ok-add_analysis.ensures.sites_fit;
       found = (All-pop FoundFits _ _ (Some c.in-Some.found) c.in-Some.ensures.items c.loop-found.invariant.found).0;
-      gives = c.in_ok-add_analysis.ensures.gives;
+      gives = c.in_ok-add_analysis.ensures.fits;
     }
 
 pub add_analysis-requires-clause-found : goal.add_analysis-requires-clause-found

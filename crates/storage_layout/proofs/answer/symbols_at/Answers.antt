@@ -6,5 +6,5 @@ use Rattle.storage_layout.proofs.answer.symbols_at.Goals as goal
 
 pub returns : goal.returns
 returns c =
-    given-at c.after_valued.result (line_in c.args.lines.now) (module_tree c.args.«module».now) (table_tree c.in_ok-table.table) c.in_ok-table.found (valued_tree c.parameters_valued.new.table c.in_ok-found.found)
-    c.in_ok-table.ensures.table c.in_ok-table.ensures.found c.in_ok-found.ensures c.after_valued.ensures
+    given-at c.check_and_lay_out.result (line_in c.args.lines.now) (module_tree c.args.«module».now) (table_tree c.in_ok-table.table) c.in_ok-table.found (valued_tree c.parameters_valued.new.table c.in_ok-found.found)
+    c.in_ok-table.ensures.table c.in_ok-table.ensures.found c.in_ok-found.ensures c.check_and_lay_out.ensures

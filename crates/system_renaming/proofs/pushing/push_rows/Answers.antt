@@ -15,15 +15,15 @@ tidy-requires c =
     = c.from_vec.ensures ∙ (c.in_ok-append.ensures.items ∙ ap (λ (rs : List Row). rs ++ c.args.more.items) (c.in_ok-rows.ensures ∙ c.as_slice.ensures)) in
     record { fits = subst (λ (rs : List Row). AllRows IsGiven rs) (sym e) (given_append c.args.sys.now.rows c.args.more.items (fits_given c.args.sys.now.rows c.requires.fits) c.requires.rows) }
 
-pub returns-clause-keeps : goal.returns-clause-keeps
-returns-clause-keeps c =
+pub returns-clause-sound : goal.returns-clause-sound
+returns-clause-sound c =
     let e : c.from_vec.result ≡ c.args.sys.now.rows ++ c.args.more.items
     = c.from_vec.ensures ∙ (c.in_ok-append.ensures.items ∙ ap (λ (rs : List Row). rs ++ c.args.more.items) (c.in_ok-rows.ensures ∙ c.as_slice.ensures)) in
     IfOk-weaker c.tidy.result (λ (t : System). t ≡ tidy (system c.from_vec.result c.args.sys.now.weak)) (KeepsCommonPoints c.args.sys.now.rows c.args.more.items)
     (λ t h. common_keeps c.args.sys.now.rows c.args.more.items c.from_vec.result c.args.sys.now.weak t e h) c.tidy.ensures.defined
 
-pub returns-clause-adds_none : goal.returns-clause-adds_none
-returns-clause-adds_none c =
+pub returns-clause-no_new_points : goal.returns-clause-no_new_points
+returns-clause-no_new_points c =
     let e : c.from_vec.result ≡ c.args.sys.now.rows ++ c.args.more.items
     = c.from_vec.ensures ∙ (c.in_ok-append.ensures.items ∙ ap (λ (rs : List Row). rs ++ c.args.more.items) (c.in_ok-rows.ensures ∙ c.as_slice.ensures)) in
     IfOk-weaker c.tidy.result (λ (t : System). t ≡ tidy (system c.from_vec.result c.args.sys.now.weak)) (AddsNoCommonPoint c.args.sys.now.rows c.args.more.items)

@@ -14,8 +14,8 @@ use Rattle.system_renaming.proofs.renaming.rename_all.Goals as goal
 pub renamed_rows-requires : goal.renamed_rows-requires
 renamed_rows-requires c = subst (λ (rs : List Row). AllRows IsSmallRow rs) (sym c.as_slice.ensures) (fits_small c.args.sys.now.rows c.requires.fits)
 
-pub returns-clause-keeps : goal.returns-clause-keeps
-returns-clause-keeps c =
+pub returns-clause-sound : goal.returns-clause-sound
+returns-clause-sound c =
     let e : c.from_vec-rows.result ≡ map (renamed_row (renamed_by c.args.names.now)) c.args.sys.now.rows
     = c.from_vec-rows.ensures ∙ (c.in_ok-renamed_rows.ensures.defined ∙ ap (map (renamed_row (renamed_by c.args.names.now))) c.as_slice.ensures) in
     IfOk-weaker c.tidy.result (λ (t : System). t ≡ tidy (system c.from_vec-rows.result c.args.sys.now.weak)) (RenamesPoints c.args.names.now c.args.sys.now)

@@ -6,11 +6,11 @@ use Rattle.system_renaming.specs.Renaming.{renamed_by}
 use Rattle.system_renaming.proofs.Steps.{row_given}
 use Rattle.system_renaming.proofs.renaming.renamed_row.Goals as goal
 
-pub returns-clause-given : goal.returns-clause-given
-returns-clause-given c =
+pub returns-clause-fits : goal.returns-clause-fits
+returns-clause-fits c =
     let f : SFits w128 c.args.row.now.bound = search rules in
     let b : unsigned_abs c.args.row.now.bound < 2 ^ 126 = omega (arith, c.requires.1) in
     row_given (renamed_by c.args.names.now) c.args.row.now.terms c.from_vec.result (to_z w128 (of_z w128 c.args.row.now.bound)) c.args.row.now.equal
     (c.from_vec.ensures ∙ (c.in_ok-renamed_terms.ensures.defined ∙ ap (renamed_terms (renamed_by c.args.names.now)) c.as_slice.ensures))
-    (subst (FactorsBelow (2 ^ 126)) (sym c.from_vec.ensures) c.in_ok-renamed_terms.ensures.given)
+    (subst (FactorsBelow (2 ^ 126)) (sym c.from_vec.ensures) c.in_ok-renamed_terms.ensures.fits)
     (subst (λ z. unsigned_abs z < 2 ^ 126) (sym (to_z-of_z f)) b)

@@ -19,7 +19,7 @@ add_term-requires-clause-factor c =
     let f : SFits w128 t.factor = search rules in
     subst (λ z. unsigned_abs z < 2 ^ 62) (sym (to_z-of_z f)) (factor_at (2 ^ 62) c.args.terms.now (c.loop-left.left - 1) (term (Cell 0) (pos 0)) c.requires.1 i)
 
-pub returns-clause-given : goal.returns-clause-given
-returns-clause-given c =
+pub returns-clause-fits : goal.returns-clause-fits
+returns-clause-fits c =
     let l : length c.args.terms.now < 2 ^ 64 = search rules in
     renamed_given (renamed_by c.args.names.now) c.args.terms.now c.loop-left.out.items c.loop-left.left c.requires.1 l c.loop-left.invariant.same

@@ -1,8 +1,10 @@
-use Rattle.call_translation.specs.declared.sites.Site.{Site}
-use Rattle.call_translation.proofs.SiteLaws.{scope_same, site_added}
+use Rattle.std.proofs.Common.{◌≡◌, ◌++◌, ◌∷◌, [], subst}
+use Rattle.std.specs.Prelude.{OnOk}
+use Rattle.f77_ast.specs.PlainStmt.{what_tree}
+use Rattle.call_translation.specs.Scopes.{ScopeTree}
+use Rattle.call_translation.specs.Sites.{actuals_in, sites_in}
 use Rattle.call_translation.proofs.sites.CallSites.add.Goals as goal
 
 pub returns-clause-ok : goal.returns-clause-ok
 returns-clause-ok g c =
-    let site : Site g.row.T.Denot = record { symbols = c.in_ok-copy_symbols.field-0; tracked = c.in_ok-tracked_of.field-0; actuals = c.in_ok-actuals_of.field-0; value = c.args.value } in
-    site_added c.args.self.now.list c.push.new.self site _ _ c.in_ok-push.ensures.ok (scope_same _ _ _ _ c.in_ok-copy_symbols.ensures c.in_ok-tracked_of.ensures) c.in_ok-actuals_of.ensures
+    subst (λ (m : ScopeTree). OnOk c.add_from.result (sites_in c.add_from.new.self ≡ sites_in c.args.self.now ++ record { caller = m; actuals = actuals_in (what_tree c.args.call.now.what); value = c.args.value } ∷ [])) c.in_ok-scope.ensures c.add_from.ensures.ok

@@ -1,7 +1,8 @@
-use Rattle.std.proofs.Common.{map, false, sym, ap, ◌∙◌}
-use Rattle.f77_names.specs.Entries.{entry_tree, changed, find, of_entry, place_in}
+use Rattle.std.proofs.Common.{map, false, sym, ap, ◌∙◌, subst}
+use Rattle.f77_symbols.specs.Index.{Indexes}
+use Rattle.f77_names.specs.Entries.{entry_tree, changed, find, entry_names, of_entry, place_in}
 use Rattle.f77_names.specs.Words.{with_word, was_said}
-use Rattle.f77_names.proofs.NamesLaws.{find-none, find-at, changed-none, changed-at, place_in-changed}
+use Rattle.f77_names.proofs.NamesLaws.{find-none, find-at, changed-none, changed-at, entry_names-changed}
 use Rattle.f77_names.proofs.names.Names.say.Goals as goal
 
 pub invariant_of-self : goal.invariant_of-self
@@ -10,7 +11,7 @@ invariant_of-self c =
     let placed = ap (λ zs. place_in (map entry_tree zs) c.args.name.now) c.self.view_is ∙ sym c.in-Some.ensures.place in
     let said = c.say.ensures.entry ∙ ap (λ z. with_word c.args.word (entry_tree z)) c.index_mut-entry.ensures.value in
     let now = changed-at c.args.name.now (with_word c.args.word) c.in-Some.at items c.index_mut-entry.result.now c.say.new.self placed said in
-    λ q. c.self.invariant q ∙ sym (ap (λ es. place_in es q) now ∙ place_in-changed c.args.name.now c.args.word (map entry_tree items) q)
+    subst (Indexes c.self.inside.index) (sym (ap entry_names now ∙ entry_names-changed c.args.name.now c.args.word (map entry_tree items))) c.self.invariant
 
 pub returns-in-None-clause-entries : goal.returns-in-None-clause-entries
 returns-in-None-clause-entries c = sym (changed-none c.args.name.now (with_word c.args.word) (map entry_tree c.args.self.now) (sym c.in-None.ensures.place))

@@ -1,20 +1,17 @@
 use Rattle.std.proofs.Common.{◌≡◌, ℕ, List, ◌++◌, ◌∷◌, []}
 use Rattle.std.specs.Prelude.{if◌then◌else◌, bytes_eq}
 use Rattle.f77_ast.specs.PlainStmt.{what_tree}
-use Rattle.call_translation.specs.Sites.{HoldingSite, actuals_in, sites_in}
-use Rattle.scalar_phases.specs.Phases.{scope_of}
-use Rattle.scalar_phases.specs.Views.{known_in, sites_for}
+use Rattle.call_translation.specs.Sites.{HoldingSite, caller_tree, actuals_in, sites_in}
+use Rattle.scalar_phases.specs.Views.{sites_for}
 use Rattle.scalar_phases.proofs.SiteLaws.{added, fits_added}
 use Rattle.scalar_phases.proofs.sites.Sites.add.Goals as goal
 
 pub returns-clause-added : goal.returns-clause-added
 returns-clause-added c =
-    let v = c.args.caller.now in
-    let s : HoldingSite = record { caller = scope_of v.graph.now.untracked (known_in v); actuals = actuals_in (what_tree c.args.call.now.what); value = c.args.value } in
+    let s : HoldingSite = record { caller = caller_tree c.args.caller.now.value; actuals = actuals_in (what_tree c.args.call.now.what); value = c.args.value } in
     added (sites_for c.args.self.now) (sites_for c.take-calls.new.self) (sites_for c.put.new.self) c.args.name.now (sites_in c.take-calls.result) (sites_in c.add_site.new.calls) s c.take-calls.ensures.calls c.take-calls.ensures.others c.in_ok-add_site.ensures c.in_ok-put.ensures
 
 pub returns-clause-fits : goal.returns-clause-fits
 returns-clause-fits c =
-    let v = c.args.caller.now in
-    let s : HoldingSite = record { caller = scope_of v.graph.now.untracked (known_in v); actuals = actuals_in (what_tree c.args.call.now.what); value = c.args.value } in
+    let s : HoldingSite = record { caller = caller_tree c.args.caller.now.value; actuals = actuals_in (what_tree c.args.call.now.what); value = c.args.value } in
     fits_added (sites_for c.args.self.now) (sites_for c.put.new.self) c.args.name.now s (returns-clause-added c) c.requires.fits c.requires.value

@@ -1,9 +1,0 @@
-use Rattle.std.proofs.Common.{◌≡◌, drop, map}
-use Rattle.f77_symbols.specs.Symbols.{bound_tree}
-use Rattle.f77_names.specs.Views.{table_tree}
-use Rattle.f77_checks.specs.Dimensions.{bounds_judged}
-use Rattle.f77_checks.proofs.dimensions.bounds_judged.Given as goal
-
-abbrev pub invariant-loop-bound : goal.invariant-loop-bound
-invariant-loop-bound l =
-    bounds_judged (table_tree l.table) (map bound_tree (drop l.bound-index l.bounds)) l.line l.found ≡ bounds_judged (table_tree l.table) (map bound_tree l.bounds) l.line l.initial.found

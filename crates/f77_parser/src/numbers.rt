@@ -1,0 +1,24 @@
+//! Numbers of statements, and places in lists.
+ghost use Rattle.std.specs.Prelude.{◌≡◌, ◌+◌, IfOk};
+
+use std::alloc::AllocError as Memory;
+
+/// The number after a number. There are never so many statements that it is none of 32 bits.
+pub fn next(number: u32) -> Result<u32, Memory>
+    ensures { IfOk result (λ n. n ≡ number + 1) }
+{
+    if number == u32::MAX {
+        return Err(Memory);
+    }
+    Ok(number + 1)
+}
+
+/// A place in a list. No list is so long that it is none of 32 bits.
+pub fn place_of(place: usize) -> Result<u32, Memory>
+    ensures { IfOk result (λ n. n ≡ place) }
+{
+    if u32::MAX as usize <= place {
+        return Err(Memory);
+    }
+    Ok(place as u32)
+}

@@ -1,0 +1,27 @@
+//! The first of two faults, and whether one more can change which is the first.
+ghost use Rattle.std.specs.Prelude.{◌≡◌, false, true};
+ghost use Rattle.refusal_codes.specs.Refusals.{refuse_if};
+ghost use Rattle.f77_structure.specs.First.{first_fault};
+
+use refusal_codes::{Code, Refusal, refuse_if};
+
+/// The first of two faults.
+pub fn first_fault(one: Option<Refusal>, other: Option<Refusal>) -> Option<Refusal>
+    ensures { result ≡ first_fault one other }
+{
+    match one {
+        None => other,
+        Some(found) => refuse_if(true, found.line, found.code, other),
+    }
+}
+
+/// False only where a fault at this line would not be the first. It spares a search.
+#[tactic(auto, unfolding(refusal_codes::specs::Refusals::refuse_if))]
+pub fn may_be_first(line: u32, code: Code, found: Option<Refusal>) -> bool
+    ensures { result ≡ false → refuse_if true line code found ≡ found }
+{
+    match found {
+        None => true,
+        Some(old) => Refusal { line, code }.is_before(old),
+    }
+}

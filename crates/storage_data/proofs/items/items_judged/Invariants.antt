@@ -1,9 +1,0 @@
-use Rattle.std.proofs.Common.{◌≡◌, drop, map}
-use Rattle.f77_ast.specs.Plain.{expr_tree}
-use Rattle.f77_names.specs.Views.{table_tree}
-use Rattle.storage_data.specs.Items.{items_judged}
-use Rattle.storage_data.proofs.items.items_judged.Given as goal
-
-abbrev pub invariant-loop-item : goal.invariant-loop-item
-invariant-loop-item l =
-    items_judged (table_tree l.table) (map expr_tree (drop l.item-index l.items)) l.line l.found ≡ items_judged (table_tree l.table) (map expr_tree l.items) l.line l.initial.found

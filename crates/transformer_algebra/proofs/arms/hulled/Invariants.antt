@@ -1,7 +1,0 @@
-use Rattle.std.proofs.Common.{◌≡◌, drop}
-use Rattle.affine_systems.specs.Given.{Fits}
-use Rattle.transformer_algebra.specs.Transformers.{hulled, AllFit}
-use Rattle.transformer_algebra.proofs.arms.hulled.Given as goal
-
-abbrev pub invariant-loop-t : goal.invariant-loop-t
-invariant-loop-t l = record { same : hulled l.cells l.hulls (drop l.t-index l.arms) ≡ hulled l.fn.cells l.fn.first l.fn.arms; fits : Fits l.hulls; rest : AllFit (drop l.t-index l.arms) }
