@@ -4,7 +4,7 @@
     bench/gate.py run [WORD ..]        runs `rt ci WORD ..` at the top (`--anew` for all of it from nothing), samples the prover's processes once a second
                                        from /proc, and writes what it saw to bench/gate.json
     bench/gate.py table                prints the table of bench/gate.json, dearest first, as it stands in docs/PERFORMANCE.md
-    bench/gate.py functions CRATE ..   checks each of these crates from nothing with one job and prints its dearest functions; their libraries must be built (`rt check`)
+    bench/gate.py functions CRATE ..   checks each of these crates from nothing with one job and prints its dearest functions, each with all time since the line before it; their libraries must be built (`rt check`)
 
 Nothing is read of a process after its last sample, so that a sum is up to a second a process too low. Linux alone has /proc.
 """
