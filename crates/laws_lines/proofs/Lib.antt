@@ -1,0 +1,14 @@
+pub mod RowVars
+pub mod SystemVars
+pub mod HullVars
+pub mod FormVars
+pub mod RuleVars
+pub mod LoopVars
+pub mod CallVars
+pub mod StatementVars
+pub mod HoldVars
+pub mod SiteVars
+pub mod PhaseVars
+pub mod TableNames
+pub mod LineBack
+pub mod ProgramLines

@@ -1,0 +1,5 @@
+pub mod Variables
+pub mod Halves
+pub mod NameLaws
+pub mod Laws
+pub mod Lines
