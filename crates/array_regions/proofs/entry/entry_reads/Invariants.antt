@@ -1,0 +1,15 @@
+use Rattle.std.proofs.Common.{◌≡◌, ◌++◌, length, map}
+use Rattle.f77_symbols.specs.Symbols.{symbol_tree}
+use Rattle.call_translation.specs.Scopes.{scope_tree}
+use Rattle.region_sets.specs.Sets.{SetFits}
+use Rattle.array_regions.specs.Entry.{symbols_reads}
+use Rattle.array_regions.proofs.entry.entry_reads.Given as goal
+
+abbrev pub invariant-loop-rest : goal.invariant-loop-rest
+invariant-loop-rest l = record {
+  same : l.out ++ symbols_reads (map symbol_tree l.rest) (scope_tree l.scope.symbols.now l.scope.tracked.now) ≡ symbols_reads (map symbol_tree l.scope.symbols.now) (scope_tree l.scope.symbols.now l.scope.tracked.now);
+  fits : SetFits l.out;
+}
+
+abbrev pub decreases-loop-rest : goal.decreases-loop-rest
+decreases-loop-rest l = length l.rest

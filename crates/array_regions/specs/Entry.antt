@@ -1,0 +1,74 @@
+-- What a module reads where it is entered, and what its callers see of what it accesses.
+use Rattle.std.specs.Prelude.{ℕ, suc, Bool, true, false, ◌&&◌, if◌then◌else◌, List, [], ◌∷◌, ◌++◌, map, Option, Some, None}
+use Rattle.affine_systems.specs.declared.row.System.{System}
+use Rattle.f77_symbols.specs.declared.symbol.Place.{Place}
+use Rattle.f77_symbols.specs.declared.symbol.Place.TheVariants.{Local, Dummy, Block, Constant}
+use Rattle.f77_symbols.specs.declared.variable.Variable.{Variable}
+use Rattle.f77_symbols.specs.declared.variable.Variable.TheVariants.{Own, Block as Whole, Saved}
+use Rattle.f77_symbols.specs.Symbols.{BoundTree, SymbolTree}
+use Rattle.f77_symbols.specs.Shared.{symbol_at}
+use Rattle.transformer_algebra.specs.Transformers.{without}
+use Rattle.call_translation.specs.Scopes.{ScopeTree}
+use Rattle.region_sets.specs.declared.region.Region.{Region}
+use Rattle.region_sets.specs.Regions.{remade}
+use Rattle.region_sets.specs.Naming.{has_none, named_cells}
+use Rattle.region_sets.specs.Sets.{unite_all}
+use Rattle.array_regions.specs.Reads.{reads, maybe_reads}
+
+-- ---- the bounds of arrays (ANSI X3.9-1978 §5.1)
+
+abbrev pub bounds_reads : List BoundTree → ScopeTree → List Region
+bounds_reads [] m = []
+bounds_reads (b ∷ bs) m = reads b.low m ++ (maybe_reads b.high m ++ bounds_reads bs m)
+
+abbrev pub symbols_reads : List SymbolTree → ScopeTree → List Region
+symbols_reads [] m = []
+symbols_reads (s ∷ ss) m = bounds_reads s.bounds m ++ symbols_reads ss m
+
+-- ---- what callers see
+
+-- dummies, variables of blocks, and saved locals
+abbrev pub place_goes_out : Place → Bool → Bool
+place_goes_out (Local g o) saved = saved
+place_goes_out (Dummy n) saved = true
+place_goes_out (Block b o) saved = true
+place_goes_out (Constant v) saved = false
+
+abbrev pub symbol_goes_out : Option SymbolTree → Bool
+symbol_goes_out None = false
+symbol_goes_out (Some s) = place_goes_out s.place s.saved
+
+abbrev pub goes_out : List SymbolTree → Variable → Bool
+goes_out ss (Own n) = symbol_goes_out (symbol_at ss n)
+goes_out ss (Whole b) = true
+goes_out ss (Saved s x) = true
+
+abbrev pub is_local : Place → Bool
+is_local (Local g o) = true
+is_local (Dummy n) = false
+is_local (Block b o) = false
+is_local (Constant v) = false
+
+-- the first of the symbols has the number after k
+abbrev pub locals_from : ℕ → List SymbolTree → List ℕ
+locals_from k [] = []
+locals_from k (s ∷ ss) = if is_local s.place then suc k ∷ locals_from (suc k) ss else locals_from (suc k) ss
+
+abbrev pub locals : List SymbolTree → List ℕ
+locals ss = locals_from 0 ss
+
+abbrev pub names_none : List ℕ → List System → Bool
+names_none cs [] = true
+names_none cs (s ∷ ss) = has_none (named_cells cs s) && names_none cs ss
+
+-- whatever numbers these cells have; not exact where one is named
+abbrev pub for_callers : List ℕ → Region → Region
+for_callers cs r = remade r (r.exact && names_none cs r.pieces) (map (without cs) r.pieces)
+
+abbrev pub seen : List SymbolTree → List ℕ → List Region → List Region
+seen ss cs [] = []
+seen ss cs (r ∷ rs) = if goes_out ss r.variable then for_callers cs r ∷ seen ss cs rs else seen ss cs rs
+
+-- of a module whose body has this set
+abbrev pub summary_of : ScopeTree → List Region → List Region
+summary_of m rs = unite_all (seen m.symbols (locals m.symbols) (unite_all (symbols_reads m.symbols m ++ rs)))

@@ -1,0 +1,15 @@
+-- What is known around a statement.
+use Rattle.call_translation.specs.Scopes.{ScopeTree, scope_tree}
+use Rattle.transformers.specs.Given.{ResultsFit}
+use Rattle.transformers.specs.Lists.{transformer_at}
+use Rattle.array_regions.specs.declared.statement.Known.{Known}
+use Rattle.array_regions.specs.Loops.{Found}
+
+abbrev pub scope_in : Known → ScopeTree
+scope_in k = scope_tree k.scope.now.symbols.now k.scope.now.tracked.now
+
+abbrev pub found_in : Known → Found
+found_in k = transformer_at k.own.now.at
+
+abbrev pub KnownFits : Known → Type 0
+KnownFits k = ResultsFit k.own.now.at

@@ -1,0 +1,10 @@
+pub mod Rows
+pub mod References
+pub mod Reads
+pub mod Simple
+pub mod Arms
+pub mod Loops
+pub mod Known
+pub mod Statement
+pub mod Entry
+pub mod Modules

@@ -1,0 +1,187 @@
+//! What a module accesses where it is entered, and what its callers see.
+ghost use Rattle.std.specs.Prelude.{◌≡◌, ◌+◌, ◌++◌, map, filter, IfOk, OnOk};
+ghost use Rattle.f77_symbols.specs.Symbols.{symbol_tree, bound_tree};
+ghost use Rattle.call_translation.specs.Scopes.{scope_tree};
+ghost use Rattle.hull_projection.specs.Minus.{AllFit};
+ghost use Rattle.region_sets.specs.Regions.{RegionFits};
+ghost use Rattle.region_sets.specs.Sets.{SetFits};
+ghost use Rattle.array_regions.specs.Entry.{bounds_reads, symbols_reads, place_goes_out as place_goes_out_is, goes_out as goes_out_is, is_local as is_local_is, locals_from, locals as locals_is, names_none as names_none_is, for_callers as for_callers_is, seen, summary_of as summary_of_is};
+
+use crate::reads::{push_maybe_reads, push_reads};
+use affine_systems::System;
+use call_translation::{Scope, next_number};
+use f77_symbols::{Bound, Place, Symbols, Variable};
+use fx_lists::List;
+use region_sets::{
+    Region, RegionSet, copy_region, has_none, named_cells, push_region, push_system, remade,
+    unite_all,
+};
+use std::alloc::{AllocError as Memory, Global};
+use transformer_algebra::without;
+
+/// Adds what the bounds of an array read.
+#[tactic(auto, using(region_sets::proofs::Steps::fitting))]
+fn push_bounds_reads(
+    alloc: Global,
+    out: &mut RegionSet,
+    scope: &Scope<'_>,
+    bounds: &[Bound],
+) -> Result<(), Memory>
+    requires { SetFits out.old }
+    ensures added { OnOk result (out.new ≡ out.old ++ bounds_reads (map bound_tree bounds.now) (scope_tree scope.now.symbols.now scope.now.tracked.now)) }
+    ensures fits { OnOk result (SetFits out.new) }
+{
+    let mut rest = bounds;
+    while let [bound, more @ ..] = rest {
+        push_reads(alloc, out, scope, &bound.low)?;
+        push_maybe_reads(alloc, out, scope, &bound.high)?;
+        rest = more;
+    }
+    Ok(())
+}
+
+/// What the bounds of all arrays read.
+#[tactic(auto, using(region_sets::proofs::Steps::fitting))]
+fn entry_reads(alloc: Global, scope: &Scope<'_>) -> Result<RegionSet, Memory>
+    ensures defined { IfOk result (λ rs. rs ≡ symbols_reads (map symbol_tree scope.now.symbols.now) (scope_tree scope.now.symbols.now scope.now.tracked.now)) }
+    ensures fits { IfOk result SetFits }
+{
+    let mut out = List::new(alloc);
+    let mut rest = scope.symbols.as_slice();
+    while let [symbol, more @ ..] = rest {
+        push_bounds_reads(alloc, &mut out, scope, symbol.bounds.as_slice())?;
+        rest = more;
+    }
+    Ok(out)
+}
+
+fn place_goes_out(place: &Place, saved: bool) -> bool
+    ensures { result ≡ place_goes_out_is place.now saved }
+{
+    match place {
+        Place::Local(..) => saved,
+        Place::Dummy(_) | Place::Block(..) => true,
+        Place::Constant(_) => false,
+    }
+}
+
+/// Whether callers see a variable: a dummy, one of a block, or one that is saved.
+fn goes_out(symbols: &Symbols, v: &Variable) -> bool
+    ensures { result ≡ goes_out_is (map symbol_tree symbols.now) v.now }
+{
+    match v {
+        Variable::Own(number) => match symbols.symbol(*number) {
+            None => false,
+            Some(symbol) => place_goes_out(&symbol.place, symbol.saved),
+        },
+        Variable::Block(_) | Variable::Saved(..) => true,
+    }
+}
+
+fn is_local(place: &Place) -> bool
+    ensures { result ≡ is_local_is place.now }
+{
+    match place {
+        Place::Local(..) => true,
+        Place::Dummy(_) | Place::Block(..) | Place::Constant(_) => false,
+    }
+}
+
+/// The numbers of the locals. Memory also where the module has 2^32 symbols or more.
+#[tactic(auto, using(crate::proofs::Steps::locals))]
+fn locals(alloc: Global, symbols: &Symbols) -> Result<Vec<u32>, Memory>
+    ensures { IfOk result (λ ns. ns.items ≡ locals_is (map symbol_tree symbols.now)) }
+{
+    let mut out = Vec::new(alloc);
+    let mut number = 0u32;
+    let mut rest = symbols.as_slice();
+    while let [symbol, more @ ..] = rest {
+        number = next_number(number)?;
+        if is_local(&symbol.place) {
+            out.push(number)?;
+        }
+        rest = more;
+    }
+    Ok(out)
+}
+
+/// Whether no system names one of the cells.
+#[tactic(auto, using(region_sets::proofs::Steps::fitting))]
+fn names_none(alloc: Global, cells: &[u32], pieces: &[System]) -> Result<bool, Memory>
+    ensures { IfOk result (λ b. b ≡ names_none_is cells.now pieces.now) }
+{
+    let mut rest = pieces;
+    while let [piece, more @ ..] = rest {
+        if !has_none(named_cells(alloc, cells, piece)?.as_slice()) {
+            return Ok(false);
+        }
+        rest = more;
+    }
+    Ok(true)
+}
+
+/// A region whatever numbers these cells have; not exact where it names one.
+#[tactic(auto, using(region_sets::proofs::Steps::fitting))]
+fn for_callers(alloc: Global, cells: &[u32], r: &Region) -> Result<Region, Memory>
+    requires { RegionFits r.now }
+    ensures defined { IfOk result (λ q. q ≡ for_callers_is cells.now r.now) }
+    ensures fits { IfOk result RegionFits }
+{
+    let plain = names_none(alloc, cells, r.pieces.as_slice())?;
+    let mut pieces = List::new(alloc);
+    let mut rest = r.pieces.as_slice();
+    while let [piece, more @ ..] = rest {
+        push_system(&mut pieces, without(alloc, cells, piece)?)?;
+        rest = more;
+    }
+    remade(r, r.exact && plain, pieces)
+}
+
+/// The regions of a set that callers see, without locals.
+#[tactic(auto, using(region_sets::proofs::Steps::fitting))]
+fn all_seen(alloc: Global, symbols: &Symbols, set: &[Region]) -> Result<RegionSet, Memory>
+    requires { SetFits set.now }
+    ensures defined { IfOk result (λ rs. rs ≡ seen (map symbol_tree symbols.now) (locals_is (map symbol_tree symbols.now)) set.now) }
+    ensures fits { IfOk result SetFits }
+{
+    let cells = locals(alloc, symbols)?;
+    let mut out = List::new(alloc);
+    let mut rest = set;
+    while let [r, more @ ..] = rest {
+        if goes_out(symbols, &r.variable) {
+            push_region(&mut out, for_callers(alloc, cells.as_slice(), r)?)?;
+        }
+        rest = more;
+    }
+    Ok(out)
+}
+
+/// What a module accesses as its callers see it: dummies, variables of blocks and saved ones, whatever its locals are; the bounds of
+/// its arrays are read where it is entered.
+pub fn summary_of(alloc: Global, scope: &Scope<'_>, body: &[Region]) -> Result<RegionSet, Memory>
+    requires { SetFits body.now }
+    ensures defined { IfOk result (λ rs. rs ≡ summary_of_is (scope_tree scope.now.symbols.now scope.now.tracked.now) body.now) }
+    ensures fits { IfOk result SetFits }
+{
+    let mut all = entry_reads(alloc, scope)?;
+    push_all(alloc, &mut all, body)?;
+    let set = unite_all(alloc, all.as_slice())?;
+    let out = all_seen(alloc, scope.symbols, set.as_slice())?;
+    unite_all(alloc, out.as_slice())
+}
+
+/// Adds copies of regions.
+#[tactic(auto, using(region_sets::proofs::Steps::fitting))]
+fn push_all(alloc: Global, out: &mut RegionSet, set: &[Region]) -> Result<(), Memory>
+    requires out { SetFits out.old }
+    requires set { SetFits set.now }
+    ensures added { OnOk result (out.new ≡ out.old ++ set.now) }
+    ensures fits { OnOk result (SetFits out.new) }
+{
+    let mut rest = set;
+    while let [r, more @ ..] = rest {
+        push_region(out, copy_region(alloc, r)?)?;
+        rest = more;
+    }
+    Ok(())
+}

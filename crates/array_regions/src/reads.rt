@@ -1,0 +1,103 @@
+//! What is read where expressions are evaluated.
+ghost use Rattle.std.specs.Prelude.{◌≡◌, ◌++◌, IfOk, OnOk};
+ghost use Rattle.f77_ast.specs.Plain.{expr_tree, expr_trees};
+ghost use Rattle.f77_ast.specs.PlainStmt.{maybe_tree};
+ghost use Rattle.call_translation.specs.Scopes.{scope_tree};
+ghost use Rattle.region_sets.specs.Sets.{SetFits};
+ghost use Rattle.array_regions.specs.Reads.{reads, all_reads, inner_reads, maybe_reads};
+
+use crate::references::{push_element, push_named};
+use call_translation::Scope;
+use f77_ast::Expr;
+use fx_lists::List;
+use region_sets::{Access, RegionSet};
+use std::alloc::{AllocError as Memory, Global};
+
+/// Adds what an expression reads, in the order of its evaluation.
+#[cycle(reads)]
+#[tactic(auto, using(crate::proofs::Steps::expr_parts))]
+pub fn push_reads(
+    alloc: Global,
+    out: &mut RegionSet,
+    scope: &Scope<'_>,
+    e: &Expr,
+) -> Result<(), Memory>
+    requires { SetFits out.old }
+    ensures added { OnOk result (out.new ≡ out.old ++ reads (expr_tree e.now) (scope_tree scope.now.symbols.now scope.now.tracked.now)) }
+    ensures fits { OnOk result (SetFits out.new) }
+{
+    match e {
+        Expr::Int(_) | Expr::Log(_) | Expr::Chars(_) => Ok(()),
+        Expr::Name(_) => push_named(alloc, out, scope, Access::Read, e),
+        Expr::Element(name, es) => {
+            push_all_reads(alloc, out, scope, es)?;
+            push_element(alloc, out, scope, Access::Read, name, es)
+        }
+        Expr::Paren(e) | Expr::Unary(_, e) => push_reads(alloc, out, scope, e),
+        Expr::Binary(_, a, b) => {
+            push_reads(alloc, out, scope, a)?;
+            push_reads(alloc, out, scope, b)
+        }
+    }
+}
+
+/// Adds what expressions read, one after another.
+#[cycle(reads)]
+#[tactic(auto, using(crate::proofs::Steps::expr_rest))]
+pub fn push_all_reads(
+    alloc: Global,
+    out: &mut RegionSet,
+    scope: &Scope<'_>,
+    es: &List<Expr>,
+) -> Result<(), Memory>
+    requires { SetFits out.old }
+    ensures added { OnOk result (out.new ≡ out.old ++ all_reads (expr_trees es.now) (scope_tree scope.now.symbols.now scope.now.tracked.now)) }
+    ensures fits { OnOk result (SetFits out.new) }
+{
+    for e in es.as_slice() {
+        push_reads(alloc, out, scope, e)?;
+    }
+    Ok(())
+}
+
+/// Adds what the subscripts of an element read.
+#[tactic(auto, using(crate::proofs::Steps::expr_parts))]
+pub fn push_inner_reads(
+    alloc: Global,
+    out: &mut RegionSet,
+    scope: &Scope<'_>,
+    e: &Expr,
+) -> Result<(), Memory>
+    requires { SetFits out.old }
+    ensures added { OnOk result (out.new ≡ out.old ++ inner_reads (expr_tree e.now) (scope_tree scope.now.symbols.now scope.now.tracked.now)) }
+    ensures fits { OnOk result (SetFits out.new) }
+{
+    match e {
+        Expr::Element(_, es) => push_all_reads(alloc, out, scope, es),
+        Expr::Int(_)
+        | Expr::Log(_)
+        | Expr::Name(_)
+        | Expr::Paren(_)
+        | Expr::Unary(..)
+        | Expr::Binary(..)
+        | Expr::Chars(_) => Ok(()),
+    }
+}
+
+/// Adds what an expression that may be missing reads.
+#[tactic(auto, using(crate::proofs::Steps::expr_parts))]
+pub fn push_maybe_reads(
+    alloc: Global,
+    out: &mut RegionSet,
+    scope: &Scope<'_>,
+    e: &Option<Expr>,
+) -> Result<(), Memory>
+    requires { SetFits out.old }
+    ensures added { OnOk result (out.new ≡ out.old ++ maybe_reads (maybe_tree e.now) (scope_tree scope.now.symbols.now scope.now.tracked.now)) }
+    ensures fits { OnOk result (SetFits out.new) }
+{
+    match e {
+        None => Ok(()),
+        Some(e) => push_reads(alloc, out, scope, e),
+    }
+}

@@ -1,0 +1,133 @@
+//! The regions of modules without CALLs.
+ghost use Rattle.std.specs.Prelude.{◌≡◌, All, length};
+ghost use Rattle.transformers.specs.Given.{ResultsFit};
+ghost use Rattle.scalar_phases.specs.Views.{AnalysisFits};
+
+use array_regions::regions;
+use call_graph::Graph;
+use f77_ast::Parsed;
+use f77_results::{Results, Summaries, View};
+use f77_symbols::Symbols;
+use fx_lists::{List, Text};
+use region_lines::region_lines;
+use region_sets::{Region, RegionSet, region_text};
+use scalar_phases::{Analysis, Found, analyses};
+use std::alloc::{AllocError as Memory, Global};
+
+fn text_of(text: &Text) -> &str {
+    match str::from_utf8(text.as_slice()) {
+        Ok(text) => text,
+        Err(_) => "?",
+    }
+}
+
+/// The lines that are added to a module, each with the number of the statement that it stands before.
+fn add_lines(
+    alloc: Global,
+    shown: &mut String,
+    view: &View<'_>,
+    sets: &Results<RegionSet>,
+) -> Result<(), Memory> {
+    let lines = region_lines(alloc, view, sets)?;
+    for added in lines.as_slice() {
+        let before = added.before;
+        write!(shown, "{before} ")?;
+        shown.push_str(text_of(&added.line))?;
+        shown.push_str("\n")?;
+    }
+    Ok(())
+}
+
+/// The regions of a set, in its order.
+fn add_set(
+    alloc: Global,
+    shown: &mut String,
+    symbols: &Symbols,
+    set: &[Region],
+) -> Result<(), Memory> {
+    for r in set {
+        let text = region_text(alloc, symbols, r)?;
+        shown.push_str(" ")?;
+        shown.push_str(text_of(&text))?;
+        shown.push_str("\n")?;
+    }
+    Ok(())
+}
+
+/// What each statement accesses, and what callers see.
+fn add_sets(
+    alloc: Global,
+    shown: &mut String,
+    symbols: &Symbols,
+    sets: &Results<RegionSet>,
+) -> Result<(), Memory> {
+    for at in sets.at.as_slice() {
+        let id = at.id;
+        write!(shown, "{id}\n")?;
+        add_set(alloc, shown, symbols, at.value.as_slice())?;
+    }
+    shown.push_str("summary\n")?;
+    add_set(alloc, shown, symbols, sets.summary.as_slice())
+}
+
+fn has_call(graph: &Graph, name: &Text) -> bool {
+    for edge in graph.edges.as_slice() {
+        if edge.caller == *name {
+            return true;
+        }
+    }
+    false
+}
+
+fn add_module(
+    alloc: Global,
+    shown: &mut String,
+    found: &Found<'_>,
+    graph: &Graph,
+) -> Result<(), Memory>
+    requires { ResultsFit found.now.own.at }
+{
+    if has_call(graph, &found.module.name) {
+        return Ok(());
+    }
+    let view = View {
+        module: found.module,
+        symbols: found.symbols,
+        graph,
+    };
+    shown.push_str("module ")?;
+    shown.push_str(text_of(&found.module.name))?;
+    shown.push_str("\n")?;
+    let sets = regions(alloc, &view, &found.own, &Summaries::new(alloc))?;
+    add_lines(alloc, shown, &view, &sets)?;
+    add_sets(alloc, shown, found.symbols, &sets)
+}
+
+#[tactic(auto, using(crate::proofs::Steps::analyses))]
+fn add_all(
+    alloc: Global,
+    shown: &mut String,
+    all: &[Analysis<'_>],
+    graph: &Graph,
+) -> Result<(), Memory>
+    requires { All AnalysisFits all.now }
+{
+    for known in all {
+        add_module(alloc, shown, &known.found, graph)?;
+    }
+    Ok(())
+}
+
+/// The regions of each module without CALLs, callers first.
+pub fn add_program(
+    alloc: Global,
+    shown: &mut String,
+    modules: &List<Parsed>,
+    tables: &List<Symbols>,
+    graph: &Graph,
+) -> Result<(), Memory>
+    requires { length modules.now ≡ length tables.now }
+{
+    let all = analyses(alloc, modules, tables, graph)?;
+    add_all(alloc, shown, all.as_slice(), graph)
+}

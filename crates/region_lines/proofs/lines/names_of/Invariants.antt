@@ -1,0 +1,6 @@
+use Rattle.std.proofs.Common.{◌≡◌, ◌++◌, drop}
+use Rattle.f77_symbols.specs.Index.{names_of}
+use Rattle.region_lines.proofs.lines.names_of.Given as goal
+
+abbrev pub invariant-loop-symbol : goal.invariant-loop-symbol
+invariant-loop-symbol l = l.names ++ names_of (drop l.symbol-index l.symbols) ≡ names_of l.symbols

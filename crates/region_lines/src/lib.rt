@@ -1,0 +1,6 @@
+//! The lines that say which elements CALLs of a module, and its DOs and CALLs, access.
+#![tactic(auto)]
+
+mod lines;
+
+pub use lines::region_lines;
