@@ -1,8 +1,8 @@
 //! Affine forms.
 use affine_systems::Terms;
 
-/// A sum of terms and a constant.
-#[derive(Clone, PartialEq, Eq, Debug, Drop)]
+/// An affine expression: a sum of terms, plus a constant.
+#[derive(Clone, PartialEq, Eq, Drop)]
 pub struct Affine {
     pub terms: Terms,
     pub constant: i128,

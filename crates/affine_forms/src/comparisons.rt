@@ -49,7 +49,7 @@ fn same(alloc: Global, f: &Affine, g: &Affine) -> Result<System, Memory>
     one_row(alloc, same_row(alloc, f, g)?)
 }
 
-/// Both sides are exact.
+/// The condition with these two sides, both exact.
 pub fn exactly(yes: System, no: System) -> Condition
     requires yes { Fits yes }
     requires no { Fits no }
@@ -92,7 +92,7 @@ fn only_no(alloc: Global, no: System) -> Condition
     }
 }
 
-/// Nothing is known.
+/// The condition that says nothing: no rows on either side, and neither exact. Takes no memory.
 pub fn unknown(alloc: Global) -> Condition
     ensures defined { result ≡ unknown_is }
     ensures fits { ConditionFits result }
@@ -105,7 +105,8 @@ pub fn unknown(alloc: Global) -> Condition
     }
 }
 
-/// What a comparison says; nothing of another operator.
+/// The condition of a relational expression (ANSI X3.9-1978, §6.3) on two affine forms. Of `.EQ.` nothing is known
+/// where it is false, of `.NE.` where it is true, and of another operator on neither side.
 pub fn comparison(alloc: Global, op: BinaryOp, f: &Affine, g: &Affine) -> Result<Condition, Memory>
     requires left { IsSmallForm f.now }
     requires right { IsSmallForm g.now }

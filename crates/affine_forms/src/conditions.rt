@@ -15,9 +15,9 @@ use f77_symbols::Symbols;
 use fx_lists::List;
 use std::alloc::{AllocError as Memory, Global};
 
-/// Systems that hold where the expression is true and where it is false. Where a side is exact, it holds only there, but for
-/// rows that were lost, of which its `weak` tells.
-#[derive(Clone, PartialEq, Eq, Debug, Drop)]
+/// Systems on the analysed scalars: `yes` holds where the expression is true, `no` where it is false. A side that is
+/// exact holds only there, unless it is weak.
+#[derive(Clone, PartialEq, Eq, Drop)]
 pub struct Condition {
     pub yes: System,
     pub yes_exact: bool,
@@ -36,7 +36,7 @@ fn of_truth(alloc: Global, truth: bool) -> Result<Condition, Memory>
     }
 }
 
-/// Of a name that stands for a LOGICAL constant.
+/// Of the name of a LOGICAL constant; it says nothing where the name has another value or none.
 fn constant_condition(alloc: Global, value: Option<Constant>) -> Result<Condition, Memory>
     ensures defined { IfOk result (λ c. c ≡ constant_condition_is value) }
     ensures fits { IfOk result ConditionFits }
@@ -109,8 +109,8 @@ fn comparison_of_forms(
     }
 }
 
-/// What a LOGICAL expression of a module with these symbols says of its tracked cells, of which there is a flag for each
-/// symbol in order.
+/// The condition of a LOGICAL expression on the analysed scalars of a module with these symbols; `tracked` has a flag
+/// for each symbol in order. It says nothing of what it has no rule for, such as `.EQV.` or a LOGICAL variable.
 #[tactic(auto, using(f77_ast::proofs::Plainly::expr_calls))]
 pub fn condition_of(
     alloc: Global,

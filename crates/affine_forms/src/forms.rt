@@ -7,7 +7,7 @@ ghost use Rattle.affine_forms.specs.Scalars.{scalars};
 ghost use Rattle.affine_forms.specs.Forms.{IsSmallForm, affine, number_form as number_is, name_form as name_is, limited as limited_form, plus as plus_form, times as times_form, product as product_form, sum_of, product_of, times_of, unary_form as unary_is, binary_form as binary_is, affine_of as affine_is};
 
 use crate::{Affine, cell_of};
-use affine_systems::terms::{blend, combined};
+use affine_systems::terms::{blend, combination};
 use affine_systems::{Term, Var};
 use f77_ast::{BinaryOp, Expr, UnaryOp};
 use f77_constants::{Constant, Worth, worth_of};
@@ -58,7 +58,7 @@ fn plus(alloc: Global, f: &Affine, k: i128, g: &Affine) -> Result<Option<Affine>
     ensures defined { IfOk result (λ o. o ≡ plus_form f.now k g.now) }
     ensures small { IfOk result (λ o. IfSome o IsSmallForm) }
 {
-    let terms = combined(alloc, 1, f.terms.as_slice(), k, g.terms.as_slice())?;
+    let terms = combination(alloc, 1, f.terms.as_slice(), k, g.terms.as_slice())?;
     let constant = blend(1, f.constant, k, g.constant);
     Ok(limit(Affine { terms, constant }))
 }
@@ -71,7 +71,7 @@ fn times(alloc: Global, k: i128, f: &Affine) -> Result<Option<Affine>, Memory>
     ensures defined { IfOk result (λ o. o ≡ times_form k f.now) }
     ensures small { IfOk result (λ o. IfSome o IsSmallForm) }
 {
-    let terms = combined(alloc, k, f.terms.as_slice(), 0, &[])?;
+    let terms = combination(alloc, k, f.terms.as_slice(), 0, &[])?;
     let constant = blend(k, f.constant, 0, 0);
     Ok(limit(Affine { terms, constant }))
 }
@@ -170,10 +170,10 @@ fn number_form(alloc: Global, number: i32) -> Option<Affine>
     })
 }
 
-/// The form of an INTEGER expression of a module with these symbols, over its tracked cells, of which there is a flag for each
-/// symbol in order. A constant expression whose evaluation gives no fault is its value. None where there is no form, or where
-/// a number reaches 2^62. What stands in so many parentheses and operators is looked at so many times, for constants, and each
-/// sum merges two lists.
+/// The affine form of an INTEGER expression over the analysed scalars of a module with these symbols; `tracked` has a
+/// flag for each symbol in order. A constant expression that evaluates without a fault is its value. None where it has
+/// no form, or a number reaches 2^62. Each subexpression is tried as a constant for itself and for each operator and
+/// parenthesis around it, and each sum merges two lists.
 #[tactic(auto, using(f77_ast::proofs::Plainly::expr_calls))]
 pub fn affine_of(
     alloc: Global,

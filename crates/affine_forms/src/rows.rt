@@ -5,12 +5,12 @@ ghost use Rattle.affine_forms.specs.Forms.{IsSmallForm};
 ghost use Rattle.affine_forms.specs.Comparisons.{difference as difference_is, at_most_row as at_most_row_is, below_row as below_row_is, same_row as same_row_is, var_form as var_form_is};
 
 use crate::Affine;
-use affine_systems::terms::combined;
+use affine_systems::terms::combination;
 use affine_systems::{Row, Term, Terms, Var};
 use fx_lists::List;
 use std::alloc::{AllocError as Memory, Global};
 
-/// The form of a variable.
+/// The form of a variable: its one term, with factor 1 and constant 0.
 pub fn var_form(alloc: Global, var: Var) -> Result<Affine, Memory>
     ensures defined { IfOk result (λ f. f ≡ var_form_is var) }
     ensures small { IfOk result IsSmallForm }
@@ -45,10 +45,10 @@ fn difference(alloc: Global, left: &Affine, right: &Affine) -> Result<Terms, Mem
     requires right { IsSmallForm right.now }
     ensures { IfOk result (λ ts. ts ≡ difference_is left.now right.now) }
 {
-    combined(alloc, 1, left.terms.as_slice(), -1, right.terms.as_slice())
+    combination(alloc, 1, left.terms.as_slice(), -1, right.terms.as_slice())
 }
 
-/// That one form is at most another.
+/// The at-most row which says that the left form is at most the right. Not normalised.
 pub fn at_most_row(alloc: Global, left: &Affine, right: &Affine) -> Result<Row, Memory>
     requires left { IsSmallForm left.now }
     requires right { IsSmallForm right.now }
@@ -64,7 +64,7 @@ pub fn at_most_row(alloc: Global, left: &Affine, right: &Affine) -> Result<Row, 
     })
 }
 
-/// That one form is below another.
+/// The at-most row which says that the left form is at most the right less 1. Not normalised.
 pub fn below_row(alloc: Global, left: &Affine, right: &Affine) -> Result<Row, Memory>
     requires left { IsSmallForm left.now }
     requires right { IsSmallForm right.now }
@@ -80,7 +80,7 @@ pub fn below_row(alloc: Global, left: &Affine, right: &Affine) -> Result<Row, Me
     })
 }
 
-/// That one form is another.
+/// The equal row which says that the two forms have one value. Not normalised.
 pub fn same_row(alloc: Global, left: &Affine, right: &Affine) -> Result<Row, Memory>
     requires left { IsSmallForm left.now }
     requires right { IsSmallForm right.now }

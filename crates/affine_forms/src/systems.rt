@@ -7,7 +7,7 @@ use affine_systems::{Row, System};
 use fx_lists::List;
 use std::alloc::{AllocError as Memory, Global};
 
-/// The system without rows. Takes no memory.
+/// The universe: the system without rows, which holds at each point. Takes no memory.
 pub fn no_rows(alloc: Global) -> System
     ensures defined { result ≡ no_rows_is }
     ensures fits { Fits result }
@@ -18,7 +18,7 @@ pub fn no_rows(alloc: Global) -> System
     }
 }
 
-/// The system of the one row 0 <= -1.
+/// The empty set: the system of the one row `0 <= -1`, which has no point.
 pub fn infeasible(alloc: Global) -> Result<System, Memory>
     ensures defined { IfOk result (λ s. s ≡ infeasible_is) }
     ensures fits { IfOk result Fits }

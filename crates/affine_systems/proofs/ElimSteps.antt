@@ -8,7 +8,7 @@ use Rattle.affine_systems.specs.declared.items.Eliminated.{Eliminated}
 use Rattle.affine_systems.specs.Points.{factor_of, occurs}
 use Rattle.affine_systems.specs.Items.{AllItems, next_made, Cut, cut_at, others, cut_of}
 use Rattle.affine_systems.specs.Tidy.{tidy_items}
-use Rattle.affine_systems.specs.Eliminate.{AreLower, eliminated, unchanged, any_has, has_unit, is_unit_on, is_equal_on, all_cancelled, keep, is_lower, is_upper, is_without, pair, with_uppers, pairs, all_have_unit, every_pair_unit, paired_off, by_equal, by_unit, eliminate_item}
+use Rattle.affine_systems.specs.Eliminate.{AreLower, elimination_of, unchanged, any_has, has_unit, is_unit_on, is_equal_on, all_cancelled, keep, is_lower, is_upper, is_without, pair, with_uppers, pairs, all_have_unit, every_pair_unit, paired_off, by_equal, by_unit, eliminate_item}
 use Rattle.affine_systems.specs.Given.{IsGiven, ItemsFit, ItemsGiven, ItemsSmall, IsSmallRow}
 use Rattle.affine_systems.proofs.Basics.{if_cases, int_eq-true}
 use Rattle.std.proofs.Math.Nat.{mul-le-mul}
@@ -228,7 +228,7 @@ pairs_given q v is js h e = subst ItemsGiven (sym e) (paired_items_has IsGiven (
 
 -- what elimination by the equal row at a place makes
 abbrev pub by_result : Bool → Var → List Item → ℕ → Bool → Eliminated
-by_result q v is k exact = eliminated exact false (tidy_items q (all_cancelled (next_made is) (cut_of is k).at v (others (cut_of is k))))
+by_result q v is k exact = elimination_of exact false (tidy_items q (all_cancelled (next_made is) (cut_of is k).at v (others (cut_of is k))))
 
 passes_at : (f : Item → Bool) (is : List Item) (c : Cut) → cut_at f is ≡ Some c → f c.at ≡ true
 passes_at f is c e = subst (CutPasses f) e (cut_passes f is)
@@ -239,13 +239,13 @@ by_case q v is o a u = ap (by_unit q v is) (sym u) ∙ ap (λ b. if b then by_un
 pub elim_absent : (q : Bool) (v : Var) (is : List Item) → any_has v is ≡ false → unchanged is ≡ eliminate_item q v is
 elim_absent q v is a = ap (λ b. if b then by_unit q v is (cut_at (is_unit_on v) is) else unchanged is) (sym a)
 
-pub elim_unit : (q : Bool) (v : Var) (is : List Item) (k : ℕ) (e : Eliminated) → any_has v is ≡ true → cut_at (is_unit_on v) is ≡ Some (cut_of is k) → e ≡ eliminated true false (tidy_items q (all_cancelled (next_made is) (cut_of is k).at v (others (cut_of is k)))) → e ≡ eliminate_item q v is
+pub elim_unit : (q : Bool) (v : Var) (is : List Item) (k : ℕ) (e : Eliminated) → any_has v is ≡ true → cut_at (is_unit_on v) is ≡ Some (cut_of is k) → e ≡ elimination_of true false (tidy_items q (all_cancelled (next_made is) (cut_of is k).at v (others (cut_of is k)))) → e ≡ eliminate_item q v is
 elim_unit q v is k e a u h =
     let c = cut_of is k in
     let f = and_parts c.at.row.equal (has_unit v c.at) (passes_at (is_unit_on v) is c u) in
-    h ∙ (ap (λ js. eliminated true false (tidy_items q js)) (sym (substituted-cancelled (next_made is) c.at v (others c) f.1)) ∙ by_case q v is (Some c) a u)
+    h ∙ (ap (λ js. elimination_of true false (tidy_items q js)) (sym (substituted-cancelled (next_made is) c.at v (others c) f.1)) ∙ by_case q v is (Some c) a u)
 
-pub elim_equal : (q : Bool) (v : Var) (is : List Item) (k : ℕ) (e : Eliminated) → any_has v is ≡ true → cut_at (is_unit_on v) is ≡ None → cut_at (is_equal_on v) is ≡ Some (cut_of is k) → e ≡ eliminated false false (tidy_items q (all_cancelled (next_made is) (cut_of is k).at v (others (cut_of is k)))) → e ≡ eliminate_item q v is
+pub elim_equal : (q : Bool) (v : Var) (is : List Item) (k : ℕ) (e : Eliminated) → any_has v is ≡ true → cut_at (is_unit_on v) is ≡ None → cut_at (is_equal_on v) is ≡ Some (cut_of is k) → e ≡ elimination_of false false (tidy_items q (all_cancelled (next_made is) (cut_of is k).at v (others (cut_of is k)))) → e ≡ eliminate_item q v is
 elim_equal q v is k e a u w h = h ∙ (ap (by_equal q v is) (sym w) ∙ by_case q v is None a u)
 
 pub elim_pairs : (q : Bool) (v : Var) (is : List Item) (e : Eliminated) → any_has v is ≡ true → cut_at (is_unit_on v) is ≡ None → cut_at (is_equal_on v) is ≡ None → e ≡ paired_off q v is → e ≡ eliminate_item q v is

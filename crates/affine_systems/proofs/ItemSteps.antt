@@ -7,7 +7,7 @@ use Rattle.affine_systems.specs.declared.items.Item.{Item}
 use Rattle.affine_systems.specs.Rows.{same_shape}
 use Rattle.affine_systems.specs.Items.{joined, item, AllItems, next_made, false_item}
 use Rattle.affine_systems.specs.Normal.{Normal, Kept, Always, Never, TooBig, normal, Answers}
-use Rattle.affine_systems.specs.Tidy.{with_normal, normal_items, is_too_big, any_too_big, stronger, one_each_after, are_opposite, merged_row, against, faced, faced_all}
+use Rattle.affine_systems.specs.Tidy.{with_normal, normal_items, is_too_big, any_too_big, stronger, one_each_after, are_opposite, merged_row, against, face_opposite, faced_all}
 use Rattle.affine_systems.specs.Given.{ItemsSmall, IsSmallRow}
 use Rattle.affine_systems.proofs.Basics.{int_eq-true}
 use Rattle.std.specs.Prelude.{if◌then◌else◌}
@@ -105,14 +105,14 @@ emptied xs (y ∷ ys) e h = absurd (omega arith)
 
 -- ---- an item against its opposite
 
-pub faced-passed : (n : ℕ) (i : Item) (js : List Item) (k : ℕ) (d : Item) → k < length js → are_opposite i.row (get_or js k d).row ≡ false → faced n i (drop k js) ≡ faced n i (drop (k + 1) js)
-faced-passed n i js k d h e = rw (add-one k) (ap (faced n i) (drop-cons js k d h) ∙ rw e refl)
+pub faced-passed : (n : ℕ) (i : Item) (js : List Item) (k : ℕ) (d : Item) → k < length js → are_opposite i.row (get_or js k d).row ≡ false → face_opposite n i (drop k js) ≡ face_opposite n i (drop (k + 1) js)
+faced-passed n i js k d h e = rw (add-one k) (ap (face_opposite n i) (drop-cons js k d h) ∙ rw e refl)
 
-pub faced-found : (n : ℕ) (i : Item) (js : List Item) (k : ℕ) (d : Item) → k < length js → are_opposite i.row (get_or js k d).row ≡ true → faced n i (drop k js) ≡ against n i (get_or js k d)
-faced-found n i js k d h e = ap (faced n i) (drop-cons js k d h) ∙ rw e refl
+pub faced-found : (n : ℕ) (i : Item) (js : List Item) (k : ℕ) (d : Item) → k < length js → are_opposite i.row (get_or js k d).row ≡ true → face_opposite n i (drop k js) ≡ against n i (get_or js k d)
+faced-found n i js k d h e = ap (face_opposite n i) (drop-cons js k d h) ∙ rw e refl
 
-pub faced-end : (n : ℕ) (i : Item) (js : List Item) (k : ℕ) → length js ≤ k → faced n i (drop k js) ≡ i
-faced-end n i js k h = ap (faced n i) (drop_of_length-le js h)
+pub faced-end : (n : ℕ) (i : Item) (js : List Item) (k : ℕ) → length js ≤ k → face_opposite n i (drop k js) ≡ i
+faced-end n i js k h = ap (face_opposite n i) (drop_of_length-le js h)
 
 pub ruleset faced_loop = (faced-passed, faced-found, faced-end)
 
@@ -131,26 +131,26 @@ against-stays n i j h =
 
 -- whatever number it would take, an item stays
 abbrev pub Stays : Item → List Item → Type 0
-Stays i js = (n : ℕ) → faced n i js ≡ i
+Stays i js = (n : ℕ) → face_opposite n i js ≡ i
 
-pub stays-passed : (i : Item) (js all : List Item) (k : ℕ) (d : Item) → k < length js → are_opposite i.row (get_or js k d).row ≡ false → ((n : ℕ) → faced n i (drop k js) ≡ faced n i all) → (n : ℕ) → faced n i (drop (k + 1) js) ≡ faced n i all
+pub stays-passed : (i : Item) (js all : List Item) (k : ℕ) (d : Item) → k < length js → are_opposite i.row (get_or js k d).row ≡ false → ((n : ℕ) → face_opposite n i (drop k js) ≡ face_opposite n i all) → (n : ℕ) → face_opposite n i (drop (k + 1) js) ≡ face_opposite n i all
 stays-passed i js all k d h e s n = sym (faced-passed n i js k d h e) ∙ s n
 
-pub stays-found : (i : Item) (js all : List Item) (k : ℕ) (d : Item) → k < length js → are_opposite i.row (get_or js k d).row ≡ true → pos 0 <ℤ (i.row.bound +ℤ (get_or js k d).row.bound) → ((n : ℕ) → faced n i (drop k js) ≡ faced n i all) → (n : ℕ) → faced n i all ≡ i
+pub stays-found : (i : Item) (js all : List Item) (k : ℕ) (d : Item) → k < length js → are_opposite i.row (get_or js k d).row ≡ true → pos 0 <ℤ (i.row.bound +ℤ (get_or js k d).row.bound) → ((n : ℕ) → face_opposite n i (drop k js) ≡ face_opposite n i all) → (n : ℕ) → face_opposite n i all ≡ i
 stays-found i js all k d h e l s n = sym (s n) ∙ (faced-found n i js k d h e ∙ against-stays n i (get_or js k d) l)
 
-pub stays-end : (i : Item) (js all : List Item) (k : ℕ) → length js ≤ k → ((n : ℕ) → faced n i (drop k js) ≡ faced n i all) → (n : ℕ) → faced n i all ≡ i
+pub stays-end : (i : Item) (js all : List Item) (k : ℕ) → length js ≤ k → ((n : ℕ) → face_opposite n i (drop k js) ≡ face_opposite n i all) → (n : ℕ) → face_opposite n i all ≡ i
 stays-end i js all k h s n = sym (s n) ∙ faced-end n i js k h
 
 pub ruleset stays_loop = (stays-passed, stays-found, stays-end)
 
-faced_all-push : (n : ℕ) (is js : List Item) (i : Item) → faced_all n (is ++ i ∷ []) js ≡ faced_all n is js ++ faced (n + length is) i js ∷ []
-faced_all-push n [] js i = let e : n ≡ n + 0 = omega arith in ap (λ m. faced m i js ∷ []) e
+faced_all-push : (n : ℕ) (is js : List Item) (i : Item) → faced_all n (is ++ i ∷ []) js ≡ faced_all n is js ++ face_opposite (n + length is) i js ∷ []
+faced_all-push n [] js i = let e : n ≡ n + 0 = omega arith in ap (λ m. face_opposite m i js ∷ []) e
 faced_all-push n (k ∷ ks) js i =
     let e : suc n + length ks ≡ n + suc (length ks) = omega arith in
-    ap (λ hs. faced n k js ∷ hs) (faced_all-push (suc n) ks js i ∙ ap (λ m. faced_all (suc n) ks js ++ faced m i js ∷ []) e)
+    ap (λ hs. face_opposite n k js ∷ hs) (faced_all-push (suc n) ks js i ∙ ap (λ m. faced_all (suc n) ks js ++ face_opposite m i js ∷ []) e)
 
-pub all_stay-more : (is js : List Item) (k : ℕ) (d : Item) → k < length is → ((n : ℕ) → faced n (get_or is k d) js ≡ get_or is k d) → ((n : ℕ) → faced_all n (take k is) js ≡ take k is) → (n : ℕ) → faced_all n (take (k + 1) is) js ≡ take (k + 1) is
+pub all_stay-more : (is js : List Item) (k : ℕ) (d : Item) → k < length is → ((n : ℕ) → face_opposite n (get_or is k d) js ≡ get_or is k d) → ((n : ℕ) → faced_all n (take k is) js ≡ take k is) → (n : ℕ) → faced_all n (take (k + 1) is) js ≡ take (k + 1) is
 all_stay-more is js k d h s a n =
     let e = take_more is k d h in
     ap (λ hs. faced_all n hs js) e ∙ (faced_all-push n (take k is) js (get_or is k d) ∙ (ap₂ (λ (hs : List Item) g. hs ++ g ∷ []) (a n) (s (n + length (take k is))) ∙ sym e))
@@ -160,13 +160,13 @@ all_stay-end is js k h a n = let e = take_all k is h in ap (λ hs. faced_all n h
 
 pub ruleset all_stay_loop = (all_stay-more, all_stay-end)
 
-pub faced_all-more : (n : ℕ) (is js out new goal : List Item) (k : ℕ) (d : Item) → k < length is → new ≡ out ++ faced (n + k) (get_or is k d) js ∷ [] → out ++ faced_all (n + k) (drop k is) js ≡ goal → new ++ faced_all (n + (k + 1)) (drop (k + 1) is) js ≡ goal
+pub faced_all-more : (n : ℕ) (is js out new goal : List Item) (k : ℕ) (d : Item) → k < length is → new ≡ out ++ face_opposite (n + k) (get_or is k d) js ∷ [] → out ++ faced_all (n + k) (drop k is) js ≡ goal → new ++ faced_all (n + (k + 1)) (drop (k + 1) is) js ≡ goal
 faced_all-more n is js out new goal k d h e a =
     let s : n + (k + 1) ≡ suc (n + k) = omega arith in
     let x : drop k is ≡ get_or is k d ∷ drop (suc k) is = drop-cons is k d h in
     ap₂ (λ m hs. new ++ faced_all m hs js) s (ap (λ m. drop m is) (add-one k))
     ∙ (ap (λ hs. hs ++ faced_all (suc (n + k)) (drop (suc k) is) js) e
-    ∙ (append_assoc out (faced (n + k) (get_or is k d) js ∷ []) (faced_all (suc (n + k)) (drop (suc k) is) js)
+    ∙ (append_assoc out (face_opposite (n + k) (get_or is k d) js ∷ []) (faced_all (suc (n + k)) (drop (suc k) is) js)
     ∙ (ap (λ hs. out ++ faced_all (n + k) hs js) (sym x) ∙ a)))
 
 -- ---- the numbers of items

@@ -11,7 +11,7 @@ use Rattle.affine_systems.specs.Rows.{false_row, combine_as, is_before, same_sha
 use Rattle.affine_systems.specs.Points.{factor_of, occurs}
 use Rattle.affine_systems.specs.Items.{joined, item, tidied, AllItems, next_made, false_item, any_false, collapsed, Cut, cut, cut_later, cut_at, others}
 use Rattle.affine_systems.specs.Normal.{Normal, Kept, Always, Never, TooBig, normal}
-use Rattle.affine_systems.specs.Tidy.{with_normal, normal_items, put, sorted, stronger, one_each_after, one_each, row_limit, are_opposite, merged_row, against, faced, faced_all, in_form, merged, round, is_unit, unit_var, is_to_take, next_pivot, by_row, all_substituted, taken, pivoted, turn_limit, after_round, tidy_turns, tidy_items}
+use Rattle.affine_systems.specs.Tidy.{with_normal, normal_items, put, sorted, stronger, one_each_after, one_each, row_limit, are_opposite, merged_row, against, face_opposite, faced_all, in_form, merged, round, is_unit, unit_var, is_to_take, next_pivot, by_row, all_substituted, taken, pivoted, turn_limit, after_round, tidy_turns, tidy_items}
 use Rattle.affine_systems.specs.Eliminate.{unchanged, any_has, has_unit, is_unit_on, is_equal_on, cancelling, all_cancelled, keep, is_lower, is_upper, is_without, with_uppers, pairs, by_equal, by_unit, eliminate_item}
 use Rattle.affine_systems.proofs.Basics.{if_cases}
 
@@ -84,11 +84,11 @@ take_has P (suc n) [] h = tt
 take_has P zero (i ∷ is) h = tt
 take_has P (suc n) (i ∷ is) h = (h.0, take_has P n is h.1)
 
-faced_has : (A P : Row → Type 0) (q : Bool) → Lasts A P q → (n : ℕ) (i : Item) (js : List Item) → P i.row → Has P js → P (faced n i js).row
+faced_has : (A P : Row → Type 0) (q : Bool) → Lasts A P q → (n : ℕ) (i : Item) (js : List Item) → P i.row → Has P js → P (face_opposite n i js).row
 faced_has A P q l n i [] h k = h
 faced_has A P q l n i (j ∷ js) h k =
     let Q = λ (m : Item). P m.row in
-    if_cases Q (are_opposite i.row j.row) (against n i j) (faced n i js)
+    if_cases Q (are_opposite i.row j.row) (against n i j) (face_opposite n i js)
     (λ e. if_cases Q (int_lt (i.row.bound +ℤ j.row.bound) (pos 0)) false_item (if int_eq (i.row.bound +ℤ j.row.bound) (pos 0) then item (merged_row i.row j.row) (joined i.originals j.originals) n else i)
     (λ t. l.of_false)
     (λ t. if_cases Q (int_eq (i.row.bound +ℤ j.row.bound) (pos 0)) (item (merged_row i.row j.row) (joined i.originals j.originals) n) i (λ z. l.of_merged i.row j.row e z h k.0) (λ z. h)))

@@ -20,8 +20,10 @@ pub mod RenameSteps
 pub mod SystemSteps
 pub mod TurnSteps
 pub mod PivotSteps
+pub mod PlaceSteps
 pub mod ItemSteps
 pub mod SortLaws
+pub mod ArrangeSteps
 pub mod Orders
 pub mod Factors
 pub mod RowSteps

@@ -14,7 +14,7 @@ use Rattle.affine_systems.specs.Rows.{combine}
 use Rattle.affine_systems.specs.Points.{factor_of, occurs}
 use Rattle.affine_systems.specs.Items.{joined, item, next_made, false_item, Cut, cut, cut_later, cut_at, cut_of}
 use Rattle.affine_systems.specs.Tidy.{is_unit, last_unit, unit_var, times, by_row, all_substituted, taken, pivoted}
-use Rattle.affine_systems.specs.Eliminate.{cancelling, cancelled, all_cancelled}
+use Rattle.affine_systems.specs.Eliminate.{cancelling, cancel_variable, all_cancelled}
 use Rattle.affine_systems.specs.Given.{ItemsSmall, IsSmallRow}
 use Rattle.affine_systems.proofs.ItemSteps.{item_at}
 use Rattle.affine_systems.proofs.FitLaws.{unit_var_has}
@@ -110,11 +110,11 @@ substituted-cancelled n e v (i ∷ is) u =
 
 -- ---- each item with the variable cancelled
 
-all_cancelled-push : (n : ℕ) (e : Item) (v : Var) (is : List Item) (i : Item) → all_cancelled n e v (is ++ i ∷ []) ≡ all_cancelled n e v is ++ cancelled (n + length is) e v i ∷ []
-all_cancelled-push n e v [] i = let z : n ≡ n + 0 = omega arith in ap (λ m. cancelled m e v i ∷ []) z
+all_cancelled-push : (n : ℕ) (e : Item) (v : Var) (is : List Item) (i : Item) → all_cancelled n e v (is ++ i ∷ []) ≡ all_cancelled n e v is ++ cancel_variable (n + length is) e v i ∷ []
+all_cancelled-push n e v [] i = let z : n ≡ n + 0 = omega arith in ap (λ m. cancel_variable m e v i ∷ []) z
 all_cancelled-push n e v (j ∷ js) i =
     let s : suc n + length js ≡ n + suc (length js) = omega arith in
-    ap (λ (ks : List Item). cancelled n e v j ∷ ks) (all_cancelled-push (suc n) e v js i ∙ ap (λ m. all_cancelled (suc n) e v js ++ cancelled m e v i ∷ []) s)
+    ap (λ (ks : List Item). cancel_variable n e v j ∷ ks) (all_cancelled-push (suc n) e v js i ∙ ap (λ m. all_cancelled (suc n) e v js ++ cancel_variable m e v i ∷ []) s)
 
 length-all_cancelled : (n : ℕ) (e : Item) (v : Var) (is : List Item) → length (all_cancelled n e v is) ≡ length is
 length-all_cancelled n e v [] = refl
@@ -151,17 +151,17 @@ module _ (n : ℕ) (e : Item) (v : Var) (is ys : List Item) (k : ℕ) (l : k < l
       let a = ap length h in
       omega (arith, a, length-append (all_cancelled n e v (take k is)) (drop k is), length-all_cancelled n e v (take k is), length-take k is, length-drop k is)
 
-  pub cancelled-more : (d : Item) → set ys k (cancelled (n + k) e v (get_or ys k d)) ≡ cancelled_to n e v is (k + 1)
+  pub cancelled-more : (d : Item) → set ys k (cancel_variable (n + k) e v (get_or ys k d)) ≡ cancelled_to n e v is (k + 1)
   cancelled-more d =
       let x = get_or is k d in
-      let y = cancelled (n + k) e v x in
+      let y = cancel_variable (n + k) e v x in
       let t : length (take k is) ≡ k = omega (arith, length-take k is) in
-      ap (λ (j : Item). set ys k (cancelled (n + k) e v j)) (cancelled-read d)
+      ap (λ (j : Item). set ys k (cancel_variable (n + k) e v j)) (cancelled-read d)
       ∙ (ap (λ js. set js k y) (split d)
       ∙ (set-seam (all_cancelled n e v (take k is)) x y (drop (suc k) is) k place
       ∙ (sym (append_assoc (all_cancelled n e v (take k is)) (y ∷ []) (drop (suc k) is))
       ∙ ap₂ (λ (js : List Item) m. js ++ drop m is)
-      (ap (λ m. all_cancelled n e v (take k is) ++ cancelled (n + m) e v x ∷ []) (sym t) ∙ (sym (all_cancelled-push n e v (take k is) x) ∙ ap (all_cancelled n e v) (sym (take_more is k d l))))
+      (ap (λ m. all_cancelled n e v (take k is) ++ cancel_variable (n + m) e v x ∷ []) (sym t) ∙ (sym (all_cancelled-push n e v (take k is) x) ∙ ap (all_cancelled n e v) (sym (take_more is k d l))))
       (sym (add-one k)))))
 
 pub cancelled-all : (n : ℕ) (e : Item) (v : Var) (is ys : List Item) (k : ℕ) → length is ≤ k → ys ≡ cancelled_to n e v is k → ys ≡ all_cancelled n e v is

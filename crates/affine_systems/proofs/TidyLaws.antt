@@ -14,7 +14,7 @@ use Rattle.affine_systems.specs.Rows.{row, false_row, combine, is_before, same_s
 use Rattle.affine_systems.specs.Points.{Point, value, Meets, Holds, HoldsAll, factor_of, occurs}
 use Rattle.affine_systems.specs.Items.{joined, item, AllItems, next_made, items_from, rows_of, false_item, is_false_row, any_false, collapsed, Cut, cut, cut_later, cut_at, others}
 use Rattle.affine_systems.specs.Normal.{last_is_negative, Normal, Kept, Always, Never, TooBig, normal}
-use Rattle.affine_systems.specs.Tidy.{with_normal, normal_items, is_too_big, any_too_big, put, sorted, stronger, one_each_after, one_each, row_limit, are_opposite, merged_row, against, faced, faced_all, in_form, merged, round, unit_var, is_elsewhere, is_to_take, next_pivot, by_row, substituted, all_substituted, taken, pivoted, turn_limit, after_round, tidy_turns, tidy_items, tidy}
+use Rattle.affine_systems.specs.Tidy.{with_normal, normal_items, is_too_big, any_too_big, put, sorted, stronger, one_each_after, one_each, row_limit, are_opposite, merged_row, against, face_opposite, faced_all, in_form, merged, round, unit_var, is_elsewhere, is_to_take, next_pivot, by_row, substituted, all_substituted, taken, pivoted, turn_limit, after_round, tidy_turns, tidy_items, tidy}
 use Rattle.affine_systems.proofs.Basics.{if_cases, int_eq-true, neg_mul}
 use Rattle.affine_systems.proofs.TermLaws.{value-add_terms, var_eq-true}
 use Rattle.affine_systems.proofs.OrderLaws.{same_shape-true}
@@ -215,17 +215,17 @@ against_back p n i j e =
     (λ m h. (at_most p i.row o.0).1 (omega (arith, ints, h))))
     (λ z h. h))
 
-faced_holds : (p : Point) (n : ℕ) (i : Item) (js : List Item) → Holds p i.row → HoldsItems p js → Holds p (faced n i js).row
+faced_holds : (p : Point) (n : ℕ) (i : Item) (js : List Item) → Holds p i.row → HoldsItems p js → Holds p (face_opposite n i js).row
 faced_holds p n i [] h k = h
 faced_holds p n i (j ∷ js) h k =
-    if_cases (λ (m : Item). Holds p m.row) (are_opposite i.row j.row) (against n i j) (faced n i js)
+    if_cases (λ (m : Item). Holds p m.row) (are_opposite i.row j.row) (against n i j) (face_opposite n i js)
     (λ e. against_holds p n i j e h k.0)
     (λ e. faced_holds p n i js h k.1)
 
-faced_back : (p : Point) (n : ℕ) (i : Item) (js : List Item) → Holds p (faced n i js).row → Holds p i.row
+faced_back : (p : Point) (n : ℕ) (i : Item) (js : List Item) → Holds p (face_opposite n i js).row → Holds p i.row
 faced_back p n i [] h = h
 faced_back p n i (j ∷ js) h =
-    if_cases (λ (m : Item). Holds p m.row → Holds p i.row) (are_opposite i.row j.row) (against n i j) (faced n i js)
+    if_cases (λ (m : Item). Holds p m.row → Holds p i.row) (are_opposite i.row j.row) (against n i j) (face_opposite n i js)
     (λ e k. against_back p n i j e k)
     (λ e k. faced_back p n i js k)
     h

@@ -14,8 +14,8 @@ use Rattle.affine_systems.specs.Rows.{system, combine, combine_as}
 use Rattle.affine_systems.specs.Items.{item, AllItems, joined, next_made, items_from, rows_of, Cut, cut_at, others}
 use Rattle.affine_systems.specs.Tidy.{is_unit, all_substituted, tidy_items}
 
-abbrev pub eliminated : Bool → Bool → Tidied → Eliminated
-eliminated e p t = record { items = t.items; exact = e && not t.lost; lost = t.lost; paired = p }
+abbrev pub elimination_of : Bool → Bool → Tidied → Eliminated
+elimination_of e p t = record { items = t.items; exact = e && not t.lost; lost = t.lost; paired = p }
 
 abbrev pub unchanged : List Item → Eliminated
 unchanged is = record { items = is; exact = true; lost = false; paired = false }
@@ -38,15 +38,15 @@ is_equal_on v i = i.row.equal && occurs v i.row
 abbrev pub cancelling : ℤ → Row → Row → ℤ → Row
 cancelling a r e c = combine (pos (unsigned_abs a)) r (if int_lt a (pos 0) then c else neg_ℤ c) e
 
-abbrev pub cancelled : ℕ → Item → Var → Item → Item
-cancelled n e v i =
+abbrev pub cancel_variable : ℕ → Item → Var → Item → Item
+cancel_variable n e v i =
     if occurs v i.row
     then item (cancelling (factor_of v e.row.terms) i.row e.row (factor_of v i.row.terms)) (joined i.originals e.originals) n
     else i
 
 abbrev pub all_cancelled : ℕ → Item → Var → List Item → List Item
 all_cancelled n e v [] = []
-all_cancelled n e v (i ∷ is) = cancelled n e v i ∷ all_cancelled (suc n) e v is
+all_cancelled n e v (i ∷ is) = cancel_variable n e v i ∷ all_cancelled (suc n) e v is
 
 abbrev pub keep : (Item → Bool) → List Item → List Item
 keep f is = filter f is
@@ -88,14 +88,14 @@ abbrev pub paired_off : Bool → Var → List Item → Eliminated
 paired_off q v is =
     let lows = keep (is_lower v) is in
     let ups = keep (is_upper v) is in
-    eliminated (every_pair_unit v lows ups) true (tidy_items q (keep (is_without v) is ++ pairs (next_made is) v lows ups))
+    elimination_of (every_pair_unit v lows ups) true (tidy_items q (keep (is_without v) is ++ pairs (next_made is) v lows ups))
 
 abbrev pub by_equal : Bool → Var → List Item → Option Cut → Eliminated
-by_equal q v is (Some c) = eliminated false false (tidy_items q (all_cancelled (next_made is) c.at v (others c)))
+by_equal q v is (Some c) = elimination_of false false (tidy_items q (all_cancelled (next_made is) c.at v (others c)))
 by_equal q v is None = paired_off q v is
 
 abbrev pub by_unit : Bool → Var → List Item → Option Cut → Eliminated
-by_unit q v is (Some c) = eliminated true false (tidy_items q (all_substituted (next_made is) c.at v (others c)))
+by_unit q v is (Some c) = elimination_of true false (tidy_items q (all_substituted (next_made is) c.at v (others c)))
 by_unit q v is None = by_equal q v is (cut_at (is_equal_on v) is)
 
 -- the first case that fits: v does not occur; an equal row with factor 1 or -1; an equal row with v; pairs

@@ -4,6 +4,7 @@ pub mod Points
 pub mod Normal
 pub mod Items
 pub mod Tidy
+pub mod Places
 pub mod Eliminate
 pub mod Calls
 pub mod Given

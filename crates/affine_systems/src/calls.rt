@@ -14,13 +14,15 @@ use crate::elimination::eliminate_item;
 use crate::false_rows::copy_row;
 use crate::normal::normalise;
 use crate::rows::cancel;
-use crate::systems::{copy_rows, items_of, rows_of, tidied};
-use crate::terms::{combined, factor_of};
+use crate::systems::{copy_rows, items_of, rows_of, tidy_rows};
+use crate::terms::{combination, factor_of};
 use crate::{Elim, Norm, Row, System, Term, Terms, Var};
 use fx_lists::List;
 use std::alloc::{AllocError as Memory, Global};
 
-/// Normal rows, one for each list of terms, in order, with the pivot of each equal row in no other row.
+/// The simplified system, in the form that all calls take and give: at most 512 normal rows in the order of rows, one
+/// for each list of terms, with the pivot of each equal row in no other row; `0 <= -1` alone where a row is found
+/// infeasible. Rows with a number of 2^62 or more, and those past the 512, are lost, which makes it weak.
 pub fn tidy(alloc: Global, sys: &System) -> Result<System, Memory>
     requires fits { AllRows IsGiven sys.now.rows }
     ensures defined { IfOk result (λ s. s ≡ tidy_is sys.now) }
@@ -29,10 +31,11 @@ pub fn tidy(alloc: Global, sys: &System) -> Result<System, Memory>
     ensures no_new_points { IfOk result (AddsNoPoint sys.now) }
 {
     let rows = copy_rows(alloc, sys.rows.as_slice())?;
-    tidied(alloc, rows, sys.weak)
+    tidy_rows(alloc, rows, sys.weak)
 }
 
-/// The rows and the row, tidied.
+/// The system with one more row, tidied. It has the points of the system at which the row holds, and no others unless
+/// it is weak.
 pub fn push_row(alloc: Global, sys: &System, row: &Row) -> Result<System, Memory>
     requires fits { Fits sys.now }
     requires row { IsGiven row.now }
@@ -43,10 +46,10 @@ pub fn push_row(alloc: Global, sys: &System, row: &Row) -> Result<System, Memory
 {
     let mut rows = copy_rows(alloc, sys.rows.as_slice())?;
     rows.push(copy_row(alloc, row)?)?;
-    tidied(alloc, rows, sys.weak)
+    tidy_rows(alloc, rows, sys.weak)
 }
 
-/// The rows of both, tidied.
+/// The conjunction of two systems, tidied. It has the points that both have, and no others unless it is weak.
 pub fn meet(alloc: Global, one: &System, other: &System) -> Result<System, Memory>
     requires fits { Fits one.now }
     requires other_fits { Fits other.now }
@@ -58,7 +61,7 @@ pub fn meet(alloc: Global, one: &System, other: &System) -> Result<System, Memor
     let mut rows = copy_rows(alloc, one.rows.as_slice())?;
     let mut more = copy_rows(alloc, other.rows.as_slice())?;
     rows.append(&mut more)?;
-    tidied(alloc, rows, one.weak || other.weak)
+    tidy_rows(alloc, rows, one.weak || other.weak)
 }
 
 #[tactic(auto, using(crate::proofs::RenameSteps::renamed_steps))]
@@ -77,9 +80,9 @@ fn renamed_terms(alloc: Global, terms: &[Term], from: Var, to: Var) -> Result<Te
         factor: -1,
     };
     if to.is_before(from) {
-        combined(alloc, 1, terms, factor, &[one, less])
+        combination(alloc, 1, terms, factor, &[one, less])
     } else {
-        combined(alloc, 1, terms, factor, &[less, one])
+        combination(alloc, 1, terms, factor, &[less, one])
     }
 }
 
@@ -106,7 +109,7 @@ fn renamed_rows(alloc: Global, rows: &[Row], from: Var, to: Var) -> Result<Vec<R
     Ok(out)
 }
 
-/// The rows with one variable in place of another, tidied.
+/// The system with the variable `to` in place of `from`, tidied. Where a row has both, their factors are added.
 pub fn rename(alloc: Global, sys: &System, from: Var, to: Var) -> Result<System, Memory>
     requires fits { Fits sys.now }
     ensures defined { IfOk result (λ s. s ≡ rename_is sys.now from to) }
@@ -115,7 +118,7 @@ pub fn rename(alloc: Global, sys: &System, from: Var, to: Var) -> Result<System,
     ensures no_new_points { IfOk result (RenamesNoPointMore from to sys.now) }
 {
     let rows = renamed_rows(alloc, sys.rows.as_slice(), from, to)?;
-    tidied(alloc, rows, sys.weak)
+    tidy_rows(alloc, rows, sys.weak)
 }
 
 /// The normal form of a row, or the row itself where it is trivial or infeasible; None where it is too big.
@@ -130,8 +133,8 @@ fn unless_too_big(mut row: Row) -> Option<Row>
     }
 }
 
-/// The row with a variable replaced by the equal row `by`, which has factor 1 or -1 there. None where a number of the
-/// result reaches 2^62.
+/// The normal form of the row with a variable replaced by the equal row `by`, which has factor 1 or -1 there; where
+/// that is trivial or infeasible, the row as it comes out. None where a number of the result reaches 2^62.
 pub fn substitute(alloc: Global, row: &Row, var: Var, by: &Row) -> Result<Option<Row>, Memory>
     requires row { IsNormal row.now }
     requires by { IsNormal by.now }
@@ -145,7 +148,8 @@ pub fn substitute(alloc: Global, row: &Row, var: Var, by: &Row) -> Result<Option
     Ok(unless_too_big(new))
 }
 
-/// The system without a variable.
+/// The projection of a system that removes one variable: by an equal row with it, else by Fourier-Motzkin pairs, which
+/// are as many as the lower rows times the upper ones. No point is lost.
 pub fn eliminate(alloc: Global, sys: &System, var: Var) -> Result<Elim, Memory>
     requires fits { Fits sys.now }
     ensures defined { IfOk result (λ e. e ≡ eliminate_is sys.now var) }

@@ -3,7 +3,7 @@ ghost use Rattle.std.specs.Prelude.{◌≡◌, ◌++◌, ◌+◌, ◌*◌, ◌<�
 ghost use Rattle.affine_systems.specs.Given.{IsSmallRow, ItemsSmall, ItemsFit};
 ghost use Rattle.affine_systems.specs.Items.{next_made as next_made_is, cut_of, others, FindsCut};
 ghost use Rattle.affine_systems.specs.Tidy.{tidy_items as tidy_items_is};
-ghost use Rattle.affine_systems.specs.Eliminate.{AreLower, any_has as any_has_is, has_unit as has_unit_is, is_unit_on, is_equal_on, is_lower, is_upper, is_without, keep, pair as pair_is, with_uppers as with_uppers_is, pairs as pairs_is, all_have_unit as all_have_unit_is, every_pair_unit as every_pair_unit_is, all_cancelled, eliminated as eliminated_is, paired_off, eliminate_item as eliminate_item_is};
+ghost use Rattle.affine_systems.specs.Eliminate.{AreLower, any_has as any_has_is, has_unit as has_unit_is, is_unit_on, is_equal_on, is_lower, is_upper, is_without, keep, pair as pair_is, with_uppers as with_uppers_is, pairs as pairs_is, all_have_unit as all_have_unit_is, every_pair_unit as every_pair_unit_is, all_cancelled, elimination_of as elimination_of_is, paired_off, eliminate_item as eliminate_item_is};
 
 use crate::Var;
 use crate::false_rows::next_made;
@@ -16,7 +16,7 @@ use std::alloc::{AllocError as Memory, Global};
 use std::cmp::Ordering;
 
 #[tactic(auto, using(crate::proofs::ElimSteps::has_loop))]
-/// Whether a variable occurs in a row.
+/// Whether a variable occurs in any row.
 fn any_has(items: &[Item], v: Var) -> bool
     requires { ItemsSmall items.now }
     ensures { result ≡ any_has_is v items.now }
@@ -198,8 +198,8 @@ fn every_pair_unit(lows: &[Item], ups: &[Item], v: Var) -> bool
 }
 
 /// What an elimination makes of the tidied rows.
-fn eliminated(exact: bool, paired: bool, t: Tidied) -> Eliminated
-    ensures { result ≡ eliminated_is exact paired t }
+fn elimination_of(exact: bool, paired: bool, t: Tidied) -> Eliminated
+    ensures { result ≡ elimination_of_is exact paired t }
 {
     Eliminated {
         items: t.items,
@@ -220,11 +220,11 @@ fn eliminate_by(
 ) -> Result<Eliminated, Memory>
     requires fits { ItemsFit rational items.items }
     requires within { at < length items.items }
-    ensures { IfOk result (λ e. e ≡ eliminated_is exact false (tidy_items_is rational (all_cancelled (next_made_is items.items) (cut_of items.items at).at v (others (cut_of items.items at))))) }
+    ensures { IfOk result (λ e. e ≡ elimination_of_is exact false (tidy_items_is rational (all_cancelled (next_made_is items.items) (cut_of items.items at).at v (others (cut_of items.items at))))) }
 {
     let rest = cancel_by(alloc, v, items, at)?;
     let t = tidy_items(alloc, rational, List::from_vec(rest))?;
-    Ok(eliminated(exact, false, t))
+    Ok(elimination_of(exact, false, t))
 }
 
 /// The rows without v and the pairs of lower and upper rows; and whether in every pair one factor is 1 or -1.
@@ -256,10 +256,12 @@ fn pair_off(alloc: Global, rational: bool, v: Var, items: Vec<Item>) -> Result<E
 {
     let (rest, exact) = all_pairs(alloc, v, items)?;
     let t = tidy_items(alloc, rational, List::from_vec(rest))?;
-    Ok(eliminated(exact, true, t))
+    Ok(elimination_of(exact, true, t))
 }
 
-/// The first case that fits: v does not occur; an equal row with factor 1 or -1; an equal row with v; pairs.
+/// The tidied rows without v, by the first case that fits: v does not occur; an equal row with factor 1 or -1 is
+/// substituted; an equal row with v; each pair of a lower and an upper row. Rational rows are never rounded. Memory
+/// also where the numbers of items would reach 2^64.
 pub fn eliminate_item(
     alloc: Global,
     rational: bool,

@@ -7,7 +7,7 @@ use crate::items::{Item, Originals};
 use fx_lists::List;
 use std::alloc::{AllocError as Memory, Global};
 
-/// The item of 0 <= -1.
+/// The item of the infeasible row `0 <= -1`, without originals, with number 0. Takes no memory.
 pub fn false_item(alloc: Global) -> Item
     ensures { result ≡ false_item_is }
 {
@@ -29,14 +29,14 @@ fn is_false_row(row: &Row) -> bool
     !row.equal && row.terms.is_empty() && row.bound < 0
 }
 
-/// Whether a row is infeasible.
+/// Whether some row is an at-most row without terms and with a negative bound, so that no point meets it.
 pub fn any_false(items: &[Item]) -> bool
     ensures { result ≡ any_false_is items.now }
 {
     items.iter().any(|item| is_false_row(&item.row))
 }
 
-/// The one row 0 <= -1 where a row is false.
+/// The items as they are, or the item of `0 <= -1` alone where `any_false` holds of them.
 pub fn collapse(alloc: Global, items: Vec<Item>) -> Result<Vec<Item>, Memory>
     ensures { IfOk result (λ v. v.items ≡ collapsed items.items) }
 {
@@ -49,6 +49,7 @@ pub fn collapse(alloc: Global, items: Vec<Item>) -> Result<Vec<Item>, Memory>
     }
 }
 
+/// A copy of a row.
 pub fn copy_row(alloc: Global, row: &Row) -> Result<Row, Memory>
     ensures { IfOk result (λ r. r ≡ row.now) }
 {
@@ -59,6 +60,7 @@ pub fn copy_row(alloc: Global, row: &Row) -> Result<Row, Memory>
     })
 }
 
+/// A copy of an item, with its originals and its number.
 pub fn copy_item(alloc: Global, item: &Item) -> Result<Item, Memory>
     ensures { IfOk result (λ i. i ≡ item.now) }
 {
@@ -70,8 +72,8 @@ pub fn copy_item(alloc: Global, item: &Item) -> Result<Item, Memory>
 }
 
 #[tactic(auto, using(crate::proofs::ItemSteps::next_made_loop))]
-/// The least number above those of the items. Memory where fewer than `more` numbers are left from it on: no run makes
-/// 2^64 items.
+/// The least number above those of the items, 0 of none. Memory where it and `more` after it are not all below 2^64: no
+/// run makes so many items.
 pub fn next_made(items: &[Item], more: usize) -> Result<u64, Memory>
     ensures defined { IfOk result (λ n. n ≡ next_made_is items.now) }
     ensures room { IfOk result (λ n. n + more < 2 ^ 64) }

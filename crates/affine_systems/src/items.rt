@@ -7,7 +7,7 @@ pub use crate::systems::{copy_rows, items_of, rows_of};
 pub use crate::tidying::tidy_items;
 use fx_lists::List;
 
-/// A set of numbers below 512.
+/// A set of numbers below 512: the original rows from which a row is derived. Bit b of word w is the number 128 w + b.
 #[derive(Clone, Copy, PartialEq, Eq, Debug)]
 pub struct Originals {
     pub words: [u128; 4],
@@ -17,13 +17,14 @@ impl Originals {
     ghost use Rattle.std.specs.Prelude.{◌≡◌, ◌<◌};
     ghost use Rattle.affine_systems.specs.Items.{no_originals, only_original, original_count, joined};
 
+    /// The empty set.
     pub fn none() -> Originals
         ensures { result ≡ no_originals }
     {
         Originals { words: [0; 4] }
     }
 
-    /// The set of one number.
+    /// The set of one number, below 512.
     pub fn only(number: u32) -> Originals
         requires { number < 512 }
         ensures { result ≡ only_original number }
@@ -40,7 +41,7 @@ impl Originals {
         }
     }
 
-    /// How many numbers there are.
+    /// How many numbers are in the set.
     pub fn len(self) -> u32
         ensures { result ≡ original_count self }
     {
@@ -51,7 +52,7 @@ impl Originals {
             + words[3].count_ones()
     }
 
-    /// The numbers of both.
+    /// The numbers that are in either set.
     pub fn union(self, other: Originals) -> Originals
         ensures { result ≡ joined self other }
     {
@@ -63,7 +64,8 @@ impl Originals {
     }
 }
 
-/// A row, the rows that it came from, and the number of its making: of two equal rows the one made first is kept.
+/// A row during elimination, with the originals that it is derived from and the number of its making: of two equal rows
+/// the one made first is kept.
 #[derive(Clone, PartialEq, Eq, Debug, Drop)]
 pub struct Item {
     pub row: Row,
@@ -71,17 +73,18 @@ pub struct Item {
     pub made: u64,
 }
 
+/// A list of items.
 pub type Items = List<Item>;
 
-/// Rows in order, and whether one was lost.
+/// Tidied rows in order, and whether one was lost, by a number of 2^62 or more or by the limit of 512 rows.
 #[derive(Clone, Debug, Drop)]
 pub struct Tidied {
     pub items: Items,
     pub lost: bool,
 }
 
-/// Rows without a variable; whether each point of them has its origin, whether a row was lost, and whether lower and
-/// upper rows were paired.
+/// Rows without a variable; `exact`, where each point of them extends to one of the rows before; `lost`, where tidying
+/// lost a row; `paired`, where lower and upper rows were paired.
 #[derive(Clone, Debug, Drop)]
 pub struct Eliminated {
     pub items: Items,

@@ -8,6 +8,7 @@ mod false_rows;
 mod normal;
 mod order;
 mod pivots;
+mod places;
 mod row;
 mod rows;
 mod sorting;

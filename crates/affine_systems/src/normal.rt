@@ -92,7 +92,7 @@ fn is_small(z: i128) -> bool
     z.unsigned_abs() < 1 << 62
 }
 
-/// Whether the last factor is negative.
+/// Whether the last term has a negative factor; false where there are no terms.
 pub fn last_is_negative(terms: &[Term]) -> bool
     ensures { result ≡ last_factor_is_negative terms.now }
 {
@@ -115,7 +115,7 @@ fn divide(terms: &mut Terms, g: u128)
 }
 
 #[tactic(auto, using(crate::proofs::Factors::negation_small))]
-/// The number with the opposite sign.
+/// The number, below 2^62 in magnitude, with the opposite sign.
 pub fn turn(z: i128) -> i128
     requires { is_small_number z ≡ true }
     ensures { result ≡ neg_ℤ z }
@@ -180,7 +180,9 @@ fn start_of(rational: bool, bound: i128) -> u128
     if rational { bound.unsigned_abs() } else { 0 }
 }
 
-/// The normal form; that of a rational row is never rounded. The row stays where it is not kept.
+/// Brings a row to normal form: divides it by the gcd of its factors, with the bound of an at-most row rounded down,
+/// and makes the last factor of an equal row positive. The bound of a `rational` row counts in the gcd, so that it is
+/// never rounded. The row changes only where the answer is Kept.
 pub fn normalise_as(rational: bool, row: &mut Row) -> Norm
     ensures { Answers (normal rational row.old) result row.old row.new }
 {
@@ -198,7 +200,9 @@ pub fn normalise_as(rational: bool, row: &mut Row) -> Norm
     Norm::Kept
 }
 
-/// The normal form. The row stays where it is not kept. Takes no memory.
+/// Brings a row over integers to normal form: divides it by the gcd of its factors, with the bound of an at-most row
+/// rounded down, and makes the last factor of an equal row positive. The row changes only where the answer is Kept.
+/// Takes no memory.
 pub fn normalise(row: &mut Row) -> Norm
     ensures defined { Answers (normal false row.old) result row.old row.new }
     ensures normal { result ≡ Norm.Kept → Ascends row.old.terms → IsNormal row.new }

@@ -49,7 +49,8 @@ fn factors_order(ts: &[Term], us: &[Term]) -> Ordering
 }
 
 #[tactic(auto, unfolding(crate::specs::Rows::shape_cmp))]
-/// How two rows stand to each other in the order of rows, but for their bounds.
+/// The order of two rows but for their bounds: equal rows first, then fewer terms, then the variables from the first
+/// on, then the factors.
 pub fn shape_order(row: &Row, other: &Row) -> Ordering
     ensures { result ≡ shape_cmp row.now other.now }
 {
@@ -64,7 +65,7 @@ pub fn shape_order(row: &Row, other: &Row) -> Ordering
     factors_order(row.terms.as_slice(), other.terms.as_slice())
 }
 
-/// Whether two rows differ in their bounds alone.
+/// Whether two rows differ in their bounds at most.
 pub fn has_same_shape(row: &Row, other: &Row) -> bool
     ensures { result ≡ same_shape row.now other.now }
 {
@@ -95,7 +96,8 @@ fn are_opposite_terms(ts: &[Term], us: &[Term]) -> bool
 }
 
 #[tactic(auto, using(crate::proofs::Orders::opposite_lengths))]
-/// Whether two at-most rows bound the same sum from both sides.
+/// Whether both are at-most rows with the same variables and opposite factors, so that they bound one sum from both
+/// sides.
 pub fn are_opposite(row: &Row, other: &Row) -> bool
     requires { AreSmall other.now.terms }
     ensures { result ≡ are_opposite_is row.now other.now }

@@ -4,10 +4,12 @@ ghost use Rattle.affine_systems.specs.Given.{IsSmallRow, ItemsSmall};
 ghost use Rattle.affine_systems.specs.Points.{factor_of as factor_is};
 ghost use Rattle.affine_systems.specs.Items.{item as item_of, joined, false_item, cut_of, FindsCut};
 ghost use Rattle.affine_systems.specs.Tidy.{unit_var as unit_var_is, is_unit as is_unit_is, times, is_to_take as is_to_take_is, taken, pivoted};
-ghost use Rattle.affine_systems.specs.Eliminate.{cancelling, cancelled as cancelled_is, all_cancelled};
+ghost use Rattle.affine_systems.specs.Places.{Covers};
+ghost use Rattle.affine_systems.specs.Eliminate.{cancelling, cancel_variable as cancel_variable_is, all_cancelled};
 
 use crate::false_rows::next_made;
 use crate::items::Item;
+use crate::places::{Places, is_rare, occurrences};
 use crate::rows::{cancel, occurs};
 use crate::{Term, Var};
 use std::alloc::{AllocError as Memory, Global};
@@ -51,26 +53,41 @@ fn is_elsewhere(items: &[Item], v: Var) -> bool
     false
 }
 
+/// Whether a variable occurs in more than one row. Only where its place in the table has 2 are the rows looked at.
+fn is_shared(table: &Places, items: &[Item], v: Var) -> bool
+    requires small { ItemsSmall items.now }
+    requires covers { Covers table.now items.now }
+    ensures { result ≡ nat_lt 1 (times v items.now) }
+{
+    if is_rare(table, v) {
+        return false;
+    }
+    is_elsewhere(items, v)
+}
+
 /// Whether it is an equal row whose pivot occurs in another row.
-fn is_to_take(items: &[Item], item: &Item) -> bool
-    requires { ItemsSmall items.now }
+fn is_to_take(table: &Places, items: &[Item], item: &Item) -> bool
+    requires small { ItemsSmall items.now }
+    requires covers { Covers table.now items.now }
     ensures { result ≡ is_to_take_is items.now item.now }
 {
     item.row.equal
         && match unit_var(item.row.terms.as_slice()) {
-            Some(v) => is_elsewhere(items, v),
+            Some(v) => is_shared(table, items, v),
             None => false,
         }
 }
 
 #[tactic(auto, using(crate::proofs::PivotSteps::cut_loop))]
-/// The place of the first equal row whose pivot occurs in another row.
+/// The index of the first equal row whose pivot, its last variable with factor 1 or -1, occurs in another row. None
+/// where there is no such row.
 pub fn find_pivot(items: &[Item]) -> Option<usize>
     requires { ItemsSmall items.now }
     ensures { FindsCut (is_to_take_is items.now) items.now result }
 {
+    let table = occurrences(items);
     for (i, item) in items.iter().enumerate() {
-        if is_to_take(items, item) {
+        if is_to_take(&table, items, item) {
             return Some(i);
         }
     }
@@ -78,7 +95,7 @@ pub fn find_pivot(items: &[Item]) -> Option<usize>
 }
 
 /// The item with v cancelled by an equal row.
-fn cancelled(alloc: Global, made: u64, by: &Item, v: Var, item: &Item) -> Result<Item, Memory>
+fn cancel_variable(alloc: Global, made: u64, by: &Item, v: Var, item: &Item) -> Result<Item, Memory>
     requires one { IsSmallRow item.now.row }
     requires two { IsSmallRow by.now.row }
     ensures { IfOk result (λ i. i ≡ item_of (cancelling (factor_is v by.now.row.terms) item.now.row by.now.row (factor_is v item.now.row.terms)) (joined item.now.originals by.now.originals) made) }
@@ -102,16 +119,17 @@ fn cancel_at(
     requires within { at < length items.now.items }
     requires one { IsSmallRow by.now.row }
     requires two { IsSmallRow (slice_index_or items.now.items at false_item).row }
-    ensures { IfOk result (λ _. items.new.items ≡ slice_set items.old.items at (cancelled_is made by.now v (slice_index_or items.old.items at false_item))) }
+    ensures { IfOk result (λ _. items.new.items ≡ slice_set items.old.items at (cancel_variable_is made by.now v (slice_index_or items.old.items at false_item))) }
 {
     if occurs(&items[at].row, v) {
-        let item = cancelled(alloc, made, by, v, &items[at])?;
+        let item = cancel_variable(alloc, made, by, v, &items[at])?;
         items[at] = item;
     }
     Ok(())
 }
 
-/// Cancels v in each item by an equal row.
+/// Cancels v in each item that has it, by the equal row `by`. The item at index k gets the number `made` + k and the
+/// originals of both.
 pub fn cancel_all(
     alloc: Global,
     made: u64,
@@ -149,7 +167,8 @@ fn substitute_pivot(
 }
 
 #[tactic(auto, using(crate::proofs::PivotSteps::pivot_taken))]
-/// Substitutes the pivot of the equal row at a place in all others. That row comes first.
+/// Substitutes the pivot of the equal row at an index in all others, and puts that row first. Memory also where the
+/// numbers of items would reach 2^64.
 pub fn take_pivot(alloc: Global, mut items: Vec<Item>, at: usize) -> Result<Vec<Item>, Memory>
     requires within { at < length items.items }
     requires each { ItemsSmall items.items }

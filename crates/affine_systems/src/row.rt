@@ -3,12 +3,16 @@
 use fx_lists::List;
 use std::cmp::Ordering;
 
-/// A variable of a row. The order is that of the variants, then of the numbers.
+/// A variable of a row. They are ordered by the variants, as written here, then by the numbers.
 #[derive(Clone, Copy, PartialEq, Eq, Debug)]
 pub enum Var {
+    /// An analysed scalar before a statement, by the number of its symbol, from 1.
     Cell(u32),
+    /// The same scalar after the statement, by the same number.
     Exit(u32),
+    /// The subscript of an array element with this number, from 1.
     Phi(u8),
+    /// An auxiliary (existential) variable.
     Aux(u32),
 }
 
@@ -17,8 +21,8 @@ impl Var {
     ghost use Rattle.affine_systems.specs.Terms.{kind as kind_of, number as number_of, var_eq, var_lt};
     ghost use Rattle.affine_systems.specs.Rows.{var_cmp};
 
-    /// The place of its kind in the order.
-    fn kind(self) -> u32
+    /// The index of its variant, from 0 in the order of the variants.
+    pub(crate) fn kind(self) -> u32
         ensures { result ≡ kind_of self }
     {
         match self {
@@ -29,7 +33,8 @@ impl Var {
         }
     }
 
-    fn number(self) -> u32
+    /// The number in its variant.
+    pub(crate) fn number(self) -> u32
         ensures { result ≡ number_of self }
     {
         match self {
@@ -40,7 +45,7 @@ impl Var {
         }
     }
 
-    /// The order of two variables.
+    /// The order of two variables: of their variants, then of their numbers.
     pub fn order(self, other: Var) -> Ordering
         ensures { result ≡ var_cmp self other }
     {
@@ -67,17 +72,17 @@ impl Var {
     }
 }
 
-/// A variable and its factor.
+/// A variable times its factor.
 #[derive(Clone, Copy, PartialEq, Eq, Debug)]
 pub struct Term {
     pub var: Var,
     pub factor: i128,
 }
 
-/// In ascending order of variables, no factor 0.
+/// A sum of terms: in ascending order of variables, each once, no factor 0.
 pub type Terms = List<Term>;
 
-/// The sum of the terms is the bound (`equal`), or at most the bound.
+/// An affine constraint: the sum of the terms is the bound, where `equal`, or else at most the bound.
 #[derive(Clone, PartialEq, Eq, Debug, Drop)]
 pub struct Row {
     pub equal: bool,
@@ -85,27 +90,35 @@ pub struct Row {
     pub bound: i128,
 }
 
+/// Rows that hold together. In a tidied system they are in the order of rows: equal rows first, then fewer terms, then
+/// by variables and factors.
 pub type Rows = List<Row>;
 
-/// Rows that hold together. `weak` says that a row was lost on the way.
+/// A conjunction of rows, without rows the universe. Where `weak` it is over-approximated: a row was lost by a limit.
 #[derive(Clone, PartialEq, Eq, Debug, Drop)]
 pub struct System {
     pub rows: Rows,
     pub weak: bool,
 }
 
+/// A list of variables, in any order.
 pub type Vars = List<Var>;
 
-/// What normalising makes of a row: a row, a trivial or an infeasible one, or one with too large numbers.
+/// What normalising makes of a row.
 #[derive(Clone, Copy, PartialEq, Eq, Debug)]
 pub enum Norm {
+    /// It is in normal form.
     Kept,
+    /// It is trivial: it holds at each point.
     True,
+    /// It is infeasible.
     False,
+    /// A number of its normal form reaches 2^62 in magnitude.
     TooBig,
 }
 
-/// A system without a variable. Where it is `exact`, each point of it extends to one of the system that it came from.
+/// A system without a variable. Where it is `exact`, each point of it extends to one of the system before the
+/// elimination.
 #[derive(Clone, PartialEq, Eq, Debug, Drop)]
 pub struct Elim {
     pub system: System,

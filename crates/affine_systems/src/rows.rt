@@ -5,11 +5,11 @@ ghost use Rattle.affine_systems.specs.Points.{factor_of as factor_is, occurs as 
 ghost use Rattle.affine_systems.specs.Rows.{combine_as};
 ghost use Rattle.affine_systems.specs.Eliminate.{cancelling};
 
-use crate::terms::{blend, combined, factor_of};
+use crate::terms::{blend, combination, factor_of};
 use crate::{Row, Var};
 use std::alloc::{AllocError as Memory, Global};
 
-/// The factor of a variable in a row.
+/// The factor of a variable in a row, 0 where it does not occur; below 2^62 in magnitude.
 pub fn factor(row: &Row, v: Var) -> i128
     requires { IsSmallRow row.now }
     ensures defined { result ≡ factor_is v row.now.terms }
@@ -26,7 +26,8 @@ pub fn occurs(row: &Row, v: Var) -> bool
     factor(row, v) != 0
 }
 
-/// p times the one and q times the other.
+/// The sum of p times one row and q times the other, as an equal or an at-most row, without the terms that cancel. Not
+/// normalised.
 pub fn combine(
     alloc: Global,
     equal: bool,
@@ -43,12 +44,13 @@ pub fn combine(
 {
     Ok(Row {
         equal,
-        terms: combined(alloc, p, row.terms.as_slice(), q, other.terms.as_slice())?,
+        terms: combination(alloc, p, row.terms.as_slice(), q, other.terms.as_slice())?,
         bound: blend(p, row.bound, q, other.bound),
     })
 }
 
-/// A multiple of the row and one of the equal row, so that v cancels.
+/// The row without v, by an equal row that has v with a factor a: |a| times the row and the multiple of `by` that
+/// cancels v, added. Not normalised.
 pub fn cancel(alloc: Global, row: &Row, v: Var, by: &Row) -> Result<Row, Memory>
     requires one { IsSmallRow row.now }
     requires two { IsSmallRow by.now }

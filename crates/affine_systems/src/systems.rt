@@ -12,7 +12,7 @@ use crate::{Row, Rows, System};
 use fx_lists::List;
 use std::alloc::{AllocError as Memory, Global};
 
-/// Copies of rows, with place for more at the end.
+/// Copies of rows, in order.
 pub fn copy_rows(alloc: Global, rows: &[Row]) -> Result<Vec<Row>, Memory>
     ensures { IfOk result (λ v. v.items ≡ rows.now) }
 {
@@ -23,7 +23,7 @@ pub fn copy_rows(alloc: Global, rows: &[Row]) -> Result<Vec<Row>, Memory>
     Ok(out)
 }
 
-/// Rows as items without originals, numbered from 0.
+/// Rows as items without originals, numbered from 0, in order.
 pub fn items_of(alloc: Global, mut rows: Vec<Row>) -> Result<Items, Memory>
     ensures { IfOk result (λ is. is ≡ items_from 0 rows.items) }
 {
@@ -39,6 +39,7 @@ pub fn items_of(alloc: Global, mut rows: Vec<Row>) -> Result<Items, Memory>
     Ok(List::from_vec(out))
 }
 
+/// The rows of items, in order.
 pub fn rows_of(alloc: Global, items: Items) -> Result<Rows, Memory>
     ensures { IfOk result (λ rs. rs ≡ rows_of_is items) }
 {
@@ -52,8 +53,8 @@ pub fn rows_of(alloc: Global, items: Items) -> Result<Rows, Memory>
 }
 
 #[tactic(auto, using(crate::proofs::SystemSteps::tidied_system))]
-/// The tidied system of rows.
-pub fn tidied(alloc: Global, rows: Vec<Row>, weak: bool) -> Result<System, Memory>
+/// The tidied system of these rows; weak where `weak` is or tidying lost a row.
+pub fn tidy_rows(alloc: Global, rows: Vec<Row>, weak: bool) -> Result<System, Memory>
     requires fits { AllRows IsGiven rows.items }
     ensures defined { IfOk result (λ s. s ≡ tidy_is (system rows.items weak)) }
     ensures fits { IfOk result Fits }

@@ -10,7 +10,7 @@ use fx_lists::List;
 use std::alloc::{AllocError as Memory, Global};
 use std::cmp::Ordering;
 
-/// The factor of a variable, 0 where it does not occur.
+/// The factor of a variable in ascending terms, 0 where it does not occur.
 pub fn factor_of(terms: &[Term], v: Var) -> i128
     requires { Ascends terms.now }
     ensures { result ≡ factor_is v terms.now }
@@ -34,7 +34,7 @@ fn scale(p: i128, x: i128) -> i128
     p * x
 }
 
-/// The sum of two multiples.
+/// p times x and q times y, added. All are below 2^62 in magnitude, the result is below 2^126.
 pub fn blend(p: i128, x: i128, q: i128, y: i128) -> i128
     requires one { unsigned_abs p < 2 ^ 62 }
     requires first { unsigned_abs x < 2 ^ 62 }
@@ -46,7 +46,7 @@ pub fn blend(p: i128, x: i128, q: i128, y: i128) -> i128
     scale(p, x) + scale(q, y)
 }
 
-/// Adds a term at the end, unless its factor is 0.
+/// Adds a term after the others, unless its factor is 0.
 pub fn push_term(out: &mut Vec<Term>, var: Var, factor: i128) -> Result<(), Memory>
     ensures { IfOk result (λ _. out.new.items ≡ out.old.items ++ term_before var factor []) }
 {
@@ -68,8 +68,15 @@ fn push_scaled(out: &mut Vec<Term>, p: i128, terms: &[Term]) -> Result<(), Memor
     Ok(())
 }
 
-/// p times the one and q times the other.
-pub fn combined(alloc: Global, p: i128, ts: &[Term], q: i128, us: &[Term]) -> Result<Terms, Memory>
+/// The sum of p times the terms `ts` and q times the terms `us`, both ascending: ascending again, without factors 0.
+/// One merge, linear in both.
+pub fn combination(
+    alloc: Global,
+    p: i128,
+    ts: &[Term],
+    q: i128,
+    us: &[Term],
+) -> Result<Terms, Memory>
     requires one { unsigned_abs p < 2 ^ 62 }
     requires first { AreSmall ts.now }
     requires two { unsigned_abs q < 2 ^ 62 }

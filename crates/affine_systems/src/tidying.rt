@@ -13,7 +13,7 @@ use crate::sorting::arrange;
 use fx_lists::List;
 use std::alloc::{AllocError as Memory, Global};
 
-/// The most rows of a system.
+/// The most rows of a system; what is more is lost, and makes it weak.
 pub const ROWS: usize = 512;
 
 /// More pivots than any system takes: each raises that of some row, and 512 rows have at most 2^34 variables.
@@ -74,7 +74,8 @@ fn round(alloc: Global, rational: bool, items: Vec<Item>) -> Result<(Vec<Item>, 
     Ok((merge(alloc, items)?, lost))
 }
 
-/// Rounds until no pivot of an equal row occurs in another row. Rational rows are never rounded.
+/// Simplified rows, in order: normalises, sorts and merges them and substitutes a pivot, until no pivot of an equal row
+/// occurs in another row. Rational rows are never rounded. Memory also where the numbers of items would reach 2^64.
 pub fn tidy_items(alloc: Global, rational: bool, items: Items) -> Result<Tidied, Memory>
     requires fits { ItemsGiven items }
     ensures defined { IfOk result (λ t. t ≡ tidy_items_is rational items) }

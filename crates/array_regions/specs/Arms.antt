@@ -48,11 +48,11 @@ abbrev pub met_pieces : System → List System → List System
 met_pieces s ss = map (λ r. meet r s) ss
 
 -- exact where the region is and the part is reached just there
-abbrev pub met : Reached → Region → Region
-met w r = remade r (r.exact && w.exact) (met_pieces w.system r.pieces)
+abbrev pub under_tests : Reached → Region → Region
+under_tests w r = remade r (r.exact && w.exact) (met_pieces w.system r.pieces)
 
 abbrev pub all_met : Reached → List Region → List Region
-all_met w rs = map (met w) rs
+all_met w rs = map (under_tests w) rs
 
 -- what a test reads that is reached so
 abbrev pub test_reads : ScopeTree → ExprTree → Reached → List Region

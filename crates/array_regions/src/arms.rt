@@ -7,25 +7,27 @@ ghost use Rattle.f77_ast.specs.PlainStmt.{arm_trees};
 ghost use Rattle.call_translation.specs.Scopes.{scope_tree};
 ghost use Rattle.region_sets.specs.Regions.{RegionFits};
 ghost use Rattle.region_sets.specs.Sets.{SetFits};
-ghost use Rattle.array_regions.specs.Arms.{ReachedFits, always as always_is, if_true as if_true_is, if_false as if_false_is, met_pieces, met as met_is, all_met, test_reads, tests_reads, if_set as if_set_is};
+ghost use Rattle.array_regions.specs.Arms.{ReachedFits, always as always_is, if_true as if_true_is, if_false as if_false_is, met_pieces, under_tests as under_tests_is, all_met, test_reads, tests_reads, if_set as if_set_is};
 
 use crate::reads::push_reads;
 use affine_forms::{condition_of, no_rows};
 use affine_systems::{System, meet};
-use call_translation::Scope;
+use call_translation::CellScope;
 use f77_ast::{Arm, Expr};
 use fx_lists::List;
 use region_sets::{Region, RegionSet, push_region, push_system, remade, unite_all};
 use std::alloc::{AllocError as Memory, Global};
 
-/// How a part is reached: what holds of the cells where it is; where this is exact, it is reached just where that holds.
+/// How a part of an IF is reached.
 #[derive(Drop)]
 pub struct Reached {
+    /// What holds of the analysed scalars where it is.
     pub system: System,
+    /// It is reached exactly where the system holds; otherwise it may be reached there.
     pub exact: bool,
 }
 
-/// Without a test.
+/// How a part is reached that is executed without a test: no rows, and exact.
 pub fn always(alloc: Global) -> Reached
     ensures defined { result ≡ always_is }
     ensures fits { ReachedFits result }
@@ -36,10 +38,10 @@ pub fn always(alloc: Global) -> Reached
     }
 }
 
-/// Where a test that is reached so is true.
+/// How a part is reached that is executed where a test is true; `way`: how the test is reached.
 pub fn if_true(
     alloc: Global,
-    scope: &Scope<'_>,
+    scope: &CellScope<'_>,
     test: &Expr,
     way: &Reached,
 ) -> Result<Reached, Memory>
@@ -54,10 +56,10 @@ pub fn if_true(
     })
 }
 
-/// Where a test that is reached so is false.
+/// How a part is reached that is executed where a test is false; `way`: how the test is reached.
 pub fn if_false(
     alloc: Global,
-    scope: &Scope<'_>,
+    scope: &CellScope<'_>,
     test: &Expr,
     way: &Reached,
 ) -> Result<Reached, Memory>
@@ -74,10 +76,10 @@ pub fn if_false(
 
 /// A region of a part, where that is reached so.
 #[tactic(auto, using(region_sets::proofs::Steps::fitting))]
-fn met(alloc: Global, way: &Reached, r: &Region) -> Result<Region, Memory>
+fn under_tests(alloc: Global, way: &Reached, r: &Region) -> Result<Region, Memory>
     requires way { ReachedFits way.now }
     requires region { RegionFits r.now }
-    ensures defined { IfOk result (λ q. q ≡ met_is way.now r.now) }
+    ensures defined { IfOk result (λ q. q ≡ under_tests_is way.now r.now) }
     ensures fits { IfOk result RegionFits }
 {
     let mut pieces = List::new(alloc);
@@ -89,7 +91,7 @@ fn met(alloc: Global, way: &Reached, r: &Region) -> Result<Region, Memory>
     remade(r, r.exact && way.exact, pieces)
 }
 
-/// Adds the regions of a part that is reached so.
+/// Appends the regions of a part, in their order, each with what holds where the part is reached; exact where the region is and `way` is.
 #[tactic(auto, using(region_sets::proofs::Steps::fitting))]
 pub fn push_met(
     alloc: Global,
@@ -105,7 +107,7 @@ pub fn push_met(
 {
     let mut rest = set;
     while let [r, more @ ..] = rest {
-        push_region(out, met(alloc, way, r)?)?;
+        push_region(out, under_tests(alloc, way, r)?)?;
         rest = more;
     }
     Ok(())
@@ -115,7 +117,7 @@ pub fn push_met(
 fn push_test(
     alloc: Global,
     out: &mut RegionSet,
-    scope: &Scope<'_>,
+    scope: &CellScope<'_>,
     test: &Expr,
     way: &Reached,
 ) -> Result<(), Memory>
@@ -129,12 +131,13 @@ fn push_test(
     push_met(alloc, out, way, read.as_slice())
 }
 
-/// Adds what the tests of arms read, each where those above it are false.
+/// Appends the READ regions of the tests of the arms of a block IF (ANSI X3.9-1978, §11.6 to §11.9), each where the tests of the arms before
+/// it are false.
 #[tactic(auto, using(crate::proofs::Steps::arm_rest))]
 pub fn push_tests(
     alloc: Global,
     out: &mut RegionSet,
-    scope: &Scope<'_>,
+    scope: &CellScope<'_>,
     arms: &List<Arm>,
 ) -> Result<(), Memory>
     requires { SetFits out.old }
@@ -149,10 +152,11 @@ pub fn push_tests(
     Ok(())
 }
 
-/// Of a logical IF whose statement has this set.
+/// The regions of a logical IF (ANSI X3.9-1978, §11.5) whose statement has these: what the test reads, and those of the statement where the
+/// test is true.
 pub fn if_set(
     alloc: Global,
-    scope: &Scope<'_>,
+    scope: &CellScope<'_>,
     test: &Expr,
     inner: &[Region],
 ) -> Result<RegionSet, Memory>

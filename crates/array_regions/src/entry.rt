@@ -9,7 +9,7 @@ ghost use Rattle.array_regions.specs.Entry.{bounds_reads, symbols_reads, place_g
 
 use crate::reads::{push_maybe_reads, push_reads};
 use affine_systems::System;
-use call_translation::{Scope, next_number};
+use call_translation::{CellScope, next_number};
 use f77_symbols::{Bound, Place, Symbols, Variable};
 use fx_lists::List;
 use region_sets::{
@@ -24,7 +24,7 @@ use transformer_algebra::without;
 fn push_bounds_reads(
     alloc: Global,
     out: &mut RegionSet,
-    scope: &Scope<'_>,
+    scope: &CellScope<'_>,
     bounds: &[Bound],
 ) -> Result<(), Memory>
     requires { SetFits out.old }
@@ -42,7 +42,7 @@ fn push_bounds_reads(
 
 /// What the bounds of all arrays read.
 #[tactic(auto, using(region_sets::proofs::Steps::fitting))]
-fn entry_reads(alloc: Global, scope: &Scope<'_>) -> Result<RegionSet, Memory>
+fn entry_reads(alloc: Global, scope: &CellScope<'_>) -> Result<RegionSet, Memory>
     ensures defined { IfOk result (λ rs. rs ≡ symbols_reads (map symbol_tree scope.now.symbols.now) (scope_tree scope.now.symbols.now scope.now.tracked.now)) }
     ensures fits { IfOk result SetFits }
 {
@@ -156,9 +156,13 @@ fn all_seen(alloc: Global, symbols: &Symbols, set: &[Region]) -> Result<RegionSe
     Ok(out)
 }
 
-/// What a module accesses as its callers see it: dummies, variables of blocks and saved ones, whatever its locals are; the bounds of
-/// its arrays are read where it is entered.
-pub fn summary_of(alloc: Global, scope: &Scope<'_>, body: &[Region]) -> Result<RegionSet, Memory>
+/// The regions of a module that its callers see, from those of its body: of dummies, of variables of common blocks and of saved variables,
+/// for any values of its locals, and not exact where the systems name one. The bounds of its arrays are read where it is entered.
+pub fn summary_of(
+    alloc: Global,
+    scope: &CellScope<'_>,
+    body: &[Region],
+) -> Result<RegionSet, Memory>
     requires { SetFits body.now }
     ensures defined { IfOk result (λ rs. rs ≡ summary_of_is (scope_tree scope.now.symbols.now scope.now.tracked.now) body.now) }
     ensures fits { IfOk result SetFits }

@@ -11,7 +11,7 @@ ghost use Rattle.array_regions.specs.Loops.{range_with as range_with_is, range_o
 
 use crate::reads::{push_maybe_reads, push_reads};
 use crate::references::scalar;
-use call_translation::Scope;
+use call_translation::CellScope;
 use f77_ast::Loop;
 use f77_results::At;
 use fx_lists::List;
@@ -40,7 +40,7 @@ fn range_with(alloc: Global, parts: LoopParts) -> Result<Range, Memory>
 #[tactic(auto, using(crate::proofs::Steps::range_parts))]
 fn range_of(
     alloc: Global,
-    scope: &Scope<'_>,
+    scope: &CellScope<'_>,
     l: &Loop,
     own: &List<At<Transformer>>,
 ) -> Result<Range, Memory>
@@ -58,7 +58,7 @@ fn range_of(
 fn push_loop_reads(
     alloc: Global,
     out: &mut RegionSet,
-    scope: &Scope<'_>,
+    scope: &CellScope<'_>,
     l: &Loop,
 ) -> Result<(), Memory>
     requires { SetFits out.old }
@@ -92,11 +92,12 @@ fn push_over(
     Ok(())
 }
 
-/// Of a DO whose body has this set: its values are read, its index is written, and the body is executed for each number.
+/// The regions of a DO (ANSI X3.9-1978, §11.10) whose body has these: its initial and terminal parameters and its step are read, the DO
+/// variable is written, and the body is executed in each iteration.
 #[tactic(auto, using(region_sets::proofs::Steps::fitting))]
 pub fn do_set(
     alloc: Global,
-    scope: &Scope<'_>,
+    scope: &CellScope<'_>,
     l: &Loop,
     own: &List<At<Transformer>>,
     body: &[Region],

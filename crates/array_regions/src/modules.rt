@@ -9,16 +9,17 @@ ghost use Rattle.region_sets.specs.Sets.{SetFits};
 ghost use Rattle.array_regions.specs.Modules.{regions_of};
 
 use crate::entry::summary_of;
-use crate::statement::{Known, list_set};
-use call_translation::{Scope, tracked_of};
+use crate::statement::{RegionContext, list_set};
+use call_translation::{CellScope, tracked_of};
 use f77_results::{Results, Summaries, View};
 use fx_lists::List;
 use region_sets::RegionSet;
 use std::alloc::{AllocError as Memory, Global};
 use transformer_algebra::Transformer;
 
-/// READ and WRITE of each statement of a module with its parts, from the transformers of its statements, and in all as its callers
-/// see it. Of a module without CALLs: what a CALL accesses is left out. Memory also behind 254 dimensions.
+/// The READ and WRITE regions of each executable statement of a module, in the order of the text, each with its parts, from the transformers
+/// `own`; and as summary those that callers see. For modules without CALLs: what a CALL accesses is left out. Err also where an array has
+/// more than 254 dimensions.
 pub fn regions(
     alloc: Global,
     view: &View<'_>,
@@ -30,11 +31,11 @@ pub fn regions(
     ensures fits { IfOk result (λ r. SetsFit r.at × SetFits r.summary) }
 {
     let tracked = tracked_of(alloc, view)?;
-    let scope = Scope {
+    let scope = CellScope {
         symbols: view.symbols,
         tracked: &tracked,
     };
-    let known = Known {
+    let known = RegionContext {
         view,
         scope: &scope,
         own,

@@ -7,19 +7,20 @@ ghost use Rattle.region_sets.specs.Sets.{SetFits};
 ghost use Rattle.array_regions.specs.Reads.{reads, all_reads, inner_reads, maybe_reads};
 
 use crate::references::{push_element, push_named};
-use call_translation::Scope;
+use call_translation::CellScope;
 use f77_ast::Expr;
 use fx_lists::List;
 use region_sets::{Access, RegionSet};
 use std::alloc::{AllocError as Memory, Global};
 
-/// Adds what an expression reads, in the order of its evaluation.
+/// Appends the READ regions of an expression, operands from left to right and the subscripts of an element before it. Err also where an array
+/// has more than 254 dimensions.
 #[cycle(reads)]
 #[tactic(auto, using(crate::proofs::Steps::expr_parts))]
 pub fn push_reads(
     alloc: Global,
     out: &mut RegionSet,
-    scope: &Scope<'_>,
+    scope: &CellScope<'_>,
     e: &Expr,
 ) -> Result<(), Memory>
     requires { SetFits out.old }
@@ -41,13 +42,13 @@ pub fn push_reads(
     }
 }
 
-/// Adds what expressions read, one after another.
+/// Appends the READ regions of expressions, in their order.
 #[cycle(reads)]
 #[tactic(auto, using(crate::proofs::Steps::expr_rest))]
 pub fn push_all_reads(
     alloc: Global,
     out: &mut RegionSet,
-    scope: &Scope<'_>,
+    scope: &CellScope<'_>,
     es: &List<Expr>,
 ) -> Result<(), Memory>
     requires { SetFits out.old }
@@ -60,12 +61,12 @@ pub fn push_all_reads(
     Ok(())
 }
 
-/// Adds what the subscripts of an element read.
+/// Appends the READ regions of the subscripts of an element, not of the element itself; nothing for another expression.
 #[tactic(auto, using(crate::proofs::Steps::expr_parts))]
 pub fn push_inner_reads(
     alloc: Global,
     out: &mut RegionSet,
-    scope: &Scope<'_>,
+    scope: &CellScope<'_>,
     e: &Expr,
 ) -> Result<(), Memory>
     requires { SetFits out.old }
@@ -84,12 +85,12 @@ pub fn push_inner_reads(
     }
 }
 
-/// Adds what an expression that may be missing reads.
+/// Appends the READ regions of an expression, where there is one.
 #[tactic(auto, using(crate::proofs::Steps::expr_parts))]
 pub fn push_maybe_reads(
     alloc: Global,
     out: &mut RegionSet,
-    scope: &Scope<'_>,
+    scope: &CellScope<'_>,
     e: &Option<Expr>,
 ) -> Result<(), Memory>
     requires { SetFits out.old }

@@ -12,7 +12,7 @@ ghost use Rattle.array_regions.specs.References.{is_constant as is_constant_is, 
 use crate::rows::{all_affine, rows_of};
 use affine_forms::no_rows;
 use affine_systems::System;
-use call_translation::Scope;
+use call_translation::CellScope;
 use f77_ast::Expr;
 use f77_symbols::{Bound, Place, Symbols, Variable};
 use fx_lists::{List, Text};
@@ -54,7 +54,7 @@ fn one_piece(
     })
 }
 
-/// All of a scalar.
+/// The exact region of a scalar variable, the symbol with a number, from 1, without a condition.
 pub fn scalar(alloc: Global, access: Access, number: u32) -> Result<Region, Memory>
     ensures defined { IfOk result (λ r. r ≡ scalar_is access number) }
     ensures fits { IfOk result RegionFits }
@@ -92,7 +92,7 @@ fn push_scalar_at(
 fn push_whole(
     alloc: Global,
     out: &mut RegionSet,
-    scope: &Scope<'_>,
+    scope: &CellScope<'_>,
     access: Access,
     name: &Text,
 ) -> Result<(), Memory>
@@ -109,7 +109,7 @@ fn push_whole(
 /// The elements with these subscripts. Memory also behind 254 dimensions.
 fn elements(
     alloc: Global,
-    scope: &Scope<'_>,
+    scope: &CellScope<'_>,
     access: Access,
     number: u32,
     es: &List<Expr>,
@@ -128,7 +128,7 @@ fn elements(
 fn push_element_at(
     alloc: Global,
     out: &mut RegionSet,
-    scope: &Scope<'_>,
+    scope: &CellScope<'_>,
     access: Access,
     number: u32,
     es: &List<Expr>,
@@ -150,12 +150,13 @@ fn push_element_at(
     }
 }
 
-/// Adds the element of an array; nothing of an intrinsic function.
+/// Appends the region of an element of the array with a name; nothing where the name is of no array, as that of an intrinsic function. It is
+/// exact where all subscripts are affine and no row is lost. Err also where the array has more than 254 dimensions.
 #[tactic(auto, using(region_sets::proofs::Steps::fitting))]
 pub fn push_element(
     alloc: Global,
     out: &mut RegionSet,
-    scope: &Scope<'_>,
+    scope: &CellScope<'_>,
     access: Access,
     name: &Text,
     es: &List<Expr>,
@@ -170,12 +171,13 @@ pub fn push_element(
     }
 }
 
-/// Adds what an expression names: the variable of a name, or an element of an array.
+/// Appends the region of what an expression names: a variable, by its name alone, or an element of an array. Nothing for a constant and other
+/// expressions.
 #[tactic(auto, using(f77_ast::proofs::Plainly::expr_appends))]
 pub fn push_named(
     alloc: Global,
     out: &mut RegionSet,
-    scope: &Scope<'_>,
+    scope: &CellScope<'_>,
     access: Access,
     e: &Expr,
 ) -> Result<(), Memory>

@@ -11,7 +11,7 @@ ghost use Rattle.array_regions.specs.Rows.{constant_form as constant_form_is, lo
 
 use affine_forms::{Affine, affine_of, at_most_row, same_row, var_form};
 use affine_systems::{Row, Var};
-use call_translation::Scope;
+use call_translation::CellScope;
 use f77_ast::Expr;
 use f77_constants::{Constant, Worth, worth_of};
 use f77_symbols::{Bound, Symbols};
@@ -133,11 +133,13 @@ fn next_dimension(k: u8) -> Result<u8, Memory>
     }
 }
 
-/// The rows on the subscripts of an element, dimension by dimension. Memory also behind 254 dimensions.
+/// The rows on the subscripts of an element (`Phi`, the first is 1), dimension by dimension as far as both lists go: equality with the
+/// subscript's affine expression or, where it has none, the bounds of the dimension that are constants. Err also where there are more than
+/// 254 dimensions.
 #[tactic(auto, using(crate::proofs::Steps::row_items))]
 pub fn rows_of(
     alloc: Global,
-    scope: &Scope<'_>,
+    scope: &CellScope<'_>,
     es: &List<Expr>,
     bounds: &List<Bound>,
 ) -> Result<Vec<Row>, Memory>
@@ -163,11 +165,11 @@ pub fn rows_of(
     Ok(rows)
 }
 
-/// Whether each subscript that has a dimension has a form.
+/// Whether each subscript that has a dimension has an affine expression.
 #[tactic(auto, using(crate::proofs::Steps::row_items))]
 pub fn all_affine(
     alloc: Global,
-    scope: &Scope<'_>,
+    scope: &CellScope<'_>,
     es: &List<Expr>,
     bounds: &List<Bound>,
 ) -> Result<bool, Memory>

@@ -8,18 +8,19 @@ ghost use Rattle.array_regions.specs.Simple.{assignment as assignment_is, printi
 
 use crate::reads::{push_all_reads, push_inner_reads, push_reads};
 use crate::references::push_named;
-use call_translation::{Scope, named_cell, push_cell};
+use call_translation::{CellScope, named_cell, push_cell};
 use f77_ast::Expr;
 use fx_lists::List;
 use region_sets::{Access, Region, RegionSet, push_composed, unite_all};
 use std::alloc::{AllocError as Memory, Global};
 use transformer_algebra::{Transformer, forgotten};
 
-/// Of an assignment.
+/// The regions of an assignment (ANSI X3.9-1978, §10.1 and §10.2): the right side and the subscripts of the left one are read, the left one
+/// is written.
 #[tactic(auto, using(region_sets::proofs::Steps::fitting))]
 pub fn assignment(
     alloc: Global,
-    scope: &Scope<'_>,
+    scope: &CellScope<'_>,
     left: &Expr,
     right: &Expr,
 ) -> Result<RegionSet, Memory>
@@ -33,9 +34,13 @@ pub fn assignment(
     unite_all(alloc, all.as_slice())
 }
 
-/// Of a PRINT.
+/// The READ regions of the items of a PRINT (ANSI X3.9-1978, §12.8).
 #[tactic(auto, using(region_sets::proofs::Steps::fitting))]
-pub fn printing(alloc: Global, scope: &Scope<'_>, items: &List<Expr>) -> Result<RegionSet, Memory>
+pub fn printing(
+    alloc: Global,
+    scope: &CellScope<'_>,
+    items: &List<Expr>,
+) -> Result<RegionSet, Memory>
     ensures defined { IfOk result (λ rs. rs ≡ printing_is (scope_tree scope.now.symbols.now scope.now.tracked.now) (expr_trees items.now)) }
     ensures fits { IfOk result SetFits }
 {
@@ -45,7 +50,7 @@ pub fn printing(alloc: Global, scope: &Scope<'_>, items: &List<Expr>) -> Result<
 }
 
 /// What the READ of one item does to the tracked cells.
-fn item_does(alloc: Global, scope: &Scope<'_>, item: &Expr) -> Result<Transformer, Memory>
+fn item_does(alloc: Global, scope: &CellScope<'_>, item: &Expr) -> Result<Transformer, Memory>
     ensures defined { IfOk result (λ t. t ≡ item_does_is (scope_tree scope.now.symbols.now scope.now.tracked.now) (expr_tree item.now)) }
     ensures fits { IfOk result (λ t. Fits t.system) }
 {
@@ -58,7 +63,7 @@ fn item_does(alloc: Global, scope: &Scope<'_>, item: &Expr) -> Result<Transforme
 #[tactic(auto, using(region_sets::proofs::Steps::fitting))]
 fn with_item(
     alloc: Global,
-    scope: &Scope<'_>,
+    scope: &CellScope<'_>,
     item: &Expr,
     rest: &[Region],
 ) -> Result<RegionSet, Memory>
@@ -74,9 +79,10 @@ fn with_item(
     unite_all(alloc, all.as_slice())
 }
 
-/// Of a READ: one item after another, from the last on.
+/// The regions of a READ (ANSI X3.9-1978, §12.8), where it begins: of each item the subscripts are read, with the values of the analysed
+/// scalars after the items before it, and the item is written.
 #[tactic(auto, using(crate::proofs::Steps::item_step))]
-pub fn reading(alloc: Global, scope: &Scope<'_>, items: &[Expr]) -> Result<RegionSet, Memory>
+pub fn reading(alloc: Global, scope: &CellScope<'_>, items: &[Expr]) -> Result<RegionSet, Memory>
     ensures defined { IfOk result (λ rs. rs ≡ reading_is (expr_trees items.now) (scope_tree scope.now.symbols.now scope.now.tracked.now)) }
     ensures fits { IfOk result SetFits }
 {

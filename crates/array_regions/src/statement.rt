@@ -11,7 +11,7 @@ ghost use Rattle.array_regions.specs.Statement.{what_set as what_set_is, arm_set
 use crate::arms::{Reached, always, if_false, if_set, if_true, push_met, push_tests};
 use crate::loops::do_set;
 use crate::simple::{assignment, printing, reading};
-use call_translation::Scope;
+use call_translation::CellScope;
 use f77_ast::{Arm, Loop, Stmt, StmtId, What};
 use f77_results::{At, Results, View};
 use fx_lists::List;
@@ -20,25 +20,25 @@ use std::alloc::{AllocError as Memory, Global};
 use std::mem;
 use transformer_algebra::Transformer;
 
-/// What is known around a statement: its module, what that is looked at with, and the transformers of its statements.
+/// What is known around a statement: its module, the scope of that, and the transformers of its statements.
 #[derive(Drop)]
-pub struct Known<'a> {
+pub struct RegionContext<'a> {
     pub view: &'a View<'a>,
-    pub scope: &'a Scope<'a>,
+    pub scope: &'a CellScope<'a>,
     pub own: &'a Results<Transformer>,
 }
 
-/// Sets of regions at statements, in the order of the text.
-pub type Found = List<At<RegionSet>>;
+/// Sets of regions of statements, those of the parts of a statement after its own, in the order of the text.
+pub type RegionList = List<At<RegionSet>>;
 
 /// Adds the set of the statement of a number, and those of its parts after it.
 #[tactic(auto, using(crate::proofs::Steps::sets))]
 fn put(
     alloc: Global,
-    at: &mut Found,
+    at: &mut RegionList,
     id: StmtId,
     value: RegionSet,
-    parts: Found,
+    parts: RegionList,
 ) -> Result<(), Memory>
     requires at { SetsFit at.old }
     requires value { SetFits value }
@@ -52,7 +52,7 @@ fn put(
 
 /// Adds sets at the end.
 #[tactic(auto, using(crate::proofs::Steps::sets))]
-fn put_all(alloc: Global, at: &mut Found, more: Found) -> Result<(), Memory>
+fn put_all(alloc: Global, at: &mut RegionList, more: RegionList) -> Result<(), Memory>
     requires at { SetsFit at.old }
     requires more { SetsFit more }
     ensures added { OnOk result (at.new ≡ at.old ++ more) }
@@ -70,9 +70,9 @@ fn put_all(alloc: Global, at: &mut Found, more: Found) -> Result<(), Memory>
 #[tactic(auto, using(crate::proofs::StatementLaws::part_calls))]
 fn what_set(
     alloc: Global,
-    known: &Known<'_>,
+    known: &RegionContext<'_>,
     what: &What,
-    parts: &mut Found,
+    parts: &mut RegionList,
 ) -> Result<RegionSet, Memory>
     requires known { KnownFits known.now }
     requires parts { SetsFit parts.old }
@@ -115,7 +115,12 @@ fn what_set(
 /// Adds the set of a statement, and those of its parts after it.
 #[cycle(regions)]
 #[tactic(auto, using(crate::proofs::StatementLaws::part_calls))]
-fn put_stmt(alloc: Global, known: &Known<'_>, s: &Stmt, at: &mut Found) -> Result<(), Memory>
+fn put_stmt(
+    alloc: Global,
+    known: &RegionContext<'_>,
+    s: &Stmt,
+    at: &mut RegionList,
+) -> Result<(), Memory>
     requires known { KnownFits known.now }
     requires at { SetsFit at.old }
     ensures added { OnOk result (at.new ≡ at.old ++ at_stmt (stmt_tree s.now) (scope_in known.now) (found_in known.now)) }
@@ -129,7 +134,11 @@ fn put_stmt(alloc: Global, known: &Known<'_>, s: &Stmt, at: &mut Found) -> Resul
 /// The sets of the statements of a list, and of their parts.
 #[cycle(regions)]
 #[tactic(auto, using(crate::proofs::StatementLaws::statement_calls))]
-fn each_set(alloc: Global, known: &Known<'_>, list: &List<Stmt>) -> Result<Found, Memory>
+fn each_set(
+    alloc: Global,
+    known: &RegionContext<'_>,
+    list: &List<Stmt>,
+) -> Result<RegionList, Memory>
     requires { KnownFits known.now }
     ensures defined { IfOk result (λ as'. as' ≡ at_list (stmt_trees list.now) (scope_in known.now) (found_in known.now)) }
     ensures fits { IfOk result SetsFit }
@@ -141,15 +150,16 @@ fn each_set(alloc: Global, known: &Known<'_>, list: &List<Stmt>) -> Result<Found
     Ok(found)
 }
 
-/// Of a list; `whole` says that it is the body of the module. The sets of its statements are added.
+/// The regions of a list where it begins; those of its statements and of their parts are appended to `at`. `whole`: the list is the body of
+/// the module.
 #[cycle(regions)]
 #[tactic(auto, using(crate::proofs::StatementLaws::part_calls))]
 pub fn list_set(
     alloc: Global,
-    known: &Known<'_>,
+    known: &RegionContext<'_>,
     list: &List<Stmt>,
     whole: bool,
-    at: &mut Found,
+    at: &mut RegionList,
 ) -> Result<RegionSet, Memory>
     requires known { KnownFits known.now }
     requires at { SetsFit at.old }
@@ -170,9 +180,9 @@ pub fn list_set(
 fn push_arms(
     alloc: Global,
     out: &mut RegionSet,
-    known: &Known<'_>,
+    known: &RegionContext<'_>,
     arms: &List<Arm>,
-    at: &mut Found,
+    at: &mut RegionList,
 ) -> Result<Reached, Memory>
     requires out { SetFits out.old }
     requires known { KnownFits known.now }
@@ -197,7 +207,12 @@ fn push_arms(
 /// Of a DO.
 #[cycle(regions)]
 #[tactic(auto, using(crate::proofs::StatementLaws::body_calls))]
-fn body_set(alloc: Global, known: &Known<'_>, l: &Loop, at: &mut Found) -> Result<RegionSet, Memory>
+fn body_set(
+    alloc: Global,
+    known: &RegionContext<'_>,
+    l: &Loop,
+    at: &mut RegionList,
+) -> Result<RegionSet, Memory>
     requires known { KnownFits known.now }
     requires at { SetsFit at.old }
     ensures defined { IfOk result (λ rs. rs ≡ body_set_is (loop_tree l.now) (scope_in known.now) (found_in known.now)) }

@@ -12,17 +12,21 @@ use fx_lists::{List, Text};
 use std::alloc::{AllocError as Memory, Global};
 use tracked_cells::has_bounds;
 
-/// What an actual offers: a whole array, an element with what follows it, a scalar variable, or the value of an expression.
-#[derive(Clone, Copy, Debug, PartialEq, Eq)]
+/// What an actual argument offers to a dummy.
+#[derive(Clone, Copy, PartialEq, Eq)]
 pub enum Offer {
+    /// A whole array.
     Array,
+    /// An array element, with the elements that follow it.
     Element,
+    /// A scalar variable.
     Variable,
+    /// The value of any other expression, or of a PARAMETER.
     Value,
 }
 
-/// An actual: its type and what it offers.
-#[derive(Clone, Copy, Debug, PartialEq, Eq)]
+/// An actual argument: its type and what it offers.
+#[derive(Clone, Copy, PartialEq, Eq)]
 pub struct Actual {
     pub scalar: Scalar,
     pub offer: Offer,
@@ -154,7 +158,7 @@ fn actual_of(symbols: &Symbols, e: &Expr) -> Actual
     }
 }
 
-/// The actuals of a CALL.
+/// The types and offers of the actuals of a CALL, in their order. The symbols are those of the caller.
 pub fn actuals_of(alloc: Global, symbols: &Symbols, es: &List<Expr>) -> Result<List<Actual>, Memory>
     ensures { IfOk result (λ xs. xs ≡ actuals_of (expr_trees es.now) (map symbol_tree symbols.now)) }
 {
@@ -192,7 +196,8 @@ fn fits(actual: Actual, dummy: &Symbol) -> bool
     same_type(actual.scalar, dummy.scalar) && suits(actual.offer, has_bounds(dummy))
 }
 
-/// Whether each actual fits the symbol at its place.
+/// Whether each actual fits the symbol at its place: they have one type, and a whole array or an element fits an array,
+/// anything but a whole array a scalar. False where there are more actuals than symbols; symbols past the actuals are ignored.
 pub fn all_fit(actuals: &[Actual], dummies: &[Symbol]) -> bool
     ensures { result ≡ all_fit actuals.now (map symbol_tree dummies.now) }
 {

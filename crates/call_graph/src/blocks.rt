@@ -88,8 +88,8 @@ fn block_list(alloc: Global, entries: &[(Vec<u8>, u64)]) -> Result<List<Block>, 
     Ok(blocks)
 }
 
-/// The blocks in the order of their names, each with the largest size that a module gives it. It fails as without memory where a
-/// block has 2^64 units or more.
+/// The blocks in the order of their names, byte by byte, each with the largest size that a module gives it, in units. Err also
+/// where a block has 2^64 units or more.
 pub fn blocks_of(alloc: Global, tables: &List<Symbols>) -> Result<List<Block>, Memory>
     ensures { IfOk result (λ blocks. blocks ≡ blocks_of (map (map symbol_tree) tables.now)) }
 {

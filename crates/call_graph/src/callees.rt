@@ -71,7 +71,9 @@ fn first_in(
     None
 }
 
-/// The first CALL of a program that does not fit.
+/// The fault of the first CALL that does not fit, in the order of the modules and of their texts: of no subroutine, with
+/// another number of actuals than of dummies, or with an actual that does not fit. None where all fit. The lists have one
+/// element for each module; `names` are the names of the modules.
 pub fn unfit(
     calls: &List<Calls>,
     names: &Names,
@@ -133,7 +135,8 @@ fn places_of(alloc: Global, names: &Names, calls: &Calls) -> Result<List<u32>, M
     Ok(places)
 }
 
-/// The places of the modules that each module calls.
+/// For each module, in their order, the places from 0 of the modules that it calls, each once, in the order of its CALLs. A
+/// name of no module is left out. Takes time of the CALLs of a module times its callees.
 pub fn all_places(
     alloc: Global,
     names: &Names,
@@ -172,7 +175,7 @@ fn add_edges(edges: &mut List<Edge>, caller: &Text, calls: &Calls) -> Result<(),
     Ok(())
 }
 
-/// The CALLs of a program, by caller.
+/// The CALLs of a program, in the order of the modules and of their texts; `names` are the names of the modules.
 pub fn all_edges(alloc: Global, names: &Names, calls: &List<Calls>) -> Result<List<Edge>, Memory>
     ensures { IfOk result (λ es. es ≡ all_edges names.now calls.now) }
 {

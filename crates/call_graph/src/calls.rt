@@ -11,15 +11,15 @@ use f77_symbols::Symbols;
 use fx_lists::{List, Text};
 use std::alloc::{AllocError as Memory, Global};
 
-/// A CALL: its number, what it calls, and its actuals.
-#[derive(Debug, PartialEq, Eq, Drop)]
+/// A CALL statement: its number in its module, from 1; the name of the callee; and the actuals in their order.
+#[derive(PartialEq, Eq, Drop)]
 pub struct Called {
     pub at: StmtId,
     pub callee: Text,
     pub actuals: List<Actual>,
 }
 
-/// CALLs in the order of the text.
+/// The CALLs of a module, in the order of the text.
 pub type Calls = List<Called>;
 
 /// Adds the CALLs of statements one after another.
@@ -115,7 +115,7 @@ fn calls_of(alloc: Global, parsed: &Parsed, symbols: &Symbols) -> Result<Calls, 
     Ok(calls)
 }
 
-/// The CALLs of each module.
+/// The CALLs of each module, in the order of the modules, up to the first that has no table.
 pub fn all_calls(
     alloc: Global,
     modules: &List<Parsed>,

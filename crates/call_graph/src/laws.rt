@@ -1,17 +1,17 @@
-//! What a graph says of a program.
+//! Laws of the order of modules.
 ghost use Rattle.call_graph.specs.Laws.{OrdersAreBottomUp, OrdersAreWhole, LinkedInOrder};
 
-/// In the order of places each module is new, and stands behind those that it calls.
+/// The law that in the order of places each module is new, and comes after all that it calls.
 pub fn orders_are_bottom_up()
     ensures { OrdersAreBottomUp }
 {}
 
-/// Without recursion the order has each module.
+/// The law that the order has each module, where calls are of modules and none leads back to its caller.
 pub fn orders_are_whole()
     ensures { OrdersAreWhole }
 {}
 
-/// Modules that link stand in the order of their graph, each once, behind those that they call.
+/// The law that modules that link are in the order of their graph, each once, after those that they call.
 pub fn linked_in_order()
     ensures { LinkedInOrder }
 {}

@@ -33,7 +33,7 @@ fn is_statement(part: Part, id: StmtId) -> bool
     }
 }
 
-/// The line of an executable statement.
+/// The first line of an executable statement, from 1; 0 where no spot is of its number. Linear in the spots.
 pub fn statement_line(spots: &[Spot], id: StmtId) -> u32
     ensures { result ≡ statement_line id spots.now }
 {
@@ -47,7 +47,7 @@ pub fn statement_line(spots: &[Spot], id: StmtId) -> u32
     0
 }
 
-/// A module past those that a program may have.
+/// The fault of the 65th module; None where there are at most 64.
 pub fn too_many(modules: &List<Parsed>) -> Option<Fault>
     ensures { result ≡ too_many (map parsed_tree modules.now) }
 {
@@ -64,7 +64,7 @@ fn is_place(place: u32, found: Option<u32>) -> bool
     }
 }
 
-/// A second module of one name.
+/// The fault of the first module whose name an earlier one has; None where the names differ. `names` are those of the modules.
 pub fn name_twice(modules: &List<Parsed>, names: &Names) -> Option<Fault>
     requires { length modules.now ≤ 64 }
     ensures { result ≡ twice_from 0 names.now (map parsed_tree modules.now) }
@@ -81,7 +81,7 @@ pub fn name_twice(modules: &List<Parsed>, names: &Names) -> Option<Fault>
     None
 }
 
-/// A second main program.
+/// The fault of the second main program; None where there are not two.
 pub fn main_twice(modules: &List<Parsed>) -> Option<Fault>
     requires { length modules.now ≤ 64 }
     ensures { result ≡ main_twice (map parsed_tree modules.now) }
@@ -100,7 +100,7 @@ pub fn main_twice(modules: &List<Parsed>) -> Option<Fault>
     None
 }
 
-/// No main program.
+/// The fault that no module is a main program; None where one is.
 pub fn no_main(modules: &List<Parsed>) -> Option<Fault>
     ensures { result ≡ no_main (map parsed_tree modules.now) }
 {

@@ -1,4 +1,4 @@
-//! The order of modules, each behind those that it calls.
+//! The order of modules, each after those that it calls.
 ghost use Rattle.std.specs.Prelude.{◌≡◌, ◌≤◌, ◌++◌, length, slice_get, option_to_list, IfOk};
 ghost use Rattle.std.specs.List.{list_all};
 ghost use Rattle.call_graph.specs.Order.{holds, ready, first_ready, order_of, names_at};
@@ -7,7 +7,7 @@ use fx_lists::{List, Text};
 use std::alloc::{AllocError as Memory, Global};
 use tracked_cells::Names;
 
-/// Whether a place is in a list.
+/// Whether a place is in a list. Linear in its length.
 pub fn holds(order: &List<u32>, place: u32) -> bool
     ensures { result ≡ holds order.now place }
 {
@@ -69,7 +69,9 @@ fn put_name(named: &mut List<Text>, names: &Names, place: u32) -> Result<(), Mem
     }
 }
 
-/// The names of the modules in order.
+/// The names of the modules in the order of their calls, each after those that it calls; of modules that may come next the
+/// first in the text does. `callees` has for each module the places, from 0, of those that it calls. Modules on a cycle of
+/// calls, or that call such modules, are left out.
 pub fn names_in_order(
     alloc: Global,
     names: &Names,

@@ -1,4 +1,4 @@
-//! Whether calls lead back to where they came from.
+//! Whether calls lead back to their callers.
 ghost use Rattle.std.specs.Prelude.{◌≡◌, ◌≤◌, false, length, map, IfOk, [], slice_index_or};
 ghost use Rattle.std.specs.List.{list_any};
 ghost use Rattle.f77_ast.specs.PlainDecl.{parsed_tree};
@@ -147,7 +147,9 @@ fn cyclic_from(
     None
 }
 
-/// The first CALL that lies on a cycle of calls.
+/// The fault of the first CALL that is on a cycle of calls, in the order of the modules and of their texts; None where there is
+/// no recursion. `callees` has for each module the places, from 0, of those that it calls. Takes time of the square of the
+/// number of modules times that of all callees.
 pub fn recursion(
     alloc: Global,
     names: &Names,

@@ -7,10 +7,12 @@ use refusal_codes::Code;
 use std::alloc::{AllocError, AllocFailed};
 use thiserror::Error;
 
-/// No main program, or a code at a line of a module, by its place from 0.
-#[derive(Clone, Copy, Debug, PartialEq, Eq)]
+/// What is wrong with a program.
+#[derive(Clone, Copy, PartialEq, Eq)]
 pub enum Fault {
+    /// No module is a main program.
     NoMain,
+    /// The place of the module, from 0, the line in its text, from 1, and the code.
     At(u32, u32, Code),
 }
 
@@ -20,14 +22,15 @@ pub enum LinkRefusal {
     /// No main program: code 50.
     #[error("no main program")]
     NoMain,
-    /// The place of the module from 0, the line in its text, and the code, 51 to 57.
+    /// The place of the module, from 0, the line in its text, from 1, and the code, 51 to 57.
     #[error("module {0}, line {1}: {2}")]
     At(u32, u32, u32),
+    /// No memory, or a block of 2^64 units or more.
     #[error("out of memory")]
     Memory,
 }
 
-/// The refusal of a fault.
+/// The refusal that reports a fault, with the number of its code.
 pub fn refusal_of(fault: Fault) -> LinkRefusal
     ensures { result ≡ refusal_of fault }
 {

@@ -14,7 +14,7 @@ use Rattle.f77_symbols.specs.Shared.{place_at}
 use Rattle.affine_forms.specs.declared.affine.Affine.{Affine}
 use Rattle.affine_forms.specs.Comparisons.{var_form, same_row}
 use Rattle.transformer_algebra.specs.Cells.{has}
-use Rattle.call_translation.specs.declared.call.Call.{Call}
+use Rattle.call_translation.specs.declared.call.CallContext.{CallContext}
 use Rattle.call_translation.specs.Scopes.{ScopeTree, scope_tree}
 use Rattle.call_translation.specs.Common.{tracked_at}
 use Rattle.call_translation.specs.Actuals.{one_cell, actual_of, form_in, cell_named}
@@ -25,7 +25,7 @@ pub record CallTree : Type 0 where
   pub actuals : ExprTrees
   pub symbols : List SymbolTree
 
-abbrev pub call_tree : Call → CallTree
+abbrev pub call_tree : CallContext → CallTree
 call_tree c = record { caller = scope_tree c.caller.now.symbols.now c.caller.now.tracked.now; actuals = expr_trees c.actuals.now; symbols = map symbol_tree c.symbols.now }
 
 -- the tracked cell of the caller that is the actual of a dummy

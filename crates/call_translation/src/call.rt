@@ -10,7 +10,7 @@ ghost use Rattle.call_translation.specs.Call.{actual_cell as actual_cell_is, cel
 
 use crate::actual::{actual_of, form_in};
 use crate::common::tracked_at;
-use crate::{Scope, named_cell};
+use crate::{CellScope, named_cell};
 use affine_forms::{Affine, same_row, var_form};
 use affine_systems::{Row, Var};
 use f77_ast::Expr;
@@ -19,10 +19,10 @@ use fx_lists::List;
 use std::alloc::{AllocError as Memory, Global};
 use transformer_algebra::has;
 
-/// A CALL: the scope of its module, its actuals, and the symbols of what it calls.
+/// A CALL: the scope of its caller, its actual arguments in order, and the symbols of the callee.
 #[derive(Drop)]
-pub struct Call<'a> {
-    pub caller: &'a Scope<'a>,
+pub struct CallContext<'a> {
+    pub caller: &'a CellScope<'a>,
     pub actuals: &'a List<Expr>,
     pub symbols: &'a Symbols,
 }
@@ -81,8 +81,8 @@ fn form_row(alloc: Global, v: Var, form: &Option<Affine>) -> Result<Option<Row>,
     }
 }
 
-impl Call<'_> {
-    /// The place of a symbol of the callee.
+impl CallContext<'_> {
+    /// The place of the symbol of the callee with a number, from 1; None where there is none.
     pub fn place(&self, number: u32) -> Option<&Place>
         ensures { option_copied result ≡ place_at (map symbol_tree self.now.symbols.now) number }
     {
@@ -125,7 +125,8 @@ impl Call<'_> {
         }
     }
 
-    /// The tracked cell of the caller that is the same unit as a symbol of the callee, a dummy or a variable of a block.
+    /// The analysed scalar of the caller at the storage unit of a symbol of the callee: the one that the actual of a dummy names, or that
+    /// begins at the unit of a variable of a common block. None where there is none, and for locals and constants.
     pub fn cell(&self, cell: u32) -> Result<Option<u32>, Memory>
         ensures { IfOk result (λ found. found ≡ cell_at_is (call_tree self.now) (place_at (map symbol_tree self.now.symbols.now) cell)) }
     {
@@ -154,8 +155,9 @@ impl Call<'_> {
         }
     }
 
-    /// The caller's variable for a callee's variable; `aux`: the number of the fresh variable, if it has none; `lent`: the caller's cells that are
-    /// lent to earlier dummies.
+    /// The caller's variable for a variable of the callee. `Cell` of a variable of a common block and `Exit` of that or of a dummy become
+    /// those of the caller's analysed scalar at the same unit, where there is one; all others become `Aux(aux)`. `lent`: the caller's scalars
+    /// that are actuals of earlier dummies, whose exits they keep.
     pub fn in_caller(&self, aux: u32, lent: &[u32], v: Var) -> Result<Var, Memory>
         ensures { IfOk result (λ w. w ≡ in_caller_is (call_tree self.now) aux lent.now v) }
     {
@@ -166,7 +168,8 @@ impl Call<'_> {
         }
     }
 
-    /// The cell of the caller that is lent to the dummy whose exit a variable is.
+    /// The analysed scalar of the caller that is the actual of the dummy whose `Exit` a variable is; None for other variables and other
+    /// actuals.
     pub fn cell_lent_by(&self, v: Var) -> Option<u32>
         ensures { one_cell result ≡ cell_lent_by_is (call_tree self.now) v }
     {
@@ -192,7 +195,8 @@ impl Call<'_> {
         }
     }
 
-    /// That a dummy has at first the value of its actual, where that has a form; `aux`: the number of the fresh variable that is the dummy's.
+    /// The row that says that a dummy, where the callee is entered, equals the affine expression of its actual. `v` is `Cell` of the dummy,
+    /// which the row names as `Aux(aux)`. None where `v` is no such variable, or the actual has no affine expression.
     pub fn row(&self, alloc: Global, aux: u32, v: Var) -> Result<Option<Row>, Memory>
         ensures defined { IfOk result (λ r. maybe_row r ≡ row_of_is (call_tree self.now) aux v) }
         ensures fits { IfOk result (λ r. IfSome r IsGiven) }

@@ -6,13 +6,13 @@ ghost use Rattle.f77_symbols.specs.declared.symbol.Place.TheVariants.{Block};
 ghost use Rattle.call_translation.specs.Scopes.{scope_tree};
 ghost use Rattle.call_translation.specs.Common.{is_unit as is_unit_is, tracked_at as tracked_at_is, declares as declares_is};
 
-use crate::{Scope, next_number};
+use crate::{CellScope, next_number};
 use f77_symbols::{Place, Symbol, Symbols, Unit};
 use fx_lists::Text;
 use std::alloc::AllocError as Memory;
 use tracked_cells::reaches;
 
-/// A copy of a unit.
+/// A copy of a storage unit of a common block.
 pub fn copy_unit(unit: &Unit) -> Result<Unit, Memory>
     ensures { IfOk result (λ u. u ≡ unit.now) }
 {
@@ -39,8 +39,9 @@ fn begins_at(flag: bool, block: &Text, offset: u64, place: &Place) -> bool
     flag && is_unit(block, offset, place)
 }
 
-/// The tracked cell that begins at a unit of a block. Looks at each symbol, and fails behind 2^32-2 of them.
-pub fn tracked_at(scope: &Scope<'_>, block: &Text, offset: u64) -> Result<Option<u32>, Memory>
+/// The number, from 1, of the first analysed scalar that begins at a storage unit of a common block; None where there is none. `offset`
+/// counts units from the first of the block, from 0. Linear in the symbols. Err also where none of the first 2^32 - 1 symbols is it.
+pub fn tracked_at(scope: &CellScope<'_>, block: &Text, offset: u64) -> Result<Option<u32>, Memory>
     ensures { IfOk result (λ found. found ≡ tracked_at_is (scope_tree scope.now.symbols.now scope.now.tracked.now) block.now offset) }
 {
     let mut number = 1u32;
@@ -74,8 +75,9 @@ fn stands_at(symbols: &Symbols, block: &Text, offset: u64, symbol: &Symbol) -> b
     }
 }
 
-/// Whether some variable of a module stands at a unit of a block. Looks at each symbol.
-pub fn declares(scope: &Scope<'_>, block: &Text, offset: u64) -> bool
+/// Whether some variable of a module, a scalar or an array, has a storage unit of a common block among its units. `offset` counts units from
+/// the first of the block, from 0. Looks at each symbol.
+pub fn declares(scope: &CellScope<'_>, block: &Text, offset: u64) -> bool
     ensures { result ≡ declares_is (scope_tree scope.now.symbols.now scope.now.tracked.now) block.now offset }
 {
     let mut rest = scope.symbols.as_slice();

@@ -13,7 +13,7 @@ ghost use Rattle.affine_forms.specs.Forms.{IsSmallForm};
 use crate::actual::{actual_of, form_in};
 use crate::common::tracked_at;
 use crate::variables::auxiliaries_in;
-use crate::{Scope, Site, next_number};
+use crate::{CellScope, Site, next_number};
 use affine_forms::{Affine, is_cell, no_rows, same_row, var_form};
 use affine_systems::{Row, System, Var};
 use f77_ast::Scalar;
@@ -74,7 +74,11 @@ fn add_dummy(
 
 /// That each dummy, which `Exit` stands for here, is the form of its actual, over the cells of the caller.
 #[tactic(auto, using(crate::proofs::Steps::rows_loop))]
-fn dummy_rows(alloc: Global, callee: &Scope<'_>, site: &Site<System>) -> Result<Vec<Row>, Memory>
+fn dummy_rows(
+    alloc: Global,
+    callee: &CellScope<'_>,
+    site: &Site<System>,
+) -> Result<Vec<Row>, Memory>
     ensures defined { IfOk result (λ rs. rs.items ≡ rows_from (site_tree site.now) 1 (map symbol_tree callee.now.symbols.now)) }
     ensures small { IfOk result (λ rs. AllRows IsSmallRow rs.items) }
 {
@@ -88,7 +92,7 @@ fn dummy_rows(alloc: Global, callee: &Scope<'_>, site: &Site<System>) -> Result<
 }
 
 /// The tracked cell of the callee for a cell of the caller: none, unless both modules track the variable of a block at that unit.
-fn kept_cell(callee: &Scope<'_>, site: &Site<System>, cell: u32) -> Result<Option<u32>, Memory>
+fn kept_cell(callee: &CellScope<'_>, site: &Site<System>, cell: u32) -> Result<Option<u32>, Memory>
     ensures { IfOk result (λ x. x ≡ kept_cell_is (scope_tree callee.now.symbols.now callee.now.tracked.now) (site_tree site.now) cell) }
 {
     let caller = site.scope();
@@ -106,7 +110,7 @@ fn kept_cell(callee: &Scope<'_>, site: &Site<System>, cell: u32) -> Result<Optio
 
 /// The callee's variable for a variable of the caller, or for a dummy, which `Exit` stands for here; `aux`: the number of the fresh variable, if it
 /// has none.
-fn in_callee(callee: &Scope<'_>, site: &Site<System>, aux: u32, v: Var) -> Result<Var, Memory>
+fn in_callee(callee: &CellScope<'_>, site: &Site<System>, aux: u32, v: Var) -> Result<Var, Memory>
     ensures { IfOk result (λ w. w ≡ in_callee_is (scope_tree callee.now.symbols.now callee.now.tracked.now) (site_tree site.now) aux v) }
 {
     match v {
@@ -123,7 +127,7 @@ fn in_callee(callee: &Scope<'_>, site: &Site<System>, aux: u32, v: Var) -> Resul
 #[tactic(auto, using(crate::proofs::Steps::names_loop))]
 fn namings(
     alloc: Global,
-    callee: &Scope<'_>,
+    callee: &CellScope<'_>,
     site: &Site<System>,
     first: u32,
     vars: &[Var],
@@ -153,10 +157,14 @@ fn renamed_rows(alloc: Global, names: &[Naming], rows: &[Row]) -> Result<Vec<Row
     Ok(out)
 }
 
-/// What a CALL gives for the entry of its callee: what holds where it begins, and each dummy that is an INTEGER scalar as the form of
-/// its actual; all is projected away but these dummies and the cells of blocks that both modules track. Each variable is looked up
-/// among the variables and among the symbols of the callee.
-pub fn site_entry(alloc: Global, callee: &Scope<'_>, site: &Site<System>) -> Result<System, Memory>
+/// What a CALL gives for the entry of its callee, in the callee's variables: what holds where the CALL begins, and that each INTEGER scalar
+/// dummy equals the affine expression of its actual, where that has one. All is projected away but these dummies and the scalars that both
+/// modules analyse at one unit of a common block. Each variable is looked up among all, and among the callee's symbols.
+pub fn site_entry(
+    alloc: Global,
+    callee: &CellScope<'_>,
+    site: &Site<System>,
+) -> Result<System, Memory>
     requires { Fits site.now.value }
     ensures defined { IfOk result (λ s. s ≡ site_entry_is (scope_tree callee.now.symbols.now callee.now.tracked.now) (site_tree site.now)) }
     ensures fits { IfOk result Fits }

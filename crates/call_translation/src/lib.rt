@@ -15,6 +15,6 @@ pub use actual::{named_cell, push_cell};
 pub use common::copy_unit;
 pub use entry::site_entry;
 pub use numbers::next_number;
-pub use scope::{Scope, tracked_of};
+pub use scope::{CellScope, tracked_of};
 pub use sites::{CallSites, CallerScope, Site, caller_scope};
 pub use summary::call_transformer;

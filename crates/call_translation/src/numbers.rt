@@ -3,7 +3,7 @@ ghost use Rattle.std.specs.Prelude.{◌≡◌, ◌+◌, IfOk};
 
 use std::alloc::AllocError as Memory;
 
-/// The number after another one. Memory where there is none.
+/// A number plus 1. Err also where that is 2^32.
 pub fn next_number(number: u32) -> Result<u32, Memory>
     ensures { IfOk result (λ next. next ≡ number + 1) }
 {

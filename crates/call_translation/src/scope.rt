@@ -10,14 +10,14 @@ use fx_lists::List;
 use std::alloc::{AllocError as Memory, Global};
 use tracked_cells::tracked_flags;
 
-/// The symbols of a module, and a flag for each whether it is a tracked cell.
+/// The symbols of a module and, for each of them in their order, whether it is an analysed scalar.
 #[derive(Drop)]
-pub struct Scope<'a> {
+pub struct CellScope<'a> {
     pub symbols: &'a Symbols,
     pub tracked: &'a List<bool>,
 }
 
-/// Which symbols of a module are tracked cells.
+/// For each symbol of a module, in their order, whether it is an analysed scalar.
 pub fn tracked_of(alloc: Global, view: &View<'_>) -> Result<List<bool>, Memory>
     ensures { IfOk result (λ cells. cells ≡ tracked_of (module_tree view.now.«module».now) (map symbol_tree view.now.symbols.now) view.now.graph.now.untracked) }
 {

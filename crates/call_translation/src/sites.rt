@@ -5,7 +5,7 @@ ghost use Rattle.f77_ast.specs.PlainStmt.{what_tree};
 ghost use Rattle.call_translation.specs.Scopes.{scope_of};
 ghost use Rattle.call_translation.specs.Sites.{caller_tree, actuals_in, sites_in};
 
-use crate::{Scope, tracked_of};
+use crate::{CellScope, tracked_of};
 use f77_ast::{Expr, Stmt, What, copy_exprs};
 use f77_results::{View, copy_symbols};
 use f77_symbols::Symbols;
@@ -13,14 +13,14 @@ use fx_lists::List;
 use std::alloc::{AllocError as Memory, Global};
 use std::rc::Rc;
 
-/// The scope of a module, with symbols and flags of its own: the CALLs of the module share it.
+/// The scope of a calling module, which owns its symbols and flags: the CALLs of the module share it.
 #[derive(Drop)]
 pub struct CallerScope {
     pub symbols: Symbols,
     pub tracked: List<bool>,
 }
 
-/// A CALL: the scope of its module, the actuals, and what an analysis says of it.
+/// A CALL: the scope of its caller, its actual arguments in order, and what an analysis says of it.
 #[derive(Drop)]
 pub struct Site<T> {
     pub caller: Rc<CallerScope>,
@@ -28,8 +28,8 @@ pub struct Site<T> {
     pub value: T,
 }
 
-/// The CALLs that name a module, with what an analysis says of each: callers from the last to the first of the order in which each
-/// module comes behind those that it calls, and the CALLs of one caller in the order of the text.
+/// The CALLs that name one module, with what an analysis says of each, in the order in which they were added: of the phases, callers before
+/// the modules that they call, and the CALLs of one caller in the order of the text.
 #[derive(Drop)]
 pub struct CallSites<T> {
     alloc: Global,
@@ -56,20 +56,20 @@ fn actuals_of(alloc: Global, call: &Stmt) -> Result<List<Expr>, Memory>
 }
 
 impl<T: Drop> Site<T> {
-    /// The scope of its module.
-    pub fn scope(&self) -> Scope<'_>
+    /// The scope of the calling module, borrowed from the site.
+    pub fn scope(&self) -> CellScope<'_>
         ensures symbols { result.symbols.now ≡ self.now.caller.value.symbols }
         ensures tracked { result.tracked.now ≡ self.now.caller.value.tracked }
     {
         let caller = self.caller.as_ref();
-        Scope {
+        CellScope {
             symbols: &caller.symbols,
             tracked: &caller.tracked,
         }
     }
 }
 
-/// The scope of a module, for its CALLs. Its symbols are copied.
+/// The scope of a module, for the sites of its CALLs to share. Its symbols are copied.
 pub fn caller_scope(alloc: Global, caller: &View<'_>) -> Result<Rc<CallerScope>, Memory>
     ensures { IfOk result (λ scope. caller_tree scope.value ≡ scope_of caller.now.«module».now caller.now.symbols.now caller.now.graph.now.untracked) }
 {
@@ -91,8 +91,8 @@ impl<T: Drop> CallSites<T> {
         }
     }
 
-    /// Adds a CALL after the others. What is lent is copied, the symbols of its module too: where more CALLs of that module follow, make one
-    /// `CallerScope` and take `add_from`. After an `Err` all is as it was.
+    /// Appends a CALL of the module `caller`. The actual arguments and the symbols of the caller are copied: for several CALLs of one module,
+    /// make one `CallerScope` and use `add_from`. After an Err the list is as it was. Of a statement that is no CALL there are no actuals.
     pub fn add(&mut self, caller: &View<'_>, call: &Stmt, value: T) -> Result<(), Memory>
         ensures ok { OnOk result (sites_in self.new ≡ sites_in self.old ++ record { caller = scope_of caller.now.«module».now caller.now.symbols.now caller.now.graph.now.untracked; actuals = actuals_in (what_tree call.now.what); value = value } ∷ []) }
         ensures err { OnErr result (self.new.list ≡ self.old.list) }
@@ -101,7 +101,8 @@ impl<T: Drop> CallSites<T> {
         self.add_from(&scope, call, value)
     }
 
-    /// Adds a CALL after the others, of a module with this scope, which it shares. The actuals are copied. After an `Err` all is as it was.
+    /// Appends a CALL of a module with this scope, which the site shares with others. The actual arguments are copied. After an Err the list
+    /// is as it was.
     pub fn add_from(
         &mut self,
         caller: &Rc<CallerScope>,
@@ -121,6 +122,7 @@ impl<T: Drop> CallSites<T> {
         Ok(())
     }
 
+    /// The CALLs, in the order in which they were added.
     pub fn as_slice(&self) -> &[Site<T>]
         ensures { result.now ≡ self.now.list }
     {

@@ -10,10 +10,10 @@ ghost use Rattle.call_translation.specs.Scopes.{scope_tree};
 ghost use Rattle.call_translation.specs.Call.{names_from, maybe_row, rows_from, call_tree};
 ghost use Rattle.call_translation.specs.Summary.{SummaryFits, summary_vars as summary_vars_is, call_system as call_system_is, unit_cells as unit_cells_is, cells_of as cells_of_is, if_hidden, hidden_units as hidden_units_is, unit_of, units_of as units_of_is, summary_in_caller as summary_in_caller_is, call_transformer as call_transformer_is};
 
-use crate::call::Call;
+use crate::call::CallContext;
 use crate::common::{copy_unit, declares, tracked_at};
 use crate::variables::auxiliaries_in;
-use crate::{Scope, push_cell};
+use crate::{CellScope, push_cell};
 use affine_forms::no_rows;
 use affine_systems::{Row, System, Var};
 use f77_ast::Expr;
@@ -41,7 +41,12 @@ fn summary_vars(alloc: Global, t: &Transformer) -> Result<Vec<Var>, Memory>
 
 /// The caller's variable for each of the callee's variables; the fresh ones are numbered from `first` on.
 #[tactic(auto, using(crate::proofs::Steps::lists))]
-fn namings(alloc: Global, call: &Call<'_>, first: u32, vars: &[Var]) -> Result<Vec<Naming>, Memory>
+fn namings(
+    alloc: Global,
+    call: &CallContext<'_>,
+    first: u32,
+    vars: &[Var],
+) -> Result<Vec<Naming>, Memory>
     requires { first + length vars.now < 2 ^ 32 }
     ensures { IfOk result (λ ns. ns.items ≡ names_from (call_tree call.now) first [] vars.now) }
 {
@@ -78,7 +83,12 @@ fn push_row(rows: &mut Vec<Row>, row: Option<Row>) -> Result<(), Memory>
 
 /// That dummies have at first the values of their actuals; the fresh variables are numbered from `first` on.
 #[tactic(auto, using(crate::proofs::Steps::lists))]
-fn first_rows(alloc: Global, call: &Call<'_>, first: u32, vars: &[Var]) -> Result<Vec<Row>, Memory>
+fn first_rows(
+    alloc: Global,
+    call: &CallContext<'_>,
+    first: u32,
+    vars: &[Var],
+) -> Result<Vec<Row>, Memory>
     requires { first + length vars.now < 2 ^ 32 }
     ensures defined { IfOk result (λ rs. rs.items ≡ rows_from (call_tree call.now) first vars.now) }
     ensures fits { IfOk result (λ rs. AllRows IsGiven rs.items) }
@@ -97,7 +107,7 @@ fn first_rows(alloc: Global, call: &Call<'_>, first: u32, vars: &[Var]) -> Resul
 
 /// The system of a summary in the terms of the caller. Each variable of the summary is looked up among its variables and among the
 /// symbols of the caller.
-fn call_system(alloc: Global, call: &Call<'_>, t: &Transformer) -> Result<System, Memory>
+fn call_system(alloc: Global, call: &CallContext<'_>, t: &Transformer) -> Result<System, Memory>
     requires { Fits t.now.system }
     ensures defined { IfOk result (λ s. s ≡ call_system_is (call_tree call.now) t.now) }
     ensures fits { IfOk result Fits }
@@ -114,7 +124,7 @@ fn call_system(alloc: Global, call: &Call<'_>, t: &Transformer) -> Result<System
 
 /// The tracked cells of the caller at units. Each is looked up among the caller's symbols.
 #[tactic(auto, using(crate::proofs::Steps::lists))]
-fn unit_cells(alloc: Global, call: &Call<'_>, units: &[Unit]) -> Result<Vec<u32>, Memory>
+fn unit_cells(alloc: Global, call: &CallContext<'_>, units: &[Unit]) -> Result<Vec<u32>, Memory>
     ensures { IfOk result (λ cs. cs.items ≡ unit_cells_is (call_tree call.now) units.now) }
 {
     let mut cells = Vec::new(alloc);
@@ -129,7 +139,7 @@ fn unit_cells(alloc: Global, call: &Call<'_>, units: &[Unit]) -> Result<Vec<u32>
 
 /// The tracked cells of the caller that are cells of the callee. Each is looked up among the caller's symbols.
 #[tactic(auto, using(crate::proofs::Steps::lists))]
-fn cells_of(alloc: Global, call: &Call<'_>, changed: &[u32]) -> Result<Vec<u32>, Memory>
+fn cells_of(alloc: Global, call: &CallContext<'_>, changed: &[u32]) -> Result<Vec<u32>, Memory>
     ensures { IfOk result (λ cs. cs.items ≡ cells_of_is (call_tree call.now) changed.now) }
 {
     let mut cells = Vec::new(alloc);
@@ -164,7 +174,7 @@ fn push_unit(units: &mut Vec<Unit>, place: Option<&Place>) -> Result<(), Memory>
 
 /// The units of cells of the callee that lie in blocks.
 #[tactic(auto, using(crate::proofs::Steps::lists))]
-fn units_of(alloc: Global, call: &Call<'_>, changed: &[u32]) -> Result<Vec<Unit>, Memory>
+fn units_of(alloc: Global, call: &CallContext<'_>, changed: &[u32]) -> Result<Vec<Unit>, Memory>
     ensures { IfOk result (λ us. us.items ≡ units_of_is (call_tree call.now) changed.now) }
 {
     let mut units = Vec::new(alloc);
@@ -178,7 +188,7 @@ fn units_of(alloc: Global, call: &Call<'_>, changed: &[u32]) -> Result<Vec<Unit>
 
 /// Adds a unit, if the caller has no variable there.
 #[tactic(auto, using(crate::proofs::Steps::lists))]
-fn push_hidden(units: &mut Vec<Unit>, call: &Call<'_>, unit: &Unit) -> Result<(), Memory>
+fn push_hidden(units: &mut Vec<Unit>, call: &CallContext<'_>, unit: &Unit) -> Result<(), Memory>
     ensures { OnOk result (units.new.items ≡ units.old.items ++ if_hidden (call_tree call.now) unit.now) }
 {
     if declares(call.caller, &unit.block, unit.offset) {
@@ -190,7 +200,7 @@ fn push_hidden(units: &mut Vec<Unit>, call: &Call<'_>, unit: &Unit) -> Result<()
 
 /// Those of some units where the caller has no variable. Each is looked up among the caller's symbols.
 #[tactic(auto, using(crate::proofs::Steps::lists))]
-fn hidden_units(alloc: Global, call: &Call<'_>, units: &[Unit]) -> Result<Vec<Unit>, Memory>
+fn hidden_units(alloc: Global, call: &CallContext<'_>, units: &[Unit]) -> Result<Vec<Unit>, Memory>
     ensures { IfOk result (λ us. us.items ≡ hidden_units_is (call_tree call.now) units.now) }
 {
     let mut hidden = Vec::new(alloc);
@@ -203,7 +213,11 @@ fn hidden_units(alloc: Global, call: &Call<'_>, units: &[Unit]) -> Result<Vec<Un
 }
 
 /// The cells of the caller that change: those at units that the callee cannot name, and those that are its cells.
-fn changed_cells(alloc: Global, call: &Call<'_>, t: &Transformer) -> Result<List<u32>, Memory>
+fn changed_cells(
+    alloc: Global,
+    call: &CallContext<'_>,
+    t: &Transformer,
+) -> Result<List<u32>, Memory>
     ensures { IfOk result (λ cs. cs ≡ joined_cells_is (unit_cells_is (call_tree call.now) t.now.foreign) (cells_of_is (call_tree call.now) t.now.cells)) }
 {
     let deep = unit_cells(alloc, call, t.foreign.as_slice())?;
@@ -212,7 +226,11 @@ fn changed_cells(alloc: Global, call: &Call<'_>, t: &Transformer) -> Result<List
 }
 
 /// The units of blocks that change, where the caller has no variable.
-fn foreign_units(alloc: Global, call: &Call<'_>, t: &Transformer) -> Result<List<Unit>, Memory>
+fn foreign_units(
+    alloc: Global,
+    call: &CallContext<'_>,
+    t: &Transformer,
+) -> Result<List<Unit>, Memory>
     ensures { IfOk result (λ us. us ≡ joined_units_is (hidden_units_is (call_tree call.now) t.now.foreign) (hidden_units_is (call_tree call.now) (units_of_is (call_tree call.now) t.now.cells))) }
 {
     let deep = hidden_units(alloc, call, t.foreign.as_slice())?;
@@ -221,7 +239,11 @@ fn foreign_units(alloc: Global, call: &Call<'_>, t: &Transformer) -> Result<List
     joined_units(alloc, deep.as_slice(), own.as_slice())
 }
 
-fn summary_in_caller(alloc: Global, call: &Call<'_>, t: &Transformer) -> Result<Transformer, Memory>
+fn summary_in_caller(
+    alloc: Global,
+    call: &CallContext<'_>,
+    t: &Transformer,
+) -> Result<Transformer, Memory>
     requires { Fits t.now.system }
     ensures defined { IfOk result (λ r. r ≡ summary_in_caller_is (call_tree call.now) t.now) }
     ensures fits { IfOk result (λ r. Fits r.system) }
@@ -233,12 +255,12 @@ fn summary_in_caller(alloc: Global, call: &Call<'_>, t: &Transformer) -> Result<
     })
 }
 
-/// The summary of what is called in the terms of the caller: a dummy was the form of its actual, its exit is that of the tracked cell
-/// that its actual names, and a variable of a block is the caller's tracked cell at its unit; other variables are projected away.
-/// Units of blocks that change stay, where the caller has no variable. What a CALL of a module without a summary does is left out.
+/// The transformer of a CALL in the caller's variables, from the callee's summary: a dummy begins as the affine expression of its actual, its
+/// exit is that of the analysed scalar that the actual names, variables of common blocks are the caller's at the same units, others are
+/// projected away. Changed units where the caller has no variable stay in `foreign`. Without a summary the identity: the CALL is left out.
 pub fn call_transformer(
     alloc: Global,
-    caller: &Scope<'_>,
+    caller: &CellScope<'_>,
     summary: Option<&Summary<Transformer>>,
     actuals: &List<Expr>,
 ) -> Result<Transformer, Memory>
@@ -249,7 +271,7 @@ pub fn call_transformer(
     match summary {
         None => Ok(unchanging(alloc)),
         Some(summary) => {
-            let call = Call {
+            let call = CallContext {
                 caller,
                 actuals,
                 symbols: &summary.symbols,

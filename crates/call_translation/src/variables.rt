@@ -17,7 +17,8 @@ fn add_auxiliary(out: &mut List<Var>, v: Var) -> Result<(), Memory>
     }
 }
 
-/// The auxiliary variables among what stands for others: those without a place in the module that a system is translated to.
+/// The auxiliary variables that the namings lead to, in their order, repeated ones too: they replace the variables without a counterpart in
+/// the module to whose variables a system is translated.
 #[tactic(auto, using(crate::proofs::Steps::auxiliary_loop))]
 pub fn auxiliaries_in(alloc: Global, names: &[Naming]) -> Result<List<Var>, Memory>
     ensures { IfOk result (λ vs. vs ≡ auxiliaries_in_is names.now) }

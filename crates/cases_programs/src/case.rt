@@ -3,6 +3,7 @@
 use crate::effects_of::add_effects;
 use crate::graphs::add_graphs;
 use crate::reading::{Stop, graph_of, modules_of, tables_of};
+use crate::regions_of::add_program;
 use crate::scalars::add_scalars;
 use crate::storage::add_storage;
 use f77_ast::Parsed;
@@ -10,7 +11,7 @@ use fx_lists::{List, Text};
 use std::alloc::{AllocError as Memory, Global};
 
 /// What is printed of modules that link. It fails on another kind than those of the crate's head.
-fn linked(alloc: Global, kind: &str, modules: &List<Parsed>) -> Result<String, Stop> {
+fn linked_answer(alloc: Global, kind: &str, modules: &List<Parsed>) -> Result<String, Stop> {
     let tables = tables_of(alloc, modules)?;
     if modules.len() != tables.len() {
         return Err(Stop::Memory);
@@ -21,25 +22,26 @@ fn linked(alloc: Global, kind: &str, modules: &List<Parsed>) -> Result<String, S
         "graph" => add_graphs(alloc, &mut shown, modules, &tables, &graph)?,
         "effects" => add_effects(alloc, &mut shown, modules, &tables, &graph)?,
         "scalars" => add_scalars(alloc, &mut shown, modules, &tables, &graph)?,
+        "regions" => add_program(alloc, &mut shown, modules, &tables, &graph)?,
         _ => return Err(Stop::Memory),
     }
     Ok(shown)
 }
 
-fn printed(alloc: Global, kind: &str, text: &Text) -> Result<String, Stop> {
+fn answer_of(alloc: Global, kind: &str, text: &Text) -> Result<String, Stop> {
     let modules = modules_of(alloc, text)?;
     if kind == "storage" {
         let mut shown = String::new(alloc);
         add_storage(alloc, &mut shown, &modules)?;
         return Ok(shown);
     }
-    linked(alloc, kind, &modules)
+    linked_answer(alloc, kind, &modules)
 }
 
 /// What is printed of a program, of which the words say what is asked for.
 pub fn answer(alloc: Global, words: &str, text: &Text) -> Result<String, Memory> {
     let kind = words.split_whitespace().next().unwrap_or("");
-    match printed(alloc, kind, text) {
+    match answer_of(alloc, kind, text) {
         Ok(shown) => Ok(shown),
         Err(Stop::Refused(told)) => Ok(told),
         Err(Stop::Memory) => Err(Memory),

@@ -2,7 +2,7 @@
 
 use crate::shown::{name_of, text_of};
 use call_graph::Graph;
-use effects::{cumulated, proper};
+use effects::{cumulated_effects, proper};
 use f77_ast::{Arm, Loop, Parsed, Stmt, What};
 use f77_results::{EffectSet, Results, Summaries, Variable, View, copy_effect};
 use f77_symbols::Symbols;
@@ -152,7 +152,7 @@ fn add_module(
     let title = format!(in alloc; "module {name}\n")?;
     shown.push_str(title.as_str())?;
     add_list(alloc, shown, view, &view.module.body)?;
-    let results = cumulated(alloc, view, known)?;
+    let results = cumulated_effects(alloc, view, known)?;
     add_results(alloc, shown, view.symbols, &results)?;
     known.add(
         &view.module.name,

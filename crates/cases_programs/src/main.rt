@@ -1,14 +1,15 @@
 //! Reads programs and prints of each what is asked for, or its first refusal.
 //!
 //! A line `== KIND` ends each program of standard input: `storage` prints the symbols of each module and the pairs that overlap, `graph` the graph with
-//! the tracked cells of the modules, `effects` the effects of the modules and their statements, and `scalars` what these do to tracked cells and what holds
-//! where they begin.
+//! the tracked cells of the modules, `effects` the effects of the modules and their statements, `scalars` what these do to tracked cells and what holds
+//! where they begin, and `regions` the READ and WRITE regions of the modules without CALLs and the lines that are written of them.
 #![tactic(auto)]
 
 mod case;
 mod effects_of;
 mod graphs;
 mod reading;
+mod regions_of;
 mod scalars;
 mod shown;
 mod storage;

@@ -2,7 +2,7 @@
 
 use crate::form_calls::{condition_answer, form_answer};
 use crate::loop_calls::loop_answer;
-use crate::naming_calls::{all_pushed, all_renamed, gathered, numbered};
+use crate::naming_calls::{all_pushed, all_renamed, fresh_case, variables_case};
 use crate::row_calls;
 use crate::text_calls::{precondition_answer, system_answer, transformer_answer};
 use crate::transformer_calls::{apply_answer, closed_answer, one_answer, then_answer};
@@ -30,9 +30,9 @@ fn scalar_call(alloc: Global, call: &str, words: &str, parts: &[&str]) -> Result
 fn naming_call(alloc: Global, call: &str, words: &str, parts: &[&str]) -> Result<String, Trouble> {
     match call {
         "rename_all" => all_renamed(alloc, words, parts),
-        "of_rows" => gathered(alloc, parts),
+        "of_rows" => variables_case(alloc, parts),
         "push_rows" => all_pushed(alloc, parts),
-        "fresh_over" => numbered(alloc, words, parts),
+        "fresh_over" => fresh_case(alloc, words, parts),
         _ => scalar_call(alloc, call, words, parts),
     }
 }
@@ -57,7 +57,7 @@ fn row_call(alloc: Global, call: &str, words: &str, parts: &[&str]) -> Result<St
     }
 }
 
-fn called(alloc: Global, line: &str) -> Result<String, Trouble> {
+fn call_case(alloc: Global, line: &str) -> Result<String, Trouble> {
     let mut parts = Vec::new(alloc);
     for part in line.split(';') {
         parts.push(part)?;
@@ -73,7 +73,7 @@ fn called(alloc: Global, line: &str) -> Result<String, Trouble> {
 
 /// The answer of a line, or that it is malformed.
 pub fn answer(alloc: Global, line: &str) -> Result<String, AllocError> {
-    match called(alloc, line) {
+    match call_case(alloc, line) {
         Ok(text) => Ok(text),
         Err(Trouble::Memory) => Err(AllocError),
         Err(Trouble::Malformed) => String::from_str(alloc, "malformed"),

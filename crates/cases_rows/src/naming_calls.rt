@@ -29,7 +29,7 @@ pub fn all_renamed(alloc: Global, words: &str, parts: &[&str]) -> Result<String,
     Ok(system_text(alloc, &rename_all(alloc, &sys, names.as_slice())?)?)
 }
 
-pub fn gathered(alloc: Global, parts: &[&str]) -> Result<String, Trouble> {
+pub fn variables_case(alloc: Global, parts: &[&str]) -> Result<String, Trouble> {
     let [rows] = parts else {
         return Err(Trouble::Malformed);
     };
@@ -47,7 +47,7 @@ pub fn all_pushed(alloc: Global, parts: &[&str]) -> Result<String, Trouble> {
 }
 
 /// The first fresh number of so many, or that there are none left.
-pub fn numbered(alloc: Global, words: &str, parts: &[&str]) -> Result<String, Trouble> {
+pub fn fresh_case(alloc: Global, words: &str, parts: &[&str]) -> Result<String, Trouble> {
     let [one, other] = parts else {
         return Err(Trouble::Malformed);
     };

@@ -1,1 +1,2 @@
 pub mod ScalarLines
+pub mod Spots

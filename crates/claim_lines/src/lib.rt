@@ -2,6 +2,8 @@
 #![tactic(auto)]
 
 mod lines;
+mod spots;
 mod statement;
 
 pub use lines::scalar_lines;
+pub use spots::{LineSpot, line_spots};

@@ -43,8 +43,9 @@ fn put_entry(
     put_changes(alloc, names, 0, whole, out)
 }
 
-/// The lines that are added to a module: what holds of its tracked cells where it is entered, if it is a subroutine, and where each statement begins, and what CALLs of it,
-/// and its DOs and CALLs, may change. A statement without a result has no line.
+/// The comment lines that are added to a module, in the order of the text: of a subroutine what holds where it is entered and what its CALLs
+/// may change; of each statement what holds where it begins and, of a DO or CALL, what it may change. No line of changes where no analysed
+/// scalar may change; none for a statement without a result, or for that of a logical IF.
 pub fn scalar_lines(
     alloc: Global,
     view: &View<'_>,

@@ -61,9 +61,9 @@ fn if_saved(alloc: Global, callee: &Text, symbol: &Symbol) -> Result<List<Variab
     }
 }
 
-/// A CALL: the caller's symbols, what is called, the actuals, and the callee's symbols.
+/// A CALL: the symbols of the caller, the name of the callee, the actuals, and the symbols of the callee.
 #[derive(Drop)]
-pub struct Call<'a> {
+pub struct CallSymbols<'a> {
     pub symbols: &'a Symbols,
     pub callee: &'a Text,
     pub actuals: &'a List<Expr>,
@@ -73,7 +73,7 @@ pub struct Call<'a> {
 /// What a symbol of the callee is to the caller.
 fn symbol_in_caller(
     alloc: Global,
-    call: &Call<'_>,
+    call: &CallSymbols<'_>,
     symbol: &Symbol,
 ) -> Result<List<Variable>, Memory>
     ensures { IfOk result (λ vs. vs ≡ at_place symbol.now.place (symbol_tree symbol.now) call.now.callee.now (expr_trees call.now.actuals.now) (map symbol_tree call.now.others.now) (map symbol_tree call.now.symbols.now)) }
@@ -90,7 +90,7 @@ fn symbol_in_caller(
 }
 
 /// What a variable of the callee is to the caller.
-fn in_caller(alloc: Global, call: &Call<'_>, v: &Variable) -> Result<List<Variable>, Memory>
+fn in_caller(alloc: Global, call: &CallSymbols<'_>, v: &Variable) -> Result<List<Variable>, Memory>
     ensures { IfOk result (λ vs. vs ≡ in_caller v.now call.now.callee.now (expr_trees call.now.actuals.now) (map symbol_tree call.now.others.now) (map symbol_tree call.now.symbols.now)) }
 {
     match v {
@@ -105,7 +105,7 @@ fn in_caller(alloc: Global, call: &Call<'_>, v: &Variable) -> Result<List<Variab
 /// What variables of the callee are to the caller. Takes time of their number times their number and that of the caller's symbols.
 fn all_in_caller(
     alloc: Global,
-    call: &Call<'_>,
+    call: &CallSymbols<'_>,
     variables: &List<Variable>,
 ) -> Result<List<Variable>, Memory>
     ensures { IfOk result (λ vs. vs ≡ all_in_caller variables.now call.now.callee.now (expr_trees call.now.actuals.now) (map symbol_tree call.now.others.now) (map symbol_tree call.now.symbols.now) []) }
@@ -129,7 +129,7 @@ fn summary_effect(
 ) -> Result<EffectSet, Memory>
     ensures { IfOk result (λ e. e ≡ summary_effect (summary_tree summary.now) callee.now (expr_trees actuals.now) (map symbol_tree symbols.now)) }
 {
-    let call = Call {
+    let call = CallSymbols {
         symbols,
         callee,
         actuals,
@@ -145,7 +145,9 @@ fn summary_effect(
     })
 }
 
-/// What a CALL reads and writes as its callee does; nothing where no summary of the callee is known.
+/// The effects of the callee of a CALL, as variables of the caller: for a dummy the variable that its actual names, for a
+/// variable of a block the first like it there, or else the block; for a local its name where it is saved. No effects where no
+/// summary of the callee is known. The actuals themselves are not read here.
 pub fn call_effect(
     alloc: Global,
     symbols: &Symbols,

@@ -9,5 +9,5 @@ mod reads;
 mod shapes;
 mod statement;
 
-pub use modules::cumulated;
+pub use modules::cumulated_effects;
 pub use statement::proper;

@@ -1,4 +1,4 @@
-//! What statements read and write with their parts and with what they call.
+//! The effects of statements with their parts and with what they call.
 ghost use Rattle.std.specs.Prelude.{◌≡◌, ◌++◌, map, IfOk};
 ghost use Rattle.f77_ast.specs.PlainStmt.{stmt_tree, stmt_trees, what_tree, loop_tree, arm_trees};
 ghost use Rattle.f77_symbols.specs.Symbols.{symbol_tree};
@@ -79,7 +79,8 @@ fn with_parts(
     }
 }
 
-/// Those so far, and those of statements one after another.
+/// The effects so far, united with those of statements, of the statements in them, and of what they call. Adds the effects of
+/// each of all these statements to `at`, in the order of the text.
 #[cycle(effects)]
 #[tactic(auto, using(crate::proofs::ListLaws::statement_calls))]
 pub fn with_list(

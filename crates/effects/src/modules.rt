@@ -1,4 +1,4 @@
-//! What a module reads and writes, at each statement and as its callers see it.
+//! The effects of a module, at each statement and as its callers see it.
 ghost use Rattle.std.specs.Prelude.{◌≡◌, ◌++◌, [], map, filter, IfOk};
 ghost use Rattle.f77_ast.specs.PlainStmt.{stmt_trees};
 ghost use Rattle.f77_symbols.specs.Symbols.{symbol_tree, bound_tree};
@@ -36,7 +36,7 @@ fn goes_out(symbols: &Symbols, v: &Variable) -> bool
     }
 }
 
-fn seen(
+fn visible_outside(
     alloc: Global,
     symbols: &Symbols,
     variables: &List<Variable>,
@@ -93,8 +93,8 @@ fn summary_of(alloc: Global, symbols: &Symbols, all: &EffectSet) -> Result<Effec
 {
     let bounds = bound_reads(alloc, symbols)?;
     let read = union(alloc, &all.reads, &bounds)?;
-    let reads = seen(alloc, symbols, &read)?;
-    let writes = seen(alloc, symbols, &all.writes)?;
+    let reads = visible_outside(alloc, symbols, &read)?;
+    let writes = visible_outside(alloc, symbols, &all.writes)?;
     Ok(EffectSet {
         reads,
         writes,
@@ -103,10 +103,10 @@ fn summary_of(alloc: Global, symbols: &Symbols, all: &EffectSet) -> Result<Effec
     })
 }
 
-/// What a module reads and writes: at each statement with its parts and with what it calls, and in all as its callers see it,
-/// which is dummies, variables of blocks and saved ones. The variables in the bounds of arrays are read where it is entered.
-/// What a CALL of a module without a summary does is left out.
-pub fn cumulated(
+/// The effects of a module: at each executable statement, in the order of the text, with its parts and with what it calls; and
+/// in all as callers see them, which is on dummies, variables of blocks and saved ones. The variables in the bounds of arrays
+/// are read where the module is entered. Effects of a called module without a summary are left out.
+pub fn cumulated_effects(
     alloc: Global,
     view: &View<'_>,
     callees: &Summaries<EffectSet>,

@@ -45,7 +45,7 @@ fn number_of(symbols: &Symbols, name: &Text) -> Option<u32>
     }
 }
 
-/// A list of one variable, or of none.
+/// A list of one variable, by the number of its symbol, from 1; empty for None.
 pub fn one(alloc: Global, number: Option<u32>) -> Result<List<Variable>, Memory>
     ensures { IfOk result (λ vs. vs ≡ one number) }
 {
@@ -59,7 +59,7 @@ pub fn one(alloc: Global, number: Option<u32>) -> Result<List<Variable>, Memory>
     }
 }
 
-/// The variable of a name.
+/// The variable of a name in a list; empty where the name has no symbol or is a PARAMETER.
 pub fn own(alloc: Global, symbols: &Symbols, name: &Text) -> Result<List<Variable>, Memory>
     ensures { IfOk result (λ vs. vs ≡ own name.now (map symbol_tree symbols.now)) }
 {
@@ -75,7 +75,7 @@ fn is_array(symbols: &Symbols, name: &Text) -> bool
     }
 }
 
-/// The array of a name, where it is one.
+/// The variable of a name in a list, where it is an array; empty where it is none, as for an intrinsic function.
 pub fn array(alloc: Global, symbols: &Symbols, name: &Text) -> Result<List<Variable>, Memory>
     ensures { IfOk result (λ vs. vs ≡ array name.now (map symbol_tree symbols.now)) }
 {
@@ -86,7 +86,8 @@ pub fn array(alloc: Global, symbols: &Symbols, name: &Text) -> Result<List<Varia
     }
 }
 
-/// The variable that an expression names: that of a name, or the array of an element.
+/// The variable that an expression names, in a list: that of a name, or the array of an element. Empty for a PARAMETER, an
+/// intrinsic function and any other expression.
 #[tactic(auto, using(f77_ast::proofs::Plainly::expr_cases))]
 pub fn variable_named(alloc: Global, symbols: &Symbols, e: &Expr) -> Result<List<Variable>, Memory>
     ensures { IfOk result (λ vs. vs ≡ variable_named (expr_tree e.now) (map symbol_tree symbols.now)) }

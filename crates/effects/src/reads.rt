@@ -1,4 +1,4 @@
-//! The variables that are read where expressions are evaluated.
+//! The variables that are read where expressions are evaluated. Lists are in `order` and without repeats.
 ghost use Rattle.std.specs.Prelude.{◌≡◌, [], map, IfOk};
 ghost use Rattle.f77_ast.specs.Plain.{expr_tree, expr_trees};
 ghost use Rattle.f77_symbols.specs.Symbols.{symbol_tree};
@@ -11,7 +11,7 @@ use f77_symbols::Symbols;
 use fx_lists::List;
 use std::alloc::{AllocError as Memory, Global};
 
-/// The variables in an expression.
+/// The variables in an expression, of an element both the array and the variables in its subscripts.
 #[cycle(reads)]
 #[tactic(auto, using(f77_ast::proofs::Plainly::expr_calls))]
 pub fn reads(alloc: Global, symbols: &Symbols, e: &Expr) -> Result<List<Variable>, Memory>
@@ -34,7 +34,7 @@ pub fn reads(alloc: Global, symbols: &Symbols, e: &Expr) -> Result<List<Variable
     }
 }
 
-/// Those so far, and the variables in expressions one after another.
+/// The variables so far, united with those in expressions; in `order` and without repeats where those so far are so.
 #[cycle(reads)]
 #[tactic(auto, using(f77_ast::proofs::Plainly::expr_items))]
 pub fn with_reads(
@@ -53,7 +53,7 @@ pub fn with_reads(
     Ok(all)
 }
 
-/// The variables in the subscripts of an element, or in the arguments of an intrinsic function.
+/// The variables in the subscripts of an element, or in the arguments of an intrinsic function; none for any other expression.
 #[tactic(auto, using(f77_ast::proofs::Plainly::expr_cases))]
 pub fn inner_reads(alloc: Global, symbols: &Symbols, e: &Expr) -> Result<List<Variable>, Memory>
     ensures { IfOk result (λ vs. vs ≡ inner_reads (expr_tree e.now) (map symbol_tree symbols.now)) }
@@ -86,7 +86,8 @@ fn actual_reads(alloc: Global, symbols: &Symbols, e: &Expr) -> Result<List<Varia
     }
 }
 
-/// What is read to associate the actuals of a CALL.
+/// The variables that are read to associate the actuals of a CALL with dummies (ANSI X3.9-1978, §15.9.3): those in the
+/// subscripts of a name or an element, which is not read itself, and all in any other expression.
 #[tactic(auto, using(f77_ast::proofs::Plainly::expr_lists))]
 pub fn actuals_reads(
     alloc: Global,
@@ -103,7 +104,7 @@ pub fn actuals_reads(
     Ok(all)
 }
 
-/// The variables in the subscripts of items.
+/// The variables in the subscripts of the items of a READ.
 #[tactic(auto, using(f77_ast::proofs::Plainly::expr_lists))]
 pub fn items_reads(
     alloc: Global,
@@ -120,7 +121,7 @@ pub fn items_reads(
     Ok(all)
 }
 
-/// The variables that items name.
+/// The variables that the items of a READ name, which it writes.
 #[tactic(auto, using(f77_ast::proofs::Plainly::expr_lists))]
 pub fn items_named(
     alloc: Global,

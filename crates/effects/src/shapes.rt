@@ -93,8 +93,9 @@ fn is_like(
         )
 }
 
-/// The number of the first symbol of the caller that stands at an offset of a block, with the type, the rank and the constant
-/// bounds of a symbol of the callee. Takes time of the number of the caller's symbols, and fails behind 2^32-2 of them.
+/// The number, from 1, of the first symbol of the caller that begins at an offset of a block, with the type, the rank and the
+/// constant bounds of a symbol of the callee; None where there is none. Takes time of the number of the symbols of the caller;
+/// Err also past 2^32 - 2 of them.
 pub fn first_like(
     symbols: &Symbols,
     block: &Text,

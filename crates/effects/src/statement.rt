@@ -1,4 +1,4 @@
-//! What a statement reads and writes itself.
+//! The effects of a statement by itself.
 ghost use Rattle.std.specs.Prelude.{◌≡◌, [], map, IfOk};
 ghost use Rattle.f77_ast.specs.Plain.{expr_tree, expr_trees};
 ghost use Rattle.f77_ast.specs.PlainStmt.{maybe_tree, what_tree, loop_tree, arm_trees};
@@ -39,6 +39,7 @@ fn tests_reads(alloc: Global, symbols: &Symbols, arms: &List<Arm>) -> Result<Lis
     Ok(all)
 }
 
+/// The variables in an expression that may be missing, as the step of a DO or the upper bound of an array; none where it is.
 pub fn step_reads(
     alloc: Global,
     symbols: &Symbols,
@@ -111,7 +112,8 @@ fn stop_effect(alloc: Global) -> EffectSet
     }
 }
 
-/// What a statement with these symbols reads and writes itself.
+/// The effects of a statement by itself, with these symbols: without the statements in it, and at a CALL without those of the
+/// callee.
 #[tactic(auto, using(f77_ast::proofs::PlainlyStmt::what_cases))]
 pub fn proper_of(alloc: Global, symbols: &Symbols, what: &What) -> Result<EffectSet, Memory>
     ensures { IfOk result (λ e. e ≡ proper_of (what_tree what.now) (map symbol_tree symbols.now)) }
@@ -138,7 +140,7 @@ pub fn proper_of(alloc: Global, symbols: &Symbols, what: &What) -> Result<Effect
     }
 }
 
-/// What a statement of a module reads and writes itself: without its parts, and at a CALL without what the callee does.
+/// The effects of a statement of a module by itself, as `proper_of` with the symbols of the view.
 pub fn proper(alloc: Global, view: &View<'_>, stmt: &Stmt) -> Result<EffectSet, Memory>
     ensures { IfOk result (λ e. e ≡ proper_of (what_tree stmt.now.what) (map symbol_tree view.now.symbols.now)) }
 {

@@ -1,5 +1,5 @@
 -- CALL: its actual arguments, and how dummy arguments are associated with them (ANSI X3.9-1978 §15.6.2, §15.9).
-use Rattle.std.specs.Prelude.{ℕ, suc, ◌+◌, ◌-◌, List, [], ◌∷◌, Option, Some, None, Bool, true, false, ◌&&◌, ◌||◌, if◌then◌else◌, nat_lt, nat_le, ℤ}
+use Rattle.std.specs.Prelude.{ℕ, suc, ◌+◌, ◌-◌, List, [], ◌∷◌, Option, Some, None, Bool, true, false, ◌&&◌, ◌||◌, if◌then◌else◌, nat_eq, nat_lt, nat_le, ℤ}
 use Rattle.f77_ast.specs.Trees.{ExprTree, ExprTrees}
 use Rattle.f77_ast.specs.Trees as tree
 use Rattle.f77_ast.specs.Store.{Tag, Undefined, Content, put}
@@ -133,10 +133,14 @@ is_open (d ∷ ds) = ends_open d.high (is_open ds)
 abbrev pub array_at : Place → Tag → List Dim → ℕ → Place
 array_at p t ds n = record { first = p.first; extent = n; tag = t; dims = ds }
 
--- an array takes its declared size, which the actual must offer, or with `*` all that the actual offers
+-- what an array with `*` reaches: all that the actual offers, but no unit where another dimension has no subscript
+abbrev pub open_extent : Place → List Dim → ℕ
+open_extent p ds = if nat_eq (total_size ds) 0 then 0 else p.extent
+
+-- an array takes its declared size, which the actual must offer, or with `*` what it reaches
 abbrev pub array_place : Place → Tag → List Dim → Steps Place
 array_place p t ds =
-    if is_open ds then Done (array_at p t ds p.extent)
+    if is_open ds then Done (array_at p t ds (open_extent p ds))
     else if nat_le (total_size ds) p.extent then Done (array_at p t ds (total_size ds))
     else fault Bounds
 

@@ -5,7 +5,7 @@ ghost use Rattle.f77_ast.specs.Operators.{unary_word, binary_word};
 use crate::{BinaryOp, UnaryOp};
 
 impl UnaryOp {
-    /// The operator as it is written.
+    /// The operator as it is written, in capitals, `.NOT.` with its points.
     pub fn word(self) -> &'static [u8]
         ensures { result.now ≡ unary_word self }
     {
@@ -18,7 +18,7 @@ impl UnaryOp {
 }
 
 impl BinaryOp {
-    /// The operator as it is written.
+    /// The operator as it is written, in capitals, relational and logical ones with their points.
     pub fn word(self) -> &'static [u8]
         ensures { result.now ≡ binary_word self }
     {

@@ -183,7 +183,7 @@ fn is_bad_shape(table: &NameTable, dummy: bool, bounds: &[Bound]) -> bool
     7 < bounds.len() || has_bad_bound(table, dummy, bounds) || is_above(units_of(table, bounds))
 }
 
-/// The dimensions of a name; None where they are refused or not constant.
+/// The dimensions of a name, none for a scalar; None where its bounds are refused or not constant.
 pub fn dimensions_of(
     alloc: Global,
     table: &NameTable,
@@ -256,7 +256,7 @@ fn check_shape(
     }
 }
 
-/// The first refusal, also of the bounds of all arrays.
+/// The first refusal, also of the bounds of all arrays and of the expressions in them.
 #[tactic(auto, using(f77_ast::proofs::PlainlyDecl::decl_lists))]
 pub fn check_shapes(table: &NameTable, mut found: Option<Refusal>) -> Option<Refusal>
     ensures { result

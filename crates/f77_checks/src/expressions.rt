@@ -1,4 +1,5 @@
-//! The shapes of expressions, and the types of their operands (ANSI X3.9-1978 §5.4, §6).
+//! The shapes of expressions, and the types of their operands (ANSI X3.9-1978 §5.4, §6). `line` is that of the statement, and
+//! `found` the first refusal before; the result is the first with those of the expression.
 ghost use Rattle.std.specs.Prelude.{◌≡◌};
 ghost use Rattle.f77_ast.specs.Plain.{expr_tree, expr_trees};
 ghost use Rattle.f77_ast.specs.Trees.{element};
@@ -13,12 +14,14 @@ use f77_names::{Function, NameTable};
 use fx_lists::{List, Text};
 use refusal_codes::{Code, Refusal, refuse_if};
 
+/// Refuses a type that is not INTEGER with `TypeMismatch`; an unknown one passes.
 pub fn wants_int(sort: Sort, line: u32, found: Option<Refusal>) -> Option<Refusal>
     ensures { result ≡ wants_int sort line found }
 {
     refuse_if(!sort.is_int(), line, Code::TypeMismatch, found)
 }
 
+/// Refuses a type that is not LOGICAL with `TypeMismatch`; an unknown one passes.
 pub fn wants_log(sort: Sort, line: u32, found: Option<Refusal>) -> Option<Refusal>
     ensures { result ≡ wants_log sort line found }
 {
@@ -35,7 +38,7 @@ fn wants(logical: bool, sort: Sort, line: u32, found: Option<Refusal>) -> Option
     }
 }
 
-/// A name without subscripts.
+/// Refuses a name without subscripts where it is an array (`NotAnArray`) or an intrinsic function (`SubscriptCount`).
 pub fn check_name(
     table: &NameTable,
     name: &Text,
@@ -107,7 +110,7 @@ fn element_counted(
     check_count(dimensions, table.function_of(name), count, line, found)
 }
 
-/// The first refusal, also of an expression.
+/// The first refusal, also of an expression: the number of subscripts and arguments, and the types of operands.
 #[cycle(check_expr)]
 #[tactic(auto, using(f77_ast::proofs::Plainly::expr_calls, crate::proofs::CountLaws::count_is))]
 pub fn check_expr(table: &NameTable, e: &Expr, line: u32, found: Option<Refusal>) -> Option<Refusal>
@@ -135,7 +138,7 @@ pub fn check_expr(table: &NameTable, e: &Expr, line: u32, found: Option<Refusal>
     }
 }
 
-/// Also of subscripts or arguments, which are INTEGER.
+/// The first refusal, also of subscripts or arguments, each of which is INTEGER.
 #[cycle(check_expr)]
 #[tactic(auto, using(f77_ast::proofs::Plainly::expr_items))]
 pub fn check_subscripts(
@@ -153,7 +156,7 @@ pub fn check_subscripts(
     found
 }
 
-/// The first refusal, also of an element or a call.
+/// The first refusal, also of an array element or an intrinsic call: as `check_expr` for `Expr::Element`.
 #[tactic(auto, using(crate::proofs::CountLaws::count_is))]
 pub fn check_element(
     table: &NameTable,
@@ -168,12 +171,14 @@ pub fn check_element(
     element_counted(table, name, es.len(), line, found)
 }
 
+/// The first refusal, also of an expression that has to be INTEGER.
 pub fn check_int(table: &NameTable, e: &Expr, line: u32, found: Option<Refusal>) -> Option<Refusal>
     ensures { result ≡ check_int (table_tree table.now) (expr_tree e.now) line found }
 {
     wants_int(sort_of(table, e), line, check_expr(table, e, line, found))
 }
 
+/// The first refusal, also of an expression that has to be LOGICAL.
 pub fn check_log(table: &NameTable, e: &Expr, line: u32, found: Option<Refusal>) -> Option<Refusal>
     ensures { result ≡ check_log (table_tree table.now) (expr_tree e.now) line found }
 {

@@ -1,4 +1,4 @@
-//! The values of PARAMETER names (ANSI X3.9-1978 §8.6): each may use those before it.
+//! The values of PARAMETER names (ANSI X3.9-1978 §8.6): an expression may use those before it.
 ghost use Rattle.std.specs.Prelude.{◌≡◌, ◌||◌, IfOk, map};
 ghost use Rattle.f77_ast.specs.PlainDecl.{decl_tree, setting_tree};
 ghost use Rattle.f77_names.specs.declared.lines.Sited.TheVariants.{Decl as AtDecl};
@@ -113,7 +113,7 @@ fn value_decl(
     }
 }
 
-/// The line of a specification statement, by its place from 0.
+/// The line of a specification statement, by its place from 0; 0 where none is known. Err where the place has more than 32 bits.
 pub fn decl_line(lines: &LineTable, place: usize) -> Result<u32, Memory>
     ensures { IfOk result (λ n. n ≡ line_or (line_in lines.now) (AtDecl place) 0) }
 {
@@ -123,7 +123,8 @@ pub fn decl_line(lines: &LineTable, place: usize) -> Result<u32, Memory>
     }
 }
 
-/// Gives the PARAMETER names of these statements their values; the first refusal, also of these. It fails at 2^32 statements.
+/// Gives the PARAMETER names of these statements their values, in the order of the text; the first refusal, also of them. A name
+/// that is refused gets no value. Err where there are more than 2^32 statements.
 #[tactic(auto, using(f77_ast::proofs::PlainlyDecl::decl_lists))]
 pub fn parameters_valued(
     table: &mut NameTable,

@@ -1,4 +1,4 @@
-//! Dimensions with constant bounds.
+//! Dimensions with constant bounds (ANSI X3.9-1978 §5.1).
 ghost use Rattle.std.specs.Prelude.{◌≡◌, ◌≤◌, [], Some, false, IfSome};
 ghost use Rattle.f77_ast.specs.Places.{dim_size, total_size};
 ghost use Rattle.f77_checks.specs.Sizes.{capped_units, dim_tree, dims_tree, is_above};
@@ -6,15 +6,15 @@ ghost use Rattle.f77_checks.specs.Sizes.{capped_units, dim_tree, dims_tree, is_a
 use fx_lists::List;
 use std::alloc::Global;
 
-/// A dimension with constant bounds.
-#[derive(Clone, Copy, Debug, PartialEq, Eq)]
+/// A dimension by its lower and upper bound, which may be below the lower one.
+#[derive(Clone, Copy, PartialEq, Eq)]
 pub struct Size {
     pub low: i32,
     pub high: i32,
 }
 
-/// The dimensions of a variable, none of a scalar, and its units.
-#[derive(Debug, Drop)]
+/// The dimensions of a variable, the first one first and none for a scalar, and how many units it takes: at most 2147483647.
+#[derive(Drop)]
 pub struct Dimensions {
     pub sizes: List<Size>,
     pub units: u64,
@@ -23,7 +23,7 @@ pub struct Dimensions {
 }
 
 impl Size {
-    /// max(high-low+1, 0)
+    /// How many subscripts the dimension has: `high - low + 1`, or 0 where that is negative.
     pub fn units(self) -> u64
         ensures { result ≡ dim_size (dim_tree self) }
     {
@@ -32,7 +32,7 @@ impl Size {
     }
 }
 
-/// More than 2147483647 units.
+/// Whether there are more than 2147483647 units; false where their number is not known.
 pub fn is_above(units: Option<u64>) -> bool
     ensures { result ≡ is_above units }
 {
@@ -43,7 +43,7 @@ pub fn is_above(units: Option<u64>) -> bool
 }
 
 impl Dimensions {
-    /// Those of a scalar.
+    /// Those of a scalar: no dimension, one unit.
     pub fn scalar(alloc: Global) -> Dimensions
         ensures { result.sizes ≡ [] }
     {
@@ -53,7 +53,7 @@ impl Dimensions {
         }
     }
 
-    /// Dimensions with their units.
+    /// Dimensions with the number of their units.
     pub fn of(sizes: List<Size>, units: u64) -> Dimensions
         requires counted { Some units ≡ capped_units 1 (Some (dims_tree sizes)) }
         requires small { units ≤ 2147483647 }

@@ -1,4 +1,4 @@
-//! The types of expressions.
+//! The types of expressions (ANSI X3.9-1978 §6).
 ghost use Rattle.std.specs.Prelude.{◌≡◌};
 ghost use Rattle.f77_ast.specs.Plain.{expr_tree};
 ghost use Rattle.f77_names.specs.Views.{table_tree};
@@ -9,8 +9,8 @@ use f77_constants::{gives_logical, turns_logical};
 use f77_names::{Kind, NameTable};
 use fx_lists::Text;
 
-/// The type of an expression; it is unknown where a name comes out REAL, which is refused itself.
-#[derive(Clone, Copy, Debug, PartialEq, Eq)]
+/// The type of an expression; it is unknown where a name is REAL, which is refused elsewhere.
+#[derive(Clone, Copy, PartialEq, Eq)]
 pub enum Sort {
     Int,
     Log,
@@ -19,6 +19,7 @@ pub enum Sort {
 }
 
 impl Sort {
+    /// Whether it is INTEGER or unknown.
     pub fn is_int(self) -> bool
         ensures { result ≡ is_int self }
     {
@@ -28,6 +29,7 @@ impl Sort {
         }
     }
 
+    /// Whether it is LOGICAL or unknown.
     pub fn is_log(self) -> bool
         ensures { result ≡ is_log self }
     {
@@ -37,6 +39,7 @@ impl Sort {
         }
     }
 
+    /// Whether it is a character constant; an unknown type is none.
     pub fn is_chars(self) -> bool
         ensures { result ≡ is_chars self }
     {
@@ -46,7 +49,7 @@ impl Sort {
         }
     }
 
-    /// Whether a value of the other type can be assigned to it, as far as both are known.
+    /// Whether a value of the type `other` can be assigned to a variable of this type, as far as both are known.
     pub fn fits(self, other: Sort) -> bool
         ensures { result ≡ fits self other }
     {
@@ -59,6 +62,7 @@ impl Sort {
     }
 }
 
+/// The type of a variable, of which REAL counts as unknown.
 pub fn sort_of_kind(kind: Kind) -> Sort
     ensures { result ≡ sort_of_kind kind }
 {
@@ -69,6 +73,7 @@ pub fn sort_of_kind(kind: Kind) -> Sort
     }
 }
 
+/// The type of a name, or of its elements: an intrinsic function gives INTEGER. Takes no memory.
 pub fn named_sort(table: &NameTable, name: &Text) -> Sort
     ensures { result ≡ named_sort (table_tree table.now) name.now }
 {
@@ -84,7 +89,7 @@ fn logical_or_not(logical: bool) -> Sort
     if logical { Sort::Log } else { Sort::Int }
 }
 
-/// The type of an expression.
+/// The type of an expression by its outermost operator; operands are not checked. Takes no memory.
 #[tactic(auto, using(f77_ast::proofs::Plainly::expr_calls))]
 pub fn sort_of(table: &NameTable, e: &Expr) -> Sort
     ensures { result ≡ sort_of (table_tree table.now) (expr_tree e.now) }

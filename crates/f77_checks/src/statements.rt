@@ -164,7 +164,8 @@ fn check_loop(
     check_list(table, lines, &l.body, line, found)
 }
 
-/// The first refusal, also of the statements of a list. It fails where an IF has 2^32 parts.
+/// The first refusal, also of the statements of a list and of those inside them. `line` is for statements whose line `lines` does
+/// not have. Err where an IF has more than 2^32 parts.
 #[cycle(judged)]
 #[tactic(auto, using(f77_ast::proofs::PlainlyStmt::list_steps))]
 pub fn check_list(

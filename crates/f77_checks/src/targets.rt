@@ -1,4 +1,5 @@
-//! What is written to, actual arguments, and items of PRINT.
+//! What is assigned or read, actual arguments, and items of PRINT. `line` is that of the statement, and `found` the first refusal
+//! before.
 ghost use Rattle.std.specs.Prelude.{◌≡◌};
 ghost use Rattle.f77_ast.specs.Plain.{expr_tree, expr_trees};
 ghost use Rattle.f77_ast.specs.Trees.{name};
@@ -25,6 +26,7 @@ fn unknown_or(function: Option<Function>, sort: Sort) -> Sort
     }
 }
 
+/// The type of what is assigned or read; unknown for the name of a function, which is refused elsewhere.
 #[tactic(auto, using(f77_ast::proofs::Plainly::expr_cases))]
 pub fn target_sort(table: &NameTable, e: &Expr) -> Sort
     ensures { result ≡ target_sort (table_tree table.now) (expr_tree e.now) }
@@ -50,6 +52,8 @@ fn is_parameter(table: &NameTable, name: &Text) -> bool
     }
 }
 
+/// Refuses a name without subscripts that is assigned or read where it is a function or a PARAMETER (`AssignToConstant`) or an
+/// array (`NotAnArray`).
 pub fn name_written(
     table: &NameTable,
     name: &Text,
@@ -91,7 +95,7 @@ fn element_written(
     }
 }
 
-/// A left side or an item of READ.
+/// The first refusal, also of a left side or an item of READ.
 #[tactic(auto, using(f77_ast::proofs::Plainly::expr_cases))]
 pub fn check_target(
     table: &NameTable,
@@ -113,6 +117,7 @@ pub fn check_target(
     }
 }
 
+/// The first refusal, also of the items of READ.
 #[tactic(auto, using(f77_ast::proofs::Plainly::expr_lists))]
 pub fn check_targets(
     table: &NameTable,
@@ -160,6 +165,7 @@ fn check_actual(table: &NameTable, e: &Expr, line: u32, found: Option<Refusal>) 
     }
 }
 
+/// The first refusal, also of the actual arguments of a CALL: an array may be whole, and none is characters.
 #[tactic(auto, using(f77_ast::proofs::Plainly::expr_lists))]
 pub fn check_actuals(
     table: &NameTable,
@@ -196,6 +202,7 @@ fn check_item(table: &NameTable, e: &Expr, line: u32, found: Option<Refusal>) ->
     }
 }
 
+/// The first refusal, also of the items of PRINT: characters may be one, but not in parentheses.
 #[tactic(auto, using(f77_ast::proofs::Plainly::expr_lists))]
 pub fn check_items(
     table: &NameTable,
@@ -211,7 +218,7 @@ pub fn check_items(
     found
 }
 
-/// The type of a DO variable.
+/// The type of a DO variable; unknown for the name of a function.
 pub fn index_sort(table: &NameTable, index: &Text) -> Sort
     ensures { result ≡ target_sort (table_tree table.now) (name index.now) }
 {

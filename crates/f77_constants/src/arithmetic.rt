@@ -1,4 +1,5 @@
-//! Operators on numbers of 32 bits; None is an overflow or a division by zero. LOGICAL values are 1 and 0.
+//! Operators on INTEGER numbers of 32 bits (ANSI X3.9-1978 §6.1, §6.3, §6.4). None is an overflow or a division by zero. A LOGICAL
+//! operand is true where it is not 0, and a LOGICAL result is 1 or 0.
 ghost use Rattle.std.specs.Prelude.{◌≡◌};
 ghost use Rattle.f77_ast.specs.Numbers.{binary_number, is_true, power, quotient, unary_number};
 ghost use Rattle.f77_ast.specs.Store.{truth};
@@ -11,6 +12,7 @@ fn truth(b: bool) -> Option<i32>
     Some(if b { 1 } else { 0 })
 }
 
+/// What a unary operator gives for a number; None on overflow.
 pub fn unary_number(op: UnaryOp, n: i32) -> Option<i32>
     ensures { result ≡ unary_number op n }
 {
@@ -21,7 +23,7 @@ pub fn unary_number(op: UnaryOp, n: i32) -> Option<i32>
     }
 }
 
-/// Rounded toward zero.
+/// Rounded toward zero (§6.1.5).
 fn quotient(m: i32, n: i32) -> Option<i32>
     ensures { result ≡ quotient m n }
 {
@@ -40,6 +42,7 @@ fn power(m: i32, n: i32) -> Option<i32>
     }
 }
 
+/// What a binary operator gives for two numbers; None on overflow and for a zero divisor.
 pub fn binary_number(op: BinaryOp, m: i32, n: i32) -> Option<i32>
     ensures { result ≡ binary_number op m n }
 {

@@ -1,4 +1,4 @@
-//! Values of constants, and what an expression is worth where constants alone are known.
+//! Values of constants and of constant expressions.
 ghost use Rattle.std.specs.Prelude.{◌≡◌};
 ghost use Rattle.f77_constants.specs.Constants.{is_logical, number_of};
 
@@ -11,27 +11,29 @@ pub enum Constant {
     Log(bool),
 }
 
-/// What an expression is worth: a constant, a fault of its evaluation, or what is no constant expression.
-#[derive(Clone, Copy, Debug, PartialEq, Eq)]
+/// The value of an expression in which only constants are known: a constant; a fault, such as an overflow, a zero divisor or an
+/// operand of the wrong type; or none, as it is no constant expression.
+#[derive(Clone, Copy, PartialEq, Eq)]
 pub enum Worth {
     Is(Constant),
     Faults,
     Varies,
 }
 
-/// Names that stand for constants.
+/// The names that have constant values.
 pub trait Constants {
     ghost use Rattle.std.specs.Prelude.{◌≡◌, List, ℕ, Option};
     ghost use Rattle.f77_constants.specs.declared.constant.Constant.{Constant};
 
     ghost value_in: { Self → List ℕ → Option Constant };
 
-    /// The value of the constant of a name. Takes no memory.
+    /// The value of a name; None where the name has no constant value. Takes no memory.
     fn value(&self, name: &Text) -> Option<Constant>
         ensures { result ≡ value_in self.now name.now };
 }
 
 impl Constant {
+    /// Whether it is LOGICAL.
     pub fn is_logical(self) -> bool
         ensures { result ≡ is_logical self }
     {
@@ -41,7 +43,7 @@ impl Constant {
         }
     }
 
-    /// The number itself; 1 for true, and 0 for false.
+    /// The number of an INTEGER constant; of a LOGICAL one 1 is true and 0 is false.
     pub fn number(self) -> i32
         ensures { result ≡ number_of self }
     {

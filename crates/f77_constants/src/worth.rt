@@ -1,4 +1,4 @@
-//! What an expression is worth (ANSI X3.9-1978 §6.1.3, §6.4.4).
+//! The values of constant expressions (ANSI X3.9-1978 §6.1.3, §6.4.4).
 ghost use Rattle.std.specs.Prelude.{◌≡◌};
 ghost use Rattle.f77_ast.specs.Plain.{expr_tree};
 ghost use Rattle.f77_constants.specs.Constants.{binary_worth, gives_logical, joins_logical, named_worth, turns_logical, unary_worth, worth, worth_as};
@@ -7,7 +7,7 @@ use crate::arithmetic::{binary_number, unary_number};
 use crate::{Constant, Constants, Worth};
 use f77_ast::{BinaryOp, Expr, UnaryOp};
 
-/// Whether an operator takes a LOGICAL operand.
+/// Whether a unary operator takes a LOGICAL operand and gives a LOGICAL result; else both are INTEGER.
 pub fn turns_logical(op: UnaryOp) -> bool
     ensures { result ≡ turns_logical op }
 {
@@ -17,7 +17,7 @@ pub fn turns_logical(op: UnaryOp) -> bool
     }
 }
 
-/// Whether an operator takes LOGICAL operands.
+/// Whether a binary operator takes LOGICAL operands; else it takes INTEGER ones.
 pub fn joins_logical(op: BinaryOp) -> bool
     ensures { result ≡ joins_logical op }
 {
@@ -37,7 +37,7 @@ pub fn joins_logical(op: BinaryOp) -> bool
     }
 }
 
-/// Whether what an operator gives is LOGICAL.
+/// Whether the result of a binary operator is LOGICAL; else it is INTEGER.
 pub fn gives_logical(op: BinaryOp) -> bool
     ensures { result ≡ gives_logical op }
 {
@@ -104,7 +104,8 @@ fn named_worth(value: Option<Constant>) -> Worth
     }
 }
 
-/// What an expression is worth, with these names of constants. An intrinsic call is no constant expression.
+/// The value of an expression, with these values of names. Elements, intrinsic calls and characters are no constant expressions.
+/// Takes no memory.
 #[cycle(worth)]
 #[tactic(auto, using(f77_ast::proofs::Plainly::expr_cases))]
 pub fn worth_of<C: Constants>(e: &Expr, constants: &C) -> Worth

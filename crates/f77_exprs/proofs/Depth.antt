@@ -10,7 +10,7 @@ use Rattle.f77_ast.specs.Plain.{exprs_of}
 use Rattle.f77_exprs.specs.State.{State, Reader, take_word, or_done, or_else, ◌>>=◌}
 use Rattle.f77_exprs.specs.Operators.{relations, equivalences, sums, products}
 use Rattle.f77_exprs.specs.Lexical.{name_at, number_first}
-use Rattle.f77_exprs.specs.Grammar.{Part, whole, power, Inner, more, chain, comma, more_by, items_by, items, element_at, variable_in, parenthesis, constant_at, literal, primary, exponent, factor, term, signed, signed_term, arithmetic, comparison, relation, negated_relation, negation, conjunction, disjunction, equivalence, part, expression, variable}
+use Rattle.f77_exprs.specs.Grammar.{Part, whole, power, Inner, more, chain, comma, more_by, items_by, items, element_at, variable_in, parenthesis, constant_at, literal, primary, exponent, factor, term, signed_terms, signed_term, arithmetic, comparison, relation, negated_relation, negation, conjunction, disjunction, equivalence, part, expression, variable}
 use Rattle.f77_exprs.specs.Laws.{inside, IsGrammar}
 use Rattle.f77_exprs.proofs.Same.{Within, Same, fixed, weaker, seq, Taken, taken, behind, either, operated, counted}
 use Rattle.f77_exprs.proofs.Steady.{name_at-within, number-within, constant_at-within}
@@ -125,8 +125,8 @@ chain-same b ops R S x =
 term-same : (k : ℕ) (I J : Inner) → Parts k I J → Same (k + 1) (term I) (term J)
 term-same k I J x = chain-same (k + 1) products (factor I) (factor J) (factor-same k I J x)
 
-signed-same : (k : ℕ) (op : UnaryOp) (I J : Inner) → Parts k I J → Same (k + 1) (signed op I) (signed op J)
-unfolding signed
+signed-same : (k : ℕ) (op : UnaryOp) (I J : Inner) → Parts k I J → Same (k + 1) (signed_terms op I) (signed_terms op J)
+unfolding signed_terms
 signed-same k op I J x =
     let F : ExprTree → Reader ExprTree = λ t s. Some (unary op t, s) in
     seq (k + 1) (term I) (term J) F F (term-same k I J x) (λ t. done (k + 1) (unary op t))
@@ -137,9 +137,9 @@ lower k R S x = weaker k (k + 1) R S (omega arith) x
 signed_term-same : (k : ℕ) (I J : Inner) → Parts k I J → Same (k + 1) (signed_term I) (signed_term J)
 unfolding signed_term
 signed_term-same k I J x =
-    let M : Inner → Reader ExprTree = λ K s. or_else (take_word (codes "-") s) (signed Minus K) (term K s) in
-    either k 43 [] (signed Plus I) (signed Plus J) (M I) (M J) (lower k (signed Plus I) (signed Plus J) (signed-same k Plus I J x))
-    (either k 45 [] (signed Minus I) (signed Minus J) (term I) (term J) (lower k (signed Minus I) (signed Minus J) (signed-same k Minus I J x)) (term-same k I J x))
+    let M : Inner → Reader ExprTree = λ K s. or_else (take_word (codes "-") s) (signed_terms Minus K) (term K s) in
+    either k 43 [] (signed_terms Plus I) (signed_terms Plus J) (M I) (M J) (lower k (signed_terms Plus I) (signed_terms Plus J) (signed-same k Plus I J x))
+    (either k 45 [] (signed_terms Minus I) (signed_terms Minus J) (term I) (term J) (lower k (signed_terms Minus I) (signed_terms Minus J) (signed-same k Minus I J x)) (term-same k I J x))
 
 arithmetic-same : (k : ℕ) (I J : Inner) → Parts k I J → Same (k + 1) (arithmetic I) (arithmetic J)
 unfolding arithmetic

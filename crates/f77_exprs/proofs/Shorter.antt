@@ -4,7 +4,7 @@ use Rattle.std.specs.Prelude.{Result, Ok, Err, IfOk}
 use Rattle.f77_ast.specs.declared.expr.Expr.{Expr}
 use Rattle.f77_ast.specs.Trees.{ExprTree}
 use Rattle.f77_ast.specs.Plain.{expr_tree}
-use Rattle.f77_exprs.specs.declared.at.At.{At}
+use Rattle.f77_exprs.specs.declared.at.Cursor.{Cursor}
 use Rattle.f77_exprs.specs.declared.unread.Unread.{Unread}
 use Rattle.f77_exprs.specs.State.{State, state, take_word, GivesExpr}
 use Rattle.f77_exprs.specs.Grammar.{part, whole}
@@ -19,6 +19,6 @@ expression_shorter s t tree e =
     let w : Within (Some (tree, t)) (length s.rest) = subst (λ (o : Option (ExprTree × State)). Within o (length s.rest)) e (part-steady (length s.rest + 1) whole s) in w
 
 -- the same of what a function returned
-pub returned_shorter : (r : Result (Expr × At) Unread) (s : State) → GivesExpr r (part (length s.rest + 1) whole s) → IfOk r (λ x. length x.1.rest.now ≤ length s.rest)
+pub returned_shorter : (r : Result (Expr × Cursor) Unread) (s : State) → GivesExpr r (part (length s.rest + 1) whole s) → IfOk r (λ x. length x.1.rest.now ≤ length s.rest)
 returned_shorter (Ok x) s h = expression_shorter s (state x.1) (expr_tree x.0) h
 returned_shorter (Err e) s h = tt

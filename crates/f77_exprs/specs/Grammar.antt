@@ -101,14 +101,14 @@ abbrev pub term : Inner → Reader ExprTree
 term inner = chain products (factor inner)
 
 -- a term behind a sign
-unfoldable pub signed : UnaryOp → Inner → Reader ExprTree
-signed op inner s = term inner s >>= λ t. Some (unary op t.0, t.1)
+unfoldable pub signed_terms : UnaryOp → Inner → Reader ExprTree
+signed_terms op inner s = term inner s >>= λ t. Some (unary op t.0, t.1)
 
 -- a sign stands at the front alone
 unfoldable pub signed_term : Inner → Reader ExprTree
 signed_term inner s =
-    or_else (take_word (codes "+") s) (signed Plus inner)
-    (or_else (take_word (codes "-") s) (signed Minus inner) (term inner s))
+    or_else (take_word (codes "+") s) (signed_terms Plus inner)
+    (or_else (take_word (codes "-") s) (signed_terms Minus inner) (term inner s))
 
 unfoldable pub arithmetic : Inner → Reader ExprTree
 arithmetic inner s = signed_term inner s >>= λ l. more sums (term inner) (length l.1.rest) l.0 l.1

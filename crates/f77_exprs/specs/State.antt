@@ -4,7 +4,7 @@ use Rattle.f77_ast.specs.declared.expr.Expr.{Expr}
 use Rattle.f77_ast.specs.Trees.{ExprTree}
 use Rattle.f77_ast.specs.Plain.{expr_tree}
 use Rattle.f77_exprs.specs.declared.at.Notes.{Notes}
-use Rattle.f77_exprs.specs.declared.at.At.{At}
+use Rattle.f77_exprs.specs.declared.at.Cursor.{Cursor}
 use Rattle.f77_exprs.specs.declared.unread.Unread.{Unread}
 use Rattle.f77_exprs.specs.declared.unread.Unread.TheVariants.{Memory, Syntax}
 use Rattle.f77_exprs.specs.Words.{after}
@@ -15,7 +15,7 @@ pub record State : Type 0 where
   pub notes : Notes
 
 -- the state that the code has
-abbrev pub state : At → State
+abbrev pub state : Cursor → State
 state at = record { rest = at.rest.now; notes = at.notes }
 
 -- the front of a statement, where nothing was met
@@ -60,9 +60,9 @@ Gives view (Ok x) read = read ≡ Some (view x)
 Gives view (Err e) read = Fails e read
 
 -- the same of a value and of where its reader stopped
-abbrev pub GivesAs : {X A : Type 0} → (X → A) → Result (X × At) Unread → Option (A × State) → Type 0
+abbrev pub GivesAs : {X A : Type 0} → (X → A) → Result (X × Cursor) Unread → Option (A × State) → Type 0
 GivesAs view result read = Gives (λ x. (view x.0, state x.1)) result read
 
 -- the same of an expression
-abbrev pub GivesExpr : Result (Expr × At) Unread → Option (ExprTree × State) → Type 0
+abbrev pub GivesExpr : Result (Expr × Cursor) Unread → Option (ExprTree × State) → Type 0
 GivesExpr result read = Gives (λ x. (expr_tree x.0, state x.1)) result read

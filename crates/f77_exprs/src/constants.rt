@@ -1,16 +1,17 @@
-//! Character constants.
+//! Character constants (ANSI X3.9-1978 §4.8).
 ghost use Rattle.std.specs.Prelude.{◌≡◌, ℕ};
 ghost use Rattle.f77_exprs.specs.State.{state, Gives, GivesExpr};
 ghost use Rattle.f77_exprs.specs.Lexical.{constant};
 ghost use Rattle.f77_exprs.specs.Grammar.{constant_at};
 
 use crate::unread::Reading;
-use crate::{At, Unread};
+use crate::{Cursor, Unread};
 use f77_ast::Expr;
 use fx_lists::Text;
 use std::alloc::Global;
 
-/// The text of a character constant behind its first apostrophe, and what follows its last.
+/// The text of a character constant from after its first apostrophe, two apostrophes inside being one, and what follows its last.
+/// Err is `Syntax` where the constant is not closed.
 #[tactic(auto, using(crate::proofs::ConstantLemmas::constant_steps))]
 pub fn constant(alloc: Global, text: &[u8]) -> Result<(Text, &[u8]), Unread>
     ensures { Gives (λ x. (x.0, x.1.now)) result (constant text.now) }
@@ -36,12 +37,12 @@ pub fn constant(alloc: Global, text: &[u8]) -> Result<(Text, &[u8]), Unread>
     Err(Unread::Syntax)
 }
 
-/// A character constant behind its first apostrophe.
+/// A character constant as an expression, from after its first apostrophe. Err is `Syntax` where it is not closed.
 #[tactic(auto, using(f77_ast::proofs::Plainly::expr_cases), unfolding(crate::specs::Grammar::constant_at))]
-pub fn constant_at(alloc: Global, at: At<'_>) -> Reading<'_, Expr>
+pub fn constant_at(alloc: Global, at: Cursor<'_>) -> Reading<'_, Expr>
     ensures { GivesExpr result (constant_at (state at.entry)) }
 {
     let (found, rest) = constant(alloc, at.rest)?;
     let notes = at.notes;
-    Ok((Expr::Chars(found), At { rest, notes }))
+    Ok((Expr::Chars(found), Cursor { rest, notes }))
 }

@@ -1,8 +1,8 @@
-//! The levels of an expression, each with the one below it.
+//! Expressions (ANSI X3.9-1978 §6), by levels of precedence, each with the one below it.
 ghost use Rattle.std.specs.Prelude.{◌≡◌, ◌≤◌, ℕ, length, map, IfOk};
 ghost use Rattle.f77_ast.specs.Plain.{expr_tree};
 ghost use Rattle.f77_exprs.specs.State.{state, GivesAs, GivesExpr};
-ghost use Rattle.f77_exprs.specs.Grammar.{part, whole, power, more, operators_of, operand_of, comma, more_by, items, element_at, variable_in, parenthesis, primary, exponent, factor, term, signed, signed_term, arithmetic, comparison, relation, negated_relation, negation, conjunction, disjunction, equivalence, expression, variable};
+ghost use Rattle.f77_exprs.specs.Grammar.{part, whole, power, more, operators_of, operand_of, comma, more_by, items, element_at, variable_in, parenthesis, primary, exponent, factor, term, signed_terms, signed_term, arithmetic, comparison, relation, negated_relation, negation, conjunction, disjunction, equivalence, expression, variable};
 
 use crate::build::{binary, paren, unary};
 use crate::constants::constant_at;
@@ -10,23 +10,23 @@ use crate::names::name_at;
 use crate::numbers::{literal, number_first};
 use crate::operators::{Level, RELATIONS, one_of};
 use crate::unread::Reading;
-use crate::{At, Unread};
+use crate::{Cursor, Unread};
 use f77_ast::{BinaryOp, Expr, UnaryOp};
 use fx_lists::{List, Text};
 use std::alloc::Global;
 
-/// An expression.
+/// The expression at the front of a text, as far as the grammar goes on. Err is `Syntax` where none begins there.
 #[tactic(auto, unfolding(crate::specs::Grammar::expression))]
-pub fn expression(alloc: Global, at: At<'_>) -> Reading<'_, Expr>
+pub fn expression(alloc: Global, at: Cursor<'_>) -> Reading<'_, Expr>
     ensures defined { GivesExpr result (expression (state at.entry)) }
     ensures shorter { IfOk result (λ x. length x.1.rest.now ≤ length at.entry.rest.now) }
 {
     whole(alloc, at.rest.len() + 1, at)
 }
 
-/// A name, or an element of an array.
+/// A name, with subscripts or arguments in parentheses or without. Err is `Syntax` where none is at the front.
 #[tactic(auto, unfolding(crate::specs::Grammar::variable))]
-pub fn variable(alloc: Global, at: At<'_>) -> Reading<'_, Expr>
+pub fn variable(alloc: Global, at: Cursor<'_>) -> Reading<'_, Expr>
     ensures { GivesExpr result (variable (state at.entry)) }
 {
     variable_in(alloc, at.rest.len() + 1, at)
@@ -35,7 +35,7 @@ pub fn variable(alloc: Global, at: At<'_>) -> Reading<'_, Expr>
 /// An expression with at most `depth` parts in one another.
 #[cycle(expr)]
 #[tactic(auto, unfolding(crate::specs::Grammar::part))]
-fn whole(alloc: Global, depth: usize, at: At<'_>) -> Reading<'_, Expr>
+fn whole(alloc: Global, depth: usize, at: Cursor<'_>) -> Reading<'_, Expr>
     ensures { GivesExpr result (part depth whole (state at.entry)) }
 {
     if depth == 0 {
@@ -47,7 +47,7 @@ fn whole(alloc: Global, depth: usize, at: At<'_>) -> Reading<'_, Expr>
 /// What follows `**`.
 #[cycle(expr)]
 #[tactic(auto, unfolding(crate::specs::Grammar::part))]
-fn power(alloc: Global, depth: usize, at: At<'_>) -> Reading<'_, Expr>
+fn power(alloc: Global, depth: usize, at: Cursor<'_>) -> Reading<'_, Expr>
     ensures { GivesExpr result (part depth power (state at.entry)) }
 {
     if depth == 0 {
@@ -60,7 +60,13 @@ fn power(alloc: Global, depth: usize, at: At<'_>) -> Reading<'_, Expr>
 #[cycle(expr)]
 #[tactic(auto, using(crate::proofs::Chains::more_steps))]
 #[inline(never)]
-fn more<'a>(alloc: Global, depth: usize, level: Level, left: Expr, at: At<'a>) -> Reading<'a, Expr>
+fn more<'a>(
+    alloc: Global,
+    depth: usize,
+    level: Level,
+    left: Expr,
+    at: Cursor<'a>,
+) -> Reading<'a, Expr>
     ensures { GivesExpr result
         (more (operators_of level) (operand_of level (part depth)) (length at.entry.rest.now)
         (expr_tree left) (state at.entry)) }
@@ -84,7 +90,7 @@ fn more<'a>(alloc: Global, depth: usize, level: Level, left: Expr, at: At<'a>) -
 
 #[cycle(expr)]
 #[inline(never)]
-fn operand(alloc: Global, depth: usize, level: Level, at: At<'_>) -> Reading<'_, Expr>
+fn operand(alloc: Global, depth: usize, level: Level, at: Cursor<'_>) -> Reading<'_, Expr>
     ensures { GivesExpr result (operand_of level (part depth) (state at.entry)) }
 {
     match level {
@@ -98,7 +104,7 @@ fn operand(alloc: Global, depth: usize, level: Level, at: At<'_>) -> Reading<'_,
 
 #[cycle(expr)]
 #[tactic(auto, unfolding(crate::specs::Grammar::chain))]
-fn equivalence(alloc: Global, depth: usize, at: At<'_>) -> Reading<'_, Expr>
+fn equivalence(alloc: Global, depth: usize, at: Cursor<'_>) -> Reading<'_, Expr>
     ensures { GivesExpr result (equivalence (part depth) (state at.entry)) }
 {
     let (left, at) = disjunction(alloc, depth, at)?;
@@ -107,7 +113,7 @@ fn equivalence(alloc: Global, depth: usize, at: At<'_>) -> Reading<'_, Expr>
 
 #[cycle(expr)]
 #[tactic(auto, unfolding(crate::specs::Grammar::chain))]
-fn disjunction(alloc: Global, depth: usize, at: At<'_>) -> Reading<'_, Expr>
+fn disjunction(alloc: Global, depth: usize, at: Cursor<'_>) -> Reading<'_, Expr>
     ensures { GivesExpr result (disjunction (part depth) (state at.entry)) }
 {
     let (left, at) = conjunction(alloc, depth, at)?;
@@ -116,7 +122,7 @@ fn disjunction(alloc: Global, depth: usize, at: At<'_>) -> Reading<'_, Expr>
 
 #[cycle(expr)]
 #[tactic(auto, unfolding(crate::specs::Grammar::chain))]
-fn conjunction(alloc: Global, depth: usize, at: At<'_>) -> Reading<'_, Expr>
+fn conjunction(alloc: Global, depth: usize, at: Cursor<'_>) -> Reading<'_, Expr>
     ensures { GivesExpr result (conjunction (part depth) (state at.entry)) }
 {
     let (left, at) = negation(alloc, depth, at)?;
@@ -126,7 +132,7 @@ fn conjunction(alloc: Global, depth: usize, at: At<'_>) -> Reading<'_, Expr>
 /// `.NOT.`, once at most, and a relation.
 #[cycle(expr)]
 #[tactic(auto, unfolding(crate::specs::Grammar::negation))]
-fn negation(alloc: Global, depth: usize, at: At<'_>) -> Reading<'_, Expr>
+fn negation(alloc: Global, depth: usize, at: Cursor<'_>) -> Reading<'_, Expr>
     ensures { GivesExpr result (negation (part depth) (state at.entry)) }
 {
     match at.take_word(b".NOT.") {
@@ -138,7 +144,7 @@ fn negation(alloc: Global, depth: usize, at: At<'_>) -> Reading<'_, Expr>
 #[cycle(expr)]
 #[tactic(auto, unfolding(crate::specs::Grammar::negated_relation))]
 #[inline(never)]
-fn negated_relation(alloc: Global, depth: usize, at: At<'_>) -> Reading<'_, Expr>
+fn negated_relation(alloc: Global, depth: usize, at: Cursor<'_>) -> Reading<'_, Expr>
     ensures { GivesExpr result (negated_relation (part depth) (state at.entry)) }
 {
     let (tree, rest) = relation(alloc, depth, at)?;
@@ -148,7 +154,7 @@ fn negated_relation(alloc: Global, depth: usize, at: At<'_>) -> Reading<'_, Expr
 
 #[cycle(expr)]
 #[tactic(auto, unfolding(crate::specs::Grammar::relation))]
-fn relation(alloc: Global, depth: usize, at: At<'_>) -> Reading<'_, Expr>
+fn relation(alloc: Global, depth: usize, at: Cursor<'_>) -> Reading<'_, Expr>
     ensures { GivesExpr result (relation (part depth) (state at.entry)) }
 {
     let (left, at) = arithmetic(alloc, depth, at)?;
@@ -159,7 +165,7 @@ fn relation(alloc: Global, depth: usize, at: At<'_>) -> Reading<'_, Expr>
 #[cycle(expr)]
 #[tactic(auto, unfolding(crate::specs::Grammar::comparison))]
 #[inline(never)]
-fn comparison<'a>(alloc: Global, depth: usize, left: Expr, at: At<'a>) -> Reading<'a, Expr>
+fn comparison<'a>(alloc: Global, depth: usize, left: Expr, at: Cursor<'a>) -> Reading<'a, Expr>
     ensures { GivesExpr result (comparison (part depth) (expr_tree left) (state at.entry)) }
 {
     match one_of(&RELATIONS, at) {
@@ -174,7 +180,7 @@ fn comparison<'a>(alloc: Global, depth: usize, left: Expr, at: At<'a>) -> Readin
 
 #[cycle(expr)]
 #[tactic(auto, unfolding(crate::specs::Grammar::arithmetic))]
-fn arithmetic(alloc: Global, depth: usize, at: At<'_>) -> Reading<'_, Expr>
+fn arithmetic(alloc: Global, depth: usize, at: Cursor<'_>) -> Reading<'_, Expr>
     ensures { GivesExpr result (arithmetic (part depth) (state at.entry)) }
 {
     let (left, at) = signed_term(alloc, depth, at)?;
@@ -184,23 +190,23 @@ fn arithmetic(alloc: Global, depth: usize, at: At<'_>) -> Reading<'_, Expr>
 /// A term, with a sign before it or none.
 #[cycle(expr)]
 #[tactic(auto, unfolding(crate::specs::Grammar::signed_term))]
-fn signed_term(alloc: Global, depth: usize, at: At<'_>) -> Reading<'_, Expr>
+fn signed_term(alloc: Global, depth: usize, at: Cursor<'_>) -> Reading<'_, Expr>
     ensures { GivesExpr result (signed_term (part depth) (state at.entry)) }
 {
     if let Some(rest) = at.take_word(b"+") {
-        return signed(alloc, depth, UnaryOp::Plus, rest);
+        return signed_terms(alloc, depth, UnaryOp::Plus, rest);
     }
     if let Some(rest) = at.take_word(b"-") {
-        return signed(alloc, depth, UnaryOp::Minus, rest);
+        return signed_terms(alloc, depth, UnaryOp::Minus, rest);
     }
     term(alloc, depth, at)
 }
 
 #[cycle(expr)]
-#[tactic(auto, unfolding(crate::specs::Grammar::signed))]
+#[tactic(auto, unfolding(crate::specs::Grammar::signed_terms))]
 #[inline(never)]
-fn signed(alloc: Global, depth: usize, op: UnaryOp, at: At<'_>) -> Reading<'_, Expr>
-    ensures { GivesExpr result (signed op (part depth) (state at.entry)) }
+fn signed_terms(alloc: Global, depth: usize, op: UnaryOp, at: Cursor<'_>) -> Reading<'_, Expr>
+    ensures { GivesExpr result (signed_terms op (part depth) (state at.entry)) }
 {
     let (tree, rest) = term(alloc, depth, at)?;
     let tree = unary(alloc, op, tree)?;
@@ -209,7 +215,7 @@ fn signed(alloc: Global, depth: usize, op: UnaryOp, at: At<'_>) -> Reading<'_, E
 
 #[cycle(expr)]
 #[tactic(auto, unfolding(crate::specs::Grammar::chain))]
-fn term(alloc: Global, depth: usize, at: At<'_>) -> Reading<'_, Expr>
+fn term(alloc: Global, depth: usize, at: Cursor<'_>) -> Reading<'_, Expr>
     ensures { GivesExpr result (term (part depth) (state at.entry)) }
 {
     let (left, at) = factor(alloc, depth, at)?;
@@ -218,7 +224,7 @@ fn term(alloc: Global, depth: usize, at: At<'_>) -> Reading<'_, Expr>
 
 #[cycle(expr)]
 #[tactic(auto, unfolding(crate::specs::Grammar::factor))]
-fn factor(alloc: Global, depth: usize, at: At<'_>) -> Reading<'_, Expr>
+fn factor(alloc: Global, depth: usize, at: Cursor<'_>) -> Reading<'_, Expr>
     ensures { GivesExpr result (factor (part depth) (state at.entry)) }
 {
     let (base, at) = primary(alloc, depth, at)?;
@@ -229,7 +235,7 @@ fn factor(alloc: Global, depth: usize, at: At<'_>) -> Reading<'_, Expr>
 #[cycle(expr)]
 #[tactic(auto, unfolding(crate::specs::Grammar::exponent))]
 #[inline(never)]
-fn exponent<'a>(alloc: Global, depth: usize, base: Expr, at: At<'a>) -> Reading<'a, Expr>
+fn exponent<'a>(alloc: Global, depth: usize, base: Expr, at: Cursor<'a>) -> Reading<'a, Expr>
     ensures { GivesExpr result (exponent (part depth) (expr_tree base) (state at.entry)) }
 {
     match at.take_word(b"**") {
@@ -244,7 +250,7 @@ fn exponent<'a>(alloc: Global, depth: usize, base: Expr, at: At<'a>) -> Reading<
 /// A constant, a variable, a call, or an expression in parentheses.
 #[cycle(expr)]
 #[tactic(auto, using(f77_ast::proofs::Plainly::expr_cases), unfolding(crate::specs::Grammar::primary))]
-fn primary(alloc: Global, depth: usize, at: At<'_>) -> Reading<'_, Expr>
+fn primary(alloc: Global, depth: usize, at: Cursor<'_>) -> Reading<'_, Expr>
     ensures { GivesExpr result (primary (part depth) (state at.entry)) }
 {
     if let Some(rest) = at.take_word(b".TRUE.") {
@@ -269,7 +275,7 @@ fn primary(alloc: Global, depth: usize, at: At<'_>) -> Reading<'_, Expr>
 #[cycle(expr)]
 #[tactic(auto, unfolding(crate::specs::Grammar::parenthesis))]
 #[inline(never)]
-fn parenthesis(alloc: Global, depth: usize, at: At<'_>) -> Reading<'_, Expr>
+fn parenthesis(alloc: Global, depth: usize, at: Cursor<'_>) -> Reading<'_, Expr>
     ensures { GivesExpr result (parenthesis (part depth) (state at.entry)) }
 {
     let (tree, rest) = whole(alloc, depth, at)?;
@@ -285,7 +291,7 @@ fn parenthesis(alloc: Global, depth: usize, at: At<'_>) -> Reading<'_, Expr>
 #[cycle(expr)]
 #[tactic(auto, using(f77_ast::proofs::Plainly::expr_cases), unfolding(crate::specs::Grammar::variable_in))]
 #[inline(never)]
-fn variable_in(alloc: Global, depth: usize, at: At<'_>) -> Reading<'_, Expr>
+fn variable_in(alloc: Global, depth: usize, at: Cursor<'_>) -> Reading<'_, Expr>
     ensures { GivesExpr result (variable_in (part depth) (state at.entry)) }
 {
     let (name, at) = name_at(alloc, at)?;
@@ -299,7 +305,7 @@ fn variable_in(alloc: Global, depth: usize, at: At<'_>) -> Reading<'_, Expr>
 #[cycle(expr)]
 #[tactic(auto, using(f77_ast::proofs::Plainly::expr_cases), unfolding(crate::specs::Grammar::element_at))]
 #[inline(never)]
-fn element_at<'a>(alloc: Global, depth: usize, name: Text, at: At<'a>) -> Reading<'a, Expr>
+fn element_at<'a>(alloc: Global, depth: usize, name: Text, at: Cursor<'a>) -> Reading<'a, Expr>
     ensures { GivesExpr result (element_at (part depth) name (state at.entry)) }
 {
     let (subscripts, rest) = items(alloc, depth, at)?;
@@ -313,7 +319,7 @@ fn element_at<'a>(alloc: Global, depth: usize, name: Text, at: At<'a>) -> Readin
 #[cycle(expr)]
 #[tactic(auto, unfolding(crate::specs::Grammar::items_by))]
 #[inline(never)]
-fn items(alloc: Global, depth: usize, at: At<'_>) -> Reading<'_, List<Expr>>
+fn items(alloc: Global, depth: usize, at: Cursor<'_>) -> Reading<'_, List<Expr>>
     ensures { GivesAs (map expr_tree) result (items (part depth whole) (state at.entry)) }
 {
     let (first, at) = whole(alloc, depth, at)?;
@@ -329,7 +335,7 @@ fn more_items<'a>(
     alloc: Global,
     depth: usize,
     found: List<Expr>,
-    at: At<'a>,
+    at: Cursor<'a>,
 ) -> Reading<'a, List<Expr>>
     ensures { GivesAs (map expr_tree) result
         (more_by comma (part depth whole) (length at.entry.rest.now) (map expr_tree found)

@@ -11,7 +11,7 @@ mod numbers;
 mod operators;
 mod unread;
 
-pub use at::{At, Notes, before};
+pub use at::{Cursor, Notes, before};
 pub use build::unary;
 pub use constants::{constant, constant_at};
 pub use expr::{expression, variable};

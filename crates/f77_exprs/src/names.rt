@@ -5,7 +5,7 @@ ghost use Rattle.f77_exprs.specs.Lexical.{in_name, letter_first, skip_name, name
 
 use crate::at::before;
 use crate::unread::Reading;
-use crate::{At, Notes, Unread};
+use crate::{Cursor, Notes, Unread};
 use fx_lists::Text;
 use std::alloc::Global;
 
@@ -38,9 +38,10 @@ fn skip_name(text: &[u8]) -> &[u8]
     rest
 }
 
-/// A name: a letter, and letters, digits and `_` behind it. More than 31 of them are noted.
+/// A name: a letter, and the letters, digits and `_` after it. More than 31 characters are noted. Err is `Syntax` where no
+/// letter is at the front.
 #[tactic(auto, unfolding(crate::specs::Lexical::name_at))]
-pub fn name_at(alloc: Global, at: At<'_>) -> Reading<'_, Text>
+pub fn name_at(alloc: Global, at: Cursor<'_>) -> Reading<'_, Text>
     ensures { GivesAs (λ n. n) result (name_at (state at.entry)) }
 {
     if !letter_first(at.rest) {
@@ -54,5 +55,5 @@ pub fn name_at(alloc: Global, at: At<'_>) -> Reading<'_, Text>
         big: at.notes.big,
         long: at.notes.long || front.len() > 31,
     };
-    Ok((name, At { rest, notes }))
+    Ok((name, Cursor { rest, notes }))
 }

@@ -8,13 +8,13 @@ ghost use Rattle.f77_exprs.specs.Grammar.{literal};
 
 use crate::operators::{DOTTED, one_of};
 use crate::unread::Reading;
-use crate::{At, Notes, Unread};
+use crate::{Cursor, Notes, Unread};
 use f77_ast::Expr;
 
 /// The largest number, one more than which counts for all that are larger.
 const BIGGEST: u32 = 2147483647;
 
-/// Whether a digit stands at the front.
+/// Whether a digit is at the front.
 pub fn digit_first(text: &[u8]) -> bool
     ensures { result ≡ digit_first text.now }
 {
@@ -24,7 +24,7 @@ pub fn digit_first(text: &[u8]) -> bool
     }
 }
 
-/// What is left after digits.
+/// What is left after the digits at the front, which may be none.
 pub fn skip_digits(text: &[u8]) -> &[u8]
     ensures { result.now ≡ skip_digits text.now }
 {
@@ -56,7 +56,7 @@ fn value(text: &[u8]) -> u32
 }
 
 /// Digits alone. A number that is too big is noted, and 0 stands for it.
-fn integer(at: At<'_>) -> (u32, At<'_>)
+fn integer(at: Cursor<'_>) -> (u32, Cursor<'_>)
     ensures same { (result.0, state result.1) ≡ integer (state at.entry) }
     ensures bound { result.0 < 2 ^ 31 }
 {
@@ -68,12 +68,13 @@ fn integer(at: At<'_>) -> (u32, At<'_>)
     };
     let rest = skip_digits(at.rest);
     let kept = if v > BIGGEST { 0 } else { v };
-    (kept, At { rest, notes })
+    (kept, Cursor { rest, notes })
 }
 
-/// A label as it stands in a statement: digits alone. Its value is not bounded by 99999 here.
+/// A label in a statement: digits alone, of which one past 2147483647 is noted. It is not bounded by 99999 here. Err is `Syntax`
+/// where no digit is at the front.
 #[tactic(auto, unfolding(crate::specs::Lexical::label_at))]
-pub fn label_at(at: At<'_>) -> Reading<'_, u32>
+pub fn label_at(at: Cursor<'_>) -> Reading<'_, u32>
     ensures same { GivesAs (λ n. n) result (label_at (state at.entry)) }
     ensures bound { IfOk result (λ x. x.0 < 2 ^ 31) }
 {
@@ -88,7 +89,7 @@ pub fn label_at(at: At<'_>) -> Reading<'_, u32>
 fn operator_first(text: &[u8]) -> bool
     ensures { result ≡ operator_first text.now }
 {
-    let at = At::start(text);
+    let at = Cursor::start(text);
     at.take_word(b".NOT.").is_some() || one_of(&DOTTED, at).is_some()
 }
 
@@ -162,9 +163,9 @@ fn after_real(text: &[u8]) -> Option<&[u8]>
     }
 }
 
-/// A number. One with a point, an exponent or too many digits is noted, and 0 stands for it.
+/// A number, below 2^31. One with a point or an exponent, or past 2147483647, is noted, and read as 0.
 #[tactic(auto, unfolding(crate::specs::Lexical::number))]
-pub fn number(at: At<'_>) -> (u32, At<'_>)
+pub fn number(at: Cursor<'_>) -> (u32, Cursor<'_>)
     ensures same { (result.0, state result.1) ≡ number (state at.entry) }
     ensures bound { result.0 < 2 ^ 31 }
 {
@@ -176,21 +177,21 @@ pub fn number(at: At<'_>) -> (u32, At<'_>)
                 big: at.notes.big,
                 long: at.notes.long,
             };
-            (0, At { rest, notes })
+            (0, Cursor { rest, notes })
         }
     }
 }
 
-/// A number as an expression.
+/// A number as an INTEGER constant, read as `number` reads it.
 #[tactic(auto, using(f77_ast::proofs::Plainly::expr_cases))]
-pub fn literal(at: At<'_>) -> (Expr, At<'_>)
+pub fn literal(at: Cursor<'_>) -> (Expr, Cursor<'_>)
     ensures { (expr_tree result.0, state result.1) ≡ literal (state at.entry) }
 {
     let (n, rest) = number(at);
     (Expr::Int(n as i32), rest)
 }
 
-/// Whether a number stands at the front.
+/// Whether a number is at the front: a digit, or a point and a digit.
 pub fn number_first(text: &[u8]) -> bool
     ensures { result ≡ number_first text.now }
 {

@@ -1,13 +1,13 @@
-//! The operators of each level.
+//! The operators of each level (ANSI X3.9-1978 §6.5).
 ghost use Rattle.std.specs.Prelude.{◌≡◌, ℕ, option_map};
 ghost use Rattle.f77_exprs.specs.State.{state};
 ghost use Rattle.f77_exprs.specs.Operators.{one_of};
 
-use crate::At;
+use crate::Cursor;
 use f77_ast::BinaryOp;
 
-/// The levels whose operators group from the left, the loosest first.
-#[derive(Clone, Copy, Debug)]
+/// The levels whose operators group from the left, the one that binds least first.
+#[derive(Clone, Copy)]
 pub enum Level {
     Equivalence,
     Disjunction,
@@ -16,6 +16,7 @@ pub enum Level {
     Product,
 }
 
+/// The relational operators.
 pub const RELATIONS: [BinaryOp; 6] = [
     BinaryOp::Eq,
     BinaryOp::Ne,
@@ -25,7 +26,7 @@ pub const RELATIONS: [BinaryOp; 6] = [
     BinaryOp::Ge,
 ];
 
-/// The operators between points.
+/// The binary operators that are written between points.
 pub const DOTTED: [BinaryOp; 10] = [
     BinaryOp::Eq,
     BinaryOp::Ne,
@@ -42,6 +43,7 @@ pub const DOTTED: [BinaryOp; 10] = [
 impl Level {
     ghost use Rattle.f77_exprs.specs.Grammar.{operators_of};
 
+    /// The operators of the level.
     pub fn operators(self) -> &'static [BinaryOp]
         ensures { result.now ≡ operators_of self }
     {
@@ -55,8 +57,8 @@ impl Level {
     }
 }
 
-/// The first of these operators that stands here, and what follows it.
-pub fn one_of<'a>(ops: &[BinaryOp], at: At<'a>) -> Option<(BinaryOp, At<'a>)>
+/// The first of these operators with which the rest begins, and what follows it; None where it begins with none.
+pub fn one_of<'a>(ops: &[BinaryOp], at: Cursor<'a>) -> Option<(BinaryOp, Cursor<'a>)>
     ensures { option_map (λ x. (x.0, state x.1)) result ≡ one_of ops.now (state at.entry) }
 {
     for op in ops {

@@ -2,18 +2,18 @@
 ghost use Rattle.std.specs.Prelude.{◌≡◌};
 ghost use Rattle.f77_exprs.specs.declared.unread.Unread.TheVariants.{Memory};
 
-use crate::At;
+use crate::Cursor;
 use std::alloc::{AllocError, AllocFailed};
 
 /// Why nothing was read: the text is not in the grammar, or there was no memory for its tree.
-#[derive(Debug, PartialEq, Eq, Drop)]
+#[derive(PartialEq, Eq, Drop)]
 pub enum Unread {
     Syntax,
     Memory,
 }
 
-/// What was read and where its reader stopped.
-pub type Reading<'a, T> = Result<(T, At<'a>), Unread>;
+/// What was read, and how far its reader is after it.
+pub type Reading<'a, T> = Result<(T, Cursor<'a>), Unread>;
 
 impl From<AllocError> for Unread {
     ghost from_gives = { λ _ e. e ≡ Memory };

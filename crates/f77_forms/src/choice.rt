@@ -12,8 +12,8 @@ use crate::refused::{REFUSED, Refused};
 use crate::words::{begins, is_digit, is_letter, rest_after};
 use fx_lists::Text;
 
-/// What the rules say of a statement.
-#[derive(Clone, Copy, Debug)]
+/// What the rules choose for a statement: a form, a keyword that the profile leaves out, or neither.
+#[derive(Clone, Copy)]
 pub enum Choice {
     Chosen(FormId),
     OutOfProfile(Refused),
@@ -129,7 +129,7 @@ pub fn form_of(table: &[Form], body: &Text) -> Option<FormId>
     }
 }
 
-/// The form that a statement has with `TABLE`. Takes no memory.
+/// The form that a statement has with `TABLE`; None where the rules choose none, or a keyword that is refused. Takes no memory.
 pub fn profile_form(body: &Text) -> Option<FormId>
     requires fits { length body.now < 2 ^ 28 }
     ensures defined { result ≡ statement_form body.now }
@@ -138,7 +138,8 @@ pub fn profile_form(body: &Text) -> Option<FormId>
     form_of(profile(), body)
 }
 
-/// The refused keyword that the rules choose for a statement with `TABLE`. Takes no memory.
+/// The refused keyword that the rules choose for a statement with `TABLE`; None where they choose a form, or where no form
+/// fits. Takes no memory.
 pub fn refused_keyword(body: &Text) -> Option<Refused>
     requires fits { length body.now < 2 ^ 28 }
     ensures { result ≡ statement_refused body.now }

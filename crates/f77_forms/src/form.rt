@@ -4,8 +4,8 @@ ghost use Rattle.std.specs.Prelude.{◌≡◌, IsTrue};
 ghost use Rattle.f77_forms.specs.Choice.{entries, no_word_twice};
 ghost use Rattle.f77_forms.specs.Profile.{profile};
 
-/// A form of statement.
-#[derive(Clone, Copy, Debug, PartialEq, Eq)]
+/// A form of statement of the profile: one of ANSI X3.9-1978 §7, or END DO.
+#[derive(Clone, Copy, PartialEq, Eq)]
 pub enum FormId {
     Program,
     Subroutine,
@@ -37,8 +37,8 @@ pub enum FormId {
     Read,
 }
 
-/// A keyword and the form that it begins. A form that is chosen otherwise has the empty keyword.
-#[derive(Clone, Copy, Debug)]
+/// A keyword, in capitals and without blanks, and the form that it begins. A form that is chosen otherwise has the empty keyword.
+#[derive(Clone, Copy)]
 pub struct Form {
     pub keyword: &'static str,
     pub id: FormId,
@@ -50,7 +50,7 @@ macro_rules! forms {
     };
 }
 
-/// The forms of the profile.
+/// The forms of the profile, each once.
 pub const TABLE: [Form; 28] = forms![
     "PROGRAM" = Program,
     "SUBROUTINE" = Subroutine,
@@ -82,7 +82,7 @@ pub const TABLE: [Form; 28] = forms![
     "READ" = Read,
 ];
 
-/// The table as a slice.
+/// `TABLE` as a slice; no keyword but the empty one is there twice.
 pub fn profile() -> &'static [Form]
     ensures defined { entries result.now ≡ profile }
     ensures unique { IsTrue (no_word_twice (entries result.now)) }

@@ -7,7 +7,7 @@ use crate::form::Form;
 use crate::refused::Refused;
 use crate::words::{begins, rest_after};
 
-/// A keyword, and when it stands at the front of a statement.
+/// A keyword, and the statements that it begins.
 pub trait Keyword {
     ghost use Rattle.std.specs.Prelude.{ℕ, Bool, List};
 
@@ -15,9 +15,11 @@ pub trait Keyword {
 
     ghost stands: { List ℕ → Self → Bool };
 
+    /// The keyword, in capitals and without blanks.
     fn word(&self) -> &'static str
         ensures { result.now ≡ word self.now };
 
+    /// Whether a stripped statement begins with the keyword and the keyword counts before what follows it.
     fn stands(&self, body: &[u8]) -> bool
         ensures { result ≡ stands body.now self.now };
 }
@@ -75,7 +77,7 @@ fn longer<K: Keyword + Copy>(a: Option<K>, b: Option<K>) -> Option<K>
     }
 }
 
-/// Of the keywords that stand at the front the longest, and of two such the first.
+/// The longest of the keywords that begin a statement, and of equally long ones the first; None where none does.
 #[tactic(auto, using(crate::proofs::LongestLemmas::longest_steps))]
 pub fn longest<K: Keyword + Copy>(keywords: &[K], body: &[u8]) -> Option<K>
     ensures { result ≡ longest K.word (K.stands body.now) keywords.now }

@@ -4,16 +4,16 @@ ghost use Rattle.std.specs.Prelude.{◌≡◌, ◌+◌, ◌<◌, ◌^◌, length
 ghost use Rattle.f77_forms.specs.Words.{slice_now};
 ghost use Rattle.f77_forms.specs.Outline.{step, is_outer, is_one_deep, has_comma, marks_of, rest_after_close, front};
 
-/// What stands before a character: how many parentheses opened and closed, and whether a constant is open.
-#[derive(Clone, Copy, Debug)]
+/// What precedes a character: how many parentheses opened and closed outside character constants, and whether a constant is open.
+#[derive(Clone, Copy)]
 pub struct Outline {
     pub opens: usize,
     pub closes: usize,
     pub quoted: bool,
 }
 
-/// Whether an `=` stands outside parentheses and constants, and a comma after it.
-#[derive(Clone, Copy, Debug)]
+/// Whether a statement has an `=` outside parentheses and character constants, and a comma outside them after the first such `=`.
+#[derive(Clone, Copy)]
 pub enum Marks {
     NoEqual,
     Equal,
@@ -97,7 +97,7 @@ fn has_comma(start: Outline, text: &[u8]) -> bool
     false
 }
 
-/// Of the first `=` outside, and the commas after it.
+/// The marks of a stripped statement.
 pub fn marks_of(text: &[u8]) -> Marks
     requires { length text.now < 2 ^ 63 }
     ensures { result ≡ marks_of front text.now }
@@ -117,7 +117,7 @@ pub fn marks_of(text: &[u8]) -> Marks
     Marks::NoEqual
 }
 
-/// What stands behind the parenthesis that closes the one at the front.
+/// What follows the parenthesis that closes the one at the front of a text; None where it is not closed.
 pub fn rest_after_close(text: &[u8]) -> Option<&[u8]>
     requires { length text.now < 2 ^ 63 }
     ensures { slice_now result ≡ rest_after_close front text.now }

@@ -38,11 +38,11 @@ pub enum Refused {
     OtherWrite,
     /// READ with another control part than `*`, `(*,*)` or `(5,*)`.
     OtherRead,
-    /// IF with labels behind the parentheses.
+    /// IF with labels after the parentheses.
     ArithmeticIf,
 }
 
-/// Those that are known by their keyword and what stands behind it: all but the arithmetic IF.
+/// Those that are known by their keyword and what follows it: all but the arithmetic IF.
 pub const REFUSED: [Refused; 25] = [
     Refused::Real,
     Refused::DoublePrecision,
@@ -99,7 +99,7 @@ fn reads_otherwise(rest: &[u8]) -> bool
 }
 
 impl Refused {
-    /// In capitals and without blanks.
+    /// The keyword, in capitals and without blanks.
     pub fn keyword(self) -> &'static str
         ensures { result.now ≡ refused_word self }
     {
@@ -133,7 +133,7 @@ impl Refused {
         }
     }
 
-    /// Whether the keyword is refused before this text.
+    /// Whether the keyword is refused before the text `rest`; never for the arithmetic IF, which is not known by its keyword.
     pub fn is_refused_before(self, rest: &[u8]) -> bool
         ensures { result ≡ is_refused_before self rest.now }
     {

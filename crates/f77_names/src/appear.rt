@@ -1,4 +1,5 @@
-//! The names that appear in expressions and executable statements, in the order of the text. Names of functions are none.
+//! The names that appear in expressions and executable statements, in the order of the text. Names of functions are left out. A
+//! name is added with its line where it is not there; `line` is that of the statement.
 ghost use Rattle.std.specs.Prelude.{◌≡◌, OnOk, map};
 ghost use Rattle.f77_ast.specs.Plain.{expr_tree, expr_trees};
 ghost use Rattle.f77_ast.specs.PlainStmt.{arm_tree, arm_trees, loop_tree, maybe_tree, stmt_tree, stmt_trees, what_tree};
@@ -12,7 +13,7 @@ use f77_ast::{Arm, Expr, Loop, Stmt, What};
 use fx_lists::{List, Text};
 use std::alloc::{AllocError as Memory, Global};
 
-/// Where names are added, and which names are functions.
+/// What is known while names are collected: the names of functions that are arrays, and the lines of statements.
 #[derive(Drop)]
 pub struct Sight<'a> {
     pub alloc: Global,
@@ -20,6 +21,7 @@ pub struct Sight<'a> {
     pub lines: &'a LineTable,
 }
 
+/// Adds a name, unless it stands for a function.
 pub fn see_name(sight: &Sight, name: &Text, line: u32, names: &mut Names) -> Result<(), Memory>
     ensures { OnOk result (map entry_tree names.new ≡ name_seen sight.now.arrays.now name.now line (map entry_tree names.old)) }
 {
@@ -29,6 +31,7 @@ pub fn see_name(sight: &Sight, name: &Text, line: u32, names: &mut Names) -> Res
     Ok(())
 }
 
+/// Adds the names of an expression.
 #[cycle(see_expr)]
 #[tactic(auto, using(f77_ast::proofs::Plainly::expr_calls))]
 pub fn see_expr(sight: &Sight, e: &Expr, line: u32, names: &mut Names) -> Result<(), Memory>
@@ -50,6 +53,7 @@ pub fn see_expr(sight: &Sight, e: &Expr, line: u32, names: &mut Names) -> Result
     }
 }
 
+/// Adds the names of a list of expressions.
 #[cycle(see_expr)]
 #[tactic(auto, using(f77_ast::proofs::Plainly::expr_items))]
 pub fn see_exprs(sight: &Sight, es: &List<Expr>, line: u32, names: &mut Names) -> Result<(), Memory>
@@ -61,6 +65,7 @@ pub fn see_exprs(sight: &Sight, es: &List<Expr>, line: u32, names: &mut Names) -
     Ok(())
 }
 
+/// Adds the names of an expression, where there is one.
 pub fn see_maybe(
     sight: &Sight,
     e: &Option<Expr>,
@@ -152,6 +157,8 @@ fn see_loop(sight: &Sight, l: &Loop, line: u32, names: &mut Names) -> Result<(),
     see_list(sight, &l.body, line, names)
 }
 
+/// Adds the names of a list of statements, each with the line of its own statement or part, or `line` where that is not known.
+/// Err also where an IF has 2^32 parts.
 #[cycle(see_statement)]
 #[tactic(auto, using(f77_ast::proofs::PlainlyStmt::list_calls))]
 pub fn see_list(

@@ -19,7 +19,7 @@ use fx_lists::{List, Text};
 use refusal_codes::{Code, Refusal, refuse_if};
 use std::alloc::{AllocError as Memory, Global};
 
-/// The names so far, and the first refusal.
+/// The names so far, and the first refusal of their declarations.
 #[derive(Drop)]
 pub struct Told {
     pub names: Names,
@@ -76,8 +76,8 @@ fn see_extents(
     Ok(())
 }
 
-/// What an item of EQUIVALENCE or DATA says of its name.
-#[derive(Clone, Copy, Debug)]
+/// What an item of EQUIVALENCE or DATA says of its name: nothing more, or that it is in DATA.
+#[derive(Clone, Copy)]
 pub enum Mention {
     Equivalent,
     Initial,
@@ -98,6 +98,8 @@ impl Told {
         self.found = refuse_if(twice, line, code, self.found);
     }
 
+    /// Adds the dummy arguments of a module, numbered from 1; `line` is that of the SUBROUTINE. One that is listed twice is refused
+    /// with `DeclaredTwice`. Err also where there are 2^32 - 1 of them.
     #[tactic(auto, using(crate::proofs::ToldLaws::steps))]
     pub fn tell_dummies(
         &mut self,
@@ -369,6 +371,8 @@ impl Told {
         }
     }
 
+    /// Adds the names of specification statements, and what these say of them; a second type or second bounds are refused with
+    /// `DeclaredTwice`, a second COMMON with `CommonTwice`. Err also where there are 2^32 statements.
     #[tactic(auto, using(crate::proofs::ToldLaws::steps))]
     pub fn tell_decls(&mut self, sight: &Sight, decls: &List<Decl>) -> Result<(), Memory>
         ensures { OnOk result (told_tree self.new ≡ decls_told sight.now.arrays.now (line_in sight.now.lines.now) (map decl_tree decls.now) 0 (told_tree self.old)) }

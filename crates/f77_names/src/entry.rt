@@ -8,34 +8,40 @@ use f77_constants::Constant;
 use f77_symbols::Bound;
 use fx_lists::{List, Text};
 
-/// Bounds, and the line of the statement that gives them.
+/// The bounds of an array, the first dimension first, and the line of the statement that gives them.
 #[derive(Debug, Drop)]
 pub struct Shape {
     pub line: u32,
     pub bounds: List<Bound>,
 }
 
-/// A name, and the line where it is first: its number among the dummies, its declared type, its bounds, the line of its
-/// COMMON statement, whether it is a PARAMETER and its value, and whether it is in SAVE and in DATA. Of two declarations
-/// the first counts.
+/// A name, and what the statements of its module say of it. Of two declarations the first counts; lines are numbered from 1.
 #[derive(Debug, Drop)]
 pub struct Entry {
     pub name: Text,
+    /// The line where the name is first.
     pub line: u32,
+    /// Its number among the dummies, from 1.
     pub dummy: Option<u32>,
+    /// Its declared type.
     pub scalar: Option<Scalar>,
+    /// Its bounds; None for a scalar.
     pub shape: Option<Shape>,
+    /// The line of its COMMON statement.
     pub common: Option<u32>,
     pub parameter: bool,
+    /// The value of a PARAMETER, where it is known.
     pub value: Option<Constant>,
+    /// Whether it is in SAVE by its own name.
     pub saved: bool,
+    /// Whether it is in DATA.
     pub initial: bool,
 }
 
-/// One thing that is said of a name.
-#[derive(Debug, Drop)]
+/// One property that a statement gives a name.
+#[derive(Drop)]
 pub enum Word {
-    /// Its number among the dummies.
+    /// Its number among the dummies, from 1.
     Dummy(u32),
     Type(Scalar),
     Bounds(Shape),
@@ -48,7 +54,7 @@ pub enum Word {
     Initial,
 }
 
-/// The first one stays; whether there was one.
+/// Sets a slot that is empty; a full one keeps what it has. Whether it was full.
 pub fn keep_first<T: Drop>(slot: &mut Option<T>, new: T) -> bool
     ensures first { slot.new ≡ or_this slot.old new }
     ensures twice { result ≡ is_some slot.old }
@@ -71,7 +77,7 @@ fn make_true(flag: &mut bool) -> bool
 }
 
 impl Entry {
-    /// A name of which nothing more is said.
+    /// A name of which nothing more is known.
     pub fn new(name: Text, line: u32) -> Entry
         ensures { entry_tree result ≡ fresh name line }
     {
@@ -99,7 +105,8 @@ impl Entry {
         before
     }
 
-    /// Says one thing more; whether such a thing was said before. Of a dummy, a type, bounds and COMMON the first counts.
+    /// Gives the name one more property; whether it had one of that kind before. Of a dummy number, a type, bounds and COMMON the
+    /// first counts, of a value the last.
     #[tactic(auto, using(crate::proofs::EntryLaws::words))]
     pub fn say(&mut self, word: Word) -> bool
         ensures entry { entry_tree self.new ≡ with_word word (entry_tree self.old) }

@@ -9,6 +9,7 @@ use fx_lists::{List, Text};
 use std::alloc::{AllocError as Memory, Global};
 use std::marker::Model;
 
+/// An intrinsic function of the profile.
 #[derive(Clone, Copy, Debug, PartialEq, Eq)]
 pub enum Function {
     Abs,
@@ -21,7 +22,7 @@ pub enum Function {
 }
 
 impl Function {
-    /// The function with a name.
+    /// The function with a name, in capitals; None where no function has it.
     pub fn by_name(name: &[u8]) -> Option<Function>
         ensures { result ≡ function_named name.now }
     {
@@ -58,7 +59,7 @@ impl Function {
         }
     }
 
-    /// Whether it takes so many arguments.
+    /// Whether a call may have `count` arguments.
     pub fn takes(self, count: usize) -> bool
         ensures { result ≡ takes self count }
     {
@@ -70,8 +71,8 @@ impl Function {
     }
 }
 
-/// The functions whose names are those of arrays, each once.
-#[derive(Debug, Drop)]
+/// The functions whose names are those of arrays, each once, in the order of the declarations.
+#[derive(Drop)]
 pub struct Arrays {
     named: List<Function>,
 }
@@ -157,7 +158,7 @@ impl Arrays {
         }
     }
 
-    /// Those of these specification statements.
+    /// The functions that these specification statements declare as arrays.
     #[tactic(auto, using(f77_ast::proofs::PlainlyDecl::decl_lists))]
     pub fn of(alloc: Global, decls: &List<Decl>) -> Result<Arrays, Memory>
         ensures { IfOk result (λ a. a ≡ arrays_named (map decl_tree decls.now)) }
@@ -171,7 +172,7 @@ impl Arrays {
         Ok(arrays)
     }
 
-    /// The function that a name stands for. Takes no memory.
+    /// The function that a name stands for; None where no function has the name, or an array has it. Takes no memory.
     #[tactic(auto, unfolding(crate::specs::Functions::function_of))]
     pub fn function_of(&self, name: &Text) -> Option<Function>
         ensures { result ≡ function_of self.now name.now }

@@ -9,7 +9,7 @@ use fx_lists::{List, Text};
 use std::alloc::{AllocError as Memory, Global};
 use std::marker::Model;
 
-/// The type that a name comes out with.
+/// The type of a name; `Real` also where IMPLICIT NONE gives it none. A name with it is refused.
 #[derive(Clone, Copy, Debug, PartialEq, Eq)]
 pub enum Kind {
     Int,
@@ -18,7 +18,7 @@ pub enum Kind {
 }
 
 /// The types of the letters A to Z.
-#[derive(Debug, Drop)]
+#[derive(Drop)]
 pub struct Kinds {
     of: Vec<Kind>,
 }
@@ -32,6 +32,7 @@ impl Model for Kinds {
     ghost view = { λ k. k.of.items };
 }
 
+/// A declared type.
 pub fn kind_of_scalar(scalar: Scalar) -> Kind
     ensures { result ≡ kind_of_scalar scalar }
 {
@@ -150,7 +151,8 @@ fn letter_kind(none: bool, letter: u8, decls: &List<Decl>) -> Kind
 }
 
 impl Kinds {
-    /// Those that the IMPLICIT statements give; of two for a letter the last counts.
+    /// The types that the IMPLICIT statements give the letters; of two for a letter the last counts. A letter without one has
+    /// INTEGER from I to N, else REAL, and REAL where there is an IMPLICIT NONE.
     pub fn of(alloc: Global, decls: &List<Decl>) -> Result<Kinds, Memory>
         ensures { IfOk result (λ k. k ≡ kinds_of (map decl_tree decls.now)) }
     {

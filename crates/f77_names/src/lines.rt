@@ -11,9 +11,9 @@ use std::alloc::{AllocError as Memory, Global};
 use std::collections::HashMap;
 use std::hash::Hash;
 
-/// What has a line of its own: the heading; a specification, by its place from 0; an executable statement, by its number; an
-/// ELSE IF, by the number of its IF and its place among the parts, from 0.
-#[derive(Clone, Copy, Debug, PartialEq, Eq)]
+/// What has a line of its own: PROGRAM or SUBROUTINE; a specification, by its place from 0; an executable statement, by its number
+/// from 1; an ELSE IF, by the number of its IF and its place among the parts, from 0.
+#[derive(Clone, Copy, PartialEq, Eq)]
 pub enum Sited {
     Title,
     Decl(u32),
@@ -21,7 +21,7 @@ pub enum Sited {
     ElseIf(u32, u32),
 }
 
-/// Lines by what stands there, each found in constant time.
+/// The first lines of the statements of a module, each found in constant time.
 #[derive(Drop)]
 pub struct LineTable {
     title: Option<u32>,
@@ -76,7 +76,7 @@ impl LineTable {
         }
     }
 
-    /// The lines of these spots; of two of one part the first counts.
+    /// The lines of these spots; of two of one part the first counts. ELSE, END IF, END DO and END have none.
     pub fn of(alloc: Global, spots: &[Spot]) -> Result<LineTable, Memory>
         ensures { IfOk result (λ t. line_in t ≡ lines_of spots.now) }
     {
@@ -99,7 +99,7 @@ impl LineTable {
         }
     }
 
-    /// The line of what stands there, or this one where none is known.
+    /// The line of a statement, or `line` where none is known. Takes no memory.
     pub fn line_or(&self, what: Sited, line: u32) -> u32
         ensures { result ≡ line_or (line_in self.now) what line }
     {

@@ -46,13 +46,14 @@ impl Names {
         }
     }
 
+    /// The names in the order of first appearance.
     pub fn as_slice(&self) -> &[Entry]
         ensures { result.now ≡ self.now }
     {
         self.entries.as_slice()
     }
 
-    /// The names alone. Takes no memory.
+    /// The names without their index, in the same order. Takes no memory.
     pub fn into_entries(self) -> Vec<Entry>
         ensures { result.items ≡ self }
     {
@@ -70,7 +71,7 @@ impl Names {
         }
     }
 
-    /// The place of a name, from 0.
+    /// The place of a name, from 0; None where the name is not there. Takes no memory.
     pub fn place(&self, name: &Text) -> Option<usize>
         ensures place { result ≡ place_in (map entry_tree self.now) name.now }
         ensures within { IfSome result (λ at. at < length self.now) }
@@ -78,6 +79,7 @@ impl Names {
         self.look_up(name)
     }
 
+    /// What is known of a name; None where the name is not there. Takes no memory.
     pub fn find(&self, name: &Text) -> Option<&Entry>
         ensures { option_map (λ e. entry_tree e.now) result ≡ find name.now (map entry_tree self.now) }
     {
@@ -87,6 +89,7 @@ impl Names {
         }
     }
 
+    /// Whether a name is there and has bounds. Takes no memory.
     pub fn is_array(&self, name: &Text) -> bool
         ensures { result ≡ has_shape name.now (map entry_tree self.now) }
     {
@@ -96,7 +99,8 @@ impl Names {
         }
     }
 
-    /// Adds a name at the end, unless it is there.
+    /// Adds a name at the end with its line, unless it is there. Err also where there are 2^32 - 1 names; the names are then as
+    /// before.
     pub fn see(&mut self, alloc: Global, name: &Text, line: u32) -> Result<(), Memory>
         ensures ok { OnOk result (map entry_tree self.new ≡ seen name.now line (map entry_tree self.old)) }
         ensures err { OnErr result (self.new ≡ self.old) }
@@ -110,7 +114,7 @@ impl Names {
         Ok(())
     }
 
-    /// One thing more is said of a name; whether such a thing was said before. A name that is not there gets none.
+    /// Gives a name one more property; whether it had one of that kind before. A name that is not there gets none. Takes no memory.
     pub fn say(&mut self, name: &Text, word: Word) -> bool
         ensures entries { map entry_tree self.new ≡ changed name.now (with_word word) (map entry_tree self.old) }
         ensures twice { result ≡ was_said_of word name.now (map entry_tree self.old) }
@@ -124,7 +128,7 @@ impl Names {
         }
     }
 
-    /// A PARAMETER gets its value.
+    /// Gives a PARAMETER its value; a name that is not there gets none. Takes no memory.
     pub fn set_value(&mut self, name: &Text, value: Constant)
         ensures { map entry_tree self.new ≡ changed name.now (with_value value) (map entry_tree self.old) }
     {

@@ -1,4 +1,4 @@
-//! The names of a module with their types, and the first refusal of what they are.
+//! The names of a module with their types, and the first refusal of their declarations.
 ghost use Rattle.std.specs.Prelude.{◌≡◌, IfOk, map};
 ghost use Rattle.f77_ast.specs.PlainDecl.{module_tree};
 ghost use Rattle.f77_names.specs.Entries.{entry_tree};
@@ -16,7 +16,7 @@ use fx_lists::Text;
 use refusal_codes::{Code, Refusal, refuse_if};
 use std::alloc::{AllocError as Memory, Global};
 
-/// The names, the types of the letters, and which names are functions.
+/// The names of a module, the types of the letters, and which names are functions.
 #[derive(Drop)]
 pub struct NameTable {
     pub names: Names,
@@ -25,7 +25,7 @@ pub struct NameTable {
 }
 
 impl NameTable {
-    /// The type of a name: a declared one, or that of its first letter.
+    /// The type of a name, which need not be there: a declared one, or that of its first letter. Takes no memory.
     #[tactic(auto, unfolding(crate::specs::Tables::kind_in))]
     pub fn kind_of(&self, name: &Text) -> Kind
         ensures { result ≡ kind_in (table_tree self.now) name.now }
@@ -36,7 +36,7 @@ impl NameTable {
         }
     }
 
-    /// The type of an entry: a declared one, or that of its first letter.
+    /// The type of an entry: a declared one, or that of its first letter. Takes no memory.
     #[tactic(auto, unfolding(crate::specs::Tables::entry_kind))]
     pub fn entry_kind(&self, entry: &Entry) -> Kind
         ensures { result ≡ entry_kind (table_tree self.now).kinds (entry_tree entry.now) }
@@ -47,14 +47,14 @@ impl NameTable {
         }
     }
 
-    /// The function that a name stands for.
+    /// The intrinsic function that a name stands for; None where it stands for none. Takes no memory.
     pub fn function_of(&self, name: &Text) -> Option<Function>
         ensures { result ≡ function_of (table_tree self.now).arrays name.now }
     {
         self.arrays.function_of(name)
     }
 
-    /// The names alone. Takes no memory.
+    /// The names alone, in the order of first appearance, dummies first. Takes no memory.
     pub fn into_entries(self) -> Vec<Entry>
         ensures { map entry_tree result.items ≡ (table_tree self).entries }
     {
@@ -115,7 +115,8 @@ fn told_of(
     Ok(told)
 }
 
-/// The names of a module, dummies first, and the first refusal of what they are.
+/// The names of a module in the order of first appearance, dummies first, and the first refusal of them: a second declaration,
+/// `RealName`, or a dummy or PARAMETER in COMMON. A line that `lines` does not have is 0, or that of the statement around.
 pub fn table_of(
     alloc: Global,
     lines: &LineTable,

@@ -6,7 +6,7 @@ use Rattle.std.proofs.lemmas.List.Sums.{sum_by-cons}
 use Rattle.refusal_codes.specs.declared.code.Code.{Code}
 use Rattle.fixed_form.specs.declared.line.Line.{Line}
 use Rattle.fixed_form.specs.declared.line.Lines.{Lines}
-use Rattle.fixed_form.specs.Characters.{is_space, folded}
+use Rattle.fixed_form.specs.Characters.{is_space, upper_case}
 use Rattle.fixed_form.specs.TextLines.{text_lines, lines_of, onto_first, without_returns}
 use Rattle.fixed_form.specs.Cards.{front, card, columns, is_comment, is_dropped, is_initial, label_field}
 use Rattle.fixed_form.specs.Body.{stripped, quoted_after_byte}
@@ -26,7 +26,7 @@ each_short false false xs ys zs n h i j = j
 stripped-short : (q : Bool) (bs : List ℕ) → length (stripped q bs) ≤ length bs
 stripped-short q [] = omega arith
 stripped-short q (b ∷ bs) =
-    each_short q (is_space b) (b ∷ stripped (quoted_after_byte q b) bs) (stripped q bs) (folded b ∷ stripped (quoted_after_byte q b) bs) (length (b ∷ bs))
+    each_short q (is_space b) (b ∷ stripped (quoted_after_byte q b) bs) (stripped q bs) (upper_case b ∷ stripped (quoted_after_byte q b) bs) (length (b ∷ bs))
     (omega (arith, stripped-short (quoted_after_byte q b) bs))
     (omega (arith, stripped-short q bs))
     (omega (arith, stripped-short (quoted_after_byte q b) bs))

@@ -34,12 +34,12 @@ keyword_of RealConstant = []
 keyword_of NumberTooBig = []
 keyword_of NameTooLong = []
 
-abbrev pub refused : ℕ → Cause → Refused
-refused line cause = record { line = line; code = number_of (code_of cause); keyword = keyword_of cause }
+abbrev pub refusal_at : ℕ → Cause → Refused
+refusal_at line cause = record { line = line; code = number_of (code_of cause); keyword = keyword_of cause }
 
 abbrev pub read_as : Line → Result PhraseTree Cause → Result StatementTree Refused
 read_as line (Ok p) = Ok (record { first = line.first; label = line.label; deep = is_deep line.body; comments = line.comments; phrase = p })
-read_as line (Err cause) = Err (refused line.first cause)
+read_as line (Err cause) = Err (refusal_at line.first cause)
 
 abbrev pub statement_of : Line → Result StatementTree Refused
 statement_of line = read_as line (phrase_of line.body)

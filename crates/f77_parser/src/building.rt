@@ -170,7 +170,7 @@ impl Progress {
         }
     }
 
-    /// One statement more.
+    /// Adds the next statement to the module. Err also where there are 2^32 - 1 executable statements, specifications or parts.
     pub fn add_statement(&mut self, alloc: Global, statement: Statement) -> Result<(), Memory>
         ensures { IfOk result (λ _. so_far self.new ≡ add_statement (statement_tree statement) (so_far self.old)) }
     {

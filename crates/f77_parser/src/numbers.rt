@@ -3,7 +3,7 @@ ghost use Rattle.std.specs.Prelude.{◌≡◌, ◌+◌, IfOk};
 
 use std::alloc::AllocError as Memory;
 
-/// The number after a number. There are never so many statements that it is none of 32 bits.
+/// The number after a number; Err at 2^32 - 1, which so many statements never reach.
 pub fn next(number: u32) -> Result<u32, Memory>
     ensures { IfOk result (λ n. n ≡ number + 1) }
 {
@@ -13,7 +13,7 @@ pub fn next(number: u32) -> Result<u32, Memory>
     Ok(number + 1)
 }
 
-/// A place in a list. No list is so long that it is none of 32 bits.
+/// A place in a list in 32 bits; Err from 2^32 - 1 on, for which no list is long enough.
 pub fn place_of(place: usize) -> Result<u32, Memory>
     ensures { IfOk result (λ n. n ≡ place) }
 {

@@ -1,4 +1,4 @@
-//! What the statements of a module made so far.
+//! The module that is built from the statements so far.
 ghost use Rattle.std.specs.Prelude.{◌≡◌, ◌++◌, [], ◌∷◌, IfOk, map};
 ghost use Rattle.f77_ast.specs.Trees.{stmt, logical_if, arm};
 ghost use Rattle.f77_ast.specs.Plain.{expr_tree};
@@ -14,8 +14,8 @@ use fx_lists::{List, Text};
 use std::alloc::{AllocError as Memory, Global};
 use std::mem;
 
-/// The heading of a module.
-#[derive(Debug, Drop)]
+/// The heading of a module, as in `Module`.
+#[derive(Drop)]
 pub struct Heading {
     pub name: Text,
     pub main: bool,
@@ -23,16 +23,16 @@ pub struct Heading {
     pub dummies: List<Text>,
 }
 
-/// What opened a block, and what stands in it before the open list.
-#[derive(Debug, Drop)]
+/// What opened a block, and the parts of it before the open list.
+#[derive(Drop)]
 pub enum Opening {
     Loop(DoHead),
     /// The parts of the block IF that are closed, and the test of the open one, None in its ELSE.
     Branches(List<Arm>, Option<Expr>),
 }
 
-/// An open block: its statement's number and label, and what stands before it in its list.
-#[derive(Debug, Drop)]
+/// An open block: the number and label of its statement, and the statements before it in its list.
+#[derive(Drop)]
 pub struct Around {
     pub id: StmtId,
     pub label: Option<u32>,
@@ -40,22 +40,23 @@ pub struct Around {
     pub opening: Opening,
 }
 
-/// What the statements of a module made so far.
-#[derive(Debug, Drop)]
+/// The module that is built from the statements so far.
+#[derive(Drop)]
 pub struct Progress {
     pub heading: Heading,
     pub decls: List<Decl>,
     /// How many executable statements there were.
     pub count: u32,
+    /// The lines of the statements, in the order of the text.
     pub spots: List<Spot>,
-    /// The open list.
+    /// The statements of the innermost open block since its last part, or of the module where no block is open.
     pub list: List<Stmt>,
     /// The open blocks, the innermost first.
     pub around: Stack<Around>,
 }
 
-/// What comes before an executable statement: its number, its label, its line and its comments.
-#[derive(Debug, Drop)]
+/// What precedes a statement: its first line, from 1, its label, and its comments.
+#[derive(Drop)]
 pub struct Front {
     pub first: u32,
     pub label: Option<u32>,
@@ -63,7 +64,7 @@ pub struct Front {
 }
 
 impl Progress {
-    /// A part of the module stood at a line.
+    /// Records the line of a part of the module.
     #[tactic(auto, unfolding(crate::specs::SoFar::add_spot))]
     pub fn add_spot(&mut self, part: Part, first: u32, comments: List<Text>) -> Result<(), Memory>
         ensures { IfOk result (λ _. so_far self.new ≡ add_spot part first comments (so_far self.old)) }
@@ -75,7 +76,7 @@ impl Progress {
         })
     }
 
-    /// The next executable statement stands in the open list.
+    /// Adds the next executable statement to the open list.
     pub fn add_executable(&mut self, front: Front, what: What) -> Result<(), Memory>
         ensures { IfOk result (λ _. so_far self.new ≡ add_executable front.first front.label front.comments (what_tree what) (so_far self.old)) }
     {
@@ -90,7 +91,8 @@ impl Progress {
         self.add_spot(Part::Stmt(id), first, comments)
     }
 
-    /// A logical IF and the statement in it, which is an executable statement too.
+    /// Adds a logical IF to the open list. The statement in it has the next number after that of the IF, and no label (ANSI
+    /// X3.9-1978 §11.5).
     pub fn add_logical_if(
         &mut self,
         alloc: Global,
@@ -118,7 +120,8 @@ impl Progress {
         self.add_spot(Part::Stmt(within), first, List::new(alloc))
     }
 
-    /// The next executable statement opens a block.
+    /// Opens a block with the next executable statement. The statements of the open list are kept as those before the block, and a
+    /// new list is open.
     pub fn open_block(
         &mut self,
         alloc: Global,
@@ -147,12 +150,12 @@ impl Progress {
         self.add_spot(Part::Stmt(id), first, comments)
     }
 
-    /// A block stands before the open ones.
+    /// Puts an open block inside the others, as the innermost.
     pub fn add_around(&mut self, alloc: Global, block: Around) -> Result<(), Memory>
         ensures { IfOk result (λ _. self.new ≡ record self.old { around = block ∷ self.old.around }) }
     {
         let around = mem::replace(&mut self.around, Stack::new(alloc));
-        self.around = around.pushed(block)?;
+        self.around = around.with_first(block)?;
         Ok(())
     }
 
@@ -172,7 +175,7 @@ impl Progress {
         self.list.push(Stmt { id, label, what })
     }
 
-    /// The innermost DOs end whose last statement has this label.
+    /// Ends the innermost DOs as long as their last statement is to have this label (§11.10).
     pub fn end_loops(&mut self, alloc: Global, label: u32) -> Result<(), Memory>
         ensures { IfOk result (λ _. so_far self.new ≡ end_loops label (so_far self.old)) }
     {
@@ -185,7 +188,7 @@ impl Progress {
         Ok(())
     }
 
-    /// The innermost DOs end whose last statement has the label of a statement.
+    /// Ends the innermost DOs as long as their last statement is to have the label; without a label nothing ends.
     pub fn end_loops_at(&mut self, alloc: Global, label: Option<u32>) -> Result<(), Memory>
         ensures { IfOk result (λ _. so_far self.new ≡ end_loops_at label (so_far self.old)) }
     {
@@ -195,7 +198,7 @@ impl Progress {
         }
     }
 
-    /// The innermost block ends at a statement of its own.
+    /// Ends the innermost block, where there is one, at an END IF or END DO on this line.
     pub fn close_block(&mut self, first: u32, comments: List<Text>) -> Result<(), Memory>
         ensures { IfOk result (λ _. so_far self.new ≡ close_block first comments (so_far self.old)) }
     {
@@ -224,7 +227,7 @@ fn logical_if(
     Ok(Stmt { id, label, what })
 }
 
-/// The parts of a block IF, with one more.
+/// The parts of a block IF, with one more at the end.
 #[tactic(auto, using(crate::proofs::SoFarLemmas::arms))]
 pub fn add_arm(arms: List<Arm>, test: Expr, body: List<Stmt>) -> Result<List<Arm>, Memory>
     ensures { IfOk result (λ all. map arm_tree all ≡ map arm_tree arms ++ arm (expr_tree test) (stmts_of (map stmt_tree body)) ∷ []) }

@@ -18,7 +18,7 @@ use fixed_form::Lines;
 use fx_lists::{List, Text};
 use std::alloc::{AllocError as Memory, Global};
 
-/// The modules of a text in their order.
+/// The modules of a text with the lines of their statements, in the order of the text.
 pub type ModuleTrees = List<Parsed>;
 
 fn no_statements(alloc: Global) -> Result<Progress, Memory>
@@ -162,9 +162,9 @@ fn modules_of(
     Ok(done)
 }
 
-/// The modules of a text, or its first refusal. Statements by themselves come before the structure of any module, and in
-/// a module the earliest line and there the lowest number. What stands behind the last END is no module. The statements
-/// of a text of at most 4,000,000 bytes have fewer than 2^28 characters.
+/// The modules of a text. Err is its first refusal, or lack of memory: statements by themselves come before the structure of any
+/// module, then the first module with a fault, and in it the earliest line and there the lowest code. What follows the last END is
+/// no module. The statements of a text of at most 4,000,000 bytes have fewer than 2^28 characters.
 #[tactic(auto, unfolding(crate::specs::Modules::parse_of))]
 pub fn parse(alloc: Global, lines: &Lines) -> Result<ModuleTrees, ParseRefusal>
     requires { characters lines.now < 2 ^ 28 }

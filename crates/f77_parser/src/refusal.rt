@@ -6,10 +6,10 @@ use fx_lists::Text;
 use std::alloc::{AllocError, AllocFailed};
 use thiserror::Error;
 
-/// Why there are no modules.
+/// Why there are no modules: a refusal, or lack of memory.
 #[derive(Debug, Drop, Error)]
 pub enum ParseRefusal {
-    /// The first line of the statement, from 1, the number of the cause, 10 to 23, and for 11 the keyword.
+    /// The first line of the statement, from 1; the number of the code, 10 to 23; for code 11 the keyword, else no text.
     #[error("line {0}: {1}")]
     At(u32, u32, Text),
     #[error("out of memory")]

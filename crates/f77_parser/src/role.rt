@@ -1,4 +1,4 @@
-//! What a statement is in its module.
+//! The part that a statement has in its module.
 ghost use Rattle.std.specs.Prelude.{◌≡◌};
 ghost use Rattle.f77_ast.specs.PlainStmt.{what_tree};
 ghost use Rattle.f77_statements.specs.Phrases.{phrase_tree};
@@ -8,7 +8,7 @@ use f77_ast::What;
 use f77_statements::Phrase;
 use f77_structure::{Action, Role};
 
-/// What an executable statement does.
+/// What an executable statement does that opens, divides or ends no block, as far as structure needs it.
 #[tactic(auto, using(f77_ast::proofs::PlainlyStmt::what_cases))]
 pub fn action_of(what: &What) -> Action
     ensures { result ≡ action_of (what_tree what.now) }
@@ -28,7 +28,7 @@ pub fn action_of(what: &What) -> Action
     }
 }
 
-/// What a statement is in its module.
+/// The part that a statement has in its module.
 pub fn role_of(phrase: &Phrase) -> Role
     ensures { result ≡ role_of (phrase_tree phrase.now) }
 {

@@ -2,7 +2,7 @@
 ghost use Rattle.std.specs.Prelude.{◌≡◌, ◌<◌, ◌^◌, [], length, IfOk, map, sum_by};
 ghost use Rattle.f77_statements.specs.Phrases.{phrase_tree};
 ghost use Rattle.f77_parser.specs.Gives.{Gives};
-ghost use Rattle.f77_parser.specs.Statements.{statement_tree, keyword_of, refused, statement_of, all_read, mark_of, marks_of, length_of};
+ghost use Rattle.f77_parser.specs.Statements.{statement_tree, keyword_of, refusal_at, statement_of, all_read, mark_of, marks_of, length_of};
 
 use crate::refusal::ParseRefusal;
 use crate::role::role_of;
@@ -13,14 +13,14 @@ use fx_lists::{List, Text};
 use std::alloc::{AllocError as Memory, Global};
 
 /// A statement that was read by itself.
-#[derive(Debug, Drop)]
+#[derive(Drop)]
 pub struct Statement {
-    /// The number of its first line, from 1.
+    /// The number of its first line in the text, from 1.
     pub first: u32,
     pub label: Option<u32>,
-    /// Whether its parentheses stand too deep in one another.
+    /// Whether more than 64 of its parentheses are open at once.
     pub deep: bool,
-    /// The comments before it.
+    /// The comments before it, in the order of the text.
     pub comments: List<Text>,
     pub phrase: Phrase,
 }
@@ -39,7 +39,7 @@ impl Statement {
     }
 }
 
-/// A copy of texts.
+/// A copy of a list of texts.
 #[tactic(auto, using(crate::proofs::StatementLemmas::copies))]
 pub fn copy_texts(texts: &List<Text>) -> Result<List<Text>, Memory>
     ensures { IfOk result (λ copy. copy ≡ texts.now) }
@@ -59,8 +59,8 @@ fn keyword_of(alloc: Global, cause: Cause) -> Result<Text, Memory>
     }
 }
 
-fn refused(alloc: Global, line: u32, cause: Cause) -> ParseRefusal
-    ensures { Gives statement_tree (Err result) (Err (refused line cause)) }
+fn refusal_at(alloc: Global, line: u32, cause: Cause) -> ParseRefusal
+    ensures { Gives statement_tree (Err result) (Err (refusal_at line cause)) }
 {
     match keyword_of(alloc, cause) {
         Ok(keyword) => ParseRefusal::At(line, cause.code().number(), keyword),
@@ -75,7 +75,7 @@ fn statement_of(alloc: Global, line: &Line) -> Result<Statement, ParseRefusal>
 {
     match phrase_of(alloc, &line.body) {
         Err(Refusal::Memory) => Err(ParseRefusal::Memory),
-        Err(Refusal::Because(cause)) => Err(refused(alloc, line.first, cause)),
+        Err(Refusal::Because(cause)) => Err(refusal_at(alloc, line.first, cause)),
         Ok(phrase) => Ok(Statement {
             first: line.first,
             label: line.label,
@@ -86,7 +86,7 @@ fn statement_of(alloc: Global, line: &Line) -> Result<Statement, ParseRefusal>
     }
 }
 
-/// All statements, or the first that is refused.
+/// All statements in the order of the text, each read by itself. Err is the first that is refused, or lack of memory.
 pub fn all_read(alloc: Global, lines: &[Line]) -> Result<List<Statement>, ParseRefusal>
     requires { sum_by length_of lines.now < 2 ^ 28 }
     ensures { Gives (map statement_tree) result (all_read [] lines.now) }
@@ -103,7 +103,7 @@ pub fn all_read(alloc: Global, lines: &[Line]) -> Result<List<Statement>, ParseR
     Ok(done)
 }
 
-/// The statements of a module as far as structure asks.
+/// The marks of the statements of a module, in the order of the text.
 pub fn marks_of(alloc: Global, statements: &[Statement]) -> Result<List<Mark>, Memory>
     ensures { IfOk result (λ marks. marks ≡ marks_of (map statement_tree statements.now)) }
 {

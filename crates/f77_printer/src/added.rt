@@ -12,14 +12,16 @@ use fx_lists::{List, Text};
 use std::alloc::{AllocError as Memory, Global};
 use std::collections::HashMap;
 
-/// A line to come before a statement, by its number, or with 0 before the first part of the module.
-#[derive(Debug, PartialEq, Eq, Drop)]
+/// A line, without LF, to write before an executable statement, by its number from 1, or before the first part of the module,
+/// by 0.
+#[derive(PartialEq, Eq, Drop)]
 pub struct Added {
     pub before: StmtId,
     pub line: Text,
 }
 
-/// The lines that are added: at the first part of the module, and at other statements.
+/// The added lines, each ended by LF: the first part of the module, the lines before it, and the lines before other statements
+/// by their numbers.
 #[derive(Drop)]
 pub struct Lines {
     pub first: Part,
@@ -27,7 +29,7 @@ pub struct Lines {
     pub others: HashMap<u32, Text>,
 }
 
-/// What is added at a statement that is not the first part.
+/// The lines that are added before a statement that is not the first part; no bytes for other parts.
 pub fn other_lines(others: &HashMap<u32, Text>, here: Here) -> &[u8]
     ensures { result.now ≡ other_text others.now (here_part here) }
 {
@@ -45,7 +47,7 @@ pub fn other_lines(others: &HashMap<u32, Text>, here: Here) -> &[u8]
     }
 }
 
-/// What is added before a part.
+/// The lines that are added before a part, also where it is the first; no bytes where none are.
 #[tactic(auto, unfolding(crate::specs::Lines::lines_of))]
 pub fn lines_at(lines: &Lines, here: Here) -> &[u8]
     ensures { result.now ≡ lines_of lines.now (here_part here) }
@@ -102,7 +104,7 @@ fn add(alloc: Global, lines: &mut Lines, added: &Added) -> Result<(), Memory>
     }
 }
 
-/// The lines by their parts, where this one is the first part of the module.
+/// The added lines by the parts that they come before, in the order of the list; `first` is the first part of the module.
 pub fn lines_by_part(alloc: Global, first: Part, added: &List<Added>) -> Result<Lines, Memory>
     ensures { IfOk result (λ l. lines_of l ≡ added_text first added.now) }
 {

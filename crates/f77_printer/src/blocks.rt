@@ -19,7 +19,7 @@ use f77_ast::{Arm, Expr, Loop, Stmt, StmtId, What};
 use fx_lists::{List, Text};
 use std::alloc::{AllocError as Memory, Global};
 
-/// What stands before a part.
+/// Appends what comes before a part: its comments, then the lines that are added.
 pub fn put_start(page: &mut Page<'_>, lines: &Lines, here: Here) -> Result<(), Memory>
     ensures { OnOk result
         (page_tree page.new ≡ with_start (lines_of lines.now) (here_part here) (page_tree page.old)) }
@@ -28,7 +28,7 @@ pub fn put_start(page: &mut Page<'_>, lines: &Lines, here: Here) -> Result<(), M
     put(page, lines_at(lines, here))
 }
 
-/// A line of these bytes, without a label.
+/// Appends the lines of a statement without a label, of which these bytes are the text.
 pub fn put_words(alloc: Global, page: &mut Page<'_>, words: &[u8]) -> Result<(), Memory>
     ensures { OnOk result (page_tree page.new ≡ with_line None words.now (page_tree page.old)) }
 {
@@ -206,7 +206,7 @@ fn put_else(
     put_statements(alloc, page, lines, body)
 }
 
-/// Statements one after another.
+/// Appends statements one after another, each with what comes before it, its own lines, and the blocks in it.
 #[cycle(put)]
 #[tactic(auto, using(f77_ast::proofs::PlainlyStmt::list_steps))]
 pub fn put_statements(

@@ -38,7 +38,7 @@ fn write_high(alloc: Global, out: &mut Text, high: &Option<Expr>) -> Result<(), 
     }
 }
 
-/// What is written of a part of a specification statement.
+/// An item of a list in a specification statement; `text` is what is written of it.
 pub trait Written {
     ghost use Rattle.std.specs.Prelude.{List, ℕ};
 
@@ -49,7 +49,7 @@ pub trait Written {
         ensures { OnOk result (out.new ≡ out.old ++ text self.now) };
 }
 
-/// Parts joined by commas.
+/// Appends the texts of items, joined by commas.
 #[tactic(auto, using(crate::proofs::TextLemmas::joined_steps))]
 pub fn write_joined<T: Written>(
     alloc: Global,
@@ -341,7 +341,7 @@ fn write_equivalence(alloc: Global, out: &mut Text, groups: &List<List<Expr>>) -
     write_joined(alloc, out, groups)
 }
 
-/// Appends the text of a specification statement, from column 7 on.
+/// Appends the text of a specification statement, from column 7 on, its keyword included.
 #[tactic(auto, using(crate::proofs::TextLemmas::decl_steps))]
 pub fn write_decl(alloc: Global, out: &mut Text, decl: &Decl) -> Result<(), Memory>
     ensures { OnOk result (out.new ≡ out.old ++ decl_text (decl_tree decl.now)) }

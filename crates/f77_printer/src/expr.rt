@@ -21,7 +21,7 @@ fn write_int(alloc: Global, out: &mut Text, n: i32) -> Result<(), Memory>
     out.append(text.as_bytes())
 }
 
-/// A character constant's text, an apostrophe in it twice.
+/// Appends the characters of a character constant, each apostrophe twice, without the apostrophes that enclose it.
 #[tactic(auto, using(crate::proofs::TextLemmas::char_steps))]
 pub fn write_chars(out: &mut Text, text: &Text) -> Result<(), Memory>
     ensures { OnOk result (out.new ≡ out.old ++ doubled text.now) }
@@ -35,7 +35,7 @@ pub fn write_chars(out: &mut Text, text: &Text) -> Result<(), Memory>
     Ok(())
 }
 
-/// Appends the text of an expression.
+/// Appends the text of an expression. No parentheses are added to those of the tree.
 #[cycle(write)]
 #[tactic(auto, using(f77_ast::proofs::Plainly::expr_appends))]
 pub fn write_expr(alloc: Global, out: &mut Text, e: &Expr) -> Result<(), Memory>

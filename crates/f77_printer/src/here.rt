@@ -5,7 +5,7 @@ ghost use Rattle.f77_printer.specs.Here.{here_part};
 
 use f77_ast::{Part, StmtId};
 
-/// A part, with a place among any number of them.
+/// A part of a module as it is written: as `Part`, with places, from 0, that need not fit 32 bits.
 #[derive(Clone, Copy)]
 pub enum Here {
     Title,
@@ -17,7 +17,7 @@ pub enum Here {
     End,
 }
 
-/// Whether a part is this one.
+/// Whether both are the same part.
 pub fn stands_at(here: Here, part: Part) -> bool
     ensures { result ≡ is_part (here_part here) part }
 {

@@ -68,7 +68,9 @@ fn strip(alloc: Global, text: &[u8]) -> Result<Text, Memory>
     Ok(kept)
 }
 
-/// Appends the lines of a statement: one that twenty lines do not hold is stripped of its blanks first.
+/// Appends the lines of a statement in fixed form (ANSI X3.9-1978, §3.2), each ended by LF: its label from column 1 on, 66
+/// characters of its text from column 7 on, `&` in column 6 of a continuation line. A text of more than 1320 characters, which
+/// twenty lines do not hold, first loses its blanks outside character constants.
 pub fn write_lines(
     alloc: Global,
     out: &mut Text,

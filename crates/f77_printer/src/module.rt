@@ -158,9 +158,10 @@ fn first_written(module: &Module) -> Part
     }
 }
 
-/// The written text of a module, each part behind its comments and the lines that are added before it, in the order of their
-/// list. A line for no executable statement with lines of its own is left out. Comments are taken from the spots in their
-/// order: where these name just the parts of the module, in the order of the text, every comment is written.
+/// The written text of a module, each part after its comments and the lines that are added before it, in the order of their
+/// list. A line whose number is of no executable statement, or of one inside a logical IF, is left out. Comments are taken from
+/// the spots in their order: where these are just the parts of the module, in the order of the text, every comment is written.
+/// The closing comments come last.
 pub fn plain(
     alloc: Global,
     places: &Places,

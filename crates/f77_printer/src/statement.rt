@@ -90,7 +90,8 @@ fn write_label_number(alloc: Global, out: &mut Text, label: u32) -> Result<(), M
     out.append(text.as_bytes())
 }
 
-/// Appends the text of a statement's own line, from column 7 on: of a block IF its first test, of a DO its expressions.
+/// Appends the text of a statement, from column 7 on, without its label and its blocks: of a block IF the first test, of a DO
+/// its variable and parameters, of a logical IF also its statement.
 #[tactic(auto, using(crate::proofs::TextLemmas::what_steps))]
 pub fn write_statement(alloc: Global, out: &mut Text, what: &What) -> Result<(), Memory>
     ensures { OnOk result (out.new ≡ out.old ++ what_text (what_tree what.now)) }

@@ -1,4 +1,4 @@
-//! What a statement may read and write.
+//! The effects of a statement or a module.
 ghost use Rattle.std.specs.Prelude.{◌≡◌, ◌||◌, IfOk};
 ghost use Rattle.f77_results.specs.Effects.{no_effect, unite};
 
@@ -7,9 +7,9 @@ use f77_symbols::Variable;
 use fx_lists::List;
 use std::alloc::{AllocError as Memory, Global};
 
-/// The variables that may be read and written, in order, whether input is read or output written, and whether a STOP may be
-/// reached.
-#[derive(Debug, PartialEq, Eq, Drop)]
+/// The variables that may be read and those that may be written, each list in `order` and without repeats; whether input may be
+/// read or output written; and whether a STOP may be reached.
+#[derive(PartialEq, Eq, Drop)]
 pub struct EffectSet {
     pub reads: List<Variable>,
     pub writes: List<Variable>,
@@ -39,6 +39,7 @@ fn copy_variables(alloc: Global, variables: &List<Variable>) -> Result<List<Vari
     Ok(made)
 }
 
+/// A copy of these effects.
 pub fn copy_effect(alloc: Global, effect: &EffectSet) -> Result<EffectSet, Memory>
     ensures { IfOk result (λ copy. copy ≡ effect.now) }
 {
@@ -52,7 +53,8 @@ pub fn copy_effect(alloc: Global, effect: &EffectSet) -> Result<EffectSet, Memor
     })
 }
 
-/// The effects of both.
+/// The effects of both. The lists are in `order` and without repeats where those of both are. Linear in the lengths of the
+/// lists.
 pub fn unite(alloc: Global, a: &EffectSet, b: &EffectSet) -> Result<EffectSet, Memory>
     ensures { IfOk result (λ both. both ≡ unite a.now b.now) }
 {

@@ -1,4 +1,4 @@
-//! What is known of the modules that a module calls.
+//! The summaries of the modules that a module calls.
 ghost use Rattle.std.specs.Prelude.{◌≡◌, ℕ, List, None, Some, map, IfOk, OnErr, if◌then◌else◌, bytes_eq, option_copied, option_map};
 ghost use Rattle.std.specs.HashMap.{IsUnchanged};
 ghost use Rattle.f77_symbols.specs.Symbols.{symbol_tree, bound_tree};
@@ -11,7 +11,7 @@ use fx_lists::{List, Text};
 use std::alloc::{AllocError as Memory, Global};
 use std::collections::HashMap;
 
-/// The symbols of a module, and what an analysis says of it to its callers.
+/// The symbols of a module, and what an analysis says of the module to its callers.
 #[derive(Drop)]
 pub struct Summary<T> {
     pub symbols: Symbols,
@@ -74,7 +74,7 @@ fn copy_symbol(alloc: Global, symbol: &Symbol) -> Result<Symbol, Memory>
     })
 }
 
-/// A copy of a table of symbols.
+/// A copy of a table of symbols, with the same numbers.
 pub fn copy_symbols(alloc: Global, symbols: &Symbols) -> Result<Symbols, Memory>
     ensures { IfOk result (λ copies. map symbol_tree copies ≡ map symbol_tree symbols.now) }
 {
@@ -110,7 +110,7 @@ impl<T: Drop> Summaries<T> {
         }
     }
 
-    /// The summary of the module of a name.
+    /// The summary of the module of a name; None where none was added.
     pub fn get(&self, name: &Text) -> Option<&Summary<T>>
         ensures { option_map summary_tree (option_copied result) ≡ summary_in self.now name.now }
     {

@@ -8,6 +8,7 @@ use fx_lists::List;
 use std::alloc::{AllocError as Memory, Global};
 use std::cmp::Ordering;
 
+/// A copy of a variable.
 pub fn copy_variable(v: &Variable) -> Result<Variable, Memory>
     ensures { IfOk result (λ copy. copy ≡ v.now) }
 {
@@ -18,7 +19,7 @@ pub fn copy_variable(v: &Variable) -> Result<Variable, Memory>
     }
 }
 
-/// Adds copies of variables at the end.
+/// Adds copies of variables at the end, in their order.
 pub fn add_copies(made: &mut List<Variable>, variables: &[Variable]) -> Result<(), Memory>
     ensures { IfOk result (λ _. made.new ≡ made.old ++ variables.now) }
 {
@@ -30,7 +31,7 @@ pub fn add_copies(made: &mut List<Variable>, variables: &[Variable]) -> Result<(
     Ok(())
 }
 
-/// The variables of both lists in one, in order where both are in order. Takes time of the length of both.
+/// The variables of both lists in one, in `order` and without repeats where both lists are so. Linear in the lengths of both.
 pub fn union(
     alloc: Global,
     some: &List<Variable>,

@@ -1,9 +1,9 @@
-//! A module among others.
+//! A module in its program.
 use call_graph::Graph;
 use f77_ast::Module;
 use f77_symbols::Symbols;
 
-/// A module of a program with its symbols, and the graph of the program.
+/// A module of a program, the symbols of the module, and the graph of the program.
 #[derive(Drop)]
 pub struct View<'a> {
     pub module: &'a Module,

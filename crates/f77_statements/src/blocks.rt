@@ -1,4 +1,5 @@
-//! The first lines of modules, IF and DO.
+//! PROGRAM and SUBROUTINE, IF and DO. A reader takes a stripped statement from its front, and its Err is `Syntax` where the
+//! text is not of the form; in a form `[..]` need not be there.
 ghost use Rattle.std.specs.Prelude.{◌≡◌, ◌≤◌, ℕ, length, option_map, IfOk};
 ghost use Rattle.f77_ast.specs.Plain.{expr_tree};
 ghost use Rattle.f77_ast.specs.PlainStmt.{maybe_tree};
@@ -7,14 +8,15 @@ ghost use Rattle.f77_statements.specs.Phrases.{phrase_tree, do_tree};
 ghost use Rattle.f77_statements.specs.Statements.{program_statement, subroutine_statement, if_test, block_if_statement, else_if_statement, terminal, some_step, step, range, do_statement};
 
 use crate::lists::{maybe_in_parentheses, skip_comma};
-use crate::parts::Names;
+use crate::parts::NameList;
 use crate::phrase::{DoHead, Phrase};
 use f77_ast::Expr;
-use f77_exprs::{At, Reading, digit_first, expression, label_at, name_at};
+use f77_exprs::{Cursor, Reading, digit_first, expression, label_at, name_at};
 use std::alloc::Global;
 
+/// `PROGRAMn`
 #[tactic(auto, unfolding(crate::specs::Statements::program_statement))]
-pub fn program_statement(alloc: Global, at: At<'_>) -> Reading<'_, Phrase>
+pub fn program_statement(alloc: Global, at: Cursor<'_>) -> Reading<'_, Phrase>
     ensures { GivesAs phrase_tree result (program_statement (state at.entry)) }
 {
     let at = at.need_word(b"PROGRAM")?;
@@ -22,20 +24,20 @@ pub fn program_statement(alloc: Global, at: At<'_>) -> Reading<'_, Phrase>
     Ok((Phrase::Program(name), at))
 }
 
-/// `SUBROUTINEn[([d,..])]`
+/// `SUBROUTINEn[([d,..])]`, without alternate returns (ANSI X3.9-1978 §15.6)
 #[tactic(auto, unfolding(crate::specs::Statements::subroutine_statement))]
-pub fn subroutine_statement(alloc: Global, at: At<'_>) -> Reading<'_, Phrase>
+pub fn subroutine_statement(alloc: Global, at: Cursor<'_>) -> Reading<'_, Phrase>
     ensures { GivesAs phrase_tree result (subroutine_statement (state at.entry)) }
 {
     let at = at.need_word(b"SUBROUTINE")?;
     let (name, at) = name_at(alloc, at)?;
-    let (dummies, at) = maybe_in_parentheses::<Names>(alloc, at)?;
+    let (dummies, at) = maybe_in_parentheses::<NameList>(alloc, at)?;
     Ok((Phrase::Subroutine(name, dummies), at))
 }
 
-/// A test behind its opening parenthesis.
+/// The test of an IF from after its opening parenthesis, and what follows the closing one.
 #[tactic(auto, unfolding(crate::specs::Statements::if_test, crate::specs::Lists::ending))]
-pub fn if_test(alloc: Global, at: At<'_>) -> Reading<'_, Expr>
+pub fn if_test(alloc: Global, at: Cursor<'_>) -> Reading<'_, Expr>
     ensures defined { GivesExpr result (if_test (state at.entry)) }
     ensures shorter { IfOk result (λ x. length x.1.rest.now ≤ length at.entry.rest.now) }
 {
@@ -44,9 +46,9 @@ pub fn if_test(alloc: Global, at: At<'_>) -> Reading<'_, Expr>
     Ok((tree, at))
 }
 
-/// `IF(e)THEN`
+/// `IF(e)THEN` (§11.6)
 #[tactic(auto, unfolding(crate::specs::Statements::block_if_statement))]
-pub fn block_if_statement(alloc: Global, at: At<'_>) -> Reading<'_, Phrase>
+pub fn block_if_statement(alloc: Global, at: Cursor<'_>) -> Reading<'_, Phrase>
     ensures { GivesAs phrase_tree result (block_if_statement (state at.entry)) }
 {
     let at = at.need_word(b"IF(")?;
@@ -55,9 +57,9 @@ pub fn block_if_statement(alloc: Global, at: At<'_>) -> Reading<'_, Phrase>
     Ok((Phrase::BlockIf(tree), at))
 }
 
-/// `ELSEIF(e)THEN`
+/// `ELSEIF(e)THEN` (§11.7)
 #[tactic(auto, unfolding(crate::specs::Statements::else_if_statement))]
-pub fn else_if_statement(alloc: Global, at: At<'_>) -> Reading<'_, Phrase>
+pub fn else_if_statement(alloc: Global, at: Cursor<'_>) -> Reading<'_, Phrase>
     ensures { GivesAs phrase_tree result (else_if_statement (state at.entry)) }
 {
     let at = at.need_word(b"ELSEIF(")?;
@@ -68,7 +70,7 @@ pub fn else_if_statement(alloc: Global, at: At<'_>) -> Reading<'_, Phrase>
 
 /// The label of the last statement of a DO and a comma, neither of which need be there.
 #[tactic(auto, unfolding(crate::specs::Statements::terminal))]
-fn terminal(at: At<'_>) -> Reading<'_, Option<u32>>
+fn terminal(at: Cursor<'_>) -> Reading<'_, Option<u32>>
     ensures { GivesAs (λ l. l) result (terminal (state at.entry)) }
 {
     if digit_first(at.rest) {
@@ -80,7 +82,7 @@ fn terminal(at: At<'_>) -> Reading<'_, Option<u32>>
 }
 
 #[tactic(auto, unfolding(crate::specs::Statements::some_step))]
-fn some_step(alloc: Global, at: At<'_>) -> Reading<'_, Option<Expr>>
+fn some_step(alloc: Global, at: Cursor<'_>) -> Reading<'_, Option<Expr>>
     ensures { GivesAs maybe_tree result (some_step (state at.entry)) }
 {
     let (step, at) = expression(alloc, at)?;
@@ -89,7 +91,7 @@ fn some_step(alloc: Global, at: At<'_>) -> Reading<'_, Option<Expr>>
 
 /// The step behind a comma, which need not be there.
 #[tactic(auto, unfolding(crate::specs::Statements::step))]
-fn step(alloc: Global, at: At<'_>) -> Reading<'_, Option<Expr>>
+fn step(alloc: Global, at: Cursor<'_>) -> Reading<'_, Option<Expr>>
     ensures { GivesAs maybe_tree result (step (state at.entry)) }
 {
     match at.take_word(b",") {
@@ -100,7 +102,7 @@ fn step(alloc: Global, at: At<'_>) -> Reading<'_, Option<Expr>>
 
 /// The index of a DO and its values.
 #[tactic(auto, unfolding(crate::specs::Statements::range))]
-fn range<'a>(alloc: Global, label: Option<u32>, at: At<'a>) -> Reading<'a, Phrase>
+fn range<'a>(alloc: Global, label: Option<u32>, at: Cursor<'a>) -> Reading<'a, Phrase>
     ensures { GivesAs phrase_tree result (range label (state at.entry)) }
 {
     let (index, at) = name_at(alloc, at)?;
@@ -119,9 +121,9 @@ fn range<'a>(alloc: Global, label: Option<u32>, at: At<'a>) -> Reading<'a, Phras
     Ok((Phrase::Do(head), at))
 }
 
-/// `DO[l[,]]i=e,e[,e]`
+/// `DO[l[,]]i=e,e[,e]`: without a label it ends at an END DO, with one as in §11.10
 #[tactic(auto, unfolding(crate::specs::Statements::do_statement))]
-pub fn do_statement(alloc: Global, at: At<'_>) -> Reading<'_, Phrase>
+pub fn do_statement(alloc: Global, at: Cursor<'_>) -> Reading<'_, Phrase>
     ensures { GivesAs phrase_tree result (do_statement (state at.entry)) }
 {
     let at = at.need_word(b"DO")?;

@@ -1,4 +1,4 @@
-//! The blocks of COMMON.
+//! The blocks of COMMON (ANSI X3.9-1978 §8.3).
 ghost use Rattle.std.specs.Prelude.{◌≡◌, ℕ, [], option_map};
 ghost use Rattle.f77_ast.specs.DeclTrees.{CommonTree};
 ghost use Rattle.f77_ast.specs.PlainDecl.{common_tree};
@@ -9,7 +9,7 @@ use crate::entities::Entities;
 use crate::lists::{Rule, Separator, items_by};
 use crate::parts::block_name;
 use f77_ast::CommonPart;
-use f77_exprs::{At, Reading};
+use f77_exprs::{Cursor, Reading};
 use fx_lists::Text;
 use std::alloc::Global;
 
@@ -19,7 +19,7 @@ enum MemberComma {}
 impl Separator for MemberComma {
     ghost between = { member_comma };
 
-    fn next<'a>(at: At<'a>) -> Option<At<'a>> {
+    fn next<'a>(at: Cursor<'a>) -> Option<Cursor<'a>> {
         match at.take_word(b",/") {
             Some(_) => None,
             None => at.take_word(b","),
@@ -28,14 +28,14 @@ impl Separator for MemberComma {
 }
 
 #[tactic(auto, unfolding(crate::specs::Parts::members))]
-fn members<'a>(alloc: Global, block: Text, at: At<'a>) -> Reading<'a, CommonPart>
+fn members<'a>(alloc: Global, block: Text, at: Cursor<'a>) -> Reading<'a, CommonPart>
     ensures { GivesAs common_tree result (members block (state at.entry)) }
 {
     let (members, at) = items_by::<Entities, MemberComma>(alloc, at)?;
     Ok((CommonPart { block, members }, at))
 }
 
-/// Blocks behind their first slash, with their members.
+/// A block from after its first slash, and its members: `n/m,..`, or `/m,..` for the blank one.
 pub enum Blocks {}
 
 impl Rule for Blocks {
@@ -48,7 +48,7 @@ impl Rule for Blocks {
     ghost rule = { block };
 
     #[tactic(auto, unfolding(crate::specs::Parts::block))]
-    fn read<'a>(alloc: Global, at: At<'a>) -> Reading<'a, CommonPart> {
+    fn read<'a>(alloc: Global, at: Cursor<'a>) -> Reading<'a, CommonPart> {
         match at.take_word(b"/") {
             Some(rest) => members(alloc, Text::new(alloc), rest),
             None => {
@@ -59,9 +59,9 @@ impl Rule for Blocks {
     }
 }
 
-/// The first block, which without slashes is the blank one.
+/// The first block of a COMMON, and its members; without slashes it is the blank one. Err is `Syntax` where none is at the front.
 #[tactic(auto, unfolding(crate::specs::Parts::first_block))]
-pub fn first_block(alloc: Global, at: At<'_>) -> Reading<'_, CommonPart>
+pub fn first_block(alloc: Global, at: Cursor<'_>) -> Reading<'_, CommonPart>
     ensures { GivesAs common_tree result (first_block (state at.entry)) }
 {
     match at.take_word(b"/") {
@@ -70,13 +70,13 @@ pub fn first_block(alloc: Global, at: At<'_>) -> Reading<'_, CommonPart>
     }
 }
 
-/// The first slash of the next block, with a comma before it or none.
+/// The first slash of the next block, after a comma or without.
 pub enum NextBlock {}
 
 impl Separator for NextBlock {
     ghost between = { next_block };
 
-    fn next<'a>(at: At<'a>) -> Option<At<'a>> {
+    fn next<'a>(at: Cursor<'a>) -> Option<Cursor<'a>> {
         match at.take_word(b",/") {
             Some(rest) => Some(rest),
             None => at.take_word(b"/"),

@@ -1,4 +1,4 @@
-//! The groups of DATA.
+//! The groups of DATA (ANSI X3.9-1978 §9).
 ghost use Rattle.std.specs.Prelude.{◌≡◌, ◌<◌, ◌^◌, ℕ, option_map};
 ghost use Rattle.f77_ast.specs.DeclTrees.{DataValueTree, DataTree};
 ghost use Rattle.f77_ast.specs.PlainDecl.{data_value_tree, data_tree};
@@ -8,11 +8,11 @@ ghost use Rattle.f77_statements.specs.Parts.{integer, signed_integer, data_const
 use crate::lists::{Rule, Separator, items_before, skip_comma};
 use crate::parts::Variables;
 use f77_ast::{DataGroup, DataValue, Expr, UnaryOp};
-use f77_exprs::{At, Reading, Unread, literal, number, number_first, unary};
+use f77_exprs::{Cursor, Reading, Unread, literal, number, number_first, unary};
 use std::alloc::Global;
 
 #[tactic(auto, unfolding(crate::specs::Parts::integer))]
-fn integer(at: At<'_>) -> Reading<'_, Expr>
+fn integer(at: Cursor<'_>) -> Reading<'_, Expr>
     ensures { GivesExpr result (integer (state at.entry)) }
 {
     if number_first(at.rest) {
@@ -23,7 +23,7 @@ fn integer(at: At<'_>) -> Reading<'_, Expr>
 }
 
 #[tactic(auto, unfolding(crate::specs::Parts::signed_integer))]
-fn signed_integer(alloc: Global, op: UnaryOp, at: At<'_>) -> Reading<'_, Expr>
+fn signed_integer(alloc: Global, op: UnaryOp, at: Cursor<'_>) -> Reading<'_, Expr>
     ensures { GivesExpr result (signed_integer op (state at.entry)) }
 {
     let (number, at) = integer(at)?;
@@ -33,7 +33,7 @@ fn signed_integer(alloc: Global, op: UnaryOp, at: At<'_>) -> Reading<'_, Expr>
 
 /// An integer with a sign or none, or a logical constant.
 #[tactic(auto, using(f77_ast::proofs::Plainly::expr_cases), unfolding(crate::specs::Parts::data_constant))]
-fn data_constant(alloc: Global, at: At<'_>) -> Reading<'_, Expr>
+fn data_constant(alloc: Global, at: Cursor<'_>) -> Reading<'_, Expr>
     ensures { GivesExpr result (data_constant (state at.entry)) }
 {
     if let Some(rest) = at.take_word(b".TRUE.") {
@@ -53,7 +53,7 @@ fn data_constant(alloc: Global, at: At<'_>) -> Reading<'_, Expr>
 
 /// A constant behind its repeat count.
 #[tactic(auto, unfolding(crate::specs::Parts::repeat_value))]
-fn repeat_value(alloc: Global, count: u32, at: At<'_>) -> Reading<'_, DataValue>
+fn repeat_value(alloc: Global, count: u32, at: Cursor<'_>) -> Reading<'_, DataValue>
     ensures { GivesAs data_value_tree result (repeat_value count (state at.entry)) }
 {
     let (value, at) = data_constant(alloc, at)?;
@@ -63,7 +63,7 @@ fn repeat_value(alloc: Global, count: u32, at: At<'_>) -> Reading<'_, DataValue>
 
 /// A number that was read, and a constant behind it where it is a repeat count.
 #[tactic(auto, using(f77_ast::proofs::Plainly::expr_cases), unfolding(crate::specs::Parts::value_or_count))]
-fn value_or_count(alloc: Global, n: u32, at: At<'_>) -> Reading<'_, DataValue>
+fn value_or_count(alloc: Global, n: u32, at: Cursor<'_>) -> Reading<'_, DataValue>
     requires { n < 2 ^ 31 }
     ensures { GivesAs data_value_tree result (value_or_count n (state at.entry)) }
 {
@@ -90,7 +90,7 @@ impl Rule for DataValues {
     ghost rule = { data_value };
 
     #[tactic(auto, unfolding(crate::specs::Parts::data_value))]
-    fn read<'a>(alloc: Global, at: At<'a>) -> Reading<'a, DataValue> {
+    fn read<'a>(alloc: Global, at: Cursor<'a>) -> Reading<'a, DataValue> {
         if number_first(at.rest) {
             let (n, at) = number(at);
             return value_or_count(alloc, n, at);
@@ -101,7 +101,7 @@ impl Rule for DataValues {
     }
 }
 
-/// Names and elements with their values between slashes.
+/// Names and array elements, and their values between slashes: `v,../c,../`.
 pub enum DataGroups {}
 
 impl Rule for DataGroups {
@@ -114,20 +114,20 @@ impl Rule for DataGroups {
     ghost rule = { data_group };
 
     #[tactic(auto, unfolding(crate::specs::Parts::data_group))]
-    fn read<'a>(alloc: Global, at: At<'a>) -> Reading<'a, DataGroup> {
+    fn read<'a>(alloc: Global, at: Cursor<'a>) -> Reading<'a, DataGroup> {
         let (targets, at) = items_before::<Variables>(alloc, b"/", at)?;
         let (values, at) = items_before::<DataValues>(alloc, b"/", at)?;
         Ok((DataGroup { targets, values }, at))
     }
 }
 
-/// What follows a group before the end of the statement, without a comma.
+/// An optional comma between two groups; there is no next group at the end of the statement.
 pub enum NextGroup {}
 
 impl Separator for NextGroup {
     ghost between = { next_group };
 
-    fn next<'a>(at: At<'a>) -> Option<At<'a>> {
+    fn next<'a>(at: Cursor<'a>) -> Option<Cursor<'a>> {
         match at.rest {
             [] => None,
             [_, ..] => Some(skip_comma(at)),

@@ -1,4 +1,4 @@
-//! Names with their bounds.
+//! Names with their dimension declarators (ANSI X3.9-1978 §5.1.1).
 ghost use Rattle.std.specs.Prelude.{◌≡◌, ℕ};
 ghost use Rattle.f77_ast.specs.Plain.{expr_tree};
 ghost use Rattle.f77_ast.specs.DeclTrees.{ExtentTree, EntityTree};
@@ -8,13 +8,13 @@ ghost use Rattle.f77_statements.specs.Parts.{upper, extent, bounds, entity, arra
 
 use crate::lists::{Rule, items_before};
 use f77_ast::{Entity, Expr, Extent};
-use f77_exprs::{At, Reading, expression, name_at};
+use f77_exprs::{Cursor, Reading, expression, name_at};
 use fx_lists::{List, Text};
 use std::alloc::Global;
 
 /// What follows a lower bound and its colon.
 #[tactic(auto, unfolding(crate::specs::Parts::upper))]
-fn upper<'a>(alloc: Global, low: Expr, at: At<'a>) -> Reading<'a, Extent>
+fn upper<'a>(alloc: Global, low: Expr, at: Cursor<'a>) -> Reading<'a, Extent>
     ensures { GivesAs extent_tree result (upper (expr_tree low) (state at.entry)) }
 {
     let low = Some(low);
@@ -28,7 +28,7 @@ fn upper<'a>(alloc: Global, low: Expr, at: At<'a>) -> Reading<'a, Extent>
     }
 }
 
-/// Dimensions.
+/// A dimension declarator: `[e:]e`, or `*` for the upper bound.
 pub enum Extents {}
 
 impl Rule for Extents {
@@ -41,7 +41,7 @@ impl Rule for Extents {
     ghost rule = { extent };
 
     #[tactic(auto, unfolding(crate::specs::Parts::extent))]
-    fn read<'a>(alloc: Global, at: At<'a>) -> Reading<'a, Extent> {
+    fn read<'a>(alloc: Global, at: Cursor<'a>) -> Reading<'a, Extent> {
         if let Some(rest) = at.take_word(b"*") {
             let none = Extent {
                 low: None,
@@ -62,14 +62,14 @@ impl Rule for Extents {
 
 /// The bounds of a name behind their opening parenthesis.
 #[tactic(auto, unfolding(crate::specs::Parts::bounds))]
-fn bounds<'a>(alloc: Global, name: Text, at: At<'a>) -> Reading<'a, Entity>
+fn bounds<'a>(alloc: Global, name: Text, at: Cursor<'a>) -> Reading<'a, Entity>
     ensures { GivesAs entity_tree result (bounds name (state at.entry)) }
 {
     let (bounds, at) = items_before::<Extents>(alloc, b")", at)?;
     Ok((Entity { name, bounds }, at))
 }
 
-/// Names, with bounds or without.
+/// A name, with bounds in parentheses or without.
 pub enum Entities {}
 
 impl Rule for Entities {
@@ -82,7 +82,7 @@ impl Rule for Entities {
     ghost rule = { entity };
 
     #[tactic(auto, unfolding(crate::specs::Parts::entity))]
-    fn read<'a>(alloc: Global, at: At<'a>) -> Reading<'a, Entity> {
+    fn read<'a>(alloc: Global, at: Cursor<'a>) -> Reading<'a, Entity> {
         let (name, at) = name_at(alloc, at)?;
         match at.take_word(b"(") {
             Some(rest) => bounds(alloc, name, rest),
@@ -94,7 +94,7 @@ impl Rule for Entities {
     }
 }
 
-/// Names with bounds.
+/// A name with bounds in parentheses.
 pub enum Arrays {}
 
 impl Rule for Arrays {
@@ -107,7 +107,7 @@ impl Rule for Arrays {
     ghost rule = { array };
 
     #[tactic(auto, unfolding(crate::specs::Parts::array))]
-    fn read<'a>(alloc: Global, at: At<'a>) -> Reading<'a, Entity> {
+    fn read<'a>(alloc: Global, at: Cursor<'a>) -> Reading<'a, Entity> {
         let (name, at) = name_at(alloc, at)?;
         let at = at.need_word(b"(")?;
         bounds(alloc, name, at)

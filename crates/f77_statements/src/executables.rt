@@ -1,4 +1,5 @@
-//! Executable statements that open and close no block.
+//! Executable statements that open and close no block. A reader takes a stripped statement from its front, and its Err is
+//! `Syntax` where the text is not of the form; in a form `[..]` need not be there.
 ghost use Rattle.std.specs.Prelude.{◌≡◌, ℕ};
 ghost use Rattle.f77_ast.specs.PlainStmt.{what_tree};
 ghost use Rattle.f77_exprs.specs.State.{state, GivesAs};
@@ -8,15 +9,15 @@ use crate::lists::{items_left, maybe_after_comma, maybe_in_parentheses};
 use crate::parts::{Expressions, Variables};
 use f77_ast::What;
 use f77_exprs::{
-    At, Reading, Unread, before, constant, digit_first, expression, label_at, name_at, skip_digits,
-    variable,
+    Cursor, Reading, Unread, before, constant, digit_first, expression, label_at, name_at,
+    skip_digits, variable,
 };
 use fx_lists::Text;
 use std::alloc::Global;
 
-/// `v=e`
+/// `v=e` (ANSI X3.9-1978 §10.1, §10.2)
 #[tactic(auto, using(f77_ast::proofs::PlainlyStmt::what_cases), unfolding(crate::specs::Executables::assignment))]
-pub fn assignment(alloc: Global, at: At<'_>) -> Reading<'_, What>
+pub fn assignment(alloc: Global, at: Cursor<'_>) -> Reading<'_, What>
     ensures { GivesAs what_tree result (assignment (state at.entry)) }
 {
     let (left, at) = variable(alloc, at)?;
@@ -25,9 +26,9 @@ pub fn assignment(alloc: Global, at: At<'_>) -> Reading<'_, What>
     Ok((What::Assign(left, value), at))
 }
 
-/// `CALLn[([a,..])]`
+/// `CALLn[([a,..])]`, without alternate returns (§15.6)
 #[tactic(auto, using(f77_ast::proofs::PlainlyStmt::what_cases), unfolding(crate::specs::Executables::call_statement))]
-pub fn call_statement(alloc: Global, at: At<'_>) -> Reading<'_, What>
+pub fn call_statement(alloc: Global, at: Cursor<'_>) -> Reading<'_, What>
     ensures { GivesAs what_tree result (call_statement (state at.entry)) }
 {
     let at = at.need_word(b"CALL")?;
@@ -36,9 +37,9 @@ pub fn call_statement(alloc: Global, at: At<'_>) -> Reading<'_, What>
     Ok((What::Call(name, actuals), at))
 }
 
-/// `GOTOl`
+/// `GOTOl` (§11.1)
 #[tactic(auto, using(f77_ast::proofs::PlainlyStmt::what_cases), unfolding(crate::specs::Executables::goto_statement))]
-pub fn goto_statement(_alloc: Global, at: At<'_>) -> Reading<'_, What>
+pub fn goto_statement(_alloc: Global, at: Cursor<'_>) -> Reading<'_, What>
     ensures { GivesAs what_tree result (goto_statement (state at.entry)) }
 {
     let at = at.need_word(b"GOTO")?;
@@ -46,16 +47,18 @@ pub fn goto_statement(_alloc: Global, at: At<'_>) -> Reading<'_, What>
     Ok((What::Goto(label), at))
 }
 
+/// `CONTINUE` (§11.11)
 #[tactic(auto, using(f77_ast::proofs::PlainlyStmt::what_cases), unfolding(crate::specs::Executables::continue_statement))]
-pub fn continue_statement(_alloc: Global, at: At<'_>) -> Reading<'_, What>
+pub fn continue_statement(_alloc: Global, at: Cursor<'_>) -> Reading<'_, What>
     ensures { GivesAs what_tree result (continue_statement (state at.entry)) }
 {
     let at = at.need_word(b"CONTINUE")?;
     Ok((What::Continue, at))
 }
 
+/// `RETURN`
 #[tactic(auto, using(f77_ast::proofs::PlainlyStmt::what_cases), unfolding(crate::specs::Executables::return_statement))]
-pub fn return_statement(_alloc: Global, at: At<'_>) -> Reading<'_, What>
+pub fn return_statement(_alloc: Global, at: Cursor<'_>) -> Reading<'_, What>
     ensures { GivesAs what_tree result (return_statement (state at.entry)) }
 {
     let at = at.need_word(b"RETURN")?;
@@ -64,7 +67,7 @@ pub fn return_statement(_alloc: Global, at: At<'_>) -> Reading<'_, What>
 
 /// Up to five digits, as they are written.
 #[tactic(auto, unfolding(crate::specs::Executables::five_digits))]
-fn five_digits(alloc: Global, at: At<'_>) -> Reading<'_, Option<Text>>
+fn five_digits(alloc: Global, at: Cursor<'_>) -> Reading<'_, Option<Text>>
     ensures { GivesAs (λ t. t) result (five_digits (state at.entry)) }
 {
     if !digit_first(at.rest) {
@@ -77,23 +80,23 @@ fn five_digits(alloc: Global, at: At<'_>) -> Reading<'_, Option<Text>>
     }
     let text = Text::from_bytes(alloc, digits)?;
     let notes = at.notes;
-    Ok((Some(text), At { rest, notes }))
+    Ok((Some(text), Cursor { rest, notes }))
 }
 
 /// A character constant behind its first apostrophe, with all its apostrophes as `text` has them.
 #[tactic(auto, unfolding(crate::specs::Executables::message))]
-fn message<'a>(alloc: Global, text: &'a [u8], at: At<'a>) -> Reading<'a, Option<Text>>
+fn message<'a>(alloc: Global, text: &'a [u8], at: Cursor<'a>) -> Reading<'a, Option<Text>>
     ensures { GivesAs (λ t. t) result (message text.now (state at.entry)) }
 {
     let (_, rest) = constant(alloc, at.rest)?;
     let message = Text::from_bytes(alloc, before(text, rest))?;
     let notes = at.notes;
-    Ok((Some(message), At { rest, notes }))
+    Ok((Some(message), Cursor { rest, notes }))
 }
 
 /// Nothing, up to five digits, or a character constant.
 #[tactic(auto, unfolding(crate::specs::Executables::stop_text))]
-fn stop_text(alloc: Global, at: At<'_>) -> Reading<'_, Option<Text>>
+fn stop_text(alloc: Global, at: Cursor<'_>) -> Reading<'_, Option<Text>>
     ensures { GivesAs (λ t. t) result (stop_text (state at.entry)) }
 {
     match at.rest {
@@ -105,8 +108,9 @@ fn stop_text(alloc: Global, at: At<'_>) -> Reading<'_, Option<Text>>
     }
 }
 
+/// `STOP[t]`, where `t` is up to five digits or a character constant (§11.12)
 #[tactic(auto, using(f77_ast::proofs::PlainlyStmt::what_cases), unfolding(crate::specs::Executables::stop_statement))]
-pub fn stop_statement(alloc: Global, at: At<'_>) -> Reading<'_, What>
+pub fn stop_statement(alloc: Global, at: Cursor<'_>) -> Reading<'_, What>
     ensures { GivesAs what_tree result (stop_statement (state at.entry)) }
 {
     let at = at.need_word(b"STOP")?;
@@ -114,9 +118,9 @@ pub fn stop_statement(alloc: Global, at: At<'_>) -> Reading<'_, What>
     Ok((What::Stop(text), at))
 }
 
-/// `PRINT*[,list]`
+/// `PRINT*[,list]` (§12.8)
 #[tactic(auto, using(f77_ast::proofs::PlainlyStmt::what_cases), unfolding(crate::specs::Executables::print_statement))]
-pub fn print_statement(alloc: Global, at: At<'_>) -> Reading<'_, What>
+pub fn print_statement(alloc: Global, at: Cursor<'_>) -> Reading<'_, What>
     ensures { GivesAs what_tree result (print_statement (state at.entry)) }
 {
     let at = at.need_word(b"PRINT*")?;
@@ -126,16 +130,16 @@ pub fn print_statement(alloc: Global, at: At<'_>) -> Reading<'_, What>
 
 /// The list of a WRITE, which is read as PRINT.
 #[tactic(auto, using(f77_ast::proofs::PlainlyStmt::what_cases), unfolding(crate::specs::Executables::write_list))]
-fn write_list(alloc: Global, at: At<'_>) -> Reading<'_, What>
+fn write_list(alloc: Global, at: Cursor<'_>) -> Reading<'_, What>
     ensures { GivesAs what_tree result (write_list (state at.entry)) }
 {
     let (items, at) = items_left::<Expressions>(alloc, at)?;
     Ok((What::Print(items), at))
 }
 
-/// `WRITE(*,*)[list]` and `WRITE(6,*)[list]`
+/// `WRITE(*,*)[list]` and `WRITE(6,*)[list]`, both read as PRINT (§12.8)
 #[tactic(auto, unfolding(crate::specs::Executables::write_statement))]
-pub fn write_statement(alloc: Global, at: At<'_>) -> Reading<'_, What>
+pub fn write_statement(alloc: Global, at: Cursor<'_>) -> Reading<'_, What>
     ensures { GivesAs what_tree result (write_statement (state at.entry)) }
 {
     if let Some(rest) = at.take_word(b"WRITE(*,*)") {
@@ -148,7 +152,7 @@ pub fn write_statement(alloc: Global, at: At<'_>) -> Reading<'_, What>
 }
 
 #[tactic(auto, using(f77_ast::proofs::PlainlyStmt::what_cases), unfolding(crate::specs::Executables::read_listed))]
-fn read_listed(alloc: Global, at: At<'_>) -> Reading<'_, What>
+fn read_listed(alloc: Global, at: Cursor<'_>) -> Reading<'_, What>
     ensures { GivesAs what_tree result (read_listed (state at.entry)) }
 {
     let (items, at) = maybe_after_comma::<Variables>(alloc, at)?;
@@ -156,16 +160,16 @@ fn read_listed(alloc: Global, at: At<'_>) -> Reading<'_, What>
 }
 
 #[tactic(auto, using(f77_ast::proofs::PlainlyStmt::what_cases), unfolding(crate::specs::Executables::read_left))]
-fn read_left(alloc: Global, at: At<'_>) -> Reading<'_, What>
+fn read_left(alloc: Global, at: Cursor<'_>) -> Reading<'_, What>
     ensures { GivesAs what_tree result (read_left (state at.entry)) }
 {
     let (items, at) = items_left::<Variables>(alloc, at)?;
     Ok((What::Read(items), at))
 }
 
-/// `READ*[,list]`, `READ(*,*)[list]` and `READ(5,*)[list]`
+/// `READ*[,list]`, `READ(*,*)[list]` and `READ(5,*)[list]`, whose items are names and array elements (§12.8)
 #[tactic(auto, unfolding(crate::specs::Executables::read_statement))]
-pub fn read_statement(alloc: Global, at: At<'_>) -> Reading<'_, What>
+pub fn read_statement(alloc: Global, at: Cursor<'_>) -> Reading<'_, What>
     ensures { GivesAs what_tree result (read_statement (state at.entry)) }
 {
     if let Some(rest) = at.take_word(b"READ*") {

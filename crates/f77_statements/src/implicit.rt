@@ -1,15 +1,15 @@
-//! The parts of IMPLICIT.
+//! The parts of IMPLICIT (ANSI X3.9-1978 §8.5).
 ghost use Rattle.std.specs.Prelude.{◌≡◌, ℕ};
 ghost use Rattle.f77_exprs.specs.State.{state, GivesAs};
 ghost use Rattle.f77_statements.specs.Parts.{letter, letters, ranges, implicit_part};
 
 use crate::lists::{Rule, items_before};
 use f77_ast::{ImplicitPart, Letters, Scalar};
-use f77_exprs::{At, Reading, Unread};
+use f77_exprs::{Cursor, Reading, Unread};
 use std::alloc::Global;
 
 #[tactic(auto, unfolding(crate::specs::Parts::letter))]
-fn letter(at: At<'_>) -> Reading<'_, u8>
+fn letter(at: Cursor<'_>) -> Reading<'_, u8>
     ensures { GivesAs (λ c. c) result (letter (state at.entry)) }
 {
     match at.rest {
@@ -17,7 +17,7 @@ fn letter(at: At<'_>) -> Reading<'_, u8>
         [c, rest @ ..] => {
             if c.is_ascii_uppercase() {
                 let notes = at.notes;
-                Ok((*c, At { rest, notes }))
+                Ok((*c, Cursor { rest, notes }))
             } else {
                 Err(Unread::Syntax)
             }
@@ -25,7 +25,7 @@ fn letter(at: At<'_>) -> Reading<'_, u8>
     }
 }
 
-/// Ranges of letters.
+/// A letter, or a range of letters `a-b` that does not descend.
 pub enum LetterRanges {}
 
 impl Rule for LetterRanges {
@@ -40,7 +40,7 @@ impl Rule for LetterRanges {
     ghost rule = { letters };
 
     #[tactic(auto, unfolding(crate::specs::Parts::letters))]
-    fn read<'a>(_alloc: Global, at: At<'a>) -> Reading<'a, Letters> {
+    fn read<'a>(_alloc: Global, at: Cursor<'a>) -> Reading<'a, Letters> {
         let (first, at) = letter(at)?;
         match at.take_word(b"-") {
             None => Ok((Letters { first, last: first }, at)),
@@ -58,7 +58,7 @@ impl Rule for LetterRanges {
 
 /// The ranges behind a type.
 #[tactic(auto, unfolding(crate::specs::Parts::ranges))]
-fn ranges(alloc: Global, scalar: Scalar, at: At<'_>) -> Reading<'_, ImplicitPart>
+fn ranges(alloc: Global, scalar: Scalar, at: Cursor<'_>) -> Reading<'_, ImplicitPart>
     ensures { GivesAs (λ p. p) result (ranges scalar (state at.entry)) }
 {
     let at = at.need_word(b"(")?;
@@ -66,7 +66,7 @@ fn ranges(alloc: Global, scalar: Scalar, at: At<'_>) -> Reading<'_, ImplicitPart
     Ok((ImplicitPart { scalar, ranges }, at))
 }
 
-/// Types and their ranges.
+/// INTEGER or LOGICAL, and ranges of letters in parentheses.
 pub enum ImplicitParts {}
 
 impl Rule for ImplicitParts {
@@ -81,7 +81,7 @@ impl Rule for ImplicitParts {
     ghost rule = { implicit_part };
 
     #[tactic(auto, unfolding(crate::specs::Parts::implicit_part))]
-    fn read<'a>(alloc: Global, at: At<'a>) -> Reading<'a, ImplicitPart> {
+    fn read<'a>(alloc: Global, at: Cursor<'a>) -> Reading<'a, ImplicitPart> {
         if let Some(rest) = at.take_word(b"INTEGER") {
             return ranges(alloc, Scalar::Int, rest);
         }

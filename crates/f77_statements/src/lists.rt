@@ -1,10 +1,10 @@
-//! Lists of what a rule reads.
+//! Lists of what a rule reads, in the order of the text. Err is `Syntax` where an item or a word that has to follow is not there.
 ghost use Rattle.std.specs.Prelude.{◌≡◌, ℕ, [], length, map, option_map, codes};
 ghost use Rattle.f77_exprs.specs.State.{state, take_word, GivesAs};
 ghost use Rattle.f77_exprs.specs.Grammar.{more_by, items_by, items, comma};
 ghost use Rattle.f77_statements.specs.Lists.{skip_comma, ending, items_left, in_parentheses, maybe_in_parentheses, maybe_after_comma};
 
-use f77_exprs::{At, Reading};
+use f77_exprs::{Cursor, Reading};
 use fx_lists::List;
 use std::alloc::Global;
 
@@ -20,33 +20,35 @@ pub trait Rule {
 
     ghost rule: { Reader Tree };
 
-    fn read<'a>(alloc: Global, at: At<'a>) -> Reading<'a, Self::Value>
+    /// What the rule reads at the front, and what follows it. Err is `Syntax` where the grammar does not take it.
+    fn read<'a>(alloc: Global, at: Cursor<'a>) -> Reading<'a, Self::Value>
         ensures { GivesAs tree result (rule (state at.entry)) };
 }
 
-/// What stands between two items of a list.
+/// What separates two items of a list.
 pub trait Separator {
     ghost use Rattle.f77_exprs.specs.Grammar.{Between};
 
     ghost between: { Between };
 
-    /// Where the next item begins.
-    fn next<'a>(at: At<'a>) -> Option<At<'a>>
+    /// Where the next item begins; None where the list ends.
+    fn next<'a>(at: Cursor<'a>) -> Option<Cursor<'a>>
         ensures { option_map state result ≡ between (state at.entry) };
 }
 
+/// A comma.
 pub enum Comma {}
 
 impl Separator for Comma {
     ghost between = { comma };
 
-    fn next<'a>(at: At<'a>) -> Option<At<'a>> {
+    fn next<'a>(at: Cursor<'a>) -> Option<Cursor<'a>> {
         at.take_word(b",")
     }
 }
 
 /// What follows a comma, which need not be there.
-pub fn skip_comma(at: At<'_>) -> At<'_>
+pub fn skip_comma(at: Cursor<'_>) -> Cursor<'_>
     ensures { state result ≡ skip_comma (state at.entry) }
 {
     match at.take_word(b",") {
@@ -55,12 +57,12 @@ pub fn skip_comma(at: At<'_>) -> At<'_>
     }
 }
 
-/// Further items behind those that were found.
+/// The items that were found and those that follow them, each after a separator.
 #[tactic(auto, using(f77_exprs::proofs::Chains::items_steps))]
 pub fn more<'a, R: Rule, S: Separator>(
     alloc: Global,
     found: List<R::Value>,
-    at: At<'a>,
+    at: Cursor<'a>,
 ) -> Reading<'a, List<R::Value>>
     ensures { GivesAs (map R.tree) result
         (more_by S.between R.rule (length at.entry.rest.now) (map R.tree found) (state at.entry)) }
@@ -84,7 +86,10 @@ pub fn more<'a, R: Rule, S: Separator>(
 
 /// One or more items with a separator between them.
 #[tactic(auto, unfolding(f77_exprs::specs::Grammar::items_by))]
-pub fn items_by<'a, R: Rule, S: Separator>(alloc: Global, at: At<'a>) -> Reading<'a, List<R::Value>>
+pub fn items_by<'a, R: Rule, S: Separator>(
+    alloc: Global,
+    at: Cursor<'a>,
+) -> Reading<'a, List<R::Value>>
     ensures { GivesAs (map R.tree) result (items_by S.between R.rule (state at.entry)) }
 {
     let (first, at) = R::read(alloc, at)?;
@@ -94,18 +99,18 @@ pub fn items_by<'a, R: Rule, S: Separator>(alloc: Global, at: At<'a>) -> Reading
 }
 
 /// One or more items with commas between them.
-pub fn items<'a, R: Rule>(alloc: Global, at: At<'a>) -> Reading<'a, List<R::Value>>
+pub fn items<'a, R: Rule>(alloc: Global, at: Cursor<'a>) -> Reading<'a, List<R::Value>>
     ensures { GivesAs (map R.tree) result (items R.rule (state at.entry)) }
 {
     items_by::<R, Comma>(alloc, at)
 }
 
-/// Items, and a word behind them.
+/// One or more items with commas between them, and a word after the last.
 #[tactic(auto, unfolding(crate::specs::Lists::ending))]
 pub fn items_before<'a, R: Rule>(
     alloc: Global,
     word: &[u8],
-    at: At<'a>,
+    at: Cursor<'a>,
 ) -> Reading<'a, List<R::Value>>
     ensures { GivesAs (map R.tree) result (ending word.now (items R.rule) (state at.entry)) }
 {
@@ -114,9 +119,9 @@ pub fn items_before<'a, R: Rule>(
     Ok((found, at))
 }
 
-/// Items up to the end of the statement, and none at its end.
+/// No items at the end of the statement, else one or more with commas between them.
 #[tactic(auto, unfolding(crate::specs::Lists::items_left))]
-pub fn items_left<'a, R: Rule>(alloc: Global, at: At<'a>) -> Reading<'a, List<R::Value>>
+pub fn items_left<'a, R: Rule>(alloc: Global, at: Cursor<'a>) -> Reading<'a, List<R::Value>>
     ensures { GivesAs (map R.tree) result (items_left R.rule (state at.entry)) }
 {
     match at.rest {
@@ -127,7 +132,7 @@ pub fn items_left<'a, R: Rule>(alloc: Global, at: At<'a>) -> Reading<'a, List<R:
 
 /// Items behind their opening parenthesis, of which there may be none.
 #[tactic(auto, unfolding(crate::specs::Lists::in_parentheses))]
-fn in_parentheses<'a, R: Rule>(alloc: Global, at: At<'a>) -> Reading<'a, List<R::Value>>
+fn in_parentheses<'a, R: Rule>(alloc: Global, at: Cursor<'a>) -> Reading<'a, List<R::Value>>
     ensures { GivesAs (map R.tree) result (in_parentheses R.rule (state at.entry)) }
 {
     match at.take_word(b")") {
@@ -136,9 +141,12 @@ fn in_parentheses<'a, R: Rule>(alloc: Global, at: At<'a>) -> Reading<'a, List<R:
     }
 }
 
-/// Items in parentheses, which need not be there.
+/// Items with commas between them in parentheses; none where the parentheses are empty or not there.
 #[tactic(auto, unfolding(crate::specs::Lists::maybe_in_parentheses))]
-pub fn maybe_in_parentheses<'a, R: Rule>(alloc: Global, at: At<'a>) -> Reading<'a, List<R::Value>>
+pub fn maybe_in_parentheses<'a, R: Rule>(
+    alloc: Global,
+    at: Cursor<'a>,
+) -> Reading<'a, List<R::Value>>
     ensures { GivesAs (map R.tree) result (maybe_in_parentheses R.rule (state at.entry)) }
 {
     match at.take_word(b"(") {
@@ -147,9 +155,9 @@ pub fn maybe_in_parentheses<'a, R: Rule>(alloc: Global, at: At<'a>) -> Reading<'
     }
 }
 
-/// Items behind a comma, which need not be there.
+/// One or more items after a comma; none where the comma is not there.
 #[tactic(auto, unfolding(crate::specs::Lists::maybe_after_comma))]
-pub fn maybe_after_comma<'a, R: Rule>(alloc: Global, at: At<'a>) -> Reading<'a, List<R::Value>>
+pub fn maybe_after_comma<'a, R: Rule>(alloc: Global, at: Cursor<'a>) -> Reading<'a, List<R::Value>>
     ensures { GivesAs (map R.tree) result (maybe_after_comma R.rule (state at.entry)) }
 {
     match at.take_word(b",") {

@@ -11,13 +11,14 @@ ghost use Rattle.f77_statements.specs.Parts.{setting, group, block_name, save_it
 
 use crate::lists::{Comma, Rule, more};
 use f77_ast::{Expr, SaveItem, Setting};
-use f77_exprs::{At, Reading, expression, name_at, variable};
+use f77_exprs::{Cursor, Reading, expression, name_at, variable};
 use fx_lists::{List, Text};
 use std::alloc::Global;
 
-pub enum Names {}
+/// A name.
+pub enum NameList {}
 
-impl Rule for Names {
+impl Rule for NameList {
     ghost use Rattle.std.specs.Prelude.{List as Elements};
 
     type Value = Text;
@@ -28,11 +29,12 @@ impl Rule for Names {
 
     ghost rule = { name_at };
 
-    fn read<'a>(alloc: Global, at: At<'a>) -> Reading<'a, Text> {
+    fn read<'a>(alloc: Global, at: Cursor<'a>) -> Reading<'a, Text> {
         name_at(alloc, at)
     }
 }
 
+/// An expression.
 pub enum Expressions {}
 
 impl Rule for Expressions {
@@ -44,12 +46,12 @@ impl Rule for Expressions {
 
     ghost rule = { expression };
 
-    fn read<'a>(alloc: Global, at: At<'a>) -> Reading<'a, Expr> {
+    fn read<'a>(alloc: Global, at: Cursor<'a>) -> Reading<'a, Expr> {
         expression(alloc, at)
     }
 }
 
-/// Names and elements of arrays.
+/// A name, with subscripts in parentheses or without.
 pub enum Variables {}
 
 impl Rule for Variables {
@@ -61,12 +63,12 @@ impl Rule for Variables {
 
     ghost rule = { variable };
 
-    fn read<'a>(alloc: Global, at: At<'a>) -> Reading<'a, Expr> {
+    fn read<'a>(alloc: Global, at: Cursor<'a>) -> Reading<'a, Expr> {
         variable(alloc, at)
     }
 }
 
-/// Names of PARAMETER with their values.
+/// A name of PARAMETER and its value: `n=e` (ANSI X3.9-1978 §8.6).
 pub enum Settings {}
 
 impl Rule for Settings {
@@ -79,7 +81,7 @@ impl Rule for Settings {
     ghost rule = { setting };
 
     #[tactic(auto, unfolding(crate::specs::Parts::setting))]
-    fn read<'a>(alloc: Global, at: At<'a>) -> Reading<'a, Setting> {
+    fn read<'a>(alloc: Global, at: Cursor<'a>) -> Reading<'a, Setting> {
         let (name, at) = name_at(alloc, at)?;
         let at = at.need_word(b"=")?;
         let (value, at) = expression(alloc, at)?;
@@ -87,7 +89,7 @@ impl Rule for Settings {
     }
 }
 
-/// Groups of EQUIVALENCE.
+/// A group of EQUIVALENCE, two or more names and array elements in parentheses (§8.2).
 pub enum Groups {}
 
 impl Rule for Groups {
@@ -102,7 +104,7 @@ impl Rule for Groups {
     ghost rule = { group };
 
     #[tactic(auto, unfolding(crate::specs::Parts::group))]
-    fn read<'a>(alloc: Global, at: At<'a>) -> Reading<'a, List<Expr>> {
+    fn read<'a>(alloc: Global, at: Cursor<'a>) -> Reading<'a, List<Expr>> {
         let at = at.need_word(b"(")?;
         let (first, at) = variable(alloc, at)?;
         let at = at.need_word(b",")?;
@@ -116,9 +118,9 @@ impl Rule for Groups {
     }
 }
 
-/// The name of a block behind its first slash.
+/// The name of a COMMON block from after its first slash, and what follows its second. Err is `Syntax` where either is not there.
 #[tactic(auto, unfolding(crate::specs::Parts::block_name, crate::specs::Lists::ending))]
-pub fn block_name(alloc: Global, at: At<'_>) -> Reading<'_, Text>
+pub fn block_name(alloc: Global, at: Cursor<'_>) -> Reading<'_, Text>
     ensures { GivesAs (λ n. n) result (block_name (state at.entry)) }
 {
     let (name, at) = name_at(alloc, at)?;
@@ -126,7 +128,7 @@ pub fn block_name(alloc: Global, at: At<'_>) -> Reading<'_, Text>
     Ok((name, at))
 }
 
-/// Names, and blocks between slashes.
+/// An item of SAVE: a name, or a COMMON block between slashes (§8.9).
 pub enum SaveItems {}
 
 impl Rule for SaveItems {
@@ -141,7 +143,7 @@ impl Rule for SaveItems {
     ghost rule = { save_item };
 
     #[tactic(auto, unfolding(crate::specs::Parts::save_item))]
-    fn read<'a>(alloc: Global, at: At<'a>) -> Reading<'a, SaveItem> {
+    fn read<'a>(alloc: Global, at: Cursor<'a>) -> Reading<'a, SaveItem> {
         match at.take_word(b"/") {
             Some(rest) => {
                 let (name, rest) = block_name(alloc, rest)?;

@@ -1,10 +1,10 @@
-//! What a statement says by itself, before it stands in a module.
+//! A statement by itself, before it has a place in a module.
 use f77_ast::{Decl, Expr, What};
 use fx_lists::{List, Text};
 
-/// The first line of a DO: the label of its last statement where it has one, the index, and the values. Where no step
-/// was written it is None.
-#[derive(Debug, PartialEq, Eq, Drop)]
+/// A DO without its body: the label of its last statement where it has one, the DO variable, and the values (ANSI X3.9-1978
+/// §11.10). A step that is not written is None.
+#[derive(PartialEq, Eq, Drop)]
 pub struct DoHead {
     pub label: Option<u32>,
     pub index: Text,
@@ -13,18 +13,21 @@ pub struct DoHead {
     pub step: Option<Expr>,
 }
 
-/// A statement by itself. What begins, divides or ends a module or a block stands alone here, and every other
+/// A statement by itself. What begins, divides or ends a module or a block has a variant of its own, and every other
 /// executable statement is `Simple`.
-#[derive(Debug, PartialEq, Eq, Drop)]
+#[derive(PartialEq, Eq, Drop)]
 pub enum Phrase {
+    /// The name.
     Program(Text),
     /// The name and the dummies.
     Subroutine(Text, List<Text>),
     Decl(Decl),
     Simple(What),
-    /// The test, and what the statement behind it does.
+    /// The test, and what the statement after it does.
     LogicalIf(Expr, What),
+    /// The test.
     BlockIf(Expr),
+    /// The test.
     ElseIf(Expr),
     Else,
     EndIf,

@@ -21,13 +21,13 @@ use crate::specifications::{
     implicit_statement, integer_statement, logical_statement, parameter_statement, save_statement,
 };
 use f77_ast::What;
-use f77_exprs::{At, Reading, Unread};
+use f77_exprs::{Cursor, Reading, Unread};
 use f77_forms::{FormId, profile_form, refused_keyword};
 use fx_lists::Text;
 use std::alloc::Global;
 
 /// A statement of a form that may stand in a logical IF.
-fn what_by(alloc: Global, form: FormId, at: At<'_>) -> Reading<'_, What>
+fn what_by(alloc: Global, form: FormId, at: Cursor<'_>) -> Reading<'_, What>
     ensures { GivesAs what_tree result (what_by form (state at.entry)) }
 {
     match form {
@@ -79,7 +79,7 @@ fn form_at(body: &Text) -> Result<FormId, Cause>
 
 /// The statement behind the test of a logical IF.
 #[tactic(auto, unfolding(crate::specs::Statements::what_at))]
-fn what_at(alloc: Global, at: At<'_>) -> Reading<'_, What>
+fn what_at(alloc: Global, at: Cursor<'_>) -> Reading<'_, What>
     requires { length at.rest.now < 2 ^ 28 }
     ensures { GivesAs what_tree result (what_at (state at.entry)) }
 {
@@ -92,7 +92,7 @@ fn what_at(alloc: Global, at: At<'_>) -> Reading<'_, What>
 
 /// `IF(e)s`
 #[tactic(auto, unfolding(crate::specs::Statements::logical_if_statement))]
-fn logical_if_statement(alloc: Global, at: At<'_>) -> Reading<'_, Phrase>
+fn logical_if_statement(alloc: Global, at: Cursor<'_>) -> Reading<'_, Phrase>
     requires { length at.rest.now < 2 ^ 28 }
     ensures { GivesAs phrase_tree result (logical_if_statement (state at.entry)) }
 {
@@ -125,7 +125,7 @@ macro_rules! phrases {
 
 /// A statement of a form.
 #[tactic(auto, unfolding(crate::specs::Statements::specified, crate::specs::Statements::simply, crate::specs::Statements::alone))]
-fn phrase_by(alloc: Global, form: FormId, at: At<'_>) -> Reading<'_, Phrase>
+fn phrase_by(alloc: Global, form: FormId, at: Cursor<'_>) -> Reading<'_, Phrase>
     requires { length at.rest.now < 2 ^ 28 }
     ensures { GivesAs phrase_tree result (phrase_by form (state at.entry)) }
 {
@@ -196,7 +196,7 @@ fn verdict(found: Reading<'_, Phrase>) -> Result<Phrase, Refusal>
     }
 }
 
-/// The tree of a stripped statement by itself, or the first cause to refuse it.
+/// The tree of a stripped statement by itself. Err is the first cause to refuse it, in the order of `Cause`, or lack of memory.
 #[tactic(auto, unfolding(crate::specs::Statements::phrase_of))]
 pub fn phrase_of(alloc: Global, body: &Text) -> Result<Phrase, Refusal>
     requires { length body.now < 2 ^ 28 }
@@ -204,6 +204,6 @@ pub fn phrase_of(alloc: Global, body: &Text) -> Result<Phrase, Refusal>
 {
     match form_at(body) {
         Err(cause) => Err(Refusal::Because(cause)),
-        Ok(form) => verdict(phrase_by(alloc, form, At::start(body.as_slice()))),
+        Ok(form) => verdict(phrase_by(alloc, form, Cursor::start(body.as_slice()))),
     }
 }

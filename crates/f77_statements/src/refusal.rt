@@ -19,7 +19,7 @@ pub enum Cause {
     NameTooLong,
 }
 
-/// Why there is no tree.
+/// Why there is no tree: a cause in the text, or lack of memory.
 #[derive(Debug, PartialEq, Eq, Drop)]
 pub enum Refusal {
     Because(Cause),

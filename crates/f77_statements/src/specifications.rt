@@ -1,4 +1,5 @@
-//! Specification statements.
+//! Specification statements. A reader takes a stripped statement from its front, and its Err is `Syntax` where the text is not
+//! of the form; in a form `[..]` need not be there.
 ghost use Rattle.std.specs.Prelude.{◌≡◌, ℕ};
 ghost use Rattle.f77_ast.specs.PlainDecl.{decl_tree};
 ghost use Rattle.f77_exprs.specs.State.{state, GivesAs};
@@ -11,21 +12,21 @@ use crate::implicit::ImplicitParts;
 use crate::lists::{items, items_before, items_by, items_left, more};
 use crate::parts::{Groups, SaveItems, Settings};
 use f77_ast::Decl;
-use f77_exprs::{At, Reading};
+use f77_exprs::{Cursor, Reading};
 use fx_lists::List;
 use std::alloc::Global;
 
 #[tactic(auto, unfolding(crate::specs::Specifications::implicit_parts))]
-fn implicit_parts(alloc: Global, at: At<'_>) -> Reading<'_, Decl>
+fn implicit_parts(alloc: Global, at: Cursor<'_>) -> Reading<'_, Decl>
     ensures { GivesAs decl_tree result (implicit_parts (state at.entry)) }
 {
     let (parts, at) = items::<ImplicitParts>(alloc, at)?;
     Ok((Decl::Implicit(Some(parts)), at))
 }
 
-/// IMPLICIT NONE, or types with letter ranges.
+/// `IMPLICITNONE`, or `IMPLICITt(a[-b],..),..` with INTEGER or LOGICAL as `t` (ANSI X3.9-1978 §8.5)
 #[tactic(auto, unfolding(crate::specs::Specifications::implicit_statement))]
-pub fn implicit_statement(alloc: Global, at: At<'_>) -> Reading<'_, Decl>
+pub fn implicit_statement(alloc: Global, at: Cursor<'_>) -> Reading<'_, Decl>
     ensures { GivesAs decl_tree result (implicit_statement (state at.entry)) }
 {
     let at = at.need_word(b"IMPLICIT")?;
@@ -35,8 +36,9 @@ pub fn implicit_statement(alloc: Global, at: At<'_>) -> Reading<'_, Decl>
     }
 }
 
+/// `INTEGERn[(d,..)],..` (§8.4)
 #[tactic(auto, unfolding(crate::specs::Specifications::integer_statement))]
-pub fn integer_statement(alloc: Global, at: At<'_>) -> Reading<'_, Decl>
+pub fn integer_statement(alloc: Global, at: Cursor<'_>) -> Reading<'_, Decl>
     ensures { GivesAs decl_tree result (integer_statement (state at.entry)) }
 {
     let at = at.need_word(b"INTEGER")?;
@@ -44,8 +46,9 @@ pub fn integer_statement(alloc: Global, at: At<'_>) -> Reading<'_, Decl>
     Ok((Decl::Integer(entities), at))
 }
 
+/// `LOGICALn[(d,..)],..` (§8.4)
 #[tactic(auto, unfolding(crate::specs::Specifications::logical_statement))]
-pub fn logical_statement(alloc: Global, at: At<'_>) -> Reading<'_, Decl>
+pub fn logical_statement(alloc: Global, at: Cursor<'_>) -> Reading<'_, Decl>
     ensures { GivesAs decl_tree result (logical_statement (state at.entry)) }
 {
     let at = at.need_word(b"LOGICAL")?;
@@ -53,8 +56,9 @@ pub fn logical_statement(alloc: Global, at: At<'_>) -> Reading<'_, Decl>
     Ok((Decl::Logical(entities), at))
 }
 
+/// `DIMENSIONn(d,..),..` (§8.1)
 #[tactic(auto, unfolding(crate::specs::Specifications::dimension_statement))]
-pub fn dimension_statement(alloc: Global, at: At<'_>) -> Reading<'_, Decl>
+pub fn dimension_statement(alloc: Global, at: Cursor<'_>) -> Reading<'_, Decl>
     ensures { GivesAs decl_tree result (dimension_statement (state at.entry)) }
 {
     let at = at.need_word(b"DIMENSION")?;
@@ -62,9 +66,9 @@ pub fn dimension_statement(alloc: Global, at: At<'_>) -> Reading<'_, Decl>
     Ok((Decl::Dimension(arrays), at))
 }
 
-/// `PARAMETER(n=e,..)`
+/// `PARAMETER(n=e,..)` (§8.6)
 #[tactic(auto, unfolding(crate::specs::Specifications::parameter_statement))]
-pub fn parameter_statement(alloc: Global, at: At<'_>) -> Reading<'_, Decl>
+pub fn parameter_statement(alloc: Global, at: Cursor<'_>) -> Reading<'_, Decl>
     ensures { GivesAs decl_tree result (parameter_statement (state at.entry)) }
 {
     let at = at.need_word(b"PARAMETER(")?;
@@ -72,8 +76,9 @@ pub fn parameter_statement(alloc: Global, at: At<'_>) -> Reading<'_, Decl>
     Ok((Decl::Parameter(settings), at))
 }
 
+/// `COMMON[/[n]/]m,..[[,]/[n]/m,..]..` (§8.3)
 #[tactic(auto, unfolding(crate::specs::Specifications::common_statement))]
-pub fn common_statement(alloc: Global, at: At<'_>) -> Reading<'_, Decl>
+pub fn common_statement(alloc: Global, at: Cursor<'_>) -> Reading<'_, Decl>
     ensures { GivesAs decl_tree result (common_statement (state at.entry)) }
 {
     let at = at.need_word(b"COMMON")?;
@@ -84,8 +89,9 @@ pub fn common_statement(alloc: Global, at: At<'_>) -> Reading<'_, Decl>
     Ok((Decl::Common(blocks), at))
 }
 
+/// `EQUIVALENCE(v,v,..),..` (§8.2)
 #[tactic(auto, unfolding(crate::specs::Specifications::equivalence_statement))]
-pub fn equivalence_statement(alloc: Global, at: At<'_>) -> Reading<'_, Decl>
+pub fn equivalence_statement(alloc: Global, at: Cursor<'_>) -> Reading<'_, Decl>
     ensures { GivesAs decl_tree result (equivalence_statement (state at.entry)) }
 {
     let at = at.need_word(b"EQUIVALENCE")?;
@@ -93,9 +99,9 @@ pub fn equivalence_statement(alloc: Global, at: At<'_>) -> Reading<'_, Decl>
     Ok((Decl::Equivalence(groups), at))
 }
 
-/// SAVE alone, or with names and blocks.
+/// `SAVE`, alone or with names and `/n/`, separated by commas (§8.9)
 #[tactic(auto, unfolding(crate::specs::Specifications::save_statement))]
-pub fn save_statement(alloc: Global, at: At<'_>) -> Reading<'_, Decl>
+pub fn save_statement(alloc: Global, at: Cursor<'_>) -> Reading<'_, Decl>
     ensures { GivesAs decl_tree result (save_statement (state at.entry)) }
 {
     let at = at.need_word(b"SAVE")?;
@@ -103,8 +109,9 @@ pub fn save_statement(alloc: Global, at: At<'_>) -> Reading<'_, Decl>
     Ok((Decl::Save(saved), at))
 }
 
+/// `DATAv,../c,../[[,]v,../c,../]..` (§9)
 #[tactic(auto, unfolding(crate::specs::Specifications::data_statement))]
-pub fn data_statement(alloc: Global, at: At<'_>) -> Reading<'_, Decl>
+pub fn data_statement(alloc: Global, at: Cursor<'_>) -> Reading<'_, Decl>
     ensures { GivesAs decl_tree result (data_statement (state at.entry)) }
 {
     let at = at.need_word(b"DATA")?;

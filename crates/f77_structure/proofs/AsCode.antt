@@ -17,8 +17,8 @@ use Rattle.f77_structure.specs.Nesting.{Going, Nesting, nothing, is_bad_end, ove
 use Rattle.f77_structure.specs.Checks.{fault_if, faults_by, faults_at, stands, is_reached, jump_faults, all_jump_faults, nest_faults, first_among, fault_of}
 use Rattle.f77_structure.specs.Opens.{contains}
 use Rattle.f77_structure.specs.Terminals.{spoiled_by}
-use Rattle.f77_structure.specs.Steps.{by_role, stepped, all_stepped, nothing_open, blocks_of}
-use Rattle.f77_structure.specs.Jumps.{reaches, judged, all_judged, block_fault}
+use Rattle.f77_structure.specs.Steps.{by_role, take_statement, all_stepped, nothing_open, blocks_of}
+use Rattle.f77_structure.specs.Jumps.{reaches, check_jump, all_judged, block_fault}
 use Rattle.f77_structure.proofs.Stands.{among-append, among-if, among-first, first-none, Stands}
 use Rattle.f77_structure.proofs.Over.{last-marks}
 use Rattle.f77_structure.proofs.Roles.{role-does}
@@ -38,7 +38,7 @@ judged-by true w line found = sym (among-if w line JumpIntoBlock found)
 judged-by false w line found = refl
 
 judged-is : (spans : List Span) (ls : List Landing) (j : Jump) (g : Going) (found : Option Refusal) → j.line ≡ g.line → j.label ≡ g.label → Within spans j.place g.lists
-    → judged spans ls j found ≡ first_among (jump_faults ls g) found
+    → check_jump spans ls j found ≡ first_among (jump_faults ls g) found
 judged-is spans ls j g found i e w =
     let fault : Bool → Bool → ℕ → Option Refusal = λ v u line. if v then refuse_if (not u) line JumpIntoBlock found else refuse_if true line LabelMissing found in
     ap (λ l. fault (stands ls l) (reaches spans ls j) j.line) e
@@ -72,8 +72,8 @@ record Steps (at : ℕ) (m : Mark) (b c : Blocks) (n : Nesting) : Type 0 where
   nests : Nests (at + 1) c (after m n)
   found : c.found ≡ first_among (faults_at m n.blocks) b.found
 
-step : (at : ℕ) (m : Mark) (b : Blocks) (n : Nesting) → Nests at b n → Steps at m b (stepped at m b) n
-unfolding stepped
+step : (at : ℕ) (m : Mark) (b : Blocks) (n : Nesting) → Nests at b n → Steps at m b (take_statement at m b) n
+unfolding take_statement
 step at m b n t =
     let here = record b { place = at } in
     let s = last-marks at at at m.role m.label m.line here n.blocks n.lists n.labels n.jumps t in
@@ -95,7 +95,7 @@ all-nest [] at b n t =
 all-nest (m ∷ ms) at b n t =
     let s = step at m b n t in
     let rest = nest_faults (after m n) ms in
-    all-nest ms (at + 1) (stepped at m b) (after m n) s.nests
+    all-nest ms (at + 1) (take_statement at m b) (after m n) s.nests
     ∙ ap (first_among rest) s.found
     ∙ sym (among-append (faults_at m n.blocks) rest b.found)
 

@@ -5,7 +5,7 @@ use Rattle.f77_structure.specs.declared.open.Open.{Open}
 use Rattle.f77_structure.specs.declared.blocks.Blocks.{Blocks}
 use Rattle.f77_structure.specs.Lists.{first_of}
 use Rattle.f77_structure.specs.Opens.{ends_at, fits}
-use Rattle.f77_structure.specs.Blocks.{left_from, left_one, ended_by, unclosed, down_to}
+use Rattle.f77_structure.specs.Blocks.{left_from, left_one, ended_by, refuse_unclosed, down_to}
 
 pub more_than_none : {A : Type 0} (xs : List A) (x : A) → first_of xs ≡ Some x → 0 < length xs
 more_than_none [] x e = cc
@@ -44,7 +44,7 @@ down_to-stay s (p ∷ os) b o e h =
 
 -- the innermost block is left unclosed
 abbrev pub lost : Open → Blocks → Blocks
-lost o b = record b { found = unclosed o b.found }
+lost o b = record b { found = refuse_unclosed o b.found }
 
 pub down_to-more : (s : Sought) (os : List Open) (b : Blocks) (o : Open) → first_of os ≡ Some o → fits s o.kind ≡ false → down_to s (left_from os (lost o b)).stack (left_from os (lost o b)) ≡ down_to s os b
 down_to-more s [] b o e h = cc

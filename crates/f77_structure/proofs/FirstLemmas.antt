@@ -9,7 +9,7 @@ use Rattle.f77_structure.specs.declared.open.Span.{Span}
 use Rattle.f77_structure.specs.declared.blocks.Landing.{Landing}
 use Rattle.f77_structure.specs.declared.blocks.Jump.{Jump}
 use Rattle.refusal_codes.specs.Refusals.{number_of, code_numbered, is_before, earliest, refuse_if}
-use Rattle.f77_structure.specs.Jumps.{stands, reaches, judged, all_judged}
+use Rattle.f77_structure.specs.Jumps.{stands, reaches, check_jump, all_judged}
 use Rattle.f77_structure.specs.First.{first_fault}
 
 -- ---- faults are in one order
@@ -198,7 +198,7 @@ pub jumps_first : (spans : List Span) (landings : List Landing) (js : List Jump)
 jumps_first spans landings [] x y = refl
 jumps_first spans landings (j ∷ js) x y =
     ap (all_judged spans landings js) (judged-by (stands landings j.label) j.line (not (reaches spans landings j)) x y)
-    ∙ jumps_first spans landings js x (judged spans landings j y)
+    ∙ jumps_first spans landings js x (check_jump spans landings j y)
 
 -- ---- a fault that would not be the first
 
@@ -231,5 +231,5 @@ no_fault-by true w line found h = spared w line JumpIntoBlock found (later line 
 no_fault-by false w line found h = h
 
 pub no_fault : (spans : List Span) (landings : List Landing) (j : Jump) (found : Option Refusal)
-    → refuse_if true j.line LabelMissing found ≡ found → judged spans landings j found ≡ found
+    → refuse_if true j.line LabelMissing found ≡ found → check_jump spans landings j found ≡ found
 no_fault spans landings j found h = no_fault-by (stands landings j.label) (not (reaches spans landings j)) j.line found h

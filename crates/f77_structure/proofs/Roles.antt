@@ -22,8 +22,8 @@ use Rattle.f77_structure.specs.Kinds.{ends_at, is_if, is_else, fits}
 use Rattle.f77_structure.specs.Nesting.{Block, Going, lists_of, list_of, is_within, innermost, inside, first_divisible, is_divisible, past_label, without, next_list, divide, begin, begins, at_label, blocks_after, label_in_list, going, goings}
 use Rattle.f77_structure.specs.Checks.{fault_if, unclosed_all, too_deep, part_faults, end_faults, faults_by, first_among}
 use Rattle.f77_structure.specs.Opens.{within_if, within_do}
-use Rattle.f77_structure.specs.Blocks.{left, left_one, left_from, ended_by, unclosed, down_to, pushed, entered, stray, landed, stood, jumped}
-use Rattle.f77_structure.specs.Steps.{divided, divided_in, part, ended, by_role}
+use Rattle.f77_structure.specs.Blocks.{leave_innermost, left_one, left_from, ended_by, refuse_unclosed, down_to, push_block, enter_block, stray, add_landing, take_executable, keep_jump}
+use Rattle.f77_structure.specs.Steps.{next_arm, divided_in, part, end_block, by_role}
 use Rattle.f77_structure.proofs.Stands.{among-append, among-if, within_if-is, within_do-is, Stands, wanted, other_fault, later, left-stands, down-stands, ends-stands, lands-stands, no-jump, jumps-stands, stood-stands, push-stands}
 use Rattle.f77_structure.proofs.Shown.{plain, blocks_in}
 
@@ -41,16 +41,16 @@ pub ended_by-found : (l : ℕ) (os : List Open) (b : Blocks) → (ended_by l os 
 ended_by-found l [] b = refl
 ended_by-found l (o ∷ os) b = if-found (ends_at l o.kind) (ended_by l os (left_one o os b)) b b.found (ended_by-found l os (left_one o os b)) refl
 
-pub landed-found : (label : Option ℕ) (b : Blocks) → (landed label b).found ≡ b.found
+pub landed-found : (label : Option ℕ) (b : Blocks) → (add_landing label b).found ≡ b.found
 landed-found None b = refl
 landed-found (Some l) b = refl
 
-pub stood-found : (label : Option ℕ) (b : Blocks) → (stood label b).found ≡ b.found
-unfolding stood
+pub stood-found : (label : Option ℕ) (b : Blocks) → (take_executable label b).found ≡ b.found
+unfolding take_executable
 stood-found None b = refl
-stood-found (Some l) b = ended_by-found l b.stack (landed (Some l) b)
+stood-found (Some l) b = ended_by-found l b.stack (add_landing (Some l) b)
 
-pub jumped-found : (a : Action) (line : ℕ) (b : Blocks) → (jumped a line b).found ≡ b.found
+pub jumped-found : (a : Action) (line : ℕ) (b : Blocks) → (keep_jump a line b).found ≡ b.found
 jumped-found (Goto l) line b = refl
 jumped-found Return line b = refl
 jumped-found Stop line b = refl
@@ -58,7 +58,7 @@ jumped-found Other line b = refl
 
 -- ---- blocks without their ends
 
-down-by : (v : Bool) (what : Sought) (o : Open) (os : List Open) (b c : Blocks) → c.found ≡ first_among (unclosed_all (inside what (blocks_in os))) (unclosed o b.found)
+down-by : (v : Bool) (what : Sought) (o : Open) (os : List Open) (b c : Blocks) → c.found ≡ first_among (unclosed_all (inside what (blocks_in os))) (refuse_unclosed o b.found)
     → (if v then b else c).found ≡ first_among (unclosed_all (if v then [] else plain o ∷ inside what (blocks_in os))) b.found
 down-by true what o os b c h = refl
 down-by false what o os b c h =
@@ -70,11 +70,11 @@ down-by false what o os b c h =
 down-found : (what : Sought) (os : List Open) (b : Blocks) → (down_to what os b).found ≡ first_among (unclosed_all (inside what (blocks_in os))) b.found
 down-found what [] b = refl
 down-found what (o ∷ os) b =
-    let d = left_one o os (record b { found = unclosed o b.found }) in
+    let d = left_one o os (record b { found = refuse_unclosed o b.found }) in
     down-by (fits what o.kind) what o os b (down_to what os d) (down-found what os d)
 
 ends-by : (v : Bool) (what : Sought) (line : ℕ) (b : Blocks) (os : List Block) → blocks_in b.stack ≡ os
-    → (ended what v line b).found ≡ first_among ((if v then unclosed_all (inside what os) else []) ++ fault_if (not v) line StrayPart) b.found
+    → (end_block what v line b).found ≡ first_among ((if v then unclosed_all (inside what os) else []) ++ fault_if (not v) line StrayPart) b.found
 ends-by true what line b os e =
     let d = down_to what b.stack b in
     left-found d.stack d ∙ down-found what b.stack b ∙ ap (λ qs. first_among (unclosed_all (inside what qs)) b.found) e
@@ -82,7 +82,7 @@ ends-by true what line b os e =
 ends-by false what line b os e = refl
 
 ends-found : (what : Sought) (within : Bool) (line : ℕ) (b : Blocks) (os : List Block) → blocks_in b.stack ≡ os → within ≡ is_within what os
-    → (ended what within line b).found ≡ first_among (end_faults what line os) b.found
+    → (end_block what within line b).found ≡ first_among (end_faults what line os) b.found
 ends-found what within line b os e h =
     ends-by within what line b os e ∙ ap (λ v. first_among ((if v then unclosed_all (inside what os) else []) ++ fault_if (not v) line StrayPart) b.found) h
 
@@ -105,25 +105,25 @@ not-within what (o ∷ os) h = by (fits what o.kind) h (not-within what os)
     by false h i = i h
 
 divided-found : (kind : Kind) (line : ℕ) (os : List Open) (b : Blocks)
-    → (divided kind line (first_of os) b).found ≡ first_among (fault_if (not (first_divisible (blocks_in os))) line StrayPart) b.found
+    → (next_arm kind line (first_of os) b).found ≡ first_among (fault_if (not (first_divisible (blocks_in os))) line StrayPart) b.found
 divided-found kind line [] b = refl
 divided-found kind line (o ∷ os) b = by (is_else o.kind)
   where
-    by : (v : Bool) → (if v then stray line b else pushed kind o.line (left b)).found ≡ first_among (fault_if (not (not v)) line StrayPart) b.found
+    by : (v : Bool) → (if v then stray line b else push_block kind o.line (leave_innermost b)).found ≡ first_among (fault_if (not (not v)) line StrayPart) b.found
     by true = refl
     by false = left-found b.stack b
 
 module _ (at line : ℕ) (kind : Kind) where
   divided-stands : (qs : List Open) (c : Blocks) (lists : ℕ) (labels : List Landing) (jumps : List Going) → c.stack ≡ qs → Stands at at (at + 1) c (blocks_in qs) lists labels jumps
-      → Stands at at (at + 1) (divided kind line (first_of qs) c) (next_list kind lists (blocks_in qs)) (if first_divisible (blocks_in qs) then lists + 1 else lists) labels jumps
+      → Stands at at (at + 1) (next_arm kind line (first_of qs) c) (next_list kind lists (blocks_in qs)) (if first_divisible (blocks_in qs) then lists + 1 else lists) labels jumps
   divided-stands [] c lists labels jumps e t = other_fault at at (at + 1) c (refuse_if true line StrayPart c.found) [] lists labels jumps t
   divided-stands (o ∷ qs) c lists labels jumps e t = by (is_else o.kind)
     where
-      by : (v : Bool) → Stands at at (at + 1) (if v then stray line c else pushed kind o.line (left c))
+      by : (v : Bool) → Stands at at (at + 1) (if v then stray line c else push_block kind o.line (leave_innermost c))
           (if v then blocks_in (o ∷ qs) else begin kind o.line lists (blocks_in qs)) (if not v then lists + 1 else lists) labels jumps
       by true = other_fault at at (at + 1) c (refuse_if true line StrayPart c.found) (blocks_in (o ∷ qs)) lists labels jumps t
       by false =
-          push-stands at kind o.line at (left c) (blocks_in qs) lists labels jumps (le_refl at)
+          push-stands at kind o.line at (leave_innermost c) (blocks_in qs) lists labels jumps (le_refl at)
           (left-stands at at c (blocks_in (o ∷ qs)) lists labels jumps (omega arith) t)
 
   part-by : (v : Bool) (b : Blocks) (os : List Block) (lists : ℕ) (labels : List Landing) (jumps : List Going) → is_within sought.BlockIf os ≡ v → Stands at at (at + 1) b os lists labels jumps
@@ -177,31 +177,31 @@ module _ (at line : ℕ) (b : Blocks) (os : List Block) (lists : ℕ) (labels : 
   nothing-more : (n : ℕ) (c : Blocks) (qs : List Block) (k : ℕ) → n ≤ at + 1 → Stands at n (at + 1) c qs k labels jumps → Stands at (at + 1) (at + 1) c qs k (labels ++ []) (jumps ++ [])
   nothing-more n c qs k l u = no-jump at (at + 1) (at + 1) c qs k (labels ++ []) jumps (lands-stands at None (at + 1) (at + 1) c qs k labels jumps (later at n (at + 1) (at + 1) (at + 1) c qs k labels jumps l (le_refl (at + 1)) u))
 
-  simply : (label : Option ℕ) (a : Action) → Stands at (at + 1) (at + 1) (stood label (jumped a line b)) (past_label label os) lists (labels ++ label_in_list label (list_of os)) (jumps ++ going a line (lists_of os))
-  simply label a = stood-stands at label (jumped a line b) os lists labels (jumps ++ going a line (lists_of os)) (jumps-stands at a line b os lists labels jumps t)
+  simply : (label : Option ℕ) (a : Action) → Stands at (at + 1) (at + 1) (take_executable label (keep_jump a line b)) (past_label label os) lists (labels ++ label_in_list label (list_of os)) (jumps ++ going a line (lists_of os))
+  simply label a = stood-stands at label (keep_jump a line b) os lists labels (jumps ++ going a line (lists_of os)) (jumps-stands at a line b os lists labels jumps t)
 
-  simply-found : (label : Option ℕ) (a : Action) → (stood label (jumped a line b)).found ≡ b.found
-  simply-found label a = stood-found label (jumped a line b) ∙ jumped-found a line b
+  simply-found : (label : Option ℕ) (a : Action) → (take_executable label (keep_jump a line b)).found ≡ b.found
+  simply-found label a = stood-found label (keep_jump a line b) ∙ jumped-found a line b
 
   enters : (kind : Kind) (label : Option ℕ)
-      → Stands at (at + 1) (at + 1) (entered kind line (landed label b)) (begin kind line lists os) (lists + 1) (labels ++ label_in_list label (list_of os)) (jumps ++ [])
+      → Stands at (at + 1) (at + 1) (enter_block kind line (add_landing label b)) (begin kind line lists os) (lists + 1) (labels ++ label_in_list label (list_of os)) (jumps ++ [])
   enters kind label =
-      let c = landed label b in
+      let c = add_landing label b in
       let more = labels ++ label_in_list label (list_of os) in
       let found = refuse_if (nat_le 64 (length c.stack)) line TooDeep c.found in
       let d = record c { found = found } in
       let u = other_fault at at (at + 1) c found os lists more jumps (lands-stands at label at (at + 1) b os lists labels jumps begun) in
       let p = push-stands at kind line at d os lists more jumps (le_refl at) u in
-      no-jump at (at + 1) (at + 1) (pushed kind line d) (begin kind line lists os) (lists + 1) more jumps
-      (later at at (at + 1) (at + 1) (at + 1) (pushed kind line d) (begin kind line lists os) (lists + 1) more jumps (omega arith) (le_refl (at + 1)) p)
+      no-jump at (at + 1) (at + 1) (push_block kind line d) (begin kind line lists os) (lists + 1) more jumps
+      (later at at (at + 1) (at + 1) (at + 1) (push_block kind line d) (begin kind line lists os) (lists + 1) more jumps (omega arith) (le_refl (at + 1)) p)
 
-  landed-stack : (label : Option ℕ) → (landed label b).stack ≡ b.stack
+  landed-stack : (label : Option ℕ) → (add_landing label b).stack ≡ b.stack
   landed-stack None = refl
   landed-stack (Some l) = refl
 
-  enters-found : (kind : Kind) (label : Option ℕ) → (entered kind line (landed label b)).found ≡ first_among (too_deep line os) b.found
+  enters-found : (kind : Kind) (label : Option ℕ) → (enter_block kind line (add_landing label b)).found ≡ first_among (too_deep line os) b.found
   enters-found kind label =
-      let deep : length (landed label b).stack ≡ length os = ap length (landed-stack label) ∙ sym (length-map b.stack plain) ∙ ap length t.blocks in
+      let deep : length (add_landing label b).stack ≡ length os = ap length (landed-stack label) ∙ sym (length-map b.stack plain) ∙ ap length t.blocks in
       ap₂ (λ k found. refuse_if (nat_le 64 k) line TooDeep found) deep (landed-found label b) ∙ sym (among-if (nat_le 64 (length os)) line TooDeep b.found)
 
   parts : (kind : Kind) → Stands at (at + 1) (at + 1) (part kind line b) (divide kind lists os) (if is_divisible os then lists + 1 else lists) (labels ++ []) (jumps ++ [])
@@ -228,27 +228,27 @@ module _ (at line : ℕ) (b : Blocks) (os : List Block) (lists : ℕ) (labels : 
   role-does EndIf label =
       let within = within_if (first_of b.stack) in
       let same : within ≡ is_within sought.BlockIf os = within_if-is b.stack t.cached ∙ ap (is_within sought.BlockIf) t.blocks in
-      let c = ended sought.BlockIf within line b in
+      let c = end_block sought.BlockIf within line b in
       let u = ends-stands at sought.BlockIf within line b os lists labels jumps same now in
       let rest = without sought.BlockIf os in
       let more = labels ++ label_in_list label (list_of rest) in
       record {
-        stands = no-jump at (at + 1) (at + 1) (stood label c) (past_label label rest) lists more jumps (stood-stands at label c rest lists labels jumps u);
+        stands = no-jump at (at + 1) (at + 1) (take_executable label c) (past_label label rest) lists more jumps (stood-stands at label c rest lists labels jumps u);
         found = stood-found label c ∙ ends-found sought.BlockIf within line b os t.blocks same;
       }
   role-does EndDo label =
-      let c = stood label b in
+      let c = take_executable label b in
       let rest = past_label label os in
       let more = labels ++ label_in_list label (list_of os) in
       let u = stood-stands at label b os lists labels jumps now in
       let within = within_do (first_of c.stack) in
       let same : within ≡ is_within sought.PlainDo rest = within_do-is c.stack u.cached ∙ ap (is_within sought.PlainDo) u.blocks in
       record {
-        stands = no-jump at (at + 1) (at + 1) (ended sought.PlainDo within line c) (without sought.PlainDo rest) lists more jumps (ends-stands at sought.PlainDo within line c rest lists more jumps same u);
+        stands = no-jump at (at + 1) (at + 1) (end_block sought.PlainDo within line c) (without sought.PlainDo rest) lists more jumps (ends-stands at sought.PlainDo within line c rest lists more jumps same u);
         found = ends-found sought.PlainDo within line c rest u.blocks same ∙ ap (first_among (end_faults sought.PlainDo line rest)) (stood-found label b);
       }
   role-does End label =
-      let c = stood label b in
+      let c = take_executable label b in
       let rest = past_label label os in
       let more = labels ++ label_in_list label (list_of os) in
       let u = stood-stands at label b os lists labels jumps now in

@@ -12,7 +12,7 @@ use Rattle.f77_structure.specs.declared.blocks.Blocks.{Blocks}
 use Rattle.f77_structure.specs.declared.blocks.Jump.{Jump}
 use Rattle.f77_structure.specs.declared.blocks.Landing.{Landing}
 use Rattle.f77_structure.specs.Opens.{contains}
-use Rattle.f77_structure.specs.Jumps.{contained_in, contained}
+use Rattle.f77_structure.specs.Jumps.{contained_in, has_place}
 use Rattle.f77_structure.specs.Nesting.{Block, Going, lists_of}
 use Rattle.f77_structure.proofs.Places.{set-same, set-other, more-last, more-other, more-before}
 
@@ -32,7 +32,7 @@ has k ks = list_any (λ x. nat_eq x k) ks
 
 -- just these lists contain the place
 abbrev pub Within : List Span → ℕ → List ℕ → Type 0
-Within spans place ks = (k : ℕ) → contained spans k place ≡ has k ks
+Within spans place ks = (k : ℕ) → has_place spans k place ≡ has k ks
 
 abbrev pub span : ℕ → End → Span
 span from end = record { from = from; end = end }
@@ -65,12 +65,12 @@ same-or-not a b h e = ⊎_elim (λ t. h t.1 t.0) (λ t. e t.1 t.0) (eqb_tells a 
 
 -- a list that ends at a place contains what it did before, and nothing behind
 pub ended-before : (spans : List Span) (i from at q : ℕ) → slice_get spans i ≡ Some (span from ends.Open) → q ≤ at
-    → (k : ℕ) → contained (slice_set spans i (span from (ends.At at))) k q ≡ contained spans k q
+    → (k : ℕ) → has_place (slice_set spans i (span from (ends.At at))) k q ≡ has_place spans k q
 unfolding contains
 ended-before spans i from at q h l k =
     same-or-not i k
     (λ e t.
-    let P : ℕ → Type 0 = λ x. contained (slice_set spans i (span from (ends.At at))) x q ≡ contained spans x q in
+    let P : ℕ → Type 0 = λ x. has_place (slice_set spans i (span from (ends.At at))) x q ≡ has_place spans x q in
     let past : nat_le q at ≡ true = grind (arith, nat_tests) in
     subst P e
     (ap (λ x. contained_in x q) (set-same spans i (span from (ends.At at)) (span from ends.Open) h)
@@ -88,7 +88,7 @@ unfolding contains
 ended-behind spans i from at q ks h l n w k =
     same-or-not i k
     (λ e t.
-    let P : ℕ → Type 0 = λ x. contained (slice_set spans i (span from (ends.At at))) x q ≡ has x ks in
+    let P : ℕ → Type 0 = λ x. has_place (slice_set spans i (span from (ends.At at))) x q ≡ has x ks in
     let past : nat_le q at ≡ false = grind (arith, nat_tests) in
     subst P e
     (ap (λ x. contained_in x q) (set-same spans i (span from (ends.At at)) (span from ends.Open) h)
@@ -98,7 +98,7 @@ ended-behind spans i from at q ks h l n w k =
     (λ e t. ap (λ x. contained_in x q) (set-other spans i k (span from (ends.At at)) e) ∙ w k ∙ ap (λ v. v || has k ks) t)
 
 -- no list that is yet to begin contains a place
-no-list : (spans : List Span) (q : ℕ) → contained spans (length spans) q ≡ false
+no-list : (spans : List Span) (q : ℕ) → has_place spans (length spans) q ≡ false
 no-list spans q = ap (λ x. contained_in x q) (slice_get_past spans (length spans) (le_refl (length spans)))
 
 -- a list that begins at a place contains nothing before it, and what comes then
@@ -107,7 +107,7 @@ unfolding contains
 begun-before spans at q ks l w k =
     same-or-not (length spans) k
     (λ e t.
-    let P : ℕ → Type 0 = λ x. contained (spans ++ span at ends.Open ∷ []) x q ≡ has x ks in
+    let P : ℕ → Type 0 = λ x. has_place (spans ++ span at ends.Open ∷ []) x q ≡ has x ks in
     let early : nat_le at q ≡ false = grind (arith, nat_tests) in
     subst P e
     (ap (λ x. contained_in x q) (more-last spans (span at ends.Open))
@@ -121,7 +121,7 @@ unfolding contains
 begun-behind spans at q ks l w k =
     same-or-not (length spans) k
     (λ e t.
-    let P : ℕ → Type 0 = λ x. contained (spans ++ span at ends.Open ∷ []) x q ≡ has x (length spans ∷ ks) in
+    let P : ℕ → Type 0 = λ x. has_place (spans ++ span at ends.Open ∷ []) x q ≡ has x (length spans ∷ ks) in
     let late : nat_le at q ≡ true = grind (arith, nat_tests) in
     let own : nat_eq (length spans) (length spans) ≡ true = grind (arith, nat_tests) in
     subst P e

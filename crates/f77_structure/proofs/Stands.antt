@@ -20,8 +20,8 @@ use Rattle.f77_structure.specs.Kinds.{ends_at, is_if, fits}
 use Rattle.f77_structure.specs.Nesting.{Block, Going, lists_of, list_of, is_within, innermost, outside, past, past_label, without, begin, label_in_list, going}
 use Rattle.f77_structure.specs.Checks.{fault_if, first_among}
 use Rattle.f77_structure.specs.Opens.{within_if, within_do}
-use Rattle.f77_structure.specs.Blocks.{left, left_one, left_from, ended_by, unclosed, down_to, pushed, stray, list_at, landed, stood, jumped}
-use Rattle.f77_structure.specs.Steps.{ended}
+use Rattle.f77_structure.specs.Blocks.{leave_innermost, left_one, left_from, ended_by, refuse_unclosed, down_to, push_block, stray, list_at, add_landing, take_executable, keep_jump}
+use Rattle.f77_structure.specs.Steps.{end_block}
 use Rattle.f77_structure.proofs.FirstLemmas.{refuse_if-first}
 use Rattle.f77_structure.proofs.Places.{more-last}
 use Rattle.f77_structure.proofs.Shown.{blocks_in, path_of, Within, span, ShowsIn, ended-before, ended-behind, begun-before, begun-behind, new-list, ended-open, begun-open, kept-at, kept-more}
@@ -136,11 +136,11 @@ module _ (at : ℕ) where
       → ShowsIn os at n (at + 1) b lists labels jumps → Stands at n (at + 1) (down_to what os b) (innermost what (blocks_in os)) lists labels jumps
   innermost-stands what n [] b lists labels jumps l e c s = here n (at + 1) [] b lists labels jumps e c s
   innermost-stands what n (o ∷ os) b lists labels jumps l e c s =
-      let d = record b { found = unclosed o b.found } in
+      let d = record b { found = refuse_unclosed o b.found } in
       either n (at + 1) (fits what o.kind) b (down_to what os (left_one o os d)) (blocks_in (o ∷ os)) (innermost what (blocks_in os)) lists labels jumps
       (here n (at + 1) (o ∷ os) b lists labels jumps e c s)
       (innermost-stands what n os (left_one o os d) lists labels jumps l refl c.outer
-      (leaves o os n d lists labels jumps l (refound (o ∷ os) n (at + 1) b (unclosed o b.found) lists labels jumps s)))
+      (leaves o os n d lists labels jumps l (refound (o ∷ os) n (at + 1) b (refuse_unclosed o b.found) lists labels jumps s)))
 
   outside-stands : (n : ℕ) (os : List Open) (b : Blocks) (lists : ℕ) (labels : List Landing) (jumps : List Going) → n ≤ at + 1 → b.stack ≡ os → Cached os
       → ShowsIn os at n (at + 1) b lists labels jumps → Stands at n (at + 1) (left_from os b) (outside (blocks_in os)) lists labels jumps
@@ -149,9 +149,9 @@ module _ (at : ℕ) where
       here n (at + 1) os (left_one o os b) lists labels jumps refl c.outer (leaves o os n b lists labels jumps l s)
 
   pub left-stands : (n : ℕ) (b : Blocks) (os : List Block) (lists : ℕ) (labels : List Landing) (jumps : List Going) → n ≤ at + 1 → Stands at n (at + 1) b os lists labels jumps
-      → Stands at n (at + 1) (left b) (outside os) lists labels jumps
+      → Stands at n (at + 1) (leave_innermost b) (outside os) lists labels jumps
   left-stands n b os lists labels jumps l t =
-      wanted n (at + 1) (left b) (outside (blocks_in b.stack)) (outside os) lists labels jumps (ap outside t.blocks)
+      wanted n (at + 1) (leave_innermost b) (outside (blocks_in b.stack)) (outside os) lists labels jumps (ap outside t.blocks)
       (outside-stands n b.stack b lists labels jumps l refl t.cached t.shows)
 
   pub down-stands : (what : Sought) (n : ℕ) (b : Blocks) (os : List Block) (lists : ℕ) (labels : List Landing) (jumps : List Going) → n ≤ at + 1 → Stands at n (at + 1) b os lists labels jumps
@@ -162,20 +162,20 @@ module _ (at : ℕ) where
 
   -- the innermost block that fits ends
   pub ends-stands : (what : Sought) (within : Bool) (line : ℕ) (b : Blocks) (os : List Block) (lists : ℕ) (labels : List Landing) (jumps : List Going) → within ≡ is_within what os
-      → Stands at (at + 1) (at + 1) b os lists labels jumps → Stands at (at + 1) (at + 1) (ended what within line b) (without what os) lists labels jumps
+      → Stands at (at + 1) (at + 1) b os lists labels jumps → Stands at (at + 1) (at + 1) (end_block what within line b) (without what os) lists labels jumps
   ends-stands what within line b os lists labels jumps e t =
       let n = at + 1 in
       let d = down_to what b.stack b in
-      let P : Bool → Type 0 = λ v. Stands at n n (ended what v line b) (without what os) lists labels jumps in
+      let P : Bool → Type 0 = λ v. Stands at n n (end_block what v line b) (without what os) lists labels jumps in
       subst P (sym e)
-      (either n n (is_within what os) (left d) (stray line b) (outside (innermost what os)) os lists labels jumps
+      (either n n (is_within what os) (leave_innermost d) (stray line b) (outside (innermost what os)) os lists labels jumps
       (left-stands n d (innermost what os) lists labels jumps (le_refl n) (down-stands what n b os lists labels jumps (le_refl n) t))
       (other_fault n n b (refuse_if true line StrayPart b.found) os lists labels jumps t))
 
   -- ---- labels and GO TOs
 
   pub lands-stands : (label : Option ℕ) (n m : ℕ) (b : Blocks) (os : List Block) (lists : ℕ) (labels : List Landing) (jumps : List Going) → Stands at n m b os lists labels jumps
-      → Stands at n m (landed label b) os lists (labels ++ label_in_list label (list_of os)) jumps
+      → Stands at n m (add_landing label b) os lists (labels ++ label_in_list label (list_of os)) jumps
   lands-stands None n m b os lists labels jumps t =
       let P : List Landing → Type 0 = λ x. Stands at n m b os lists x jumps in
       subst P (sym (append-nil labels)) t
@@ -198,7 +198,7 @@ module _ (at : ℕ) where
   no-jump n m b os lists labels jumps t = let P : List Going → Type 0 = λ x. Stands at n m b os lists labels x in subst P (sym (append-nil jumps)) t
 
   pub jumps-stands : (a : Action) (line : ℕ) (b : Blocks) (os : List Block) (lists : ℕ) (labels : List Landing) (jumps : List Going) → Stands at at at b os lists labels jumps
-      → Stands at (at + 1) (at + 1) (jumped a line b) os lists labels (jumps ++ going a line (lists_of os))
+      → Stands at (at + 1) (at + 1) (keep_jump a line b) os lists labels (jumps ++ going a line (lists_of os))
   jumps-stands Return line b os lists labels jumps t =
       no-jump (at + 1) (at + 1) b os lists labels jumps (later at at (at + 1) (at + 1) b os lists labels jumps (omega arith) (omega arith) t)
   jumps-stands Stop line b os lists labels jumps t =
@@ -224,11 +224,11 @@ module _ (at : ℕ) where
       }
 
   pub stood-stands : (label : Option ℕ) (b : Blocks) (os : List Block) (lists : ℕ) (labels : List Landing) (jumps : List Going) → Stands at (at + 1) (at + 1) b os lists labels jumps
-      → Stands at (at + 1) (at + 1) (stood label b) (past_label label os) lists (labels ++ label_in_list label (list_of os)) jumps
-  unfolding stood
+      → Stands at (at + 1) (at + 1) (take_executable label b) (past_label label os) lists (labels ++ label_in_list label (list_of os)) jumps
+  unfolding take_executable
   stood-stands None b os lists labels jumps t = lands-stands None (at + 1) (at + 1) b os lists labels jumps t
   stood-stands (Some l) b os lists labels jumps t =
-      let c = landed (Some l) b in
+      let c = add_landing (Some l) b in
       let more = labels ++ label_in_list (Some l) (list_of os) in
       let u = lands-stands (Some l) (at + 1) (at + 1) b os lists labels jumps t in
       wanted (at + 1) (at + 1) (ended_by l b.stack c) (past l (blocks_in b.stack)) (past l os) lists more jumps (ap (past l) t.blocks)
@@ -237,7 +237,7 @@ module _ (at : ℕ) where
   -- ---- blocks begin
 
   pub push-stands : (kind : Kind) (line n : ℕ) (b : Blocks) (os : List Block) (lists : ℕ) (labels : List Landing) (jumps : List Going) → n ≤ at → Stands at n (at + 1) b os lists labels jumps
-      → Stands at n (at + 1) (pushed kind line b) (begin kind line lists os) (lists + 1) labels jumps
+      → Stands at n (at + 1) (push_block kind line b) (begin kind line lists os) (lists + 1) labels jumps
   push-stands kind line n b os lists labels jumps l t =
       let s = t.shows in
       let new = span b.place ends.Open in

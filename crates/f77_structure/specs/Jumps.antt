@@ -16,22 +16,22 @@ contained_in None place = false
 contained_in (Some s) place = contains s place
 
 -- a list contains the statement at a place
-abbrev pub contained : List Span → ℕ → ℕ → Bool
-contained spans list place = contained_in (slice_get spans list) place
+abbrev pub has_place : List Span → ℕ → ℕ → Bool
+has_place spans list place = contained_in (slice_get spans list) place
 
 -- each statement with the label of the GO TO stands in a list that contains the GO TO
 abbrev pub reaches : List Span → List Landing → Jump → Bool
-reaches spans landings j = list_all (λ x. not (nat_eq x.label j.label) || contained spans x.list j.place) landings
+reaches spans landings j = list_all (λ x. not (nat_eq x.label j.label) || has_place spans x.list j.place) landings
 
-abbrev pub judged : List Span → List Landing → Jump → Option Refusal → Option Refusal
-judged spans landings j found =
+abbrev pub check_jump : List Span → List Landing → Jump → Option Refusal → Option Refusal
+check_jump spans landings j found =
     if stands landings j.label then refuse_if (not (reaches spans landings j)) j.line JumpIntoBlock found
     else refuse_if true j.line LabelMissing found
 
 -- the first fault, also of these GO TOs
 abbrev pub all_judged : List Span → List Landing → List Jump → Option Refusal → Option Refusal
 all_judged spans landings [] found = found
-all_judged spans landings (j ∷ js) found = all_judged spans landings js (judged spans landings j found)
+all_judged spans landings (j ∷ js) found = all_judged spans landings js (check_jump spans landings j found)
 
 -- the first fault of the blocks and of the GO TOs
 abbrev pub block_fault : Blocks → Option Refusal

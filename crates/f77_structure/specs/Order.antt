@@ -44,9 +44,9 @@ abbrev pub has_label : ℕ → List ℕ → Bool
 has_label l ls = list_any (λ x. nat_eq x l) ls
 
 -- the label of an executable statement
-abbrev pub labelled : ℕ → Option ℕ → Order → Order
-labelled line None o = o
-labelled line (Some l) o = record o {
+abbrev pub keep_label : ℕ → Option ℕ → Order → Order
+keep_label line None o = o
+keep_label line (Some l) o = record o {
   labels = o.labels ++ l ∷ [];
   found = refuse_if (has_label l o.labels) line LabelTwice o.found;
 }
@@ -68,13 +68,13 @@ counted m o = record {
 }
 
 -- one statement more
-unfoldable pub ordered : Mark → Order → Order
-ordered m o = counted m (labelled m.line (label_in m) o)
+unfoldable pub check_next : Mark → Order → Order
+check_next m o = counted m (keep_label m.line (label_in m) o)
 
 -- these statements more
 abbrev pub all_ordered : List Mark → Order → Order
 all_ordered [] o = o
-all_ordered (m ∷ ms) o = all_ordered ms (ordered m o)
+all_ordered (m ∷ ms) o = all_ordered ms (check_next m o)
 
 -- before the first statement
 abbrev pub nothing_ordered : Order

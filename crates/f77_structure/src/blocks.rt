@@ -1,7 +1,8 @@
-//! The blocks of a module, as its statements open and close them.
+//! The blocks of a module, DOs and block IFs, as its statements open and close them. Places of statements count all statements of
+//! the module from 0, places of lists are those in `Blocks::spans`.
 ghost use Rattle.std.specs.Prelude.{◌≡◌, ◌<◌, ◌≤◌, ◌+◌, ◌-◌, ◌^◌, length, IfOk};
 ghost use Rattle.f77_structure.specs.Lists.{first_of};
-ghost use Rattle.f77_structure.specs.Blocks.{shut, left, ended_by, unclosed, down_to, pushed, entered, stray, list_at, landed, stood, jumped};
+ghost use Rattle.f77_structure.specs.Blocks.{close_list, leave_innermost, ended_by, refuse_unclosed, down_to, push_block, enter_block, stray, list_at, add_landing, take_executable, keep_jump};
 
 use crate::mark::Action;
 use crate::open::{End, Kind, Open, Sought, Span, within_do, within_if};
@@ -10,17 +11,17 @@ use fx_lists::List;
 use refusal_codes::{Code, Refusal, refuse_if};
 use std::alloc::AllocError as Memory;
 
-/// How deep blocks, and parentheses, may stand in one another.
+/// How deep blocks, and parentheses, may be nested.
 pub const DEEPEST: usize = 64;
 
-/// The label of an executable statement, and the place of the list that it stands in.
+/// The label of an executable statement, and the place of the list that has the statement.
 #[derive(Clone, Copy, Debug)]
 pub struct Landing {
     pub label: u32,
     pub list: usize,
 }
 
-/// A GO TO: its line, its label, and the place of its statement in the module.
+/// A GO TO: the first line of its statement, its label, and the place of its statement.
 #[derive(Clone, Copy, Debug)]
 pub struct Jump {
     pub line: u32,
@@ -28,23 +29,26 @@ pub struct Jump {
     pub place: usize,
 }
 
-/// The blocks of a module so far.
+/// The blocks of a module after some of its statements.
 #[derive(Debug, Drop)]
 pub struct Blocks {
-    /// The place of the present statement in the module, from 0.
+    /// The place of the present statement.
     pub place: usize,
     /// The open blocks, the innermost first.
     pub stack: Stack<Open>,
-    /// The lists of statements, the module's own first.
+    /// The lists of statements in the order in which they begin, the module's own first.
     pub spans: List<Span>,
+    /// The labels of executable statements, in the order of the text.
     pub landings: List<Landing>,
+    /// The GO TOs, in the order of the text.
     pub jumps: List<Jump>,
+    /// The first refusal so far.
     pub found: Option<Refusal>,
 }
 
 /// The list of a block ends at a place.
-fn shut(mut spans: List<Span>, block: Open, place: usize) -> List<Span>
-    ensures { result ≡ shut block place spans }
+fn close_list(mut spans: List<Span>, block: Open, place: usize) -> List<Span>
+    ensures { result ≡ close_list block place spans }
 {
     if block.list < spans.len() {
         spans.set(
@@ -58,9 +62,9 @@ fn shut(mut spans: List<Span>, block: Open, place: usize) -> List<Span>
     spans
 }
 
-/// The innermost block ends.
-pub fn left(blocks: Blocks) -> Blocks
-    ensures defined { result ≡ left blocks }
+/// Ends the innermost block, if there is one, and its list at the present statement.
+pub fn leave_innermost(blocks: Blocks) -> Blocks
+    ensures defined { result ≡ leave_innermost blocks }
     ensures shorter { length result.stack ≡ length blocks.stack - 1 }
 {
     let Blocks {
@@ -73,7 +77,7 @@ pub fn left(blocks: Blocks) -> Blocks
     } = blocks;
     let spans = match stack.pop() {
         None => spans,
-        Some(block) => shut(spans, block, place),
+        Some(block) => close_list(spans, block, place),
     };
     Blocks {
         place,
@@ -85,7 +89,7 @@ pub fn left(blocks: Blocks) -> Blocks
     }
 }
 
-/// The innermost DOs that end at a label.
+/// Ends the innermost DOs as long as their last statement is to have this label (ANSI X3.9-1978 §11.10).
 #[tactic(auto, using(crate::proofs::BlockLemmas::ending))]
 pub fn ended_by(blocks: Blocks, label: u32) -> Blocks
     ensures { result ≡ ended_by label blocks.stack blocks }
@@ -95,14 +99,14 @@ pub fn ended_by(blocks: Blocks, label: u32) -> Blocks
         if !block.kind.ends_at(label) {
             return blocks;
         }
-        blocks = left(blocks);
+        blocks = leave_innermost(blocks);
     }
     blocks
 }
 
 /// A block without its end.
-fn unclosed(block: Open, found: Option<Refusal>) -> Option<Refusal>
-    ensures { result ≡ unclosed block found }
+fn refuse_unclosed(block: Open, found: Option<Refusal>) -> Option<Refusal>
+    ensures { result ≡ refuse_unclosed block found }
 {
     let code = if block.kind.is_if() {
         Code::UnclosedIf
@@ -112,7 +116,8 @@ fn unclosed(block: Open, found: Option<Refusal>) -> Option<Refusal>
     refuse_if(!block.spoiled, block.line, code, found)
 }
 
-/// The blocks in the innermost that is sought end without their ends.
+/// Ends the innermost blocks, up to the first that is sought, as blocks without their ends: a block IF is refused with
+/// `UnclosedIf`, a DO with `UnclosedDo` unless it is spoiled.
 #[tactic(auto, using(crate::proofs::BlockLemmas::descending))]
 pub fn down_to(blocks: Blocks, sought: Sought) -> Blocks
     ensures { result ≡ down_to sought blocks.stack blocks }
@@ -122,22 +127,22 @@ pub fn down_to(blocks: Blocks, sought: Sought) -> Blocks
         if sought.fits(block.kind) {
             return blocks;
         }
-        let found = unclosed(block, blocks.found);
-        blocks = left(with_found(blocks, found));
+        let found = refuse_unclosed(block, blocks.found);
+        blocks = leave_innermost(with_found(blocks, found));
     }
     blocks
 }
 
-/// What was found first is replaced.
+/// The blocks with another first refusal.
 pub fn with_found(blocks: Blocks, found: Option<Refusal>) -> Blocks
     ensures { result ≡ record blocks { found = found } }
 {
     Blocks { found, ..blocks }
 }
 
-/// A list of statements begins.
-pub fn pushed(blocks: Blocks, kind: Kind, line: u32) -> Result<Blocks, Memory>
-    ensures { IfOk result (λ b. b ≡ pushed kind line blocks) }
+/// Opens a block, and its list at the present statement. `line` is that of its opening.
+pub fn push_block(blocks: Blocks, kind: Kind, line: u32) -> Result<Blocks, Memory>
+    ensures { IfOk result (λ b. b ≡ push_block kind line blocks) }
 {
     let Blocks {
         place,
@@ -163,7 +168,7 @@ pub fn pushed(blocks: Blocks, kind: Kind, line: u32) -> Result<Blocks, Memory>
     })?;
     Ok(Blocks {
         place,
-        stack: stack.pushed(block)?,
+        stack: stack.with_first(block)?,
         spans,
         landings,
         jumps,
@@ -171,16 +176,16 @@ pub fn pushed(blocks: Blocks, kind: Kind, line: u32) -> Result<Blocks, Memory>
     })
 }
 
-/// A block is opened.
-pub fn entered(blocks: Blocks, kind: Kind, line: u32) -> Result<Blocks, Memory>
-    ensures { IfOk result (λ b. b ≡ entered kind line blocks) }
+/// Opens a block, and refuses it with `TooDeep` where 64 are open.
+pub fn enter_block(blocks: Blocks, kind: Kind, line: u32) -> Result<Blocks, Memory>
+    ensures { IfOk result (λ b. b ≡ enter_block kind line blocks) }
 {
     let deep = DEEPEST <= blocks.stack.len();
     let found = refuse_if(deep, line, Code::TooDeep, blocks.found);
-    pushed(with_found(blocks, found), kind, line)
+    push_block(with_found(blocks, found), kind, line)
 }
 
-/// A part is out of place.
+/// Refuses a statement that is out of place with `StrayPart`.
 pub fn stray(blocks: Blocks, line: u32) -> Blocks
     ensures { result ≡ stray line blocks }
 {
@@ -197,9 +202,9 @@ fn list_at(innermost: Option<Open>) -> usize
     }
 }
 
-/// An executable statement stands in the open list.
-pub fn landed(blocks: Blocks, label: Option<u32>) -> Result<Blocks, Memory>
-    ensures { IfOk result (λ b. b ≡ landed label blocks) }
+/// Records the label of an executable statement, where it has one, for the innermost list.
+pub fn add_landing(blocks: Blocks, label: Option<u32>) -> Result<Blocks, Memory>
+    ensures { IfOk result (λ b. b ≡ add_landing label blocks) }
 {
     match label {
         None => Ok(blocks),
@@ -228,21 +233,21 @@ pub fn landed(blocks: Blocks, label: Option<u32>) -> Result<Blocks, Memory>
     }
 }
 
-/// An executable statement that opens no block stands in the open list, and ends the DOs to its label.
-#[tactic(auto, unfolding(crate::specs::Blocks::stood))]
-pub fn stood(blocks: Blocks, label: Option<u32>) -> Result<Blocks, Memory>
-    ensures { IfOk result (λ b. b ≡ stood label blocks) }
+/// Records the label of an executable statement that opens no block, and ends the DOs whose last statement it is.
+#[tactic(auto, unfolding(crate::specs::Blocks::take_executable))]
+pub fn take_executable(blocks: Blocks, label: Option<u32>) -> Result<Blocks, Memory>
+    ensures { IfOk result (λ b. b ≡ take_executable label blocks) }
 {
-    let blocks = landed(blocks, label)?;
+    let blocks = add_landing(blocks, label)?;
     match label {
         None => Ok(blocks),
         Some(label) => Ok(ended_by(blocks, label)),
     }
 }
 
-/// A GO TO is kept to be judged.
-pub fn jumped(blocks: Blocks, action: Action, line: u32) -> Result<Blocks, Memory>
-    ensures { IfOk result (λ b. b ≡ jumped action line blocks) }
+/// Records a GO TO, which is checked when all labels are known. Another action changes nothing.
+pub fn keep_jump(blocks: Blocks, action: Action, line: u32) -> Result<Blocks, Memory>
+    ensures { IfOk result (λ b. b ≡ keep_jump action line blocks) }
 {
     match action {
         Action::Return | Action::Stop | Action::Other => Ok(blocks),

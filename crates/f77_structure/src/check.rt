@@ -1,4 +1,4 @@
-//! The first fault of a module.
+//! The first refusal of a module for its structure.
 ghost use Rattle.std.specs.Prelude.{◌≡◌, IfOk};
 ghost use Rattle.f77_structure.specs.First.{first_fault};
 ghost use Rattle.f77_structure.specs.Jumps.{block_fault};
@@ -26,7 +26,8 @@ fn first_of_all(found: Option<Refusal>, blocks: &Blocks) -> Option<Refusal>
     )
 }
 
-/// The fault at the earliest line, and there the one with the lowest number.
+/// The refusal of a module at the earliest line, and there the one with the lowest code; None where it has none. The marks are
+/// those of all its statements, in the order of the text. Quadratic in the number of labels and GO TOs.
 #[tactic(auto, using(crate::proofs::AsCode::as_code))]
 pub fn fault_of(alloc: Global, marks: &[Mark]) -> Result<Option<Refusal>, Memory>
     ensures { IfOk result (λ found. found ≡ fault_of marks.now) }

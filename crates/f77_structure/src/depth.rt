@@ -1,11 +1,11 @@
-//! How deep the parentheses of a statement stand in one another.
+//! How deep the parentheses of a statement are nested.
 ghost use Rattle.std.specs.Prelude.{◌≡◌, ◌<◌, ◌≤◌, ◌+◌, ◌^◌, length};
 ghost use Rattle.f77_structure.specs.Depth.{passes, after, is_deep};
 
 use crate::blocks::DEEPEST;
 
-/// What stands before a character: how many parentheses are open, and whether a character constant is.
-#[derive(Clone, Copy, Debug)]
+/// What precedes a character: how many parentheses are open, and whether a character constant is.
+#[derive(Clone, Copy)]
 pub struct Depth {
     pub opened: usize,
     pub quoted: bool,
@@ -50,7 +50,7 @@ impl Depth {
     }
 }
 
-/// Whether more than 64 parentheses stand in one another.
+/// Whether more than 64 parentheses of a stripped statement are open at once, outside character constants.
 pub fn is_deep(body: &[u8]) -> bool
     requires { length body.now < 2 ^ 28 }
     ensures { result ≡ is_deep body.now }

@@ -1,6 +1,6 @@
-//! Where the GO TOs of a module lead.
+//! The targets of the GO TOs of a module (ANSI X3.9-1978 §11.1).
 ghost use Rattle.std.specs.Prelude.{◌≡◌};
-ghost use Rattle.f77_structure.specs.Jumps.{contained, stands, reaches, judged, all_judged};
+ghost use Rattle.f77_structure.specs.Jumps.{has_place, stands, reaches, check_jump, all_judged};
 
 use crate::blocks::{Jump, Landing};
 use crate::first::may_be_first;
@@ -8,8 +8,8 @@ use crate::open::Span;
 use refusal_codes::{Code, Refusal, refuse_if};
 
 /// Whether a list contains the statement at a place.
-fn contained(spans: &[Span], list: usize, place: usize) -> bool
-    ensures { result ≡ contained spans.now list place }
+fn has_place(spans: &[Span], list: usize, place: usize) -> bool
+    ensures { result ≡ has_place spans.now list place }
 {
     match spans.get(list) {
         None => false,
@@ -28,18 +28,18 @@ fn reaches(spans: &[Span], landings: &[Landing], jump: Jump) -> bool
     ensures { result ≡ reaches spans.now landings.now jump }
 {
     landings.iter().all(|landing| landing.label != jump.label
-        || contained(spans, landing.list, jump.place))
+        || has_place(spans, landing.list, jump.place))
 }
 
 /// A GO TO is not sought where a fault before it was found.
 #[tactic(auto, using(crate::proofs::FirstLemmas::no_fault))]
-fn judged(
+fn check_jump(
     spans: &[Span],
     landings: &[Landing],
     jump: Jump,
     found: Option<Refusal>,
 ) -> Option<Refusal>
-    ensures { result ≡ judged spans.now landings.now jump found }
+    ensures { result ≡ check_jump spans.now landings.now jump found }
 {
     if !may_be_first(jump.line, Code::LabelMissing, found) {
         return found;
@@ -51,7 +51,9 @@ fn judged(
     refuse_if(into, jump.line, Code::JumpIntoBlock, found)
 }
 
-/// The first fault, also of the GO TOs. Each is sought among the labels of the module, one after another, up to the first fault where lines ascend.
+/// The first refusal, also of the GO TOs: `LabelMissing` where no executable statement has the label, `JumpIntoBlock` where one has
+/// it in a list that does not contain the GO TO. Each GO TO is compared with all labels, up to the first refusal where lines
+/// ascend.
 pub fn all_judged(
     spans: &[Span],
     landings: &[Landing],
@@ -63,7 +65,7 @@ pub fn all_judged(
     let mut found = found;
     let mut rest = jumps;
     while let [jump, more @ ..] = rest {
-        found = judged(spans, landings, *jump, found);
+        found = check_jump(spans, landings, *jump, found);
         rest = more;
     }
     found

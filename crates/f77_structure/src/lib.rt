@@ -1,4 +1,4 @@
-//! The structure of a module: from its statements, each as far as structure asks, to its first fault.
+//! The structure of a module: from its statements, each as far as structure needs it, to its first refusal.
 #![tactic(auto)]
 
 mod blocks;

@@ -1,4 +1,4 @@
-//! What the structure of a module asks of a statement.
+//! What the structure of a module needs of a statement.
 ghost use Rattle.std.specs.Prelude.{◌≡◌, ◌≤◌};
 ghost use Rattle.f77_structure.specs.Marks.{statements_in, label_in, returns_in};
 
@@ -12,14 +12,14 @@ pub enum Action {
     Other,
 }
 
-/// What a statement is in its module.
+/// The part that a statement has in its module.
 #[derive(Clone, Copy, Debug, PartialEq, Eq)]
 pub enum Role {
     Program,
     Subroutine,
     Specification,
     Plain(Action),
-    /// What the statement behind the test does.
+    /// What the statement after the test does.
     LogicalIf(Action),
     BlockIf,
     ElseIf,
@@ -31,18 +31,19 @@ pub enum Role {
     End,
 }
 
-/// A statement as far as structure asks.
-#[derive(Clone, Copy, Debug, PartialEq, Eq)]
+/// A statement as far as the structure of its module needs it.
+#[derive(Clone, Copy, PartialEq, Eq)]
 pub struct Mark {
-    /// The number of its first line, from 1.
+    /// The number of its first line in the text, from 1.
     pub line: u32,
     pub label: Option<u32>,
     pub role: Role,
-    /// Whether its parentheses stand too deep in one another.
+    /// Whether more than 64 of its parentheses are open at once.
     pub deep: bool,
 }
 
-/// How many executable statements a statement makes: a label of END IF, END DO and END stands for a CONTINUE.
+/// How many executable statements a statement makes, 0 to 2: a logical IF makes two, and a label of END IF, END DO and END makes
+/// a CONTINUE.
 pub fn statements_in(mark: Mark) -> usize
     ensures defined { result ≡ statements_in mark }
     ensures few { result ≤ 2 }
@@ -55,7 +56,7 @@ pub fn statements_in(mark: Mark) -> usize
     }
 }
 
-/// The label, where an executable statement has it.
+/// The label of a statement that makes an executable statement; None for the others, whose labels do not count.
 pub fn label_in(mark: Mark) -> Option<u32>
     ensures { result ≡ label_in mark }
 {
@@ -71,7 +72,7 @@ pub fn label_in(mark: Mark) -> Option<u32>
     }
 }
 
-/// Whether a statement is a RETURN or holds one.
+/// Whether a statement is a RETURN, or a logical IF with one.
 pub fn returns_in(role: Role) -> bool
     ensures { result ≡ returns_in role }
 {

@@ -2,7 +2,7 @@
 ghost use Rattle.std.specs.Prelude.{◌≡◌};
 ghost use Rattle.f77_structure.specs.Opens.{ends_at, is_if, is_plain_do, can_spoil, within_if, within_do, fits, contains};
 
-/// What opened a block, and whether its ELSE was read.
+/// What opened a block; `Else` is a block IF after its ELSE.
 #[derive(Clone, Copy, Debug)]
 pub enum Kind {
     /// The label of the last statement of the DO, where it has one.
@@ -11,12 +11,13 @@ pub enum Kind {
     Else,
 }
 
-/// Which open block a part goes on with or ends.
-#[derive(Clone, Copy, Debug)]
+/// Which open block a statement divides or ends.
+#[derive(Clone, Copy)]
 pub enum Sought {
     BlockIf,
     /// A DO without a label.
     PlainDo,
+    /// No block: END of the module.
     Neither,
 }
 
@@ -26,24 +27,24 @@ pub struct Open {
     pub kind: Kind,
     /// The line of its opening.
     pub line: u32,
-    /// The place of its list among the lists of the module, and that of the statement that opened it.
+    /// The place of its list among the lists of the module, and that of the statement that opened the list, both from 0.
     pub list: usize,
     pub from: usize,
-    /// Whether its label stood at a statement that may not end it.
+    /// Whether its label was at a statement that may not end it.
     pub spoiled: bool,
     /// Whether a block IF, and a DO without a label, is open around it.
     pub in_if: bool,
     pub in_do: bool,
 }
 
-/// Whether a list of statements is still open, or the place of the statement that closed it.
+/// Whether a list of statements is still open, or the place of the statement that closed it, from 0.
 #[derive(Clone, Copy, Debug)]
 pub enum End {
     Open,
     At(usize),
 }
 
-/// A list of statements: the place of the statement that opened it, 0 for the module's own, and its end.
+/// A list of statements: the place of the statement that opened it, from 0, and 0 for the module's own; and its end.
 #[derive(Clone, Copy, Debug)]
 pub struct Span {
     pub from: usize,
@@ -51,7 +52,7 @@ pub struct Span {
 }
 
 impl Kind {
-    /// Whether a statement with this label ends it.
+    /// Whether it is a DO whose last statement is to have this label.
     pub fn ends_at(self, label: u32) -> bool
         ensures { result ≡ ends_at label self }
     {
@@ -63,6 +64,7 @@ impl Kind {
         }
     }
 
+    /// Whether it is a block IF, before or after its ELSE.
     pub fn is_if(self) -> bool
         ensures { result ≡ is_if self }
     {
@@ -85,6 +87,7 @@ impl Kind {
 }
 
 impl Sought {
+    /// Whether a block of this kind is one that is sought.
     pub fn fits(self, kind: Kind) -> bool
         ensures { result ≡ fits self kind }
     {
@@ -97,7 +100,7 @@ impl Sought {
 }
 
 impl Open {
-    /// Whether this label makes it a DO with a bad end that is not yet told.
+    /// Whether it is a DO to this label that is not spoiled yet.
     #[tactic(auto, unfolding(crate::specs::Opens::can_spoil))]
     pub fn can_spoil(self, label: u32) -> bool
         ensures { result ≡ can_spoil label self }
@@ -106,7 +109,7 @@ impl Open {
     }
 }
 
-/// Whether a block IF is open, where this is the innermost open block.
+/// Whether a block IF is open, where `innermost` is the innermost open block.
 pub fn within_if(innermost: Option<Open>) -> bool
     ensures { result ≡ within_if innermost }
 {
@@ -116,7 +119,7 @@ pub fn within_if(innermost: Option<Open>) -> bool
     }
 }
 
-/// Whether a DO without a label is open, where this is the innermost open block.
+/// Whether a DO without a label is open, where `innermost` is the innermost open block.
 pub fn within_do(innermost: Option<Open>) -> bool
     ensures { result ≡ within_do innermost }
 {
@@ -127,7 +130,7 @@ pub fn within_do(innermost: Option<Open>) -> bool
 }
 
 impl Span {
-    /// Whether the statement at a place stands in the list or in a block of it.
+    /// Whether the statement at a place is in the list or in a block of it, or is the one that opened or closed the list.
     #[tactic(auto, unfolding(crate::specs::Opens::contains))]
     pub fn contains(self, place: usize) -> bool
         ensures { result ≡ contains self place }

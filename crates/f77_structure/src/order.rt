@@ -1,7 +1,7 @@
 //! The order of the statements of a module, how many there are, and their labels.
 ghost use Rattle.std.specs.Prelude.{◌≡◌, ◌<◌, ◌≤◌, ◌+◌, ◌*◌, ◌^◌, length, IfOk};
 ghost use Rattle.refusal_codes.specs.Refusals.{refuse_if};
-ghost use Rattle.f77_structure.specs.Order.{is_out_of_order, is_main_after, labelled, ordered, order_of, has_label};
+ghost use Rattle.f77_structure.specs.Order.{is_out_of_order, is_main_after, keep_label, check_next, order_of, has_label};
 
 use crate::first::may_be_first;
 use crate::mark::{Mark, Role, label_in, returns_in, statements_in};
@@ -12,17 +12,18 @@ use std::alloc::{AllocError as Memory, Global};
 /// How many executable statements a module may have.
 pub const MOST_STATEMENTS: usize = 4096;
 
-/// The statements of a module so far.
-#[derive(Debug, Drop)]
+/// The statements of a module after some of them.
+#[derive(Drop)]
 pub struct Order {
     /// Whether there was a statement.
     pub begun: bool,
-    /// Whether the module is a main program, as far as it was read.
+    /// Whether the module is a main program: true until a SUBROUTINE is its first statement.
     pub main: bool,
     /// How many executable statements there were.
     pub count: usize,
-    /// Their labels.
+    /// Their labels, in the order of the text.
     pub labels: List<u32>,
+    /// The first refusal so far.
     pub found: Option<Refusal>,
 }
 
@@ -83,8 +84,8 @@ fn unless_new(labels: &[u32], label: u32, line: u32, found: Option<Refusal>) -> 
 }
 
 /// The label of an executable statement.
-fn labelled(order: Order, line: u32, label: Option<u32>) -> Result<Order, Memory>
-    ensures { IfOk result (λ o. o ≡ labelled line label order) }
+fn keep_label(order: Order, line: u32, label: Option<u32>) -> Result<Order, Memory>
+    ensures { IfOk result (λ o. o ≡ keep_label line label order) }
 {
     match label {
         None => Ok(order),
@@ -110,13 +111,13 @@ fn labelled(order: Order, line: u32, label: Option<u32>) -> Result<Order, Memory
 }
 
 /// One statement more.
-#[tactic(auto, unfolding(crate::specs::Order::ordered))]
-fn ordered(order: Order, mark: Mark) -> Result<Order, Memory>
+#[tactic(auto, unfolding(crate::specs::Order::check_next))]
+fn check_next(order: Order, mark: Mark) -> Result<Order, Memory>
     requires { order.count + 2 < 2 ^ 64 }
-    ensures defined { IfOk result (λ o. o ≡ ordered mark order) }
+    ensures defined { IfOk result (λ o. o ≡ check_next mark order) }
     ensures grows { IfOk result (λ o. o.count ≤ order.count + 2) }
 {
-    let order = labelled(order, mark.line, label_in(mark))?;
+    let order = keep_label(order, mark.line, label_in(mark))?;
     let Order {
         begun,
         main,
@@ -139,8 +140,8 @@ fn ordered(order: Order, mark: Mark) -> Result<Order, Memory>
     })
 }
 
-/// The first fault of the order, the number and the labels of the statements of a module. Labels are sought one after
-/// another; where lines ascend none is past the statement after the last that a module may have.
+/// The first refusal of the order, the number, the labels and the nesting of parentheses of the statements of a module. Each label
+/// is compared with those before it; where lines ascend none is past the statement after the last that a module may have.
 pub fn order_fault(alloc: Global, marks: &[Mark]) -> Result<Option<Refusal>, Memory>
     ensures { IfOk result (λ found. found ≡ order_of marks.now) }
 {
@@ -153,7 +154,7 @@ pub fn order_fault(alloc: Global, marks: &[Mark]) -> Result<Option<Refusal>, Mem
     };
     let mut rest = marks;
     while let [mark, more @ ..] = rest {
-        order = ordered(order, *mark)?;
+        order = check_next(order, *mark)?;
         rest = more;
     }
     Ok(order.found)

@@ -1,4 +1,4 @@
-//! A list whose first element is at hand.
+//! A stack, which is a list whose first element is on top.
 ghost use Rattle.std.specs.Prelude.{◌≡◌, [], ◌∷◌, length, MatchOption, IfOk};
 ghost use Rattle.f77_structure.specs.Lists.{first_of, is_none_of};
 
@@ -21,7 +21,7 @@ impl<T> Model for Stack<T> {
 }
 
 impl<T> Stack<T> {
-    /// Takes no memory.
+    /// The empty stack. Takes no memory.
     pub fn new(alloc: Global) -> Stack<T>
         ensures { result ≡ [] }
     {
@@ -30,12 +30,14 @@ impl<T> Stack<T> {
         }
     }
 
+    /// How many elements it has.
     pub fn len(&self) -> usize
         ensures { result ≡ length self.now }
     {
         self.items.len()
     }
 
+    /// Whether it has no element.
     #[tactic(auto, using(crate::proofs::StackLemmas::empties))]
     pub fn is_empty(&self) -> bool
         ensures { result ≡ is_none_of self.now }
@@ -46,7 +48,7 @@ impl<T> Stack<T> {
         }
     }
 
-    /// Takes the first element away.
+    /// Takes the first element away; None where the stack is empty.
     pub fn pop(&mut self) -> Option<T>
         ensures { MatchOption result ((self.old ≡ []) × (self.new ≡ [])) (λ first. self.old ≡ first ∷ self.new) }
     {
@@ -55,7 +57,7 @@ impl<T> Stack<T> {
 }
 
 impl<T: Copy> Stack<T> {
-    /// The first element.
+    /// A copy of the first element; None where the stack is empty.
     #[tactic(auto, using(crate::proofs::StackLemmas::stack_steps))]
     pub fn first(&self) -> Option<T>
         ensures { result ≡ first_of self.now }
@@ -65,8 +67,8 @@ impl<T: Copy> Stack<T> {
 }
 
 impl<T: Drop> Stack<T> {
-    /// Puts an element before the others.
-    pub fn pushed(self, item: T) -> Result<Stack<T>, Memory>
+    /// The stack with an element before the others.
+    pub fn with_first(self, item: T) -> Result<Stack<T>, Memory>
         ensures { IfOk result (λ stack. stack ≡ item ∷ self) }
     {
         let Stack { mut items } = self;
@@ -75,7 +77,7 @@ impl<T: Drop> Stack<T> {
     }
 }
 
-/// The elements of a list in their order. Takes no memory.
+/// The elements of a list in their order, the first one on top. Takes no memory.
 #[tactic(auto, using(crate::proofs::StackLemmas::stack_steps))]
 pub fn stack_of<T>(list: List<T>) -> Stack<T>
     ensures { result ≡ list }

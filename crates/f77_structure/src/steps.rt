@@ -1,9 +1,12 @@
 //! What one statement changes of the blocks of its module.
 ghost use Rattle.std.specs.Prelude.{◌≡◌, IfOk};
 ghost use Rattle.f77_structure.specs.Lists.{first_of};
-ghost use Rattle.f77_structure.specs.Steps.{is_else, divided, part, ended, by_role, stepped, blocks_of};
+ghost use Rattle.f77_structure.specs.Steps.{is_else, next_arm, part, end_block, by_role, take_statement, blocks_of};
 
-use crate::blocks::{Blocks, down_to, entered, jumped, landed, left, pushed, stood, stray};
+use crate::blocks::{
+    Blocks, add_landing, down_to, enter_block, keep_jump, leave_innermost, push_block, stray,
+    take_executable,
+};
 use crate::mark::{Mark, Role};
 use crate::open::{End, Kind, Sought, Span, within_do, within_if};
 use crate::stack::Stack;
@@ -22,8 +25,8 @@ fn is_else(kind: Kind) -> bool
 }
 
 /// The innermost block, an IF, goes on with another list.
-fn divided(blocks: Blocks, next: Kind, line: u32) -> Result<Blocks, Memory>
-    ensures { IfOk result (λ b. b ≡ divided next line (first_of blocks.stack) blocks) }
+fn next_arm(blocks: Blocks, next: Kind, line: u32) -> Result<Blocks, Memory>
+    ensures { IfOk result (λ b. b ≡ next_arm next line (first_of blocks.stack) blocks) }
 {
     match blocks.stack.first() {
         None => Ok(stray(blocks, line)),
@@ -31,7 +34,7 @@ fn divided(blocks: Blocks, next: Kind, line: u32) -> Result<Blocks, Memory>
             if is_else(block.kind) {
                 return Ok(stray(blocks, line));
             }
-            pushed(left(blocks), next, block.line)
+            push_block(leave_innermost(blocks), next, block.line)
         }
     }
 }
@@ -41,18 +44,18 @@ fn part(blocks: Blocks, next: Kind, line: u32) -> Result<Blocks, Memory>
     ensures { IfOk result (λ b. b ≡ part next line blocks) }
 {
     if within_if(blocks.stack.first()) {
-        divided(down_to(blocks, Sought::BlockIf), next, line)
+        next_arm(down_to(blocks, Sought::BlockIf), next, line)
     } else {
         Ok(stray(blocks, line))
     }
 }
 
 /// The end of the innermost block that is sought, where it stands in one.
-fn ended(blocks: Blocks, sought: Sought, within: bool, line: u32) -> Blocks
-    ensures { result ≡ ended sought within line blocks }
+fn end_block(blocks: Blocks, sought: Sought, within: bool, line: u32) -> Blocks
+    ensures { result ≡ end_block sought within line blocks }
 {
     if within {
-        left(down_to(blocks, sought))
+        leave_innermost(down_to(blocks, sought))
     } else {
         stray(blocks, line)
     }
@@ -66,35 +69,36 @@ fn by_role(blocks: Blocks, mark: Mark) -> Result<Blocks, Memory>
     match mark.role {
         Role::Program | Role::Subroutine | Role::Specification => Ok(blocks),
         Role::Plain(action) | Role::LogicalIf(action) => {
-            stood(jumped(blocks, action, line)?, label)
+            take_executable(keep_jump(blocks, action, line)?, label)
         }
-        Role::BlockIf => entered(landed(blocks, label)?, Kind::If, line),
-        Role::Do(end) => entered(landed(blocks, label)?, Kind::Do(end), line),
+        Role::BlockIf => enter_block(add_landing(blocks, label)?, Kind::If, line),
+        Role::Do(end) => enter_block(add_landing(blocks, label)?, Kind::Do(end), line),
         Role::ElseIf => part(blocks, Kind::If, line),
         Role::Else => part(blocks, Kind::Else, line),
         Role::EndIf => {
             let within = within_if(blocks.stack.first());
-            stood(ended(blocks, Sought::BlockIf, within, line), label)
+            take_executable(end_block(blocks, Sought::BlockIf, within, line), label)
         }
         Role::EndDo => {
-            let blocks = stood(blocks, label)?;
+            let blocks = take_executable(blocks, label)?;
             let within = within_do(blocks.stack.first());
-            Ok(ended(blocks, Sought::PlainDo, within, line))
+            Ok(end_block(blocks, Sought::PlainDo, within, line))
         }
-        Role::End => Ok(down_to(stood(blocks, label)?, Sought::Neither)),
+        Role::End => Ok(down_to(take_executable(blocks, label)?, Sought::Neither)),
     }
 }
 
 /// The statement at a place.
-#[tactic(auto, unfolding(crate::specs::Steps::stepped))]
-fn stepped(alloc: Global, blocks: Blocks, place: usize, mark: Mark) -> Result<Blocks, Memory>
-    ensures { IfOk result (λ b. b ≡ stepped place mark blocks) }
+#[tactic(auto, unfolding(crate::specs::Steps::take_statement))]
+fn take_statement(alloc: Global, blocks: Blocks, place: usize, mark: Mark) -> Result<Blocks, Memory>
+    ensures { IfOk result (λ b. b ≡ take_statement place mark blocks) }
 {
     let blocks = Blocks { place, ..blocks };
     by_role(spoiled_by(alloc, blocks, mark)?, mark)
 }
 
-/// The blocks, the lists, the labels and the GO TOs of a module.
+/// The blocks, lists, labels and GO TOs of a module after all its statements, and the first refusal of the blocks. The GO TOs are
+/// not checked here.
 pub fn blocks_of(alloc: Global, marks: &[Mark]) -> Result<Blocks, Memory>
     ensures { IfOk result (λ b. b ≡ blocks_of marks.now) }
 {
@@ -114,7 +118,7 @@ pub fn blocks_of(alloc: Global, marks: &[Mark]) -> Result<Blocks, Memory>
     let mut place = 0;
     let mut rest = marks;
     while let [mark, more @ ..] = rest {
-        blocks = stepped(alloc, blocks, place, *mark)?;
+        blocks = take_statement(alloc, blocks, place, *mark)?;
         place += 1;
         rest = more;
     }

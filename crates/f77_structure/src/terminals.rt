@@ -1,4 +1,4 @@
-//! Labelled DOs that end at a statement that may not end one.
+//! Labelled DOs that end at a statement that may not end one (ANSI X3.9-1978 §11.10).
 ghost use Rattle.std.specs.Prelude.{◌≡◌, IfOk};
 ghost use Rattle.f77_structure.specs.Terminals.{put_back, spoiled_run, ends_one, spoil, spoil_around, spoil_part, is_forbidden, is_part, spoiled_by};
 
@@ -16,7 +16,7 @@ fn put_back(taken: Stack<Open>, rest: Stack<Open>) -> Result<Stack<Open>, Memory
     let mut taken = taken;
     let mut rest = rest;
     while let Some(block) = taken.pop() {
-        rest = rest.pushed(block)?;
+        rest = rest.with_first(block)?;
     }
     Ok(rest)
 }
@@ -29,9 +29,9 @@ fn spoiled_run(alloc: Global, stack: Stack<Open>, label: u32) -> Result<Stack<Op
     let mut rest = stack;
     while let Some(block) = rest.pop() {
         if !block.can_spoil(label) {
-            return put_back(taken, rest.pushed(block)?);
+            return put_back(taken, rest.with_first(block)?);
         }
-        taken = taken.pushed(Open {
+        taken = taken.with_first(Open {
             spoiled: true,
             ..block
         })?;
@@ -98,7 +98,7 @@ fn spoil_around(alloc: Global, blocks: Blocks, label: u32, line: u32) -> Result<
             let run = spoiled_run(alloc, stack, label)?;
             Ok(Blocks {
                 place,
-                stack: run.pushed(block)?,
+                stack: run.with_first(block)?,
                 spans,
                 landings,
                 jumps,
@@ -164,7 +164,8 @@ fn is_part(role: Role) -> bool
     }
 }
 
-/// The DOs whose label stands at a statement that may not end them.
+/// Marks the DOs whose label is at a statement that may not end them as spoiled, and refuses that statement with `BadTerminal`.
+/// Another statement changes nothing.
 pub fn spoiled_by(alloc: Global, blocks: Blocks, mark: Mark) -> Result<Blocks, Memory>
     ensures { IfOk result (λ b. b ≡ spoiled_by mark.role mark.label mark.line blocks) }
 {

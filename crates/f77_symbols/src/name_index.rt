@@ -26,14 +26,14 @@ impl NameIndex {
         }
     }
 
-    /// The number of a name, from 1.
+    /// The number of a name, from 1; None where the name is not there. Takes no memory.
     pub fn number(&self, name: &Text) -> Option<u32>
         ensures { (names : List (List ℕ)) → Indexes self.now names → result ≡ number_from 1 names name.now }
     {
         self.numbers.get(name.as_slice()).copied()
     }
 
-    /// The place of a name, from 0.
+    /// The place of a name, from 0; None where the name is not there. Takes no memory.
     pub fn place(&self, name: &Text) -> Option<u32>
         ensures { (names : List (List ℕ)) → Indexes self.now names → result ≡ number_from 0 names name.now }
     {
@@ -57,7 +57,8 @@ impl NameIndex {
         Ok(())
     }
 
-    /// Adds an element at the end of the list, and its name to the index. Err also where there are 2^32 - 1 names.
+    /// Adds an element at the end of the list, and its name to the index. Err also where there are 2^32 - 1 names; list and index
+    /// are then as before.
     pub fn push<T: Drop>(
         &mut self,
         name: Vec<u8>,

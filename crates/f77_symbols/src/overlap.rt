@@ -56,9 +56,9 @@ fn lies_in(symbols: &Symbols, n: u32, block: &Text) -> bool
     }
 }
 
-/// Whether two variables share a unit by COMMON or EQUIVALENCE: two symbols where their units do, a block and a symbol that
-/// lies in it, two saved variables of one other module. Of a variable and itself the answer is no. Takes no memory; the
-/// time is that of the bounds of both.
+/// Whether two variables share a unit by COMMON or EQUIVALENCE: two symbols that have one in common, a block and a symbol that is
+/// in it. Two saved locals of one other module always count as sharing; a variable and itself never do. Takes no memory; the time
+/// is that of the bounds of both.
 pub fn overlaps(symbols: &Symbols, a: &Variable, b: &Variable) -> bool
     ensures { result ≡ overlap (map symbol_tree symbols.now) a.now b.now }
 {

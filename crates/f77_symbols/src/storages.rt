@@ -1,7 +1,7 @@
-//! What the units of a table of symbols have to do with storage groups and blocks.
+//! The units of a table of symbols, and the storage groups and blocks that have them.
 ghost use Rattle.f77_symbols.specs.Storages.{SizesAreReached, UnitsAreApart, UnitsLieWithin};
 
-/// The law that a unit of a variable lies in the variable's storage, below the size of that.
+/// The law that a unit of a variable is in the variable's storage group or block, below the size of that.
 pub fn units_lie_within()
     ensures { UnitsLieWithin }
 {}
@@ -11,7 +11,7 @@ pub fn units_are_apart()
     ensures { UnitsAreApart }
 {}
 
-/// The law that the size of a storage is where some variable in it ends.
+/// The law that a storage group or block that has units is as long as its furthest variable reaches.
 pub fn sizes_are_reached()
     ensures { SizesAreReached }
 {}

@@ -46,7 +46,8 @@ impl Symbols {
         }
     }
 
-    /// Adds a symbol at the end. A name that is there keeps its number.
+    /// Adds a symbol at the end. Where its name is there already, the name keeps its number. Err also where there are 2^32 - 1
+    /// symbols.
     pub fn push(&mut self, alloc: Global, symbol: Symbol) -> Result<(), Memory>
         ensures ok { OnOk result (self.new ≡ self.old ++ symbol ∷ []) }
         ensures err { OnErr result (self.new ≡ self.old) }
@@ -56,19 +57,21 @@ impl Symbols {
         Ok(())
     }
 
+    /// The symbols in the order of their numbers.
     pub fn as_slice(&self) -> &[Symbol]
         ensures { result.now ≡ self.now }
     {
         self.list.as_slice()
     }
 
+    /// How many symbols there are.
     pub fn len(&self) -> usize
         ensures { result ≡ length self.now }
     {
         self.list.len()
     }
 
-    /// The symbol with a number, from 1.
+    /// The symbol with a number, from 1; None where there is none. Takes no memory.
     pub fn symbol(&self, number: u32) -> Option<&Symbol>
         ensures { option_copied result ≡ numbered self.now number }
     {
@@ -78,7 +81,7 @@ impl Symbols {
         self.list.get(number as usize - 1)
     }
 
-    /// The number of a name, from 1.
+    /// The number of a name, from 1; None where the name is not there. Takes no memory.
     pub fn number(&self, name: &Text) -> Option<u32>
         ensures { result ≡ number_from 1 (names_of self.now) name.now }
     {
@@ -114,7 +117,7 @@ impl Constants for Symbols {
     }
 }
 
-/// The place of a symbol. Takes no memory.
+/// The place of the symbol with the number `cell`, from 1. Takes no memory.
 pub fn unit_of(symbols: &Symbols, cell: u32) -> &Place
     requires from_one { 1 ≤ cell }
     requires is_symbol { cell ≤ length symbols.now }

@@ -1,4 +1,4 @@
-//! How many units a variable takes.
+//! How many storage units a variable takes (ANSI X3.9-1978 §17.1.1).
 ghost use Rattle.std.specs.Prelude.{◌≡◌, ◌-◌, ◌^◌, map, min, nat_lt, pos, ◌+ℤ◌, ◌-ℤ◌};
 ghost use Rattle.f77_ast.specs.Places.{as_count};
 ghost use Rattle.f77_symbols.specs.Symbols.{bound_tree, symbol_tree, value_in};
@@ -46,7 +46,7 @@ fn elements(symbols: &Symbols, bounds: &[Bound]) -> u128
     units
 }
 
-/// The units of a variable whose bounds are constant; none of another one. None where they have no number of 64 bits. Takes no memory.
+/// How many units a variable takes, 0 where a bound is not constant. None from 2^64 on. Takes no memory.
 pub fn units_of(symbols: &Symbols, symbol: &Symbol) -> Option<u64>
     ensures { result ≡ in_64_bits (units_in (map symbol_tree symbols.now) (symbol_tree symbol.now)) }
 {
@@ -58,7 +58,7 @@ pub fn units_of(symbols: &Symbols, symbol: &Symbol) -> Option<u64>
     }
 }
 
-/// Whether a variable has more than so many units. Takes no memory.
+/// Whether a variable takes more than `count` units, where one with a bound that is not constant takes none. Takes no memory.
 pub fn has_more(symbols: &Symbols, symbol: &Symbol, count: u64) -> bool
     ensures { result ≡ nat_lt count (units_in (map symbol_tree symbols.now) (symbol_tree symbol.now)) }
 {

@@ -42,5 +42,5 @@ abbrev pub is_allowed : ℕ → Bool
 is_allowed b = (nat_le space b && nat_le b 126) || is_tab b
 
 -- a to z become A to Z
-abbrev pub folded : ℕ → ℕ
-folded b = if nat_le 97 b && nat_le b 122 then b - 32 else b
+abbrev pub upper_case : ℕ → ℕ
+upper_case b = if nat_le 97 b && nat_le b 122 then b - 32 else b

@@ -1,4 +1,4 @@
-//! The columns of a line.
+//! The columns of a line (ANSI X3.9-1978 §3.2).
 
 ghost use Rattle.std.specs.Prelude.{◌≡◌, ◌≤◌, length, replicate, IfOk};
 ghost use Rattle.std.specs.List.{list_all};
@@ -33,14 +33,14 @@ fn all_blank(line: &[u8]) -> bool
     line.iter().all(|b| *b == b' ' || *b == b'\t')
 }
 
-/// Whether the line is no part of a statement.
+/// Whether a line is a comment: column 1 has `C`, `c`, `*` or `!`, or columns 1 to 72 have blanks and tabs alone.
 pub fn is_comment(line: &[u8]) -> bool
     ensures { result ≡ is_comment line.now }
 {
     has_comment_mark(line) || all_blank(front(line))
 }
 
-/// Whether a comment is not kept.
+/// Whether a comment is not kept: it begins with `C>`, or column 2 has `$`.
 pub fn is_dropped(line: &[u8]) -> bool
     ensures { result ≡ is_dropped line.now }
 {
@@ -58,7 +58,7 @@ fn blanks(count: usize) -> &'static [u8]
     &BLANKS[..count]
 }
 
-/// Columns 1 to 72, filled with blanks.
+/// Columns 1 to 72 of a line, always 72 bytes: a longer line is cut, a shorter one is filled with blanks.
 #[tactic(auto, using(crate::proofs::CardLemmas::card_steps))]
 pub fn card(alloc: Global, line: &[u8]) -> Result<Text, Memory>
     ensures same { IfOk result (λ t. t ≡ card line.now) }
@@ -70,7 +70,7 @@ pub fn card(alloc: Global, line: &[u8]) -> Result<Text, Memory>
     Ok(card)
 }
 
-/// Whether a card begins a statement.
+/// Whether a card is an initial line: column 6 has a blank or `0`. Else it is a continuation line.
 pub fn is_initial(card: &[u8]) -> bool
     requires { length card.now ≡ 72 }
     ensures { result ≡ is_initial card.now }

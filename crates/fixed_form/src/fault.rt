@@ -1,4 +1,4 @@
-//! What a line can break, and the first thing that it does.
+//! The rules of fixed form for one line, and the first one that a line breaks.
 
 ghost use Rattle.std.specs.Prelude.{◌≡◌, length};
 ghost use Rattle.fixed_form.specs.Faults.{fault_of, has_bad_field, starts_quoted};
@@ -8,10 +8,10 @@ use crate::label::{LabelField, label_field};
 use crate::strip::{all_allowed, all_spaces, any_tab, has_tab};
 use refusal_codes::Code;
 
-/// The statement that a continuation line would go on with.
-#[derive(Clone, Copy, Debug)]
+/// What is known of a statement before a continuation line of it.
+#[derive(Clone, Copy)]
 pub struct Begun {
-    /// Whether a character constant is open behind its last line.
+    /// Whether a character constant is open at the end of its last line.
     pub quoted: bool,
     /// How many continuation lines it has.
     pub continuations: u32,
@@ -42,7 +42,8 @@ fn starts_quoted(begun: Option<Begun>, card: &[u8]) -> bool
     }
 }
 
-/// The first rule that a statement line breaks, behind the statement that was begun before it.
+/// The first rule that a statement line breaks, in the order of the codes 1 to 5; None where it breaks none.
+/// `begun` is the statement before the line, None before the first one.
 #[tactic(auto, unfolding(crate::specs::Faults::fault_of))]
 pub fn fault_of(begun: Option<Begun>, card: &[u8]) -> Option<Code>
     requires { length card.now ≡ 72 }

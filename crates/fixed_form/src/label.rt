@@ -1,4 +1,4 @@
-//! The label of an initial line.
+//! The label of an initial line (ANSI X3.9-1978 §3.4).
 
 ghost use Rattle.std.specs.Prelude.{◌≡◌, ◌≤◌, ◌<◌, length, true};
 ghost use Rattle.std.specs.List.{list_all};
@@ -7,11 +7,12 @@ ghost use Rattle.fixed_form.specs.Cards.{is_label_mark, number_from, label_field
 use crate::strip::all_spaces;
 
 /// What columns 1 to 5 of an initial line hold.
-#[derive(Clone, Copy, Debug)]
+#[derive(Clone, Copy)]
 pub enum LabelField {
     Blank,
     /// 1 to 99999.
     Label(u32),
+    /// Another character than digits and blanks, or the number 0.
     Bad,
 }
 
@@ -38,7 +39,7 @@ fn number(field: &[u8]) -> u32
     number
 }
 
-/// What columns 1 to 5 of a card hold.
+/// What columns 1 to 5 of a card hold; blanks between digits do not count.
 pub fn label_field(card: &[u8]) -> LabelField
     requires { length card.now ≡ 72 }
     ensures { result ≡ label_field card.now }

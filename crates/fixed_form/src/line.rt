@@ -7,23 +7,23 @@ use fx_lists::{List, Text};
 use std::alloc::{AllocError, AllocFailed};
 use thiserror::Error;
 
-/// A statement. Lines are numbered from 1.
-#[derive(Debug, Drop)]
+/// A statement and its lines, which are numbered from 1.
+#[derive(Drop)]
 pub struct Line {
     /// The number of the initial line.
     pub first: u32,
     /// The number of the last line, a blank continuation line too.
     pub last: u32,
-    /// 1 to 99999, where there is one.
+    /// The label, 1 to 99999, where there is one.
     pub label: Option<u32>,
-    /// Columns 7 to 72 of the lines joined, without blanks and in capitals but inside character constants.
+    /// Columns 7 to 72 of the lines joined, without blanks and in capitals outside character constants.
     pub body: Text,
-    /// The kept comments before the statement and between its lines.
+    /// The kept comments before the statement and between its lines, in the order of the text.
     pub comments: List<Text>,
 }
 
-/// The statements of a text and the kept comments after the last of them.
-#[derive(Debug, Drop)]
+/// The statements of a text in their order, and the kept comments after the last of them.
+#[derive(Drop)]
 pub struct Lines {
     pub lines: List<Line>,
     pub closing: List<Text>,

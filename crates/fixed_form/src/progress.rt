@@ -14,24 +14,26 @@ use crate::strip::strip;
 use fx_lists::{List, Text};
 use std::alloc::{AllocError as Memory, Global};
 
-/// The statement that a continuation line would go on with.
-#[derive(Debug, Drop)]
+/// The last statement that was begun, and what a continuation line of it needs.
+#[derive(Drop)]
 pub struct Current {
     pub line: Line,
+    /// Of the lines in `line`.
     pub begun: Begun,
 }
 
-/// What was read so far.
-#[derive(Debug, Drop)]
+/// What was read of the lines so far.
+#[derive(Drop)]
 pub struct Progress {
     /// The statements before the current one.
     pub done: List<Line>,
+    /// None before the first initial line.
     pub current: Option<Current>,
     /// The kept comments since the last statement line.
     pub comments: List<Text>,
 }
 
-/// What is begun behind the lines that were read.
+/// What is known of the current statement; None where there is none.
 pub fn begun_of(current: &Option<Current>) -> Option<Begun>
     ensures { result ≡ begun_of current.now }
 {
@@ -41,7 +43,7 @@ pub fn begun_of(current: &Option<Current>) -> Option<Begun>
     }
 }
 
-/// A kept comment waits for the next statement line.
+/// Keeps a comment, whose line is copied, for the next statement line.
 #[tactic(auto, unfolding(crate::specs::Steps::keep_comment))]
 pub fn keep_comment(alloc: Global, progress: Progress, line: &[u8]) -> Result<Progress, Memory>
     ensures { IfOk result (λ p. p ≡ keep_comment line.now progress) }
@@ -51,7 +53,7 @@ pub fn keep_comment(alloc: Global, progress: Progress, line: &[u8]) -> Result<Pr
     Ok(progress)
 }
 
-/// All statements, with the current one last.
+/// The statements in their order, with the current one last, where there is one.
 pub fn finish_all(done: List<Line>, current: Option<Current>) -> Result<List<Line>, Memory>
     ensures { IfOk result (λ all. all ≡ done ++ finish_all current) }
 {
@@ -106,7 +108,7 @@ fn initial(alloc: Global, progress: Progress, number: u32, card: &[u8]) -> Resul
     })
 }
 
-fn joined(first: List<Text>, second: List<Text>) -> Result<List<Text>, Memory>
+fn join(first: List<Text>, second: List<Text>) -> Result<List<Text>, Memory>
     ensures { IfOk result (λ all. all ≡ first ++ second) }
 {
     let mut all = first.into_vec();
@@ -139,7 +141,7 @@ fn continue_line(
         last: number,
         label,
         body,
-        comments: joined(before, comments)?,
+        comments: join(before, comments)?,
     };
     let continuations = begun.continuations + 1;
     Ok(Current {
@@ -185,9 +187,10 @@ fn continuation(
     }
 }
 
-/// A statement line without a fault.
+/// The progress after a statement line without a fault: an initial line begins a statement, a continuation line goes on with
+/// the current one. `number` is that of the line, from 1.
 #[tactic(auto, using(crate::proofs::Steps::step_cases))]
-pub fn stepped(
+pub fn take_statement_line(
     alloc: Global,
     progress: Progress,
     number: u32,

@@ -9,7 +9,7 @@ ghost use Rattle.fixed_form.specs.Steps.{begun_of, step, line_fault, line_step, 
 use crate::cards::{card, is_comment, is_dropped};
 use crate::fault::fault_of;
 use crate::line::{Line, Lines, ReadRefusal};
-use crate::progress::{Progress, begun_of, finish_all, keep_comment, stepped};
+use crate::progress::{Progress, begun_of, finish_all, keep_comment, take_statement_line};
 use crate::text_lines::{first_line, without_returns};
 use fx_lists::{List, Text};
 use refusal_codes::Code;
@@ -28,7 +28,7 @@ fn statement_line(
 {
     match fault_of(begun_of(&progress.current), card) {
         Some(code) => Err(ReadRefusal::At(number, code.number())),
-        None => Ok(stepped(alloc, progress, number, card)?),
+        None => Ok(take_statement_line(alloc, progress, number, card)?),
     }
 }
 
@@ -101,8 +101,9 @@ fn pass(alloc: Global, text: &[u8]) -> Result<Lines, ReadRefusal>
     finish(progress, count)
 }
 
-/// The statements of a text, or its first fault: the earliest line, and on that line the lowest code.
-/// A text without statements is read too. Takes time in proportion to the text.
+/// The statements of a text. Err is its first fault, the earliest line and there the lowest code, or lack of memory; a last
+/// statement that is not END is code 6 at the last line. A text without statements is read too. Takes time in proportion to the
+/// text.
 pub fn statements(alloc: Global, text: &Text) -> Result<Lines, ReadRefusal>
     requires fits { length text.now < 2 ^ 28 }
     ensures defined { Gives result (reading text.now) }

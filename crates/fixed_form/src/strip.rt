@@ -1,15 +1,15 @@
-//! The characters that columns give to a statement.
+//! The characters of a statement in columns 7 to 72. `quoted` says whether a character constant is open before the columns.
 
 ghost use Rattle.std.specs.Prelude.{◌≡◌, ◌++◌, IfOk, OnOk};
 ghost use Rattle.std.specs.List.{list_all, list_any};
-ghost use Rattle.fixed_form.specs.Characters.{is_space, is_tab, is_allowed, folded};
+ghost use Rattle.fixed_form.specs.Characters.{is_space, is_tab, is_allowed, upper_case};
 ghost use Rattle.fixed_form.specs.Body.{stripped, quoted_after_byte, quoted_after, has_tab};
 
 use fx_lists::Text;
 use std::alloc::AllocError as Memory;
 
-fn folded(b: u8) -> u8
-    ensures { result ≡ folded b }
+fn upper_case(b: u8) -> u8
+    ensures { result ≡ upper_case b }
 {
     if b >= b'a' && b <= b'z' { b - 32 } else { b }
 }
@@ -20,7 +20,8 @@ fn quoted_after_byte(quoted: bool, b: u8) -> bool
     if b == b'\'' { !quoted } else { quoted }
 }
 
-/// Appends the columns, without blanks and in capitals outside constants, and says whether a constant is open behind them.
+/// Appends the columns to a body, without blanks and in capitals outside character constants; whether a constant is open
+/// after them.
 pub fn strip(body: &mut Text, quoted: bool, columns: &[u8]) -> Result<bool, Memory>
     ensures ok { OnOk result (body.new ≡ body.old ++ stripped quoted columns.now) }
     ensures quoted { IfOk result (λ q. q ≡ quoted_after quoted columns.now) }
@@ -30,14 +31,14 @@ pub fn strip(body: &mut Text, quoted: bool, columns: &[u8]) -> Result<bool, Memo
         if inside {
             body.push(*b)?;
         } else if *b != b' ' {
-            body.push(folded(*b))?;
+            body.push(upper_case(*b))?;
         }
         inside = quoted_after_byte(inside, *b);
     }
     Ok(inside)
 }
 
-/// Whether a tab stands outside constants.
+/// Whether the columns have a tab outside character constants.
 pub fn has_tab(quoted: bool, columns: &[u8]) -> bool
     ensures { result ≡ has_tab quoted columns.now }
 {
@@ -51,6 +52,7 @@ pub fn has_tab(quoted: bool, columns: &[u8]) -> bool
     false
 }
 
+/// Whether all bytes are printable ASCII, 32 to 126, or tabs.
 pub fn all_allowed(columns: &[u8]) -> bool
     ensures { result ≡ list_all is_allowed columns.now }
 {
@@ -59,12 +61,14 @@ pub fn all_allowed(columns: &[u8]) -> bool
         .all(|b| (*b >= b' ' && *b <= b'~') || *b == b'\t')
 }
 
+/// Whether the columns have a tab, in a character constant or not.
 pub fn any_tab(columns: &[u8]) -> bool
     ensures { result ≡ list_any is_tab columns.now }
 {
     columns.iter().any(|b| *b == b'\t')
 }
 
+/// Whether all bytes are blanks, which holds of no columns too.
 pub fn all_spaces(columns: &[u8]) -> bool
     ensures { result ≡ list_all is_space columns.now }
 {

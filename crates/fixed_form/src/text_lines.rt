@@ -4,7 +4,7 @@ ghost use Rattle.std.specs.Prelude.{◌≡◌, ◌<◌, length};
 ghost use Rattle.fixed_form.specs.TextLines.{without_returns};
 ghost use Rattle.fixed_form.specs.Steps.{first_line, after_line};
 
-/// The first line, and what follows it.
+/// The first line of a text without its LF, and the text after that LF; the last line may have none.
 pub fn first_line(text: &[u8]) -> (&[u8], &[u8])
     requires { 0 < length text.now }
     ensures line { result.0.now ≡ first_line text.now }
@@ -23,7 +23,7 @@ pub fn first_line(text: &[u8]) -> (&[u8], &[u8])
     (text, rest)
 }
 
-/// The line without the CRs at its end.
+/// A line without the CRs at its end.
 #[tactic(auto, using(crate::proofs::TextLineLemmas::return_steps))]
 pub fn without_returns(line: &[u8]) -> &[u8]
     ensures { result.now ≡ without_returns line.now }

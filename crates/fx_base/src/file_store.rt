@@ -1,4 +1,4 @@
-//! The real files, and standard input under the name `-`. It tells counts alone.
+//! The files of the system, and standard input under the name `-`. Contracts see the counts alone.
 ghost use Rattle.std.specs.Prelude.{ℕ};
 ghost use Rattle.fx_base.specs.Store.{WithinLimit};
 
@@ -9,7 +9,8 @@ use std::io::{ErrorKind, Read};
 use std::rt::Files;
 use std::{fs, io, str};
 
-/// Files of the system, through the runtime. A name that is no UTF-8 can't be opened, which is a fault.
+/// Files of the system, through the runtime; a fetch of the name `-` reads standard input. A name that is no UTF-8
+/// can't be opened, which is a fault. Contracts see its counts alone.
 #[derive(Drop)]
 pub struct FileStore<R: Files + Input> {
     rt: R,
@@ -17,6 +18,7 @@ pub struct FileStore<R: Files + Input> {
 }
 
 impl<R: Files + Input> FileStore<R> {
+    /// The store of the files of this runtime, with all counts 0.
     pub fn new(rt: R) -> FileStore<R> {
         FileStore {
             rt,
@@ -41,7 +43,7 @@ impl<R: Files + Input> FileStore<R> {
     }
 }
 
-/// What a failure to open or to read is answered by.
+/// The answer to an error of opening or reading.
 fn failure(error: io::Error) -> Fetched
     ensures { (limit : ℕ) → WithinLimit limit result }
 {

@@ -20,5 +20,5 @@ pub use std_sink::StdSink;
 pub use store::{Fetched, Kept, Role, Store};
 pub use tally::{Tallies, Tally};
 
-/// The words after a program's name.
+/// The arguments of the command line, in order, without the name of the program.
 pub type Words = List<Text>;

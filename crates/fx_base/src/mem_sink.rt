@@ -1,10 +1,11 @@
-//! A sink in memory, with puts that fail: it tells its bytes.
+//! A sink in memory, with puts that fail. Contracts see its bytes.
 ghost use Rattle.std.specs.Prelude.{◌≡◌, ◌<◌, [], Some, OnOk};
 
-use crate::tally::raised;
+use crate::tally::next_count;
 use crate::{List, Put, Sink};
 use std::alloc::{AllocError as Memory, Global};
 
+/// A sink in memory, of which contracts see the bytes. It has a limited room, and puts with chosen numbers fail.
 #[derive(Drop)]
 pub struct MemSink {
     bytes: Vec<u8>,
@@ -17,7 +18,8 @@ pub struct MemSink {
 }
 
 impl MemSink {
-    /// Takes at most `piece` bytes in a put, and has no room yet. Its puts are numbered from 0, and those in `failing` fail.
+    /// The sink without bytes, which takes at most `piece` bytes in a put and has no room yet. Its puts are numbered
+    /// from 0, and those in `failing` fail.
     pub fn new(alloc: Global, piece: usize, failing: List<u64>) -> MemSink
         requires { 0 < piece }
         ensures { ⟦<MemSink as Sink>⟧.taken result ≡ Some [] }
@@ -32,7 +34,7 @@ impl MemSink {
         }
     }
 
-    /// Reserves memory for this many bytes more than it has. A put past its room is a fault.
+    /// Reserves memory for this many bytes more than it has taken. A put past this room is a fault.
     pub fn room(&mut self, bytes: usize) -> Result<(), Memory>
         ensures { ⟦<MemSink as Sink>⟧.taken self.new ≡ ⟦<MemSink as Sink>⟧.taken self.old }
     {
@@ -41,7 +43,7 @@ impl MemSink {
         Ok(())
     }
 
-    /// The bytes taken so far.
+    /// The bytes taken so far, in order.
     pub fn bytes(&self) -> &[u8]
         ensures { ⟦<MemSink as Sink>⟧.taken self.now ≡ Some result.now }
     {
@@ -58,17 +60,17 @@ impl Sink for MemSink {
 
     fn put(&mut self, piece: &[u8]) -> Put {
         let call = self.calls;
-        self.calls = raised(call);
+        self.calls = next_count(call);
         let size = self.piece.min(piece.len());
         let is_past_room = size > self.room.saturating_sub(self.bytes.len());
         if is_past_room || self.failing.as_slice().contains(&call) {
-            self.faults = raised(self.faults);
+            self.faults = next_count(self.faults);
             return Put::Failed;
         }
         match self.bytes.extend_from_slice(&piece[..size]) {
             Ok(()) => Put::Took(size),
             Err(_) => {
-                self.faults = raised(self.faults);
+                self.faults = next_count(self.faults);
                 Put::Failed
             }
         }

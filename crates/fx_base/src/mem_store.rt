@@ -1,11 +1,12 @@
-//! A store in memory, with calls that fail: it tells its files.
+//! A store in memory, with calls that fail. Contracts see its files.
 ghost use Rattle.std.specs.Prelude.{◌≡◌, [], ◌∷◌, Some, option_map, OnOk, OnErr};
 ghost use Rattle.fx_base.specs.Files.{Files, bytes_of};
 
-use crate::tally::raised;
+use crate::tally::next_count;
 use crate::{Fetched, Kept, List, Role, Store, Tallies, Text};
 use std::alloc::{AllocError as Memory, Global};
 
+/// A store in memory, of which contracts see the files. Calls with chosen numbers fail.
 #[derive(Drop)]
 pub struct MemStore {
     files: Vec<(Text, Text)>,
@@ -36,7 +37,8 @@ fn put_first(files: &mut Vec<(Text, Text)>, name: &Text, text: &Text) -> Result<
 }
 
 impl MemStore {
-    /// Holds no file. Its calls are numbered from 0, and those in `failing` answer Failed.
+    /// The store without files, with all counts 0. Its fetches and keeps are numbered together from 0, and those in
+    /// `failing` answer Failed.
     pub fn new(alloc: Global, failing: List<u64>) -> MemStore
         ensures { ⟦<MemStore as Store>⟧.files result ≡ Some [] }
     {
@@ -48,7 +50,8 @@ impl MemStore {
         }
     }
 
-    /// Holds a file, in place of one of its name.
+    /// Puts a file into the store, in place of one of its name; this is no numbered call. On Err the files are those it
+    /// had.
     pub fn hold(&mut self, name: &Text, text: &Text) -> Result<(), Memory>
         ensures ok { OnOk result ((held : Files) → ⟦<MemStore as Store>⟧.files self.old ≡ Some held → ⟦<MemStore as Store>⟧.files self.new ≡ Some ((name.now, text.now) ∷ held)) }
         ensures err { OnErr result (⟦<MemStore as Store>⟧.files self.new ≡ ⟦<MemStore as Store>⟧.files self.old) }
@@ -61,7 +64,7 @@ impl MemStore {
         ensures { self.new ≡ record self.old { calls = self.new.calls } }
     {
         let call = self.calls;
-        self.calls = raised(call);
+        self.calls = next_count(call);
         self.failing.as_slice().contains(&call)
     }
 }

@@ -1,8 +1,8 @@
-//! Standard output or standard error. It tells its count alone.
-use crate::tally::raised;
+//! Standard output or standard error. Contracts see the count of its faults alone.
+use crate::tally::next_count;
 use crate::{Put, Sink};
 
-/// A stream that is printed to, with the count of its faults.
+/// A stream that is printed to, with the count of its faults, which is all that contracts see of it.
 #[derive(Drop)]
 pub struct StdSink<P: Print> {
     to: P,
@@ -10,6 +10,7 @@ pub struct StdSink<P: Print> {
 }
 
 impl<P: Print> StdSink<P> {
+    /// The sink of this stream, with no faults.
     pub fn new(to: P) -> StdSink<P> {
         StdSink { to, faults: 0 }
     }
@@ -29,7 +30,7 @@ impl<P: Print> Sink for StdSink<P> {
         match self.to.write_some(piece) {
             Ok(n) if n > 0 => Put::Took(n),
             _ => {
-                self.faults = raised(self.faults);
+                self.faults = next_count(self.faults);
                 Put::Failed
             }
         }

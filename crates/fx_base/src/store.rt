@@ -6,33 +6,43 @@ ghost use Rattle.fx_base.specs.Store.{OnlyCounts, OnlyBaseFaults, FetchedBy, Kep
 use crate::Text;
 use std::alloc::Global;
 
-/// A file's text, or why there is none.
+/// What a fetch found: a file's text, or why there is none.
 #[derive(Drop)]
 pub enum Fetched {
+    /// The bytes of the file, at most as many as the limit.
     Got(Text),
+    /// There is no file of the name; a miss of the role.
     Absent,
+    /// The file has more bytes than the limit; counted as overlong for the role.
     TooLong,
+    /// It can't be opened or read; a fault of the role.
     Failed,
+    /// There is not enough memory for its bytes.
     Memory,
 }
 
-/// Whether a file was kept.
+/// Whether a file was written.
 #[derive(Clone, Copy, Debug, PartialEq, Eq)]
 pub enum Kept {
+    /// The file of the name has the text.
     Done,
+    /// It can't be written, and may have any bytes; a fault of the base. Other files have what they had.
     Failed,
+    /// There is not enough memory, and no file has changed.
     Memory,
 }
 
-/// What a file is to the program.
+/// What a file is to the program, for the counts.
 #[derive(Clone, Copy, Debug, PartialEq, Eq)]
 pub enum Role {
+    /// A file that the program reads.
     Input,
+    /// A file that the program writes, or has written.
     Base,
 }
 
-/// Files by name. `files` has what is held, where the store tells it; `counts` has for each role its faults, misses and
-/// overlong files.
+/// Files by name. `files` has the names with their bytes, None where contracts don't see them; `counts` has for each
+/// role its faults, misses and overlong files.
 pub trait Store {
     ghost use Rattle.std.specs.Prelude.{Option};
     ghost use Rattle.fx_base.specs.declared.store.Role.{Role};
@@ -43,13 +53,14 @@ pub trait Store {
 
     ghost counts: { Self → Role → Tally };
 
-    /// The file of a name, where it has at most `limit` bytes.
+    /// The bytes of the file of a name, where it has at most `limit` bytes. What goes wrong but for memory is counted
+    /// for the role.
     fn fetch(&mut self, alloc: Global, role: Role, name: &Text, limit: u64) -> Fetched
         ensures answer { FetchedBy (files self.old) (counts self.old role) (counts self.new role) name.now limit result }
         ensures unchanged { files self.new ≡ files self.old }
         ensures counts { OnlyCounts (counts self.old) (counts self.new) role };
 
-    /// Makes the file of a name hold the text. A failure counts for the base.
+    /// Writes the text to the file of a name, in place of what it had. A failure is counted as a fault of `Role::Base`.
     fn keep(&mut self, name: &Text, text: &Text) -> Kept
         ensures answer { KeptBy (files self.old) (files self.new) (counts self.old Base) (counts self.new Base) name.now text.now result }
         ensures counts { OnlyBaseFaults (counts self.old) (counts self.new) };

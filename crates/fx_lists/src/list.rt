@@ -5,7 +5,8 @@ ghost use Rattle.std.specs.Option.{option_copied};
 use std::alloc::{AllocError, Global};
 use std::marker::Model;
 
-/// A `Vec` that contracts see as the list of its elements. It may stand inside a type that refers to itself.
+/// A growable array over a `Vec`, which contracts see as the list of its elements. A type that refers to itself may
+/// contain it.
 #[derive(Debug, Drop)]
 pub struct List<T> {
     items: Vec<T>,
@@ -23,7 +24,7 @@ impl<T> Model for List<T> {
 }
 
 impl<T> List<T> {
-    /// The list without elements. Takes no memory.
+    /// The empty list. Takes no memory.
     pub fn new(alloc: Global) -> List<T>
         ensures { result ≡ [] }
     {
@@ -32,14 +33,14 @@ impl<T> List<T> {
         }
     }
 
-    /// Takes no memory.
+    /// The list of the elements of a `Vec`, in order. Takes no memory.
     pub fn from_vec(items: Vec<T>) -> List<T>
         ensures { result ≡ items.items }
     {
         List { items }
     }
 
-    /// Takes no memory.
+    /// The `Vec` of the elements, in order. Takes no memory.
     pub fn into_vec(self) -> Vec<T>
         ensures { result.items ≡ self }
     {
@@ -47,32 +48,35 @@ impl<T> List<T> {
         items
     }
 
+    /// The elements in order, as a slice.
     pub fn as_slice(&self) -> &[T]
         ensures { result.now ≡ self.now }
     {
         self.items.as_slice()
     }
 
+    /// The number of elements.
     pub fn len(&self) -> usize
         ensures { result ≡ length self.now }
     {
         self.items.len()
     }
 
+    /// Whether there are no elements.
     pub fn is_empty(&self) -> bool
         ensures { IsTrue result ↔ (self.now ≡ []) }
     {
         self.items.is_empty()
     }
 
-    /// The element at a place from 0.
+    /// The element at an index, from 0. None where the index is not below the length.
     pub fn get(&self, at: usize) -> Option<&T>
         ensures { option_copied result ≡ slice_get self.now at }
     {
         self.items.get(at)
     }
 
-    /// Takes the last element away.
+    /// Removes the last element and returns it. None where the list is empty.
     pub fn pop(&mut self) -> Option<T>
         ensures { MatchOption result ((self.old ≡ []) × (self.new ≡ [])) (λ last. self.old ≡ self.new ++ last ∷ []) }
     {
@@ -81,7 +85,7 @@ impl<T> List<T> {
 }
 
 impl<T: Drop> List<T> {
-    /// Adds an element at the end.
+    /// Adds an element at the end. On Err the list has the elements that it had.
     pub fn push(&mut self, item: T) -> Result<(), AllocError>
         ensures ok { OnOk result (self.new ≡ self.old ++ item ∷ []) }
         ensures err { OnErr result (self.new ≡ self.old) }
@@ -90,7 +94,7 @@ impl<T: Drop> List<T> {
         Ok(())
     }
 
-    /// Puts an element at a place that has one.
+    /// Replaces the element at an index, from 0, that is below the length.
     pub fn set(&mut self, at: usize, item: T)
         requires { at < length self.old }
         ensures { self.new ≡ slice_set self.old at item }
@@ -100,6 +104,7 @@ impl<T: Drop> List<T> {
 }
 
 impl<T: Copy> List<T> {
+    /// The list of copies of the elements of a slice, in order.
     pub fn from_slice(alloc: Global, items: &[T]) -> Result<List<T>, AllocError>
         ensures { IfOk result (λ list. list ≡ items.now) }
     {

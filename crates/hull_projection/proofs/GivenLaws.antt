@@ -15,7 +15,7 @@ use Rattle.affine_systems.specs.Items.{rows_of}
 use Rattle.affine_systems.specs.Given.{FactorsBelow, IsGiven, IsSmallRow, ItemsSmall, ItemsFit}
 use Rattle.hull_projection.specs.Variables.{IsBeforeAll, VarsAscend, in_order, row_vars}
 use Rattle.hull_projection.specs.Fresh.{fresh_after}
-use Rattle.hull_projection.specs.Hull.{copy_of, share_of, scaled, rest_scaled, at_least_0, at_most_1, lift_rows, both_vars}
+use Rattle.hull_projection.specs.Hull.{copy_of, share_of, scale, rest_scaled, at_least_0, at_most_1, lift_rows, both_vars}
 use Rattle.hull_projection.specs.Closure.{IsCell, AreCells, AreOrdered, exit_of, step_row, step_rows, same_row, cell_terms, exit_terms, iterations_var, many_iterations, iteration_rows}
 use Rattle.hull_projection.specs.Laws.{IsOneOf}
 use Rattle.affine_systems.proofs.Basics.{if_cases, int_eq-true}
@@ -121,9 +121,9 @@ ascends-last v f ts a b = ascends-append ts (term_before v f []) a (ascends-term
 below-last : (v : Var) (f : ℤ) (ts : List Term) → unsigned_abs f < 2 ^ 62 → FactorsBelow (2 ^ 62) ts → FactorsBelow (2 ^ 62) (ts ++ term_before v f [])
 below-last v f ts l h = factors_append (2 ^ 62) ts (term_before v f []) h (factors_term_before (2 ^ 62) v f [] l tt)
 
-scaled_given : (n : ℕ) (xs : List Var) (r : Row) → VarsAscend xs → TermsIn xs r.terms → IsSmallRow r → IsGiven (scaled n xs r)
+scaled_given : (n : ℕ) (xs : List Var) (r : Row) → VarsAscend xs → TermsIn xs r.terms → IsSmallRow r → IsGiven (scale n xs r)
 scaled_given n xs r a i h =
-    given_from (scaled n xs r)
+    given_from (scale n xs r)
     (ascends-last (share_of n xs) (neg_ℤ r.bound) (mapped (λ z. z) n xs r.terms) (mapped_ascends (λ z. z) n xs r.terms same_not_zero a i h.0) (mapped_before_share (λ z. z) n xs (neg_ℤ r.bound) r.terms i))
     zero_below
     (below-last (share_of n xs) (neg_ℤ r.bound) (mapped (λ z. z) n xs r.terms) (neg_small r.bound h.1) (mapped_below (λ z. z) n xs r.terms same_small h.2))
@@ -138,7 +138,7 @@ rest_given n xs r a o i h =
     h.1
     (below-last (share_of n xs) r.bound (r.terms ++ ys) h.1 (factors_append (2 ^ 62) r.terms ys h.2 (mapped_below (λ z. neg_ℤ z) n xs r.terms neg_small h.2)))
 
-all_scaled_given : (n : ℕ) (xs : List Var) (rs : List Row) → VarsAscend xs → RowsIn xs rs → AllRows IsSmallRow rs → AllRows IsGiven (map (scaled n xs) rs)
+all_scaled_given : (n : ℕ) (xs : List Var) (rs : List Row) → VarsAscend xs → RowsIn xs rs → AllRows IsSmallRow rs → AllRows IsGiven (map (scale n xs) rs)
 all_scaled_given n xs [] a i h = tt
 all_scaled_given n xs (r ∷ rs) a i h = (scaled_given n xs r a i.0 h.0, all_scaled_given n xs rs a i.1 h.1)
 
@@ -163,8 +163,8 @@ lifted_given n xs a b rows e f h k r =
     let s : VarsAscend xs = subst VarsAscend (sym e) (ascend-with_rows (row_vars a.rows) b.rows (ascend-with_rows [] a.rows tt)) in
     let o : AllOld n xs = λ v m. subst (λ (c : ℕ). IsOld c v) (sym f) (fresh_old v xs m) in
     subst (λ (rs : List Row). AllRows IsGiven rs) (sym r)
-    (given_append (map (scaled n xs) a.rows ++ map (rest_scaled n xs) b.rows) (at_least_0 (share_of n xs) ∷ at_most_1 (share_of n xs) ∷ [])
-    (given_append (map (scaled n xs) a.rows) (map (rest_scaled n xs) b.rows) (all_scaled_given n xs a.rows s i h) (all_rest_given n xs b.rows s o j k))
+    (given_append (map (scale n xs) a.rows ++ map (rest_scaled n xs) b.rows) (at_least_0 (share_of n xs) ∷ at_most_1 (share_of n xs) ∷ [])
+    (given_append (map (scale n xs) a.rows) (map (rest_scaled n xs) b.rows) (all_scaled_given n xs a.rows s i h) (all_rest_given n xs b.rows s o j k))
     (at_least_0_given (share_of n xs), (at_most_1_given (share_of n xs), tt)))
 
 -- ---- rows of steps and of iterations

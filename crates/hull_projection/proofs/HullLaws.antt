@@ -17,7 +17,7 @@ use Rattle.affine_systems.specs.Eliminate.{eliminate_item}
 use Rattle.hull_projection.specs.Refute.{has_few, count_pairs, left_after, eliminate_all, all_left, refuted}
 use Rattle.hull_projection.specs.Variables.{row_vars}
 use Rattle.hull_projection.specs.Fresh.{fresh_after, aux_from}
-use Rattle.hull_projection.specs.Hull.{place_of, copy_of, share_of, copies, negated_copies, scaled, rest_scaled, at_least_0, at_most_1, lift_rows, hull_left, lifted_hull, both_vars, hull}
+use Rattle.hull_projection.specs.Hull.{place_of, copy_of, share_of, copies, negated_copies, scale, rest_scaled, at_least_0, at_most_1, lift_rows, hull_left, lifted_hull, both_vars, hull}
 use Rattle.hull_projection.specs.Laws.{IsOneOf, HasBoth}
 use Rattle.affine_systems.proofs.Basics.{if_cases, neg_mul}
 use Rattle.affine_systems.proofs.TermLaws.{value-term_before}
@@ -45,7 +45,7 @@ value-negated_copies q n xs (t ∷ ts) =
     let m = neg_mul t.factor (q (copy_of n xs t.var)) in
     omega (arith, ints, ih, m)
 
-value-scaled : (q : Point) (n : ℕ) (xs : List Var) (r : Row) → value q (scaled n xs r).terms ≡ value (λ v. q (copy_of n xs v)) r.terms +ℤ (neg_ℤ r.bound *ℤ q (share_of n xs))
+value-scaled : (q : Point) (n : ℕ) (xs : List Var) (r : Row) → value q (scale n xs r).terms ≡ value (λ v. q (copy_of n xs v)) r.terms +ℤ (neg_ℤ r.bound *ℤ q (share_of n xs))
 value-scaled q n xs r =
     let a = value-append q (copies n xs r.terms) (term_before (share_of n xs) (neg_ℤ r.bound) []) in
     let b = value-copies q n xs r.terms in
@@ -61,23 +61,23 @@ value-rest_scaled q n xs r =
     omega (arith, ints, a, b, c, d)
 
 -- l is 1 and y is x, or l and y are 0
-scaled_one : (p q : Point) (n : ℕ) (xs : List Var) (r : Row) → q (share_of n xs) ≡ pos 1 → Agree (λ v. q (copy_of n xs v)) p r.terms → Holds p r → Holds q (scaled n xs r)
+scaled_one : (p q : Point) (n : ℕ) (xs : List Var) (r : Row) → q (share_of n xs) ≡ pos 1 → Agree (λ v. q (copy_of n xs v)) p r.terms → Holds p r → Holds q (scale n xs r)
 scaled_one p q n xs r e a h =
     let v = value-scaled q n xs r in
     let w = value-agrees (λ v. q (copy_of n xs v)) p r.terms a in
     let k : neg_ℤ r.bound *ℤ q (share_of n xs) ≡ neg_ℤ r.bound *ℤ pos 1 = ap (λ x. neg_ℤ r.bound *ℤ x) e in
-    go r.equal (value p r.terms) (value q (scaled n xs r).terms) r.bound (omega (arith, ints, v, w, k)) h
+    go r.equal (value p r.terms) (value q (scale n xs r).terms) r.bound (omega (arith, ints, v, w, k)) h
   where
     go : (g : Bool) (x z b : ℤ) → z ≡ x -ℤ b → Meets g x b → Meets g z (pos 0)
     go true x z b e h = omega (arith, ints, e, h)
     go false x z b e h = omega (arith, ints, e, h)
 
-scaled_zero : (q : Point) (n : ℕ) (xs : List Var) (r : Row) → q (share_of n xs) ≡ pos 0 → Agree (λ v. q (copy_of n xs v)) (λ v. pos 0) r.terms → Holds q (scaled n xs r)
+scaled_zero : (q : Point) (n : ℕ) (xs : List Var) (r : Row) → q (share_of n xs) ≡ pos 0 → Agree (λ v. q (copy_of n xs v)) (λ v. pos 0) r.terms → Holds q (scale n xs r)
 scaled_zero q n xs r e a =
     let v = value-scaled q n xs r in
     let w = value-agrees (λ v. q (copy_of n xs v)) (λ v. pos 0) r.terms a ∙ value-zero r.terms in
     let k : neg_ℤ r.bound *ℤ q (share_of n xs) ≡ neg_ℤ r.bound *ℤ pos 0 = ap (λ x. neg_ℤ r.bound *ℤ x) e in
-    go r.equal (value q (scaled n xs r).terms) (omega (arith, ints, v, w, k))
+    go r.equal (value q (scale n xs r).terms) (omega (arith, ints, v, w, k))
   where
     go : (g : Bool) (z : ℤ) → z ≡ pos 0 → Meets g z (pos 0)
     go true z e = e
@@ -162,10 +162,10 @@ length_lift : (f : Var → ℤ) (z : ℤ) (xs : List Var) → length (map f xs +
 length_lift f z [] = refl
 length_lift f z (x ∷ xs) = ap suc (length_lift f z xs)
 
-lifted_holds : (q : Point) (n : ℕ) (xs : List Var) (rs ss : List Row) → HoldsAll q (map (scaled n xs) rs) → HoldsAll q (map (rest_scaled n xs) ss) → HoldsAll q (at_least_0 (share_of n xs) ∷ at_most_1 (share_of n xs) ∷ []) → HoldsAll q (lift_rows n xs rs ss)
+lifted_holds : (q : Point) (n : ℕ) (xs : List Var) (rs ss : List Row) → HoldsAll q (map (scale n xs) rs) → HoldsAll q (map (rest_scaled n xs) ss) → HoldsAll q (at_least_0 (share_of n xs) ∷ at_most_1 (share_of n xs) ∷ []) → HoldsAll q (lift_rows n xs rs ss)
 lifted_holds q n xs rs ss h k l =
-    (append_all q (map (scaled n xs) rs ++ map (rest_scaled n xs) ss) (at_least_0 (share_of n xs) ∷ at_most_1 (share_of n xs) ∷ [])).0
-    ((append_all q (map (scaled n xs) rs) (map (rest_scaled n xs) ss)).0 (h, k), l)
+    (append_all q (map (scale n xs) rs ++ map (rest_scaled n xs) ss) (at_least_0 (share_of n xs) ∷ at_most_1 (share_of n xs) ∷ [])).0
+    ((append_all q (map (scale n xs) rs) (map (rest_scaled n xs) ss)).0 (h, k), l)
 
 -- a point of the one operand: l is 1 and y is x
 one_lifts : (p : Point) (a b : System) (xs : List Var) (n : ℕ) → ((v : Var) → IsOneOf v xs → IsOld n v) → RowsIn xs a.rows → RowsIn xs b.rows → HoldsAll p a.rows → HoldsAll p (lifted_hull n xs a b).rows
@@ -176,7 +176,7 @@ one_lifts p a b xs n o i j h =
     let old = λ (v : Var) (k : IsOneOf v xs). with_aux_old p n (map p xs ++ pos 1 ∷ []) v (o v k) in
     lifted_hull_holds p a b xs n (map p xs ++ pos 1 ∷ []) (length_lift p (pos 1) xs)
     (lifted_holds q n xs a.rows b.rows
-    (mapped_hold p q xs (scaled n xs) a.rows (λ r t k. scaled_one p q n xs r el (agree_from (λ v. q (copy_of n xs v)) p xs r.terms at t) k) i h)
+    (mapped_hold p q xs (scale n xs) a.rows (λ r t k. scaled_one p q n xs r el (agree_from (λ v. q (copy_of n xs v)) p xs r.terms at t) k) i h)
     (mapped_free q xs (rest_scaled n xs) b.rows (λ r t. rest_one p q n xs r el (agree_from (λ v. q (copy_of n xs v)) p xs r.terms at t) (agree_from q p xs r.terms old t)) j)
     (share_holds q (share_of n xs) (inr el)))
 
@@ -190,7 +190,7 @@ zero_lifts p a b xs n o i j h =
     let old = λ (v : Var) (k : IsOneOf v xs). with_aux_old p n (map z xs ++ pos 0 ∷ []) v (o v k) in
     lifted_hull_holds p a b xs n (map z xs ++ pos 0 ∷ []) (length_lift z (pos 0) xs)
     (lifted_holds q n xs a.rows b.rows
-    (mapped_free q xs (scaled n xs) a.rows (λ r t. scaled_zero q n xs r el (agree_from (λ v. q (copy_of n xs v)) z xs r.terms at t)) i)
+    (mapped_free q xs (scale n xs) a.rows (λ r t. scaled_zero q n xs r el (agree_from (λ v. q (copy_of n xs v)) z xs r.terms at t)) i)
     (mapped_hold p q xs (rest_scaled n xs) b.rows (λ r t k. rest_zero p q n xs r el (agree_from (λ v. q (copy_of n xs v)) z xs r.terms at t) (agree_from q p xs r.terms old t) k) j h)
     (share_holds q (share_of n xs) (inl el)))
 

@@ -8,23 +8,23 @@ use Rattle.hull_projection.specs.declared.projection.Shadow.{Shadow}
 use Rattle.std.specs.Prelude.{Bool}
 use Rattle.affine_systems.specs.Terms.{term, negated_terms}
 use Rattle.affine_systems.specs.Eliminate.{eliminate_item, eliminate}
-use Rattle.hull_projection.specs.Refute.{numbered, with_originals, left_after, eliminate_all}
+use Rattle.hull_projection.specs.Refute.{as_original, with_originals, left_after, eliminate_all}
 use Rattle.hull_projection.specs.Project.{shadow_after, eliminate_each}
 use Rattle.affine_systems.proofs.ItemSteps.{popped}
 
-originals-push : (n : ℕ) (is : List Item) (i : Item) → with_originals n (is ++ i ∷ []) ≡ with_originals n is ++ numbered (n + length is) i ∷ []
-originals-push n [] i = let z : n ≡ n + 0 = omega arith in ap (λ m. numbered m i ∷ []) z
+originals-push : (n : ℕ) (is : List Item) (i : Item) → with_originals n (is ++ i ∷ []) ≡ with_originals n is ++ as_original (n + length is) i ∷ []
+originals-push n [] i = let z : n ≡ n + 0 = omega arith in ap (λ m. as_original m i ∷ []) z
 originals-push n (j ∷ js) i =
     let z : suc n + length js ≡ n + suc (length js) = omega arith in
-    ap (λ (is : List Item). numbered n j ∷ is) (originals-push (suc n) js i ∙ ap (λ m. with_originals (suc n) js ++ numbered m i ∷ []) z)
+    ap (λ (is : List Item). as_original n j ∷ is) (originals-push (suc n) js i ∙ ap (λ m. with_originals (suc n) js ++ as_original m i ∷ []) z)
 
 -- items taken from the end, and those pushed for them
-pub originals-more : (left more all out new : List Item) (i : Item) (n : ℕ) → left ≡ more ++ i ∷ [] → n ≡ length more → new ≡ out ++ numbered n i ∷ [] → with_originals 0 left ++ reverse out ≡ with_originals 0 all → with_originals 0 more ++ reverse new ≡ with_originals 0 all
+pub originals-more : (left more all out new : List Item) (i : Item) (n : ℕ) → left ≡ more ++ i ∷ [] → n ≡ length more → new ≡ out ++ as_original n i ∷ [] → with_originals 0 left ++ reverse out ≡ with_originals 0 all → with_originals 0 more ++ reverse new ≡ with_originals 0 all
 originals-more left more all out new i n e m p h =
     let z : n ≡ 0 + length more = omega arith in
-    ap (λ is. with_originals 0 more ++ is) (popped new out (numbered n i) p)
-    ∙ (sym (append_assoc (with_originals 0 more) (numbered n i ∷ []) (reverse out))
-    ∙ (ap (λ is. is ++ reverse out) (ap (λ k. with_originals 0 more ++ numbered k i ∷ []) z ∙ (sym (originals-push 0 more i) ∙ ap (with_originals 0) (sym e))) ∙ h))
+    ap (λ is. with_originals 0 more ++ is) (popped new out (as_original n i) p)
+    ∙ (sym (append_assoc (with_originals 0 more) (as_original n i ∷ []) (reverse out))
+    ∙ (ap (λ is. is ++ reverse out) (ap (λ k. with_originals 0 more ++ as_original k i ∷ []) z ∙ (sym (originals-push 0 more i) ∙ ap (with_originals 0) (sym e))) ∙ h))
 
 pub all-more : (q : Bool) (s t goal : Left) (vs : List Var) (i : ℕ) (d : Var) → i < length vs → t ≡ left_after s (eliminate_item q (get_or vs i d) s.items) → eliminate_all q s (drop i vs) ≡ goal → eliminate_all q t (drop (i + 1) vs) ≡ goal
 all-more q s t goal vs i d l e h =

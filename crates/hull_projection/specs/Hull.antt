@@ -36,8 +36,8 @@ abbrev pub negated_copies : ℕ → List Var → List Term → List Term
 negated_copies n xs ts = map (λ t. term (copy_of n xs t.var) (neg_ℤ t.factor)) ts
 
 -- A x <= p as A y <= p l
-abbrev pub scaled : ℕ → List Var → Row → Row
-scaled n xs r = row r.equal (copies n xs r.terms ++ term_before (share_of n xs) (neg_ℤ r.bound) []) (pos 0)
+abbrev pub scale : ℕ → List Var → Row → Row
+scale n xs r = row r.equal (copies n xs r.terms ++ term_before (share_of n xs) (neg_ℤ r.bound) []) (pos 0)
 
 -- C x <= q as C (x - y) <= q (1 - l)
 abbrev pub rest_scaled : ℕ → List Var → Row → Row
@@ -53,7 +53,7 @@ at_most_1 v = row false (term v (pos 1) ∷ []) (pos 1)
 
 abbrev pub lift_rows : ℕ → List Var → List Row → List Row → List Row
 lift_rows n xs rs ss =
-    (map (scaled n xs) rs ++ map (rest_scaled n xs) ss) ++ at_least_0 (share_of n xs) ∷ at_most_1 (share_of n xs) ∷ []
+    (map (scale n xs) rs ++ map (rest_scaled n xs) ss) ++ at_least_0 (share_of n xs) ∷ at_most_1 (share_of n xs) ∷ []
 
 -- from here on rows are whole again
 abbrev pub hull_left : Bool → Left → System

@@ -13,12 +13,12 @@ use Rattle.hull_projection.specs.declared.elimination.Left.{Left}
 use Rattle.hull_projection.specs.Variables.{row_vars}
 
 -- an at-most row is an original and carries its number; an equal row carries none
-abbrev pub numbered : ℕ → Item → Item
-numbered n i = item i.row (if i.row.equal then no_originals else only_original n) n
+abbrev pub as_original : ℕ → Item → Item
+as_original n i = item i.row (if i.row.equal then no_originals else only_original n) n
 
 abbrev pub with_originals : ℕ → List Item → List Item
 with_originals n [] = []
-with_originals n (i ∷ is) = numbered n i ∷ with_originals (suc n) is
+with_originals n (i ∷ is) = as_original n i ∷ with_originals (suc n) is
 
 -- after k eliminations by pairs, more than k + 1 originals are too many
 abbrev pub has_few : ℕ → Item → Bool

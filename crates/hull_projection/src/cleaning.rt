@@ -62,7 +62,8 @@ fn push_unless_spare(
     Ok(())
 }
 
-/// The rows without those at-most rows that the others entail, from the last to the first.
+/// The rows, in order, without those at-most rows that the others entail, as refutation shows; tried from the last to
+/// the first. One refutation for each at-most row.
 pub fn clean_rows(alloc: Global, rows: Rows) -> Result<Rows, Memory>
     requires { AllRows IsSmallRow rows }
     ensures { IfOk result (λ rs. rs ≡ clean_rows_is rows) }
@@ -76,7 +77,8 @@ pub fn clean_rows(alloc: Global, rows: Rows) -> Result<Rows, Memory>
     Ok(List::from_vec(behind))
 }
 
-/// The system without the at-most rows that the others entail. Refutes once for each at-most row.
+/// The system without redundant at-most rows: those that the others entail, as refutation shows. It has the same
+/// points. One refutation for each at-most row.
 pub fn clean(alloc: Global, sys: &System) -> Result<System, Memory>
     requires fits { Fits sys.now }
     ensures defined { IfOk result (λ s. s ≡ clean_is sys.now) }

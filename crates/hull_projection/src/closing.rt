@@ -105,7 +105,7 @@ fn some_iterations(
     clean(alloc, &left.system)
 }
 
-/// Any number of iterations with such changes; none where an iteration is not possible.
+/// Any number of iterations with such changes; no iteration where these are infeasible.
 fn any_iterations(alloc: Global, first: u32, cells: &[Var], once: &System) -> Result<System, Memory>
     requires room { first + length cells.now < 2 ^ 32 }
     requires cells { AreOrdered cells.now }
@@ -132,9 +132,10 @@ fn ordered_closure(alloc: Global, cells: &[Var], body: &System) -> Result<System
     any_iterations(alloc, first, cells, &once)
 }
 
-/// Contains the reflexive transitive closure of the relation from cells to exits that `body` describes: each pair of
-/// stores that any number of iterations joins. `changes` are the cells that an iteration may change. Memory also where
-/// there are no numbers below 2^32 for a fresh variable for each changed cell and one more.
+/// Over-approximates the reflexive transitive closure of the relation from cells to exits that `body` describes:
+/// contains each pair of stores that any number of iterations joins. `changes` are the cells that an iteration may
+/// change, in any order. Memory also where there are no numbers below 2^32 for a fresh variable for each of these and
+/// one more.
 pub fn closure(alloc: Global, changes: &Vars, body: &System) -> Result<System, Memory>
     requires cells { AreCells changes.now }
     requires fits { Fits body.now }

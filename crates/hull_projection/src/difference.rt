@@ -27,8 +27,10 @@ fn difference(alloc: Global, one: &System, other: &System) -> Result<Minus, Memo
     joined_parts(alloc, parts, either(one.weak, other.weak))
 }
 
-/// The points of the first system outside the second. One system for each negation of a row of the second, and a hull
-/// for each but the first; where the two have no point in common, the first as it stands.
+/// A system that has the points of the first system that are not of the second: the hull of the first with each
+/// negation of a row of the second. No system where each of these is refuted; a copy of the first where the two
+/// together are. One system for each negation, and a hull for each but the first. Memory also where the numbers of
+/// auxiliary variables reach 2^32.
 pub fn minus(alloc: Global, one: &System, other: &System) -> Result<Minus, Memory>
     requires fits { Fits one.now }
     requires other_fits { Fits other.now }

@@ -4,24 +4,26 @@ use affine_systems::items::{Item, Items, Originals, eliminate_item};
 use fx_lists::List;
 use std::alloc::{AllocError as Memory, Global};
 
-/// What eliminations left: the rows, whether one was lost, and how many eliminations were by pairs. A row that is
-/// dropped for its originals is not lost.
+/// What eliminations left.
 #[derive(Debug, Drop)]
 pub struct Left {
+    /// The rows, with the numbers of their originals.
     pub items: Items,
+    /// Whether tidying lost a row. One that is dropped for its originals is not lost.
     pub lost: bool,
+    /// How many eliminations were by pairs of lower and upper rows.
     pub pairs: usize,
 }
 
 ghost use Rattle.std.specs.Prelude.{◌≡◌, ◌+◌, ◌<◌, ◌≤◌, ◌^◌, length, false, IfOk};
 ghost use Rattle.affine_systems.specs.Given.{ItemsFit};
 ghost use Rattle.affine_systems.specs.Eliminate.{eliminate_item as eliminate_item_is};
-ghost use Rattle.hull_projection.specs.Refute.{numbered as numbered_is, with_originals as with_originals_is, has_few as has_few_is, with_few as with_few_is, all_left as all_left_is, left_after, eliminate_all as eliminate_all_is};
+ghost use Rattle.hull_projection.specs.Refute.{as_original as as_original_is, with_originals as with_originals_is, has_few as has_few_is, with_few as with_few_is, all_left as all_left_is, left_after, eliminate_all as eliminate_all_is};
 
 /// An at-most row as the original with a number; an equal row is none.
-fn numbered(item: Item, number: u32) -> Item
+fn as_original(item: Item, number: u32) -> Item
     requires { number < 512 }
-    ensures { result ≡ numbered_is number item }
+    ensures { result ≡ as_original_is number item }
 {
     let originals = if item.row.equal {
         Originals::none()
@@ -44,13 +46,14 @@ fn with_originals(alloc: Global, items: Items) -> Result<Items, Memory>
     let mut out = Vec::new(alloc);
     while let Some(item) = items.pop() {
         let number = items.as_slice().len();
-        out.push(numbered(item, number as u32))?;
+        out.push(as_original(item, number as u32))?;
     }
     out.reverse();
     Ok(List::from_vec(out))
 }
 
-/// Before the first elimination: the at-most rows are originals.
+/// What is left before the first elimination: all rows, at most 512, each at-most row with its index as its only
+/// original, and equal rows with none.
 pub fn all_left(alloc: Global, items: Items) -> Result<Left, Memory>
     requires { length items ≤ 512 }
     ensures { IfOk result (λ s. s ≡ all_left_is items) }
@@ -95,7 +98,8 @@ fn eliminate_more(alloc: Global, rational: bool, v: Var, left: Left) -> Result<L
     })
 }
 
-/// What is left without the variables. After k eliminations by pairs, rows from more than k + 1 originals are dropped.
+/// What is left without the variables, which are eliminated in the order of the list. After k eliminations by pairs,
+/// rows from more than k + 1 originals are dropped. The pairs of an elimination are as many as lower times upper rows.
 pub fn eliminate_all(
     alloc: Global,
     rational: bool,

@@ -13,7 +13,7 @@ use fx_lists::List;
 use std::alloc::{AllocError as Memory, Global};
 
 /// The negated term.
-fn negated(t: Term) -> Term
+fn negation(t: Term) -> Term
     requires { unsigned_abs t.factor < 2 ^ 62 }
     ensures { result ≡ term t.var (neg_ℤ t.factor) }
 {
@@ -29,7 +29,7 @@ fn negated_terms(alloc: Global, terms: &[Term]) -> Result<Terms, Memory>
 {
     let mut out = Vec::new(alloc);
     for t in terms {
-        out.push(negated(*t))?;
+        out.push(negation(*t))?;
     }
     Ok(List::from_vec(out))
 }
@@ -50,7 +50,7 @@ fn bound_below(bound: i128) -> i128
     bound - 1
 }
 
-/// The row that says that the sum is above the bound.
+/// The at-most row which says that the sum of the terms is at least the bound plus 1.
 pub fn above(alloc: Global, row: &Row) -> Result<Row, Memory>
     requires { IsSmallRow row.now }
     ensures { IfOk result (λ r. r ≡ above_is row.now) }
@@ -62,7 +62,7 @@ pub fn above(alloc: Global, row: &Row) -> Result<Row, Memory>
     })
 }
 
-/// The row that says that the sum is below the bound.
+/// The at-most row which says that the sum of the terms is at most the bound less 1.
 pub fn below(alloc: Global, row: &Row) -> Result<Row, Memory>
     requires { IsSmallRow row.now }
     ensures { IfOk result (λ r. r ≡ below_is row.now) }
@@ -104,7 +104,8 @@ fn entails_row(alloc: Global, rows: &[Row], row: &Row) -> Result<bool, Memory>
     refuted_with(alloc, rows, under)
 }
 
-/// Whether refutation shows that the row holds at each point of the system.
+/// Whether refutation shows that the row holds at each point of the system. Where it does not, the row may hold all the
+/// same. One refutation for an at-most row, at most two for an equal row.
 pub fn entails(alloc: Global, sys: &System, row: &Row) -> Result<bool, Memory>
     requires fits { Fits sys.now }
     requires row { IsNormal row.now }

@@ -36,7 +36,8 @@ fn fresh_after(vars: &[Var]) -> u64
     least
 }
 
-/// The least number above those of the auxiliary variables. Memory where it and `more` after it are not all below 2^32.
+/// The least number above those of the auxiliary variables in the list, 0 where there are none. Memory where it and
+/// `more` after it are not all below 2^32.
 pub fn fresh_number(vars: &[Var], more: usize) -> Result<u32, Memory>
     ensures defined { IfOk result (λ n. n ≡ fresh_after_is vars.now) }
     ensures room { IfOk result (λ n. n + more < 2 ^ 32) }
@@ -49,7 +50,7 @@ pub fn fresh_number(vars: &[Var], more: usize) -> Result<u32, Memory>
 }
 
 #[tactic(auto, using(crate::proofs::FreshSteps::aux_loop))]
-/// So many auxiliary variables from a number on.
+/// So many auxiliary variables, numbered one by one from `first` on.
 pub fn aux_from(alloc: Global, first: u32, count: usize) -> Result<Vec<Var>, Memory>
     requires { first + count ≤ 2 ^ 32 }
     ensures { IfOk result (λ vs. vs.items ≡ aux_from_is first count) }
@@ -73,7 +74,7 @@ fn is_old(first: u32, v: Var) -> bool
     }
 }
 
-/// The variables without the auxiliary ones from a number on.
+/// The variables, in order, without the auxiliary ones numbered `first` or more.
 pub fn old_vars(first: u32, mut vars: Vec<Var>) -> Vars
     ensures { result ≡ old_vars_is first vars.items }
 {

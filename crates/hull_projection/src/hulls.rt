@@ -16,6 +16,7 @@ use affine_systems::{System, Var, tidy};
 use fx_lists::List;
 use std::alloc::{AllocError as Memory, Global};
 
+/// A copy of a system.
 pub fn copy_system(alloc: Global, sys: &System) -> Result<System, Memory>
     ensures { IfOk result (λ s. s ≡ sys.now) }
 {
@@ -25,6 +26,7 @@ pub fn copy_system(alloc: Global, sys: &System) -> Result<System, Memory>
     })
 }
 
+/// Whether one or the other is true, or both.
 pub fn either(one: bool, other: bool) -> bool
     ensures { result ≡ (one || other) }
 {
@@ -105,8 +107,9 @@ fn hull_of(alloc: Global, one: &System, other: &System) -> Result<System, Memory
     lifted_hull(alloc, first, vars.as_slice(), one, other)
 }
 
-/// A system with the points of both; where one is refuted, the other as it stands. Memory also where there are no
-/// numbers below 2^32 for a fresh variable for each variable and one more.
+/// A system that has the points of both: their convex hull, as far as elimination computes it; where one is refuted, a
+/// copy of the other. Eliminates a variable for each that the two have, and one more. Memory also where there are no
+/// numbers below 2^32 for these.
 pub fn hull(alloc: Global, one: &System, other: &System) -> Result<System, Memory>
     requires fits { Fits one.now }
     requires other_fits { Fits other.now }

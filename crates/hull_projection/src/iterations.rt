@@ -49,7 +49,8 @@ fn step_row(alloc: Global, number: u32, cell: Var) -> Result<Row, Memory>
 }
 
 #[tactic(auto, using(crate::proofs::FreshSteps::steps_loop))]
-/// Adds for each cell that an auxiliary variable, numbered from the first on, is its change.
+/// Adds for each cell the equal row which says that its exit less the cell is an auxiliary variable, its change. These
+/// are numbered from `first` on, in the order of the cells.
 pub fn push_steps(
     alloc: Global,
     out: &mut Vec<Row>,
@@ -85,6 +86,7 @@ fn same_row(alloc: Global, cell: Var) -> Result<Row, Memory>
     })
 }
 
+/// For each cell, in order, the equal row which says that its exit is the cell.
 pub fn same_rows(alloc: Global, cells: &[Var]) -> Result<Vec<Row>, Memory>
     ensures { IfOk result (λ rs. rs.items ≡ map same_row_is cells.now) }
 {
@@ -131,7 +133,7 @@ fn push_exits(out: &mut Vec<Term>, first: u32, cells: &[Var], terms: &[Term]) ->
     Ok(())
 }
 
-/// The number of iterations.
+/// The auxiliary variable of the number of iterations: the one after those of the changes of the cells.
 pub fn iterations_var(first: u32, cells: &[Var]) -> Var
     requires { first + length cells.now < 2 ^ 32 }
     ensures { result ≡ iterations_var_is first cells.now }
@@ -160,7 +162,9 @@ fn many_iterations(alloc: Global, first: u32, cells: &[Var], row: &Row) -> Resul
     })
 }
 
-/// The rows of any number of iterations, which is not below 0.
+/// Rows on any number of iterations, from rows on the changes of one: a row on a sum of changes with a bound becomes
+/// one on exits less cells, with the bound times the number of iterations. A last row says that this number is at least
+/// 0.
 pub fn iteration_rows(
     alloc: Global,
     first: u32,

@@ -3,7 +3,7 @@ ghost use Rattle.std.specs.Prelude.{◌≡◌, ◌+◌, ◌<◌, ◌≤◌, ◌^
 ghost use Rattle.affine_systems.specs.Terms.{term};
 ghost use Rattle.affine_systems.specs.Rows.{AllRows};
 ghost use Rattle.affine_systems.specs.Given.{AreSmall, IsSmallRow};
-ghost use Rattle.hull_projection.specs.Hull.{place_of as place_of_is, copy_of as copy_of_is, share_of as share_of_is, copies, negated_copies, scaled as scaled_is, rest_scaled as rest_scaled_is, at_least_0 as at_least_0_is, at_most_1 as at_most_1_is, lift_rows as lift_rows_is};
+ghost use Rattle.hull_projection.specs.Hull.{place_of as place_of_is, copy_of as copy_of_is, share_of as share_of_is, copies, negated_copies, scale as scale_is, rest_scaled as rest_scaled_is, at_least_0 as at_least_0_is, at_most_1 as at_most_1_is, lift_rows as lift_rows_is};
 
 use affine_systems::terms::push_term;
 use affine_systems::{Row, Term, Var};
@@ -24,7 +24,7 @@ fn place_of(v: Var, vars: &[Var]) -> usize
     vars.len()
 }
 
-/// The auxiliary variable that stands for a multiple of the variable. Looks the variable up from the start of the list.
+/// The auxiliary variable that is a multiple of the variable. Looks the variable up from the start of the list.
 fn copy_of(first: u32, vars: &[Var], v: Var) -> Var
     requires { first + length vars.now < 2 ^ 32 }
     ensures { result ≡ copy_of_is first vars.now v }
@@ -40,6 +40,7 @@ fn share_of(first: u32, vars: &[Var]) -> Var
     Var::Aux(first + vars.len() as u32)
 }
 
+/// The number, below 2^62 in magnitude, with the opposite sign.
 pub fn negative(number: i128) -> i128
     requires { unsigned_abs number < 2 ^ 62 }
     ensures { result ≡ neg_ℤ number }
@@ -86,10 +87,10 @@ fn push_negated(out: &mut Vec<Term>, first: u32, vars: &[Var], terms: &[Term]) -
 }
 
 /// A row of the first system: a multiple of the point is in the same multiple of it.
-fn scaled(alloc: Global, first: u32, vars: &[Var], row: &Row) -> Result<Row, Memory>
+fn scale(alloc: Global, first: u32, vars: &[Var], row: &Row) -> Result<Row, Memory>
     requires room { first + length vars.now < 2 ^ 32 }
     requires small { IsSmallRow row.now }
-    ensures { IfOk result (λ r. r ≡ scaled_is first vars.now row.now) }
+    ensures { IfOk result (λ r. r ≡ scale_is first vars.now row.now) }
 {
     let mut terms = Vec::new(alloc);
     push_copies(&mut terms, first, vars, row.terms.as_slice())?;
@@ -130,6 +131,7 @@ fn single(alloc: Global, var: Var, factor: i128, bound: i128) -> Result<Row, Mem
     })
 }
 
+/// The row which says that a variable is at least 0.
 pub fn at_least_0(alloc: Global, v: Var) -> Result<Row, Memory>
     ensures { IfOk result (λ r. r ≡ at_least_0_is v) }
 {
@@ -151,10 +153,10 @@ fn push_scaled(
 ) -> Result<(), Memory>
     requires room { first + length vars.now < 2 ^ 32 }
     requires small { AllRows IsSmallRow rows.now }
-    ensures { OnOk result (out.new.items ≡ out.old.items ++ map (scaled_is first vars.now) rows.now) }
+    ensures { OnOk result (out.new.items ≡ out.old.items ++ map (scale_is first vars.now) rows.now) }
 {
     for row in rows {
-        out.push(scaled(alloc, first, vars, row)?)?;
+        out.push(scale(alloc, first, vars, row)?)?;
     }
     Ok(())
 }
@@ -176,7 +178,8 @@ fn push_rest(
     Ok(())
 }
 
-/// The rows of both systems, lifted, and the multiplier between 0 and 1.
+/// The rows of both systems, lifted, and two that put the multiplier between 0 and 1. The auxiliary variable `first` +
+/// k is the multiple of the variable at index k of `vars`, and that after these is the multiplier.
 pub fn lift_rows(
     alloc: Global,
     first: u32,

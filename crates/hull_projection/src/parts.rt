@@ -12,8 +12,8 @@ use crate::refutation::refuted;
 use affine_systems::{Row, System, push_row};
 use std::alloc::{AllocError as Memory, Global};
 
-/// A system with the points of one outside another; None where there are none. Where it is `exact` and no row was lost
-/// it has no other points.
+/// A difference of systems: a system that has the points of one outside another, or None, which says that there are
+/// none. Where it is `exact` and no row was lost it has no other points.
 #[derive(Clone, PartialEq, Eq, Debug, Drop)]
 pub struct Minus {
     pub system: Option<System>,
@@ -55,7 +55,8 @@ fn push_parts(alloc: Global, out: &mut Vec<System>, sys: &System, row: &Row) -> 
 }
 
 #[tactic(auto, using(crate::proofs::PartSteps::parts_steps))]
-/// The parts of the system outside each of the rows.
+/// The system with each negation of each row, in order, without those systems that are refuted. An equal row has two
+/// negations.
 pub fn parts(alloc: Global, sys: &System, rows: &[Row]) -> Result<Vec<System>, Memory>
     requires fits { Fits sys.now }
     requires rows { AllRows IsSmallRow rows.now }
@@ -93,7 +94,8 @@ fn weaker(sys: System, weak: bool) -> System
     }
 }
 
-/// Nothing, one part, or the hull of many.
+/// The difference that these parts make: None, the one part cleaned, or the hull of many from left to right, which
+/// alone is not exact. Weak also where `weak`. Memory also where the numbers of auxiliary variables reach 2^32.
 pub fn joined_parts(alloc: Global, parts: Vec<System>, weak: bool) -> Result<Minus, Memory>
     requires { AllFit parts.items }
     ensures defined { IfOk result (λ m. m ≡ minus_parts parts.items weak) }

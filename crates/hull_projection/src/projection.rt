@@ -7,8 +7,8 @@ use affine_systems::{System, Var, Vars, eliminate};
 use fx_lists::List;
 use std::alloc::{AllocError as Memory, Global};
 
-/// A system without some variables. Where it is `exact`, each point of it extends to one of the system that it came
-/// from.
+/// A projection: a system without some variables. Where it is `exact`, each point of it extends to one of the system
+/// that it came from.
 #[derive(Clone, PartialEq, Eq, Debug, Drop)]
 pub struct Shadow {
     pub system: System,
@@ -75,7 +75,8 @@ fn whole(alloc: Global, sys: &System) -> Result<Shadow, Memory>
     })
 }
 
-/// The system without the variables, cleaned. Exact where each elimination was.
+/// The projection of a system that removes these variables, cleaned. They are eliminated in ascending order, whatever
+/// that of the list. No point is lost; exact where each elimination is.
 pub fn project(alloc: Global, sys: &System, vars: &Vars) -> Result<Shadow, Memory>
     requires fits { Fits sys.now }
     ensures defined { IfOk result (λ s. s ≡ project_is sys.now vars.now) }

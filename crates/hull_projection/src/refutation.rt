@@ -24,7 +24,7 @@ fn refuted_items(alloc: Global, items: Items) -> Result<bool, Memory>
 }
 
 #[tactic(auto, using(crate::proofs::RefuteSteps::refutes))]
-/// Whether rows are refuted. They need not be tidied.
+/// Whether the elimination of all variables shows that no integer point meets all rows. They need not be tidied.
 pub fn refuted_rows(alloc: Global, rows: Vec<Row>) -> Result<bool, Memory>
     requires { AllRows IsGiven rows.items }
     ensures { IfOk result (λ b. b ≡ refuted_is rows.items) }
@@ -34,8 +34,8 @@ pub fn refuted_rows(alloc: Global, rows: Vec<Row>) -> Result<bool, Memory>
     refuted_items(alloc, t.items)
 }
 
-/// Whether the elimination of all variables shows that the system has no point. Where it does not there may be none
-/// either.
+/// Whether the elimination of all variables shows that the system is infeasible: it has no integer point. Where it does
+/// not show that, there may be none either.
 pub fn refuted(alloc: Global, sys: &System) -> Result<bool, Memory>
     requires fits { Fits sys.now }
     ensures defined { IfOk result (λ b. b ≡ refuted_is sys.now.rows) }

@@ -8,7 +8,7 @@ use Rattle.f77_ast.specs.Faults.{Bounds}
 use Rattle.f77_ast.specs.Steps.{Done}
 use Rattle.f77_ast.specs.Places.{Names, Dim, Place, Places, scalar_place, total_size}
 use Rattle.f77_ast.specs.Values.{fault, value}
-use Rattle.f77_ast.specs.Calls.{Dummy, BoundTree, first_place, other_places, scalars_bound, high_value, dims_read, is_open, array_at, array_place, dummy_bound, arrays_bound, in_place}
+use Rattle.f77_ast.specs.Calls.{Dummy, BoundTree, first_place, other_places, scalars_bound, high_value, dims_read, is_open, open_extent, array_at, array_place, dummy_bound, arrays_bound, in_place}
 use Rattle.f77_ast.specs.Trees.{ExprTree}
 use Rattle.f77_ast.proofs.StepLaws.{Leads, leads_then}
 use Rattle.transformer_algebra.proofs.CellLaws.{nat_same, nat_eq_same}
@@ -83,8 +83,12 @@ module _ (w : Names) (at0 : Places) (s : Store) (i : List Content) where
       sized true e = go (array_at p t ds (total_size ds)) (record { first = refl; extent = grind (arith, nat_tests) })
       sized false e = tt
 
-      open_or : (b : Bool) → Leads (if b then Done (array_at p t ds p.extent) else if nat_le (total_size ds) p.extent then Done (array_at p t ds (total_size ds)) else fault Bounds) s i Q
-      open_or true = go (array_at p t ds p.extent) (record { first = refl; extent = omega arith })
+      reached : (b : Bool) → (if b then 0 else p.extent) ≤ p.extent
+      reached true = omega arith
+      reached false = omega arith
+
+      open_or : (b : Bool) → Leads (if b then Done (array_at p t ds (open_extent p ds)) else if nat_le (total_size ds) p.extent then Done (array_at p t ds (total_size ds)) else fault Bounds) s i Q
+      open_or true = go (array_at p t ds (open_extent p ds)) (record { first = refl; extent = reached (nat_eq (total_size ds) 0) })
       open_or false = sized (nat_le (total_size ds) p.extent) refl
 
   -- one dummy

@@ -7,7 +7,7 @@ use Rattle.f77_ast.specs.Faults.{Bounds}
 use Rattle.f77_ast.specs.Steps.{Done}
 use Rattle.f77_ast.specs.Places.{Dim, Place, Places, scalar_place, total_size}
 use Rattle.f77_ast.specs.Values.{fault}
-use Rattle.f77_ast.specs.Calls.{Dummy, first_place, other_places, scalars_bound, is_open, array_at, array_place, in_place}
+use Rattle.f77_ast.specs.Calls.{Dummy, first_place, other_places, scalars_bound, is_open, open_extent, array_at, array_place, in_place}
 use Rattle.f77_symbols.specs.declared.symbol.Place.{Place as SymbolPlace}
 use Rattle.f77_symbols.specs.declared.symbol.Place.TheVariants as place
 use Rattle.f77_symbols.specs.Symbols.{SymbolTree}
@@ -90,7 +90,11 @@ array_does A p t ds = go (is_open ds) (nat_le (total_size ds) p.extent) refl
     smaller : (n : ℕ) → n ≤ p.extent → Inside p (array_at p t ds n)
     smaller n h u i = let b = in_bounds (array_at p t ds n) u i in within_bounds p u b.0 (omega (arith, b.1, h))
 
-    go : (o f : Bool) → nat_le (total_size ds) p.extent ≡ f → Doing (if o then Done (array_at p t ds p.extent) else if f then Done (array_at p t ds (total_size ds)) else fault Bounds) A (Inside p)
-    go true f e = smaller p.extent (omega arith)
+    reached : (b : Bool) → (if b then 0 else p.extent) ≤ p.extent
+    reached true = omega arith
+    reached false = omega arith
+
+    go : (o f : Bool) → nat_le (total_size ds) p.extent ≡ f → Doing (if o then Done (array_at p t ds (open_extent p ds)) else if f then Done (array_at p t ds (total_size ds)) else fault Bounds) A (Inside p)
+    go true f e = smaller (open_extent p ds) (reached (nat_eq (total_size ds) 0))
     go false true e = smaller (total_size ds) (leb-true (total_size ds) p.extent e)
     go false false e = tt

@@ -8,16 +8,16 @@ use Rattle.fixed_form.specs.Faults.{first_fault, fault_of as line_fault}
 use Rattle.fixed_form.specs.Reading.{rest_from, reading as lines_reading}
 use Rattle.f77_ast.specs.DeclTrees.{ParsedTree}
 use Rattle.f77_exprs.specs.Lexical.{name_at, label_at, number}
-use Rattle.f77_exprs.specs.Grammar.{more, chain, more_by, items_by, element_at, variable_in, parenthesis, constant_at, primary, exponent, factor, signed, signed_term, arithmetic, comparison, relation, negated_relation, negation, part, expression, variable}
+use Rattle.f77_exprs.specs.Grammar.{more, chain, more_by, items_by, element_at, variable_in, parenthesis, constant_at, primary, exponent, factor, signed_terms, signed_term, arithmetic, comparison, relation, negated_relation, negation, part, expression, variable}
 use Rattle.f77_statements.specs.Lists.{maybe_after_comma}
 use Rattle.f77_statements.specs.Parts.{entity, bounds}
 use Rattle.f77_statements.specs.Specifications.{integer_statement}
 use Rattle.f77_statements.specs.Executables.{assignment, print_statement}
 use Rattle.f77_statements.specs.Statements.{program_statement, form_at, terminal, some_step, step, range, do_statement, alone, specified, simply, phrase_of}
-use Rattle.f77_structure.specs.Blocks.{stood}
+use Rattle.f77_structure.specs.Blocks.{take_executable}
 use Rattle.f77_structure.specs.Opens.{can_spoil, contains}
-use Rattle.f77_structure.specs.Order.{ordered}
-use Rattle.f77_structure.specs.Steps.{stepped}
+use Rattle.f77_structure.specs.Order.{check_next}
+use Rattle.f77_structure.specs.Steps.{take_statement}
 use Rattle.f77_structure.specs.Checks.{fault_of}
 use Rattle.f77_parser.specs.Gives.{Refused, and_then}
 use Rattle.f77_parser.specs.SoFar.{add_spot, add_executable, add_logical_if, open_block}
@@ -63,7 +63,7 @@ lines_are_read = refl
 -- ---- statements and structure
 
 modules_are_read : parse_of statements ≡ Ok (parsed ∷ [])
-unfolding name_at label_at number more chain more_by items_by element_at variable_in parenthesis constant_at primary exponent factor signed signed_term arithmetic comparison relation negated_relation negation part expression variable maybe_after_comma entity bounds integer_statement assignment print_statement program_statement form_at terminal some_step step range do_statement alone specified simply phrase_of stood can_spoil contains ordered stepped fault_of add_spot add_executable add_logical_if open_block build_module parse_of refuse_if is_before
+unfolding name_at label_at number more chain more_by items_by element_at variable_in parenthesis constant_at primary exponent factor signed_terms signed_term arithmetic comparison relation negated_relation negation part expression variable maybe_after_comma entity bounds integer_statement assignment print_statement program_statement form_at terminal some_step step range do_statement alone specified simply phrase_of take_executable can_spoil contains check_next take_statement fault_of add_spot add_executable add_logical_if open_block build_module parse_of refuse_if is_before
 modules_are_read = refl
 
 -- ---- the table of symbols

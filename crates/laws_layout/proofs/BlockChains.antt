@@ -17,11 +17,12 @@ use Rattle.storage_layout.specs.Table.{Layout, home_place, place_in as seat_plac
 use Rattle.storage_layout.specs.Symbols.{unshared, shared}
 use Rattle.laws_tables.proofs.Answers.{Answered, lines_in, names_in, found_in, laid_in, shared_in, layout_in, answered_by}
 use Rattle.laws_tables.proofs.EntryLaws.{entry_of}
-use Rattle.laws_layout.specs.Layout.{members, Has, Chained}
+use Rattle.storage_layout.specs.Statements.{members, Has}
+use Rattle.laws_layout.specs.Layout.{Chained}
 use Rattle.laws_layout.specs.Laws.{BlocksHaveAChain}
 use Rattle.laws_layout.proofs.CommonLaws.{block_named}
-use Rattle.laws_layout.proofs.StayLaws.{shared_stays}
-use Rattle.laws_layout.proofs.GroupKeeps.{decls_keep}
+use Rattle.storage_layout.proofs.StayLaws.{shared_stays}
+use Rattle.storage_layout.proofs.GroupKeeps.{decls_keep}
 use Rattle.laws_layout.proofs.ChainLaws.{name_at, Linked, HomesLink, Old, old_of, home_now, shared_link}
 use Rattle.laws_layout.proofs.HomeLaws.{InBlock, Home_of, laid_homes, laid_link}
 

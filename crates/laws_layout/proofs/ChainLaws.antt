@@ -25,9 +25,10 @@ use Rattle.storage_layout.specs.declared.equivalences.Grouping.{Grouping}
 use Rattle.storage_layout.specs.declared.equivalences.Shared.{Shared}
 use Rattle.storage_layout.specs.Equivalences.{may_join, clashes, unit_joined, at_place, named_joined, items_joined, begun, group_shared, groups_shared, decl_shared, decls_shared}
 use Rattle.storage_layout.specs.Symbols.{unshared, shared}
-use Rattle.laws_layout.specs.Layout.{equivalences_in, equivalences, Has, Together, in_block, in_group, IsChain, Chained}
+use Rattle.storage_layout.specs.Statements.{equivalences_in, equivalences, Has}
+use Rattle.laws_layout.specs.Layout.{Together, in_block, in_group, IsChain, Chained}
 use Rattle.laws_layout.proofs.CommonLaws.{number_gets}
-use Rattle.laws_layout.proofs.JoinLaws.{moved_get}
+use Rattle.storage_groups.proofs.BlockLaws.{moved_get}
 
 -- ---- lists
 

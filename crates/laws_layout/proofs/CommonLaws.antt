@@ -23,7 +23,7 @@ use Rattle.f77_names.proofs.NamesLaws.{number_from-least}
 use Rattle.f77_checks.specs.Dimensions.{is_bad_shape, check_bounds, check_shape, check_shapes}
 use Rattle.storage_groups.specs.declared.seat.Home.TheVariants.{Block}
 use Rattle.storage_data.specs.Units.{place_of, units_by, units_of_entry, units_of}
-use Rattle.storage_layout.specs.Blocks.{block_number, sits_in_block}
+use Rattle.storage_layout.specs.Blocks.{block_number}
 use Rattle.storage_layout.specs.Table.{Layout, place_in as seat_place, unless_dummy, unless_value, symbol_of, symbols_from}
 use Rattle.storage_layout.specs.Symbols.{valued, checked}
 use Rattle.laws_tables.specs.Shapes.{symbol_named}
@@ -34,11 +34,14 @@ use Rattle.laws_tables.proofs.FoundNames.{AllFound, find_changed}
 use Rattle.laws_tables.proofs.Answers.{Answered, lines_in, names_in, found_in, laid_in, layout_in, answered_by, found_none, values_none, names_none}
 use Rattle.laws_storage.specs.DataLaws.{ConstantsFit}
 use Rattle.laws_storage.proofs.ParameterLaws.{Right, no_value, a_value, names_right}
-use Rattle.laws_layout.specs.Layout.{members, LieInARow}
+use Rattle.storage_layout.specs.Statements.{members, common_names}
+use Rattle.laws_layout.specs.Layout.{LieInARow}
 use Rattle.laws_layout.specs.Laws.{CommonFollowsTheText}
 use Rattle.laws_layout.proofs.CommonNames.{InCommon, seen_shared, said_shared, changed_shared}
-use Rattle.laws_layout.proofs.StayLaws.{shared_stays}
-use Rattle.laws_layout.proofs.RowLaws.{InARow, Standing, no_block, a_row, laid_rows}
+use Rattle.storage_layout.proofs.StayLaws.{shared_stays}
+use Rattle.storage_layout.specs.Laws.{AreDistinct, InARow, HasRow, no_block, a_row}
+use Rattle.storage_layout.proofs.RowLaws.{members_lie_in_a_row}
+use Rattle.laws_layout.proofs.MemberLaws.{decls_fresh, AllInCommon, all_keep, decls_common}
 use Rattle.laws_layout.proofs.ValueKeeps.{values_keep}
 use Rattle.laws_layout.proofs.SizeLaws.{ShapeFits, entry_known}
 use Rattle.laws_storage.proofs.UnitLaws.{units_are}
@@ -188,6 +191,17 @@ shapes_at p e =
     let v = valued (lines_in p) p.module_read in
     shapes_placed v.table v.table.entries v.found (stmts_back v.table (lines_in p) p.module_read.body 0 (check_shapes v.table v.table.entries v.found) e)
 
+-- the names as they are told, before COMMON is looked at
+abbrev first_told : ParsedTree → Told
+first_told p = dummies_told p.module_read.dummies 1 (line_or (lines_in p) Title 0) no_names
+
+-- no member of COMMON is there twice
+pub distinct_members : (p : ParsedTree) → check_names (lines_in p) p.module_read ≡ None → AreDistinct (names_in p) (common_names p.module_read.decls)
+distinct_members p quiet =
+    let m = p.module_read in
+    let fresh = decls_fresh (names_in p) (arrays_named m.decls) (lines_in p) m.decls 0 (first_told p) (told_quiet p quiet) (λ y h. place_found (names_in p) y (kept_common p y h)) in
+    fresh.distinct
+
 module _ (p : ParsedTree) (ss : List SymbolTree) (a : Answered p ss) (fit : ConstantsFit ss) where
   quiet : check_names (lines_in p) p.module_read ≡ None
   quiet = names_none p (values_none p (found_none p ss a))
@@ -218,23 +232,23 @@ module _ (p : ParsedTree) (ss : List SymbolTree) (a : Answered p ss) (fit : Cons
         units = units_are p ss a fit k e.entry dims.0 dims.1 ∙ sym (ap (units_of_entry (names_in p)) e.found ∙ ap units_by dims.1);
       }
 
-  in_a_row : (b : List ℕ) (n : ℕ) → slice_get (laid_in p).names n ≡ Some b → ((x : List ℕ) (k from : ℕ) → place_of (names_in p) x ≡ Some k → slice_get (laid_in p).seats k ≡ Some (record { home = Block n; offset = pos from }) → InCommon x (names_in p).entries) →
-      (from : ℕ) (xs : List (List ℕ)) (to : ℕ) → InARow (names_in p) (laid_in p).seats n from xs to → LieInARow ss b from xs
-  in_a_row b n name common from [] to h = tt
-  in_a_row b n name common from (x ∷ xs) to h =
-      let s = member b n from x h.0 name h.1 h.2 (common x h.0 from h.1 h.2) in
-      (s.symbol, s.is_named, s.lies, subst (λ u. LieInARow ss b (from + u) xs) (sym s.units) (in_a_row b n name common (from + units_of (names_in p) x) xs to h.3))
+  in_a_row : (b : List ℕ) (n : ℕ) → slice_get (laid_in p).names n ≡ Some b → (from : ℕ) (xs : List (List ℕ)) (to : ℕ) → AllInCommon (names_in p).entries xs → InARow (names_in p) (laid_in p).seats n from xs to → LieInARow ss b from xs
+  in_a_row b n name from [] to common h = tt
+  in_a_row b n name from (x ∷ xs) to common h =
+      let s = member b n from x h.0 name h.1 h.2 common.0 in
+      (s.symbol, s.is_named, s.lies, subst (λ u. LieInARow ss b (from + u) xs) (sym s.units) (in_a_row b n name (from + units_of (names_in p) x) xs to common.1 h.3))
 
   block_lies : (b : List ℕ) → LieInARow ss b 0 (members b p.module_read.decls)
-  block_lies b =
-      let at = lines_in p in
-      let m = p.module_read in
-      let r = laid_rows (names_in p) (arrays_named m.decls) b at m.decls (dummies_told m.dummies 1 (line_or at Title 0) no_names) (told_quiet p quiet) (λ y h. place_found (names_in p) y (kept_common p y h)) in
-      go r.stands (λ x k from n q s. kept_common p x (r.marked x k q (ap sits_in_block s)))
+  block_lies b = go (members_lie_in_a_row (names_in p) p.module_read.decls (distinct_members p quiet) b)
     where
-      go : Standing (names_in p) b (laid_in p) (members b p.module_read.decls) → ((x : List ℕ) (k from n : ℕ) → place_of (names_in p) x ≡ Some k → slice_get (laid_in p).seats k ≡ Some (record { home = Block n; offset = pos from }) → InCommon x (names_in p).entries) → LieInARow ss b 0 (members b p.module_read.decls)
-      go (no_block none q) common = subst (LieInARow ss b 0) (sym q) tt
-      go (a_row n size is has row) common = in_a_row b n (block_named (laid_in p).names b n is) (λ x k from q s. common x k from n q s) 0 (members b p.module_read.decls) size row
+      common : AllInCommon (names_in p).entries (members b p.module_read.decls)
+      common =
+          let m = p.module_read in
+          all_keep (told_in p).entries (names_in p).entries (members b m.decls) (λ y h. kept_common p y h) (decls_common (arrays_named m.decls) b (lines_in p) m.decls 0 (first_told p) (told_quiet p quiet))
+
+      go : HasRow (names_in p) b (laid_in p) (members b p.module_read.decls) → LieInARow ss b 0 (members b p.module_read.decls)
+      go (no_block none q) = subst (LieInARow ss b 0) (sym q) tt
+      go (a_row n size is has row) = in_a_row b n (block_named (laid_in p).names b n is) 0 (members b p.module_read.decls) size common row
 
 pub common_follows_the_text : CommonFollowsTheText
 common_follows_the_text p ss e fit b = block_lies p ss (answered_by p ss e) fit b

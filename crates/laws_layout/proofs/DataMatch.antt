@@ -33,8 +33,8 @@ use Rattle.laws_layout.proofs.CommonLaws.{placed_symbol, no_some, shaped_names, 
 use Rattle.laws_layout.proofs.SizeLaws.{entry_known}
 use Rattle.laws_layout.proofs.ItemLaws.{position_same}
 use Rattle.laws_layout.proofs.ValueKeeps.{values_keep}
-use Rattle.laws_layout.proofs.GroupLaws.{shared_seated}
-use Rattle.laws_layout.proofs.SeatedLaws.{laid_seated}
+use Rattle.storage_layout.proofs.GroupLaws.{shared_seated}
+use Rattle.storage_layout.proofs.SeatedLaws.{laid_seated}
 use Rattle.laws_layout.proofs.DealLaws.{Slot, slots_from, slots_of, slots, AllFit}
 use Rattle.laws_layout.proofs.DataNames.{InData, seen_data, changed_data, said_data, AllInData, ListsInData, lists_later, decls_marked}
 use Rattle.laws_layout.proofs.FillLaws.{GivesAll, Shut, decls_fit, decls_shut}

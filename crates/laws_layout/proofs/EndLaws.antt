@@ -1,6 +1,6 @@
 -- No variable ends past 2147483647 units for each name.
-use Rattle.std.proofs.Common.{◌≡◌, ℕ, zero, suc, ◌+◌, ◌*◌, ◌<◌, ◌≤◌, Bool, true, false, ℤ, pos, negsuc, ◌+ℤ◌, ◌-ℤ◌, ◌≤ℤ◌, List, [], ◌∷◌, length, map, Option, Some, None, refl, sym, ap, ◌∙◌, subst, arith, mul-suc}
-use Rattle.std.specs.Prelude.{if◌then◌else◌, nat_lt, neg_ℤ, not, ◌||◌, is_some, slice_get, unwrap_or}
+use Rattle.std.proofs.Common.{◌≡◌, ℕ, zero, suc, ◌+◌, ◌*◌, ◌≤◌, Bool, true, false, ℤ, pos, negsuc, ◌+ℤ◌, ◌-ℤ◌, ◌≤ℤ◌, List, [], ◌∷◌, length, Option, Some, None, refl, sym, ap, ◌∙◌, subst, arith, mul-suc}
+use Rattle.std.specs.Prelude.{if◌then◌else◌, nat_lt, neg_ℤ, not, ◌||◌, is_some, slice_get}
 use Rattle.std.specs.Ordering.{int_eq}
 use Rattle.std.proofs.lemmas.Bool.{ltb-false, or_parts}
 use Rattle.std.proofs.lemmas.Int.{ints}
@@ -13,13 +13,11 @@ use Rattle.f77_constants.specs.declared.constant.Constant.{Constant}
 use Rattle.f77_constants.specs.declared.constant.Constant.TheVariants as constant
 use Rattle.f77_constants.specs.declared.constant.Worth.{Worth}
 use Rattle.f77_constants.specs.declared.constant.Worth.TheVariants.{Is, Faults, Varies}
-use Rattle.f77_symbols.specs.declared.symbol.Place.{Place}
-use Rattle.f77_symbols.specs.declared.symbol.Place.TheVariants as place
-use Rattle.f77_symbols.specs.Symbols.{BoundTree, SymbolTree, value_in}
+use Rattle.f77_symbols.specs.Symbols.{BoundTree, SymbolTree}
 use Rattle.f77_symbols.specs.Units.{span_units, span_to, bound_units, bounds_units, units_in}
 use Rattle.f77_names.specs.Entries.{ShapeTree, EntryTree, value_among}
 use Rattle.f77_names.specs.Tables.{NameTable}
-use Rattle.f77_checks.specs.Dimensions.{worth_in, dim_to, dim_from, dim_up_to, dim_of, with_dim, dims_of, has_bad_bound, is_too_big, is_bad_shape, entry_dims, dims_in}
+use Rattle.f77_checks.specs.Dimensions.{worth_in, dim_from, dim_up_to, dim_of, with_dim, dims_of, has_bad_bound, is_too_big, entry_dims, dims_in}
 use Rattle.f77_meaning.specs.Linked.{offset_in}
 use Rattle.storage_groups.specs.declared.seat.Home.{Home}
 use Rattle.storage_groups.specs.declared.seat.Home.TheVariants.{Block, Own}
@@ -35,13 +33,13 @@ use Rattle.storage_layout.specs.Blocks.{block_number, with_block, sits_in_block,
 use Rattle.storage_layout.specs.Symbols.{alone, laid, unshared, shared}
 use Rattle.storage_layout.specs.Table.{Layout, home_place, place_in, unless_dummy, unless_value, bounds_in, symbol_of, symbols_from}
 use Rattle.storage_data.specs.Units.{place_of, units_of}
-use Rattle.laws_tables.proofs.EntryLaws.{EntryOf, entry_of}
+use Rattle.laws_tables.proofs.EntryLaws.{entry_of}
 use Rattle.laws_tables.proofs.Answers.{Answered, lines_in, names_in, found_in, laid_in, shared_in, layout_in, answered_by, found_none}
 use Rattle.laws_storage.specs.DataLaws.{ConstantsFit}
 use Rattle.laws_storage.proofs.UnitLaws.{values_same, units_are}
 use Rattle.laws_layout.specs.Laws.{EndsAreBounded}
-use Rattle.laws_layout.proofs.RowLaws.{set_length}
-use Rattle.laws_layout.proofs.GroupKeeps.{decls_keep}
+use Rattle.storage_layout.proofs.RowLaws.{set_length}
+use Rattle.storage_layout.proofs.GroupKeeps.{decls_keep}
 use Rattle.laws_layout.proofs.SizeLaws.{ShapeFits}
 use Rattle.laws_layout.proofs.CommonLaws.{shapes_at}
 use Rattle.laws_layout.proofs.ReachLaws.{units_at, shared_compact}

@@ -28,13 +28,14 @@ use Rattle.laws_tables.proofs.Answers.{Answered, lines_in, names_in, found_in, l
 use Rattle.laws_storage.specs.DataLaws.{ConstantsFit}
 use Rattle.laws_storage.proofs.ParameterLaws.{names_right}
 use Rattle.laws_storage.proofs.UnitLaws.{values_same}
-use Rattle.laws_layout.specs.Layout.{name_unit, indexed_unit, element_unit, item_unit, AllBeginAt, ShareTheirFirst, equivalences}
+use Rattle.storage_layout.specs.Statements.{equivalences}
+use Rattle.laws_layout.specs.Layout.{name_unit, indexed_unit, element_unit, item_unit, AllBeginAt, ShareTheirFirst}
 use Rattle.laws_layout.specs.Laws.{EquivalencedItemsShare}
 use Rattle.laws_layout.proofs.CommonLaws.{placed_symbol, without_value}
-use Rattle.laws_layout.proofs.SeatedLaws.{laid_seated}
 use Rattle.laws_layout.proofs.ItemLaws.{position_same}
-use Rattle.laws_layout.proofs.JoinLaws.{OneUnit}
-use Rattle.laws_layout.proofs.GroupLaws.{AllOne, GroupOne, shared_one}
+use Rattle.storage_groups.specs.Laws.{Coincide}
+use Rattle.storage_layout.specs.Laws.{AllAt, GroupCoincides}
+use Rattle.storage_layout.proofs.EquivalenceLaws.{equivalences_coincide}
 
 -- ---- units of seats
 
@@ -63,7 +64,7 @@ unit_is l none k s v e = go s.home refl
         ap (λ z. Some (group_unit (group_in l n) z)) (sym (ap as_count turned ∙ count_plus (s.offset -ℤ lowest l.seats (Own n)) v least))
 
 -- two that are one unit
-units_same : (l : Layout) (m : ℕ) (p : ℤ) (n : ℕ) (q : ℤ) (h : OneUnit l.seats m p n q) → unit_at l h.first.home (h.first.offset +ℤ p) ≡ unit_at l h.second.home (h.second.offset +ℤ q)
+units_same : (l : Layout) (m : ℕ) (p : ℤ) (n : ℕ) (q : ℤ) (h : Coincide l.seats m p n q) → unit_at l h.first.home (h.first.offset +ℤ p) ≡ unit_at l h.second.home (h.second.offset +ℤ q)
 units_same l m p n q h = ap (λ z. unit_at l z (h.first.offset +ℤ p)) h.home ∙ ap (unit_at l h.second.home) h.unit
 
 abbrev unit_maybe : Layout → Option Seat → ℤ → Unit_of
@@ -129,7 +130,7 @@ module _ (p : ParsedTree) (ss : List SymbolTree) (a : Answered p ss) (fit : Cons
   item_at (tree.binary o y z) x k v s n q seat r = cc
   item_at (tree.chars y) x k v s n q seat r = cc
 
-  all_begin : (c : Anchor) (is : List ExprTree) → AllOne (names_in p) (layout_in p).seats c is → AllBeginAt ss (unit_maybe (layout_in p) (slice_get (layout_in p).seats c.place) (pos c.unit)) is
+  all_begin : (c : Anchor) (is : List ExprTree) → AllAt (names_in p) (layout_in p).seats c is → AllBeginAt ss (unit_maybe (layout_in p) (slice_get (layout_in p).seats c.place) (pos c.unit)) is
   all_begin c [] h = tt
   all_begin c (i ∷ is) h =
       let l = layout_in p in
@@ -139,12 +140,12 @@ module _ (p : ParsedTree) (ss : List SymbolTree) (a : Answered p ss) (fit : Cons
       let anchor : unit_maybe l (slice_get l.seats c.place) (pos c.unit) ≡ unit_at l one.first.home (one.first.offset +ℤ pos c.unit) = ap (λ o. unit_maybe l o (pos c.unit)) one.is_first in
       (there ∙ ap Some (sym (units_same l c.place (pos c.unit) r.place (pos r.unit) one)) ∙ ap Some (sym anchor), all_begin c is h.2)
 
-  groups_share : (gs : List (List ExprTree)) → AllByRecursion (GroupOne (names_in p) (layout_in p).seats) gs → AllByRecursion (ShareTheirFirst ss) gs
+  groups_share : (gs : List (List ExprTree)) → AllByRecursion (GroupCoincides (names_in p) (layout_in p).seats) gs → AllByRecursion (ShareTheirFirst ss) gs
   groups_share [] h = tt
   groups_share (g ∷ gs) h = ((unit_maybe (layout_in p) (slice_get (layout_in p).seats h.0.0.place) (pos h.0.0.unit), all_begin h.0.0 g h.0.1), groups_share gs h.1)
 
   all_share : AllByRecursion (ShareTheirFirst ss) (equivalences p.module_read.decls)
-  all_share = groups_share (equivalences p.module_read.decls) (shared_one (names_in p) (lines_in p) p.module_read.decls (laid_in p).seats (found_in p) (laid_seated (names_in p) p.module_read.decls) a.late)
+  all_share = groups_share (equivalences p.module_read.decls) (equivalences_coincide (names_in p) (lines_in p) p.module_read.decls (found_in p) a.late)
 
 pub equivalenced_items_share : EquivalencedItemsShare
 equivalenced_items_share p ss e fit = all_share p ss (answered_by p ss e) fit

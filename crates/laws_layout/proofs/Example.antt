@@ -10,7 +10,8 @@ use Rattle.f77_symbols.specs.declared.symbol.Place.TheVariants.{Local, Block}
 use Rattle.f77_symbols.specs.declared.symbol.InitialRun.{InitialRun}
 use Rattle.f77_symbols.specs.Symbols.{BoundTree, SymbolTree}
 use Rattle.f77_symbols.specs.Shared.{group_unit}
-use Rattle.laws_layout.specs.Layout.{members, LieInARow, element_number, ShareTheirFirst, in_group, Chained, GivesItsValues}
+use Rattle.storage_layout.specs.Statements.{members}
+use Rattle.laws_layout.specs.Layout.{LieInARow, element_number, ShareTheirFirst, in_group, Chained, GivesItsValues}
 
 abbrev entity : List ℕ → EntityTree
 entity x = record { name = x; bounds = [] }

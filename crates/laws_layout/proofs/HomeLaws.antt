@@ -15,8 +15,9 @@ use Rattle.storage_data.specs.Units.{place_of, units_of}
 use Rattle.storage_layout.specs.declared.blocks.Laid.{Laid}
 use Rattle.storage_layout.specs.Blocks.{block_number, with_block, sits_in_block, put_at, put_there, member_put, members_put, part_put, parts_put, decl_put, decls_put}
 use Rattle.storage_layout.specs.Symbols.{alone, laid}
-use Rattle.laws_layout.specs.Layout.{commons_in, commons, members_in, members, Has, in_block}
-use Rattle.laws_layout.proofs.RowLaws.{one_number}
+use Rattle.storage_layout.specs.Statements.{commons_in, commons, members_in, members, Has}
+use Rattle.laws_layout.specs.Layout.{in_block}
+use Rattle.storage_layout.proofs.RowLaws.{one_number}
 use Rattle.laws_layout.proofs.ChainLaws.{has_left, has_right, name_at, name_placed, Linked, HomesLink}
 
 module _ (ds : List DeclTree) (t : NameTable) where

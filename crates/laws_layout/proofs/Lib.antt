@@ -1,15 +1,9 @@
 mod Example
-pub mod ColumnLaws
 pub mod CommonNames
-pub mod StayLaws
-pub mod RowLaws
+pub mod MemberLaws
 pub mod ValueKeeps
 pub mod SizeLaws
 pub mod CommonLaws
-pub mod JoinLaws
-pub mod GroupKeeps
-pub mod GroupLaws
-pub mod SeatedLaws
 pub mod ItemLaws
 pub mod EquivalenceLaws
 pub mod ChainLaws
@@ -30,3 +24,7 @@ pub mod DataOrder
 pub mod DataMatch
 pub mod ReachLaws
 pub mod EndLaws
+pub mod DifferLaws
+pub mod FitLaws
+pub mod LaidFits
+pub mod RefusalLaws

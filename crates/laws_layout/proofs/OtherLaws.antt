@@ -31,12 +31,13 @@ use Rattle.laws_tables.specs.Shapes.{symbol_named}
 use Rattle.laws_tables.proofs.Answers.{Answered, lines_in, names_in, shared_in, filled_in, layout_in, answered_by}
 use Rattle.laws_storage.specs.DataLaws.{ConstantsFit}
 use Rattle.laws_storage.proofs.UnitLaws.{units_are, values_same}
-use Rattle.laws_layout.specs.Layout.{Has, data_in, data_lists, Target, targets_from, whole, one_target, one_element, targets_in, targets, value_at}
+use Rattle.storage_layout.specs.Statements.{Has}
+use Rattle.laws_layout.specs.Layout.{data_in, data_lists, Target, targets_from, whole, one_target, one_element, targets_in, targets, value_at}
 use Rattle.laws_layout.specs.Laws.{OthersBeginUndefined}
 use Rattle.laws_layout.proofs.CommonLaws.{placed_symbol}
 use Rattle.laws_layout.proofs.ItemLaws.{position_same}
 use Rattle.laws_layout.proofs.ChainLaws.{has_left, has_right}
-use Rattle.laws_layout.proofs.RowLaws.{one_number}
+use Rattle.storage_layout.proofs.RowLaws.{one_number}
 use Rattle.laws_layout.proofs.RunValues.{Gives, PiecesGive, initial_back, value_given}
 use Rattle.laws_layout.proofs.DealLaws.{Slot, slots_from, slots_of, slots, SomeFits}
 use Rattle.laws_layout.proofs.DealBack.{IsSlot, dealt_slots}

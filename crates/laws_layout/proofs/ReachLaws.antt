@@ -1,5 +1,5 @@
 -- How far blocks and groups reach: no farther than their variables would one behind the other.
-use Rattle.std.proofs.Common.{◌≡◌, ℕ, zero, suc, ◌+◌, ◌<◌, ◌≤◌, Bool, true, false, ℤ, pos, ◌+ℤ◌, ◌-ℤ◌, ◌≤ℤ◌, List, [], ◌∷◌, ◌++◌, length, map, Option, Some, None, ◌⊎◌, inl, inr, refl, sym, ap, ◌∙◌, subst, arith}
+use Rattle.std.proofs.Common.{◌≡◌, ℕ, zero, suc, ◌+◌, ◌≤◌, Bool, true, false, ℤ, pos, ◌+ℤ◌, ◌≤ℤ◌, List, [], ◌∷◌, ◌++◌, length, map, Option, Some, None, ◌⊎◌, inl, inr, refl, sym, ap, ◌∙◌, subst, arith}
 use Rattle.std.specs.Prelude.{if◌then◌else◌, bytes_eq, nat_eq, slice_get, slice_set, is_some}
 use Rattle.std.proofs.lemmas.Bool.{eqb-true, eqb-false}
 use Rattle.std.proofs.lemmas.Int.{ints}
@@ -7,7 +7,7 @@ use Rattle.f77_ast.specs.Trees.{ExprTree, ExprTrees}
 use Rattle.f77_ast.specs.Trees as tree
 use Rattle.f77_ast.specs.DeclTrees.{EntityTree, CommonTree, DeclTree}
 use Rattle.f77_ast.specs.DeclTrees as decl
-use Rattle.f77_ast.specs.Places.{Dim, total_size, position}
+use Rattle.f77_ast.specs.Places.{Dim, total_size}
 use Rattle.f77_symbols.specs.Symbols.{number_from}
 use Rattle.f77_names.specs.declared.lines.Sited.TheVariants.{Decl}
 use Rattle.refusal_codes.specs.declared.refusal.Refusal.{Refusal}
@@ -18,8 +18,8 @@ use Rattle.f77_checks.specs.Dimensions.{dims_in}
 use Rattle.storage_groups.specs.declared.seat.Home.{Home}
 use Rattle.storage_groups.specs.declared.seat.Home.TheVariants.{Block, Own}
 use Rattle.storage_groups.specs.declared.seat.Seat.{Seat}
-use Rattle.storage_groups.specs.Seats.{same_home, is_block, alone_from, joined}
-use Rattle.storage_groups.specs.Spans.{units_from, Reaches, AreCompact}
+use Rattle.storage_groups.specs.Seats.{same_home, is_block, alone_from}
+use Rattle.storage_groups.specs.Spans.{units_from, AreCompact}
 use Rattle.storage_groups.proofs.BlockLaws.{same_home-refl, same_home-is}
 use Rattle.storage_groups.proofs.SpanLaws.{has_units, joins_keep_compact}
 use Rattle.storage_data.specs.Units.{place_of, units_by, units_of_entry, units_of}
@@ -33,7 +33,7 @@ use Rattle.storage_layout.specs.Equivalences.{may_join, clashes, unit_joined, at
 use Rattle.storage_layout.specs.Symbols.{alone, laid, unshared, shared}
 use Rattle.laws_storage.proofs.PieceLaws.{entry_placed, closed_entry}
 use Rattle.laws_storage.proofs.PositionLaws.{position_below}
-use Rattle.laws_layout.proofs.RowLaws.{set_here, set_other, get_more}
+use Rattle.storage_layout.proofs.RowLaws.{set_here, set_other, get_more}
 
 -- the units of a name, by its place
 abbrev pub units_at : NameTable → ℕ → ℕ

@@ -1,9 +1,8 @@
 -- The dimensions of a variable that is not refused.
-use Rattle.std.proofs.Common.{◌≡◌, Bool, true, false, ℤ, List, [], ◌∷◌, length, Option, Some, None, refl, sym, ap, ◌∙◌}
+use Rattle.std.proofs.Common.{◌≡◌, Bool, false, ℤ, List, [], ◌∷◌, length, Option, Some, None, refl, sym, ap, ◌∙◌}
 use Rattle.std.specs.Prelude.{if◌then◌else◌, nat_lt, ◌||◌, is_some}
 use Rattle.std.proofs.lemmas.Bool.{or_parts}
 use Rattle.f77_ast.specs.Trees.{ExprTree}
-use Rattle.f77_ast.specs.DeclTrees.{ParsedTree}
 use Rattle.f77_ast.specs.Places.{Dim}
 use Rattle.f77_constants.specs.declared.constant.Constant.TheVariants as constant
 use Rattle.f77_constants.specs.declared.constant.Worth.{Worth}

@@ -27,7 +27,7 @@ use Rattle.laws_tables.proofs.StatementRefusals.{noted_none}
 use Rattle.laws_tables.proofs.Answers.{filled_back}
 use Rattle.laws_layout.proofs.DealLaws.{Slot, SomeFits}
 use Rattle.laws_layout.proofs.DealBack.{fits_either}
-use Rattle.laws_layout.proofs.GroupLaws.{Seated}
+use Rattle.storage_layout.proofs.GroupLaws.{Seated}
 use Rattle.laws_layout.proofs.OnceLaws.{Alone, HasSeat, HaveSeats, dealt_alone}
 
 -- each value is a constant

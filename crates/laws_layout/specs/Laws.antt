@@ -1,5 +1,5 @@
 -- What holds of the table of every module that is not refused, in the words of the standard.
-use Rattle.std.specs.Prelude.{◌≡◌, ◌+◌, ◌*◌, ◌<◌, ◌≤◌, ◌⊎◌, ℕ, suc, ℤ, List, length, map, slice_get, Some, Ok}
+use Rattle.std.specs.Prelude.{◌≡◌, ◌+◌, ◌*◌, ◌<◌, ◌≤◌, ◌⊎◌, ℕ, suc, ℤ, List, length, map, slice_get, Option, Some, None, Ok, Err}
 use Rattle.std.specs.List.{AllByRecursion}
 use Rattle.f77_ast.specs.DeclTrees.{DataTree, ParsedTree}
 use Rattle.f77_ast.specs.Places.{Dim, position}
@@ -8,9 +8,16 @@ use Rattle.f77_symbols.specs.Symbols.{SymbolTree}
 use Rattle.f77_symbols.specs.Units.{units_in}
 use Rattle.f77_symbols.specs.Shared.{OneUnit, group_unit, block_unit, HasUnit}
 use Rattle.f77_meaning.specs.Linked.{offset_in}
-use Rattle.storage_layout.specs.Symbols.{symbols_of}
+use Rattle.storage_data.specs.Laws.{IsNext}
+use Rattle.storage_layout.specs.Symbols.{symbols_of, valued, checked, laid, shared, filled}
+use Rattle.refusal_codes.specs.declared.code.Code.TheVariants.{EquivalenceClash, EquivalenceExtendsBack}
+use Rattle.refusal_codes.specs.declared.refusal.Refusal.{Refusal}
+use Rattle.f77_names.specs.Lines.{lines_of}
+use Rattle.f77_names.specs.Tables.{NameTable}
 use Rattle.laws_storage.specs.DataLaws.{ConstantsFit}
-use Rattle.laws_layout.specs.Layout.{members, LieInARow, IsNext, equivalences, ShareTheirFirst, Has, Chained, data_lists, Target, targets, begins_with, GivesItsValues}
+use Rattle.storage_layout.specs.Statements.{members, equivalences, Has}
+use Rattle.laws_layout.specs.Fits.{Spot, Satisfies}
+use Rattle.laws_layout.specs.Layout.{LieInARow, ShareTheirFirst, Chained, data_lists, Target, targets, begins_with, GivesItsValues}
 
 -- ---- elements (§5.2.4)
 
@@ -58,3 +65,30 @@ OthersBeginUndefined = (p : ParsedTree) (ss : List SymbolTree) → symbols_of p 
 -- a variable ends at most 2147483647 units for each symbol behind the first unit of its block or group
 abbrev pub EndsAreBounded : Type 0
 EndsAreBounded = (p : ParsedTree) (ss : List SymbolTree) → symbols_of p ≡ Ok ss → ConstantsFit ss → (n : ℕ) (s : SymbolTree) → slice_get ss n ≡ Some s → offset_in s.place + units_in ss s ≤ 2147483647 * length ss
+
+-- ---- refusals
+
+-- the names of a module
+abbrev pub names_of : ParsedTree → NameTable
+names_of p = (valued (lines_of p.places.spots) p.module_read).table
+
+-- the first refusal of a module but those for its layout
+abbrev pub other_refusal : ParsedTree → Option Refusal
+other_refusal p =
+    let at = lines_of p.places.spots in
+    let m = p.module_read in
+    let v = valued at m in
+    let s = shared v.table at m.decls (laid v.table m.decls).seats (checked at m v) in
+    (filled v.table s.group.seats at m.decls s.found).found
+
+-- a refusal of an EQUIVALENCE that contradicts what is before it, or that begins before a block (35, 36)
+abbrev pub IsOfLayout : Refusal → Type 0
+IsOfLayout r = (r.code ≡ EquivalenceClash) ⊎ (r.code ≡ EquivalenceExtendsBack)
+
+-- a module of which nothing else is refused, and that has no table, is refused for its layout, and has none
+abbrev pub LayoutsAreRefusedWhereNoneFits : Type 0
+LayoutsAreRefusedWhereNoneFits = (p : ParsedTree) (r : Refusal) → other_refusal p ≡ None → symbols_of p ≡ Err r → IsOfLayout r × ((f : List ℕ → Spot) → Satisfies (names_of p) p.module_read.decls f → ⊥)
+
+-- a module that is not refused has one
+abbrev pub AcceptedLayoutsFit : Type 0
+AcceptedLayoutsFit = (p : ParsedTree) (ss : List SymbolTree) → symbols_of p ≡ Ok ss → (f : List ℕ → Spot) × Satisfies (names_of p) p.module_read.decls f

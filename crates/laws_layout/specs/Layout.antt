@@ -1,11 +1,11 @@
 -- Where the standard puts the variables of a module (ANSI X3.9-1978 §5.2.4, §8.2, §8.3, §9): what it asks of a finished table of symbols. Nothing is joined
 -- or moved here, and no step of the making of a table is cited: a table either says what the statements say, or it does not.
-use Rattle.std.specs.Prelude.{◌≡◌, ◌⊎◌, ℕ, zero, suc, ◌+◌, ℤ, pos, ◌+ℤ◌, true, List, [], ◌∷◌, map, slice_get, flat_map, Option, Some, None, bytes_eq, if◌then◌else◌}
+use Rattle.std.specs.Prelude.{◌≡◌, ℕ, zero, suc, ◌+◌, ℤ, List, [], ◌∷◌, map, flat_map, Option, Some, None}
 use Rattle.f77_ast.specs.Trees.{ExprTree, ExprTrees}
 use Rattle.f77_ast.specs.Trees as tree
 use Rattle.f77_ast.specs.DeclTrees.{EntityTree, CommonTree, DataValueTree, DataTree, DeclTree}
 use Rattle.f77_ast.specs.DeclTrees as decl
-use Rattle.f77_ast.specs.Places.{Dim, at_most, position}
+use Rattle.f77_ast.specs.Places.{position}
 use Rattle.f77_constants.specs.declared.constant.Constant.{Constant}
 use Rattle.f77_constants.specs.declared.constant.Worth.TheVariants.{Is}
 use Rattle.f77_constants.specs.Constants.{number_of, worth}
@@ -14,32 +14,11 @@ use Rattle.f77_symbols.specs.Symbols.{SymbolTree, value_in}
 use Rattle.f77_symbols.specs.Units.{units_in}
 use Rattle.f77_symbols.specs.Shared.{OneUnit, unit_after}
 use Rattle.tracked_cells.specs.Equivalences.{item_names}
+use Rattle.storage_layout.specs.Statements.{members, equivalences, Has}
 use Rattle.f77_meaning.specs.Modules.{as_number, dim_of, value_from}
 use Rattle.laws_tables.specs.Shapes.{symbol_named}
 
--- ---- the statements of one kind, in the order of the text
-
-abbrev pub commons_in : DeclTree → List CommonTree
-commons_in (decl.common cs) = cs
-commons_in (decl.implicit ps) = []
-commons_in (decl.integer es) = []
-commons_in (decl.logical es) = []
-commons_in (decl.dimension es) = []
-commons_in (decl.parameter ss) = []
-commons_in (decl.equivalence gs) = []
-commons_in (decl.save is) = []
-commons_in (decl.initial gs) = []
-
-abbrev pub equivalences_in : DeclTree → List (List ExprTree)
-equivalences_in (decl.equivalence gs) = gs
-equivalences_in (decl.implicit ps) = []
-equivalences_in (decl.integer es) = []
-equivalences_in (decl.logical es) = []
-equivalences_in (decl.dimension es) = []
-equivalences_in (decl.parameter ss) = []
-equivalences_in (decl.common cs) = []
-equivalences_in (decl.save is) = []
-equivalences_in (decl.initial gs) = []
+-- ---- DATA statements, in the order of the text
 
 abbrev pub data_in : DeclTree → List DataTree
 data_in (decl.initial gs) = gs
@@ -52,26 +31,11 @@ data_in (decl.common cs) = []
 data_in (decl.equivalence gs) = []
 data_in (decl.save is) = []
 
--- the lists of names behind each block name of COMMON
-abbrev pub commons : List DeclTree → List CommonTree
-commons ds = flat_map commons_in ds
-
--- the groups of EQUIVALENCE
-abbrev pub equivalences : List DeclTree → List (List ExprTree)
-equivalences ds = flat_map equivalences_in ds
-
 -- the lists of targets and values of DATA
 abbrev pub data_lists : List DeclTree → List DataTree
 data_lists ds = flat_map data_in ds
 
 -- ---- COMMON
-
-abbrev pub members_in : List ℕ → CommonTree → List (List ℕ)
-members_in b c = if bytes_eq b c.block then map (λ e. e.name) c.members else []
-
--- the members of a block: all COMMON statements of a module that name it go on with one list (§8.3.1)
-abbrev pub members : List ℕ → List DeclTree → List (List ℕ)
-members b ds = flat_map (members_in b) (commons ds)
 
 -- the first of these variables begins at this unit of the block, and each other one where the one before it ends (§8.3.2)
 abbrev pub LieInARow : List SymbolTree → List ℕ → ℕ → List (List ℕ) → Type 0
@@ -79,13 +43,6 @@ LieInARow ss b n [] = Unit {0}
 LieInARow ss b n (x ∷ xs) = (s : SymbolTree) × (symbol_named ss x ≡ Some s) × (s.place ≡ Block b n) × LieInARow ss b (n + units_in ss s) xs
 
 -- ---- elements of arrays
-
--- an element stands next behind another: the first subscript that can go up does, and those before it begin again (§5.2.4)
-abbrev pub IsNext : List Dim → List ℤ → List ℤ → Type 0
-IsNext [] ns ms = ⊥
-IsNext (d ∷ ds) [] ms = ⊥
-IsNext (d ∷ ds) (n ∷ ns) [] = ⊥
-IsNext (d ∷ ds) (n ∷ ns) (m ∷ ms) = ((at_most m d.high ≡ true) × (m ≡ n +ℤ pos 1) × (ns ≡ ms)) ⊎ ((d.high ≡ Some n) × (m ≡ d.low) × IsNext ds ns ms)
 
 -- the numbers of constant subscripts
 abbrev pub subscripts : List SymbolTree → ExprTrees → List ℤ
@@ -130,9 +87,6 @@ abbrev pub ShareTheirFirst : List SymbolTree → List ExprTree → Type 0
 ShareTheirFirst ss is = (u : OneUnit) × AllBeginAt ss u is
 
 -- ---- association
-
-abbrev pub Has : {A : Type 0} → List A → A → Type 0
-Has xs x = (i : ℕ) × (slice_get xs i ≡ Some x)
 
 -- two names are associated at once: both are members of one block, or both stand in one group (§8.2.2, §8.3.4)
 pub data Together (ds : List DeclTree) (x y : List ℕ) : Type 0 where

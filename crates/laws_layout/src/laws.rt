@@ -1,5 +1,5 @@
 //! Laws of storage.
-ghost use Rattle.laws_layout.specs.Laws.{BlocksHaveAChain, ColumnsComeFirst, CommonFollowsTheText, DataFillsInOrder, EndsAreBounded, EquivalencedItemsShare, FirstElementIsFirst, OthersBeginUndefined, SharingHasAChain};
+ghost use Rattle.laws_layout.specs.Laws.{AcceptedLayoutsFit, BlocksHaveAChain, ColumnsComeFirst, CommonFollowsTheText, DataFillsInOrder, EndsAreBounded, EquivalencedItemsShare, FirstElementIsFirst, LayoutsAreRefusedWhereNoneFits, OthersBeginUndefined, SharingHasAChain};
 
 /// The element with all lower bounds is the first of its array.
 pub fn first_element_is_first()
@@ -44,4 +44,14 @@ pub fn others_begin_undefined()
 /// Each variable ends at most 2^31-1 units for each symbol of its module behind the first unit of its block or group.
 pub fn ends_are_bounded()
     ensures { EndsAreBounded }
+{}
+
+/// A module of which nothing else is refused, and that has no table, is refused for its layout (35, 36), and its statements admit none.
+pub fn layouts_are_refused_where_none_fits()
+    ensures { LayoutsAreRefusedWhereNoneFits }
+{}
+
+/// The statements of a module that is not refused admit a layout.
+pub fn accepted_layouts_fit()
+    ensures { AcceptedLayoutsFit }
 {}

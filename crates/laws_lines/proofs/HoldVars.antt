@@ -10,7 +10,7 @@ use Rattle.affine_forms.specs.Conditions.{condition_of}
 use Rattle.call_translation.specs.Scopes.{ScopeTree}
 use Rattle.transformers.specs.Jumps.{unstructured}
 use Rattle.transformers.specs.Lists.{number_of, each_at, list_at}
-use Rattle.preconditions.specs.Statement.{Found, hull_from, some_holds, if_true, if_false, parts_of, each_iteration, done, throughout, past_arm, past_arms, after, after_what, after_each, after_arms, after_arm, after_else, after_loop_of, at_stmt, at_parts, at_each, at_all, at_arms, at_arm, at_else, at_loop, at_list}
+use Rattle.preconditions.specs.Statement.{PreconditionList, hull_from, some_holds, if_true, if_false, parts_of, each_iteration, done, throughout, past_arm, past_arms, after, after_what, after_each, after_arms, after_arm, after_else, after_loop_of, at_stmt, at_parts, at_each, at_all, at_arms, at_arm, at_else, at_loop, at_list}
 use Rattle.laws_lines.specs.Variables.{IsCellOf}
 use Rattle.laws_lines.proofs.SystemVars.{IsNeat, meet_neat}
 use Rattle.laws_lines.proofs.HullVars.{hull_neat}
@@ -36,7 +36,7 @@ pub some_neat : (ok : ℕ → Type 0) (ss : List System) → AreNeat ok ss → I
 some_neat ok [] h = infeasible_neat (IsCellOf ok)
 some_neat ok (s ∷ ss) h = hulls_neat ok s ss h.0 h.1
 
-module _ (ok : ℕ → Type 0) (m : ScopeTree) (a : Scope ok m) (t : Found) (fit : (n : ℕ) → IsDone ok (t n)) where
+module _ (ok : ℕ → Type 0) (m : ScopeTree) (a : Scope ok m) (t : PreconditionList) (fit : (n : ℕ) → IsDone ok (t n)) where
   abbrev Neat : System → Type 0
   Neat s = IsNeat (IsCellOf ok) s
 

@@ -22,7 +22,7 @@ use Rattle.hull_projection.specs.declared.elimination.Left.{Left}
 use Rattle.hull_projection.specs.Variables.{in_order, row_vars}
 use Rattle.hull_projection.specs.Refute.{with_originals, has_few, count_pairs, left_after, eliminate_all, all_left, refuted}
 use Rattle.hull_projection.specs.Fresh.{fresh_after, aux_from, old_vars}
-use Rattle.hull_projection.specs.Hull.{place_of, copy_of, share_of, copies, negated_copies, scaled, rest_scaled, at_least_0, at_most_1, lift_rows, both_vars, lifted_hull, hull}
+use Rattle.hull_projection.specs.Hull.{place_of, copy_of, share_of, copies, negated_copies, scale, rest_scaled, at_least_0, at_most_1, lift_rows, both_vars, lifted_hull, hull}
 use Rattle.hull_projection.specs.Closure.{AreCells, exit_of, step_rows, same_row, cell_terms, exit_terms, iterations_var, many_iterations, steps, changes_of, is_false, iteration_rows, some_iterations, no_iteration, closure}
 use Rattle.hull_projection.specs.Laws.{IsOneOf}
 use Rattle.hull_projection.proofs.ProjectLaws.{in_order-from}
@@ -87,7 +87,7 @@ negated_over such n xs (t ∷ ts) = (copy_lifted such n xs t.var, negated_over s
 share_over : (such : Var → Type 0) (n : ℕ) (xs : List Var) (z : ℤ) → EachVar (Lifted such n xs) (term_before (share_of n xs) z [])
 share_over such n xs z = each-term_before (Lifted such n xs) (share_of n xs) z [] (share_lifted such n xs) tt
 
-scaled_over : (such : Var → Type 0) (n : ℕ) (xs : List Var) (r : Row) → EachVar (Lifted such n xs) (scaled n xs r).terms
+scaled_over : (such : Var → Type 0) (n : ℕ) (xs : List Var) (r : Row) → EachVar (Lifted such n xs) (scale n xs r).terms
 scaled_over such n xs r = each-append (Lifted such n xs) (copies n xs r.terms) (term_before (share_of n xs) (neg_ℤ r.bound) []) (copies_over such n xs r.terms) (share_over such n xs (neg_ℤ r.bound))
 
 rest_over : (such : Var → Type 0) (n : ℕ) (xs : List Var) (r : Row) → EachVar such r.terms → EachVar (Lifted such n xs) (rest_scaled n xs r).terms
@@ -99,9 +99,9 @@ lift_over : (such : Var → Type 0) (n : ℕ) (xs : List Var) (rs ss : List Row)
 lift_over such n xs rs ss h k =
     let P = λ (r : Row). EachVar (Lifted such n xs) r.terms in
     let Q = λ (r : Row). EachVar such r.terms in
-    all-append P (map (scaled n xs) rs ++ map (rest_scaled n xs) ss) (at_least_0 (share_of n xs) ∷ at_most_1 (share_of n xs) ∷ [])
-    (all-append P (map (scaled n xs) rs) (map (rest_scaled n xs) ss)
-    (all-map P (scaled n xs) Q (λ r l. scaled_over such n xs r) rs h)
+    all-append P (map (scale n xs) rs ++ map (rest_scaled n xs) ss) (at_least_0 (share_of n xs) ∷ at_most_1 (share_of n xs) ∷ [])
+    (all-append P (map (scale n xs) rs) (map (rest_scaled n xs) ss)
+    (all-map P (scale n xs) Q (λ r l. scaled_over such n xs r) rs h)
     (all-map P (rest_scaled n xs) Q (λ r l. rest_over such n xs r l) ss k))
     ((share_lifted such n xs, tt), ((share_lifted such n xs, tt), tt))
 

@@ -9,6 +9,8 @@ pub mod StatementVars
 pub mod HoldVars
 pub mod SiteVars
 pub mod PhaseVars
+pub mod SymbolNames
 pub mod TableNames
+pub mod NameWords
 pub mod LineBack
 pub mod ProgramLines

@@ -30,7 +30,8 @@ use Rattle.scalar_phases.specs.Phases.{Analysis, scope_of}
 use Rattle.laws_lines.specs.Variables.{EachVar, IsCellOf}
 use Rattle.laws_lines.specs.Halves.{IsHalfOf}
 use Rattle.laws_lines.specs.Laws.{IsTracked}
-use Rattle.laws_lines.specs.Lines.{HoldsThere, DoesThere, MeansResult, LinesMeanResults}
+use Rattle.laws_lines.specs.Lines.{HoldsThere, DoesThere, MeansResult}
+use Rattle.laws_lines.specs.LineLaws.{LinesMeanResults}
 use Rattle.laws_lines.proofs.RowVars.{Neat}
 use Rattle.laws_lines.proofs.SystemVars.{IsNeat, all_more}
 use Rattle.laws_lines.proofs.RuleVars.{IsDone, head_has}

@@ -10,7 +10,8 @@ use Rattle.transformers.specs.Given.{Callees}
 use Rattle.roundtrip_systems.specs.Printed.{AreNames}
 use Rattle.scalar_phases.specs.Phases.{place_of, module_at, module_of, Found, no_callees, with_callee, found_of, maybe_found, found_in, Analysis, sites_of, analysis_of, analyses_from, analyses}
 use Rattle.laws_programs.specs.Programs.{AreTables}
-use Rattle.laws_lines.specs.Lines.{AreWords, LinesMeanResults, AnalysesAreReadBack}
+use Rattle.laws_lines.specs.NameLaws.{AreWords}
+use Rattle.laws_lines.specs.LineLaws.{LinesMeanResults, AnalysesAreReadBack}
 use Rattle.laws_lines.proofs.TableNames.{names_are_distinct}
 use Rattle.laws_lines.proofs.PhaseVars.{EachOf, each-append, each_all, each_reverse, got_each, AnalysisOk, analyses_ok}
 use Rattle.laws_lines.proofs.LineBack.{analysis_read_back}

@@ -3,3 +3,4 @@ pub mod Halves
 pub mod NameLaws
 pub mod Laws
 pub mod Lines
+pub mod LineLaws

@@ -1,19 +1,12 @@
 -- What the lines of a module are read as.
-use Rattle.std.specs.Prelude.{◌≡◌, ◌⊎◌, ℕ, List, All, Some, true}
-use Rattle.std.specs.List.{list_all}
+use Rattle.std.specs.Prelude.{◌≡◌, ◌⊎◌, ℕ, List, All, Some}
 use Rattle.affine_systems.specs.declared.row.System.{System}
-use Rattle.f77_ast.specs.DeclTrees.{ParsedTree}
-use Rattle.f77_symbols.specs.Symbols.{SymbolTree}
 use Rattle.f77_printer.specs.declared.added.Added.{Added}
-use Rattle.call_graph.specs.declared.graph.Graph.{Graph}
-use Rattle.f77_meaning.specs.Modules.{known_of, symbol_names}
+use Rattle.f77_meaning.specs.Modules.{symbol_names}
 use Rattle.transformer_algebra.specs.declared.transformer.Transformer.{Transformer}
 use Rattle.transformers.specs.Lists.{value_at}
 use Rattle.roundtrip_systems.specs.Reading.{read_precondition_line, read_transformer_line}
-use Rattle.roundtrip_systems.specs.Printed.{is_name}
-use Rattle.claim_lines.specs.ScalarLines.{scalar_lines_of}
-use Rattle.scalar_phases.specs.Phases.{Analysis, analyses}
-use Rattle.laws_programs.specs.Programs.{AreTables}
+use Rattle.scalar_phases.specs.Phases.{Analysis}
 
 -- what was found to hold where the statement of a number begins, or, by the number 0, where the module is entered
 abbrev pub HoldsThere : Analysis → ℕ → System → Type 0
@@ -33,15 +26,6 @@ IsTransformerLine a names x = (t : Transformer) × (read_transformer_line names 
 abbrev pub MeansResult : Analysis → List (List ℕ) → Added → Type 0
 MeansResult a names x = IsPreconditionLine a names x ⊎ IsTransformerLine a names x
 
--- each line that is written of an analysis
-abbrev pub LinesMeanResults : Analysis → Type 0
-LinesMeanResults a =
-    All (MeansResult a (symbol_names a.found.known.symbols)) (scalar_lines_of a.found.known.read.main a.found.known.read.body (symbol_names a.found.known.symbols) a.found.own a.holds)
-
--- the names of the symbols of a table are names as they are written
-abbrev pub AreWords : List SymbolTree → Type 0
-AreWords ss = list_all is_name (symbol_names ss) ≡ true
-
--- of modules with their tables, whose names are such
-abbrev pub AnalysesAreReadBack : Type 0
-AnalysesAreReadBack = (ps : List ParsedTree) (sss : List (List SymbolTree)) (g : Graph) → AreTables ps sss → All AreWords sss → All LinesMeanResults (analyses (known_of ps sss) g)
+-- and so is each of some lines, by the names of the symbols of the module
+abbrev pub EachMeans : Analysis → List Added → Type 0
+EachMeans a lines = All (MeansResult a (symbol_names a.found.known.symbols)) lines

@@ -3,4 +3,6 @@
 
 mod laws;
 
-pub use laws::{analyses_are_over_cells, analyses_are_read_back, names_are_distinct};
+pub use laws::{
+    analyses_are_over_cells, analyses_are_read_back, names_are_distinct, names_are_words,
+};

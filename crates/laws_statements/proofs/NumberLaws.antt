@@ -10,7 +10,7 @@ use Rattle.transformers.specs.Given.{Callees}
 use Rattle.transformers.specs.Jumps.{is_end, unstructured}
 use Rattle.transformers.specs.Statement as transformers
 use Rattle.preconditions.specs.Statement as preconditions
-use Rattle.preconditions.specs.Statement.{Found, if_true, past_arm, past_arms, each_iteration, throughout, after}
+use Rattle.preconditions.specs.Statement.{PreconditionList, if_true, past_arm, past_arms, each_iteration, throughout, after}
 use Rattle.f77_ast.specs.StatementNumbers.{stmt_numbers, part_numbers, list_numbers, arms_numbers, arm_numbers, else_numbers, loop_numbers, IsNumbered}
 use Rattle.laws_statements.specs.Laws.{InOrder}
 
@@ -70,7 +70,7 @@ either_ids : (b : Bool) (xs ys : List (At System)) (ns : List ℕ) → ids xs �
 either_ids true xs ys ns e f = e
 either_ids false xs ys ns e f = f
 
-module _ (m : ScopeTree) (t : Found) where
+module _ (m : ScopeTree) (t : PreconditionList) where
   mutual
     p_stmt : (s : StmtTree) (p : System) → ids (preconditions.at_stmt s m t p) ≡ stmt_numbers s
     p_stmt (tree.stmt n label w) p = ap (λ l. n ∷ l) (p_parts w p)

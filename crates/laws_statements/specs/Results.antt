@@ -16,7 +16,7 @@ use Rattle.call_translation.specs.Scopes.{ScopeTree}
 use Rattle.transformers.specs.Given.{Callees}
 use Rattle.transformers.specs.Lists.{value_at, transformer_at}
 use Rattle.transformers.specs.Modules.{transformers_of}
-use Rattle.preconditions.specs.Statement.{Found}
+use Rattle.preconditions.specs.Statement.{PreconditionList}
 use Rattle.preconditions.specs.Modules.{preconditions_of}
 
 -- a system holds of these numbers of cells, whatever its other variables are
@@ -32,7 +32,7 @@ or_no_rows None = no_rows
 or_no_rows (Some s) = s
 
 -- the results of the body of a module that is entered where a system holds, by the numbers of its statements
-abbrev pub found_in : StmtTrees → ScopeTree → Callees → Found
+abbrev pub found_in : StmtTrees → ScopeTree → Callees → PreconditionList
 found_in body m cs n = transformer_at (transformers_of body m cs).at n
 
 abbrev pub pre_in : StmtTrees → ScopeTree → Callees → System → ℕ → System

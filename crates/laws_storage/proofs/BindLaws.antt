@@ -10,7 +10,7 @@ use Rattle.f77_ast.specs.Steps.{Steps, Done, ◌>>=◌}
 use Rattle.f77_ast.specs.Runs.{Whole, run}
 use Rattle.f77_ast.specs.Places.{Names, Dim, Place, Places, scalar_place, total_size}
 use Rattle.f77_ast.specs.Values.{fault, value}
-use Rattle.f77_ast.specs.Calls.{BoundTree, Dummy, first_place, other_places, scalars_bound, high_value, dims_read, is_open, array_at, array_place, dummy_bound, arrays_bound}
+use Rattle.f77_ast.specs.Calls.{BoundTree, Dummy, first_place, other_places, scalars_bound, high_value, dims_read, is_open, open_extent, array_at, array_place, dummy_bound, arrays_bound}
 use Rattle.f77_ast.specs.Executions.{AtEndOf}
 use Rattle.f77_symbols.specs.declared.symbol.Place.{Place as SymbolPlace}
 use Rattle.f77_symbols.specs.declared.symbol.Place.TheVariants as place
@@ -109,8 +109,12 @@ record Within (d : Dummy) (p q : Place) : Type 0 where
 array_asks : (d : Dummy) (p : Place) (ms : List Dim) → Asks (Within d p) (array_place p d.tag ms)
 array_asks d p ms = go (is_open ms) (nat_le (total_size ms) p.extent) refl
   where
-    go : (b c : Bool) → nat_le (total_size ms) p.extent ≡ c → Asks (Within d p) (if b then Done (array_at p d.tag ms p.extent) else if c then Done (array_at p d.tag ms (total_size ms)) else fault Bounds)
-    go true c h = record { first = refl; extent = omega arith; tag = refl }
+    reached : (b : Bool) → (if b then 0 else p.extent) ≤ p.extent
+    reached true = omega arith
+    reached false = omega arith
+
+    go : (b c : Bool) → nat_le (total_size ms) p.extent ≡ c → Asks (Within d p) (if b then Done (array_at p d.tag ms (open_extent p ms)) else if c then Done (array_at p d.tag ms (total_size ms)) else fault Bounds)
+    go true c h = record { first = refl; extent = reached (nat_eq (total_size ms) 0); tag = refl }
     go false true h = record { first = refl; extent = leb-true (total_size ms) p.extent h; tag = refl }
     go false false h = tt
 

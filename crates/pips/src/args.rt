@@ -31,7 +31,7 @@ fn word<R: Env>(rt: &R, alloc: Global, at: usize) -> Result<Option<Text>, Memory
     Err(Memory)
 }
 
-/// The words after the program's name.
+/// The words after the program's name, in order, each with all of its bytes, which need not be text.
 pub fn words_of<R: Env>(rt: &R, alloc: Global) -> Result<Words, Memory> {
     let mut words = List::new(alloc);
     for at in 1..usize::MAX {

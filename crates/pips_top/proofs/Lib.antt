@@ -3,6 +3,7 @@ pub mod LinkLaws
 pub mod Programs
 pub mod AddedLines
 pub mod ReadBack
+pub mod LinesMeant
 pub mod Soundness
 pub mod Stopping
 pub mod SymbolLaws

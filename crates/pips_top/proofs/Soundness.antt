@@ -8,7 +8,7 @@ use Rattle.fx_base.specs.declared.store.Role.TheVariants.{Input}
 use Rattle.fx_base.specs.declared.store.Fetched.TheVariants as fetched
 use Rattle.f77_parser.specs.Gives.{Refused}
 use Rattle.pips_top.specs.Answer.{Answer, answer, answer_asked, answer_held}
-use Rattle.pips_top.specs.Laws.{ReadClaimsHold, ReadAllSaid, ReadWrittenBack}
+use Rattle.pips_top.specs.Laws.{ReadClaimsHold, ReadAllSaid, ReadLinesMean, ReadWrittenBack}
 use Rattle.pips_top.specs.Made.{made, made_of, input_limit}
 use Rattle.pips_top.specs.Program.{ProgramTree}
 use Rattle.pips_top.specs.Reading.{reading}
@@ -32,6 +32,7 @@ made_from show (Err r) text e = cc
 pub record Laws : Type 0 where
   pub holds : ReadClaimsHold
   pub all : ReadAllSaid
+  pub lines : ReadLinesMean
   pub back : ReadWrittenBack
 
 -- what was read is that program, which is sound, and this is its text
@@ -39,7 +40,7 @@ abbrev pub WasRead : List (List ℕ) → Outside → Outside → List ℕ → Ty
 WasRead words old new text = (r : Reads words old new) × IsSound r.request.show r.program × (text ≡ written r.request.show r.program)
 
 sound_of : Laws → (show : Show) (bytes : List ℕ) (p : ProgramTree) → reading bytes ≡ Ok p → IsSound show p
-sound_of law show bytes p e = record { claims = law.holds show bytes p e; whole = law.all show bytes p e; back = law.back show bytes p e }
+sound_of law show bytes p e = record { claims = law.holds show bytes p e; whole = law.all show bytes p e; lines = law.lines show bytes p e; back = law.back show bytes p e }
 
 read_for : Laws → (words : List (List ℕ)) (old new : Outside) (text : List ℕ) (o : Option Request) → asked words ≡ o
     → IsSomeAnd o (DefinesFor old.files (old.counts Input) (new.counts Input) text) → WasRead words old new text

@@ -1,5 +1,5 @@
 -- What is said of the modules of a program, the lines that say it, and what it claims of every run.
-use Rattle.std.specs.Prelude.{ℕ, List, [], ◌∷◌, Option, Some, None, bytes_eq, if◌then◌else◌}
+use Rattle.std.specs.Prelude.{◌≡◌, ℕ, List, [], ◌∷◌, Option, Some, None, bytes_eq, slice_get, if◌then◌else◌}
 use Rattle.f77_printer.specs.declared.added.Added.{Added}
 use Rattle.f77_meaning.specs.Modules.{known_of, symbol_names}
 use Rattle.f77_meaning.specs.Claimed.{InEveryRun}
@@ -7,6 +7,7 @@ use Rattle.claim_lines.specs.ScalarLines.{scalar_lines_of}
 use Rattle.scalar_phases.specs.Phases.{Analysis, analyses}
 use Rattle.laws_analyses.specs.Claims.{AnalysesHold}
 use Rattle.laws_analyses.specs.Coverage.{AreWhole}
+use Rattle.laws_lines.specs.Lines.{EachMeans}
 use Rattle.pips_top.specs.Program.{ProgramTree}
 use Rattle.pips_top.specs.declared.words.Show.{Show}
 use Rattle.pips_top.specs.declared.words.Show.TheVariants.{All, Bare, Why}
@@ -41,3 +42,7 @@ abbrev pub SaysAll : Show → ProgramTree → Type 0
 SaysAll All p = AreWhole (known_of p.modules p.tables) (analyses (known_of p.modules p.tables) p.graph)
 SaysAll Bare p = Unit {0}
 SaysAll Why p = Unit {0}
+
+-- and each line that is added to the module of an analysis is read, by the names of its symbols, as just the precondition or the transformer that was found there
+abbrev pub LinesMean : Show → ProgramTree → Type 0
+LinesMean show p = (j : ℕ) (a : Analysis) → slice_get (said_of show p) j ≡ Some a → EachMeans a (lines_for (said_of show p) a.found.known.read.name)

@@ -1,6 +1,6 @@
 -- What is said of programs that are read.
 use Rattle.std.specs.Prelude.{◌≡◌, ℕ, List, Ok}
-use Rattle.pips_top.specs.Claimed.{ClaimsHold, SaysAll}
+use Rattle.pips_top.specs.Claimed.{ClaimsHold, SaysAll, LinesMean}
 use Rattle.pips_top.specs.Program.{ProgramTree}
 use Rattle.pips_top.specs.ReadBack.{ReadsBack}
 use Rattle.pips_top.specs.Reading.{reading}
@@ -13,6 +13,10 @@ ReadClaimsHold = (show : Show) (bytes : List ℕ) (p : ProgramTree) → reading 
 -- and leaves nothing out
 abbrev pub ReadAllSaid : Type 0
 ReadAllSaid = (show : Show) (bytes : List ℕ) (p : ProgramTree) → reading bytes ≡ Ok p → SaysAll show p
+
+-- each line of it is read as just what was found
+abbrev pub ReadLinesMean : Type 0
+ReadLinesMean = (show : Show) (bytes : List ℕ) (p : ProgramTree) → reading bytes ≡ Ok p → LinesMean show p
 
 -- what is written of a program that was read is read again as the same program
 abbrev pub ReadWrittenBack : Type 0

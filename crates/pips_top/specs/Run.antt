@@ -12,7 +12,7 @@ use Rattle.fx_base.specs.declared.store.Fetched.TheVariants as fetched
 use Rattle.pips_top.specs.Made.{made, input_limit}
 use Rattle.pips_top.specs.Program.{ProgramTree}
 use Rattle.pips_top.specs.Reading.{reading}
-use Rattle.pips_top.specs.Claimed.{ClaimsHold, SaysAll}
+use Rattle.pips_top.specs.Claimed.{ClaimsHold, SaysAll, LinesMean}
 use Rattle.pips_top.specs.ReadBack.{ReadsBack}
 use Rattle.pips_top.specs.Written.{written}
 use Rattle.pips_top.specs.Words.{asked}
@@ -75,10 +75,11 @@ pub record Reads (words : List (List ℕ)) (old new : Outside) : Type 0 where
   pub program : ProgramTree
   pub as_program : reading bytes ≡ Ok program
 
--- what is written of a program with what is said of it: this is true of every run and leaves nothing out, and the text is read again as the same program
+-- what is written of a program with what is said of it: this is true of every run and leaves nothing out, each line is read as just what is said, and the text is read again as the same program
 pub record IsSound (show : Show) (p : ProgramTree) : Type 0 where
   pub claims : ClaimsHold show p
   pub whole : SaysAll show p
+  pub lines : LinesMean show p
   pub back : ReadsBack show p
 
 -- each status with its cause and its line on err, and what out gained: the whole text of the program that was read, or its first n bytes, or nothing

@@ -14,7 +14,7 @@ use fx_base::{List, Text};
 use scalar_phases::{Analysis, analyses};
 use std::alloc::{AllocError as Memory, Global};
 
-/// What is said of the modules of a program: for `All` the analyses of their tracked cells.
+/// The analyses of the modules of a program, callers before callees, for `Show::All`; none for the others.
 pub fn said_of<'a>(
     alloc: Global,
     show: Show,
@@ -43,7 +43,7 @@ fn analysis_for<'s, 'a>(all: &'s [Analysis<'a>], name: &Text) -> Option<&'s Anal
 }
 
 #[tactic(auto, using(crate::proofs::Joining::name_steps))]
-/// The lines that are added to the module of a name.
+/// The comment lines that are added to the module with a name, in the order of the text; none where no analysis in `all` is of it.
 pub fn lines_for(
     alloc: Global,
     graph: &Graph,

@@ -1,7 +1,8 @@
-//! What is said of a program that was read is true and leaves nothing out, and what is written of it is read again.
-ghost use Rattle.pips_top.specs.Laws.{ReadAllSaid, ReadClaimsHold, ReadWrittenBack};
+//! What is said of a program that was read is true and leaves nothing out, and what is written of it is read again, line by line and as a program.
+ghost use Rattle.pips_top.specs.Laws.{ReadAllSaid, ReadClaimsHold, ReadLinesMean, ReadWrittenBack};
 
 use laws_analyses::{analyses_are_whole, read_analyses_hold};
+use laws_lines::{analyses_are_read_back, names_are_words};
 use roundtrip_programs::{lines_are_passed_over, names_are_shown, programs_read_back};
 
 /// What is said of a program that was read holds in every run of it, up to its end or its first fault.
@@ -16,6 +17,15 @@ pub fn all_is_said()
     ensures { ReadAllSaid }
 {
     analyses_are_whole();
+}
+
+/// Each line that is added to the text of a program that was read is read as just what was found there.
+pub fn lines_mean_results()
+    ensures { ReadLinesMean }
+{
+    analyses_are_whole();
+    analyses_are_read_back();
+    names_are_words();
 }
 
 /// What is written of a program that was read is read again as the same program.

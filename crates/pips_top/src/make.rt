@@ -9,15 +9,16 @@ use f77_parser::ParseRefusal;
 use fx_base::Text;
 use std::alloc::{AllocError as Memory, Global};
 
-/// The text to be written, or the refusal of what was read: its line, its code, and the keyword of what is outside the
-/// profile, which is empty for other codes.
-#[derive(Debug, Drop)]
+/// What becomes of a text.
+#[derive(Drop)]
 pub enum Made {
+    /// The text to be written.
     Writes(Text),
+    /// The refusal: its line, from 1, its code, and the keyword of what is outside the accepted subset, empty for other codes.
     Refuses(u32, u32, Text),
 }
 
-/// Reads a text and makes the written one.
+/// Reads a text of at most 2^20 bytes, analyses its program as `show` needs it, and makes the text to be written, or the refusal.
 pub fn make(alloc: Global, show: Show, text: &Text) -> Result<Made, Memory>
     requires { length text.now ≤ input_limit }
     ensures { IfOk result (λ m. m ≡ made show text.now) }

@@ -4,7 +4,7 @@ use f77_parser::ModuleTrees;
 use f77_symbols::Symbols;
 use fx_base::List;
 
-/// The modules of a text, the symbols of each, and their links.
+/// The modules of a text, the symbols of each in the same order, and the graph of their CALLs and common blocks.
 #[derive(Drop)]
 pub struct Program {
     pub modules: ModuleTrees,

@@ -97,9 +97,9 @@ fn program_of(alloc: Global, modules: ModuleTrees) -> Result<Program, ParseRefus
     })
 }
 
-/// The program of a text, or its first refusal: that of the earliest pass, and in a pass the earliest line with the lowest
-/// code. Structure and symbols go module by module, and of symbols 35 and 36 come last in their module. Of links the number of
-/// modules, their names and their main program come first, then the arguments of CALLs, then recursion.
+/// The program of a text of at most 2^20 bytes. Err also with its first refusal: that of the earliest pass, and in a pass the earliest line
+/// with the lowest code. Structure and symbols go module by module, and of symbols 35 and 36 come last in their module. Of links the number
+/// of modules, their names and their main program come first, then the arguments of CALLs, then recursion.
 #[tactic(auto, using(f77_parser::proofs::SizeLemmas::short_texts), unfolding(crate::specs::Reading::reading))]
 pub fn read(alloc: Global, text: &Text) -> Result<Program, ParseRefusal>
     requires { length text.now ≤ input_limit }

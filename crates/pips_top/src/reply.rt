@@ -12,10 +12,13 @@ use crate::words::{Show, request_of};
 use fx_base::{Fetched, Role, Store, Text, Words};
 use std::alloc::{AllocError as Memory, Global};
 
-/// The text to be written, or a status with its line. `NoMemory` has a line that takes no memory.
+/// What a run answers, before anything is written.
 pub enum Reply {
+    /// The text to be written on out.
     Writing(Text),
+    /// A status other than `Done`, with its line on err.
     Stopping(Status, Text),
+    /// No memory; its line takes none.
     NoMemory,
 }
 
@@ -44,7 +47,8 @@ fn reply_with(alloc: Global, show: Show, text: &Text) -> Reply
     }
 }
 
-/// Fetches INPUT, reads it, and makes what is to be written.
+/// Fetches the INPUT that the words of the command name, of at most 2^20 bytes, reads it and makes the text to be written; or the status,
+/// with its line, that ends the run.
 pub fn reply_to<F: Store>(alloc: Global, words: &Words, files: &mut F) -> Reply
     ensures answer { RepliesBy words.now (F.files files.old) (F.counts files.old Input) (F.counts files.new Input) result }
     ensures files { F.files files.new ≡ F.files files.old }

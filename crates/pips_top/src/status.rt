@@ -7,25 +7,32 @@ use fx_base::Text;
 use refusal_codes::Code;
 use std::alloc::{AllocError as Memory, Global};
 
-/// How a run ended. A refusal has its line, from 1, and its code; BadBase has its code. The statuses about a base are not
-/// answered yet.
+/// How a run ended. No run ends with a status on a base yet; `BadBase` has the code of what is wrong with it.
 #[derive(Clone, Copy, Debug, PartialEq, Eq)]
 pub enum Status {
+    /// The text was written.
     Done,
+    /// INPUT has a refusal: its line, from 1, and its code.
     Refused(u32, u32),
+    /// The words of the command are refused.
     Usage,
+    /// There is no such INPUT.
     NoInput,
+    /// INPUT has more than 2^20 bytes.
     TooLong,
+    /// INPUT cannot be read.
     ReadFault,
+    /// The text cannot be written, or not all of it.
     WriteFault,
     BadBase(u32),
     StaleBase,
     BaseFault,
+    /// Out of memory.
     Memory,
 }
 
 impl Status {
-    /// The exit number. Takes no memory.
+    /// The exit code, from 0 for `Done` to 10 for `Memory`, in the order of the variants. Takes no memory.
     pub fn number(&self) -> u8
         ensures { result ≡ number_of self.now }
     {
@@ -45,7 +52,7 @@ impl Status {
     }
 }
 
-/// The line of Usage.
+/// The line on err of `Usage`, with its end of line.
 pub fn usage_line(alloc: Global) -> Result<Text, Memory>
     ensures { IfOk result (λ line. line ≡ usage_line) }
 {
@@ -55,7 +62,7 @@ pub fn usage_line(alloc: Global) -> Result<Text, Memory>
     )
 }
 
-/// Words, a name and the end of the line.
+/// A line on err that names INPUT: the words, the name and the end of line.
 pub fn naming_line(alloc: Global, words: &[u8], name: &Text) -> Result<Text, Memory>
     ensures { IfOk result (λ line. line ≡ naming words.now name.now) }
 {
@@ -88,8 +95,8 @@ fn write_keyword(out: &mut Text, keyword: &[u8]) -> Result<(), Memory>
     }
 }
 
-/// The line of a refusal: its line, its code, the code's name, and the keyword of what is outside the profile, where
-/// there is one.
+/// The line on err of a refusal, with its end of line: `pips: line `, its line, its code, the name of the code, and the keyword of what is
+/// outside the accepted subset, where there is one.
 #[tactic(auto, using(crate::proofs::Joining::text_steps))]
 pub fn refusal_line(alloc: Global, line: u32, code: u32, keyword: &Text) -> Result<Text, Memory>
     ensures { IfOk result (λ text. text ≡ refusal_line line code keyword.now) }

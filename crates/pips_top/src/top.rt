@@ -3,7 +3,7 @@ ghost use Rattle.std.specs.Prelude.{◌≤◌};
 ghost use Rattle.pips_top.specs.Run.{Gains, Outside, Runs};
 
 use crate::Status;
-use crate::laws::{all_is_said, claims_hold, written_reads_back};
+use crate::laws::{all_is_said, claims_hold, lines_mean_results, written_reads_back};
 use crate::reply::{Reply, reply_to};
 use fx_base::{Sent, Sink, Store, Words, send, send_bytes};
 use std::alloc::Global;
@@ -19,8 +19,9 @@ fn tell<E: Sink>(err: &mut E, line: &[u8])
     }
 }
 
-/// All that the program does: INPUT is the one word, or `-` without a word. The whole output is made before its first byte
-/// is written, and writing takes no memory.
+/// All that the program does: it reads INPUT, from standard input where no word names it or `-` does, and writes the program with what
+/// `--show` requests on `out`; where this fails, it writes one line on `err`. The whole output is made before its first byte is written, and
+/// writing takes no memory.
 pub fn run<F: Store, O: Sink, E: Sink>(
     alloc: Global,
     words: &Words,
@@ -48,6 +49,7 @@ pub fn run<F: Store, O: Sink, E: Sink>(
 {
     claims_hold();
     all_is_said();
+    lines_mean_results();
     written_reads_back();
     match reply_to(alloc, words, files) {
         Reply::Writing(text) => match send(out, &text) {

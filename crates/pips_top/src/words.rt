@@ -5,18 +5,22 @@ ghost use Rattle.pips_top.specs.Words.{asked, input_among, is_option_word, show_
 use fx_base::{Text, Words};
 use std::alloc::{AllocError as Memory, Global};
 
-/// What is written beside the program: directives, obstacles and claims; directives alone; or directives and obstacles.
-#[derive(Clone, Copy, Debug, PartialEq, Eq)]
+/// What is written beside the program. Directives and obstacles are not written yet.
+#[derive(Clone, Copy, PartialEq, Eq)]
 pub enum Show {
+    /// Directives, obstacles and claims.
     All,
+    /// Directives alone.
     Bare,
+    /// Directives and obstacles.
     Why,
 }
 
-/// What the words ask for. INPUT is `-` for standard input.
-#[derive(Debug, Drop)]
+/// What the words of a command request.
+#[derive(Drop)]
 pub struct Request {
     pub show: Show,
+    /// The name of INPUT; `-` is standard input.
     pub input: Text,
 }
 
@@ -79,7 +83,8 @@ fn shown_among(alloc: Global, words: &[Text]) -> Result<Option<Request>, Memory>
     }
 }
 
-/// What the words ask for, or None where they are refused.
+/// What the words after the program's name request: `--show` with its value may come first, then at most one INPUT, `-` without one. None
+/// where they are other words.
 pub fn request_of(alloc: Global, words: &Words) -> Result<Option<Request>, Memory>
     ensures { IfOk result (λ request. request ≡ asked words.now) }
 {

@@ -46,7 +46,7 @@ fn modules_text(
     Ok(out)
 }
 
-/// The written text. Takes time in proportion to it, beside the analysis of what is claimed.
+/// The text of a program, module by module in their order, with the lines that `show` adds. Linear in the text, beside the analyses.
 pub fn write_program(alloc: Global, show: Show, program: &Program) -> Result<Text, Memory>
     requires one_each { length program.now.modules ≡ length program.now.tables }
     ensures { IfOk result (λ text. text ≡ written show (program_tree program.now)) }

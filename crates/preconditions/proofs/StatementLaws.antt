@@ -14,23 +14,23 @@ use Rattle.call_translation.specs.Scopes.{ScopeTree}
 use Rattle.transformers.specs.Given.{ResultsFit}
 use Rattle.transformers.specs.Jumps.{unstructured}
 use Rattle.transformers.specs.Lists.{first_at, or_first, value_at, or_unchanging, transformer_at}
-use Rattle.preconditions.specs.Statement.{Found, after_each, after_list, throughout, at_each, at_all, at_list}
+use Rattle.preconditions.specs.Statement.{PreconditionList, after_each, after_list, throughout, at_each, at_all, at_list}
 
 pub ruleset part_calls = (what_calls, append_assoc, append-nil, All-push)
 
 pub ruleset statement_calls = (list_calls, append_assoc, append-nil)
 
 -- a list that does not run from the first statement to the last, and one that does
-pub after_any : (whole : Bool) (body : StmtTrees) (m : ScopeTree) (t : Found) (p : System) → unstructured whole body ≡ true → after_list whole body m t p ≡ throughout whole body t p
+pub after_any : (whole : Bool) (body : StmtTrees) (m : ScopeTree) (t : PreconditionList) (p : System) → unstructured whole body ≡ true → after_list whole body m t p ≡ throughout whole body t p
 after_any whole body m t p e = ap (λ b. if b then throughout whole body t p else after_each body m t p) e
 
-pub after_order : (whole : Bool) (body : StmtTrees) (m : ScopeTree) (t : Found) (p : System) → unstructured whole body ≡ false → after_list whole body m t p ≡ after_each body m t p
+pub after_order : (whole : Bool) (body : StmtTrees) (m : ScopeTree) (t : PreconditionList) (p : System) → unstructured whole body ≡ false → after_list whole body m t p ≡ after_each body m t p
 after_order whole body m t p e = ap (λ b. if b then throughout whole body t p else after_each body m t p) e
 
-pub at_any : (whole : Bool) (body : StmtTrees) (m : ScopeTree) (t : Found) (p : System) → unstructured whole body ≡ true → at_list whole body m t p ≡ at_all body m t (throughout whole body t p)
+pub at_any : (whole : Bool) (body : StmtTrees) (m : ScopeTree) (t : PreconditionList) (p : System) → unstructured whole body ≡ true → at_list whole body m t p ≡ at_all body m t (throughout whole body t p)
 at_any whole body m t p e = ap (λ b. if b then at_all body m t (throughout whole body t p) else at_each body m t p) e
 
-pub at_order : (whole : Bool) (body : StmtTrees) (m : ScopeTree) (t : Found) (p : System) → unstructured whole body ≡ false → at_list whole body m t p ≡ at_each body m t p
+pub at_order : (whole : Bool) (body : StmtTrees) (m : ScopeTree) (t : PreconditionList) (p : System) → unstructured whole body ≡ false → at_list whole body m t p ≡ at_each body m t p
 at_order whole body m t p e = ap (λ b. if b then at_all body m t (throughout whole body t p) else at_each body m t p) e
 
 pub ruleset list_cases = (list_calls, after_any, after_order, at_any, at_order)

@@ -18,7 +18,7 @@ use Rattle.call_translation.specs.Scopes.{ScopeTree}
 use Rattle.transformers.specs.Lists.{list_at}
 use Rattle.transformers.specs.Loops.{loop_parts}
 use Rattle.transformers.specs.Statement.{at}
-use Rattle.preconditions.specs.Statement.{Found, EachFits, AllFit, parts_of, each_iteration, done, if_true, if_false, past_arms, after_arms, after_list, after_loop_of, at_stmt, at_all, at_arms, at_list, at_loop}
+use Rattle.preconditions.specs.Statement.{PreconditionList, EachFits, AllFit, parts_of, each_iteration, done, if_true, if_false, past_arms, after_arms, after_list, after_loop_of, at_stmt, at_all, at_arms, at_list, at_loop}
 
 -- ---- one more
 
@@ -38,7 +38,7 @@ whichever (Err e) p = tt
 stmt_at : (ss : List Stmt) (i : ℕ) (s : Stmt) → i < length ss → s ≡ get_or ss i s → stmt_trees (drop i ss) ≡ tree.more_stmts (stmt_tree s) (stmt_trees (drop (i + 1) ss))
 stmt_at ss i s l g = stmt_trees-drop ss i s l ∙ ap (λ (x : Stmt). tree.more_stmts (stmt_tree x) (stmt_trees (drop (i + 1) ss))) (sym g)
 
-pub same_added : (m : ScopeTree) (t : Found) (p : System) (old new : List (At System)) (ss : List Stmt) (i : ℕ) (s : Stmt) → i < length ss → s ≡ get_or ss i s → new ≡ old ++ at_stmt (stmt_tree s) m t p → new ++ at_all (stmt_trees (drop (i + 1) ss)) m t p ≡ old ++ at_all (stmt_trees (drop i ss)) m t p
+pub same_added : (m : ScopeTree) (t : PreconditionList) (p : System) (old new : List (At System)) (ss : List Stmt) (i : ℕ) (s : Stmt) → i < length ss → s ≡ get_or ss i s → new ≡ old ++ at_stmt (stmt_tree s) m t p → new ++ at_all (stmt_trees (drop (i + 1) ss)) m t p ≡ old ++ at_all (stmt_trees (drop i ss)) m t p
 same_added m t p old new ss i s l g f =
     let rest : List (At System) = at_all (stmt_trees (drop (i + 1) ss)) m t p in
     ap (λ (xs : List (At System)). xs ++ rest) f
@@ -52,7 +52,7 @@ arm_value m p q xs i a l g e =
     ap (λ (x : System). past_arms (arm_trees (drop (i + 1) xs)) m x) e ∙ sym (ap (λ (ys : ArmTrees). past_arms ys m p) (arm_trees-drop_at xs i a l g))
 
 -- q holds where the test is true, r at the end of the arm, and s where the test is false
-pub arm_end : (m : ScopeTree) (t : Found) (p q r s : System) (old new : List System) (xs : List Arm) (i : ℕ) (a : Arm) → i < length xs → a ≡ get_or xs i a → q ≡ if_true m (expr_tree (out-Arm a).test) p → r ≡ after_list false (stmt_trees (out-Arm a).body) m t q → s ≡ if_false m (expr_tree (out-Arm a).test) p → new ≡ old ++ r ∷ [] → new ++ after_arms (arm_trees (drop (i + 1) xs)) m t s ≡ old ++ after_arms (arm_trees (drop i xs)) m t p
+pub arm_end : (m : ScopeTree) (t : PreconditionList) (p q r s : System) (old new : List System) (xs : List Arm) (i : ℕ) (a : Arm) → i < length xs → a ≡ get_or xs i a → q ≡ if_true m (expr_tree (out-Arm a).test) p → r ≡ after_list false (stmt_trees (out-Arm a).body) m t q → s ≡ if_false m (expr_tree (out-Arm a).test) p → new ≡ old ++ r ∷ [] → new ++ after_arms (arm_trees (drop (i + 1) xs)) m t s ≡ old ++ after_arms (arm_trees (drop i xs)) m t p
 arm_end m t p q r s old new xs i a l g e f h k =
     let rest : System → List System = λ (x : System). after_arms (arm_trees (drop (i + 1) xs)) m t x in
     let test = expr_tree (out-Arm a).test in
@@ -62,7 +62,7 @@ arm_end m t p q r s old new xs i a l g e f h k =
     ∙ (ap₂ (λ (x y : System). old ++ x ∷ rest y) end h
     ∙ ap (λ (ys : List System). old ++ ys) (sym (ap (λ (ys : ArmTrees). after_arms ys m t p) (arm_trees-drop_at xs i a l g)))))
 
-pub arm_added : (m : ScopeTree) (t : Found) (p q s : System) (old new : List (At System)) (xs : List Arm) (i : ℕ) (a : Arm) → i < length xs → a ≡ get_or xs i a → q ≡ if_true m (expr_tree (out-Arm a).test) p → s ≡ if_false m (expr_tree (out-Arm a).test) p → new ≡ old ++ at_list false (stmt_trees (out-Arm a).body) m t q → new ++ at_arms (arm_trees (drop (i + 1) xs)) m t s ≡ old ++ at_arms (arm_trees (drop i xs)) m t p
+pub arm_added : (m : ScopeTree) (t : PreconditionList) (p q s : System) (old new : List (At System)) (xs : List Arm) (i : ℕ) (a : Arm) → i < length xs → a ≡ get_or xs i a → q ≡ if_true m (expr_tree (out-Arm a).test) p → s ≡ if_false m (expr_tree (out-Arm a).test) p → new ≡ old ++ at_list false (stmt_trees (out-Arm a).body) m t q → new ++ at_arms (arm_trees (drop (i + 1) xs)) m t s ≡ old ++ at_arms (arm_trees (drop i xs)) m t p
 arm_added m t p q s old new xs i a l g e h k =
     let rest : System → List (At System) = λ (x : System). at_arms (arm_trees (drop (i + 1) xs)) m t x in
     let here : System → List (At System) = λ (x : System). at_list false (stmt_trees (out-Arm a).body) m t x in
@@ -73,20 +73,20 @@ arm_added m t p q s old new xs i a l g e h k =
 
 -- ---- a DO: e holds at the beginning of each iteration, q at the end of its body, and r after it
 
-turn_is : (l : LoopTree) (m : ScopeTree) (t : Found) (p e : System) (once : Transformer) (parts : LoopParts) → parts ≡ parts_of l m t → once ≡ iteration parts → e ≡ at_iteration parts once p → e ≡ each_iteration l m t p
+turn_is : (l : LoopTree) (m : ScopeTree) (t : PreconditionList) (p e : System) (once : Transformer) (parts : LoopParts) → parts ≡ parts_of l m t → once ≡ iteration parts → e ≡ at_iteration parts once p → e ≡ each_iteration l m t p
 turn_is l m t p e once parts a b c =
     c ∙ (ap (λ (o : Transformer). at_iteration parts o p) b ∙ ap (λ (ps : LoopParts). at_iteration ps (iteration ps) p) a)
 
-done_is : (l : LoopTree) (m : ScopeTree) (t : Found) (p q r : System) (once : Transformer) (parts : LoopParts) → parts ≡ parts_of l m t → once ≡ iteration parts → r ≡ after_loop parts once p q → r ≡ done l m t p q
+done_is : (l : LoopTree) (m : ScopeTree) (t : PreconditionList) (p q r : System) (once : Transformer) (parts : LoopParts) → parts ≡ parts_of l m t → once ≡ iteration parts → r ≡ after_loop parts once p q → r ≡ done l m t p q
 done_is l m t p q r once parts a b c =
     c ∙ (ap (λ (o : Transformer). after_loop parts o p q) b ∙ ap (λ (ps : LoopParts). after_loop ps (iteration ps) p q) a)
 
-parts_are : (l : LoopTree) (m : ScopeTree) (t : Found) (index : List ℕ) (first last : ExprTree) (step : Option ExprTree) (body : StmtTrees) (x : Transformer) (parts : LoopParts) → l ≡ tree.loop index first last step body → x ≡ list_at t false body → parts ≡ loop_parts m l x → parts ≡ parts_of l m t
+parts_are : (l : LoopTree) (m : ScopeTree) (t : PreconditionList) (index : List ℕ) (first last : ExprTree) (step : Option ExprTree) (body : StmtTrees) (x : Transformer) (parts : LoopParts) → l ≡ tree.loop index first last step body → x ≡ list_at t false body → parts ≡ loop_parts m l x → parts ≡ parts_of l m t
 parts_are l m t index first last step body x parts e f g =
     let s = tree.loop index first last step body in
     g ∙ (ap (λ (k : LoopTree). loop_parts m k x) e ∙ (ap (loop_parts m s) f ∙ sym (ap (λ (k : LoopTree). parts_of k m t) e)))
 
-pub loop_value : (l : LoopTree) (m : ScopeTree) (t : Found) (p e q r : System) (index : List ℕ) (first last : ExprTree) (step : Option ExprTree) (body : StmtTrees) (x once : Transformer) (parts : LoopParts) → l ≡ tree.loop index first last step body → x ≡ list_at t false body → parts ≡ loop_parts m l x → once ≡ iteration parts → e ≡ at_iteration parts once p → q ≡ after_list false body m t e → r ≡ after_loop parts once p q → r ≡ after_loop_of l m t p
+pub loop_value : (l : LoopTree) (m : ScopeTree) (t : PreconditionList) (p e q r : System) (index : List ℕ) (first last : ExprTree) (step : Option ExprTree) (body : StmtTrees) (x once : Transformer) (parts : LoopParts) → l ≡ tree.loop index first last step body → x ≡ list_at t false body → parts ≡ loop_parts m l x → once ≡ iteration parts → e ≡ at_iteration parts once p → q ≡ after_list false body m t e → r ≡ after_loop parts once p q → r ≡ after_loop_of l m t p
 loop_value l m t p e q r index first last step body x once parts is a b c d f g =
     let s = tree.loop index first last step body in
     let same : parts ≡ parts_of l m t = parts_are l m t index first last step body x parts is a b in
@@ -97,7 +97,7 @@ loop_value l m t p e q r index first last step body x once parts is a b c d f g 
     ∙ (ap (λ (k : LoopTree). done k m t p (after_list false body m t (each_iteration k m t p))) is
     ∙ sym (ap (λ (k : LoopTree). after_loop_of k m t p) is)))
 
-pub loop_added : (l : LoopTree) (m : ScopeTree) (t : Found) (p e : System) (index : List ℕ) (first last : ExprTree) (step : Option ExprTree) (body : StmtTrees) (x once : Transformer) (parts : LoopParts) (old new : List (At System)) → l ≡ tree.loop index first last step body → x ≡ list_at t false body → parts ≡ loop_parts m l x → once ≡ iteration parts → e ≡ at_iteration parts once p → new ≡ old ++ at_list false body m t e → new ≡ old ++ at_loop l m t p
+pub loop_added : (l : LoopTree) (m : ScopeTree) (t : PreconditionList) (p e : System) (index : List ℕ) (first last : ExprTree) (step : Option ExprTree) (body : StmtTrees) (x once : Transformer) (parts : LoopParts) (old new : List (At System)) → l ≡ tree.loop index first last step body → x ≡ list_at t false body → parts ≡ loop_parts m l x → once ≡ iteration parts → e ≡ at_iteration parts once p → new ≡ old ++ at_list false body m t e → new ≡ old ++ at_loop l m t p
 loop_added l m t p e index first last step body x once parts old new is a b c d f =
     let same : parts ≡ parts_of l m t = parts_are l m t index first last step body x parts is a b in
     let begin : e ≡ each_iteration l m t p = turn_is l m t p e once parts same c d in

@@ -4,7 +4,7 @@ use Rattle.affine_systems.specs.declared.row.System.{System}
 use Rattle.f77_ast.specs.Trees.{StmtTrees}
 use Rattle.f77_results.specs.declared.results.Results.{Results}
 use Rattle.call_translation.specs.Scopes.{ScopeTree}
-use Rattle.preconditions.specs.Statement.{Found, at_list}
+use Rattle.preconditions.specs.Statement.{PreconditionList, at_list}
 
-abbrev pub preconditions_of : StmtTrees → ScopeTree → Found → System → Results System
+abbrev pub preconditions_of : StmtTrees → ScopeTree → PreconditionList → System → Results System
 preconditions_of body m t entry = record { at = at_list true body m t entry; summary = entry }

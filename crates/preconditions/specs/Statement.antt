@@ -21,8 +21,8 @@ use Rattle.transformers.specs.Statement.{at}
 
 -- ---- pieces
 
-abbrev pub Found : Type 0
-Found = ℕ → Transformer
+abbrev pub PreconditionList : Type 0
+PreconditionList = ℕ → Transformer
 
 -- what holds at each statement is a system that calls take
 abbrev pub EachFits : List (At System) → Type 0
@@ -49,19 +49,19 @@ abbrev pub if_false : ScopeTree → ExprTree → System → System
 if_false m e p = meet p (condition_of m.scalars e).no
 
 -- the parts of a DO
-abbrev pub parts_of : LoopTree → ScopeTree → Found → LoopParts
+abbrev pub parts_of : LoopTree → ScopeTree → PreconditionList → LoopParts
 parts_of (tree.loop index first last step body) m t = loop_parts m (tree.loop index first last step body) (list_at t false body)
 
 -- at the beginning of each iteration of a DO, where p holds before it
-abbrev pub each_iteration : LoopTree → ScopeTree → Found → System → System
+abbrev pub each_iteration : LoopTree → ScopeTree → PreconditionList → System → System
 each_iteration l m t p = let parts = parts_of l m t in at_iteration parts (iteration parts) p
 
 -- after it, where q holds at the end of its body
-abbrev pub done : LoopTree → ScopeTree → Found → System → System → System
+abbrev pub done : LoopTree → ScopeTree → PreconditionList → System → System → System
 done l m t p q = let parts = parts_of l m t in after_loop parts (iteration parts) p q
 
 -- in a list that does not run from the first statement to the last: what it changes is not known
-abbrev pub throughout : Bool → StmtTrees → Found → System → System
+abbrev pub throughout : Bool → StmtTrees → PreconditionList → System → System
 throughout whole body t p = without (list_at t whole body).cells p
 
 -- where the test of an arm is false, and where those of all arms are
@@ -75,10 +75,10 @@ past_arms (tree.more_arms a rest) m p = past_arms rest m (past_arm a m p)
 -- ---- after a normal end, where p holds before
 
 abbrev mutual
-  pub after : StmtTree → ScopeTree → Found → System → System
+  pub after : StmtTree → ScopeTree → PreconditionList → System → System
   after (tree.stmt n label w) m t p = after_what w n m t p
 
-  pub after_what : WhatTree → ℕ → ScopeTree → Found → System → System
+  pub after_what : WhatTree → ℕ → ScopeTree → PreconditionList → System → System
   after_what (tree.assign a b) n m t p = apply (t n) p
   after_what (tree.block_if arms other) n m t p = some_holds (after_arms arms m t p ++ after_else other m t (past_arms arms m p) ∷ [])
   after_what (tree.logical_if e s) n m t p = some_holds (after s m t (if_true m e p) ∷ if_false m e p ∷ [])
@@ -92,23 +92,23 @@ abbrev mutual
   after_what (tree.read es) n m t p = apply (t n) p
 
   -- after statements one after another
-  pub after_each : StmtTrees → ScopeTree → Found → System → System
+  pub after_each : StmtTrees → ScopeTree → PreconditionList → System → System
   after_each tree.no_stmts m t p = p
   after_each (tree.more_stmts s rest) m t p = after_each rest m t (after s m t p)
 
   -- after each of the arms of an IF, where the tests above it are false
-  pub after_arms : ArmTrees → ScopeTree → Found → System → List System
+  pub after_arms : ArmTrees → ScopeTree → PreconditionList → System → List System
   after_arms tree.no_arms m t p = []
   after_arms (tree.more_arms a rest) m t p = after_arm a m t p ∷ after_arms rest m t (past_arm a m p)
 
-  pub after_arm : ArmTree → ScopeTree → Found → System → System
+  pub after_arm : ArmTree → ScopeTree → PreconditionList → System → System
   after_arm (tree.arm e body) m t p = if unstructured false body then throughout false body t (if_true m e p) else after_each body m t (if_true m e p)
 
-  pub after_else : ElseTree → ScopeTree → Found → System → System
+  pub after_else : ElseTree → ScopeTree → PreconditionList → System → System
   after_else tree.no_else m t p = p
   after_else (tree.otherwise body) m t p = if unstructured false body then throughout false body t p else after_each body m t p
 
-  pub after_loop_of : LoopTree → ScopeTree → Found → System → System
+  pub after_loop_of : LoopTree → ScopeTree → PreconditionList → System → System
   after_loop_of (tree.loop index first last step body) m t p =
       done (tree.loop index first last step body) m t p
       (if unstructured false body then throughout false body t (each_iteration (tree.loop index first last step body) m t p)
@@ -117,10 +117,10 @@ abbrev mutual
 -- ---- where each statement begins, in the order of the text
 
 abbrev mutual
-  pub at_stmt : StmtTree → ScopeTree → Found → System → List (At System)
+  pub at_stmt : StmtTree → ScopeTree → PreconditionList → System → List (At System)
   at_stmt (tree.stmt n label w) m t p = at n p ∷ at_parts w m t p
 
-  pub at_parts : WhatTree → ScopeTree → Found → System → List (At System)
+  pub at_parts : WhatTree → ScopeTree → PreconditionList → System → List (At System)
   at_parts (tree.assign a b) m t p = []
   at_parts (tree.block_if arms other) m t p = at_arms arms m t p ++ at_else other m t (past_arms arms m p)
   at_parts (tree.logical_if e s) m t p = at_stmt s m t (if_true m e p)
@@ -133,35 +133,35 @@ abbrev mutual
   at_parts (tree.print es) m t p = []
   at_parts (tree.read es) m t p = []
 
-  pub at_each : StmtTrees → ScopeTree → Found → System → List (At System)
+  pub at_each : StmtTrees → ScopeTree → PreconditionList → System → List (At System)
   at_each tree.no_stmts m t p = []
   at_each (tree.more_stmts s rest) m t p = at_stmt s m t p ++ at_each rest m t (after s m t p)
 
   -- of a list where the same holds throughout
-  pub at_all : StmtTrees → ScopeTree → Found → System → List (At System)
+  pub at_all : StmtTrees → ScopeTree → PreconditionList → System → List (At System)
   at_all tree.no_stmts m t p = []
   at_all (tree.more_stmts s rest) m t p = at_stmt s m t p ++ at_all rest m t p
 
-  pub at_arms : ArmTrees → ScopeTree → Found → System → List (At System)
+  pub at_arms : ArmTrees → ScopeTree → PreconditionList → System → List (At System)
   at_arms tree.no_arms m t p = []
   at_arms (tree.more_arms a rest) m t p = at_arm a m t p ++ at_arms rest m t (past_arm a m p)
 
-  pub at_arm : ArmTree → ScopeTree → Found → System → List (At System)
+  pub at_arm : ArmTree → ScopeTree → PreconditionList → System → List (At System)
   at_arm (tree.arm e body) m t p =
       if unstructured false body then at_all body m t (throughout false body t (if_true m e p)) else at_each body m t (if_true m e p)
 
-  pub at_else : ElseTree → ScopeTree → Found → System → List (At System)
+  pub at_else : ElseTree → ScopeTree → PreconditionList → System → List (At System)
   at_else tree.no_else m t p = []
   at_else (tree.otherwise body) m t p = if unstructured false body then at_all body m t (throughout false body t p) else at_each body m t p
 
-  pub at_loop : LoopTree → ScopeTree → Found → System → List (At System)
+  pub at_loop : LoopTree → ScopeTree → PreconditionList → System → List (At System)
   at_loop (tree.loop index first last step body) m t p =
       if unstructured false body then at_all body m t (throughout false body t (each_iteration (tree.loop index first last step body) m t p))
       else at_each body m t (each_iteration (tree.loop index first last step body) m t p)
 
 -- a list; `whole` says that it is the body of the module
-abbrev pub after_list : Bool → StmtTrees → ScopeTree → Found → System → System
+abbrev pub after_list : Bool → StmtTrees → ScopeTree → PreconditionList → System → System
 after_list whole body m t p = if unstructured whole body then throughout whole body t p else after_each body m t p
 
-abbrev pub at_list : Bool → StmtTrees → ScopeTree → Found → System → List (At System)
+abbrev pub at_list : Bool → StmtTrees → ScopeTree → PreconditionList → System → List (At System)
 at_list whole body m t p = if unstructured whole body then at_all body m t (throughout whole body t p) else at_each body m t p

@@ -10,7 +10,7 @@ ghost use Rattle.preconditions.specs.Entry.{entries_of, initial_row, main_entry 
 
 use affine_forms::{infeasible, is_cell};
 use affine_systems::{Row, System, Term, Var};
-use call_translation::{CallSites, Scope, Site, next_number, site_entry, tracked_of};
+use call_translation::{CallSites, CellScope, Site, next_number, site_entry, tracked_of};
 use f77_results::View;
 use f77_symbols::Symbol;
 use fx_lists::List;
@@ -52,7 +52,7 @@ fn add_initial(
 
 #[tactic(auto, using(crate::proofs::Steps::initial_loop))]
 /// Of a main program: its tracked cells begin with their values from DATA.
-fn main_entry(alloc: Global, scope: &Scope<'_>) -> Result<System, Memory>
+fn main_entry(alloc: Global, scope: &CellScope<'_>) -> Result<System, Memory>
     ensures defined { IfOk result (λ s. s ≡ main_entry_is (scope_tree scope.now.symbols.now scope.now.tracked.now)) }
     ensures fits { IfOk result Fits }
 {
@@ -70,7 +70,7 @@ fn main_entry(alloc: Global, scope: &Scope<'_>) -> Result<System, Memory>
 #[tactic(auto, using(crate::proofs::Steps::entries_loop))]
 fn hull_with_sites(
     alloc: Global,
-    scope: &Scope<'_>,
+    scope: &CellScope<'_>,
     first: System,
     more: &[Site<System>],
 ) -> Result<System, Memory>
@@ -89,7 +89,11 @@ fn hull_with_sites(
 
 /// Of a subroutine: the hulls of what its CALLs give, from left to right; without CALLs, what never holds.
 #[tactic(auto, using(crate::proofs::Steps::sites_split))]
-fn sites_entry(alloc: Global, scope: &Scope<'_>, sites: &[Site<System>]) -> Result<System, Memory>
+fn sites_entry(
+    alloc: Global,
+    scope: &CellScope<'_>,
+    sites: &[Site<System>],
+) -> Result<System, Memory>
     requires { AllSitesFit (map site_tree sites.now) }
     ensures defined { IfOk result (λ s. s ≡ sites_entry_is (scope_tree scope.now.symbols.now scope.now.tracked.now) (map site_tree sites.now)) }
     ensures fits { IfOk result Fits }
@@ -103,8 +107,9 @@ fn sites_entry(alloc: Global, scope: &Scope<'_>, sites: &[Site<System>]) -> Resu
     }
 }
 
-/// What holds of its tracked cells where a module is entered: of a main program that they have their values from DATA; of another
-/// one what holds at each CALL that names it. Memory also where the module has 2^32 symbols or more.
+/// What holds of the analysed scalars where a module is entered. Of a main program: those with a value from DATA have it (ANSI X3.9-1978,
+/// §9). Of a subroutine: the hull, from left to right, of what each CALL that names it gives; the infeasible system where there is none. Err
+/// also where the module has 2^32 symbols or more.
 pub fn entry_from(
     alloc: Global,
     view: &View<'_>,
@@ -115,7 +120,7 @@ pub fn entry_from(
     ensures fits { IfOk result Fits }
 {
     let tracked = tracked_of(alloc, view)?;
-    let scope = Scope {
+    let scope = CellScope {
         symbols: view.symbols,
         tracked: &tracked,
     };

@@ -8,16 +8,16 @@ ghost use Rattle.transformers.specs.Given.{ResultsFit};
 ghost use Rattle.preconditions.specs.Statement.{EachFits};
 ghost use Rattle.preconditions.specs.Modules.{preconditions_of};
 
-use crate::statement::{Known, after_list};
+use crate::statement::{PreconditionContext, after_list};
 use affine_systems::System;
-use call_translation::{Scope, tracked_of};
+use call_translation::{CellScope, tracked_of};
 use f77_results::{Results, View};
 use fx_lists::List;
 use std::alloc::{AllocError as Memory, Global};
 use transformer_algebra::Transformer;
 
-/// What holds of its tracked cells where each statement of a module begins, from the transformers of its statements and from what
-/// holds where it is entered, which is the summary.
+/// What holds of the analysed scalars where each executable statement of a module begins, in the order of the text, from the transformers
+/// `own` of its statements and from what holds where it is entered, `entry`, which is the summary of the result.
 pub fn preconditions(
     alloc: Global,
     view: &View<'_>,
@@ -30,11 +30,11 @@ pub fn preconditions(
     ensures fits { IfOk result (λ r. EachFits r.at) }
 {
     let tracked = tracked_of(alloc, view)?;
-    let scope = Scope {
+    let scope = CellScope {
         symbols: view.symbols,
         tracked: &tracked,
     };
-    let known = Known {
+    let known = PreconditionContext {
         scope: &scope,
         own: &own.at,
     };

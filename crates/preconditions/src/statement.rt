@@ -11,7 +11,7 @@ ghost use Rattle.preconditions.specs.Known.{scope_in, found_in, KnownFits};
 
 use affine_forms::{condition_of, infeasible};
 use affine_systems::{System, meet};
-use call_translation::Scope;
+use call_translation::CellScope;
 use f77_ast::{Arm, Expr, Loop, Stmt, StmtId, What};
 use f77_results::At;
 use fx_lists::List;
@@ -22,15 +22,15 @@ use transformer_algebra::{
 };
 use transformers::{is_unstructured, list_at, loop_parts, value_at};
 
-/// What is known around a statement: what its module is looked at with, and the transformers of its statements.
+/// What is known around a statement: the scope of its module, and the transformers of the statements.
 #[derive(Drop)]
-pub struct Known<'a> {
-    pub scope: &'a Scope<'a>,
+pub struct PreconditionContext<'a> {
+    pub scope: &'a CellScope<'a>,
     pub own: &'a List<At<Transformer>>,
 }
 
-/// What holds where statements begin, in the order of the text.
-pub type Found = List<At<System>>;
+/// What holds where statements begin, for the parts of a statement after its own, in the order of the text.
+pub type PreconditionList = List<At<System>>;
 
 /// A copy.
 fn copy_system(s: &System) -> Result<System, Memory>
@@ -42,7 +42,7 @@ fn copy_system(s: &System) -> Result<System, Memory>
 }
 
 /// Adds what holds where the statement of a number begins.
-fn push_found(at: &mut Found, id: StmtId, p: &System) -> Result<(), Memory>
+fn push_found(at: &mut PreconditionList, id: StmtId, p: &System) -> Result<(), Memory>
     requires before { Fits p.now }
     requires found { EachFits at.old }
     ensures added { OnOk result (at.new ≡ at.old ++ at_is id p.now ∷ []) }
@@ -60,7 +60,12 @@ struct Sides {
     no: System,
 }
 
-fn both_sides(alloc: Global, known: &Known<'_>, test: &Expr, p: &System) -> Result<Sides, Memory>
+fn both_sides(
+    alloc: Global,
+    known: &PreconditionContext<'_>,
+    test: &Expr,
+    p: &System,
+) -> Result<Sides, Memory>
     requires { Fits p.now }
     ensures yes { IfOk result (λ r. r.yes ≡ if_true (scope_in known.now) (expr_tree test.now) p.now) }
     ensures no { IfOk result (λ r. r.no ≡ if_false (scope_in known.now) (expr_tree test.now) p.now) }
@@ -75,7 +80,12 @@ fn both_sides(alloc: Global, known: &Known<'_>, test: &Expr, p: &System) -> Resu
 
 /// After a statement without parts.
 #[tactic(auto, using(crate::proofs::StatementLaws::results_found))]
-fn after_leaf(alloc: Global, known: &Known<'_>, id: StmtId, p: &System) -> Result<System, Memory>
+fn after_leaf(
+    alloc: Global,
+    known: &PreconditionContext<'_>,
+    id: StmtId,
+    p: &System,
+) -> Result<System, Memory>
     requires known { KnownFits known.now }
     requires before { Fits p.now }
     ensures defined { IfOk result (λ q. q ≡ apply (found_in known.now id) p.now) }
@@ -131,7 +141,7 @@ fn after_some(alloc: Global, mut ends: Vec<System>, last: System) -> Result<Syst
 /// In a list that does not run from the first statement to the last.
 fn throughout(
     alloc: Global,
-    known: &Known<'_>,
+    known: &PreconditionContext<'_>,
     list: &List<Stmt>,
     whole: bool,
     p: &System,
@@ -150,10 +160,10 @@ fn throughout(
 #[tactic(auto, using(crate::proofs::StatementLaws::part_calls))]
 fn after(
     alloc: Global,
-    known: &Known<'_>,
+    known: &PreconditionContext<'_>,
     s: &Stmt,
     p: System,
-    at: &mut Found,
+    at: &mut PreconditionList,
 ) -> Result<System, Memory>
     requires known { KnownFits known.now }
     requires before { Fits p }
@@ -172,11 +182,11 @@ fn after(
 #[tactic(auto, using(crate::proofs::StatementLaws::part_calls))]
 fn after_what(
     alloc: Global,
-    known: &Known<'_>,
+    known: &PreconditionContext<'_>,
     what: &What,
     id: StmtId,
     p: System,
-    at: &mut Found,
+    at: &mut PreconditionList,
 ) -> Result<System, Memory>
     requires known { KnownFits known.now }
     requires before { Fits p }
@@ -215,16 +225,18 @@ fn after_what(
     }
 }
 
-/// After a list; `whole` says that it is the body of the module.
+/// What holds after a list where `p` holds before it; what holds where its statements and their parts begin is appended to `at`. `whole`: the
+/// list is the body of the module. Where it is unstructured, one system holds before each of its direct statements and after it, in which what the
+/// list changes may have any value.
 #[cycle(preconditions)]
 #[tactic(auto, using(crate::proofs::StatementLaws::list_cases))]
 pub fn after_list(
     alloc: Global,
-    known: &Known<'_>,
+    known: &PreconditionContext<'_>,
     list: &List<Stmt>,
     whole: bool,
     p: System,
-    at: &mut Found,
+    at: &mut PreconditionList,
 ) -> Result<System, Memory>
     requires known { KnownFits known.now }
     requires before { Fits p }
@@ -248,10 +260,10 @@ pub fn after_list(
 #[tactic(auto, using(crate::proofs::StatementLaws::statement_calls))]
 fn at_each_the_same(
     alloc: Global,
-    known: &Known<'_>,
+    known: &PreconditionContext<'_>,
     list: &List<Stmt>,
     p: &System,
-    at: &mut Found,
+    at: &mut PreconditionList,
 ) -> Result<(), Memory>
     requires known { KnownFits known.now }
     requires before { Fits p.now }
@@ -271,10 +283,10 @@ fn at_each_the_same(
 #[tactic(auto, using(crate::proofs::StatementLaws::statement_calls))]
 fn after_each(
     alloc: Global,
-    known: &Known<'_>,
+    known: &PreconditionContext<'_>,
     list: &List<Stmt>,
     p: System,
-    at: &mut Found,
+    at: &mut PreconditionList,
 ) -> Result<System, Memory>
     requires known { KnownFits known.now }
     requires before { Fits p }
@@ -297,11 +309,11 @@ fn after_each(
 #[tactic(auto, using(crate::proofs::StatementLaws::arm_calls))]
 fn after_arms(
     alloc: Global,
-    known: &Known<'_>,
+    known: &PreconditionContext<'_>,
     arms: &List<Arm>,
     p: System,
     ends: &mut Vec<System>,
-    at: &mut Found,
+    at: &mut PreconditionList,
 ) -> Result<System, Memory>
     requires known { KnownFits known.now }
     requires before { Fits p }
@@ -329,10 +341,10 @@ fn after_arms(
 #[tactic(auto, using(crate::proofs::StatementLaws::body_calls))]
 fn after_do(
     alloc: Global,
-    known: &Known<'_>,
+    known: &PreconditionContext<'_>,
     l: &Loop,
     p: &System,
-    at: &mut Found,
+    at: &mut PreconditionList,
 ) -> Result<System, Memory>
     requires known { KnownFits known.now }
     requires before { Fits p.now }

@@ -10,11 +10,12 @@ pub enum Code {
     NonAscii,
     /// A tab outside a character constant.
     Tab,
-    /// Columns 1 to 5 hold neither a label nor blanks, or on a continuation line anything but blanks.
+    /// Columns 1 to 5 hold neither a label nor blanks, or on a continuation line anything but blanks (ANSI X3.9-1978,
+    /// §3.2 and §3.4).
     BadLabelField,
     /// A continuation line before the first initial line.
     ContinuationFirst,
-    /// A twentieth continuation line.
+    /// A twentieth continuation line (ANSI X3.9-1978, §3.3).
     TooManyContinuations,
     /// The last statement is not END.
     NoEnd,
@@ -35,36 +36,37 @@ pub enum Code {
     /// A part without its opening, a second ELSE, a heading that is not first, a specification after an executable statement,
     /// or a RETURN in a main program.
     StrayPart,
-    /// A labelled DO ends at a statement that may not end one.
+    /// A labelled DO ends at a statement that may not end one (ANSI X3.9-1978, §11.10).
     BadTerminal,
-    /// Two executable statements have one label.
+    /// Two executable statements have one label (ANSI X3.9-1978, §3.4).
     LabelTwice,
     /// A GO TO to a label of no executable statement.
     LabelMissing,
-    /// A GO TO to a statement in a list that does not contain the GO TO.
+    /// A GO TO to a statement in a list that does not contain the GO TO (ANSI X3.9-1978, §11.6 to §11.10).
     JumpIntoBlock,
     /// The executable statement after the last that a module may have.
     TooManyStatements,
     /// Blocks or parentheses too deep in one another.
     TooDeep,
-    /// A name comes out REAL.
+    /// A name whose type comes out REAL.
     RealName,
     /// A second type or second bounds for a name, or a dummy that is listed twice.
     DeclaredTwice,
-    /// More than seven bounds; `*` that is not last or not of a dummy; a bound that is no integer expression, or not constant
-    /// and not of a dummy; a high bound below the low one; more than 2147483647 units.
+    /// More than seven bounds; `*` that is not last or not of a dummy; a bound that is no integer expression, or not
+    /// constant and not of a dummy; a high bound below the low one; more than 2147483647 storage units (ANSI X3.9-1978,
+    /// §5.1).
     BadDimension,
-    /// A PARAMETER value that is not constant, is of another type, or faults.
+    /// A PARAMETER value that is not constant, is of another type, or faults (ANSI X3.9-1978, §8.6).
     BadParameter,
-    /// A name twice in COMMON, or a dummy or PARAMETER name there.
+    /// A name twice in COMMON, or a dummy or PARAMETER name there (ANSI X3.9-1978, §8.3).
     CommonTwice,
-    /// An EQUIVALENCE that contradicts another or a COMMON, names a dummy or PARAMETER, or has no constant subscript within
-    /// bounds.
+    /// An EQUIVALENCE that contradicts another or a COMMON, names a dummy or PARAMETER, or has no constant subscript
+    /// within bounds (ANSI X3.9-1978, §8.2).
     EquivalenceClash,
-    /// A block would begin before its first unit.
+    /// An EQUIVALENCE by which a common block would begin before its first storage unit.
     EquivalenceExtendsBack,
-    /// DATA with another number or type of values, on a dummy, COMMON or PARAMETER name, without constant subscripts within
-    /// bounds, or a second time for a unit.
+    /// DATA with another number or type of values, on a dummy, COMMON or PARAMETER name, without constant subscripts
+    /// within bounds, or a second time for a storage unit (ANSI X3.9-1978, §9).
     InitialMismatch,
     /// Another number of subscripts than of bounds, or of arguments than the function takes.
     SubscriptCount,
@@ -86,14 +88,14 @@ pub enum Code {
     ArgumentCount,
     /// An argument of another type, a scalar or an expression for an array, or a whole array for a scalar.
     ArgumentType,
-    /// The first CALL that lies on a cycle of calls.
+    /// The first CALL that is on a cycle of calls.
     Recursion,
     /// More modules than a program may have.
     TooManyModules,
 }
 
 impl Code {
-    /// The number by which it is reported.
+    /// The number by which it is reported, from 1 to 57; the variants are in the order of their numbers.
     pub fn number(self) -> u32
         ensures { result ≡ number_of self }
     {
@@ -141,7 +143,7 @@ impl Code {
         }
     }
 
-    /// The name by which it is reported.
+    /// The name by which it is reported, in ASCII, which is that of its variant.
     pub fn name(self) -> &'static str
         ensures { result.now ≡ name_of self }
     {
@@ -189,7 +191,7 @@ impl Code {
         }
     }
 
-    /// The code with this number. None where no code has it.
+    /// The code with a number. None where no code has it.
     pub fn with_number(number: u32) -> Option<Code>
         ensures { result ≡ code_numbered number }
     {

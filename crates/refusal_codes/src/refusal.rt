@@ -4,7 +4,7 @@ ghost use Rattle.refusal_codes.specs.Refusals.{earliest, is_before, refuse_if};
 
 use crate::Code;
 
-/// A code and the first line of its statement, from 1.
+/// An error message of the front end: a code, and the line where the refused statement begins, from 1.
 #[derive(Clone, Copy, Debug, PartialEq, Eq)]
 pub struct Refusal {
     pub line: u32,
@@ -12,7 +12,7 @@ pub struct Refusal {
 }
 
 impl Refusal {
-    /// Whether it is reported before the other: the earlier line, then the lower number.
+    /// Whether it is reported before the other: at an earlier line, or at the same line with a lower number.
     #[tactic(auto, unfolding(crate::specs::Refusals::is_before))]
     pub fn is_before(self, other: Refusal) -> bool
         ensures { result ≡ is_before self other }
@@ -22,7 +22,7 @@ impl Refusal {
     }
 }
 
-/// The earlier of a new refusal and of what was found, which stays where neither is before the other.
+/// The earlier of a new refusal and of what was found; what was found, where neither is before the other.
 pub fn earliest(new: Refusal, found: Option<Refusal>) -> Refusal
     ensures { result ≡ earliest new found }
 {
@@ -32,7 +32,8 @@ pub fn earliest(new: Refusal, found: Option<Refusal>) -> Refusal
     }
 }
 
-/// The first refusal, where something may be wrong at this line too.
+/// The earliest of what was found and, where something is wrong, a new refusal of this line and code; None where there
+/// is neither.
 #[tactic(auto, unfolding(crate::specs::Refusals::refuse_if))]
 pub fn refuse_if(wrong: bool, line: u32, code: Code, found: Option<Refusal>) -> Option<Refusal>
     ensures { result ≡ refuse_if wrong line code found }

@@ -1,1 +1,2 @@
 pub mod RegionLines
+pub mod Spots

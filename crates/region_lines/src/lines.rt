@@ -1,11 +1,12 @@
 //! The lines of regions, in the order of the text.
 ghost use Rattle.std.specs.Prelude.{◌≡◌, ◌++◌, IfOk, OnOk, option_copied};
-ghost use Rattle.f77_ast.specs.PlainStmt.{stmt_tree, stmt_trees, what_tree, loop_tree, arm_trees};
+ghost use Rattle.f77_ast.specs.PlainStmt.{stmt_trees};
 ghost use Rattle.f77_symbols.specs.Index.{names_of as names_of_is};
-ghost use Rattle.claim_lines.specs.ScalarLines.{before as before_is, says_changes as says_regions_is};
-ghost use Rattle.region_lines.specs.RegionLines.{line_of as line_of_is, set_lines, found_lines, own_lines, stmt_lines, part_lines, list_lines, arms_lines, loop_lines, entry_lines, region_lines_of};
+ghost use Rattle.region_lines.specs.RegionLines.{line_of as line_of_is, set_lines, found_lines, list_lines, entry_lines, region_lines_of};
+ghost use Rattle.region_lines.specs.Spots.{spot_lines};
 
-use f77_ast::{Arm, Loop, Stmt, StmtId, What};
+use claim_lines::{LineSpot, line_spots};
+use f77_ast::{Stmt, StmtId};
 use f77_printer::Added;
 use f77_results::{At, Results, View};
 use f77_symbols::Symbols;
@@ -76,84 +77,24 @@ fn put_found(
     }
 }
 
-/// Whether the regions of a statement are written.
-#[tactic(auto, using(f77_ast::proofs::PlainlyStmt::what_cases))]
-fn says_regions(what: &What) -> bool
-    ensures { result ≡ says_regions_is (what_tree what.now) }
-{
-    match what {
-        What::Do(_) | What::Call(..) => true,
-        What::Assign(..)
-        | What::If(..)
-        | What::LogicalIf(..)
-        | What::Goto(_)
-        | What::Continue
-        | What::Return
-        | What::Stop(_)
-        | What::Print(_)
-        | What::Read(_) => false,
-    }
-}
-
-/// A statement's own lines.
+/// The lines of a statement.
 fn put_own(
     alloc: Global,
     said: &Said<'_>,
-    id: StmtId,
-    what: &What,
+    spot: &LineSpot,
     out: &mut List<Added>,
 ) -> Result<(), Memory>
-    ensures { OnOk result (out.new ≡ out.old ++ own_lines id (what_tree what.now) said.now.names.now said.now.at.now) }
+    ensures { OnOk result (out.new ≡ out.old ++ spot_lines said.now.names.now said.now.at.now spot.now) }
 {
-    if says_regions(what) {
-        put_found(alloc, said.names, id, value_at(said.at, id), out)?;
+    let before = spot.before;
+    if spot.changes {
+        put_found(alloc, said.names, before, value_at(said.at, before), out)?;
     }
     Ok(())
 }
 
-#[cycle(lines)]
-#[tactic(auto, using(crate::proofs::LineLaws::part_calls))]
-fn put_stmt(alloc: Global, said: &Said<'_>, s: &Stmt, out: &mut List<Added>) -> Result<(), Memory>
-    ensures { OnOk result (out.new ≡ out.old ++ stmt_lines (stmt_tree s.now) said.now.names.now said.now.at.now) }
-{
-    put_own(alloc, said, s.id, &s.what, out)?;
-    put_parts(alloc, said, &s.what, out)
-}
-
-#[cycle(lines)]
-#[tactic(auto, using(crate::proofs::LineLaws::part_calls))]
-fn put_parts(
-    alloc: Global,
-    said: &Said<'_>,
-    what: &What,
-    out: &mut List<Added>,
-) -> Result<(), Memory>
-    ensures { OnOk result (out.new ≡ out.old ++ part_lines (what_tree what.now) said.now.names.now said.now.at.now) }
-{
-    match what {
-        What::If(arms, other) => {
-            put_arms(alloc, said, arms, out)?;
-            match other {
-                None => Ok(()),
-                Some(body) => put_list(alloc, said, body, out),
-            }
-        }
-        What::Do(l) => put_loop(alloc, said, l, out),
-        What::Assign(..)
-        | What::LogicalIf(..)
-        | What::Call(..)
-        | What::Goto(_)
-        | What::Continue
-        | What::Return
-        | What::Stop(_)
-        | What::Print(_)
-        | What::Read(_) => Ok(()),
-    }
-}
-
 /// The lines of statements one after another.
-#[cycle(lines)]
-#[tactic(auto, using(crate::proofs::LineLaws::statement_calls))]
+#[tactic(auto, using(crate::proofs::LineLaws::list_steps))]
 fn put_list(
     alloc: Global,
     said: &Said<'_>,
@@ -162,34 +103,11 @@ fn put_list(
 ) -> Result<(), Memory>
     ensures { OnOk result (out.new ≡ out.old ++ list_lines (stmt_trees list.now) said.now.names.now said.now.at.now) }
 {
-    for s in list.as_slice() {
-        put_stmt(alloc, said, s, out)?;
+    let spots = line_spots(alloc, list)?;
+    for spot in spots.as_slice() {
+        put_own(alloc, said, spot, out)?;
     }
     Ok(())
-}
-
-#[cycle(lines)]
-#[tactic(auto, using(crate::proofs::LineLaws::arm_calls))]
-fn put_arms(
-    alloc: Global,
-    said: &Said<'_>,
-    arms: &List<Arm>,
-    out: &mut List<Added>,
-) -> Result<(), Memory>
-    ensures { OnOk result (out.new ≡ out.old ++ arms_lines (arm_trees arms.now) said.now.names.now said.now.at.now) }
-{
-    for arm in arms.as_slice() {
-        put_list(alloc, said, &arm.body, out)?;
-    }
-    Ok(())
-}
-
-#[cycle(lines)]
-#[tactic(auto, using(crate::proofs::LineLaws::body_calls))]
-fn put_loop(alloc: Global, said: &Said<'_>, l: &Loop, out: &mut List<Added>) -> Result<(), Memory>
-    ensures { OnOk result (out.new ≡ out.old ++ loop_lines (loop_tree l.now) said.now.names.now said.now.at.now) }
-{
-    put_list(alloc, said, &l.body, out)
 }
 
 /// The lines on what a subroutine accesses as its callers see it; a main program has none.
@@ -208,7 +126,8 @@ fn put_entry(
     put_set(alloc, names, 0, summary.as_slice(), out)
 }
 
-/// The lines that say what CALLs of a subroutine, and the DOs and CALLs of a module, access. A statement without a set has none.
+/// The comment lines on regions that are added to a module, in the order of the text: of a subroutine, first those of its summary; then those
+/// of each DO and CALL. A statement without a set has none; the statement of a logical IF has none of its own.
 pub fn region_lines(
     alloc: Global,
     view: &View<'_>,

@@ -283,8 +283,8 @@ fn of_all(alloc: Global, r: &Region, t: &Transformer) -> Result<Region, Memory>
     remade(r, r.exact && exact, pieces)
 }
 
-/// The region before what the transformer describes, of one that speaks of the cells after it. Where the transformer does not say
-/// what each changed cell becomes that the region names, the result has the elements for some numbers that it leads to, and is not
+/// The region before what a transformer describes, from one for the values of the analysed scalars after it. Where the transformer's rows do
+/// not say what each changed scalar becomes that the region names, the result has the elements for some values to which it leads, and is not
 /// exact.
 pub fn compose(alloc: Global, r: &Region, t: &Transformer) -> Result<Region, Memory>
     requires region { RegionFits r.now }

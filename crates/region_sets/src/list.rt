@@ -65,7 +65,7 @@ fn push_accesses_at(
     }
 }
 
-/// Adds regions as seen from before a statement.
+/// Appends regions as they are before what a transformer describes, from those after it, in their order (`compose`).
 #[tactic(auto, using(crate::proofs::Steps::fitting))]
 pub fn push_composed(
     alloc: Global,
@@ -255,9 +255,9 @@ fn of_list(
     }
 }
 
-/// READ and WRITE of a list, from those that `at` has for its direct statements and the transformers of these; `whole` says that the
-/// list is the body of the module. Where a GO TO in it leads to a statement of it, or a RETURN leaves the body early, the cells that
-/// it changes may have any numbers at each statement, and nothing is exact.
+/// The READ and WRITE regions of a list where it begins, from those in `at` of its direct statements and their transformers. `whole`: the
+/// list is the body of the module. Where a GO TO in it leads to a statement of it, or a RETURN leaves the body early, the analysed scalars
+/// that it changes may have any value at each statement, and nothing is exact. The view is not used.
 pub fn list_regions(
     alloc: Global,
     _view: &View<'_>,

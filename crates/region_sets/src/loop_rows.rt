@@ -120,7 +120,9 @@ fn push_last(
     }
 }
 
-/// The rows of the index of an iteration; none where the step is no constant.
+/// The rows on the DO variable in an iteration, as `Aux(0)` (ANSI X3.9-1978, §11.10.3): it is not before the first value, not beyond the last
+/// one in the direction of the step and, where the step is not 1 or -1, `Aux(1)` whole steps from the first. A value without an affine
+/// expression gives no row; without a step there is none.
 pub fn range_rows(alloc: Global, g: &Range) -> Result<Vec<Row>, Memory>
     requires { RangeFits g.now }
     ensures defined { IfOk result (λ rs. rs.items ≡ range_rows_is g.now) }

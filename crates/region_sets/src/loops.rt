@@ -154,10 +154,9 @@ fn of_all(alloc: Global, r: &Region, g: &Range) -> Result<Region, Memory>
     remade(r, r.exact && exact, pieces)
 }
 
-/// The region of a DO at its beginning, of one of its body at the beginning of an iteration. The elements are those of some number
-/// of the index between the first and the last value, and in whole steps from the first, where these have forms and the step is a
-/// constant. It is not exact where one of them is missing, where the body's region names another cell that changes, or where the
-/// index cannot be projected away exactly.
+/// The region of a DO where it begins, from that of its body where an iteration begins: the elements for some value of the DO variable from
+/// the first to the last, in whole steps, as far as these are affine and the step is constant. Not exact where the body's region is not or
+/// names another analysed scalar that changes, where one of these is missing, or where the projection is not exact.
 pub fn over_loop(alloc: Global, r: &Region, g: &Range) -> Result<Region, Memory>
     requires region { RegionFits r.now }
     requires range { RangeFits g.now }

@@ -5,44 +5,54 @@ use f77_symbols::Variable;
 use fx_lists::List;
 use transformer_algebra::Transformer;
 
-/// How two iterations meet at a unit: the earlier one writes it and the later one reads it; it is read and then written; both write
-/// it.
+/// The kinds of dependence of a later iteration on an earlier one, at a storage unit.
 #[derive(Clone, Copy)]
 pub enum Kinds {
+    /// Flow dependence: the earlier one writes the unit, the later one reads it.
     WriteRead,
+    /// Anti-dependence: the earlier one reads the unit, the later one writes it.
     ReadWrite,
+    /// Output dependence: both write the unit.
     WriteWrite,
 }
 
-/// Whether each iteration may have its own copy of a variable; if not, the first reason: its name does not allow it, a later
-/// iteration reads what an earlier one wrote, what is written is read after the loop.
+/// Whether each iteration may have its own copy of a variable; if not, the first reason, in the order of the variants.
 #[derive(Clone, Copy)]
 pub enum Private {
     Yes,
+    /// Its name does not allow it.
     Name,
+    /// A later iteration reads what an earlier one wrote.
     Carried,
+    /// What is written is read after the loop.
     Live,
 }
 
-/// Why a loop is serial: control may leave its body; it reads or prints; its step is no constant; its index is needed afterwards or
-/// is not its own; iterations meet at a unit of a variable.
+/// Why a loop is serial.
 #[derive(Drop)]
 pub enum Reason {
+    /// Control may leave its body.
     Jump,
+    /// It reads input or prints.
     InputOutput,
+    /// Its step is no constant.
     Step,
+    /// Its DO variable is needed afterwards, or is not its own.
     Index,
+    /// Iterations depend on each other through a variable: the kinds of dependence, and whether each may have its own copy of it.
     Carries(Variable, List<Kinds>, Private),
 }
 
-/// The iterations of a loop may run at once, each with its own copies of these variables; or why not.
+/// Whether the iterations of a loop may be executed at the same time.
 #[derive(Drop)]
 pub enum Mark {
+    /// They may, each with its own copies of the variables with these numbers, from 1.
     Parallel(List<u32>),
+    /// They may not, for this reason.
     Serial(Reason),
 }
 
-/// What a module is told of a CALL of it: the transformers of the caller, and OUT of the CALL.
+/// What is known of a CALL for its callee: the transformers of the caller, and the OUT regions of the CALL.
 #[derive(Drop)]
 pub struct SiteOut {
     pub own: Results<Transformer>,

@@ -7,6 +7,7 @@ use fx_lists::List;
 use std::alloc::{AllocError as Memory, Global};
 use system_renaming::Naming;
 
+/// Whether a variable is in one of the terms.
 pub fn in_terms(v: Var, terms: &[Term]) -> bool
     ensures { result ≡ in_terms_is v terms.now }
 {
@@ -33,7 +34,7 @@ fn in_rows(v: Var, rows: &[Row]) -> bool
     false
 }
 
-/// Whether there are no cells.
+/// Whether a list of cells is empty.
 pub fn has_none(cells: &[u32]) -> bool
     ensures { result ≡ has_none_is cells.now }
 {
@@ -43,7 +44,7 @@ pub fn has_none(cells: &[u32]) -> bool
     }
 }
 
-/// Those of some cells that the system names. Looks each up in all rows.
+/// Those of the cells whose variable `Cell` is in a row of the system, in the order of `cells`. All rows are searched for each.
 #[tactic(auto, using(crate::proofs::Steps::fitting))]
 pub fn named_cells(alloc: Global, cells: &[u32], s: &System) -> Result<Vec<u32>, Memory>
     ensures { IfOk result (λ cs. cs.items ≡ named_cells_is cells.now s.now) }
@@ -59,7 +60,7 @@ pub fn named_cells(alloc: Global, cells: &[u32], s: &System) -> Result<Vec<u32>,
     Ok(out)
 }
 
-/// Each cell becomes its exit.
+/// The namings of each cell before a statement (`Cell`) as the cell after it (`Exit`), in the order of `cells`.
 #[tactic(auto, using(crate::proofs::Steps::fitting))]
 pub fn to_exits(alloc: Global, cells: &[u32]) -> Result<Vec<Naming>, Memory>
     ensures { IfOk result (λ ns. ns.items ≡ to_exits_is cells.now) }
@@ -74,7 +75,7 @@ pub fn to_exits(alloc: Global, cells: &[u32]) -> Result<Vec<Naming>, Memory>
     Ok(out)
 }
 
-/// The exits of cells.
+/// The variables of cells after a statement (`Exit`), in the order of `cells`.
 #[tactic(auto, using(crate::proofs::Steps::fitting))]
 pub fn exit_vars(alloc: Global, cells: &[u32]) -> Result<List<Var>, Memory>
     ensures { IfOk result (λ vs. vs ≡ exit_vars_is cells.now) }

@@ -10,32 +10,36 @@ use f77_symbols::Variable;
 use fx_lists::List;
 use std::alloc::{AllocError as Memory, Global};
 
-/// How elements are accessed: they are read; they are written; they are read before they are written; they are written, and read
-/// later before they are written again.
+/// How elements are accessed.
 #[derive(Clone, Copy)]
 pub enum Access {
+    /// They are read.
     Read,
+    /// They are written.
     Write,
+    /// They are read before they are written.
     In,
+    /// They are written, and read later before they are written again.
     Out,
 }
 
-/// The elements of a variable with the subscripts (`Phi`, from 1) of which one of the systems holds, at the numbers of the cells
-/// (`Cell`) where a statement begins. Where it is `exact`, each of them is accessed in each execution that ends normally;
-/// otherwise it may be. There is one system.
+/// The elements of a variable whose subscripts (`Phi`, the first is 1) satisfy one of the systems, for the values of the analysed scalars
+/// (`Cell`) where a statement begins; of a scalar, all of it where one of the systems holds. The analyses make regions of one system.
 #[derive(Drop)]
 pub struct Region {
     pub variable: Variable,
     pub kind: Access,
+    /// Each of the elements is accessed in each execution that ends normally; otherwise each may be.
     pub exact: bool,
+    /// The systems, of which a point satisfies at least one.
     pub pieces: List<System>,
 }
 
-/// Regions in the order in which they are written: by kind, then own symbols by their numbers, then other variables by what is
-/// written of them. At most one of a variable and kind.
+/// Regions in the order in which they are written: by kind as in `Access`, then own symbols by their numbers, then other variables by what is
+/// written of them; at most one of a variable and kind. What is still to be united has its regions in any order.
 pub type RegionSet = List<Region>;
 
-/// Whether a row was lost in one of them.
+/// Whether one of the systems is over-approximated: it lost a row by a limit.
 pub fn any_weak(pieces: &[System]) -> bool
     ensures { result ≡ any_weak_is pieces.now }
 {
@@ -49,7 +53,7 @@ pub fn any_weak(pieces: &[System]) -> bool
     false
 }
 
-/// A region of the variable and kind of another; not exact where a row was lost.
+/// A region of these systems, of the variable and kind of another; exact where `exact` and none of the systems is over-approximated.
 pub fn remade(r: &Region, exact: bool, pieces: List<System>) -> Result<Region, Memory>
     requires { AllFit pieces }
     ensures defined { IfOk result (λ q. q ≡ remade_is r.now exact pieces) }
@@ -64,7 +68,7 @@ pub fn remade(r: &Region, exact: bool, pieces: List<System>) -> Result<Region, M
     })
 }
 
-/// Adds a system at the end.
+/// Appends a system.
 #[tactic(auto, using(crate::proofs::Steps::fitting))]
 pub fn push_system(out: &mut List<System>, s: System) -> Result<(), Memory>
     requires all { AllFit out.old }
@@ -76,6 +80,7 @@ pub fn push_system(out: &mut List<System>, s: System) -> Result<(), Memory>
     Ok(())
 }
 
+/// A copy of a system.
 pub fn copy_system(piece: &System) -> Result<System, Memory>
     ensures { IfOk result (λ s. s ≡ piece.now) }
 {
@@ -85,7 +90,7 @@ pub fn copy_system(piece: &System) -> Result<System, Memory>
     })
 }
 
-/// Adds copies of systems at the end.
+/// Appends copies of systems, in their order.
 #[tactic(auto, using(crate::proofs::Steps::fitting))]
 pub fn push_copies(out: &mut List<System>, pieces: &[System]) -> Result<(), Memory>
     requires all { AllFit out.old }
@@ -101,7 +106,7 @@ pub fn push_copies(out: &mut List<System>, pieces: &[System]) -> Result<(), Memo
     Ok(())
 }
 
-/// A copy with another flag; not exact where a row was lost.
+/// A copy of a region that is exact where `exact` and none of its systems is over-approximated.
 pub fn with_flag(alloc: Global, r: &Region, exact: bool) -> Result<Region, Memory>
     requires { RegionFits r.now }
     ensures defined { IfOk result (λ q. q ≡ remade_is r.now exact r.now.pieces) }
@@ -112,6 +117,7 @@ pub fn with_flag(alloc: Global, r: &Region, exact: bool) -> Result<Region, Memor
     remade(r, exact, pieces)
 }
 
+/// A copy of a region, with its flag as it is.
 pub fn copy_region(alloc: Global, r: &Region) -> Result<Region, Memory>
     requires { RegionFits r.now }
     ensures defined { IfOk result (λ q. q ≡ r.now) }

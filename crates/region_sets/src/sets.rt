@@ -52,7 +52,7 @@ fn live_pieces(alloc: Global, pieces: &[System]) -> Result<List<System>, Memory>
     Ok(out)
 }
 
-/// Adds a region at the end.
+/// Appends a region; the list is neither sorted nor united by it.
 #[tactic(auto, using(crate::proofs::Steps::fitting))]
 pub fn push_region(out: &mut RegionSet, r: Region) -> Result<(), Memory>
     requires set { SetFits out.old }
@@ -151,7 +151,8 @@ fn all_gathered(alloc: Global, regions: &[Region]) -> Result<RegionSet, Memory>
     live(alloc, set.as_slice())
 }
 
-/// A set of regions that are united from left to right. One that is refuted is left out.
+/// The set of some regions, in the order of `RegionSet`: those of one variable and kind are united from left to right, and systems that are
+/// shown infeasible are left out, with a region that has no other. Each region is compared with those before it: quadratic in their number.
 pub fn unite_all(alloc: Global, regions: &[Region]) -> Result<RegionSet, Memory>
     requires { SetFits regions.now }
     ensures defined { IfOk result (λ qs. qs ≡ unite_all_is regions.now) }

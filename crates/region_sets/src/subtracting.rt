@@ -142,7 +142,7 @@ fn unless_empty(r: &Region, exact: bool, pieces: List<System>) -> Result<Option<
     Ok(Some(remade(r, exact, pieces)?))
 }
 
-fn subtracted(alloc: Global, a: &Region, b: &Region) -> Result<Option<Region>, Memory>
+fn difference_of(alloc: Global, a: &Region, b: &Region) -> Result<Option<Region>, Memory>
     requires first { RegionFits a.now }
     requires second { RegionFits b.now }
     ensures defined { IfOk result (λ o. o ≡ subtract_is a.now b.now) }
@@ -157,8 +157,9 @@ fn subtracted(alloc: Global, a: &Region, b: &Region) -> Result<Option<Region>, M
     Ok(Some(with_flag(alloc, a, a.exact && apart)?))
 }
 
-/// A region less another of the same variable, of the kind of the first; None where nothing is left. What the second only may
-/// access is not taken away.
+/// The difference of two regions of the same variable, of the kind of the first; it may have more elements, and is None where nothing is
+/// left. Only an exact second region is subtracted. Of another one nothing is, and the result is exact where the first is and both are shown
+/// to have no element in common.
 pub fn subtract(alloc: Global, a: &Region, b: &Region) -> Result<Option<Region>, Memory>
     requires first { RegionFits a.now }
     requires second { RegionFits b.now }
@@ -167,5 +168,5 @@ pub fn subtract(alloc: Global, a: &Region, b: &Region) -> Result<Option<Region>,
     ensures sound { IfOk result (KeepsRest a.now b.now) }
     ensures exact { IfOk result (HasRestAlone a.now b.now) }
 {
-    subtracted(alloc, a, b)
+    difference_of(alloc, a, b)
 }

@@ -94,7 +94,7 @@ fn put_pieces(
     Ok(())
 }
 
-/// What a line says of a region, with the names of the symbols, of which the first has number 1.
+/// The text of a region, as `region_text`, from the names of the symbols in order, the first of which has number 1.
 #[tactic(auto, using(std::proofs::Common::append_assoc))]
 pub fn region_line(alloc: Global, names: &[Text], r: &Region) -> Result<Text, Memory>
     ensures { IfOk result (λ t. t ≡ region_text_is names.now r.now) }
@@ -120,7 +120,8 @@ fn all_names(alloc: Global, symbols: &Symbols) -> Result<List<Text>, Memory>
     Ok(names)
 }
 
-/// What a line says of a region: `READ A {1<=PHI1, PHI1<=N} EXACT`.
+/// The text of a region with the names of these symbols, all of which are copied: `READ A {1<=PHI1, PHI1<=N} EXACT`. `MAY` in place of
+/// `EXACT` where it is not exact; ` + ` between systems; ` WEAK` at the end where one is over-approximated.
 pub fn region_text(alloc: Global, symbols: &Symbols, r: &Region) -> Result<Text, Memory>
     ensures { IfOk result (λ t. t ≡ region_text_is (names_of symbols.now) r.now) }
 {

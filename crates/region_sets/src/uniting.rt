@@ -116,7 +116,7 @@ fn hull_of(alloc: Global, systems: &[System]) -> Result<System, Memory>
 }
 
 /// The hull of the pieces of both.
-fn joined(alloc: Global, a: &Region, b: &Region) -> Result<List<System>, Memory>
+fn hull_of_pieces(alloc: Global, a: &Region, b: &Region) -> Result<List<System>, Memory>
     requires first { RegionFits a.now }
     requires second { RegionFits b.now }
     ensures defined { IfOk result (λ ss. ss ≡ hull_of_is (a.now.pieces ++ b.now.pieces) ∷ []) }
@@ -130,7 +130,7 @@ fn joined(alloc: Global, a: &Region, b: &Region) -> Result<List<System>, Memory>
     Ok(pieces)
 }
 
-fn united(alloc: Global, a: &Region, b: &Region) -> Result<Region, Memory>
+fn union_of(alloc: Global, a: &Region, b: &Region) -> Result<Region, Memory>
     requires first { RegionFits a.now }
     requires second { RegionFits b.now }
     ensures defined { IfOk result (λ r. r ≡ unite_is a.now b.now) }
@@ -142,11 +142,11 @@ fn united(alloc: Global, a: &Region, b: &Region) -> Result<Region, Memory>
     if all_within(alloc, b.pieces.as_slice(), a.pieces.as_slice())? {
         return with_flag(alloc, b, b.exact);
     }
-    remade(a, false, joined(alloc, a, b)?)
+    remade(a, false, hull_of_pieces(alloc, a, b)?)
 }
 
-/// One region for two of a variable and kind: that of the two which has all of the other, else the hull of their pieces, which may
-/// have more and is not exact.
+/// One region for two of the same variable and kind: a copy of the one in whose systems those of the other are shown to be, else the hull of
+/// all of them, which may have more elements and is not exact. Each system of one is compared with those of the other.
 pub fn unite(alloc: Global, a: &Region, b: &Region) -> Result<Region, Memory>
     requires first { RegionFits a.now }
     requires second { RegionFits b.now }
@@ -155,5 +155,5 @@ pub fn unite(alloc: Global, a: &Region, b: &Region) -> Result<Region, Memory>
     ensures sound { IfOk result (HasBoth a.now b.now) }
     ensures exact { IfOk result (IsOneExact a.now b.now) }
 {
-    united(alloc, a, b)
+    union_of(alloc, a, b)
 }

@@ -10,7 +10,7 @@ use Rattle.refusal_codes.specs.declared.code.Code.TheVariants.{NonAscii, Tab, Ba
 use Rattle.fixed_form.specs.declared.fault.Begun.{Begun}
 use Rattle.fixed_form.specs.declared.line.Line.{Line}
 use Rattle.fixed_form.specs.declared.line.Lines.{Lines}
-use Rattle.fixed_form.specs.Characters.{is_allowed, is_space, is_tab, folded}
+use Rattle.fixed_form.specs.Characters.{is_allowed, is_space, is_tab, upper_case}
 use Rattle.fixed_form.specs.Body.{stripped, quoted_after_byte}
 use Rattle.fixed_form.specs.Cards.{is_comment, is_dropped, card, columns, is_initial}
 use Rattle.fixed_form.specs.Faults.{fault_of, continuation_fault, begun_behind, continuations_of, first_fault, or_later}
@@ -23,7 +23,7 @@ use Rattle.roundtrip_lines.specs.Laws.{BodiesAreShort}
 -- ---- stripping
 
 strip_length : (q s : Bool) (b : ℕ) (bs : List ℕ) → ((r : Bool) → length (stripped r bs) ≤ length bs)
-    → length (if q then b ∷ stripped (quoted_after_byte q b) bs else if s then stripped q bs else folded b ∷ stripped (quoted_after_byte q b) bs) ≤ length (b ∷ bs)
+    → length (if q then b ∷ stripped (quoted_after_byte q b) bs else if s then stripped q bs else upper_case b ∷ stripped (quoted_after_byte q b) bs) ≤ length (b ∷ bs)
 strip_length true s b bs h = let l = h (quoted_after_byte true b) in omega arith
 strip_length false true b bs h = let l = h false in omega arith
 strip_length false false b bs h = let l = h (quoted_after_byte false b) in omega arith
@@ -39,14 +39,14 @@ folded_by : (t : Bool) (b : ℕ) → (nat_le 97 b && nat_le b 122) ≡ t → is_
 folded_by true b e h = let p = and_parts (nat_le 97 b) (nat_le b 122) e in low_allowed b (leb-true 97 b p.0) (leb-true b 122 p.1)
 folded_by false b e h = h
 
-folded_allowed : (b : ℕ) → is_allowed b ≡ true → is_allowed (folded b) ≡ true
+folded_allowed : (b : ℕ) → is_allowed b ≡ true → is_allowed (upper_case b) ≡ true
 folded_allowed b h = folded_by (nat_le 97 b && nat_le b 122) b refl h
 
 strip_allowed : (q s : Bool) (b : ℕ) (bs : List ℕ) → is_allowed b ≡ true → ((r : Bool) → list_all is_allowed (stripped r bs) ≡ true)
-    → list_all is_allowed (if q then b ∷ stripped (quoted_after_byte q b) bs else if s then stripped q bs else folded b ∷ stripped (quoted_after_byte q b) bs) ≡ true
+    → list_all is_allowed (if q then b ∷ stripped (quoted_after_byte q b) bs else if s then stripped q bs else upper_case b ∷ stripped (quoted_after_byte q b) bs) ≡ true
 strip_allowed true s b bs p h = and_from (is_allowed b) (list_all is_allowed (stripped (quoted_after_byte true b) bs)) p (h (quoted_after_byte true b))
 strip_allowed false true b bs p h = h false
-strip_allowed false false b bs p h = and_from (is_allowed (folded b)) (list_all is_allowed (stripped (quoted_after_byte false b) bs)) (folded_allowed b p) (h (quoted_after_byte false b))
+strip_allowed false false b bs p h = and_from (is_allowed (upper_case b)) (list_all is_allowed (stripped (quoted_after_byte false b) bs)) (folded_allowed b p) (h (quoted_after_byte false b))
 
 stripped_allowed : (t : List ℕ) (q : Bool) → list_all is_allowed t ≡ true → list_all is_allowed (stripped q t) ≡ true
 stripped_allowed [] q h = refl

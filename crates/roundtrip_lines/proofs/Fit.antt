@@ -4,7 +4,7 @@ use Rattle.std.specs.Prelude.{◌||◌, nat_eq, nat_le, nat_lt, ◌&&◌}
 use Rattle.std.specs.List.{list_all}
 use Rattle.std.proofs.lemmas.Bool.{or_from, ne_eqb, eqb-true, and_parts, and_from, and_left, leb-true, lt-leb, not-true}
 use Rattle.std.proofs.lemmas.List.{append_cancel_left}
-use Rattle.fixed_form.specs.Characters.{is_allowed, folded}
+use Rattle.fixed_form.specs.Characters.{is_allowed, upper_case}
 use Rattle.fixed_form.specs.Body as body
 use Rattle.fixed_form.proofs.Joining.{stripped-append}
 use Rattle.f77_printer.specs.Layout.{stripped, fitted}
@@ -13,7 +13,7 @@ use Rattle.roundtrip_lines.specs.Good.{starts, IsLined, HasNoTab}
 -- ---- folding twice is folding once
 
 record Folds (b : ℕ) (d : ℕ) : Type 0 where
-  pub same : folded d ≡ d
+  pub same : upper_case d ≡ d
   pub blank : nat_eq d 32 ≡ nat_eq b 32
   pub apostrophe : nat_eq d 39 ≡ nat_eq b 39
   pub tab : nat_eq d 9 ≡ nat_eq b 9
@@ -32,28 +32,28 @@ folds_at : (t : Bool) (b : ℕ) → (nat_le 97 b && nat_le b 122) ≡ t → Fold
 folds_at true b e = let p = and_parts (nat_le 97 b) (nat_le b 122) e in folds_low b (leb-true 97 b p.0) (leb-true b 122 p.1)
 folds_at false b e = record { same = rw e; blank = refl; apostrophe = refl; tab = refl }
 
-folds : (b : ℕ) → Folds b (folded b)
+folds : (b : ℕ) → Folds b (upper_case b)
 folds b = folds_at (nat_le 97 b && nat_le b 122) b refl
 
 -- ---- stripping twice is stripping once
 
 outside_at : (s : Bool) (b : ℕ) (bs u : List ℕ) → nat_eq b 32 ≡ s
     → ((q : Bool) → body.stripped q (body.stripped q bs ++ u) ≡ body.stripped q bs ++ body.stripped (body.quoted_after q bs) u)
-    → body.stripped false ((if s then body.stripped false bs else folded b ∷ body.stripped (body.quoted_after_byte false b) bs) ++ u)
-    ≡ (if s then body.stripped false bs else folded b ∷ body.stripped (body.quoted_after_byte false b) bs) ++ body.stripped (body.quoted_after (body.quoted_after_byte false b) bs) u
+    → body.stripped false ((if s then body.stripped false bs else upper_case b ∷ body.stripped (body.quoted_after_byte false b) bs) ++ u)
+    ≡ (if s then body.stripped false bs else upper_case b ∷ body.stripped (body.quoted_after_byte false b) bs) ++ body.stripped (body.quoted_after (body.quoted_after_byte false b) bs) u
 outside_at true b bs u e h =
     let n = eqb-true b 32 e in
     let a : nat_eq b 39 ≡ false = ne_eqb b 39 (λ q. omega arith) in
     rw a (h false)
 outside_at false b bs u e h =
     let f = folds b in
-    let s : nat_eq (folded b) 32 ≡ false = f.blank ∙ e in
-    let a : body.quoted_after_byte false (folded b) ≡ body.quoted_after_byte false b = ap (λ (t : Bool). if t then true else false) f.apostrophe in
+    let s : nat_eq (upper_case b) 32 ≡ false = f.blank ∙ e in
+    let a : body.quoted_after_byte false (upper_case b) ≡ body.quoted_after_byte false b = ap (λ (t : Bool). if t then true else false) f.apostrophe in
     ap (λ (t : Bool). if t then body.stripped false (body.stripped (body.quoted_after_byte false b) bs ++ u)
-    else folded (folded b) ∷ body.stripped (body.quoted_after_byte false (folded b)) (body.stripped (body.quoted_after_byte false b) bs ++ u)) s
-    ∙ ap (λ (c : ℕ). c ∷ body.stripped (body.quoted_after_byte false (folded b)) (body.stripped (body.quoted_after_byte false b) bs ++ u)) f.same
-    ∙ ap (λ (t : Bool). folded b ∷ body.stripped t (body.stripped (body.quoted_after_byte false b) bs ++ u)) a
-    ∙ ap (λ (x : List ℕ). folded b ∷ x) (h (body.quoted_after_byte false b))
+    else upper_case (upper_case b) ∷ body.stripped (body.quoted_after_byte false (upper_case b)) (body.stripped (body.quoted_after_byte false b) bs ++ u)) s
+    ∙ ap (λ (c : ℕ). c ∷ body.stripped (body.quoted_after_byte false (upper_case b)) (body.stripped (body.quoted_after_byte false b) bs ++ u)) f.same
+    ∙ ap (λ (t : Bool). upper_case b ∷ body.stripped t (body.stripped (body.quoted_after_byte false b) bs ++ u)) a
+    ∙ ap (λ (x : List ℕ). upper_case b ∷ x) (h (body.quoted_after_byte false b))
 
 pub twice : (t u : List ℕ) (q : Bool) → body.stripped q (body.stripped q t ++ u) ≡ body.stripped q t ++ body.stripped (body.quoted_after q t) u
 twice [] u q = refl
@@ -103,7 +103,7 @@ fitted_read text k h = read_by (nat_lt 1320 (length text)) text k h
 -- ---- no tab stands outside its constants
 
 tab_at : (s : Bool) (b : ℕ) (bs : List ℕ) → nat_eq b 32 ≡ s → ((q : Bool) → body.has_tab q (body.stripped q bs) ≡ body.has_tab q bs)
-    → body.has_tab false (if s then body.stripped false bs else folded b ∷ body.stripped (body.quoted_after_byte false b) bs) ≡ ((nat_eq b 9 && true) || body.has_tab (body.quoted_after_byte false b) bs)
+    → body.has_tab false (if s then body.stripped false bs else upper_case b ∷ body.stripped (body.quoted_after_byte false b) bs) ≡ ((nat_eq b 9 && true) || body.has_tab (body.quoted_after_byte false b) bs)
 tab_at true b bs e h =
     let n = eqb-true b 32 e in
     let a : nat_eq b 39 ≡ false = ne_eqb b 39 (λ q. omega arith) in
@@ -111,8 +111,8 @@ tab_at true b bs e h =
     rw (a, t) (h false)
 tab_at false b bs e h =
     let f = folds b in
-    let a : body.quoted_after_byte false (folded b) ≡ body.quoted_after_byte false b = ap (λ (t : Bool). if t then true else false) f.apostrophe in
-    ap (λ (t : Bool). (t && true) || body.has_tab (body.quoted_after_byte false (folded b)) (body.stripped (body.quoted_after_byte false b) bs)) f.tab
+    let a : body.quoted_after_byte false (upper_case b) ≡ body.quoted_after_byte false b = ap (λ (t : Bool). if t then true else false) f.apostrophe in
+    ap (λ (t : Bool). (t && true) || body.has_tab (body.quoted_after_byte false (upper_case b)) (body.stripped (body.quoted_after_byte false b) bs)) f.tab
     ∙ ap (λ (t : Bool). (nat_eq b 9 && true) || body.has_tab t (body.stripped (body.quoted_after_byte false b) bs)) a
     ∙ ap (λ (t : Bool). (nat_eq b 9 && true) || t) (h (body.quoted_after_byte false b))
 

@@ -18,9 +18,9 @@ use Rattle.f77_structure.specs.declared.blocks.Jump.{Jump}
 use Rattle.refusal_codes.specs.Refusals.{refuse_if}
 use Rattle.f77_structure.specs.Lists.{first_of}
 use Rattle.f77_structure.specs.Opens.{is_if, fits, within_if}
-use Rattle.f77_structure.specs.Blocks.{left_one, left_from, left, unclosed, down_to, pushed, entered, stray, landed, jumped}
+use Rattle.f77_structure.specs.Blocks.{left_one, left_from, leave_innermost, refuse_unclosed, down_to, push_block, enter_block, stray, add_landing, keep_jump}
 use Rattle.f77_structure.specs.Terminals.{spoiled, spoiled_run, ends_one, spoil, spoil_behind, spoil_around, spoil_within, spoil_part, is_forbidden, is_part, spoiled_by}
-use Rattle.f77_structure.specs.Steps.{is_else, divided, divided_in, part, ended}
+use Rattle.f77_structure.specs.Steps.{is_else, next_arm, divided_in, part, end_block}
 pub use Rattle.f77_structure.proofs.Roles.{ended_by-found, stood-found, jumped-found, landed-found}
 
 pub some-none : {A : Type 0} (x : A) → Some x ≡ None → ⊥
@@ -51,13 +51,13 @@ left-found : (os : List Open) (b : Blocks) → (left_from os b).found ≡ b.foun
 left-found [] b = refl
 left-found (o ∷ os) b = refl
 
-pub jumped-stack : (a : Action) (line : ℕ) (b : Blocks) → (jumped a line b).stack ≡ b.stack
+pub jumped-stack : (a : Action) (line : ℕ) (b : Blocks) → (keep_jump a line b).stack ≡ b.stack
 jumped-stack (Goto l) line b = refl
 jumped-stack Return line b = refl
 jumped-stack Stop line b = refl
 jumped-stack Other line b = refl
 
-pub landed-stack : (label : Option ℕ) (b : Blocks) → (landed label b).stack ≡ b.stack
+pub landed-stack : (label : Option ℕ) (b : Blocks) → (add_landing label b).stack ≡ b.stack
 landed-stack None b = refl
 landed-stack (Some l) b = refl
 
@@ -66,16 +66,16 @@ landed-stack (Some l) b = refl
 pub down-found : (what : Sought) (os : List Open) (b : Blocks) → (down_to what os b).found ≡ None → b.found ≡ None
 down-found what [] b h = h
 down-found what (o ∷ os) b h =
-    either (λ x. x.found ≡ None → b.found ≡ None) (fits what o.kind) b (down_to what os (left_one o os (record b { found = unclosed o b.found })))
-    (λ e. e) (λ e. (noted-none _ _ _ _ (down-found what os (left_one o os (record b { found = unclosed o b.found })) e)).1) h
+    either (λ x. x.found ≡ None → b.found ≡ None) (fits what o.kind) b (down_to what os (left_one o os (record b { found = refuse_unclosed o b.found })))
+    (λ e. e) (λ e. (noted-none _ _ _ _ (down-found what os (left_one o os (record b { found = refuse_unclosed o b.found })) e)).1) h
 
 stray-none : (line : ℕ) (b : Blocks) → (stray line b).found ≡ None → ⊥
 stray-none line b h = true-false (noted-none true _ _ _ h).0
 
-pub divided-found : (next : Kind) (line : ℕ) (first : Option Open) (b : Blocks) → (divided next line first b).found ≡ None → b.found ≡ None
+pub divided-found : (next : Kind) (line : ℕ) (first : Option Open) (b : Blocks) → (next_arm next line first b).found ≡ None → b.found ≡ None
 divided-found next line None b h = absurd (stray-none line b h)
 divided-found next line (Some o) b h =
-    either (λ x. x.found ≡ None → b.found ≡ None) (is_else o.kind) (stray line b) (pushed next o.line (left b))
+    either (λ x. x.found ≡ None → b.found ≡ None) (is_else o.kind) (stray line b) (push_block next o.line (leave_innermost b))
     (λ e. absurd (stray-none line b e)) (λ e. sym (left-found b.stack b) ∙ e) h
 
 pub part-found : (next : Kind) (line : ℕ) (b : Blocks) → (part next line b).found ≡ None → b.found ≡ None
@@ -84,10 +84,10 @@ part-found next line b h =
     either (λ x. x.found ≡ None → b.found ≡ None) (within_if (first_of b.stack)) (divided_in next line x) (stray line b)
     (λ e. down-found sought.BlockIf b.stack b (divided-found next line (first_of x.stack) x e)) (λ e. absurd (stray-none line b e)) h
 
-pub ended-found : (what : Sought) (within : Bool) (line : ℕ) (b : Blocks) → (ended what within line b).found ≡ None → b.found ≡ None
+pub ended-found : (what : Sought) (within : Bool) (line : ℕ) (b : Blocks) → (end_block what within line b).found ≡ None → b.found ≡ None
 ended-found what within line b h =
     let x = down_to what b.stack b in
-    either (λ x. x.found ≡ None → b.found ≡ None) within (left x) (stray line b)
+    either (λ x. x.found ≡ None → b.found ≡ None) within (leave_innermost x) (stray line b)
     (λ e. down-found what b.stack b (sym (left-found x.stack x) ∙ e)) (λ e. absurd (stray-none line b e)) h
 
 -- ---- and without one the blocks are as they are to be
@@ -108,13 +108,13 @@ kept-if false x b h e = absurd (e h)
 pub down-calm : (what : Sought) (os : List Open) (b : Blocks) → Fresh os → (down_to what os b).found ≡ None → (down_to what os b ≡ b) × Fitting what os
 down-calm what [] b f h = (refl, tt)
 down-calm what (o ∷ os) b f h =
-    kept-if (fits what o.kind) (down_to what os (left_one o os (record b { found = unclosed o b.found }))) b h
-    (λ e. true-false (ap not (sym f) ∙ (noted-none _ _ _ _ (down-found what os (left_one o os (record b { found = unclosed o b.found })) e)).0))
+    kept-if (fits what o.kind) (down_to what os (left_one o os (record b { found = refuse_unclosed o b.found }))) b h
+    (λ e. true-false (ap not (sym f) ∙ (noted-none _ _ _ _ (down-found what os (left_one o os (record b { found = refuse_unclosed o b.found })) e)).0))
 
 pub record Divides (next : Kind) (line : ℕ) (o : Open) (b : Blocks) : Type 0 where
   pub is_if : is_if o.kind ≡ true
   pub is_else : is_else o.kind ≡ false
-  pub same : part next line b ≡ pushed next o.line (left b)
+  pub same : part next line b ≡ push_block next o.line (leave_innermost b)
 
 -- blocks of these parts
 abbrev pub blocks : ℕ → List Open → List Span → List Landing → List Jump → Option Refusal → Blocks
@@ -123,10 +123,10 @@ blocks place stack spans landings jumps found = record { place = place; stack = 
 pub part-none : (next : Kind) (line : ℕ) (b : Blocks) → b.stack ≡ [] → (part next line b).found ≡ None → ⊥
 part-none next line b e h = stray-none line b (sym (ap (λ s. (if within_if (first_of s) then divided_in next line (down_to sought.BlockIf b.stack b) else stray line b).found) e) ∙ h)
 
-divided-calm : (next : Kind) (line : ℕ) (o : Open) (b : Blocks) → (divided next line (Some o) b).found ≡ None → (is_else o.kind ≡ false) × (divided next line (Some o) b ≡ pushed next o.line (left b))
+divided-calm : (next : Kind) (line : ℕ) (o : Open) (b : Blocks) → (next_arm next line (Some o) b).found ≡ None → (is_else o.kind ≡ false) × (next_arm next line (Some o) b ≡ push_block next o.line (leave_innermost b))
 divided-calm next line o b h = by (is_else o.kind) h
   where
-    by : (v : Bool) → (if v then stray line b else pushed next o.line (left b)).found ≡ None → (v ≡ false) × ((if v then stray line b else pushed next o.line (left b)) ≡ pushed next o.line (left b))
+    by : (v : Bool) → (if v then stray line b else push_block next o.line (leave_innermost b)).found ≡ None → (v ≡ false) × ((if v then stray line b else push_block next o.line (leave_innermost b)) ≡ push_block next o.line (leave_innermost b))
     by true h = absurd (stray-none line b h)
     by false h = (refl, refl)
 
@@ -145,18 +145,18 @@ part-calm next line place o os spans landings jumps found f h =
     let c = divided-calm next line o b (sym (ap (λ y. (divided_in next line y).found) d.0) ∙ g) in
     record { is_if = d.1; is_else = c.0; same = e ∙ ap (divided_in next line) d.0 ∙ c.1 }
 
-pub ended-calm : (what : Sought) (within : Bool) (line : ℕ) (b : Blocks) → Fresh b.stack → (ended what within line b).found ≡ None
-    → (ended what within line b ≡ left b) × Fitting what b.stack
+pub ended-calm : (what : Sought) (within : Bool) (line : ℕ) (b : Blocks) → Fresh b.stack → (end_block what within line b).found ≡ None
+    → (end_block what within line b ≡ leave_innermost b) × Fitting what b.stack
 ended-calm what within line b f h =
     let x = down_to what b.stack b in
-    let e = within-calm within (left x) (stray line b) h (stray-none line b) in
+    let e = within-calm within (leave_innermost x) (stray line b) h (stray-none line b) in
     let d = down-calm what b.stack b f (sym (left-found x.stack x) ∙ sym (ap (λ y. y.found) e) ∙ h) in
-    (e ∙ ap left d.0, d.1)
+    (e ∙ ap leave_innermost d.0, d.1)
 
-pub entered-calm : (kind : Kind) (line : ℕ) (b : Blocks) → (entered kind line b).found ≡ None → (entered kind line b ≡ pushed kind line b) × (b.found ≡ None) × (nat_le 64 (length b.stack) ≡ false)
+pub entered-calm : (kind : Kind) (line : ℕ) (b : Blocks) → (enter_block kind line b).found ≡ None → (enter_block kind line b ≡ push_block kind line b) × (b.found ≡ None) × (nat_le 64 (length b.stack) ≡ false)
 entered-calm kind line b h =
     let n = noted-none _ _ _ _ h in
-    (ap (λ f. pushed kind line (record b { found = f })) (noted-same (nat_le 64 (length b.stack)) line TooDeep b.found h), n.1, n.0)
+    (ap (λ f. push_block kind line (record b { found = f })) (noted-same (nat_le 64 (length b.stack)) line TooDeep b.found h), n.1, n.0)
 
 -- ---- last statements
 

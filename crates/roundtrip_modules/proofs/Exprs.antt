@@ -150,16 +150,16 @@ factor-even I e n s h =
 term-even : (I : Inner) → Inside I → EvenExpr (grammar.term I)
 term-even I e = chain-even products (grammar.factor I) (factor-even I e)
 
-signed-even : (I : Inner) (op : UnaryOp) → Inside I → (n : ℕ) (s : State) → IsShallow n s.rest → Within (grammar.signed op I s) n (Level expr_text n)
-unfolding grammar.signed
+signed-even : (I : Inner) (op : UnaryOp) → Inside I → (n : ℕ) (s : State) → IsShallow n s.rest → Within (grammar.signed_terms op I s) n (Level expr_text n)
+unfolding grammar.signed_terms
 signed-even I op e n s h =
     then_read (grammar.term I) (Level expr_text) (λ t. Some (unary op t.0, t.1)) s n n (Level expr_text n) (term-even I e) h (λ t v i. (join (unary_leads n op) v, i))
 
 signed_term-even : (I : Inner) → Inside I → EvenExpr (grammar.signed_term I)
 unfolding grammar.signed_term
 signed_term-even I e n s h =
-    else_word (codes "+") s (grammar.signed Plus I) _ n n (Level expr_text n) h (λ r i. signed-even I Plus e n (record s { rest = r }) i)
-    (else_word (codes "-") s (grammar.signed Minus I) _ n n (Level expr_text n) h (λ r i. signed-even I Minus e n (record s { rest = r }) i) (term-even I e n s h))
+    else_word (codes "+") s (grammar.signed_terms Plus I) _ n n (Level expr_text n) h (λ r i. signed-even I Plus e n (record s { rest = r }) i)
+    (else_word (codes "-") s (grammar.signed_terms Minus I) _ n n (Level expr_text n) h (λ r i. signed-even I Minus e n (record s { rest = r }) i) (term-even I e n s h))
 
 arithmetic-even : (I : Inner) → Inside I → EvenExpr (grammar.arithmetic I)
 unfolding grammar.arithmetic

@@ -13,8 +13,8 @@ use Rattle.f77_structure.specs.declared.blocks.Blocks.{Blocks}
 use Rattle.f77_structure.specs.Lists.{first_of}
 use Rattle.f77_structure.specs.Opens.{ends_at, within_if, within_do}
 use Rattle.f77_structure.specs.Blocks as steps
-use Rattle.f77_structure.specs.Blocks.{left, pushed, landed, stood, jumped}
-use Rattle.f77_structure.specs.Steps.{part, ended, by_role}
+use Rattle.f77_structure.specs.Blocks.{leave_innermost, push_block, add_landing, take_executable, keep_jump}
+use Rattle.f77_structure.specs.Steps.{part, end_block, by_role}
 use Rattle.f77_parser.specs.Roles.{role_of, action_of}
 use Rattle.f77_parser.specs.SoFar.{AroundTree, SoFar, add_spot, add_executable, add_logical_if, open_block, leave_block, is_loop_to, leave_loops, end_loops_at, close_innermost, close_block}
 use Rattle.f77_parser.specs.Building.{divide_innermost, add_continue, add_phrase}
@@ -63,22 +63,22 @@ ended_by-stands at l (a ∷ xs) (o ∷ os) p b e f m s =
 
 -- a statement stands in the open list, and ends the DOs to its label
 stood-stands : (at : ℕ) (label : Option ℕ) (p : SoFar) (b : Blocks) (x : Outline) → Matches p.around b.stack → outline_so p ≡ lands label x → Shows at (at + 1) b x
-    → Stands at (stood label b) (end_loops_at label p)
-unfolding stood
+    → Stands at (take_executable label b) (end_loops_at label p)
+unfolding take_executable
 stood-stands at None p b x m e s = at-outline b.stack at (at + 1) (at + 1) b x (outline_so p) (sym e) s
 stood-stands at (Some l) p b x m e s =
-    let c = landed (Some l) b in
+    let c = add_landing (Some l) b in
     ended_by-stands at l p.around b.stack p c refl refl m
     (at-outline b.stack at (at + 1) (at + 1) c (lands (Some l) x) (outline_so p) (sym e) (lands-shown (Some l) at (at + 1) (at + 1) b x s))
 
 simply-stands : (at : ℕ) (label : Option ℕ) (a : Action) (line : ℕ) (p q : SoFar) (b : Blocks) → Matches q.around b.stack → outline_so q ≡ lands label (goes a (outline_so p))
-    → Before at b (outline_so p) → Stands at (stood label (jumped a line b)) (end_loops_at label q)
+    → Before at b (outline_so p) → Stands at (take_executable label (keep_jump a line b)) (end_loops_at label q)
 simply-stands at label a line p q b m e s =
-    let c = jumped a line b in
+    let c = keep_jump a line b in
     stood-stands at label q c (goes a (outline_so p)) (on-stack q.around b.stack c.stack (sym (jumped-stack a line b)) m) e
     (standing.on-stack b.stack c.stack at (at + 1) (at + 1) c (goes a (outline_so p)) (sym (jumped-stack a line b)) (goes-shown a line at b (outline_so p) s))
 
-continued-stands : (at f l : ℕ) (cs : List (List ℕ)) (p : SoFar) (b : Blocks) → Matches p.around b.stack → Stands at b p → Stands at (stood (Some l) b) (add_continue f l cs p)
+continued-stands : (at f l : ℕ) (cs : List (List ℕ)) (p : SoFar) (b : Blocks) → Matches p.around b.stack → Stands at b p → Stands at (take_executable (Some l) b) (add_continue f l cs p)
 unfolding add_executable add_spot
 continued-stands at f l cs p b m s =
     stood-stands at (Some l) (add_executable f (Some l) cs continue p) b (outline_so p) m (stated-outline f (Some l) cs continue p (λ label o. refl)) s
@@ -94,22 +94,22 @@ closed-from-stands at f cs (a ∷ xs) [] p b e g m s = absurd m
 closed-from-stands at f cs (a ∷ xs) (o ∷ os) p b e g m s = left-stands at (at + 1) a xs o os p b (le_refl (at + 1)) s
 
 closed-stands : (at : ℕ) (what : Sought) (within : Bool) (line f : ℕ) (cs : List (List ℕ)) (p : SoFar) (b : Blocks) → Matches p.around b.stack → Stands at b p
-    → (ended what within line b).found ≡ None → Stands at (ended what within line b) (close_block f cs p)
+    → (end_block what within line b).found ≡ None → Stands at (end_block what within line b) (close_block f cs p)
 closed-stands at what within line f cs p b m s h =
     let c = ended-calm what within line b (fresh-matched p.around b.stack m) h in
-    at-blocks at (at + 1) (left b) (ended what within line b) (outline_so (close_block f cs p)) (sym c.0)
+    at-blocks at (at + 1) (leave_innermost b) (end_block what within line b) (outline_so (close_block f cs p)) (sym c.0)
     (closed-from-stands at f cs p.around b.stack p b refl refl m s)
 
-entered-stands : (at : ℕ) (kind : Kind) (line : ℕ) (label : Option ℕ) (x : Outline) (b : Blocks) → (steps.entered kind line (landed label b)).found ≡ None → Before at b x
-    → Shows at (at + 1) (steps.entered kind line (landed label b)) (begins (lands label x))
+entered-stands : (at : ℕ) (kind : Kind) (line : ℕ) (label : Option ℕ) (x : Outline) (b : Blocks) → (steps.enter_block kind line (add_landing label b)).found ≡ None → Before at b x
+    → Shows at (at + 1) (steps.enter_block kind line (add_landing label b)) (begins (lands label x))
 entered-stands at kind line label x b h s =
-    let c = landed label b in let d = pushed kind line c in
-    at-blocks at (at + 1) d (steps.entered kind line c) (begins (lands label x)) (sym (entered-calm kind line c h).0)
+    let c = add_landing label b in let d = push_block kind line c in
+    at-blocks at (at + 1) d (steps.enter_block kind line c) (begins (lands label x)) (sym (entered-calm kind line c h).0)
     (later d.stack at at (at + 1) (at + 1) (at + 1) d (begins (lands label x))
     (begins-shown kind line at at c (lands label x) (le_refl at) (landed-as label (lands-shown label at at (at + 1) b x (begun at at b x s (le_refl at)))))
     (omega arith) (le_refl (at + 1)))
   where
-    landed-as : (label : Option ℕ) → ShowsIn b.stack at at (at + 1) (landed label b) (lands label x) → Shows at at (landed label b) (lands label x)
+    landed-as : (label : Option ℕ) → ShowsIn b.stack at at (at + 1) (add_landing label b) (lands label x) → Shows at at (add_landing label b) (lands label x)
     landed-as None t = t
     landed-as (Some l) t = t
 
@@ -123,7 +123,7 @@ divided-stands at next line f cs test (a ∷ xs) (o ∷ os) p b e g m d h s =
     let same : c ≡ b = ap (λ y. record b { stack = y }) (sym g) in
     let t = part-calm next line b.place o os b.spans b.landings b.jumps b.found m.fresh (ap (λ y. (part next line y).found) same ∙ h) in
     let left-c = steps.left_one o os c in
-    let now = pushed next o.line left-c in
+    let now = push_block next o.line left-c in
     let x = outline_with (a ∷ xs) p in
     let q = divide_innermost (a ∷ xs) f cs test p in
     let first = begun at at b (outline_so p) s (le_refl at) in
@@ -153,29 +153,29 @@ phrase-stands at f label cs (else_if e) line p b i m h s =
 phrase-stands at f label cs else_part line p b i m h s =
     divided-stands at Else line f cs None p.around b.stack p b refl refl m (phrase-matched f label cs else_part line p b m h).may h s
 phrase-stands at f None cs end_if line p b i m h s =
-    let x = ended sought.BlockIf (within_if (first_of b.stack)) line b in
+    let x = end_block sought.BlockIf (within_if (first_of b.stack)) line b in
     let g = sym (stood-found None x) ∙ h in
     stood-stands at None (close_block f cs p) x (outline_so (close_block f cs p)) (closed-matched sought.BlockIf (within_if (first_of b.stack)) line f cs p b m g) refl
     (closed-stands at sought.BlockIf (within_if (first_of b.stack)) line f cs p b m (begun at (at + 1) b (outline_so p) s (omega arith)) g)
 phrase-stands at f (Some l) cs end_if line p b i m h s =
-    let x = ended sought.BlockIf (within_if (first_of b.stack)) line b in
+    let x = end_block sought.BlockIf (within_if (first_of b.stack)) line b in
     let g = sym (stood-found (Some l) x) ∙ h in
     continued-stands at f l [] (close_block f cs p) x (closed-matched sought.BlockIf (within_if (first_of b.stack)) line f cs p b m g)
     (closed-stands at sought.BlockIf (within_if (first_of b.stack)) line f cs p b m (begun at (at + 1) b (outline_so p) s (omega arith)) g)
 phrase-stands at f label cs (do_head d) line p b i m h s = entered-stands at (Do d.label) line label (outline_so p) b h s
 phrase-stands at f None cs end_do line p b i m h s =
-    let x = stood None b in
+    let x = take_executable None b in
     closed-stands at sought.PlainDo (within_do (first_of x.stack)) line f cs p x (stood-matched None p b m)
     (stood-stands at None p b (outline_so p) m refl (begun at (at + 1) b (outline_so p) s (omega arith))) h
 phrase-stands at f (Some l) cs end_do line p b i m h s =
-    let x = stood (Some l) b in
+    let x = take_executable (Some l) b in
     closed-stands at sought.PlainDo (within_do (first_of x.stack)) line f [] (add_continue f l cs p) x (continued-matched f l cs p b m)
     (continued-stands at f l cs p b m (begun at (at + 1) b (outline_so p) s (omega arith))) h
 phrase-stands at f None cs end_module line p b i m h s =
-    let x = stood None b in
+    let x = take_executable None b in
     at-blocks at (at + 1) x (steps.down_to sought.Neither x.stack x) (outline_so p) (sym (module-closed p x (stood-matched None p b m) h).1)
     (stood-stands at None p b (outline_so p) m refl (begun at (at + 1) b (outline_so p) s (omega arith)))
 phrase-stands at f (Some l) cs end_module line p b i m h s =
-    let x = stood (Some l) b in
+    let x = take_executable (Some l) b in
     at-blocks at (at + 1) x (steps.down_to sought.Neither x.stack x) (outline_so (add_continue f l cs p)) (sym (module-closed (add_continue f l cs p) x (continued-matched f l cs p b m) h).1)
     (continued-stands at f l cs p b m (begun at (at + 1) b (outline_so p) s (omega arith)))

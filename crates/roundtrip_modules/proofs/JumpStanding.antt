@@ -9,7 +9,7 @@ use Rattle.f77_structure.specs.declared.open.End.TheVariants as ends
 use Rattle.f77_structure.specs.declared.blocks.Blocks.{Blocks}
 use Rattle.f77_structure.specs.declared.blocks.Landing.{Landing}
 use Rattle.f77_structure.specs.Lists.{first_of}
-use Rattle.f77_structure.specs.Blocks.{left_one, pushed, list_at, landed, jumped}
+use Rattle.f77_structure.specs.Blocks.{left_one, push_block, list_at, add_landing, keep_jump}
 use Rattle.f77_structure.proofs.Places.{more-last}
 use Rattle.roundtrip_modules.proofs.Outlines.{Outline, innermost, outer, lands, goes, begins, leaves}
 use Rattle.roundtrip_modules.proofs.Shown.{path_of, Within, span, ShowsIn, Before, Shows, ended-before, ended-behind, begun-before, begun-behind, new-list, ended-open, begun-open, kept-at, kept-more}
@@ -44,7 +44,7 @@ list-same : (os : List Open) → list_at (first_of os) ≡ innermost (path_of os
 list-same [] = refl
 list-same (o ∷ os) = refl
 
-pub lands-shown : (label : Option ℕ) (at n m : ℕ) (b : Blocks) (x : Outline) → ShowsIn b.stack at n m b x → ShowsIn b.stack at n m (landed label b) (lands label x)
+pub lands-shown : (label : Option ℕ) (at n m : ℕ) (b : Blocks) (x : Outline) → ShowsIn b.stack at n m b x → ShowsIn b.stack at n m (add_landing label b) (lands label x)
 lands-shown None at n m b x s = s
 lands-shown (Some l) at n m b x s =
     let one = λ (k : ℕ). (let new : Landing = record { label = l; list = k } in new ∷ []) in
@@ -58,7 +58,7 @@ lands-shown (Some l) at n m b x s =
       now = s.now;
     }
 
-pub goes-shown : (a : Action) (line at : ℕ) (b : Blocks) (x : Outline) → Before at b x → ShowsIn b.stack at (at + 1) (at + 1) (jumped a line b) (goes a x)
+pub goes-shown : (a : Action) (line at : ℕ) (b : Blocks) (x : Outline) → Before at b x → ShowsIn b.stack at (at + 1) (at + 1) (keep_jump a line b) (goes a x)
 goes-shown Return line at b x s = begun at (at + 1) b x s (omega arith)
 goes-shown Stop line at b x s = begun at (at + 1) b x s (omega arith)
 goes-shown Other line at b x s = begun at (at + 1) b x s (omega arith)
@@ -91,7 +91,7 @@ leaves-shown o os at n b x l s = record {
   now = λ q h. ended-behind b.spans o.list o.from b.place q (path_of os) s.stack.own (omega (arith, s.place)) s.stack.other (s.now q h);
 }
 
-pub begins-shown : (kind : Kind) (line at n : ℕ) (b : Blocks) (x : Outline) → n ≤ at → Shows at n b x → Shows at n (pushed kind line b) (begins x)
+pub begins-shown : (kind : Kind) (line at n : ℕ) (b : Blocks) (x : Outline) → n ≤ at → Shows at n b x → Shows at n (push_block kind line b) (begins x)
 begins-shown kind line at n b x l s =
     let new = span b.place ends.Open in
     record {

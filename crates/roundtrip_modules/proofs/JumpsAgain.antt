@@ -11,7 +11,7 @@ use Rattle.f77_structure.specs.declared.blocks.Landing.{Landing}
 use Rattle.f77_structure.specs.Opens.{contains}
 use Rattle.f77_structure.specs.Jumps.{all_judged, block_fault}
 use Rattle.f77_structure.specs.Checks.{fault_of}
-use Rattle.f77_structure.specs.Steps.{by_role, stepped, all_stepped, nothing_open, blocks_of}
+use Rattle.f77_structure.specs.Steps.{by_role, take_statement, all_stepped, nothing_open, blocks_of}
 use Rattle.f77_parser.specs.Roles.{role_of}
 use Rattle.f77_parser.specs.Statements.{StatementTree, mark_of, marks_of}
 use Rattle.f77_parser.specs.SoFar.{AroundTree, SoFar}
@@ -48,7 +48,7 @@ all-stand : (ss : List StatementTree) (at : ℕ) (p : SoFar) (b : Blocks) → Ea
     → (all_stepped at (marks_of ss) b).found ≡ None → Shown (all_stepped at (marks_of ss) b) (outline_so (add_all ss p))
 all-stand [] at p b i m s h = record { at = at; shown = s }
 all-stand (x ∷ ss) at p b i m s h =
-    let next = stepped at (mark_of x) b in
+    let next = take_statement at (mark_of x) b in
     let here = record b { place = at } in
     let after = by_role (role_of x.phrase) x.label x.first here in
     let e = all-found (at + 1) (marks_of ss) next h in

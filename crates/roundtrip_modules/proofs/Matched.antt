@@ -14,8 +14,8 @@ use Rattle.f77_structure.specs.Lists.{first_of}
 use Rattle.f77_structure.specs.Opens.{ends_at, is_if, within_if, within_do}
 use Rattle.f77_structure.specs.Opens as opens
 use Rattle.f77_structure.specs.Blocks as steps
-use Rattle.f77_structure.specs.Blocks.{left, landed, stood, jumped}
-use Rattle.f77_structure.specs.Steps.{is_else, part, ended, by_role}
+use Rattle.f77_structure.specs.Blocks.{leave_innermost, add_landing, take_executable, keep_jump}
+use Rattle.f77_structure.specs.Steps.{is_else, part, end_block, by_role}
 use Rattle.f77_parser.specs.Roles.{role_of, action_of}
 use Rattle.f77_parser.specs.SoFar.{OpeningTree, opening_loop, branches, AroundTree, SoFar, add_spot, add_executable, add_logical_if, open_block, leave_block, is_label, is_loop_to, leave_loops, end_loops_at, close_innermost, close_block}
 use Rattle.f77_parser.specs.Building.{close_arm, divide_innermost, add_continue, add_phrase}
@@ -73,12 +73,12 @@ ended_by-matched l (a ∷ xs) (o ∷ os) p b e f m =
     (on-around b.stack (a ∷ xs) p.around (sym e) (on-stack (a ∷ xs) (o ∷ os) b.stack (sym f) m))
 
 -- a statement that stands in the open list, and ends the DOs to its label
-pub stood-matched : (label : Option ℕ) (p : SoFar) (b : Blocks) → Matches p.around b.stack → Matches (end_loops_at label p).around (stood label b).stack
-unfolding stood
+pub stood-matched : (label : Option ℕ) (p : SoFar) (b : Blocks) → Matches p.around b.stack → Matches (end_loops_at label p).around (take_executable label b).stack
+unfolding take_executable
 stood-matched None p b m = m
-stood-matched (Some l) p b m = ended_by-matched l p.around b.stack p (landed (Some l) b) refl refl m
+stood-matched (Some l) p b m = ended_by-matched l p.around b.stack p (add_landing (Some l) b) refl refl m
 
-pub continued-matched : (f l : ℕ) (cs : List (List ℕ)) (p : SoFar) (b : Blocks) → Matches p.around b.stack → Matches (add_continue f l cs p).around (stood (Some l) b).stack
+pub continued-matched : (f l : ℕ) (cs : List (List ℕ)) (p : SoFar) (b : Blocks) → Matches p.around b.stack → Matches (add_continue f l cs p).around (take_executable (Some l) b).stack
 unfolding add_executable add_spot
 continued-matched f l cs p b m = stood-matched (Some l) (add_executable f (Some l) cs continue p) b m
 
@@ -91,16 +91,16 @@ closed-from-matched (a ∷ xs) [] f cs p b e g m = absurd m
 closed-from-matched (a ∷ xs) (o ∷ os) f cs p b e g m = m.outer
 
 pub closed-matched : (what : Sought) (within : Bool) (line f : ℕ) (cs : List (List ℕ)) (p : SoFar) (b : Blocks) → Matches p.around b.stack
-    → (ended what within line b).found ≡ None → Matches (close_block f cs p).around (ended what within line b).stack
+    → (end_block what within line b).found ≡ None → Matches (close_block f cs p).around (end_block what within line b).stack
 closed-matched what within line f cs p b m h =
     let c = ended-calm what within line b (fresh-matched p.around b.stack m) h in
-    on-stack (close_block f cs p).around (left b).stack (ended what within line b).stack (ap (λ x. x.stack) (sym c.0))
+    on-stack (close_block f cs p).around (leave_innermost b).stack (end_block what within line b).stack (ap (λ x. x.stack) (sym c.0))
     (closed-from-matched p.around b.stack f cs p b refl refl m)
 
 entered-matched : (kind : Kind) (line f : ℕ) (label : Option ℕ) (cs : List (List ℕ)) (o : OpeningTree) (p : SoFar) (b : Blocks) → kind_of o ≡ kind → Matches p.around b.stack
-    → Matches (open_block f label cs o p).around (steps.entered kind line (landed label b)).stack
+    → Matches (open_block f label cs o p).around (steps.enter_block kind line (add_landing label b)).stack
 unfolding open_block add_spot
-entered-matched kind line f label cs o p b e m = record { kind = e; fresh = refl; outer = on-stack p.around b.stack (landed label b).stack (sym (landed-stack label b)) m }
+entered-matched kind line f label cs o p b e m = record { kind = e; fresh = refl; outer = on-stack p.around b.stack (add_landing label b).stack (sym (landed-stack label b)) m }
 
 -- ---- parts
 
@@ -132,7 +132,7 @@ divided-matched line f cs test (a ∷ xs) (o ∷ os) p b e m h =
     let same : c ≡ b = ap (λ s. record b { stack = s }) (sym e) in
     let d = part-calm (next_kind test) line b.place o os b.spans b.landings b.jumps b.found m.fresh (ap (λ x. (part (next_kind test) line x).found) same ∙ h) in
     let out = (divide_innermost (a ∷ xs) f cs test p).around in
-    let now = (steps.pushed (next_kind test) o.line (left c)).stack in
+    let now = (steps.push_block (next_kind test) o.line (leave_innermost c)).stack in
     record {
       may = open-if a.opening o.kind m.kind d.is_if d.is_else;
       matched = on-stack out now (part (next_kind test) line b).stack (sym (ap (λ x. x.stack) d.same) ∙ ap (λ x. (part (next_kind test) line x).stack) same)
@@ -145,8 +145,8 @@ pub record Turned (f : ℕ) (label : Option ℕ) (cs : List (List ℕ)) (phrase 
   pub may : Allowed phrase p.around
   pub matched : Matches (add_phrase f label cs phrase p).around (by_role (role_of phrase) label line b).stack
 
-simply-matched : (label : Option ℕ) (a : Action) (line : ℕ) (p : SoFar) (b : Blocks) → Matches p.around b.stack → Matches (end_loops_at label p).around (stood label (jumped a line b)).stack
-simply-matched label a line p b m = stood-matched label p (jumped a line b) (on-stack p.around b.stack (jumped a line b).stack (sym (jumped-stack a line b)) m)
+simply-matched : (label : Option ℕ) (a : Action) (line : ℕ) (p : SoFar) (b : Blocks) → Matches p.around b.stack → Matches (end_loops_at label p).around (take_executable label (keep_jump a line b)).stack
+simply-matched label a line p b m = stood-matched label p (keep_jump a line b) (on-stack p.around b.stack (keep_jump a line b).stack (sym (jumped-stack a line b)) m)
 
 -- nothing is open at the end
 closed-none : (xs : List AroundTree) (os : List Open) → Matches xs os → Fitting sought.Neither os → xs ≡ []
@@ -175,18 +175,18 @@ phrase-matched f label cs (else_if e) line p b m h =
 phrase-matched f label cs else_part line p b m h =
     let d = divided-matched line f cs None p.around b.stack p b refl m h in record { may = d.may; matched = d.matched }
 phrase-matched f None cs end_if line p b m h =
-    let x = ended sought.BlockIf (within_if (first_of b.stack)) line b in
+    let x = end_block sought.BlockIf (within_if (first_of b.stack)) line b in
     record { may = tt; matched = stood-matched None (close_block f cs p) x (closed-matched sought.BlockIf (within_if (first_of b.stack)) line f cs p b m (sym (stood-found None x) ∙ h)) }
 phrase-matched f (Some l) cs end_if line p b m h =
-    let x = ended sought.BlockIf (within_if (first_of b.stack)) line b in
+    let x = end_block sought.BlockIf (within_if (first_of b.stack)) line b in
     record { may = tt; matched = continued-matched f l [] (close_block f cs p) x (closed-matched sought.BlockIf (within_if (first_of b.stack)) line f cs p b m (sym (stood-found (Some l) x) ∙ h)) }
 phrase-matched f label cs (do_head d) line p b m h = record { may = tt; matched = entered-matched (Do d.label) line f label cs (opening_loop d) p b refl m }
 phrase-matched f None cs end_do line p b m h =
-    let x = stood None b in
+    let x = take_executable None b in
     record { may = tt; matched = closed-matched sought.PlainDo (within_do (first_of x.stack)) line f cs p x (stood-matched None p b m) h }
 phrase-matched f (Some l) cs end_do line p b m h =
-    let x = stood (Some l) b in
+    let x = take_executable (Some l) b in
     record { may = tt; matched = closed-matched sought.PlainDo (within_do (first_of x.stack)) line f [] (add_continue f l cs p) x (continued-matched f l cs p b m) h }
-phrase-matched f None cs end_module line p b m h = record { may = tt; matched = module-matched p (stood None b) (stood-matched None p b m) h }
+phrase-matched f None cs end_module line p b m h = record { may = tt; matched = module-matched p (take_executable None b) (stood-matched None p b m) h }
 phrase-matched f (Some l) cs end_module line p b m h =
-    record { may = tt; matched = module-matched (add_continue f l cs p) (stood (Some l) b) (continued-matched f l cs p b m) h }
+    record { may = tt; matched = module-matched (add_continue f l cs p) (take_executable (Some l) b) (continued-matched f l cs p b m) h }

@@ -8,7 +8,7 @@ use Rattle.f77_statements.specs.Phrases as phrases
 use Rattle.f77_structure.specs.declared.open.Kind.TheVariants as kinds
 use Rattle.f77_structure.specs.declared.open.Open.{Open}
 use Rattle.f77_structure.specs.declared.blocks.Blocks.{Blocks}
-use Rattle.f77_structure.specs.Blocks.{landed}
+use Rattle.f77_structure.specs.Blocks.{add_landing}
 use Rattle.f77_structure.specs.Steps.{by_role}
 use Rattle.f77_parser.specs.Roles.{role_of}
 use Rattle.f77_parser.specs.SoFar.{OpeningTree, opening_loop, branches, AroundTree, SoFar, add_spot, add_executable, add_logical_if, open_block, what_of, leave_block, is_loop_to, leave_loops, end_loops_at, close_innermost, close_block}
@@ -135,7 +135,7 @@ same-length (a ∷ xs) [] m = absurd m
 same-length (a ∷ xs) (o ∷ os) m = ap suc (same-length xs os m.outer)
 
 -- a block that is entered without a fault has room
-roomy : (label : Option ℕ) (p : SoFar) (b : Blocks) → Matches p.around b.stack → nat_le 64 (length (landed label b).stack) ≡ false → HasRoom (length p.around)
+roomy : (label : Option ℕ) (p : SoFar) (b : Blocks) → Matches p.around b.stack → nat_le 64 (length (add_landing label b).stack) ≡ false → HasRoom (length p.around)
 roomy label p b m h = ap (nat_le 64) (same-length p.around b.stack m ∙ ap length (sym (landed-stack label b))) ∙ h
 
 pub phrase-nests : (f : ℕ) (label : Option ℕ) (cs : List (List ℕ)) (phrase : PhraseTree) (line : ℕ) (p : SoFar) (b : Blocks) → IsPhrase phrase → Matches p.around b.stack
@@ -147,13 +147,13 @@ phrase-nests f label cs (specification x) line p b i m h c = record { around = c
 phrase-nests f label cs (simple w) line p b i m h c = ended_at-nests label (add_executable f label cs w p) (stated-nests f label cs w p i c)
 phrase-nests f label cs (phrases.logical_if e w) line p b i m h c = ended_at-nests label (add_logical_if f label cs e w p) (conditioned-nests f label cs e w p c)
 phrase-nests f label cs (phrases.block_if e) line p b i m h c =
-    entered-nests f label cs (branches [] (Some e)) p tt (roomy label p b m (entered-calm kinds.If line (landed label b) h).2) c
+    entered-nests f label cs (branches [] (Some e)) p tt (roomy label p b m (entered-calm kinds.If line (add_landing label b) h).2) c
 phrase-nests f label cs (else_if e) line p b i m h c = divided-nests p.around f cs (Some e) p refl c
 phrase-nests f label cs else_part line p b i m h c = divided-nests p.around f cs None p refl c
 phrase-nests f None cs end_if line p b i m h c = closed-nests f cs p c
 phrase-nests f (Some l) cs end_if line p b i m h c = continued-nests f l [] (close_block f cs p) (closed-nests f cs p c)
 phrase-nests f label cs (do_head d) line p b i m h c =
-    entered-nests f label cs (opening_loop d) p tt (roomy label p b m (entered-calm (kinds.Do d.label) line (landed label b) h).2) c
+    entered-nests f label cs (opening_loop d) p tt (roomy label p b m (entered-calm (kinds.Do d.label) line (add_landing label b) h).2) c
 phrase-nests f None cs end_do line p b i m h c = closed-nests f cs p c
 phrase-nests f (Some l) cs end_do line p b i m h c = closed-nests f [] (add_continue f l cs p) (continued-nests f l cs p c)
 phrase-nests f None cs end_module line p b i m h c = record { around = c.around; list = c.list }

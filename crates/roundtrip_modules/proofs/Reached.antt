@@ -8,7 +8,7 @@ use Rattle.f77_structure.specs.declared.open.Span.{Span}
 use Rattle.f77_structure.specs.declared.blocks.Landing.{Landing}
 use Rattle.f77_structure.specs.declared.blocks.Jump.{Jump}
 use Rattle.refusal_codes.specs.Refusals.{refuse_if}
-use Rattle.f77_structure.specs.Jumps.{stands, reaches, judged, all_judged}
+use Rattle.f77_structure.specs.Jumps.{stands, reaches, check_jump, all_judged}
 use Rattle.roundtrip_statements.specs.Formed.{Each}
 use Rattle.roundtrip_modules.proofs.Calm.{true-false, noted-none}
 use Rattle.roundtrip_modules.proofs.Steady.{judged-found}
@@ -42,7 +42,7 @@ judged-reach n spans landings [] [] found k h = tt
 judged-reach n spans landings [] (g ∷ gs) found k h = absurd k
 judged-reach n spans landings (j ∷ js) [] found k h = absurd k
 judged-reach n spans landings (j ∷ js) (g ∷ gs) found k h =
-    let next = judged spans landings j found in
+    let next = check_jump spans landings j found in
     let t = judged-by (stands landings j.label) (reaches spans landings j) j.line found (judged-found spans landings js next h) in
     record {
       first = record {

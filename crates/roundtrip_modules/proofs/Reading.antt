@@ -7,8 +7,8 @@ use Rattle.f77_structure.specs.declared.mark.Mark.{Mark}
 use Rattle.f77_structure.specs.declared.order.Order.{Order}
 use Rattle.f77_structure.specs.declared.blocks.Blocks.{Blocks}
 use Rattle.f77_structure.specs.Marks.{statements_in, label_in, returns_in, is_return}
-use Rattle.f77_structure.specs.Order.{is_main_after, is_out_of_order, has_label, labelled, passes_most, counted, ordered, all_ordered, nothing_ordered}
-use Rattle.f77_structure.specs.Steps.{stepped, all_stepped}
+use Rattle.f77_structure.specs.Order.{is_main_after, is_out_of_order, has_label, keep_label, passes_most, counted, check_next, all_ordered, nothing_ordered}
+use Rattle.f77_structure.specs.Steps.{take_statement, all_stepped}
 use Rattle.f77_parser.specs.Roles.{role_of, action_of}
 use Rattle.f77_parser.specs.Statements.{StatementTree, mark_of, marks_of}
 use Rattle.f77_parser.specs.declared.progress.Heading.{Heading}
@@ -43,7 +43,7 @@ pub record Passes (label : Option ℕ) (m : Mark) (o : Order) (next : Order) : T
   pub main : next.main ≡ is_main_after o.begun o.main m.role
   pub begun : next.begun ≡ true
 
-passes-by : (label : Option ℕ) (m : Mark) (o : Order) → (counted m (labelled m.line label o)).found ≡ None → Passes label m o (counted m (labelled m.line label o))
+passes-by : (label : Option ℕ) (m : Mark) (o : Order) → (counted m (keep_label m.line label o)).found ≡ None → Passes label m o (counted m (keep_label m.line label o))
 passes-by None m o h =
     let x = noted-none _ _ _ _ h in let y = noted-none _ _ _ _ x.1 in let z = noted-none _ _ _ _ y.1 in
     record { before = z.1; few = x.0; order = y.0; unused = tt; labels = sym (append-nil o.labels); count = refl; main = refl; begun = refl }
@@ -51,13 +51,13 @@ passes-by (Some l) m o h =
     let x = noted-none _ _ _ _ h in let y = noted-none _ _ _ _ x.1 in let z = noted-none _ _ _ _ y.1 in let u = noted-none _ _ _ _ z.1 in
     record { before = u.1; few = x.0; order = y.0; unused = u.0; labels = refl; count = refl; main = refl; begun = refl }
 
-passes : (m : Mark) (o : Order) → (ordered m o).found ≡ None → Passes (label_in m) m o (ordered m o)
-unfolding ordered
+passes : (m : Mark) (o : Order) → (check_next m o).found ≡ None → Passes (label_in m) m o (check_next m o)
+unfolding check_next
 passes m o h = passes-by (label_in m) m o h
 
 order-found : (ms : List Mark) (o : Order) → (all_ordered ms o).found ≡ None → o.found ≡ None
 order-found [] o h = h
-order-found (m ∷ ms) o h = (passes m o (order-found ms (ordered m o) h)).before
+order-found (m ∷ ms) o h = (passes m o (order-found ms (check_next m o) h)).before
 
 -- ---- main programs
 
@@ -106,7 +106,7 @@ still-new : (label : Option ℕ) (o : Order) → AreNew [] o.labels → IsUnused
 still-new None o a u = let P : List ℕ → Type 0 = λ x. AreNew [] x in subst P (sym (append-nil o.labels)) a
 still-new (Some l) o a u = one-new [] o.labels l a u
 
-one-ordered : (s : StatementTree) (p q : SoFar) (o : Order) → AddsBy s.phrase s.label p q → Orders p o → (ordered (mark_of s) o).found ≡ None → Orders q (ordered (mark_of s) o)
+one-ordered : (s : StatementTree) (p q : SoFar) (o : Order) → AddsBy s.phrase s.label p q → Orders p o → (check_next (mark_of s) o).found ≡ None → Orders q (check_next (mark_of s) o)
 one-ordered s p q o a g h =
     let m = mark_of s in let x = passes m o h in
     let t = stays-main s.phrase o.begun o.main o.count p.heading x.order g.main g.unbegun in
@@ -131,12 +131,12 @@ pub all-ordered : (ss : List StatementTree) (place : ℕ) (p : SoFar) (b : Block
     → (all_stepped place (marks_of ss) b).found ≡ None → Orders p o → (all_ordered (marks_of ss) o).found ≡ None → Orders (add_all ss p) (all_ordered (marks_of ss) o)
 all-ordered [] place p b o i g f r h = r
 all-ordered (s ∷ ss) place p b o i g f r h =
-    let next = stepped place (mark_of s) b in
+    let next = take_statement place (mark_of s) b in
     let e = all-found (place + 1) (marks_of ss) next f in
     let c = step-calm place (mark_of s) b e in
     let t = phrase-matched s.first s.label s.comments s.phrase s.first p (record b { place = place }) g.matched (sym (ap (λ x. x.found) c.same) ∙ e) in
     let a = phrase-adds s.first s.label s.comments s.phrase p i.first t.may r.started in
-    let then = ordered (mark_of s) o in
+    let then = check_next (mark_of s) o in
     all-ordered ss (place + 1) (add_statement s p) next then i.others (one-goes s place p b i.first g e) f
     (one-ordered s p (add_statement s p) o a r (order-found (marks_of ss) then h)) h
 

@@ -12,7 +12,7 @@ use Rattle.f77_structure.specs.declared.open.Kind.TheVariants as kinds
 use Rattle.f77_structure.specs.declared.open.Open.{Open}
 use Rattle.f77_structure.specs.declared.blocks.Blocks.{Blocks}
 use Rattle.f77_structure.specs.Opens.{ends_at}
-use Rattle.f77_structure.specs.Steps.{stepped}
+use Rattle.f77_structure.specs.Steps.{take_statement}
 use Rattle.roundtrip_modules.specs.Cards.{Card, card, head_of, cards_of, cards_by, part_cards, else_cards, cards_in}
 use Rattle.roundtrip_modules.specs.Shallow.{IsShallow, ShallowBelow, ShallowArms, ShallowElse, AreShallow}
 use Rattle.roundtrip_modules.proofs.Stepping.{mark_at, all_set, Unlabelled, Stays, Within, Around, unlabelled-at, simply-set, within-set, enters, close-do, close-if, close-else, next-if, next-else}
@@ -20,7 +20,7 @@ use Rattle.roundtrip_modules.proofs.Stepping.{mark_at, all_set, Unlabelled, Stay
 -- what holds behind these and those, wherever those stand
 pub set-append : (P : Blocks → Type 0) (f : ℕ → ℕ) (place : ℕ) (xs ys : List Card) (b : Blocks) → ((q : ℕ) → P (all_set f q ys (all_set f place xs b))) → P (all_set f place (xs ++ ys) b)
 set-append P f place [] ys b h = h place
-set-append P f place (x ∷ xs) ys b h = set-append P f (place + 1) xs ys (stepped place (mark_at f place x) b) h
+set-append P f place (x ∷ xs) ys b h = set-append P f (place + 1) xs ys (take_statement place (mark_at f place x) b) h
 
 -- no label ends a block of this kind
 abbrev IsPlain : Kind → Type 0
@@ -36,7 +36,7 @@ moved : (k : Kind) (os : List Open) (found : Option Refusal) (c d : Blocks) → 
 moved k os found c d w s = record { top = w.top; kind = w.kind; stack = s.stack ∙ w.stack; same = s.found ∙ w.same }
 
 mutual
-  unfolding stepped
+  unfolding take_statement
 
   stmt_set : (f : ℕ → ℕ) (place : ℕ) (s : StmtTree) (b : Blocks) → Unlabelled b.stack → IsShallow (length b.stack) s → Stays b (all_set f place (cards_of s) b)
   stmt_set f place (stmt id label w) b u h = what_set f place id label w b u h
@@ -45,7 +45,7 @@ mutual
   what_set f place id label (assign v e) b u h = simply-set f place (parts.Stmt id) label (assign v e) b u
   what_set f place id label (trees.block_if no_arms other) b u h = record { stack = refl; found = refl }
   what_set f place id label (trees.block_if (more_arms (arm test body) others) other) b u h =
-      let c = stepped place (mark_at f place (card (parts.Stmt id) label (block_if test))) b in
+      let c = take_statement place (mark_at f place (card (parts.Stmt id) label (block_if test))) b in
       let w = enters kinds.If roles.BlockIf label (f place) place b refl u h.room in
       let end = else_cards id other ++ card (parts.Close id) None end_if ∷ [] in
       let a = set-append (Around b.stack b.found) f (place + 1) (cards_in body) (part_cards id 1 others end) c (λ q.
@@ -57,7 +57,7 @@ mutual
   what_set f place id label (trees.logical_if e s) b u h = within-set f place id label e s b u
   what_set f place id label (do_loop (loop index first last step body)) b u h =
       let k = kinds.Do None in
-      let c = stepped place (mark_at f place (card (parts.Stmt id) label (head_of (loop index first last step body)))) b in
+      let c = take_statement place (mark_at f place (card (parts.Stmt id) label (head_of (loop index first last step body)))) b in
       let w = enters k (roles.Do None) label (f place) place b refl u h.room in
       let a = set-append (Around b.stack b.found) f (place + 1) (cards_in body) (card (parts.Close id) None end_do ∷ []) c (λ q.
       close-do f q id b.stack b.found (all_set f (place + 1) (cards_in body) c)
@@ -78,7 +78,7 @@ mutual
       → Around os found (all_set f place (part_cards id at others end) c)
   parts_set f place id at no_arms end os found c w h e = e place c w
   parts_set f place id at (more_arms (arm t body) others) end os found c w h e =
-      let d = stepped place (mark_at f place (card (parts.ElseIf id at) None (else_if t))) c in
+      let d = take_statement place (mark_at f place (card (parts.ElseIf id at) None (else_if t))) c in
       let v = next-if f place (parts.ElseIf id at) t os found c w in
       set-append (Around os found) f (place + 1) (cards_in body) (part_cards id (at + 1) others end) d (λ q.
       parts_set f q id (at + 1) others end os found (all_set f (place + 1) (cards_in body) d)
@@ -90,7 +90,7 @@ mutual
       → ShallowElse (suc (length os)) other → Around os found (all_set f place (else_cards id other ++ card (parts.Close id) None end_if ∷ []) c)
   else_set f place id no_else os found c w h = close-if f place id os found c w
   else_set f place id (otherwise body) os found c w h =
-      let d = stepped place (mark_at f place (card (parts.Else id) None else_part)) c in
+      let d = take_statement place (mark_at f place (card (parts.Else id) None else_part)) c in
       let v = next-else f place (parts.Else id) os found c w in
       set-append (Around os found) f (place + 1) (cards_in body) (card (parts.Close id) None end_if ∷ []) d (λ q.
       close-else f q id os found (all_set f (place + 1) (cards_in body) d)

@@ -15,10 +15,10 @@ use Rattle.f77_structure.specs.declared.blocks.Jump.{Jump}
 use Rattle.refusal_codes.specs.Refusals.{refuse_if}
 use Rattle.f77_structure.specs.Lists.{first_of}
 use Rattle.f77_structure.specs.Opens.{within_if, within_do}
-use Rattle.f77_structure.specs.Blocks.{landed, stood, jumped}
+use Rattle.f77_structure.specs.Blocks.{add_landing, take_executable, keep_jump}
 use Rattle.f77_structure.specs.Terminals.{spoiled_by}
-use Rattle.f77_structure.specs.Steps.{by_role, stepped, all_stepped, blocks_of}
-use Rattle.f77_structure.specs.Jumps.{stands, reaches, judged, all_judged, block_fault}
+use Rattle.f77_structure.specs.Steps.{by_role, take_statement, all_stepped, blocks_of}
+use Rattle.f77_structure.specs.Jumps.{stands, reaches, check_jump, all_judged, block_fault}
 use Rattle.f77_structure.specs.Order.{order_of}
 use Rattle.f77_structure.specs.First.{first_fault}
 use Rattle.f77_structure.specs.Checks.{fault_of}
@@ -29,32 +29,32 @@ role-found : (role : Role) (label : Option ℕ) (line : ℕ) (b : Blocks) → (b
 role-found Program label line b h = h
 role-found Subroutine label line b h = h
 role-found Specification label line b h = h
-role-found (Plain a) label line b h = sym (stood-found label (jumped a line b) ∙ jumped-found a line b) ∙ h
-role-found (LogicalIf a) label line b h = sym (stood-found label (jumped a line b) ∙ jumped-found a line b) ∙ h
-role-found BlockIf label line b h = sym (landed-found label b) ∙ (entered-calm kinds.If line (landed label b) h).1
+role-found (Plain a) label line b h = sym (stood-found label (keep_jump a line b) ∙ jumped-found a line b) ∙ h
+role-found (LogicalIf a) label line b h = sym (stood-found label (keep_jump a line b) ∙ jumped-found a line b) ∙ h
+role-found BlockIf label line b h = sym (landed-found label b) ∙ (entered-calm kinds.If line (add_landing label b) h).1
 role-found ElseIf label line b h = part-found kinds.If line b h
 role-found Else label line b h = part-found kinds.Else line b h
 role-found EndIf label line b h = ended-found sought.BlockIf (within_if (first_of b.stack)) line b (sym (stood-found label _) ∙ h)
-role-found (Do t) label line b h = sym (landed-found label b) ∙ (entered-calm (kinds.Do t) line (landed label b) h).1
+role-found (Do t) label line b h = sym (landed-found label b) ∙ (entered-calm (kinds.Do t) line (add_landing label b) h).1
 role-found EndDo label line b h =
-    let x = stood label b in sym (stood-found label b) ∙ ended-found sought.PlainDo (within_do (first_of x.stack)) line x h
-role-found End label line b h = let x = stood label b in sym (stood-found label b) ∙ down-found sought.Neither x.stack x h
+    let x = take_executable label b in sym (stood-found label b) ∙ ended-found sought.PlainDo (within_do (first_of x.stack)) line x h
+role-found End label line b h = let x = take_executable label b in sym (stood-found label b) ∙ down-found sought.Neither x.stack x h
 
 -- a step is what its role does, the last statements of DOs being what they may be
 pub record IsStep (place : ℕ) (m : Mark) (b : Blocks) : Type 0 where
   pub before : b.found ≡ None
   pub calm : spoiled_by m.role m.label m.line (record b { place = place }) ≡ record b { place = place }
-  pub same : stepped place m b ≡ by_role m.role m.label m.line (record b { place = place })
+  pub same : take_statement place m b ≡ by_role m.role m.label m.line (record b { place = place })
 
-pub step-calm : (place : ℕ) (m : Mark) (b : Blocks) → (stepped place m b).found ≡ None → IsStep place m b
-unfolding stepped
+pub step-calm : (place : ℕ) (m : Mark) (b : Blocks) → (take_statement place m b).found ≡ None → IsStep place m b
+unfolding take_statement
 step-calm place m b h =
     let s = spoiled-calm m.role m.label m.line (record b { place = place }) (role-found m.role m.label m.line _ h) in
     record { before = s.0; calm = s.1; same = ap (by_role m.role m.label m.line) s.1 }
 
 pub all-found : (place : ℕ) (ms : List Mark) (b : Blocks) → (all_stepped place ms b).found ≡ None → b.found ≡ None
 all-found place [] b h = h
-all-found place (m ∷ ms) b h = (step-calm place m b (all-found (place + 1) ms (stepped place m b) h)).before
+all-found place (m ∷ ms) b h = (step-calm place m b (all-found (place + 1) ms (take_statement place m b) h)).before
 
 judged-by : (s r : Bool) (line : ℕ) (found : Option Refusal)
     → (if s then refuse_if (not r) line JumpIntoBlock found else refuse_if true line LabelMissing found) ≡ None → found ≡ None
@@ -64,7 +64,7 @@ judged-by false r line found h = (noted-none _ _ _ _ h).1
 pub judged-found : (spans : List Span) (landings : List Landing) (js : List Jump) (found : Option Refusal) → all_judged spans landings js found ≡ None → found ≡ None
 judged-found spans landings [] found h = h
 judged-found spans landings (j ∷ js) found h =
-    judged-by (stands landings j.label) (reaches spans landings j) j.line found (judged-found spans landings js (judged spans landings j found) h)
+    judged-by (stands landings j.label) (reaches spans landings j) j.line found (judged-found spans landings js (check_jump spans landings j found) h)
 
 first-none : (a b : Option Refusal) → first_fault a b ≡ None → (a ≡ None) × (b ≡ None)
 first-none None b h = (refl, h)

@@ -20,9 +20,9 @@ use Rattle.f77_structure.specs.declared.blocks.Blocks.{Blocks}
 use Rattle.refusal_codes.specs.Refusals.{refuse_if}
 use Rattle.f77_structure.specs.Lists.{first_of}
 use Rattle.f77_structure.specs.Opens.{ends_at, can_spoil}
-use Rattle.f77_structure.specs.Blocks.{left, left_one, ended_by, opened, pushed, entered, landed, ended_at, stood, jumped}
+use Rattle.f77_structure.specs.Blocks.{leave_innermost, left_one, ended_by, opened, push_block, enter_block, add_landing, ended_at, take_executable, keep_jump}
 use Rattle.f77_structure.specs.Terminals.{spoiled, spoiled_run, ends_one, spoil, spoil_part, is_forbidden, is_part, spoiled_by}
-use Rattle.f77_structure.specs.Steps.{by_role, stepped}
+use Rattle.f77_structure.specs.Steps.{by_role, take_statement}
 use Rattle.f77_parser.specs.Roles.{role_of, action_of}
 use Rattle.roundtrip_modules.specs.Cards.{Card, card, cards_of, cards_by, part_cards, else_cards, cards_in, within}
 use Rattle.roundtrip_modules.specs.Shallow.{HasRoom, IsShallow, ShallowBelow, ShallowArms, ShallowElse, AreShallow}
@@ -34,7 +34,7 @@ mark_at f place c = record { line = f place; label = c.label; role = role_of c.p
 
 abbrev pub all_set : (ℕ → ℕ) → ℕ → List Card → Blocks → Blocks
 all_set f place [] b = b
-all_set f place (c ∷ cs) b = all_set f (place + 1) cs (stepped place (mark_at f place c) b)
+all_set f place (c ∷ cs) b = all_set f (place + 1) cs (take_statement place (mark_at f place c) b)
 
 -- the innermost block is no DO that a label ends
 abbrev pub Unlabelled : List Open → Type 0
@@ -59,11 +59,11 @@ ended-stays : (l : ℕ) (os : List Open) (b : Blocks) → Unlabelled os → ende
 ended-stays l [] b u = refl
 ended-stays l (o ∷ os) b u = if-false (ends_at l o.kind) (ended_by l os (left_one o os b)) b (u l)
 
-stood-stays : (label : Option ℕ) (b : Blocks) → Unlabelled b.stack → Stays b (stood label b)
-unfolding stood
+stood-stays : (label : Option ℕ) (b : Blocks) → Unlabelled b.stack → Stays b (take_executable label b)
+unfolding take_executable
 stood-stays None b u = stays b
 stood-stays (Some l) b u =
-    let e = ended-stays l b.stack (landed (Some l) b) u in record { stack = ap (λ x. x.stack) e; found = ap (λ x. x.found) e }
+    let e = ended-stays l b.stack (add_landing (Some l) b) u in record { stack = ap (λ x. x.stack) e; found = ap (λ x. x.found) e }
 
 one-false : (l : ℕ) (os : List Open) → Unlabelled os → ends_one l (first_of os) ≡ false
 unfolding can_spoil
@@ -99,21 +99,21 @@ pub unlabelled-at : (x y : List Open) → x ≡ y → Unlabelled x → Unlabelle
 unlabelled-at x y e u = let P : List Open → Type 0 = λ s. Unlabelled s in subst P e u
 
 plain-stays : (role : Role) (a : Action) (label : Option ℕ) (line : ℕ) (b : Blocks) → is_part role ≡ false → Unlabelled b.stack
-    → Stays b (stood label (jumped a line (spoiled_by role label line b)))
+    → Stays b (take_executable label (keep_jump a line (spoiled_by role label line b)))
 plain-stays role a label line b p u =
-    let c = spoiled_by role label line b in let d = jumped a line c in
+    let c = spoiled_by role label line b in let d = keep_jump a line c in
     let s = spoiled-stays role label line b p u in
     let e = jumped-stack a line c ∙ s.stack in
     let t = stood-stays label d (unlabelled-at b.stack d.stack (sym e) u) in
     record { stack = t.stack ∙ e; found = t.found ∙ jumped-found a line c ∙ s.found }
 
 pub simply-set : (f : ℕ → ℕ) (place : ℕ) (part : Part) (label : Option ℕ) (w : WhatTree) (b : Blocks) → Unlabelled b.stack → Stays b (all_set f place (card part label (simple w) ∷ []) b)
-unfolding stepped
+unfolding take_statement
 simply-set f place part label w b u =
     let s = plain-stays (roles.Plain (action_of w)) (action_of w) label (f place) (record b { place = place }) refl u in record { stack = s.stack; found = s.found }
 
 pub within-set : (f : ℕ → ℕ) (place id : ℕ) (label : Option ℕ) (e : ExprTree) (s : StmtTree) (b : Blocks) → Unlabelled b.stack → Stays b (all_set f place (within id label e s ∷ []) b)
-unfolding stepped
+unfolding take_statement
 within-set f place id label e (stmt inner own w) b u =
     let s = plain-stays (roles.LogicalIf (action_of w)) (action_of w) label (f place) (record b { place = place }) refl u in record { stack = s.stack; found = s.found }
 
@@ -132,9 +132,9 @@ pub record Around (os : List Open) (found : Option Refusal) (c : Blocks) : Type 
   pub same : c.found ≡ found
 
 pub enters : (k : Kind) (role : Role) (label : Option ℕ) (line place : ℕ) (b : Blocks) → is_part role ≡ false → Unlabelled b.stack → HasRoom (length b.stack)
-    → Within k b.stack b.found (entered k line (landed label (spoiled_by role label line (record b { place = place }))))
+    → Within k b.stack b.found (enter_block k line (add_landing label (spoiled_by role label line (record b { place = place }))))
 enters k role label line place b p u room =
-    let c = spoiled_by role label line (record b { place = place }) in let d = landed label c in
+    let c = spoiled_by role label line (record b { place = place }) in let d = add_landing label c in
     let s = spoiled-stays role label line (record b { place = place }) p u in
     let e : d.stack ≡ b.stack = landed-stack label c ∙ s.stack in
     let at = record d { found = refuse_if (nat_le 64 (length d.stack)) line TooDeep d.found } in
@@ -160,36 +160,36 @@ ends role k os found line place c w h =
     }
 
 pub close-do : (f : ℕ → ℕ) (place id : ℕ) (os : List Open) (found : Option Refusal) (c : Blocks) → Within (kinds.Do None) os found c → Around os found (all_set f place (card (parts.Close id) None end_do ∷ []) c)
-unfolding stepped stood
+unfolding take_statement take_executable
 close-do f place id os found c w = ends roles.EndDo (kinds.Do None) os found (f place) place c w (refl, refl)
 
 pub close-if : (f : ℕ → ℕ) (place id : ℕ) (os : List Open) (found : Option Refusal) (c : Blocks) → Within kinds.If os found c → Around os found (all_set f place (card (parts.Close id) None end_if ∷ []) c)
-unfolding stepped stood
+unfolding take_statement take_executable
 close-if f place id os found c w = ends roles.EndIf kinds.If os found (f place) place c w (refl, refl)
 
 pub close-else : (f : ℕ → ℕ) (place id : ℕ) (os : List Open) (found : Option Refusal) (c : Blocks) → Within kinds.Else os found c → Around os found (all_set f place (card (parts.Close id) None end_if ∷ []) c)
-unfolding stepped stood
+unfolding take_statement take_executable
 close-else f place id os found c w = ends roles.EndIf kinds.Else os found (f place) place c w (refl, refl)
 
 pub next-if : (f : ℕ → ℕ) (place : ℕ) (part : Part) (t : ExprTree) (os : List Open) (found : Option Refusal) (c : Blocks) → Within kinds.If os found c
-    → Within kinds.If os found (stepped place (mark_at f place (card part None (else_if t))) c)
-unfolding stepped
+    → Within kinds.If os found (take_statement place (mark_at f place (card part None (else_if t))) c)
+unfolding take_statement
 next-if f place part t os found c w =
     let at = record c { place = place; stack = record w.top { kind = kinds.If } ∷ os } in
     let e = literal kinds.If os found place c w in record {
-      top = opened kinds.If w.top.line (left at);
+      top = opened kinds.If w.top.line (leave_innermost at);
       kind = refl;
       stack = sym (ap (λ x. (by_role roles.ElseIf None (f place) x).stack) e);
       same = sym (ap (λ x. (by_role roles.ElseIf None (f place) x).found) e) ∙ w.same;
     }
 
 pub next-else : (f : ℕ → ℕ) (place : ℕ) (part : Part) (os : List Open) (found : Option Refusal) (c : Blocks) → Within kinds.If os found c
-    → Within kinds.Else os found (stepped place (mark_at f place (card part None else_part)) c)
-unfolding stepped
+    → Within kinds.Else os found (take_statement place (mark_at f place (card part None else_part)) c)
+unfolding take_statement
 next-else f place part os found c w =
     let at = record c { place = place; stack = record w.top { kind = kinds.If } ∷ os } in
     let e = literal kinds.If os found place c w in record {
-      top = opened kinds.Else w.top.line (left at);
+      top = opened kinds.Else w.top.line (leave_innermost at);
       kind = refl;
       stack = sym (ap (λ x. (by_role roles.Else None (f place) x).stack) e);
       same = sym (ap (λ x. (by_role roles.Else None (f place) x).found) e) ∙ w.same;

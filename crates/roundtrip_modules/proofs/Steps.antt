@@ -8,9 +8,9 @@ use Rattle.f77_statements.specs.Phrases.{PhraseTree, program, subroutine, specif
 use Rattle.f77_structure.specs.declared.open.Open.{Open}
 use Rattle.f77_structure.specs.declared.open.Sought.TheVariants as sought
 use Rattle.f77_structure.specs.declared.blocks.Blocks.{Blocks}
-use Rattle.f77_structure.specs.Blocks.{down_to, stood}
+use Rattle.f77_structure.specs.Blocks.{down_to, take_executable}
 use Rattle.f77_structure.specs.Terminals.{spoiled_by}
-use Rattle.f77_structure.specs.Steps.{by_role, stepped, all_stepped, nothing_open, blocks_of}
+use Rattle.f77_structure.specs.Steps.{by_role, take_statement, all_stepped, nothing_open, blocks_of}
 use Rattle.f77_parser.specs.Roles.{role_of}
 use Rattle.f77_parser.specs.Statements.{StatementTree, mark_of, marks_of}
 use Rattle.f77_parser.specs.SoFar.{AroundTree, SoFar}
@@ -32,7 +32,7 @@ all-nest : (ss : List StatementTree) (place : ℕ) (p : SoFar) (b : Blocks) → 
     → Nests (add_all ss p)
 all-nest [] place p b i g n h = n
 all-nest (s ∷ ss) place p b i g n h =
-    let next = stepped place (mark_of s) b in
+    let next = take_statement place (mark_of s) b in
     let e = all-found (place + 1) (marks_of ss) next h in
     let c = step-calm place (mark_of s) b e in
     all-nest ss (place + 1) (add_statement s p) next i.others (one-goes s place p b i.first g e)
@@ -75,8 +75,8 @@ lines-at ss = lines-of (first_at ss) 0 ss (λ k. let e : 0 + k ≡ k = omega ari
 abbrev step_by : ℕ → Blocks → Option ℕ → PhraseTree → ℕ → Blocks
 step_by place b label phrase line = by_role (role_of phrase) label line (spoiled_by (role_of phrase) label line (record b { place = place }))
 
-step-set : (f : ℕ → ℕ) (place : ℕ) (s : StatementTree) (c : Card) (b : Blocks) → f place ≡ s.first → of_statement s ≡ of_card c → stepped place (mark_of s) b ≡ stepped place (mark_at f place c) b
-unfolding stepped
+step-set : (f : ℕ → ℕ) (place : ℕ) (s : StatementTree) (c : Card) (b : Blocks) → f place ≡ s.first → of_statement s ≡ of_card c → take_statement place (mark_of s) b ≡ take_statement place (mark_at f place c) b
+unfolding take_statement
 step-set f place s c b line e = ap (λ x. step_by place b x.label x.phrase s.first) e ∙ ap (λ n. step_by place b c.label c.phrase n) (sym line)
 
 steps-set : (f : ℕ → ℕ) (place : ℕ) (ss : List StatementTree) (cs : List Card) (b : Blocks) → Lines f place ss → map of_statement ss ≡ map of_card cs
@@ -87,12 +87,12 @@ steps-set f place (s ∷ ss) [] b l e = absurd (some-first (of_statement s) (map
 steps-set f place (s ∷ ss) (c ∷ cs) b l e =
     let g = first-same (of_statement s) (of_card c) (map of_statement ss) (map of_card cs) e in
     ap (all_stepped (place + 1) (marks_of ss)) (step-set f place s c b l.line g.0)
-    ∙ steps-set f (place + 1) ss cs (stepped place (mark_at f place c) b) l.others g.1
+    ∙ steps-set f (place + 1) ss cs (take_statement place (mark_at f place c) b) l.others g.1
 
 -- ---- a whole module
 
-heading-set : (f : ℕ → ℕ) (place : ℕ) (v : Bool) (n : List ℕ) (ds : List (List ℕ)) (b : Blocks) → Stays b (stepped place (mark_at f place (card parts.Title None (if v then program n else subroutine n ds))) b)
-unfolding stepped
+heading-set : (f : ℕ → ℕ) (place : ℕ) (v : Bool) (n : List ℕ) (ds : List (List ℕ)) (b : Blocks) → Stays b (take_statement place (mark_at f place (card parts.Title None (if v then program n else subroutine n ds))) b)
+unfolding take_statement
 heading-set f place true n ds b = record { stack = refl; found = refl }
 heading-set f place false n ds b = record { stack = refl; found = refl }
 
@@ -101,13 +101,13 @@ title-set f place true m b = heading-set f place m.main m.name m.dummies b
 title-set f place false m b = record { stack = refl; found = refl }
 
 decl-set : (f : ℕ → ℕ) (place n : ℕ) (ds : List DeclTree) (b : Blocks) → Stays b (all_set f place (decl_cards n ds) b)
-unfolding stepped
+unfolding take_statement
 decl-set f place n [] b = record { stack = refl; found = refl }
 decl-set f place n (d ∷ ds) b =
-    let s = decl-set f (place + 1) (n + 1) ds (stepped place (mark_at f place (card (parts.Decl n) None (specification d))) b) in record { stack = s.stack; found = s.found }
+    let s = decl-set f (place + 1) (n + 1) ds (take_statement place (mark_at f place (card (parts.Decl n) None (specification d))) b) in record { stack = s.stack; found = s.found }
 
 end-set : (f : ℕ → ℕ) (place : ℕ) (b : Blocks) → b.stack ≡ [] → (all_set f place (card parts.End None end_module ∷ []) b).found ≡ b.found
-unfolding stepped stood
+unfolding take_statement take_executable
 end-set f place b e = ap (λ s. (down_to sought.Neither s (record b { place = place })).found) e
 
 pub blocks_again : BlocksAgain

@@ -5,8 +5,8 @@ use Rattle.f77_ast.specs.PlainStmt.{stmts_of}
 use Rattle.f77_statements.specs.Phrases.{PhraseTree, end_module}
 use Rattle.f77_structure.specs.declared.mark.Role.TheVariants as roles
 use Rattle.f77_structure.specs.declared.blocks.Blocks.{Blocks}
-use Rattle.f77_structure.specs.Blocks.{stood}
-use Rattle.f77_structure.specs.Steps.{by_role, stepped, all_stepped, nothing_open}
+use Rattle.f77_structure.specs.Blocks.{take_executable}
+use Rattle.f77_structure.specs.Steps.{by_role, take_statement, all_stepped, nothing_open}
 use Rattle.f77_parser.specs.Roles.{role_of}
 use Rattle.f77_parser.specs.Statements.{StatementTree, mark_of, marks_of}
 use Rattle.f77_parser.specs.SoFar.{AroundTree, SoFar, add_spot}
@@ -25,15 +25,15 @@ pub record Goes (p : SoFar) (b : Blocks) : Type 0 where
   pub counts : Counts p
 
 -- one statement more, which has no fault
-pub one-goes : (s : StatementTree) (place : ℕ) (p : SoFar) (b : Blocks) → IsStatement s → Goes p b → (stepped place (mark_of s) b).found ≡ None
-    → Goes (add_statement s p) (stepped place (mark_of s) b)
+pub one-goes : (s : StatementTree) (place : ℕ) (p : SoFar) (b : Blocks) → IsStatement s → Goes p b → (take_statement place (mark_of s) b).found ≡ None
+    → Goes (add_statement s p) (take_statement place (mark_of s) b)
 one-goes s place p b i g h =
     let at = record b { place = place } in
     let c = step-calm place (mark_of s) b h in
     let after = by_role (role_of s.phrase) s.label s.first at in
     let t = phrase-matched s.first s.label s.comments s.phrase s.first p at g.matched (sym (ap (λ x. x.found) c.same) ∙ h) in
     record {
-      matched = on-stack (add_statement s p).around after.stack (stepped place (mark_of s) b).stack (ap (λ x. x.stack) (sym c.same)) t.matched;
+      matched = on-stack (add_statement s p).around after.stack (take_statement place (mark_of s) b).stack (ap (λ x. x.stack) (sym c.same)) t.matched;
       counts = phrase-counts s.first s.label s.comments s.phrase p i t.may g.counts;
     }
 
@@ -41,7 +41,7 @@ pub all-go : (ss : List StatementTree) (place : ℕ) (p : SoFar) (b : Blocks) �
     → Goes (add_all ss p) (all_stepped place (marks_of ss) b)
 all-go [] place p b i g h = g
 all-go (s ∷ ss) place p b i g h =
-    let next = stepped place (mark_of s) b in
+    let next = take_statement place (mark_of s) b in
     all-go ss (place + 1) (add_statement s p) next i.others (one-goes s place p b i.first g (all-found (place + 1) (marks_of ss) next h)) h
 
 -- ---- END
@@ -49,8 +49,8 @@ all-go (s ∷ ss) place p b i g h =
 end-closed : (f : ℕ) (label : Option ℕ) (cs : List (List ℕ)) (line : ℕ) (p : SoFar) (b : Blocks) → Matches p.around b.stack → (by_role roles.End label line b).found ≡ None
     → (add_phrase f label cs end_module p).around ≡ []
 unfolding add_spot
-end-closed f None cs line p b m h = (module-closed p (stood None b) (stood-matched None p b m) h).0
-end-closed f (Some l) cs line p b m h = (module-closed (add_continue f l cs p) (stood (Some l) b) (continued-matched f l cs p b m) h).0
+end-closed f None cs line p b m h = (module-closed p (take_executable None b) (stood-matched None p b m) h).0
+end-closed f (Some l) cs line p b m h = (module-closed (add_continue f l cs p) (take_executable (Some l) b) (continued-matched f l cs p b m) h).0
 
 last-closed : (s : StatementTree) (phrase : PhraseTree) (p : SoFar) (b : Blocks) → phrase ≡ end_module → Matches p.around b.stack
     → (by_role (role_of phrase) s.label s.first b).found ≡ None → (add_phrase s.first s.label s.comments phrase p).around ≡ []
@@ -64,7 +64,7 @@ all-closed [] s place p b e i g h =
     let c = step-calm place (mark_of s) b h in
     last-closed s s.phrase p (record b { place = place }) e g.matched (sym (ap (λ x. x.found) c.same) ∙ h)
 all-closed (x ∷ begun) s place p b e i g h =
-    let next = stepped place (mark_of x) b in
+    let next = take_statement place (mark_of x) b in
     all-closed begun s (place + 1) (add_statement x p) next e i.others
     (one-goes x place p b i.first g (all-found (place + 1) (marks_of (begun ++ s ∷ [])) next h)) h
 

@@ -15,7 +15,7 @@ use Rattle.f77_structure.specs.declared.mark.Mark.{Mark}
 use Rattle.f77_structure.specs.declared.order.Order.{Order}
 use Rattle.refusal_codes.specs.Refusals.{refuse_if}
 use Rattle.f77_structure.specs.Marks.{statements_in, returns_in}
-use Rattle.f77_structure.specs.Order.{is_main_after, is_out_of_order, has_label, labelled, passes_most, counted, ordered, all_ordered, nothing_ordered}
+use Rattle.f77_structure.specs.Order.{is_main_after, is_out_of_order, has_label, keep_label, passes_most, counted, check_next, all_ordered, nothing_ordered}
 use Rattle.f77_structure.specs.Steps.{nothing_open}
 use Rattle.f77_structure.specs.Checks.{fault_of}
 use Rattle.f77_parser.specs.Roles.{role_of}
@@ -110,11 +110,11 @@ counts-found m o d f r h =
     (unnoted m.deep m.line TooDeep o.found d h))
 
 onward-by : (label : Option ℕ) (m : Mark) (o : Order) (rest : List ℕ) (k : ℕ) → AreNew o.labels (listed label ++ rest) → o.count + (statements_in m + k) ≤ 4096
-    → m.deep ≡ false → is_out_of_order o.begun o.main o.count m.role ≡ false → o.found ≡ None → Onward m o (counted m (labelled m.line label o)) rest k
+    → m.deep ≡ false → is_out_of_order o.begun o.main o.count m.role ≡ false → o.found ≡ None → Onward m o (counted m (keep_label m.line label o)) rest k
 onward-by None m o rest k a f d r h = record { new = a; few = omega arith; main = refl; found = counts-found m o d (omega arith) r h }
 onward-by (Some l) m o rest k a f d r h =
     let e = unnoted (has_label l o.labels) m.line LabelTwice o.found a.new h in
-    record { new = a.others; few = omega arith; main = refl; found = counts-found m (labelled m.line (Some l) o) d (omega arith) r e }
+    record { new = a.others; few = omega arith; main = refl; found = counts-found m (keep_label m.line (Some l) o) d (omega arith) r e }
 
 -- what stands behind the heading and the specifications
 record Ready (cs : List Card) (o : Order) : Type 0 where
@@ -124,8 +124,8 @@ record Ready (cs : List Card) (o : Order) : Type 0 where
   behind : Each IsBehind cs
   found : o.found ≡ None
 
-ready-next : (n : ℕ) (c : Card) (cs : List Card) (o : Order) → Ready (c ∷ cs) o → Ready cs (ordered (mark_at n (of_card c)) o)
-unfolding ordered
+ready-next : (n : ℕ) (c : Card) (cs : List Card) (o : Order) → Ready (c ∷ cs) o → Ready cs (check_next (mark_at n (of_card c)) o)
+unfolding check_next
 ready-next n c cs o r =
     let m = mark_at n (of_card c) in
     let i = in-order (role_of c.phrase) o.begun o.main o.count r.behind.first (λ e. (r.quiet e).first) in
@@ -136,7 +136,7 @@ ready-clear : (cs : List Card) (o : Order) → Ready cs o → Clear cs o
 ready-clear [] o r [] = r.found
 ready-clear [] o r (n ∷ ns) = r.found
 ready-clear (c ∷ cs) o r [] = r.found
-ready-clear (c ∷ cs) o r (n ∷ ns) = ready-clear cs (ordered (mark_at n (of_card c)) o) (ready-next n c cs o r) ns
+ready-clear (c ∷ cs) o r (n ∷ ns) = ready-clear cs (check_next (mark_at n (of_card c)) o) (ready-next n c cs o r) ns
 
 -- ---- the heading and the specifications
 
@@ -150,8 +150,8 @@ record Blank (main : Bool) (o : Order) : Type 0 where
 abbrev Follows : Bool → List Card → Type 0
 Follows main rest = (o : Order) → Blank main o → Clear rest o
 
-specified : (n : ℕ) (place : ℕ) (d : DeclTree) (main : Bool) (o : Order) → Blank main o → Blank main (ordered (mark_at n (of_card (card (parts.Decl place) None (specification d)))) o)
-unfolding ordered
+specified : (n : ℕ) (place : ℕ) (d : DeclTree) (main : Bool) (o : Order) → Blank main o → Blank main (check_next (mark_at n (of_card (card (parts.Decl place) None (specification d)))) o)
+unfolding check_next
 specified n place d main o b =
     let none : o.count + 0 ≡ 0 = omega arith in
     let few : o.count + 0 ≤ 4096 = omega arith in
@@ -169,7 +169,7 @@ decls-clear place (d ∷ ds) rest main f o b (n ∷ ns) = decls-clear (place + 1
 
 title-clear : (m : ModuleTree) (main titled : Bool) (rest : List Card) → Follows main rest
     → Clear ((if titled || not main then card parts.Title None (if main then program m.name else subroutine m.name m.dummies) ∷ [] else []) ++ rest) nothing_ordered
-unfolding ordered refuse_if
+unfolding check_next refuse_if
 title-clear m true true rest f [] = refl
 title-clear m true true rest f (n ∷ ns) = f _ (record { same = refl; count = refl; labels = refl; found = refl }) ns
 title-clear m true false rest f ns = f nothing_ordered (record { same = refl; count = refl; labels = refl; found = refl }) ns

@@ -158,16 +158,16 @@ term-sound I h =
     chain-sound IsProduct products (grammar.factor I) (Formed of_product) (Formed of_power) (record { first = tt; others = record { first = tt; others = tt } }) (factor-sound I h)
     formed.factor (λ op a b i x y. formed.multiplied op a b i x y)
 
-signed-sound : (I : Inner) (op : UnaryOp) → IsSign op → Inside I → Sound (grammar.signed op I) (Formed of_sum)
-unfolding grammar.signed
+signed-sound : (I : Inner) (op : UnaryOp) → IsSign op → Inside I → Sound (grammar.signed_terms op I) (Formed of_sum)
+unfolding grammar.signed_terms
 signed-sound I op i h s =
     seq (grammar.term I s) (λ t. Some (unary op t.0, t.1)) s.notes (Formed of_product) (Formed of_sum) (term-sound I h s) (λ t c. (c, λ f. formed.signed op t.0 i f))
 
 signed_term-sound : (I : Inner) → Inside I → Sound (grammar.signed_term I) (Formed of_sum)
 unfolding grammar.signed_term
 signed_term-sound I h s =
-    else_word (codes "+") s (grammar.signed Plus I) _ (Formed of_sum) (λ r. signed-sound I Plus tt h (record s { rest = r }))
-    (else_word (codes "-") s (grammar.signed Minus I) _ (Formed of_sum) (λ r. signed-sound I Minus tt h (record s { rest = r }))
+    else_word (codes "+") s (grammar.signed_terms Plus I) _ (Formed of_sum) (λ r. signed-sound I Plus tt h (record s { rest = r }))
+    (else_word (codes "-") s (grammar.signed_terms Minus I) _ (Formed of_sum) (λ r. signed-sound I Minus tt h (record s { rest = r }))
     (weaken (grammar.term I s) s.notes (Formed of_product) (Formed of_sum) (term-sound I h s) formed.term))
 
 arithmetic-sound : (I : Inner) → Inside I → Sound (grammar.arithmetic I) (Formed of_sum)

@@ -11,7 +11,7 @@ use Rattle.f77_exprs.specs.declared.at.Notes.{Notes}
 use Rattle.f77_exprs.specs.Words.{after}
 use Rattle.f77_exprs.specs.State.{State, or_done, ◌>>=◌}
 use Rattle.f77_exprs.specs.Operators.{one_of, relations, equivalences, sums, products}
-use Rattle.f77_exprs.specs.Grammar.{primary, exponent, factor, term, signed, signed_term, arithmetic, comparison, relation, negated_relation, negation}
+use Rattle.f77_exprs.specs.Grammar.{primary, exponent, factor, term, signed_terms, signed_term, arithmetic, comparison, relation, negated_relation, negation}
 use Rattle.f77_exprs.specs.Laws.{inside}
 use Rattle.f77_exprs.proofs.Depth.{is_grammar}
 use Rattle.f77_printer.specs.ExprText.{expr_text}
@@ -90,7 +90,7 @@ unsigned_term e f x t k h =
     rw (p, m) (x t k h)
 
 pub term_signed : (op : UnaryOp) (e : ExprTree) → IsSign op → Back (term inside) (expr_text e) e BehindProduct → Back (signed_term inside) (expr_text (unary op e)) (unary op e) BehindProduct
-unfolding signed_term signed
+unfolding signed_term signed_terms
 term_signed Plus e s x t k h = ap (λ (o : Option (ExprTree × State)). o >>= λ r. Some (unary Plus r.0, r.1)) (x t k h)
 term_signed Minus e s x t k h = ap (λ (o : Option (ExprTree × State)). o >>= λ r. Some (unary Minus r.0, r.1)) (x t k h)
 term_signed Not e s x t k h = absurd s

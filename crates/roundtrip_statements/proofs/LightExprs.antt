@@ -145,16 +145,16 @@ module _ (w : Weight) where
   unary_weight : (op : UnaryOp) (x : ExprTree) → ew w (unary op x) ≡ weigh w (unary_word op) + ew w x
   unary_weight op x = weigh-append w (unary_word op) (expr_text x)
 
-  signed-light : (I : Inner) (op : UnaryOp) → Inside I → (e : ℕ) (s : State) → Within w (grammar.signed op I s) ((e + weigh w (unary_word op)) + weigh w s.rest) (λ x. e + ew w x)
-  unfolding grammar.signed
+  signed-light : (I : Inner) (op : UnaryOp) → Inside I → (e : ℕ) (s : State) → Within w (grammar.signed_terms op I s) ((e + weigh w (unary_word op)) + weigh w s.rest) (λ x. e + ew w x)
+  unfolding grammar.signed_terms
   signed-light I op h e s =
       then_read w (grammar.term I) (ew w) (λ t. Some (unary op t.0, t.1)) s (e + weigh w (unary_word op)) (λ x. e + ew w x) (term-light I h) (λ t. omega (arith, unary_weight op t.0))
 
   signed_term-light : (I : Inner) → Inside I → LightExpr (grammar.signed_term I)
   unfolding grammar.signed_term
   signed_term-light I h e s =
-      else_word w (codes "+") s (grammar.signed Plus I) _ e (λ x. e + ew w x) (λ r. signed-light I Plus h e (record s { rest = r }))
-      (else_word w (codes "-") s (grammar.signed Minus I) _ e (λ x. e + ew w x) (λ r. signed-light I Minus h e (record s { rest = r })) (term-light I h e s))
+      else_word w (codes "+") s (grammar.signed_terms Plus I) _ e (λ x. e + ew w x) (λ r. signed-light I Plus h e (record s { rest = r }))
+      (else_word w (codes "-") s (grammar.signed_terms Minus I) _ e (λ x. e + ew w x) (λ r. signed-light I Minus h e (record s { rest = r })) (term-light I h e s))
 
   arithmetic-light : (I : Inner) → Inside I → LightExpr (grammar.arithmetic I)
   unfolding grammar.arithmetic

@@ -9,7 +9,7 @@ use Rattle.f77_structure.specs.Jumps.{block_fault}
 use Rattle.f77_structure.specs.Checks.{fault_of}
 use Rattle.f77_structure.specs.Depth.{is_deep}
 use Rattle.f77_structure.specs.Marks.{label_in}
-use Rattle.f77_structure.specs.Order.{labelled, ordered, all_ordered, nothing_ordered, order_of}
+use Rattle.f77_structure.specs.Order.{keep_label, check_next, all_ordered, nothing_ordered, order_of}
 use Rattle.f77_structure.specs.Steps.{blocks_of}
 use Rattle.f77_structure.proofs.AsCode.{as_code}
 use Rattle.f77_parser.specs.Statements.{StatementTree, mark_of, marks_of}
@@ -36,24 +36,24 @@ use Rattle.roundtrip_text.proofs.Read.{IsSourced, AreSourced, IsParsed}
 abbrev IsShallow : StatementTree → Type 0
 IsShallow s = s.deep ≡ false
 
-labelled-found : (line : ℕ) (label : Option ℕ) (o : Order) → (labelled line label o).found ≡ None → o.found ≡ None
+labelled-found : (line : ℕ) (label : Option ℕ) (o : Order) → (keep_label line label o).found ≡ None → o.found ≡ None
 labelled-found line None o h = h
 labelled-found line (Some l) o h = (noted-none _ _ _ _ h).1
 
-ordered-found : (m : Mark) (o : Order) → (ordered m o).found ≡ None → (m.deep ≡ false) × (o.found ≡ None)
-unfolding ordered
+ordered-found : (m : Mark) (o : Order) → (check_next m o).found ≡ None → (m.deep ≡ false) × (o.found ≡ None)
+unfolding check_next
 ordered-found m o h =
     let d = noted-none m.deep _ _ _ (noted-none _ _ _ _ (noted-none _ _ _ _ h).1).1 in
     (d.0, labelled-found m.line (label_in m) o d.1)
 
 all-ordered-found : (ms : List Mark) (o : Order) → (all_ordered ms o).found ≡ None → o.found ≡ None
 all-ordered-found [] o h = h
-all-ordered-found (m ∷ ms) o h = (ordered-found m o (all-ordered-found ms (ordered m o) h)).1
+all-ordered-found (m ∷ ms) o h = (ordered-found m o (all-ordered-found ms (check_next m o) h)).1
 
 all-shallow : (ss : List StatementTree) (o : Order) → (all_ordered (marks_of ss) o).found ≡ None → Each IsShallow ss
 all-shallow [] o h = tt
 all-shallow (s ∷ ss) o h =
-    let next = ordered (mark_of s) o in
+    let next = check_next (mark_of s) o in
     record { first = (ordered-found (mark_of s) o (all-ordered-found (marks_of ss) next h)).0; others = all-shallow ss next h }
 
 all-flat : (ss : List StatementTree) → AreSourced ss → Each IsShallow ss → Each FlatStatement ss

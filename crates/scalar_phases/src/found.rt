@@ -17,7 +17,7 @@ use std::alloc::{AllocError as Memory, Global};
 use transformer_algebra::Transformer;
 use transformers::{copy_transformer, transformers};
 
-/// A module with its symbols, and what its statements do.
+/// A module with its symbols, the transformers of its statements and, as their summary, what its callers see.
 #[derive(Drop)]
 pub struct Found<'a> {
     pub module: &'a Module,
@@ -109,7 +109,7 @@ fn add_named<'a>(
     }
 }
 
-/// What the statements of each module do, in the order of the graph. A name without a module is passed over.
+/// The transformers of each module, in the order of the graph, callees before callers. A name in the graph without a module is passed over.
 #[tactic(auto, using(crate::proofs::PhaseLaws::found_steps))]
 pub fn found_in<'a>(alloc: Global, program: &Program<'a>) -> Result<Vec<Found<'a>>, Memory>
     requires { IsNamed program.now }

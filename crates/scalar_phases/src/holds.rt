@@ -29,7 +29,8 @@ use std::alloc::{AllocError as Memory, Global};
 use tracked_cells::Names;
 use transformer_algebra::Transformer;
 
-/// What the analyses say of a module.
+/// The analyses of a module: its transformers, and the preconditions of its statements with, as their summary, what holds where the module is
+/// entered.
 #[derive(Drop)]
 pub struct Analysis<'a> {
     pub found: Found<'a>,
@@ -161,8 +162,8 @@ fn all_from<'a>(
     Ok(all)
 }
 
-/// The analyses of tracked cells of the modules of a program, each with its table, linked by this graph: what the statements of each module do,
-/// and what holds where they begin. Each module comes behind those that may call it.
+/// The analyses of the analysed scalars of each module of a program that `graph` links, callers before callees. `tables` has the symbols of
+/// each module, in the order of `modules`.
 #[tactic(auto, using(crate::proofs::ModuleLaws::named))]
 pub fn analyses<'a>(
     alloc: Global,

@@ -10,7 +10,7 @@ use f77_symbols::Symbols;
 use fx_lists::{List, Text};
 use tracked_cells::Names;
 
-/// The modules of a program, their symbols, the graph of their links, and their names.
+/// The modules of a program, the symbols of each in the same order, the graph of their links, and their names.
 #[derive(Drop)]
 pub struct Program<'a> {
     pub modules: &'a List<Parsed>,
@@ -19,7 +19,7 @@ pub struct Program<'a> {
     pub names: Names,
 }
 
-/// The module of a name, the first one in the text.
+/// The first module with a name, in the order of the text; None where there is none. A name is looked up in constant time.
 #[tactic(auto, using(crate::proofs::ModuleLaws::modules))]
 pub fn module_of<'a>(program: &Program<'a>, name: &Text) -> Option<View<'a>>
     requires { IsNamed program.now }

@@ -13,7 +13,7 @@ use std::alloc::{AllocError as Memory, Global};
 use std::collections::HashMap;
 use std::rc::Rc;
 
-/// The CALLs of modules by the names of what they call, with what holds where each begins. A name is looked up in constant time.
+/// The CALLs of a program by the name of the module that they call, with what holds where each begins. A name is looked up in constant time.
 #[derive(Drop)]
 pub struct Sites {
     alloc: Global,
@@ -43,7 +43,7 @@ impl Sites {
         }
     }
 
-    /// The CALLs of the module of a name; none, where it has no entry.
+    /// The CALLs of the module with a name, in the order in which they were added; None where none was added.
     pub fn of(&self, name: &Text) -> Option<&CallSites<System>>
         ensures { sites_or_none (option_copied result) ≡ sites_for self.now name.now }
     {
@@ -72,7 +72,8 @@ impl Sites {
         }
     }
 
-    /// Adds a CALL of the module of a name after the others of it, of a module with this scope. Its actuals are copied.
+    /// Appends a CALL to those of the module with this name; `caller` is the scope of the calling module, `value` what holds where the CALL
+    /// begins. Its actual arguments are copied. After an Err the CALLs of this name may be lost.
     pub fn add(
         &mut self,
         name: &Text,

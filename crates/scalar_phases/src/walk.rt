@@ -18,7 +18,7 @@ use std::alloc::AllocError as Memory;
 use std::rc::Rc;
 use transformers::value_at;
 
-/// The scope of a module whose CALLs are looked at, and what holds where its statements begin.
+/// The scope of a module whose CALLs are collected, and what holds where its statements begin.
 #[derive(Drop)]
 pub struct Caller<'a> {
     pub scope: &'a Rc<CallerScope>,
@@ -121,7 +121,8 @@ fn add_arms(caller: &Caller<'_>, arms: &List<Arm>, sites: &mut Sites) -> Result<
     Ok(())
 }
 
-/// Adds the CALLs in a list of statements, in the order of the text.
+/// Adds the CALLs in a list of statements, at any depth and in the order of the text, each to those of the module that it calls. A CALL
+/// without a result in `holds` is left out.
 #[cycle(sites)]
 #[tactic(auto, using(crate::proofs::SiteLaws::statement_calls))]
 pub fn add_list(caller: &Caller<'_>, list: &List<Stmt>, sites: &mut Sites) -> Result<(), Memory>

@@ -1,3 +1,4 @@
 pub mod NumberLaws
 pub mod DealLaws
 pub mod TestLaws
+pub mod ColumnLaws

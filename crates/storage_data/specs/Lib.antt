@@ -2,3 +2,4 @@ pub mod Units
 pub mod Items
 pub mod Initials
 pub mod Runs
+pub mod Laws

@@ -9,7 +9,8 @@ use f77_constants::Constant;
 use fx_lists::List;
 use std::alloc::{AllocError as Memory, Global};
 
-/// Units of the name at a place have a value: from an offset, so many.
+/// Units of one variable that DATA gives one value: the place of the name in the table of names, from 0; the first unit,
+/// counted from that of the variable; how many units; and the value, None where it is no literal.
 #[derive(Clone, Copy)]
 pub struct Piece {
     pub place: usize,
@@ -83,7 +84,8 @@ impl Dealing {
     }
 }
 
-/// The targets take their values one after another.
+/// The pieces that result where the targets take the values one after another, one for each unit that they cover, in the order
+/// of the text (ANSI X3.9-1978, §9). Values left over are dropped; targets past the last value get none.
 #[tactic(auto, using(crate::proofs::DealLaws::deal_steps))]
 pub fn dealt(alloc: Global, targets: &[Target], runs: List<Run>) -> Result<List<Piece>, Memory>
     ensures { IfOk result (λ ps. ps ≡ dealt targets.now runs) }

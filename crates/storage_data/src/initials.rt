@@ -21,7 +21,8 @@ use refusal_codes::{Code, Refusal, refuse_if};
 use std::alloc::{AllocError as Memory, Global};
 use storage_groups::Groups;
 
-/// The values so far, the units that have one, and the first refusal.
+/// What the DATA statements so far give: the pieces, and the stretches of units that have a value, both in the order of the
+/// text; and the first refusal, by line, then by code.
 #[derive(Drop)]
 pub struct Filled {
     pub pieces: List<Piece>,
@@ -79,7 +80,7 @@ fn add_pieces(all: &mut List<Piece>, new: &[Piece]) -> Result<(), Memory>
 }
 
 impl Filled {
-    /// No values yet.
+    /// No values yet, with the refusal that was found before.
     pub fn new(alloc: Global, found: Option<Refusal>) -> Filled
         ensures { result ≡ unfilled found }
     {
@@ -203,7 +204,9 @@ impl Filled {
         }
     }
 
-    /// Gives the values of these statements.
+    /// Adds the values and the refusals of the DATA statements among these, which are all specification statements of the
+    /// module from the first. A list gives no values where a target is not `Covers`, or units and values are not equally many.
+    /// Quadratic in the number of targets.
     #[tactic(auto, using(f77_ast::proofs::PlainlyDecl::decl_lists))]
     pub fn fill_decls(
         &mut self,

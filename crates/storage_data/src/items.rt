@@ -14,6 +14,7 @@ use fx_lists::{List, Text};
 use refusal_codes::{Code, Refusal, refuse_if};
 use std::alloc::{AllocError as Memory, Global};
 
+/// The name of an item: of a variable, of a whole array or of the array of an element. None of any other expression.
 #[tactic(auto, using(f77_ast::proofs::Plainly::expr_cases))]
 pub fn item_name(item: &Expr) -> Option<&Text>
     ensures { option_copied result ≡ item_name (expr_tree item.now) }
@@ -41,7 +42,8 @@ fn element_fault(table: &NameTable, name: &Text, es: &List<Expr>, line: u32) -> 
     }
 }
 
-/// The first refusal of an item alone; an array may stand whole.
+/// The first refusal of an item by itself, at this line: of a subscripted name that is no array, or of the subscripts. A name
+/// without subscripts has none, nor has any other expression.
 #[tactic(auto, using(f77_ast::proofs::Plainly::expr_cases))]
 pub fn item_fault(table: &NameTable, item: &Expr, line: u32) -> Option<Refusal>
     ensures { result ≡ item_fault (table_tree table.now) (expr_tree item.now) line }
@@ -68,7 +70,7 @@ fn both(one: Option<Refusal>, found: Option<Refusal>) -> Option<Refusal>
     }
 }
 
-/// The first refusal, also of these items.
+/// The first of this refusal and of those of the items by themselves, which are at this line.
 #[tactic(auto, using(f77_ast::proofs::PlainlyDecl::decl_lists))]
 pub fn check_items(
     table: &NameTable,
@@ -84,7 +86,8 @@ pub fn check_items(
     found
 }
 
-/// The unit of an item in its variable, from 0; None where a subscript is not constant, faults or is out of bounds.
+/// The unit of an item in its variable, from 0. None where a subscript is not constant, faults or is out of bounds, where the
+/// bounds are unknown, and for an expression that is no item.
 #[tactic(auto, using(f77_ast::proofs::Plainly::expr_cases))]
 pub fn item_position(alloc: Global, table: &NameTable, item: &Expr) -> Result<Option<u64>, Memory>
     ensures { IfOk result (λ r. r ≡ item_position (table_tree table.now) (expr_tree item.now)) }

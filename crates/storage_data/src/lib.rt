@@ -1,9 +1,10 @@
-//! The units that names and items stand for, and the initial values that DATA gives them.
+//! The units of names and items, and the initial values that DATA gives them.
 #![tactic(auto)]
 
 mod deals;
 mod initials;
 mod items;
+mod laws;
 mod numbers;
 mod positions;
 mod runs;
@@ -15,6 +16,7 @@ mod values;
 pub use deals::Piece;
 pub use initials::Filled;
 pub use items::{check_items, item_name, item_position};
+pub use laws::{first_element_has_number_zero, next_element_has_next_number};
 pub use numbers::{as_count, as_number, as_offset, sum};
 pub use runs::initial_of;
 pub use stretches::Stretch;

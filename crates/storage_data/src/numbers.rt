@@ -1,9 +1,10 @@
-//! Numbers that fit their types; where one does not, as beyond 2^63 units, the answer is want of memory.
+//! Numbers that fit their types. Where one does not, as for 2^63 units, the result is Err, as for lack of memory.
 ghost use Rattle.std.specs.Prelude.{◌≡◌, ◌+◌, ◌*◌, pos, IfOk};
 ghost use Rattle.f77_ast.specs.Places.{as_count};
 
 use std::alloc::AllocError as Memory;
 
+/// The number in 32 bits; Err from 2^32 on.
 pub fn as_number(n: usize) -> Result<u32, Memory>
     ensures { IfOk result (λ m. m ≡ n) }
 {
@@ -13,6 +14,7 @@ pub fn as_number(n: usize) -> Result<u32, Memory>
     }
 }
 
+/// The number as an offset with a sign; Err from 2^63 on.
 pub fn as_offset(n: u64) -> Result<i64, Memory>
     ensures { IfOk result (λ m. m ≡ pos n) }
 {
@@ -22,6 +24,7 @@ pub fn as_offset(n: u64) -> Result<i64, Memory>
     }
 }
 
+/// The sum; Err from 2^64 on.
 pub fn sum(m: u64, n: u64) -> Result<u64, Memory>
     ensures { IfOk result (λ s. s ≡ m + n) }
 {
@@ -31,6 +34,7 @@ pub fn sum(m: u64, n: u64) -> Result<u64, Memory>
     }
 }
 
+/// The product; Err from 2^64 on.
 pub fn product(m: u64, n: u64) -> Result<u64, Memory>
     ensures { IfOk result (λ p. p ≡ m * n) }
 {
@@ -40,7 +44,7 @@ pub fn product(m: u64, n: u64) -> Result<u64, Memory>
     }
 }
 
-/// The number itself, 0 for one below 0.
+/// The number itself, or 0 where it is negative.
 pub fn as_count(n: i64) -> u64
     ensures { result ≡ as_count n }
 {

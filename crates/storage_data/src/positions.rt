@@ -85,7 +85,8 @@ fn entry_position(
     }
 }
 
-/// The unit of an element in its variable, from 0.
+/// The unit of an array element in its array, from 0; the first subscript varies fastest. None where the name or its bounds are
+/// unknown, a subscript is no integer constant or out of bounds, or the number of subscripts is not that of bounds.
 pub fn element_position(
     alloc: Global,
     table: &NameTable,

@@ -8,7 +8,7 @@ use fx_lists::List;
 use std::alloc::{AllocError as Memory, Global};
 use storage_groups::{Groups, Home, Seat};
 
-/// Units of a group: the first, and the one behind the last.
+/// Units of a group, as offsets from its unit 0: the first, and the one after the last.
 #[derive(Clone, Copy)]
 pub struct Stretch {
     pub home: Home,
@@ -48,6 +48,8 @@ fn add_stretch(seats: &Groups, target: Target, stretches: &mut List<Stretch>) ->
     }
 }
 
+/// The units that targets cover, one stretch for each target that covers some, in their order. Err also where an offset leaves
+/// 64 bits.
 #[tactic(auto, using(f77_ast::proofs::PlainlyDecl::decl_lists))]
 pub fn stretches_of(
     alloc: Global,
@@ -82,8 +84,8 @@ fn meets_some(stretch: Stretch, before: &[Stretch]) -> bool
     false
 }
 
-/// Adds stretches one after another; whether one meets one before it. Each is compared with all before it: a module takes the
-/// time of the square of its targets.
+/// Adds stretches to those before; whether one of them shares a unit with one before it, old or new. Quadratic: each is
+/// compared with all before it.
 #[tactic(auto, using(crate::proofs::TestLaws::twice_steps))]
 pub fn meet_twice(before: &mut List<Stretch>, new: &[Stretch]) -> Result<bool, Memory>
     ensures answer { IfOk result (λ b. b ≡ meet_twice before.old new.now) }

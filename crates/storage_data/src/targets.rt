@@ -1,4 +1,4 @@
-//! What the targets of DATA ask for.
+//! The units that the targets of DATA cover.
 ghost use Rattle.std.specs.Prelude.{◌≡◌, IfOk, Some, map, slice_get};
 ghost use Rattle.std.specs.List.{list_any};
 ghost use Rattle.f77_ast.specs.Plain.{expr_tree};
@@ -16,12 +16,16 @@ use fx_lists::List;
 use std::alloc::{AllocError as Memory, Global};
 use storage_groups::{Groups, Seat};
 
-/// A target may have no DATA, another refusal leaves it open, or it covers units of the name at a place: from an offset, so
-/// many.
+/// What an item of DATA covers (ANSI X3.9-1978, §9).
 #[derive(Clone, Copy)]
 pub enum Target {
+    /// The item may have no DATA: its name is a dummy, in COMMON, a PARAMETER, in a block by EQUIVALENCE or unknown, its
+    /// subscripts are not constants within bounds, or it is no item. It is refused.
     Excluded,
+    /// The dimensions or the subscripts of the item have a refusal of their own; it gives none as DATA.
     Open,
+    /// Units of the name at a place of the table of names, from 0: the first unit, counted from that of the variable, and how
+    /// many.
     Covers(usize, u64, u64),
 }
 
@@ -130,6 +134,7 @@ fn target_of(
     }
 }
 
+/// The target of each item, in their order.
 #[tactic(auto, using(f77_ast::proofs::PlainlyDecl::decl_lists))]
 pub fn targets_of(
     alloc: Global,
@@ -147,6 +152,7 @@ pub fn targets_of(
     Ok(targets)
 }
 
+/// Whether some target is `Excluded`.
 pub fn some_excluded(targets: &[Target]) -> bool
     ensures { result ≡ list_any is_excluded targets.now }
 {
@@ -158,6 +164,7 @@ pub fn some_excluded(targets: &[Target]) -> bool
     false
 }
 
+/// Whether some target is `Open`.
 pub fn some_open(targets: &[Target]) -> bool
     ensures { result ≡ list_any is_open targets.now }
 {
@@ -169,6 +176,7 @@ pub fn some_open(targets: &[Target]) -> bool
     false
 }
 
+/// How many units the targets cover together. Err also from 2^64 on.
 pub fn units_in(targets: &[Target]) -> Result<u64, Memory>
     ensures { IfOk result (λ n. n ≡ units_in targets.now) }
 {

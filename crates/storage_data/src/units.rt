@@ -20,7 +20,7 @@ fn entry_units(alloc: Global, table: &NameTable, entry: &Entry) -> Result<u64, M
     }
 }
 
-/// The units of a name; one where its dimensions are not known.
+/// How many units the variable of a name has; 1 where the name or its dimensions are not known.
 pub fn units_of(alloc: Global, table: &NameTable, name: &Text) -> Result<u64, Memory>
     ensures { IfOk result (λ n. n ≡ units_of (table_tree table.now) name.now) }
 {

@@ -10,7 +10,7 @@ use f77_constants::{Constant, Constants, Worth, worth_of};
 use fx_lists::{List, Text};
 use std::alloc::{AllocError as Memory, Global};
 
-/// So many times a value; None is what is no constant.
+/// A value and how often it is repeated; None is a value that is no literal.
 #[derive(Clone, Copy)]
 pub struct Run {
     pub count: u64,
@@ -53,7 +53,7 @@ fn run_of(value: &DataValue) -> Run
     }
 }
 
-/// The values with their counts; one that is repeated no times is none.
+/// The values with their repeat counts, 1 where none is written, in the order of the text; a value with count 0 is left out.
 #[tactic(auto, using(f77_ast::proofs::PlainlyDecl::decl_lists))]
 pub fn runs_of(alloc: Global, values: &[DataValue]) -> Result<List<Run>, Memory>
     ensures { IfOk result (λ rs. rs ≡ runs_of (map data_value_tree values.now)) }
@@ -68,6 +68,7 @@ pub fn runs_of(alloc: Global, values: &[DataValue]) -> Result<List<Run>, Memory>
     Ok(runs)
 }
 
+/// How many values the runs have together, with repeats. Err also from 2^64 on.
 pub fn values_in(runs: &[Run]) -> Result<u64, Memory>
     ensures { IfOk result (λ n. n ≡ values_in runs.now) }
 {

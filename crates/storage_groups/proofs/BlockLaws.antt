@@ -1,5 +1,5 @@
 -- What a join does to blocks.
-use Rattle.std.proofs.Common.{◌≡◌, ℕ, zero, suc, Bool, true, false, ℤ, pos, ◌+ℤ◌, ◌-ℤ◌, List, [], ◌∷◌, Option, Some, None, ◌⊎◌, inl, inr, refl, sym, ap, ◌∙◌, subst}
+use Rattle.std.proofs.Common.{◌≡◌, ℕ, zero, suc, Bool, true, false, ℤ, pos, ◌+ℤ◌, List, [], ◌∷◌, Option, Some, None, ◌⊎◌, inl, inr, refl, sym, ap, ◌∙◌, subst}
 use Rattle.std.specs.Prelude.{slice_get, not, neg_ℤ, if◌then◌else◌}
 use Rattle.std.specs.Option.{option_map}
 use Rattle.std.specs.Ordering.{int_eq}
@@ -7,7 +7,7 @@ use Rattle.std.proofs.lemmas.Bool.{eq-eqb, eqb-true}
 use Rattle.storage_groups.specs.declared.seat.Home.{Home}
 use Rattle.storage_groups.specs.declared.seat.Home.TheVariants.{Block, Own}
 use Rattle.storage_groups.specs.declared.seat.Seat.{Seat}
-use Rattle.storage_groups.specs.Seats.{same_home, is_block, move_seat, all_moved, Joined, joined_at, joined_seats}
+use Rattle.storage_groups.specs.Seats.{same_home, is_block, move_seat, all_moved, Joined, joined_at, distance, joined_seats}
 use Rattle.storage_groups.specs.Laws.{BlocksStay, OneLiesWith, BlocksTakeGroups}
 
 pub same_home-refl : (h : Home) → same_home h h ≡ true
@@ -60,7 +60,7 @@ blocks_stay ss m p n q k s e t = go (slice_get ss m) (slice_get ss n)
     go : (x y : Option Seat) → slice_get (joined_seats ss x p y q).seats k ≡ Some s
     go None y = e
     go (Some a) None = e
-    go (Some a) (Some b) = blocks_stay_at ss a b ((a.offset +ℤ p) -ℤ (b.offset +ℤ q)) k s e t
+    go (Some a) (Some b) = blocks_stay_at ss a b (distance a p b q) k s e t
 
 take_at : (ss : List Seat) (m n : ℕ) (a b : Seat) (shift : ℤ) (k : ℕ) (s : Seat) → slice_get ss m ≡ Some a → slice_get ss n ≡ Some b → slice_get (joined_at ss a b shift).seats k ≡ Some s → is_block s.home ≡ true → (slice_get ss k ≡ Some s) ⊎ OneLiesWith (joined_at ss a b shift).seats m n s
 take_at ss m n a b shift k s at_m at_n = go (same_home a.home b.home) (is_block b.home) (is_block a.home) refl refl
@@ -89,7 +89,7 @@ blocks_take_groups ss m p n q k s = go (slice_get ss m) (slice_get ss n) refl re
     go : (x y : Option Seat) → slice_get ss m ≡ x → slice_get ss n ≡ y → slice_get (joined_seats ss x p y q).seats k ≡ Some s → is_block s.home ≡ true → (slice_get ss k ≡ Some s) ⊎ OneLiesWith (joined_seats ss x p y q).seats m n s
     go None y a b e t = inl e
     go (Some u) None a b e t = inl e
-    go (Some u) (Some v) a b e t = take_at ss m n u v ((u.offset +ℤ p) -ℤ (v.offset +ℤ q)) k s a b e t
+    go (Some u) (Some v) a b e t = take_at ss m n u v (distance u p v q) k s a b e t
 
 -- two that are tested as the same are the same
 pub same_home-is : (h k : Home) → same_home h k ≡ true → h ≡ k

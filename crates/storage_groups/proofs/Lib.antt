@@ -3,3 +3,4 @@ pub mod MoveLaws
 pub mod LowestLaws
 pub mod BlockLaws
 pub mod SpanLaws
+pub mod JoinLaws

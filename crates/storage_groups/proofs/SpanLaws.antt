@@ -1,5 +1,5 @@
 -- Joins, and how far groups reach.
-use Rattle.std.proofs.Common.{◌≡◌, ℕ, zero, suc, ◌+◌, ◌≤◌, Bool, true, false, ℤ, pos, ◌+ℤ◌, ◌-ℤ◌, ◌≤ℤ◌, List, [], ◌∷◌, Option, Some, None, refl, sym, ap, ◌∙◌, subst, arith}
+use Rattle.std.proofs.Common.{◌≡◌, ℕ, zero, suc, ◌+◌, ◌≤◌, Bool, true, false, ℤ, pos, ◌+ℤ◌, ◌≤ℤ◌, List, [], ◌∷◌, Option, Some, None, refl, sym, ap, ◌∙◌, subst, arith}
 use Rattle.std.specs.Prelude.{slice_get, not, neg_ℤ, if◌then◌else◌}
 use Rattle.std.specs.Option.{option_map}
 use Rattle.std.specs.Ordering.{int_eq}
@@ -7,7 +7,7 @@ use Rattle.std.specs.Int.{int_min}
 use Rattle.std.proofs.lemmas.Int.{ints, clamps}
 use Rattle.storage_groups.specs.declared.seat.Home.{Home}
 use Rattle.storage_groups.specs.declared.seat.Seat.{Seat}
-use Rattle.storage_groups.specs.Seats.{same_home, is_block, move_seat, all_moved, Joined, joined_at, joined_seats}
+use Rattle.storage_groups.specs.Seats.{same_home, is_block, move_seat, all_moved, Joined, joined_at, distance, joined_seats}
 use Rattle.storage_groups.specs.Spans.{units_from, Reaches, AreCompact, JoinsKeepCompact}
 use Rattle.storage_groups.proofs.BlockLaws.{same_home-refl, same_home-is, moved_get}
 
@@ -169,11 +169,11 @@ module _ (units : ℕ → ℕ) (ss : List Seat) (all : AreCompact units ss) wher
   point : (m p : ℕ) (a : Seat) → slice_get ss m ≡ Some a → p ≤ units m → (r : Reaches units ss a.home) → (r.low ≤ℤ (a.offset +ℤ pos p)) × ((a.offset +ℤ pos p) ≤ℤ (r.low +ℤ pos (units_from units 0 a.home ss)))
   point m p a e h r = let l = r.lie m a e (same_home-refl a.home) in (omega (arith, ints, l.0, l.1, h), omega (arith, ints, l.0, l.1, h))
 
-  at_keep : (m p n q : ℕ) (a b : Seat) → slice_get ss m ≡ Some a → slice_get ss n ≡ Some b → p ≤ units m → q ≤ units n → AreCompact units (joined_at ss a b ((a.offset +ℤ pos p) -ℤ (b.offset +ℤ pos q))).seats
+  at_keep : (m p n q : ℕ) (a b : Seat) → slice_get ss m ≡ Some a → slice_get ss n ≡ Some b → p ≤ units m → q ≤ units n → AreCompact units (joined_at ss a b (distance a (pos p) b (pos q))).seats
   at_keep m p n q a b e f h i = go (same_home a.home b.home) (is_block b.home) (is_block a.home) refl
     where
       shift : ℤ
-      shift = (a.offset +ℤ pos p) -ℤ (b.offset +ℤ pos q)
+      shift = distance a (pos p) b (pos q)
 
       go : (same inner outer : Bool) → same_home a.home b.home ≡ same → AreCompact units (let j : Joined = if same then record { seats = ss; clash = not (int_eq shift (pos 0)) } else if inner then (if outer then record { seats = ss; clash = true } else record { seats = all_moved a.home b.home (neg_ℤ shift) ss; clash = false }) else record { seats = all_moved b.home a.home shift ss; clash = false } in j.seats)
       go true inner outer s = all

@@ -1,5 +1,5 @@
--- What the lowest offset of a group is, and what a join does to blocks.
-use Rattle.std.specs.Prelude.{◌≡◌, ℕ, true, ℤ, ◌≤ℤ◌, List, slice_get, Some, ◌⊎◌}
+-- What the lowest offset of a group is, and what a join does to blocks and to units.
+use Rattle.std.specs.Prelude.{◌≡◌, ℕ, true, false, ℤ, ◌+ℤ◌, ◌≤ℤ◌, List, slice_get, Some, ◌⊎◌}
 use Rattle.storage_groups.specs.declared.seat.Seat.{Seat}
 use Rattle.storage_groups.specs.Seats.{same_home, is_block, joined, lowest}
 
@@ -29,3 +29,22 @@ OneLiesWith ss m n s = (j : ℕ) × (r : Seat) × ((j ≡ m) ⊎ (j ≡ n)) × (
 abbrev pub BlocksTakeGroups : Type 0
 BlocksTakeGroups = (ss : List Seat) (m : ℕ) (p : ℤ) (n : ℕ) (q : ℤ) (k : ℕ) (s : Seat) → slice_get (joined ss m p n q).seats k ≡ Some s → is_block s.home ≡ true →
     (slice_get ss k ≡ Some s) ⊎ OneLiesWith (joined ss m p n q).seats m n s
+
+-- ---- joins and units
+
+-- unit p of one variable is unit q of another: they lie in one group, as far from its unit 0
+pub record Coincide (ss : List Seat) (m : ℕ) (p : ℤ) (n : ℕ) (q : ℤ) : Type 0 where
+  pub first : Seat
+  pub second : Seat
+  pub is_first : slice_get ss m ≡ Some first
+  pub is_second : slice_get ss n ≡ Some second
+  pub home : first.home ≡ second.home
+  pub unit : first.offset +ℤ p ≡ second.offset +ℤ q
+
+-- units that are joined without a clash are one
+abbrev pub JoinedUnitsCoincide : Type 0
+JoinedUnitsCoincide = (ss : List Seat) (m : ℕ) (p : ℤ) (n : ℕ) (q : ℤ) (a b : Seat) → slice_get ss m ≡ Some a → slice_get ss n ≡ Some b → (joined ss m p n q).clash ≡ false → Coincide (joined ss m p n q).seats m p n q
+
+-- units that are one stay one, whatever is joined
+abbrev pub CoincidentUnitsStay : Type 0
+CoincidentUnitsStay = (ss : List Seat) (i : ℕ) (r : ℤ) (j : ℕ) (s : ℤ) (m : ℕ) (p : ℤ) (n : ℕ) (q : ℤ) → Coincide ss m p n q → Coincide (joined ss i r j s).seats m p n q

@@ -43,10 +43,14 @@ joined_at ss a b shift =
     else record { seats = all_moved a.home b.home (neg_ℤ shift) ss; clash = false })
     else record { seats = all_moved b.home a.home shift ss; clash = false }
 
+-- how far unit q of the second stands before unit p of the first
+abbrev pub distance : Seat → ℤ → Seat → ℤ → ℤ
+distance a p b q = (a.offset +ℤ p) -ℤ (b.offset +ℤ q)
+
 abbrev pub joined_seats : List Seat → Option Seat → ℤ → Option Seat → ℤ → Joined
 joined_seats ss None p b q = record { seats = ss; clash = false }
 joined_seats ss (Some a) p None q = record { seats = ss; clash = false }
-joined_seats ss (Some a) p (Some b) q = joined_at ss a b ((a.offset +ℤ p) -ℤ (b.offset +ℤ q))
+joined_seats ss (Some a) p (Some b) q = joined_at ss a b (distance a p b q)
 
 -- unit p of variable m and unit q of variable n become one
 abbrev pub joined : List Seat → ℕ → ℤ → ℕ → ℤ → Joined

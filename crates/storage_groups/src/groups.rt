@@ -1,4 +1,4 @@
-//! Where variables lie.
+//! Groups of variables, and joins of groups.
 ghost use Rattle.std.specs.Prelude.{◌≡◌, ℕ, None, IfSome, IfOk, slice_get, slice_set, nat_eq};
 ghost use Rattle.std.specs.HashMap.{get};
 ghost use Rattle.storage_groups.specs.declared.seat.Home.TheVariants.{Own};
@@ -10,8 +10,9 @@ use std::alloc::{AllocError as Memory, Global};
 use std::collections::HashMap;
 use std::marker::Model;
 
-/// Variables by their numbers from 0. A look-up takes constant time, and a join of two groups that of all variables.
-#[derive(Debug, Drop)]
+/// The seat of each variable, by its number from 0. A look-up takes constant time, and a join of two groups time linear in the
+/// number of all variables.
+#[derive(Drop)]
 pub struct Groups {
     seats: Vec<Seat>,
 }
@@ -26,7 +27,7 @@ impl Model for Groups {
 }
 
 impl Groups {
-    /// So many variables, each in a group of its own.
+    /// So many variables, each at offset 0 of a group of its own, which has the number of the variable.
     #[tactic(auto, using(crate::proofs::AloneLaws::alone_next))]
     pub fn singletons(alloc: Global, count: u32) -> Result<Groups, Memory>
         ensures { IfOk result (λ g. g ≡ alone_from 0 count) }
@@ -41,21 +42,21 @@ impl Groups {
         Ok(Groups { seats })
     }
 
-    /// Takes no memory.
+    /// The seats of all variables, by their numbers. Takes no memory.
     pub fn as_slice(&self) -> &[Seat]
         ensures { result.now ≡ self.now }
     {
         self.seats.as_slice()
     }
 
-    /// Where a variable lies.
+    /// The seat of a variable, by its number from 0; None past the last variable.
     pub fn seat(&self, variable: usize) -> Option<Seat>
         ensures { result ≡ slice_get self.now variable }
     {
         self.seats.get(variable).copied()
     }
 
-    /// A variable lies there from now on.
+    /// Gives one variable a new seat; the others of its group keep theirs. Does nothing past the last variable.
     pub fn put(&mut self, variable: usize, seat: Seat)
         ensures { self.new ≡ slice_set self.old variable seat }
     {
@@ -64,14 +65,15 @@ impl Groups {
         }
     }
 
-    /// Whether a variable of a group begins before the group's unit 0.
+    /// Whether some variable of a group has a negative offset. Linear in the number of all variables.
     pub fn begins_before(&self, home: Home) -> bool
         ensures { result ≡ begins_before self.now home }
     {
         begins_before(self.seats.as_slice(), home)
     }
 
-    /// The lowest offset of each group that began with a variable, by its number.
+    /// The lowest offset in each group that began with a variable, by the number of that variable. A group without variables
+    /// has none, and groups of blocks are left out. Linear in the number of all variables.
     pub fn lows(&self, alloc: Global) -> Result<HashMap<u32, i64>, Memory>
         ensures { IfOk result (λ m. (n : ℕ) → get nat_eq m n ≡ lowest_from None (Own n) self.now) }
     {
@@ -95,8 +97,10 @@ impl Groups {
         move_group(&mut self.seats, a.home, b.home, back).then_some(false)
     }
 
-    /// Makes unit p of variable m and unit q of variable n one, and tells whether that contradicts what was joined before.
-    /// None where an offset leaves 64 bits: then the groups are of no further use.
+    /// Makes unit p of variable m and unit q of variable n one unit, each counted from the first unit of its variable. The
+    /// answer is whether this contradicts earlier joins or joins two blocks: then nothing is changed, nor where m or n is no
+    /// variable. Of two groups that of a block keeps its offsets, else the group of m does. None where an offset leaves 64
+    /// bits: then the groups are of no further use.
     pub fn join(&mut self, m: usize, p: i64, n: usize, q: i64) -> Option<bool>
         ensures { IfSome result (Yields self.new (joined self.old m p n q)) }
     {

@@ -1,5 +1,5 @@
-//! What the lowest offset of a group is, what a join does to blocks, and how far groups reach.
-ghost use Rattle.storage_groups.specs.Laws.{BlocksStay, BlocksTakeGroups, LowestIsLeast, LowestIsReached};
+//! What the lowest offset of a group is, what a join does to blocks and to units, and how far groups reach.
+ghost use Rattle.storage_groups.specs.Laws.{BlocksStay, BlocksTakeGroups, CoincidentUnitsStay, JoinedUnitsCoincide, LowestIsLeast, LowestIsReached};
 ghost use Rattle.storage_groups.specs.Spans.{JoinsKeepCompact};
 
 /// The law that no variable of a group begins before the group's lowest offset.
@@ -17,12 +17,24 @@ pub fn blocks_stay()
     ensures { BlocksStay }
 {}
 
-/// The law that a variable comes into a block only by a join with what lies there.
+/// The law that a variable that is in a block after a join was there before, or one of the two joined variables is in that
+/// block.
 pub fn blocks_take_groups()
     ensures { BlocksTakeGroups }
 {}
 
-/// The law that groups reach no farther than their variables would one behind the other, whatever units of variables are joined.
+/// The law that units that are joined without a clash are one.
+pub fn joined_units_coincide()
+    ensures { JoinedUnitsCoincide }
+{}
+
+/// The law that units that are one stay one, whatever is joined.
+pub fn coincident_units_stay()
+    ensures { CoincidentUnitsStay }
+{}
+
+/// The law that joins keep each group within a stretch of as many units as its variables have together, where no joined unit is
+/// past the first one after its variable.
 pub fn joins_keep_compact()
     ensures { JoinsKeepCompact }
 {}

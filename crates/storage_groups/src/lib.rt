@@ -8,6 +8,7 @@ mod seat;
 
 pub use groups::Groups;
 pub use laws::{
-    blocks_stay, blocks_take_groups, joins_keep_compact, lowest_is_least, lowest_is_reached,
+    blocks_stay, blocks_take_groups, coincident_units_stay, joined_units_coincide,
+    joins_keep_compact, lowest_is_least, lowest_is_reached,
 };
 pub use seat::{Home, Seat};

@@ -22,7 +22,8 @@ fn move_seat(seat: Seat, from: Home, to: Home, shift: i64) -> Option<Seat>
     })
 }
 
-/// Moves all variables of a group to another one; whether their offsets stay in 64 bits.
+/// Moves all variables of a group to another one, with offsets higher by the shift, and returns whether these stay in 64 bits.
+/// Where they do not, only some variables are moved. Linear in the number of all variables.
 pub fn move_group(seats: &mut [Seat], from: Home, to: Home, shift: i64) -> bool
     ensures { OnTrue result (seats.new ≡ all_moved from to shift seats.old) }
 {
@@ -35,7 +36,7 @@ pub fn move_group(seats: &mut [Seat], from: Home, to: Home, shift: i64) -> bool
     true
 }
 
-/// Whether a variable of a group begins before the group's unit 0.
+/// Whether some variable of a group has a negative offset. Linear in the number of all variables.
 pub fn begins_before(seats: &[Seat], home: Home) -> bool
     ensures { result ≡ begins_before seats.now home }
 {
@@ -67,7 +68,8 @@ fn note_low(lows: &mut HashMap<u32, i64>, seat: Seat) -> Result<(), Memory>
     Ok(())
 }
 
-/// The lowest offset of each group that began with a variable, by its number.
+/// The lowest offset in each group that began with a variable, by the number of that variable. A group without variables has
+/// none, and groups of blocks are left out.
 pub fn lows(alloc: Global, seats: &[Seat]) -> Result<HashMap<u32, i64>, Memory>
     ensures { IfOk result (λ m. (n : ℕ) → get nat_eq m n ≡ lowest_from None (Own n) seats.now) }
 {

@@ -1,22 +1,25 @@
-//! Where a variable lies.
+//! The seat of a variable: its group, and its offset there.
 ghost use Rattle.std.specs.Prelude.{◌≡◌};
 ghost use Rattle.storage_groups.specs.Seats.{is_block, same_home};
 
-/// A group: that of a block, or one that began with a variable, each by a number from 0.
-#[derive(Clone, Copy, Debug, PartialEq, Eq)]
+/// The name of a group.
+#[derive(Clone, Copy, PartialEq, Eq)]
 pub enum Home {
+    /// The group of a block, by the number of the block, from 0.
     Block(u32),
+    /// A group without a block, by the number of the variable that it began with, from 0.
     Own(u32),
 }
 
-/// A group, and the offset of the variable's first unit from the group's unit 0.
-#[derive(Clone, Copy, Debug, PartialEq, Eq)]
+/// A group, and the offset of the first unit of the variable from unit 0 of the group, in units; it may be negative.
+#[derive(Clone, Copy, PartialEq, Eq)]
 pub struct Seat {
     pub home: Home,
     pub offset: i64,
 }
 
 impl Home {
+    /// Whether this is the group of a block.
     pub fn is_block(self) -> bool
         ensures { result ≡ is_block self }
     {
@@ -26,6 +29,7 @@ impl Home {
         }
     }
 
+    /// Whether both are one group: equal numbers, and both of blocks or neither.
     pub fn is_same(self, other: Home) -> bool
         ensures { result ≡ same_home self other }
     {

@@ -175,7 +175,7 @@ items_step t all (i ∷ is) g sub h =
 
 -- ---- a group
 
-noted_none : (b : Bool) (line : ℕ) (c : Code) (o : Option Refusal) → refuse_if b line c o ≡ None → (b ≡ false) × (o ≡ None)
+pub noted_none : (b : Bool) (line : ℕ) (c : Code) (o : Option Refusal) → refuse_if b line c o ≡ None → (b ≡ false) × (o ≡ None)
 unfolding refuse_if
 noted_none true line c o e = cc
 noted_none false line c o e = (refl, e)

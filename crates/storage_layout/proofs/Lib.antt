@@ -3,5 +3,10 @@ pub mod BlockLaws
 pub mod NumberingLaws
 pub mod KeptLaws
 pub mod EarlyLaws
-pub mod OffsetLaws
 pub mod AnswerLaws
+pub mod GroupKeeps
+pub mod GroupLaws
+pub mod StayLaws
+pub mod SeatedLaws
+pub mod EquivalenceLaws
+pub mod RowLaws

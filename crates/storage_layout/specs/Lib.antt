@@ -5,4 +5,5 @@ pub mod Table
 pub mod Symbols
 pub mod Gives
 pub mod Views
+pub mod Statements
 pub mod Laws

@@ -174,8 +174,9 @@ fn symbols_at(alloc: Global, lines: &LineTable, module: &Module) -> Result<Symbo
     check_and_lay_out(alloc, lines, module, &table, found)
 }
 
-/// The symbols of a module that was read, or its first refusal: the earliest line, then the lowest code, where 35 and 36 come
-/// after all others.
+/// The symbols of a module that was read, in the order of its table of names. Err is its first refusal: the earliest line, then
+/// the lowest code, where 35 and 36 come after all others. The offset of a local counts from the lowest one of its storage
+/// group.
 pub fn symbols(alloc: Global, parsed: &Parsed) -> Result<Symbols, LayoutRefusal>
     ensures { Gives result (symbols_of (parsed_tree parsed.now)) }
 {
@@ -183,7 +184,7 @@ pub fn symbols(alloc: Global, parsed: &Parsed) -> Result<Symbols, LayoutRefusal>
     symbols_at(alloc, &lines, &parsed.module)
 }
 
-/// The number of the symbol of a name, from 1. Takes no memory.
+/// The number of the symbol of a name, from 1; None where no symbol has it. Takes no memory.
 pub fn place(symbols: &Symbols, name: &Text) -> Option<u32>
     ensures { result ≡ number_from 1 (names_of symbols.now) name.now }
 {

@@ -1,4 +1,4 @@
-//! COMMON blocks: the variables of a block lie one behind the other (ANSI X3.9-1978 §8.3.2).
+//! COMMON blocks: the variables of a block follow one another in storage (ANSI X3.9-1978 §8.3.2).
 ghost use Rattle.std.specs.Prelude.{◌≡◌, OnOk, map, slice_get};
 ghost use Rattle.f77_ast.specs.PlainDecl.{common_tree, decl_tree, entity_tree};
 ghost use Rattle.f77_symbols.specs.Symbols.{number_from};
@@ -11,7 +11,8 @@ use std::alloc::{AllocError as Memory, Global};
 use storage_data::{as_number, as_offset, sum, units_of};
 use storage_groups::{Groups, Home, Seat};
 
-/// Where the names lie, by their places; the blocks in order of first appearance, and how many units each has so far.
+/// The layout so far: the seats of the names, by their places from 0 in the table of names; the names of the blocks in order of
+/// first appearance; and how many units each block has.
 #[derive(Drop)]
 pub struct Laid {
     pub seats: Groups,
@@ -167,7 +168,9 @@ impl Laid {
         }
     }
 
-    /// Puts the variables of these statements into their blocks.
+    /// Puts the variables of the COMMON statements among these into their blocks, each after those that the block has. A
+    /// variable that is in a block already stays. Err also where an offset or a size has no 64 bits. Takes time of the
+    /// variables times the blocks.
     #[tactic(auto, using(f77_ast::proofs::PlainlyDecl::decl_lists))]
     pub fn put_decls(
         &mut self,

@@ -17,14 +17,15 @@ use std::alloc::{AllocError as Memory, Global};
 use storage_data::{as_offset, check_items, item_name, item_position};
 use storage_groups::{Groups, Seat};
 
-/// A unit of a variable.
+/// A unit of a variable: the place of its name in the table of names, from 0, and the unit, from 0 in the variable.
 #[derive(Clone, Copy)]
 pub struct Anchor {
     pub place: usize,
     pub unit: u64,
 }
 
-/// Where the names lie, the unit that the items of a group share, and whether one contradicts.
+/// The seats of the names, and of the current list of an EQUIVALENCE the unit that its items share, None before the first, and
+/// whether an item clashes: with earlier joins, as a dummy or PARAMETER, or by its subscripts.
 #[derive(Drop)]
 pub struct Grouping {
     pub seats: Groups,
@@ -32,7 +33,8 @@ pub struct Grouping {
     pub clash: bool,
 }
 
-/// The groups, the first refusal, and the first of those that come after all others.
+/// The layout after the EQUIVALENCE statements so far: the current list, the first refusal, and the first of codes 35 and 36,
+/// which are reported after all others.
 #[derive(Drop)]
 pub struct Shared {
     pub group: Grouping,
@@ -229,7 +231,9 @@ impl Shared {
         }
     }
 
-    /// Joins what these statements name.
+    /// Joins the items of each list of the EQUIVALENCE statements among these, and adds their refusals. The statements are all
+    /// specification statements of the module from the first. Err also where an offset leaves 64 bits. Takes time of the items
+    /// times the names of the module.
     #[tactic(auto, using(f77_ast::proofs::PlainlyDecl::decl_lists))]
     pub fn share_decls(
         &mut self,

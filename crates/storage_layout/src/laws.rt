@@ -1,8 +1,12 @@
-//! What a table of symbols keeps of what was laid out.
-ghost use Rattle.storage_layout.specs.Laws.{TablesKeepOffsets};
+//! What the seats of names keep of COMMON and EQUIVALENCE.
+ghost use Rattle.storage_layout.specs.Laws.{EquivalencesCoincide, MembersLieInARow};
 
-/// The law that in the table of a module that is not refused each variable lies as far behind the first unit of its block, or
-/// of its storage group, as COMMON and EQUIVALENCE have laid it.
-pub fn tables_keep_offsets()
-    ensures { TablesKeepOffsets }
+/// The law that the members of each COMMON block lie in a row in the order of the text.
+pub fn members_lie_in_a_row()
+    ensures { MembersLieInARow }
+{}
+
+/// The law that the items of each EQUIVALENCE stand for one unit, where none is refused.
+pub fn equivalences_coincide()
+    ensures { EquivalencesCoincide }
 {}

@@ -16,7 +16,9 @@ use std::collections::HashMap;
 use storage_data::{Piece, as_count, initial_of};
 use storage_groups::{Groups, Home, Seat};
 
-/// What was laid out; the groups of locals, those that are kept, and the lowest offset of each.
+/// What the table of symbols is made of: the names, their seats, the names of the blocks, the pieces of DATA, and whether there
+/// is a SAVE without a list. Computed from these: the storage groups of locals, those that SAVE or DATA names, and the lowest
+/// offset of each.
 #[derive(Drop)]
 pub struct Layout<'a> {
     pub table: &'a NameTable,
@@ -41,6 +43,7 @@ impl<'a> Layout<'a> {
     ghost use Rattle.storage_layout.specs.Groups.{some_keeps};
     ghost use Rattle.storage_layout.specs.Views.{layout_of, layout_tree};
 
+    /// The layout of these names, seats, blocks, pieces and SAVE. Err also from 2^32 - 1 storage groups on.
     pub fn of(
         alloc: Global,
         table: &'a NameTable,
@@ -153,7 +156,8 @@ impl<'a> Layout<'a> {
         })
     }
 
-    /// The symbols of the names.
+    /// The symbols of the names, in the order of the table of names. Takes time of the names in DATA times the pieces, and the
+    /// square of the pieces of one name.
     #[tactic(auto, using(f77_ast::proofs::PlainlyDecl::decl_lists))]
     pub fn symbols_in(&self, alloc: Global) -> Result<Symbols, Memory>
         ensures { IfOk result (λ ss. map symbol_tree ss ≡ symbols_in (layout_tree self.now)) }

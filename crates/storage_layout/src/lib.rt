@@ -11,5 +11,5 @@ mod refusal;
 mod table;
 
 pub use answer::{place, symbols};
-pub use laws::tables_keep_offsets;
+pub use laws::{equivalences_coincide, members_lie_in_a_row};
 pub use refusal::LayoutRefusal;

@@ -11,7 +11,8 @@ use std::collections::HashMap;
 use std::marker::Model;
 use storage_groups::{Groups, Home, Seat};
 
-/// Groups by the numbers of the variables that they began with; a group is looked up in constant time.
+/// Storage groups of locals in the order of their first symbols, each by the number of the variable that it began with. A group
+/// is looked up in constant time.
 #[derive(Drop)]
 pub struct Numbering {
     began: IndexSet<u32>,
@@ -39,7 +40,7 @@ impl Numbering {
         }
     }
 
-    /// The number of a group, from 1.
+    /// The number of a group, from 1; None where it is not numbered.
     pub fn number(&self, began: u32) -> Option<u32>
         ensures { result ≡ index_from 1 self.now began }
     {
@@ -76,7 +77,8 @@ impl Numbering {
         }
     }
 
-    /// The groups of the locals among these names.
+    /// The groups of the locals among these names, in the order of the names. Dummies, PARAMETER names and variables in blocks
+    /// give none. Err also where there are 2^32 - 1 groups.
     #[tactic(auto, using(f77_ast::proofs::PlainlyDecl::decl_lists))]
     pub fn of(alloc: Global, entries: &[Entry], seats: &Groups) -> Result<Numbering, Memory>
         ensures { IfOk result (λ n. n ≡ groups_from 0 (map entry_tree entries.now) seats.now []) }
@@ -109,7 +111,8 @@ fn keep(kept: &mut HashMap<u32, bool>, entry: &Entry, seat: Option<Seat>) -> Res
     }
 }
 
-/// The groups of which a variable is in SAVE or in DATA.
+/// The storage groups of which some variable is named in SAVE or in DATA (ANSI X3.9-1978, §8.9), as keys: the numbers of the
+/// variables that they began with. Groups of blocks are left out.
 #[tactic(auto, using(storage_data::proofs::TestLaws::twice_steps))]
 pub fn kept_groups(
     alloc: Global,

@@ -38,7 +38,7 @@ fn is_empty(items: &[SaveItem]) -> bool
     }
 }
 
-/// Whether there is a SAVE alone.
+/// Whether one of these statements is a SAVE without a list (ANSI X3.9-1978, §8.9).
 #[tactic(auto, using(f77_ast::proofs::PlainlyDecl::decl_lists))]
 pub fn is_save_all(decls: &[Decl]) -> bool
     ensures { result ≡ list_any is_save_all (map decl_tree decls.now) }
@@ -51,6 +51,7 @@ pub fn is_save_all(decls: &[Decl]) -> bool
     false
 }
 
+/// The type of a symbol. A REAL name, which is refused elsewhere, counts as INTEGER.
 pub fn scalar_of(kind: Kind) -> Scalar
     ensures { result ≡ scalar_of kind }
 {
@@ -89,7 +90,7 @@ fn copy_bounds(alloc: Global, bounds: &[Bound]) -> Result<List<Bound>, Memory>
     Ok(copied)
 }
 
-/// The bounds of a name, none of a scalar.
+/// Copies of the bounds of an array, in the order of its dimensions; none of a scalar.
 pub fn bounds_in(alloc: Global, shape: &Option<Shape>) -> Result<List<Bound>, Memory>
     ensures { IfOk result (λ bs. map bound_tree bs ≡ bounds_in (maybe_shape shape.now)) }
 {

@@ -26,7 +26,8 @@ fn sum(x: i128, y: i128) -> i128
     x + y
 }
 
-/// Adds a term to ascending ones. Looks at those before it.
+/// Adds a term to a sum of ascending terms: as a new term in its place, or to the factor that its variable has there;
+/// terms with factor 0 are left out. Linear in the terms.
 pub fn add_term(out: &mut Vec<Term>, var: Var, factor: i128) -> Result<(), Memory>
     requires terms { FactorsBelow (2 ^ 126) out.old.items }
     requires factor { unsigned_abs factor < 2 ^ 62 }

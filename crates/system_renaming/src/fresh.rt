@@ -43,8 +43,8 @@ fn above_rows(mut least: u64, rows: &[Row]) -> u64
     least
 }
 
-/// The least number above those of the auxiliary variables of both systems. Memory where it and `more` after it are not
-/// all below 2^32.
+/// The least number above those of the auxiliary variables of both systems, 0 where they have none. Memory where it and
+/// `more` after it are not all below 2^32.
 pub fn fresh_over(one: &System, other: &System, more: usize) -> Result<u32, Memory>
     ensures defined { IfOk result (λ n. n ≡ fresh_over_is one.now other.now) }
     ensures room { IfOk result (λ n. n + more < 2 ^ 32) }

@@ -10,6 +10,6 @@ mod renaming;
 
 pub use fresh::fresh_over;
 pub use laws::renaming_keeps_points;
-pub use naming::{Naming, renamed};
+pub use naming::{Naming, replacement};
 pub use pushing::{of_rows, push_rows};
 pub use renaming::{rename_all, renamed_row};

@@ -4,15 +4,16 @@ ghost use Rattle.system_renaming.specs.Renaming.{renamed_by};
 
 use affine_systems::Var;
 
-/// A variable and its replacement.
+/// A variable, `from`, and its replacement, `to`.
 #[derive(Clone, Copy, PartialEq, Eq, Debug)]
 pub struct Naming {
     pub from: Var,
     pub to: Var,
 }
 
-/// The replacement of a variable: that of the first naming of it, or itself. Looks at each naming before that.
-pub fn renamed(names: &[Naming], v: Var) -> Var
+/// The replacement of a variable: that of the first naming of it, or the variable itself where there is none. Linear in
+/// the namings.
+pub fn replacement(names: &[Naming], v: Var) -> Var
     ensures { result ≡ renamed_by names.now v }
 {
     for n in names {

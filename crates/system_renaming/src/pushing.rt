@@ -10,7 +10,7 @@ use affine_systems::{Row, System, tidy};
 use fx_lists::List;
 use std::alloc::{AllocError as Memory, Global};
 
-/// The system of rows, tidied.
+/// The system of these rows, tidied. Weak only where tidying loses a row.
 pub fn of_rows(alloc: Global, rows: Vec<Row>) -> Result<System, Memory>
     requires { AllRows IsGiven rows.items }
     ensures defined { IfOk result (λ s. s ≡ of_rows_is rows.items) }
@@ -25,7 +25,8 @@ pub fn of_rows(alloc: Global, rows: Vec<Row>) -> Result<System, Memory>
     )
 }
 
-/// The rows of a system and others, tidied.
+/// The system with more rows, tidied once. It has the points of the system at which all of these hold, and no others
+/// unless it is weak.
 pub fn push_rows(alloc: Global, sys: &System, mut more: Vec<Row>) -> Result<System, Memory>
     requires fits { Fits sys.now }
     requires rows { AllRows IsGiven more.items }

@@ -7,7 +7,7 @@ ghost use Rattle.system_renaming.specs.Renaming.{FactorsGiven, renamed_by, renam
 ghost use Rattle.system_renaming.specs.Laws.{RenamesPoints};
 
 use crate::adding::add_term;
-use crate::{Naming, renamed};
+use crate::{Naming, replacement};
 use affine_systems::{Row, System, Term, tidy};
 use fx_lists::List;
 use std::alloc::{AllocError as Memory, Global};
@@ -23,12 +23,13 @@ fn renamed_terms(alloc: Global, names: &[Naming], terms: &[Term]) -> Result<Vec<
     while left > 0 {
         left -= 1;
         let t = terms[left];
-        add_term(&mut out, renamed(names, t.var), t.factor)?;
+        add_term(&mut out, replacement(names, t.var), t.factor)?;
     }
     Ok(out)
 }
 
-/// A row with the replacement of each variable.
+/// The row with the replacement of each variable, all at once. Factors of variables that get one name are added. Each
+/// variable is looked up among the namings.
 pub fn renamed_row(alloc: Global, names: &[Naming], row: &Row) -> Result<Row, Memory>
     requires { IsSmallRow row.now }
     ensures defined { IfOk result (λ r. r ≡ renamed_row_is (renamed_by names.now) row.now) }
@@ -53,7 +54,7 @@ fn renamed_rows(alloc: Global, names: &[Naming], rows: &[Row]) -> Result<Vec<Row
     Ok(out)
 }
 
-/// The rows with the replacement of each variable, tidied. Each variable is looked up among the namings.
+/// The system with the replacement of each variable, all at once, tidied. Each variable is looked up among the namings.
 pub fn rename_all(alloc: Global, sys: &System, names: &[Naming]) -> Result<System, Memory>
     requires fits { Fits sys.now }
     ensures defined { IfOk result (λ s. s ≡ rename_all_is names.now sys.now) }

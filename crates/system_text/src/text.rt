@@ -172,7 +172,9 @@ fn put_system(out: &mut Vec<u8>, names: &[Text], system: &System) -> Result<(), 
     Ok(())
 }
 
-/// A system between braces, with the names of the symbols, of which the first has number 1.
+/// A system as `{row, row}`, followed by ` WEAK` where it is weak; `{FALSE}` where its one row is infeasible. Positive
+/// terms are on the left side of a row and negative ones on the right. Cell n is written as the name at index n - 1,
+/// its exit with `'` after that, others as `PHI1` and `AUX1`.
 pub fn system_text(alloc: Global, names: &[Text], system: &System) -> Result<Text, Memory>
     ensures { IfOk result (λ text. text ≡ written_system names.now system.now) }
 {
@@ -181,7 +183,7 @@ pub fn system_text(alloc: Global, names: &[Text], system: &System) -> Result<Tex
     Ok(Text::from_vec(out))
 }
 
-/// The line of a precondition, which stands before its statement.
+/// The comment line of a precondition, `C> P ` and the system, without a line end. It is printed before its statement.
 #[tactic(auto, using(std::proofs::Common::append_assoc))]
 pub fn precondition_line(alloc: Global, names: &[Text], system: &System) -> Result<Text, Memory>
     ensures { IfOk result (λ text. text ≡ written_line names.now system.now) }
@@ -207,7 +209,8 @@ fn put_cells(out: &mut Vec<u8>, names: &[Text], cells: &[u32]) -> Result<(), Mem
     Ok(())
 }
 
-/// The line of a transformer: the cells that may change, and how those before and those after are related.
+/// The comment line of a transformer, without a line end: `C> T `, the names of the cells that may change, with commas
+/// between, and the system that relates their values before and after.
 #[tactic(auto, using(std::proofs::Common::append_assoc))]
 pub fn transformer_line(
     alloc: Global,

@@ -62,9 +62,9 @@ fn all_tracked(
     Ok(cells)
 }
 
-/// For each symbol of a module whether it is a tracked cell: an INTEGER scalar that is in no EQUIVALENCE and shares its unit with
-/// no other variable of the module, and, in a block, stands at none of the untracked units of the program. In time of the number
-/// of symbols times that of symbols and units.
+/// For each symbol of a module, in their order, whether it is a tracked cell: an INTEGER scalar that is in no EQUIVALENCE and
+/// no PARAMETER, and that is a dummy, or the only local at its unit, or in a block at none of the untracked units of the
+/// program. Takes time of the number of symbols times that of symbols and untracked units.
 pub fn tracked_flags(
     alloc: Global,
     module: &Module,

@@ -1,4 +1,4 @@
-//! The names that stand in an EQUIVALENCE of a module.
+//! The names in the EQUIVALENCE statements of a module.
 ghost use Rattle.std.specs.Prelude.{◌≡◌, ◌++◌, map, IfOk};
 ghost use Rattle.f77_ast.specs.Plain.{expr_tree};
 ghost use Rattle.f77_ast.specs.PlainDecl.{decl_tree, module_tree, parsed_tree};
@@ -63,7 +63,7 @@ fn add_decl(names: &mut Names, alloc: Global, decl: &Decl) -> Result<(), Memory>
     }
 }
 
-/// The names that stand in an EQUIVALENCE.
+/// The names in the EQUIVALENCE statements of a module, in the order of the text, with repeats.
 pub fn equivalenced_names(alloc: Global, module: &Module) -> Result<Names, Memory>
     ensures { IfOk result (λ names. names ≡ equivalenced_names (module_tree «module».now)) }
 {
@@ -76,7 +76,7 @@ pub fn equivalenced_names(alloc: Global, module: &Module) -> Result<Names, Memor
     Ok(names)
 }
 
-/// The names that stand in an EQUIVALENCE of each module.
+/// For each module, in their order, the names in its EQUIVALENCE statements, with repeats.
 pub fn equivalenced_names_of_all(
     alloc: Global,
     modules: &List<Parsed>,

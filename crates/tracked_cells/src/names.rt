@@ -11,7 +11,7 @@ use fx_lists::{List, Text};
 use std::alloc::{AllocError as Memory, Global};
 use std::marker::Model;
 
-/// Names at their places, from 0. The first place of a name is found in constant time.
+/// Names by their places, from 0, perhaps with repeats. The first place of a name is found in constant time.
 #[derive(Drop)]
 pub struct Names {
     names: Vec<Text>,
@@ -40,27 +40,28 @@ impl Names {
         }
     }
 
-    /// The first place of a name.
+    /// The first place of a name, from 0; None where the name is not there.
     pub fn place(&self, name: &Text) -> Option<u32>
         ensures { result ≡ number_from 0 self.now name.now }
     {
         self.index.place(name)
     }
 
-    /// The name at a place.
+    /// The name at a place, from 0; None past the last name.
     pub fn name(&self, place: u32) -> Option<&Text>
         ensures { option_copied result ≡ slice_get self.now place }
     {
         self.names.get(place as usize)
     }
 
+    /// All names, in the order of their places.
     pub fn names(&self) -> &[Text]
         ensures { result.now ≡ self.now }
     {
         self.names.as_slice()
     }
 
-    /// Adds a name at the end.
+    /// Adds a name at the end, also one that is there. Err also where there are 2^32 - 1 names. After an Err all is as it was.
     pub fn push(&mut self, alloc: Global, name: &Text) -> Result<(), Memory>
         ensures ok { OnOk result (self.new ≡ self.old ++ name.now ∷ []) }
         ensures err { OnErr result (self.new ≡ self.old) }
@@ -71,7 +72,7 @@ impl Names {
         Ok(())
     }
 
-    /// The names of modules in the order of the text.
+    /// The names of these modules, in their order.
     pub fn of(alloc: Global, modules: &List<Parsed>) -> Result<Names, Memory>
         ensures { IfOk result (λ names. names ≡ names_of (map parsed_tree modules.now)) }
     {

@@ -9,10 +9,11 @@ use fx_lists::{List, Text};
 use std::alloc::{AllocError as Memory, Global};
 use std::collections::BTreeSet;
 
-/// A unit of a block, which orders by the name of the block first.
+/// A unit of a block: the name of the block, and the offset of the unit, from 0. Keys are in the order of the names, byte by
+/// byte, then of the offsets.
 pub type UnitKey = (Vec<u8>, u64);
 
-/// Units in order.
+/// A set of units, in the order of their keys.
 pub type UnitKeys = BTreeSet<UnitKey>;
 
 fn put(units: &mut UnitKeys, alloc: Global, block: &Text, offset: u64) -> Result<(), Memory>
@@ -53,7 +54,7 @@ fn add_table(units: &mut UnitKeys, alloc: Global, table: &Symbols) -> Result<(),
     Ok(())
 }
 
-/// The units at which some module has an INTEGER scalar.
+/// The units of blocks at which some module has an INTEGER scalar, each once, in the order of their keys.
 pub fn all_scalars(alloc: Global, tables: &List<Symbols>) -> Result<UnitKeys, Memory>
     ensures { IfOk result (λ units. keyed units.keys ≡ all_scalars (map (map symbol_tree) tables.now) []) }
 {
@@ -66,7 +67,7 @@ pub fn all_scalars(alloc: Global, tables: &List<Symbols>) -> Result<UnitKeys, Me
     Ok(units)
 }
 
-/// Units in a list, in the same order.
+/// The units of a set as a list, in the same order.
 pub fn unit_list(alloc: Global, units: UnitKeys) -> Result<Vec<UnitKey>, Memory>
     ensures { IfOk result (λ keys. keys.items ≡ units.keys) }
 {

@@ -1,4 +1,4 @@
-//! The units that some module spoils.
+//! The units that some module makes not analysable.
 ghost use Rattle.std.specs.Prelude.{◌≡◌, ◌++◌, map, IfOk};
 ghost use Rattle.f77_symbols.specs.Symbols.{symbol_tree};
 ghost use Rattle.tracked_cells.specs.Scalars.{key_unit, keyed};
@@ -68,7 +68,8 @@ fn add_spoilt(
     }
 }
 
-/// The units among these that some module spoils.
+/// The units among these, in the same order, that `spoils` says of some module, where the lists have for each module the names
+/// in its EQUIVALENCE statements and its symbols. Takes time of the number of units times that of all symbols.
 pub fn spoilt(
     alloc: Global,
     names: &List<Names>,

@@ -1,4 +1,4 @@
-//! Which variables stand at a unit.
+//! The variables that have a unit.
 ghost use Rattle.std.specs.Prelude.{◌≡◌, map};
 ghost use Rattle.std.specs.List.{list_any};
 ghost use Rattle.f77_symbols.specs.Symbols.{symbol_tree};
@@ -19,7 +19,7 @@ pub fn has_bounds(symbol: &Symbol) -> bool
     }
 }
 
-/// Whether a symbol is of type INTEGER and no array.
+/// Whether a symbol is of type INTEGER and no array; a PARAMETER may be one.
 pub fn is_int_scalar(symbol: &Symbol) -> bool
     ensures { result ≡ is_int_scalar (symbol_tree symbol.now) }
 {
@@ -29,14 +29,15 @@ pub fn is_int_scalar(symbol: &Symbol) -> bool
     }
 }
 
-/// Whether it is an INTEGER scalar and none of these names.
+/// Whether a symbol is an INTEGER scalar whose name is none of these, which are the names in EQUIVALENCE statements.
 pub fn is_plain(names: &Names, symbol: &Symbol) -> bool
     ensures { result ≡ is_plain names.now (symbol_tree symbol.now) }
 {
     is_int_scalar(symbol) && names.place(&symbol.name).is_none()
 }
 
-/// Whether the units of a variable, from an offset on, have this one among them.
+/// Whether a variable that begins at this offset has this unit, both counted from the first unit of its block or storage group.
+/// Takes no memory.
 #[tactic(auto, using(crate::proofs::ReachLaws::reach_tests))]
 pub fn reaches(table: &Symbols, symbol: &Symbol, offset: u64, unit: u64) -> bool
     ensures { result ≡ reaches offset (units_in (map symbol_tree table.now) (symbol_tree symbol.now)) unit }
@@ -104,8 +105,8 @@ fn two_at(table: &Symbols, at: &Place) -> bool
     false
 }
 
-/// Whether a module has, at the unit at which a place begins, a variable that is no INTEGER scalar or is one of these names, or
-/// two variables.
+/// Whether a module has, at the first unit of a place, two variables, or one that is no INTEGER scalar or is one of these
+/// names, which are those in its EQUIVALENCE statements. Linear in the number of its symbols.
 pub fn spoils(names: &Names, table: &Symbols, at: &Place) -> bool
     ensures { result ≡ spoils names.now (map symbol_tree table.now) at.now }
 {

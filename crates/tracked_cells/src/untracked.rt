@@ -1,4 +1,4 @@
-//! The units of blocks at which an INTEGER scalar stands and which may not be tracked.
+//! The units of blocks that hold an INTEGER scalar and may not be tracked.
 ghost use Rattle.std.specs.Prelude.{◌≡◌, map, IfOk};
 ghost use Rattle.f77_ast.specs.PlainDecl.{parsed_tree};
 ghost use Rattle.f77_symbols.specs.Symbols.{symbol_tree};
@@ -12,8 +12,9 @@ use f77_symbols::{Symbols, Unit};
 use fx_lists::List;
 use std::alloc::{AllocError as Memory, Global};
 
-/// The units, by block and offset, at which some module has an INTEGER scalar, and some module has a variable that is none, or
-/// stands in an EQUIVALENCE, or is not the only one there. In time of the number of units times that of symbols.
+/// The units of blocks at which some module has an INTEGER scalar, and some module has an array, a LOGICAL, a variable in an
+/// EQUIVALENCE, or two variables. Each is listed once, by the names of the blocks, byte by byte, then by offsets. Takes time of
+/// the number of units times that of all symbols.
 pub fn untracked_of(
     alloc: Global,
     modules: &List<Parsed>,

@@ -10,7 +10,7 @@ use hull_projection::project;
 use std::alloc::{AllocError as Memory, Global};
 use system_renaming::rename_all;
 
-/// The system without these cells.
+/// The system without the values of these cells: their `Cell` variables are eliminated.
 pub fn without(alloc: Global, cells: &[u32], p: &System) -> Result<System, Memory>
     requires { Fits p.now }
     ensures defined { IfOk result (λ s. s ≡ without_is cells.now p.now) }
@@ -20,7 +20,8 @@ pub fn without(alloc: Global, cells: &[u32], p: &System) -> Result<System, Memor
     Ok(project(alloc, p, &vars)?.system)
 }
 
-/// What holds after what the transformer describes, where `p` holds before.
+/// The system that holds after a statement with this transformer, where `p` holds before it. Like `p` it is on `Cell`
+/// variables.
 pub fn apply(alloc: Global, t: &Transformer, p: &System) -> Result<System, Memory>
     requires transformer { Fits t.now.system }
     requires before { Fits p.now }

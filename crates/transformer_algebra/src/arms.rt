@@ -23,7 +23,7 @@ fn equal(alloc: Global, cell: u32) -> Result<Row, Memory>
     same_row(alloc, &exit, &entry)
 }
 
-/// That the exits of cells are the cells.
+/// For each cell, in order, the equal row which says that its exit is the cell.
 pub fn equals(alloc: Global, cells: &[u32]) -> Result<Vec<Row>, Memory>
     ensures defined { IfOk result (λ rs. rs.items ≡ equals_is cells.now) }
     ensures fits { IfOk result (λ rs. AllRows IsGiven rs.items) }
@@ -35,7 +35,8 @@ pub fn equals(alloc: Global, cells: &[u32]) -> Result<Vec<Row>, Memory>
     Ok(out)
 }
 
-/// The system of a transformer for more cells: those that it does not change stay.
+/// The system of a transformer as of one that lists `cells` as changed: of those that it does not change, the exit is
+/// the cell.
 pub fn complete(alloc: Global, cells: &[u32], t: &Transformer) -> Result<System, Memory>
     requires { Fits t.now.system }
     ensures defined { IfOk result (λ s. s ≡ complete_is cells.now t.now) }
@@ -47,7 +48,7 @@ pub fn complete(alloc: Global, cells: &[u32], t: &Transformer) -> Result<System,
 }
 
 #[tactic(auto, using(crate::proofs::ArmSteps::all_cells_loop))]
-/// All cells that one of them may change.
+/// The cells that some arm may change, ascending, each once.
 fn all_cells(alloc: Global, arms: &[Transformer]) -> Result<List<u32>, Memory>
     ensures { IfOk result (λ cs. cs ≡ all_cells_is arms.now) }
 {
@@ -90,8 +91,9 @@ fn hull_of_arms(
     Ok(hulls)
 }
 
-/// What one of them does, whichever that is: each completed for all cells, and hulls from left to right. Of none, what never
-/// ends.
+/// The transformer of a choice between these: for the cells and units that one of them may change, the hulls of their
+/// completed systems, from left to right. Of an empty list, `nowhere`. Memory also where the numbers of auxiliary
+/// variables reach 2^32.
 pub fn one_of(alloc: Global, arms: &[Transformer]) -> Result<Transformer, Memory>
     requires { AllFit arms.now }
     ensures defined { IfOk result (λ t. t ≡ one_of_is arms.now) }

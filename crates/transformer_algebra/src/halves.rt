@@ -9,7 +9,9 @@ use std::alloc::{AllocError as Memory, Global};
 use system_renaming::Naming;
 
 #[tactic(auto, using(crate::proofs::CellSteps::first_loop))]
-/// The exits of the first that the second changes again, and their auxiliary variables, numbered from the first on.
+/// The namings for the system of the first transformer. `cells` are those that it changes and `again` those of the
+/// second; the exit of each cell in both becomes an auxiliary variable, numbered from `first` on in the order of
+/// `cells`.
 pub fn first_names(
     alloc: Global,
     first: u32,
@@ -34,8 +36,8 @@ pub fn first_names(
 }
 
 #[tactic(auto, using(crate::proofs::CellSteps::second_loop))]
-/// The cells of the second that the first changes: they are its exits, or, where the second changes them again, auxiliary
-/// variables, numbered from the first on.
+/// The namings for the system of the second transformer, of each cell in `cells`, which the first changes: those in
+/// `again` become the auxiliary variables of `first_names`, the others the exits of the first.
 pub fn second_names(
     alloc: Global,
     first: u32,
@@ -65,7 +67,7 @@ pub fn second_names(
 }
 
 #[tactic(auto, using(crate::proofs::CellSteps::middle_loop))]
-/// The auxiliary variables in between.
+/// The auxiliary variables of `first_names`, in order: the values between the two transformers of what both change.
 pub fn middle(alloc: Global, first: u32, again: &[u32], cells: &[u32]) -> Result<Vec<Var>, Memory>
     requires { first + length cells.now < 2 ^ 32 }
     ensures { IfOk result (λ vs. vs.items ≡ middle_is first again.now cells.now) }
@@ -81,7 +83,7 @@ pub fn middle(alloc: Global, first: u32, again: &[u32], cells: &[u32]) -> Result
     Ok(out)
 }
 
-/// Each exit becomes its cell.
+/// The namings by which the exit of each cell becomes the cell.
 pub fn to_cells(alloc: Global, cells: &[u32]) -> Result<Vec<Naming>, Memory>
     ensures { IfOk result (λ ns. ns.items ≡ to_cells_is cells.now) }
 {
@@ -95,6 +97,7 @@ pub fn to_cells(alloc: Global, cells: &[u32]) -> Result<Vec<Naming>, Memory>
     Ok(out)
 }
 
+/// The `Cell` variables of these numbers, in order.
 pub fn cell_vars(alloc: Global, cells: &[u32]) -> Result<List<Var>, Memory>
     ensures { IfOk result (λ vs. vs ≡ cell_vars_is cells.now) }
 {

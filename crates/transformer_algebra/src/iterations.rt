@@ -10,7 +10,8 @@ use fx_lists::List;
 use hull_projection::closure;
 use std::alloc::{AllocError as Memory, Global};
 
-/// What any number of iterations does, each of which does what the transformer says.
+/// The reflexive transitive closure of a loop body, over-approximated: a transformer of any number of iterations, each
+/// of which does what `t` says. Memory also where the numbers of auxiliary variables reach 2^32.
 pub fn iterate(alloc: Global, t: &Transformer) -> Result<Transformer, Memory>
     requires { Fits t.now.system }
     ensures defined { IfOk result (λ c. c ≡ iterate_is t.now) }

@@ -1,14 +1,15 @@
 //! What the rules of transformers keep of the numbers before and after.
 ghost use Rattle.transformer_algebra.specs.Laws.{RulesHold, LoopRulesHold};
 
-/// Where transformers describe the ways between numbers, what is made of them does: one after another, one of some, any number
-/// of iterations; and what holds before holds after, as they say.
+/// Law of `then`, `one_of`, `iterate`, `test`, `apply` and `without`: where transformers describe the ways between
+/// values before and after, so does what is made of them, and what holds before holds after, as they say.
 pub fn rules_hold()
     ensures { RulesHold }
 {}
 
-/// The transformer of a DO with a constant step describes the way from its begin to its end, and what is said of its iterations and of
-/// its end holds there, where its body's transformer describes each run of the body.
+/// Law of the rules of a DO with a constant step: its transformer describes the way from its beginning to its end, and
+/// the systems of its iterations and of its end hold there, where the transformer of its body describes each execution
+/// of the body.
 pub fn loop_rules_hold()
     ensures { LoopRulesHold }
 {}

@@ -67,7 +67,8 @@ fn if_stays(
     }
 }
 
-/// What holds before the first iteration, where `p` holds before the DO.
+/// The system that holds when the DO variable has its first value and the first iteration is to begin, where `p` holds
+/// before the DO.
 pub fn before_iterations(alloc: Global, l: &LoopParts, p: &System) -> Result<System, Memory>
     requires parts { LoopFits l.now }
     requires before { Fits p.now }
@@ -98,7 +99,9 @@ fn counted_iteration(
     clean(alloc, &within)
 }
 
-/// What holds at the beginning of each iteration, where `p` holds before the DO and it has this iteration.
+/// The system that holds at the beginning of each iteration of a DO, where `p` holds before the DO; `t` is the
+/// transformer of an iteration. Where the step is no constant, `p` without the cells that `t` changes. Memory also
+/// where the numbers of auxiliary variables reach 2^32.
 pub fn at_iteration(
     alloc: Global,
     l: &LoopParts,
@@ -143,7 +146,9 @@ fn counted_end(
     hull(alloc, &none, &some)
 }
 
-/// What holds after a DO with this iteration, where `p` holds before it and `after` at the end of its body.
+/// The system that holds after the end of a DO, where `p` holds before it and `after` at the end of its body; `t` is
+/// the transformer of an iteration. The hull of no iteration and of some; where the step is no constant, `p` without
+/// the cells that `t` changes. Memory also where the numbers of auxiliary variables reach 2^32.
 pub fn after_loop(
     alloc: Global,
     l: &LoopParts,

@@ -30,7 +30,8 @@ fn with_rows(alloc: Global, t: Transformer, rows: Vec<Row>) -> Result<Transforme
     })
 }
 
-/// One iteration: the body, and then the next value of the index.
+/// The transformer of one iteration of a DO: the body, and then the step is added to the DO variable (ANSI X3.9-1978,
+/// §11.10.7). Memory also where the numbers of auxiliary variables reach 2^32.
 pub fn iteration(alloc: Global, l: &LoopParts) -> Result<Transformer, Memory>
     requires { LoopFits l.now }
     ensures defined { IfOk result (λ t. t ≡ iteration_is l.now) }
@@ -41,7 +42,8 @@ pub fn iteration(alloc: Global, l: &LoopParts) -> Result<Transformer, Memory>
 }
 
 #[tactic(auto, using(crate::proofs::GivenSteps::given_rows))]
-/// No iteration, of a loop with this iteration.
+/// The system of a DO without iterations, for the cells that an iteration, `t`, changes: the first value is beyond the
+/// last, and all cells but the DO variable stay as they are.
 pub fn zero_iterations(alloc: Global, l: &LoopParts, t: &Transformer) -> Result<System, Memory>
     requires { LoopFits l.now }
     ensures defined { IfOk result (λ s. s ≡ zero_iterations_is l.now t.now) }
@@ -55,8 +57,9 @@ pub fn zero_iterations(alloc: Global, l: &LoopParts, t: &Transformer) -> Result<
     push_rows(alloc, &first.system, rows)
 }
 
-/// One iteration or more, of a loop with this iteration: the guard and the first value, any number of iterations, an index that is not beyond
-/// the last value, the last iteration, and an index beyond it.
+/// The transformer of a DO with one or more iterations, each of which does what `t` says: the guard and the first
+/// value, any number of iterations, a DO variable that is not beyond the last value, the last iteration, and a DO
+/// variable beyond it. Memory also where the numbers of auxiliary variables reach 2^32.
 pub fn some_iterations(alloc: Global, l: &LoopParts, t: &Transformer) -> Result<Transformer, Memory>
     requires parts { LoopFits l.now }
     requires turn { Fits t.now.system }
@@ -71,7 +74,7 @@ pub fn some_iterations(alloc: Global, l: &LoopParts, t: &Transformer) -> Result<
     with_rows(alloc, done, beyond_last(alloc, l, Var::Exit(l.index))?)
 }
 
-/// Nothing is known where the step is no constant.
+/// The hull of no iteration and of some; no rows where the step is no constant.
 fn counted_system(alloc: Global, l: &LoopParts, t: &Transformer) -> Result<System, Memory>
     requires parts { LoopFits l.now }
     requires turn { Fits t.now.system }
@@ -88,7 +91,9 @@ fn counted_system(alloc: Global, l: &LoopParts, t: &Transformer) -> Result<Syste
     }
 }
 
-/// The transformer of a DO with this iteration.
+/// The transformer of a DO, where `t` is that of an iteration: the hull of no iteration and of some. Where the step is
+/// no constant, all cells that `t` changes may have any value. Memory also where the numbers of auxiliary variables
+/// reach 2^32.
 pub fn loop_transformer(
     alloc: Global,
     l: &LoopParts,

@@ -11,15 +11,20 @@ use affine_systems::{Term, Var};
 use fx_lists::List;
 use std::alloc::{AllocError as Memory, Global};
 
-/// The parts of a DO: the number of its index and whether that is a tracked cell; its step where that is a constant that is not
-/// 0; the forms of its first and last value; and the transformer of its body.
-#[derive(Debug, PartialEq, Eq, Drop)]
+/// The parts of a DO (ANSI X3.9-1978, §11.10), as affine forms and a transformer.
+#[derive(PartialEq, Eq, Drop)]
 pub struct LoopParts {
+    /// The number of the symbol of its DO variable, from 1.
     pub index: u32,
+    /// Whether the DO variable is an analysed scalar.
     pub tracked: bool,
+    /// The value of the step, where that is a constant that is not 0.
     pub step: Option<i32>,
+    /// The form of the first value, on `Cell` variables before the DO; None where it has none.
     pub first: Option<Affine>,
+    /// The form of the last value, in the same way.
     pub last: Option<Affine>,
+    /// The transformer of one execution of the body, without the step.
     pub body: Transformer,
 }
 
@@ -85,7 +90,8 @@ fn next_form(alloc: Global, l: &LoopParts) -> Result<Option<Affine>, Memory>
     }
 }
 
-/// The index becomes the first value.
+/// The transformer by which the DO variable gets its first value. It forgets the variable where that has no form or the
+/// step is no constant, and changes no cell where the variable is not analysed.
 pub fn start(alloc: Global, l: &LoopParts) -> Result<Transformer, Memory>
     requires { LoopFits l.now }
     ensures defined { IfOk result (λ t. t ≡ start_is l.now) }
@@ -95,7 +101,8 @@ pub fn start(alloc: Global, l: &LoopParts) -> Result<Transformer, Memory>
     index_becomes(alloc, l, &form)
 }
 
-/// The index becomes what it is and the step.
+/// The transformer by which the step is added to the DO variable. It forgets the variable where the step is no
+/// constant, and changes no cell where the variable is not analysed.
 pub fn next(alloc: Global, l: &LoopParts) -> Result<Transformer, Memory>
     ensures defined { IfOk result (λ t. t ≡ next_is l.now) }
     ensures fits { IfOk result (λ t. Fits t.system) }

@@ -83,7 +83,7 @@ fn beyond_rows(
     Ok(rows)
 }
 
-/// The form of a variable that stands for the index, where that is tracked.
+/// The form of a variable that is the value of the DO variable, where that is analysed.
 fn index_form(alloc: Global, l: &LoopParts, var: Var) -> Result<Option<Affine>, Memory>
     ensures defined { IfOk result (λ f. f ≡ index_form_is l.now var) }
     ensures small { IfOk result (λ f. IfSome f IsSmallForm) }
@@ -95,7 +95,7 @@ fn index_form(alloc: Global, l: &LoopParts, var: Var) -> Result<Option<Affine>, 
     }
 }
 
-/// That the first value is not beyond the last.
+/// The loop entry condition: the first value is not beyond the last, in the direction of the step. At most one row.
 pub fn guard(alloc: Global, l: &LoopParts) -> Result<Vec<Row>, Memory>
     requires { LoopFits l.now }
     ensures defined { IfOk result (λ rs. rs.items ≡ guard_is l.now) }
@@ -104,7 +104,7 @@ pub fn guard(alloc: Global, l: &LoopParts) -> Result<Vec<Row>, Memory>
     within_rows(alloc, &l.step, &l.first, &l.last)
 }
 
-/// That the first value is beyond the last.
+/// The condition for no iteration: the first value is beyond the last, in the direction of the step. At most one row.
 pub fn unguard(alloc: Global, l: &LoopParts) -> Result<Vec<Row>, Memory>
     requires { LoopFits l.now }
     ensures defined { IfOk result (λ rs. rs.items ≡ unguard_is l.now) }
@@ -113,7 +113,8 @@ pub fn unguard(alloc: Global, l: &LoopParts) -> Result<Vec<Row>, Memory>
     beyond_rows(alloc, &l.step, &l.first, &l.last)
 }
 
-/// That a variable which stands for the index is not beyond the last value.
+/// That a variable which is the value of the DO variable is not beyond the last value, in the direction of the step. At
+/// most one row; none where the DO variable is not analysed.
 pub fn inside(alloc: Global, l: &LoopParts, var: Var) -> Result<Vec<Row>, Memory>
     requires { LoopFits l.now }
     ensures defined { IfOk result (λ rs. rs.items ≡ inside_is l.now var) }
@@ -123,7 +124,8 @@ pub fn inside(alloc: Global, l: &LoopParts, var: Var) -> Result<Vec<Row>, Memory
     within_rows(alloc, &l.step, &index, &l.last)
 }
 
-/// That a variable which stands for the index is beyond the last value.
+/// That a variable which is the value of the DO variable is beyond the last value, in the direction of the step. At
+/// most one row; none where the DO variable is not analysed.
 pub fn beyond_last(alloc: Global, l: &LoopParts, var: Var) -> Result<Vec<Row>, Memory>
     requires { LoopFits l.now }
     ensures defined { IfOk result (λ rs. rs.items ≡ beyond_last_is l.now var) }

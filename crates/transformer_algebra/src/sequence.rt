@@ -35,7 +35,8 @@ fn followed_from(
     Ok(project(alloc, &met, &vars)?.system)
 }
 
-/// What the first and then the second does. Memory also where there are no numbers below 2^32 for the auxiliary variables.
+/// The composition of two transformers: what the first and then the second does. Memory also where there are no numbers
+/// below 2^32 for an auxiliary variable for each cell that the first changes.
 pub fn then(alloc: Global, a: &Transformer, b: &Transformer) -> Result<Transformer, Memory>
     requires first { Fits a.now.system }
     requires second { Fits b.now.system }

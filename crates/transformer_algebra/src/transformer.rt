@@ -12,17 +12,19 @@ use fx_lists::List;
 use std::alloc::{AllocError as Memory, Global};
 use system_renaming::of_rows;
 
-/// What a statement does where it ends normally: the tracked cells that it may change, ascending, each once; the units of blocks
-/// that it may change and that the module cannot name, in order, each once; and what holds of the cells before it (`Cell`) and of
-/// those that it may change after it (`Exit`).
-#[derive(Debug, PartialEq, Eq, Drop)]
+/// The transition relation of a statement, from an arrival to its normal end.
+#[derive(PartialEq, Eq, Drop)]
 pub struct Transformer {
+    /// The analysed scalars that it may change, by the numbers of their symbols, ascending, each once.
     pub cells: List<u32>,
+    /// The storage units of common blocks that it may change and that the module cannot name, in the order of the names
+    /// of the blocks and of the offsets, each once.
     pub foreign: List<Unit>,
+    /// What holds of the analysed scalars before it (`Cell`) and of those in `cells` after it (`Exit`).
     pub system: System,
 }
 
-/// Nothing changes, where the system holds before.
+/// The transformer that changes nothing and ends normally only where the system holds.
 pub fn test(alloc: Global, system: System) -> Transformer
     requires { Fits system }
     ensures defined { result ≡ test_is system }
@@ -35,7 +37,7 @@ pub fn test(alloc: Global, system: System) -> Transformer
     }
 }
 
-/// Nothing changes.
+/// The identity transformer: changes nothing. Takes no memory.
 pub fn unchanging(alloc: Global) -> Transformer
     ensures defined { result ≡ unchanging_is }
     ensures fits { Fits result.system }
@@ -43,7 +45,7 @@ pub fn unchanging(alloc: Global) -> Transformer
     test(alloc, no_rows(alloc))
 }
 
-/// Of a statement that never ends normally.
+/// The empty transformer, of a statement that has no normal end.
 pub fn nowhere(alloc: Global) -> Result<Transformer, Memory>
     ensures defined { IfOk result (λ t. t ≡ nowhere_is) }
     ensures fits { IfOk result (λ t. Fits t.system) }
@@ -52,7 +54,7 @@ pub fn nowhere(alloc: Global) -> Result<Transformer, Memory>
     Ok(test(alloc, system))
 }
 
-/// Nothing is known of these cells afterwards.
+/// The transformer after which these cells, in any order, may have any value; all others stay.
 pub fn forgotten(alloc: Global, cells: &[u32]) -> Result<Transformer, Memory>
     ensures defined { IfOk result (λ t. t ≡ forgotten_is cells.now) }
     ensures fits { IfOk result (λ t. Fits t.system) }
@@ -65,7 +67,8 @@ pub fn forgotten(alloc: Global, cells: &[u32]) -> Result<Transformer, Memory>
 }
 
 #[tactic(auto, using(crate::proofs::GivenSteps::given_rows))]
-/// That the cell afterwards is a form; nothing, where there is no form.
+/// The system which says that the cell after the statement is the value that the form has before it; no rows where
+/// there is no form.
 pub fn exit_system(alloc: Global, cell: u32, form: &Option<Affine>) -> Result<System, Memory>
     requires { IfSome form.now IsSmallForm }
     ensures defined { IfOk result (λ s. s ≡ exit_system_is cell form.now) }
@@ -83,7 +86,8 @@ pub fn exit_system(alloc: Global, cell: u32, form: &Option<Affine>) -> Result<Sy
     }
 }
 
-/// The cell becomes the value of an expression of this form.
+/// The transformer of an assignment (ANSI X3.9-1978, §10.1) to a cell, of an expression of this form; where there is no
+/// form, the cell may have any value.
 pub fn assign(alloc: Global, cell: u32, form: &Option<Affine>) -> Result<Transformer, Memory>
     requires { IfSome form.now IsSmallForm }
     ensures defined { IfOk result (λ t. t ≡ assign_is cell form.now) }

@@ -17,6 +17,7 @@ fn order(one: &Unit, other: &Unit) -> Ordering
         .then(one.offset.cmp(&other.offset))
 }
 
+/// A copy of a unit, with the name of its block.
 pub fn copy_unit(unit: &Unit) -> Result<Unit, Memory>
     ensures { IfOk result (λ u. u ≡ unit.now) }
 {
@@ -26,6 +27,7 @@ pub fn copy_unit(unit: &Unit) -> Result<Unit, Memory>
     })
 }
 
+/// Copies of units, in order.
 pub fn copy_units(alloc: Global, units: &[Unit]) -> Result<List<Unit>, Memory>
     ensures { IfOk result (λ us. us ≡ units.now) }
 {
@@ -65,7 +67,8 @@ fn add_units(out: &mut Vec<Unit>, units: &[Unit]) -> Result<(), Memory>
     Ok(())
 }
 
-/// The units of both in order, each once. Each is looked up among those before it.
+/// The units of both lists, by the names of the blocks, byte by byte, and then by offset, each once. Each is looked up
+/// in the result: quadratic in their number.
 pub fn joined_units(alloc: Global, one: &[Unit], other: &[Unit]) -> Result<List<Unit>, Memory>
     ensures { IfOk result (λ us. us ≡ joined_units_is one.now other.now) }
 {

@@ -13,7 +13,7 @@ use Rattle.transformer_algebra.specs.Transformers.{test, unchanging, nowhere, fo
 use Rattle.transformer_algebra.specs.Loops.{iteration, loop_transformer}
 use Rattle.call_translation.specs.Scopes.{ScopeTree, scope_tree}
 use Rattle.call_translation.specs.Summary.{call_transformer}
-use Rattle.transformers.specs.declared.statement.Known.{Known}
+use Rattle.transformers.specs.declared.statement.TransformerContext.{TransformerContext}
 use Rattle.transformers.specs.Given.{Callees}
 use Rattle.transformers.specs.Jumps.{is_end}
 use Rattle.transformers.specs.Lists.{list_of}
@@ -21,11 +21,11 @@ use Rattle.transformers.specs.Loops.{loop_parts}
 use Rattle.transformers.specs.Simple.{assignment, reading}
 
 -- what a module is looked at with
-abbrev pub scope_in : Known → ScopeTree
+abbrev pub scope_in : TransformerContext → ScopeTree
 scope_in k = scope_tree k.scope.now.symbols.now k.scope.now.tracked.now
 
 -- the summaries of what it calls
-abbrev pub callees_in : Known → Callees
+abbrev pub callees_in : TransformerContext → Callees
 callees_in k = summary_in k.callees.now
 
 -- a DO with these parts

@@ -8,7 +8,7 @@ use fx_lists::List;
 use std::alloc::{AllocError as Memory, Global};
 use transformer_algebra::has;
 
-/// What is looked for among statements.
+/// The statements that are looked for.
 #[derive(Drop)]
 pub enum Sought<'a> {
     /// A GO TO one of these labels (ANSI X3.9-1978 §11.1).
@@ -116,7 +116,7 @@ fn arms_have(sought: &Sought<'_>, arms: &List<Arm>) -> bool
     false
 }
 
-/// Whether there is no statement.
+/// Whether a list has no statements.
 pub fn is_end(list: &[Stmt]) -> bool
     ensures { result ≡ is_end (stmt_trees list.now) }
 {
@@ -163,8 +163,9 @@ fn labels_in(alloc: Global, list: &[Stmt]) -> Result<Vec<u32>, Memory>
     Ok(labels)
 }
 
-/// Whether a GO TO in a list leads to a statement directly in it, or the list is the whole body of a module and has a RETURN that
-/// is not its last statement. Walks over the whole list, and looks each GO TO up among its labels.
+/// Whether the control flow of a list is unstructured: a GO TO in it, at any depth, leads to a statement directly in it (ANSI X3.9-1978,
+/// §11.1), or `whole` (the list is the body of a module) and a RETURN in it, at any depth, is not its last statement. Linear in the
+/// statements, and for each GO TO in the labels.
 pub fn is_unstructured(alloc: Global, list: &List<Stmt>, whole: bool) -> Result<bool, Memory>
     ensures { IfOk result (λ b. b ≡ unstructured whole (stmt_trees list.now)) }
 {

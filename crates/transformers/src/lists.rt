@@ -30,7 +30,7 @@ fn copy_units(alloc: Global, units: &[Unit]) -> Result<List<Unit>, Memory>
     Ok(out)
 }
 
-/// A copy.
+/// A copy of a transformer.
 pub fn copy_transformer(alloc: Global, t: &Transformer) -> Result<Transformer, Memory>
     ensures { IfOk result (λ c. c ≡ t.now) }
 {
@@ -41,7 +41,7 @@ pub fn copy_transformer(alloc: Global, t: &Transformer) -> Result<Transformer, M
     })
 }
 
-/// Adds a transformer.
+/// Appends a transformer.
 #[tactic(auto, using(crate::proofs::Steps::fitting))]
 pub fn push_transformer(all: &mut Vec<Transformer>, t: Transformer) -> Result<(), Memory>
     requires all { AllFit all.old.items }
@@ -108,7 +108,8 @@ fn in_any_order(alloc: Global, all: &[Transformer]) -> Result<Transformer, Memor
     })
 }
 
-/// The transformer of a list whose statements have these.
+/// The transformer of a list, from those of its statements in the order of the text, `all`: their composition; where `is_unstructured`, one
+/// after which all that they change may have any value. `whole`: the list is the body of a module.
 pub fn list_of(
     alloc: Global,
     list: &List<Stmt>,
@@ -149,8 +150,8 @@ fn at_place<T>(all: &List<At<T>>, id: StmtId) -> Option<&At<T>>
     all.get(id as usize - 1)
 }
 
-/// The result at the statement of a number: the one at its place, where that is its own; otherwise the first with this number is
-/// looked for.
+/// The result for the statement with a number, from 1; None where there is none. In constant time where the element at this place has the
+/// number; otherwise the first element with it is looked for.
 pub fn value_at<T>(all: &List<At<T>>, id: StmtId) -> Option<&T>
     ensures { option_copied result ≡ value_at_is all.now id }
 {
@@ -166,7 +167,7 @@ pub fn value_at<T>(all: &List<At<T>>, id: StmtId) -> Option<&T>
     }
 }
 
-/// A copy of the transformer of a statement; of one without a result, that which changes nothing.
+/// A copy of the transformer of the statement with a number, from 1; the identity transformer where there is no result.
 pub fn transformer_at(
     alloc: Global,
     all: &List<At<Transformer>>,
@@ -182,7 +183,7 @@ pub fn transformer_at(
     }
 }
 
-/// The transformer of a list whose statements have these results.
+/// The transformer of a list, as `list_of`, from the results for its statements in `at`: the identity transformer for one without a result.
 #[tactic(auto, using(crate::proofs::Steps::lists))]
 pub fn list_at(
     alloc: Global,
@@ -204,8 +205,9 @@ pub fn list_at(
     list_of(alloc, list, whole, all.as_slice())
 }
 
-/// The transformer of a list of a module, from the results at its statements; `whole` says that it is the body. Nothing is known
-/// of what a list changes, of which a statement is led to by a GO TO in it, or which is left early by a RETURN.
+/// The transformer of a list, as `list_at`, for callers that have a `View`, which is not used. `whole`: the list is the body of the module.
+/// Where a GO TO in the list leads to a statement of it, or a RETURN leaves the body early, all that its statements change may have any
+/// value.
 pub fn list_transformer(
     alloc: Global,
     _view: &View<'_>,

@@ -8,7 +8,7 @@ ghost use Rattle.call_translation.specs.Scopes.{scope_tree};
 ghost use Rattle.transformers.specs.Loops.{counting as counting_is, step_of as step_of_is, number_in, loop_parts as loop_parts_is};
 
 use affine_forms::{affine_of, is_cell};
-use call_translation::Scope;
+use call_translation::CellScope;
 use f77_ast::{Expr, Loop};
 use f77_constants::{Constant, Worth, worth_of};
 use f77_symbols::Symbols;
@@ -34,10 +34,11 @@ fn step_of(symbols: &Symbols, step: &Option<Expr>) -> Option<i32>
     }
 }
 
-/// A DO whose body has this transformer.
+/// The parts of a DO whose body has this transformer (ANSI X3.9-1978, §11.10). The step is 1 where none is written, and None where it is no
+/// INTEGER constant or 0. `first` and `last` are None where they have no affine expression. The index is 0 where no symbol has its name.
 pub fn loop_parts(
     alloc: Global,
-    scope: &Scope<'_>,
+    scope: &CellScope<'_>,
     l: &Loop,
     body: Transformer,
 ) -> Result<LoopParts, Memory>

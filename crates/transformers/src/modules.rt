@@ -9,9 +9,9 @@ ghost use Rattle.call_translation.specs.Scopes.{scope_of};
 ghost use Rattle.transformers.specs.Given.{CalleesFit, ResultsFit};
 ghost use Rattle.transformers.specs.Modules.{goes_out as goes_out_is, hidden_vars as hidden_vars_is, summary_of as summary_of_is, transformers_of};
 
-use crate::statement::{Known, with_list};
+use crate::statement::{TransformerContext, with_list};
 use affine_systems::{System, Var};
-use call_translation::{Scope, tracked_of};
+use call_translation::{CellScope, tracked_of};
 use f77_results::{EffectSet, Results, Summaries, View};
 use f77_symbols::{Place, Symbols};
 use fx_lists::List;
@@ -90,9 +90,9 @@ fn summary_of(alloc: Global, symbols: &Symbols, whole: Transformer) -> Result<Tr
     })
 }
 
-/// What a module does to its tracked cells: each statement with its parts and with what it calls, and in all as its callers see it,
-/// which is what it does to dummies and to variables of blocks. It depends on no effects. What a CALL of a module without a summary
-/// does is left out.
+/// The transformers of all executable statements of a module, in the order of the text, each with its parts and with what it calls; and as
+/// summary what callers see of the module, over its dummies and its variables of common blocks. The effects are not used. What a CALL of a
+/// module without a summary does is left out.
 pub fn transformers(
     alloc: Global,
     view: &View<'_>,
@@ -104,11 +104,11 @@ pub fn transformers(
     ensures fits { IfOk result (λ r. ResultsFit r.at × Fits r.summary.system) }
 {
     let tracked = tracked_of(alloc, view)?;
-    let scope = Scope {
+    let scope = CellScope {
         symbols: view.symbols,
         tracked: &tracked,
     };
-    let known = Known {
+    let known = TransformerContext {
         scope: &scope,
         callees,
     };

@@ -6,16 +6,16 @@ ghost use Rattle.affine_forms.specs.Scalars.{scalars};
 ghost use Rattle.transformers.specs.Simple.{assignment as assignment_is, named_cells as named_cells_is, reading as reading_is};
 
 use affine_forms::affine_of;
-use call_translation::{Scope, named_cell, push_cell};
+use call_translation::{CellScope, named_cell, push_cell};
 use f77_ast::Expr;
 use fx_lists::List;
 use std::alloc::{AllocError as Memory, Global};
 use transformer_algebra::{Transformer, assign, forgotten, unchanging};
 
-/// Of an assignment: nothing changes where the left side is no tracked cell.
+/// The transformer of an assignment (ANSI X3.9-1978, §10.1): the identity where the left side is no analysed scalar.
 pub fn assignment(
     alloc: Global,
-    scope: &Scope<'_>,
+    scope: &CellScope<'_>,
     left: &Expr,
     right: &Expr,
 ) -> Result<Transformer, Memory>
@@ -32,7 +32,7 @@ pub fn assignment(
 }
 
 #[tactic(auto, using(f77_ast::proofs::Plainly::expr_lists))]
-fn named_cells(alloc: Global, scope: &Scope<'_>, items: &[Expr]) -> Result<Vec<u32>, Memory>
+fn named_cells(alloc: Global, scope: &CellScope<'_>, items: &[Expr]) -> Result<Vec<u32>, Memory>
     ensures { IfOk result (λ cs. cs.items ≡ named_cells_is (scalars scope.now.symbols.now scope.now.tracked.now) (expr_trees items.now)) }
 {
     let mut cells = Vec::new(alloc);
@@ -42,8 +42,12 @@ fn named_cells(alloc: Global, scope: &Scope<'_>, items: &[Expr]) -> Result<Vec<u
     Ok(cells)
 }
 
-/// Of a READ: nothing is known of what is read.
-pub fn reading(alloc: Global, scope: &Scope<'_>, items: &List<Expr>) -> Result<Transformer, Memory>
+/// The transformer of a READ of these items (ANSI X3.9-1978, §12.8): the analysed scalars among them may have any value.
+pub fn reading(
+    alloc: Global,
+    scope: &CellScope<'_>,
+    items: &List<Expr>,
+) -> Result<Transformer, Memory>
     ensures defined { IfOk result (λ t. t ≡ reading_is (scalars scope.now.symbols.now scope.now.tracked.now) (expr_trees items.now)) }
     ensures fits { IfOk result (λ t. Fits t.system) }
 {

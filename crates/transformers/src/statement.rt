@@ -18,7 +18,7 @@ use crate::loops::loop_parts;
 use crate::simple::{assignment, reading};
 use affine_forms::{condition_of, no_rows};
 use affine_systems::{System, meet};
-use call_translation::{Scope, call_transformer};
+use call_translation::{CellScope, call_transformer};
 use f77_ast::{Arm, Expr, Loop, Stmt, StmtId, What};
 use f77_results::{At, Summaries};
 use fx_lists::List;
@@ -27,19 +27,19 @@ use transformer_algebra::{
     LoopParts, Transformer, iteration, loop_transformer, nowhere, one_of, test, then, unchanging,
 };
 
-/// What is known around a statement: what its module is looked at with, and the summaries of what it calls.
+/// What is known around a statement: the scope of its module, and the summaries of the modules that it calls.
 #[derive(Drop)]
-pub struct Known<'a> {
-    pub scope: &'a Scope<'a>,
+pub struct TransformerContext<'a> {
+    pub scope: &'a CellScope<'a>,
     pub callees: &'a Summaries<Transformer>,
 }
 
-/// Transformers at statements, in the order of the text.
-pub type Found = List<At<Transformer>>;
+/// Transformers of statements, those of the parts of a statement after its own, in the order of the text.
+pub type TransformerList = List<At<Transformer>>;
 
 /// Adds the transformer of the statement of a number.
 #[tactic(auto, using(crate::proofs::Steps::fitting))]
-fn push_result(found: &mut Found, id: StmtId, value: Transformer) -> Result<(), Memory>
+fn push_result(found: &mut TransformerList, id: StmtId, value: Transformer) -> Result<(), Memory>
     requires results { ResultsFit found.old }
     requires value { Fits value.system }
     ensures added { OnOk result (found.new ≡ found.old ++ at id value ∷ []) }
@@ -49,16 +49,16 @@ fn push_result(found: &mut Found, id: StmtId, value: Transformer) -> Result<(), 
     Ok(())
 }
 
-/// Of a statement; `last` says that it is the last one of its module's body. It is added to those at each statement, and those of
-/// its parts after it.
+/// The transformer of a statement, which is appended to `at`, and those of its parts after it; `last`: it is the last statement of its
+/// module's body.
 #[cycle(transformers)]
 #[tactic(auto, using(crate::proofs::StatementLaws::part_calls))]
 fn stmt_transformer(
     alloc: Global,
-    known: &Known<'_>,
+    known: &TransformerContext<'_>,
     s: &Stmt,
     last: bool,
-    at: &mut Found,
+    at: &mut TransformerList,
 ) -> Result<Transformer, Memory>
     requires callees { CalleesFit (callees_in known.now) }
     requires results { ResultsFit at.old }
@@ -79,10 +79,10 @@ fn stmt_transformer(
 #[tactic(auto, using(crate::proofs::StatementLaws::part_calls))]
 fn what_transformer(
     alloc: Global,
-    known: &Known<'_>,
+    known: &TransformerContext<'_>,
     what: &What,
     last: bool,
-    at: &mut Found,
+    at: &mut TransformerList,
 ) -> Result<Transformer, Memory>
     requires callees { CalleesFit (callees_in known.now) }
     requires results { ResultsFit at.old }
@@ -137,7 +137,7 @@ fn where_holds(alloc: Global, system: System, does: &Transformer) -> Result<Tran
 /// Of a logical IF whose statement has this transformer.
 fn if_transformer(
     alloc: Global,
-    scope: &Scope<'_>,
+    scope: &CellScope<'_>,
     e: &Expr,
     does: &Transformer,
 ) -> Result<Transformer, Memory>
@@ -162,16 +162,16 @@ fn is_last(whole: bool, list: &[Stmt], place: usize) -> bool
     whole && is_end(&list[place + 1..])
 }
 
-/// Of a list; `whole` says that it is the body of the module. Each list walks over itself for its GO TOs, so a statement is looked
-/// at as often as lists stand around it.
+/// The transformer of a list; those of its statements and of their parts are appended to `at`. `whole`: the list is the body of the module.
+/// Each list is searched for GO TOs, so a statement is visited once for each list that it is in, at any depth.
 #[cycle(transformers)]
 #[tactic(auto, using(crate::proofs::StatementLaws::statement_calls))]
 pub fn with_list(
     alloc: Global,
-    known: &Known<'_>,
+    known: &TransformerContext<'_>,
     list: &List<Stmt>,
     whole: bool,
-    at: &mut Found,
+    at: &mut TransformerList,
 ) -> Result<Transformer, Memory>
     requires callees { CalleesFit (callees_in known.now) }
     requires results { ResultsFit at.old }
@@ -202,9 +202,9 @@ struct Tried {
 #[tactic(auto, using(crate::proofs::StatementLaws::arm_calls))]
 fn arm_transformers(
     alloc: Global,
-    known: &Known<'_>,
+    known: &TransformerContext<'_>,
     arms: &List<Arm>,
-    at: &mut Found,
+    at: &mut TransformerList,
 ) -> Result<Tried, Memory>
     requires callees { CalleesFit (callees_in known.now) }
     requires results { ResultsFit at.old }
@@ -256,9 +256,9 @@ fn parts_do(alloc: Global, l: &LoopParts) -> Result<Transformer, Memory>
 #[tactic(auto, using(crate::proofs::StatementLaws::body_calls))]
 fn loop_does(
     alloc: Global,
-    known: &Known<'_>,
+    known: &TransformerContext<'_>,
     l: &Loop,
-    at: &mut Found,
+    at: &mut TransformerList,
 ) -> Result<Transformer, Memory>
     requires callees { CalleesFit (callees_in known.now) }
     requires results { ResultsFit at.old }

@@ -9,8 +9,8 @@ use Rattle.affine_systems.specs.Laws.{KeepsCommonPoints, AddsNoCommonPoint}
 use Rattle.affine_systems.proofs.RenameSteps.{common_keeps, common_adds_none, fits_given, given_append}
 use Rattle.affine_systems.proofs.calls.push_row.Goals as goal
 
-pub tidied-requires : goal.tidied-requires
-tidied-requires c =
+pub tidy_rows-requires : goal.tidy_rows-requires
+tidy_rows-requires c =
     let e : c.push.new.self.items ≡ c.args.sys.now.rows ++ c.args.row.now ∷ []
     = c.in_ok-push.ensures.items ∙ ap₂ (λ (rs : List Row) r. rs ++ r ∷ []) (c.in_ok-rows.ensures ∙ c.as_slice.ensures) c.in_ok-copy_row.ensures in
     record { fits = subst (λ (rs : List Row). AllRows IsGiven rs) (sym e) (given_append c.args.sys.now.rows (c.args.row.now ∷ []) (fits_given c.args.sys.now.rows c.requires.fits) (c.requires.row, tt)) }
@@ -19,12 +19,12 @@ pub returns-clause-sound : goal.returns-clause-sound
 returns-clause-sound c =
     let e : c.push.new.self.items ≡ c.args.sys.now.rows ++ c.args.row.now ∷ []
     = c.in_ok-push.ensures.items ∙ ap₂ (λ (rs : List Row) r. rs ++ r ∷ []) (c.in_ok-rows.ensures ∙ c.as_slice.ensures) c.in_ok-copy_row.ensures in
-    IfOk-weaker c.tidied.result (λ (t : System). t ≡ tidy (system c.push.new.self.items c.args.sys.now.weak)) (KeepsCommonPoints c.args.sys.now.rows (c.args.row.now ∷ []))
-    (λ t h. common_keeps c.args.sys.now.rows (c.args.row.now ∷ []) c.push.new.self.items c.args.sys.now.weak t e h) c.tidied.ensures.defined
+    IfOk-weaker c.tidy_rows.result (λ (t : System). t ≡ tidy (system c.push.new.self.items c.args.sys.now.weak)) (KeepsCommonPoints c.args.sys.now.rows (c.args.row.now ∷ []))
+    (λ t h. common_keeps c.args.sys.now.rows (c.args.row.now ∷ []) c.push.new.self.items c.args.sys.now.weak t e h) c.tidy_rows.ensures.defined
 
 pub returns-clause-no_new_points : goal.returns-clause-no_new_points
 returns-clause-no_new_points c =
     let e : c.push.new.self.items ≡ c.args.sys.now.rows ++ c.args.row.now ∷ []
     = c.in_ok-push.ensures.items ∙ ap₂ (λ (rs : List Row) r. rs ++ r ∷ []) (c.in_ok-rows.ensures ∙ c.as_slice.ensures) c.in_ok-copy_row.ensures in
-    IfOk-weaker c.tidied.result (λ (t : System). t ≡ tidy (system c.push.new.self.items c.args.sys.now.weak)) (AddsNoCommonPoint c.args.sys.now.rows (c.args.row.now ∷ []))
-    (λ t h. common_adds_none c.args.sys.now.rows (c.args.row.now ∷ []) c.push.new.self.items c.args.sys.now.weak t e h) c.tidied.ensures.defined
+    IfOk-weaker c.tidy_rows.result (λ (t : System). t ≡ tidy (system c.push.new.self.items c.args.sys.now.weak)) (AddsNoCommonPoint c.args.sys.now.rows (c.args.row.now ∷ []))
+    (λ t h. common_adds_none c.args.sys.now.rows (c.args.row.now ∷ []) c.push.new.self.items c.args.sys.now.weak t e h) c.tidy_rows.ensures.defined

@@ -1,4 +1,4 @@
-use Rattle.std.proofs.Common.{◌≡◌, ◌++◌, drop, map}
+use Rattle.std.proofs.Common.{◌≡◌, ◌++◌, drop}
 use Rattle.f77_symbols.specs.Index.{names_of}
 use Rattle.claim_lines.proofs.lines.names_of.Given as goal
 

@@ -47,8 +47,8 @@ decreases-factor l = l.depth * 40 + 9
 abbrev pub decreases-term : goal.decreases-term
 decreases-term l = l.depth * 40 + 12
 
-abbrev pub decreases-signed : goal.decreases-signed
-decreases-signed l = l.depth * 40 + 13
+abbrev pub decreases-signed_terms : goal.decreases-signed_terms
+decreases-signed_terms l = l.depth * 40 + 13
 
 abbrev pub decreases-signed_term : goal.decreases-signed_term
 decreases-signed_term l = l.depth * 40 + 14

@@ -8,6 +8,6 @@ loop-item-preserved c =
     let k = c.in-Some.ensures.cases in
     let m = c.loop-item.invariant.1 in (
       originals-more c.loop-item.items.items c.pop.new.self.items c.args.items c.loop-item.out.items c.push.new.self.items c.in-Some.item (length c.as_slice-number.result.now) c.in-Some.ensures.items (ap length c.as_slice-number.ensures.value)
-          (c.in_ok-push.ensures.items ∙ ap (λ (i : Item). c.loop-item.out.items ++ i ∷ []) c.numbered.ensures) c.loop-item.invariant.0,
+          (c.in_ok-push.ensures.items ∙ ap (λ (i : Item). c.loop-item.out.items ++ i ∷ []) c.as_original.ensures) c.loop-item.invariant.0,
       omega (arith, k, m),
     )

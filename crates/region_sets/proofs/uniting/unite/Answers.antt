@@ -10,10 +10,10 @@ pub returns-clause-sound : goal.returns-clause-sound
 returns-clause-sound c =
     let a = c.args.a.now in
     let b = c.args.b.now in
-    IfOk-weaker c.united.result (λ (r : Region). r ≡ unite a b) (HasBoth a b) (λ r e. subst (HasBoth a b) (sym e) (unite_has a b)) c.united.ensures.defined
+    IfOk-weaker c.union_of.result (λ (r : Region). r ≡ unite a b) (HasBoth a b) (λ r e. subst (HasBoth a b) (sym e) (unite_has a b)) c.union_of.ensures.defined
 
 pub returns-clause-exact : goal.returns-clause-exact
 returns-clause-exact c =
     let a = c.args.a.now in
     let b = c.args.b.now in
-    IfOk-weaker c.united.result (λ (r : Region). r ≡ unite a b) (IsOneExact a b) (λ r e. subst (IsOneExact a b) (sym e) (unite_exact a b)) c.united.ensures.defined
+    IfOk-weaker c.union_of.result (λ (r : Region). r ≡ unite a b) (IsOneExact a b) (λ r e. subst (IsOneExact a b) (sym e) (unite_exact a b)) c.union_of.ensures.defined

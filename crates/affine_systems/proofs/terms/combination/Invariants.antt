@@ -1,0 +1,10 @@
+use Rattle.std.proofs.Common.{◌+◌, ◌-◌, length}
+use Rattle.affine_systems.specs.Rows.{combined_terms}
+use Rattle.affine_systems.proofs.Merges.{IsMerged}
+use Rattle.affine_systems.proofs.terms.combination.Given as goal
+
+abbrev pub invariant-loop-i : goal.invariant-loop-i
+invariant-loop-i l = IsMerged l.out.items l.p l.ts l.i l.q l.us l.j (combined_terms l.fn.p l.fn.ts l.fn.q l.fn.us)
+
+abbrev pub decreases-loop-i : goal.decreases-loop-i
+decreases-loop-i l = (length l.ts - l.i) + (length l.us - l.j)

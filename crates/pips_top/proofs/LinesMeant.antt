@@ -1,0 +1,47 @@
+-- The lines that are added to a module are those of its analysis, and each is read as what that has there.
+use Rattle.std.proofs.Common.{◌≡◌, ℕ, zero, suc, ◌+◌, Bool, true, false, List, [], ◌∷◌, Option, Some, None, arith, refl, ap, sym, ◌∙◌, subst}
+use Rattle.std.specs.Prelude.{All, bytes_eq, slice_get, if◌then◌else◌}
+use Rattle.std.proofs.lemmas.Slice.Eq.{bytes_eq-Decides}
+use Rattle.f77_meaning.specs.Modules.{known_of}
+use Rattle.scalar_phases.specs.Phases.{Analysis, analyses}
+use Rattle.laws_analyses.specs.Laws.{AnalysesAreWhole}
+use Rattle.laws_lines.specs.Lines.{EachMeans}
+use Rattle.laws_lines.specs.LineLaws.{LinesMeanResults, AnalysesAreReadBack}
+use Rattle.laws_lines.specs.NameLaws.{NamesAreWords}
+use Rattle.pips_top.specs.Claimed.{analysis_for, lines_of}
+use Rattle.pips_top.specs.Laws.{ReadLinesMean}
+use Rattle.pips_top.specs.declared.words.Show.TheVariants as show
+use Rattle.pips_top.proofs.Programs.{is_program}
+
+each_at : {A : Type 0} (P : A → Type 0) (xs : List A) → All P xs → (j : ℕ) (a : A) → slice_get xs j ≡ Some a → P a
+each_at P [] h j a e = cc
+each_at P (x ∷ xs) h zero a e = let same : x ≡ a = cc in subst P same (h zero x (omega arith))
+each_at P (x ∷ xs) h (suc j) a e = each_at P xs (λ k d l. h (suc k) d (omega (arith, l))) j a e
+
+-- no name has two
+abbrev Once : List Analysis → Type 0
+Once all = (i j : ℕ) (a b : Analysis) → slice_get all i ≡ Some a → slice_get all j ≡ Some b → a.found.known.read.name ≡ b.found.known.read.name → i ≡ j
+
+-- so each is that of its name
+own_found : (all : List Analysis) → Once all → (j : ℕ) (a : Analysis) → slice_get all j ≡ Some a → analysis_for all a.found.known.read.name ≡ Some a
+own_found [] once j a e = cc
+own_found (b ∷ all) once zero a e =
+    let same : b ≡ a = cc in
+    let it : bytes_eq b.found.known.read.name a.found.known.read.name ≡ true = (bytes_eq-Decides b.found.known.read.name a.found.known.read.name).1 (ap (λ (c : Analysis). c.found.known.read.name) same) in
+    ap (λ t. if t then Some b else analysis_for all a.found.known.read.name) it ∙ ap Some same
+own_found (b ∷ all) once (suc j) a e = go (bytes_eq b.found.known.read.name a.found.known.read.name) refl (own_found all (λ i k c d f g h. omega (arith, once (suc i) (suc k) c d f g h)) j a e)
+  where
+    go : (t : Bool) → bytes_eq b.found.known.read.name a.found.known.read.name ≡ t → analysis_for all a.found.known.read.name ≡ Some a
+        → (if t then Some b else analysis_for all a.found.known.read.name) ≡ Some a
+    go true q ih = absurd (omega (arith, once zero (suc j) b a refl e ((bytes_eq-Decides b.found.known.read.name a.found.known.read.name).0 q)))
+    go false q ih = ih
+
+pub lines_from : AnalysesAreWhole → AnalysesAreReadBack → NamesAreWords → ReadLinesMean
+lines_from whole back words show.All bytes p e =
+    let all = analyses (known_of p.modules p.tables) p.graph in
+    let i = is_program bytes p e in
+    let once = (whole p.modules p.tables p.graph i).once in
+    let read = back p.modules p.tables p.graph i.tables (words i.lines p.modules p.tables i.parsed i.tables) in
+    λ j a found. subst (λ o. EachMeans a (lines_of o)) (sym (own_found all once j a found)) (each_at LinesMeanResults all read j a found)
+lines_from whole back words show.Bare bytes p e = λ j a found. cc
+lines_from whole back words show.Why bytes p e = λ j a found. cc
