@@ -1,0 +1,148 @@
+-- The lines of the regions of a module are read as what was found.
+use Rattle.std.proofs.Common.{◌≡◌, inl, inr, ℕ, zero, suc, ◌-◌, ◌<◌, ◌≤◌, Bool, true, false, List, [], ◌∷◌, length, Option, Some, None, arith, refl, ap, ◌∙◌, nat_eq}
+use Rattle.std.specs.Prelude.{if◌then◌else◌, map, slice_get}
+use Rattle.std.specs.List.{AllByRecursion}
+use Rattle.std.proofs.lemmas.Bool.Decides.{nat_tests}
+use Rattle.affine_systems.specs.declared.row.Var.{Var}
+use Rattle.affine_systems.specs.declared.row.Var.TheVariants.{Cell, Exit, Phi, Aux}
+use Rattle.affine_systems.specs.declared.row.Term.{Term}
+use Rattle.affine_systems.specs.declared.row.System.{System}
+use Rattle.f77_symbols.specs.declared.variable.Unit.{Unit as BlockUnit}
+use Rattle.f77_meaning.specs.Modules.{Known, known_of, symbol_names}
+use Rattle.affine_forms.specs.Scalars.{flag_of, is_cell}
+use Rattle.transformer_algebra.specs.Laws.{In, here, there}
+use Rattle.scalar_phases.specs.Phases.{Analysis, scope_of, analyses}
+use Rattle.region_sets.specs.declared.region.Region.{Region}
+use Rattle.roundtrip_systems.specs.Printed.{IsNumber}
+use Rattle.roundtrip_regions.specs.Printed.{IsPlaced, ArePlaced, IsOfPlaces, IsCalled, IsReadable}
+use Rattle.roundtrip_regions.specs.Added.{IsThere, MeansRegion}
+use Rattle.roundtrip_regions.proofs.LineBack.{same_shown}
+use Rattle.roundtrip_regions.proofs.AddedBack.{added_lines_read_back}
+use Rattle.region_lines.specs.RegionLines.{region_lines_of}
+use Rattle.f77_printer.specs.declared.added.Added.{Added}
+use Rattle.laws_lines.specs.Variables.{EachVar}
+use Rattle.laws_lines.specs.Laws.{IsTracked}
+use Rattle.laws_lines.proofs.RowVars.{Neat}
+use Rattle.laws_lines.proofs.SystemVars.{IsNeat, all_more}
+use Rattle.laws_lines.proofs.LineBack.{neat_ordered}
+use Rattle.laws_lines.proofs.PhaseVars.{EachOf, each_all, value_is}
+use Rattle.laws_region_lines.specs.Places.{IsPlaceOf, IsOne}
+use Rattle.laws_region_lines.specs.Laws.{regions_in}
+use Rattle.laws_region_lines.specs.LineLaws.{IsRegionLine, RegionLinesMean, RegionLinesMeanRegions}
+use Rattle.laws_region_lines.proofs.AccessVars.{IsNamedOne}
+use Rattle.laws_region_lines.proofs.RegionVars.{AreFine}
+use Rattle.laws_region_lines.proofs.ProgramRegions.{ModuleFine, modules_fine}
+
+-- ---- cells have names
+
+got_below : {A : Type 0} (xs : List A) (i : ℕ) (x : A) → slice_get xs i ≡ Some x → i < length xs
+got_below [] i x e = cc
+got_below (y ∷ xs) zero x e = omega arith
+got_below (y ∷ xs) (suc i) x e = let l = got_below xs i x e in omega (arith, l)
+
+map_length : {A B : Type 0} (f : A → B) (xs : List A) → length (map f xs) ≡ length xs
+map_length f [] = refl
+map_length f (x ∷ xs) = ap suc (map_length f xs)
+
+cell_number : (flags : List Bool) (n : ℕ) → is_cell flags n ≡ true → (0 < n) × (n ≤ length flags)
+cell_number flags n h = go (nat_eq n 0) refl h
+  where
+    above : nat_eq n 0 ≡ false → 0 < n
+    above e = grind (arith, nat_tests)
+
+    inside : 0 < n → (o : Option Bool) → slice_get flags (n - 1) ≡ o → flag_of o ≡ true → (0 < n) × (n ≤ length flags)
+    inside l None q k = cc
+    inside l (Some b) q k = let i = got_below flags (n - 1) b q in (l, omega (arith, l, i))
+
+    go : (b : Bool) → nat_eq n 0 ≡ b → flag_of (if b then None else slice_get flags (n - 1)) ≡ true → (0 < n) × (n ≤ length flags)
+    go true e k = cc
+    go false e k = inside (above e) (slice_get flags (n - 1)) refl k
+
+tracked_number : (untracked : List BlockUnit) (k : Known) (n : ℕ) → IsTracked untracked k n → IsNumber (symbol_names k.symbols) n
+tracked_number untracked k n h =
+    let r = cell_number (scope_of untracked k).tracked n h in
+    let a : length (scope_of untracked k).tracked ≡ length k.symbols = map_length _ k.symbols in
+    let b : length (symbol_names k.symbols) ≡ length k.symbols = map_length _ k.symbols in
+    let l = r.1 in
+    (r.0, omega (arith, l, a, b))
+
+-- ---- regions that are read as they were written
+
+module _ (untracked : List BlockUnit) (k : Known) where
+  abbrev names : List (List ℕ)
+  names = symbol_names k.symbols
+
+  abbrev ok : ℕ → Type 0
+  ok = IsTracked untracked k
+
+  placed : (v : Var) → IsPlaceOf ok v → IsPlaced names v
+  placed (Cell n) h = tracked_number untracked k n h
+  placed (Exit n) h = absurd h
+  placed (Phi n) h = h
+  placed (Aux n) h = absurd h
+
+  terms_placed : (ts : List Term) → EachVar (IsPlaceOf ok) ts → ArePlaced names ts
+  terms_placed [] h = tt
+  terms_placed (t ∷ ts) h = (placed t.var h.0, terms_placed ts h.1)
+
+  system_placed : (s : System) → IsNeat (IsPlaceOf ok) s → IsOfPlaces names s
+  system_placed s h =
+      (neat_ordered (IsPlaceOf ok) s h, all_more (Neat false (IsPlaceOf ok)) (λ r. ArePlaced names r.terms) (λ r i. terms_placed r.terms i.1) s.rows h)
+
+  one_placed : (ss : List System) → IsOne (IsNeat (IsPlaceOf ok)) ss → AllByRecursion (IsOfPlaces names) ss
+  one_placed [] h = absurd h
+  one_placed (s ∷ []) h = (system_placed s h, tt)
+  one_placed (s ∷ (q ∷ qs)) h = absurd h
+
+  all_readable : (rs : List Region) → AreFine IsNamedOne ok rs → ((r : Region) → In r rs → IsCalled names r.variable) → AllByRecursion (IsReadable names) rs
+  all_readable [] h c = tt
+  all_readable (r ∷ rs) h c = (record { variable = c r here; systems = one_placed r.pieces h.0.1 }, all_readable rs h.1 (λ q i. c q (there i)))
+
+-- ---- modules
+
+one_piece : (P : System → Type 0) (ss : List System) → IsOne P ss → (s : System) × (ss ≡ s ∷ [])
+one_piece P [] h = absurd h
+one_piece P (s ∷ []) h = (s, refl)
+one_piece P (s ∷ (q ∷ qs)) h = absurd h
+
+in_one : (such : Var → Type 0) (rs : List Region) (r : Region) → In r rs → AllByRecursion (λ (q : Region). IsOne (IsNeat such) q.pieces) rs → IsOne (IsNeat such) r.pieces
+in_one such [] r i h = elim i [ ]
+in_one such (q ∷ rs) r here h = h.0
+in_one such (q ∷ rs) r (there i) h = in_one such rs r i h.1
+
+ones : (ok : ℕ → Type 0) (rs : List Region) → AreFine IsNamedOne ok rs → AllByRecursion (λ (q : Region). IsOne (IsNeat (IsPlaceOf ok)) q.pieces) rs
+ones ok [] h = tt
+ones ok (r ∷ rs) h = (h.0.1, ones ok rs h.1)
+
+module _ (untracked : List BlockUnit) (a : Analysis) (fine : ModuleFine untracked a) where
+  abbrev tracked : ℕ → Type 0
+  tracked = IsTracked untracked a.found.known
+
+  there_one : (n : ℕ) (r : Region) → IsThere (regions_in untracked a) n r → IsOne (IsNeat (IsPlaceOf tracked)) r.pieces
+  there_one n r (inl f) = in_one (IsPlaceOf tracked) f.0 r f.2 (ones tracked f.0 (value_is (AreFine IsNamedOne tracked) (regions_in untracked a).at n f.0 fine.at f.1))
+  there_one n r (inr f) = in_one (IsPlaceOf tracked) (regions_in untracked a).summary r f.1 (ones tracked (regions_in untracked a).summary fine.summary)
+
+  all_just : (xs : List Added) → AllByRecursion (MeansRegion (symbol_names a.found.known.symbols) (regions_in untracked a)) xs → AllByRecursion (IsRegionLine (symbol_names a.found.known.symbols) (regions_in untracked a)) xs
+  all_just [] h = tt
+  all_just (x ∷ xs) h =
+      let r = h.0.0 in
+      let one = one_piece (IsNeat (IsPlaceOf tracked)) r.pieces (there_one x.before r h.0.2) in
+      ((r, h.0.1 ∙ ap Some (same_shown r one.0 one.1), h.0.2), all_just xs h.1)
+
+module_means : (untracked : List BlockUnit) (a : Analysis) → ModuleFine untracked a → RegionLinesMean untracked a
+module_means untracked a h other called =
+    let k = a.found.known in
+    let sets = regions_in untracked a in
+    all_just untracked a h (region_lines_of k.read.main k.read.body (symbol_names k.symbols) sets)
+    (added_lines_read_back k.read.main k.read.body (symbol_names k.symbols) sets other (record {
+      at = λ n rs e. all_readable untracked k rs (value_is (AreFine IsNamedOne (IsTracked untracked k)) sets.at n rs h.at e) (λ r i. called n r (inl (rs, e, i)));
+      summary = all_readable untracked k sets.summary h.summary (λ r i. called 0 r (inr (refl, i)));
+    }))
+
+each_means : (untracked : List BlockUnit) (as' : List Analysis) → EachOf (ModuleFine untracked) as' → EachOf (RegionLinesMean untracked) as'
+each_means untracked [] h = tt
+each_means untracked (a ∷ as') h = (module_means untracked a h.0, each_means untracked as' h.1)
+
+pub region_lines_mean_regions : RegionLinesMeanRegions
+region_lines_mean_regions ps sss g t =
+    each_all (RegionLinesMean g.untracked) (RegionLinesMean g.untracked) (λ a h. h) (analyses (known_of ps sss) g) (each_means g.untracked (analyses (known_of ps sss) g) (modules_fine ps sss g t))

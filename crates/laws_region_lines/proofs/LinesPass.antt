@@ -1,0 +1,127 @@
+-- The lines of the regions of a module are comment lines that reading drops.
+use Rattle.std.proofs.Common.{◌≡◌, ℕ, Bool, true, false, List, [], ◌∷◌, ◌++◌, Option, Some, None, refl}
+use Rattle.std.specs.Prelude.{if◌then◌else◌}
+use Rattle.std.specs.List.{AllByRecursion}
+use Rattle.f77_ast.specs.Trees.{StmtTree, WhatTree, ArmTree, ArmTrees, ElseTree, LoopTree, StmtTrees}
+use Rattle.f77_ast.specs.Trees as tree
+use Rattle.f77_printer.specs.declared.added.Added.{Added}
+use Rattle.f77_results.specs.declared.results.Results.{Results}
+use Rattle.transformers.specs.Lists.{value_at}
+use Rattle.claim_lines.specs.ScalarLines.{says_changes}
+use Rattle.roundtrip_systems.specs.Reading.{Bytes}
+use Rattle.region_sets.specs.declared.region.Region.{Region}
+use Rattle.region_lines.specs.RegionLines.{set_lines, found_lines, own_lines, stmt_lines, part_lines, list_lines, arms_lines, arm_lines, else_lines, loop_lines, entry_lines, region_lines_of}
+use Rattle.f77_symbols.specs.declared.variable.Unit.{Unit as BlockUnit}
+use Rattle.f77_meaning.specs.Modules.{known_of, symbol_names}
+use Rattle.scalar_phases.specs.Phases.{Analysis, analyses}
+use Rattle.roundtrip_text.specs.Texts.{IsPassedOver}
+use Rattle.roundtrip_programs.specs.Lines.{AreShown}
+use Rattle.roundtrip_regions.specs.Laws.{IsShownVariable, RegionLinesArePassedOver}
+use Rattle.laws_lines.specs.Laws.{IsTracked}
+use Rattle.laws_lines.proofs.PhaseVars.{EachOf, each_all, value_is}
+use Rattle.laws_region_lines.specs.Laws.{regions_in}
+use Rattle.laws_region_lines.specs.LineLaws.{RegionLinesPass, AllRegionLinesPass}
+use Rattle.laws_region_lines.proofs.AccessVars.{IsNamedOne}
+use Rattle.laws_region_lines.proofs.RegionVars.{AreFine}
+use Rattle.laws_region_lines.proofs.ProgramRegions.{ModuleFine, modules_fine}
+
+abbrev AreShownRegions : List Region → Type 0
+AreShownRegions rs = AllByRecursion (λ (r : Region). IsShownVariable r.variable) rs
+
+record SetsShown (sets : Results (List Region)) : Type 0 where
+  at : (n : ℕ) (rs : List Region) → value_at sets.at n ≡ Some rs → AreShownRegions rs
+  summary : AreShownRegions sets.summary
+
+each_append : {A : Type 0} (P : A → Type 0) (xs ys : List A) → AllByRecursion P xs → AllByRecursion P ys → AllByRecursion P (xs ++ ys)
+each_append P [] ys h k = k
+each_append P (x ∷ xs) ys h k = (h.0, each_append P xs ys h.1 k)
+
+module _ (law : RegionLinesArePassedOver) (names : List Bytes) (sets : Results (List Region)) (are : AreShown names) (shown : SetsShown sets) where
+  abbrev Pass : List Added → Type 0
+  Pass xs = AllByRecursion IsPassedOver xs
+
+  both : (xs ys : List Added) → Pass xs → Pass ys → Pass (xs ++ ys)
+  both xs ys h k = each_append IsPassedOver xs ys h k
+
+  set_passes : (n : ℕ) (rs : List Region) → AreShownRegions rs → Pass (set_lines names n rs)
+  set_passes n [] h = tt
+  set_passes n (r ∷ rs) h = let line = law names r are h.0 in (record { comment = line.comment; dropped = line.dropped }, set_passes n rs h.1)
+
+  found_passes : (n : ℕ) → Pass (found_lines names n (value_at sets.at n))
+  found_passes n = go (value_at sets.at n) refl
+    where
+      go : (o : Option (List Region)) → value_at sets.at n ≡ o → Pass (found_lines names n o)
+      go None e = tt
+      go (Some rs) e = set_passes n rs (shown.at n rs e)
+
+  own_passes : (n : ℕ) (w : WhatTree) → Pass (own_lines n w names sets.at)
+  own_passes n w = go (says_changes w)
+    where
+      go : (b : Bool) → Pass (if b then found_lines names n (value_at sets.at n) else [])
+      go true = found_passes n
+      go false = tt
+
+  mutual
+    stmt_passes : (s : StmtTree) → Pass (stmt_lines s names sets.at)
+    stmt_passes (tree.stmt n label w) = both (own_lines n w names sets.at) (part_lines w names sets.at) (own_passes n w) (part_passes w)
+
+    part_passes : (w : WhatTree) → Pass (part_lines w names sets.at)
+    part_passes (tree.assign x e) = tt
+    part_passes (tree.block_if arms other) = both (arms_lines arms names sets.at) (else_lines other names sets.at) (arms_pass arms) (else_passes other)
+    part_passes (tree.logical_if e s) = tt
+    part_passes (tree.do_loop l) = loop_passes l
+    part_passes (tree.call x es) = tt
+    part_passes (tree.goto l) = tt
+    part_passes tree.continue = tt
+    part_passes tree.return = tt
+    part_passes (tree.stop text) = tt
+    part_passes (tree.print es) = tt
+    part_passes (tree.read es) = tt
+
+    list_passes : (ss : StmtTrees) → Pass (list_lines ss names sets.at)
+    list_passes tree.no_stmts = tt
+    list_passes (tree.more_stmts s rest) = both (stmt_lines s names sets.at) (list_lines rest names sets.at) (stmt_passes s) (list_passes rest)
+
+    arms_pass : (xs : ArmTrees) → Pass (arms_lines xs names sets.at)
+    arms_pass tree.no_arms = tt
+    arms_pass (tree.more_arms x rest) = both (arm_lines x names sets.at) (arms_lines rest names sets.at) (arm_passes x) (arms_pass rest)
+
+    arm_passes : (x : ArmTree) → Pass (arm_lines x names sets.at)
+    arm_passes (tree.arm test body) = list_passes body
+
+    else_passes : (x : ElseTree) → Pass (else_lines x names sets.at)
+    else_passes tree.no_else = tt
+    else_passes (tree.otherwise body) = list_passes body
+
+    loop_passes : (l : LoopTree) → Pass (loop_lines l names sets.at)
+    loop_passes (tree.loop index first last step body) = list_passes body
+
+  entry_passes : (main : Bool) → Pass (entry_lines main names sets.summary)
+  entry_passes true = tt
+  entry_passes false = set_passes 0 sets.summary shown.summary
+
+  lines_pass : (main : Bool) (body : StmtTrees) → Pass (region_lines_of main body names sets)
+  lines_pass main body = both (entry_lines main names sets.summary) (list_lines body names sets.at) (entry_passes main) (list_passes body)
+
+-- ---- modules
+
+fine_shown : (ok : ℕ → Type 0) (rs : List Region) → AreFine IsNamedOne ok rs → AreShownRegions rs
+fine_shown ok [] h = tt
+fine_shown ok (r ∷ rs) h = (h.0.0, fine_shown ok rs h.1)
+
+module_passes : RegionLinesArePassedOver → (untracked : List BlockUnit) (a : Analysis) → ModuleFine untracked a → RegionLinesPass untracked a
+module_passes law untracked a h are =
+    let ok = IsTracked untracked a.found.known in
+    let sets = regions_in untracked a in
+    lines_pass law (symbol_names a.found.known.symbols) sets are (record {
+      at = λ n rs e. fine_shown ok rs (value_is (AreFine IsNamedOne ok) sets.at n rs h.at e);
+      summary = fine_shown ok sets.summary h.summary;
+    }) a.found.known.read.main a.found.known.read.body
+
+each_passes : RegionLinesArePassedOver → (untracked : List BlockUnit) (as' : List Analysis) → EachOf (ModuleFine untracked) as' → EachOf (RegionLinesPass untracked) as'
+each_passes law untracked [] h = tt
+each_passes law untracked (a ∷ as') h = (module_passes law untracked a h.0, each_passes law untracked as' h.1)
+
+pub all_pass : RegionLinesArePassedOver → AllRegionLinesPass
+all_pass law ps sss g t =
+    each_all (RegionLinesPass g.untracked) (RegionLinesPass g.untracked) (λ a h. h) (analyses (known_of ps sss) g) (each_passes law g.untracked (analyses (known_of ps sss) g) (modules_fine ps sss g t))

@@ -1,0 +1,225 @@
+-- Regions of the modules of a program have subscripts and tracked cells alone.
+use Rattle.affine_forms.specs.Scalars.{flag_of, is_cell, if_cell}
+use Rattle.affine_systems.specs.declared.row.Var.{Var}
+use Rattle.affine_systems.specs.declared.row.System.{System}
+use Rattle.call_graph.specs.declared.graph.Graph.{Graph}
+use Rattle.call_translation.specs.Common.{is_unit, tracked_from}
+use Rattle.f77_ast.specs.DeclTrees.{ParsedTree}
+use Rattle.f77_checks.specs.Dimensions.{has_bad_bound, dims_of, is_too_big, is_bad_shape, check_bounds, check_shape, check_shapes}
+use Rattle.f77_meaning.specs.Modules.{Known, known_of, symbol_names}
+use Rattle.f77_names.specs.Entries.{ShapeTree, EntryTree}
+use Rattle.f77_names.specs.Tables.{NameTable}
+use Rattle.f77_results.specs.declared.results.At.{At}
+use Rattle.f77_symbols.specs.Symbols.{SymbolTree, number_from}
+use Rattle.f77_symbols.specs.declared.variable.Unit.{Unit as BlockUnit}
+use Rattle.laws_lines.proofs.PhaseVars.{EachOf, each-append, each_all, each_reverse, got_each, AnalysisOk, analyses_ok, value_is}
+use Rattle.laws_lines.proofs.RuleVars.{IsDone, unchanging_done}
+use Rattle.laws_lines.proofs.StatementVars.{AllAt, Scope}
+use Rattle.laws_lines.proofs.SystemVars.{IsNeat, neat_over}
+use Rattle.laws_lines.specs.Laws.{IsTracked}
+use Rattle.laws_lines.specs.Variables.{IsOver}
+use Rattle.laws_programs.specs.Programs.{AreTables}
+use Rattle.laws_region_lines.proofs.AccessVars.{IsNamedOne, FewBounds}
+use Rattle.laws_region_lines.proofs.RegionVars.{AreFine}
+use Rattle.laws_region_lines.proofs.StatementRegions.{list_at_fine, summary_fine}
+use Rattle.laws_region_lines.specs.Laws.{regions_in, AreOverPlaces, RegionsAreOver, RegionsAreOverPlaces}
+use Rattle.laws_region_lines.specs.Places.{IsPlaceOf, IsOne}
+use Rattle.laws_tables.proofs.Answers.{Answered, lines_in, layout_in, found_none, answered_by}
+use Rattle.laws_tables.proofs.NameRefusals.{shapes_back}
+use Rattle.laws_tables.proofs.StatementRefusals.{noted_none, stmts_back}
+use Rattle.refusal_codes.specs.declared.code.Code.TheVariants.{BadDimension}
+use Rattle.refusal_codes.specs.declared.refusal.Refusal.{Refusal}
+use Rattle.region_sets.specs.declared.region.Region.{Region}
+use Rattle.scalar_phases.specs.Phases.{scope_of, place_of, module_at, module_of, Found, no_callees, with_callee, found_of, maybe_found, found_in, Analysis, sites_of, analysis_of, analyses_from, analyses}
+use Rattle.std.proofs.Common.{◌≡◌, ℕ, zero, suc, ◌+◌, ◌-◌, Bool, true, false, ◌&&◌, ◌||◌, List, [], ◌∷◌, ◌++◌, Option, Some, None, arith, refl, sym, ap, ◌∙◌, subst, nat_eq, length, ◌≤◌}
+use Rattle.std.proofs.lemmas.Bool.Decides.{nat_tests}
+use Rattle.std.proofs.lemmas.Bool.{ne_eqb, or_parts}
+use Rattle.std.specs.List.{AllByRecursion}
+use Rattle.std.specs.Prelude.{if◌then◌else◌, reverse, slice_get, option_to_list, is_some, nat_lt, ◌&&◌, ◌||◌}
+use Rattle.storage_layout.specs.Symbols.{valued, checked}
+use Rattle.storage_layout.specs.Table.{Layout, bounds_in, symbols_from}
+use Rattle.tracked_cells.specs.Tracked.{tracked_of}
+use Rattle.transformer_algebra.specs.declared.transformer.Transformer.{Transformer}
+use Rattle.transformers.specs.Given.{Callees}
+use Rattle.transformers.specs.Lists.{value_at, or_unchanging, transformer_at}
+
+-- ---- the tracked cells of a module
+
+named_flag : (flags : List Bool) (o : Option ℕ) (c : ℕ) → if_cell flags o ≡ Some c → is_cell flags c ≡ true
+named_flag flags None c e = cc
+named_flag flags (Some n) c e = go (is_cell flags n) refl e
+  where
+    go : (b : Bool) → is_cell flags n ≡ b → (if b then Some n else None) ≡ Some c → is_cell flags c ≡ true
+    go true q k = let same : n ≡ c = cc in subst (λ (m : ℕ). is_cell flags m ≡ true) same q
+    go false q k = cc
+
+-- the flag at a place is set
+record Flag (n : ℕ) (flags : List Bool) (c : ℕ) : Type 0 where
+  pub place : ℕ
+  pub is_place : c ≡ n + place
+  pub is_set : slice_get flags place ≡ Some true
+
+unit_flag : (n : ℕ) (ss : List SymbolTree) (flags : List Bool) (b : List ℕ) (o c : ℕ) → tracked_from n ss flags b o ≡ Some c → Flag n flags c
+unit_flag n [] flags b o c e = cc
+unit_flag n (s ∷ ss) [] b o c e = cc
+unit_flag n (s ∷ ss) (f ∷ fs) b o c e = go f refl (is_unit b o s.place) e (unit_flag (suc n) ss fs b o c)
+  where
+    later : Flag (suc n) fs c → Flag n (f ∷ fs) c
+    later r = record { place = suc r.place; is_place = omega (arith, r.is_place); is_set = r.is_set }
+
+    go : (g : Bool) → f ≡ g → (u : Bool) → (if g && u then Some n else tracked_from (suc n) ss fs b o) ≡ Some c → (tracked_from (suc n) ss fs b o ≡ Some c → Flag (suc n) fs c) → Flag n (f ∷ fs) c
+    go true q true k ih = let same : n ≡ c = cc in record { place = zero; is_place = omega (arith, same); is_set = ap (λ (x : Bool). Some x) q }
+    go true q false k ih = later (ih k)
+    go false q u k ih = later (ih k)
+
+set_cell : (flags : List Bool) (k : ℕ) → slice_get flags k ≡ Some true → is_cell flags (suc k) ≡ true
+set_cell flags k e =
+    let a : suc k - 1 ≡ k = omega arith in
+    let z : nat_eq (suc k) 0 ≡ false = ne_eqb (suc k) 0 (λ q. absurd (omega (arith, q))) in
+    ap flag_of (ap (λ (b : Bool). if b then None else slice_get flags (suc k - 1)) z ∙ (ap (slice_get flags) a ∙ e))
+
+-- the tracked cells of a module with its table
+module _ (untracked : List BlockUnit) (k : Known) where
+  scope_flags : Scope (IsTracked untracked k) (scope_of untracked k)
+  scope_flags = record {
+    allows = record {
+      names = λ x c e. named_flag (tracked_of k.read k.symbols untracked) (number_from 1 (symbol_names k.symbols) x) c e;
+      units = λ b o c e. let r = unit_flag 1 k.symbols (tracked_of k.read k.symbols untracked) b o c e in
+          let q : suc r.place ≡ c = omega (arith, r.is_place) in
+          subst (λ (m : ℕ). is_cell (tracked_of k.read k.symbols untracked) m ≡ true) q (set_cell (tracked_of k.read k.symbols untracked) r.place r.is_set);
+    };
+    flags = λ c e. e;
+  }
+
+-- ---- what its statements do
+
+found_done : (ok : ℕ → Type 0) (xs : List (At Transformer)) → AllAt (IsDone ok) xs → (n : ℕ) → IsDone ok (transformer_at xs n)
+found_done ok xs h n = go (value_at xs n) (λ v e. value_is (IsDone ok) xs n v h e)
+  where
+    go : (o : Option Transformer) → ((v : Transformer) → o ≡ Some v → IsDone ok v) → IsDone ok (or_unchanging o)
+    go None f = unchanging_done ok
+    go (Some t) f = f t refl
+
+-- ---- arrays have at most seven dimensions
+
+seven : (n : ℕ) → nat_lt 7 n ≡ false → n ≤ 7
+seven n h = grind (arith, nat_tests)
+
+shape_few : (t : NameTable) (dummy : Bool) (s : Option ShapeTree) (o : Option Refusal) → check_shape t dummy s o ≡ None → length (bounds_in s) ≤ 7
+shape_few t dummy None o j = omega arith
+shape_few t dummy (Some s) o j =
+    let r = noted_none (is_bad_shape t dummy s.bounds) s.line BadDimension (check_bounds t s.bounds s.line o) j in
+    seven (length s.bounds) (or_parts (nat_lt 7 (length s.bounds)) (has_bad_bound t dummy s.bounds || is_too_big (dims_of t s.bounds)) r.0).0
+
+abbrev HasFew : SymbolTree → Type 0
+HasFew s = length s.bounds ≤ 7
+
+all_few : (t : NameTable) (l : Layout) (n : ℕ) (es : List EntryTree) (o : Option Refusal) → check_shapes t es o ≡ None → EachOf HasFew (symbols_from l n es)
+all_few t l n [] o j = tt
+all_few t l n (e ∷ es) o j =
+    let next = check_shape t (is_some e.dummy) e.shape o in
+    (shape_few t (is_some e.dummy) e.shape o (shapes_back t es next j), all_few t l (n + 1) es next j)
+
+table_few : (p : ParsedTree) (ss : List SymbolTree) → Answered p ss → EachOf HasFew ss
+unfolding checked
+table_few p ss a =
+    let v = valued (lines_in p) p.module_read in
+    let l = layout_in p in
+    let none = stmts_back v.table (lines_in p) p.module_read.body 0 (check_shapes v.table v.table.entries v.found) (found_none p ss a) in
+    subst (EachOf HasFew) (sym a.table) (all_few v.table l 0 v.table.entries v.found none)
+
+few_at : (ss : List SymbolTree) → EachOf HasFew ss → FewBounds ss
+few_at ss h n s e = go (nat_eq n 0) e
+  where
+    go : (b : Bool) → (if b then None else slice_get ss (n - 1)) ≡ Some s → length s.bounds ≤ 7
+    go true q = cc
+    go false q = got_each HasFew ss (n - 1) s h q
+
+abbrev KnownFew : Known → Type 0
+KnownFew k = EachOf HasFew k.symbols
+
+knowns_few : (ps : List ParsedTree) (sss : List (List SymbolTree)) → AreTables ps sss → EachOf KnownFew (known_of ps sss)
+knowns_few [] sss t = tt
+knowns_few (p ∷ ps) [] t = tt
+knowns_few (p ∷ ps) (ss ∷ sss) t = (table_few p ss (answered_by p ss t.0), knowns_few ps sss t.1)
+
+-- ---- each analysis is of a module of the program
+
+module _ (W : Known → Type 0) where
+  module_with : (ks : List Known) → EachOf W ks → (x : List ℕ) (k : Known) → module_of ks x ≡ Some k → W k
+  module_with ks h x k e = go (place_of ks x) e
+    where
+      go : (o : Option ℕ) → module_at ks o ≡ Some k → W k
+      go None q = cc
+      go (Some i) q = got_each W ks i k h q
+
+  founds_with : (untracked : List BlockUnit) (ks : List Known) → EachOf W ks → (cs : Callees) (xs : List (List ℕ)) → EachOf (λ (f : Found). W f.known) (found_in untracked ks cs xs)
+  founds_with untracked ks h cs [] = tt
+  founds_with untracked ks h cs (x ∷ xs) = go (module_of ks x) refl (λ ds. founds_with untracked ks h ds xs)
+    where
+      go : (o : Option Known) → module_of ks x ≡ o → ((ds : Callees) → EachOf (λ (f : Found). W f.known) (found_in untracked ks ds xs)) → EachOf (λ (f : Found). W f.known) (option_to_list (maybe_found untracked cs o) ++ found_in untracked ks (with_callee (maybe_found untracked cs o) cs) xs)
+      go None e ih = ih (with_callee None cs)
+      go (Some k) e ih = (module_with ks h x k e, ih (with_callee (Some (found_of untracked cs k)) cs))
+
+  from_with : (untracked : List BlockUnit) (done : List Analysis) (fs : List Found) → EachOf (λ (a : Analysis). W a.found.known) done → EachOf (λ (f : Found). W f.known) fs → EachOf (λ (a : Analysis). W a.found.known) (analyses_from untracked done fs)
+  from_with untracked done [] d h = d
+  from_with untracked done (f ∷ fs) d h =
+      let new = analysis_of untracked (sites_of untracked done f.known.read.name) f in
+      from_with untracked (done ++ new ∷ []) fs (each-append (λ (a : Analysis). W a.found.known) done (new ∷ []) d (h.0, tt)) h.1
+
+  analyses_with : (ks : List Known) (g : Graph) → EachOf W ks → EachOf (λ (a : Analysis). W a.found.known) (analyses ks g)
+  analyses_with ks g h =
+      let fs = found_in g.untracked ks no_callees g.order in
+      from_with g.untracked [] (reverse fs) tt (each_reverse (λ (f : Found). W f.known) fs (founds_with g.untracked ks h no_callees g.order))
+
+-- ---- the regions of its modules
+
+one_over : (such : Var → Type 0) (ss : List System) → IsOne (IsNeat such) ss → IsOne (IsOver such) ss
+one_over such [] h = absurd h
+one_over such (s ∷ []) h = neat_over such s h
+one_over such (s ∷ (q ∷ qs)) h = absurd h
+
+all_over : (ok : ℕ → Type 0) (rs : List Region) → AreFine IsNamedOne ok rs → AllByRecursion (λ (r : Region). IsOne (IsOver (IsPlaceOf ok)) r.pieces) rs
+all_over ok [] h = tt
+all_over ok (r ∷ rs) h = (one_over (IsPlaceOf ok) r.pieces h.0.1, all_over ok rs h.1)
+
+at_each : {T : Type 0} (P Q : T → Type 0) → ((x : T) → P x → Q x) → (xs : List (At T)) → AllAt P xs → EachOf (λ (x : At T). Q x.value) xs
+at_each P Q f [] h = tt
+at_each P Q f (x ∷ xs) h = (f x.value h.0, at_each P Q f xs h.1)
+
+-- its regions have such variables alone
+pub record ModuleFine (untracked : List BlockUnit) (a : Analysis) : Type 0 where
+  pub at : AllAt (AreFine IsNamedOne (IsTracked untracked a.found.known)) (regions_in untracked a).at
+  pub summary : AreFine IsNamedOne (IsTracked untracked a.found.known) (regions_in untracked a).summary
+
+module_fine : (untracked : List BlockUnit) (a : Analysis) → AnalysisOk untracked a → KnownFew a.found.known → ModuleFine untracked a
+module_fine untracked a h few =
+    let k = a.found.known in
+    let ok = IsTracked untracked k in
+    let m = scope_of untracked k in
+    let t = transformer_at a.found.own.at in
+    let scope = scope_flags untracked k in
+    let seven_each = few_at k.symbols few in
+    let done = found_done ok a.found.own.at h.found.at in
+    record { at = list_at_fine ok m scope seven_each t done k.read.body; summary = summary_fine ok m scope seven_each t done k.read.body }
+
+both_fine : (untracked : List BlockUnit) (as' : List Analysis) → EachOf (AnalysisOk untracked) as' → EachOf (λ (a : Analysis). KnownFew a.found.known) as' → EachOf (ModuleFine untracked) as'
+both_fine untracked [] h k = tt
+both_fine untracked (a ∷ as') h k = (module_fine untracked a h.0 k.0, both_fine untracked as' h.1 k.1)
+
+pub modules_fine : (ps : List ParsedTree) (sss : List (List SymbolTree)) (g : Graph) → AreTables ps sss → EachOf (ModuleFine g.untracked) (analyses (known_of ps sss) g)
+modules_fine ps sss g t =
+    both_fine g.untracked (analyses (known_of ps sss) g) (analyses_ok ps sss g t) (analyses_with KnownFew (known_of ps sss) g (knowns_few ps sss t))
+
+regions_over : (untracked : List BlockUnit) (a : Analysis) → ModuleFine untracked a → RegionsAreOver untracked a
+regions_over untracked a h =
+    let ok = IsTracked untracked a.found.known in
+    let each = at_each (AreFine IsNamedOne ok) (AreOverPlaces untracked a) (all_over ok) (regions_in untracked a).at h.at in
+    record {
+      at = each_all (λ (x : At (List Region)). AreOverPlaces untracked a x.value) (λ (x : At (List Region)). AreOverPlaces untracked a x.value) (λ x i. i) (regions_in untracked a).at each;
+      summary = all_over ok (regions_in untracked a).summary h.summary;
+    }
+
+pub regions_are_over_places : RegionsAreOverPlaces
+regions_are_over_places ps sss g t =
+    each_all (ModuleFine g.untracked) (RegionsAreOver g.untracked) (regions_over g.untracked) (analyses (known_of ps sss) g) (modules_fine ps sss g t)

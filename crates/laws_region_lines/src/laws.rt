@@ -1,0 +1,24 @@
+//! The laws of the variables of regions, and of their lines.
+ghost use Rattle.laws_region_lines.specs.Laws.{RegionsAreOverPlaces};
+ghost use Rattle.laws_region_lines.specs.LineLaws.{RegionLinesMeanRegions, AllRegionLinesPass};
+
+use roundtrip_regions::region_lines_are_passed_over;
+
+/// READ and WRITE regions of modules have one system each, and speak of subscripts, of which there are seven, and of tracked cells where the
+/// statement begins, and of no other variable.
+pub fn regions_are_over_places()
+    ensures { RegionsAreOverPlaces }
+{}
+
+/// Each line of a module is read as just a region that was found there, where the names of its symbols are words, and none is that of a
+/// subscript, and the variable of each region is a symbol.
+pub fn region_lines_mean_regions()
+    ensures { RegionLinesMeanRegions }
+{}
+
+/// Each line of the regions of a module is a comment line that reading drops, where the names of its symbols are of printable ASCII.
+pub fn all_region_lines_pass()
+    ensures { AllRegionLinesPass }
+{
+    region_lines_are_passed_over();
+}

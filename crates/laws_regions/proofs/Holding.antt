@@ -1,0 +1,120 @@
+-- Units in sets of regions, of accesses one after another.
+use Rattle.std.proofs.Common.{◌≡◌, ⊎_elim, ℕ, ℤ, ◌<◌, List, [], ◌∷◌, ◌++◌, Bool, true, refl, ap}
+use Rattle.std.specs.declared.cmp.Ordering.{Ordering}
+use Rattle.std.specs.declared.cmp.Ordering.TheVariants.{Less, Equal, Greater}
+use Rattle.std.specs.Ordering.{nat_cmp, MatchOrdering}
+use Rattle.std.specs.Cmp.{ranks}
+use Rattle.f77_ast.specs.Store.{Store}
+use Rattle.f77_ast.specs.Runs.{Event}
+use Rattle.f77_symbols.specs.declared.variable.Variable.TheVariants.{Own, Block, Saved}
+use Rattle.f77_symbols.specs.Shared.{symbol_at}
+use Rattle.affine_forms.specs.Claims.{numbers_of}
+use Rattle.transformer_algebra.specs.declared.transformer.Transformer.{Transformer}
+use Rattle.transformer_algebra.specs.Claims.{Scene, Does}
+use Rattle.transformer_algebra.specs.Laws.{here, there}
+use Rattle.region_sets.specs.declared.region.Access.{Access}
+use Rattle.region_sets.specs.declared.region.Region.{Region}
+use Rattle.region_sets.specs.Compose.{compose}
+use Rattle.region_sets.specs.Sets.{unite_all}
+use Rattle.region_sets.specs.Lists.{all_composed}
+use Rattle.region_sets.specs.Claims.{Elements, Places as Elements_of, AreByOrder, Accessed, LiesIn, LiesInSet, IsSharp, IsSharpSet}
+use Rattle.region_sets.proofs.SetLaws.{gathered_units, gathered_sharp}
+use Rattle.region_sets.proofs.StepLaws.{in_left, in_right, in_either, in_map, of_map}
+use Rattle.region_sets.proofs.PieceLaws.{compose_moves, compose_sharp}
+use Rattle.laws_regions.specs.Settings.{Setting, scene, is_stored, elements_if, elements_at}
+use Rattle.laws_regions.specs.Shown.{accessed, Holds, Sharp}
+use Rattle.laws_regions.proofs.Traces.{accessed_cases, accessed_left, accessed_right, accessed_none}
+
+at_equal : (A B C : Type 0) (o : Ordering) → MatchOrdering o A B C → o ≡ Equal → B
+at_equal A B C Less m e = cc
+at_equal A B C Equal m e = m
+at_equal A B C Greater m e = cc
+
+same_numbers : (m n : ℕ) → nat_cmp m n ≡ Equal → m ≡ n
+same_numbers m n e = at_equal (m < n) (m ≡ n) (n < m) (nat_cmp m n) (ranks m n) e
+
+pub by_order : (k : Setting) → AreByOrder (elements_at k)
+by_order k (Own m) (Own n) e = ap (λ c. elements_if (is_stored (symbol_at k.m.symbols c)) (k.at c)) (same_numbers m n e)
+by_order k (Own m) (Block c) e = cc
+by_order k (Own m) (Saved t y) e = cc
+by_order k (Block b) (Own n) e = cc
+by_order k (Block b) (Block c) e = refl
+by_order k (Block b) (Saved t y) e = refl
+by_order k (Saved s x) (Own n) e = cc
+by_order k (Saved s x) (Block c) e = refl
+by_order k (Saved s x) (Saved t y) e = refl
+
+-- ---- units
+
+module _ (m : Scene) (at : Elements_of) (a : Access) (x : ℕ → ℤ) (u : ℕ) where
+  pub set_left : (rs qs : List Region) → LiesInSet m at a rs x u → LiesInSet m at a (rs ++ qs) x u
+  set_left rs qs l = record { region = l.region; is_one = in_left l.region rs qs l.is_one; kind = l.kind; lies = l.lies }
+
+  pub set_right : (rs qs : List Region) → LiesInSet m at a qs x u → LiesInSet m at a (rs ++ qs) x u
+  set_right rs qs l = record { region = l.region; is_one = in_right l.region rs qs l.is_one; kind = l.kind; lies = l.lies }
+
+  pub set_one : (r : Region) → r.kind ≡ a → LiesIn m (at r.variable) r x u → LiesInSet m at a (r ∷ []) x u
+  set_one r e l = record { region = r; is_one = here; kind = e; lies = l }
+
+  pub set_moved : (t : Transformer) (rs : List Region) (y : ℕ → ℤ) → Does m t x y → LiesInSet m at a rs y u → LiesInSet m at a (all_composed t rs) x u
+  set_moved t rs y d l = record {
+    region = compose l.region t;
+    is_one = in_map (λ (q : Region). compose q t) l.region rs l.is_one;
+    kind = l.kind;
+    lies = compose_moves l.region t m (at l.region.variable) x y d u l.lies;
+  }
+
+-- ---- what exact regions say
+
+module _ (m : Scene) (at : Elements_of) (x : ℕ → ℤ) where
+  pub sharp_none : (c : Access → ℕ → Bool) → IsSharpSet m at [] x c
+  sharp_none c r i = elim i [ ]
+
+  pub sharp_one : (r : Region) (c : Access → ℕ → Bool) → IsSharp m (at r.variable) r x (c r.kind) → IsSharpSet m at (r ∷ []) x c
+  sharp_one r c h q here = h
+  sharp_one r c h q (there i) = elim i [ ]
+
+  pub sharp_append : (rs qs : List Region) (c : Access → ℕ → Bool) → IsSharpSet m at rs x c → IsSharpSet m at qs x c → IsSharpSet m at (rs ++ qs) x c
+  sharp_append rs qs c h g r i = ⊎_elim (λ j. h r j) (λ j. g r j) (in_either r rs qs i)
+
+  accessed_more : (e : Elements) (c d : ℕ → Bool) (phi : ℕ → ℤ) → ((u : ℕ) → c u ≡ true → d u ≡ true) → Accessed e c phi → Accessed e d phi
+  accessed_more e c d phi f h = record { unit = h.unit; there = h.there; is_so = f h.unit h.is_so }
+
+  pub sharp_more : (rs : List Region) (c d : Access → ℕ → Bool) → ((a : Access) (u : ℕ) → c a u ≡ true → d a u ≡ true) → IsSharpSet m at rs x c → IsSharpSet m at rs x d
+  sharp_more rs c d f h r i e p st g = accessed_more (at r.variable) (c r.kind) (d r.kind) _ (f r.kind) (h r i e p st g)
+
+  pub sharp_moved : (t : Transformer) (rs : List Region) (y : ℕ → ℤ) (c : Access → ℕ → Bool) → Does m t x y → IsSharpSet m at rs y c → IsSharpSet m at (all_composed t rs) x c
+  sharp_moved t rs y c d h = of_map (λ (q : Region). compose q t) (λ (r : Region). IsSharp m (at r.variable) r x (c r.kind)) rs (λ q i. compose_sharp q t m (at q.variable) x y d (c q.kind) (h q i))
+
+-- ---- of accesses
+
+module _ (k : Setting) where
+  pub holds_none : (rs : List Region) (s : Store) → Holds k rs s []
+  holds_none rs s a u h = absurd (accessed_none a u h)
+
+  pub holds_left : (rs qs : List Region) (s : Store) (es : List Event) → Holds k rs s es → Holds k (rs ++ qs) s es
+  holds_left rs qs s es h a u e = set_left (scene k) (elements_at k) a (numbers_of s) u rs qs (h a u e)
+
+  pub holds_right : (rs qs : List Region) (s : Store) (es : List Event) → Holds k qs s es → Holds k (rs ++ qs) s es
+  holds_right rs qs s es h a u e = set_right (scene k) (elements_at k) a (numbers_of s) u rs qs (h a u e)
+
+  pub holds_then : (rs : List Region) (s : Store) (es fs : List Event) → Holds k rs s es → Holds k rs s fs → Holds k rs s (es ++ fs)
+  holds_then rs s es fs h g a u e = ⊎_elim (λ q. h a u q) (λ q. g a u q) (accessed_cases a es fs u e)
+
+  pub holds_both : (rs qs : List Region) (s : Store) (es fs : List Event) → Holds k rs s es → Holds k qs s fs → Holds k (rs ++ qs) s (es ++ fs)
+  holds_both rs qs s es fs h g = holds_then (rs ++ qs) s es fs (holds_left rs qs s es h) (holds_right rs qs s fs g)
+
+  pub holds_gathered : (rs : List Region) (s : Store) (es : List Event) → Holds k rs s es → Holds k (unite_all rs) s es
+  holds_gathered rs s es h a u e = gathered_units rs (scene k) (elements_at k) (by_order k) a (numbers_of s) u (h a u e)
+
+  pub sharp_first : (rs : List Region) (s : Store) (es fs : List Event) → Sharp k rs s es → Sharp k rs s (es ++ fs)
+  sharp_first rs s es fs h = sharp_more (scene k) (elements_at k) (numbers_of s) rs (λ a. accessed a es) (λ a. accessed a (es ++ fs)) (λ a u e. accessed_left a es fs u e) h
+
+  pub sharp_last : (rs : List Region) (s : Store) (es fs : List Event) → Sharp k rs s fs → Sharp k rs s (es ++ fs)
+  sharp_last rs s es fs h = sharp_more (scene k) (elements_at k) (numbers_of s) rs (λ a. accessed a fs) (λ a. accessed a (es ++ fs)) (λ a u e. accessed_right a es fs u e) h
+
+  pub sharp_both : (rs qs : List Region) (s : Store) (es fs : List Event) → Sharp k rs s es → Sharp k qs s fs → Sharp k (rs ++ qs) s (es ++ fs)
+  sharp_both rs qs s es fs h g = sharp_append (scene k) (elements_at k) (numbers_of s) rs qs (λ a. accessed a (es ++ fs)) (sharp_first rs s es fs h) (sharp_last qs s es fs g)
+
+  pub sharp_gathered : (rs : List Region) (s : Store) (es : List Event) → Sharp k rs s es → Sharp k (unite_all rs) s es
+  sharp_gathered rs s es h = gathered_sharp rs (scene k) (elements_at k) (by_order k) (numbers_of s) (λ a. accessed a es) h

@@ -1,0 +1,4 @@
+pub mod Reading
+pub mod Printed
+pub mod Laws
+pub mod Added
