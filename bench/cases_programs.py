@@ -1,25 +1,30 @@
 #!/usr/bin/env python3
 """Makes the cases of crates/cases_programs: its `stdin`, and its `stdout` by the answers of the reference.
 
-    python3 bench/cases_programs.py
+    python3 bench/cases_programs.py [FIRST LAST FOLDER]
 
 What the programs by hand say of their answers, and what follows for pairs of faults, must stand in them, or it stops. Of the effects and the analyses of
-tracked cells programs that are refused are left out.
+tracked cells and array regions programs that are refused are left out. With numbers the random programs of array regions are those of these seeds, and their
+cases alone are written to a folder.
 """
+import os
 import sys
 from collections import Counter
 
 from effect_programs import effect_programs
 from graph_programs import graph_programs
 from reference import load, write_cases
+from region_programs import region_programs
 from scalar_programs import scalar_programs
 from storage_programs import BY_HAND, in_pairs, random_programs, text_of as storage_text
 
 EFFECTS = 600
 # the size of what is stored of the analyses of tracked cells
 SCALARS = 140_000
+# and of array regions
+REGIONS = 400_000
 
-layout, model, pipeline, printer, read, reader, scalars = map(load, ['layout', 'model', 'pipeline', 'printer', 'read', 'reader', 'scalars'])
+layout, model, pipeline, printer, read, reader, regions, scalars = map(load, ['layout', 'model', 'pipeline', 'printer', 'read', 'reader', 'regions', 'scalars'])
 
 
 # ---- texts
@@ -149,6 +154,29 @@ def scalar_lines(text):
             yield f'{number} T {change(symbols, own.at[number])}'
 
 
+# ---- array regions
+
+def region_module_lines(view, own):
+    yield f'module {view.module.name}'
+    sets = regions.regions(view, own, {})
+    for before, added in printer.region_lines(view, sets):
+        yield f'{before} {added}'
+    for number in sorted(sets.at):
+        yield f'{number}'
+        yield from (' ' + printer.region_text(view.symbols, r) for r in sets.at[number])
+    yield 'summary'
+    yield from (' ' + printer.region_text(view.symbols, r) for r in sets.summary)
+
+
+def region_lines(text):
+    """Of the modules without CALLs."""
+    program = read.read(text)
+    views, found = pipeline.views(program), pipeline.analyse_scalars(program)
+    for name in reversed(program.graph.order):
+        if not any(s.what[0] == 'Call' for s in scalars.all_in(views[name].module.body)):
+            yield from region_module_lines(views[name], found[name]['transformers'])
+
+
 # ---- cases
 
 class Cases:
@@ -197,14 +225,34 @@ class Cases:
             statements, want = next(programs)
             size += self.add_accepted('scalars', statements, scalar_lines, want)
 
+    def add_regions(self, seeds, most):
+        size = 0
+        for statements, want in region_programs(seeds):
+            size += self.add_accepted('regions', statements, region_lines, want)
+            if size >= most:
+                break
+
+
+def write_regions(first, last, folder):
+    cases = Cases()
+    cases.add_regions(range(first, last), 1 << 30)
+    for name, texts in (('stdin', cases.given), ('stdout', cases.wanted)):
+        with open(os.path.join(folder, name), 'wb') as file:
+            file.write(''.join(texts).encode('latin-1'))
+    print(len(cases.given))
+
 
 def main():
     sys.setrecursionlimit(1_000_000)
+    if len(sys.argv) > 1:
+        write_regions(int(sys.argv[1]), int(sys.argv[2]), sys.argv[3])
+        return
     cases = Cases()
     cases.add_storage()
     cases.add_graphs()
     cases.add_effects()
     cases.add_scalars()
+    cases.add_regions(range(1_000), REGIONS)
     write_cases('cases_programs', cases.given, cases.wanted)
     counts = Counter(kind.split()[0] for kind in cases.counts.elements())
     print(dict(counts), sum(map(len, cases.given)), sum(map(len, cases.wanted)))

@@ -1,4 +1,4 @@
-"""Programs by hand and random, of which crates/cases_regions prints what the statements of modules without CALLs access."""
+"""Programs by hand and random, of which crates/cases_programs prints what the statements of modules without CALLs access."""
 import random
 
 from reference import load
