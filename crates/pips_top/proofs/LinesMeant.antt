@@ -1,14 +1,19 @@
 -- The lines that are added to a module are those of its analysis, and each is read as what that has there.
-use Rattle.std.proofs.Common.{◌≡◌, ℕ, zero, suc, ◌+◌, Bool, true, false, List, [], ◌∷◌, Option, Some, None, arith, refl, ap, sym, ◌∙◌, subst}
+use Rattle.std.proofs.Common.{◌≡◌, ℕ, zero, suc, Bool, true, false, List, [], ◌∷◌, Some, arith, refl, ap, sym, ◌∙◌, subst}
 use Rattle.std.specs.Prelude.{All, bytes_eq, slice_get, if◌then◌else◌}
 use Rattle.std.proofs.lemmas.Slice.Eq.{bytes_eq-Decides}
-use Rattle.f77_meaning.specs.Modules.{known_of}
+use Rattle.std.specs.List.{AllByRecursion}
+use Rattle.f77_printer.specs.declared.added.Added.{Added}
+use Rattle.call_graph.specs.declared.graph.Graph.{Graph}
+use Rattle.f77_meaning.specs.Modules.{known_of, symbol_names}
+use Rattle.region_lines.specs.RegionLines.{region_lines_of}
 use Rattle.scalar_phases.specs.Phases.{Analysis, analyses}
 use Rattle.laws_analyses.specs.Laws.{AnalysesAreWhole}
-use Rattle.laws_lines.specs.Lines.{EachMeans}
 use Rattle.laws_lines.specs.LineLaws.{LinesMeanResults, AnalysesAreReadBack}
 use Rattle.laws_lines.specs.NameLaws.{NamesAreWords}
-use Rattle.pips_top.specs.Claimed.{analysis_for, lines_of}
+use Rattle.laws_regions.specs.Accepted.{regions_found}
+use Rattle.roundtrip_regions.specs.Added.{AddedLinesReadBack, MeansRegion}
+use Rattle.pips_top.specs.Claimed.{AreRead, analysis_for, has_calls, lines_of}
 use Rattle.pips_top.specs.Laws.{ReadLinesMean}
 use Rattle.pips_top.specs.declared.words.Show.TheVariants as show
 use Rattle.pips_top.proofs.Programs.{is_program}
@@ -36,12 +41,28 @@ own_found (b ∷ all) once (suc j) a e = go (bytes_eq b.found.known.read.name a.
     go true q ih = absurd (omega (arith, once zero (suc j) b a refl e ((bytes_eq-Decides b.found.known.read.name a.found.known.read.name).0 q)))
     go false q ih = ih
 
-pub lines_from : AnalysesAreWhole → AnalysesAreReadBack → NamesAreWords → ReadLinesMean
-lines_from whole back words show.All bytes p e =
+none_read : (b : Bool) (P : Added → Type 0) (xs : List Added) → AllByRecursion P xs → AllByRecursion P (if b then [] else xs)
+none_read true P xs h = tt
+none_read false P xs h = h
+
+-- the lines of an analysis
+lines_read : (g : Graph) (a : Analysis) → AddedLinesReadBack → LinesMeanResults a → AreRead g a (lines_of g (Some a))
+lines_read g a law h =
+    let k = a.found.known in
+    let names = symbol_names k.symbols in
+    let sets = regions_found g a in
+    record {
+      parts = refl;
+      scalars = h;
+      regions = λ other readable. none_read (has_calls g.edges k.read.name) (MeansRegion names sets) (region_lines_of k.read.main k.read.body names sets) (law k.read.main k.read.body names sets other readable);
+    }
+
+pub lines_from : AnalysesAreWhole → AnalysesAreReadBack → NamesAreWords → AddedLinesReadBack → ReadLinesMean
+lines_from whole back words on_regions show.All bytes p e =
     let all = analyses (known_of p.modules p.tables) p.graph in
     let i = is_program bytes p e in
     let once = (whole p.modules p.tables p.graph i).once in
     let read = back p.modules p.tables p.graph i.tables (words i.lines p.modules p.tables i.parsed i.tables) in
-    λ j a found. subst (λ o. EachMeans a (lines_of o)) (sym (own_found all once j a found)) (each_at LinesMeanResults all read j a found)
-lines_from whole back words show.Bare bytes p e = λ j a found. cc
-lines_from whole back words show.Why bytes p e = λ j a found. cc
+    λ j a found. subst (λ o. AreRead p.graph a (lines_of p.graph o)) (sym (own_found all once j a found)) (lines_read p.graph a on_regions (each_at LinesMeanResults all read j a found))
+lines_from whole back words on_regions show.Bare bytes p e = λ j a found. cc
+lines_from whole back words on_regions show.Why bytes p e = λ j a found. cc

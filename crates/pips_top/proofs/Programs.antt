@@ -13,9 +13,11 @@ use Rattle.call_graph.specs.declared.refusal.Fault.{Fault}
 use Rattle.call_graph.specs.Links.{link_of}
 use Rattle.laws_programs.specs.Programs.{AreTables, IsProgram}
 use Rattle.laws_analyses.specs.Laws.{AnalysesAreWhole, ReadAnalysesHold}
+use Rattle.laws_regions.specs.Accepted.{ReadRegionsHold}
 use Rattle.pips_top.specs.Laws.{ReadAllSaid, ReadClaimsHold}
 use Rattle.pips_top.specs.Program.{ProgramTree}
 use Rattle.pips_top.specs.Reading.{lines_or, table_or, tables_of, graph_or, linked_by, program_of, reading}
+use Rattle.pips_top.proofs.NoCalls.{no_calls_there}
 use Rattle.pips_top.specs.declared.words.Show.TheVariants.{All, Bare, Why}
 
 -- ---- tables
@@ -84,10 +86,16 @@ is_program text p e =
     let f = parsed_from text p e in
     of_parts f.0 f.1 p f.3 (linked_from f.1 p f.4)
 
-pub claims_from : ReadAnalysesHold → ReadClaimsHold
-claims_from law All bytes p e = law p.modules p.tables p.graph (is_program bytes p e)
-claims_from law Bare bytes p e = tt
-claims_from law Why bytes p e = tt
+pub claims_from : ReadAnalysesHold → ReadRegionsHold → AnalysesAreWhole → ReadClaimsHold
+claims_from law on_regions whole All bytes p e =
+    let i = is_program bytes p e in
+    record {
+      scalars = law p.modules p.tables p.graph i;
+      regions = on_regions p.modules p.tables p.graph i;
+      no_calls = λ j a found. let m = (whole p.modules p.tables p.graph i).modules j a found in no_calls_there p.modules p.tables p.graph i.links m.0 a.found.known m.1;
+    }
+claims_from law on_regions whole Bare bytes p e = tt
+claims_from law on_regions whole Why bytes p e = tt
 
 pub all_said_from : AnalysesAreWhole → ReadAllSaid
 all_said_from law All bytes p e = law p.modules p.tables p.graph (is_program bytes p e)

@@ -16,6 +16,7 @@ use Rattle.roundtrip_modules.specs.Cards.{Card, statements_of}
 use Rattle.roundtrip_modules.proofs.Kept.{Held, each-map}
 use Rattle.roundtrip_text.specs.Texts as back
 use Rattle.roundtrip_programs.specs.Lines.{LinesArePassedOver}
+use Rattle.roundtrip_regions.specs.Laws.{RegionLinesArePassedOver}
 use Rattle.roundtrip_programs.specs.Programs.{AreTables, IsProgram, IsFormed, ProgramsReadBack, NamesAreShown}
 use Rattle.pips_top.specs.Claimed.{said_of, lines_for}
 use Rattle.pips_top.specs.Laws.{ReadWrittenBack}
@@ -55,9 +56,9 @@ known_shown law (m ∷ ms) (t ∷ ts) b h = record { first = law m t b.first.wel
 
 -- ---- what is written
 
-text_same : (all : List Analysis) (ms : List ParsedTree) → modules_text all ms ≡ back.modules_text (λ m. lines_for all m.module_read.name) ms
-text_same all [] = refl
-text_same all (m ∷ ms) = ap (λ rest. parsed_text all m ++ rest) (text_same all ms)
+text_same : (g : Graph) (all : List Analysis) (ms : List ParsedTree) → modules_text g all ms ≡ back.modules_text (λ m. lines_for g all m.module_read.name) ms
+text_same g all [] = refl
+text_same g all (m ∷ ms) = ap (λ rest. parsed_text g all m ++ rest) (text_same g all ms)
 
 -- ---- what is read of it
 
@@ -77,14 +78,14 @@ unfolding reading
 reading_is text ms ts g is =
     ap (λ r. and_then (and_then (lines_or r) parse_of) program_of) is.read.lined ∙ ap (λ r. and_then r program_of) is.read.parsed ∙ program_is ms ts g is.tabled is.linked
 
-pub back_from : ProgramsReadBack → LinesArePassedOver → NamesAreShown → ReadWrittenBack
-back_from programs lines names show bytes p e =
+pub back_from : ProgramsReadBack → LinesArePassedOver → RegionLinesArePassedOver → NamesAreShown → ReadWrittenBack
+back_from programs lines on_regions names show bytes p e =
     let is = is_read bytes p e in
     let known = known_shown names p.modules p.tables (all_built is.read.lines p.modules is.read.parsed) is.tabled in
     let all = said_of show p in
-    let b = programs bytes p.modules p.tables p.graph (λ m. lines_for all m.module_read.name) is (all_over lines all (said_shown show p known) p.modules) in
+    let b = programs bytes p.modules p.tables p.graph (λ m. lines_for p.graph all m.module_read.name) is (all_over lines on_regions p.graph all (said_shown show p known) p.modules) in
     let q : ProgramTree = record { modules = b.again; tables = p.tables; graph = p.graph } in (
       q,
-      ap reading (text_same all p.modules) ∙ reading_is (back.modules_text (λ m. lines_for all m.module_read.name) p.modules) b.again p.tables p.graph b.program,
+      ap reading (text_same p.graph all p.modules) ∙ reading_is (back.modules_text (λ m. lines_for p.graph all m.module_read.name) p.modules) b.again p.tables p.graph b.program,
       record { modules = b.same; tables = refl; graph = refl },
     )

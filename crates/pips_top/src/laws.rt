@@ -3,13 +3,18 @@ ghost use Rattle.pips_top.specs.Laws.{ReadAllSaid, ReadClaimsHold, ReadLinesMean
 
 use laws_analyses::{analyses_are_whole, read_analyses_hold};
 use laws_lines::{analyses_are_read_back, names_are_words};
+use laws_regions::read_regions_hold;
 use roundtrip_programs::{lines_are_passed_over, names_are_shown, programs_read_back};
+use roundtrip_regions::{added_lines_read_back, region_lines_are_passed_over};
 
-/// What is said of a program that was read holds in every run of it, up to its end or its first fault.
+/// What is said of a program that was read holds in every run of it, up to its end or its first fault: on scalars, and on regions of modules
+/// without CALLs.
 pub fn claims_hold()
     ensures { ReadClaimsHold }
 {
     read_analyses_hold();
+    read_regions_hold();
+    analyses_are_whole();
 }
 
 /// Each module of a program that was read has one analysis, each of its statements a precondition and a transformer.
@@ -19,13 +24,14 @@ pub fn all_is_said()
     analyses_are_whole();
 }
 
-/// Each line that is added to the text of a program that was read is read as just what was found there.
+/// Each line that is added to the text of a program that was read is read as what was found there.
 pub fn lines_mean_results()
     ensures { ReadLinesMean }
 {
     analyses_are_whole();
     analyses_are_read_back();
     names_are_words();
+    added_lines_read_back();
 }
 
 /// What is written of a program that was read is read again as the same program.
@@ -34,5 +40,6 @@ pub fn written_reads_back()
 {
     programs_read_back();
     lines_are_passed_over();
+    region_lines_are_passed_over();
     names_are_shown();
 }

@@ -1,7 +1,7 @@
 //! The written text of a program.
-ghost use Rattle.std.specs.Prelude.{◌≡◌, IfOk, length, map};
+ghost use Rattle.std.specs.Prelude.{◌≡◌, All, IfOk, length, map};
 ghost use Rattle.f77_ast.specs.PlainDecl.{parsed_tree};
-ghost use Rattle.scalar_phases.specs.Views.{analysis_tree};
+ghost use Rattle.scalar_phases.specs.Views.{AnalysisFits, analysis_tree};
 ghost use Rattle.pips_top.specs.Program.{program_tree};
 ghost use Rattle.pips_top.specs.Written.{modules_text, parsed_text, written};
 
@@ -22,7 +22,8 @@ fn parsed_text(
     all: &[Analysis<'_>],
     parsed: &Parsed,
 ) -> Result<Text, Memory>
-    ensures { IfOk result (λ text. text ≡ parsed_text (map analysis_tree all.now) (parsed_tree parsed.now)) }
+    requires { All AnalysisFits all.now }
+    ensures { IfOk result (λ text. text ≡ parsed_text graph.now (map analysis_tree all.now) (parsed_tree parsed.now)) }
 {
     let added = lines_for(alloc, graph, all, &parsed.module.name)?;
     plain(alloc, &parsed.places, &parsed.module, &added)
@@ -36,7 +37,8 @@ fn modules_text(
     all: &[Analysis<'_>],
     modules: &[Parsed],
 ) -> Result<Text, Memory>
-    ensures { IfOk result (λ text. text ≡ modules_text (map analysis_tree all.now) (map parsed_tree modules.now)) }
+    requires { All AnalysisFits all.now }
+    ensures { IfOk result (λ text. text ≡ modules_text graph.now (map analysis_tree all.now) (map parsed_tree modules.now)) }
 {
     let mut out = Text::new(alloc);
     for parsed in modules {
