@@ -12,15 +12,15 @@ from scalar_speed import compare, text_of
 
 
 def body(k):
-    return [f'A(I,J)=B(J,I)+{k % 9}', 'C(K)=C(K)+A(I,J)', f'IF (J.LT.{k % 5 + 3}) D(I+J)=K', 'E(2*I)=C(J)', 'B(J,I)=E(I)+D(K)', 'C(I)=A(J,I)']
+    return [f'A(I,J)=B(J,I+{k})', f'C(K+{k})=C(K)+A(I,J)', f'IF (J.LT.{k + 3}) D(I+J)=K', f'E(2*I+{k})=C(J)', 'B(J,I)=E(I)+D(K)', f'C(I)=A(J,I+{k})']
 
 
 def nest(k):
-    return ['S=0', f'DO I=1,{k % 20 + 5}', 'DO J=1,I', f'DO K=J,N+{k % 7}'] + body(k) + ['END DO'] * 3
+    return [f'S={k}', f'DO I=1,{k + 5}', 'DO J=1,I', f'DO K=J,N+{k}'] + body(k) + ['END DO'] * 3
 
 
 def nests(count):
-    head = ['PROGRAM P', 'INTEGER A(99,99),B(99,99),C(200),D(300),E(300),S', 'READ *,N']
+    head = ['PROGRAM P', 'INTEGER A(999,999),B(999,999),C(999),D(999),E(999),S', 'READ *,N']
     return text_of(head + [line for k in range(count) for line in nest(k)] + ['PRINT *,S', 'END'])
 
 
