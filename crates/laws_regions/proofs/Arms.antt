@@ -148,71 +148,71 @@ module _ (k : Setting) (sound : Sound k) (solid : (x : List ℕ) (v : ℕ) → k
         abbrev w' : Reached
         w' = if_false k.m e w
 
-        abbrev T1 : List Region
-        T1 = all_met w (reads e k.m)
+        abbrev this_test : List Region
+        this_test = all_met w (reads e k.m)
 
-        abbrev T2 : List Region
-        T2 = tests_reads rest k.m (if_false k.m e w)
+        abbrev later_tests : List Region
+        later_tests = tests_reads rest k.m (if_false k.m e w)
 
-        abbrev A1 : List Region
-        A1 = all_met (if_true k.m e w) (set_of body)
+        abbrev this_arm : List Region
+        this_arm = all_met (if_true k.m e w) (set_of body)
 
-        abbrev A2 : List Region
-        A2 = arm_sets rest k.m k.does (if_false k.m e w)
+        abbrev later_arms : List Region
+        later_arms = arm_sets rest k.m k.does (if_false k.m e w)
 
         abbrev E : List Region
         E = else_set other k.m k.does (past_arms rest k.m (if_false k.m e w))
 
         abbrev All : List Region
-        All = (T1 ++ T2) ++ ((A1 ++ A2) ++ E)
+        All = (this_test ++ later_tests) ++ ((this_arm ++ later_arms) ++ E)
 
-        from_test : (r : Region) → In r T1 → In r All
-        from_test r i = in_left r (T1 ++ T2) ((A1 ++ A2) ++ E) (in_left r T1 T2 i)
+        from_test : (r : Region) → In r this_test → In r All
+        from_test r i = in_left r (this_test ++ later_tests) ((this_arm ++ later_arms) ++ E) (in_left r this_test later_tests i)
 
-        from_body : (r : Region) → In r A1 → In r All
-        from_body r i = in_right r (T1 ++ T2) ((A1 ++ A2) ++ E) (in_left r (A1 ++ A2) E (in_left r A1 A2 i))
+        from_body : (r : Region) → In r this_arm → In r All
+        from_body r i = in_right r (this_test ++ later_tests) ((this_arm ++ later_arms) ++ E) (in_left r (this_arm ++ later_arms) E (in_left r this_arm later_arms i))
 
-        from_rest : (r : Region) → In r (T2 ++ (A2 ++ E)) → In r All
+        from_rest : (r : Region) → In r (later_tests ++ (later_arms ++ E)) → In r All
         from_rest r i =
-            ⊎_elim (λ j. in_left r (T1 ++ T2) ((A1 ++ A2) ++ E) (in_right r T1 T2 j))
-            (λ j. ⊎_elim (λ l. in_right r (T1 ++ T2) ((A1 ++ A2) ++ E) (in_left r (A1 ++ A2) E (in_right r A1 A2 l))) (λ l. in_right r (T1 ++ T2) ((A1 ++ A2) ++ E) (in_right r (A1 ++ A2) E l)) (in_either r A2 E j))
-            (in_either r T2 (A2 ++ E) i)
+            ⊎_elim (λ j. in_left r (this_test ++ later_tests) ((this_arm ++ later_arms) ++ E) (in_right r this_test later_tests j))
+            (λ j. ⊎_elim (λ l. in_right r (this_test ++ later_tests) ((this_arm ++ later_arms) ++ E) (in_left r (this_arm ++ later_arms) E (in_right r this_arm later_arms l))) (λ l. in_right r (this_test ++ later_tests) ((this_arm ++ later_arms) ++ E) (in_right r (this_arm ++ later_arms) E l)) (in_either r later_arms E j))
+            (in_either r later_tests (later_arms ++ E) i)
 
         -- each of them is so
-        all_sharp : (es : List Event) → Sharp k T1 s es → Sharp k T2 s es → Sharp k A1 s es → Sharp k A2 s es → Sharp k E s es → Sharp k All s es
+        all_sharp : (es : List Event) → Sharp k this_test s es → Sharp k later_tests s es → Sharp k this_arm s es → Sharp k later_arms s es → Sharp k E s es → Sharp k All s es
         all_sharp es a b c d f r i =
-            ⊎_elim (λ j. ⊎_elim (λ l. a r l) (λ l. b r l) (in_either r T1 T2 j))
-            (λ j. ⊎_elim (λ l. ⊎_elim (λ n. c r n) (λ n. d r n) (in_either r A1 A2 l)) (λ l. f r l) (in_either r (A1 ++ A2) E j))
-            (in_either r (T1 ++ T2) ((A1 ++ A2) ++ E) i)
+            ⊎_elim (λ j. ⊎_elim (λ l. a r l) (λ l. b r l) (in_either r this_test later_tests j))
+            (λ j. ⊎_elim (λ l. ⊎_elim (λ n. c r n) (λ n. d r n) (in_either r this_arm later_arms l)) (λ l. f r l) (in_either r (this_arm ++ later_arms) E j))
+            (in_either r (this_test ++ later_tests) ((this_arm ++ later_arms) ++ E) i)
 
         -- this arm is taken
         taken : (es fs : List Event) (x : Answer Flow) → HoldsAt (scene k) w.system (numbers_of s) → Holds k (reads e k.m) s es → Sharp k (reads e k.m) s es → Knows e s true → Shown k false (set_of body) s x fs → Shown k false All s x (es ++ fs)
         taken es fs x h g z n b =
             shown_more k false (set_of body) All s x fs (es ++ fs)
-            (λ i. holds_then k All s es fs (wider T1 All es from_test (holds_met w (reads e k.m) s es h g)) (wider A1 All fs from_body (holds_met (if_true k.m e w) (set_of body) s fs (holds_true (scene k) (numbers_of s) k.m e w h (n.says.true_side refl)) i)))
-            (λ i. all_sharp (es ++ fs) (sharp_first k T1 s es fs (met_sharp w (reads e k.m) s es z)) (tests_off rest (if_false k.m e w) (es ++ fs) off) (sharp_last k A1 s es fs (met_sharp (if_true k.m e w) (set_of body) s fs i)) (sets_off rest (if_false k.m e w) (es ++ fs) off) (else_off other (past_arms rest k.m (if_false k.m e w)) (es ++ fs) (past_off rest (if_false k.m e w) off)))
+            (λ i. holds_then k All s es fs (wider this_test All es from_test (holds_met w (reads e k.m) s es h g)) (wider this_arm All fs from_body (holds_met (if_true k.m e w) (set_of body) s fs (holds_true (scene k) (numbers_of s) k.m e w h (n.says.true_side refl)) i)))
+            (λ i. all_sharp (es ++ fs) (sharp_first k this_test s es fs (met_sharp w (reads e k.m) s es z)) (tests_off rest (if_false k.m e w) (es ++ fs) off) (sharp_last k this_arm s es fs (met_sharp (if_true k.m e w) (set_of body) s fs i)) (sets_off rest (if_false k.m e w) (es ++ fs) off) (else_off other (past_arms rest k.m (if_false k.m e w)) (es ++ fs) (past_off rest (if_false k.m e w) off)))
             b
           where
             off : Off (scene k) (numbers_of s) (if_false k.m e w)
             off = off_no e w s true n refl
 
         -- it is not
-        passed : (es fs : List Event) (x : Answer Flow) → HoldsAt (scene k) w.system (numbers_of s) → Holds k (reads e k.m) s es → Sharp k (reads e k.m) s es → Knows e s false → Shown k false (T2 ++ (A2 ++ E)) s x fs → Shown k false All s x (es ++ fs)
+        passed : (es fs : List Event) (x : Answer Flow) → HoldsAt (scene k) w.system (numbers_of s) → Holds k (reads e k.m) s es → Sharp k (reads e k.m) s es → Knows e s false → Shown k false (later_tests ++ (later_arms ++ E)) s x fs → Shown k false All s x (es ++ fs)
         passed es fs x h g z n b =
-            shown_more k false (T2 ++ (A2 ++ E)) All s x fs (es ++ fs)
-            (λ i. holds_then k All s es fs (wider T1 All es from_test (holds_met w (reads e k.m) s es h g)) (wider (T2 ++ (A2 ++ E)) All fs from_rest i))
-            (λ i. all_sharp (es ++ fs) (sharp_first k T1 s es fs (met_sharp w (reads e k.m) s es z)) (sharp_last k T2 s es fs (λ r j. i r (in_left r T2 (A2 ++ E) j))) (met_off (if_true k.m e w) (set_of body) s (es ++ fs) (off_yes e w s false n refl)) (sharp_last k A2 s es fs (λ r j. i r (in_right r T2 (A2 ++ E) (in_left r A2 E j)))) (sharp_last k E s es fs (λ r j. i r (in_right r T2 (A2 ++ E) (in_right r A2 E j)))))
+            shown_more k false (later_tests ++ (later_arms ++ E)) All s x fs (es ++ fs)
+            (λ i. holds_then k All s es fs (wider this_test All es from_test (holds_met w (reads e k.m) s es h g)) (wider (later_tests ++ (later_arms ++ E)) All fs from_rest i))
+            (λ i. all_sharp (es ++ fs) (sharp_first k this_test s es fs (met_sharp w (reads e k.m) s es z)) (sharp_last k later_tests s es fs (λ r j. i r (in_left r later_tests (later_arms ++ E) j))) (met_off (if_true k.m e w) (set_of body) s (es ++ fs) (off_yes e w s false n refl)) (sharp_last k later_arms s es fs (λ r j. i r (in_right r later_tests (later_arms ++ E) (in_left r later_arms E j)))) (sharp_last k E s es fs (λ r j. i r (in_right r later_tests (later_arms ++ E) (in_right r later_arms E j)))))
             b
 
-        pub arm_goes : (one two : Plan) → is_plain k.scalar e ≡ true → HoldsAt (scene k) w.system (numbers_of s) → Goes D one s (λ x z fs. Shown k false (set_of body) s x fs) → (HoldsAt (scene k) (if_false k.m e w).system (numbers_of s) → Goes D two s (λ x z fs. Shown k false (T2 ++ (A2 ++ E)) s x fs)) → Goes D (first (value e k.sc.names k.at) (λ c. if is_true c.number then one else two)) s (λ x z fs. Shown k false All s x fs)
+        pub arm_goes : (one two : Plan) → is_plain k.scalar e ≡ true → HoldsAt (scene k) w.system (numbers_of s) → Goes D one s (λ x z fs. Shown k false (set_of body) s x fs) → (HoldsAt (scene k) (if_false k.m e w).system (numbers_of s) → Goes D two s (λ x z fs. Shown k false (later_tests ++ (later_arms ++ E)) s x fs)) → Goes D (first (value e k.sc.names k.at) (λ c. if is_true c.number then one else two)) s (λ x z fs. Shown k false All s x fs)
         arm_goes one two p h a b =
             goes_first D (value e k.sc.names k.at) (λ c. if is_true c.number then one else two) s _ (λ x z fs. Shown k false All s x fs) (test_looks e s p)
             (λ c es g. go es g.0.0.holds g.0.0.sharp (is_true c.number) (record { says = g.0.1; tells = g.1 }))
-            (λ z es g. shown_broke k false All s z es (wider T1 All es from_test (holds_met w (reads e k.m) s es h g.0.0.holds)))
+            (λ z es g. shown_broke k false All s z es (wider this_test All es from_test (holds_met w (reads e k.m) s es h g.0.0.holds)))
           where
             go : (es : List Event) → Holds k (reads e k.m) s es → Sharp k (reads e k.m) s es → (b : Bool) → Knows e s b → Goes D (if b then one else two) s (λ x z fs. Shown k false All s x (es ++ fs))
             go es g z true n = goes_more D one s (λ x z fs. Shown k false (set_of body) s x fs) (λ x z fs. Shown k false All s x (es ++ fs)) (λ x y fs i. taken es fs x h g z n i) a
-            go es g z false n = goes_more D two s (λ x z fs. Shown k false (T2 ++ (A2 ++ E)) s x fs) (λ x z fs. Shown k false All s x (es ++ fs)) (λ x y fs i. passed es fs x h g z n i) (b (holds_false (scene k) (numbers_of s) k.m e w h (n.says.false_side refl)))
+            go es g z false n = goes_more D two s (λ x z fs. Shown k false (later_tests ++ (later_arms ++ E)) s x fs) (λ x z fs. Shown k false All s x (es ++ fs)) (λ x y fs i. passed es fs x h g z n i) (b (holds_false (scene k) (numbers_of s) k.m e w h (n.says.false_side refl)))
 
     pub otherwise_goes : (body : StmtTrees) (w : Reached) (one : Plan) (s : Store) → HoldsAt (scene k) w.system (numbers_of s) → Goes D one s (λ x z fs. Shown k false (list_regions k.does (accesses_at (at_list body k.m k.does)) false body) s x fs) → Goes D one s (λ x z fs. Shown k false (else_set (tree.otherwise body) k.m k.does w) s x fs)
     otherwise_goes body w one s h g = goes_more D one s (λ x z fs. Shown k false (list_regions k.does (accesses_at (at_list body k.m k.does)) false body) s x fs) (λ x z fs. Shown k false (else_set (tree.otherwise body) k.m k.does w) s x fs) (λ x z fs i. shown_met w (list_regions k.does (accesses_at (at_list body k.m k.does)) false body) s x fs h i) g
