@@ -1,3 +1,4 @@
 pub mod Steps
 pub mod NameLaws
 pub mod StatementLaws
+pub mod Exact

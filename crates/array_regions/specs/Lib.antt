@@ -8,3 +8,4 @@ pub mod Known
 pub mod Statement
 pub mod Entry
 pub mod Modules
+pub mod Laws

@@ -3,6 +3,7 @@
 
 mod arms;
 mod entry;
+mod laws;
 mod loops;
 mod modules;
 mod reads;
@@ -11,4 +12,5 @@ mod rows;
 mod simple;
 mod statement;
 
+pub use laws::{elements_are_exact, later_parts_are_exact};
 pub use modules::regions;

@@ -13,3 +13,4 @@ pub mod RowSteps
 pub mod ListSteps
 pub mod SetLaws
 pub mod StepLaws
+pub mod LiveLaws

@@ -10,3 +10,4 @@ pub mod Lists
 pub mod Written
 pub mod Claims
 pub mod Laws
+pub mod Live

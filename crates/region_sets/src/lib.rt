@@ -3,6 +3,7 @@
 
 mod composing;
 mod list;
+mod live;
 mod loop_rows;
 mod loops;
 mod marks;
@@ -16,6 +17,7 @@ mod uniting;
 
 pub use composing::compose;
 pub use list::{list_regions, push_composed};
+pub use live::none_is_refuted;
 pub use loops::over_loop;
 pub use marks::{Kinds, Mark, Private, Reason, SiteOut};
 pub use naming::{has_none, named_cells};
