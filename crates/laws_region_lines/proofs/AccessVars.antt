@@ -1,6 +1,6 @@
 -- The variables of the regions of names, elements, expressions and simple statements.
-use Rattle.std.proofs.Common.{◌≡◌, ℕ, suc, ◌+◌, ◌<◌, ◌≤◌, true, false, List, [], ◌∷◌, ◌++◌, length, Option, Some, None, pos, arith, refl}
-use Rattle.std.specs.Prelude.{◌-ℤ◌}
+use Rattle.std.proofs.Common.{◌≡◌, ℕ, suc, ◌+◌, ◌<◌, ◌≤◌, Bool, true, false, List, [], ◌∷◌, ◌++◌, length, Option, Some, None, pos, arith, refl}
+use Rattle.std.specs.Prelude.{◌-ℤ◌, if◌then◌else◌, bytes_eq}
 use Rattle.affine_systems.specs.declared.row.Var.{Var}
 use Rattle.affine_systems.specs.declared.row.Var.TheVariants.{Cell, Exit, Phi, Aux}
 use Rattle.affine_systems.specs.Calls.{meet}
@@ -40,13 +40,35 @@ use Rattle.laws_lines.proofs.FormVars.{FormOf, affine_over, condition_over, comp
 use Rattle.laws_lines.proofs.RuleVars.{IsDone, forgotten_done}
 use Rattle.laws_lines.proofs.CallVars.{named_cell_ok, one_cell_ok}
 use Rattle.laws_lines.proofs.StatementVars.{Scope}
+use Rattle.roundtrip_systems.specs.Printed.{IsNumber}
 use Rattle.roundtrip_regions.specs.Laws.{IsShownVariable}
+use Rattle.roundtrip_regions.specs.Printed.{IsCalled}
 use Rattle.laws_region_lines.specs.Places.{IsPlaceOf}
 use Rattle.laws_region_lines.proofs.RegionVars.{both_all, map_all, IsFine, AreFine, composed_fine, mapped_fine, united_fine}
 
--- of READ and WRITE each is a symbol
-abbrev pub IsNamedOne : Variable → Type 0
-IsNamedOne v = IsShownVariable v
+-- a symbol of these names, as those of READ and WRITE are, or what has a name that is read again
+abbrev pub IsNamedIn : List (List ℕ) → Variable → Type 0
+IsNamedIn names v = IsShownVariable v × IsCalled names v
+
+-- the number of a name is that of a symbol
+named_between : (n : ℕ) (ys : List (List ℕ)) (x : List ℕ) (k : ℕ) → number_from n ys x ≡ Some k → (n ≤ k) × (k < n + length ys)
+named_between n [] x k e = cc
+named_between n (y ∷ ys) x k e = go (bytes_eq x y) e (named_between (suc n) ys x k)
+  where
+    go : (b : Bool) → (if b then Some n else number_from (suc n) ys x) ≡ Some k → (number_from (suc n) ys x ≡ Some k → (suc n ≤ k) × (k < suc n + length ys)) → (n ≤ k) × (k < n + suc (length ys))
+    go true q ih = let same : n ≡ k = cc in (omega (arith, same), omega (arith, same))
+    go false q ih =
+        let r = ih q in
+        let least = r.0 in
+        let most = r.1 in
+        (omega (arith, least), omega (arith, most))
+
+pub named_number : (names : List (List ℕ)) (x : List ℕ) (k : ℕ) → number_from 1 names x ≡ Some k → IsNumber names k
+named_number names x k e =
+    let r = named_between 1 names x k e in
+    let least = r.0 in
+    let most = r.1 in
+    (omega (arith, least), omega (arith, most))
 
 -- arrays have at most seven dimensions
 abbrev pub FewBounds : List SymbolTree → Type 0
@@ -55,6 +77,9 @@ FewBounds ss = (n : ℕ) (s : SymbolTree) → symbol_at ss n ≡ Some s → leng
 module _ (ok : ℕ → Type 0) (m : ScopeTree) (a : Scope ok m) (few : FewBounds m.symbols) where
   abbrev P : Var → Type 0
   P = IsPlaceOf ok
+
+  abbrev IsNamedOne : Variable → Type 0
+  IsNamedOne = IsNamedIn m.names
 
   abbrev pub Fine : List Region → Type 0
   Fine rs = AreFine IsNamedOne ok rs
@@ -112,29 +137,29 @@ module _ (ok : ℕ → Type 0) (m : ScopeTree) (a : Scope ok m) (few : FewBounds
 
   -- ---- names and elements
 
-  scalar_fine : (x : Access) (n : ℕ) (s : Option SymbolTree) → Fine (scalar_at x n s)
-  scalar_fine x n None = tt
-  scalar_fine x n (Some s) = if_cases Fine (is_constant s.place) [] (scalar x n ∷ []) (λ e. tt) (λ e. ((tt, none_neat P), tt))
+  scalar_fine : (x : Access) (n : ℕ) → IsNumber m.names n → (s : Option SymbolTree) → Fine (scalar_at x n s)
+  scalar_fine x n i None = tt
+  scalar_fine x n i (Some s) = if_cases Fine (is_constant s.place) [] (scalar x n ∷ []) (λ e. tt) (λ e. (((tt, i), none_neat P), tt))
 
-  element_fine : (x : Access) (n : ℕ) (es : ExprTrees) (s : Option SymbolTree) → symbol_at m.symbols n ≡ s → Fine (element_at m x n es s)
-  element_fine x n es None q = tt
-  element_fine x n es (Some s) q =
+  element_fine : (x : Access) (n : ℕ) → IsNumber m.names n → (es : ExprTrees) (s : Option SymbolTree) → symbol_at m.symbols n ≡ s → Fine (element_at m x n es s)
+  element_fine x n i es None q = tt
+  element_fine x n i es (Some s) q =
       let l = few n s q in
-      if_cases Fine (has_bounds s.bounds) (array_at m x n es s.bounds ∷ []) [] (λ e. ((tt, of_rows_neat P (subscript_rows m 1 es s.bounds) (subscripts_given 1 es s.bounds (omega arith) (omega (arith, l)))), tt)) (λ e. tt)
+      if_cases Fine (has_bounds s.bounds) (array_at m x n es s.bounds ∷ []) [] (λ e. (((tt, i), of_rows_neat P (subscript_rows m 1 es s.bounds) (subscripts_given 1 es s.bounds (omega arith) (omega (arith, l)))), tt)) (λ e. tt)
 
   whole_fine : (x : Access) (y : List ℕ) → Fine (whole m x y)
-  whole_fine x y = go (number_from 1 m.names y)
+  whole_fine x y = go (number_from 1 m.names y) refl
     where
-      go : (o : Option ℕ) → Fine (whole_of m x o)
-      go None = tt
-      go (Some n) = scalar_fine x n (symbol_at m.symbols n)
+      go : (o : Option ℕ) → number_from 1 m.names y ≡ o → Fine (whole_of m x o)
+      go None q = tt
+      go (Some n) q = scalar_fine x n (named_number m.names y n q) (symbol_at m.symbols n)
 
   one_fine : (x : Access) (y : List ℕ) (es : ExprTrees) → Fine (element m x y es)
-  one_fine x y es = go (number_from 1 m.names y)
+  one_fine x y es = go (number_from 1 m.names y) refl
     where
-      go : (o : Option ℕ) → Fine (element_of m x es o)
-      go None = tt
-      go (Some n) = element_fine x n es (symbol_at m.symbols n) refl
+      go : (o : Option ℕ) → number_from 1 m.names y ≡ o → Fine (element_of m x es o)
+      go None q = tt
+      go (Some n) q = element_fine x n (named_number m.names y n q) es (symbol_at m.symbols n) refl
 
   named_fine : (e : ExprTree) (x : Access) → Fine (named e m x)
   named_fine (tree.int n) x = tt

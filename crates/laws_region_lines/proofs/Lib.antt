@@ -2,6 +2,7 @@ pub mod PutVars
 pub mod PieceVars
 pub mod RegionVars
 pub mod AccessVars
+pub mod Indexes
 pub mod StatementRegions
 pub mod ProgramRegions
 pub mod LinesMean

@@ -1,37 +1,79 @@
 -- The lines of the regions of a module are read as what was found.
-use Rattle.std.proofs.Common.{◌≡◌, inl, inr, ℕ, zero, suc, ◌-◌, ◌<◌, ◌≤◌, Bool, true, false, List, [], ◌∷◌, length, Option, Some, None, arith, refl, ap, ◌∙◌, nat_eq}
-use Rattle.std.specs.Prelude.{if◌then◌else◌, map, slice_get}
-use Rattle.std.specs.List.{AllByRecursion}
+use Rattle.std.proofs.Common.{◌≡◌, inl, inr, ℕ, zero, suc, ◌-◌, ◌<◌, ◌≤◌, Bool, true, false, ◌&&◌, ◌||◌, List, [], ◌∷◌, ◌++◌, length, Option, Some, None, arith, refl, ap, ◌∙◌, nat_eq}
+use Rattle.std.specs.Prelude.{All, if◌then◌else◌, map, slice_get, bytes_eq}
+use Rattle.std.specs.List.{AllByRecursion, IsDistinct, list_all, list_any}
+use Rattle.std.proofs.lemmas.Bool.{and_from, and_parts, or_parts}
 use Rattle.std.proofs.lemmas.Bool.Decides.{nat_tests}
+use Rattle.f77_ast.specs.DeclTrees.{ParsedTree}
 use Rattle.affine_systems.specs.declared.row.Var.{Var}
 use Rattle.affine_systems.specs.declared.row.Var.TheVariants.{Cell, Exit, Phi, Aux}
 use Rattle.affine_systems.specs.declared.row.Term.{Term}
 use Rattle.affine_systems.specs.declared.row.System.{System}
 use Rattle.f77_symbols.specs.declared.variable.Unit.{Unit as BlockUnit}
+use Rattle.f77_symbols.specs.declared.variable.Variable.{Variable}
+use Rattle.f77_symbols.specs.Symbols.{SymbolTree}
 use Rattle.f77_meaning.specs.Modules.{Known, known_of, symbol_names}
 use Rattle.affine_forms.specs.Scalars.{flag_of, is_cell}
 use Rattle.transformer_algebra.specs.Laws.{In, here, there}
 use Rattle.scalar_phases.specs.Phases.{Analysis, scope_of, analyses}
 use Rattle.region_sets.specs.declared.region.Region.{Region}
-use Rattle.roundtrip_systems.specs.Printed.{IsNumber}
-use Rattle.roundtrip_regions.specs.Printed.{IsPlaced, ArePlaced, IsOfPlaces, IsCalled, IsReadable}
-use Rattle.roundtrip_regions.specs.Added.{IsThere, MeansRegion}
+use Rattle.roundtrip_systems.specs.Printed.{is_name, IsNumber, AreNames}
+use Rattle.roundtrip_regions.specs.Reading.{phi_names}
+use Rattle.roundtrip_regions.specs.Printed.{AreOther, IsPlaced, ArePlaced, IsOfPlaces, IsReadable}
+use Rattle.roundtrip_regions.specs.Added.{AreReadable, IsThere, MeansRegion}
 use Rattle.roundtrip_regions.proofs.LineBack.{same_shown}
 use Rattle.roundtrip_regions.proofs.AddedBack.{added_lines_read_back}
 use Rattle.region_lines.specs.RegionLines.{region_lines_of}
 use Rattle.f77_printer.specs.declared.added.Added.{Added}
+use Rattle.laws_programs.specs.Programs.{AreTables}
+use Rattle.laws_lines.specs.NameLaws.{AreWords}
 use Rattle.laws_lines.specs.Variables.{EachVar}
 use Rattle.laws_lines.specs.Laws.{IsTracked}
+use Rattle.laws_lines.proofs.TableNames.{names_are_distinct}
 use Rattle.laws_lines.proofs.RowVars.{Neat}
 use Rattle.laws_lines.proofs.SystemVars.{IsNeat, all_more}
 use Rattle.laws_lines.proofs.LineBack.{neat_ordered}
 use Rattle.laws_lines.proofs.PhaseVars.{EachOf, each_all, value_is}
 use Rattle.laws_region_lines.specs.Places.{IsPlaceOf, IsOne}
 use Rattle.laws_region_lines.specs.Laws.{regions_in}
-use Rattle.laws_region_lines.specs.LineLaws.{IsRegionLine, RegionLinesMean, RegionLinesMeanRegions}
-use Rattle.laws_region_lines.proofs.AccessVars.{IsNamedOne}
-use Rattle.laws_region_lines.proofs.RegionVars.{AreFine}
-use Rattle.laws_region_lines.proofs.ProgramRegions.{ModuleFine, modules_fine}
+use Rattle.laws_region_lines.specs.Lines.{is_phi, HaveNoPhi, IsRegionLine}
+use Rattle.laws_region_lines.specs.LineLaws.{RegionsAreReadable, RegionLinesMean, RegionLinesMeanRegions}
+use Rattle.laws_region_lines.proofs.AccessVars.{IsNamedIn}
+use Rattle.laws_region_lines.proofs.RegionVars.{both_all, AreFine}
+use Rattle.laws_region_lines.proofs.ProgramRegions.{IsNamedHere, ModuleFine, modules_fine, analyses_with}
+
+-- ---- names that are none of subscripts
+
+-- one of them is the same as one behind it
+abbrev some_same : List (List ℕ) → Bool
+some_same [] = false
+some_same (x ∷ xs) = list_any (bytes_eq x) xs || some_same xs
+
+apart_from : (x : List ℕ) (ys : List (List ℕ)) → list_any (bytes_eq x) ys ≡ false → AllByRecursion (λ (y : List ℕ). bytes_eq x y ≡ false) ys
+apart_from x [] h = tt
+apart_from x (y ∷ ys) h = let p = or_parts (bytes_eq x y) (list_any (bytes_eq x) ys) h in (p.0, apart_from x ys p.1)
+
+distinct_from : (xs : List (List ℕ)) → some_same xs ≡ false → IsDistinct bytes_eq xs
+unfolding IsDistinct
+distinct_from [] h = tt
+distinct_from (x ∷ xs) h = let p = or_parts (list_any (bytes_eq x) xs) (some_same xs) h in (apart_from x xs p.0, distinct_from xs p.1)
+
+phis_distinct : IsDistinct bytes_eq phi_names
+phis_distinct = distinct_from phi_names refl
+
+both_distinct : (xs : List (List ℕ)) → IsDistinct bytes_eq xs → list_any is_phi xs ≡ false → IsDistinct bytes_eq (xs ++ phi_names)
+unfolding IsDistinct
+both_distinct [] d h = phis_distinct
+both_distinct (x ∷ xs) d h =
+    let p = or_parts (is_phi x) (list_any is_phi xs) h in
+    (both_all (λ (y : List ℕ). bytes_eq x y ≡ false) xs phi_names d.0 (apart_from x phi_names p.0), both_distinct xs d.1 p.1)
+
+both_names : (xs ys : List (List ℕ)) → list_all is_name xs ≡ true → list_all is_name ys ≡ true → list_all is_name (xs ++ ys) ≡ true
+both_names [] ys h k = k
+both_names (x ∷ xs) ys h k = let p = and_parts (is_name x) (list_all is_name xs) h in and_from (is_name x) (list_all is_name (xs ++ ys)) p.0 (both_names xs ys p.1 k)
+
+others : (names : List (List ℕ)) → AreNames names → HaveNoPhi names → AreOther names
+others names are none = record { each = both_names names phi_names are.each refl; distinct = both_distinct names are.distinct none }
 
 -- ---- cells have names
 
@@ -94,9 +136,9 @@ module _ (untracked : List BlockUnit) (k : Known) where
   one_placed (s ∷ []) h = (system_placed s h, tt)
   one_placed (s ∷ (q ∷ qs)) h = absurd h
 
-  all_readable : (rs : List Region) → AreFine IsNamedOne ok rs → ((r : Region) → In r rs → IsCalled names r.variable) → AllByRecursion (IsReadable names) rs
-  all_readable [] h c = tt
-  all_readable (r ∷ rs) h c = (record { variable = c r here; systems = one_placed r.pieces h.0.1 }, all_readable rs h.1 (λ q i. c q (there i)))
+  all_readable : (rs : List Region) → AreFine (IsNamedIn names) ok rs → AllByRecursion (IsReadable names) rs
+  all_readable [] h = tt
+  all_readable (r ∷ rs) h = (record { variable = h.0.0.1; systems = one_placed r.pieces h.0.1 }, all_readable rs h.1)
 
 -- ---- modules
 
@@ -110,17 +152,17 @@ in_one such [] r i h = elim i [ ]
 in_one such (q ∷ rs) r here h = h.0
 in_one such (q ∷ rs) r (there i) h = in_one such rs r i h.1
 
-ones : (ok : ℕ → Type 0) (rs : List Region) → AreFine IsNamedOne ok rs → AllByRecursion (λ (q : Region). IsOne (IsNeat (IsPlaceOf ok)) q.pieces) rs
-ones ok [] h = tt
-ones ok (r ∷ rs) h = (h.0.1, ones ok rs h.1)
+ones : (N : Variable → Type 0) (ok : ℕ → Type 0) (rs : List Region) → AreFine N ok rs → AllByRecursion (λ (q : Region). IsOne (IsNeat (IsPlaceOf ok)) q.pieces) rs
+ones N ok [] h = tt
+ones N ok (r ∷ rs) h = (h.0.1, ones N ok rs h.1)
 
 module _ (untracked : List BlockUnit) (a : Analysis) (fine : ModuleFine untracked a) where
   abbrev tracked : ℕ → Type 0
   tracked = IsTracked untracked a.found.known
 
   there_one : (n : ℕ) (r : Region) → IsThere (regions_in untracked a) n r → IsOne (IsNeat (IsPlaceOf tracked)) r.pieces
-  there_one n r (inl f) = in_one (IsPlaceOf tracked) f.0 r f.2 (ones tracked f.0 (value_is (AreFine IsNamedOne tracked) (regions_in untracked a).at n f.0 fine.at f.1))
-  there_one n r (inr f) = in_one (IsPlaceOf tracked) (regions_in untracked a).summary r f.1 (ones tracked (regions_in untracked a).summary fine.summary)
+  there_one n r (inl f) = in_one (IsPlaceOf tracked) f.0 r f.2 (ones (IsNamedHere a) tracked f.0 (value_is (AreFine (IsNamedHere a) tracked) (regions_in untracked a).at n f.0 fine.at f.1))
+  there_one n r (inr f) = in_one (IsPlaceOf tracked) (regions_in untracked a).summary r f.1 (ones (IsNamedHere a) tracked (regions_in untracked a).summary fine.summary)
 
   all_just : (xs : List Added) → AllByRecursion (MeansRegion (symbol_names a.found.known.symbols) (regions_in untracked a)) xs → AllByRecursion (IsRegionLine (symbol_names a.found.known.symbols) (regions_in untracked a)) xs
   all_just [] h = tt
@@ -129,20 +171,42 @@ module _ (untracked : List BlockUnit) (a : Analysis) (fine : ModuleFine untracke
       let one = one_piece (IsNeat (IsPlaceOf tracked)) r.pieces (there_one x.before r h.0.2) in
       ((r, h.0.1 ∙ ap Some (same_shown r one.0 one.1), h.0.2), all_just xs h.1)
 
-module_means : (untracked : List BlockUnit) (a : Analysis) → ModuleFine untracked a → RegionLinesMean untracked a
-module_means untracked a h other called =
+-- the symbols have names
+abbrev HasNames : Known → Type 0
+HasNames k = AreNames (symbol_names k.symbols)
+
+module_readable : (untracked : List BlockUnit) (a : Analysis) → ModuleFine untracked a → AreReadable (symbol_names a.found.known.symbols) (regions_in untracked a)
+module_readable untracked a h =
     let k = a.found.known in
     let sets = regions_in untracked a in
-    all_just untracked a h (region_lines_of k.read.main k.read.body (symbol_names k.symbols) sets)
-    (added_lines_read_back k.read.main k.read.body (symbol_names k.symbols) sets other (record {
-      at = λ n rs e. all_readable untracked k rs (value_is (AreFine IsNamedOne (IsTracked untracked k)) sets.at n rs h.at e) (λ r i. called n r (inl (rs, e, i)));
-      summary = all_readable untracked k sets.summary h.summary (λ r i. called 0 r (inr (refl, i)));
-    }))
+    record {
+      at = λ n rs e. all_readable untracked k rs (value_is (AreFine (IsNamedHere a) (IsTracked untracked k)) sets.at n rs h.at e);
+      summary = all_readable untracked k sets.summary h.summary;
+    }
 
-each_means : (untracked : List BlockUnit) (as' : List Analysis) → EachOf (ModuleFine untracked) as' → EachOf (RegionLinesMean untracked) as'
-each_means untracked [] h = tt
-each_means untracked (a ∷ as') h = (module_means untracked a h.0, each_means untracked as' h.1)
+module_means : (untracked : List BlockUnit) (a : Analysis) → ModuleFine untracked a → HasNames a.found.known → RegionLinesMean untracked a
+module_means untracked a h are none =
+    let k = a.found.known in
+    let names = symbol_names k.symbols in
+    let sets = regions_in untracked a in
+    all_just untracked a h (region_lines_of k.read.main k.read.body names sets)
+    (added_lines_read_back k.read.main k.read.body names sets (others names are none) (module_readable untracked a h))
+
+tables_named : (ps : List ParsedTree) (sss : List (List SymbolTree)) → AreTables ps sss → All AreWords sss → EachOf HasNames (known_of ps sss)
+tables_named [] sss t w = tt
+tables_named (p ∷ ps) [] t w = tt
+tables_named (p ∷ ps) (ss ∷ sss) t w =
+    (record { each = w zero ss (omega arith); distinct = names_are_distinct p ss t.0 }, tables_named ps sss t.1 (λ k d l. w (suc k) d (omega (arith, l))))
+
+each_means : (untracked : List BlockUnit) (as' : List Analysis) → EachOf (ModuleFine untracked) as' → EachOf (λ (a : Analysis). HasNames a.found.known) as' → EachOf (RegionLinesMean untracked) as'
+each_means untracked [] h k = tt
+each_means untracked (a ∷ as') h k = (module_means untracked a h.0 k.0, each_means untracked as' h.1 k.1)
+
+pub regions_are_readable : RegionsAreReadable
+regions_are_readable ps sss g t =
+    each_all (ModuleFine g.untracked) (λ (a : Analysis). AreReadable (symbol_names a.found.known.symbols) (regions_in g.untracked a)) (module_readable g.untracked) (analyses (known_of ps sss) g) (modules_fine ps sss g t)
 
 pub region_lines_mean_regions : RegionLinesMeanRegions
-region_lines_mean_regions ps sss g t =
-    each_all (RegionLinesMean g.untracked) (RegionLinesMean g.untracked) (λ a h. h) (analyses (known_of ps sss) g) (each_means g.untracked (analyses (known_of ps sss) g) (modules_fine ps sss g t))
+region_lines_mean_regions ps sss g t w =
+    each_all (RegionLinesMean g.untracked) (RegionLinesMean g.untracked) (λ a h. h) (analyses (known_of ps sss) g)
+    (each_means g.untracked (analyses (known_of ps sss) g) (modules_fine ps sss g t) (analyses_with HasNames (known_of ps sss) g (tables_named ps sss t w)))

@@ -21,7 +21,7 @@ use Rattle.laws_lines.specs.Laws.{IsTracked}
 use Rattle.laws_lines.proofs.PhaseVars.{EachOf, each_all, value_is}
 use Rattle.laws_region_lines.specs.Laws.{regions_in}
 use Rattle.laws_region_lines.specs.LineLaws.{RegionLinesPass, AllRegionLinesPass}
-use Rattle.laws_region_lines.proofs.AccessVars.{IsNamedOne}
+use Rattle.laws_region_lines.proofs.AccessVars.{IsNamedIn}
 use Rattle.laws_region_lines.proofs.RegionVars.{AreFine}
 use Rattle.laws_region_lines.proofs.ProgramRegions.{ModuleFine, modules_fine}
 
@@ -105,17 +105,18 @@ module _ (law : RegionLinesArePassedOver) (names : List Bytes) (sets : Results (
 
 -- ---- modules
 
-fine_shown : (ok : ℕ → Type 0) (rs : List Region) → AreFine IsNamedOne ok rs → AreShownRegions rs
-fine_shown ok [] h = tt
-fine_shown ok (r ∷ rs) h = (h.0.0, fine_shown ok rs h.1)
+fine_shown : (names : List Bytes) (ok : ℕ → Type 0) (rs : List Region) → AreFine (IsNamedIn names) ok rs → AreShownRegions rs
+fine_shown names ok [] h = tt
+fine_shown names ok (r ∷ rs) h = (h.0.0.0, fine_shown names ok rs h.1)
 
 module_passes : RegionLinesArePassedOver → (untracked : List BlockUnit) (a : Analysis) → ModuleFine untracked a → RegionLinesPass untracked a
 module_passes law untracked a h are =
     let ok = IsTracked untracked a.found.known in
+    let names = symbol_names a.found.known.symbols in
     let sets = regions_in untracked a in
-    lines_pass law (symbol_names a.found.known.symbols) sets are (record {
-      at = λ n rs e. fine_shown ok rs (value_is (AreFine IsNamedOne ok) sets.at n rs h.at e);
-      summary = fine_shown ok sets.summary h.summary;
+    lines_pass law names sets are (record {
+      at = λ n rs e. fine_shown names ok rs (value_is (AreFine (IsNamedIn names) ok) sets.at n rs h.at e);
+      summary = fine_shown names ok sets.summary h.summary;
     }) a.found.known.read.main a.found.known.read.body
 
 each_passes : RegionLinesArePassedOver → (untracked : List BlockUnit) (as' : List Analysis) → EachOf (ModuleFine untracked) as' → EachOf (RegionLinesPass untracked) as'

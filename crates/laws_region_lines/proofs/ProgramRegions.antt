@@ -12,6 +12,7 @@ use Rattle.f77_names.specs.Tables.{NameTable}
 use Rattle.f77_results.specs.declared.results.At.{At}
 use Rattle.f77_symbols.specs.Symbols.{SymbolTree, number_from}
 use Rattle.f77_symbols.specs.declared.variable.Unit.{Unit as BlockUnit}
+use Rattle.f77_symbols.specs.declared.variable.Variable.{Variable}
 use Rattle.laws_lines.proofs.PhaseVars.{EachOf, each-append, each_all, each_reverse, got_each, AnalysisOk, analyses_ok, value_is}
 use Rattle.laws_lines.proofs.RuleVars.{IsDone, unchanging_done}
 use Rattle.laws_lines.proofs.StatementVars.{AllAt, Scope}
@@ -19,9 +20,11 @@ use Rattle.laws_lines.proofs.SystemVars.{IsNeat, neat_over}
 use Rattle.laws_lines.specs.Laws.{IsTracked}
 use Rattle.laws_lines.specs.Variables.{IsOver}
 use Rattle.laws_programs.specs.Programs.{AreTables}
-use Rattle.laws_region_lines.proofs.AccessVars.{IsNamedOne, FewBounds}
+use Rattle.laws_region_lines.proofs.AccessVars.{IsNamedIn, FewBounds}
+use Rattle.laws_region_lines.proofs.Indexes.{indexes_are_symbols}
 use Rattle.laws_region_lines.proofs.RegionVars.{AreFine}
 use Rattle.laws_region_lines.proofs.StatementRegions.{list_at_fine, summary_fine}
+use Rattle.laws_region_lines.specs.Indexes.{counts_other}
 use Rattle.laws_region_lines.specs.Laws.{regions_in, AreOverPlaces, RegionsAreOver, RegionsAreOverPlaces}
 use Rattle.laws_region_lines.specs.Places.{IsPlaceOf, IsOne}
 use Rattle.laws_tables.proofs.Answers.{Answered, lines_in, layout_in, found_none, answered_by}
@@ -41,6 +44,7 @@ use Rattle.storage_layout.specs.Table.{Layout, bounds_in, symbols_from}
 use Rattle.tracked_cells.specs.Tracked.{tracked_of}
 use Rattle.transformer_algebra.specs.declared.transformer.Transformer.{Transformer}
 use Rattle.transformers.specs.Given.{Callees}
+use Rattle.transformers.specs.Jumps.{list_has}
 use Rattle.transformers.specs.Lists.{value_at, or_unchanging, transformer_at}
 
 -- ---- the tracked cells of a module
@@ -135,13 +139,14 @@ few_at ss h n s e = go (nat_eq n 0) e
     go true q = cc
     go false q = got_each HasFew ss (n - 1) s h q
 
-abbrev KnownFew : Known → Type 0
-KnownFew k = EachOf HasFew k.symbols
+-- so it is of the symbols of a module; and the index of each DO is one of them
+abbrev IsTold : Known → Type 0
+IsTold k = EachOf HasFew k.symbols × (list_has (counts_other (symbol_names k.symbols)) k.read.body ≡ false)
 
-knowns_few : (ps : List ParsedTree) (sss : List (List SymbolTree)) → AreTables ps sss → EachOf KnownFew (known_of ps sss)
-knowns_few [] sss t = tt
-knowns_few (p ∷ ps) [] t = tt
-knowns_few (p ∷ ps) (ss ∷ sss) t = (table_few p ss (answered_by p ss t.0), knowns_few ps sss t.1)
+knowns_told : (ps : List ParsedTree) (sss : List (List SymbolTree)) → AreTables ps sss → EachOf IsTold (known_of ps sss)
+knowns_told [] sss t = tt
+knowns_told (p ∷ ps) [] t = tt
+knowns_told (p ∷ ps) (ss ∷ sss) t = ((table_few p ss (answered_by p ss t.0), indexes_are_symbols p ss t.0), knowns_told ps sss t.1)
 
 -- ---- each analysis is of a module of the program
 
@@ -167,7 +172,7 @@ module _ (W : Known → Type 0) where
       let new = analysis_of untracked (sites_of untracked done f.known.read.name) f in
       from_with untracked (done ++ new ∷ []) fs (each-append (λ (a : Analysis). W a.found.known) done (new ∷ []) d (h.0, tt)) h.1
 
-  analyses_with : (ks : List Known) (g : Graph) → EachOf W ks → EachOf (λ (a : Analysis). W a.found.known) (analyses ks g)
+  pub analyses_with : (ks : List Known) (g : Graph) → EachOf W ks → EachOf (λ (a : Analysis). W a.found.known) (analyses ks g)
   analyses_with ks g h =
       let fs = found_in g.untracked ks no_callees g.order in
       from_with g.untracked [] (reverse fs) tt (each_reverse (λ (f : Found). W f.known) fs (founds_with g.untracked ks h no_callees g.order))
@@ -179,45 +184,49 @@ one_over such [] h = absurd h
 one_over such (s ∷ []) h = neat_over such s h
 one_over such (s ∷ (q ∷ qs)) h = absurd h
 
-all_over : (ok : ℕ → Type 0) (rs : List Region) → AreFine IsNamedOne ok rs → AllByRecursion (λ (r : Region). IsOne (IsOver (IsPlaceOf ok)) r.pieces) rs
-all_over ok [] h = tt
-all_over ok (r ∷ rs) h = (one_over (IsPlaceOf ok) r.pieces h.0.1, all_over ok rs h.1)
+all_over : (N : Variable → Type 0) (ok : ℕ → Type 0) (rs : List Region) → AreFine N ok rs → AllByRecursion (λ (r : Region). IsOne (IsOver (IsPlaceOf ok)) r.pieces) rs
+all_over N ok [] h = tt
+all_over N ok (r ∷ rs) h = (one_over (IsPlaceOf ok) r.pieces h.0.1, all_over N ok rs h.1)
 
 at_each : {T : Type 0} (P Q : T → Type 0) → ((x : T) → P x → Q x) → (xs : List (At T)) → AllAt P xs → EachOf (λ (x : At T). Q x.value) xs
 at_each P Q f [] h = tt
 at_each P Q f (x ∷ xs) h = (f x.value h.0, at_each P Q f xs h.1)
 
--- its regions have such variables alone
-pub record ModuleFine (untracked : List BlockUnit) (a : Analysis) : Type 0 where
-  pub at : AllAt (AreFine IsNamedOne (IsTracked untracked a.found.known)) (regions_in untracked a).at
-  pub summary : AreFine IsNamedOne (IsTracked untracked a.found.known) (regions_in untracked a).summary
+-- of a symbol of the module
+abbrev pub IsNamedHere : Analysis → Variable → Type 0
+IsNamedHere a v = IsNamedIn (symbol_names a.found.known.symbols) v
 
-module_fine : (untracked : List BlockUnit) (a : Analysis) → AnalysisOk untracked a → KnownFew a.found.known → ModuleFine untracked a
-module_fine untracked a h few =
+-- its regions are of its symbols, and have such variables alone
+pub record ModuleFine (untracked : List BlockUnit) (a : Analysis) : Type 0 where
+  pub at : AllAt (AreFine (IsNamedHere a) (IsTracked untracked a.found.known)) (regions_in untracked a).at
+  pub summary : AreFine (IsNamedHere a) (IsTracked untracked a.found.known) (regions_in untracked a).summary
+
+module_fine : (untracked : List BlockUnit) (a : Analysis) → AnalysisOk untracked a → IsTold a.found.known → ModuleFine untracked a
+module_fine untracked a h told =
     let k = a.found.known in
     let ok = IsTracked untracked k in
     let m = scope_of untracked k in
     let t = transformer_at a.found.own.at in
     let scope = scope_flags untracked k in
-    let seven_each = few_at k.symbols few in
+    let seven_each = few_at k.symbols told.0 in
     let done = found_done ok a.found.own.at h.found.at in
-    record { at = list_at_fine ok m scope seven_each t done k.read.body; summary = summary_fine ok m scope seven_each t done k.read.body }
+    record { at = list_at_fine ok m scope seven_each t done k.read.body told.1; summary = summary_fine ok m scope seven_each t done k.read.body told.1 }
 
-both_fine : (untracked : List BlockUnit) (as' : List Analysis) → EachOf (AnalysisOk untracked) as' → EachOf (λ (a : Analysis). KnownFew a.found.known) as' → EachOf (ModuleFine untracked) as'
+both_fine : (untracked : List BlockUnit) (as' : List Analysis) → EachOf (AnalysisOk untracked) as' → EachOf (λ (a : Analysis). IsTold a.found.known) as' → EachOf (ModuleFine untracked) as'
 both_fine untracked [] h k = tt
 both_fine untracked (a ∷ as') h k = (module_fine untracked a h.0 k.0, both_fine untracked as' h.1 k.1)
 
 pub modules_fine : (ps : List ParsedTree) (sss : List (List SymbolTree)) (g : Graph) → AreTables ps sss → EachOf (ModuleFine g.untracked) (analyses (known_of ps sss) g)
 modules_fine ps sss g t =
-    both_fine g.untracked (analyses (known_of ps sss) g) (analyses_ok ps sss g t) (analyses_with KnownFew (known_of ps sss) g (knowns_few ps sss t))
+    both_fine g.untracked (analyses (known_of ps sss) g) (analyses_ok ps sss g t) (analyses_with IsTold (known_of ps sss) g (knowns_told ps sss t))
 
 regions_over : (untracked : List BlockUnit) (a : Analysis) → ModuleFine untracked a → RegionsAreOver untracked a
 regions_over untracked a h =
     let ok = IsTracked untracked a.found.known in
-    let each = at_each (AreFine IsNamedOne ok) (AreOverPlaces untracked a) (all_over ok) (regions_in untracked a).at h.at in
+    let each = at_each (AreFine (IsNamedHere a) ok) (AreOverPlaces untracked a) (all_over (IsNamedHere a) ok) (regions_in untracked a).at h.at in
     record {
       at = each_all (λ (x : At (List Region)). AreOverPlaces untracked a x.value) (λ (x : At (List Region)). AreOverPlaces untracked a x.value) (λ x i. i) (regions_in untracked a).at each;
-      summary = all_over ok (regions_in untracked a).summary h.summary;
+      summary = all_over (IsNamedHere a) ok (regions_in untracked a).summary h.summary;
     }
 
 pub regions_are_over_places : RegionsAreOverPlaces

@@ -1,13 +1,17 @@
 -- The variables of the regions of statements and of modules.
-use Rattle.std.proofs.Common.{ℕ, Bool, true, false, List, [], ◌∷◌, ◌++◌}
+use Rattle.std.proofs.Common.{◌≡◌, ℕ, Bool, true, false, List, [], ◌∷◌, ◌++◌, Option, Some, None, refl}
+use Rattle.std.specs.Prelude.{◌||◌, is_none, unwrap_or}
+use Rattle.std.proofs.lemmas.Bool.{or_parts}
 use Rattle.affine_systems.proofs.Basics.{if_cases}
 use Rattle.f77_ast.specs.Trees.{ExprTree, ExprTrees, StmtTree, WhatTree, ArmTree, ArmTrees, ElseTree, LoopTree, StmtTrees}
 use Rattle.f77_ast.specs.Trees as tree
-use Rattle.f77_symbols.specs.Symbols.{BoundTree, SymbolTree}
+use Rattle.f77_symbols.specs.declared.variable.Variable.{Variable}
+use Rattle.f77_symbols.specs.Symbols.{BoundTree, SymbolTree, number_from}
 use Rattle.f77_results.specs.declared.results.At.{At}
 use Rattle.transformer_algebra.specs.declared.transformer.Transformer.{Transformer}
 use Rattle.transformer_algebra.specs.Transformers.{without}
 use Rattle.call_translation.specs.Scopes.{ScopeTree}
+use Rattle.transformers.specs.Jumps.{stmt_has, parts_have, list_has, arms_have, arm_has, else_has, loop_has}
 use Rattle.transformers.specs.Lists.{each_at, list_at, number_of}
 use Rattle.transformers.specs.Loops.{loop_parts}
 use Rattle.region_sets.specs.declared.region.Access.TheVariants.{Write}
@@ -27,12 +31,21 @@ use Rattle.laws_lines.proofs.RuleVars.{IsDone, AreDone, without_neat}
 use Rattle.laws_lines.proofs.LoopVars.{iteration_done}
 use Rattle.laws_lines.proofs.StatementVars.{AllAt, all_at-append, Scope, parts_of_loop, list_done}
 use Rattle.laws_lines.proofs.PhaseVars.{value_is}
+use Rattle.roundtrip_systems.specs.Printed.{IsNumber}
+use Rattle.laws_region_lines.specs.Indexes.{has_other_index, counts_other}
 use Rattle.laws_region_lines.specs.Places.{IsPlaceOf}
 use Rattle.laws_region_lines.proofs.PieceVars.{IsRangeOf}
 use Rattle.laws_region_lines.proofs.RegionVars.{both_all, map_all, IsFine, looped_fine, mapped_fine, united_fine, at_fine, list_fine}
-use Rattle.laws_region_lines.proofs.AccessVars.{IsNamedOne, FewBounds, Fine, reads_fine, maybe_fine, assignment_fine, printing_fine, reading_fine, ReachedOk, into_ok, past_ok, all_past_ok, always_ok, met_fine, tests_fine, if_fine}
+use Rattle.laws_region_lines.proofs.AccessVars.{IsNamedIn, named_number, FewBounds, Fine, reads_fine, maybe_fine, assignment_fine, printing_fine, reading_fine, ReachedOk, into_ok, past_ok, all_past_ok, always_ok, met_fine, tests_fine, if_fine}
 
 module _ (ok : ℕ → Type 0) (m : ScopeTree) (a : Scope ok m) (few : FewBounds m.symbols) (t : ℕ → Transformer) (done : (n : ℕ) → IsDone ok (t n)) where
+  abbrev IsNamedOne : Variable → Type 0
+  IsNamedOne = IsNamedIn m.names
+
+  -- a DO whose index is no symbol
+  abbrev such : WhatTree → Bool
+  such = counts_other m.names
+
   abbrev F : List Region → Type 0
   F rs = Fine ok m a few rs
 
@@ -57,12 +70,19 @@ module _ (ok : ℕ → Type 0) (m : ScopeTree) (a : Scope ok m) (few : FewBounds
   loop_reads_fine (tree.loop index first last step body) =
       join (reads first m) (reads last m ++ maybe_reads step m) (reads_fine ok m a few first) (join (reads last m) (maybe_reads step m) (reads_fine ok m a few last) (maybe_fine ok m a few step))
 
-  do_fine : (l : LoopTree) (rs : List Region) → F rs → F (do_set l m t rs)
-  do_fine l rs h =
+  index_number : (l : LoopTree) → has_other_index m.names l ≡ false → IsNumber m.names (range_of l m t).index
+  index_number (tree.loop index first last step body) i = go (number_from 1 m.names index) refl i
+    where
+      go : (o : Option ℕ) → number_from 1 m.names index ≡ o → is_none o ≡ false → IsNumber m.names (unwrap_or o 0)
+      go None q k = cc
+      go (Some n) q k = named_number m.names index n q
+
+  do_fine : (l : LoopTree) → has_other_index m.names l ≡ false → (rs : List Region) → F rs → F (do_set l m t rs)
+  do_fine l i rs h =
       let over = all_over (range_of l m t) rs in
       united_fine IsNamedOne ok (loop_reads l m ++ (scalar Write (range_of l m t).index ∷ over))
       (join (loop_reads l m) (scalar Write (range_of l m t).index ∷ over) (loop_reads_fine l)
-      ((tt, none_neat (IsPlaceOf ok)), map_all (IsFine IsNamedOne ok) (λ r. over_loop r (range_of l m t)) (looped_fine IsNamedOne ok (range_of l m t) (range_is l)) rs h))
+      (((tt, index_number l i), none_neat (IsPlaceOf ok)), map_all (IsFine IsNamedOne ok) (λ r. over_loop r (range_of l m t)) (looped_fine IsNamedOne ok (range_of l m t) (range_is l)) rs h))
 
   -- ---- statements
 
@@ -74,78 +94,86 @@ module _ (ok : ℕ → Type 0) (m : ScopeTree) (a : Scope ok m) (few : FewBounds
       list_fine IsNamedOne ok t (accesses_at (at_list body m t)) done (at_fine IsNamedOne ok (at_list body m t) (λ n rs e. value_is F (at_list body m t) n rs h e)) whole body
 
   mutual
-    stmt_fine : (s : StmtTree) → F (stmt_set s m t)
-    stmt_fine (tree.stmt n label w) = what_fine w
+    stmt_fine : (s : StmtTree) → stmt_has such s ≡ false → F (stmt_set s m t)
+    stmt_fine (tree.stmt n label w) i = what_fine w i
 
-    what_fine : (w : WhatTree) → F (what_set w m t)
-    what_fine (tree.assign x y) = assignment_fine ok m a few x y
-    what_fine (tree.block_if arms other) =
+    what_fine : (w : WhatTree) → (such w || parts_have such w) ≡ false → F (what_set w m t)
+    what_fine (tree.assign x y) i = assignment_fine ok m a few x y
+    what_fine (tree.block_if arms other) i =
+        let p = or_parts (arms_have such arms) (else_has such other) i in
         let sets = arm_sets arms m t always in
         let rest = else_set other m t (past_arms arms m always) in
         united_fine IsNamedOne ok (tests_reads arms m always ++ (sets ++ rest))
         (join (tests_reads arms m always) (sets ++ rest) (tests_fine ok m a few arms always (always_ok ok m a few))
-        (join sets rest (arms_fine arms always (always_ok ok m a few)) (else_fine other (past_arms arms m always) (all_past_ok ok m a few arms always (always_ok ok m a few)))))
-    what_fine (tree.logical_if e s) = if_fine ok m a few e (stmt_set s m t) (stmt_fine s)
-    what_fine (tree.do_loop l) = loop_fine l
-    what_fine (tree.call x es) = tt
-    what_fine (tree.goto l) = tt
-    what_fine tree.continue = tt
-    what_fine tree.return = tt
-    what_fine (tree.stop text) = tt
-    what_fine (tree.print es) = printing_fine ok m a few es
-    what_fine (tree.read es) = reading_fine ok m a few es
+        (join sets rest (arms_fine arms p.0 always (always_ok ok m a few)) (else_fine other p.1 (past_arms arms m always) (all_past_ok ok m a few arms always (always_ok ok m a few)))))
+    what_fine (tree.logical_if e s) i = if_fine ok m a few e (stmt_set s m t) (stmt_fine s i)
+    what_fine (tree.do_loop l) i = let p = or_parts (has_other_index m.names l) (loop_has such l) i in loop_fine l p.0 p.1
+    what_fine (tree.call x es) i = tt
+    what_fine (tree.goto l) i = tt
+    what_fine tree.continue i = tt
+    what_fine tree.return i = tt
+    what_fine (tree.stop text) i = tt
+    what_fine (tree.print es) i = printing_fine ok m a few es
+    what_fine (tree.read es) i = reading_fine ok m a few es
 
-    arms_fine : (xs : ArmTrees) (w : Reached) → W w → F (arm_sets xs m t w)
-    arms_fine tree.no_arms w h = tt
-    arms_fine (tree.more_arms x rest) w h =
-        join (arm_set x m t (into_arm x m w)) (arm_sets rest m t (past_arm x m w)) (arm_fine x (into_arm x m w) (into_ok ok m a few x w h)) (arms_fine rest (past_arm x m w) (past_ok ok m a few x w h))
+    arms_fine : (xs : ArmTrees) → arms_have such xs ≡ false → (w : Reached) → W w → F (arm_sets xs m t w)
+    arms_fine tree.no_arms i w h = tt
+    arms_fine (tree.more_arms x rest) i w h =
+        let p = or_parts (arm_has such x) (arms_have such rest) i in
+        join (arm_set x m t (into_arm x m w)) (arm_sets rest m t (past_arm x m w)) (arm_fine x p.0 (into_arm x m w) (into_ok ok m a few x w h)) (arms_fine rest p.1 (past_arm x m w) (past_ok ok m a few x w h))
 
-    arm_fine : (x : ArmTree) (w : Reached) → W w → F (arm_set x m t w)
-    arm_fine (tree.arm e body) w h = met_fine ok m a few w h (list_regions t (accesses_at (at_list body m t)) false body) (lists body false (list_at_fine body))
+    arm_fine : (x : ArmTree) → arm_has such x ≡ false → (w : Reached) → W w → F (arm_set x m t w)
+    arm_fine (tree.arm e body) i w h = met_fine ok m a few w h (list_regions t (accesses_at (at_list body m t)) false body) (lists body false (list_at_fine body i))
 
-    else_fine : (x : ElseTree) (w : Reached) → W w → F (else_set x m t w)
-    else_fine tree.no_else w h = tt
-    else_fine (tree.otherwise body) w h = met_fine ok m a few w h (list_regions t (accesses_at (at_list body m t)) false body) (lists body false (list_at_fine body))
+    else_fine : (x : ElseTree) → else_has such x ≡ false → (w : Reached) → W w → F (else_set x m t w)
+    else_fine tree.no_else i w h = tt
+    else_fine (tree.otherwise body) i w h = met_fine ok m a few w h (list_regions t (accesses_at (at_list body m t)) false body) (lists body false (list_at_fine body i))
 
-    loop_fine : (l : LoopTree) → F (body_set l m t)
-    loop_fine (tree.loop index first last step body) =
-        do_fine (tree.loop index first last step body) (list_regions t (accesses_at (at_list body m t)) false body) (lists body false (list_at_fine body))
+    loop_fine : (l : LoopTree) → has_other_index m.names l ≡ false → loop_has such l ≡ false → F (body_set l m t)
+    loop_fine (tree.loop index first last step body) j i =
+        do_fine (tree.loop index first last step body) j (list_regions t (accesses_at (at_list body m t)) false body) (lists body false (list_at_fine body i))
 
     -- ---- at each statement
 
-    at_stmt_fine : (s : StmtTree) → All (at_stmt s m t)
-    at_stmt_fine (tree.stmt n label w) = (what_fine w, at_parts_fine w)
+    at_stmt_fine : (s : StmtTree) → stmt_has such s ≡ false → All (at_stmt s m t)
+    at_stmt_fine (tree.stmt n label w) i = (what_fine w i, at_parts_fine w (or_parts (such w) (parts_have such w) i).1)
 
-    at_parts_fine : (w : WhatTree) → All (at_parts w m t)
-    at_parts_fine (tree.assign x e) = tt
-    at_parts_fine (tree.block_if arms other) = all_at-append F (at_arms arms m t) (at_else other m t) (at_arms_fine arms) (at_else_fine other)
-    at_parts_fine (tree.logical_if e s) = at_stmt_fine s
-    at_parts_fine (tree.do_loop l) = at_loop_fine l
-    at_parts_fine (tree.call x es) = tt
-    at_parts_fine (tree.goto l) = tt
-    at_parts_fine tree.continue = tt
-    at_parts_fine tree.return = tt
-    at_parts_fine (tree.stop text) = tt
-    at_parts_fine (tree.print es) = tt
-    at_parts_fine (tree.read es) = tt
+    at_parts_fine : (w : WhatTree) → parts_have such w ≡ false → All (at_parts w m t)
+    at_parts_fine (tree.assign x e) i = tt
+    at_parts_fine (tree.block_if arms other) i =
+        let p = or_parts (arms_have such arms) (else_has such other) i in
+        all_at-append F (at_arms arms m t) (at_else other m t) (at_arms_fine arms p.0) (at_else_fine other p.1)
+    at_parts_fine (tree.logical_if e s) i = at_stmt_fine s i
+    at_parts_fine (tree.do_loop l) i = at_loop_fine l i
+    at_parts_fine (tree.call x es) i = tt
+    at_parts_fine (tree.goto l) i = tt
+    at_parts_fine tree.continue i = tt
+    at_parts_fine tree.return i = tt
+    at_parts_fine (tree.stop text) i = tt
+    at_parts_fine (tree.print es) i = tt
+    at_parts_fine (tree.read es) i = tt
 
-    pub list_at_fine : (ss : StmtTrees) → All (at_list ss m t)
-    list_at_fine tree.no_stmts = tt
-    list_at_fine (tree.more_stmts s rest) = all_at-append F (at_stmt s m t) (at_list rest m t) (at_stmt_fine s) (list_at_fine rest)
+    pub list_at_fine : (ss : StmtTrees) → list_has such ss ≡ false → All (at_list ss m t)
+    list_at_fine tree.no_stmts i = tt
+    list_at_fine (tree.more_stmts s rest) i =
+        let p = or_parts (stmt_has such s) (list_has such rest) i in
+        all_at-append F (at_stmt s m t) (at_list rest m t) (at_stmt_fine s p.0) (list_at_fine rest p.1)
 
-    at_arms_fine : (xs : ArmTrees) → All (at_arms xs m t)
-    at_arms_fine tree.no_arms = tt
-    at_arms_fine (tree.more_arms x rest) = all_at-append F (at_arm x m t) (at_arms rest m t) (at_arm_fine x) (at_arms_fine rest)
+    at_arms_fine : (xs : ArmTrees) → arms_have such xs ≡ false → All (at_arms xs m t)
+    at_arms_fine tree.no_arms i = tt
+    at_arms_fine (tree.more_arms x rest) i =
+        let p = or_parts (arm_has such x) (arms_have such rest) i in
+        all_at-append F (at_arm x m t) (at_arms rest m t) (at_arm_fine x p.0) (at_arms_fine rest p.1)
 
-    at_arm_fine : (x : ArmTree) → All (at_arm x m t)
-    at_arm_fine (tree.arm e body) = list_at_fine body
+    at_arm_fine : (x : ArmTree) → arm_has such x ≡ false → All (at_arm x m t)
+    at_arm_fine (tree.arm e body) i = list_at_fine body i
 
-    at_else_fine : (x : ElseTree) → All (at_else x m t)
-    at_else_fine tree.no_else = tt
-    at_else_fine (tree.otherwise body) = list_at_fine body
+    at_else_fine : (x : ElseTree) → else_has such x ≡ false → All (at_else x m t)
+    at_else_fine tree.no_else i = tt
+    at_else_fine (tree.otherwise body) i = list_at_fine body i
 
-    at_loop_fine : (l : LoopTree) → All (at_loop l m t)
-    at_loop_fine (tree.loop index first last step body) = list_at_fine body
+    at_loop_fine : (l : LoopTree) → loop_has such l ≡ false → All (at_loop l m t)
+    at_loop_fine (tree.loop index first last step body) i = list_at_fine body i
 
   -- ---- what callers see
 
@@ -164,8 +192,8 @@ module _ (ok : ℕ → Type 0) (m : ScopeTree) (a : Scope ok m) (few : FewBounds
       let others = seen_fine ss cs rs h.1 in
       if_cases F (goes_out ss r.variable) (for_callers cs r ∷ seen ss cs rs) (seen ss cs rs) (λ e. (mapped_fine IsNamedOne ok (without cs) (without_neat (IsPlaceOf ok) cs) false r h.0, others)) (λ e. others)
 
-  pub summary_fine : (body : StmtTrees) → F (summary_of m (list_set true body m t))
-  summary_fine body =
+  pub summary_fine : (body : StmtTrees) → list_has such body ≡ false → F (summary_of m (list_set true body m t))
+  summary_fine body i =
       let all = symbols_reads m.symbols m ++ list_set true body m t in
       united_fine IsNamedOne ok (seen m.symbols (locals m.symbols) (unite_all all))
-      (seen_fine m.symbols (locals m.symbols) (unite_all all) (united_fine IsNamedOne ok all (join (symbols_reads m.symbols m) (list_set true body m t) (symbols_fine m.symbols) (lists body true (list_at_fine body)))))
+      (seen_fine m.symbols (locals m.symbols) (unite_all all) (united_fine IsNamedOne ok all (join (symbols_reads m.symbols m) (list_set true body m t) (symbols_fine m.symbols) (lists body true (list_at_fine body i)))))

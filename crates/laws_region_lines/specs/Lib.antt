@@ -1,3 +1,5 @@
+pub mod Indexes
 pub mod Places
 pub mod Laws
+pub mod Lines
 pub mod LineLaws

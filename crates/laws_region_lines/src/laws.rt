@@ -1,8 +1,14 @@
 //! The laws of the variables of regions, and of their lines.
+ghost use Rattle.laws_region_lines.specs.Indexes.{IndexesAreSymbols};
 ghost use Rattle.laws_region_lines.specs.Laws.{RegionsAreOverPlaces};
-ghost use Rattle.laws_region_lines.specs.LineLaws.{RegionLinesMeanRegions, AllRegionLinesPass};
+ghost use Rattle.laws_region_lines.specs.LineLaws.{RegionsAreReadable, RegionLinesMeanRegions, AllRegionLinesPass};
 
 use roundtrip_regions::region_lines_are_passed_over;
+
+/// In a module that is not refused the index of each DO is a symbol.
+pub fn indexes_are_symbols()
+    ensures { IndexesAreSymbols }
+{}
 
 /// READ and WRITE regions of modules have one system each, and speak of subscripts, of which there are seven, and of tracked cells where the
 /// statement begins, and of no other variable.
@@ -10,8 +16,13 @@ pub fn regions_are_over_places()
     ensures { RegionsAreOverPlaces }
 {}
 
+/// READ and WRITE regions of modules are such as their lines can tell: of symbols, on subscripts and symbols, in order.
+pub fn regions_are_readable()
+    ensures { RegionsAreReadable }
+{}
+
 /// Each line of a module is read as just a region that was found there, where the names of its symbols are words, and none is that of a
-/// subscript, and the variable of each region is a symbol.
+/// subscript.
 pub fn region_lines_mean_regions()
     ensures { RegionLinesMeanRegions }
 {}

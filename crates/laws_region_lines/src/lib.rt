@@ -3,4 +3,7 @@
 
 mod laws;
 
-pub use laws::{all_region_lines_pass, region_lines_mean_regions, regions_are_over_places};
+pub use laws::{
+    all_region_lines_pass, indexes_are_symbols, region_lines_mean_regions, regions_are_over_places,
+    regions_are_readable,
+};

@@ -1,6 +1,7 @@
 -- Each line that is added to a module is a comment line that reading drops.
-use Rattle.std.proofs.Common.{◌≡◌, ℕ, zero, suc, Bool, true, false, List, [], ◌∷◌, ◌++◌, Option, Some, None, refl, sym, subst}
-use Rattle.std.specs.Prelude.{if◌then◌else◌, slice_get, bytes_eq, option_to_list, reverse}
+use Rattle.std.proofs.Common.{◌≡◌, ℕ, zero, suc, Bool, true, false, List, [], ◌∷◌, ◌++◌, Option, Some, None, arith, refl, sym, subst}
+use Rattle.std.specs.Prelude.{All as Every, if◌then◌else◌, slice_get, bytes_eq, option_to_list, reverse}
+use Rattle.std.specs.List.{AllByRecursion}
 use mathlib.Core.List.{reverse-cons}
 use Rattle.affine_systems.specs.declared.row.System.{System}
 use Rattle.f77_ast.specs.Trees.{StmtTree, WhatTree, ArmTree, ArmTrees, ElseTree, LoopTree, StmtTrees}
@@ -8,14 +9,11 @@ use Rattle.f77_ast.specs.Trees as tree
 use Rattle.f77_ast.specs.DeclTrees.{ParsedTree}
 use Rattle.f77_symbols.specs.declared.variable.Unit.{Unit as BlockUnit}
 use Rattle.f77_printer.specs.declared.added.Added.{Added}
-use Rattle.f77_results.specs.declared.results.At.{At}
 use Rattle.call_graph.specs.declared.graph.Graph.{Graph}
-use Rattle.call_translation.specs.Scopes.{ScopeTree}
-use Rattle.transformers.specs.Lists.{value_at, transformer_at}
 use Rattle.f77_meaning.specs.Modules.{Known, known_of, symbol_names}
 use Rattle.transformer_algebra.specs.declared.transformer.Transformer.{Transformer}
 use Rattle.transformers.specs.Given.{Callees}
-use Rattle.scalar_phases.specs.Phases.{scope_of, place_of, module_at, module_of, Found, no_callees, with_callee, found_of, maybe_found, found_in, Analysis, sites_of, analysis_of, analyses_from}
+use Rattle.scalar_phases.specs.Phases.{place_of, module_at, module_of, Found, no_callees, with_callee, found_of, maybe_found, found_in, Analysis, sites_of, analysis_of, analyses_from, analyses}
 use Rattle.claim_lines.specs.ScalarLines.{Said, before, holds_lines, changes_lines, does_lines, says_changes, own_lines, stmt_lines, part_lines, list_lines, arms_lines, arm_lines, else_lines, loop_lines, entry_lines, said}
 use Rattle.system_text.specs.SystemText.{precondition_line, transformer_line}
 use Rattle.roundtrip_statements.specs.Formed.{Each}
@@ -23,14 +21,12 @@ use Rattle.roundtrip_modules.proofs.Kept.{Each-append}
 use Rattle.roundtrip_text.specs.Texts.{IsPassedOver}
 use Rattle.roundtrip_text.specs.Laws.{AllPassedOver}
 use Rattle.roundtrip_programs.specs.Lines.{AreShown, IsClaimLine, LinesArePassedOver}
-use Rattle.roundtrip_regions.specs.Laws.{RegionLinesArePassedOver}
-use Rattle.region_sets.specs.declared.region.Region.{Region}
-use Rattle.region_sets.specs.Lists.{or_none}
-use Rattle.region_lines.specs.RegionLines as regions
+use Rattle.region_lines.specs.RegionLines.{region_lines_of}
 use Rattle.laws_regions.specs.Accepted.{regions_found}
+use Rattle.laws_programs.specs.Programs.{AreTables}
+use Rattle.laws_region_lines.specs.LineLaws.{RegionLinesPass, AllRegionLinesPass}
 use Rattle.pips_top.specs.Claimed.{said_of, analysis_for, has_calls, region_lines_found, scalar_lines_found, lines_of, lines_for}
 use Rattle.pips_top.specs.Program.{ProgramTree}
-use Rattle.pips_top.proofs.RegionVariables.{AreOfShown, AtShown, value_there, at-list, summary-shown}
 use Rattle.pips_top.specs.declared.words.Show.{Show}
 use Rattle.pips_top.specs.declared.words.Show.TheVariants.{All, Bare, Why}
 
@@ -107,63 +103,6 @@ module _ (law : LinesArePassedOver) (k : Said) (shown : AreShown k.names) where
     loop-over : (l : LoopTree) → AreOver (loop_lines l k)
     loop-over (tree.loop index first last step body) = list-over body
 
--- ---- the lines of its regions
-
-module _ (law : RegionLinesArePassedOver) (names : List (List ℕ)) (shown : AreShown names) where
-  set-over : (n : ℕ) (rs : List Region) → AreOfShown rs → AreOver (regions.set_lines names n rs)
-  set-over n [] h = tt
-  set-over n (r ∷ rs) h = let l = law names r shown h.first in record { first = record { comment = l.comment; dropped = l.dropped }; others = set-over n rs h.others }
-
-  maybe-over : (n : ℕ) (o : Option (List Region)) → AreOfShown (or_none o) → AreOver (regions.found_lines names n o)
-  maybe-over n None h = tt
-  maybe-over n (Some rs) h = set-over n rs h
-
-  either-over : (b : Bool) (xs : List Added) → AreOver xs → AreOver (if b then xs else [])
-  either-over true xs h = h
-  either-over false xs h = tt
-
-  summary-over : (main : Bool) (rs : List Region) → AreOfShown rs → AreOver (regions.entry_lines main names rs)
-  summary-over true rs h = tt
-  summary-over false rs h = set-over 0 rs h
-
-  module _ (m : ScopeTree) (at : List (At (List Region))) (h : Each AtShown at) where
-    mutual
-      stmt-sets : (s : StmtTree) → AreOver (regions.stmt_lines s names at)
-      stmt-sets (tree.stmt n label w) =
-          join (regions.own_lines n w names at) (regions.part_lines w names at)
-          (either-over (says_changes w) (regions.found_lines names n (value_at at n)) (maybe-over n (value_at at n) (value_there m at n h))) (part-sets w)
-
-      part-sets : (w : WhatTree) → AreOver (regions.part_lines w names at)
-      part-sets (tree.assign a b) = tt
-      part-sets (tree.block_if arms other) = join (regions.arms_lines arms names at) (regions.else_lines other names at) (arms-sets arms) (else-sets other)
-      part-sets (tree.logical_if e s) = tt
-      part-sets (tree.do_loop l) = loop-sets l
-      part-sets (tree.call x es) = tt
-      part-sets (tree.goto l) = tt
-      part-sets tree.continue = tt
-      part-sets tree.return = tt
-      part-sets (tree.stop text) = tt
-      part-sets (tree.print es) = tt
-      part-sets (tree.read es) = tt
-
-      list-sets : (t : StmtTrees) → AreOver (regions.list_lines t names at)
-      list-sets tree.no_stmts = tt
-      list-sets (tree.more_stmts s rest) = join (regions.stmt_lines s names at) (regions.list_lines rest names at) (stmt-sets s) (list-sets rest)
-
-      arms-sets : (arms : ArmTrees) → AreOver (regions.arms_lines arms names at)
-      arms-sets tree.no_arms = tt
-      arms-sets (tree.more_arms a rest) = join (regions.arm_lines a names at) (regions.arms_lines rest names at) (arm-sets a) (arms-sets rest)
-
-      arm-sets : (a : ArmTree) → AreOver (regions.arm_lines a names at)
-      arm-sets (tree.arm test body) = list-sets body
-
-      else-sets : (other : ElseTree) → AreOver (regions.else_lines other names at)
-      else-sets tree.no_else = tt
-      else-sets (tree.otherwise body) = list-sets body
-
-      loop-sets : (l : LoopTree) → AreOver (regions.loop_lines l names at)
-      loop-sets (tree.loop index first last step body) = list-sets body
-
 -- ---- names
 
 abbrev pub KnownShown : Known → Type 0
@@ -213,13 +152,33 @@ said_shown All p h =
 said_shown Bare p h = tt
 said_shown Why p h = tt
 
+-- ---- the lines of its regions
+
+-- the names of an analysis are shown, and the lines of its regions pass
+abbrev pub AnalysisPasses : Graph → Analysis → Type 0
+AnalysisPasses g a = AnalysisShown a × RegionLinesPass g.untracked a
+
+each_both : (P Q : Analysis → Type 0) (xs : List Analysis) → Each P xs → Every Q xs → Each (λ a. P a × Q a) xs
+each_both P Q [] h k = tt
+each_both P Q (x ∷ xs) h k = record { first = (h.first, k zero x (omega arith)); others = each_both P Q xs h.others (λ i d l. k (suc i) d (omega (arith, l))) }
+
+pub said_passes : AllRegionLinesPass → (show : Show) (p : ProgramTree) → AreTables p.modules p.tables → Each KnownShown (known_of p.modules p.tables) → Each (AnalysisPasses p.graph) (said_of show p)
+said_passes law All p t h =
+    each_both AnalysisShown (RegionLinesPass p.graph.untracked) (analyses (known_of p.modules p.tables) p.graph) (said_shown All p h) (law p.modules p.tables p.graph t)
+said_passes law Bare p t h = tt
+said_passes law Why p t h = tt
+
+each_from : (xs : List Added) → AllByRecursion IsPassedOver xs → AreOver xs
+each_from [] h = tt
+each_from (x ∷ xs) h = record { first = h.0; others = each_from xs h.1 }
+
 -- ---- the lines of a program
 
 none-over : (b : Bool) (xs : List Added) → AreOver xs → AreOver (if b then [] else xs)
 none-over true xs h = tt
 none-over false xs h = h
 
-module _ (law : LinesArePassedOver) (on_regions : RegionLinesArePassedOver) (g : Graph) where
+module _ (law : LinesArePassedOver) (g : Graph) where
   scalars-over : (a : Analysis) → AnalysisShown a → AreOver (scalar_lines_found a)
   scalars-over a h =
       let k = a.found.known in
@@ -228,28 +187,23 @@ module _ (law : LinesArePassedOver) (on_regions : RegionLinesArePassedOver) (g :
       join (entry_lines k.read.main names a.holds.summary own.summary) (list_lines k.read.body (said names own.at a.holds.at))
       (entry-over law names h k.read.main a.holds.summary own.summary) (list-over law (said names own.at a.holds.at) h k.read.body)
 
-  regions-over : (a : Analysis) → AnalysisShown a → AreOver (region_lines_found g a)
+  regions-over : (a : Analysis) → AnalysisPasses g a → AreOver (region_lines_found g a)
   regions-over a h =
       let k = a.found.known in
-      let names = symbol_names k.symbols in
-      let m = scope_of g.untracked k in
-      let t = transformer_at a.found.own.at in
-      let sets = regions_found g a in
-      none-over (has_calls g.edges k.read.name) (regions.region_lines_of k.read.main k.read.body names sets)
-      (join (regions.entry_lines k.read.main names sets.summary) (regions.list_lines k.read.body names sets.at)
-      (summary-over on_regions names h k.read.main sets.summary (summary-shown m k.read.body t)) (list-sets on_regions names h m sets.at (at-list m t k.read.body) k.read.body))
+      let lines = region_lines_of k.read.main k.read.body (symbol_names k.symbols) (regions_found g a) in
+      none-over (has_calls g.edges k.read.name) lines (each_from lines (h.1 h.0))
 
-  analysis-over : (a : Analysis) → AnalysisShown a → AreOver (lines_of g (Some a))
-  analysis-over a h = join (scalar_lines_found a) (region_lines_found g a) (scalars-over a h) (regions-over a h)
+  analysis-over : (a : Analysis) → AnalysisPasses g a → AreOver (lines_of g (Some a))
+  analysis-over a h = join (scalar_lines_found a) (region_lines_found g a) (scalars-over a h.0) (regions-over a h)
 
   choice-over : (b : Bool) (o p : Option Analysis) → AreOver (lines_of g o) → AreOver (lines_of g p) → AreOver (lines_of g (if b then o else p))
   choice-over true o p h e = h
   choice-over false o p h e = e
 
-  lines-over : (all : List Analysis) (x : List ℕ) → Each AnalysisShown all → AreOver (lines_for g all x)
+  lines-over : (all : List Analysis) (x : List ℕ) → Each (AnalysisPasses g) all → AreOver (lines_for g all x)
   lines-over [] x h = tt
   lines-over (a ∷ as') x h = choice-over (bytes_eq a.found.known.read.name x) (Some a) (analysis_for as' x) (analysis-over a h.first) (lines-over as' x h.others)
 
-  pub all_over : (all : List Analysis) → Each AnalysisShown all → (ms : List ParsedTree) → AllPassedOver (λ m. lines_for g all m.module_read.name) ms
+  pub all_over : (all : List Analysis) → Each (AnalysisPasses g) all → (ms : List ParsedTree) → AllPassedOver (λ m. lines_for g all m.module_read.name) ms
   all_over all h [] = tt
   all_over all h (m ∷ ms) = record { first = lines-over all m.module_read.name h; others = all_over all h ms }

@@ -2,7 +2,6 @@ pub mod Joining
 pub mod LinkLaws
 pub mod NoCalls
 pub mod Programs
-pub mod RegionVariables
 pub mod AddedLines
 pub mod ReadBack
 pub mod LinesMeant

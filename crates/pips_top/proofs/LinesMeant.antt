@@ -1,6 +1,6 @@
 -- The lines that are added to a module are those of its analysis, and each is read as what that has there.
 use Rattle.std.proofs.Common.{◌≡◌, ℕ, zero, suc, Bool, true, false, List, [], ◌∷◌, Some, arith, refl, ap, sym, ◌∙◌, subst}
-use Rattle.std.specs.Prelude.{All, bytes_eq, slice_get, if◌then◌else◌}
+use Rattle.std.specs.Prelude.{bytes_eq, slice_get, if◌then◌else◌}
 use Rattle.std.proofs.lemmas.Slice.Eq.{bytes_eq-Decides}
 use Rattle.std.specs.List.{AllByRecursion}
 use Rattle.f77_printer.specs.declared.added.Added.{Added}
@@ -12,16 +12,12 @@ use Rattle.laws_analyses.specs.Laws.{AnalysesAreWhole}
 use Rattle.laws_lines.specs.LineLaws.{LinesMeanResults, AnalysesAreReadBack}
 use Rattle.laws_lines.specs.NameLaws.{NamesAreWords}
 use Rattle.laws_regions.specs.Accepted.{regions_found}
-use Rattle.roundtrip_regions.specs.Added.{AddedLinesReadBack, MeansRegion}
+use Rattle.laws_region_lines.specs.Lines.{IsRegionLine}
+use Rattle.laws_region_lines.specs.LineLaws.{RegionLinesMean, RegionLinesMeanRegions}
 use Rattle.pips_top.specs.Claimed.{AreRead, analysis_for, has_calls, lines_of}
 use Rattle.pips_top.specs.Laws.{ReadLinesMean}
 use Rattle.pips_top.specs.declared.words.Show.TheVariants as show
-use Rattle.pips_top.proofs.Programs.{is_program}
-
-each_at : {A : Type 0} (P : A → Type 0) (xs : List A) → All P xs → (j : ℕ) (a : A) → slice_get xs j ≡ Some a → P a
-each_at P [] h j a e = cc
-each_at P (x ∷ xs) h zero a e = let same : x ≡ a = cc in subst P same (h zero x (omega arith))
-each_at P (x ∷ xs) h (suc j) a e = each_at P xs (λ k d l. h (suc k) d (omega (arith, l))) j a e
+use Rattle.pips_top.proofs.Programs.{is_program, each_at}
 
 -- no name has two
 abbrev Once : List Analysis → Type 0
@@ -46,23 +42,26 @@ none_read true P xs h = tt
 none_read false P xs h = h
 
 -- the lines of an analysis
-lines_read : (g : Graph) (a : Analysis) → AddedLinesReadBack → LinesMeanResults a → AreRead g a (lines_of g (Some a))
-lines_read g a law h =
+lines_read : (g : Graph) (a : Analysis) → RegionLinesMean g.untracked a → LinesMeanResults a → AreRead g a (lines_of g (Some a))
+lines_read g a on_regions h =
     let k = a.found.known in
     let names = symbol_names k.symbols in
     let sets = regions_found g a in
     record {
       parts = refl;
       scalars = h;
-      regions = λ other readable. none_read (has_calls g.edges k.read.name) (MeansRegion names sets) (region_lines_of k.read.main k.read.body names sets) (law k.read.main k.read.body names sets other readable);
+      regions = λ none. none_read (has_calls g.edges k.read.name) (IsRegionLine names sets) (region_lines_of k.read.main k.read.body names sets) (on_regions none);
     }
 
-pub lines_from : AnalysesAreWhole → AnalysesAreReadBack → NamesAreWords → AddedLinesReadBack → ReadLinesMean
+pub lines_from : AnalysesAreWhole → AnalysesAreReadBack → NamesAreWords → RegionLinesMeanRegions → ReadLinesMean
 lines_from whole back words on_regions show.All bytes p e =
     let all = analyses (known_of p.modules p.tables) p.graph in
     let i = is_program bytes p e in
     let once = (whole p.modules p.tables p.graph i).once in
-    let read = back p.modules p.tables p.graph i.tables (words i.lines p.modules p.tables i.parsed i.tables) in
-    λ j a found. subst (λ o. AreRead p.graph a (lines_of p.graph o)) (sym (own_found all once j a found)) (lines_read p.graph a on_regions (each_at LinesMeanResults all read j a found))
+    let named = words i.lines p.modules p.tables i.parsed i.tables in
+    let read = back p.modules p.tables p.graph i.tables named in
+    let sets = on_regions p.modules p.tables p.graph i.tables named in
+    λ j a found. subst (λ o. AreRead p.graph a (lines_of p.graph o)) (sym (own_found all once j a found))
+    (lines_read p.graph a (each_at (RegionLinesMean p.graph.untracked) all sets j a found) (each_at LinesMeanResults all read j a found))
 lines_from whole back words on_regions show.Bare bytes p e = λ j a found. cc
 lines_from whole back words on_regions show.Why bytes p e = λ j a found. cc

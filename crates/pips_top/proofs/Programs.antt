@@ -1,5 +1,6 @@
 -- What reading gives is a program, as laws on runs ask.
-use Rattle.std.proofs.Common.{◌≡◌, ℕ, List, [], ◌∷◌, Result, Ok, Err, refl, sym, subst}
+use Rattle.std.proofs.Common.{◌≡◌, ℕ, zero, suc, List, [], ◌∷◌, Some, Result, Ok, Err, arith, refl, sym, subst}
+use Rattle.std.specs.Prelude.{All as Every, slice_get}
 use Rattle.fixed_form.specs.declared.line.Lines.{Lines}
 use Rattle.fixed_form.specs.Reading as lines
 use Rattle.f77_ast.specs.DeclTrees.{ParsedTree}
@@ -14,6 +15,9 @@ use Rattle.call_graph.specs.Links.{link_of}
 use Rattle.laws_programs.specs.Programs.{AreTables, IsProgram}
 use Rattle.laws_analyses.specs.Laws.{AnalysesAreWhole, ReadAnalysesHold}
 use Rattle.laws_regions.specs.Accepted.{ReadRegionsHold}
+use Rattle.laws_region_lines.specs.Laws.{RegionsAreOver, RegionsAreOverPlaces}
+use Rattle.scalar_phases.specs.Phases.{Analysis, analyses}
+use Rattle.f77_meaning.specs.Modules.{known_of}
 use Rattle.pips_top.specs.Laws.{ReadAllSaid, ReadClaimsHold}
 use Rattle.pips_top.specs.Program.{ProgramTree}
 use Rattle.pips_top.specs.Reading.{lines_or, table_or, tables_of, graph_or, linked_by, program_of, reading}
@@ -86,16 +90,22 @@ is_program text p e =
     let f = parsed_from text p e in
     of_parts f.0 f.1 p f.3 (linked_from f.1 p f.4)
 
-pub claims_from : ReadAnalysesHold → ReadRegionsHold → AnalysesAreWhole → ReadClaimsHold
-claims_from law on_regions whole All bytes p e =
+pub each_at : {A : Type 0} (P : A → Type 0) (xs : List A) → Every P xs → (j : ℕ) (a : A) → slice_get xs j ≡ Some a → P a
+each_at P [] h j a e = cc
+each_at P (x ∷ xs) h zero a e = let same : x ≡ a = cc in subst P same (h zero x (omega arith))
+each_at P (x ∷ xs) h (suc j) a e = each_at P xs (λ k d l. h (suc k) d (omega (arith, l))) j a e
+
+pub claims_from : ReadAnalysesHold → ReadRegionsHold → RegionsAreOverPlaces → AnalysesAreWhole → ReadClaimsHold
+claims_from law on_regions over whole All bytes p e =
     let i = is_program bytes p e in
     record {
       scalars = law p.modules p.tables p.graph i;
       regions = on_regions p.modules p.tables p.graph i;
+      places = each_at (RegionsAreOver p.graph.untracked) (analyses (known_of p.modules p.tables) p.graph) (over p.modules p.tables p.graph i.tables);
       no_calls = λ j a found. let m = (whole p.modules p.tables p.graph i).modules j a found in no_calls_there p.modules p.tables p.graph i.links m.0 a.found.known m.1;
     }
-claims_from law on_regions whole Bare bytes p e = tt
-claims_from law on_regions whole Why bytes p e = tt
+claims_from law on_regions over whole Bare bytes p e = tt
+claims_from law on_regions over whole Why bytes p e = tt
 
 pub all_said_from : AnalysesAreWhole → ReadAllSaid
 all_said_from law All bytes p e = law p.modules p.tables p.graph (is_program bytes p e)

@@ -16,15 +16,15 @@ use Rattle.roundtrip_modules.specs.Cards.{Card, statements_of}
 use Rattle.roundtrip_modules.proofs.Kept.{Held, each-map}
 use Rattle.roundtrip_text.specs.Texts as back
 use Rattle.roundtrip_programs.specs.Lines.{LinesArePassedOver}
-use Rattle.roundtrip_regions.specs.Laws.{RegionLinesArePassedOver}
+use Rattle.laws_region_lines.specs.LineLaws.{AllRegionLinesPass}
 use Rattle.roundtrip_programs.specs.Programs.{AreTables, IsProgram, IsFormed, ProgramsReadBack, NamesAreShown}
 use Rattle.pips_top.specs.Claimed.{said_of, lines_for}
 use Rattle.pips_top.specs.Laws.{ReadWrittenBack}
 use Rattle.pips_top.specs.Program.{ProgramTree}
 use Rattle.pips_top.specs.Reading.{lines_or, table_or, tables_of, graph_or, linked_by, program_of, reading}
 use Rattle.pips_top.specs.Written.{parsed_text, modules_text}
-use Rattle.pips_top.proofs.AddedLines.{KnownShown, said_shown, all_over}
-use Rattle.pips_top.proofs.Programs.{Linked, all_tables, linked_from, parsed_from}
+use Rattle.pips_top.proofs.AddedLines.{KnownShown, said_passes, all_over}
+use Rattle.pips_top.proofs.Programs.{Linked, all_tables, linked_from, parsed_from, is_program}
 
 -- ---- what was read
 
@@ -78,12 +78,13 @@ unfolding reading
 reading_is text ms ts g is =
     ap (λ r. and_then (and_then (lines_or r) parse_of) program_of) is.read.lined ∙ ap (λ r. and_then r program_of) is.read.parsed ∙ program_is ms ts g is.tabled is.linked
 
-pub back_from : ProgramsReadBack → LinesArePassedOver → RegionLinesArePassedOver → NamesAreShown → ReadWrittenBack
+pub back_from : ProgramsReadBack → LinesArePassedOver → AllRegionLinesPass → NamesAreShown → ReadWrittenBack
 back_from programs lines on_regions names show bytes p e =
     let is = is_read bytes p e in
     let known = known_shown names p.modules p.tables (all_built is.read.lines p.modules is.read.parsed) is.tabled in
     let all = said_of show p in
-    let b = programs bytes p.modules p.tables p.graph (λ m. lines_for p.graph all m.module_read.name) is (all_over lines on_regions p.graph all (said_shown show p known) p.modules) in
+    let passes = said_passes on_regions show p (is_program bytes p e).tables known in
+    let b = programs bytes p.modules p.tables p.graph (λ m. lines_for p.graph all m.module_read.name) is (all_over lines p.graph all passes p.modules) in
     let q : ProgramTree = record { modules = b.again; tables = p.tables; graph = p.graph } in (
       q,
       ap reading (text_same p.graph all p.modules) ∙ reading_is (back.modules_text (λ m. lines_for p.graph all m.module_read.name) p.modules) b.again p.tables p.graph b.program,

@@ -14,8 +14,8 @@ use Rattle.laws_analyses.specs.Claims.{AnalysesHold}
 use Rattle.laws_analyses.specs.Coverage.{AreWhole}
 use Rattle.laws_lines.specs.Lines.{EachMeans}
 use Rattle.laws_regions.specs.Accepted.{AllRegionsHold, regions_found}
-use Rattle.roundtrip_regions.specs.Printed.{AreOther}
-use Rattle.roundtrip_regions.specs.Added.{AreReadable, MeansRegion}
+use Rattle.laws_region_lines.specs.Laws.{RegionsAreOver}
+use Rattle.laws_region_lines.specs.Lines.{HaveNoPhi, IsRegionLine}
 use Rattle.pips_top.specs.Program.{ProgramTree}
 use Rattle.pips_top.specs.declared.words.Show.{Show}
 use Rattle.pips_top.specs.declared.words.Show.TheVariants.{All, Bare, Why}
@@ -58,6 +58,8 @@ lines_for g as' x = lines_of g (analysis_for as' x)
 pub record AllHold (ks : List Known) (g : Graph) (as' : List Analysis) : Type 0 where
   pub scalars : InEveryRun ks g (AnalysesHold g as')
   pub regions : InEveryRun ks g (AllRegionsHold ks g as')
+  -- a region has one system, on the subscripts and on analysed scalars where the statement begins; it names no other variable
+  pub places : (j : ℕ) (a : Analysis) → slice_get as' j ≡ Some a → RegionsAreOver g.untracked a
   pub no_calls : (j : ℕ) (a : Analysis) → slice_get as' j ≡ Some a → has_calls g.edges a.found.known.read.name ≡ false → list_calls a.found.known.read.body ≡ []
 
 -- what is said is true
@@ -73,12 +75,12 @@ SaysAll Bare p = Unit {0}
 SaysAll Why p = Unit {0}
 
 -- lines are those of an analysis, on scalars and behind them on regions; each is read, by the names of the symbols, as just the precondition or the transformer that was found
--- there, and as a region that was found there, where no symbol is named as a subscript, PHI1 to PHI7, and the regions are such as their lines can tell
+-- there, and as just a region that was found there, where no symbol of the module is named as a subscript, PHI1 to PHI7
 pub record AreRead (g : Graph) (a : Analysis) (lines : List Added) : Type 0 where
   pub parts : lines ≡ scalar_lines_found a ++ region_lines_found g a
   pub scalars : EachMeans a (scalar_lines_found a)
   pub regions : (let names = symbol_names a.found.known.symbols in
-      AreOther names → AreReadable names (regions_found g a) → AllByRecursion (MeansRegion names (regions_found g a)) (region_lines_found g a))
+      HaveNoPhi names → AllByRecursion (IsRegionLine names (regions_found g a)) (region_lines_found g a))
 
 -- and each line that is added to the module of an analysis is read so
 abbrev pub LinesMean : Show → ProgramTree → Type 0

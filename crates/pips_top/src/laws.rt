@@ -3,17 +3,20 @@ ghost use Rattle.pips_top.specs.Laws.{ReadAllSaid, ReadClaimsHold, ReadLinesMean
 
 use laws_analyses::{analyses_are_whole, read_analyses_hold};
 use laws_lines::{analyses_are_read_back, names_are_words};
+use laws_region_lines::{
+    all_region_lines_pass, region_lines_mean_regions, regions_are_over_places,
+};
 use laws_regions::read_regions_hold;
 use roundtrip_programs::{lines_are_passed_over, names_are_shown, programs_read_back};
-use roundtrip_regions::{added_lines_read_back, region_lines_are_passed_over};
 
 /// What is said of a program that was read holds in every run of it, up to its end or its first fault: on scalars, and on regions of modules
-/// without CALLs.
+/// without CALLs, whose systems name subscripts and analysed scalars alone.
 pub fn claims_hold()
     ensures { ReadClaimsHold }
 {
     read_analyses_hold();
     read_regions_hold();
+    regions_are_over_places();
     analyses_are_whole();
 }
 
@@ -31,7 +34,7 @@ pub fn lines_mean_results()
     analyses_are_whole();
     analyses_are_read_back();
     names_are_words();
-    added_lines_read_back();
+    region_lines_mean_regions();
 }
 
 /// What is written of a program that was read is read again as the same program.
@@ -40,6 +43,6 @@ pub fn written_reads_back()
 {
     programs_read_back();
     lines_are_passed_over();
-    region_lines_are_passed_over();
+    all_region_lines_pass();
     names_are_shown();
 }
