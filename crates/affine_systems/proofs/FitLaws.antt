@@ -269,7 +269,7 @@ collapsed_normal : (q : Bool) (is : List Item) → Has (IsTidy q) is → AreNorm
 collapsed_normal q is h =
     if_cases (λ (js : List Item). AreNormal q (rows_of js)) (any_false is) (false_item ∷ []) is (λ e. inl refl) (λ e. inr (none_false q is h e))
 
-length-rows_of : (is : List Item) → length (rows_of is) ≡ length is
+pub length-rows_of : (is : List Item) → length (rows_of is) ≡ length is
 length-rows_of [] = refl
 length-rows_of (i ∷ is) = ap suc (length-rows_of is)
 

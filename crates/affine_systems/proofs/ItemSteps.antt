@@ -67,7 +67,7 @@ with_normal-append i Always xs ys = refl
 with_normal-append i Never xs ys = refl
 with_normal-append i TooBig xs ys = refl
 
-normal_items-push : (q : Bool) (xs : List Item) (i : Item) → normal_items q (xs ++ i ∷ []) ≡ normal_items q xs ++ with_normal i (normal q i.row) []
+pub normal_items-push : (q : Bool) (xs : List Item) (i : Item) → normal_items q (xs ++ i ∷ []) ≡ normal_items q xs ++ with_normal i (normal q i.row) []
 normal_items-push q [] i = refl
 normal_items-push q (x ∷ xs) i =
     ap (with_normal x (normal q x.row)) (normal_items-push q xs i) ∙ with_normal-append x (normal q x.row) (normal_items q xs) (with_normal i (normal q i.row) [])
@@ -122,7 +122,7 @@ item_at P (i ∷ is) zero d h l = h.0
 item_at P (i ∷ is) (suc k) d h l = item_at P is k d h.1 (omega arith)
 
 -- an item that an opposite leaves as it is
-against-stays : (n : ℕ) (i j : Item) → pos 0 <ℤ (i.row.bound +ℤ j.row.bound) → against n i j ≡ i
+pub against-stays : (n : ℕ) (i j : Item) → pos 0 <ℤ (i.row.bound +ℤ j.row.bound) → against n i j ≡ i
 against-stays n i j h =
     let s = i.row.bound +ℤ j.row.bound in
     let a : int_lt s (pos 0) ≡ false = false_from_ne_true (int_lt s (pos 0)) (λ e. omega (arith, ints, h, e)) in

@@ -23,6 +23,11 @@ pub mod PivotSteps
 pub mod PlaceSteps
 pub mod ItemSteps
 pub mod SortLaws
+pub mod ClosedLaws
+pub mod LoneSteps
+pub mod FormLaws
+pub mod PairLaws
+pub mod SearchSteps
 pub mod ArrangeSteps
 pub mod Orders
 pub mod Factors

@@ -1,6 +1,6 @@
 -- Steps of the loops that fill tables, and what an empty place says.
-use Rattle.std.proofs.Common.{◌≡◌, ℕ, suc, ◌+◌, ◌<◌, ◌≤◌, ◌≢◌, Bool, true, false, not, ◌&&◌, ◌||◌, List, [], ◌∷◌, ◌++◌, length, take, drop, get_or, take_all, drop-cons, drop_of_length-le, add-one, ◌⊎◌, inl, inr, ⊎_elim, ℤ, pos, neg_ℤ, int_eq, int_lt, arith, ap, refl, sym, subst, ◌∙◌}
-use Rattle.std.specs.Prelude.{if◌then◌else◌, min, nat_lt, slice_index}
+use Rattle.std.proofs.Common.{◌≡◌, ℕ, zero, suc, ◌+◌, ◌*◌, ◌<◌, ◌≤◌, ◌≢◌, Bool, true, false, not, ◌&&◌, ◌||◌, List, [], ◌∷◌, ◌++◌, length, take, drop, get_or, take_all, drop-cons, drop_of_length-le, add-one, ◌⊎◌, inl, inr, ⊎_elim, ℤ, pos, negsuc, neg_ℤ, unsigned_abs, int_eq, int_lt, arith, ap, ap₂, refl, sym, subst, ◌∙◌}
+use Rattle.std.specs.Prelude.{◌%◌, if◌then◌else◌, min, nat_lt, slice_index}
 use Rattle.std.proofs.lemmas.List.{take_more}
 use Rattle.std.proofs.lemmas.Int.{ints}
 use Rattle.std.proofs.lemmas.Bool.{cases_Bool, cases_eq, and_parts, or_parts, false_from_ne_true}
@@ -27,10 +27,10 @@ absent : (v : Var) (ts : List Term) → has_var v ts ≡ false → factor_of v t
 absent v [] e = factor_of-nil v
 absent v (t ∷ ts) e = let h = or_parts (var_eq v t.var) (has_var v ts) e in factor_of-there v t ts h.0 ∙ absent v ts h.1
 
-has_of_occurs : (v : Var) (r : Row) → occurs v r ≡ true → has_var v r.terms ≡ true
+pub has_of_occurs : (v : Var) (r : Row) → occurs v r ≡ true → has_var v r.terms ≡ true
 has_of_occurs v r e = ⊎_elim (λ t. t) (λ f. clash (occurs v r) e (ap (λ z. not (int_eq z (pos 0))) (absent v r.terms f))) (cases_Bool (has_var v r.terms))
 
-has_pushed : (v : Var) (ts : List Term) (t : Term) → has_var v (ts ++ t ∷ []) ≡ true → (has_var v ts ≡ true) ⊎ (var_eq v t.var ≡ true)
+pub has_pushed : (v : Var) (ts : List Term) (t : Term) → has_var v (ts ++ t ∷ []) ≡ true → (has_var v ts ≡ true) ⊎ (var_eq v t.var ≡ true)
 has_pushed v [] t e = go (var_eq v t.var) e where
   go : (b : Bool) → (b || false) ≡ true → (false ≡ true) ⊎ (b ≡ true)
   go true h = inr refl
@@ -146,11 +146,26 @@ sided_end table is k l s = subst (λ js. Sided table js) (take_all k is l) s
 
 -- opposite rows share the number of their variables, and their last factors have opposite signs
 
-pub key-more : (n : ℕ) (ts : List Term) (k : ℕ) (d : Term) → k < length ts → key_of n (drop k ts) ≡ key_of (key_after n (get_or ts k d).var) (drop (k + 1) ts)
+pub key-more : (n : ℕ) (ts : List Term) (k : ℕ) (d : Term) → k < length ts → key_of n (drop k ts) ≡ key_of (key_after n (get_or ts k d)) (drop (k + 1) ts)
 key-more n ts k d h = rw (add-one k) (ap (key_of n) (drop-cons ts k d h))
 
 pub key-end : (n : ℕ) (ts : List Term) (k : ℕ) → length ts ≤ k → key_of n (drop k ts) ≡ n
 key-end n ts k h = ap (key_of n) (drop_of_length-le ts h)
+
+size_of_less : (n : ℕ) → unsigned_abs (neg_ℤ (pos n)) ≡ n
+size_of_less zero = refl
+size_of_less (suc n) = refl
+
+size_turned : (z : ℤ) → unsigned_abs (neg_ℤ z) ≡ unsigned_abs z
+size_turned (pos n) = size_of_less n
+size_turned (negsuc n) = refl
+
+same_key : (n : ℕ) (t u : Term) → is_opposite t u ≡ true → key_after n t ≡ key_after n u
+unfolding key_after
+same_key n t u o =
+    let p = and_parts (var_eq t.var u.var) (int_eq t.factor (neg_ℤ u.factor)) o in
+    let f : unsigned_abs t.factor ≡ unsigned_abs u.factor = ap unsigned_abs (int_eq-true t.factor (neg_ℤ u.factor) p.1) ∙ size_turned u.factor in
+    ap₂ (λ (v : Var) (m : ℕ). (31 * n + 7 * (m % 256) + place_of v) % 2048) (var_eq-true t.var u.var p.0) f
 
 keys : (n : ℕ) (ts us : List Term) → are_opposite_terms ts us ≡ true → key_of n ts ≡ key_of n us
 keys n [] [] o = refl
@@ -158,8 +173,7 @@ keys n [] (u ∷ us) o = cc
 keys n (t ∷ ts) [] o = cc
 keys n (t ∷ ts) (u ∷ us) o =
     let p = and_parts (is_opposite t u) (are_opposite_terms ts us) o in
-    let v = var_eq-true t.var u.var (and_parts (var_eq t.var u.var) (int_eq t.factor (neg_ℤ u.factor)) p.0).0 in
-    ap (λ (w : Var). key_of (key_after n w) ts) v ∙ keys (key_after n u.var) ts us p.1
+    ap (λ m. key_of m ts) (same_key n t u p.0) ∙ keys (key_after n u) ts us p.1
 
 signs : (x y : ℤ) → x ≡ neg_ℤ y → int_eq x (pos 0) ≡ false → int_lt y (pos 0) ≡ not (int_lt x (pos 0))
 signs x y h z = go (int_lt x (pos 0)) (int_lt y (pos 0)) refl refl where
@@ -198,7 +212,7 @@ may_parts : (e b c : Bool) → e ≡ false → (not e && (b || c)) ≡ false →
 may_parts true b c h m = clash true refl h
 may_parts false b c h m = or_parts b c m
 
-apart : (table : List ℕ) (r s : Row) → Ascends r.terms → may_face table r ≡ false → 1 ≤ slice_index table (side_of s.terms) → are_opposite r s ≡ false
+pub apart : (table : List ℕ) (r s : Row) → Ascends r.terms → may_face table r ≡ false → 1 ≤ slice_index table (side_of s.terms) → are_opposite r s ≡ false
 apart table r s a m h =
     false_from_ne_true (are_opposite r s) (λ o.
     let p = and_parts (not (r.equal || s.equal)) (are_opposite_terms r.terms s.terms) o in

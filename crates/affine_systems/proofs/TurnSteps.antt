@@ -31,8 +31,21 @@ limit_is : turn_limit ≡ 17592186044416
 unfolding turn_limit
 limit_is = refl
 
-pub turns_begin : (q : Bool) (is : List Item) (m : ℕ) → m ≡ 17592186044416 → ItemsGiven is → TurnsLeft q is false m (tidy_items q is)
-turns_begin q is m e h = record { given = h; turns = λ n s. ap (λ k. and_lost false (tidy_turns k q is)) (s ∙ (e ∙ sym limit_is)) }
+pub turns_start : (q : Bool) (is : List Item) (m : ℕ) → ItemsGiven is → TurnsLeft q is false m (tidy_turns m q is)
+turns_start q is m h = record { given = h; turns = λ n s. ap (λ k. and_lost false (tidy_turns k q is)) s }
+
+pub all_turns : (q : Bool) (is : List Item) → tidy_turns 17592186044416 q is ≡ tidy_items q is
+all_turns q is = ap (λ k. tidy_turns k q is) (sym limit_is)
+
+-- the first round
+pub first_turn : (q : Bool) (is : List Item) (n : ℕ) → suc n ≡ turn_limit → tidy_items q is ≡ after_round (λ js. tidy_turns n q js) (round q is) (next_pivot (round q is).items)
+first_turn q is n e = ap (λ k. tidy_turns k q is) (sym e)
+
+pub last_turns : (n : ℕ) → suc n ≡ 17592186044416 → suc n ≡ turn_limit
+last_turns n e = e ∙ sym limit_is
+
+pub given_after : (q : Bool) (is : List Item) (c : Cut) → ItemsGiven is → next_pivot (round q is).items ≡ Some c → ItemsGiven (pivoted (round q is).items c)
+given_after q is c h e = next_has IsGiven (IsTidy q) q (tidy_lasts q) is c h e
 
 module _ (q : Bool) (is : List Item) (lost : Bool) (left : ℕ) (goal : Tidied) (h : TurnsLeft q is lost left goal) (some : List Item) (less : Bool) (r : some ≡ (round q is).items) (l : less ≡ is_lossy q is) where
   -- the rounds from this one on, by where the next pivot is

@@ -5,6 +5,8 @@ pub mod Normal
 pub mod Items
 pub mod Tidy
 pub mod Places
+pub mod Lone
+pub mod Forms
 pub mod Eliminate
 pub mod Calls
 pub mod Given

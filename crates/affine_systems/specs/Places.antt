@@ -1,5 +1,5 @@
 -- Places of variables and of rows in a table of 4,096 bytes. Few variables of a system share a place.
-use Rattle.std.specs.Prelude.{◌≡◌, ℕ, suc, min, ◌+◌, ◌*◌, ◌%◌, ◌≤◌, Bool, true, not, ◌&&◌, ◌||◌, if◌then◌else◌, nat_lt, List, [], ◌∷◌, slice_index}
+use Rattle.std.specs.Prelude.{◌≡◌, ℕ, suc, min, ◌+◌, ◌*◌, ◌%◌, ◌≤◌, Bool, true, not, ◌&&◌, ◌||◌, if◌then◌else◌, nat_lt, List, [], ◌∷◌, slice_index, unsigned_abs}
 use Rattle.std.specs.List.{list_any}
 use Rattle.affine_systems.specs.declared.row.Var.{Var}
 use Rattle.affine_systems.specs.declared.row.Term.{Term}
@@ -25,15 +25,15 @@ pub record Noted (old new : List ℕ) (ts : List Term) : Type 0 where
 pub record Covers (table : List ℕ) (is : List Item) : Type 0 where
   pub twice : (v : Var) → nat_lt 1 (times v is) ≡ true → 2 ≤ slice_index table (place_of v)
 
--- a number of the variables of terms, below 2048
-unfoldable pub key_after : ℕ → Var → ℕ
-key_after n v = (31 * n + place_of v) % 2048
+-- a number of the variables of terms and of what their factors are but for the signs, below 2048
+unfoldable pub key_after : ℕ → Term → ℕ
+key_after n t = (31 * n + 7 * (unsigned_abs t.factor % 256) + place_of t.var) % 2048
 
 abbrev pub key_of : ℕ → List Term → ℕ
 key_of n [] = n
-key_of n (t ∷ ts) = key_of (key_after n t.var) ts
+key_of n (t ∷ ts) = key_of (key_after n t) ts
 
--- the place of a row, by its variables and the sign of its last factor
+-- the place of a row, by its terms but for the signs, and by the sign of its last factor
 abbrev pub side_of : List Term → ℕ
 side_of ts = if last_is_negative ts then 2048 + key_of 0 ts else key_of 0 ts
 

@@ -1,16 +1,21 @@
 //! Elimination of a variable.
-ghost use Rattle.std.specs.Prelude.{◌≡◌, ◌++◌, ◌+◌, ◌*◌, ◌<◌, ◌≤◌, ◌^◌, length, true, false, IfOk};
-ghost use Rattle.affine_systems.specs.Given.{IsSmallRow, ItemsSmall, ItemsFit};
-ghost use Rattle.affine_systems.specs.Items.{next_made as next_made_is, cut_of, others, FindsCut};
+ghost use Rattle.std.specs.Prelude.{◌≡◌, ◌++◌, ◌+◌, ◌*◌, ◌<◌, ◌≤◌, ◌^◌, length, true, false, List as Elements, IfOk, OnOk};
+ghost use Rattle.affine_systems.specs.Given.{IsSmallRow, ItemsSmall, ItemsFit, AreNormal};
+ghost use Rattle.affine_systems.specs.declared.items.Item.{Item as AnItem};
+ghost use Rattle.affine_systems.specs.Lone.{Rises};
+ghost use Rattle.affine_systems.specs.Forms.{Stands, IsForm};
+ghost use Rattle.affine_systems.specs.Items.{rows_of, next_made as next_made_is, cut_of, others, FindsCut};
 ghost use Rattle.affine_systems.specs.Tidy.{tidy_items as tidy_items_is};
-ghost use Rattle.affine_systems.specs.Eliminate.{AreLower, any_has as any_has_is, has_unit as has_unit_is, is_unit_on, is_equal_on, is_lower, is_upper, is_without, keep, pair as pair_is, with_uppers as with_uppers_is, pairs as pairs_is, all_have_unit as all_have_unit_is, every_pair_unit as every_pair_unit_is, all_cancelled, elimination_of as elimination_of_is, paired_off, eliminate_item as eliminate_item_is};
+ghost use Rattle.affine_systems.specs.Eliminate.{AreLower, any_has as any_has_is, has_unit as has_unit_is, is_unit_on as is_unit_on_is, is_equal_on, is_lower, is_upper, is_without, keep, pair as pair_is, with_uppers as with_uppers_is, pairs as pairs_is, all_have_unit as all_have_unit_is, every_pair_unit as every_pair_unit_is, all_cancelled, elimination_of as elimination_of_is, paired_off, eliminate_item as eliminate_item_is};
 
 use crate::Var;
-use crate::false_rows::next_made;
+use crate::closed::all_rise;
+use crate::false_rows::{any_false, next_made};
 use crate::items::{Eliminated, Item, Items, Tidied};
+use crate::pairing::{Form, add, finish};
 use crate::pivots::{cancel_all, is_unit};
 use crate::rows::{combine, factor, occurs};
-use crate::tidying::tidy_items;
+use crate::tidying::{cut_form, tidy_form, tidy_items};
 use fx_lists::List;
 use std::alloc::{AllocError as Memory, Global};
 use std::cmp::Ordering;
@@ -37,14 +42,22 @@ fn has_unit(item: &Item, v: Var) -> bool
     is_unit(factor(&item.row, v))
 }
 
+/// Whether it is an equal row with factor 1 or -1 on v.
+pub fn is_unit_on(item: &Item, v: Var) -> bool
+    requires { IsSmallRow item.now.row }
+    ensures { result ≡ is_unit_on_is v item.now }
+{
+    item.row.equal && has_unit(item, v)
+}
+
 #[tactic(auto, using(crate::proofs::PivotSteps::cut_loop))]
 /// The place of the first equal row with factor 1 or -1 on v.
 fn find_unit(items: &[Item], v: Var) -> Option<usize>
     requires { ItemsSmall items.now }
-    ensures { FindsCut (is_unit_on v) items.now result }
+    ensures { FindsCut (is_unit_on_is v) items.now result }
 {
     for (i, item) in items.iter().enumerate() {
-        if item.row.equal && has_unit(item, v) {
+        if is_unit_on(item, v) {
             return Some(i);
         }
     }
@@ -227,26 +240,96 @@ fn eliminate_by(
     Ok(elimination_of(exact, false, t))
 }
 
-/// The rows without v and the pairs of lower and upper rows; and whether in every pair one factor is 1 or -1.
-fn all_pairs(alloc: Global, v: Var, items: Vec<Item>) -> Result<(Vec<Item>, bool), Memory>
-    requires len { length items.items ≤ 512 }
-    requires each { ItemsSmall items.items }
-    ensures items { IfOk result (λ r. r.0.items ≡ keep (is_without v) items.items ++ pairs_is (next_made_is items.items) v (keep (is_lower v) items.items) (keep (is_upper v) items.items)) }
-    ensures exact { IfOk result (λ r. r.1 ≡ every_pair_unit_is v (keep (is_lower v) items.items) (keep (is_upper v) items.items)) }
+/// Takes in the pairs of a lower row with each upper one.
+fn add_uppers(
+    alloc: Global,
+    rational: bool,
+    made: u64,
+    v: Var,
+    low: &Item,
+    ups: &[Item],
+    form: &mut Form,
+) -> Result<(), Memory>
+    requires room { made + length ups.now < 2 ^ 64 }
+    requires lower { is_lower v low.now ≡ true }
+    requires one { IsSmallRow low.now.row }
+    requires each { ItemsSmall ups.now }
+    requires rises { Rises (rows_of form.now.items.items) }
+    ensures stands { OnOk result ((is : Elements AnItem) → Stands rational is form.old → Stands rational (is ++ with_uppers_is made v low.now ups.now) form.new) }
+    ensures rises { OnOk result (Rises (rows_of form.new.items.items)) }
 {
-    let made = next_made(items.as_slice(), 512 * 512)?;
-    let sides = split_by_sign(alloc, v, items)?;
-    let exact = every_pair_unit(sides.lows.as_slice(), sides.ups.as_slice(), v);
-    let mut rest = sides.rest;
-    pairs(
+    for i in 0..ups.len() {
+        let item = pair(alloc, made + i as u64, v, low, &ups[i])?;
+        add(rational, form, item)?;
+    }
+    Ok(())
+}
+
+/// Takes in the pairs of each lower row with each upper one.
+fn add_pairs(
+    alloc: Global,
+    rational: bool,
+    made: u64,
+    v: Var,
+    lows: &[Item],
+    ups: &[Item],
+    form: &mut Form,
+) -> Result<(), Memory>
+    requires room { made + length lows.now * length ups.now < 2 ^ 64 }
+    requires lower { AreLower v lows.now }
+    requires one { ItemsSmall lows.now }
+    requires two { ItemsSmall ups.now }
+    requires rises { Rises (rows_of form.now.items.items) }
+    ensures stands { OnOk result ((is : Elements AnItem) → Stands rational is form.old → Stands rational (is ++ pairs_is made v lows.now ups.now) form.new) }
+    ensures rises { OnOk result (Rises (rows_of form.new.items.items)) }
+{
+    let mut next = made;
+    for low in lows {
+        add_uppers(alloc, rational, next, v, low, ups, form)?;
+        next += ups.len() as u64;
+    }
+    Ok(())
+}
+
+/// The form of rows and the pairs of lower and upper rows. Where the rows are in order it is filled by one pair after the other; else the
+/// pairs are sorted.
+fn paired_form(
+    alloc: Global,
+    rational: bool,
+    made: u64,
+    v: Var,
+    sides: Sides,
+) -> Result<(Vec<Item>, bool), Memory>
+    requires room { made + length sides.lows.items * length sides.ups.items < 2 ^ 64 }
+    requires lower { AreLower v sides.lows.items }
+    requires one { ItemsSmall sides.lows.items }
+    requires two { ItemsSmall sides.ups.items }
+    requires len { length sides.rest.items ≤ 512 }
+    requires normal { AreNormal rational (rows_of sides.rest.items) }
+    ensures { IfOk result (λ r. IsForm rational (sides.rest.items ++ pairs_is made v sides.lows.items sides.ups.items) r.0.items r.1) }
+{
+    let Sides { lows, ups, rest } = sides;
+    if any_false(rest.as_slice()) || !all_rise(rest.as_slice()) {
+        let mut rest = rest;
+        pairs(alloc, made, v, lows.as_slice(), ups.as_slice(), &mut rest)?;
+        return cut_form(alloc, rational, rest);
+    }
+    let mut form = Form {
+        items: rest,
+        too_big: false,
+        is_false: false,
+        is_over: false,
+    };
+    add_pairs(
         alloc,
+        rational,
         made,
         v,
-        sides.lows.as_slice(),
-        sides.ups.as_slice(),
-        &mut rest,
+        lows.as_slice(),
+        ups.as_slice(),
+        &mut form,
     )?;
-    Ok((rest, exact))
+    finish(alloc, form)
 }
 
 /// Eliminates by pairs of lower and upper rows.
@@ -254,8 +337,11 @@ fn pair_off(alloc: Global, rational: bool, v: Var, items: Vec<Item>) -> Result<E
     requires { ItemsFit rational items.items }
     ensures { IfOk result (λ e. e ≡ paired_off rational v items.items) }
 {
-    let (rest, exact) = all_pairs(alloc, v, items)?;
-    let t = tidy_items(alloc, rational, List::from_vec(rest))?;
+    let made = next_made(items.as_slice(), 512 * 512)?;
+    let sides = split_by_sign(alloc, v, items)?;
+    let exact = every_pair_unit(sides.lows.as_slice(), sides.ups.as_slice(), v);
+    let (form, lost) = paired_form(alloc, rational, made, v, sides)?;
+    let t = tidy_form(alloc, rational, form, lost)?;
     Ok(elimination_of(exact, true, t))
 }
 

@@ -32,7 +32,7 @@ fn merged_row(alloc: Global, row: &Row, other: &Row) -> Result<Row, Memory>
 }
 
 /// The sum of two small bounds.
-fn total(row: &Row, other: &Row) -> i128
+pub fn total(row: &Row, other: &Row) -> i128
     requires one { IsSmallRow row.now }
     requires two { IsSmallRow other.now }
     ensures { result ≡ row.now.bound +ℤ other.now.bound }

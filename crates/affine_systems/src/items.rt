@@ -3,7 +3,8 @@
 use crate::Row;
 pub use crate::elimination::eliminate_item;
 pub use crate::false_rows::{any_false, copy_item, copy_row};
-pub use crate::systems::{copy_rows, items_of, rows_of};
+pub use crate::lone::without_lone;
+pub use crate::systems::{copy_rows, items_of, rows_of, tidy_rows};
 pub use crate::tidying::tidy_items;
 use fx_lists::List;
 

@@ -2,11 +2,14 @@
 #![tactic(auto)]
 
 mod calls;
+mod closed;
 mod elimination;
 mod facing;
 mod false_rows;
+mod lone;
 mod normal;
 mod order;
+mod pairing;
 mod pivots;
 mod places;
 mod row;

@@ -1,5 +1,5 @@
 //! The normal form of a row.
-ghost use Rattle.std.specs.Prelude.{true, false, neg_ℤ, [], ◌≡◌, ◌<◌, ◌/◌, List, pos, if◌then◌else◌};
+ghost use Rattle.std.specs.Prelude.{true, false, neg_ℤ, [], ◌≡◌, ◌<◌, ◌/◌, ◌%◌, List, pos, if◌then◌else◌};
 ghost use Rattle.std.specs.Int.{int_div_euclid};
 ghost use Rattle.affine_systems.specs.Terms.{negated_terms, Ascends};
 ghost use Rattle.affine_systems.specs.Given.{IsNormal};
@@ -66,6 +66,18 @@ fn quotient(n: u128, g: u128) -> u128
         (n as u64 / g as u64) as u128
     } else {
         n / g
+    }
+}
+
+/// The rest of a division, which is faster where both numbers have one word.
+fn remainder(n: u128, g: u128) -> u128
+    requires { 0 < g }
+    ensures { result ≡ n % g }
+{
+    if n < 1 << 64 && g < 1 << 64 {
+        (n as u64 % g as u64) as u128
+    } else {
+        n % g
     }
 }
 
@@ -190,7 +202,7 @@ pub fn normalise_as(rational: bool, row: &mut Row) -> Norm
         return without_terms(row.equal, row.bound);
     }
     let g = divisor(row.terms.as_slice(), start_of(rational, row.bound));
-    if row.equal && row.bound.unsigned_abs() % g != 0 {
+    if row.equal && remainder(row.bound.unsigned_abs(), g) != 0 {
         return Norm::False;
     }
     if !is_small(floor_div(row.bound, g)) || !are_small_divided(row.terms.as_slice(), g) {

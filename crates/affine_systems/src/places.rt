@@ -1,5 +1,5 @@
 //! Tables with a place for each variable or row, filled in one walk over the rows: most searches among all rows end there.
-ghost use Rattle.std.specs.Prelude.{◌≡◌, ◌≢◌, ◌<◌, ◌≤◌, ℕ, suc, min, nat_lt, slice_index};
+ghost use Rattle.std.specs.Prelude.{◌≡◌, ◌≢◌, ◌<◌, ◌≤◌, ◌%◌, ℕ, suc, min, nat_lt, slice_index, unsigned_abs};
 ghost use Rattle.affine_systems.specs.Places.{place_of, key_after, key_of, side_of as side_is, far_side_of, may_face as may_face_is, Noted, Covers, Sided};
 
 use crate::items::Item;
@@ -12,7 +12,7 @@ pub type Places = [u8; 4096];
 
 #[tactic(auto, unfolding(crate::specs::Places::place_of))]
 /// The place of a variable.
-fn place(v: Var) -> usize
+pub fn place(v: Var) -> usize
     ensures defined { result ≡ place_of v }
     ensures within { result < 4096 }
 {
@@ -74,23 +74,31 @@ pub fn is_rare(table: &Places, v: Var) -> bool
     table[place(v)] < 2
 }
 
-#[tactic(auto, unfolding(crate::specs::Places::key_after))]
-fn next_key(n: usize, v: Var) -> usize
-    requires { n < 2048 }
-    ensures defined { result ≡ key_after n v }
-    ensures within { result < 2048 }
+/// The last bits of a factor without its sign.
+fn size(factor: i128) -> usize
+    ensures defined { result ≡ unsigned_abs factor % 256 }
+    ensures within { result < 256 }
 {
-    (31 * n + place(v)) % 2048
+    (factor.unsigned_abs() % 256) as usize
 }
 
-/// A number of the variables, which opposite rows share.
+#[tactic(auto, unfolding(crate::specs::Places::key_after))]
+fn next_key(n: usize, t: Term) -> usize
+    requires { n < 2048 }
+    ensures defined { result ≡ key_after n t }
+    ensures within { result < 2048 }
+{
+    (31 * n + 7 * size(t.factor) + place(t.var)) % 2048
+}
+
+/// A number of the terms but for the signs, which opposite rows share.
 fn key(terms: &[Term]) -> usize
     ensures defined { result ≡ key_of 0 terms.now }
     ensures within { result < 2048 }
 {
     let mut n = 0;
     for t in terms {
-        n = next_key(n, t.var);
+        n = next_key(n, *t);
     }
     n
 }
@@ -126,7 +134,7 @@ fn note_side(table: &mut Places, terms: &[Term])
     note(table, side(terms));
 }
 
-/// The table of rows: not 0 at the place of each, by its variables and the sign of its last factor.
+/// The table of rows: not 0 at the place of each, by its terms but for the signs and the sign of its last factor.
 pub fn sides(items: &[Item]) -> Places
     ensures { Sided result items.now }
 {

@@ -1,7 +1,9 @@
 //! Tidying: normal rows, one for each list of terms, in order, with the pivots of equal rows substituted.
-ghost use Rattle.std.specs.Prelude.{◌≡◌, IfOk};
+ghost use Rattle.std.specs.Prelude.{◌≡◌, List as Elements, IfOk};
 ghost use Rattle.affine_systems.specs.Given.{ItemsGiven, ItemsSmall, ItemsFit};
-ghost use Rattle.affine_systems.specs.Tidy.{normal_items as normal_items_is, any_too_big, in_form as in_form_is, merged, round as round_is, is_lossy, tidy_items as tidy_items_is};
+ghost use Rattle.affine_systems.specs.Tidy.{normal_items as normal_items_is, any_too_big, in_form as in_form_is, merged, round as round_is, is_lossy, and_lost as and_lost_is, tidy_turns, tidy_items as tidy_items_is};
+ghost use Rattle.affine_systems.specs.declared.items.Item.{Item as AnItem};
+ghost use Rattle.affine_systems.specs.Forms.{IsForm, HasForm};
 
 use crate::Norm;
 use crate::facing::face_all;
@@ -61,6 +63,20 @@ fn merge(alloc: Global, items: Vec<Item>) -> Result<Vec<Item>, Memory>
     arrange(alloc, items)
 }
 
+/// Normal rows in order, one for each list of terms, 512 at most; and whether a row was lost.
+pub fn cut_form(
+    alloc: Global,
+    rational: bool,
+    items: Vec<Item>,
+) -> Result<(Vec<Item>, bool), Memory>
+    ensures { IfOk result (λ r. IsForm rational items.items r.0.items r.1) }
+{
+    let (mut items, too_big) = in_form(alloc, rational, items)?;
+    let lost = too_big || items.len() > ROWS;
+    items.truncate(ROWS);
+    Ok((items, lost))
+}
+
 #[tactic(auto, using(crate::proofs::TurnSteps::small_form))]
 /// One round, and whether a row was lost in it.
 fn round(alloc: Global, rational: bool, items: Vec<Item>) -> Result<(Vec<Item>, bool), Memory>
@@ -68,22 +84,18 @@ fn round(alloc: Global, rational: bool, items: Vec<Item>) -> Result<(Vec<Item>, 
     ensures items { IfOk result (λ r. r.0.items ≡ (round_is rational items.items).items) }
     ensures lost { IfOk result (λ r. r.1 ≡ is_lossy rational items.items) }
 {
-    let (mut items, too_big) = in_form(alloc, rational, items)?;
-    let lost = too_big || items.len() > ROWS;
-    items.truncate(ROWS);
+    let (items, lost) = cut_form(alloc, rational, items)?;
     Ok((merge(alloc, items)?, lost))
 }
 
-/// Simplified rows, in order: normalises, sorts and merges them and substitutes a pivot, until no pivot of an equal row
-/// occurs in another row. Rational rows are never rounded. Memory also where the numbers of items would reach 2^64.
-pub fn tidy_items(alloc: Global, rational: bool, items: Items) -> Result<Tidied, Memory>
-    requires fits { ItemsGiven items }
-    ensures defined { IfOk result (λ t. t ≡ tidy_items_is rational items) }
-    ensures fits { IfOk result (λ t. ItemsFit rational t.items) }
+/// Rounds until no pivot of an equal row occurs in another row, at most so many pivots being taken between them.
+fn rounds(alloc: Global, rational: bool, items: Vec<Item>, turns: u64) -> Result<Tidied, Memory>
+    requires { ItemsGiven items.items }
+    ensures { IfOk result (λ t. t ≡ tidy_turns turns rational items.items) }
 {
-    let mut items = items.into_vec();
+    let mut items = items;
     let mut lost = false;
-    let mut turns = TURNS;
+    let mut turns = turns;
     while turns > 0 {
         turns -= 1;
         let (some, less) = round(alloc, rational, items)?;
@@ -103,4 +115,48 @@ pub fn tidy_items(alloc: Global, rational: bool, items: Items) -> Result<Tidied,
         items: List::from_vec(some),
         lost: lost || less,
     })
+}
+
+/// Simplified rows, in order: normalises, sorts and merges them and substitutes a pivot, until no pivot of an equal row
+/// occurs in another row. Rational rows are never rounded. Memory also where the numbers of items would reach 2^64.
+pub fn tidy_items(alloc: Global, rational: bool, items: Items) -> Result<Tidied, Memory>
+    requires fits { ItemsGiven items }
+    ensures defined { IfOk result (λ t. t ≡ tidy_items_is rational items) }
+    ensures fits { IfOk result (λ t. ItemsFit rational t.items) }
+{
+    rounds(alloc, rational, items.into_vec(), TURNS)
+}
+
+/// Tidied rows, where a row was lost before or in the tidying.
+fn and_lost(lost: bool, t: Tidied) -> Tidied
+    ensures { result ≡ and_lost_is lost t }
+{
+    Tidied {
+        items: t.items,
+        lost: lost || t.lost,
+    }
+}
+
+/// The rounds of rows of which the form is there already.
+pub fn tidy_form(
+    alloc: Global,
+    rational: bool,
+    form: Vec<Item>,
+    lost: bool,
+) -> Result<Tidied, Memory>
+    requires { HasForm rational form.items lost }
+    ensures { IfOk result (λ t. (is : Elements AnItem) → ItemsGiven is → IsForm rational is form.items lost → t ≡ tidy_items_is rational is) }
+{
+    let some = merge(alloc, form)?;
+    match find_pivot(some.as_slice()) {
+        None => Ok(Tidied {
+            items: List::from_vec(some),
+            lost,
+        }),
+        Some(at) => {
+            let items = take_pivot(alloc, some, at)?;
+            let t = rounds(alloc, rational, items, TURNS - 1)?;
+            Ok(and_lost(lost, t))
+        }
+    }
 }

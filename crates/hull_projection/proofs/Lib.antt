@@ -1,6 +1,7 @@
 pub mod RefuteLaws
 pub mod CleanLaws
 pub mod ProjectLaws
+pub mod LoneLaws
 pub mod FitLaws
 pub mod VarLaws
 pub mod LiftLaws
@@ -13,6 +14,7 @@ pub mod FreshSteps
 pub mod HullSteps
 pub mod PartSteps
 pub mod IterationSteps
+pub mod PointSteps
 pub mod RefuteSteps
 pub mod CleanSteps
 pub mod Example

@@ -1,5 +1,6 @@
 pub mod Variables
 pub mod Refute
+pub mod Coordinates
 pub mod Clean
 pub mod Project
 pub mod Fresh

@@ -1,6 +1,6 @@
 //! Elimination of one variable after another, without the rows that come from too many originals.
 use affine_systems::Var;
-use affine_systems::items::{Item, Items, Originals, eliminate_item};
+use affine_systems::items::{Item, Items, Originals, eliminate_item, without_lone};
 use fx_lists::List;
 use std::alloc::{AllocError as Memory, Global};
 
@@ -15,7 +15,8 @@ pub struct Left {
     pub pairs: usize,
 }
 
-ghost use Rattle.std.specs.Prelude.{◌≡◌, ◌+◌, ◌<◌, ◌≤◌, ◌^◌, length, false, IfOk};
+ghost use Rattle.std.specs.Prelude.{◌≡◌, ◌+◌, ◌<◌, ◌≤◌, ◌^◌, length, take, true, false, IfOk};
+ghost use Rattle.affine_systems.specs.Items.{AllItems};
 ghost use Rattle.affine_systems.specs.Given.{ItemsFit};
 ghost use Rattle.affine_systems.specs.Eliminate.{eliminate_item as eliminate_item_is};
 ghost use Rattle.hull_projection.specs.Refute.{as_original as as_original_is, with_originals as with_originals_is, has_few as has_few_is, with_few as with_few_is, all_left as all_left_is, left_after, eliminate_all as eliminate_all_is};
@@ -98,6 +99,69 @@ fn eliminate_more(alloc: Global, rational: bool, v: Var, left: Left) -> Result<L
     })
 }
 
+/// Whether each row has at most `pairs` + 1 originals.
+fn all_have_few(items: &[Item], pairs: usize) -> bool
+    ensures { result ≡ true → AllItems (λ i. has_few_is pairs i ≡ true) items.now }
+{
+    for item in items {
+        if !has_few(item, pairs) {
+            return false;
+        }
+    }
+    true
+}
+
+/// The leading variables that one row alone has, taken away with their rows; and how many these are.
+fn without_leading(
+    alloc: Global,
+    rational: bool,
+    left: Left,
+    vars: &[Var],
+) -> Result<(Left, usize), Memory>
+    requires fits { ItemsFit rational left.items }
+    ensures within { IfOk result (λ r. r.1 ≤ length vars.now) }
+    ensures defined { IfOk result (λ r. r.0 ≡ eliminate_all_is rational left (take r.1 vars.now)) }
+    ensures fits { IfOk result (λ r. ItemsFit rational r.0.items) }
+    ensures pairs { IfOk result (λ r. r.0.pairs ≡ left.pairs) }
+{
+    if !all_have_few(left.items.as_slice(), left.pairs) {
+        return Ok((left, 0));
+    }
+    let Left { items, lost, pairs } = left;
+    let (items, done) = without_lone(alloc, items.into_vec(), vars);
+    let left = Left {
+        items: List::from_vec(items),
+        lost,
+        pairs,
+    };
+    Ok((left, done))
+}
+
+#[tactic(auto, using(crate::proofs::LoneLaws::all_some))]
+/// The leading variables that one row alone has, and one more.
+fn eliminate_some(
+    alloc: Global,
+    rational: bool,
+    left: Left,
+    vars: &[Var],
+) -> Result<(Left, usize), Memory>
+    requires fits { ItemsFit rational left.items }
+    requires some { 0 < length vars.now }
+    requires room { left.pairs + 1 < 2 ^ 64 }
+    ensures within { IfOk result (λ r. (0 < r.1) × (r.1 ≤ length vars.now)) }
+    ensures defined { IfOk result (λ r. r.0 ≡ eliminate_all_is rational left (take r.1 vars.now)) }
+    ensures fits { IfOk result (λ r. ItemsFit rational r.0.items) }
+    ensures pairs { IfOk result (λ r. r.0.pairs ≤ left.pairs + 1) }
+{
+    let (left, done) = without_leading(alloc, rational, left, vars)?;
+    if done == vars.len() {
+        return Ok((left, done));
+    }
+    let left = eliminate_more(alloc, rational, vars[done], left)?;
+    Ok((left, done + 1))
+}
+
+#[tactic(auto, using(crate::proofs::LoneLaws::all_loop))]
 /// What is left without the variables, which are eliminated in the order of the list. After k eliminations by pairs,
 /// rows from more than k + 1 originals are dropped. The pairs of an elimination are as many as lower times upper rows.
 pub fn eliminate_all(
@@ -112,8 +176,11 @@ pub fn eliminate_all(
     ensures fits { IfOk result (λ s. ItemsFit rational s.items) }
 {
     let mut left = left;
-    for v in vars {
-        left = eliminate_more(alloc, rational, *v, left)?;
+    let mut at = 0;
+    while at < vars.len() {
+        let (next, done) = eliminate_some(alloc, rational, left, &vars[at..])?;
+        left = next;
+        at += done;
     }
     Ok(left)
 }

@@ -11,6 +11,7 @@ mod hulls;
 mod iterations;
 mod lifting;
 mod parts;
+mod points;
 mod projection;
 mod refutation;
 mod variables;

@@ -2,7 +2,7 @@
 
 use crate::cleaning::clean_rows;
 use crate::variables::in_order;
-use affine_systems::items::copy_rows;
+use affine_systems::items::{copy_rows, items_of, rows_of, without_lone};
 use affine_systems::{System, Var, Vars, eliminate};
 use fx_lists::List;
 use std::alloc::{AllocError as Memory, Global};
@@ -15,7 +15,7 @@ pub struct Shadow {
     pub exact: bool,
 }
 
-ghost use Rattle.std.specs.Prelude.{◌≡◌, true, IfOk};
+ghost use Rattle.std.specs.Prelude.{◌≡◌, ◌<◌, ◌≤◌, length, take, true, IfOk};
 ghost use Rattle.affine_systems.specs.Rows.{AllRows};
 ghost use Rattle.affine_systems.specs.Given.{IsSmallRow, Fits};
 ghost use Rattle.affine_systems.specs.Eliminate.{eliminate as eliminate_is};
@@ -35,6 +35,49 @@ fn eliminate_more(alloc: Global, s: Shadow, v: Var) -> Result<Shadow, Memory>
     })
 }
 
+/// So few variables are eliminated one by one.
+const FEW: usize = 4;
+
+/// The leading variables that one row alone has, taken away with their rows; and how many these are.
+fn without_leading(alloc: Global, s: Shadow, vars: &[Var]) -> Result<(Shadow, usize), Memory>
+    requires { Fits s.system }
+    ensures within { IfOk result (λ r. r.1 ≤ length vars.now) }
+    ensures defined { IfOk result (λ r. r.0 ≡ eliminate_each_is s (take r.1 vars.now)) }
+    ensures fits { IfOk result (λ r. Fits r.0.system) }
+{
+    if vars.len() < FEW {
+        return Ok((s, 0));
+    }
+    let Shadow { system, exact } = s;
+    let System { rows, weak } = system;
+    let items = items_of(alloc, rows.into_vec())?;
+    let (left, done) = without_lone(alloc, items.into_vec(), vars);
+    let rows = rows_of(alloc, List::from_vec(left))?;
+    let shadow = Shadow {
+        system: System { rows, weak },
+        exact,
+    };
+    Ok((shadow, done))
+}
+
+#[tactic(auto, using(crate::proofs::LoneLaws::each_some))]
+/// The leading variables that one row alone has, and one more.
+fn eliminate_some(alloc: Global, s: Shadow, vars: &[Var]) -> Result<(Shadow, usize), Memory>
+    requires fits { Fits s.system }
+    requires some { 0 < length vars.now }
+    ensures within { IfOk result (λ r. (0 < r.1) × (r.1 ≤ length vars.now)) }
+    ensures defined { IfOk result (λ r. r.0 ≡ eliminate_each_is s (take r.1 vars.now)) }
+    ensures fits { IfOk result (λ r. Fits r.0.system) }
+{
+    let (s, done) = without_leading(alloc, s, vars)?;
+    if done == vars.len() {
+        return Ok((s, done));
+    }
+    let s = eliminate_more(alloc, s, vars[done])?;
+    Ok((s, done + 1))
+}
+
+#[tactic(auto, using(crate::proofs::LoneLaws::each_loop))]
 /// The variables eliminated one after the other.
 fn eliminate_each(alloc: Global, s: Shadow, vars: &[Var]) -> Result<Shadow, Memory>
     requires { Fits s.system }
@@ -42,8 +85,11 @@ fn eliminate_each(alloc: Global, s: Shadow, vars: &[Var]) -> Result<Shadow, Memo
     ensures fits { IfOk result (λ t. Fits t.system) }
 {
     let mut s = s;
-    for v in vars {
-        s = eliminate_more(alloc, s, *v)?;
+    let mut at = 0;
+    while at < vars.len() {
+        let (next, done) = eliminate_some(alloc, s, &vars[at..])?;
+        s = next;
+        at += done;
     }
     Ok(s)
 }

@@ -6,6 +6,7 @@ ghost use Rattle.hull_projection.specs.Refute.{refuted as refuted_is, refuted_it
 ghost use Rattle.hull_projection.specs.Laws.{HasNoPoint};
 
 use crate::elimination::{all_left, eliminate_all};
+use crate::points::have_found_point;
 use crate::variables::item_vars;
 use affine_systems::items::{Items, any_false, copy_rows, items_of, tidy_items};
 use affine_systems::{Row, System};
@@ -29,6 +30,9 @@ pub fn refuted_rows(alloc: Global, rows: Vec<Row>) -> Result<bool, Memory>
     requires { AllRows IsGiven rows.items }
     ensures { IfOk result (λ b. b ≡ refuted_is rows.items) }
 {
+    if have_found_point(alloc, rows.as_slice())? {
+        return Ok(false);
+    }
     let items = items_of(alloc, rows)?;
     let t = tidy_items(alloc, false, items)?;
     refuted_items(alloc, t.items)

@@ -5,9 +5,8 @@ ghost use Rattle.affine_systems.specs.Given.{IsGiven, Fits};
 ghost use Rattle.affine_systems.specs.Laws.{KeepsCommonPoints, AddsNoCommonPoint};
 ghost use Rattle.system_renaming.specs.Renaming.{push_rows as push_rows_is, of_rows as of_rows_is};
 
-use affine_systems::items::copy_rows;
-use affine_systems::{Row, System, tidy};
-use fx_lists::List;
+use affine_systems::items::{copy_rows, tidy_rows};
+use affine_systems::{Row, System};
 use std::alloc::{AllocError as Memory, Global};
 
 /// The system of these rows, tidied. Weak only where tidying loses a row.
@@ -16,13 +15,7 @@ pub fn of_rows(alloc: Global, rows: Vec<Row>) -> Result<System, Memory>
     ensures defined { IfOk result (λ s. s ≡ of_rows_is rows.items) }
     ensures fits { IfOk result Fits }
 {
-    tidy(
-        alloc,
-        &System {
-            rows: List::from_vec(rows),
-            weak: false,
-        },
-    )
+    tidy_rows(alloc, rows, false)
 }
 
 /// The system with more rows, tidied once. It has the points of the system at which all of these hold, and no others
@@ -37,11 +30,5 @@ pub fn push_rows(alloc: Global, sys: &System, mut more: Vec<Row>) -> Result<Syst
 {
     let mut rows = copy_rows(alloc, sys.rows.as_slice())?;
     rows.append(&mut more)?;
-    tidy(
-        alloc,
-        &System {
-            rows: List::from_vec(rows),
-            weak: sys.weak,
-        },
-    )
+    tidy_rows(alloc, rows, sys.weak)
 }

@@ -8,7 +8,8 @@ ghost use Rattle.system_renaming.specs.Laws.{RenamesPoints};
 
 use crate::adding::add_term;
 use crate::{Naming, replacement};
-use affine_systems::{Row, System, Term, tidy};
+use affine_systems::items::tidy_rows;
+use affine_systems::{Row, System, Term};
 use fx_lists::List;
 use std::alloc::{AllocError as Memory, Global};
 
@@ -18,7 +19,7 @@ fn renamed_terms(alloc: Global, names: &[Naming], terms: &[Term]) -> Result<Vec<
     ensures defined { IfOk result (λ ts. ts.items ≡ renamed_terms_is (renamed_by names.now) terms.now) }
     ensures fits { IfOk result (λ ts. FactorsGiven ts.items) }
 {
-    let mut out = Vec::new(alloc);
+    let mut out = Vec::with_capacity(alloc, terms.len())?;
     let mut left = terms.len();
     while left > 0 {
         left -= 1;
@@ -61,12 +62,6 @@ pub fn rename_all(alloc: Global, sys: &System, names: &[Naming]) -> Result<Syste
     ensures fits { IfOk result Fits }
     ensures sound { IfOk result (RenamesPoints names.now sys.now) }
 {
-    let rows = List::from_vec(renamed_rows(alloc, names, sys.rows.as_slice())?);
-    tidy(
-        alloc,
-        &System {
-            rows,
-            weak: sys.weak,
-        },
-    )
+    let rows = renamed_rows(alloc, names, sys.rows.as_slice())?;
+    tidy_rows(alloc, rows, sys.weak)
 }

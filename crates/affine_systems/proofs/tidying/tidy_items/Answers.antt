@@ -1,64 +1,21 @@
-use Rattle.std.proofs.Common.{◌≡◌, ◌∙◌, ◌||◌, ◌-◌, ap, refl, sym, subst, arith, Some, None, List}
-use Rattle.affine_systems.specs.declared.items.Item.{Item}
+use Rattle.std.proofs.Common.{◌≡◌, ◌∙◌, ap, sym, subst}
+use Rattle.std.proofs.lemmas.Result.{IfOk-weaker}
 use Rattle.affine_systems.specs.declared.items.Tidied.{Tidied}
-use Rattle.affine_systems.specs.Given.{ItemsSmall, ItemsFit}
-use Rattle.affine_systems.specs.Items.{tidied, cut_of}
-use Rattle.affine_systems.specs.Tidy.{next_pivot}
+use Rattle.affine_systems.specs.Given.{ItemsGiven, ItemsFit}
+use Rattle.affine_systems.specs.Tidy.{tidy_turns, tidy_items}
 use Rattle.affine_systems.proofs.FitLaws.{tidied_fits}
-use Rattle.affine_systems.proofs.TurnSteps.{turns_begin, turns_more, turns_stop, turns_end, small_round}
-use Rattle.affine_systems.proofs.tidying.tidy_items.Goals.{then-lost, else-lost, then-lost-2, else-lost-2}
+use Rattle.affine_systems.proofs.TurnSteps.{all_turns}
 use Rattle.affine_systems.proofs.tidying.tidy_items.Goals as goal
 
-pub loop-turns-init : goal.loop-turns-init
-loop-turns-init c = rw c.into_vec-items.ensures (turns_begin c.args.rational c.args.items 17592186044416 refl c.requires.fits)
-
-pub find_pivot-requires : goal.find_pivot-requires
-find_pivot-requires c =
-    subst ItemsSmall (sym (c.as_slice.ensures.value ∙ c.in_ok-some.ensures.items)) (small_round c.args.rational c.loop-turns.items.items c.loop-turns.invariant.given)
-
-pub take_pivot-requires-clause-each : goal.take_pivot-requires-clause-each
-take_pivot-requires-clause-each c = subst ItemsSmall (sym c.in_ok-some.ensures.items) (small_round c.args.rational c.loop-turns.items.items c.loop-turns.invariant.given)
-
-pub returns-in-None-clause-defined : goal.returns-in-None-clause-defined
-returns-in-None-clause-defined c =
-    let a : c.if-lost.lost ≡ (c.loop-turns.lost || c.in_ok-some.less)
-    = elim c.if-lost.branch [
-      | then-lost w ↦ w.lost-is ∙ (w.if-lost.true ∙ sym (ap (λ b. b || c.in_ok-some.less) w.if-lost.true))
-      | else-lost w ↦ w.lost-is ∙ sym (ap (λ b. b || c.in_ok-some.less) w.if-lost.false)
-    ] in
-    let e : next_pivot c.in_ok-some.some.items ≡ None = ap next_pivot (sym c.as_slice.ensures.value) ∙ c.in-None.ensures in
-    ap (λ (js : List Item). tidied js c.if-lost.lost) c.from_vec.ensures
-    ∙ turns_stop c.args.rational c.loop-turns.items.items c.loop-turns.lost c.loop-turns.turns _ c.loop-turns.invariant c.in_ok-some.some.items c.in_ok-some.less c.in_ok-some.ensures.items c.in_ok-some.ensures.lost
-    c.loop-turns-test.true e c.if-lost.lost a
-
-pub returns-in-None-clause-fits : goal.returns-in-None-clause-fits
-returns-in-None-clause-fits c =
-    subst (ItemsFit c.args.rational) (ap (λ (t : Tidied). t.items) (sym (returns-in-None-clause-defined c))) (tidied_fits c.args.rational c.args.items c.requires.fits)
-
-pub loop-turns-preserved : goal.loop-turns-preserved
-loop-turns-preserved c =
-    let a : c.if-lost.lost ≡ (c.loop-turns.lost || c.in_ok-some.less)
-    = elim c.if-lost.branch [
-      | then-lost w ↦ w.lost-is ∙ (w.if-lost.true ∙ sym (ap (λ b. b || c.in_ok-some.less) w.if-lost.true))
-      | else-lost w ↦ w.lost-is ∙ sym (ap (λ b. b || c.in_ok-some.less) w.if-lost.false)
-    ] in
-    let e : next_pivot c.in_ok-some.some.items ≡ Some (cut_of c.in_ok-some.some.items c.in-Some.at)
-    = ap next_pivot (sym c.as_slice.ensures.value) ∙ (c.in-Some.ensures.1 ∙ ap (λ (js : List Item). Some (cut_of js c.in-Some.at)) c.as_slice.ensures.value) in
-    turns_more c.args.rational c.loop-turns.items.items c.loop-turns.lost c.loop-turns.turns _ c.loop-turns.invariant c.in_ok-some.some.items c.in_ok-some.less c.in_ok-some.ensures.items c.in_ok-some.ensures.lost
-    c.loop-turns-test.true c.in-Some.at c.in_ok-items-in-Some.items.items c.if-lost.lost (c.loop-turns.turns - 1) refl e c.in_ok-items-in-Some.ensures a
+pub rounds-requires : goal.rounds-requires
+rounds-requires c = subst ItemsGiven (sym c.into_vec.ensures) c.requires.fits
 
 pub returns-clause-defined : goal.returns-clause-defined
 returns-clause-defined c =
-    let a : c.if-lost-2.result ≡ (c.loop-turns.lost || c.in_ok-some-2.less)
-    = elim c.if-lost-2.branch [
-      | then-lost-2 w ↦ w.result-is ∙ (w.if-lost-2.true ∙ sym (ap (λ b. b || c.in_ok-some-2.less) w.if-lost-2.true))
-      | else-lost-2 w ↦ w.result-is ∙ sym (ap (λ b. b || c.in_ok-some-2.less) w.if-lost-2.false)
-    ] in
-    let z : c.loop-turns.turns ≡ 0 = omega (arith, c.loop-turns-test.false) in
-    ap (λ (js : List Item). tidied js c.if-lost-2.result) c.from_vec-2.ensures
-    ∙ turns_end c.args.rational c.loop-turns.items.items c.loop-turns.lost c.loop-turns.turns _ c.loop-turns.invariant c.in_ok-some-2.some.items c.in_ok-some-2.less c.in_ok-some-2.ensures.items c.in_ok-some-2.ensures.lost
-    z c.if-lost-2.result a
+    IfOk-weaker c.rounds.result (λ (t : Tidied). t ≡ tidy_turns 17592186044416 c.args.rational c.into_vec.result.items) (λ (t : Tidied). t ≡ tidy_items c.args.rational c.args.items)
+    (λ t h. h ∙ (ap (tidy_turns 17592186044416 c.args.rational) c.into_vec.ensures ∙ all_turns c.args.rational c.args.items)) c.rounds.ensures
 
 pub returns-clause-fits : goal.returns-clause-fits
 returns-clause-fits c =
-    subst (ItemsFit c.args.rational) (ap (λ (t : Tidied). t.items) (sym (returns-clause-defined c))) (tidied_fits c.args.rational c.args.items c.requires.fits)
+    IfOk-weaker c.rounds.result (λ (t : Tidied). t ≡ tidy_items c.args.rational c.args.items) (λ (t : Tidied). ItemsFit c.args.rational t.items)
+    (λ t h. subst (λ (u : Tidied). ItemsFit c.args.rational u.items) (sym h) (tidied_fits c.args.rational c.args.items c.requires.fits)) (returns-clause-defined c)

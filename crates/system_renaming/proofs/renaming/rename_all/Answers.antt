@@ -16,7 +16,7 @@ renamed_rows-requires c = subst (λ (rs : List Row). AllRows IsSmallRow rs) (sym
 
 pub returns-clause-sound : goal.returns-clause-sound
 returns-clause-sound c =
-    let e : c.from_vec-rows.result ≡ map (renamed_row (renamed_by c.args.names.now)) c.args.sys.now.rows
-    = c.from_vec-rows.ensures ∙ (c.in_ok-renamed_rows.ensures.defined ∙ ap (map (renamed_row (renamed_by c.args.names.now))) c.as_slice.ensures) in
-    IfOk-weaker c.tidy.result (λ (t : System). t ≡ tidy (system c.from_vec-rows.result c.args.sys.now.weak)) (RenamesPoints c.args.names.now c.args.sys.now)
-    (λ t h. renames_points c.args.names.now c.args.sys.now t (h ∙ ap (λ (rs : List Row). tidy (system rs c.args.sys.now.weak)) e)) c.tidy.ensures.defined
+    let e : c.in_ok-rows.rows.items ≡ map (renamed_row (renamed_by c.args.names.now)) c.args.sys.now.rows
+    = (c.in_ok-rows.ensures.defined ∙ ap (map (renamed_row (renamed_by c.args.names.now))) c.as_slice.ensures) in
+    IfOk-weaker c.tidy_rows.result (λ (t : System). t ≡ tidy (system c.in_ok-rows.rows.items c.args.sys.now.weak)) (RenamesPoints c.args.names.now c.args.sys.now)
+    (λ t h. renames_points c.args.names.now c.args.sys.now t (h ∙ ap (λ (rs : List Row). tidy (system rs c.args.sys.now.weak)) e)) c.tidy_rows.ensures.defined
