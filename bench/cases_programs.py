@@ -22,7 +22,7 @@ EFFECTS = 600
 # the size of what is stored of the analyses of tracked cells
 SCALARS = 140_000
 # and of array regions
-REGIONS = 400_000
+REGIONS = 500_000
 
 layout, model, pipeline, printer, read, reader, regions, scalars = map(load, ['layout', 'model', 'pipeline', 'printer', 'read', 'reader', 'regions', 'scalars'])
 
@@ -156,9 +156,8 @@ def scalar_lines(text):
 
 # ---- array regions
 
-def region_module_lines(view, own):
+def region_module_lines(view, sets):
     yield f'module {view.module.name}'
-    sets = regions.regions(view, own, {})
     for before, added in printer.region_lines(view, sets):
         yield f'{before} {added}'
     for number in sorted(sets.at):
@@ -169,12 +168,12 @@ def region_module_lines(view, own):
 
 
 def region_lines(text):
-    """Of the modules without CALLs."""
     program = read.read(text)
-    views, found = pipeline.views(program), pipeline.analyse_scalars(program)
-    for name in reversed(program.graph.order):
-        if not any(s.what[0] == 'Call' for s in scalars.all_in(views[name].module.body)):
-            yield from region_module_lines(views[name], found[name]['transformers'])
+    views, found, known = pipeline.views(program), pipeline.analyse_scalars(program), {}
+    for name in program.graph.order:
+        sets = regions.regions(views[name], found[name]['transformers'], known)
+        known[name] = (views[name].symbols, sets.summary)
+        yield from region_module_lines(views[name], sets)
 
 
 # ---- cases

@@ -1,4 +1,7 @@
 pub mod Steps
 pub mod NameLaws
 pub mod StatementLaws
+pub mod CallLaws
+pub mod ModuleLaws
+pub mod AloneLaws
 pub mod Exact

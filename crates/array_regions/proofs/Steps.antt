@@ -8,12 +8,10 @@ use Rattle.f77_ast.specs.PlainStmt.{stmt_trees, loop_tree}
 use Rattle.f77_ast.proofs.Plainly.{expr_cases, expr_lists, expr_trees-drop}
 use Rattle.f77_ast.proofs.PlainlyStmt.{arm_trees-drop_at, loop_tree-out}
 use Rattle.f77_results.specs.declared.results.At.{At}
-use Rattle.affine_forms.specs.Forms.{affine, IsSmallForm}
 use Rattle.call_translation.specs.Scopes.{ScopeTree}
 use Rattle.region_sets.specs.declared.region.Region.{Region}
 use Rattle.region_sets.specs.Lists.{SetsFit}
 use Rattle.region_sets.specs.Sets.{SetFits}
-use Rattle.region_sets.proofs.RowSteps.{given-push}
 use Rattle.transformer_algebra.specs.declared.transformer.Transformer.{Transformer}
 use Rattle.transformer_algebra.specs.declared.loop_parts.LoopParts.{LoopParts}
 use Rattle.transformers.specs.Lists.{list_at}
@@ -21,14 +19,7 @@ use Rattle.transformers.specs.Loops.{loop_parts}
 use Rattle.array_regions.specs.Simple.{with_item, reading}
 use Rattle.array_regions.specs.Loops.{Found, range_with, range_of}
 
--- ---- rows
-
-pub number_small : (n : ℤ) → unsigned_abs n < 2 ^ 62 → IsSmallForm (affine [] n)
-number_small n h = ((tt, tt), h)
-
-pub ruleset rows = (given-push, number_small, append_assoc, append-nil)
-
-pub ruleset row_items = (given-push, append_assoc, append-nil, add-one)
+-- ---- symbols
 
 pub ruleset locals = (append_assoc, append-nil, add-one)
 

@@ -1,6 +1,7 @@
 pub mod Rows
 pub mod References
 pub mod Reads
+pub mod Calls
 pub mod Simple
 pub mod Arms
 pub mod Loops
@@ -8,4 +9,5 @@ pub mod Known
 pub mod Statement
 pub mod Entry
 pub mod Modules
+pub mod Alone
 pub mod Laws

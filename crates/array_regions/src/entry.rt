@@ -168,15 +168,15 @@ pub fn summary_of(
     ensures fits { IfOk result SetFits }
 {
     let mut all = entry_reads(alloc, scope)?;
-    push_all(alloc, &mut all, body)?;
+    push_copies(alloc, &mut all, body)?;
     let set = unite_all(alloc, all.as_slice())?;
     let out = all_seen(alloc, scope.symbols, set.as_slice())?;
     unite_all(alloc, out.as_slice())
 }
 
-/// Adds copies of regions.
+/// Appends copies of regions, in their order.
 #[tactic(auto, using(region_sets::proofs::Steps::fitting))]
-fn push_all(alloc: Global, out: &mut RegionSet, set: &[Region]) -> Result<(), Memory>
+pub fn push_copies(alloc: Global, out: &mut RegionSet, set: &[Region]) -> Result<(), Memory>
     requires out { SetFits out.old }
     requires set { SetFits set.now }
     ensures added { OnOk result (out.new ≡ out.old ++ set.now) }

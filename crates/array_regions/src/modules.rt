@@ -1,33 +1,37 @@
 //! READ and WRITE regions of a module.
 ghost use Rattle.std.specs.Prelude.{◌≡◌, IfOk};
 ghost use Rattle.f77_ast.specs.PlainStmt.{stmt_trees};
+ghost use Rattle.f77_results.specs.Summaries.{summary_in};
 ghost use Rattle.call_translation.specs.Scopes.{scope_of};
-ghost use Rattle.transformers.specs.Lists.{transformer_at as transformer_at_is};
 ghost use Rattle.transformers.specs.Given.{ResultsFit};
 ghost use Rattle.region_sets.specs.Lists.{SetsFit};
 ghost use Rattle.region_sets.specs.Sets.{SetFits};
-ghost use Rattle.array_regions.specs.Modules.{regions_of};
+ghost use Rattle.array_regions.specs.Calls.{CalleesFit};
+ghost use Rattle.array_regions.specs.Modules.{regions_with};
 
+use crate::context::RegionContext;
 use crate::entry::summary_of;
-use crate::statement::{RegionContext, list_set};
+use crate::statement::list_set;
 use call_translation::{CellScope, tracked_of};
 use f77_results::{Results, Summaries, View};
 use fx_lists::List;
 use region_sets::RegionSet;
+use region_translation::changed_cells;
 use std::alloc::{AllocError as Memory, Global};
 use transformer_algebra::Transformer;
 
-/// The READ and WRITE regions of each executable statement of a module, in the order of the text, each with its parts, from the transformers
-/// `own`; and as summary those that callers see. For modules without CALLs: what a CALL accesses is left out. Err also where an array has
-/// more than 254 dimensions.
+/// The READ and WRITE regions of each executable statement of a module, in the order of the text, each with its parts and with what it calls,
+/// from the transformers `own` and the summaries of the modules that it calls; and as summary those that callers see. What a CALL of a module
+/// without a summary accesses is left out. Err also where an array has more than 254 dimensions.
 pub fn regions(
     alloc: Global,
     view: &View<'_>,
     own: &Results<Transformer>,
-    _callees: &Summaries<RegionSet>,
+    callees: &Summaries<RegionSet>,
 ) -> Result<Results<RegionSet>, Memory>
-    requires { ResultsFit own.now.at }
-    ensures defined { IfOk result (λ r. r ≡ regions_of (stmt_trees view.now.«module».now.body) (scope_of view.now.«module».now view.now.symbols.now view.now.graph.now.untracked) (transformer_at_is own.now.at)) }
+    requires own { ResultsFit own.now.at }
+    requires callees { CalleesFit (summary_in callees.now) }
+    ensures defined { IfOk result (λ r. r ≡ regions_with (stmt_trees view.now.«module».now.body) (scope_of view.now.«module».now view.now.symbols.now view.now.graph.now.untracked) view.now.graph.now.untracked own.now.at (summary_in callees.now)) }
     ensures fits { IfOk result (λ r. SetsFit r.at × SetFits r.summary) }
 {
     let tracked = tracked_of(alloc, view)?;
@@ -35,10 +39,13 @@ pub fn regions(
         symbols: view.symbols,
         tracked: &tracked,
     };
+    let changed = changed_cells(alloc, own)?;
     let known = RegionContext {
         view,
         scope: &scope,
         own,
+        changed: &changed,
+        callees,
     };
     let mut at = List::new(alloc);
     let body = list_set(alloc, &known, &view.module.body, true, &mut at)?;

@@ -5,6 +5,7 @@ ghost use Rattle.f77_ast.specs.PlainStmt.{maybe_tree};
 ghost use Rattle.call_translation.specs.Scopes.{scope_tree};
 ghost use Rattle.region_sets.specs.Sets.{SetFits};
 ghost use Rattle.array_regions.specs.Reads.{reads, all_reads, inner_reads, maybe_reads};
+ghost use Rattle.array_regions.specs.Calls.{actual_reads, actuals_reads};
 
 use crate::references::{push_element, push_named};
 use call_translation::CellScope;
@@ -101,4 +102,46 @@ pub fn push_maybe_reads(
         None => Ok(()),
         Some(e) => push_reads(alloc, out, scope, e),
     }
+}
+
+/// Adds what is read to associate an actual with its dummy.
+#[tactic(auto, using(crate::proofs::Steps::expr_parts))]
+fn push_actual_reads(
+    alloc: Global,
+    out: &mut RegionSet,
+    scope: &CellScope<'_>,
+    e: &Expr,
+) -> Result<(), Memory>
+    requires { SetFits out.old }
+    ensures added { OnOk result (out.new ≡ out.old ++ actual_reads (expr_tree e.now) (scope_tree scope.now.symbols.now scope.now.tracked.now)) }
+    ensures fits { OnOk result (SetFits out.new) }
+{
+    match e {
+        Expr::Name(_) | Expr::Element(..) => push_inner_reads(alloc, out, scope, e),
+        Expr::Int(_)
+        | Expr::Log(_)
+        | Expr::Paren(_)
+        | Expr::Unary(..)
+        | Expr::Binary(..)
+        | Expr::Chars(_) => push_reads(alloc, out, scope, e),
+    }
+}
+
+/// Appends the READ regions of the actuals of a CALL (ANSI X3.9-1978, §15.9.3), in their order: of an element those of its subscripts, of an
+/// expression all; nothing for a name.
+#[tactic(auto, using(crate::proofs::Steps::expr_rest))]
+pub fn push_actuals_reads(
+    alloc: Global,
+    out: &mut RegionSet,
+    scope: &CellScope<'_>,
+    es: &List<Expr>,
+) -> Result<(), Memory>
+    requires { SetFits out.old }
+    ensures added { OnOk result (out.new ≡ out.old ++ actuals_reads (expr_trees es.now) (scope_tree scope.now.symbols.now scope.now.tracked.now)) }
+    ensures fits { OnOk result (SetFits out.new) }
+{
+    for e in es.as_slice() {
+        push_actual_reads(alloc, out, scope, e)?;
+    }
+    Ok(())
 }

@@ -9,7 +9,6 @@ ghost use Rattle.region_sets.specs.Regions.{RegionFits};
 ghost use Rattle.region_sets.specs.Sets.{SetFits};
 ghost use Rattle.array_regions.specs.References.{is_constant as is_constant_is, scalar as scalar_is, scalar_at, whole, elements as elements_is, array_at, element_at, element, named};
 
-use crate::rows::{all_affine, rows_of};
 use affine_forms::no_rows;
 use affine_systems::System;
 use call_translation::CellScope;
@@ -17,6 +16,7 @@ use f77_ast::Expr;
 use f77_symbols::{Bound, Place, Symbols, Variable};
 use fx_lists::{List, Text};
 use region_sets::{Access, Region, RegionSet, push_region};
+use region_translation::{all_affine, rows_of};
 use std::alloc::{AllocError as Memory, Global};
 use system_renaming::of_rows;
 use tracked_cells::has_bounds;

@@ -5,28 +5,20 @@ ghost use Rattle.transformers.specs.Statement.{at as at_is};
 ghost use Rattle.region_sets.specs.Lists.{SetsFit};
 ghost use Rattle.region_sets.specs.Sets.{SetFits};
 ghost use Rattle.array_regions.specs.Arms.{ReachedFits, always as always_is, past_arms};
-ghost use Rattle.array_regions.specs.Known.{scope_in, found_in, KnownFits};
+ghost use Rattle.array_regions.specs.Known.{scope_in, found_in, called_in, KnownFits};
 ghost use Rattle.array_regions.specs.Statement.{what_set as what_set_is, arm_sets, body_set as body_set_is, list_set as list_set_is, at_stmt, at_parts, at_list, at_arms, at_loop};
 
 use crate::arms::{Reached, always, if_false, if_set, if_true, push_met, push_tests};
+use crate::calls::call_set;
+use crate::context::RegionContext;
 use crate::loops::do_set;
 use crate::simple::{assignment, printing, reading};
-use call_translation::CellScope;
 use f77_ast::{Arm, Loop, Stmt, StmtId, What};
-use f77_results::{At, Results, View};
+use f77_results::At;
 use fx_lists::List;
 use region_sets::{RegionSet, list_regions, unite_all};
 use std::alloc::{AllocError as Memory, Global};
 use std::mem;
-use transformer_algebra::Transformer;
-
-/// What is known around a statement: its module, the scope of that, and the transformers of its statements.
-#[derive(Drop)]
-pub struct RegionContext<'a> {
-    pub view: &'a View<'a>,
-    pub scope: &'a CellScope<'a>,
-    pub own: &'a Results<Transformer>,
-}
 
 /// Sets of regions of statements, those of the parts of a statement after its own, in the order of the text.
 pub type RegionList = List<At<RegionSet>>;
@@ -76,9 +68,9 @@ fn what_set(
 ) -> Result<RegionSet, Memory>
     requires known { KnownFits known.now }
     requires parts { SetsFit parts.old }
-    ensures defined { IfOk result (λ rs. rs ≡ what_set_is (what_tree what.now) (scope_in known.now) (found_in known.now)) }
+    ensures defined { IfOk result (λ rs. rs ≡ what_set_is (what_tree what.now) (scope_in known.now) (found_in known.now) (called_in known.now)) }
     ensures fits { IfOk result SetFits }
-    ensures added { IfOk result (λ _. parts.new ≡ parts.old ++ at_parts (what_tree what.now) (scope_in known.now) (found_in known.now)) }
+    ensures added { IfOk result (λ _. parts.new ≡ parts.old ++ at_parts (what_tree what.now) (scope_in known.now) (found_in known.now) (called_in known.now)) }
     ensures results_fit { IfOk result (λ _. SetsFit parts.new) }
 {
     match what {
@@ -106,9 +98,8 @@ fn what_set(
         What::Do(l) => body_set(alloc, known, l, parts),
         What::Print(items) => printing(alloc, known.scope, items),
         What::Read(items) => reading(alloc, known.scope, items.as_slice()),
-        What::Call(..) | What::Goto(_) | What::Continue | What::Return | What::Stop(_) => {
-            Ok(List::new(alloc))
-        }
+        What::Call(callee, actuals) => call_set(alloc, known, callee, actuals),
+        What::Goto(_) | What::Continue | What::Return | What::Stop(_) => Ok(List::new(alloc)),
     }
 }
 
@@ -123,7 +114,7 @@ fn put_stmt(
 ) -> Result<(), Memory>
     requires known { KnownFits known.now }
     requires at { SetsFit at.old }
-    ensures added { OnOk result (at.new ≡ at.old ++ at_stmt (stmt_tree s.now) (scope_in known.now) (found_in known.now)) }
+    ensures added { OnOk result (at.new ≡ at.old ++ at_stmt (stmt_tree s.now) (scope_in known.now) (found_in known.now) (called_in known.now)) }
     ensures fits { OnOk result (SetsFit at.new) }
 {
     let mut parts = List::new(alloc);
@@ -140,7 +131,7 @@ fn each_set(
     list: &List<Stmt>,
 ) -> Result<RegionList, Memory>
     requires { KnownFits known.now }
-    ensures defined { IfOk result (λ as'. as' ≡ at_list (stmt_trees list.now) (scope_in known.now) (found_in known.now)) }
+    ensures defined { IfOk result (λ as'. as' ≡ at_list (stmt_trees list.now) (scope_in known.now) (found_in known.now) (called_in known.now)) }
     ensures fits { IfOk result SetsFit }
 {
     let mut found = List::new(alloc);
@@ -163,9 +154,9 @@ pub fn list_set(
 ) -> Result<RegionSet, Memory>
     requires known { KnownFits known.now }
     requires at { SetsFit at.old }
-    ensures defined { IfOk result (λ rs. rs ≡ list_set_is whole (stmt_trees list.now) (scope_in known.now) (found_in known.now)) }
+    ensures defined { IfOk result (λ rs. rs ≡ list_set_is whole (stmt_trees list.now) (scope_in known.now) (found_in known.now) (called_in known.now)) }
     ensures fits { IfOk result SetFits }
-    ensures added { IfOk result (λ _. at.new ≡ at.old ++ at_list (stmt_trees list.now) (scope_in known.now) (found_in known.now)) }
+    ensures added { IfOk result (λ _. at.new ≡ at.old ++ at_list (stmt_trees list.now) (scope_in known.now) (found_in known.now) (called_in known.now)) }
     ensures results_fit { IfOk result (λ _. SetsFit at.new) }
 {
     let found = each_set(alloc, known, list)?;
@@ -189,9 +180,9 @@ fn push_arms(
     requires at { SetsFit at.old }
     ensures past { IfOk result (λ w. w ≡ past_arms (arm_trees arms.now) (scope_in known.now) always_is) }
     ensures past_fits { IfOk result ReachedFits }
-    ensures regions { IfOk result (λ _. out.new ≡ out.old ++ arm_sets (arm_trees arms.now) (scope_in known.now) (found_in known.now) always_is) }
+    ensures regions { IfOk result (λ _. out.new ≡ out.old ++ arm_sets (arm_trees arms.now) (scope_in known.now) (found_in known.now) (called_in known.now) always_is) }
     ensures fits { IfOk result (λ _. SetFits out.new) }
-    ensures added { IfOk result (λ _. at.new ≡ at.old ++ at_arms (arm_trees arms.now) (scope_in known.now) (found_in known.now)) }
+    ensures added { IfOk result (λ _. at.new ≡ at.old ++ at_arms (arm_trees arms.now) (scope_in known.now) (found_in known.now) (called_in known.now)) }
     ensures results_fit { IfOk result (λ _. SetsFit at.new) }
 {
     let mut way = always(alloc);
@@ -215,9 +206,9 @@ fn body_set(
 ) -> Result<RegionSet, Memory>
     requires known { KnownFits known.now }
     requires at { SetsFit at.old }
-    ensures defined { IfOk result (λ rs. rs ≡ body_set_is (loop_tree l.now) (scope_in known.now) (found_in known.now)) }
+    ensures defined { IfOk result (λ rs. rs ≡ body_set_is (loop_tree l.now) (scope_in known.now) (found_in known.now) (called_in known.now)) }
     ensures fits { IfOk result SetFits }
-    ensures added { IfOk result (λ _. at.new ≡ at.old ++ at_loop (loop_tree l.now) (scope_in known.now) (found_in known.now)) }
+    ensures added { IfOk result (λ _. at.new ≡ at.old ++ at_loop (loop_tree l.now) (scope_in known.now) (found_in known.now) (called_in known.now)) }
     ensures results_fit { IfOk result (λ _. SetsFit at.new) }
 {
     let body = list_set(alloc, known, &l.body, false, at)?;

@@ -2,7 +2,7 @@
 //!
 //! A line `== KIND` ends each program of standard input: `storage` prints the symbols of each module and the pairs that overlap, `graph` the graph with
 //! the tracked cells of the modules, `effects` the effects of the modules and their statements, `scalars` what these do to tracked cells and what holds
-//! where they begin, and `regions` the READ and WRITE regions of the modules without CALLs and the lines that are written of them.
+//! where they begin, and `regions` the READ and WRITE regions of the modules and the lines that are written of them.
 #![tactic(auto)]
 
 mod case;

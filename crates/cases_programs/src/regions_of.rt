@@ -1,17 +1,15 @@
-//! The regions of modules without CALLs.
-ghost use Rattle.std.specs.Prelude.{◌≡◌, All, length};
-ghost use Rattle.transformers.specs.Given.{ResultsFit};
-ghost use Rattle.scalar_phases.specs.Views.{AnalysisFits};
+//! The regions of modules.
+ghost use Rattle.std.specs.Prelude.{◌≡◌, length};
 
-use array_regions::regions;
 use call_graph::Graph;
 use f77_ast::Parsed;
-use f77_results::{Results, Summaries, View};
+use f77_results::{Results, View};
 use f77_symbols::Symbols;
 use fx_lists::{List, Text};
 use region_lines::region_lines;
+use region_phases::{ModuleRegions, all_regions};
 use region_sets::{Region, RegionSet, region_text};
-use scalar_phases::{Analysis, Found, analyses};
+use scalar_phases::analyses;
 use std::alloc::{AllocError as Memory, Global};
 
 fn text_of(text: &Text) -> &str {
@@ -70,26 +68,14 @@ fn add_sets(
     add_set(alloc, shown, symbols, sets.summary.as_slice())
 }
 
-fn has_call(graph: &Graph, name: &Text) -> bool {
-    for edge in graph.edges.as_slice() {
-        if edge.caller == *name {
-            return true;
-        }
-    }
-    false
-}
-
+/// Of a module its name, the lines that are added, and its regions.
 fn add_module(
     alloc: Global,
     shown: &mut String,
-    found: &Found<'_>,
+    known: &ModuleRegions<'_>,
     graph: &Graph,
-) -> Result<(), Memory>
-    requires { ResultsFit found.now.own.at }
-{
-    if has_call(graph, &found.module.name) {
-        return Ok(());
-    }
+) -> Result<(), Memory> {
+    let found = &known.analysis.found;
     let view = View {
         module: found.module,
         symbols: found.symbols,
@@ -98,27 +84,11 @@ fn add_module(
     shown.push_str("module ")?;
     shown.push_str(text_of(&found.module.name))?;
     shown.push_str("\n")?;
-    let sets = regions(alloc, &view, &found.own, &Summaries::new(alloc))?;
-    add_lines(alloc, shown, &view, &sets)?;
-    add_sets(alloc, shown, found.symbols, &sets)
+    add_lines(alloc, shown, &view, &known.regions)?;
+    add_sets(alloc, shown, found.symbols, &known.regions)
 }
 
-#[tactic(auto, using(crate::proofs::Steps::analyses))]
-fn add_all(
-    alloc: Global,
-    shown: &mut String,
-    all: &[Analysis<'_>],
-    graph: &Graph,
-) -> Result<(), Memory>
-    requires { All AnalysisFits all.now }
-{
-    for known in all {
-        add_module(alloc, shown, &known.found, graph)?;
-    }
-    Ok(())
-}
-
-/// The regions of each module without CALLs, callers first.
+/// The regions of each module, callees first.
 pub fn add_program(
     alloc: Global,
     shown: &mut String,
@@ -128,6 +98,9 @@ pub fn add_program(
 ) -> Result<(), Memory>
     requires { length modules.now ≡ length tables.now }
 {
-    let all = analyses(alloc, modules, tables, graph)?;
-    add_all(alloc, shown, all.as_slice(), graph)
+    let all = all_regions(alloc, graph, analyses(alloc, modules, tables, graph)?)?;
+    for known in all.as_slice() {
+        add_module(alloc, shown, known, graph)?;
+    }
+    Ok(())
 }

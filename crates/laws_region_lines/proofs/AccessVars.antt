@@ -13,6 +13,7 @@ use Rattle.f77_constants.specs.declared.constant.Worth.{Worth}
 use Rattle.f77_constants.specs.declared.constant.Worth.TheVariants.{Is, Faults, Varies}
 use Rattle.f77_constants.specs.Constants.{worth}
 use Rattle.f77_symbols.specs.declared.variable.Variable.{Variable}
+use Rattle.f77_symbols.specs.declared.variable.Variable.TheVariants.{Own, Block, Saved}
 use Rattle.f77_symbols.specs.Symbols.{BoundTree, SymbolTree, number_from}
 use Rattle.f77_symbols.specs.Shared.{symbol_at}
 use Rattle.tracked_cells.specs.Standing.{has_bounds}
@@ -41,14 +42,14 @@ use Rattle.laws_lines.proofs.RuleVars.{IsDone, forgotten_done}
 use Rattle.laws_lines.proofs.CallVars.{named_cell_ok, one_cell_ok}
 use Rattle.laws_lines.proofs.StatementVars.{Scope}
 use Rattle.roundtrip_systems.specs.Printed.{IsNumber}
-use Rattle.roundtrip_regions.specs.Laws.{IsShownVariable}
-use Rattle.roundtrip_regions.specs.Printed.{IsCalled}
 use Rattle.laws_region_lines.specs.Places.{IsPlaceOf}
 use Rattle.laws_region_lines.proofs.RegionVars.{both_all, map_all, IsFine, AreFine, composed_fine, mapped_fine, united_fine}
 
--- a symbol of these names, as those of READ and WRITE are, or what has a name that is read again
-abbrev pub IsNamedIn : List (List ℕ) → Variable → Type 0
-IsNamedIn names v = IsShownVariable v × IsCalled names v
+-- a symbol of these names, or what has a name of which something holds
+abbrev pub IsNamedBy : (List ℕ → Type 0) → List (List ℕ) → Variable → Type 0
+IsNamedBy Name names (Own n) = IsNumber names n
+IsNamedBy Name names (Block b) = Name b
+IsNamedBy Name names (Saved s x) = Name s × Name x
 
 -- the number of a name is that of a symbol
 named_between : (n : ℕ) (ys : List (List ℕ)) (x : List ℕ) (k : ℕ) → number_from n ys x ≡ Some k → (n ≤ k) × (k < n + length ys)
@@ -74,12 +75,12 @@ named_number names x k e =
 abbrev pub FewBounds : List SymbolTree → Type 0
 FewBounds ss = (n : ℕ) (s : SymbolTree) → symbol_at ss n ≡ Some s → length s.bounds ≤ 7
 
-module _ (ok : ℕ → Type 0) (m : ScopeTree) (a : Scope ok m) (few : FewBounds m.symbols) where
+module _ (Name : List ℕ → Type 0) (ok : ℕ → Type 0) (m : ScopeTree) (a : Scope ok m) (few : FewBounds m.symbols) where
   abbrev P : Var → Type 0
   P = IsPlaceOf ok
 
   abbrev IsNamedOne : Variable → Type 0
-  IsNamedOne = IsNamedIn m.names
+  IsNamedOne = IsNamedBy Name m.names
 
   abbrev pub Fine : List Region → Type 0
   Fine rs = AreFine IsNamedOne ok rs
@@ -121,13 +122,13 @@ module _ (ok : ℕ → Type 0) (m : ScopeTree) (a : Scope ok m) (few : FewBounds
   high_given None k p h = tt
   high_given (Some f) k p h = (compared_given P false (var_form (Phi k)) f (f.constant -ℤ pos 0) (p, tt) h, tt)
 
-  dimension_given : (value : List ℕ → Option Constant) (o : Option Affine) (b : BoundTree) (k : ℕ) → P (Phi k) → FormAt o → AreGiven P (dimension_rows value o b k)
+  pub dimension_given : (value : List ℕ → Option Constant) (o : Option Affine) (b : BoundTree) (k : ℕ) → P (Phi k) → FormAt o → AreGiven P (dimension_rows value o b k)
   dimension_given value (Some f) b k p h = (compared_given P true (var_form (Phi k)) f (f.constant -ℤ pos 0) (p, tt) h, tt)
   dimension_given value None b k p h =
       all-append (Given P) (low_rows (constant_form (worth value b.low)) k) (high_rows (high_form value b.high) k)
       (low_given (constant_form (worth value b.low)) k p (constant_at (worth value b.low))) (high_given (high_form value b.high) k p (high_at value b.high))
 
-  subscripts_given : (k : ℕ) (es : ExprTrees) (bs : List BoundTree) → 0 < k → k + length bs ≤ 8 → AreGiven P (subscript_rows m k es bs)
+  pub subscripts_given : (k : ℕ) (es : ExprTrees) (bs : List BoundTree) → 0 < k → k + length bs ≤ 8 → AreGiven P (subscript_rows m k es bs)
   subscripts_given k tree.no_exprs bs l h = tt
   subscripts_given k (tree.more_exprs e es) [] l h = tt
   subscripts_given k (tree.more_exprs e es) (b ∷ bs) l h =
@@ -139,13 +140,13 @@ module _ (ok : ℕ → Type 0) (m : ScopeTree) (a : Scope ok m) (few : FewBounds
 
   scalar_fine : (x : Access) (n : ℕ) → IsNumber m.names n → (s : Option SymbolTree) → Fine (scalar_at x n s)
   scalar_fine x n i None = tt
-  scalar_fine x n i (Some s) = if_cases Fine (is_constant s.place) [] (scalar x n ∷ []) (λ e. tt) (λ e. (((tt, i), none_neat P), tt))
+  scalar_fine x n i (Some s) = if_cases Fine (is_constant s.place) [] (scalar x n ∷ []) (λ e. tt) (λ e. ((i, none_neat P), tt))
 
   element_fine : (x : Access) (n : ℕ) → IsNumber m.names n → (es : ExprTrees) (s : Option SymbolTree) → symbol_at m.symbols n ≡ s → Fine (element_at m x n es s)
   element_fine x n i es None q = tt
   element_fine x n i es (Some s) q =
       let l = few n s q in
-      if_cases Fine (has_bounds s.bounds) (array_at m x n es s.bounds ∷ []) [] (λ e. (((tt, i), of_rows_neat P (subscript_rows m 1 es s.bounds) (subscripts_given 1 es s.bounds (omega arith) (omega (arith, l)))), tt)) (λ e. tt)
+      if_cases Fine (has_bounds s.bounds) (array_at m x n es s.bounds ∷ []) [] (λ e. ((i, of_rows_neat P (subscript_rows m 1 es s.bounds) (subscripts_given 1 es s.bounds (omega arith) (omega (arith, l)))), tt)) (λ e. tt)
 
   whole_fine : (x : Access) (y : List ℕ) → Fine (whole m x y)
   whole_fine x y = go (number_from 1 m.names y) refl

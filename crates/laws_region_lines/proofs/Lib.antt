@@ -1,8 +1,11 @@
+pub mod Indexes
 pub mod PutVars
 pub mod PieceVars
 pub mod RegionVars
 pub mod AccessVars
-pub mod Indexes
+pub mod CalleeVars
+pub mod LinkVars
+pub mod CallRegions
 pub mod StatementRegions
 pub mod ProgramRegions
 pub mod LinesMean

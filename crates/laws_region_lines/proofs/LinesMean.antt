@@ -1,5 +1,5 @@
 -- The lines of the regions of a module are read as what was found.
-use Rattle.std.proofs.Common.{◌≡◌, inl, inr, ℕ, zero, suc, ◌-◌, ◌<◌, ◌≤◌, Bool, true, false, ◌&&◌, ◌||◌, List, [], ◌∷◌, ◌++◌, length, Option, Some, None, arith, refl, ap, ◌∙◌, nat_eq}
+use Rattle.std.proofs.Common.{◌≡◌, inl, inr, ℕ, zero, suc, ◌-◌, ◌<◌, ◌≤◌, Bool, true, false, ◌||◌, List, [], ◌∷◌, ◌++◌, length, Option, Some, None, arith, refl, ap, ◌∙◌, nat_eq}
 use Rattle.std.specs.Prelude.{All, if◌then◌else◌, map, slice_get, bytes_eq}
 use Rattle.std.specs.List.{AllByRecursion, IsDistinct, list_all, list_any}
 use Rattle.std.proofs.lemmas.Bool.{and_from, and_parts, or_parts}
@@ -11,19 +11,20 @@ use Rattle.affine_systems.specs.declared.row.Term.{Term}
 use Rattle.affine_systems.specs.declared.row.System.{System}
 use Rattle.f77_symbols.specs.declared.variable.Unit.{Unit as BlockUnit}
 use Rattle.f77_symbols.specs.declared.variable.Variable.{Variable}
+use Rattle.f77_symbols.specs.declared.variable.Variable.TheVariants.{Own, Block, Saved}
 use Rattle.f77_symbols.specs.Symbols.{SymbolTree}
 use Rattle.f77_meaning.specs.Modules.{Known, known_of, symbol_names}
 use Rattle.affine_forms.specs.Scalars.{flag_of, is_cell}
 use Rattle.transformer_algebra.specs.Laws.{In, here, there}
-use Rattle.scalar_phases.specs.Phases.{Analysis, scope_of, analyses}
+use Rattle.scalar_phases.specs.Phases.{scope_of, analyses}
+use Rattle.region_phases.specs.Phases.{ModuleRegions, all_regions}
 use Rattle.region_sets.specs.declared.region.Region.{Region}
 use Rattle.roundtrip_systems.specs.Printed.{is_name, IsNumber, AreNames}
 use Rattle.roundtrip_regions.specs.Reading.{phi_names}
-use Rattle.roundtrip_regions.specs.Printed.{AreOther, IsPlaced, ArePlaced, IsOfPlaces, IsReadable}
+use Rattle.roundtrip_regions.specs.Printed.{AreOther, IsPlaced, ArePlaced, IsOfPlaces, IsPlain, IsCalled, IsReadable}
 use Rattle.roundtrip_regions.specs.Added.{AreReadable, IsThere, MeansRegion}
 use Rattle.roundtrip_regions.proofs.LineBack.{same_shown}
 use Rattle.roundtrip_regions.proofs.AddedBack.{added_lines_read_back}
-use Rattle.region_lines.specs.RegionLines.{region_lines_of}
 use Rattle.f77_printer.specs.declared.added.Added.{Added}
 use Rattle.laws_programs.specs.Programs.{AreTables}
 use Rattle.laws_lines.specs.NameLaws.{AreWords}
@@ -35,12 +36,11 @@ use Rattle.laws_lines.proofs.SystemVars.{IsNeat, all_more}
 use Rattle.laws_lines.proofs.LineBack.{neat_ordered}
 use Rattle.laws_lines.proofs.PhaseVars.{EachOf, each_all, value_is}
 use Rattle.laws_region_lines.specs.Places.{IsPlaceOf, IsOne}
-use Rattle.laws_region_lines.specs.Laws.{regions_in}
 use Rattle.laws_region_lines.specs.Lines.{is_phi, HaveNoPhi, IsRegionLine}
-use Rattle.laws_region_lines.specs.LineLaws.{RegionsAreReadable, RegionLinesMean, RegionLinesMeanRegions}
-use Rattle.laws_region_lines.proofs.AccessVars.{IsNamedIn}
+use Rattle.laws_region_lines.specs.LineLaws.{lines_in, RegionsAreReadable, RegionLinesMean, RegionLinesMeanRegions}
+use Rattle.laws_region_lines.proofs.AccessVars.{IsNamedBy}
 use Rattle.laws_region_lines.proofs.RegionVars.{both_all, AreFine}
-use Rattle.laws_region_lines.proofs.ProgramRegions.{IsNamedHere, ModuleFine, modules_fine, analyses_with}
+use Rattle.laws_region_lines.proofs.ProgramRegions.{IsNamedHere, ModuleFine, modules_fine, regions_with}
 
 -- ---- names that are none of subscripts
 
@@ -136,9 +136,14 @@ module _ (untracked : List BlockUnit) (k : Known) where
   one_placed (s ∷ []) h = (system_placed s h, tt)
   one_placed (s ∷ (q ∷ qs)) h = absurd h
 
-  all_readable : (rs : List Region) → AreFine (IsNamedIn names) ok rs → AllByRecursion (IsReadable names) rs
+  called : (v : Variable) → IsNamedBy IsPlain names v → IsCalled names v
+  called (Own n) h = h
+  called (Block b) h = h
+  called (Saved s x) h = h
+
+  all_readable : (rs : List Region) → AreFine (IsNamedBy IsPlain names) ok rs → AllByRecursion (IsReadable names) rs
   all_readable [] h = tt
-  all_readable (r ∷ rs) h = (record { variable = h.0.0.1; systems = one_placed r.pieces h.0.1 }, all_readable rs h.1)
+  all_readable (r ∷ rs) h = (record { variable = called r.variable h.0.0; systems = one_placed r.pieces h.0.1 }, all_readable rs h.1)
 
 -- ---- modules
 
@@ -156,15 +161,21 @@ ones : (N : Variable → Type 0) (ok : ℕ → Type 0) (rs : List Region) → Ar
 ones N ok [] h = tt
 ones N ok (r ∷ rs) h = (h.0.1, ones N ok rs h.1)
 
-module _ (untracked : List BlockUnit) (a : Analysis) (fine : ModuleFine untracked a) where
+module _ (untracked : List BlockUnit) (f : ModuleRegions) (fine : ModuleFine IsPlain untracked f) where
+  abbrev known : Known
+  known = f.analysis.found.known
+
+  abbrev N : Variable → Type 0
+  N = IsNamedHere IsPlain known
+
   abbrev tracked : ℕ → Type 0
-  tracked = IsTracked untracked a.found.known
+  tracked = IsTracked untracked known
 
-  there_one : (n : ℕ) (r : Region) → IsThere (regions_in untracked a) n r → IsOne (IsNeat (IsPlaceOf tracked)) r.pieces
-  there_one n r (inl f) = in_one (IsPlaceOf tracked) f.0 r f.2 (ones (IsNamedHere a) tracked f.0 (value_is (AreFine (IsNamedHere a) tracked) (regions_in untracked a).at n f.0 fine.at f.1))
-  there_one n r (inr f) = in_one (IsPlaceOf tracked) (regions_in untracked a).summary r f.1 (ones (IsNamedHere a) tracked (regions_in untracked a).summary fine.summary)
+  there_one : (n : ℕ) (r : Region) → IsThere f.regions n r → IsOne (IsNeat (IsPlaceOf tracked)) r.pieces
+  there_one n r (inl i) = in_one (IsPlaceOf tracked) i.0 r i.2 (ones N tracked i.0 (value_is (AreFine N tracked) f.regions.at n i.0 fine.at i.1))
+  there_one n r (inr i) = in_one (IsPlaceOf tracked) f.regions.summary r i.1 (ones N tracked f.regions.summary fine.summary)
 
-  all_just : (xs : List Added) → AllByRecursion (MeansRegion (symbol_names a.found.known.symbols) (regions_in untracked a)) xs → AllByRecursion (IsRegionLine (symbol_names a.found.known.symbols) (regions_in untracked a)) xs
+  all_just : (xs : List Added) → AllByRecursion (MeansRegion (symbol_names known.symbols) f.regions) xs → AllByRecursion (IsRegionLine (symbol_names known.symbols) f.regions) xs
   all_just [] h = tt
   all_just (x ∷ xs) h =
       let r = h.0.0 in
@@ -175,22 +186,19 @@ module _ (untracked : List BlockUnit) (a : Analysis) (fine : ModuleFine untracke
 abbrev HasNames : Known → Type 0
 HasNames k = AreNames (symbol_names k.symbols)
 
-module_readable : (untracked : List BlockUnit) (a : Analysis) → ModuleFine untracked a → AreReadable (symbol_names a.found.known.symbols) (regions_in untracked a)
-module_readable untracked a h =
-    let k = a.found.known in
-    let sets = regions_in untracked a in
+module_readable : (untracked : List BlockUnit) (f : ModuleRegions) → ModuleFine IsPlain untracked f → AreReadable (symbol_names f.analysis.found.known.symbols) f.regions
+module_readable untracked f h =
+    let k = f.analysis.found.known in
     record {
-      at = λ n rs e. all_readable untracked k rs (value_is (AreFine (IsNamedHere a) (IsTracked untracked k)) sets.at n rs h.at e);
-      summary = all_readable untracked k sets.summary h.summary;
+      at = λ n rs e. all_readable untracked k rs (value_is (AreFine (IsNamedHere IsPlain k) (IsTracked untracked k)) f.regions.at n rs h.at e);
+      summary = all_readable untracked k f.regions.summary h.summary;
     }
 
-module_means : (untracked : List BlockUnit) (a : Analysis) → ModuleFine untracked a → HasNames a.found.known → RegionLinesMean untracked a
-module_means untracked a h are none =
-    let k = a.found.known in
+module_means : (untracked : List BlockUnit) (f : ModuleRegions) → ModuleFine IsPlain untracked f → HasNames f.analysis.found.known → RegionLinesMean f
+module_means untracked f h are none =
+    let k = f.analysis.found.known in
     let names = symbol_names k.symbols in
-    let sets = regions_in untracked a in
-    all_just untracked a h (region_lines_of k.read.main k.read.body names sets)
-    (added_lines_read_back k.read.main k.read.body names sets (others names are none) (module_readable untracked a h))
+    all_just untracked f h (lines_in f) (added_lines_read_back k.read.main k.read.body names f.regions (others names are none) (module_readable untracked f h))
 
 tables_named : (ps : List ParsedTree) (sss : List (List SymbolTree)) → AreTables ps sss → All AreWords sss → EachOf HasNames (known_of ps sss)
 tables_named [] sss t w = tt
@@ -198,15 +206,16 @@ tables_named (p ∷ ps) [] t w = tt
 tables_named (p ∷ ps) (ss ∷ sss) t w =
     (record { each = w zero ss (omega arith); distinct = names_are_distinct p ss t.0 }, tables_named ps sss t.1 (λ k d l. w (suc k) d (omega (arith, l))))
 
-each_means : (untracked : List BlockUnit) (as' : List Analysis) → EachOf (ModuleFine untracked) as' → EachOf (λ (a : Analysis). HasNames a.found.known) as' → EachOf (RegionLinesMean untracked) as'
+each_means : (untracked : List BlockUnit) (fs : List ModuleRegions) → EachOf (ModuleFine IsPlain untracked) fs → EachOf (λ (f : ModuleRegions). HasNames f.analysis.found.known) fs → EachOf RegionLinesMean fs
 each_means untracked [] h k = tt
-each_means untracked (a ∷ as') h k = (module_means untracked a h.0 k.0, each_means untracked as' h.1 k.1)
+each_means untracked (f ∷ fs) h k = (module_means untracked f h.0 k.0, each_means untracked fs h.1 k.1)
 
 pub regions_are_readable : RegionsAreReadable
-regions_are_readable ps sss g t =
-    each_all (ModuleFine g.untracked) (λ (a : Analysis). AreReadable (symbol_names a.found.known.symbols) (regions_in g.untracked a)) (module_readable g.untracked) (analyses (known_of ps sss) g) (modules_fine ps sss g t)
+regions_are_readable ps sss g t n =
+    each_all (ModuleFine IsPlain g.untracked) (λ (f : ModuleRegions). AreReadable (symbol_names f.analysis.found.known.symbols) f.regions) (module_readable g.untracked) (all_regions g (analyses (known_of ps sss) g)) (modules_fine IsPlain ps sss g t n)
 
 pub region_lines_mean_regions : RegionLinesMeanRegions
-region_lines_mean_regions ps sss g t w =
-    each_all (RegionLinesMean g.untracked) (RegionLinesMean g.untracked) (λ a h. h) (analyses (known_of ps sss) g)
-    (each_means g.untracked (analyses (known_of ps sss) g) (modules_fine ps sss g t) (analyses_with HasNames (known_of ps sss) g (tables_named ps sss t w)))
+region_lines_mean_regions ps sss g t w n =
+    let ks = known_of ps sss in
+    let fs = all_regions g (analyses ks g) in
+    each_all RegionLinesMean RegionLinesMean (λ f h. h) fs (each_means g.untracked fs (modules_fine IsPlain ps sss g t n) (regions_with HasNames ks g (tables_named ps sss t w)))

@@ -12,18 +12,22 @@ use Rattle.roundtrip_systems.specs.Reading.{Bytes}
 use Rattle.region_sets.specs.declared.region.Region.{Region}
 use Rattle.region_lines.specs.RegionLines.{set_lines, found_lines, own_lines, stmt_lines, part_lines, list_lines, arms_lines, arm_lines, else_lines, loop_lines, entry_lines, region_lines_of}
 use Rattle.f77_symbols.specs.declared.variable.Unit.{Unit as BlockUnit}
+use Rattle.f77_symbols.specs.declared.variable.Variable.{Variable}
+use Rattle.f77_symbols.specs.declared.variable.Variable.TheVariants.{Own, Block, Saved}
+use Rattle.f77_symbols.specs.Symbols.{SymbolTree}
 use Rattle.f77_meaning.specs.Modules.{known_of, symbol_names}
-use Rattle.scalar_phases.specs.Phases.{Analysis, analyses}
+use Rattle.scalar_phases.specs.Phases.{analyses}
+use Rattle.region_phases.specs.Phases.{ModuleRegions, all_regions}
 use Rattle.roundtrip_text.specs.Texts.{IsPassedOver}
-use Rattle.roundtrip_programs.specs.Lines.{AreShown}
+use Rattle.roundtrip_programs.specs.Lines.{IsShown, AreShown}
 use Rattle.roundtrip_regions.specs.Laws.{IsShownVariable, RegionLinesArePassedOver}
 use Rattle.laws_lines.specs.Laws.{IsTracked}
 use Rattle.laws_lines.proofs.PhaseVars.{EachOf, each_all, value_is}
-use Rattle.laws_region_lines.specs.Laws.{regions_in}
+use Rattle.laws_region_lines.specs.Names.{SymbolNamed, IsNamed}
 use Rattle.laws_region_lines.specs.LineLaws.{RegionLinesPass, AllRegionLinesPass}
-use Rattle.laws_region_lines.proofs.AccessVars.{IsNamedIn}
+use Rattle.laws_region_lines.proofs.AccessVars.{IsNamedBy}
 use Rattle.laws_region_lines.proofs.RegionVars.{AreFine}
-use Rattle.laws_region_lines.proofs.ProgramRegions.{ModuleFine, modules_fine}
+use Rattle.laws_region_lines.proofs.ProgramRegions.{ModuleFine, modules_fine, each_named, regions_with}
 
 abbrev AreShownRegions : List Region → Type 0
 AreShownRegions rs = AllByRecursion (λ (r : Region). IsShownVariable r.variable) rs
@@ -105,24 +109,35 @@ module _ (law : RegionLinesArePassedOver) (names : List Bytes) (sets : Results (
 
 -- ---- modules
 
-fine_shown : (names : List Bytes) (ok : ℕ → Type 0) (rs : List Region) → AreFine (IsNamedIn names) ok rs → AreShownRegions rs
+shown_variable : (names : List Bytes) (v : Variable) → IsNamedBy IsShown names v → IsShownVariable v
+shown_variable names (Own n) h = tt
+shown_variable names (Block b) h = h
+shown_variable names (Saved s x) h = h
+
+fine_shown : (names : List Bytes) (ok : ℕ → Type 0) (rs : List Region) → AreFine (IsNamedBy IsShown names) ok rs → AreShownRegions rs
 fine_shown names ok [] h = tt
-fine_shown names ok (r ∷ rs) h = (h.0.0.0, fine_shown names ok rs h.1)
+fine_shown names ok (r ∷ rs) h = (shown_variable names r.variable h.0.0, fine_shown names ok rs h.1)
 
-module_passes : RegionLinesArePassedOver → (untracked : List BlockUnit) (a : Analysis) → ModuleFine untracked a → RegionLinesPass untracked a
-module_passes law untracked a h are =
-    let ok = IsTracked untracked a.found.known in
-    let names = symbol_names a.found.known.symbols in
-    let sets = regions_in untracked a in
-    lines_pass law names sets are (record {
-      at = λ n rs e. fine_shown names ok rs (value_is (AreFine (IsNamedIn names) ok) sets.at n rs h.at e);
-      summary = fine_shown names ok sets.summary h.summary;
-    }) a.found.known.read.main a.found.known.read.body
+pub names_shown : (ss : List SymbolTree) → AllByRecursion (SymbolNamed IsShown) ss → AreShown (symbol_names ss)
+names_shown [] h = tt
+names_shown (s ∷ ss) h = record { first = h.0.0; others = names_shown ss h.1 }
 
-each_passes : RegionLinesArePassedOver → (untracked : List BlockUnit) (as' : List Analysis) → EachOf (ModuleFine untracked) as' → EachOf (RegionLinesPass untracked) as'
-each_passes law untracked [] h = tt
-each_passes law untracked (a ∷ as') h = (module_passes law untracked a h.0, each_passes law untracked as' h.1)
+module_passes : RegionLinesArePassedOver → (untracked : List BlockUnit) (f : ModuleRegions) → IsNamed IsShown f.analysis.found.known → ModuleFine IsShown untracked f → RegionLinesPass f
+module_passes law untracked f named h =
+    let k = f.analysis.found.known in
+    let ok = IsTracked untracked k in
+    let names = symbol_names k.symbols in
+    lines_pass law names f.regions (names_shown k.symbols named.1) (record {
+      at = λ n rs e. fine_shown names ok rs (value_is (AreFine (IsNamedBy IsShown names) ok) f.regions.at n rs h.at e);
+      summary = fine_shown names ok f.regions.summary h.summary;
+    }) k.read.main k.read.body
+
+each_passes : RegionLinesArePassedOver → (untracked : List BlockUnit) (fs : List ModuleRegions) → EachOf (λ (f : ModuleRegions). IsNamed IsShown f.analysis.found.known) fs → EachOf (ModuleFine IsShown untracked) fs → EachOf RegionLinesPass fs
+each_passes law untracked [] n h = tt
+each_passes law untracked (f ∷ fs) n h = (module_passes law untracked f n.0 h.0, each_passes law untracked fs n.1 h.1)
 
 pub all_pass : RegionLinesArePassedOver → AllRegionLinesPass
-all_pass law ps sss g t =
-    each_all (RegionLinesPass g.untracked) (RegionLinesPass g.untracked) (λ a h. h) (analyses (known_of ps sss) g) (each_passes law g.untracked (analyses (known_of ps sss) g) (modules_fine ps sss g t))
+all_pass law ps sss g t n =
+    let ks = known_of ps sss in
+    let fs = all_regions g (analyses ks g) in
+    each_all RegionLinesPass RegionLinesPass (λ f h. h) fs (each_passes law g.untracked fs (regions_with (IsNamed IsShown) ks g (each_named IsShown ks n)) (modules_fine IsShown ps sss g t n))

@@ -1,9 +1,13 @@
--- Regions of the modules of a program have subscripts and tracked cells alone.
+-- Regions of the modules of a program have subscripts and tracked cells alone: module by module, callees before callers.
 use Rattle.affine_forms.specs.Scalars.{flag_of, is_cell, if_cell}
 use Rattle.affine_systems.specs.declared.row.Var.{Var}
+use Rattle.affine_systems.specs.declared.row.Var.TheVariants.{Cell, Exit, Phi, Aux}
 use Rattle.affine_systems.specs.declared.row.System.{System}
 use Rattle.call_graph.specs.declared.graph.Graph.{Graph}
 use Rattle.call_translation.specs.Common.{is_unit, tracked_from}
+use Rattle.array_regions.specs.Calls.{Callees}
+use Rattle.array_regions.specs.Modules.{calls_of}
+use Rattle.f77_ast.specs.Trees.{ExprTrees}
 use Rattle.f77_ast.specs.DeclTrees.{ParsedTree}
 use Rattle.f77_checks.specs.Dimensions.{has_bad_bound, dims_of, is_too_big, is_bad_shape, check_bounds, check_shape, check_shapes}
 use Rattle.f77_meaning.specs.Modules.{Known, known_of, symbol_names}
@@ -11,39 +15,50 @@ use Rattle.f77_names.specs.Entries.{ShapeTree, EntryTree}
 use Rattle.f77_names.specs.Tables.{NameTable}
 use Rattle.f77_results.specs.declared.results.At.{At}
 use Rattle.f77_symbols.specs.Symbols.{SymbolTree, number_from}
+use Rattle.f77_results.specs.Summaries.{SummaryTree}
+use Rattle.f77_symbols.specs.declared.symbol.Place.{Place}
+use Rattle.f77_symbols.specs.declared.symbol.Place.TheVariants.{Local, Dummy, Block, Constant}
 use Rattle.f77_symbols.specs.declared.variable.Unit.{Unit as BlockUnit}
 use Rattle.f77_symbols.specs.declared.variable.Variable.{Variable}
 use Rattle.laws_lines.proofs.PhaseVars.{EachOf, each-append, each_all, each_reverse, got_each, AnalysisOk, analyses_ok, value_is}
 use Rattle.laws_lines.proofs.RuleVars.{IsDone, unchanging_done}
 use Rattle.laws_lines.proofs.StatementVars.{AllAt, Scope}
-use Rattle.laws_lines.proofs.SystemVars.{IsNeat, neat_over}
+use Rattle.laws_lines.proofs.CallVars.{Every}
+use Rattle.laws_lines.proofs.SystemVars.{IsNeat, neat_over, system_more}
 use Rattle.laws_lines.specs.Laws.{IsTracked}
 use Rattle.laws_lines.specs.Variables.{IsOver}
 use Rattle.laws_programs.specs.Programs.{AreTables}
-use Rattle.laws_region_lines.proofs.AccessVars.{IsNamedIn, FewBounds}
+use Rattle.laws_region_lines.proofs.AccessVars.{IsNamedBy, FewBounds, Fine}
+use Rattle.laws_region_lines.proofs.CallRegions.{MaybeFine, CalleesFine, call_fine}
 use Rattle.laws_region_lines.proofs.Indexes.{indexes_are_symbols}
 use Rattle.laws_region_lines.proofs.RegionVars.{AreFine}
 use Rattle.laws_region_lines.proofs.StatementRegions.{list_at_fine, summary_fine}
 use Rattle.laws_region_lines.specs.Indexes.{counts_other}
-use Rattle.laws_region_lines.specs.Laws.{regions_in, AreOverPlaces, RegionsAreOver, RegionsAreOverPlaces}
+use Rattle.laws_region_lines.specs.Names.{PlaceNamed, SymbolNamed, IsNamed, AreNamed}
+use Rattle.laws_region_lines.specs.Laws.{AreOverPlaces, RegionsAreOver, RegionsAreOverPlaces}
 use Rattle.laws_region_lines.specs.Places.{IsPlaceOf, IsOne}
 use Rattle.laws_tables.proofs.Answers.{Answered, lines_in, layout_in, found_none, answered_by}
 use Rattle.laws_tables.proofs.NameRefusals.{shapes_back}
 use Rattle.laws_tables.proofs.StatementRefusals.{noted_none, stmts_back}
 use Rattle.refusal_codes.specs.declared.code.Code.TheVariants.{BadDimension}
 use Rattle.refusal_codes.specs.declared.refusal.Refusal.{Refusal}
+use Rattle.region_phases.specs.Phases.{ModuleRegions, with_callee, with_regions, found_in, all_regions}
+use Rattle.region_phases.specs.Phases as regions
 use Rattle.region_sets.specs.declared.region.Region.{Region}
-use Rattle.scalar_phases.specs.Phases.{scope_of, place_of, module_at, module_of, Found, no_callees, with_callee, found_of, maybe_found, found_in, Analysis, sites_of, analysis_of, analyses_from, analyses}
+use Rattle.region_translation.specs.Sides.{changed_cells}
+use Rattle.scalar_phases.specs.Phases.{scope_of, place_of, module_at, module_of, Found, found_of, maybe_found, Analysis, sites_of, analysis_of, analyses_from, analyses}
+use Rattle.scalar_phases.specs.Phases as scalars
 use Rattle.std.proofs.Common.{◌≡◌, ℕ, zero, suc, ◌+◌, ◌-◌, Bool, true, false, ◌&&◌, ◌||◌, List, [], ◌∷◌, ◌++◌, Option, Some, None, arith, refl, sym, ap, ◌∙◌, subst, nat_eq, length, ◌≤◌}
 use Rattle.std.proofs.lemmas.Bool.Decides.{nat_tests}
 use Rattle.std.proofs.lemmas.Bool.{ne_eqb, or_parts}
+use Rattle.std.proofs.lemmas.Slice.Eq.{bytes_eq-Decides}
 use Rattle.std.specs.List.{AllByRecursion}
-use Rattle.std.specs.Prelude.{if◌then◌else◌, reverse, slice_get, option_to_list, is_some, nat_lt, ◌&&◌, ◌||◌}
+use Rattle.std.specs.Prelude.{if◌then◌else◌, reverse, map, bytes_eq, slice_get, option_to_list, is_some, nat_lt}
 use Rattle.storage_layout.specs.Symbols.{valued, checked}
 use Rattle.storage_layout.specs.Table.{Layout, bounds_in, symbols_from}
 use Rattle.tracked_cells.specs.Tracked.{tracked_of}
 use Rattle.transformer_algebra.specs.declared.transformer.Transformer.{Transformer}
-use Rattle.transformers.specs.Given.{Callees}
+use Rattle.transformers.specs.Given as given
 use Rattle.transformers.specs.Jumps.{list_has}
 use Rattle.transformers.specs.Lists.{value_at, or_unchanging, transformer_at}
 
@@ -158,13 +173,13 @@ module _ (W : Known → Type 0) where
       go None q = cc
       go (Some i) q = got_each W ks i k h q
 
-  founds_with : (untracked : List BlockUnit) (ks : List Known) → EachOf W ks → (cs : Callees) (xs : List (List ℕ)) → EachOf (λ (f : Found). W f.known) (found_in untracked ks cs xs)
+  founds_with : (untracked : List BlockUnit) (ks : List Known) → EachOf W ks → (cs : given.Callees) (xs : List (List ℕ)) → EachOf (λ (f : Found). W f.known) (scalars.found_in untracked ks cs xs)
   founds_with untracked ks h cs [] = tt
   founds_with untracked ks h cs (x ∷ xs) = go (module_of ks x) refl (λ ds. founds_with untracked ks h ds xs)
     where
-      go : (o : Option Known) → module_of ks x ≡ o → ((ds : Callees) → EachOf (λ (f : Found). W f.known) (found_in untracked ks ds xs)) → EachOf (λ (f : Found). W f.known) (option_to_list (maybe_found untracked cs o) ++ found_in untracked ks (with_callee (maybe_found untracked cs o) cs) xs)
-      go None e ih = ih (with_callee None cs)
-      go (Some k) e ih = (module_with ks h x k e, ih (with_callee (Some (found_of untracked cs k)) cs))
+      go : (o : Option Known) → module_of ks x ≡ o → ((ds : given.Callees) → EachOf (λ (f : Found). W f.known) (scalars.found_in untracked ks ds xs)) → EachOf (λ (f : Found). W f.known) (option_to_list (maybe_found untracked cs o) ++ scalars.found_in untracked ks (scalars.with_callee (maybe_found untracked cs o) cs) xs)
+      go None e ih = ih (scalars.with_callee None cs)
+      go (Some k) e ih = (module_with ks h x k e, ih (scalars.with_callee (Some (found_of untracked cs k)) cs))
 
   from_with : (untracked : List BlockUnit) (done : List Analysis) (fs : List Found) → EachOf (λ (a : Analysis). W a.found.known) done → EachOf (λ (f : Found). W f.known) fs → EachOf (λ (a : Analysis). W a.found.known) (analyses_from untracked done fs)
   from_with untracked done [] d h = d
@@ -172,10 +187,20 @@ module _ (W : Known → Type 0) where
       let new = analysis_of untracked (sites_of untracked done f.known.read.name) f in
       from_with untracked (done ++ new ∷ []) fs (each-append (λ (a : Analysis). W a.found.known) done (new ∷ []) d (h.0, tt)) h.1
 
-  pub analyses_with : (ks : List Known) (g : Graph) → EachOf W ks → EachOf (λ (a : Analysis). W a.found.known) (analyses ks g)
+  analyses_with : (ks : List Known) (g : Graph) → EachOf W ks → EachOf (λ (a : Analysis). W a.found.known) (analyses ks g)
   analyses_with ks g h =
-      let fs = found_in g.untracked ks no_callees g.order in
-      from_with g.untracked [] (reverse fs) tt (each_reverse (λ (f : Found). W f.known) fs (founds_with g.untracked ks h no_callees g.order))
+      let fs = scalars.found_in g.untracked ks scalars.no_callees g.order in
+      from_with g.untracked [] (reverse fs) tt (each_reverse (λ (f : Found). W f.known) fs (founds_with g.untracked ks h scalars.no_callees g.order))
+
+  -- so it is of each module with its regions
+  regions_from : (untracked : List BlockUnit) (cs : Callees) (as' : List Analysis) → EachOf (λ (a : Analysis). W a.found.known) as' → EachOf (λ (f : ModuleRegions). W f.analysis.found.known) (found_in untracked cs as')
+  regions_from untracked cs [] h = tt
+  regions_from untracked cs (a ∷ as') h = (h.0, regions_from untracked (with_callee (with_regions untracked cs a) cs) as' h.1)
+
+  pub regions_with : (ks : List Known) (g : Graph) → EachOf W ks → EachOf (λ (f : ModuleRegions). W f.analysis.found.known) (all_regions g (analyses ks g))
+  regions_with ks g h =
+      let as' = analyses ks g in
+      regions_from g.untracked regions.no_callees (reverse as') (each_reverse (λ (a : Analysis). W a.found.known) as' (analyses_with ks g h))
 
 -- ---- the regions of its modules
 
@@ -192,43 +217,137 @@ at_each : {T : Type 0} (P Q : T → Type 0) → ((x : T) → P x → Q x) → (x
 at_each P Q f [] h = tt
 at_each P Q f (x ∷ xs) h = (f x.value h.0, at_each P Q f xs h.1)
 
--- of a symbol of the module
-abbrev pub IsNamedHere : Analysis → Variable → Type 0
-IsNamedHere a v = IsNamedIn (symbol_names a.found.known.symbols) v
+-- ---- CALLs
 
--- its regions are of its symbols, and have such variables alone
-pub record ModuleFine (untracked : List BlockUnit) (a : Analysis) : Type 0 where
-  pub at : AllAt (AreFine (IsNamedHere a) (IsTracked untracked a.found.known)) (regions_in untracked a).at
-  pub summary : AreFine (IsNamedHere a) (IsTracked untracked a.found.known) (regions_in untracked a).summary
+module _ (Name : List ℕ → Type 0) where
+  -- of a symbol of the module, or of a variable with such a name
+  abbrev pub IsNamedHere : Known → Variable → Type 0
+  IsNamedHere k v = IsNamedBy Name (symbol_names k.symbols) v
 
-module_fine : (untracked : List BlockUnit) (a : Analysis) → AnalysisOk untracked a → IsTold a.found.known → ModuleFine untracked a
-module_fine untracked a h told =
-    let k = a.found.known in
+  -- its regions are of such variables, and have such places alone
+  pub record ModuleFine (untracked : List BlockUnit) (f : ModuleRegions) : Type 0 where
+    pub at : AllAt (AreFine (IsNamedHere f.analysis.found.known) (IsTracked untracked f.analysis.found.known)) f.regions.at
+    pub summary : AreFine (IsNamedHere f.analysis.found.known) (IsTracked untracked f.analysis.found.known) f.regions.summary
+
+  -- what is known of the module of an analysis
+  record ModuleTold (untracked : List BlockUnit) (a : Analysis) : Type 0 where
+    ok : AnalysisOk untracked a
+    told : IsTold a.found.known
+    named : IsNamed Name a.found.known
+
+  map_long : {A B : Type 0} (f : A → B) (xs : List A) → length xs ≡ length (map f xs)
+  map_long f [] = refl
+  map_long f (x ∷ xs) = ap suc (map_long f xs)
+
+  module_fine : (untracked : List BlockUnit) (cs : Callees) (a : Analysis) → ModuleTold untracked a → CalleesFine Name cs → ModuleFine untracked (with_regions untracked cs a)
+  module_fine untracked cs a h callees =
+      let k = a.found.known in
+      let ok = IsTracked untracked k in
+      let m = scope_of untracked k in
+      let t = transformer_at a.found.own.at in
+      let scope = scope_flags untracked k in
+      let seven_each = few_at k.symbols h.told.0 in
+      let done = found_done ok a.found.own.at h.ok.found.at in
+      let c = calls_of m untracked a.found.own.at cs in
+      let called : (x : List ℕ) (es : ExprTrees) → Fine Name ok m scope seven_each (c x es) =
+      call_fine Name ok m scope seven_each (map_long (λ (s : SymbolTree). s.name) k.symbols) (changed_cells a.found.own.at) untracked cs callees in
+      record {
+        at = list_at_fine Name ok m scope seven_each t done c called k.read.body h.told.1;
+        summary = summary_fine Name ok m scope seven_each t done c called k.read.body h.told.1;
+      }
+
+  -- a summary is of places, whichever cells they are
+  any_cell : (ok : ℕ → Type 0) (v : Var) → IsPlaceOf ok v → IsPlaceOf Every v
+  any_cell ok (Cell n) h = tt
+  any_cell ok (Exit n) h = absurd h
+  any_cell ok (Phi n) h = h
+  any_cell ok (Aux n) h = absurd h
+
+  one_more : (P Q : System → Type 0) → ((s : System) → P s → Q s) → (ss : List System) → IsOne P ss → IsOne Q ss
+  one_more P Q f [] h = absurd h
+  one_more P Q f (s ∷ []) h = f s h
+  one_more P Q f (s ∷ (q ∷ qs)) h = absurd h
+
+  any_fine : (N : Variable → Type 0) (ok : ℕ → Type 0) (rs : List Region) → AreFine N ok rs → AreFine N Every rs
+  any_fine N ok [] h = tt
+  any_fine N ok (r ∷ rs) h =
+      ((h.0.0, one_more (IsNeat (IsPlaceOf ok)) (IsNeat (IsPlaceOf Every)) (system_more (IsPlaceOf ok) (IsPlaceOf Every) (any_cell ok)) r.pieces h.0.1), any_fine N ok rs h.1)
+
+  more_callees : (untracked : List BlockUnit) (f : ModuleRegions) (cs : Callees) → IsNamed Name f.analysis.found.known → ModuleFine untracked f → CalleesFine Name cs → CalleesFine Name (with_callee f cs)
+  more_callees untracked f cs named h callees x = go (bytes_eq name x) refl
+    where
+      k : Known
+      k = f.analysis.found.known
+
+      name : List ℕ
+      name = k.read.name
+
+      summary : SummaryTree (List Region)
+      summary = record { symbols = k.symbols; value = f.regions.summary }
+
+      go : (b : Bool) → bytes_eq name x ≡ b → MaybeFine Name x (if b then Some summary else cs x)
+      go true e = record {
+        title = subst Name ((bytes_eq-Decides name x).0 e) named.0;
+        table = named.1;
+        names = symbol_names k.symbols;
+        value = any_fine (IsNamedHere k) (IsTracked untracked k) f.regions.summary h.summary;
+      }
+      go false e = callees x
+
+  -- modules in an order in which callees come before callers, each with the summaries of those before it
+  found_fine : (untracked : List BlockUnit) (cs : Callees) (as' : List Analysis) → CalleesFine Name cs → EachOf (ModuleTold untracked) as' → EachOf (ModuleFine untracked) (found_in untracked cs as')
+  found_fine untracked cs [] callees h = tt
+  found_fine untracked cs (a ∷ as') callees h =
+      let f = with_regions untracked cs a in
+      let first = module_fine untracked cs a h.0 callees in
+      (first, found_fine untracked (with_callee f cs) as' (more_callees untracked f cs h.0.named first callees) h.1)
+
+  all_told : (untracked : List BlockUnit) (as' : List Analysis) → EachOf (AnalysisOk untracked) as' → EachOf (λ (a : Analysis). IsTold a.found.known) as' → EachOf (λ (a : Analysis). IsNamed Name a.found.known) as'
+      → EachOf (ModuleTold untracked) as'
+  all_told untracked [] h k n = tt
+  all_told untracked (a ∷ as') h k n = (record { ok = h.0; told = k.0; named = n.0 }, all_told untracked as' h.1 k.1 n.1)
+
+  pub each_named : (ks : List Known) → AreNamed Name ks → EachOf (IsNamed Name) ks
+  each_named [] h = tt
+  each_named (k ∷ ks) h = (h.0, each_named ks h.1)
+
+  pub modules_fine : (ps : List ParsedTree) (sss : List (List SymbolTree)) (g : Graph) → AreTables ps sss → AreNamed Name (known_of ps sss) → EachOf (ModuleFine g.untracked) (all_regions g (analyses (known_of ps sss) g))
+  modules_fine ps sss g t n =
+      let ks = known_of ps sss in
+      let as' = analyses ks g in
+      found_fine g.untracked regions.no_callees (reverse as') (λ x. tt)
+      (each_reverse (ModuleTold g.untracked) as' (all_told g.untracked as' (analyses_ok ps sss g t) (analyses_with IsTold ks g (knowns_told ps sss t)) (analyses_with (IsNamed Name) ks g (each_named ks n))))
+
+-- ---- whatever names are
+
+abbrev Any : List ℕ → Type 0
+Any x = Unit {0}
+
+any_table : (ss : List SymbolTree) → AllByRecursion (SymbolNamed Any) ss
+any_table [] = tt
+any_table (s ∷ ss) = ((tt, place s.place), any_table ss)
+  where
+    place : (p : Place) → PlaceNamed Any p
+    place (Local g o) = tt
+    place (Dummy n) = tt
+    place (Block b o) = tt
+    place (Constant v) = tt
+
+any_named : (ks : List Known) → AreNamed Any ks
+any_named [] = tt
+any_named (k ∷ ks) = ((tt, any_table k.symbols), any_named ks)
+
+regions_over : (untracked : List BlockUnit) (f : ModuleRegions) → ModuleFine Any untracked f → RegionsAreOver untracked f
+regions_over untracked f h =
+    let k = f.analysis.found.known in
     let ok = IsTracked untracked k in
-    let m = scope_of untracked k in
-    let t = transformer_at a.found.own.at in
-    let scope = scope_flags untracked k in
-    let seven_each = few_at k.symbols told.0 in
-    let done = found_done ok a.found.own.at h.found.at in
-    record { at = list_at_fine ok m scope seven_each t done k.read.body told.1; summary = summary_fine ok m scope seven_each t done k.read.body told.1 }
-
-both_fine : (untracked : List BlockUnit) (as' : List Analysis) → EachOf (AnalysisOk untracked) as' → EachOf (λ (a : Analysis). IsTold a.found.known) as' → EachOf (ModuleFine untracked) as'
-both_fine untracked [] h k = tt
-both_fine untracked (a ∷ as') h k = (module_fine untracked a h.0 k.0, both_fine untracked as' h.1 k.1)
-
-pub modules_fine : (ps : List ParsedTree) (sss : List (List SymbolTree)) (g : Graph) → AreTables ps sss → EachOf (ModuleFine g.untracked) (analyses (known_of ps sss) g)
-modules_fine ps sss g t =
-    both_fine g.untracked (analyses (known_of ps sss) g) (analyses_ok ps sss g t) (analyses_with IsTold (known_of ps sss) g (knowns_told ps sss t))
-
-regions_over : (untracked : List BlockUnit) (a : Analysis) → ModuleFine untracked a → RegionsAreOver untracked a
-regions_over untracked a h =
-    let ok = IsTracked untracked a.found.known in
-    let each = at_each (AreFine (IsNamedHere a) ok) (AreOverPlaces untracked a) (all_over (IsNamedHere a) ok) (regions_in untracked a).at h.at in
+    let each = at_each (AreFine (IsNamedHere Any k) ok) (AreOverPlaces untracked f.analysis) (all_over (IsNamedHere Any k) ok) f.regions.at h.at in
     record {
-      at = each_all (λ (x : At (List Region)). AreOverPlaces untracked a x.value) (λ (x : At (List Region)). AreOverPlaces untracked a x.value) (λ x i. i) (regions_in untracked a).at each;
-      summary = all_over (IsNamedHere a) ok (regions_in untracked a).summary h.summary;
+      at = each_all (λ (x : At (List Region)). AreOverPlaces untracked f.analysis x.value) (λ (x : At (List Region)). AreOverPlaces untracked f.analysis x.value) (λ x i. i) f.regions.at each;
+      summary = all_over (IsNamedHere Any k) ok f.regions.summary h.summary;
     }
 
 pub regions_are_over_places : RegionsAreOverPlaces
 regions_are_over_places ps sss g t =
-    each_all (ModuleFine g.untracked) (RegionsAreOver g.untracked) (regions_over g.untracked) (analyses (known_of ps sss) g) (modules_fine ps sss g t)
+    let ks = known_of ps sss in
+    each_all (ModuleFine Any g.untracked) (RegionsAreOver g.untracked) (regions_over g.untracked) (all_regions g (analyses ks g)) (modules_fine Any ps sss g t (any_named ks))

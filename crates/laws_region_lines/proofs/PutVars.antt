@@ -128,24 +128,24 @@ exit_nil c d e rs s h = go (nat_eq c d) refl
 
 -- ---- which variables rows have
 
-some_is : {A : Type 0} (x y : A) → Some x ≡ Some y → x ≡ y
+pub some_is : {A : Type 0} (x y : A) → Some x ≡ Some y → x ≡ y
 some_is x y q = cc
 
-none_some : {A : Type 0} {B : Type 0} (x : A) → None ≡ Some x → B
+pub none_some : {A : Type 0} {B : Type 0} (x : A) → None ≡ Some x → B
 none_some x q = absurd (cc)
 
 module _ (such : Var → Type 0) where
-  abbrev GivenIf : Option Row → Type 0
+  abbrev pub GivenIf : Option Row → Type 0
   GivenIf None = Unit {0}
   GivenIf (Some r) = Given such r
 
-  abbrev NormalGiven : Normal → Type 0
+  abbrev pub NormalGiven : Normal → Type 0
   NormalGiven (Kept s) = Given such s
   NormalGiven Always = Unit {0}
   NormalGiven Never = Unit {0}
   NormalGiven TooBig = Unit {0}
 
-  normal_given : (r : Row) → Given such r → NormalGiven (normal false r)
+  pub normal_given : (r : Row) → Given such r → NormalGiven (normal false r)
   normal_given r g = go (normal false r) refl
     where
       go : (n : Normal) → normal false r ≡ n → NormalGiven n
@@ -154,7 +154,7 @@ module _ (such : Var → Type 0) where
       go Never e = tt
       go TooBig e = tt
 
-  unless_given : (r : Row) (n : Normal) → Given such r → NormalGiven n → GivenIf (unless_too_big n r)
+  pub unless_given : (r : Row) (n : Normal) → Given such r → NormalGiven n → GivenIf (unless_too_big n r)
   unless_given r (Kept s) g k = k
   unless_given r Always g k = g
   unless_given r Never g k = g
@@ -166,11 +166,11 @@ module _ (such : Var → Type 0) where
   settled_given r Never g k = (tt, tt)
   settled_given r TooBig g k = g
 
-  form_given : (o : Option Row) → GivenIf o → GivenIf (normal_form o)
+  pub form_given : (o : Option Row) → GivenIf o → GivenIf (normal_form o)
   form_given None g = tt
   form_given (Some r) g = settled_given r (normal false r) g (normal_given r g)
 
-  by_row_given : (r : Row) (v : Var) (e : Row) → Given such r → Given such e → Given such (by_row r v e)
+  pub by_row_given : (r : Row) (v : Var) (e : Row) → Given such r → Given such e → Given such (by_row r v e)
   by_row_given r v e g h =
       let c = neg_ℤ (factor_of v r.terms *ℤ factor_of v e.terms) in
       (ascends-combined (pos 1) r.terms c e.terms, each-combined such (pos 1) r.terms c e.terms g.1 h.1)
@@ -185,7 +185,7 @@ module _ (such : Var → Type 0) where
       go true = form_given (substitute r (Exit c) e) (unless_given (by_row r (Exit c) e) (normal false (by_row r (Exit c) e)) made (normal_given (by_row r (Exit c) e) made))
       go false = g
 
-  before_given : (o : Option Row) (rs : List Row) → GivenIf o → AreGiven such rs → AreGiven such (before_rows o rs)
+  pub before_given : (o : Option Row) (rs : List Row) → GivenIf o → AreGiven such rs → AreGiven such (before_rows o rs)
   before_given None rs h k = k
   before_given (Some r) rs h k = (h, k)
 

@@ -48,10 +48,10 @@ one_map P f g [] h = absurd h
 one_map P f g (s ∷ []) h = g s h
 one_map P f g (s ∷ (q ∷ qs)) h = absurd h
 
-one_shadow : (P : System → Type 0) (f : System → Shadow) → ((s : System) → P s → P (f s).system) → (ss : List System) → IsOne P ss → IsOne P (systems (map f ss))
-one_shadow P f g [] h = absurd h
-one_shadow P f g (s ∷ []) h = g s h
-one_shadow P f g (s ∷ (q ∷ qs)) h = absurd h
+pub one_shadow : (P Q : System → Type 0) (f : System → Shadow) → ((s : System) → P s → Q (f s).system) → (ss : List System) → IsOne P ss → IsOne Q (systems (map f ss))
+one_shadow P Q f g [] h = absurd h
+one_shadow P Q f g (s ∷ []) h = g s h
+one_shadow P Q f g (s ∷ (q ∷ qs)) h = absurd h
 
 one_hull : (such : Var → Type 0) (ss qs : List System) → IsOne (IsNeat such) ss → IsOne (IsNeat such) qs → IsNeat such (hull_of (ss ++ qs))
 one_hull such [] qs h k = absurd h
@@ -81,10 +81,10 @@ module _ (N : Variable → Type 0) (ok : ℕ → Type 0) where
   AreFine rs = AllByRecursion IsFine rs
 
   pub composed_fine : (t : Transformer) → IsDone ok t → (r : Region) → IsFine r → IsFine (compose r t)
-  composed_fine t d r h = (h.0, one_shadow (IsNeat (IsPlaceOf ok)) (compose_piece t) (compose_neat ok t d) r.pieces h.1)
+  composed_fine t d r h = (h.0, one_shadow (IsNeat (IsPlaceOf ok)) (IsNeat (IsPlaceOf ok)) (compose_piece t) (compose_neat ok t d) r.pieces h.1)
 
   pub looped_fine : (g : Range) → IsRangeOf ok g → (r : Region) → IsFine r → IsFine (over_loop r g)
-  looped_fine g p r h = (h.0, one_shadow (IsNeat (IsPlaceOf ok)) (loop_piece g) (loop_neat ok g p) r.pieces h.1)
+  looped_fine g p r h = (h.0, one_shadow (IsNeat (IsPlaceOf ok)) (IsNeat (IsPlaceOf ok)) (loop_piece g) (loop_neat ok g p) r.pieces h.1)
 
   -- another system for each
   pub mapped_fine : (f : System → System) → ((s : System) → IsNeat (IsPlaceOf ok) s → IsNeat (IsPlaceOf ok) (f s)) → (e : Bool) (r : Region) → IsFine r → IsFine (remade r e (map f r.pieces))

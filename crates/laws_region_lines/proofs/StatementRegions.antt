@@ -3,7 +3,7 @@ use Rattle.std.proofs.Common.{◌≡◌, ℕ, Bool, true, false, List, [], ◌�
 use Rattle.std.specs.Prelude.{◌||◌, is_none, unwrap_or}
 use Rattle.std.proofs.lemmas.Bool.{or_parts}
 use Rattle.affine_systems.proofs.Basics.{if_cases}
-use Rattle.f77_ast.specs.Trees.{ExprTree, ExprTrees, StmtTree, WhatTree, ArmTree, ArmTrees, ElseTree, LoopTree, StmtTrees}
+use Rattle.f77_ast.specs.Trees.{ExprTrees, StmtTree, WhatTree, ArmTree, ArmTrees, ElseTree, LoopTree, StmtTrees}
 use Rattle.f77_ast.specs.Trees as tree
 use Rattle.f77_symbols.specs.declared.variable.Variable.{Variable}
 use Rattle.f77_symbols.specs.Symbols.{BoundTree, SymbolTree, number_from}
@@ -24,6 +24,7 @@ use Rattle.array_regions.specs.References.{scalar}
 use Rattle.array_regions.specs.Reads.{reads, maybe_reads}
 use Rattle.array_regions.specs.Arms.{always, into_arm, past_arm, past_arms, tests_reads}
 use Rattle.array_regions.specs.Loops.{range_of, loop_reads, all_over, do_set}
+use Rattle.array_regions.specs.Calls.{Called}
 use Rattle.array_regions.specs.Statement.{stmt_set, what_set, arm_sets, arm_set, else_set, body_set, at_stmt, at_parts, at_list, at_arms, at_arm, at_else, at_loop, list_set}
 use Rattle.array_regions.specs.Entry.{bounds_reads, symbols_reads, goes_out, locals, for_callers, seen, summary_of}
 use Rattle.laws_lines.proofs.FormVars.{none_neat}
@@ -36,24 +37,24 @@ use Rattle.laws_region_lines.specs.Indexes.{has_other_index, counts_other}
 use Rattle.laws_region_lines.specs.Places.{IsPlaceOf}
 use Rattle.laws_region_lines.proofs.PieceVars.{IsRangeOf}
 use Rattle.laws_region_lines.proofs.RegionVars.{both_all, map_all, IsFine, looped_fine, mapped_fine, united_fine, at_fine, list_fine}
-use Rattle.laws_region_lines.proofs.AccessVars.{IsNamedIn, named_number, FewBounds, Fine, reads_fine, maybe_fine, assignment_fine, printing_fine, reading_fine, ReachedOk, into_ok, past_ok, all_past_ok, always_ok, met_fine, tests_fine, if_fine}
+use Rattle.laws_region_lines.proofs.AccessVars.{IsNamedBy, named_number, FewBounds, Fine, reads_fine, maybe_fine, assignment_fine, printing_fine, reading_fine, ReachedOk, into_ok, past_ok, all_past_ok, always_ok, met_fine, tests_fine, if_fine}
 
-module _ (ok : ℕ → Type 0) (m : ScopeTree) (a : Scope ok m) (few : FewBounds m.symbols) (t : ℕ → Transformer) (done : (n : ℕ) → IsDone ok (t n)) where
+module _ (Name : List ℕ → Type 0) (ok : ℕ → Type 0) (m : ScopeTree) (a : Scope ok m) (few : FewBounds m.symbols) (t : ℕ → Transformer) (done : (n : ℕ) → IsDone ok (t n)) (c : Called) (called : (x : List ℕ) (es : ExprTrees) → Fine Name ok m a few (c x es)) where
   abbrev IsNamedOne : Variable → Type 0
-  IsNamedOne = IsNamedIn m.names
+  IsNamedOne = IsNamedBy Name m.names
 
   -- a DO whose index is no symbol
   abbrev such : WhatTree → Bool
   such = counts_other m.names
 
   abbrev F : List Region → Type 0
-  F rs = Fine ok m a few rs
+  F rs = Fine Name ok m a few rs
 
   abbrev join : (xs ys : List Region) → F xs → F ys → F (xs ++ ys)
   join xs ys h k = both_all (IsFine IsNamedOne ok) xs ys h k
 
   abbrev W : Reached → Type 0
-  W w = ReachedOk ok m a few w
+  W w = ReachedOk Name ok m a few w
 
   each_done : (body : StmtTrees) → AreDone ok (each_at t body)
   each_done tree.no_stmts = tt
@@ -68,7 +69,7 @@ module _ (ok : ℕ → Type 0) (m : ScopeTree) (a : Scope ok m) (few : FewBounds
 
   loop_reads_fine : (l : LoopTree) → F (loop_reads l m)
   loop_reads_fine (tree.loop index first last step body) =
-      join (reads first m) (reads last m ++ maybe_reads step m) (reads_fine ok m a few first) (join (reads last m) (maybe_reads step m) (reads_fine ok m a few last) (maybe_fine ok m a few step))
+      join (reads first m) (reads last m ++ maybe_reads step m) (reads_fine Name ok m a few first) (join (reads last m) (maybe_reads step m) (reads_fine Name ok m a few last) (maybe_fine Name ok m a few step))
 
   index_number : (l : LoopTree) → has_other_index m.names l ≡ false → IsNumber m.names (range_of l m t).index
   index_number (tree.loop index first last step body) i = go (number_from 1 m.names index) refl i
@@ -82,67 +83,67 @@ module _ (ok : ℕ → Type 0) (m : ScopeTree) (a : Scope ok m) (few : FewBounds
       let over = all_over (range_of l m t) rs in
       united_fine IsNamedOne ok (loop_reads l m ++ (scalar Write (range_of l m t).index ∷ over))
       (join (loop_reads l m) (scalar Write (range_of l m t).index ∷ over) (loop_reads_fine l)
-      (((tt, index_number l i), none_neat (IsPlaceOf ok)), map_all (IsFine IsNamedOne ok) (λ r. over_loop r (range_of l m t)) (looped_fine IsNamedOne ok (range_of l m t) (range_is l)) rs h))
+      ((index_number l i, none_neat (IsPlaceOf ok)), map_all (IsFine IsNamedOne ok) (λ r. over_loop r (range_of l m t)) (looped_fine IsNamedOne ok (range_of l m t) (range_is l)) rs h))
 
   -- ---- statements
 
   abbrev All : List (At (List Region)) → Type 0
   All xs = AllAt F xs
 
-  lists : (body : StmtTrees) (whole : Bool) → All (at_list body m t) → F (list_regions t (accesses_at (at_list body m t)) whole body)
+  lists : (body : StmtTrees) (whole : Bool) → All (at_list body m t c) → F (list_regions t (accesses_at (at_list body m t c)) whole body)
   lists body whole h =
-      list_fine IsNamedOne ok t (accesses_at (at_list body m t)) done (at_fine IsNamedOne ok (at_list body m t) (λ n rs e. value_is F (at_list body m t) n rs h e)) whole body
+      list_fine IsNamedOne ok t (accesses_at (at_list body m t c)) done (at_fine IsNamedOne ok (at_list body m t c) (λ n rs e. value_is F (at_list body m t c) n rs h e)) whole body
 
   mutual
-    stmt_fine : (s : StmtTree) → stmt_has such s ≡ false → F (stmt_set s m t)
+    stmt_fine : (s : StmtTree) → stmt_has such s ≡ false → F (stmt_set s m t c)
     stmt_fine (tree.stmt n label w) i = what_fine w i
 
-    what_fine : (w : WhatTree) → (such w || parts_have such w) ≡ false → F (what_set w m t)
-    what_fine (tree.assign x y) i = assignment_fine ok m a few x y
+    what_fine : (w : WhatTree) → (such w || parts_have such w) ≡ false → F (what_set w m t c)
+    what_fine (tree.assign x y) i = assignment_fine Name ok m a few x y
     what_fine (tree.block_if arms other) i =
         let p = or_parts (arms_have such arms) (else_has such other) i in
-        let sets = arm_sets arms m t always in
-        let rest = else_set other m t (past_arms arms m always) in
+        let sets = arm_sets arms m t c always in
+        let rest = else_set other m t c (past_arms arms m always) in
         united_fine IsNamedOne ok (tests_reads arms m always ++ (sets ++ rest))
-        (join (tests_reads arms m always) (sets ++ rest) (tests_fine ok m a few arms always (always_ok ok m a few))
-        (join sets rest (arms_fine arms p.0 always (always_ok ok m a few)) (else_fine other p.1 (past_arms arms m always) (all_past_ok ok m a few arms always (always_ok ok m a few)))))
-    what_fine (tree.logical_if e s) i = if_fine ok m a few e (stmt_set s m t) (stmt_fine s i)
+        (join (tests_reads arms m always) (sets ++ rest) (tests_fine Name ok m a few arms always (always_ok Name ok m a few))
+        (join sets rest (arms_fine arms p.0 always (always_ok Name ok m a few)) (else_fine other p.1 (past_arms arms m always) (all_past_ok Name ok m a few arms always (always_ok Name ok m a few)))))
+    what_fine (tree.logical_if e s) i = if_fine Name ok m a few e (stmt_set s m t c) (stmt_fine s i)
     what_fine (tree.do_loop l) i = let p = or_parts (has_other_index m.names l) (loop_has such l) i in loop_fine l p.0 p.1
-    what_fine (tree.call x es) i = tt
+    what_fine (tree.call x es) i = called x es
     what_fine (tree.goto l) i = tt
     what_fine tree.continue i = tt
     what_fine tree.return i = tt
     what_fine (tree.stop text) i = tt
-    what_fine (tree.print es) i = printing_fine ok m a few es
-    what_fine (tree.read es) i = reading_fine ok m a few es
+    what_fine (tree.print es) i = printing_fine Name ok m a few es
+    what_fine (tree.read es) i = reading_fine Name ok m a few es
 
-    arms_fine : (xs : ArmTrees) → arms_have such xs ≡ false → (w : Reached) → W w → F (arm_sets xs m t w)
+    arms_fine : (xs : ArmTrees) → arms_have such xs ≡ false → (w : Reached) → W w → F (arm_sets xs m t c w)
     arms_fine tree.no_arms i w h = tt
     arms_fine (tree.more_arms x rest) i w h =
         let p = or_parts (arm_has such x) (arms_have such rest) i in
-        join (arm_set x m t (into_arm x m w)) (arm_sets rest m t (past_arm x m w)) (arm_fine x p.0 (into_arm x m w) (into_ok ok m a few x w h)) (arms_fine rest p.1 (past_arm x m w) (past_ok ok m a few x w h))
+        join (arm_set x m t c (into_arm x m w)) (arm_sets rest m t c (past_arm x m w)) (arm_fine x p.0 (into_arm x m w) (into_ok Name ok m a few x w h)) (arms_fine rest p.1 (past_arm x m w) (past_ok Name ok m a few x w h))
 
-    arm_fine : (x : ArmTree) → arm_has such x ≡ false → (w : Reached) → W w → F (arm_set x m t w)
-    arm_fine (tree.arm e body) i w h = met_fine ok m a few w h (list_regions t (accesses_at (at_list body m t)) false body) (lists body false (list_at_fine body i))
+    arm_fine : (x : ArmTree) → arm_has such x ≡ false → (w : Reached) → W w → F (arm_set x m t c w)
+    arm_fine (tree.arm e body) i w h = met_fine Name ok m a few w h (list_regions t (accesses_at (at_list body m t c)) false body) (lists body false (list_at_fine body i))
 
-    else_fine : (x : ElseTree) → else_has such x ≡ false → (w : Reached) → W w → F (else_set x m t w)
+    else_fine : (x : ElseTree) → else_has such x ≡ false → (w : Reached) → W w → F (else_set x m t c w)
     else_fine tree.no_else i w h = tt
-    else_fine (tree.otherwise body) i w h = met_fine ok m a few w h (list_regions t (accesses_at (at_list body m t)) false body) (lists body false (list_at_fine body i))
+    else_fine (tree.otherwise body) i w h = met_fine Name ok m a few w h (list_regions t (accesses_at (at_list body m t c)) false body) (lists body false (list_at_fine body i))
 
-    loop_fine : (l : LoopTree) → has_other_index m.names l ≡ false → loop_has such l ≡ false → F (body_set l m t)
+    loop_fine : (l : LoopTree) → has_other_index m.names l ≡ false → loop_has such l ≡ false → F (body_set l m t c)
     loop_fine (tree.loop index first last step body) j i =
-        do_fine (tree.loop index first last step body) j (list_regions t (accesses_at (at_list body m t)) false body) (lists body false (list_at_fine body i))
+        do_fine (tree.loop index first last step body) j (list_regions t (accesses_at (at_list body m t c)) false body) (lists body false (list_at_fine body i))
 
     -- ---- at each statement
 
-    at_stmt_fine : (s : StmtTree) → stmt_has such s ≡ false → All (at_stmt s m t)
+    at_stmt_fine : (s : StmtTree) → stmt_has such s ≡ false → All (at_stmt s m t c)
     at_stmt_fine (tree.stmt n label w) i = (what_fine w i, at_parts_fine w (or_parts (such w) (parts_have such w) i).1)
 
-    at_parts_fine : (w : WhatTree) → parts_have such w ≡ false → All (at_parts w m t)
+    at_parts_fine : (w : WhatTree) → parts_have such w ≡ false → All (at_parts w m t c)
     at_parts_fine (tree.assign x e) i = tt
     at_parts_fine (tree.block_if arms other) i =
         let p = or_parts (arms_have such arms) (else_has such other) i in
-        all_at-append F (at_arms arms m t) (at_else other m t) (at_arms_fine arms p.0) (at_else_fine other p.1)
+        all_at-append F (at_arms arms m t c) (at_else other m t c) (at_arms_fine arms p.0) (at_else_fine other p.1)
     at_parts_fine (tree.logical_if e s) i = at_stmt_fine s i
     at_parts_fine (tree.do_loop l) i = at_loop_fine l i
     at_parts_fine (tree.call x es) i = tt
@@ -153,26 +154,26 @@ module _ (ok : ℕ → Type 0) (m : ScopeTree) (a : Scope ok m) (few : FewBounds
     at_parts_fine (tree.print es) i = tt
     at_parts_fine (tree.read es) i = tt
 
-    pub list_at_fine : (ss : StmtTrees) → list_has such ss ≡ false → All (at_list ss m t)
+    pub list_at_fine : (ss : StmtTrees) → list_has such ss ≡ false → All (at_list ss m t c)
     list_at_fine tree.no_stmts i = tt
     list_at_fine (tree.more_stmts s rest) i =
         let p = or_parts (stmt_has such s) (list_has such rest) i in
-        all_at-append F (at_stmt s m t) (at_list rest m t) (at_stmt_fine s p.0) (list_at_fine rest p.1)
+        all_at-append F (at_stmt s m t c) (at_list rest m t c) (at_stmt_fine s p.0) (list_at_fine rest p.1)
 
-    at_arms_fine : (xs : ArmTrees) → arms_have such xs ≡ false → All (at_arms xs m t)
+    at_arms_fine : (xs : ArmTrees) → arms_have such xs ≡ false → All (at_arms xs m t c)
     at_arms_fine tree.no_arms i = tt
     at_arms_fine (tree.more_arms x rest) i =
         let p = or_parts (arm_has such x) (arms_have such rest) i in
-        all_at-append F (at_arm x m t) (at_arms rest m t) (at_arm_fine x p.0) (at_arms_fine rest p.1)
+        all_at-append F (at_arm x m t c) (at_arms rest m t c) (at_arm_fine x p.0) (at_arms_fine rest p.1)
 
-    at_arm_fine : (x : ArmTree) → arm_has such x ≡ false → All (at_arm x m t)
+    at_arm_fine : (x : ArmTree) → arm_has such x ≡ false → All (at_arm x m t c)
     at_arm_fine (tree.arm e body) i = list_at_fine body i
 
-    at_else_fine : (x : ElseTree) → else_has such x ≡ false → All (at_else x m t)
+    at_else_fine : (x : ElseTree) → else_has such x ≡ false → All (at_else x m t c)
     at_else_fine tree.no_else i = tt
     at_else_fine (tree.otherwise body) i = list_at_fine body i
 
-    at_loop_fine : (l : LoopTree) → loop_has such l ≡ false → All (at_loop l m t)
+    at_loop_fine : (l : LoopTree) → loop_has such l ≡ false → All (at_loop l m t c)
     at_loop_fine (tree.loop index first last step body) i = list_at_fine body i
 
   -- ---- what callers see
@@ -180,7 +181,7 @@ module _ (ok : ℕ → Type 0) (m : ScopeTree) (a : Scope ok m) (few : FewBounds
   bounds_fine : (bs : List BoundTree) → F (bounds_reads bs m)
   bounds_fine [] = tt
   bounds_fine (b ∷ bs) =
-      join (reads b.low m) (maybe_reads b.high m ++ bounds_reads bs m) (reads_fine ok m a few b.low) (join (maybe_reads b.high m) (bounds_reads bs m) (maybe_fine ok m a few b.high) (bounds_fine bs))
+      join (reads b.low m) (maybe_reads b.high m ++ bounds_reads bs m) (reads_fine Name ok m a few b.low) (join (maybe_reads b.high m) (bounds_reads bs m) (maybe_fine Name ok m a few b.high) (bounds_fine bs))
 
   symbols_fine : (ss : List SymbolTree) → F (symbols_reads ss m)
   symbols_fine [] = tt
@@ -192,8 +193,8 @@ module _ (ok : ℕ → Type 0) (m : ScopeTree) (a : Scope ok m) (few : FewBounds
       let others = seen_fine ss cs rs h.1 in
       if_cases F (goes_out ss r.variable) (for_callers cs r ∷ seen ss cs rs) (seen ss cs rs) (λ e. (mapped_fine IsNamedOne ok (without cs) (without_neat (IsPlaceOf ok) cs) false r h.0, others)) (λ e. others)
 
-  pub summary_fine : (body : StmtTrees) → list_has such body ≡ false → F (summary_of m (list_set true body m t))
+  pub summary_fine : (body : StmtTrees) → list_has such body ≡ false → F (summary_of m (list_set true body m t c))
   summary_fine body i =
-      let all = symbols_reads m.symbols m ++ list_set true body m t in
+      let all = symbols_reads m.symbols m ++ list_set true body m t c in
       united_fine IsNamedOne ok (seen m.symbols (locals m.symbols) (unite_all all))
-      (seen_fine m.symbols (locals m.symbols) (unite_all all) (united_fine IsNamedOne ok all (join (symbols_reads m.symbols m) (list_set true body m t) (symbols_fine m.symbols) (lists body true (list_at_fine body i)))))
+      (seen_fine m.symbols (locals m.symbols) (unite_all all) (united_fine IsNamedOne ok all (join (symbols_reads m.symbols m) (list_set true body m t c) (symbols_fine m.symbols) (lists body true (list_at_fine body i)))))

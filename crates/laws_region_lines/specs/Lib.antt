@@ -1,5 +1,6 @@
 pub mod Indexes
 pub mod Places
+pub mod Names
 pub mod Laws
 pub mod Lines
 pub mod LineLaws

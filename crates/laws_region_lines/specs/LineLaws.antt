@@ -2,39 +2,43 @@
 use Rattle.std.specs.Prelude.{List, All}
 use Rattle.std.specs.List.{AllByRecursion}
 use Rattle.f77_ast.specs.DeclTrees.{ParsedTree}
-use Rattle.f77_symbols.specs.declared.variable.Unit.{Unit as BlockUnit}
+use Rattle.f77_printer.specs.declared.added.Added.{Added}
 use Rattle.f77_symbols.specs.Symbols.{SymbolTree}
 use Rattle.call_graph.specs.declared.graph.Graph.{Graph}
 use Rattle.f77_meaning.specs.Modules.{known_of, symbol_names}
-use Rattle.scalar_phases.specs.Phases.{Analysis, analyses}
+use Rattle.scalar_phases.specs.Phases.{analyses}
+use Rattle.region_phases.specs.Phases.{ModuleRegions, all_regions}
 use Rattle.region_lines.specs.RegionLines.{region_lines_of}
 use Rattle.roundtrip_text.specs.Texts.{IsPassedOver}
-use Rattle.roundtrip_programs.specs.Lines.{AreShown}
+use Rattle.roundtrip_programs.specs.Lines.{IsShown}
+use Rattle.roundtrip_regions.specs.Printed.{IsPlain}
 use Rattle.roundtrip_regions.specs.Added.{AreReadable}
 use Rattle.laws_programs.specs.Programs.{AreTables}
 use Rattle.laws_lines.specs.NameLaws.{AreWords}
-use Rattle.laws_region_lines.specs.Laws.{regions_in}
+use Rattle.laws_region_lines.specs.Names.{AreNamed}
 use Rattle.laws_region_lines.specs.Lines.{HaveNoPhi, IsRegionLine}
 
--- each region is of a symbol, and its systems name only symbols and subscripts, in order
+-- what is written of the regions of a module
+abbrev pub lines_in : ModuleRegions → List Added
+lines_in f = region_lines_of f.analysis.found.known.read.main f.analysis.found.known.read.body (symbol_names f.analysis.found.known.symbols) f.regions
+
+-- each region is of a symbol, a block or a saved local, and its systems name only symbols and subscripts, in order; names are of letters, digits and `_`
 abbrev pub RegionsAreReadable : Type 0
-RegionsAreReadable = (ps : List ParsedTree) (sss : List (List SymbolTree)) (g : Graph) → AreTables ps sss →
-    All (λ (a : Analysis). AreReadable (symbol_names a.found.known.symbols) (regions_in g.untracked a)) (analyses (known_of ps sss) g)
+RegionsAreReadable = (ps : List ParsedTree) (sss : List (List SymbolTree)) (g : Graph) → AreTables ps sss → AreNamed IsPlain (known_of ps sss) →
+    All (λ (f : ModuleRegions). AreReadable (symbol_names f.analysis.found.known.symbols) f.regions) (all_regions g (analyses (known_of ps sss) g))
 
 -- each line that is written of the regions of a module, where no symbol of it is named as a subscript
-abbrev pub RegionLinesMean : List BlockUnit → Analysis → Type 0
-RegionLinesMean untracked a =
-    HaveNoPhi (symbol_names a.found.known.symbols)
-    → AllByRecursion (IsRegionLine (symbol_names a.found.known.symbols) (regions_in untracked a)) (region_lines_of a.found.known.read.main a.found.known.read.body (symbol_names a.found.known.symbols) (regions_in untracked a))
+abbrev pub RegionLinesMean : ModuleRegions → Type 0
+RegionLinesMean f = HaveNoPhi (symbol_names f.analysis.found.known.symbols) → AllByRecursion (IsRegionLine (symbol_names f.analysis.found.known.symbols) f.regions) (lines_in f)
 
 -- of modules with their tables, whose names are words
 abbrev pub RegionLinesMeanRegions : Type 0
-RegionLinesMeanRegions = (ps : List ParsedTree) (sss : List (List SymbolTree)) (g : Graph) → AreTables ps sss → All AreWords sss → All (RegionLinesMean g.untracked) (analyses (known_of ps sss) g)
+RegionLinesMeanRegions = (ps : List ParsedTree) (sss : List (List SymbolTree)) (g : Graph) → AreTables ps sss → All AreWords sss → AreNamed IsPlain (known_of ps sss) →
+    All RegionLinesMean (all_regions g (analyses (known_of ps sss) g))
 
 -- each such line is a comment line that reading drops, where names are of printable ASCII
-abbrev pub RegionLinesPass : List BlockUnit → Analysis → Type 0
-RegionLinesPass untracked a =
-    AreShown (symbol_names a.found.known.symbols) → AllByRecursion IsPassedOver (region_lines_of a.found.known.read.main a.found.known.read.body (symbol_names a.found.known.symbols) (regions_in untracked a))
+abbrev pub RegionLinesPass : ModuleRegions → Type 0
+RegionLinesPass f = AllByRecursion IsPassedOver (lines_in f)
 
 abbrev pub AllRegionLinesPass : Type 0
-AllRegionLinesPass = (ps : List ParsedTree) (sss : List (List SymbolTree)) (g : Graph) → AreTables ps sss → All (RegionLinesPass g.untracked) (analyses (known_of ps sss) g)
+AllRegionLinesPass = (ps : List ParsedTree) (sss : List (List SymbolTree)) (g : Graph) → AreTables ps sss → AreNamed IsShown (known_of ps sss) → All RegionLinesPass (all_regions g (analyses (known_of ps sss) g))

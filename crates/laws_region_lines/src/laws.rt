@@ -16,18 +16,20 @@ pub fn regions_are_over_places()
     ensures { RegionsAreOverPlaces }
 {}
 
-/// READ and WRITE regions of modules are such as their lines can tell: of symbols, on subscripts and symbols, in order.
+/// READ and WRITE regions of modules are such as their lines can tell: of symbols, blocks and saved locals, on subscripts and symbols, in
+/// order, where the names of modules, symbols and blocks are of letters, digits and `_`.
 pub fn regions_are_readable()
     ensures { RegionsAreReadable }
 {}
 
 /// Each line of a module is read as just a region that was found there, where the names of its symbols are words, and none is that of a
-/// subscript.
+/// subscript, and those of modules and blocks are of letters, digits and `_`.
 pub fn region_lines_mean_regions()
     ensures { RegionLinesMeanRegions }
 {}
 
-/// Each line of the regions of a module is a comment line that reading drops, where the names of its symbols are of printable ASCII.
+/// Each line of the regions of a module is a comment line that reading drops, where the names of modules, symbols and blocks are of
+/// printable ASCII.
 pub fn all_region_lines_pass()
     ensures { AllRegionLinesPass }
 {

@@ -1,7 +1,7 @@
 -- IFs, from their tests and their parts.
 use Rattle.std.proofs.Common.{◌≡◌, ⊎_elim, ℕ, ◌<◌, List, [], ◌++◌, Bool, true, false, refl, sym, ◌∙◌, subst, true≢false}
 use Rattle.std.specs.Prelude.{if◌then◌else◌}
-use Rattle.f77_ast.specs.Trees.{ExprTree, StmtTree, ArmTree, ArmTrees, ElseTree, StmtTrees}
+use Rattle.f77_ast.specs.Trees.{ExprTree, ArmTrees, ElseTree, StmtTrees}
 use Rattle.f77_ast.specs.Trees as tree
 use Rattle.f77_ast.specs.Store.{Store}
 use Rattle.f77_ast.specs.Runs.{Event, Answer, Gave}
@@ -108,13 +108,13 @@ module _ (k : Setting) (sound : Sound k) (solid : (x : List ℕ) (v : ℕ) → k
       tests arms w = tests_reads arms k.m w
 
       abbrev sets : ArmTrees → Reached → List Region
-      sets arms w = arm_sets arms k.m k.does w
+      sets arms w = arm_sets arms k.m k.does k.calls w
 
       abbrev last : ArmTrees → Reached → List Region
-      last arms w = else_set other k.m k.does (past_arms arms k.m w)
+      last arms w = else_set other k.m k.does k.calls (past_arms arms k.m w)
 
       abbrev pub arms_all : ArmTrees → Reached → List Region
-      arms_all arms w = tests_reads arms k.m w ++ (arm_sets arms k.m k.does w ++ else_set other k.m k.does (past_arms arms k.m w))
+      arms_all arms w = tests_reads arms k.m w ++ (arm_sets arms k.m k.does k.calls w ++ else_set other k.m k.does k.calls (past_arms arms k.m w))
 
       -- nothing is said of what is not reached
       tests_off : (arms : ArmTrees) (w : Reached) (es : List Event) → Off (scene k) (numbers_of s) w → Sharp k (tests_reads arms k.m w) s es
@@ -124,19 +124,19 @@ module _ (k : Setting) (sound : Sound k) (solid : (x : List ℕ) (v : ℕ) → k
           (met_off w (reads e k.m) s es o) (tests_off rest (if_false k.m e w) es (off_false (scene k) (numbers_of s) k.m e w o))
 
       abbrev set_of : StmtTrees → List Region
-      set_of body = list_regions k.does (accesses_at (at_list body k.m k.does)) false body
+      set_of body = list_regions k.does (accesses_at (at_list body k.m k.does k.calls)) false body
 
-      sets_off : (arms : ArmTrees) (w : Reached) (es : List Event) → Off (scene k) (numbers_of s) w → Sharp k (arm_sets arms k.m k.does w) s es
+      sets_off : (arms : ArmTrees) (w : Reached) (es : List Event) → Off (scene k) (numbers_of s) w → Sharp k (arm_sets arms k.m k.does k.calls w) s es
       sets_off tree.no_arms w es o = λ r i. elim i [ ]
       sets_off (tree.more_arms (tree.arm e body) rest) w es o =
-          sharp_append (scene k) (elements_at k) (numbers_of s) (all_met (if_true k.m e w) (set_of body)) (arm_sets rest k.m k.does (if_false k.m e w)) (λ a. accessed a es)
+          sharp_append (scene k) (elements_at k) (numbers_of s) (all_met (if_true k.m e w) (set_of body)) (arm_sets rest k.m k.does k.calls (if_false k.m e w)) (λ a. accessed a es)
           (met_off (if_true k.m e w) (set_of body) s es (off_true (scene k) (numbers_of s) k.m e w o)) (sets_off rest (if_false k.m e w) es (off_false (scene k) (numbers_of s) k.m e w o))
 
       past_off : (arms : ArmTrees) (w : Reached) → Off (scene k) (numbers_of s) w → Off (scene k) (numbers_of s) (past_arms arms k.m w)
       past_off tree.no_arms w o = o
       past_off (tree.more_arms (tree.arm e body) rest) w o = past_off rest (if_false k.m e w) (off_false (scene k) (numbers_of s) k.m e w o)
 
-      else_off : (other : ElseTree) (w : Reached) (es : List Event) → Off (scene k) (numbers_of s) w → Sharp k (else_set other k.m k.does w) s es
+      else_off : (other : ElseTree) (w : Reached) (es : List Event) → Off (scene k) (numbers_of s) w → Sharp k (else_set other k.m k.does k.calls w) s es
       else_off tree.no_else w es o = λ r i. elim i [ ]
       else_off (tree.otherwise body) w es o = met_off w (set_of body) s es o
 
@@ -158,10 +158,10 @@ module _ (k : Setting) (sound : Sound k) (solid : (x : List ℕ) (v : ℕ) → k
         this_arm = all_met (if_true k.m e w) (set_of body)
 
         abbrev later_arms : List Region
-        later_arms = arm_sets rest k.m k.does (if_false k.m e w)
+        later_arms = arm_sets rest k.m k.does k.calls (if_false k.m e w)
 
         abbrev E : List Region
-        E = else_set other k.m k.does (past_arms rest k.m (if_false k.m e w))
+        E = else_set other k.m k.does k.calls (past_arms rest k.m (if_false k.m e w))
 
         abbrev All : List Region
         All = (this_test ++ later_tests) ++ ((this_arm ++ later_arms) ++ E)
@@ -214,5 +214,5 @@ module _ (k : Setting) (sound : Sound k) (solid : (x : List ℕ) (v : ℕ) → k
             go es g z true n = goes_more D one s (λ x z fs. Shown k false (set_of body) s x fs) (λ x z fs. Shown k false All s x (es ++ fs)) (λ x y fs i. taken es fs x h g z n i) a
             go es g z false n = goes_more D two s (λ x z fs. Shown k false (later_tests ++ (later_arms ++ E)) s x fs) (λ x z fs. Shown k false All s x (es ++ fs)) (λ x y fs i. passed es fs x h g z n i) (b (holds_false (scene k) (numbers_of s) k.m e w h (n.says.false_side refl)))
 
-    pub otherwise_goes : (body : StmtTrees) (w : Reached) (one : Plan) (s : Store) → HoldsAt (scene k) w.system (numbers_of s) → Goes D one s (λ x z fs. Shown k false (list_regions k.does (accesses_at (at_list body k.m k.does)) false body) s x fs) → Goes D one s (λ x z fs. Shown k false (else_set (tree.otherwise body) k.m k.does w) s x fs)
-    otherwise_goes body w one s h g = goes_more D one s (λ x z fs. Shown k false (list_regions k.does (accesses_at (at_list body k.m k.does)) false body) s x fs) (λ x z fs. Shown k false (else_set (tree.otherwise body) k.m k.does w) s x fs) (λ x z fs i. shown_met w (list_regions k.does (accesses_at (at_list body k.m k.does)) false body) s x fs h i) g
+    pub otherwise_goes : (body : StmtTrees) (w : Reached) (one : Plan) (s : Store) → HoldsAt (scene k) w.system (numbers_of s) → Goes D one s (λ x z fs. Shown k false (list_regions k.does (accesses_at (at_list body k.m k.does k.calls)) false body) s x fs) → Goes D one s (λ x z fs. Shown k false (else_set (tree.otherwise body) k.m k.does k.calls w) s x fs)
+    otherwise_goes body w one s h g = goes_more D one s (λ x z fs. Shown k false (list_regions k.does (accesses_at (at_list body k.m k.does k.calls)) false body) s x fs) (λ x z fs. Shown k false (else_set (tree.otherwise body) k.m k.does k.calls w) s x fs) (λ x z fs i. shown_met w (list_regions k.does (accesses_at (at_list body k.m k.does k.calls)) false body) s x fs h i) g

@@ -16,6 +16,8 @@ use Rattle.f77_ast.specs.Programs.{scope}
 use Rattle.f77_symbols.specs.declared.variable.Variable.TheVariants.{Own}
 use Rattle.f77_symbols.specs.Symbols.{BoundTree as Bound}
 use Rattle.tracked_cells.specs.Standing.{has_bounds}
+use Rattle.call_graph.specs.declared.graph.Graph.{Graph}
+use Rattle.f77_meaning.specs.Modules.{Known}
 use Rattle.affine_forms.specs.Claims.{numbers_of}
 use Rattle.transformer_algebra.proofs.CellLaws.{nat_same, nat_eq_same}
 use Rattle.transformers.specs.Given.{Callees}
@@ -23,6 +25,7 @@ use Rattle.region_sets.specs.declared.region.Access.TheVariants.{Read, Write, In
 use Rattle.region_sets.specs.declared.region.Region.{Region}
 use Rattle.region_sets.specs.Claims.{LiesIn, LiesInSet}
 use Rattle.array_regions.specs.References.{scalar, whole}
+use Rattle.array_regions.specs.Calls.{Called}
 use Rattle.array_regions.specs.Reads.{reads, maybe_reads}
 use Rattle.laws_calls.proofs.Bound.{put_off, scalars_fixed, scalars_dummy}
 use Rattle.laws_calls.proofs.Enter.{find_dummy}
@@ -39,14 +42,14 @@ use Rattle.laws_regions.proofs.Expressions.{named_region, not_is}
 
 -- a unit is read
 one_look : (k : Setting) (rs : List Region) (s : Store) (u : ℕ) (c : Content) → LiesInSet (scene k) (elements_at k) Read rs (numbers_of s) u → Holds k rs s (Reads u c ∷ [])
-one_look k rs s u c l Read x h = subst (λ z. LiesInSet (scene k) (elements_at k) Read rs (numbers_of s) z) (same (nat_eq u x) refl h) l
+one_look k rs s u c l Read x h = subst (λ z. LiesInSet (scene k) (elements_at k) Read rs (numbers_of s) z) (same (nat_eq u x) refl h.is_so) l
   where
     same : (b : Bool) → nat_eq u x ≡ b → (b || false) ≡ true → u ≡ x
     same true q i = nat_same u x q
     same false q i = absurd (true≢false (sym i))
-one_look k rs s u c l Write x h = absurd (true≢false (sym h))
-one_look k rs s u c l In x h = absurd (true≢false (sym h))
-one_look k rs s u c l Out x h = absurd (true≢false (sym h))
+one_look k rs s u c l Write x h = absurd (true≢false (sym h.is_so))
+one_look k rs s u c l In x h = absurd (true≢false (sym h.is_so))
+one_look k rs s u c l Out x h = absurd (true≢false (sym h.is_so))
 
 bounds_none : (bs : List Bound) → has_bounds bs ≡ false → bs ≡ []
 bounds_none [] e = refl
@@ -56,10 +59,10 @@ fits_none : (value : List ℕ → Option _) (ds : List Dim) → DimsFit value []
 fits_none value [] h = refl
 fits_none value (d ∷ ds) h = absurd h
 
-module _ (b : Blocks) (cs : Callees) (k : Part) (sane : Sane b k) (regular : Regular k) (turns : ℕ) (callee : List ℕ → Meaning) (ps : List Place) where
+module _ (ks : List Known) (g : Graph) (called : Called) (b : Blocks) (cs : Callees) (k : Part) (sane : Sane b k) (regular : Regular k) (turns : ℕ) (callee : List ℕ → Meaning) (ps : List Place) where
   -- the module with these places of its variables
   abbrev pub setting : Places → Setting
-  setting at = record { sc = scope k.routine turns callee; m = k.scope; cs = cs; does = k.found.transformer; scalar = k.scalar; at = at; far = far_in b k ps; place = b.place }
+  setting at = record { ks = ks; g = g; sc = scope k.routine turns callee; m = k.scope; cs = cs; does = k.found.transformer; calls = called; scalar = k.scalar; at = at; far = far_in b k ps; place = b.place }
 
   abbrev pub at0 : Places
   at0 = places_in k ps
@@ -256,12 +259,12 @@ module _ (b : Blocks) (cs : Callees) (k : Part) (sane : Sane b k) (regular : Reg
       abbrev Rest : List Region → List Event → Steps Places → Type 0
       Rest rs es t = Looked (t >>= arrays_bound ds (other_places qs) k.routine.names) s (λ a fs. Got (rs ++ dummies_reads ds k.scope) s a (es ++ fs))
 
-      module _ (rs : List Region) (ms : List Dim) (es : List Event) (g : Got rs s (Gave ms) es) where
+      module _ (rs : List Region) (ms : List Dim) (es : List Event) (got : Got rs s (Gave ms) es) where
         bound : (at2 : Places) → KeepsScalars at2 → Rest rs es (Done at2)
-        bound at2 f = both_got (arrays_bound ds (other_places qs) k.routine.names at2) rs (dummies_reads ds k.scope) es ms g (later at2 f)
+        bound at2 f = both_got (arrays_bound ds (other_places qs) k.routine.names at2) rs (dummies_reads ds k.scope) es ms got (later at2 f)
 
         refused : Rest rs es (fault Bounds)
-        refused = got_broke (rs ++ dummies_reads ds k.scope) (Faulty Bounds) (es ++ []) (λ at f. subst (λ l. Holds (setting at) (rs ++ dummies_reads ds k.scope) s l) (sym (trace_nil es)) (holds_left (setting at) rs (dummies_reads ds k.scope) s es (g.holds at f)))
+        refused = got_broke (rs ++ dummies_reads ds k.scope) (Faulty Bounds) (es ++ []) (λ at f. subst (λ l. Holds (setting at) (rs ++ dummies_reads ds k.scope) s l) (sym (trace_nil es)) (holds_left (setting at) rs (dummies_reads ds k.scope) s es (got.holds at f)))
 
         array : (n : Dim) (ns : List Dim) → ((q : Place) → KeepsScalars (put at1 d.symbol q)) → Rest rs es (array_place (first_place qs) d.tag (n ∷ ns) >>= λ q. Done (put at1 d.symbol q))
         array n ns f = open_or (is_open (n ∷ ns))

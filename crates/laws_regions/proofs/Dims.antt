@@ -47,10 +47,10 @@ dims_fit value (b ∷ bs) (d ∷ ds) h = (record { low = h.0.low; high = h.0.hig
 worth_number : (w : Worth) (m n : ℤ) → Worthy w m → w ≡ Is (Int n) → m ≡ n
 worth_number w m n h e = subst (λ v. Worthy v m) e h
 
-rest_distinct : (d : Dummy) (ds : List Dummy) → Distinct (d ∷ ds) → Distinct ds
+pub rest_distinct : (d : Dummy) (ds : List Dummy) → Distinct (d ∷ ds) → Distinct ds
 rest_distinct d ds h i j a b p q e = let s = h (suc i) (suc j) a b p q e in omega (arith, s)
 
-head_alone : (d : Dummy) (ds : List Dummy) → Distinct (d ∷ ds) → NoDummy ds d.symbol
+pub head_alone : (d : Dummy) (ds : List Dummy) → Distinct (d ∷ ds) → NoDummy ds d.symbol
 head_alone d ds h o = let s = h zero (suc o.at) d o.dummy refl o.is_dummy (sym o.symbol) in omega (arith, s)
 
 module _ (w : Names) (k : Scalars) (tracked : ℕ → Bool) (s : Store) (i : List Content) (agrees : Agrees w k tracked) where

@@ -1,6 +1,6 @@
 -- What the tables of modules that are read give for the regions of their entries.
 use Rattle.std.proofs.Common.{◌≡◌, ℕ, zero, suc, ◌+◌, ◌-◌, ◌<◌, Bool, true, false, not, ◌&&◌, ◌||◌, List, [], ◌∷◌, ◌++◌, length, map, Option, Some, None, Ok, refl, sym, ap, ap₂, ◌∙◌, subst, arith, true≢false}
-use Rattle.std.specs.Prelude.{if◌then◌else◌, is_some, nat_eq, nat_lt, bytes_eq, slice_get}
+use Rattle.std.specs.Prelude.{if◌then◌else◌, ◌*◌, is_some, nat_eq, nat_lt, bytes_eq, slice_get}
 use Rattle.std.specs.List.{list_any}
 use Rattle.std.proofs.lemmas.Bool.{and_from, and_parts, or_parts, or_right, not-false, eq-eqb}
 use Rattle.f77_ast.specs.declared.expr.UnaryOp.{UnaryOp}
@@ -8,14 +8,16 @@ use Rattle.f77_ast.specs.declared.expr.BinaryOp.{BinaryOp}
 use Rattle.f77_ast.specs.Trees.{ExprTree, ExprTrees}
 use Rattle.f77_ast.specs.Trees as tree
 use Rattle.f77_ast.specs.DeclTrees.{ParsedTree}
+use Rattle.f77_ast.specs.Places.{Dim, dim_size, total_size}
 use Rattle.f77_constants.specs.declared.constant.Constant.{Constant}
+use Rattle.f77_constants.specs.declared.constant.Constant.TheVariants.{Int, Log}
 use Rattle.f77_constants.specs.declared.constant.Worth.{Worth}
 use Rattle.f77_constants.specs.declared.constant.Worth.TheVariants.{Is, Faults, Varies}
 use Rattle.f77_constants.specs.Constants.{turns_logical, gives_logical, unary_worth, binary_worth, named_worth, worth}
 use Rattle.f77_symbols.specs.declared.symbol.Place.{Place}
 use Rattle.f77_symbols.specs.declared.symbol.Place.TheVariants as place
 use Rattle.f77_symbols.specs.Symbols.{BoundTree, SymbolTree, constant_in, constant_at, value_in}
-use Rattle.f77_symbols.specs.Units.{units_in}
+use Rattle.f77_symbols.specs.Units.{span_units, span_to, bounds_units, units_in}
 use Rattle.f77_symbols.specs.Shared.{symbol_at}
 use Rattle.refusal_codes.specs.declared.code.Code.TheVariants.{BadDimension}
 use Rattle.refusal_codes.specs.declared.refusal.Refusal.{Refusal}
@@ -28,8 +30,8 @@ use Rattle.storage_layout.specs.Table.{Layout, place_in, unless_dummy, unless_va
 use Rattle.tracked_cells.specs.Standing.{has_bounds}
 use Rattle.tracked_cells.specs.Tracked.{tracked_of}
 use Rattle.call_graph.specs.declared.graph.Graph.{Graph}
-use Rattle.f77_meaning.specs.Areas.{Numbering, group, unit_at}
-use Rattle.f77_meaning.specs.Modules.{Known, known_of, bound_of, as_dummy, dummies_from, laid_at, fixed_place, fixed_maybe, fixed, units_from, lost_units, all_lost}
+use Rattle.f77_meaning.specs.Areas.{Numbering, block, group, unit_at}
+use Rattle.f77_meaning.specs.Modules.{Known, known_of, as_number, constant_high, dim_of, bound_of, as_dummy, dummies_from, laid_at, fixed_place, fixed_maybe, fixed, units_from, lost_units, all_lost}
 use Rattle.f77_meaning.proofs.LinkLaws.{found_any}
 use Rattle.f77_meaning.proofs.ModuleLaws.{numbered_place}
 use Rattle.transformer_algebra.specs.Laws.{In, here, there}
@@ -56,9 +58,11 @@ use Rattle.laws_storage.proofs.ModuleLaws.{known_module}
 use Rattle.laws_storage.proofs.LocalLaws.{next_symbol}
 use Rattle.laws_storage.proofs.UnitLaws.{values_same}
 use Rattle.laws_statements.specs.Laws.{scope_of, is_scalar_symbol, scalar_at, is_scalar}
+use Rattle.laws_statements.specs.CallsIn.{Each}
 use Rattle.laws_calls.specs.Parts.{NoDummy}
 use Rattle.laws_analyses.specs.Parts.{part_of}
-use Rattle.laws_analyses.proofs.DummyLaws.{listed, told}
+use Rattle.laws_analyses.proofs.DummyLaws.{listed, told, listed_dummy}
+use Rattle.laws_regions.specs.Programs.{OpenLast, ConstantIs, ConstantsAre, FixedFits}
 use Rattle.laws_regions.specs.Entries.{is_bare, maybe_bare, are_bare, all_bare, bounds_reads, dummies_reads, Enters}
 use Rattle.laws_regions.proofs.Names.{Found, missing, at_place, found}
 
@@ -251,13 +255,62 @@ module _ (ss : List SymbolTree) (flags : List Bool) where
         let own = or_parts (is_bad_limit t false b.low) (is_bad_high t false (is_last bs) b.low b.high) all.0 in
         ap₂ (λ (xs ys : List Region). xs ++ ys) (nothing b.low own.0) (ap₂ (λ (xs ys : List Region). xs ++ ys) (high_nothing (is_last bs) b.low b.high own.1) (bounds_nothing bs all.1))
 
+    -- a bound of an array that is no dummy is an INTEGER
+    int_limit : (e : ExprTree) → is_bad_limit t false e ≡ false → worth (value_in ss) e ≡ Is (Int (as_number (worth (value_in ss) e)))
+    int_limit e h = subst (λ (v : List ℕ → Option Constant). worth v e ≡ Is (Int (as_number (worth v e)))) (sym same) (go (worth_in t e) h)
+      where
+        go : (w : Worth) → is_bad_worth t false e w ≡ false → w ≡ Is (Int (as_number w))
+        go (Is (Int n)) k = refl
+        go (Is (Log b)) k = absurd (true≢false k)
+        go Faults k = absurd (true≢false k)
+        go Varies k = absurd (true≢false k)
+
+    constant_bound : (last : Bool) (b : BoundTree) → is_bad_bound t false last b ≡ false → ConstantIs (value_in ss) b (dim_of ss b)
+    constant_bound last b h = go b.high refl own.1
+      where
+        own : (is_bad_limit t false b.low ≡ false) × (is_bad_high t false last b.low b.high ≡ false)
+        own = or_parts (is_bad_limit t false b.low) (is_bad_high t false last b.low b.high) h
+
+        go : (o : Option ExprTree) → b.high ≡ o → is_bad_high t false last b.low o ≡ false → ConstantIs (value_in ss) b (dim_of ss b)
+        go None q k = absurd (true≢false k)
+        go (Some e) q k = record {
+          low = int_limit b.low own.0;
+          high = e;
+          is_high = q;
+          last = as_number (worth (value_in ss) e);
+          last_worth = int_limit e (or_parts (is_bad_limit t false e) (is_below (worth_in t e) (worth_in t b.low)) k).0;
+          number = ap (constant_high ss) q;
+        }
+
+    all_constant : (bs : List BoundTree) → has_bad_bound t false bs ≡ false → ConstantsAre (value_in ss) bs (map (dim_of ss) bs)
+    all_constant [] h = tt
+    all_constant (b ∷ bs) h =
+        let q = or_parts (is_bad_bound t false (is_last bs) b) (has_bad_bound t false bs) h in
+        (constant_bound (is_last bs) b q.0, all_constant bs q.1)
+
+    -- the last bound alone may be `*`
+    last_open : (dummy : Bool) (bs : List BoundTree) → has_bad_bound t dummy bs ≡ false → OpenLast bs
+    last_open dummy [] h = tt
+    last_open dummy (b ∷ []) h = tt
+    last_open dummy (b ∷ (c ∷ bs)) h =
+        let q = or_parts (is_bad_bound t dummy false b) (has_bad_bound t dummy (c ∷ bs)) h in
+        let own = or_parts (is_bad_limit t dummy b.low) (is_bad_high t dummy false b.low b.high) q.0 in
+        (closed dummy b.low b.high own.1, last_open dummy (c ∷ bs) q.1)
+      where
+        closed : (dummy : Bool) (low : ExprTree) (o : Option ExprTree) → is_bad_high t dummy false low o ≡ false → is_some o ≡ true
+        closed true low None k = absurd (true≢false k)
+        closed false low None k = absurd (true≢false k)
+        closed dummy low (Some e) k = refl
+
     -- of a name
     record Checked (dummy : Bool) (bs : List BoundTree) : Type 0 where
       bare_bounds : are_bare (is_scalar ss) (map bound_of bs) ≡ true
       no_reads : dummy ≡ false → entry.bounds_reads bs (scope_of ss flags) ≡ []
+      constant : dummy ≡ false → ConstantsAre (value_in ss) bs (map (dim_of ss) bs)
+      open_last : OpenLast bs
 
     shape_checked : (dummy : Bool) (s : Option ShapeTree) (o : Option Refusal) → check_shape t dummy s o ≡ None → Checked dummy (bounds_in s)
-    shape_checked dummy None o j = record { bare_bounds = refl; no_reads = λ d. refl }
+    shape_checked dummy None o j = record { bare_bounds = refl; no_reads = λ d. refl; constant = λ d. tt; open_last = tt }
     shape_checked dummy (Some s) o j =
         let r = noted_none (is_bad_shape t dummy s.bounds) s.line BadDimension (check_bounds t s.bounds s.line o) j in
         let few = or_parts (nat_lt 7 (length s.bounds)) (has_bad_bound t dummy s.bounds || is_too_big (dims_of t s.bounds)) r.0 in
@@ -265,18 +318,26 @@ module _ (ss : List SymbolTree) (flags : List Bool) where
         record {
           bare_bounds = bounds_bare dummy s.bounds s.line o r.1 good.0;
           no_reads = λ d. bounds_nothing s.bounds (ap (λ b. has_bad_bound t b s.bounds) (sym d) ∙ good.0);
+          constant = λ d. all_constant s.bounds (ap (λ b. has_bad_bound t b s.bounds) (sym d) ∙ good.0);
+          open_last = last_open dummy s.bounds good.0;
         }
 
     -- ---- symbols, from the number j on
 
+    -- of a symbol
+    abbrev BoundsAre : SymbolTree → Type 0
+    BoundsAre s = OpenLast s.bounds × (((k : ℕ) → s.place ≡ place.Dummy k → ⊥) → ConstantsAre (value_in ss) s.bounds (map (dim_of ss) s.bounds))
+
     record EnteredFrom (j : ℕ) (xs : List SymbolTree) : Type 0 where
       all : all_bare (is_scalar ss) (dummies_from j xs) ≡ true
       same_all : symbols_reads xs (scope_of ss flags) ≡ dummies_reads (dummies_from j xs) (scope_of ss flags)
+      fits : Each BoundsAre xs
 
-    a_dummy : (j m : ℕ) (s : SymbolTree) (xs : List SymbolTree) → s.place ≡ place.Dummy m → are_bare (is_scalar ss) (map bound_of s.bounds) ≡ true → EnteredFrom (suc j) xs → EnteredFrom j (s ∷ xs)
-    a_dummy j m s xs p b r = record {
+    a_dummy : (j m : ℕ) (s : SymbolTree) (xs : List SymbolTree) → s.place ≡ place.Dummy m → are_bare (is_scalar ss) (map bound_of s.bounds) ≡ true → OpenLast s.bounds → EnteredFrom (suc j) xs → EnteredFrom j (s ∷ xs)
+    a_dummy j m s xs p b w r = record {
       all = ap (all_bare (is_scalar ss)) (listed j s xs m p) ∙ and_from (are_bare (is_scalar ss) (map bound_of s.bounds)) (all_bare (is_scalar ss) (dummies_from (suc j) xs)) b r.all;
       same_all = ap₂ (λ (ys zs : List Region). ys ++ zs) (same_reads s.bounds) r.same_all ∙ ap (λ ds. dummies_reads ds (scope_of ss flags)) (sym (listed j s xs m p));
+      fits = ((w, λ no. absurd (no m p)), r.fits);
     }
 
     as_none : (j : ℕ) (s : SymbolTree) (p : Place) → ((k : ℕ) → p ≡ place.Dummy k → ⊥) → as_dummy j s p ≡ []
@@ -285,12 +346,13 @@ module _ (ss : List SymbolTree) (flags : List Bool) where
     as_none j s (place.Block b o) h = refl
     as_none j s (place.Constant v) h = refl
 
-    no_dummy : (j : ℕ) (s : SymbolTree) (xs : List SymbolTree) → ((k : ℕ) → s.place ≡ place.Dummy k → ⊥) → entry.bounds_reads s.bounds (scope_of ss flags) ≡ [] → EnteredFrom (suc j) xs → EnteredFrom j (s ∷ xs)
-    no_dummy j s xs p b r =
+    no_dummy : (j : ℕ) (s : SymbolTree) (xs : List SymbolTree) → ((k : ℕ) → s.place ≡ place.Dummy k → ⊥) → entry.bounds_reads s.bounds (scope_of ss flags) ≡ [] → OpenLast s.bounds → ConstantsAre (value_in ss) s.bounds (map (dim_of ss) s.bounds) → EnteredFrom (suc j) xs → EnteredFrom j (s ∷ xs)
+    no_dummy j s xs p b w v r =
         let gone : dummies_from j (s ∷ xs) ≡ dummies_from (suc j) xs = ap (λ ds. ds ++ dummies_from (suc j) xs) (as_none j s s.place p) in
         record {
           all = ap (all_bare (is_scalar ss)) gone ∙ r.all;
           same_all = ap (λ (ys : List Region). ys ++ symbols_reads xs (scope_of ss flags)) b ∙ (r.same_all ∙ ap (λ ds. dummies_reads ds (scope_of ss flags)) (sym gone));
+          fits = ((w, λ no. v), r.fits);
         }
 
     abbrev mark_number : Option (ℕ × Option Constant) → ℕ
@@ -318,7 +380,7 @@ module _ (ss : List SymbolTree) (flags : List Bool) where
         go (Some c) q = cc
 
     among : (l : Layout) (at j n c k : ℕ) (es : List EntryTree) (o : Option Refusal) → marks es ≡ dummy_marks n c ++ nones k → check_shapes t es o ≡ None → EnteredFrom j (symbols_from l at es)
-    among l at j n zero k [] o e h = record { all = refl; same_all = refl }
+    among l at j n zero k [] o e h = record { all = refl; same_all = refl; fits = tt }
     among l at j n zero zero (x ∷ es) o e h = cc
     among l at j n zero (suc k) (x ∷ es) o e h =
         let here : mark x ≡ None = cc in
@@ -326,14 +388,14 @@ module _ (ss : List SymbolTree) (flags : List Bool) where
         let none = unmarked x.dummy x.value here in
         let next = check_shape t (is_some x.dummy) x.shape o in
         let own = shape_checked (is_some x.dummy) x.shape o (shapes_back t es next h) in
-        no_dummy j (symbol_of l at x) (symbols_from l (at + 1) es) (unmarked_place l x at none) (own.no_reads (ap is_some none)) (among l (at + 1) (suc j) n zero k es next rest h)
+        no_dummy j (symbol_of l at x) (symbols_from l (at + 1) es) (unmarked_place l x at none) (own.no_reads (ap is_some none)) own.open_last (own.constant (ap is_some none)) (among l (at + 1) (suc j) n zero k es next rest h)
     among l at j n (suc c) k [] o e h = cc
     among l at j n (suc c) k (x ∷ es) o e h =
         let here : mark x ≡ Some (n, None) = cc in
         let rest : marks es ≡ dummy_marks (suc n) c ++ nones k = cc in
         let next = check_shape t (is_some x.dummy) x.shape o in
         let own = shape_checked (is_some x.dummy) x.shape o (shapes_back t es next h) in
-        a_dummy j n (symbol_of l at x) (symbols_from l (at + 1) es) (marked_place x.dummy x.value (place_in l (slice_get l.seats at)) n here) own.bare_bounds (among l (at + 1) (suc j) (suc n) c k es next rest h)
+        a_dummy j n (symbol_of l at x) (symbols_from l (at + 1) es) (marked_place x.dummy x.value (place_in l (slice_get l.seats at)) n here) own.bare_bounds own.open_last (among l (at + 1) (suc j) (suc n) c k es next rest h)
 
 -- ---- names of scalars
 
@@ -430,6 +492,52 @@ module _ (ps : List ParsedTree) (sss : List (List SymbolTree)) (g : Graph) (i : 
       let none = stmts_back v.table (lines_in p) p.module_read.body 0 (check_shapes v.table v.table.entries v.found) (found_none p ss answered) in
       subst (EnteredFrom ss flags (names_in p) (values_same p ss answered fit) (scalar_named (layout_in p) ss answered.table) 1) (sym answered.table)
       (among ss flags (names_in p) (values_same p ss answered fit) (scalar_named (layout_in p) ss answered.table) (layout_in p) 0 1 1 (length p.module_read.dummies) d.others (names_in p).entries v.found d.are none)
+
+  each_at : (P : SymbolTree → Type 0) (xs : List SymbolTree) (j : ℕ) (s : SymbolTree) → Each P xs → slice_get xs j ≡ Some s → P s
+  each_at P [] j s h e = cc
+  each_at P (x ∷ xs) zero s h e = (let same : x ≡ s = cc in subst P same h.0)
+  each_at P (x ∷ xs) (suc j) s h e = each_at P xs j s h.1 e
+
+  symbol_fits : (n : ℕ) (s : SymbolTree) → symbol_at ss n ≡ Some s → OpenLast s.bounds × (((k : ℕ) → s.place ≡ place.Dummy k → ⊥) → ConstantsAre (value_in ss) s.bounds (map (dim_of ss) s.bounds))
+  symbol_fits n s e = each_at (λ (s : SymbolTree). OpenLast s.bounds × (((k : ℕ) → s.place ≡ place.Dummy k → ⊥) → ConstantsAre (value_in ss) s.bounds (map (dim_of ss) s.bounds))) ss (n - 1) s entered_from.fits (numbered_place ss n s e)
+
+  pub module_open : (n : ℕ) (s : SymbolTree) → symbol_at ss n ≡ Some s → OpenLast s.bounds
+  module_open n s e = (symbol_fits n s e).0
+
+  -- as many units as bounds say
+  sizes_of : (v : List ℕ → Option Constant) (bs : List BoundTree) (ds : List Dim) → ConstantsAre v bs ds → bounds_units v bs ≡ total_size ds
+  sizes_of v [] [] h = refl
+  sizes_of v [] (d ∷ ds) h = absurd h
+  sizes_of v (b ∷ bs) [] h = absurd h
+  sizes_of v (b ∷ bs) (d ∷ ds) h =
+      let c = h.0 in
+      let one : span_to v (worth v b.low) b.high ≡ dim_size d =
+      ap (λ w. span_to v w b.high) c.low ∙ (ap (span_to v (Is (Int d.low))) c.is_high ∙ (ap (span_units (Is (Int d.low))) c.last_worth ∙ ap (λ z. dim_size (record { low = d.low; high = z })) (sym c.number))) in
+      let rest = sizes_of v bs ds h.1 in
+      λ i. one i * rest i
+
+  pub module_fits : (cs : Callees) (holds : System) (n : ℕ) (s : SymbolTree) → symbol_at ss n ≡ Some s → is_constant s.place ≡ false → NoDummy (dummies_from 1 ss) n → FixedFits (part_of (known_of ps sss) g cs holds (known p ss)) s n
+  module_fits cs holds n s e stored none = go s.place refl
+    where
+      N : Numbering
+      N = units ps sss g
+
+      no : (k : ℕ) → s.place ≡ place.Dummy k → ⊥
+      no k q = (let r = listed_dummy ss (length p.module_read.dummies) (dummies_come_first p ss laid) n k s e q in none (record { at = k - 1; dummy = r.0; is_dummy = r.1; symbol = r.2 }))
+
+      made : (first : ℕ) → fixed (units ps sss g) (known p ss) n ≡ laid_at first ss s → FixedFits (part_of (known_of ps sss) g cs holds (known p ss)) s n
+      made first lies =
+          let constants = (symbol_fits n s e).1 no in
+          record {
+            sizes = subst (λ (z : _). z.extent ≡ total_size z.dims) (sym lies) (sizes_of (value_in ss) s.bounds (map (dim_of ss) s.bounds) constants);
+            constants = subst (λ (z : _). ConstantsAre (value_in ss) s.bounds z.dims) (sym lies) constants;
+          }
+
+      go : (q : Place) → s.place ≡ q → FixedFits (part_of (known_of ps sss) g cs holds (known p ss)) s n
+      go (place.Local h o) q = made (unit_at (units ps sss g) (group p.module_read.name h) o) (ap (fixed_maybe (units ps sss g) p.module_read.name ss) e ∙ ap (fixed_place (units ps sss g) p.module_read.name ss s) q)
+      go (place.Dummy k) q = absurd (no k q)
+      go (place.Block y o) q = made (unit_at (units ps sss g) (block y) o) (ap (fixed_maybe (units ps sss g) p.module_read.name ss) e ∙ ap (fixed_place (units ps sss g) p.module_read.name ss s) q)
+      go (place.Constant v) q = absurd (true≢false (sym (ap is_constant q) ∙ stored))
 
   local_no_dummy : (n : ℕ) (s : SymbolTree) → symbol_at ss n ≡ Some s → is_local s.place ≡ true → NoDummy (dummies_from 1 ss) n
   local_no_dummy n s e l o =

@@ -36,27 +36,29 @@ use Rattle.region_sets.specs.declared.region.Access.{Access}
 use Rattle.region_sets.specs.declared.region.Region.{Region}
 use Rattle.region_sets.specs.Claims.{LiesInSet, IsSharpSet}
 use Rattle.array_regions.specs.References.{is_constant}
+use Rattle.array_regions.specs.Calls.{Called}
 use Rattle.array_regions.specs.Statement.{list_set}
 use Rattle.array_regions.specs.Entry.{is_local, place_goes_out, symbol_goes_out, goes_out, symbols_reads, summary_of}
 use Rattle.laws_calls.proofs.Bound.{Made, scalars_fixed}
 use Rattle.laws_calls.proofs.Enter.{find_dummy}
 use Rattle.laws_calls.specs.Parts.{Blocks, Part, DummyOf, NoDummy, places_in, Sane}
 use Rattle.laws_regions.specs.Claims.{elements_of, listed, SetHolds}
-use Rattle.laws_regions.specs.Settings.{Setting, scene, is_stored, elements_if, elements_at}
-use Rattle.laws_regions.specs.Shown.{accessed, Sharp, Finally, Shown}
+use Rattle.laws_regions.specs.Settings.{Setting, scene, is_stored, elements_if, elements_with, elements_at}
+use Rattle.laws_regions.specs.Shown.{accessed, Touches, Sharp, Finally, Shown}
 use Rattle.laws_regions.specs.Entries.{dummies_reads, IsLost, Enters}
 use Rattle.laws_regions.specs.Programs.{Regular}
-use Rattle.laws_regions.proofs.Holding.{by_order, holds_none, holds_left, holds_both, sharp_none, sharp_both}
+use Rattle.laws_regions.proofs.Told.{by_order}
+use Rattle.laws_regions.proofs.Holding.{holds_none, holds_left, holds_both, sharp_none, sharp_both}
 use Rattle.laws_regions.proofs.Showing.{finally_more}
-use Rattle.laws_regions.proofs.Claimed.{set_holds}
+use Rattle.laws_regions.proofs.Claimed.{visible_touches, set_holds}
 use Rattle.laws_regions.proofs.Callers.{summary_lies, summary_sharp}
 use Rattle.laws_regions.proofs.Bounds.{setting, KeepsScalars, Got}
 use Rattle.laws_regions.proofs.Starts.{Starts, body_starts}
 
 -- at the same numbers
-renumbered : (k : Setting) (own : Bool) (rs : List Region) (z s : Store) (a : Answer Flow) (es : List Event) → numbers_of z ≡ numbers_of s → Shown k own rs z a es → Shown k own rs s a es
+pub renumbered : (k : Setting) (own : Bool) (rs : List Region) (z s : Store) (a : Answer Flow) (es : List Event) → numbers_of z ≡ numbers_of s → Shown k own rs z a es → Shown k own rs s a es
 renumbered k own rs z s a es e h = record {
-  holds = subst (λ (x : ℕ → ℤ). (c : Access) (u : ℕ) → accessed c es u ≡ true → LiesInSet (scene k) (elements_at k) c rs x u) e h.holds;
+  holds = subst (λ (x : ℕ → ℤ). (c : Access) (u : ℕ) → Touches k.ks k.g c es u → LiesInSet (scene k) (elements_at k) c rs x u) e h.holds;
   sharp = subst (λ (x : ℕ → ℤ). Finally own a (IsSharpSet (scene k) (elements_at k) rs x (λ c. accessed c es))) e h.sharp;
 }
 
@@ -91,19 +93,19 @@ not_visible ks g m x u arrives l v =
     let passing : is_passing ks g x u ≡ true = any_in test ks l.known l.is_one one in
     true≢false (sym (and_parts (not (is_own_unit (numbering ks g) u)) (not (is_passing ks g x u)) v).1 ∙ ap not passing)
 
-module _ (b : Blocks) (cs : Callees) (k : Part) (sane : Sane b k) (regular : Regular k) (turns : ℕ) (callee : List ℕ → Meaning) (ps : List Place) where
+module _ (ks : List Known) (g : Graph) (called : Called) (b : Blocks) (cs : Callees) (k : Part) (sane : Sane b k) (regular : Regular k) (turns : ℕ) (callee : List ℕ → Meaning) (ps : List Place) where
   abbrev set_of : StmtTrees → List Region
-  set_of body = list_set true body k.scope k.found.transformer
+  set_of body = list_set true body k.scope k.found.transformer called
 
   abbrev bounds : List Region
   bounds = dummies_reads k.routine.dummies k.scope
 
   abbrev at_places : Places → Setting
-  at_places at = setting b cs k sane regular turns callee ps at
+  at_places at = setting ks g called b cs k sane regular turns callee ps at
 
   -- of the bounds and of a body
   pub record Entering (body : StmtTrees) (s : Store) (at : Places) (a : Answer Flow) (es : List Event) : Type 0 where
-    pub shown : Shown (setting b cs k sane regular turns callee ps at) true (dummies_reads k.routine.dummies k.scope ++ list_set true body k.scope k.found.transformer) s a es
+    pub shown : Shown (setting ks g called b cs k sane regular turns callee ps at) true (dummies_reads k.routine.dummies k.scope ++ list_set true body k.scope k.found.transformer called) s a es
     pub fixed : (n : ℕ) → NoDummy k.routine.dummies n → at n ≡ k.routine.fixed n
 
   pub entering_same : (body : StmtTrees) (z s : Store) (at : Places) (a : Answer Flow) (es : List Event) → numbers_of z ≡ numbers_of s → Entering body z at a es → Entering body s at a es
@@ -111,7 +113,7 @@ module _ (b : Blocks) (cs : Callees) (k : Part) (sane : Sane b k) (regular : Reg
 
   -- ---- places
 
-  pub keeps_made : (at : Places) → Made k.routine.dummies ps (places_in k ps) at → KeepsScalars b cs k sane regular turns callee ps at
+  pub keeps_made : (at : Places) → Made k.routine.dummies ps (places_in k ps) at → KeepsScalars ks g called b cs k sane regular turns callee ps at
   keeps_made at made x v e h = ⊎_elim dummy (λ n. made.other v n) (find_dummy k.routine.dummies v)
     where
       dummy : DummyOf k.routine.dummies v → at v ≡ places_in k ps v
@@ -120,7 +122,7 @@ module _ (b : Blocks) (cs : Callees) (k : Part) (sane : Sane b k) (regular : Reg
           ∙ (⊎_elim (λ a. a.1) (λ a. absurd (a.0 (sane.flat o.at o.dummy x o.is_dummy (e ∙ ap Variable (sym o.symbol)) h))) (made.dummy o.at o.dummy o.is_dummy)
           ∙ ap (λ n. places_in k ps n) o.symbol)
 
-  keeps_first : KeepsScalars b cs k sane regular turns callee ps (places_in k ps)
+  keeps_first : KeepsScalars ks g called b cs k sane regular turns callee ps (places_in k ps)
   keeps_first x v e h = refl
 
   fixed_first : (n : ℕ) → NoDummy k.routine.dummies n → places_in k ps n ≡ k.routine.fixed n
@@ -128,7 +130,7 @@ module _ (b : Blocks) (cs : Callees) (k : Part) (sane : Sane b k) (regular : Reg
 
   -- ---- the bounds are refused
 
-  pub entering_broke : (body : StmtTrees) (s : Store) (z : Break) (es : List Event) → Got b cs k sane regular turns callee ps {A = Places} (dummies_reads k.routine.dummies k.scope) s (Broke z) es → Entering body s (places_in k ps) (Broke z) es
+  pub entering_broke : (body : StmtTrees) (s : Store) (z : Break) (es : List Event) → Got ks g called b cs k sane regular turns callee ps {A = Places} (dummies_reads k.routine.dummies k.scope) s (Broke z) es → Entering body s (places_in k ps) (Broke z) es
   entering_broke body s z es g = record {
     shown = record { holds = holds_left (at_places (places_in k ps)) bounds (set_of body) s es (g.holds (places_in k ps) keeps_first); sharp = tt };
     fixed = fixed_first;
@@ -136,11 +138,11 @@ module _ (b : Blocks) (cs : Callees) (k : Part) (sane : Sane b k) (regular : Reg
 
   -- ---- and then the body
 
-  module _ (at : Places) (made : Made k.routine.dummies ps (places_in k ps) at) (s : Store) (es : List Event) (g : Got b cs k sane regular turns callee ps (dummies_reads k.routine.dummies k.scope) s (Gave at) es) (sc : Scope) (locked : Locks) (i : List Content) where
-    both_shown : (at1 : Places) → KeepsScalars b cs k sane regular turns callee ps at1 → (qs : List Region) (a : Answer Flow) (fs : List Event) → Shown (at_places at1) true qs s a fs → Shown (at_places at1) true (bounds ++ qs) s a (es ++ fs)
+  module _ (at : Places) (made : Made k.routine.dummies ps (places_in k ps) at) (s : Store) (es : List Event) (got : Got ks g called b cs k sane regular turns callee ps (dummies_reads k.routine.dummies k.scope) s (Gave at) es) (sc : Scope) (locked : Locks) (i : List Content) where
+    both_shown : (at1 : Places) → KeepsScalars ks g called b cs k sane regular turns callee ps at1 → (qs : List Region) (a : Answer Flow) (fs : List Event) → Shown (at_places at1) true qs s a fs → Shown (at_places at1) true (bounds ++ qs) s a (es ++ fs)
     both_shown at1 f qs a fs h = record {
-      holds = holds_both (at_places at1) bounds qs s es fs (g.holds at1 f) h.holds;
-      sharp = finally_more true a (Sharp (at_places at1) qs s fs) (Sharp (at_places at1) (bounds ++ qs) s (es ++ fs)) (λ w. sharp_both (at_places at1) bounds qs s es fs (g.sharp at1 f) w) h.sharp;
+      holds = holds_both (at_places at1) bounds qs s es fs (got.holds at1 f) h.holds;
+      sharp = finally_more true a (Sharp (at_places at1) qs s fs) (Sharp (at_places at1) (bounds ++ qs) s (es ++ fs)) (λ w. sharp_both (at_places at1) bounds qs s es fs (got.sharp at1 f) w) h.sharp;
     }
 
     abbrev After : StmtTrees → Type 0
@@ -159,7 +161,7 @@ module _ (b : Blocks) (cs : Callees) (k : Part) (sane : Sane b k) (regular : Reg
         go zero = done
         go (suc n) = done
 
-    pub entering_body : (body : StmtTrees) → Shown (setting b cs k sane regular turns callee ps at) true (list_set true body k.scope k.found.transformer) s (run_of (body_plan body sc at locked) s i).answer (run_of (body_plan body sc at locked) s i).trace → Starts (body_plan body sc at locked) s i (places_in k ps) (λ w a fs. Entering body s w a (es ++ fs))
+    pub entering_body : (body : StmtTrees) → Shown (setting ks g called b cs k sane regular turns callee ps at) true (list_set true body k.scope k.found.transformer called) s (run_of (body_plan body sc at locked) s i).answer (run_of (body_plan body sc at locked) s i).trace → Starts (body_plan body sc at locked) s i (places_in k ps) (λ w a fs. Entering body s w a (es ++ fs))
     entering_body body h =
         let q = run_of (body_plan body sc at locked) s i in
         ⊎_elim
@@ -173,27 +175,18 @@ module _ (b : Blocks) (cs : Callees) (k : Part) (sane : Sane b k) (regular : Reg
 
   -- ---- what callers see
 
-  module _ (ks : List Known) (g : Graph) (enters : Enters ks g k) (body : StmtTrees) (at : Places) (s : Store) (q : Ran Flow) (later : List Event) (h : Entering body s at q.answer q.trace) where
-    abbrev x : Occurrence
-    x = record { spot = spot k.routine.name 0; places = at; start = s; ran = q; later = later }
-
-    abbrev here_at : Setting
-    here_at = setting b cs k sane regular turns callee ps at
-
-    shown_all : Shown here_at true (symbols_reads k.scope.symbols k.scope ++ set_of body) s q.answer q.trace
-    shown_all = subst (λ rs. Shown here_at true (rs ++ set_of body) s q.answer q.trace) (sym enters.reads) h.shown
-
-    -- a visible unit is one of a variable that goes out
-    out : (u : ℕ) → is_visible ks g x u ≡ true → (v : Named) (phi : ℕ → ℤ) → elements_at here_at v phi ≡ Some u → goes_out k.scope.symbols v ≡ true
-    out u v (Block c) phi e = refl
-    out u v (Saved c y) phi e = refl
-    out u v (Own n) phi e = by_symbol (symbol_at k.scope.symbols n) refl e
+  module _ (enters : Enters ks g k) (at : Places) (fixed : (n : ℕ) → NoDummy k.routine.dummies n → at n ≡ k.routine.fixed n) where
+    -- a unit that is not lost at the end is one of a variable that goes out
+    pub out : (u : ℕ) → (IsLost ks g k.routine.name u → ⊥) → (v : Named) (phi : ℕ → ℤ) → elements_with ks g k.scope.symbols at v phi ≡ Some u → goes_out k.scope.symbols v ≡ true
+    out u nl (Block c) phi e = refl
+    out u nl (Saved c y) phi e = refl
+    out u nl (Own n) phi e = by_symbol (symbol_at k.scope.symbols n) refl e
       where
         lost : (t : SymbolTree) → symbol_at k.scope.symbols n ≡ Some t → is_local t.place ≡ true → t.saved ≡ false → elements_of (at n) phi ≡ Some u → ⊥
         lost t f l d w =
-            let p = h.fixed n (enters.local n t f l) in
+            let p = fixed n (enters.local n t f l) in
             let r = inside_of (k.routine.fixed n) phi u (subst (λ z. elements_of z phi ≡ Some u) p w) in
-            not_visible ks g k.routine.name x u refl (subst (IsLost ks g k.routine.name) r.is_there (enters.lost n t r.offset f l d r.less)) v
+            nl (subst (IsLost ks g k.routine.name) r.is_there (enters.lost n t r.offset f l d r.less))
 
         by_place : (t : SymbolTree) → symbol_at k.scope.symbols n ≡ Some t → (p : SymbolPlace) (d : Bool) → t.place ≡ p → t.saved ≡ d → elements_if (not (is_constant p)) (at n) phi ≡ Some u → place_goes_out p d ≡ true
         by_place t f (place.Local c o) true e1 e2 w = refl
@@ -206,6 +199,16 @@ module _ (b : Blocks) (cs : Callees) (k : Part) (sane : Sane b k) (regular : Reg
         by_symbol None f w = cc
         by_symbol (Some t) f w = by_place t f t.place t.saved refl refl w
 
+  module _ (enters : Enters ks g k) (body : StmtTrees) (at : Places) (s : Store) (q : Ran Flow) (later : List Event) (h : Entering body s at q.answer q.trace) where
+    abbrev x : Occurrence
+    x = record { spot = spot k.routine.name 0; places = at; start = s; ran = q; later = later }
+
+    abbrev here_at : Setting
+    here_at = setting ks g called b cs k sane regular turns callee ps at
+
+    shown_all : Shown here_at true (symbols_reads k.scope.symbols k.scope ++ set_of body) s q.answer q.trace
+    shown_all = subst (λ rs. Shown here_at true (rs ++ set_of body) s q.answer q.trace) (sym enters.reads) h.shown
+
     normal : (f : Flow) → is_normal 0 f ≡ true → Finally true (Gave f) ⊥ → ⊥
     normal Normal n w = w
     normal (Jump l) n w = true≢false (sym n)
@@ -215,9 +218,9 @@ module _ (b : Blocks) (cs : Callees) (k : Part) (sane : Sane b k) (regular : Reg
     abbrev rs : List Region
     rs = summary_of k.scope (set_of body)
 
-    pub summary_holds : SetHolds ks g k.scope (summary_of k.scope (list_set true body k.scope k.found.transformer)) (record { spot = spot k.routine.name 0; places = at; start = s; ran = q; later = later })
+    pub summary_holds : SetHolds ks g k.scope (summary_of k.scope (list_set true body k.scope k.found.transformer called)) (record { spot = spot k.routine.name 0; places = at; start = s; ran = q; later = later })
     summary_holds =
-        set_holds ks g here_at (spot k.routine.name 0) s q later true normal (summary_of k.scope (list_set true body k.scope k.found.transformer))
-        (λ a u e v. summary_lies (scene here_at) (elements_at here_at) (by_order here_at) (numbers_of s) k.scope (set_of body) a u (out u v) (shown_all.holds a u e))
+        set_holds here_at (spot k.routine.name 0) s q later true normal (summary_of k.scope (list_set true body k.scope k.found.transformer called))
+        (λ a u e v. summary_lies (scene here_at) (elements_at here_at) (by_order here_at) (numbers_of s) k.scope (set_of body) a u (out enters at h.fixed u (λ l. not_visible ks g k.routine.name x u refl l v)) (visible_touches here_at (spot k.routine.name 0) s q later (symbols_reads k.scope.symbols k.scope ++ set_of body) shown_all.holds a u e v))
         (finally_more true q.answer (Sharp here_at (symbols_reads k.scope.symbols k.scope ++ set_of body) s q.trace) (Sharp here_at rs s q.trace)
         (λ w. summary_sharp (scene here_at) (elements_at here_at) (by_order here_at) (numbers_of s) k.scope (set_of body) (λ a. accessed a q.trace) w) shown_all.sharp)

@@ -89,14 +89,14 @@ module _ (k : Setting) (sound : Sound k) (s : Store) where
 
   -- a unit is read
   one_read : (u : ℕ) (c : Content) (r : Region) → r.kind ≡ Read → LiesIn (scene k) (elements_at k r.variable) r (numbers_of s) u → Holds k (r ∷ []) s (Reads u c ∷ [])
-  one_read u c r e l Read x h = subst (λ z. LiesInSet (scene k) (elements_at k) Read (r ∷ []) (numbers_of s) z) (same (nat_eq u x) refl h) (set_one (scene k) (elements_at k) Read (numbers_of s) u r e l)
+  one_read u c r e l Read x h = subst (λ z. LiesInSet (scene k) (elements_at k) Read (r ∷ []) (numbers_of s) z) (same (nat_eq u x) refl h.is_so) (set_one (scene k) (elements_at k) Read (numbers_of s) u r e l)
     where
       same : (b : Bool) → nat_eq u x ≡ b → (b || false) ≡ true → u ≡ x
       same true q i = nat_same u x q
       same false q i = absurd (true≢false (sym i))
-  one_read u c r e l Write x h = absurd (true≢false (sym h))
-  one_read u c r e l In x h = absurd (true≢false (sym h))
-  one_read u c r e l Out x h = absurd (true≢false (sym h))
+  one_read u c r e l Write x h = absurd (true≢false (sym h.is_so))
+  one_read u c r e l In x h = absurd (true≢false (sym h.is_so))
+  one_read u c r e l Out x h = absurd (true≢false (sym h.is_so))
 
   was_read : (u : ℕ) (c : Content) → accessed Read (Reads u c ∷ []) u ≡ true
   was_read u c = or_left (nat_eq u u) false (nat_eq_same u)

@@ -1,13 +1,7 @@
 -- Units in sets of regions, of accesses one after another.
-use Rattle.std.proofs.Common.{◌≡◌, ⊎_elim, ℕ, ℤ, ◌<◌, List, [], ◌∷◌, ◌++◌, Bool, true, refl, ap}
-use Rattle.std.specs.declared.cmp.Ordering.{Ordering}
-use Rattle.std.specs.declared.cmp.Ordering.TheVariants.{Less, Equal, Greater}
-use Rattle.std.specs.Ordering.{nat_cmp, MatchOrdering}
-use Rattle.std.specs.Cmp.{ranks}
+use Rattle.std.proofs.Common.{◌≡◌, ⊎_elim, ℕ, ℤ, List, [], ◌∷◌, ◌++◌, Bool, true}
 use Rattle.f77_ast.specs.Store.{Store}
 use Rattle.f77_ast.specs.Runs.{Event}
-use Rattle.f77_symbols.specs.declared.variable.Variable.TheVariants.{Own, Block, Saved}
-use Rattle.f77_symbols.specs.Shared.{symbol_at}
 use Rattle.affine_forms.specs.Claims.{numbers_of}
 use Rattle.transformer_algebra.specs.declared.transformer.Transformer.{Transformer}
 use Rattle.transformer_algebra.specs.Claims.{Scene, Does}
@@ -17,32 +11,14 @@ use Rattle.region_sets.specs.declared.region.Region.{Region}
 use Rattle.region_sets.specs.Compose.{compose}
 use Rattle.region_sets.specs.Sets.{unite_all}
 use Rattle.region_sets.specs.Lists.{all_composed}
-use Rattle.region_sets.specs.Claims.{Elements, Places as Elements_of, AreByOrder, Accessed, LiesIn, LiesInSet, IsSharp, IsSharpSet}
+use Rattle.region_sets.specs.Claims.{Elements, Places as Elements_of, Accessed, LiesIn, LiesInSet, IsSharp, IsSharpSet}
 use Rattle.region_sets.proofs.SetLaws.{gathered_units, gathered_sharp}
 use Rattle.region_sets.proofs.StepLaws.{in_left, in_right, in_either, in_map, of_map}
 use Rattle.region_sets.proofs.PieceLaws.{compose_moves, compose_sharp}
-use Rattle.laws_regions.specs.Settings.{Setting, scene, is_stored, elements_if, elements_at}
+use Rattle.laws_regions.specs.Settings.{Setting, scene, elements_at}
 use Rattle.laws_regions.specs.Shown.{accessed, Holds, Sharp}
-use Rattle.laws_regions.proofs.Traces.{accessed_cases, accessed_left, accessed_right, accessed_none}
-
-at_equal : (A B C : Type 0) (o : Ordering) → MatchOrdering o A B C → o ≡ Equal → B
-at_equal A B C Less m e = cc
-at_equal A B C Equal m e = m
-at_equal A B C Greater m e = cc
-
-same_numbers : (m n : ℕ) → nat_cmp m n ≡ Equal → m ≡ n
-same_numbers m n e = at_equal (m < n) (m ≡ n) (n < m) (nat_cmp m n) (ranks m n) e
-
-pub by_order : (k : Setting) → AreByOrder (elements_at k)
-by_order k (Own m) (Own n) e = ap (λ c. elements_if (is_stored (symbol_at k.m.symbols c)) (k.at c)) (same_numbers m n e)
-by_order k (Own m) (Block c) e = cc
-by_order k (Own m) (Saved t y) e = cc
-by_order k (Block b) (Own n) e = cc
-by_order k (Block b) (Block c) e = refl
-by_order k (Block b) (Saved t y) e = refl
-by_order k (Saved s x) (Own n) e = cc
-by_order k (Saved s x) (Block c) e = refl
-by_order k (Saved s x) (Saved t y) e = refl
+use Rattle.laws_regions.proofs.Told.{by_order}
+use Rattle.laws_regions.proofs.Traces.{accessed_left, accessed_right, accessed_none, touches_cases}
 
 -- ---- units
 
@@ -90,7 +66,7 @@ module _ (m : Scene) (at : Elements_of) (x : ℕ → ℤ) where
 
 module _ (k : Setting) where
   pub holds_none : (rs : List Region) (s : Store) → Holds k rs s []
-  holds_none rs s a u h = absurd (accessed_none a u h)
+  holds_none rs s a u h = absurd (accessed_none a u h.is_so)
 
   pub holds_left : (rs qs : List Region) (s : Store) (es : List Event) → Holds k rs s es → Holds k (rs ++ qs) s es
   holds_left rs qs s es h a u e = set_left (scene k) (elements_at k) a (numbers_of s) u rs qs (h a u e)
@@ -99,7 +75,7 @@ module _ (k : Setting) where
   holds_right rs qs s es h a u e = set_right (scene k) (elements_at k) a (numbers_of s) u rs qs (h a u e)
 
   pub holds_then : (rs : List Region) (s : Store) (es fs : List Event) → Holds k rs s es → Holds k rs s fs → Holds k rs s (es ++ fs)
-  holds_then rs s es fs h g a u e = ⊎_elim (λ q. h a u q) (λ q. g a u q) (accessed_cases a es fs u e)
+  holds_then rs s es fs h g a u e = ⊎_elim (λ q. h a u q) (λ q. g a u q) (touches_cases k.ks k.g a es fs u e)
 
   pub holds_both : (rs qs : List Region) (s : Store) (es fs : List Event) → Holds k rs s es → Holds k qs s fs → Holds k (rs ++ qs) s (es ++ fs)
   holds_both rs qs s es fs h g = holds_then (rs ++ qs) s es fs (holds_left rs qs s es h) (holds_right rs qs s fs g)

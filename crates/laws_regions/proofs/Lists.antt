@@ -23,7 +23,7 @@ use Rattle.transformer_algebra.specs.Laws.{In, here, there}
 use Rattle.transformer_algebra.proofs.CellLaws.{clashes}
 use Rattle.transformer_algebra.proofs.RuleLaws.{kept_in}
 use Rattle.transformers.specs.Jumps.{stmt_has, list_has, labels, goes_to, is_return, is_end, returns_early, early_return, unstructured}
-use Rattle.transformers.specs.Lists.{number_of, each_at, list_at}
+use Rattle.transformers.specs.Lists.{each_at, list_at}
 use Rattle.transformers.specs.Lists as transformers
 use Rattle.region_sets.specs.declared.region.Access.{Access}
 use Rattle.region_sets.specs.declared.region.Access.TheVariants.{Read, Write, In as AtIn, Out}
@@ -42,19 +42,21 @@ use Rattle.laws_regions.specs.Settings.{Setting, scene, elements_at}
 use Rattle.laws_regions.specs.Shown.{accessed, Holds, Sharp, Finally, Shown}
 use Rattle.laws_regions.proofs.Traces.{trace_assoc, trace_nil}
 use Rattle.laws_regions.proofs.Rules.{Post, Goes, OnGave, goes_ends, goes_breaks, goes_more, goes_with, goes_then}
-use Rattle.laws_regions.proofs.Holding.{by_order, set_moved, sharp_moved, holds_none, holds_left, holds_then, holds_both, holds_gathered, sharp_both, sharp_gathered}
+use Rattle.laws_regions.proofs.Told.{by_order}
+use Rattle.laws_regions.proofs.Holding.{set_moved, sharp_moved, holds_none, holds_left, holds_then, holds_both, holds_gathered, sharp_both, sharp_gathered}
 use Rattle.laws_regions.proofs.Showing.{finally_more}
 use Rattle.laws_regions.proofs.Standing.{Distinct}
 use Rattle.laws_regions.proofs.Numbering.{in_accesses, to_accesses, accesses_found}
 
-module _ (k : Setting) (D : Claim) where
+-- I: what holds at each store of the module
+module _ (k : Setting) (D : Claim) (I : Store → Type 0) where
   -- the set that a list takes for a statement is its own
   pub record Taken (rs set : List Region) : Type 0 where
     pub less : (r : Region) → In r rs → In r set
     pub keeps : (r : Region) → is_access r.kind ≡ true → In r set → In r rs
 
   taken_holds : (rs set : List Region) (s : Store) (es : List Event) → Taken rs set → Holds k set s es → Holds k rs s es
-  taken_holds rs set s es t h a u i = (let l = h a u i in record { region = l.region; is_one = t.keeps l.region (ap is_access l.kind ∙ is_one a es u i) l.is_one; kind = l.kind; lies = l.lies })
+  taken_holds rs set s es t h a u i = (let l = h a u i in record { region = l.region; is_one = t.keeps l.region (ap is_access l.kind ∙ is_one a es u i.is_so) l.is_one; kind = l.kind; lies = l.lies })
     where
       is_one : (a : Access) (es : List Event) (u : ℕ) → accessed a es u ≡ true → is_access a ≡ true
       is_one Read es u i = refl
@@ -65,6 +67,10 @@ module _ (k : Setting) (D : Claim) where
   taken_sharp : (rs set : List Region) (s : Store) (es : List Event) → Taken rs set → Sharp k set s es → Sharp k rs s es
   taken_sharp rs set s es t h r i = h r (t.less r i)
 
+  -- what holds at each store stays where a statement with a number ends
+  abbrev pub KeepsAt : ℕ → Type 0
+  KeepsAt n = (x y : Store) → Kept (scene k) (k.does n).cells (k.does n).foreign (numbers_of x) (numbers_of y) → I x → I y
+
   -- how a statement with a number ends
   abbrev pub Moved : ℕ → (List ℕ → Bool) → Bool → Bool → (ℕ → Bool) → Store → Flow → Store → Type 0
   Moved n goes ret own still s = Ended (scene k) (k.does n) no_rows goes ret own still s
@@ -72,7 +78,7 @@ module _ (k : Setting) (D : Claim) where
   -- statements from one of a list on, among all of it
   pub record Suffix (all : StmtTrees) (whole : Bool) (ss : StmtTrees) : Type 0 where
     pub jumps : (ls : List ℕ) → list_has (goes_to ls) ss ≡ true → list_has (goes_to ls) all ≡ true
-    pub found : (a : At (List Region)) → In a (at_list ss k.m k.does) → In a (at_list all k.m k.does)
+    pub found : (a : At (List Region)) → In a (at_list ss k.m k.does k.calls) → In a (at_list all k.m k.does k.calls)
     pub inside : (n : ℕ) → In n (numbers ss) → In n (numbers all)
     pub moves : (t : Transformer) → In t (each_at k.does ss) → In t (each_at k.does all)
     pub early : early_return all ≡ false → early_return ss ≡ false
@@ -83,25 +89,25 @@ module _ (k : Setting) (D : Claim) where
   pub suffix_next : (all : StmtTrees) (whole : Bool) (s : StmtTree) (rest : StmtTrees) → Suffix all whole (tree.more_stmts s rest) → Suffix all whole rest
   suffix_next all whole s rest x = record {
     jumps = λ ls h. x.jumps ls (or_right (stmt_has (goes_to ls) s) (list_has (goes_to ls) rest) h);
-    found = λ a i. x.found a (in_right a (at_stmt s k.m k.does) (at_list rest k.m k.does) i);
+    found = λ a i. x.found a (in_right a (at_stmt s k.m k.does k.calls) (at_list rest k.m k.does k.calls) i);
     inside = λ n i. x.inside n (there i);
     moves = λ t i. x.moves t (there i);
     early = λ e. (or_parts (returns_early (is_end rest) s) (early_return rest) (x.early e)).1;
   }
 
-  module _ (all : StmtTrees) (whole : Bool) (locked : Locks) (still : ℕ → Bool) (distinct : Distinct (ids (at_list all k.m k.does))) where
+  module _ (all : StmtTrees) (whole : Bool) (locked : Locks) (still : ℕ → Bool) (distinct : Distinct (ids (at_list all k.m k.does k.calls))) where
     abbrev pub F : ℕ → List Region
-    F n = accesses_at (at_list all k.m k.does) n
+    F n = accesses_at (at_list all k.m k.does k.calls) n
 
     abbrev pub ps : List Part
     ps = parts all k.sc k.at locked
 
-    pub taken_at : (n : ℕ) (label : Option ℕ) (w : WhatTree) (rest : StmtTrees) → Suffix all whole (tree.more_stmts (tree.stmt n label w) rest) → Taken (F n) (what_set w k.m k.does)
+    pub taken_at : (n : ℕ) (label : Option ℕ) (w : WhatTree) (rest : StmtTrees) → Suffix all whole (tree.more_stmts (tree.stmt n label w) rest) → Taken (F n) (what_set w k.m k.does k.calls)
     taken_at n label w rest x =
-        let e = accesses_found (at_list all k.m k.does) distinct n (what_set w k.m k.does) (x.found (record { id = n; value = what_set w k.m k.does }) here) in
+        let e = accesses_found (at_list all k.m k.does k.calls) distinct n (what_set w k.m k.does k.calls) (x.found (record { id = n; value = what_set w k.m k.does k.calls }) here) in
         record {
-          less = λ r i. in_accesses (what_set w k.m k.does) r (subst (In r) e i);
-          keeps = λ r a i. subst (In r) (sym e) (to_accesses (what_set w k.m k.does) r a i);
+          less = λ r i. in_accesses (what_set w k.m k.does k.calls) r (subst (In r) e i);
+          keeps = λ r a i. subst (In r) (sym e) (to_accesses (what_set w k.m k.does k.calls) r a i);
         }
 
     -- ---- in order
@@ -111,7 +117,7 @@ module _ (k : Setting) (D : Claim) where
       now = tree.stmt n label w
 
       abbrev set : List Region
-      set = what_set w k.m k.does
+      set = what_set w k.m k.does k.calls
 
       abbrev later : List Region
       later = in_order k.does F (numbers rest)
@@ -119,7 +125,7 @@ module _ (k : Setting) (D : Claim) where
       abbrev row : List Region
       row = unite_all (F n ++ all_composed (k.does n) later)
 
-      t : Taken (F n) (what_set w k.m k.does)
+      t : Taken (F n) (what_set w k.m k.does k.calls)
       t = taken_at n label w rest x
 
       first_holds : (s : Store) (es : List Event) → Holds k set s es → Holds k row s es
@@ -153,7 +159,7 @@ module _ (k : Setting) (D : Claim) where
       none_later tree.no_stmts e = refl
       none_later (tree.more_stmts s ss) e = absurd (true≢false (sym e))
 
-      return_set : (v : WhatTree) → is_return v ≡ true → what_set v k.m k.does ≡ []
+      return_set : (v : WhatTree) → is_return v ≡ true → what_set v k.m k.does k.calls ≡ []
       return_set (tree.assign a b) e = absurd (true≢false (sym e))
       return_set (tree.block_if arms other) e = absurd (true≢false (sym e))
       return_set (tree.logical_if f s) e = absurd (true≢false (sym e))
@@ -179,7 +185,7 @@ module _ (k : Setting) (D : Claim) where
               no_trace : Sharp k (all_composed (k.does n) later) s es → Sharp k (all_composed (k.does n) later) s []
               no_trace c = subst (λ rs. Sharp k (all_composed (k.does n) rs) s []) (sym (none_later rest (returned_last w rest (or_parts (returns_early (is_end rest) now) (early_return rest) (x.early (two e).1)).0 h).1)) (λ r i. elim i [ ])
 
-      module _ (jump : ℕ → Plan) (s : Store) (own : Bool) where
+      module _ (jump : ℕ → Plan) (s : Store) (own : Bool) (keeps : KeepsAt n) (since : I s) where
         abbrev P : Post Flow
         P a z es = Shown k false set s a es × OnGave D a z (Moved n (λ ls. stmt_leads now ls) (stmt_has is_return now) own still s)
 
@@ -189,15 +195,15 @@ module _ (k : Setting) (D : Claim) where
         abbrev on : Flow → Plan
         on = go_on jump ps (plan_in_order jump ps (parts rest k.sc k.at locked))
 
-        next : ((z : Store) → Goes D (plan_in_order jump ps (parts rest k.sc k.at locked)) z (λ a y fs. Shown k whole later z a fs)) → (g : Flow) (z : Store) (es : List Event) → P (Gave g) z es → Goes D (on g) z (λ a y fs. Shown k whole row s a (es ++ fs))
-        next ih Normal z es p = goes_more D (plan_in_order jump ps (parts rest k.sc k.at locked)) z (λ a y fs. Shown k whole later z a fs) (λ a y fs. Shown k whole row s a (es ++ fs)) (λ a y fs l. both_shown s z a es fs p.1.does p.0.holds p.0.sharp l) (ih z)
+        next : ((z : Store) → I z → Goes D (plan_in_order jump ps (parts rest k.sc k.at locked)) z (λ a y fs. Shown k whole later z a fs)) → (g : Flow) (z : Store) (es : List Event) → P (Gave g) z es → Goes D (on g) z (λ a y fs. Shown k whole row s a (es ++ fs))
+        next ih Normal z es p = goes_more D (plan_in_order jump ps (parts rest k.sc k.at locked)) z (λ a y fs. Shown k whole later z a fs) (λ a y fs. Shown k whole row s a (es ++ fs)) (λ a y fs l. both_shown s z a es fs p.1.does p.0.holds p.0.sharp l) (ih z (keeps s z p.1.does.kept since))
         next ih (Jump l) z es p =
             subst (λ b. Goes D (if b then jump l else Ends (Jump l)) z (λ a y fs. Shown k whole row s a (es ++ fs))) (sym (no_label l p.1.0))
             (goes_ends D (Jump l) z (λ a y fs. Shown k whole row s a (es ++ fs)) (subst (λ ts. Shown k whole row s (Gave (Jump l)) ts) (sym (trace_nil es)) (record { holds = first_holds s es p.0.holds; sharp = tt })))
         next ih Returned z es p = goes_ends D Returned z (λ a y fs. Shown k whole row s a (es ++ fs)) (subst (λ ts. Shown k whole row s (Gave Returned) ts) (sym (trace_nil es)) (record { holds = first_holds s es p.0.holds; sharp = λ e. return_sharp s es p.1.0 e }))
         next ih Stopped z es p = goes_ends D Stopped z (λ a y fs. Shown k whole row s a (es ++ fs)) (subst (λ ts. Shown k whole row s (Gave Stopped) ts) (sym (trace_nil es)) (record { holds = first_holds s es p.0.holds; sharp = tt }))
 
-        pub row_goes : Goes D (statement_plan now k.sc k.at locked) s (λ a z es. Shown k false set s a es) → Ending (statement_plan now k.sc k.at locked) s (Moved n (λ ls. stmt_leads now ls) (stmt_has is_return now) own still s) → ((z : Store) → Goes D (plan_in_order jump ps (parts rest k.sc k.at locked)) z (λ a y fs. Shown k whole later z a fs)) → Goes D (plan_in_order jump ps (parts (tree.more_stmts now rest) k.sc k.at locked)) s (λ a z es. Shown k whole row s a es)
+        pub row_goes : Goes D (statement_plan now k.sc k.at locked) s (λ a z es. Shown k false set s a es) → Ending (statement_plan now k.sc k.at locked) s (Moved n (λ ls. stmt_leads now ls) (stmt_has is_return now) own still s) → ((z : Store) → I z → Goes D (plan_in_order jump ps (parts rest k.sc k.at locked)) z (λ a y fs. Shown k whole later z a fs)) → Goes D (plan_in_order jump ps (parts (tree.more_stmts now rest) k.sc k.at locked)) s (λ a z es. Shown k whole row s a es)
         row_goes h m ih =
             goes_then D (statement_plan now k.sc k.at locked) on s P Q
             (goes_with D (statement_plan now k.sc k.at locked) s (λ a z es. Shown k false set s a es) (Moved n (λ ls. stmt_leads now ls) (stmt_has is_return now) own still s) h m)
@@ -215,14 +221,15 @@ module _ (k : Setting) (D : Claim) where
     abbrev pub loose : List Region
     loose = in_any_order cells F (numbers all)
 
-    module _ (s : Store) where
+    module _ (s : Store) (begun : I s) where
       -- all so far lies in it, and what the list does not change is as it was
       pub record Loosely (es : List Event) (z : Store) : Type 0 where
         pub holds : Holds k loose s es
         pub kept : Kept (scene k) cells units (numbers_of s) (numbers_of z)
+        pub since : I z
 
       pub loosely_begin : Loosely [] s
-      loosely_begin = record { holds = holds_none k loose s; kept = record { cells = λ c r e. refl; foreign = λ u r e. refl } }
+      loosely_begin = record { holds = holds_none k loose s; kept = record { cells = λ c r e. refl; foreign = λ u r e. refl }; since = begun }
 
       loose_sharp : (es : List Event) → Sharp k loose s es
       loose_sharp es r i e = clashes r.exact e (any_inexact cells F (numbers all) r i)
@@ -252,16 +259,16 @@ module _ (k : Setting) (D : Claim) where
       Each_goes [] = Unit {0}
       Each_goes (q ∷ qs) = ((z : Store) (es : List Event) → Loosely es z → Goes D q.does z (λ a y fs. After a y (es ++ fs))) × Each_goes qs
 
-      loose_after : (n : ℕ) (label : Option ℕ) (w : WhatTree) (rest : StmtTrees) → Suffix all whole (tree.more_stmts (tree.stmt n label w) rest) → (goes : List ℕ → Bool) (ret own : Bool) (z : Store) (es : List Event) → Loosely es z → (a : Answer Flow) (y : Store) (fs : List Event) → Shown k false (what_set w k.m k.does) z a fs → OnGave D a y (Moved n goes ret own still z) → After a y (es ++ fs)
-      loose_after n label w rest x goes ret own z es l a y fs h m = go a m
+      loose_after : (n : ℕ) (label : Option ℕ) (w : WhatTree) (rest : StmtTrees) → Suffix all whole (tree.more_stmts (tree.stmt n label w) rest) → KeepsAt n → (goes : List ℕ → Bool) (ret own : Bool) (z : Store) (es : List Event) → Loosely es z → (a : Answer Flow) (y : Store) (fs : List Event) → Shown k false (what_set w k.m k.does k.calls) z a fs → OnGave D a y (Moved n goes ret own still z) → After a y (es ++ fs)
+      loose_after n label w rest x keeps goes ret own z es l a y fs h m = go a m
         where
           hold : Holds k loose s (es ++ fs)
-          hold = holds_then k loose s es fs l.holds (λ b u i. any_units cells F (numbers all) (scene k) (elements_at k) (by_order k) b n (x.inside n here) units (numbers_of s) (numbers_of z) l.kept u (taken_holds (F n) (what_set w k.m k.does) z fs (taken_at n label w rest x) h.holds b u i))
+          hold = holds_then k loose s es fs l.holds (λ b u i. any_units cells F (numbers all) (scene k) (elements_at k) (by_order k) b n (x.inside n here) units (numbers_of s) (numbers_of z) l.kept u (taken_holds (F n) (what_set w k.m k.does k.calls) z fs (taken_at n label w rest x) h.holds b u i))
 
           more : Kept (scene k) (k.does n).cells (k.does n).foreign (numbers_of z) (numbers_of y) → Loosely (es ++ fs) y
           more d =
               let e = kept_in (scene k) (k.does n) (each_at k.does all) (numbers_of z) (numbers_of y) (x.moves (k.does n) here) d in
-              record { holds = hold; kept = record { cells = λ c r g. e.cells c r g ∙ l.kept.cells c r g; foreign = λ u r g. e.foreign u r g ∙ l.kept.foreign u r g } }
+              record { holds = hold; kept = record { cells = λ c r g. e.cells c r g ∙ l.kept.cells c r g; foreign = λ u r g. e.foreign u r g ∙ l.kept.foreign u r g }; since = keeps z y d l.since }
 
           go : (a : Answer Flow) → OnGave D a y (Moved n goes ret own still z) → After a y (es ++ fs)
           go (Gave Normal) d = more d.does.kept
@@ -270,12 +277,12 @@ module _ (k : Setting) (D : Claim) where
           go (Gave Stopped) d = hold
           go (Broke b) d = hold
 
-      pub loose_goes : (n : ℕ) (label : Option ℕ) (w : WhatTree) (rest : StmtTrees) → Suffix all whole (tree.more_stmts (tree.stmt n label w) rest) → (own : Bool) (z : Store) (es : List Event) → Loosely es z → Goes D (statement_plan (tree.stmt n label w) k.sc k.at locked) z (λ a y fs. Shown k false (what_set w k.m k.does) z a fs) → Ending (statement_plan (tree.stmt n label w) k.sc k.at locked) z (Moved n (λ ls. stmt_leads (tree.stmt n label w) ls) (stmt_has is_return (tree.stmt n label w)) own still z) → Goes D (statement_plan (tree.stmt n label w) k.sc k.at locked) z (λ a y fs. After a y (es ++ fs))
-      loose_goes n label w rest x own z es l h m =
+      pub loose_goes : (n : ℕ) (label : Option ℕ) (w : WhatTree) (rest : StmtTrees) → Suffix all whole (tree.more_stmts (tree.stmt n label w) rest) → KeepsAt n → (own : Bool) (z : Store) (es : List Event) → Loosely es z → Goes D (statement_plan (tree.stmt n label w) k.sc k.at locked) z (λ a y fs. Shown k false (what_set w k.m k.does k.calls) z a fs) → Ending (statement_plan (tree.stmt n label w) k.sc k.at locked) z (Moved n (λ ls. stmt_leads (tree.stmt n label w) ls) (stmt_has is_return (tree.stmt n label w)) own still z) → Goes D (statement_plan (tree.stmt n label w) k.sc k.at locked) z (λ a y fs. After a y (es ++ fs))
+      loose_goes n label w rest x keeps own z es l h m =
           let M = Moved n (λ ls. stmt_leads (tree.stmt n label w) ls) (stmt_has is_return (tree.stmt n label w)) own still z in
-          goes_more D (statement_plan (tree.stmt n label w) k.sc k.at locked) z (λ a y fs. Shown k false (what_set w k.m k.does) z a fs × OnGave D a y (Moved n (λ ls. stmt_leads (tree.stmt n label w) ls) (stmt_has is_return (tree.stmt n label w)) own still z)) (λ a y fs. After a y (es ++ fs))
-          (λ a y fs p. loose_after n label w rest x (λ ls. stmt_leads (tree.stmt n label w) ls) (stmt_has is_return (tree.stmt n label w)) own z es l a y fs p.0 p.1)
-          (goes_with D (statement_plan (tree.stmt n label w) k.sc k.at locked) z (λ a y fs. Shown k false (what_set w k.m k.does) z a fs) (Moved n (λ ls. stmt_leads (tree.stmt n label w) ls) (stmt_has is_return (tree.stmt n label w)) own still z) h m)
+          goes_more D (statement_plan (tree.stmt n label w) k.sc k.at locked) z (λ a y fs. Shown k false (what_set w k.m k.does k.calls) z a fs × OnGave D a y (Moved n (λ ls. stmt_leads (tree.stmt n label w) ls) (stmt_has is_return (tree.stmt n label w)) own still z)) (λ a y fs. After a y (es ++ fs))
+          (λ a y fs p. loose_after n label w rest x keeps (λ ls. stmt_leads (tree.stmt n label w) ls) (stmt_has is_return (tree.stmt n label w)) own z es l a y fs p.0 p.1)
+          (goes_with D (statement_plan (tree.stmt n label w) k.sc k.at locked) z (λ a y fs. Shown k false (what_set w k.m k.does k.calls) z a fs) (Moved n (λ ls. stmt_leads (tree.stmt n label w) ls) (stmt_has is_return (tree.stmt n label w)) own still z) h m)
 
       each_from : (l : ℕ) (qs : List Part) → Each_goes qs → Each_goes (from_label l qs)
       each_from l [] h = tt
@@ -314,8 +321,8 @@ module _ (k : Setting) (D : Claim) where
 
     -- ---- a list of either kind
 
-    pub list_goes : (s : Store) → (unstructured whole all ≡ false → (jump : ℕ → Plan) → Goes D (plan_in_order jump ps ps) s (λ a y fs. Shown k whole (in_order k.does F (numbers all)) s a fs)) → Each_goes s ps → Goes D (list_plan k.sc.turns ps) s (λ a y fs. Shown k whole (list_regions k.does F whole all) s a fs)
-    list_goes s row every = go (unstructured whole all) refl
+    pub list_goes : (s : Store) (begun : I s) → (unstructured whole all ≡ false → (jump : ℕ → Plan) → Goes D (plan_in_order jump ps ps) s (λ a y fs. Shown k whole (in_order k.does F (numbers all)) s a fs)) → Each_goes s begun ps → Goes D (list_plan k.sc.turns ps) s (λ a y fs. Shown k whole (list_regions k.does F whole all) s a fs)
+    list_goes s begun row every = go (unstructured whole all) refl
       where
         in_turns : (n : ℕ) → unstructured whole all ≡ false → Goes D (with_jumps n ps ps) s (λ a y fs. Shown k whole (in_order k.does F (numbers all)) s a fs)
         in_turns zero e = row e (λ j. Breaks OutOfTurns)
@@ -325,5 +332,5 @@ module _ (k : Setting) (D : Claim) where
         path e = ap (λ b. (if b then transformers.in_any_order (each_at k.does all) else transformers.in_order (each_at k.does all)).cells) e
 
         go : (b : Bool) → unstructured whole all ≡ b → Goes D (list_plan k.sc.turns ps) s (λ a y fs. Shown k whole (if b then in_any_order (list_at k.does whole all).cells F (numbers all) else in_order k.does F (numbers all)) s a fs)
-        go true e = subst (λ cs. Goes D (list_plan k.sc.turns ps) s (λ a y fs. Shown k whole (in_any_order cs F (numbers all)) s a fs)) (sym (path e)) (any_goes s every)
+        go true e = subst (λ cs. Goes D (list_plan k.sc.turns ps) s (λ a y fs. Shown k whole (in_any_order cs F (numbers all)) s a fs)) (sym (path e)) (any_goes s begun every)
         go false e = in_turns k.sc.turns e

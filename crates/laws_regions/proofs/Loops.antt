@@ -20,10 +20,10 @@ use Rattle.transformer_algebra.specs.declared.loop_parts.LoopParts.{LoopParts}
 use Rattle.transformer_algebra.specs.Cells.{has}
 use Rattle.transformer_algebra.specs.Transformers.{exit_system, transformer}
 use Rattle.transformer_algebra.specs.Loops.{own_cells, stepped, next, iteration, goes_up}
-use Rattle.transformer_algebra.specs.Claims.{Scene, Does, Chain, none_yet, then_iteration, Wrote, Tracks, Means, NotBeyond}
+use Rattle.transformer_algebra.specs.Claims.{Scene, Does, Kept, Chain, none_yet, then_iteration, Wrote, Tracks, Means, NotBeyond}
 use Rattle.transformer_algebra.specs.Laws.{In, here, there}
 use Rattle.transformer_algebra.proofs.CellLaws.{nat_same, nat_eq_same, clashes, right_in}
-use Rattle.transformer_algebra.proofs.RuleLaws.{does_then}
+use Rattle.transformer_algebra.proofs.RuleLaws.{does_then, kept_then}
 use Rattle.region_sets.specs.declared.range.Range.{Range}
 use Rattle.region_sets.specs.declared.region.Access.TheVariants.{Write}
 use Rattle.region_sets.specs.declared.region.Region.{Region}
@@ -59,7 +59,7 @@ stepped_means : (e : Scene) (i : ℕ) (o : Option ℤ) (x : ℕ → ℤ) (m c : 
 stepped_means e i None x m c t h k = tt
 stepped_means e i (Some s) x m c t h k = λ p st. (let q = st i t in omega (arith, ints, q, h, k))
 
-module _ (k : Setting) (sound : Sound k) (D : Claim) (locked : Locks) (still : ℕ → Bool) (fit : Fit k.sc.names k.scalar k.at (scene k) locked still) (index : List ℕ) (lp : LoopParts) (named : k.sc.names index ≡ Variable lp.index) (bare : k.scalar index ≡ true) (known : (scene k).tracked lp.index ≡ lp.tracked) (trs : Tracks (scene k) lp.body.cells) (rs : List Region) (body : Plan) (goes : List ℕ → Bool) (ret : Bool) (x : Store) (a b c : ℤ) where
+module _ (k : Setting) (sound : Sound k) (D : Claim) (locked : Locks) (still : ℕ → Bool) (fit : Fit k.sc.names k.scalar k.at (scene k) locked still) (index : List ℕ) (lp : LoopParts) (named : k.sc.names index ≡ Variable lp.index) (bare : k.scalar index ≡ true) (known : (scene k).tracked lp.index ≡ lp.tracked) (trs : Tracks (scene k) lp.body.cells) (rs : List Region) (body : Plan) (goes : List ℕ → Bool) (ret : Bool) (x : Store) (a b c : ℤ) (I : Store → Type 0) where
   abbrev e : Scene
   e = scene k
 
@@ -121,7 +121,25 @@ module _ (k : Setting) (sound : Sound k) (D : Claim) (locked : Locks) (still : �
         go true q = or_left (nat_eq lp.index lp.index) false (nat_eq_same lp.index)
         go false q = clashes (e.tracked lp.index) r (known ∙ q)
 
-    module _ (mf : Means e lp.first (numbers_of x) a) (ml : Means e lp.last (numbers_of x) b) (step : StepIs lp.step c) (nz : int_eq c (pos 0) ≡ false) where
+    -- where it takes a value, no other cell changes
+    own_kept : (n : ℤ) (y : Store) → Kept e (own_cells lp) [] (numbers_of y) (numbers_of (put y unit (content Int n)))
+    own_kept n y = record { cells = λ d r q. (wrote n y).cells d r (apart d r q (nat_eq lp.index d) refl); foreign = λ u f h. (wrote n y).foreign u f }
+      where
+        apart : (d : ℕ) → e.tracked d ≡ true → has (own_cells lp) d ≡ false → (v : Bool) → nat_eq lp.index d ≡ v → v ≡ false
+        apart d r q false o = refl
+        apart d r q true o =
+            let same = nat_same lp.index d o in
+            clashes (has (own_cells lp) d) (subst (λ j. has (own_cells lp) j ≡ true) same (own_in (ap e.tracked same ∙ r))) q
+
+    module _ (mf : Means e lp.first (numbers_of x) a) (ml : Means e lp.last (numbers_of x) b) (step : StepIs lp.step c) (nz : int_eq c (pos 0) ≡ false) (keeps : (y z : Store) → Kept e (iteration lp).cells (iteration lp).foreign (numbers_of y) (numbers_of z) → I y → I z) (begun : I x) where
+      -- what holds stays over the body
+      runs : (y z : Store) → Kept e lp.body.cells lp.body.foreign (numbers_of y) (numbers_of z) → I y → I z
+      runs y z d = keeps y z (kept_then e lp.body.cells (own_cells lp) lp.body.foreign [] (numbers_of y) (numbers_of z) (numbers_of z) d (record { cells = λ v r q. refl; foreign = λ u r f. refl }))
+
+      -- and where the index changes
+      counts : (n : ℤ) (y : Store) → I y → I (put y unit (content Int n))
+      counts n y = keeps y (put y unit (content Int n)) (kept_then e lp.body.cells (own_cells lp) lp.body.foreign [] (numbers_of y) (numbers_of y) (numbers_of (put y unit (content Int n))) (record { cells = λ v r q. refl; foreign = λ u r f. refl }) (own_kept n y))
+
       begins : Begins e g (numbers_of x) a b
       begins = record { first = mf; last = ml; tracks = turn_tracks e lp known trs; index = λ r. right_in lp.body.cells (own_cells lp) lp.index (own_in r) }
 
@@ -147,6 +165,8 @@ module _ (k : Setting) (sound : Sound k) (D : Claim) (locked : Locks) (still : �
         chain : Chain e t (numbers_of x1) (numbers_of y)
         holds : Holds k tails x es
         written : accessed Write es unit ≡ true
+        -- what holds at each store of the module
+        since : I y
         so_far : ℕ
         count : (s : ℤ) → lp.step ≡ Some s → Count s so_far j m
         past : (s : ℤ) → lp.step ≡ Some s → (i : ℕ) → i < so_far → Past s i es
@@ -202,6 +222,7 @@ module _ (k : Setting) (sound : Sound k) (D : Claim) (locked : Locks) (still : �
             chain = then_iteration i.chain (does_then e lp.body (next lp) (numbers_of y) (numbers_of z) (numbers_of (put z unit (content Int (m +ℤ c)))) d (does_next m z n step));
             holds = holds_then k tails x (es ++ fs) (WroteEvent unit (content Int (m +ℤ c)) ∷ []) (holds_then k tails x es fs i.holds (turn_holds j m es y i fs sh.holds)) (index_holds (m +ℤ c));
             written = accessed_left Write (es ++ fs) (WroteEvent unit (content Int (m +ℤ c)) ∷ []) unit (accessed_left Write es fs unit i.written);
+            since = counts (m +ℤ c) z (runs y z d.kept i.since);
             so_far = suc i.so_far;
             count = λ s q. (let h = i.count s q in let z1 = constant s q in let cm = count_more m b s j z1.1 h.left in
                 subst (λ v. Count s (suc i.so_far) j (m +ℤ v)) (sym z1.0) (record { place = next_place a s m i.so_far h.place; after_first = next_after a s m z1.1 h.after_first; left = cm.rest }));
@@ -267,16 +288,17 @@ module _ (k : Setting) (sound : Sound k) (D : Claim) (locked : Locks) (still : �
               (sharp_one e (elements_at k) (numbers_of x) (scalar Write lp.index) (λ w. accessed w es) (scalar_sharp k lp.index stored flat solid Write (numbers_of x) (accessed Write es) i.written))
               (of_map (λ (r : Region). over_loop r g) (λ (r : Region). IsSharp e (elements_at k r.variable) r (numbers_of x) (accessed r.kind es)) rs over)
 
-      pub loop_goes : ((y : Store) → Goes D body y (λ f z fs. Shown k false rs y f fs)) → ((y : Store) → Ending body y (λ f z. Ended e lp.body no_rows goes ret false still' y f z)) → (j : ℕ) → ((s : ℤ) → lp.step ≡ Some s → iteration_count a b s ≡ j) → Goes D (iterations_from j a c unit body) x1 (λ f z fs. Shown k false tails x f (WroteEvent unit (content Int a) ∷ fs))
+      pub loop_goes : ((y : Store) → I y → Goes D body y (λ f z fs. Shown k false rs y f fs)) → ((y : Store) → Ending body y (λ f z. Ended e lp.body no_rows goes ret false still' y f z)) → (j : ℕ) → ((s : ℤ) → lp.step ≡ Some s → iteration_count a b s ≡ j) → Goes D (iterations_from j a c unit body) x1 (λ f z fs. Shown k false tails x f (WroteEvent unit (content Int a) ∷ fs))
       loop_goes bodies moves j q =
           turns_go D c unit body Turning Q
-          (λ i m z es h. goes_more D body z (λ f v fs. Bodies z f v fs) (λ f v fs. Turn_ends D c unit body Turning Q i m f v (es ++ fs)) (λ f v fs p. ends i m es z h f v fs p) (goes_with D body z (λ f v fs. Shown k false rs z f fs) (λ f v. Ended e lp.body no_rows goes ret false still' z f v) (bodies z) (moves z)))
+          (λ i m z es h. goes_more D body z (λ f v fs. Bodies z f v fs) (λ f v fs. Turn_ends D c unit body Turning Q i m f v (es ++ fs)) (λ f v fs p. ends i m es z h f v fs p) (goes_with D body z (λ f v fs. Shown k false rs z f fs) (λ f v. Ended e lp.body no_rows goes ret false still' z f v) (bodies z h.since) (moves z)))
           (λ m z es h. at_end m z es h) j a x1 (WroteEvent unit (content Int a) ∷ [])
           (record {
             number = put_here x unit (content Int a);
             chain = none_yet;
             holds = index_holds a;
             written = or_left (nat_eq unit unit) false (nat_eq_same unit);
+            since = counts a x begun;
             so_far = 0;
             count = λ s h. record { place = first_place a s; after_first = first_after a s; left = q s h };
             past = λ s h i l. absurd (omega (arith, l));

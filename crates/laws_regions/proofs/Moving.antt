@@ -1,19 +1,20 @@
 -- What the transformers of statements say of their ends, also of those by a jump, whatever holds before.
-use Rattle.std.proofs.Common.{◌≡◌, ℕ, ◌<◌, List, [], ◌∷◌, ◌++◌, ◌&&◌, ◌||◌, Some, Bool, true, false, refl, sym, ap, ◌∙◌, subst}
+use Rattle.std.proofs.Common.{◌≡◌, ℕ, ◌<◌, List, [], ◌∷◌, ◌++◌, ◌&&◌, ◌||◌, Some, Bool, true, false, refl, sym, ap, subst}
 use Rattle.affine_systems.specs.declared.row.System.{System}
 use Rattle.f77_ast.specs.Trees.{ExprTrees, StmtTree, StmtTrees}
 use Rattle.f77_ast.specs.Trees as tree
 use Rattle.f77_ast.specs.Store.{Store}
 use Rattle.f77_ast.specs.Faults.{Locked}
-use Rattle.f77_ast.specs.Writes.{Locks}
+use Rattle.f77_ast.specs.Writes.{Locks, lock}
 use Rattle.f77_ast.specs.Plans.{Flow, Normal, Jump, Returned, Stopped, Plan}
-use Rattle.f77_ast.specs.Executions.{run_of, Claim}
+use Rattle.f77_ast.specs.Executions.{run_of}
+use Rattle.f77_ast.specs.Places.{Variable}
 use Rattle.f77_ast.specs.Lists.{list_plan}
 use Rattle.f77_ast.specs.Statements.{statement_plan, parts}
 use Rattle.f77_ast.specs.StatementNumbers.{stmt_numbers, list_numbers}
 use Rattle.f77_results.specs.declared.results.At.{At}
 use Rattle.affine_forms.specs.Conditions.{no_rows}
-use Rattle.affine_forms.specs.Claims.{unit_in, numbers_of}
+use Rattle.affine_forms.specs.Claims.{numbers_of}
 use Rattle.transformer_algebra.specs.declared.transformer.Transformer.{Transformer}
 use Rattle.transformer_algebra.specs.Claims.{HoldsAt}
 use Rattle.transformer_algebra.proofs.RuleLaws.{holds_without}
@@ -28,24 +29,16 @@ use Rattle.laws_statements.specs.Targets.{lacks_targets}
 use Rattle.laws_statements.specs.Leads.{stmt_leads, list_leads}
 use Rattle.laws_statements.specs.Activation.{Fit, Ended}
 use Rattle.laws_statements.specs.Placed.{Found, Either, Placed, PlacedAll, PlacedEach, PlacedList}
-use Rattle.laws_statements.specs.CallsIn.{Each, stmt_calls, list_calls}
+use Rattle.laws_statements.specs.CallsIn.{CallAt, Each, stmt_calls, list_calls}
 use Rattle.laws_statements.specs.Results.{or_no_rows}
 use Rattle.laws_statements.proofs.Ends.{more}
-use Rattle.laws_statements.proofs.Loops.{fit_lock}
-use Rattle.laws_statements.proofs.Placing.{FoundP, Owed, placed_list}
+use Rattle.laws_statements.proofs.Loops.{also}
+use Rattle.laws_statements.proofs.Placing.{FoundP, placed_list}
 use Rattle.laws_statements.proofs.NumberLaws.{p_list}
 use Rattle.laws_statements.proofs.Lists.{own_of}
 use Rattle.laws_statements.proofs.Statements.{stmt_good, list_good}
 use Rattle.laws_regions.specs.Settings.{Setting, scene, Sound}
-use Rattle.laws_regions.proofs.Standing.{Distinct, each_first}
-
--- of executions nothing is claimed
-abbrev Nothing : Claim
-Nothing p at s q = Unit {0}
-
--- no CALL has what it owes
-abbrev no_covers : List ℕ → ExprTrees → System → Type 0
-no_covers x es p = ⊥
+use Rattle.laws_regions.proofs.Standing.{Distinct, each_first, Nothing, CallEnds}
 
 each_of : {T : Type 0} (P Q : T → Type 0) → ((a : T) → P a → Q a) → (xs : List T) → Each P xs → Each Q xs
 each_of P Q f [] h = tt
@@ -63,9 +56,13 @@ or_nothing : (b : Bool) → b ≡ false → (b || false) ≡ false
 or_nothing true e = e
 or_nothing false e = refl
 
-module _ (k : Setting) (sound : Sound k) where
-  abbrev Fits : Locks → (ℕ → Bool) → Type 0
-  Fits locked still = Fit k.sc.names k.scalar k.at (scene k) locked still
+module _ (k : Setting) (sound : Sound k) (Fits : Locks → (ℕ → Bool) → Type 0) (base : (locked : Locks) (still : ℕ → Bool) → Fits locked still → Fit k.sc.names k.scalar k.at (scene k) locked still) (more_fits : (locked : Locks) (still : ℕ → Bool) (x : List ℕ) (v : ℕ) → k.sc.names x ≡ Variable v → k.scalar x ≡ true → Fits locked still → Fits (lock locked (k.at v).first Locked) (also still (k.at v).first)) where
+  -- what a CALL owes
+  abbrev covers : List ℕ → ExprTrees → System → Type 0
+  covers x es p = CallEnds k Fits x es
+
+  abbrev pub AllEnd : List CallAt → Type 0
+  AllEnd cs = Each (λ (c : CallAt). CallEnds k Fits c.callee c.actuals) cs
 
   -- what holds where the statements of a list begin, whatever holds before it
   before : StmtTrees → Bool → ℕ → System
@@ -74,11 +71,11 @@ module _ (k : Setting) (sound : Sound k) where
   abbrev results : StmtTrees → Bool → Found
   results ss whole = record { pre = λ n. or_no_rows (first_at n (preconditions.at_list whole ss k.m k.does no_rows)); transformer = k.does }
 
-  placed_here : (ss : StmtTrees) (whole : Bool) → Distinct (list_numbers ss) → Each (λ (a : At Transformer). (0 < a.id) × (k.does a.id ≡ a.value)) (transformers.at_list ss k.m k.cs whole) → list_has (lacks_targets k.scalar) ss ≡ false → list_calls ss ≡ [] → PlacedList (results ss whole) no_covers k.m k.cs k.scalar ss whole no_rows
+  placed_here : (ss : StmtTrees) (whole : Bool) → Distinct (list_numbers ss) → Each (λ (a : At Transformer). (0 < a.id) × (k.does a.id ≡ a.value)) (transformers.at_list ss k.m k.cs whole) → list_has (lacks_targets k.scalar) ss ≡ false → AllEnd (list_calls ss) → PlacedList (results ss whole) covers k.m k.cs k.scalar ss whole no_rows
   placed_here ss whole d f t c =
-      placed_list (results ss whole) no_covers k.m k.cs k.scalar ss whole no_rows t f
-      (each_of (λ (a : At System). first_at a.id ps ≡ Some a.value) (FoundP (results ss whole) no_covers k.m k.cs k.scalar) (λ a e. ap or_no_rows e) ps (each_first ps ps (λ n h. refl) (subst Distinct (sym (p_list k.m k.does whole ss no_rows)) d)))
-      (subst (Each (Owed (results ss whole) no_covers k.m k.cs k.scalar)) (sym c) tt)
+      placed_list (results ss whole) covers k.m k.cs k.scalar ss whole no_rows t f
+      (each_of (λ (a : At System). first_at a.id ps ≡ Some a.value) (FoundP (results ss whole) covers k.m k.cs k.scalar) (λ a e. ap or_no_rows e) ps (each_first ps ps (λ n h. refl) (subst Distinct (sym (p_list k.m k.does whole ss no_rows)) d)))
+      c
     where
       ps : List (At System)
       ps = preconditions.at_list whole ss k.m k.does no_rows
@@ -93,25 +90,25 @@ module _ (k : Setting) (sound : Sound k) where
   ends_less : (t : Transformer) (q : System) (goes : List ℕ → Bool) (ret own : Bool) (still : ℕ → Bool) (s : Store) (p : Plan) → Ending p s (Ended (scene k) t q goes ret own still s) → Ending p s (Ended (scene k) t no_rows goes ret own still s)
   ends_less t q goes ret own still s p e i = more (run_of p s i) (λ f z j. Ended (scene k) t q goes ret own still s f z) (λ f z j. Ended (scene k) t no_rows goes ret own still s f z) (λ f z j d. less t q goes ret own still s f z d) (e i)
 
-  module _ (ss : StmtTrees) (whole : Bool) (locked : Locks) (still : ℕ → Bool) (fit : Fits locked still) (d : Distinct (list_numbers ss)) (f : Each (λ (a : At Transformer). (0 < a.id) × (k.does a.id ≡ a.value)) (transformers.at_list ss k.m k.cs whole)) (t : list_has (lacks_targets k.scalar) ss ≡ false) (c : list_calls ss ≡ []) where
+  module _ (ss : StmtTrees) (whole : Bool) (locked : Locks) (still : ℕ → Bool) (fit : Fits locked still) (d : Distinct (list_numbers ss)) (f : Each (λ (a : At Transformer). (0 < a.id) × (k.does a.id ≡ a.value)) (transformers.at_list ss k.m k.cs whole)) (t : list_has (lacks_targets k.scalar) ss ≡ false) (c : AllEnd (list_calls ss)) where
     pub list_moves : (z : Store) → Ending (list_plan k.sc.turns (parts ss k.sc k.at locked)) z (Ended (scene k) (list_of whole ss (each_transformer ss k.m k.cs whole)) no_rows (λ ls. list_leads ss ls) (list_has is_return ss) whole still z)
     list_moves z =
         ends_less (list_of whole ss (each_transformer ss k.m k.cs whole)) (after_list whole ss k.m k.does no_rows) (λ ls. list_leads ss ls) (list_has is_return ss) whole still z (list_plan k.sc.turns (parts ss k.sc k.at locked))
-        (list_good Nothing k.m k.cs (results ss whole) no_covers k.scalar k.sc k.at k.far k.place sound.names_fit (λ j s q h e. tt)
-        Fits (λ l st x. x) (λ l st x v named sx y. fit_lock k.sc.names k.scalar k.at (scene k) l st (unit_in k.at v) Locked y)
-        sound.calls_track (λ x es n l st y P w hp cov. absurd cov)
+        (list_good Nothing k.m k.cs (results ss whole) covers k.scalar k.sc k.at k.far k.place sound.names_fit (λ j s q h e. tt)
+        Fits base more_fits
+        sound.calls_track (λ x es n l st y P w hp cov. cov n l st y P w hp)
         whole ss locked still fit no_rows z (λ p st. tt) (placed_here ss whole d f t c)).ending
 
-    one_moves : (s : StmtTree) → (last : Bool) (P : System) (z : Store) → HoldsAt (scene k) P (numbers_of z) → Placed (results ss whole) no_covers k.m k.cs k.scalar s last P → Ending (statement_plan s k.sc k.at locked) z (Ended (scene k) (stmt_transformer s k.m k.cs last) no_rows (λ ls. stmt_leads s ls) (stmt_has is_return s) (own_of last s) still z)
+    one_moves : (s : StmtTree) → (last : Bool) (P : System) (z : Store) → HoldsAt (scene k) P (numbers_of z) → Placed (results ss whole) covers k.m k.cs k.scalar s last P → Ending (statement_plan s k.sc k.at locked) z (Ended (scene k) (stmt_transformer s k.m k.cs last) no_rows (λ ls. stmt_leads s ls) (stmt_has is_return s) (own_of last s) still z)
     one_moves s last P z hp pl =
         ends_less (stmt_transformer s k.m k.cs last) (preconditions.after s k.m k.does P) (λ ls. stmt_leads s ls) (stmt_has is_return s) (own_of last s) still z (statement_plan s k.sc k.at locked)
-        (stmt_good Nothing k.m k.cs (results ss whole) no_covers k.scalar k.sc k.at k.far k.place sound.names_fit (λ j x q h e. tt)
-        Fits (λ l st x. x) (λ l st x v named sx y. fit_lock k.sc.names k.scalar k.at (scene k) l st (unit_in k.at v) Locked y)
-        sound.calls_track (λ x es n l st y Q w hq cov. absurd cov)
+        (stmt_good Nothing k.m k.cs (results ss whole) covers k.scalar k.sc k.at k.far k.place sound.names_fit (λ j x q h e. tt)
+        Fits base more_fits
+        sound.calls_track (λ x es n l st y Q w hq cov. cov n l st y Q w hq)
         s last locked still fit P z hp pl).ending
 
   -- of one that is the only one of its list
-  alone : (s : StmtTree) (last : Bool) (locked : Locks) (still : ℕ → Bool) → Fits locked still → Distinct (stmt_numbers s) → Each (λ (a : At Transformer). (0 < a.id) × (k.does a.id ≡ a.value)) (transformers.at_stmt s k.m k.cs (last && true)) → stmt_has (lacks_targets k.scalar) s ≡ false → stmt_calls s ≡ [] → (z : Store) → Ending (statement_plan s k.sc k.at locked) z (Ended (scene k) (stmt_transformer s k.m k.cs (last && true)) no_rows (λ ls. stmt_leads s ls) (stmt_has is_return s) (own_of (last && true) s) still z)
+  alone : (s : StmtTree) (last : Bool) (locked : Locks) (still : ℕ → Bool) → Fits locked still → Distinct (stmt_numbers s) → Each (λ (a : At Transformer). (0 < a.id) × (k.does a.id ≡ a.value)) (transformers.at_stmt s k.m k.cs (last && true)) → stmt_has (lacks_targets k.scalar) s ≡ false → AllEnd (stmt_calls s) → (z : Store) → Ending (statement_plan s k.sc k.at locked) z (Ended (scene k) (stmt_transformer s k.m k.cs (last && true)) no_rows (λ ls. stmt_leads s ls) (stmt_has is_return s) (own_of (last && true) s) still z)
   alone s last locked still fit d f t c z = go (unstructured last ss) pl
     where
       ss : StmtTrees
@@ -126,10 +123,10 @@ module _ (k : Setting) (sound : Sound k) where
       t' : list_has (lacks_targets k.scalar) (tree.more_stmts s tree.no_stmts) ≡ false
       t' = or_nothing (stmt_has (lacks_targets k.scalar) s) t
 
-      c' : list_calls (tree.more_stmts s tree.no_stmts) ≡ []
-      c' = nil_right (stmt_calls s) ∙ c
+      c' : AllEnd (list_calls (tree.more_stmts s tree.no_stmts))
+      c' = each_nil (λ (d : CallAt). CallEnds k Fits d.callee d.actuals) (stmt_calls s) c
 
-      pl : PlacedList (results (tree.more_stmts s tree.no_stmts) last) no_covers k.m k.cs k.scalar (tree.more_stmts s tree.no_stmts) last no_rows
+      pl : PlacedList (results (tree.more_stmts s tree.no_stmts) last) covers k.m k.cs k.scalar (tree.more_stmts s tree.no_stmts) last no_rows
       pl = placed_here (tree.more_stmts s tree.no_stmts) last d' f' t' c'
 
       through : System
@@ -138,10 +135,10 @@ module _ (k : Setting) (sound : Sound k) where
       through_holds : HoldsAt (scene k) (throughout last (tree.more_stmts s tree.no_stmts) k.does no_rows) (numbers_of z)
       through_holds = holds_without (scene k) (list_at k.does last (tree.more_stmts s tree.no_stmts)).cells [] no_rows (numbers_of z) (numbers_of z) (λ p st. tt) (record { cells = λ g r h. refl; foreign = λ u r h. refl })
 
-      go : (b : Bool) → Either b (PlacedAll (results (tree.more_stmts s tree.no_stmts) last) no_covers k.m k.cs k.scalar (tree.more_stmts s tree.no_stmts) last (throughout last (tree.more_stmts s tree.no_stmts) k.does no_rows)) (PlacedEach (results (tree.more_stmts s tree.no_stmts) last) no_covers k.m k.cs k.scalar (tree.more_stmts s tree.no_stmts) last no_rows) → Ending (statement_plan s k.sc k.at locked) z (Ended (scene k) (stmt_transformer s k.m k.cs (last && true)) no_rows (λ ls. stmt_leads s ls) (stmt_has is_return s) (own_of (last && true) s) still z)
+      go : (b : Bool) → Either b (PlacedAll (results (tree.more_stmts s tree.no_stmts) last) covers k.m k.cs k.scalar (tree.more_stmts s tree.no_stmts) last (throughout last (tree.more_stmts s tree.no_stmts) k.does no_rows)) (PlacedEach (results (tree.more_stmts s tree.no_stmts) last) covers k.m k.cs k.scalar (tree.more_stmts s tree.no_stmts) last no_rows) → Ending (statement_plan s k.sc k.at locked) z (Ended (scene k) (stmt_transformer s k.m k.cs (last && true)) no_rows (λ ls. stmt_leads s ls) (stmt_has is_return s) (own_of (last && true) s) still z)
       go true p = one_moves (tree.more_stmts s tree.no_stmts) last locked still fit d' f' t' c' s (last && true) (throughout last (tree.more_stmts s tree.no_stmts) k.does no_rows) z through_holds p.0
       go false p = one_moves (tree.more_stmts s tree.no_stmts) last locked still fit d' f' t' c' s (last && true) no_rows z (λ q st. tt) p.0
 
-  pub stmt_moves : (s : StmtTree) (last : Bool) (locked : Locks) (still : ℕ → Bool) → Fits locked still → Distinct (stmt_numbers s) → Each (λ (a : At Transformer). (0 < a.id) × (k.does a.id ≡ a.value)) (transformers.at_stmt s k.m k.cs last) → stmt_has (lacks_targets k.scalar) s ≡ false → stmt_calls s ≡ [] → (z : Store) → Ending (statement_plan s k.sc k.at locked) z (Ended (scene k) (stmt_transformer s k.m k.cs last) no_rows (λ ls. stmt_leads s ls) (stmt_has is_return s) (own_of last s) still z)
+  pub stmt_moves : (s : StmtTree) (last : Bool) (locked : Locks) (still : ℕ → Bool) → Fits locked still → Distinct (stmt_numbers s) → Each (λ (a : At Transformer). (0 < a.id) × (k.does a.id ≡ a.value)) (transformers.at_stmt s k.m k.cs last) → stmt_has (lacks_targets k.scalar) s ≡ false → AllEnd (stmt_calls s) → (z : Store) → Ending (statement_plan s k.sc k.at locked) z (Ended (scene k) (stmt_transformer s k.m k.cs last) no_rows (λ ls. stmt_leads s ls) (stmt_has is_return s) (own_of last s) still z)
   stmt_moves s true locked still fit d f t c z = alone s true locked still fit d f t c z
   stmt_moves s false locked still fit d f t c z = alone s false locked still fit d f t c z

@@ -13,6 +13,7 @@ use Rattle.transformers.specs.Lists.{first_at, or_first, value_at}
 use Rattle.region_sets.specs.declared.region.Region.{Region}
 use Rattle.region_sets.specs.Lists.{is_access, accesses, or_none, accesses_at}
 use Rattle.array_regions.specs.Loops.{Found}
+use Rattle.array_regions.specs.Calls.{Called}
 use Rattle.array_regions.specs.Statement.{at_stmt, at_parts, at_list, at_arms, at_arm, at_else, at_loop}
 use Rattle.laws_statements.specs.CallsIn.{Each}
 use Rattle.laws_statements.proofs.NumberLaws.{ids}
@@ -24,14 +25,14 @@ ids_parts : {T : Type 0} (xs ys : List (At T)) (ms ns : List ℕ) → ids xs ≡
 ids_parts [] ys ms ns e f = subst (λ m. ids ys ≡ m ++ ns) e f
 ids_parts (x ∷ xs) ys ms ns e f = subst (λ m. (x.id ∷ ids (xs ++ ys)) ≡ m ++ ns) e (ap (λ l. x.id ∷ l) (ids_parts xs ys (ids xs) ns refl f))
 
-module _ (m : ScopeTree) (t : Found) where
+module _ (m : ScopeTree) (t : Found) (c : Called) where
   mutual
-    r_stmt : (s : StmtTree) → ids (at_stmt s m t) ≡ stmt_numbers s
+    r_stmt : (s : StmtTree) → ids (at_stmt s m t c) ≡ stmt_numbers s
     r_stmt (tree.stmt n label w) = ap (λ l. n ∷ l) (r_parts w)
 
-    r_parts : (w : WhatTree) → ids (at_parts w m t) ≡ part_numbers w
+    r_parts : (w : WhatTree) → ids (at_parts w m t c) ≡ part_numbers w
     r_parts (tree.assign a b) = refl
-    r_parts (tree.block_if arms other) = ids_parts (at_arms arms m t) (at_else other m t) (arms_numbers arms) (else_numbers other) (r_arms arms) (r_else other)
+    r_parts (tree.block_if arms other) = ids_parts (at_arms arms m t c) (at_else other m t c) (arms_numbers arms) (else_numbers other) (r_arms arms) (r_else other)
     r_parts (tree.logical_if e s) = r_stmt s
     r_parts (tree.do_loop l) = r_loop l
     r_parts (tree.call x es) = refl
@@ -42,22 +43,22 @@ module _ (m : ScopeTree) (t : Found) where
     r_parts (tree.print es) = refl
     r_parts (tree.read es) = refl
 
-    pub r_list : (ss : StmtTrees) → ids (at_list ss m t) ≡ list_numbers ss
+    pub r_list : (ss : StmtTrees) → ids (at_list ss m t c) ≡ list_numbers ss
     r_list tree.no_stmts = refl
-    r_list (tree.more_stmts s rest) = ids_parts (at_stmt s m t) (at_list rest m t) (stmt_numbers s) (list_numbers rest) (r_stmt s) (r_list rest)
+    r_list (tree.more_stmts s rest) = ids_parts (at_stmt s m t c) (at_list rest m t c) (stmt_numbers s) (list_numbers rest) (r_stmt s) (r_list rest)
 
-    r_arms : (arms : ArmTrees) → ids (at_arms arms m t) ≡ arms_numbers arms
+    r_arms : (arms : ArmTrees) → ids (at_arms arms m t c) ≡ arms_numbers arms
     r_arms tree.no_arms = refl
-    r_arms (tree.more_arms a rest) = ids_parts (at_arm a m t) (at_arms rest m t) (arm_numbers a) (arms_numbers rest) (r_arm a) (r_arms rest)
+    r_arms (tree.more_arms a rest) = ids_parts (at_arm a m t c) (at_arms rest m t c) (arm_numbers a) (arms_numbers rest) (r_arm a) (r_arms rest)
 
-    r_arm : (a : ArmTree) → ids (at_arm a m t) ≡ arm_numbers a
+    r_arm : (a : ArmTree) → ids (at_arm a m t c) ≡ arm_numbers a
     r_arm (tree.arm e body) = r_list body
 
-    r_else : (other : ElseTree) → ids (at_else other m t) ≡ else_numbers other
+    r_else : (other : ElseTree) → ids (at_else other m t c) ≡ else_numbers other
     r_else tree.no_else = refl
     r_else (tree.otherwise body) = r_list body
 
-    r_loop : (l : LoopTree) → ids (at_loop l m t) ≡ loop_numbers l
+    r_loop : (l : LoopTree) → ids (at_loop l m t c) ≡ loop_numbers l
     r_loop (tree.loop index first last step body) = r_list body
 
 -- ---- what is found

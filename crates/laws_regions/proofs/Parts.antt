@@ -58,13 +58,13 @@ module _ (ps : List ParsedTree) (sss : List (List SymbolTree)) (g : Graph) (l : 
 
   -- ---- the part of a name
 
-  record FoundPart (x : List ℕ) (k : Part) : Type 0 where
-    item : Known
-    is_in : IsIn ks item
-    same : k ≡ part item
-    named : x ≡ item.read.name
+  pub record FoundPart (x : List ℕ) (k : Part) : Type 0 where
+    pub item : Known
+    pub is_in : IsIn (known_of ps sss) item
+    pub same : k ≡ part_of (known_of ps sss) g cs (entry item) item
+    pub named : x ≡ item.read.name
 
-  found_part : (xs : List Known) → Each (IsIn ks) xs → (x : List ℕ) (k : Part) → lookup (map part xs) x ≡ Some k → FoundPart x k
+  pub found_part : (xs : List Known) → Each (IsIn (known_of ps sss)) xs → (x : List ℕ) (k : Part) → lookup (map (λ z. part_of (known_of ps sss) g cs (entry z) z) xs) x ≡ Some k → FoundPart x k
   found_part [] h x k e = cc
   found_part (z ∷ xs) h x k e = go (bytes_eq x z.read.name) refl e (found_part xs h.1 x k)
     where

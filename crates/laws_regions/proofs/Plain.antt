@@ -8,11 +8,11 @@ use Rattle.f77_ast.specs.Numbers.{intrinsic_named}
 use Rattle.f77_symbols.specs.Symbols.{SymbolTree}
 use Rattle.f77_symbols.specs.Shared.{symbol_at}
 use Rattle.tracked_cells.specs.Standing.{has_bounds}
-use Rattle.laws_tables.specs.Shapes.{bounds_of, StandsBare, StandsIndexed, Shaped, AllShaped, ShapedStep, ShapedStmt, ShapedWhat, ShapedArms, ShapedArm, ShapedElse, ShapedLoop, ShapedList}
+use Rattle.laws_tables.specs.Shapes.{bounds_of, StandsBare, StandsIndexed, Shaped, AllShaped, ShapedActual, ShapedActuals, ShapedStep, ShapedStmt, ShapedWhat, ShapedArms, ShapedArm, ShapedElse, ShapedLoop, ShapedList}
 use Rattle.laws_storage.proofs.LocalLaws.{next_symbol}
 use Rattle.transformers.specs.Jumps.{stmt_has, parts_have, list_has, arms_have, arm_has, else_has, loop_has}
 use Rattle.laws_statements.specs.Laws.{is_scalar_symbol, scalar_at, is_scalar}
-use Rattle.laws_regions.specs.Settings.{is_indexed, is_plain, are_plain, maybe_plain, loop_plain, tests_plain, has_plain, lacks_plain}
+use Rattle.laws_regions.specs.Settings.{is_indexed, is_plain, are_plain, actual_plain, actuals_plain, maybe_plain, loop_plain, tests_plain, has_plain, lacks_plain}
 use Rattle.laws_regions.proofs.Names.{Found, missing, at_place, found}
 
 module _ (ss : List SymbolTree) where
@@ -58,6 +58,20 @@ module _ (ss : List SymbolTree) where
     expressions tree.no_exprs h = refl
     expressions (tree.more_exprs e es) h = and_from (is_plain (is_scalar ss) e) (are_plain (is_scalar ss) es) (expression e h.0) (expressions es h.1)
 
+  one_actual : (e : ExprTree) → ShapedActual Bare Indexed e → actual_plain (is_scalar ss) e ≡ true
+  one_actual (tree.int n) h = refl
+  one_actual (tree.log b) h = refl
+  one_actual (tree.name x) h = refl
+  one_actual (tree.element x es) h = expression (tree.element x es) h
+  one_actual (tree.paren e) h = expression (tree.paren e) h
+  one_actual (tree.unary o e) h = expression (tree.unary o e) h
+  one_actual (tree.binary o a b) h = expression (tree.binary o a b) h
+  one_actual (tree.chars x) h = refl
+
+  actuals : (es : ExprTrees) → ShapedActuals Bare Indexed es → actuals_plain (is_scalar ss) es ≡ true
+  actuals tree.no_exprs h = refl
+  actuals (tree.more_exprs e es) h = and_from (actual_plain (is_scalar ss) e) (actuals_plain (is_scalar ss) es) (one_actual e h.0) (actuals es h.1)
+
   step : (o : Option ExprTree) → ShapedStep Bare Indexed o → maybe_plain (is_scalar ss) o ≡ true
   step None h = refl
   step (Some e) h = expression e h
@@ -87,7 +101,7 @@ module _ (ss : List SymbolTree) where
     what (tree.block_if arms other) h = lacks_none (tree.block_if arms other) (tests arms h.0) (or_from (arms_have such arms) (else_has such other) (bodies arms h.0) (otherwise other h.1))
     what (tree.logical_if e s) h = lacks_none (tree.logical_if e s) (expression e h.0) (statement s h.1)
     what (tree.do_loop l) h = lacks_none (tree.do_loop l) (loop_head l h) (loop l h)
-    what (tree.call x es) h = refl
+    what (tree.call x es) h = lacks_none (tree.call x es) (actuals es h) refl
     what (tree.goto l) h = refl
     what tree.continue h = refl
     what tree.return h = refl

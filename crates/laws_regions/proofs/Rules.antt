@@ -2,12 +2,12 @@
 use Rattle.std.proofs.Common.{◌≡◌, ℕ, List, [], ◌∷◌, ◌++◌, Option, Some, None, refl, sym, ap, ◌∙◌, subst}
 use Rattle.f77_ast.specs.Store.{Content, Store, put, undefined}
 use Rattle.f77_ast.specs.Faults.{Fault}
-use Rattle.f77_ast.specs.Steps.{Spot, Shown, Break, Faulty, OutOfTurns, Steps, Done, Look, Set, Hold, Forget, Show, Take, Arrive, ◌>>=◌}
+use Rattle.f77_ast.specs.Steps.{Spot, Shown, Break, Faulty, Steps, Done, Look, Set, Hold, Forget, Show, Take, Arrive, ◌>>=◌}
 use Rattle.f77_ast.specs.Steps as steps
 use Rattle.f77_ast.specs.Runs.{Event, Arrived, Read, Wrote, Printed, Took, Answer, Gave, Broke, Whole, Ran, run, store_of, first_of, rest_of}
 use Rattle.f77_ast.specs.Places.{Places}
 use Rattle.f77_ast.specs.Writes.{Locks, written, write}
-use Rattle.f77_ast.specs.Plans.{Flow, Normal, Jump, Returned, Stopped, Plan, Within, ◌▹◌, first, on_normal, steps_of}
+use Rattle.f77_ast.specs.Plans.{Flow, Plan, Within, ◌▹◌, first, steps_of}
 use Rattle.f77_ast.specs.Plans as plan
 use Rattle.f77_ast.specs.Executions.{run_of, AtEnd, Claim}
 use Rattle.f77_meaning.specs.Occurrences.{places_in}

@@ -14,6 +14,7 @@ use Rattle.region_sets.specs.Sets.{unite_all}
 use Rattle.region_sets.specs.Claims.{LiesInSet}
 use Rattle.laws_regions.specs.Settings.{Setting, scene, elements_at}
 use Rattle.laws_regions.specs.Shown.{accessed, Holds, Sharp, Finally, Shown}
+use Rattle.laws_regions.proofs.Traces.{hidden_parts}
 use Rattle.laws_regions.proofs.Holding.{holds_none, holds_gathered, sharp_none, sharp_gathered}
 
 pub finally_more : (own : Bool) (a : Answer Flow) (P Q : Type 0) → (P → Q) → Finally own a P → Finally own a Q
@@ -75,7 +76,7 @@ module _ (k : Setting) where
   quiet_took o Out es u = refl
 
   pub holds_after : (rs : List Region) (s : Store) (e : Event) (es : List Event) → IsQuiet e → Holds k rs s es → Holds k rs s (e ∷ es)
-  holds_after rs s e es q h a u i = h a u (sym (q a es u) ∙ i)
+  holds_after rs s e es q h a u i = h a u (record { is_so = sym (q a es u) ∙ i.is_so; seen = (hidden_parts k.ks k.g (e ∷ []) es u i.seen).1 })
 
   pub sharp_after : (rs : List Region) (s : Store) (e : Event) (es : List Event) → IsQuiet e → Sharp k rs s es → Sharp k rs s (e ∷ es)
   sharp_after rs s e es q h r i x p st g = (let w = h r i x p st g in record { unit = w.unit; there = w.there; is_so = q r.kind es w.unit ∙ w.is_so })
@@ -86,11 +87,11 @@ module _ (k : Setting) where
   -- ---- a write
 
   pub one_write : (rs : List Region) (s : Store) (u : ℕ) (c : Content) → LiesInSet (scene k) (elements_at k) Write rs (numbers_of s) u → Holds k rs s (Wrote u c ∷ [])
-  one_write rs s u c l Write x h = subst (λ z. LiesInSet (scene k) (elements_at k) Write rs (numbers_of s) z) (same (nat_eq u x) refl h) l
+  one_write rs s u c l Write x h = subst (λ z. LiesInSet (scene k) (elements_at k) Write rs (numbers_of s) z) (same (nat_eq u x) refl h.is_so) l
     where
       same : (b : Bool) → nat_eq u x ≡ b → (b || false) ≡ true → u ≡ x
       same true q i = nat_same u x q
       same false q i = absurd (true≢false (sym i))
-  one_write rs s u c l Read x h = absurd (true≢false (sym h))
-  one_write rs s u c l AtIn x h = absurd (true≢false (sym h))
-  one_write rs s u c l Out x h = absurd (true≢false (sym h))
+  one_write rs s u c l Read x h = absurd (true≢false (sym h.is_so))
+  one_write rs s u c l AtIn x h = absurd (true≢false (sym h.is_so))
+  one_write rs s u c l Out x h = absurd (true≢false (sym h.is_so))

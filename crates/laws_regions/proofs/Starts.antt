@@ -39,7 +39,7 @@ first_starts (Take k) f s i q P R h next broke = absurd h
 first_starts (Arrive p t) f s i q P R h next broke = absurd h
 
 -- what is forgotten keeps its number
-forgotten_same : (s : Store) (u : ℕ) → numbers_of (put s u (undefined (s u))) ≡ numbers_of s
+pub forgotten_same : (s : Store) (u : ℕ) → numbers_of (put s u (undefined (s u))) ≡ numbers_of s
 forgotten_same s u = λ i v. one v i
   where
     one : (v : ℕ) → numbers_of (put s u (undefined (s u))) v ≡ numbers_of s v

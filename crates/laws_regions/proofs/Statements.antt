@@ -3,7 +3,7 @@ use Rattle.std.proofs.Common.{◌≡◌, ℕ, zero, suc, ◌<◌, List, [], ◌�
 use Rattle.std.specs.Prelude.{if◌then◌else◌, unwrap_or}
 use Rattle.std.specs.Ordering.{int_eq}
 use Rattle.std.proofs.lemmas.Bool.{and_parts, not-false}
-use Rattle.f77_ast.specs.Trees.{ExprTree, ExprTrees, StmtTree, WhatTree, ArmTree, ArmTrees, ElseTree, LoopTree, StmtTrees}
+use Rattle.f77_ast.specs.Trees.{ExprTree, StmtTree, WhatTree, ArmTrees, ElseTree, LoopTree, StmtTrees}
 use Rattle.f77_ast.specs.Trees as tree
 use Rattle.f77_ast.specs.Store.{Content, content, Int, Store, put}
 use Rattle.f77_ast.specs.Faults.{Arithmetic, Locked, Unset}
@@ -23,11 +23,13 @@ use Rattle.affine_forms.specs.Scalars.{is_cell}
 use Rattle.affine_forms.specs.Forms.{affine_of}
 use Rattle.affine_forms.specs.Claims.{unit_in, numbers_of}
 use Rattle.transformer_algebra.specs.declared.loop_parts.LoopParts.{LoopParts}
-use Rattle.transformer_algebra.specs.Claims.{HoldsAt, Means, Tracks}
+use Rattle.transformer_algebra.specs.declared.transformer.Transformer.{Transformer}
+use Rattle.transformer_algebra.specs.Loops.{iteration}
+use Rattle.transformer_algebra.specs.Claims.{HoldsAt, Kept, Means, Tracks}
 use Rattle.transformers.specs.Jumps.{stmt_has, list_has, is_return, is_end, unstructured}
 use Rattle.transformers.specs.Lists.{list_of, list_at}
 use Rattle.transformers.specs.Loops.{step_of, number_in, loop_parts}
-use Rattle.transformers.specs.Statement.{body_transformer}
+use Rattle.transformers.specs.Statement.{parts_do, body_transformer}
 use Rattle.region_sets.specs.declared.region.Access.TheVariants.{Write}
 use Rattle.region_sets.specs.declared.region.Region.{Region}
 use Rattle.region_sets.specs.Lists.{accesses_at, in_order, numbers, list_regions}
@@ -39,9 +41,10 @@ use Rattle.array_regions.specs.Loops.{range_with, all_over, do_set}
 use Rattle.array_regions.specs.Statement.{stmt_set, what_set, at_list, else_set}
 use Rattle.laws_statements.specs.Good.{Ending}
 use Rattle.laws_statements.specs.Leads.{stmt_leads, list_leads}
+use Rattle.laws_statements.specs.CallsIn.{CallAt, Each, stmt_calls, list_calls}
 use Rattle.laws_statements.specs.Targets.{has_targets}
 use Rattle.laws_statements.specs.Activation.{Fit, Ended}
-use Rattle.laws_statements.proofs.Loops.{also, fit_lock}
+use Rattle.laws_statements.proofs.Loops.{also}
 use Rattle.laws_statements.proofs.Lists.{own_of}
 use Rattle.laws_statements.proofs.NumberLaws.{ids}
 use Rattle.laws_statements.proofs.Ranges.{StepIs, range_leads}
@@ -56,10 +59,10 @@ use Rattle.laws_regions.proofs.Expressions.{Seen, seen_nothing, seen_broke, seen
 use Rattle.laws_regions.proofs.Showing.{shown_broke, shown_more, shown_gathered, shown_idle, quiet_arrived, shown_after}
 use Rattle.laws_regions.proofs.Simple.{assign_goes, print_goes, read_goes}
 use Rattle.laws_regions.proofs.Arms.{logical_goes, arms_all, arm_goes, otherwise_goes}
-use Rattle.laws_regions.proofs.Standing.{Distinct, StandsStmt, StandsParts, StandsList, StandsArms, StandsElse, StandsAt, stands_at, stands_within, stands_next, stands_arms, stands_if, found_each}
+use Rattle.laws_regions.proofs.Standing.{Distinct, CallStands, StandsStmt, StandsParts, StandsList, StandsArms, StandsElse, StandsAt, stands_at, stands_within, stands_next, stands_arms, stands_if, found_each}
 use Rattle.laws_regions.proofs.Numbering.{r_list}
-use Rattle.laws_regions.proofs.Moving.{stmt_moves, list_moves}
-use Rattle.laws_regions.proofs.Lists.{Moved, Suffix, suffix_all, suffix_next, F, row_goes, Each_goes, loose_goes, list_goes}
+use Rattle.laws_regions.proofs.Moving.{AllEnd, stmt_moves, list_moves}
+use Rattle.laws_regions.proofs.Lists.{KeepsAt, Moved, Suffix, suffix_all, suffix_next, F, row_goes, Each_goes, loose_goes, list_goes}
 use Rattle.laws_regions.proofs.Loops.{loop_goes}
 
 -- ---- the numbers that a DO begins with
@@ -99,13 +102,13 @@ module _ (k : Setting) (sound : Sound k) (s : Store) (solid : (x : List ℕ) (v 
       looked_with (range_of e1 e2 e3 k.sc.names k.at) s [] (Seen k sound s (reads e1 k.m ++ (reads e2 k.m ++ maybe_reads e3 k.m))) (λ x z j. RangeIs e1 e2 (step_of k.m.scalars.value e3) x) (heads_look e1 e2 e3 p q r)
       (range_leads k.sc.names k.m.scalars (is_cell k.m.tracked) k.at s [] sound.names_fit.agrees e1 e2 e3 (λ x z j. RangeIs e1 e2 (step_of k.m.scalars.value e3) x) (λ a b c ma mb mc nz. record { first = ma; last = mb; step = mc; nonzero = nz }))
 
-module _ (k : Setting) (sound : Sound k) (D : Claim) where
-  abbrev Fits : Locks → (ℕ → Bool) → Type 0
-  Fits locked still = Fit k.sc.names k.scalar k.at (scene k) locked still
+module _ (k : Setting) (sound : Sound k) (D : Claim) (Fits : Locks → (ℕ → Bool) → Type 0) (base : (locked : Locks) (still : ℕ → Bool) → Fits locked still → Fit k.sc.names k.scalar k.at (scene k) locked still) (more_fits : (locked : Locks) (still : ℕ → Bool) (x : List ℕ) (v : ℕ) → k.sc.names x ≡ Variable v → k.scalar x ≡ true → Fits locked still → Fits (lock locked (k.at v).first Locked) (also still (k.at v).first)) (I : Store → Type 0) where
+  solid : (locked : Locks) (still : ℕ → Bool) → Fits locked still → (x : List ℕ) (v : ℕ) → k.sc.names x ≡ Variable v → k.scalar x ≡ true → 0 < (k.at v).extent
+  solid locked still fit = (base locked still fit).solid
 
   -- ---- DO
 
-  module _ (index : List ℕ) (e1 e2 : ExprTree) (e3 : Option ExprTree) (body : StmtTrees) (locked : Locks) (still : ℕ → Bool) (fit : Fits locked still) (x : Store) where
+  module _ (index : List ℕ) (e1 e2 : ExprTree) (e3 : Option ExprTree) (body : StmtTrees) (locked : Locks) (still : ℕ → Bool) (fit : Fits locked still) (x : Store) (begun : I x) where
     abbrev L : LoopTree
     L = tree.loop index e1 e2 e3 body
 
@@ -116,7 +119,7 @@ module _ (k : Setting) (sound : Sound k) (D : Claim) where
     unit = unit_in k.at lp.index
 
     abbrev rs : List Region
-    rs = list_regions k.does (accesses_at (at_list body k.m k.does)) false body
+    rs = list_regions k.does (accesses_at (at_list body k.m k.does k.calls)) false body
 
     abbrev heads : List Region
     heads = reads e1 k.m ++ (reads e2 k.m ++ maybe_reads e3 k.m)
@@ -127,24 +130,24 @@ module _ (k : Setting) (sound : Sound k) (D : Claim) where
     abbrev bodies : Locks → Plan
     bodies l = list_plan k.sc.turns (parts body k.sc k.at l)
 
-    module _ (bare : k.scalar index ≡ true) (path : list_at k.does false body ≡ body_transformer L k.m k.cs) (inner : (y : Store) → Fits (lock locked unit Locked) (also still unit) → Goes D (bodies (lock locked unit Locked)) y (λ f z fs. Shown k false rs y f fs)) (moves : (y : Store) → Fits (lock locked unit Locked) (also still unit) → Ending (bodies (lock locked unit Locked)) y (Ended (scene k) (body_transformer L k.m k.cs) no_rows (λ ls. list_leads body ls) (list_has is_return body) false (also still unit) y)) where
-      from_range : (r : Range) → RangeIs k sound x fit.solid e1 e2 lp.step r → k.sc.names index ≡ Variable lp.index → (es : List Event) → Holds k heads x es → Sharp k heads x es → Goes D (first (write locked unit (content Int r.from)) (λ o. iterations_from (iteration_count r.from r.last r.step) r.from r.step unit (bodies (lock locked unit Locked)))) x (λ f z fs. Shown k false (heads ++ tails_of) x f (es ++ fs))
+    module _ (bare : k.scalar index ≡ true) (path : list_at k.does false body ≡ body_transformer L k.m k.cs) (inner : (y : Store) → Fits (lock locked unit Locked) (also still unit) → I y → Goes D (bodies (lock locked unit Locked)) y (λ f z fs. Shown k false rs y f fs)) (moves : (y : Store) → Fits (lock locked unit Locked) (also still unit) → Ending (bodies (lock locked unit Locked)) y (Ended (scene k) (body_transformer L k.m k.cs) no_rows (λ ls. list_leads body ls) (list_has is_return body) false (also still unit) y)) (keeps : (y z : Store) → Kept (scene k) (iteration lp).cells (iteration lp).foreign (numbers_of y) (numbers_of z) → I y → I z) where
+      from_range : (r : Range) → RangeIs k sound x (solid locked still fit) e1 e2 lp.step r → k.sc.names index ≡ Variable lp.index → (es : List Event) → Holds k heads x es → Sharp k heads x es → Goes D (first (write locked unit (content Int r.from)) (λ o. iterations_from (iteration_count r.from r.last r.step) r.from r.step unit (bodies (lock locked unit Locked)))) x (λ f z fs. Shown k false (heads ++ tails_of) x f (es ++ fs))
       from_range r h named es g w =
           goes_write D locked unit (content Int r.from) (λ o. iterations_from (iteration_count r.from r.last r.step) r.from r.step unit (bodies (lock locked unit Locked))) x (λ f z fs. Shown k false (heads ++ tails_of) x f (es ++ fs))
           (λ free. goes_more D (iterations_from (iteration_count r.from r.last r.step) r.from r.step unit (bodies (lock locked unit Locked))) (put x unit (content Int r.from)) (λ f z fs. Shown k false tails_of x f (Wrote unit (content Int r.from) ∷ fs)) (λ f z fs. Shown k false (heads ++ tails_of) x f (es ++ Wrote unit (content Int r.from) ∷ fs))
           (λ f z fs i. shown_more k false tails_of (heads ++ tails_of) x f (Wrote unit (content Int r.from) ∷ fs) (es ++ Wrote unit (content Int r.from) ∷ fs) (λ j. holds_both k heads tails_of x es (Wrote unit (content Int r.from) ∷ fs) g j) (λ j. sharp_both k heads tails_of x es (Wrote unit (content Int r.from) ∷ fs) w j) i)
-          (loop_goes k sound D locked still fit index lp named bare refl tracks rs (bodies (lock locked unit Locked)) (λ ls. list_leads body ls) (list_has is_return body) x r.from r.last r.step free h.first h.last h.step h.nonzero
-          (λ y. inner y fits) (λ y. subst (λ t. Ending (bodies (lock locked unit Locked)) y (Ended (scene k) t no_rows (λ ls. list_leads body ls) (list_has is_return body) false (also still unit) y)) (sym path) (moves y fits))
+          (loop_goes k sound D locked still (base locked still fit) index lp named bare refl tracks rs (bodies (lock locked unit Locked)) (λ ls. list_leads body ls) (list_has is_return body) x r.from r.last r.step I free h.first h.last h.step h.nonzero keeps begun
+          (λ y i. inner y fits i) (λ y. subst (λ t. Ending (bodies (lock locked unit Locked)) y (Ended (scene k) t no_rows (λ ls. list_leads body ls) (list_has is_return body) false (also still unit) y)) (sym path) (moves y fits))
           (iteration_count r.from r.last r.step) (λ s q. ap (λ v. iteration_count r.from r.last v) (sym (subst (λ o. StepIs o r.step) q h.step)))))
           (λ b. subst (λ ts. Shown k false (heads ++ tails_of) x (Broke b) ts) (sym (trace_nil es)) (shown_broke k false (heads ++ tails_of) x b es (holds_left k heads tails_of x es g)))
         where
           fits : Fits (lock locked unit Locked) (also still unit)
-          fits = fit_lock k.sc.names k.scalar k.at (scene k) locked still unit Locked fit
+          fits = more_fits locked still index lp.index named bare fit
 
           tracks : Tracks (scene k) (list_at k.does false body).cells
           tracks = subst (λ t. Tracks (scene k) t.cells) (sym path) (body_tracks (scene k) k.sc.names k.m sound.names_fit (λ c h. h) (λ c. refl) k.cs sound.calls_track L)
 
-      at_unit : (r : Range) → RangeIs k sound x fit.solid e1 e2 lp.step r → (u v : ℕ) → u ≡ (k.at v).first → lp.index ≡ v → k.sc.names index ≡ Variable v → (es : List Event) → Holds k heads x es → Sharp k heads x es → Goes D (first (write locked u (content Int r.from)) (λ o. iterations_from (iteration_count r.from r.last r.step) r.from r.step u (bodies (lock locked u Locked)))) x (λ f z fs. Shown k false (heads ++ tails_of) x f (es ++ fs))
+      at_unit : (r : Range) → RangeIs k sound x (solid locked still fit) e1 e2 lp.step r → (u v : ℕ) → u ≡ (k.at v).first → lp.index ≡ v → k.sc.names index ≡ Variable v → (es : List Event) → Holds k heads x es → Sharp k heads x es → Goes D (first (write locked u (content Int r.from)) (λ o. iterations_from (iteration_count r.from r.last r.step) r.from r.step u (bodies (lock locked u Locked)))) x (λ f z fs. Shown k false (heads ++ tails_of) x f (es ++ fs))
       at_unit r h u v eq same named es g w =
           subst (λ y. Goes D (first (write locked y (content Int r.from)) (λ o. iterations_from (iteration_count r.from r.last r.step) r.from r.step y (bodies (lock locked y Locked)))) x (λ f z fs. Shown k false (heads ++ tails_of) x f (es ++ fs))) (ap (λ i. (k.at i).first) same ∙ sym eq)
           (from_range r h (named ∙ ap Variable (sym same)) es g w)
@@ -152,119 +155,133 @@ module _ (k : Setting) (sound : Sound k) (D : Claim) where
       pub do_goes : is_plain k.scalar e1 ≡ true → is_plain k.scalar e2 ≡ true → maybe_plain k.scalar e3 ≡ true → Goes D (do_plan L k.sc k.at locked) x (λ f z fs. Shown k false (do_set L k.m k.does rs) x f fs)
       do_goes p q r =
           goes_more D (do_plan L k.sc k.at locked) x (λ f z fs. Shown k false (heads ++ tails_of) x f fs) (λ f z fs. Shown k false (do_set L k.m k.does rs) x f fs) (λ f z fs h. shown_gathered k false (heads ++ tails_of) x f fs h)
-          (goes_first D (range_of e1 e2 e3 k.sc.names k.at) _ x _ (λ f z fs. Shown k false (heads ++ tails_of) x f fs) (range_looks k sound x fit.solid e1 e2 e3 p q r)
+          (goes_first D (range_of e1 e2 e3 k.sc.names k.at) _ x _ (λ f z fs. Shown k false (heads ++ tails_of) x f fs) (range_looks k sound x (solid locked still fit) e1 e2 e3 p q r)
           (λ y es h. target y es h.0.holds h.0.sharp h.1 (k.sc.names index) refl)
           (λ b es h. shown_broke k false (heads ++ tails_of) x b es (holds_left k heads tails_of x es h.0.holds)))
         where
           missed : (es : List Event) → Holds k heads x es → Goes D (Breaks (Faulty Unset)) x (λ f z fs. Shown k false (heads ++ tails_of) x f (es ++ fs))
           missed es g = goes_breaks D (Faulty Unset) x (λ f z fs. Shown k false (heads ++ tails_of) x f (es ++ fs)) (subst (λ ts. Shown k false (heads ++ tails_of) x (Broke (Faulty Unset)) ts) (sym (trace_nil es)) (shown_broke k false (heads ++ tails_of) x (Faulty Unset) es (holds_left k heads tails_of x es g)))
 
-          target : (y : Range) (es : List Event) → Holds k heads x es → Sharp k heads x es → RangeIs k sound x fit.solid e1 e2 lp.step y → (w : Meant) → k.sc.names index ≡ w → Goes D (first (name_target w k.at) (λ t. first (write locked t.unit (content Int y.from)) (λ o. iterations_from (iteration_count y.from y.last y.step) y.from y.step t.unit (bodies (lock locked t.unit Locked))))) x (λ f z fs. Shown k false (heads ++ tails_of) x f (es ++ fs))
+          target : (y : Range) (es : List Event) → Holds k heads x es → Sharp k heads x es → RangeIs k sound x (solid locked still fit) e1 e2 lp.step y → (w : Meant) → k.sc.names index ≡ w → Goes D (first (name_target w k.at) (λ t. first (write locked t.unit (content Int y.from)) (λ o. iterations_from (iteration_count y.from y.last y.step) y.from y.step t.unit (bodies (lock locked t.unit Locked))))) x (λ f z fs. Shown k false (heads ++ tails_of) x f (es ++ fs))
           target y es g w h (Constant c) n = missed es g
           target y es g w h Function n = missed es g
           target y es g w h (Variable v) n = at_unit y h (k.at v).first v refl (ap (λ o. unwrap_or o 0) (sound.names_fit.numbers index v n)) n es g w
 
   -- ---- an execution
 
-  node : (n : ℕ) (label : Option ℕ) (w : WhatTree) (last : Bool) (locked : Locks) (z : Store) → StandsAt D k n w last → Goes D (execution w n k.sc k.at locked) z (λ a y es. Shown k false (what_set w k.m k.does) z a es) → Goes D (statement_plan (tree.stmt n label w) k.sc k.at locked) z (λ a y es. Shown k false (what_set w k.m k.does) z a es)
+  node : (n : ℕ) (label : Option ℕ) (w : WhatTree) (last : Bool) (locked : Locks) (z : Store) → StandsAt D k Fits I n w last → Goes D (execution w n k.sc k.at locked) z (λ a y es. Shown k false (what_set w k.m k.does k.calls) z a es) → Goes D (statement_plan (tree.stmt n label w) k.sc k.at locked) z (λ a y es. Shown k false (what_set w k.m k.does k.calls) z a es)
   node n label w last locked z st h =
-      goes_at D (spot k.sc.module_name n) k.at (execution w n k.sc k.at locked) z (λ a y es. Shown k false (what_set w k.m k.does) z a es) (λ a y es. Shown k false (what_set w k.m k.does) z a es) h
+      goes_at D (spot k.sc.module_name n) k.at (execution w n k.sc k.at locked) z (λ a y es. Shown k false (what_set w k.m k.does k.calls) z a es) (λ a y es. Shown k false (what_set w k.m k.does k.calls) z a es) h
       (λ i p. claim n st.numbered st.owes i p)
-      (λ a y es p. shown_after k false (what_set w k.m k.does) z a (Arrived (spot k.sc.module_name n)) es (quiet_arrived k (spot k.sc.module_name n)) p)
+      (λ a y es p. shown_after k false (what_set w k.m k.does k.calls) z a (Arrived (spot k.sc.module_name n)) es (quiet_arrived k (spot k.sc.module_name n)) p)
     where
-      claim : (j : ℕ) → 0 < j → ((s : Store) (q : Ran Flow) → Shown k false (what_set w k.m k.does) s q.answer q.trace → D (spot k.sc.module_name j) k.at s q) → (i : List Content) → Shown k false (what_set w k.m k.does) z (run_of (execution w n k.sc k.at locked) z i).answer (run_of (execution w n k.sc k.at locked) z i).trace → D (spot k.sc.module_name j) (places_in j (execution w n k.sc k.at locked) z i k.at) z (run_of (execution w n k.sc k.at locked) z i)
+      claim : (j : ℕ) → 0 < j → ((s : Store) (q : Ran Flow) → Shown k false (what_set w k.m k.does k.calls) s q.answer q.trace → D (spot k.sc.module_name j) k.at s q) → (i : List Content) → Shown k false (what_set w k.m k.does k.calls) z (run_of (execution w n k.sc k.at locked) z i).answer (run_of (execution w n k.sc k.at locked) z i).trace → D (spot k.sc.module_name j) (places_in j (execution w n k.sc k.at locked) z i k.at) z (run_of (execution w n k.sc k.at locked) z i)
       claim zero l f i p = absurd (omega (arith, l))
       claim (suc j) l f i p = f z (run_of (execution w n k.sc k.at locked) z i) p
 
-  moved : (n : ℕ) (label : Option ℕ) (w : WhatTree) (last : Bool) (locked : Locks) (still : ℕ → Bool) → Fits locked still → StandsStmt D k (tree.stmt n label w) last → (z : Store) → Ending (statement_plan (tree.stmt n label w) k.sc k.at locked) z (Moved k D n (λ ls. stmt_leads (tree.stmt n label w) ls) (stmt_has is_return (tree.stmt n label w)) (own_of last (tree.stmt n label w)) still z)
-  moved n label w last locked still fit st z =
-      subst (λ t. Ending (statement_plan (tree.stmt n label w) k.sc k.at locked) z (Ended (scene k) t no_rows (λ ls. stmt_leads (tree.stmt n label w) ls) (stmt_has is_return (tree.stmt n label w)) (own_of last (tree.stmt n label w)) still z)) (sym (stands_at D k n label w last st).transformer)
-      (stmt_moves k sound (tree.stmt n label w) last locked still fit st.numbers st.found st.targets st.no_calls z)
+  -- how CALLs end, without what they access
+  calls_end : (cs : List CallAt) → Each (CallStands D k Fits I) cs → AllEnd k sound Fits base more_fits cs
+  calls_end [] h = tt
+  calls_end (c ∷ cs) h = (h.0.ends, calls_end cs h.1)
 
-  distinct : (ss : StmtTrees) (whole : Bool) → StandsList D k ss whole → Distinct (ids (at_list ss k.m k.does))
-  distinct ss whole st = subst Distinct (sym (r_list k.m k.does ss)) st.numbers
+  moved : (n : ℕ) (label : Option ℕ) (w : WhatTree) (last : Bool) (locked : Locks) (still : ℕ → Bool) → Fits locked still → StandsStmt D k Fits I (tree.stmt n label w) last → (z : Store) → Ending (statement_plan (tree.stmt n label w) k.sc k.at locked) z (Moved k D I n (λ ls. stmt_leads (tree.stmt n label w) ls) (stmt_has is_return (tree.stmt n label w)) (own_of last (tree.stmt n label w)) still z)
+  moved n label w last locked still fit st z =
+      subst (λ t. Ending (statement_plan (tree.stmt n label w) k.sc k.at locked) z (Ended (scene k) t no_rows (λ ls. stmt_leads (tree.stmt n label w) ls) (stmt_has is_return (tree.stmt n label w)) (own_of last (tree.stmt n label w)) still z)) (sym (stands_at D k Fits I n label w last st).transformer)
+      (stmt_moves k sound Fits base more_fits (tree.stmt n label w) last locked still fit st.numbers st.found st.targets (calls_end (stmt_calls (tree.stmt n label w)) st.calls) z)
+
+  distinct : (ss : StmtTrees) (whole : Bool) → StandsList D k Fits I ss whole → Distinct (ids (at_list ss k.m k.does k.calls))
+  distinct ss whole st = subst Distinct (sym (r_list k.m k.does k.calls ss)) st.numbers
+
+  -- what holds stays where the statement of a number is executed
+  keeps_at : (n : ℕ) (label : Option ℕ) (w : WhatTree) (last : Bool) → StandsStmt D k Fits I (tree.stmt n label w) last → KeepsAt k D I n
+  keeps_at n label w last st = subst (λ (t : Transformer). (x y : Store) → Kept (scene k) t.cells t.foreign (numbers_of x) (numbers_of y) → I x → I y) (sym (stands_at D k Fits I n label w last st).transformer) st.keeps.0
+
+  -- so it does over an iteration of a DO
+  turn_keeps : (index : List ℕ) (e1 e2 : ExprTree) (e3 : Option ExprTree) (body : StmtTrees) → list_at k.does false body ≡ body_transformer (tree.loop index e1 e2 e3 body) k.m k.cs → ((y z : Store) → Kept (scene k) (parts_do (loop_parts k.m (tree.loop index e1 e2 e3 body) (body_transformer (tree.loop index e1 e2 e3 body) k.m k.cs))).cells (parts_do (loop_parts k.m (tree.loop index e1 e2 e3 body) (body_transformer (tree.loop index e1 e2 e3 body) k.m k.cs))).foreign (numbers_of y) (numbers_of z) → I y → I z) → (y z : Store) → Kept (scene k) (iteration (loop_parts k.m (tree.loop index e1 e2 e3 body) (list_at k.does false body))).cells (iteration (loop_parts k.m (tree.loop index e1 e2 e3 body) (list_at k.does false body))).foreign (numbers_of y) (numbers_of z) → I y → I z
+  turn_keeps index e1 e2 e3 body path h = subst (λ (t : Transformer). (y z : Store) → Kept (scene k) (iteration (loop_parts k.m (tree.loop index e1 e2 e3 body) t)).cells (iteration (loop_parts k.m (tree.loop index e1 e2 e3 body) t)).foreign (numbers_of y) (numbers_of z) → I y → I z) (sym path) h
 
   quiet : (f : Flow) (z : Store) → Goes D (Ends f) z (λ a y es. Shown k false [] z a es)
   quiet f z = goes_ends D f z (λ a y es. Shown k false [] z a es) (shown_idle k false z (Gave f))
 
-  plain_of : (w : WhatTree) (n : ℕ) (last : Bool) → StandsAt D k n w last → has_plain k.scalar w ≡ true
+  plain_of : (w : WhatTree) (n : ℕ) (last : Bool) → StandsAt D k Fits I n w last → has_plain k.scalar w ≡ true
   plain_of w n last st = not-false (has_plain k.scalar w) st.plain
 
-  targets_of : (w : WhatTree) (n : ℕ) (last : Bool) → StandsAt D k n w last → has_targets k.scalar w ≡ true
+  targets_of : (w : WhatTree) (n : ℕ) (last : Bool) → StandsAt D k Fits I n w last → has_targets k.scalar w ≡ true
   targets_of w n last st = not-false (has_targets k.scalar w) st.targets
 
   mutual
-    pub stmt_goes : (s : StmtTree) (last : Bool) (locked : Locks) (still : ℕ → Bool) → Fits locked still → StandsStmt D k s last → (z : Store) → Goes D (statement_plan s k.sc k.at locked) z (λ a y es. Shown k false (stmt_set s k.m k.does) z a es)
-    stmt_goes (tree.stmt n label w) last locked still fit st z =
-        node n label w last locked z (stands_at D k n label w last st) (what_goes w n last locked still fit (stands_at D k n label w last st) (stands_within D k n label w last st) z)
+    pub stmt_goes : (s : StmtTree) (last : Bool) (locked : Locks) (still : ℕ → Bool) → Fits locked still → StandsStmt D k Fits I s last → (z : Store) → I z → Goes D (statement_plan s k.sc k.at locked) z (λ a y es. Shown k false (stmt_set s k.m k.does k.calls) z a es)
+    stmt_goes (tree.stmt n label w) last locked still fit st z iz =
+        node n label w last locked z (stands_at D k Fits I n label w last st) (what_goes w n last locked still fit (stands_at D k Fits I n label w last st) (stands_within D k Fits I n label w last st) z iz)
 
-    what_goes : (w : WhatTree) (n : ℕ) (last : Bool) (locked : Locks) (still : ℕ → Bool) → Fits locked still → StandsAt D k n w last → StandsParts D k w n → (z : Store) → Goes D (execution w n k.sc k.at locked) z (λ a y es. Shown k false (what_set w k.m k.does) z a es)
-    what_goes (tree.assign a b) n last locked still fit st pa z =
+    what_goes : (w : WhatTree) (n : ℕ) (last : Bool) (locked : Locks) (still : ℕ → Bool) → Fits locked still → StandsAt D k Fits I n w last → StandsParts D k Fits I w n → (z : Store) → I z → Goes D (execution w n k.sc k.at locked) z (λ a y es. Shown k false (what_set w k.m k.does k.calls) z a es)
+    what_goes (tree.assign a b) n last locked still fit st pa z iz =
         let p = and_parts (is_plain k.scalar a) (is_plain k.scalar b) (plain_of (tree.assign a b) n last st) in
-        assign_goes k sound fit.solid D locked a b z p.0 p.1
-    what_goes (tree.block_if arms other) n last locked still fit st pa z =
-        let q = stands_if D k arms other n pa in
-        goes_more D (arms_plan arms k.sc k.at locked (else_plan other k.sc k.at locked)) z (λ a y es. Shown k false (arms_all k sound fit.solid D other z arms always) z a es) (λ a y es. Shown k false (what_set (tree.block_if arms other) k.m k.does) z a es) (λ a y es h. shown_gathered k false (arms_all k sound fit.solid D other z arms always) z a es h)
-        (arms_goes arms other always locked still fit q.0 (plain_of (tree.block_if arms other) n last st) z (λ p h. tt) (λ h. else_goes other (past_arms arms k.m always) locked still fit q.1 z h))
-    what_goes (tree.logical_if e s) n last locked still fit st pa z = logical_goes k sound fit.solid D e (stmt_set s k.m k.does) (statement_plan s k.sc k.at locked) z (plain_of (tree.logical_if e s) n last st) (stmt_goes s false locked still fit pa z)
-    what_goes (tree.do_loop l) n last locked still fit st pa z = loop_list l n last locked still fit st pa z
-    what_goes (tree.call x es) n last locked still fit st pa z = (let e = pa.no_calls in cc)
-    what_goes (tree.goto l) n last locked still fit st pa z = quiet (Jump l) z
-    what_goes tree.continue n last locked still fit st pa z = quiet Normal z
-    what_goes tree.return n last locked still fit st pa z = quiet Returned z
-    what_goes (tree.stop text) n last locked still fit st pa z = quiet Stopped z
-    what_goes (tree.print es) n last locked still fit st pa z = print_goes k sound fit.solid D locked es z (plain_of (tree.print es) n last st)
-    what_goes (tree.read es) n last locked still fit st pa z = read_goes k sound fit.solid D locked still fit es z (targets_of (tree.read es) n last st) (plain_of (tree.read es) n last st)
+        assign_goes k sound (solid locked still fit) D locked a b z p.0 p.1
+    what_goes (tree.block_if arms other) n last locked still fit st pa z iz =
+        let q = stands_if D k Fits I arms other n pa in
+        goes_more D (arms_plan arms k.sc k.at locked (else_plan other k.sc k.at locked)) z (λ a y es. Shown k false (arms_all k sound (solid locked still fit) D other z arms always) z a es) (λ a y es. Shown k false (what_set (tree.block_if arms other) k.m k.does k.calls) z a es) (λ a y es h. shown_gathered k false (arms_all k sound (solid locked still fit) D other z arms always) z a es h)
+        (arms_goes arms other always locked still fit q.0 (plain_of (tree.block_if arms other) n last st) z iz (λ p h. tt) (λ h. else_goes other (past_arms arms k.m always) locked still fit q.1 z iz h))
+    what_goes (tree.logical_if e s) n last locked still fit st pa z iz = logical_goes k sound (solid locked still fit) D e (stmt_set s k.m k.does k.calls) (statement_plan s k.sc k.at locked) z (plain_of (tree.logical_if e s) n last st) (stmt_goes s false locked still fit pa z iz)
+    what_goes (tree.do_loop l) n last locked still fit st pa z iz = loop_list l n last locked still fit st pa z iz
+    what_goes (tree.call x es) n last locked still fit st pa z iz = pa.calls.0.goes (plain_of (tree.call x es) n last st) locked still fit z iz
+    what_goes (tree.goto l) n last locked still fit st pa z iz = quiet (Jump l) z
+    what_goes tree.continue n last locked still fit st pa z iz = quiet Normal z
+    what_goes tree.return n last locked still fit st pa z iz = quiet Returned z
+    what_goes (tree.stop text) n last locked still fit st pa z iz = quiet Stopped z
+    what_goes (tree.print es) n last locked still fit st pa z iz = print_goes k sound (solid locked still fit) D locked es z (plain_of (tree.print es) n last st)
+    what_goes (tree.read es) n last locked still fit st pa z iz = read_goes k sound (solid locked still fit) D locked still (base locked still fit) es z (targets_of (tree.read es) n last st) (plain_of (tree.read es) n last st)
 
-    loop_list : (l : LoopTree) (n : ℕ) (last : Bool) (locked : Locks) (still : ℕ → Bool) → Fits locked still → StandsAt D k n (tree.do_loop l) last → StandsParts D k (tree.do_loop l) n → (z : Store) → Goes D (do_plan l k.sc k.at locked) z (λ a y es. Shown k false (what_set (tree.do_loop l) k.m k.does) z a es)
-    loop_list (tree.loop index e1 e2 e3 body) n last locked still fit st pa z =
+    loop_list : (l : LoopTree) (n : ℕ) (last : Bool) (locked : Locks) (still : ℕ → Bool) → Fits locked still → StandsAt D k Fits I n (tree.do_loop l) last → StandsParts D k Fits I (tree.do_loop l) n → (z : Store) → I z → Goes D (do_plan l k.sc k.at locked) z (λ a y es. Shown k false (what_set (tree.do_loop l) k.m k.does k.calls) z a es)
+    loop_list (tree.loop index e1 e2 e3 body) n last locked still fit st pa z iz =
         let p = and_parts (k.scalar index) (is_plain k.scalar e1 && (is_plain k.scalar e2 && maybe_plain k.scalar e3)) (plain_of (tree.do_loop (tree.loop index e1 e2 e3 body)) n last st) in
         let q = and_parts (is_plain k.scalar e1) (is_plain k.scalar e2 && maybe_plain k.scalar e3) p.1 in
         let r = and_parts (is_plain k.scalar e2) (maybe_plain k.scalar e3) q.1 in
         let l = lock locked (unit_in k.at (number_in k.m index)) Locked in
         let t = also still (unit_in k.at (number_in k.m index)) in
-        do_goes index e1 e2 e3 body locked still fit z p.0 (ap (λ xs. list_of false body xs) (found_each D k body false pa))
-        (λ y f. list_goes k D body false (lock locked (unit_in k.at (number_in k.m index)) Locked) (also still (unit_in k.at (number_in k.m index))) (distinct body false pa) y
-        (λ e jump. row_all body body false (lock locked (unit_in k.at (number_in k.m index)) Locked) (also still (unit_in k.at (number_in k.m index))) f (distinct body false pa) e jump (suffix_all k D body false) pa y)
-        (each_all body body false (lock locked (unit_in k.at (number_in k.m index)) Locked) (also still (unit_in k.at (number_in k.m index))) f (distinct body false pa) (suffix_all k D body false) pa y))
-        (λ y f. list_moves k sound body false (lock locked (unit_in k.at (number_in k.m index)) Locked) (also still (unit_in k.at (number_in k.m index))) f pa.numbers pa.found pa.targets pa.no_calls y)
+        do_goes index e1 e2 e3 body locked still fit z iz p.0 (ap (λ xs. list_of false body xs) (found_each D k Fits I body false pa))
+        (λ y f iy. list_goes k D I body false (lock locked (unit_in k.at (number_in k.m index)) Locked) (also still (unit_in k.at (number_in k.m index))) (distinct body false pa) y iy
+        (λ e jump. row_all body body false (lock locked (unit_in k.at (number_in k.m index)) Locked) (also still (unit_in k.at (number_in k.m index))) f (distinct body false pa) e jump (suffix_all k D I body false) pa y iy)
+        (each_all body body false (lock locked (unit_in k.at (number_in k.m index)) Locked) (also still (unit_in k.at (number_in k.m index))) f (distinct body false pa) (suffix_all k D I body false) pa y iy))
+        (λ y f. list_moves k sound Fits base more_fits body false (lock locked (unit_in k.at (number_in k.m index)) Locked) (also still (unit_in k.at (number_in k.m index))) f pa.numbers pa.found pa.targets (calls_end (list_calls body) pa.calls) y)
+        (turn_keeps index e1 e2 e3 body (ap (λ xs. list_of false body xs) (found_each D k Fits I body false pa)) st.keeps)
         q.0 r.0 r.1
 
-    arms_goes : (arms : ArmTrees) (other : ElseTree) (w : Reached) (locked : Locks) (still : ℕ → Bool) (fit : Fits locked still) → StandsArms D k arms → tests_plain k.scalar arms ≡ true → (z : Store) → HoldsAt (scene k) w.system (numbers_of z) → (HoldsAt (scene k) (past_arms arms k.m w).system (numbers_of z) → Goes D (else_plan other k.sc k.at locked) z (λ a y es. Shown k false (else_set other k.m k.does (past_arms arms k.m w)) z a es)) → Goes D (arms_plan arms k.sc k.at locked (else_plan other k.sc k.at locked)) z (λ a y es. Shown k false (arms_all k sound fit.solid D other z arms w) z a es)
-    arms_goes tree.no_arms other w locked still fit st p z h rest = rest h
-    arms_goes (tree.more_arms (tree.arm e body) more) other w locked still fit st p z h rest =
-        let q = stands_arms D k (tree.arm e body) more st in
+    arms_goes : (arms : ArmTrees) (other : ElseTree) (w : Reached) (locked : Locks) (still : ℕ → Bool) (fit : Fits locked still) → StandsArms D k Fits I arms → tests_plain k.scalar arms ≡ true → (z : Store) → I z → HoldsAt (scene k) w.system (numbers_of z) → (HoldsAt (scene k) (past_arms arms k.m w).system (numbers_of z) → Goes D (else_plan other k.sc k.at locked) z (λ a y es. Shown k false (else_set other k.m k.does k.calls (past_arms arms k.m w)) z a es)) → Goes D (arms_plan arms k.sc k.at locked (else_plan other k.sc k.at locked)) z (λ a y es. Shown k false (arms_all k sound (solid locked still fit) D other z arms w) z a es)
+    arms_goes tree.no_arms other w locked still fit st p z iz h rest = rest h
+    arms_goes (tree.more_arms (tree.arm e body) more) other w locked still fit st p z iz h rest =
+        let q = stands_arms D k Fits I (tree.arm e body) more st in
         let r = and_parts (is_plain k.scalar e) (tests_plain k.scalar more) p in
-        arm_goes k sound fit.solid D other z e body more w (list_plan k.sc.turns (parts body k.sc k.at locked)) (arms_plan more k.sc k.at locked (else_plan other k.sc k.at locked)) r.0 h
-        (list_goes k D body false locked still (distinct body false q.0) z (λ y jump. row_all body body false locked still fit (distinct body false q.0) y jump (suffix_all k D body false) q.0 z) (each_all body body false locked still fit (distinct body false q.0) (suffix_all k D body false) q.0 z))
-        (λ g. arms_goes more other (if_false k.m e w) locked still fit q.1 r.1 z g rest)
+        arm_goes k sound (solid locked still fit) D other z e body more w (list_plan k.sc.turns (parts body k.sc k.at locked)) (arms_plan more k.sc k.at locked (else_plan other k.sc k.at locked)) r.0 h
+        (list_goes k D I body false locked still (distinct body false q.0) z iz (λ y jump. row_all body body false locked still fit (distinct body false q.0) y jump (suffix_all k D I body false) q.0 z iz) (each_all body body false locked still fit (distinct body false q.0) (suffix_all k D I body false) q.0 z iz))
+        (λ g. arms_goes more other (if_false k.m e w) locked still fit q.1 r.1 z iz g rest)
 
-    else_goes : (other : ElseTree) (w : Reached) (locked : Locks) (still : ℕ → Bool) → Fits locked still → StandsElse D k other → (z : Store) → HoldsAt (scene k) w.system (numbers_of z) → Goes D (else_plan other k.sc k.at locked) z (λ a y es. Shown k false (else_set other k.m k.does w) z a es)
-    else_goes tree.no_else w locked still fit st z h = quiet Normal z
-    else_goes (tree.otherwise body) w locked still fit st z h =
-        otherwise_goes k sound fit.solid D body w (list_plan k.sc.turns (parts body k.sc k.at locked)) z h
-        (list_goes k D body false locked still (distinct body false st) z (λ y jump. row_all body body false locked still fit (distinct body false st) y jump (suffix_all k D body false) st z) (each_all body body false locked still fit (distinct body false st) (suffix_all k D body false) st z))
+    else_goes : (other : ElseTree) (w : Reached) (locked : Locks) (still : ℕ → Bool) → Fits locked still → StandsElse D k Fits I other → (z : Store) → I z → HoldsAt (scene k) w.system (numbers_of z) → Goes D (else_plan other k.sc k.at locked) z (λ a y es. Shown k false (else_set other k.m k.does k.calls w) z a es)
+    else_goes tree.no_else w locked still fit st z iz h = quiet Normal z
+    else_goes (tree.otherwise body) w locked still fit st z iz h =
+        otherwise_goes k sound (solid locked still fit) D body w (list_plan k.sc.turns (parts body k.sc k.at locked)) z h
+        (list_goes k D I body false locked still (distinct body false st) z iz (λ y jump. row_all body body false locked still fit (distinct body false st) y jump (suffix_all k D I body false) st z iz) (each_all body body false locked still fit (distinct body false st) (suffix_all k D I body false) st z iz))
 
-    pub row_all : (ss all : StmtTrees) (whole : Bool) (locked : Locks) (still : ℕ → Bool) → Fits locked still → (d : Distinct (ids (at_list all k.m k.does))) → unstructured whole all ≡ false → (jump : ℕ → Plan) → Suffix k D all whole ss → StandsList D k ss whole → (z : Store) → Goes D (plan_in_order jump (parts all k.sc k.at locked) (parts ss k.sc k.at locked)) z (λ a y es. Shown k whole (in_order k.does (F k D all whole locked still d) (numbers ss)) z a es)
-    row_all tree.no_stmts all whole locked still fit d e jump x st z = goes_ends D Normal z (λ a y es. Shown k whole [] z a es) (shown_idle k whole z (Gave Normal))
-    row_all (tree.more_stmts (tree.stmt n label w) rest) all whole locked still fit d e jump x st z =
-        let q = stands_next D k (tree.stmt n label w) rest whole st in
-        row_goes k D all whole locked still d n label w rest e x jump z (own_of (whole && is_end rest) (tree.stmt n label w))
-        (stmt_goes (tree.stmt n label w) (whole && is_end rest) locked still fit q.0 z)
+    pub row_all : (ss all : StmtTrees) (whole : Bool) (locked : Locks) (still : ℕ → Bool) → Fits locked still → (d : Distinct (ids (at_list all k.m k.does k.calls))) → unstructured whole all ≡ false → (jump : ℕ → Plan) → Suffix k D I all whole ss → StandsList D k Fits I ss whole → (z : Store) → I z → Goes D (plan_in_order jump (parts all k.sc k.at locked) (parts ss k.sc k.at locked)) z (λ a y es. Shown k whole (in_order k.does (F k D I all whole locked still d) (numbers ss)) z a es)
+    row_all tree.no_stmts all whole locked still fit d e jump x st z iz = goes_ends D Normal z (λ a y es. Shown k whole [] z a es) (shown_idle k whole z (Gave Normal))
+    row_all (tree.more_stmts (tree.stmt n label w) rest) all whole locked still fit d e jump x st z iz =
+        let q = stands_next D k Fits I (tree.stmt n label w) rest whole st in
+        row_goes k D I all whole locked still d n label w rest e x jump z (own_of (whole && is_end rest) (tree.stmt n label w)) (keeps_at n label w (whole && is_end rest) q.0) iz
+        (stmt_goes (tree.stmt n label w) (whole && is_end rest) locked still fit q.0 z iz)
         (moved n label w (whole && is_end rest) locked still fit q.0 z)
-        (λ y. row_all rest all whole locked still fit d e jump (suffix_next k D all whole (tree.stmt n label w) rest x) q.1 y)
+        (λ y iy. row_all rest all whole locked still fit d e jump (suffix_next k D I all whole (tree.stmt n label w) rest x) q.1 y iy)
 
-    pub each_all : (ss all : StmtTrees) (whole : Bool) (locked : Locks) (still : ℕ → Bool) → Fits locked still → (d : Distinct (ids (at_list all k.m k.does))) → Suffix k D all whole ss → StandsList D k ss whole → (s : Store) → Each_goes k D all whole locked still d s (parts ss k.sc k.at locked)
-    each_all tree.no_stmts all whole locked still fit d x st s = tt
-    each_all (tree.more_stmts (tree.stmt n label w) rest) all whole locked still fit d x st s =
-        let q = stands_next D k (tree.stmt n label w) rest whole st in (
-          (λ z es l. loose_goes k D all whole locked still d s n label w rest x (own_of (whole && is_end rest) (tree.stmt n label w)) z es l
-              (stmt_goes (tree.stmt n label w) (whole && is_end rest) locked still fit q.0 z)
+    pub each_all : (ss all : StmtTrees) (whole : Bool) (locked : Locks) (still : ℕ → Bool) → Fits locked still → (d : Distinct (ids (at_list all k.m k.does k.calls))) → Suffix k D I all whole ss → StandsList D k Fits I ss whole → (s : Store) (begun : I s) → Each_goes k D I all whole locked still d s begun (parts ss k.sc k.at locked)
+    each_all tree.no_stmts all whole locked still fit d x st s begun = tt
+    each_all (tree.more_stmts (tree.stmt n label w) rest) all whole locked still fit d x st s begun =
+        let q = stands_next D k Fits I (tree.stmt n label w) rest whole st in (
+          (λ z es l. loose_goes k D I all whole locked still d s begun n label w rest x (keeps_at n label w (whole && is_end rest) q.0) (own_of (whole && is_end rest) (tree.stmt n label w)) z es l
+              (stmt_goes (tree.stmt n label w) (whole && is_end rest) locked still fit q.0 z l.since)
               (moved n label w (whole && is_end rest) locked still fit q.0 z)),
-          each_all rest all whole locked still fit d (suffix_next k D all whole (tree.stmt n label w) rest x) q.1 s,
+          each_all rest all whole locked still fit d (suffix_next k D I all whole (tree.stmt n label w) rest x) q.1 s begun,
         )
 
   -- a list, from its first statement on; `whole` says that it is the body of the module
-  pub body_goes : (ss : StmtTrees) (whole : Bool) (locked : Locks) (still : ℕ → Bool) → Fits locked still → StandsList D k ss whole → (z : Store) → Goes D (list_plan k.sc.turns (parts ss k.sc k.at locked)) z (λ a y es. Shown k whole (list_regions k.does (accesses_at (at_list ss k.m k.does)) whole ss) z a es)
-  body_goes ss whole locked still fit st z =
-      list_goes k D ss whole locked still (distinct ss whole st) z (λ e jump. row_all ss ss whole locked still fit (distinct ss whole st) e jump (suffix_all k D ss whole) st z) (each_all ss ss whole locked still fit (distinct ss whole st) (suffix_all k D ss whole) st z)
+  pub body_goes : (ss : StmtTrees) (whole : Bool) (locked : Locks) (still : ℕ → Bool) → Fits locked still → StandsList D k Fits I ss whole → (z : Store) → I z → Goes D (list_plan k.sc.turns (parts ss k.sc k.at locked)) z (λ a y es. Shown k whole (list_regions k.does (accesses_at (at_list ss k.m k.does k.calls)) whole ss) z a es)
+  body_goes ss whole locked still fit st z iz =
+      list_goes k D I ss whole locked still (distinct ss whole st) z iz (λ e jump. row_all ss ss whole locked still fit (distinct ss whole st) e jump (suffix_all k D I ss whole) st z iz) (each_all ss ss whole locked still fit (distinct ss whole st) (suffix_all k D I ss whole) st z iz)

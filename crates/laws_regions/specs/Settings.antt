@@ -1,6 +1,7 @@
 -- What is known of a module while it runs, where its regions are looked at.
-use Rattle.std.specs.Prelude.{◌≡◌, ℕ, ℤ, Bool, true, false, not, ◌&&◌, ◌||◌, List, [], ◌∷◌, Option, Some, None, is_some}
-use Rattle.f77_ast.specs.Trees.{ExprTree, ExprTrees, WhatTree, ArmTree, ArmTrees, LoopTree}
+use Rattle.std.specs.Prelude.{◌≡◌, ℕ, ℤ, Bool, true, false, not, ◌&&◌, ◌||◌, nat_eq, List, [], ◌∷◌, Option, Some, None, is_some}
+use Rattle.std.specs.List.{list_any}
+use Rattle.f77_ast.specs.Trees.{ExprTree, ExprTrees, WhatTree, ArmTrees, LoopTree}
 use Rattle.f77_ast.specs.Trees as tree
 use Rattle.f77_ast.specs.Store.{Content}
 use Rattle.f77_ast.specs.Numbers.{intrinsic_named}
@@ -24,15 +25,24 @@ use Rattle.transformers.specs.Given.{Callees}
 use Rattle.region_sets.specs.declared.region.Access.{Access}
 use Rattle.region_sets.specs.Claims.{Elements}
 use Rattle.array_regions.specs.References.{is_constant, whole, element}
+use Rattle.array_regions.specs.Calls.{Called}
+use Rattle.call_graph.specs.declared.graph.Graph.{Graph}
+use Rattle.f77_meaning.specs.Modules.{Known as Module}
+use Rattle.f77_meaning.specs.Claims.{block_place, saved_place}
+use Rattle.laws_effects.specs.Tables.{is_plain as is_plain_name}
 use Rattle.laws_statements.specs.Activation.{NamesFit, scene_at}
 use Rattle.laws_regions.specs.Claims.{elements_of}
 
--- a module that runs, with the places of its variables, and the transformer of the statement of each number
+-- a module of a program that runs, with the places of its variables, and the transformer of the statement of each number
 pub record Setting : Type 0 where
+  pub ks : List Module
+  pub g : Graph
   pub sc : Scope
   pub m : ScopeTree
   pub cs : Callees
   pub does : ℕ → Transformer
+  -- what a CALL accesses, by its regions
+  pub calls : Called
   -- whether a name is that of a variable that is no array
   pub scalar : List ℕ → Bool
   pub at : Places
@@ -50,11 +60,23 @@ abbrev pub elements_if : Bool → Place → Elements
 elements_if true p = elements_of p
 elements_if false p = λ phi. None
 
--- the elements of a module's own variables, constants have none; of others nothing is said where no module is called
+abbrev pub has_colon : List ℕ → Bool
+has_colon x = list_any (λ c. nat_eq c 58) x
+
+-- what is written of a variable tells which it is
+abbrev pub is_told : Named → Bool
+is_told (Own n) = true
+is_told (Block b) = not (has_colon b)
+is_told (Saved s x) = is_plain_name s && not (has_colon x)
+
+-- the elements of a module's own variables, constants have none; and those of blocks, and of saved locals of other modules
+abbrev pub elements_with : List Module → Graph → List SymbolTree → Places → Named → Elements
+elements_with ks g ss at (Own n) = elements_if (is_stored (symbol_at ss n)) (at n)
+elements_with ks g ss at (Block b) = elements_if (is_told (Block b)) (block_place ks g b)
+elements_with ks g ss at (Saved s x) = elements_if (is_told (Saved s x)) (saved_place ks g ks s x)
+
 abbrev pub elements_at : Setting → Named → Elements
-elements_at k (Own n) = elements_if (is_stored (symbol_at k.m.symbols n)) (k.at n)
-elements_at k (Block b) = λ phi. None
-elements_at k (Saved s x) = λ phi. None
+elements_at k v = elements_with k.ks k.g k.m.symbols k.at v
 
 -- ---- the bounds of a variable, and its dimensions
 
@@ -110,6 +132,21 @@ abbrev mutual
   are_plain scalar tree.no_exprs = true
   are_plain scalar (tree.more_exprs e es) = is_plain scalar e && are_plain scalar es
 
+-- an array may stand whole as an actual
+abbrev pub actual_plain : (List ℕ → Bool) → ExprTree → Bool
+actual_plain scalar (tree.int n) = true
+actual_plain scalar (tree.log b) = true
+actual_plain scalar (tree.name x) = true
+actual_plain scalar (tree.element x es) = is_plain scalar (tree.element x es)
+actual_plain scalar (tree.paren e) = is_plain scalar (tree.paren e)
+actual_plain scalar (tree.unary o e) = is_plain scalar (tree.unary o e)
+actual_plain scalar (tree.binary o a b) = is_plain scalar (tree.binary o a b)
+actual_plain scalar (tree.chars x) = true
+
+abbrev pub actuals_plain : (List ℕ → Bool) → ExprTrees → Bool
+actuals_plain scalar tree.no_exprs = true
+actuals_plain scalar (tree.more_exprs e es) = actual_plain scalar e && actuals_plain scalar es
+
 abbrev pub maybe_plain : (List ℕ → Bool) → Option ExprTree → Bool
 maybe_plain scalar None = true
 maybe_plain scalar (Some e) = is_plain scalar e
@@ -127,7 +164,7 @@ has_plain scalar (tree.assign a b) = is_plain scalar a && is_plain scalar b
 has_plain scalar (tree.block_if arms other) = tests_plain scalar arms
 has_plain scalar (tree.logical_if e s) = is_plain scalar e
 has_plain scalar (tree.do_loop l) = loop_plain scalar l
-has_plain scalar (tree.call x es) = true
+has_plain scalar (tree.call x es) = actuals_plain scalar es
 has_plain scalar (tree.goto l) = true
 has_plain scalar tree.continue = true
 has_plain scalar tree.return = true

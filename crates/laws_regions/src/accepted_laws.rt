@@ -4,9 +4,9 @@ ghost use Rattle.laws_regions.specs.Accepted.{ReadRegionsHold};
 use crate::program_regions_hold;
 use laws_analyses::{accepted_data_stays_in_locals, jumps_stay_inside, names_agree};
 
-/// In every run of a program that is read, up to its first fault, the regions that are made from its analyses hold of each execution of a statement, or of the entry,
-/// of a module without CALLs: each visible unit that is read, or written, lies in one of the READ, or WRITE, regions, and at a normal end each element that an
-/// exact region describes is in bounds, and is read, or written.
+/// In every run of a program that is read, up to its first fault, the regions that are made from its analyses hold of each execution of a statement, or of the entry:
+/// each visible unit that is read, or written, lies in one of the READ, or WRITE, regions, and at a normal end each element that an exact region describes is in
+/// bounds, and is read, or written.
 pub fn read_regions_hold()
     ensures { ReadRegionsHold }
 {

@@ -1,31 +1,30 @@
 -- Each line that is added to a module is a comment line that reading drops.
-use Rattle.std.proofs.Common.{◌≡◌, ℕ, zero, suc, Bool, true, false, List, [], ◌∷◌, ◌++◌, Option, Some, None, arith, refl, sym, subst}
-use Rattle.std.specs.Prelude.{All as Every, if◌then◌else◌, slice_get, bytes_eq, option_to_list, reverse}
+use Rattle.std.proofs.Common.{ℕ, zero, suc, Bool, true, false, List, [], ◌∷◌, ◌++◌, Option, Some, None, arith}
+use Rattle.std.specs.Prelude.{All as Every, if◌then◌else◌, bytes_eq}
 use Rattle.std.specs.List.{AllByRecursion}
-use mathlib.Core.List.{reverse-cons}
 use Rattle.affine_systems.specs.declared.row.System.{System}
 use Rattle.f77_ast.specs.Trees.{StmtTree, WhatTree, ArmTree, ArmTrees, ElseTree, LoopTree, StmtTrees}
 use Rattle.f77_ast.specs.Trees as tree
 use Rattle.f77_ast.specs.DeclTrees.{ParsedTree}
-use Rattle.f77_symbols.specs.declared.variable.Unit.{Unit as BlockUnit}
 use Rattle.f77_printer.specs.declared.added.Added.{Added}
-use Rattle.call_graph.specs.declared.graph.Graph.{Graph}
-use Rattle.f77_meaning.specs.Modules.{Known, known_of, symbol_names}
+use Rattle.f77_meaning.specs.Modules.{known_of, symbol_names}
 use Rattle.transformer_algebra.specs.declared.transformer.Transformer.{Transformer}
-use Rattle.transformers.specs.Given.{Callees}
-use Rattle.scalar_phases.specs.Phases.{place_of, module_at, module_of, Found, no_callees, with_callee, found_of, maybe_found, found_in, Analysis, sites_of, analysis_of, analyses_from, analyses}
+use Rattle.scalar_phases.specs.Phases.{Analysis, analyses}
+use Rattle.region_phases.specs.Phases.{ModuleRegions, all_regions}
 use Rattle.claim_lines.specs.ScalarLines.{Said, before, holds_lines, changes_lines, does_lines, says_changes, own_lines, stmt_lines, part_lines, list_lines, arms_lines, arm_lines, else_lines, loop_lines, entry_lines, said}
 use Rattle.system_text.specs.SystemText.{precondition_line, transformer_line}
 use Rattle.roundtrip_statements.specs.Formed.{Each}
 use Rattle.roundtrip_modules.proofs.Kept.{Each-append}
 use Rattle.roundtrip_text.specs.Texts.{IsPassedOver}
 use Rattle.roundtrip_text.specs.Laws.{AllPassedOver}
-use Rattle.roundtrip_programs.specs.Lines.{AreShown, IsClaimLine, LinesArePassedOver}
-use Rattle.region_lines.specs.RegionLines.{region_lines_of}
-use Rattle.laws_regions.specs.Accepted.{regions_found}
+use Rattle.roundtrip_programs.specs.Lines.{IsShown, AreShown, IsClaimLine, LinesArePassedOver}
 use Rattle.laws_programs.specs.Programs.{AreTables}
+use Rattle.laws_lines.proofs.PhaseVars.{EachOf}
+use Rattle.laws_region_lines.specs.Names.{IsNamed, AreNamed}
 use Rattle.laws_region_lines.specs.LineLaws.{RegionLinesPass, AllRegionLinesPass}
-use Rattle.pips_top.specs.Claimed.{said_of, analysis_for, has_calls, region_lines_found, scalar_lines_found, lines_of, lines_for}
+use Rattle.laws_region_lines.proofs.ProgramRegions.{each_named, regions_with}
+use Rattle.laws_region_lines.proofs.LinesPass.{names_shown}
+use Rattle.pips_top.specs.Claimed.{said_of, said_for, region_lines_found, scalar_lines_found, lines_of, lines_for}
 use Rattle.pips_top.specs.Program.{ProgramTree}
 use Rattle.pips_top.specs.declared.words.Show.{Show}
 use Rattle.pips_top.specs.declared.words.Show.TheVariants.{All, Bare, Why}
@@ -103,83 +102,35 @@ module _ (law : LinesArePassedOver) (k : Said) (shown : AreShown k.names) where
     loop-over : (l : LoopTree) → AreOver (loop_lines l k)
     loop-over (tree.loop index first last step body) = list-over body
 
--- ---- names
+-- ---- what is said of a module
 
-abbrev pub KnownShown : Known → Type 0
-KnownShown k = AreShown (symbol_names k.symbols)
+-- its symbols have such names, and the lines of its regions are passed over
+abbrev pub IsSaid : ModuleRegions → Type 0
+IsSaid f = AreShown (symbol_names f.analysis.found.known.symbols) × RegionLinesPass f
 
-abbrev pub FoundShown : Found → Type 0
-FoundShown f = KnownShown f.known
+both_said : (fs : List ModuleRegions) → EachOf (λ (f : ModuleRegions). IsNamed IsShown f.analysis.found.known) fs → Every RegionLinesPass fs → Each IsSaid fs
+both_said [] n h = tt
+both_said (f ∷ fs) n h = record {
+  first = (names_shown f.analysis.found.known.symbols n.0.1, h zero f (omega arith));
+  others = both_said fs n.1 (λ k d l. h (suc k) d (omega (arith, l)));
+}
 
-abbrev pub AnalysisShown : Analysis → Type 0
-AnalysisShown a = KnownShown a.found.known
-
-known_at : (ks : List Known) (i : ℕ) (k : Known) → Each KnownShown ks → slice_get ks i ≡ Some k → KnownShown k
-known_at [] i k h e = cc
-known_at (x ∷ ks) zero k h e = let same : x ≡ k = cc in subst KnownShown same h.first
-known_at (x ∷ ks) (suc i) k h e = known_at ks i k h.others e
-
-known_there : (ks : List Known) (o : Option ℕ) (k : Known) → Each KnownShown ks → module_at ks o ≡ Some k → KnownShown k
-known_there ks None k h e = cc
-known_there ks (Some i) k h e = known_at ks i k h e
-
-module _ (u : List BlockUnit) (ks : List Known) (h : Each KnownShown ks) where
-  found_shown : (xs : List (List ℕ)) (cs : Callees) → Each FoundShown (found_in u ks cs xs)
-  found_shown [] cs = tt
-  found_shown (x ∷ xs) cs = go (module_of ks x) refl (λ ds. found_shown xs ds)
-    where
-      go : (o : Option Known) → module_of ks x ≡ o → ((ds : Callees) → Each FoundShown (found_in u ks ds xs)) → Each FoundShown (option_to_list (maybe_found u cs o) ++ found_in u ks (with_callee (maybe_found u cs o) cs) xs)
-      go None e ih = ih (with_callee None cs)
-      go (Some k) e ih = record { first = known_there ks (place_of ks x) k h e; others = ih (with_callee (Some (found_of u cs k)) cs) }
-
-reversed : (fs : List Found) → Each FoundShown fs → Each FoundShown (reverse fs)
-reversed [] h = tt
-reversed (f ∷ fs) h =
-    subst (Each FoundShown) (sym (reverse-cons f fs)) (Each-append FoundShown (reverse fs) (f ∷ []) (reversed fs h.others) (record { first = h.first; others = tt }))
-
-analyses_shown : (u : List BlockUnit) (done : List Analysis) (fs : List Found) → Each AnalysisShown done → Each FoundShown fs → Each AnalysisShown (analyses_from u done fs)
-analyses_shown u done [] d h = d
-analyses_shown u done (f ∷ fs) d h =
-    let a = analysis_of u (sites_of u done f.known.read.name) f in
-    analyses_shown u (done ++ a ∷ []) fs (Each-append AnalysisShown done (a ∷ []) d (record { first = h.first; others = tt })) h.others
-
--- then so are the names in what is said
-pub said_shown : (show : Show) (p : ProgramTree) → Each KnownShown (known_of p.modules p.tables) → Each AnalysisShown (said_of show p)
-said_shown All p h =
+-- so it is of all that is said of a program
+pub all_said : AllRegionLinesPass → (show : Show) (p : ProgramTree) → AreTables p.modules p.tables → AreNamed IsShown (known_of p.modules p.tables) → Each IsSaid (said_of show p)
+all_said law All p t n =
     let ks = known_of p.modules p.tables in
-    let fs = found_in p.graph.untracked ks no_callees p.graph.order in
-    analyses_shown p.graph.untracked [] (reverse fs) tt (reversed fs (found_shown p.graph.untracked ks h p.graph.order no_callees))
-said_shown Bare p h = tt
-said_shown Why p h = tt
+    both_said (all_regions p.graph (analyses ks p.graph)) (regions_with (IsNamed IsShown) ks p.graph (each_named IsShown ks n)) (law p.modules p.tables p.graph t n)
+all_said law Bare p t n = tt
+all_said law Why p t n = tt
 
--- ---- the lines of its regions
-
--- the names of an analysis are shown, and the lines of its regions pass
-abbrev pub AnalysisPasses : Graph → Analysis → Type 0
-AnalysisPasses g a = AnalysisShown a × RegionLinesPass g.untracked a
-
-each_both : (P Q : Analysis → Type 0) (xs : List Analysis) → Each P xs → Every Q xs → Each (λ a. P a × Q a) xs
-each_both P Q [] h k = tt
-each_both P Q (x ∷ xs) h k = record { first = (h.first, k zero x (omega arith)); others = each_both P Q xs h.others (λ i d l. k (suc i) d (omega (arith, l))) }
-
-pub said_passes : AllRegionLinesPass → (show : Show) (p : ProgramTree) → AreTables p.modules p.tables → Each KnownShown (known_of p.modules p.tables) → Each (AnalysisPasses p.graph) (said_of show p)
-said_passes law All p t h =
-    each_both AnalysisShown (RegionLinesPass p.graph.untracked) (analyses (known_of p.modules p.tables) p.graph) (said_shown All p h) (law p.modules p.tables p.graph t)
-said_passes law Bare p t h = tt
-said_passes law Why p t h = tt
-
-each_from : (xs : List Added) → AllByRecursion IsPassedOver xs → AreOver xs
-each_from [] h = tt
-each_from (x ∷ xs) h = record { first = h.0; others = each_from xs h.1 }
+each_passed : (xs : List Added) → AllByRecursion IsPassedOver xs → AreOver xs
+each_passed [] h = tt
+each_passed (x ∷ xs) h = record { first = h.0; others = each_passed xs h.1 }
 
 -- ---- the lines of a program
 
-none-over : (b : Bool) (xs : List Added) → AreOver xs → AreOver (if b then [] else xs)
-none-over true xs h = tt
-none-over false xs h = h
-
-module _ (law : LinesArePassedOver) (g : Graph) where
-  scalars-over : (a : Analysis) → AnalysisShown a → AreOver (scalar_lines_found a)
+module _ (law : LinesArePassedOver) where
+  scalars-over : (a : Analysis) → AreShown (symbol_names a.found.known.symbols) → AreOver (scalar_lines_found a)
   scalars-over a h =
       let k = a.found.known in
       let names = symbol_names k.symbols in
@@ -187,23 +138,17 @@ module _ (law : LinesArePassedOver) (g : Graph) where
       join (entry_lines k.read.main names a.holds.summary own.summary) (list_lines k.read.body (said names own.at a.holds.at))
       (entry-over law names h k.read.main a.holds.summary own.summary) (list-over law (said names own.at a.holds.at) h k.read.body)
 
-  regions-over : (a : Analysis) → AnalysisPasses g a → AreOver (region_lines_found g a)
-  regions-over a h =
-      let k = a.found.known in
-      let lines = region_lines_of k.read.main k.read.body (symbol_names k.symbols) (regions_found g a) in
-      none-over (has_calls g.edges k.read.name) lines (each_from lines (h.1 h.0))
+  module-over : (f : ModuleRegions) → IsSaid f → AreOver (lines_of (Some f))
+  module-over f h = join (scalar_lines_found f.analysis) (region_lines_found f) (scalars-over f.analysis h.0) (each_passed (region_lines_found f) h.1)
 
-  analysis-over : (a : Analysis) → AnalysisPasses g a → AreOver (lines_of g (Some a))
-  analysis-over a h = join (scalar_lines_found a) (region_lines_found g a) (scalars-over a h.0) (regions-over a h)
-
-  choice-over : (b : Bool) (o p : Option Analysis) → AreOver (lines_of g o) → AreOver (lines_of g p) → AreOver (lines_of g (if b then o else p))
+  choice-over : (b : Bool) (o p : Option ModuleRegions) → AreOver (lines_of o) → AreOver (lines_of p) → AreOver (lines_of (if b then o else p))
   choice-over true o p h e = h
   choice-over false o p h e = e
 
-  lines-over : (all : List Analysis) (x : List ℕ) → Each (AnalysisPasses g) all → AreOver (lines_for g all x)
+  lines-over : (all : List ModuleRegions) (x : List ℕ) → Each IsSaid all → AreOver (lines_for all x)
   lines-over [] x h = tt
-  lines-over (a ∷ as') x h = choice-over (bytes_eq a.found.known.read.name x) (Some a) (analysis_for as' x) (analysis-over a h.first) (lines-over as' x h.others)
+  lines-over (f ∷ fs) x h = choice-over (bytes_eq f.analysis.found.known.read.name x) (Some f) (said_for fs x) (module-over f h.first) (lines-over fs x h.others)
 
-  pub all_over : (all : List Analysis) → Each (AnalysisPasses g) all → (ms : List ParsedTree) → AllPassedOver (λ m. lines_for g all m.module_read.name) ms
+  pub all_over : (all : List ModuleRegions) → Each IsSaid all → (ms : List ParsedTree) → AllPassedOver (λ m. lines_for all m.module_read.name) ms
   all_over all h [] = tt
   all_over all h (m ∷ ms) = record { first = lines-over all m.module_read.name h; others = all_over all h ms }

@@ -1,7 +1,8 @@
 pub mod Joining
 pub mod LinkLaws
-pub mod NoCalls
+pub mod Said
 pub mod Programs
+pub mod BlockNames
 pub mod AddedLines
 pub mod ReadBack
 pub mod LinesMeant

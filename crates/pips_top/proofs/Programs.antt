@@ -15,13 +15,10 @@ use Rattle.call_graph.specs.Links.{link_of}
 use Rattle.laws_programs.specs.Programs.{AreTables, IsProgram}
 use Rattle.laws_analyses.specs.Laws.{AnalysesAreWhole, ReadAnalysesHold}
 use Rattle.laws_regions.specs.Accepted.{ReadRegionsHold}
-use Rattle.laws_region_lines.specs.Laws.{RegionsAreOver, RegionsAreOverPlaces}
-use Rattle.scalar_phases.specs.Phases.{Analysis, analyses}
-use Rattle.f77_meaning.specs.Modules.{known_of}
+use Rattle.laws_region_lines.specs.Laws.{RegionsAreOverPlaces}
 use Rattle.pips_top.specs.Laws.{ReadAllSaid, ReadClaimsHold}
 use Rattle.pips_top.specs.Program.{ProgramTree}
 use Rattle.pips_top.specs.Reading.{lines_or, table_or, tables_of, graph_or, linked_by, program_of, reading}
-use Rattle.pips_top.proofs.NoCalls.{no_calls_there}
 use Rattle.pips_top.specs.declared.words.Show.TheVariants.{All, Bare, Why}
 
 -- ---- tables
@@ -95,17 +92,16 @@ each_at P [] h j a e = cc
 each_at P (x ∷ xs) h zero a e = let same : x ≡ a = cc in subst P same (h zero x (omega arith))
 each_at P (x ∷ xs) h (suc j) a e = each_at P xs (λ k d l. h (suc k) d (omega (arith, l))) j a e
 
-pub claims_from : ReadAnalysesHold → ReadRegionsHold → RegionsAreOverPlaces → AnalysesAreWhole → ReadClaimsHold
-claims_from law on_regions over whole All bytes p e =
+pub claims_from : ReadAnalysesHold → ReadRegionsHold → RegionsAreOverPlaces → ReadClaimsHold
+claims_from law on_regions over All bytes p e =
     let i = is_program bytes p e in
     record {
       scalars = law p.modules p.tables p.graph i;
       regions = on_regions p.modules p.tables p.graph i;
-      places = each_at (RegionsAreOver p.graph.untracked) (analyses (known_of p.modules p.tables) p.graph) (over p.modules p.tables p.graph i.tables);
-      no_calls = λ j a found. let m = (whole p.modules p.tables p.graph i).modules j a found in no_calls_there p.modules p.tables p.graph i.links m.0 a.found.known m.1;
+      places = over p.modules p.tables p.graph i.tables;
     }
-claims_from law on_regions over whole Bare bytes p e = tt
-claims_from law on_regions over whole Why bytes p e = tt
+claims_from law on_regions over Bare bytes p e = tt
+claims_from law on_regions over Why bytes p e = tt
 
 pub all_said_from : AnalysesAreWhole → ReadAllSaid
 all_said_from law All bytes p e = law p.modules p.tables p.graph (is_program bytes p e)

@@ -6,24 +6,21 @@ use Rattle.f77_parser.specs.Modules.{parse_of}
 use Rattle.f77_symbols.specs.Symbols.{SymbolTree}
 use Rattle.call_graph.specs.declared.graph.Graph.{Graph}
 use Rattle.call_graph.specs.Links.{link_of}
-use Rattle.f77_meaning.specs.Modules.{known_of}
-use Rattle.scalar_phases.specs.Phases.{Analysis}
+use Rattle.region_phases.specs.Phases.{ModuleRegions}
 use Rattle.laws_programs.specs.Programs as laws
-use Rattle.laws_programs.proofs.Sources.{AnyLabel, IsBuilt, all_built}
-use Rattle.roundtrip_statements.specs.Formed.{Each}
-use Rattle.roundtrip_statements.specs.Phrased.{IsPhrase}
-use Rattle.roundtrip_modules.specs.Cards.{Card, statements_of}
-use Rattle.roundtrip_modules.proofs.Kept.{Held, each-map}
+use Rattle.laws_programs.proofs.Sources.{all_built}
+use Rattle.laws_region_lines.specs.LineLaws.{AllRegionLinesPass}
+use Rattle.laws_layout.specs.Laws.{BlocksHaveAChain}
 use Rattle.roundtrip_text.specs.Texts as back
 use Rattle.roundtrip_programs.specs.Lines.{LinesArePassedOver}
-use Rattle.laws_region_lines.specs.LineLaws.{AllRegionLinesPass}
-use Rattle.roundtrip_programs.specs.Programs.{AreTables, IsProgram, IsFormed, ProgramsReadBack, NamesAreShown}
+use Rattle.roundtrip_programs.specs.Programs.{AreTables, IsProgram, ProgramsReadBack, NamesAreShown}
 use Rattle.pips_top.specs.Claimed.{said_of, lines_for}
 use Rattle.pips_top.specs.Laws.{ReadWrittenBack}
 use Rattle.pips_top.specs.Program.{ProgramTree}
 use Rattle.pips_top.specs.Reading.{lines_or, table_or, tables_of, graph_or, linked_by, program_of, reading}
 use Rattle.pips_top.specs.Written.{parsed_text, modules_text}
-use Rattle.pips_top.proofs.AddedLines.{KnownShown, said_passes, all_over}
+use Rattle.pips_top.proofs.AddedLines.{all_said, all_over}
+use Rattle.pips_top.proofs.BlockNames.{modules_shown}
 use Rattle.pips_top.proofs.Programs.{Linked, all_tables, linked_from, parsed_from, is_program}
 
 -- ---- what was read
@@ -44,21 +41,11 @@ is_read text p e =
     let f = parsed_from text p e in
     of_parts text f.1 p (record { lines = f.0; lined = f.2; parsed = f.3 }) (linked_from f.1 p f.4)
 
--- ---- its names
-
-formed : (m : ParsedTree) → IsBuilt m → IsFormed m
-formed m b = each-map (Held AnyLabel IsPhrase) (λ (c : Card). IsPhrase c.phrase) (statements_of m.module_read) (λ c h. h.1) b.formed
-
-known_shown : NamesAreShown → (ms : List ParsedTree) (ts : List (List SymbolTree)) → Each IsBuilt ms → AreTables ms ts → Each KnownShown (known_of ms ts)
-known_shown law [] ts b h = tt
-known_shown law (m ∷ ms) [] b h = tt
-known_shown law (m ∷ ms) (t ∷ ts) b h = record { first = law m t b.first.well (formed m b.first) h.0; others = known_shown law ms ts b.others h.1 }
-
 -- ---- what is written
 
-text_same : (g : Graph) (all : List Analysis) (ms : List ParsedTree) → modules_text g all ms ≡ back.modules_text (λ m. lines_for g all m.module_read.name) ms
-text_same g all [] = refl
-text_same g all (m ∷ ms) = ap (λ rest. parsed_text g all m ++ rest) (text_same g all ms)
+text_same : (all : List ModuleRegions) (ms : List ParsedTree) → modules_text all ms ≡ back.modules_text (λ m. lines_for all m.module_read.name) ms
+text_same all [] = refl
+text_same all (m ∷ ms) = ap (λ rest. parsed_text all m ++ rest) (text_same all ms)
 
 -- ---- what is read of it
 
@@ -78,15 +65,15 @@ unfolding reading
 reading_is text ms ts g is =
     ap (λ r. and_then (and_then (lines_or r) parse_of) program_of) is.read.lined ∙ ap (λ r. and_then r program_of) is.read.parsed ∙ program_is ms ts g is.tabled is.linked
 
-pub back_from : ProgramsReadBack → LinesArePassedOver → AllRegionLinesPass → NamesAreShown → ReadWrittenBack
-back_from programs lines on_regions names show bytes p e =
+pub back_from : ProgramsReadBack → LinesArePassedOver → AllRegionLinesPass → NamesAreShown → BlocksHaveAChain → ReadWrittenBack
+back_from programs lines on_regions names blocks show bytes p e =
     let is = is_read bytes p e in
-    let known = known_shown names p.modules p.tables (all_built is.read.lines p.modules is.read.parsed) is.tabled in
+    let i = is_program bytes p e in
+    let shown = modules_shown names blocks p.modules p.tables (all_built i.lines p.modules i.parsed) i.tables in
     let all = said_of show p in
-    let passes = said_passes on_regions show p (is_program bytes p e).tables known in
-    let b = programs bytes p.modules p.tables p.graph (λ m. lines_for p.graph all m.module_read.name) is (all_over lines p.graph all passes p.modules) in
+    let b = programs bytes p.modules p.tables p.graph (λ m. lines_for all m.module_read.name) is (all_over lines all (all_said on_regions show p i.tables shown) p.modules) in
     let q : ProgramTree = record { modules = b.again; tables = p.tables; graph = p.graph } in (
       q,
-      ap reading (text_same p.graph all p.modules) ∙ reading_is (back.modules_text (λ m. lines_for p.graph all m.module_read.name) p.modules) b.again p.tables p.graph b.program,
+      ap reading (text_same all p.modules) ∙ reading_is (back.modules_text (λ m. lines_for all m.module_read.name) p.modules) b.again p.tables p.graph b.program,
       record { modules = b.same; tables = refl; graph = refl },
     )

@@ -2,18 +2,17 @@
 use Rattle.std.specs.Prelude.{ℕ, List, [], ◌∷◌, ◌++◌}
 use Rattle.f77_ast.specs.DeclTrees.{ParsedTree}
 use Rattle.f77_printer.specs.ModuleText.{module_text}
-use Rattle.call_graph.specs.declared.graph.Graph.{Graph}
-use Rattle.scalar_phases.specs.Phases.{Analysis}
+use Rattle.region_phases.specs.Phases.{ModuleRegions}
 use Rattle.pips_top.specs.Claimed.{said_of, lines_for}
 use Rattle.pips_top.specs.Program.{ProgramTree}
 use Rattle.pips_top.specs.declared.words.Show.{Show}
 
-abbrev pub parsed_text : Graph → List Analysis → ParsedTree → List ℕ
-parsed_text g as' m = module_text m.places m.module_read (lines_for g as' m.module_read.name)
+abbrev pub parsed_text : List ModuleRegions → ParsedTree → List ℕ
+parsed_text fs m = module_text m.places m.module_read (lines_for fs m.module_read.name)
 
-abbrev pub modules_text : Graph → List Analysis → List ParsedTree → List ℕ
-modules_text g as' [] = []
-modules_text g as' (m ∷ ms) = parsed_text g as' m ++ modules_text g as' ms
+abbrev pub modules_text : List ModuleRegions → List ParsedTree → List ℕ
+modules_text fs [] = []
+modules_text fs (m ∷ ms) = parsed_text fs m ++ modules_text fs ms
 
 abbrev pub written : Show → ProgramTree → List ℕ
-written show p = modules_text p.graph (said_of show p) p.modules
+written show p = modules_text (said_of show p) p.modules

@@ -2,6 +2,7 @@
 ghost use Rattle.pips_top.specs.Laws.{ReadAllSaid, ReadClaimsHold, ReadLinesMean, ReadWrittenBack};
 
 use laws_analyses::{analyses_are_whole, read_analyses_hold};
+use laws_layout::blocks_have_a_chain;
 use laws_lines::{analyses_are_read_back, names_are_words};
 use laws_region_lines::{
     all_region_lines_pass, region_lines_mean_regions, regions_are_over_places,
@@ -9,15 +10,14 @@ use laws_region_lines::{
 use laws_regions::read_regions_hold;
 use roundtrip_programs::{lines_are_passed_over, names_are_shown, programs_read_back};
 
-/// What is said of a program that was read holds in every run of it, up to its end or its first fault: on scalars, and on regions of modules
-/// without CALLs, whose systems name subscripts and analysed scalars alone.
+/// What is said of a program that was read holds in every run of it, up to its end or its first fault: on scalars, and on regions, whose
+/// systems name subscripts and analysed scalars alone.
 pub fn claims_hold()
     ensures { ReadClaimsHold }
 {
     read_analyses_hold();
     read_regions_hold();
     regions_are_over_places();
-    analyses_are_whole();
 }
 
 /// Each module of a program that was read has one analysis, each of its statements a precondition and a transformer.
@@ -34,6 +34,7 @@ pub fn lines_mean_results()
     analyses_are_whole();
     analyses_are_read_back();
     names_are_words();
+    blocks_have_a_chain();
     region_lines_mean_regions();
 }
 
@@ -45,4 +46,5 @@ pub fn written_reads_back()
     lines_are_passed_over();
     all_region_lines_pass();
     names_are_shown();
+    blocks_have_a_chain();
 }

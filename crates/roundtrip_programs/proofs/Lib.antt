@@ -14,8 +14,8 @@ mod Symbols
 mod Tables
 mod Graphs
 mod Shown
-mod Names
+pub mod Names
 mod Named
-mod Body
+pub mod Body
 mod Listed
 mod Back

@@ -1,0 +1,12 @@
+use Rattle.std.proofs.Common.{◌≡◌, ◌++◌, drop}
+use Rattle.f77_ast.specs.Plain.{expr_trees}
+use Rattle.call_translation.specs.Scopes.{scope_tree}
+use Rattle.region_sets.specs.Sets.{SetFits}
+use Rattle.array_regions.specs.Calls.{actuals_reads}
+use Rattle.array_regions.proofs.reads.push_actuals_reads.Given as goal
+
+abbrev pub invariant-loop-e : goal.invariant-loop-e
+invariant-loop-e l = record {
+  same : l.out ++ actuals_reads (expr_trees (drop l.e-index l.e-items)) (scope_tree l.scope.symbols.now l.scope.tracked.now) ≡ l.fn.out ++ actuals_reads (expr_trees l.e-items) (scope_tree l.scope.symbols.now l.scope.tracked.now);
+  fits : SetFits l.out;
+}

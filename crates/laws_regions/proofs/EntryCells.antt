@@ -1,0 +1,60 @@
+-- The cells of a module that its callers know are variables.
+use Rattle.std.proofs.Common.{◌≡◌, ℕ, List, Option, Some, None, Bool, true, false, ap, ◌∙◌, sym, refl}
+use Rattle.std.specs.Prelude.{if◌then◌else◌}
+use Rattle.std.proofs.lemmas.Bool.{and_parts}
+use Rattle.f77_ast.specs.Places.{Meant, Variable, Function}
+use Rattle.f77_ast.specs.Places as meant
+use Rattle.f77_constants.specs.declared.constant.Constant.{Constant}
+use Rattle.f77_symbols.specs.declared.symbol.Place.{Place}
+use Rattle.f77_symbols.specs.declared.symbol.Place.TheVariants as place
+use Rattle.f77_ast.specs.declared.decl.Scalar.{Scalar}
+use Rattle.f77_symbols.specs.declared.variable.Unit.{Unit as BlockUnit}
+use Rattle.f77_symbols.specs.Symbols.{SymbolTree, number_from, value_in}
+use Rattle.tracked_cells.specs.Standing.{is_int_scalar}
+use Rattle.f77_meaning.specs.Modules.{symbol_names, meant_by, is_function, meant_at, meant_in, names}
+use Rattle.affine_forms.specs.Scalars.{is_cell, if_cell, cell_in}
+use Rattle.affine_forms.specs.Claims.{Agrees, content_of}
+use Rattle.region_translation.specs.Sides.{is_entry_place, is_entry_cell, entry_cells}
+use Rattle.array_regions.specs.Calls.{scope_with}
+use Rattle.laws_analyses.proofs.AgreeLaws.{flagged}
+
+record CellOf (ss : List SymbolTree) (flags : List Bool) (x : List ℕ) (n : ℕ) : Type 0 where
+  number : number_from 1 (symbol_names ss) x ≡ Some n
+  flag : is_cell flags n ≡ true
+
+cell_of : (ss : List SymbolTree) (flags : List Bool) (x : List ℕ) (n : ℕ) → cell_in (symbol_names ss) flags x ≡ Some n → CellOf ss flags x n
+cell_of ss flags x n h = go (number_from 1 (symbol_names ss) x) refl h
+  where
+    flagged_so : (m : ℕ) (b : Bool) → number_from 1 (symbol_names ss) x ≡ Some m → is_cell flags m ≡ b → (if b then Some m else None) ≡ Some n → CellOf ss flags x n
+    flagged_so m true q f k = let same : m ≡ n = cc in record { number = q ∙ ap Some same; flag = ap (is_cell flags) (sym same) ∙ f }
+    flagged_so m false q f k = cc
+
+    go : (o : Option ℕ) → number_from 1 (symbol_names ss) x ≡ o → if_cell flags o ≡ Some n → CellOf ss flags x n
+    go None q k = cc
+    go (Some m) q k = flagged_so m (is_cell flags m) q refl k
+
+place_meant : (u : List BlockUnit) (t : Scalar) (n : ℕ) (q : Place) → is_entry_place u q ≡ true → meant_by t n q ≡ Variable n
+place_meant u t n (place.Local g o) h = cc
+place_meant u t n (place.Dummy d) h = refl
+place_meant u t n (place.Block b o) h = refl
+place_meant u t n (place.Constant k) h = cc
+
+unless_function : (b : Bool) (m w : Meant) → w ≡ (if b then Function else m) → (w ≡ Function → ⊥) → w ≡ m
+unless_function true m w h f = absurd (f h)
+unless_function false m w h f = h
+
+module _ (u : List BlockUnit) (ss : List SymbolTree) where
+  cell_named : (x : List ℕ) (n : ℕ) → cell_in (symbol_names ss) (entry_cells u ss) x ≡ Some n → (names ss x ≡ Function → ⊥) → names ss x ≡ Variable n
+  cell_named x n h f =
+      let c = cell_of ss (entry_cells u ss) x n h in
+      let s = flagged (is_entry_cell u) ss n c.flag in
+      let a = (and_parts (is_int_scalar s.symbol) (is_entry_place u s.symbol.place) s.flag).1 in
+      let means : names ss x ≡ meant_at n (Some s.symbol) = ap (meant_in ss) c.number ∙ ap (meant_at n) s.is_symbol in
+      unless_function (is_function s.symbol) (meant_by s.symbol.scalar n s.symbol.place) (names ss x) means f
+      ∙ place_meant u s.symbol.scalar n s.symbol.place a
+
+  pub entry_agree : ((x : List ℕ) (c : Constant) → value_in ss x ≡ Some c → (names ss x ≡ Function → ⊥) → names ss x ≡ meant.Constant (content_of c)) → Agrees (names ss) (scope_with ss (entry_cells u ss)).scalars (is_cell (entry_cells u ss))
+  entry_agree constants = record {
+    constants = constants;
+    cells = λ x n h. (λ f. cell_named x n h f, (cell_of ss (entry_cells u ss) x n h).flag);
+  }

@@ -1,0 +1,12 @@
+pub mod Steps
+pub mod PositionSteps
+pub mod PutSteps
+pub mod PutLaws
+pub mod NamingLaws
+pub mod PieceLaws
+pub mod RegionLaws
+pub mod FormLaws
+pub mod ArrayLaws
+pub mod ElementLaws
+pub mod PositionLaws
+pub mod LinkLaws

@@ -1,0 +1,73 @@
+-- The names that stand for the variables of the callee, and the variables that rows have.
+use Rattle.std.proofs.Common.{◌≡◌, ℕ, suc, ◌+◌, ◌-◌, ◌<◌, List, [], ◌∷◌, ◌||◌, Bool, true, false, refl, sym, ap, subst, arith, nat_lt, ◌⊎◌, inl, inr}
+use Rattle.std.specs.Prelude.{if◌then◌else◌}
+use Rattle.std.proofs.lemmas.Bool.{or_parts, and_parts}
+use Rattle.std.proofs.lemmas.Bool.Decides.{nat_tests}
+use Rattle.affine_systems.specs.declared.row.Var.{Var}
+use Rattle.affine_systems.specs.declared.row.Term.{Term}
+use Rattle.affine_systems.specs.declared.row.Row.{Row}
+use Rattle.affine_systems.specs.Terms.{var_eq}
+use Rattle.affine_systems.specs.Points.{only}
+use Rattle.affine_systems.proofs.TermLaws.{var_eq-true, true-var_eq}
+use Rattle.affine_systems.proofs.LackLaws.{RowsNil}
+use Rattle.hull_projection.specs.Variables.{row_vars}
+use Rattle.hull_projection.specs.Laws.{IsOneOf}
+use Rattle.hull_projection.proofs.VarLaws.{TermsIn, RowsIn, rows_covered}
+use Rattle.system_renaming.specs.Renaming.{renamed_by}
+use Rattle.transformer_algebra.proofs.CellLaws.{clashes}
+use Rattle.region_sets.specs.Naming.{in_terms, in_rows}
+use Rattle.region_sets.proofs.NilLaws.{off_terms}
+use Rattle.region_translation.specs.Pieces.{standing, names_of, is_own, are_own}
+
+-- ---- variables of rows
+
+terms_has : (v : Var) (xs : List Var) (ts : List Term) → TermsIn xs ts → in_terms v ts ≡ true → IsOneOf v xs
+terms_has v xs [] h e = clashes false e refl
+terms_has v xs (t ∷ ts) h e = go (var_eq v t.var) refl e (λ f. terms_has v xs ts h.1 f)
+  where
+    go : (b : Bool) → var_eq v t.var ≡ b → (b || in_terms v ts) ≡ true → (in_terms v ts ≡ true → IsOneOf v xs) → IsOneOf v xs
+    go true k f ih = subst (λ w. IsOneOf w xs) (sym (var_eq-true v t.var k)) h.0
+    go false k f ih = ih f
+
+rows_has : (v : Var) (xs : List Var) (rs : List Row) → RowsIn xs rs → in_rows v rs ≡ true → IsOneOf v xs
+rows_has v xs [] h e = clashes false e refl
+rows_has v xs (r ∷ rs) h e = go (in_terms v r.terms) refl e (λ f. rows_has v xs rs h.1 f)
+  where
+    go : (b : Bool) → in_terms v r.terms ≡ b → (b || in_rows v rs) ≡ true → (in_rows v rs ≡ true → IsOneOf v xs) → IsOneOf v xs
+    go true k f ih = terms_has v xs r.terms h.0 k
+    go false k f ih = ih f
+
+pub is_row_var : (v : Var) (rs : List Row) → in_rows v rs ≡ true → IsOneOf v (row_vars rs)
+is_row_var v rs e = rows_has v (row_vars rs) rs (rows_covered [] rs) e
+
+pub off_rows : (v : Var) (rs : List Row) → in_rows v rs ≡ false → RowsNil (only v) rs
+off_rows v [] e = tt
+off_rows v (r ∷ rs) e = let k = or_parts (in_terms v r.terms) (in_rows v rs) e in (off_terms v r.terms k.0, off_rows v rs k.1)
+
+-- ---- names
+
+-- a variable of a list has the name that stands for it
+pub name_is : (moved : Bool) (r : ℕ) (vs : List Var) (v : Var) → IsOneOf v vs → renamed_by (names_of moved r vs) v ≡ standing moved r v
+name_is moved r [] v h = absurd h
+name_is moved r (w ∷ vs) v h = go (var_eq v w) refl (λ i. name_is moved r vs v i)
+  where
+    rest : var_eq v w ≡ false → (v ≡ w) ⊎ IsOneOf v vs → IsOneOf v vs
+    rest k (inl e) = clashes (var_eq v w) (true-var_eq v w e) k
+    rest k (inr i) = i
+
+    go : (b : Bool) → var_eq v w ≡ b → (IsOneOf v vs → renamed_by (names_of moved r vs) v ≡ standing moved r v) → (if b then standing moved r w else renamed_by (names_of moved r vs) v) ≡ standing moved r v
+    go true k ih = ap (standing moved r) (sym (var_eq-true v w k))
+    go false k ih = ih (rest k h)
+
+pub one_own : (moved : Bool) (r : ℕ) (vs : List Var) (v : Var) → are_own moved r vs ≡ true → IsOneOf v vs → is_own moved r v ≡ true
+one_own moved r [] v e h = absurd h
+one_own moved r (w ∷ vs) v e (inl k) = subst (λ z. is_own moved r z ≡ true) (sym k) (and_parts (is_own moved r w) (are_own moved r vs) e).0
+one_own moved r (w ∷ vs) v e (inr i) = one_own moved r vs v (and_parts (is_own moved r w) (are_own moved r vs) e).1 i
+
+-- ---- numbers of names
+
+pub behind : (r n : ℕ) → nat_lt r (suc r + n) ≡ true
+behind r n = let h : r < suc r + n = omega arith in grind (arith, nat_tests)
+
+pub back_again : (r n : ℕ) → ((suc r + n) - r) - 1 ≡ n
+back_again r n = omega arith

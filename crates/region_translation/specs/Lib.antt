@@ -1,0 +1,10 @@
+pub mod Sides
+pub mod Rows
+pub mod Forms
+pub mod Cells
+pub mod Positions
+pub mod Links
+pub mod Pieces
+pub mod Caller
+pub mod Claims
+pub mod Laws
