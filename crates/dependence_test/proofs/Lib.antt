@@ -1,0 +1,6 @@
+pub mod Steps
+pub mod VariableLaws
+pub mod OrderLaws
+pub mod RangeLaws
+pub mod PairLaws
+pub mod ConflictLaws

@@ -1,0 +1,4 @@
+pub mod Same
+pub mod Finding
+pub mod Body
+pub mod Given
