@@ -1,18 +1,21 @@
 #!/usr/bin/env python3
 """Makes the cases of crates/cases_programs: its `stdin`, and its `stdout` by the answers of the reference.
 
-    python3 bench/cases_programs.py [FIRST LAST FOLDER]
+    python3 bench/cases_programs.py [KIND FIRST LAST FOLDER]
 
 What the programs by hand say of their answers, and what follows for pairs of faults, must stand in them, or it stops. Of the effects and the analyses of
-tracked cells and array regions programs that are refused are left out. With numbers the random programs of array regions are those of these seeds, and their
-cases alone are written to a folder.
+tracked cells, array regions and loops programs that are refused are left out. With a kind, `regions`, `in` or `loops`, the random programs are those of these
+seeds, and their cases alone are written to a folder.
 """
 import os
 import sys
 from collections import Counter
+from types import SimpleNamespace
 
 from effect_programs import effect_programs
 from graph_programs import graph_programs
+from in_programs import in_programs
+from loop_programs import loop_programs
 from reference import load, write_cases
 from region_programs import region_programs
 from scalar_programs import scalar_programs
@@ -21,10 +24,14 @@ from storage_programs import BY_HAND, in_pairs, random_programs, text_of as stor
 EFFECTS = 600
 # the size of what is stored of the analyses of tracked cells
 SCALARS = 140_000
-# and of array regions
+# of array regions
 REGIONS = 500_000
+# of what is read before it is written
+INS = 250_000
+# and of the conflicts of loops
+LOOPS = 240_000
 
-layout, model, pipeline, printer, read, reader, regions, scalars = map(load, ['layout', 'model', 'pipeline', 'printer', 'read', 'reader', 'regions', 'scalars'])
+layout, loops, model, pipeline, printer, read, reader, regions, scalars = map(load, ['layout', 'loops', 'model', 'pipeline', 'printer', 'read', 'reader', 'regions', 'scalars'])
 
 
 # ---- texts
@@ -176,6 +183,55 @@ def region_lines(text):
         yield from region_module_lines(views[name], sets)
 
 
+def with_ins(text):
+    """Of each module, callees first, its view, what is found of its scalars, its READ and WRITE regions, and its IN regions."""
+    program = read.read(text)
+    views, found, known, known_ins = pipeline.views(program), pipeline.analyse_scalars(program), {}, {}
+    for name in program.graph.order:
+        view, own = views[name], found[name]['transformers']
+        sets = regions.regions(view, own, known)
+        ins = regions.in_regions(view, own, sets, known_ins)
+        known[name], known_ins[name] = (view.symbols, sets.summary), (view.symbols, ins.summary)
+        yield view, found[name], sets, ins
+
+
+def in_lines(text):
+    for view, _, _, ins in with_ins(text):
+        yield from region_module_lines(view, ins)
+
+
+# ---- conflicts of loops
+
+def conflict_line(known, number, variable, kinds):
+    answer = loops.conflict(known, number, variable, kinds)
+    return ' -' if answer == ('None',) else f' {rows(known.view.symbols, answer[1])}'
+
+
+def private_word(known, number, variable, outs):
+    """Whether it may be private where these regions stand for OUT of the DO: the first answer that is not Yes, of their READ and their WRITE."""
+    def answer(kind):
+        out = [regions.changed_region(r, kind='OUT') for r in outs if r.kind == kind]
+        return loops.may_be_private(SimpleNamespace(**vars(known), outs=SimpleNamespace(at={number: out})), number, variable)
+    return next((word for word in map(answer, ('READ', 'WRITE')) if word != 'Yes'), 'Yes').lower()
+
+
+def loop_answers(known, number):
+    """Of each variable that the body of a DO writes."""
+    for r in loops.body_writes(known, number):
+        private = ' '.join(private_word(known, number, r.variable, outs) for outs in ([], known.regions.at[number]))
+        yield f'{number} {scalars.variable_text(known.view.symbols, r.variable)} {private}'
+        yield from (conflict_line(known, number, r.variable, kinds) for kinds in loops.KINDS)
+
+
+def loop_lines(text):
+    for view, found, sets, ins in with_ins(text):
+        yield f'module {view.module.name}'
+        known = SimpleNamespace(view=view, regions=sets, ins=ins, **found)
+        for stmt in scalars.all_in(view.module.body):
+            if stmt.what[0] == 'Do':
+                yield from loop_answers(known, stmt.id)
+
+
 # ---- cases
 
 class Cases:
@@ -224,17 +280,28 @@ class Cases:
             statements, want = next(programs)
             size += self.add_accepted('scalars', statements, scalar_lines, want)
 
-    def add_regions(self, seeds, most):
+    def add_up_to(self, most, kind, programs, answer):
+        """Programs of a kind, until they and their answers have that size."""
         size = 0
-        for statements, want in region_programs(seeds):
-            size += self.add_accepted('regions', statements, region_lines, want)
+        for statements, want in programs:
+            size += self.add_accepted(kind, statements, answer, want)
             if size >= most:
                 break
 
+    def add_regions(self, seeds, most):
+        self.add_up_to(most, 'regions', region_programs(seeds), region_lines)
 
-def write_regions(first, last, folder):
+    def add_ins(self, seeds, most):
+        self.add_up_to(most, 'in', in_programs(seeds), in_lines)
+
+    def add_loops(self, seeds, most):
+        self.add_up_to(most, 'loops', loop_programs(seeds), loop_lines)
+
+
+def write_kind(kind, first, last, folder):
     cases = Cases()
-    cases.add_regions(range(first, last), 1 << 30)
+    add = {'regions': cases.add_regions, 'in': cases.add_ins, 'loops': cases.add_loops}[kind]
+    add(range(first, last), 1 << 30)
     for name, texts in (('stdin', cases.given), ('stdout', cases.wanted)):
         with open(os.path.join(folder, name), 'wb') as file:
             file.write(''.join(texts).encode('latin-1'))
@@ -244,7 +311,7 @@ def write_regions(first, last, folder):
 def main():
     sys.setrecursionlimit(1_000_000)
     if len(sys.argv) > 1:
-        write_regions(int(sys.argv[1]), int(sys.argv[2]), sys.argv[3])
+        write_kind(sys.argv[1], int(sys.argv[2]), int(sys.argv[3]), sys.argv[4])
         return
     cases = Cases()
     cases.add_storage()
@@ -252,6 +319,8 @@ def main():
     cases.add_effects()
     cases.add_scalars()
     cases.add_regions(range(1_000), REGIONS)
+    cases.add_ins(range(1_000), INS)
+    cases.add_loops(range(1_000, 2_000), LOOPS)
     write_cases('cases_programs', cases.given, cases.wanted)
     counts = Counter(kind.split()[0] for kind in cases.counts.elements())
     print(dict(counts), sum(map(len, cases.given)), sum(map(len, cases.wanted)))

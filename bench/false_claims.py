@@ -6,8 +6,8 @@
 COUNT programs of each of the profiles small, loops and jumps of reference/programs.py, which have one module each. COMMAND, the built program where none is given, reads each from its standard input. Its text has to be that of the
 reference, byte by byte: then the preconditions, transformers and regions in it are those that the reference finds, and its search (reference/soundness.py) looks for a run, on a few inputs, in which one of them is false.
 
-READ and WRITE regions are tried on runs without a fault, preconditions on all. Prints each claim that is false, and how much was tried. A program that takes longer than a minute is given up.
-To try the script itself: python3 bench/false_claims.py 3 python3 reference/pips.py --stage regions
+READ, WRITE and IN regions are tried on runs without a fault, preconditions on all. Prints each claim that is false, and how much was tried. A program that takes longer than a minute is given up.
+To try the script itself: python3 bench/false_claims.py 3 sh -c 'python3 reference/pips.py --stage in-out | grep -v "^C> OUT"'
 """
 import collections
 import re
@@ -19,7 +19,7 @@ import reference
 from measure import binary_of
 
 PROFILES = ('small', 'loops', 'jumps')
-REGION = re.compile(r'^C> (READ|WRITE) \S+ \{.*\} (EXACT|MAY)(?: WEAK)?$', re.M)
+REGION = re.compile(r'^C> (READ|WRITE|IN) \S+ \{.*\} (EXACT|MAY)(?: WEAK)?$', re.M)
 
 
 def written(command, text):
@@ -57,7 +57,7 @@ def false_claim(soundness, text, inputs):
 def figures(found, lines, counts):
     yield f'{found["programs"]} programs, {found["refused"]} refused, {found["given up"]} given up; {found["differ"]} texts differ from the reference'
     yield f'{sum(lines.values())} lines of regions: ' + ', '.join(f'{lines[kind]} {kind}' for kind in sorted(lines))
-    yield f'{counts["runs"]} runs, {counts["without a fault"]} of them without a fault, {counts["precondition"]} executions; {counts["EXACT READ"] + counts["EXACT WRITE"]} times an exact region was looked at'
+    yield f'{counts["runs"]} runs, {counts["without a fault"]} of them without a fault, {counts["precondition"]} executions; {sum(counts[f"EXACT {kind}"] for kind in ("READ", "WRITE", "IN"))} times an exact region was looked at'
     yield f'{found["false"]} programs with a false claim'
 
 

@@ -87,15 +87,14 @@ def stored(name):
 
 def write_answers(parts):
     """The reference stands beside the tests, and no other mode needs it."""
-    from reference import STAGE, as_bytes, load
-    answer = load('pips').answer
+    from reference import run
     for case in all_cases():
         if parts and not any(part in case.wanted for part in parts):
             continue
-        status, out, err, _ = answer(case.words.decode().split(), {'p.f': case.program}, STAGE)
+        status, out, err = run(case.words.decode().split(), {'p.f': case.program})
         if (status != 0) != case.wanted.endswith('.err'):
             sys.exit(f'{case.wanted}: status {status}')
-        write(case.wanted, as_bytes(err if status else out))
+        write(case.wanted, err if status else out)
 
 
 def main(words):

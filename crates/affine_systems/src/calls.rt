@@ -5,18 +5,16 @@ ghost use Rattle.affine_systems.specs.Terms.{renamed_terms as renamed_terms_is};
 ghost use Rattle.affine_systems.specs.Points.{factor_of as factor_is};
 ghost use Rattle.affine_systems.specs.Normal.{normal, TooBig};
 ghost use Rattle.affine_systems.specs.Tidy.{tidy as tidy_is, is_unit, by_row};
-ghost use Rattle.affine_systems.specs.Eliminate.{eliminate as eliminate_is};
 ghost use Rattle.affine_systems.specs.Calls.{one_by, push_row as push_row_is, meet as meet_is, rename as rename_is, unless_too_big as unless_too_big_is, substitute as substitute_is};
 ghost use Rattle.affine_systems.specs.Given.{AreSmall, IsSmallRow, IsGiven, IsNormal, Fits};
-ghost use Rattle.affine_systems.specs.Laws.{KeepsPoints, AddsNoPoint, KeepsCommonPoints, AddsNoCommonPoint, RenamesPoints, RenamesNoPointMore, SaysTheSame, ProjectsPoints, ExtendsPoints, Lacks};
+ghost use Rattle.affine_systems.specs.Laws.{KeepsPoints, AddsNoPoint, KeepsCommonPoints, AddsNoCommonPoint, RenamesPoints, RenamesNoPointMore, SaysTheSame};
 
-use crate::elimination::eliminate_item;
 use crate::false_rows::copy_row;
 use crate::normal::normalise;
 use crate::rows::cancel;
-use crate::systems::{copy_rows, items_of, rows_of, tidy_rows};
+use crate::systems::{copy_rows, tidy_rows};
 use crate::terms::{combination, factor_of};
-use crate::{Elim, Norm, Row, System, Term, Terms, Var};
+use crate::{Norm, Row, System, Term, Terms, Var};
 use fx_lists::List;
 use std::alloc::{AllocError as Memory, Global};
 
@@ -146,26 +144,4 @@ pub fn substitute(alloc: Global, row: &Row, var: Var, by: &Row) -> Result<Option
 {
     let new = cancel(alloc, row, var, by)?;
     Ok(unless_too_big(new))
-}
-
-/// The projection of a system that removes one variable: by an equal row with it, else by Fourier-Motzkin pairs, which
-/// are as many as the lower rows times the upper ones. No point is lost.
-pub fn eliminate(alloc: Global, sys: &System, var: Var) -> Result<Elim, Memory>
-    requires fits { Fits sys.now }
-    ensures defined { IfOk result (λ e. e ≡ eliminate_is sys.now var) }
-    ensures fits { IfOk result (λ e. Fits e.system) }
-    ensures gone { IfOk result (λ e. Lacks var e.system.rows) }
-    ensures sound { IfOk result (ProjectsPoints sys.now var) }
-    ensures exact { IfOk result (ExtendsPoints sys.now var) }
-{
-    let rows = copy_rows(alloc, sys.rows.as_slice())?;
-    let items = items_of(alloc, rows)?;
-    let e = eliminate_item(alloc, false, var, items)?;
-    Ok(Elim {
-        system: System {
-            rows: rows_of(alloc, e.items)?,
-            weak: sys.weak || e.lost,
-        },
-        exact: e.exact,
-    })
 }

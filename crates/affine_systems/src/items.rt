@@ -1,11 +1,16 @@
 //! Rows with their originals, as elimination carries them.
 
 use crate::Row;
-pub use crate::elimination::eliminate_item;
-pub use crate::false_rows::{any_false, copy_item, copy_row};
-pub use crate::lone::without_lone;
+pub use crate::facing::total;
+pub use crate::false_rows::{any_false, copy_item, copy_row, false_item, next_made};
+pub use crate::normal::normalise_as;
+pub use crate::order::{are_opposite, has_same_shape, shape_order};
+pub use crate::pivots::{cancel_all, find_pivot, is_unit};
+pub use crate::places::{Places, may_face, place, sides};
+pub use crate::rows::{combine, factor, occurs};
+pub use crate::sorting::rises_at;
 pub use crate::systems::{copy_rows, items_of, rows_of, tidy_rows};
-pub use crate::tidying::tidy_items;
+pub use crate::tidying::{ROWS, cut_form, tidy_form, tidy_items};
 use fx_lists::List;
 
 /// A set of numbers below 512: the original rows from which a row is derived. Bit b of word w is the number 128 w + b.

@@ -1,15 +1,11 @@
-//! Rows over whole numbers: normal form, tidying, elimination, and what these keep of the integer points.
+//! Rows over whole numbers: normal form, tidying, and what these keep of the integer points.
 #![tactic(auto)]
 
 mod calls;
-mod closed;
-mod elimination;
 mod facing;
 mod false_rows;
-mod lone;
 mod normal;
 mod order;
-mod pairing;
 mod pivots;
 mod places;
 mod row;
@@ -19,7 +15,7 @@ mod systems;
 pub mod terms;
 mod tidying;
 
-pub use calls::{eliminate, meet, push_row, rename, substitute, tidy};
+pub use calls::{meet, push_row, rename, substitute, tidy};
 pub use normal::normalise;
 pub use row::{Elim, Norm, Row, Rows, System, Term, Terms, Var, Vars};
 

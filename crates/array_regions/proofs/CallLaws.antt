@@ -10,7 +10,7 @@ use Rattle.affine_forms.specs.Scalars.{cell_in}
 use Rattle.call_translation.specs.Scopes.{ScopeTree, scope_tree}
 use Rattle.region_sets.specs.declared.region.Region.{Region}
 use Rattle.region_sets.specs.Sets.{SetFits}
-use Rattle.region_translation.specs.Sides.{SidesTree, entry_cells}
+use Rattle.call_equations.specs.Sides.{SidesTree, entry_cells}
 use Rattle.array_regions.specs.Calls.{Callees, SummaryFits, CalleesFit, scope_with, sides, all_in_caller, summary_in_caller}
 
 names-same : (ss : List Symbol) → names_of ss ≡ map (λ s. s.name) (map symbol_tree ss)

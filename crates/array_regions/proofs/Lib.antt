@@ -3,5 +3,4 @@ pub mod NameLaws
 pub mod StatementLaws
 pub mod CallLaws
 pub mod ModuleLaws
-pub mod AloneLaws
 pub mod Exact

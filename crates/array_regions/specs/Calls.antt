@@ -10,7 +10,7 @@ use Rattle.affine_forms.specs.Scalars.{cell_in}
 use Rattle.call_translation.specs.Scopes.{ScopeTree}
 use Rattle.region_sets.specs.declared.region.Region.{Region}
 use Rattle.region_sets.specs.Sets.{SetFits, unite_all}
-use Rattle.region_translation.specs.Sides.{SidesTree, entry_cells}
+use Rattle.call_equations.specs.Sides.{SidesTree, entry_cells}
 use Rattle.region_translation.specs.Caller.{to_caller}
 use Rattle.array_regions.specs.Reads.{reads, inner_reads}
 

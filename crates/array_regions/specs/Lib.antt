@@ -9,5 +9,4 @@ pub mod Known
 pub mod Statement
 pub mod Entry
 pub mod Modules
-pub mod Alone
 pub mod Laws

@@ -8,7 +8,7 @@ use Rattle.transformer_algebra.specs.declared.transformer.Transformer.{Transform
 use Rattle.call_translation.specs.Scopes.{ScopeTree}
 use Rattle.transformers.specs.Lists.{transformer_at}
 use Rattle.region_sets.specs.declared.region.Region.{Region}
-use Rattle.region_translation.specs.Sides.{changed_cells}
+use Rattle.call_equations.specs.Sides.{changed_cells}
 use Rattle.array_regions.specs.Loops.{Found}
 use Rattle.array_regions.specs.Calls.{Called, Callees, call_set}
 use Rattle.array_regions.specs.Statement.{list_set, at_list}

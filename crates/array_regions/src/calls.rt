@@ -5,23 +5,24 @@ ghost use Rattle.f77_results.specs.Summaries.{summary_in};
 ghost use Rattle.f77_symbols.specs.Symbols.{symbol_tree};
 ghost use Rattle.region_sets.specs.Regions.{RegionFits};
 ghost use Rattle.region_sets.specs.Sets.{SetFits};
-ghost use Rattle.region_translation.specs.Sides.{sides_tree};
+ghost use Rattle.call_equations.specs.Sides.{sides_tree};
 ghost use Rattle.array_regions.specs.Calls.{sides, all_in_caller, summary_in_caller};
 ghost use Rattle.array_regions.specs.Known.{scope_in, called_in, KnownFits};
 
 use crate::context::RegionContext;
 use crate::reads::push_actuals_reads;
+use call_equations::{CallSides, entry_cells};
 use call_translation::CellScope;
 use f77_ast::Expr;
 use f77_results::Summary;
 use fx_lists::{List, Text};
 use region_sets::{Region, RegionSet, push_region, unite_all};
-use region_translation::{CallSides, entry_cells, to_caller};
+use region_translation::to_caller;
 use std::alloc::{AllocError as Memory, Global};
 
 /// Adds a region, where there is one.
 #[tactic(auto, using(region_sets::proofs::Steps::fitting))]
-fn push_maybe(out: &mut RegionSet, r: Option<Region>) -> Result<(), Memory>
+pub fn push_maybe(out: &mut RegionSet, r: Option<Region>) -> Result<(), Memory>
     requires out { SetFits out.old }
     requires r { IfSome r RegionFits }
     ensures added { OnOk result (out.new ≡ out.old ++ option_to_list r) }
@@ -55,7 +56,7 @@ fn push_in_caller(
 }
 
 /// Adds what the callee of a CALL accesses, in the terms of the caller.
-fn push_callee(
+pub fn push_callee(
     alloc: Global,
     out: &mut RegionSet,
     known: &RegionContext<'_>,

@@ -42,7 +42,7 @@ fn push_bounds_reads(
 
 /// What the bounds of all arrays read.
 #[tactic(auto, using(region_sets::proofs::Steps::fitting))]
-fn entry_reads(alloc: Global, scope: &CellScope<'_>) -> Result<RegionSet, Memory>
+pub fn entry_reads(alloc: Global, scope: &CellScope<'_>) -> Result<RegionSet, Memory>
     ensures defined { IfOk result (λ rs. rs ≡ symbols_reads (map symbol_tree scope.now.symbols.now) (scope_tree scope.now.symbols.now scope.now.tracked.now)) }
     ensures fits { IfOk result SetFits }
 {
@@ -107,7 +107,7 @@ fn locals(alloc: Global, symbols: &Symbols) -> Result<Vec<u32>, Memory>
 
 /// Whether no system names one of the cells.
 #[tactic(auto, using(region_sets::proofs::Steps::fitting))]
-fn names_none(alloc: Global, cells: &[u32], pieces: &[System]) -> Result<bool, Memory>
+pub fn names_none(alloc: Global, cells: &[u32], pieces: &[System]) -> Result<bool, Memory>
     ensures { IfOk result (λ b. b ≡ names_none_is cells.now pieces.now) }
 {
     let mut rest = pieces;
@@ -139,7 +139,7 @@ fn for_callers(alloc: Global, cells: &[u32], r: &Region) -> Result<Region, Memor
 
 /// The regions of a set that callers see, without locals.
 #[tactic(auto, using(region_sets::proofs::Steps::fitting))]
-fn all_seen(alloc: Global, symbols: &Symbols, set: &[Region]) -> Result<RegionSet, Memory>
+pub fn all_seen(alloc: Global, symbols: &Symbols, set: &[Region]) -> Result<RegionSet, Memory>
     requires { SetFits set.now }
     ensures defined { IfOk result (λ rs. rs ≡ seen (map symbol_tree symbols.now) (locals_is (map symbol_tree symbols.now)) set.now) }
     ensures fits { IfOk result SetFits }

@@ -13,6 +13,14 @@ mod references;
 mod simple;
 mod statement;
 
-pub use entry::push_copies;
+pub use arms::{Reached, always, if_false, if_true, push_met, push_tests};
+pub use calls::{push_callee, push_maybe};
+pub use context::RegionContext;
+pub use entry::{all_seen, entry_reads, names_none, push_copies};
 pub use laws::{elements_are_exact, later_parts_are_exact};
+pub use loops::{push_loop_reads, range_of};
 pub use modules::regions;
+pub use reads::{push_actuals_reads, push_inner_reads, push_reads};
+pub use references::{push_named, scalar};
+pub use simple::item_does;
+pub use statement::{put, put_all};

@@ -38,7 +38,7 @@ fn range_with(alloc: Global, parts: LoopParts) -> Result<Range, Memory>
 
 /// What a DO is to the regions of its body.
 #[tactic(auto, using(crate::proofs::Steps::range_parts))]
-fn range_of(
+pub fn range_of(
     alloc: Global,
     scope: &CellScope<'_>,
     l: &Loop,
@@ -55,7 +55,7 @@ fn range_of(
 
 /// Adds what the first and the last value and the step read.
 #[tactic(auto, using(crate::proofs::Steps::loop_values))]
-fn push_loop_reads(
+pub fn push_loop_reads(
     alloc: Global,
     out: &mut RegionSet,
     scope: &CellScope<'_>,

@@ -12,11 +12,11 @@ ghost use Rattle.array_regions.specs.Modules.{regions_with};
 use crate::context::RegionContext;
 use crate::entry::summary_of;
 use crate::statement::list_set;
+use call_equations::changed_cells;
 use call_translation::{CellScope, tracked_of};
 use f77_results::{Results, Summaries, View};
 use fx_lists::List;
 use region_sets::RegionSet;
-use region_translation::changed_cells;
 use std::alloc::{AllocError as Memory, Global};
 use transformer_algebra::Transformer;
 

@@ -11,12 +11,12 @@ ghost use Rattle.array_regions.specs.References.{is_constant as is_constant_is, 
 
 use affine_forms::no_rows;
 use affine_systems::System;
+use call_equations::{all_affine, rows_of};
 use call_translation::CellScope;
 use f77_ast::Expr;
 use f77_symbols::{Bound, Place, Symbols, Variable};
 use fx_lists::{List, Text};
 use region_sets::{Access, Region, RegionSet, push_region};
-use region_translation::{all_affine, rows_of};
 use std::alloc::{AllocError as Memory, Global};
 use system_renaming::of_rows;
 use tracked_cells::has_bounds;

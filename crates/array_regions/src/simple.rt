@@ -50,7 +50,7 @@ pub fn printing(
 }
 
 /// What the READ of one item does to the tracked cells.
-fn item_does(alloc: Global, scope: &CellScope<'_>, item: &Expr) -> Result<Transformer, Memory>
+pub fn item_does(alloc: Global, scope: &CellScope<'_>, item: &Expr) -> Result<Transformer, Memory>
     ensures defined { IfOk result (λ t. t ≡ item_does_is (scope_tree scope.now.symbols.now scope.now.tracked.now) (expr_tree item.now)) }
     ensures fits { IfOk result (λ t. Fits t.system) }
 {

@@ -25,7 +25,7 @@ pub type RegionList = List<At<RegionSet>>;
 
 /// Adds the set of the statement of a number, and those of its parts after it.
 #[tactic(auto, using(crate::proofs::Steps::sets))]
-fn put(
+pub fn put(
     alloc: Global,
     at: &mut RegionList,
     id: StmtId,
@@ -44,7 +44,7 @@ fn put(
 
 /// Adds sets at the end.
 #[tactic(auto, using(crate::proofs::Steps::sets))]
-fn put_all(alloc: Global, at: &mut RegionList, more: RegionList) -> Result<(), Memory>
+pub fn put_all(alloc: Global, at: &mut RegionList, more: RegionList) -> Result<(), Memory>
     requires at { SetsFit at.old }
     requires more { SetsFit more }
     ensures added { OnOk result (at.new ≡ at.old ++ more) }

@@ -1,6 +1,7 @@
 //! The effects of modules and of their statements.
 
-use crate::shown::{name_of, text_of};
+use crate::shown::text_of;
+use crate::variables::add_variable;
 use call_graph::Graph;
 use effects::{cumulated_effects, proper};
 use f77_ast::{Arm, Loop, Parsed, Stmt, What};
@@ -9,30 +10,6 @@ use f77_symbols::Symbols;
 use fx_lists::List;
 use std::alloc::{AllocError as Memory, Global};
 use tracked_cells::Names;
-
-fn add_variable(
-    alloc: Global,
-    shown: &mut String,
-    symbols: &Symbols,
-    v: &Variable,
-) -> Result<(), Memory> {
-    let text = match v {
-        Variable::Own(number) => {
-            let name = name_of(symbols, *number);
-            format!(in alloc; " {name}")?
-        }
-        Variable::Block(block) => {
-            let block = text_of(block);
-            format!(in alloc; " /{block}/")?
-        }
-        Variable::Saved(module, local) => {
-            let module = text_of(module);
-            let local = text_of(local);
-            format!(in alloc; " {module}:{local}")?
-        }
-    };
-    shown.push_str(text.as_str())
-}
 
 fn add_variables(
     alloc: Global,

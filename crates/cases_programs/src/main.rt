@@ -2,17 +2,20 @@
 //!
 //! A line `== KIND` ends each program of standard input: `storage` prints the symbols of each module and the pairs that overlap, `graph` the graph with
 //! the tracked cells of the modules, `effects` the effects of the modules and their statements, `scalars` what these do to tracked cells and what holds
-//! where they begin, and `regions` the READ and WRITE regions of the modules and the lines that are written of them.
+//! where they begin, `regions` the READ and WRITE regions of the modules and the lines that are written of them, `in` the same of their IN regions, and
+//! `loops` the conflicts of the iterations of their loops.
 #![tactic(auto)]
 
 mod case;
 mod effects_of;
 mod graphs;
+mod loops_of;
 mod reading;
 mod regions_of;
 mod scalars;
 mod shown;
 mod storage;
+mod variables;
 
 use fx_lists::Text;
 use std::io::{self, BufRead, BufReader};

@@ -6,6 +6,7 @@ use f77_ast::Parsed;
 use f77_results::{Results, View};
 use f77_symbols::Symbols;
 use fx_lists::{List, Text};
+use in_out_phases::all_ins;
 use region_lines::region_lines;
 use region_phases::{ModuleRegions, all_regions};
 use region_sets::{Region, RegionSet, region_text};
@@ -68,11 +69,12 @@ fn add_sets(
     add_set(alloc, shown, symbols, sets.summary.as_slice())
 }
 
-/// Of a module its name, the lines that are added, and its regions.
+/// Of a module its name, the lines that are added, and these regions.
 fn add_module(
     alloc: Global,
     shown: &mut String,
     known: &ModuleRegions<'_>,
+    sets: &Results<RegionSet>,
     graph: &Graph,
 ) -> Result<(), Memory> {
     let found = &known.analysis.found;
@@ -84,11 +86,11 @@ fn add_module(
     shown.push_str("module ")?;
     shown.push_str(text_of(&found.module.name))?;
     shown.push_str("\n")?;
-    add_lines(alloc, shown, &view, &known.regions)?;
-    add_sets(alloc, shown, found.symbols, &known.regions)
+    add_lines(alloc, shown, &view, sets)?;
+    add_sets(alloc, shown, found.symbols, sets)
 }
 
-/// The regions of each module, callees first.
+/// The READ and WRITE regions of each module, callees first.
 pub fn add_program(
     alloc: Global,
     shown: &mut String,
@@ -100,7 +102,25 @@ pub fn add_program(
 {
     let all = all_regions(alloc, graph, analyses(alloc, modules, tables, graph)?)?;
     for known in all.as_slice() {
-        add_module(alloc, shown, known, graph)?;
+        add_module(alloc, shown, known, &known.regions, graph)?;
+    }
+    Ok(())
+}
+
+/// The IN regions of each module, callees first.
+pub fn add_ins(
+    alloc: Global,
+    shown: &mut String,
+    modules: &List<Parsed>,
+    tables: &List<Symbols>,
+    graph: &Graph,
+) -> Result<(), Memory>
+    requires { length modules.now ≡ length tables.now }
+{
+    let regions = all_regions(alloc, graph, analyses(alloc, modules, tables, graph)?)?;
+    let all = all_ins(alloc, graph, regions)?;
+    for found in all.as_slice() {
+        add_module(alloc, shown, &found.known, &found.ins, graph)?;
     }
     Ok(())
 }

@@ -61,7 +61,7 @@ fn add_row(shown: &mut String, symbols: &Symbols, row: &Row) -> Result<(), Memor
 }
 
 /// A line: the rows of a system, and whether it is weak.
-fn add_system(shown: &mut String, symbols: &Symbols, s: &System) -> Result<(), Memory> {
+pub fn add_system(shown: &mut String, symbols: &Symbols, s: &System) -> Result<(), Memory> {
     shown.push_str("{")?;
     let mut later = false;
     for row in s.rows.as_slice() {

@@ -5,7 +5,8 @@ use crate::rows::{normal_of, row_of, system_of, var_of, vars_of};
 use crate::trouble::Trouble;
 use crate::written::{exact_text, row_text, system_text, truth_text};
 use affine_systems::terms::factor_of;
-use affine_systems::{Norm, Var, eliminate, meet, normalise, push_row, rename, substitute};
+use affine_systems::{Norm, Var, meet, normalise, push_row, rename, substitute};
+use elimination::eliminate;
 use hull_projection::{Minus, clean, closure, entails, hull, minus, project, refuted};
 use std::alloc::Global;
 

@@ -24,7 +24,7 @@ use Rattle.affine_systems.proofs.AscendLaws.{parts_lt, before-term_before, ascen
 use Rattle.affine_systems.proofs.FitLaws.{neg_small, small_given}
 use Rattle.affine_systems.proofs.RenameSteps.{given_append}
 use Rattle.hull_projection.proofs.VarLaws.{TermsIn, RowsIn, IsOld, fresh_old, aux_lt, old_lt, place_below, place_lt, ascend-with_rows, ascend-with_vars}
-use Rattle.affine_systems.proofs.ElimSteps.{fit_small}
+use Rattle.elimination.proofs.ElimSteps.{fit_small}
 use Rattle.hull_projection.proofs.ClosureLaws.{cells_in_order}
 use Rattle.hull_projection.proofs.HullLaws.{both_covered}
 

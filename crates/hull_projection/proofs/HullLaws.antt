@@ -7,7 +7,7 @@ use Rattle.affine_systems.specs.declared.row.Var.TheVariants.{Aux}
 use Rattle.affine_systems.specs.declared.row.Term.{Term}
 use Rattle.affine_systems.specs.declared.row.Row.{Row}
 use Rattle.affine_systems.specs.declared.row.System.{System}
-use Rattle.hull_projection.specs.declared.elimination.Left.{Left}
+use Rattle.hull_projection.specs.declared.eliminations.Left.{Left}
 use Rattle.affine_systems.specs.Terms.{term_before}
 use Rattle.affine_systems.specs.Rows.{system}
 use Rattle.affine_systems.specs.Points.{Point, value, Meets, Holds, HoldsAll, only}

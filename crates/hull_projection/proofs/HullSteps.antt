@@ -5,7 +5,7 @@ use Rattle.affine_systems.specs.declared.row.Row.{Row}
 use Rattle.affine_systems.specs.declared.row.System.{System}
 use Rattle.affine_systems.specs.declared.items.Item.{Item}
 use Rattle.affine_systems.specs.declared.items.Tidied.{Tidied}
-use Rattle.hull_projection.specs.declared.elimination.Left.{Left}
+use Rattle.hull_projection.specs.declared.eliminations.Left.{Left}
 use Rattle.affine_systems.specs.Items.{items_from}
 use Rattle.affine_systems.specs.Tidy.{tidy_items}
 use Rattle.hull_projection.specs.Refute.{eliminate_all, all_left}

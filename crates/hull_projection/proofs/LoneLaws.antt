@@ -11,11 +11,11 @@ use Rattle.affine_systems.specs.Items.{item, no_originals, AllItems, items_from,
 use Rattle.affine_systems.specs.Eliminate.{unchanged, keep, is_without, eliminate_item, elim_of, eliminate}
 use Rattle.affine_systems.specs.Lone.{IsClosed, AllWithout, IsLone, left_by, AllLone}
 use Rattle.affine_systems.proofs.Basics.{if_cases}
-use Rattle.affine_systems.proofs.ClosedLaws.{closed_keep, lone_eliminated, length-keep}
+use Rattle.elimination.proofs.ClosedLaws.{closed_keep, lone_eliminated, length-keep}
 use Rattle.affine_systems.proofs.FitLaws.{rows_of-items_from, length-rows_of}
 use Rattle.hull_projection.specs.declared.projection.Shadow.{Shadow}
 use Rattle.affine_systems.specs.Given.{IsNormalAs, AreNormal, ItemsFit}
-use Rattle.hull_projection.specs.declared.elimination.Left.{Left}
+use Rattle.hull_projection.specs.declared.eliminations.Left.{Left}
 use Rattle.hull_projection.specs.Refute.{has_few, with_few, left, left_after, eliminate_all}
 use Rattle.hull_projection.specs.Project.{shadow, shadow_after, eliminate_each}
 

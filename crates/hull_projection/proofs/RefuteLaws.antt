@@ -5,7 +5,7 @@ use Rattle.std.proofs.lemmas.Bool.{and_parts}
 use Rattle.affine_systems.specs.declared.row.Var.{Var}
 use Rattle.affine_systems.specs.declared.row.Row.{Row}
 use Rattle.affine_systems.specs.declared.items.Item.{Item}
-use Rattle.hull_projection.specs.declared.elimination.Left.{Left}
+use Rattle.hull_projection.specs.declared.eliminations.Left.{Left}
 use Rattle.affine_systems.specs.Rows.{row}
 use Rattle.affine_systems.specs.Points.{Point, value, Meets, Holds, HoldsAll}
 use Rattle.affine_systems.specs.Items.{items_from, rows_of}

@@ -6,7 +6,7 @@ use Rattle.affine_systems.specs.declared.row.Term.{Term}
 use Rattle.affine_systems.specs.declared.row.Row.{Row}
 use Rattle.affine_systems.specs.declared.items.Item.{Item}
 use Rattle.affine_systems.specs.declared.items.Tidied.{Tidied}
-use Rattle.hull_projection.specs.declared.elimination.Left.{Left}
+use Rattle.hull_projection.specs.declared.eliminations.Left.{Left}
 use Rattle.affine_systems.specs.Terms.{negated_terms}
 use Rattle.affine_systems.specs.Rows.{row}
 use Rattle.affine_systems.specs.Items.{items_from, rows_of, any_false}

@@ -11,7 +11,7 @@ use Rattle.affine_systems.specs.Terms.{var_eq, term, term_before}
 use Rattle.affine_systems.specs.Rows.{row, system}
 use Rattle.affine_systems.specs.Items.{items_from, rows_of}
 use Rattle.affine_systems.specs.Tidy.{tidy_items, tidy}
-use Rattle.hull_projection.specs.declared.elimination.Left.{Left}
+use Rattle.hull_projection.specs.declared.eliminations.Left.{Left}
 use Rattle.hull_projection.specs.Variables.{with_rows, row_vars}
 use Rattle.hull_projection.specs.Refute.{eliminate_all, all_left, refuted}
 use Rattle.hull_projection.specs.Clean.{clean}

@@ -9,7 +9,7 @@ use Rattle.affine_systems.specs.Rows.{row}
 use Rattle.affine_systems.specs.Items.{no_originals, only_original, original_count, item, items_from, rows_of, any_false}
 use Rattle.affine_systems.specs.Tidy.{tidy_items}
 use Rattle.affine_systems.specs.Eliminate.{keep, eliminate_item}
-use Rattle.hull_projection.specs.declared.elimination.Left.{Left}
+use Rattle.hull_projection.specs.declared.eliminations.Left.{Left}
 use Rattle.hull_projection.specs.Variables.{row_vars}
 
 -- an at-most row is an original and carries its number; an equal row carries none

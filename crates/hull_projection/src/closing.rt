@@ -13,7 +13,8 @@ use crate::iterations::{iteration_rows, iterations_var, push_steps, same_rows};
 use crate::projection::project;
 use crate::variables::{add_rows, in_order};
 use affine_systems::items::copy_rows;
-use affine_systems::{Row, System, Var, Vars, eliminate, tidy};
+use affine_systems::{Row, System, Var, Vars, tidy};
+use elimination::eliminate;
 use fx_lists::List;
 use std::alloc::{AllocError as Memory, Global};
 

@@ -6,7 +6,7 @@ ghost use Rattle.hull_projection.specs.Hull.{hull_left as hull_left_is, lifted_h
 ghost use Rattle.hull_projection.specs.Laws.{HasBoth};
 
 use crate::cleaning::clean;
-use crate::elimination::{Left, all_left, eliminate_all};
+use crate::eliminations::{Left, all_left, eliminate_all};
 use crate::fresh::{aux_from, fresh_number};
 use crate::lifting::lift_rows;
 use crate::refutation::refuted;

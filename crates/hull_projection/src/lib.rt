@@ -4,7 +4,7 @@
 mod cleaning;
 mod closing;
 mod difference;
-mod elimination;
+mod eliminations;
 mod entailment;
 mod fresh;
 mod hulls;

@@ -2,8 +2,9 @@
 
 use crate::cleaning::clean_rows;
 use crate::variables::in_order;
-use affine_systems::items::{copy_rows, items_of, rows_of, without_lone};
-use affine_systems::{System, Var, Vars, eliminate};
+use affine_systems::items::{copy_rows, items_of, rows_of};
+use affine_systems::{System, Var, Vars};
+use elimination::{eliminate, without_lone};
 use fx_lists::List;
 use std::alloc::{AllocError as Memory, Global};
 

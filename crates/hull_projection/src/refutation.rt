@@ -5,7 +5,7 @@ ghost use Rattle.affine_systems.specs.Given.{IsGiven, Fits, ItemsFit};
 ghost use Rattle.hull_projection.specs.Refute.{refuted as refuted_is, refuted_items as refuted_items_is};
 ghost use Rattle.hull_projection.specs.Laws.{HasNoPoint};
 
-use crate::elimination::{all_left, eliminate_all};
+use crate::eliminations::{all_left, eliminate_all};
 use crate::points::have_found_point;
 use crate::variables::item_vars;
 use affine_systems::items::{Items, any_false, copy_rows, items_of, tidy_items};

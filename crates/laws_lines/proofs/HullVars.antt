@@ -18,7 +18,7 @@ use Rattle.affine_systems.proofs.Basics.{if_cases}
 use Rattle.affine_systems.proofs.FitLaws.{tidy_small}
 use Rattle.affine_systems.proofs.LastLaws.{Has, keep_has, tidied_has, eliminated_has}
 use Rattle.affine_systems.proofs.LackLaws.{Nil, AllNil, RowsNil, rows_of_nil, eliminate_item_nil, eliminate_item_lacks, eliminate_lacks}
-use Rattle.hull_projection.specs.declared.elimination.Left.{Left}
+use Rattle.hull_projection.specs.declared.eliminations.Left.{Left}
 use Rattle.hull_projection.specs.Variables.{in_order, row_vars}
 use Rattle.hull_projection.specs.Refute.{with_originals, has_few, count_pairs, left_after, eliminate_all, all_left, refuted}
 use Rattle.hull_projection.specs.Fresh.{fresh_after, aux_from, old_vars}

@@ -162,7 +162,7 @@ module _ (Name : List ℕ → Type 0) (ok : ℕ → Type 0) (m : ScopeTree) (a :
       go None q = tt
       go (Some n) q = element_fine x n (named_number m.names y n q) es (symbol_at m.symbols n) refl
 
-  named_fine : (e : ExprTree) (x : Access) → Fine (named e m x)
+  pub named_fine : (e : ExprTree) (x : Access) → Fine (named e m x)
   named_fine (tree.int n) x = tt
   named_fine (tree.log b) x = tt
   named_fine (tree.name y) x = whole_fine x y
@@ -189,7 +189,7 @@ module _ (Name : List ℕ → Type 0) (ok : ℕ → Type 0) (m : ScopeTree) (a :
     all_fine tree.no_exprs = tt
     all_fine (tree.more_exprs e es) = join (reads e m) (all_reads es m) (reads_fine e) (all_fine es)
 
-  inner_fine : (e : ExprTree) → Fine (inner_reads e m)
+  pub inner_fine : (e : ExprTree) → Fine (inner_reads e m)
   inner_fine (tree.int n) = tt
   inner_fine (tree.log b) = tt
   inner_fine (tree.name x) = tt
@@ -213,7 +213,7 @@ module _ (Name : List ℕ → Type 0) (ok : ℕ → Type 0) (m : ScopeTree) (a :
   pub printing_fine : (es : ExprTrees) → Fine (printing m es)
   printing_fine es = united_fine IsNamedOne ok (all_reads es m) (all_fine es)
 
-  item_done : (e : ExprTree) → IsDone ok (item_does m e)
+  pub item_done : (e : ExprTree) → IsDone ok (item_does m e)
   item_done e = forgotten_done ok (one_cell (named_cell m.scalars e)) (λ c h. one_cell_ok ok (named_cell m.scalars e) (λ d k. named_cell_ok ok m a.allows e d k) c h)
 
   pub reading_fine : (es : ExprTrees) → Fine (reading es m)

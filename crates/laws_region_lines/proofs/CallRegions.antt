@@ -10,9 +10,9 @@ use Rattle.f77_symbols.specs.Shared.{symbol_at}
 use Rattle.f77_results.specs.Summaries.{SummaryTree}
 use Rattle.call_translation.specs.Scopes.{ScopeTree}
 use Rattle.region_sets.specs.declared.region.Region.{Region}
-use Rattle.region_translation.specs.declared.link.Link.{Link}
-use Rattle.region_translation.specs.Sides.{SidesTree}
-use Rattle.region_translation.specs.Links.{link_of}
+use Rattle.call_equations.specs.declared.link.Link.{Link}
+use Rattle.call_equations.specs.Sides.{SidesTree}
+use Rattle.call_equations.specs.Links.{link_of}
 use Rattle.region_translation.specs.Pieces.{piece_in_caller}
 use Rattle.region_translation.specs.Caller.{by_link, to_caller}
 use Rattle.array_regions.specs.Calls.{Callees, actual_reads, actuals_reads, sides, all_in_caller, summary_in_caller, call_set}
@@ -73,7 +73,7 @@ module _ (Name : List ℕ → Type 0) (ok : ℕ → Type 0) (m : ScopeTree) (a :
   actual_fine (tree.binary o e f) = reads_fine Name ok m a few (tree.binary o e f)
   actual_fine (tree.chars x) = reads_fine Name ok m a few (tree.chars x)
 
-  actuals_fine : (es : ExprTrees) → F (actuals_reads es m)
+  pub actuals_fine : (es : ExprTrees) → F (actuals_reads es m)
   actuals_fine tree.no_exprs = tt
   actuals_fine (tree.more_exprs e es) = join (actual_reads e m) (actuals_reads es m) (actual_fine e) (actuals_fine es)
 
@@ -86,7 +86,7 @@ module _ (Name : List ℕ → Type 0) (ok : ℕ → Type 0) (m : ScopeTree) (a :
       maybe_fine r None h k = tt
       maybe_fine r (Some l) h k = ((h.named, one_shadow (IsNeat (IsPlaceOf Every)) (IsNeat (IsPlaceOf ok)) (piece_in_caller c l) (piece_neat ok c a.allows l h.flat h.rows) r.pieces k), tt)
 
-      all_fine_in : (rs : List Region) → AreFine (IsNamedBy Name fine.names) Every rs → F (all_in_caller c rs)
+      pub all_fine_in : (rs : List Region) → AreFine (IsNamedBy Name fine.names) Every rs → F (all_in_caller c rs)
       all_fine_in [] h = tt
       all_fine_in (r ∷ rs) h =
           join (option_to_list (to_caller c r)) (all_in_caller c rs)

@@ -30,9 +30,9 @@ use Rattle.call_translation.specs.Common.{tracked_at}
 use Rattle.call_translation.specs.Actuals.{actual_of, form_in}
 use Rattle.region_sets.specs.Naming.{in_terms, in_rows}
 use Rattle.region_sets.specs.Compose.{normal_form}
-use Rattle.region_translation.specs.declared.link.Link.{Link}
-use Rattle.region_translation.specs.Sides.{SidesTree}
-use Rattle.region_translation.specs.Cells.{form_at, form_of}
+use Rattle.call_equations.specs.declared.link.Link.{Link}
+use Rattle.call_equations.specs.Sides.{SidesTree}
+use Rattle.call_equations.specs.Cells.{form_at, form_of}
 use Rattle.region_translation.specs.Pieces.{standing, names_of, are_own, linked, is_aux_row, if_aux_row, aux_row, put_in, put_in_all, cell_row, if_row, with_var, with_forms, if_formless, one_formless, formless, subscripts_from, subscripts, without_all, linked_piece, piece_in_caller}
 use Rattle.region_translation.proofs.PutLaws.{aux_same, all_gone, aux_nil, row_says}
 use Rattle.region_translation.proofs.NamingLaws.{is_row_var, off_rows, name_is}

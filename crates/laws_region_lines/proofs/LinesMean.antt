@@ -9,6 +9,7 @@ use Rattle.affine_systems.specs.declared.row.Var.{Var}
 use Rattle.affine_systems.specs.declared.row.Var.TheVariants.{Cell, Exit, Phi, Aux}
 use Rattle.affine_systems.specs.declared.row.Term.{Term}
 use Rattle.affine_systems.specs.declared.row.System.{System}
+use Rattle.f77_results.specs.declared.results.Results.{Results}
 use Rattle.f77_symbols.specs.declared.variable.Unit.{Unit as BlockUnit}
 use Rattle.f77_symbols.specs.declared.variable.Variable.{Variable}
 use Rattle.f77_symbols.specs.declared.variable.Variable.TheVariants.{Own, Block, Saved}
@@ -37,10 +38,10 @@ use Rattle.laws_lines.proofs.LineBack.{neat_ordered}
 use Rattle.laws_lines.proofs.PhaseVars.{EachOf, each_all, value_is}
 use Rattle.laws_region_lines.specs.Places.{IsPlaceOf, IsOne}
 use Rattle.laws_region_lines.specs.Lines.{is_phi, HaveNoPhi, IsRegionLine}
-use Rattle.laws_region_lines.specs.LineLaws.{lines_in, RegionsAreReadable, RegionLinesMean, RegionLinesMeanRegions}
+use Rattle.laws_region_lines.specs.LineLaws.{lines_in, RegionsAreReadable, SetLinesMean, RegionLinesMean, RegionLinesMeanRegions}
 use Rattle.laws_region_lines.proofs.AccessVars.{IsNamedBy}
 use Rattle.laws_region_lines.proofs.RegionVars.{both_all, AreFine}
-use Rattle.laws_region_lines.proofs.ProgramRegions.{IsNamedHere, ModuleFine, modules_fine, regions_with}
+use Rattle.laws_region_lines.proofs.ProgramRegions.{IsNamedHere, SetsFine, ModuleFine, modules_fine, regions_with}
 
 -- ---- names that are none of subscripts
 
@@ -161,21 +162,18 @@ ones : (N : Variable → Type 0) (ok : ℕ → Type 0) (rs : List Region) → Ar
 ones N ok [] h = tt
 ones N ok (r ∷ rs) h = (h.0.1, ones N ok rs h.1)
 
-module _ (untracked : List BlockUnit) (f : ModuleRegions) (fine : ModuleFine IsPlain untracked f) where
-  abbrev known : Known
-  known = f.analysis.found.known
-
+module _ (untracked : List BlockUnit) (known : Known) (sets : Results (List Region)) (fine : SetsFine IsPlain untracked known sets) where
   abbrev N : Variable → Type 0
   N = IsNamedHere IsPlain known
 
   abbrev tracked : ℕ → Type 0
   tracked = IsTracked untracked known
 
-  there_one : (n : ℕ) (r : Region) → IsThere f.regions n r → IsOne (IsNeat (IsPlaceOf tracked)) r.pieces
-  there_one n r (inl i) = in_one (IsPlaceOf tracked) i.0 r i.2 (ones N tracked i.0 (value_is (AreFine N tracked) f.regions.at n i.0 fine.at i.1))
-  there_one n r (inr i) = in_one (IsPlaceOf tracked) f.regions.summary r i.1 (ones N tracked f.regions.summary fine.summary)
+  there_one : (n : ℕ) (r : Region) → IsThere sets n r → IsOne (IsNeat (IsPlaceOf tracked)) r.pieces
+  there_one n r (inl i) = in_one (IsPlaceOf tracked) i.0 r i.2 (ones N tracked i.0 (value_is (AreFine N tracked) sets.at n i.0 fine.at i.1))
+  there_one n r (inr i) = in_one (IsPlaceOf tracked) sets.summary r i.1 (ones N tracked sets.summary fine.summary)
 
-  all_just : (xs : List Added) → AllByRecursion (MeansRegion (symbol_names known.symbols) f.regions) xs → AllByRecursion (IsRegionLine (symbol_names known.symbols) f.regions) xs
+  all_just : (xs : List Added) → AllByRecursion (MeansRegion (symbol_names known.symbols) sets) xs → AllByRecursion (IsRegionLine (symbol_names known.symbols) sets) xs
   all_just [] h = tt
   all_just (x ∷ xs) h =
       let r = h.0.0 in
@@ -183,24 +181,21 @@ module _ (untracked : List BlockUnit) (f : ModuleRegions) (fine : ModuleFine IsP
       ((r, h.0.1 ∙ ap Some (same_shown r one.0 one.1), h.0.2), all_just xs h.1)
 
 -- the symbols have names
-abbrev HasNames : Known → Type 0
+abbrev pub HasNames : Known → Type 0
 HasNames k = AreNames (symbol_names k.symbols)
 
-module_readable : (untracked : List BlockUnit) (f : ModuleRegions) → ModuleFine IsPlain untracked f → AreReadable (symbol_names f.analysis.found.known.symbols) f.regions
-module_readable untracked f h =
-    let k = f.analysis.found.known in
-    record {
-      at = λ n rs e. all_readable untracked k rs (value_is (AreFine (IsNamedHere IsPlain k) (IsTracked untracked k)) f.regions.at n rs h.at e);
-      summary = all_readable untracked k f.regions.summary h.summary;
-    }
+sets_readable : (untracked : List BlockUnit) (k : Known) (sets : Results (List Region)) → SetsFine IsPlain untracked k sets → AreReadable (symbol_names k.symbols) sets
+sets_readable untracked k sets h = record {
+  at = λ n rs e. all_readable untracked k rs (value_is (AreFine (IsNamedHere IsPlain k) (IsTracked untracked k)) sets.at n rs h.at e);
+  summary = all_readable untracked k sets.summary h.summary;
+}
 
-module_means : (untracked : List BlockUnit) (f : ModuleRegions) → ModuleFine IsPlain untracked f → HasNames f.analysis.found.known → RegionLinesMean f
-module_means untracked f h are none =
-    let k = f.analysis.found.known in
+pub sets_mean : (untracked : List BlockUnit) (k : Known) (sets : Results (List Region)) → SetsFine IsPlain untracked k sets → HasNames k → SetLinesMean k sets
+sets_mean untracked k sets h are none =
     let names = symbol_names k.symbols in
-    all_just untracked f h (lines_in f) (added_lines_read_back k.read.main k.read.body names f.regions (others names are none) (module_readable untracked f h))
+    all_just untracked k sets h (lines_in k sets) (added_lines_read_back k.read.main k.read.body names sets (others names are none) (sets_readable untracked k sets h))
 
-tables_named : (ps : List ParsedTree) (sss : List (List SymbolTree)) → AreTables ps sss → All AreWords sss → EachOf HasNames (known_of ps sss)
+pub tables_named : (ps : List ParsedTree) (sss : List (List SymbolTree)) → AreTables ps sss → All AreWords sss → EachOf HasNames (known_of ps sss)
 tables_named [] sss t w = tt
 tables_named (p ∷ ps) [] t w = tt
 tables_named (p ∷ ps) (ss ∷ sss) t w =
@@ -208,11 +203,11 @@ tables_named (p ∷ ps) (ss ∷ sss) t w =
 
 each_means : (untracked : List BlockUnit) (fs : List ModuleRegions) → EachOf (ModuleFine IsPlain untracked) fs → EachOf (λ (f : ModuleRegions). HasNames f.analysis.found.known) fs → EachOf RegionLinesMean fs
 each_means untracked [] h k = tt
-each_means untracked (f ∷ fs) h k = (module_means untracked f h.0 k.0, each_means untracked fs h.1 k.1)
+each_means untracked (f ∷ fs) h k = (sets_mean untracked f.analysis.found.known f.regions h.0 k.0, each_means untracked fs h.1 k.1)
 
 pub regions_are_readable : RegionsAreReadable
 regions_are_readable ps sss g t n =
-    each_all (ModuleFine IsPlain g.untracked) (λ (f : ModuleRegions). AreReadable (symbol_names f.analysis.found.known.symbols) f.regions) (module_readable g.untracked) (all_regions g (analyses (known_of ps sss) g)) (modules_fine IsPlain ps sss g t n)
+    each_all (ModuleFine IsPlain g.untracked) (λ (f : ModuleRegions). AreReadable (symbol_names f.analysis.found.known.symbols) f.regions) (λ f. sets_readable g.untracked f.analysis.found.known f.regions) (all_regions g (analyses (known_of ps sss) g)) (modules_fine IsPlain ps sss g t n)
 
 pub region_lines_mean_regions : RegionLinesMeanRegions
 region_lines_mean_regions ps sss g t w n =

@@ -15,7 +15,7 @@ use Rattle.f77_symbols.specs.declared.variable.Unit.{Unit as BlockUnit}
 use Rattle.f77_symbols.specs.declared.variable.Variable.{Variable}
 use Rattle.f77_symbols.specs.declared.variable.Variable.TheVariants.{Own, Block, Saved}
 use Rattle.f77_symbols.specs.Symbols.{SymbolTree}
-use Rattle.f77_meaning.specs.Modules.{known_of, symbol_names}
+use Rattle.f77_meaning.specs.Modules.{Known, known_of, symbol_names}
 use Rattle.scalar_phases.specs.Phases.{analyses}
 use Rattle.region_phases.specs.Phases.{ModuleRegions, all_regions}
 use Rattle.roundtrip_text.specs.Texts.{IsPassedOver}
@@ -24,10 +24,10 @@ use Rattle.roundtrip_regions.specs.Laws.{IsShownVariable, RegionLinesArePassedOv
 use Rattle.laws_lines.specs.Laws.{IsTracked}
 use Rattle.laws_lines.proofs.PhaseVars.{EachOf, each_all, value_is}
 use Rattle.laws_region_lines.specs.Names.{SymbolNamed, IsNamed}
-use Rattle.laws_region_lines.specs.LineLaws.{RegionLinesPass, AllRegionLinesPass}
+use Rattle.laws_region_lines.specs.LineLaws.{SetLinesPass, RegionLinesPass, AllRegionLinesPass}
 use Rattle.laws_region_lines.proofs.AccessVars.{IsNamedBy}
 use Rattle.laws_region_lines.proofs.RegionVars.{AreFine}
-use Rattle.laws_region_lines.proofs.ProgramRegions.{ModuleFine, modules_fine, each_named, regions_with}
+use Rattle.laws_region_lines.proofs.ProgramRegions.{SetsFine, ModuleFine, modules_fine, each_named, regions_with}
 
 abbrev AreShownRegions : List Region → Type 0
 AreShownRegions rs = AllByRecursion (λ (r : Region). IsShownVariable r.variable) rs
@@ -122,19 +122,18 @@ pub names_shown : (ss : List SymbolTree) → AllByRecursion (SymbolNamed IsShown
 names_shown [] h = tt
 names_shown (s ∷ ss) h = record { first = h.0.0; others = names_shown ss h.1 }
 
-module_passes : RegionLinesArePassedOver → (untracked : List BlockUnit) (f : ModuleRegions) → IsNamed IsShown f.analysis.found.known → ModuleFine IsShown untracked f → RegionLinesPass f
-module_passes law untracked f named h =
-    let k = f.analysis.found.known in
+pub sets_pass : RegionLinesArePassedOver → (untracked : List BlockUnit) (k : Known) (sets : Results (List Region)) → IsNamed IsShown k → SetsFine IsShown untracked k sets → SetLinesPass k sets
+sets_pass law untracked k sets named h =
     let ok = IsTracked untracked k in
     let names = symbol_names k.symbols in
-    lines_pass law names f.regions (names_shown k.symbols named.1) (record {
-      at = λ n rs e. fine_shown names ok rs (value_is (AreFine (IsNamedBy IsShown names) ok) f.regions.at n rs h.at e);
-      summary = fine_shown names ok f.regions.summary h.summary;
+    lines_pass law names sets (names_shown k.symbols named.1) (record {
+      at = λ n rs e. fine_shown names ok rs (value_is (AreFine (IsNamedBy IsShown names) ok) sets.at n rs h.at e);
+      summary = fine_shown names ok sets.summary h.summary;
     }) k.read.main k.read.body
 
 each_passes : RegionLinesArePassedOver → (untracked : List BlockUnit) (fs : List ModuleRegions) → EachOf (λ (f : ModuleRegions). IsNamed IsShown f.analysis.found.known) fs → EachOf (ModuleFine IsShown untracked) fs → EachOf RegionLinesPass fs
 each_passes law untracked [] n h = tt
-each_passes law untracked (f ∷ fs) n h = (module_passes law untracked f n.0 h.0, each_passes law untracked fs n.1 h.1)
+each_passes law untracked (f ∷ fs) n h = (sets_pass law untracked f.analysis.found.known f.regions n.0 h.0, each_passes law untracked fs n.1 h.1)
 
 pub all_pass : RegionLinesArePassedOver → AllRegionLinesPass
 all_pass law ps sss g t n =

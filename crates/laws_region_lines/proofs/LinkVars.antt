@@ -23,13 +23,13 @@ use Rattle.affine_forms.specs.declared.affine.Affine.{Affine}
 use Rattle.affine_forms.specs.Comparisons.{var_form}
 use Rattle.affine_forms.specs.Forms.{affine, affine_of, limited, plus, sum_of}
 use Rattle.call_translation.specs.Actuals.{actual_of}
-use Rattle.region_translation.specs.declared.link.Link.{Link}
-use Rattle.region_translation.specs.Sides.{SidesTree}
-use Rattle.region_translation.specs.Rows.{bounds_rows, bound_rows, subscript_rows}
-use Rattle.region_translation.specs.Forms.{offset, equation, lack, unless_among}
-use Rattle.region_translation.specs.Cells.{named, named_terms, named_form, actual_bound, dummy_bound}
-use Rattle.region_translation.specs.Positions.{aligned_row, is_none_left, same_extent, dimension_row, row_before, aligned_rows, size_of, before_dimensions, whole_position, element_position, dummy_position, block_position}
-use Rattle.region_translation.specs.Links.{same_elements, by_position, actual_bounds, whole_by_position, aligned_or, bounds_unless_lines, variable_link, subscripts_link, is_constant, variable_at, element_at, variable_of, element_of, expr_link, actual_link, by_unit, like_or_block, common_link, place_link, symbol_link, link_of}
+use Rattle.call_equations.specs.declared.link.Link.{Link}
+use Rattle.call_equations.specs.Sides.{SidesTree}
+use Rattle.call_equations.specs.Rows.{bounds_rows, bound_rows, subscript_rows}
+use Rattle.call_equations.specs.Forms.{offset, equation, lack, unless_among}
+use Rattle.call_equations.specs.Cells.{named, named_terms, named_form, actual_bound, dummy_bound}
+use Rattle.call_equations.specs.Positions.{aligned_row, is_none_left, same_extent, dimension_row, row_before, aligned_rows, size_of, before_dimensions, whole_position, element_position, dummy_position, block_position}
+use Rattle.call_equations.specs.Links.{same_elements, by_position, actual_bounds, whole_by_position, aligned_or, bounds_unless_lines, variable_link, subscripts_link, is_constant, variable_at, element_at, variable_of, element_of, expr_link, actual_link, by_unit, like_or_block, common_link, place_link, symbol_link, link_of}
 use Rattle.laws_lines.specs.Variables.{EachVar, IsCellOf}
 use Rattle.laws_lines.proofs.RowVars.{each_more, each-combined, Given}
 use Rattle.laws_lines.proofs.SystemVars.{AreGiven, all_more, all-append}

@@ -14,6 +14,7 @@ use Rattle.f77_meaning.specs.Modules.{Known, known_of, symbol_names}
 use Rattle.f77_names.specs.Entries.{ShapeTree, EntryTree}
 use Rattle.f77_names.specs.Tables.{NameTable}
 use Rattle.f77_results.specs.declared.results.At.{At}
+use Rattle.f77_results.specs.declared.results.Results.{Results}
 use Rattle.f77_symbols.specs.Symbols.{SymbolTree, number_from}
 use Rattle.f77_results.specs.Summaries.{SummaryTree}
 use Rattle.f77_symbols.specs.declared.symbol.Place.{Place}
@@ -35,7 +36,7 @@ use Rattle.laws_region_lines.proofs.RegionVars.{AreFine}
 use Rattle.laws_region_lines.proofs.StatementRegions.{list_at_fine, summary_fine}
 use Rattle.laws_region_lines.specs.Indexes.{counts_other}
 use Rattle.laws_region_lines.specs.Names.{PlaceNamed, SymbolNamed, IsNamed, AreNamed}
-use Rattle.laws_region_lines.specs.Laws.{AreOverPlaces, RegionsAreOver, RegionsAreOverPlaces}
+use Rattle.laws_region_lines.specs.Laws.{AreOverPlaces, SetsAreOver, RegionsAreOver, RegionsAreOverPlaces}
 use Rattle.laws_region_lines.specs.Places.{IsPlaceOf, IsOne}
 use Rattle.laws_tables.proofs.Answers.{Answered, lines_in, layout_in, found_none, answered_by}
 use Rattle.laws_tables.proofs.NameRefusals.{shapes_back}
@@ -45,7 +46,7 @@ use Rattle.refusal_codes.specs.declared.refusal.Refusal.{Refusal}
 use Rattle.region_phases.specs.Phases.{ModuleRegions, with_callee, with_regions, found_in, all_regions}
 use Rattle.region_phases.specs.Phases as regions
 use Rattle.region_sets.specs.declared.region.Region.{Region}
-use Rattle.region_translation.specs.Sides.{changed_cells}
+use Rattle.call_equations.specs.Sides.{changed_cells}
 use Rattle.scalar_phases.specs.Phases.{scope_of, place_of, module_at, module_of, Found, found_of, maybe_found, Analysis, sites_of, analysis_of, analyses_from, analyses}
 use Rattle.scalar_phases.specs.Phases as scalars
 use Rattle.std.proofs.Common.{◌≡◌, ℕ, zero, suc, ◌+◌, ◌-◌, Bool, true, false, ◌&&◌, ◌||◌, List, [], ◌∷◌, ◌++◌, Option, Some, None, arith, refl, sym, ap, ◌∙◌, subst, nat_eq, length, ◌≤◌}
@@ -99,7 +100,7 @@ set_cell flags k e =
 
 -- the tracked cells of a module with its table
 module _ (untracked : List BlockUnit) (k : Known) where
-  scope_flags : Scope (IsTracked untracked k) (scope_of untracked k)
+  pub scope_flags : Scope (IsTracked untracked k) (scope_of untracked k)
   scope_flags = record {
     allows = record {
       names = λ x c e. named_flag (tracked_of k.read k.symbols untracked) (number_from 1 (symbol_names k.symbols) x) c e;
@@ -112,7 +113,7 @@ module _ (untracked : List BlockUnit) (k : Known) where
 
 -- ---- what its statements do
 
-found_done : (ok : ℕ → Type 0) (xs : List (At Transformer)) → AllAt (IsDone ok) xs → (n : ℕ) → IsDone ok (transformer_at xs n)
+pub found_done : (ok : ℕ → Type 0) (xs : List (At Transformer)) → AllAt (IsDone ok) xs → (n : ℕ) → IsDone ok (transformer_at xs n)
 found_done ok xs h n = go (value_at xs n) (λ v e. value_is (IsDone ok) xs n v h e)
   where
     go : (o : Option Transformer) → ((v : Transformer) → o ≡ Some v → IsDone ok v) → IsDone ok (or_unchanging o)
@@ -147,7 +148,7 @@ table_few p ss a =
     let none = stmts_back v.table (lines_in p) p.module_read.body 0 (check_shapes v.table v.table.entries v.found) (found_none p ss a) in
     subst (EachOf HasFew) (sym a.table) (all_few v.table l 0 v.table.entries v.found none)
 
-few_at : (ss : List SymbolTree) → EachOf HasFew ss → FewBounds ss
+pub few_at : (ss : List SymbolTree) → EachOf HasFew ss → FewBounds ss
 few_at ss h n s e = go (nat_eq n 0) e
   where
     go : (b : Bool) → (if b then None else slice_get ss (n - 1)) ≡ Some s → length s.bounds ≤ 7
@@ -155,7 +156,7 @@ few_at ss h n s e = go (nat_eq n 0) e
     go false q = got_each HasFew ss (n - 1) s h q
 
 -- so it is of the symbols of a module; and the index of each DO is one of them
-abbrev IsTold : Known → Type 0
+abbrev pub IsTold : Known → Type 0
 IsTold k = EachOf HasFew k.symbols × (list_has (counts_other (symbol_names k.symbols)) k.read.body ≡ false)
 
 knowns_told : (ps : List ParsedTree) (sss : List (List SymbolTree)) → AreTables ps sss → EachOf IsTold (known_of ps sss)
@@ -164,6 +165,14 @@ knowns_told (p ∷ ps) [] t = tt
 knowns_told (p ∷ ps) (ss ∷ sss) t = ((table_few p ss (answered_by p ss t.0), indexes_are_symbols p ss t.0), knowns_told ps sss t.1)
 
 -- ---- each analysis is of a module of the program
+
+module _ (W : Analysis → Type 0) where
+  regions_from : (untracked : List BlockUnit) (cs : Callees) (as' : List Analysis) → EachOf W as' → EachOf (λ (f : ModuleRegions). W f.analysis) (found_in untracked cs as')
+  regions_from untracked cs [] h = tt
+  regions_from untracked cs (a ∷ as') h = (h.0, regions_from untracked (with_callee (with_regions untracked cs a) cs) as' h.1)
+
+  pub regions_of : (g : Graph) (as' : List Analysis) → EachOf W as' → EachOf (λ (f : ModuleRegions). W f.analysis) (all_regions g as')
+  regions_of g as' h = regions_from g.untracked regions.no_callees (reverse as') (each_reverse W as' h)
 
 module _ (W : Known → Type 0) where
   module_with : (ks : List Known) → EachOf W ks → (x : List ℕ) (k : Known) → module_of ks x ≡ Some k → W k
@@ -193,14 +202,8 @@ module _ (W : Known → Type 0) where
       from_with g.untracked [] (reverse fs) tt (each_reverse (λ (f : Found). W f.known) fs (founds_with g.untracked ks h scalars.no_callees g.order))
 
   -- so it is of each module with its regions
-  regions_from : (untracked : List BlockUnit) (cs : Callees) (as' : List Analysis) → EachOf (λ (a : Analysis). W a.found.known) as' → EachOf (λ (f : ModuleRegions). W f.analysis.found.known) (found_in untracked cs as')
-  regions_from untracked cs [] h = tt
-  regions_from untracked cs (a ∷ as') h = (h.0, regions_from untracked (with_callee (with_regions untracked cs a) cs) as' h.1)
-
   pub regions_with : (ks : List Known) (g : Graph) → EachOf W ks → EachOf (λ (f : ModuleRegions). W f.analysis.found.known) (all_regions g (analyses ks g))
-  regions_with ks g h =
-      let as' = analyses ks g in
-      regions_from g.untracked regions.no_callees (reverse as') (each_reverse (λ (a : Analysis). W a.found.known) as' (analyses_with ks g h))
+  regions_with ks g h = regions_of (λ (a : Analysis). W a.found.known) g (analyses ks g) (analyses_with ks g h)
 
 -- ---- the regions of its modules
 
@@ -224,18 +227,22 @@ module _ (Name : List ℕ → Type 0) where
   abbrev pub IsNamedHere : Known → Variable → Type 0
   IsNamedHere k v = IsNamedBy Name (symbol_names k.symbols) v
 
-  -- its regions are of such variables, and have such places alone
-  pub record ModuleFine (untracked : List BlockUnit) (f : ModuleRegions) : Type 0 where
-    pub at : AllAt (AreFine (IsNamedHere f.analysis.found.known) (IsTracked untracked f.analysis.found.known)) f.regions.at
-    pub summary : AreFine (IsNamedHere f.analysis.found.known) (IsTracked untracked f.analysis.found.known) f.regions.summary
+  -- its sets of regions are of such variables, and have such places alone
+  pub record SetsFine (untracked : List BlockUnit) (k : Known) (sets : Results (List Region)) : Type 0 where
+    pub at : AllAt (AreFine (IsNamedHere k) (IsTracked untracked k)) sets.at
+    pub summary : AreFine (IsNamedHere k) (IsTracked untracked k) sets.summary
+
+  -- so are its READ and WRITE regions
+  abbrev pub ModuleFine : List BlockUnit → ModuleRegions → Type 0
+  ModuleFine untracked f = SetsFine untracked f.analysis.found.known f.regions
 
   -- what is known of the module of an analysis
-  record ModuleTold (untracked : List BlockUnit) (a : Analysis) : Type 0 where
-    ok : AnalysisOk untracked a
-    told : IsTold a.found.known
-    named : IsNamed Name a.found.known
+  pub record ModuleTold (untracked : List BlockUnit) (a : Analysis) : Type 0 where
+    pub ok : AnalysisOk untracked a
+    pub told : IsTold a.found.known
+    pub named : IsNamed Name a.found.known
 
-  map_long : {A B : Type 0} (f : A → B) (xs : List A) → length xs ≡ length (map f xs)
+  pub map_long : {A B : Type 0} (f : A → B) (xs : List A) → length xs ≡ length (map f xs)
   map_long f [] = refl
   map_long f (x ∷ xs) = ap suc (map_long f xs)
 
@@ -273,24 +280,22 @@ module _ (Name : List ℕ → Type 0) where
   any_fine N ok (r ∷ rs) h =
       ((h.0.0, one_more (IsNeat (IsPlaceOf ok)) (IsNeat (IsPlaceOf Every)) (system_more (IsPlaceOf ok) (IsPlaceOf Every) (any_cell ok)) r.pieces h.0.1), any_fine N ok rs h.1)
 
-  more_callees : (untracked : List BlockUnit) (f : ModuleRegions) (cs : Callees) → IsNamed Name f.analysis.found.known → ModuleFine untracked f → CalleesFine Name cs → CalleesFine Name (with_callee f cs)
-  more_callees untracked f cs named h callees x = go (bytes_eq name x) refl
+  pub more_callees : (untracked : List BlockUnit) (k : Known) (sets : Results (List Region)) (cs : Callees) → IsNamed Name k → SetsFine untracked k sets → CalleesFine Name cs
+      → CalleesFine Name (λ x. if bytes_eq k.read.name x then Some (record { symbols = k.symbols; value = sets.summary }) else cs x)
+  more_callees untracked k sets cs named h callees x = go (bytes_eq name x) refl
     where
-      k : Known
-      k = f.analysis.found.known
-
       name : List ℕ
       name = k.read.name
 
       summary : SummaryTree (List Region)
-      summary = record { symbols = k.symbols; value = f.regions.summary }
+      summary = record { symbols = k.symbols; value = sets.summary }
 
       go : (b : Bool) → bytes_eq name x ≡ b → MaybeFine Name x (if b then Some summary else cs x)
       go true e = record {
         title = subst Name ((bytes_eq-Decides name x).0 e) named.0;
         table = named.1;
         names = symbol_names k.symbols;
-        value = any_fine (IsNamedHere k) (IsTracked untracked k) f.regions.summary h.summary;
+        value = any_fine (IsNamedHere k) (IsTracked untracked k) sets.summary h.summary;
       }
       go false e = callees x
 
@@ -300,27 +305,30 @@ module _ (Name : List ℕ → Type 0) where
   found_fine untracked cs (a ∷ as') callees h =
       let f = with_regions untracked cs a in
       let first = module_fine untracked cs a h.0 callees in
-      (first, found_fine untracked (with_callee f cs) as' (more_callees untracked f cs h.0.named first callees) h.1)
+      (first, found_fine untracked (with_callee f cs) as' (more_callees untracked a.found.known f.regions cs h.0.named first callees) h.1)
 
-  all_told : (untracked : List BlockUnit) (as' : List Analysis) → EachOf (AnalysisOk untracked) as' → EachOf (λ (a : Analysis). IsTold a.found.known) as' → EachOf (λ (a : Analysis). IsNamed Name a.found.known) as'
+  join_told : (untracked : List BlockUnit) (as' : List Analysis) → EachOf (AnalysisOk untracked) as' → EachOf (λ (a : Analysis). IsTold a.found.known) as' → EachOf (λ (a : Analysis). IsNamed Name a.found.known) as'
       → EachOf (ModuleTold untracked) as'
-  all_told untracked [] h k n = tt
-  all_told untracked (a ∷ as') h k n = (record { ok = h.0; told = k.0; named = n.0 }, all_told untracked as' h.1 k.1 n.1)
+  join_told untracked [] h k n = tt
+  join_told untracked (a ∷ as') h k n = (record { ok = h.0; told = k.0; named = n.0 }, join_told untracked as' h.1 k.1 n.1)
 
   pub each_named : (ks : List Known) → AreNamed Name ks → EachOf (IsNamed Name) ks
   each_named [] h = tt
   each_named (k ∷ ks) h = (h.0, each_named ks h.1)
 
+  pub all_told : (ps : List ParsedTree) (sss : List (List SymbolTree)) (g : Graph) → AreTables ps sss → AreNamed Name (known_of ps sss) → EachOf (ModuleTold g.untracked) (analyses (known_of ps sss) g)
+  all_told ps sss g t n =
+      let ks = known_of ps sss in
+      join_told g.untracked (analyses ks g) (analyses_ok ps sss g t) (analyses_with IsTold ks g (knowns_told ps sss t)) (analyses_with (IsNamed Name) ks g (each_named ks n))
+
   pub modules_fine : (ps : List ParsedTree) (sss : List (List SymbolTree)) (g : Graph) → AreTables ps sss → AreNamed Name (known_of ps sss) → EachOf (ModuleFine g.untracked) (all_regions g (analyses (known_of ps sss) g))
   modules_fine ps sss g t n =
-      let ks = known_of ps sss in
-      let as' = analyses ks g in
-      found_fine g.untracked regions.no_callees (reverse as') (λ x. tt)
-      (each_reverse (ModuleTold g.untracked) as' (all_told g.untracked as' (analyses_ok ps sss g t) (analyses_with IsTold ks g (knowns_told ps sss t)) (analyses_with (IsNamed Name) ks g (each_named ks n))))
+      let as' = analyses (known_of ps sss) g in
+      found_fine g.untracked regions.no_callees (reverse as') (λ x. tt) (each_reverse (ModuleTold g.untracked) as' (all_told ps sss g t n))
 
 -- ---- whatever names are
 
-abbrev Any : List ℕ → Type 0
+abbrev pub Any : List ℕ → Type 0
 Any x = Unit {0}
 
 any_table : (ss : List SymbolTree) → AllByRecursion (SymbolNamed Any) ss
@@ -333,21 +341,20 @@ any_table (s ∷ ss) = ((tt, place s.place), any_table ss)
     place (Block b o) = tt
     place (Constant v) = tt
 
-any_named : (ks : List Known) → AreNamed Any ks
+pub any_named : (ks : List Known) → AreNamed Any ks
 any_named [] = tt
 any_named (k ∷ ks) = ((tt, any_table k.symbols), any_named ks)
 
-regions_over : (untracked : List BlockUnit) (f : ModuleRegions) → ModuleFine Any untracked f → RegionsAreOver untracked f
-regions_over untracked f h =
-    let k = f.analysis.found.known in
+pub sets_over : (untracked : List BlockUnit) (k : Known) (sets : Results (List Region)) → SetsFine Any untracked k sets → SetsAreOver untracked k sets
+sets_over untracked k sets h =
     let ok = IsTracked untracked k in
-    let each = at_each (AreFine (IsNamedHere Any k) ok) (AreOverPlaces untracked f.analysis) (all_over (IsNamedHere Any k) ok) f.regions.at h.at in
+    let each = at_each (AreFine (IsNamedHere Any k) ok) (AreOverPlaces untracked k) (all_over (IsNamedHere Any k) ok) sets.at h.at in
     record {
-      at = each_all (λ (x : At (List Region)). AreOverPlaces untracked f.analysis x.value) (λ (x : At (List Region)). AreOverPlaces untracked f.analysis x.value) (λ x i. i) f.regions.at each;
-      summary = all_over (IsNamedHere Any k) ok f.regions.summary h.summary;
+      at = each_all (λ (x : At (List Region)). AreOverPlaces untracked k x.value) (λ (x : At (List Region)). AreOverPlaces untracked k x.value) (λ x i. i) sets.at each;
+      summary = all_over (IsNamedHere Any k) ok sets.summary h.summary;
     }
 
 pub regions_are_over_places : RegionsAreOverPlaces
 regions_are_over_places ps sss g t =
     let ks = known_of ps sss in
-    each_all (ModuleFine Any g.untracked) (RegionsAreOver g.untracked) (regions_over g.untracked) (all_regions g (analyses ks g)) (modules_fine Any ps sss g t (any_named ks))
+    each_all (ModuleFine Any g.untracked) (RegionsAreOver g.untracked) (λ f. sets_over g.untracked f.analysis.found.known f.regions) (all_regions g (analyses ks g)) (modules_fine Any ps sss g t (any_named ks))

@@ -151,7 +151,7 @@ module _ (N : Variable → Type 0) (ok : ℕ → Type 0) where
     each_fine [] = tt
     each_fine (n ∷ ns) = both_all IsFine (f n) (all_accesses f ns) (fine n) (each_fine ns)
 
-    any_fine : (cs ns : List ℕ) → AreFine (in_any_order cs f ns)
+    pub any_fine : (cs ns : List ℕ) → AreFine (in_any_order cs f ns)
     any_fine cs ns =
         map_all IsFine inexact (λ r h. h) (unite_all (all_forgetting cs (all_accesses f ns)))
         (united_fine (all_forgetting cs (all_accesses f ns))

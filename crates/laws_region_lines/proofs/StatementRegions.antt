@@ -62,12 +62,12 @@ module _ (Name : List ℕ → Type 0) (ok : ℕ → Type 0) (m : ScopeTree) (a :
 
   -- ---- a DO
 
-  range_is : (l : LoopTree) → IsRangeOf ok (range_of l m t)
+  pub range_is : (l : LoopTree) → IsRangeOf ok (range_of l m t)
   range_is (tree.loop index first last step body) =
       let parts = parts_of_loop ok m a (tree.loop index first last step body) (list_at t false body) (list_done ok false body (each_at t body) (each_done body)) in
       record { first = parts.first; last = parts.last; turn = iteration_done ok (loop_parts m (tree.loop index first last step body) (list_at t false body)) parts }
 
-  loop_reads_fine : (l : LoopTree) → F (loop_reads l m)
+  pub loop_reads_fine : (l : LoopTree) → F (loop_reads l m)
   loop_reads_fine (tree.loop index first last step body) =
       join (reads first m) (reads last m ++ maybe_reads step m) (reads_fine Name ok m a few first) (join (reads last m) (maybe_reads step m) (reads_fine Name ok m a few last) (maybe_fine Name ok m a few step))
 
@@ -183,11 +183,11 @@ module _ (Name : List ℕ → Type 0) (ok : ℕ → Type 0) (m : ScopeTree) (a :
   bounds_fine (b ∷ bs) =
       join (reads b.low m) (maybe_reads b.high m ++ bounds_reads bs m) (reads_fine Name ok m a few b.low) (join (maybe_reads b.high m) (bounds_reads bs m) (maybe_fine Name ok m a few b.high) (bounds_fine bs))
 
-  symbols_fine : (ss : List SymbolTree) → F (symbols_reads ss m)
+  pub symbols_fine : (ss : List SymbolTree) → F (symbols_reads ss m)
   symbols_fine [] = tt
   symbols_fine (s ∷ ss) = join (bounds_reads s.bounds m) (symbols_reads ss m) (bounds_fine s.bounds) (symbols_fine ss)
 
-  seen_fine : (ss : List SymbolTree) (cs : List ℕ) (rs : List Region) → F rs → F (seen ss cs rs)
+  pub seen_fine : (ss : List SymbolTree) (cs : List ℕ) (rs : List Region) → F rs → F (seen ss cs rs)
   seen_fine ss cs [] h = tt
   seen_fine ss cs (r ∷ rs) h =
       let others = seen_fine ss cs rs h.1 in

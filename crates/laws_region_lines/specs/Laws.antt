@@ -5,23 +5,28 @@ use Rattle.f77_ast.specs.DeclTrees.{ParsedTree}
 use Rattle.f77_symbols.specs.declared.variable.Unit.{Unit as BlockUnit}
 use Rattle.f77_symbols.specs.Symbols.{SymbolTree}
 use Rattle.f77_results.specs.declared.results.At.{At}
+use Rattle.f77_results.specs.declared.results.Results.{Results}
 use Rattle.call_graph.specs.declared.graph.Graph.{Graph}
-use Rattle.f77_meaning.specs.Modules.{known_of}
+use Rattle.f77_meaning.specs.Modules.{Known, known_of}
 use Rattle.region_sets.specs.declared.region.Region.{Region}
 use Rattle.region_phases.specs.Phases.{ModuleRegions, all_regions}
-use Rattle.scalar_phases.specs.Phases.{Analysis, analyses}
+use Rattle.scalar_phases.specs.Phases.{analyses}
 use Rattle.laws_programs.specs.Programs.{AreTables}
 use Rattle.laws_lines.specs.Variables.{IsOver}
 use Rattle.laws_lines.specs.Laws.{IsTracked}
 use Rattle.laws_region_lines.specs.Places.{IsPlaceOf, IsOne}
 
 -- each has one system, on subscripts and tracked cells of the module
-abbrev pub AreOverPlaces : List BlockUnit → Analysis → List Region → Type 0
-AreOverPlaces untracked a rs = AllByRecursion (λ (r : Region). IsOne (IsOver (IsPlaceOf (IsTracked untracked a.found.known))) r.pieces) rs
+abbrev pub AreOverPlaces : List BlockUnit → Known → List Region → Type 0
+AreOverPlaces untracked k rs = AllByRecursion (λ (r : Region). IsOne (IsOver (IsPlaceOf (IsTracked untracked k))) r.pieces) rs
 
-pub record RegionsAreOver (untracked : List BlockUnit) (f : ModuleRegions) : Type 0 where
-  pub at : All (λ (x : At (List Region)). AreOverPlaces untracked f.analysis x.value) f.regions.at
-  pub summary : AreOverPlaces untracked f.analysis f.regions.summary
+-- of the set of each statement, and of that which callers see
+pub record SetsAreOver (untracked : List BlockUnit) (k : Known) (sets : Results (List Region)) : Type 0 where
+  pub at : All (λ (x : At (List Region)). AreOverPlaces untracked k x.value) sets.at
+  pub summary : AreOverPlaces untracked k sets.summary
+
+abbrev pub RegionsAreOver : List BlockUnit → ModuleRegions → Type 0
+RegionsAreOver untracked f = SetsAreOver untracked f.analysis.found.known f.regions
 
 -- of modules with their tables, whatever their links are
 abbrev pub RegionsAreOverPlaces : Type 0

@@ -4,10 +4,12 @@ use Rattle.std.specs.List.{AllByRecursion}
 use Rattle.f77_ast.specs.DeclTrees.{ParsedTree}
 use Rattle.f77_printer.specs.declared.added.Added.{Added}
 use Rattle.f77_symbols.specs.Symbols.{SymbolTree}
+use Rattle.f77_results.specs.declared.results.Results.{Results}
 use Rattle.call_graph.specs.declared.graph.Graph.{Graph}
-use Rattle.f77_meaning.specs.Modules.{known_of, symbol_names}
+use Rattle.f77_meaning.specs.Modules.{Known, known_of, symbol_names}
 use Rattle.scalar_phases.specs.Phases.{analyses}
 use Rattle.region_phases.specs.Phases.{ModuleRegions, all_regions}
+use Rattle.region_sets.specs.declared.region.Region.{Region}
 use Rattle.region_lines.specs.RegionLines.{region_lines_of}
 use Rattle.roundtrip_text.specs.Texts.{IsPassedOver}
 use Rattle.roundtrip_programs.specs.Lines.{IsShown}
@@ -16,20 +18,23 @@ use Rattle.roundtrip_regions.specs.Added.{AreReadable}
 use Rattle.laws_programs.specs.Programs.{AreTables}
 use Rattle.laws_lines.specs.NameLaws.{AreWords}
 use Rattle.laws_region_lines.specs.Names.{AreNamed}
-use Rattle.laws_region_lines.specs.Lines.{HaveNoPhi, IsRegionLine}
+use Rattle.laws_region_lines.specs.Lines.{AreRegionLines}
 
--- what is written of the regions of a module
-abbrev pub lines_in : ModuleRegions → List Added
-lines_in f = region_lines_of f.analysis.found.known.read.main f.analysis.found.known.read.body (symbol_names f.analysis.found.known.symbols) f.regions
+-- what is written of the sets of a module
+abbrev pub lines_in : Known → Results (List Region) → List Added
+lines_in k sets = region_lines_of k.read.main k.read.body (symbol_names k.symbols) sets
 
 -- each region is of a symbol, a block or a saved local, and its systems name only symbols and subscripts, in order; names are of letters, digits and `_`
 abbrev pub RegionsAreReadable : Type 0
 RegionsAreReadable = (ps : List ParsedTree) (sss : List (List SymbolTree)) (g : Graph) → AreTables ps sss → AreNamed IsPlain (known_of ps sss) →
     All (λ (f : ModuleRegions). AreReadable (symbol_names f.analysis.found.known.symbols) f.regions) (all_regions g (analyses (known_of ps sss) g))
 
--- each line that is written of the regions of a module, where no symbol of it is named as a subscript
+-- each line that is written of the sets of a module, where no symbol of it is named as a subscript
+abbrev pub SetLinesMean : Known → Results (List Region) → Type 0
+SetLinesMean k sets = AreRegionLines (symbol_names k.symbols) sets (lines_in k sets)
+
 abbrev pub RegionLinesMean : ModuleRegions → Type 0
-RegionLinesMean f = HaveNoPhi (symbol_names f.analysis.found.known.symbols) → AllByRecursion (IsRegionLine (symbol_names f.analysis.found.known.symbols) f.regions) (lines_in f)
+RegionLinesMean f = SetLinesMean f.analysis.found.known f.regions
 
 -- of modules with their tables, whose names are words
 abbrev pub RegionLinesMeanRegions : Type 0
@@ -37,8 +42,11 @@ RegionLinesMeanRegions = (ps : List ParsedTree) (sss : List (List SymbolTree)) (
     All RegionLinesMean (all_regions g (analyses (known_of ps sss) g))
 
 -- each such line is a comment line that reading drops, where names are of printable ASCII
+abbrev pub SetLinesPass : Known → Results (List Region) → Type 0
+SetLinesPass k sets = AllByRecursion IsPassedOver (lines_in k sets)
+
 abbrev pub RegionLinesPass : ModuleRegions → Type 0
-RegionLinesPass f = AllByRecursion IsPassedOver (lines_in f)
+RegionLinesPass f = SetLinesPass f.analysis.found.known f.regions
 
 abbrev pub AllRegionLinesPass : Type 0
 AllRegionLinesPass = (ps : List ParsedTree) (sss : List (List SymbolTree)) (g : Graph) → AreTables ps sss → AreNamed IsShown (known_of ps sss) → All RegionLinesPass (all_regions g (analyses (known_of ps sss) g))

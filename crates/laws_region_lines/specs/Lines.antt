@@ -1,6 +1,6 @@
 -- What a line of a region is read as.
 use Rattle.std.specs.Prelude.{◌≡◌, ℕ, Bool, false, List, Some, bytes_eq}
-use Rattle.std.specs.List.{list_any}
+use Rattle.std.specs.List.{AllByRecursion, list_any}
 use Rattle.f77_printer.specs.declared.added.Added.{Added}
 use Rattle.f77_results.specs.declared.results.Results.{Results}
 use Rattle.region_sets.specs.declared.region.Region.{Region}
@@ -18,3 +18,7 @@ HaveNoPhi names = list_any is_phi names ≡ false
 -- a line is read as just a region that was found there
 abbrev pub IsRegionLine : List (List ℕ) → Results (List Region) → Added → Type 0
 IsRegionLine names sets x = (r : Region) × (read_region_line names x.line ≡ Some r) × IsThere sets x.before r
+
+-- so is each of some lines, where no symbol is named as a subscript
+abbrev pub AreRegionLines : List (List ℕ) → Results (List Region) → List Added → Type 0
+AreRegionLines names sets lines = HaveNoPhi names → AllByRecursion (IsRegionLine names sets) lines

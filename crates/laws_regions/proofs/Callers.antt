@@ -27,7 +27,7 @@ some_back cs (s ∷ ss) p h k =
     let q = and_parts (has_none (named_cells cs s)) (names_none cs ss) h in
     ⊎_elim (λ a. inl (without_back cs s p q.0 a)) (λ b. inr (some_back cs ss p q.1 b)) k
 
-in_seen : (ss : List SymbolTree) (cs : List ℕ) (rs : List Region) (r : Region) → In r rs → goes_out ss r.variable ≡ true → In (for_callers cs r) (seen ss cs rs)
+pub in_seen : (ss : List SymbolTree) (cs : List ℕ) (rs : List Region) (r : Region) → In r rs → goes_out ss r.variable ≡ true → In (for_callers cs r) (seen ss cs rs)
 in_seen ss cs [] r i h = elim i [ ]
 in_seen ss cs (q ∷ rs) r here h = subst (λ b. In (for_callers cs r) (if b then for_callers cs r ∷ seen ss cs rs else seen ss cs rs)) (sym h) here
 in_seen ss cs (q ∷ rs) r (there i) h = go (goes_out ss q.variable) (in_seen ss cs rs r i h)
@@ -36,7 +36,7 @@ in_seen ss cs (q ∷ rs) r (there i) h = go (goes_out ss q.variable) (in_seen ss
     go true ih = there ih
     go false ih = ih
 
-of_seen : (P : Region → Type 0) (ss : List SymbolTree) (cs : List ℕ) (rs : List Region) → ((r : Region) → In r rs → P (for_callers cs r)) → (q : Region) → In q (seen ss cs rs) → P q
+pub of_seen : (P : Region → Type 0) (ss : List SymbolTree) (cs : List ℕ) (rs : List Region) → ((r : Region) → In r rs → P (for_callers cs r)) → (q : Region) → In q (seen ss cs rs) → P q
 of_seen P ss cs [] h q i = elim i [ ]
 of_seen P ss cs (r ∷ rs) h q i = go (goes_out ss r.variable) q i (λ w. of_seen P ss cs rs (λ y j. h y (there j)) w)
   where
@@ -46,7 +46,7 @@ of_seen P ss cs (r ∷ rs) h q i = go (goes_out ss r.variable) q i (λ w. of_see
     go false q j ih = ih q j
 
 module _ (m : Scene) (at : Places) (by : AreByOrder at) (x : ℕ → ℤ) where
-  callers_lie : (cs : List ℕ) (r : Region) (u : ℕ) → LiesIn m (at r.variable) r x u → LiesIn m (at r.variable) (for_callers cs r) x u
+  pub callers_lie : (cs : List ℕ) (r : Region) (u : ℕ) → LiesIn m (at r.variable) r x u → LiesIn m (at r.variable) (for_callers cs r) x u
   callers_lie cs r u l = record {
     phi = l.phi;
     there = l.there;
@@ -55,7 +55,7 @@ module _ (m : Scene) (at : Places) (by : AreByOrder at) (x : ℕ → ℤ) where
     described = λ p st ph. without_keeps cs l.piece p (l.described p st ph);
   }
 
-  callers_sharp : (cs : List ℕ) (r : Region) (c : ℕ → Bool) → IsSharp m (at r.variable) r x c → IsSharp m (at r.variable) (for_callers cs r) x c
+  pub callers_sharp : (cs : List ℕ) (r : Region) (c : ℕ → Bool) → IsSharp m (at r.variable) r x c → IsSharp m (at r.variable) (for_callers cs r) x c
   callers_sharp cs r c h e p st g =
       let q = and_parts (r.exact && names_none cs r.pieces) (not (any_weak (map (without cs) r.pieces))) e in
       let w = and_parts r.exact (names_none cs r.pieces) q.0 in

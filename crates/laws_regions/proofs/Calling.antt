@@ -30,7 +30,7 @@ use Rattle.region_sets.specs.declared.region.Access.{Access}
 use Rattle.region_sets.specs.declared.region.Region.{Region}
 use Rattle.region_sets.specs.Sets.{unite_all}
 use Rattle.region_sets.specs.Claims.{LiesIn, IsSharp, IsSharpSet}
-use Rattle.region_translation.specs.Sides.{SidesTree}
+use Rattle.call_equations.specs.Sides.{SidesTree}
 use Rattle.region_translation.specs.Caller.{to_caller}
 use Rattle.array_regions.specs.Calls.{Called, actuals_reads, all_in_caller}
 use Rattle.laws_statements.proofs.Ends.{both}
@@ -112,7 +112,7 @@ module _ (D : Claim) (ks : List Known) (g : Graph) (b : Blocks) (cs : Callees) (
       free_site : Site b cs here_alone (bare cs h) (entered_at here_alone k) x es no_rows
       free_site = site_free b cs here_alone sites h k x es P no_rows named site here
 
-      leads : (i : List Content) → Leads (actuals es 0 h.routine.names at (h.routine.own_unit n)) z i (λ xs s j. Known_of xs s)
+      pub leads : (i : List Content) → Leads (actuals es 0 h.routine.names at (h.routine.own_unit n)) z i (λ xs s j. Known_of xs s)
       leads i =
           both (run (actuals es 0 h.routine.names at (h.routine.own_unit n)) (Whole z) i)
           (λ xs s j. (j ≡ i) × AreOffered (activation b cs here_alone (bare cs h) (sane_bare b cs h sane) psm at made (entered_at here_alone k) (sane_with b (sites_entry k.scope (here_alone k.routine.name)) k sane_k) x es no_rows free_site n locked still (fits_bare b cs h psm at locked still fits) z (λ p st. tt)) es 0 z s xs)
@@ -122,7 +122,7 @@ module _ (D : Claim) (ks : List Known) (g : Graph) (b : Blocks) (cs : Callees) (
           (actuals_fit b cs here_alone (bare cs h) (sane_bare b cs h sane) psm at made (entered_at here_alone k) (sane_with b (sites_entry k.scope (here_alone k.routine.name)) k sane_k) x es no_rows free_site n locked still (fits_bare b cs h psm at locked still fits) z (λ p st. tt)) es z i)
           (actuals_leads h.routine.names at (h.routine.own_unit n) es 0 z i site.offered)
 
-      entered_there : (xs : List Actual) (s : Store) → Known_of xs s → Entered k (places_of xs) (lock_own locked (own_units xs))
+      pub entered_there : (xs : List Actual) (s : Store) → Known_of xs s → Entered k (places_of xs) (lock_own locked (own_units xs))
       entered_there xs s o =
           entered_back (sites_entry k.scope (here_alone k.routine.name)) k (places_of xs) (lock_own locked (own_units xs))
           (entered b cs here_alone (bare cs h) (sane_bare b cs h sane) psm at made (entered_at here_alone k) (sane_with b (sites_entry k.scope (here_alone k.routine.name)) k sane_k) x es no_rows free_site n locked still (fits_bare b cs h psm at locked still fits) z (λ p st. tt) s xs o.0 o.1)

@@ -36,10 +36,10 @@ use Rattle.transformers.specs.Modules.{transformers_of}
 use Rattle.region_sets.specs.declared.region.Access.{Access}
 use Rattle.region_sets.specs.declared.region.Region.{Region}
 use Rattle.region_sets.specs.Claims.{Elements, LiesIn, IsSharp}
-use Rattle.region_translation.specs.declared.link.Link.{Link}
-use Rattle.region_translation.specs.Sides.{SidesTree, changed_cells}
-use Rattle.region_translation.specs.Cells.{actual_bound, dummy_bound}
-use Rattle.region_translation.specs.Links.{same_elements, scalar_link, element_link, by_position, aligned_or, array_link, rest_link, variable_link, subscripts_link, variable_at, element_at, variable_of, element_of, expr_link, actual_link, by_unit, block_link, like_or_block, if_saved, place_link, symbol_link, link_of, is_constant as has_value}
+use Rattle.call_equations.specs.declared.link.Link.{Link}
+use Rattle.call_equations.specs.Sides.{SidesTree, changed_cells}
+use Rattle.call_equations.specs.Cells.{actual_bound, dummy_bound}
+use Rattle.call_equations.specs.Links.{same_elements, scalar_link, element_link, by_position, aligned_or, array_link, rest_link, variable_link, subscripts_link, variable_at, element_at, variable_of, element_of, expr_link, actual_link, by_unit, block_link, like_or_block, if_saved, place_link, symbol_link, link_of, is_constant as has_value}
 use Rattle.region_translation.specs.Caller.{by_link, to_caller}
 use Rattle.region_translation.specs.Claims.{FormsMean, LinkHolds, EachDim, BoundMeans, ConstantsFit, LastMayBeOpen, Stands, ActualStands, DummyStands, SubscriptsMean, IsElement}
 use Rattle.region_translation.specs.Claims as translation

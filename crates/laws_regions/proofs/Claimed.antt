@@ -77,14 +77,14 @@ module _ (k : Setting) (p : Spot) (s : Store) (q : Ran Flow) (later : List Event
       go true h = h
       go false h = cc
 
-  lies_one : (r : Region) (u : ℕ) → LiesIn (scene k) (elements_at k r.variable) r (numbers_of s) u → claims.LiesIn k.ks k.g (is_cell k.m.tracked) x u (as_region k.ks k.g k.at r)
+  pub lies_one : (r : Region) (u : ℕ) → LiesIn (scene k) (elements_at k r.variable) r (numbers_of s) u → claims.LiesIn k.ks k.g (is_cell k.m.tracked) x u (as_region k.ks k.g k.at r)
   lies_one r u l = lies_claimed k.ks k.g (is_cell k.m.tracked) k.far k.place x r u (record { phi = l.phi; there = there_claimed r.variable l.phi u l.there; piece = l.piece; is_one = l.is_one; described = l.described })
 
-  sharp_one : (r : Region) (test : ℕ → Bool) → IsSharp (scene k) (elements_at k r.variable) r (numbers_of s) test → claims.IsExact k.ks k.g (is_cell k.m.tracked) x test (as_region k.ks k.g k.at r)
+  pub sharp_one : (r : Region) (test : ℕ → Bool) → IsSharp (scene k) (elements_at k r.variable) r (numbers_of s) test → claims.IsExact k.ks k.g (is_cell k.m.tracked) x test (as_region k.ks k.g k.at r)
   sharp_one r test h = sharp_claimed k.ks k.g (is_cell k.m.tracked) k.far k.place x test r (λ e w st hs. (let y = h e w st hs in record { unit = y.unit; there = there_claimed r.variable _ y.unit y.there; is_so = y.is_so }))
 
   -- whatever variables its systems name
-  points_one : (r : Region) (test : ℕ → Bool) → IsSharp (scene k) (elements_at k r.variable) r (numbers_of s) test → PointsAre k.ks k.g (is_cell k.m.tracked) x test r
+  pub points_one : (r : Region) (test : ℕ → Bool) → IsSharp (scene k) (elements_at k r.variable) r (numbers_of s) test → PointsAre k.ks k.g (is_cell k.m.tracked) x test r
   points_one r test h e w st hs =
       let y = h e w st hs in
       let at = place_of k.ks k.g k.at r.variable in
@@ -93,7 +93,7 @@ module _ (k : Setting) (p : Spot) (s : Store) (q : Ran Flow) (later : List Event
   -- ---- of a kind
 
   module _ (such : Access → Bool) where
-    some_of : (rs : List Region) (u : ℕ) (r : Region) → In r rs → such r.kind ≡ true → claims.LiesIn k.ks k.g (is_cell k.m.tracked) x u (as_region k.ks k.g k.at r) → LiesInSome k.ks k.g (is_cell k.m.tracked) x u (regions_in such k.ks k.g k.at rs)
+    pub some_of : (rs : List Region) (u : ℕ) (r : Region) → In r rs → such r.kind ≡ true → claims.LiesIn k.ks k.g (is_cell k.m.tracked) x u (as_region k.ks k.g k.at r) → LiesInSome k.ks k.g (is_cell k.m.tracked) x u (regions_in such k.ks k.g k.at rs)
     some_of [] u r i e l = elim i [ ]
     some_of (w ∷ rs) u r here e l = subst (λ b. LiesInSome k.ks k.g (is_cell k.m.tracked) x u (before_if b (as_region k.ks k.g k.at w) (regions_in such k.ks k.g k.at rs))) (sym e) (inl l)
     some_of (w ∷ rs) u r (there i) e l = go (such w.kind) (some_of rs u r i e l)
@@ -102,7 +102,7 @@ module _ (k : Setting) (p : Spot) (s : Store) (q : Ran Flow) (later : List Event
         go true ih = inr ih
         go false ih = ih
 
-    all_exact : (rs : List Region) (test : ℕ → Bool) → ((r : Region) → In r rs → such r.kind ≡ true → IsSharp (scene k) (elements_at k r.variable) r (numbers_of s) test) → AreExact k.ks k.g (is_cell k.m.tracked) x test (regions_in such k.ks k.g k.at rs)
+    pub all_exact : (rs : List Region) (test : ℕ → Bool) → ((r : Region) → In r rs → such r.kind ≡ true → IsSharp (scene k) (elements_at k r.variable) r (numbers_of s) test) → AreExact k.ks k.g (is_cell k.m.tracked) x test (regions_in such k.ks k.g k.at rs)
     all_exact [] test h = tt
     all_exact (w ∷ rs) test h = go (such w.kind) refl (all_exact rs test (λ r i. h r (there i)))
       where

@@ -63,12 +63,12 @@ renumbered k own rs z s a es e h = record {
 }
 
 -- an element in bounds is one of the units
-record Inside (p : Place) (u : ℕ) : Type 0 where
-  offset : ℕ
-  is_there : p.first + offset ≡ u
-  less : offset < p.extent
+pub record Inside (p : Place) (u : ℕ) : Type 0 where
+  pub offset : ℕ
+  pub is_there : p.first + offset ≡ u
+  pub less : offset < p.extent
 
-inside_of : (p : Place) (phi : ℕ → ℤ) (u : ℕ) → elements_of p phi ≡ Some u → Inside p u
+pub inside_of : (p : Place) (phi : ℕ → ℤ) (u : ℕ) → elements_of p phi ≡ Some u → Inside p u
 inside_of p phi u e = by (position p.dims (listed (length p.dims) phi)) e
   where
     by : (o : Option ℕ) → option_map (λ j. p.first + j) (within p o) ≡ Some u → Inside p u
@@ -85,7 +85,7 @@ any_in f (k ∷ ks) q here h = or_left (f k) (list_any f ks) h
 any_in f (k ∷ ks) q (there i) h = or_right (f k) (list_any f ks) (any_in f ks q i h)
 
 -- a unit of an entered module that is lost at its end is not visible there
-not_visible : (ks : List Known) (g : Graph) (m : List ℕ) (x : Occurrence) (u : ℕ) → x.spot ≡ spot m 0 → IsLost ks g m u → is_visible ks g x u ≡ true → ⊥
+pub not_visible : (ks : List Known) (g : Graph) (m : List ℕ) (x : Occurrence) (u : ℕ) → x.spot ≡ spot m 0 → IsLost ks g m u → is_visible ks g x u ≡ true → ⊥
 not_visible ks g m x u arrives l v =
     let test : Known → Bool = λ k. (is_entry_of k.read.name x.spot || is_entered k.read.name x.ran.trace) && list_any (λ v. nat_eq v u) (all_lost (numbering ks g) k.read.name k.symbols k.symbols) in
     let entry : is_entry_of l.known.read.name x.spot ≡ true = ap (is_entry_of l.known.read.name) arrives ∙ and_from (bytes_eq m l.known.read.name) true ((bytes_eq-Decides m l.known.read.name).1 (sym l.named)) refl in
@@ -122,10 +122,10 @@ module _ (ks : List Known) (g : Graph) (called : Called) (b : Blocks) (cs : Call
           ∙ (⊎_elim (λ a. a.1) (λ a. absurd (a.0 (sane.flat o.at o.dummy x o.is_dummy (e ∙ ap Variable (sym o.symbol)) h))) (made.dummy o.at o.dummy o.is_dummy)
           ∙ ap (λ n. places_in k ps n) o.symbol)
 
-  keeps_first : KeepsScalars ks g called b cs k sane regular turns callee ps (places_in k ps)
+  pub keeps_first : KeepsScalars ks g called b cs k sane regular turns callee ps (places_in k ps)
   keeps_first x v e h = refl
 
-  fixed_first : (n : ℕ) → NoDummy k.routine.dummies n → places_in k ps n ≡ k.routine.fixed n
+  pub fixed_first : (n : ℕ) → NoDummy k.routine.dummies n → places_in k ps n ≡ k.routine.fixed n
   fixed_first n o = scalars_fixed k.routine.dummies ps k.routine.fixed n o
 
   -- ---- the bounds are refused

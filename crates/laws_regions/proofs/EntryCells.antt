@@ -14,7 +14,7 @@ use Rattle.tracked_cells.specs.Standing.{is_int_scalar}
 use Rattle.f77_meaning.specs.Modules.{symbol_names, meant_by, is_function, meant_at, meant_in, names}
 use Rattle.affine_forms.specs.Scalars.{is_cell, if_cell, cell_in}
 use Rattle.affine_forms.specs.Claims.{Agrees, content_of}
-use Rattle.region_translation.specs.Sides.{is_entry_place, is_entry_cell, entry_cells}
+use Rattle.call_equations.specs.Sides.{is_entry_place, is_entry_cell, entry_cells}
 use Rattle.array_regions.specs.Calls.{scope_with}
 use Rattle.laws_analyses.proofs.AgreeLaws.{flagged}
 

@@ -10,8 +10,8 @@ use Rattle.f77_symbols.specs.declared.variable.Unit.{Unit as BlockUnit}
 use Rattle.transformer_algebra.specs.Claims.{Scene, Means, Kept}
 use Rattle.call_translation.specs.Actuals.{actual_of, form_in}
 use Rattle.call_translation.specs.Common.{tracked_at}
-use Rattle.region_translation.specs.Sides.{SidesTree}
-use Rattle.region_translation.specs.Cells.{form_at}
+use Rattle.call_equations.specs.Sides.{SidesTree}
+use Rattle.call_equations.specs.Cells.{form_at}
 use Rattle.region_translation.specs.Claims.{FormsMean}
 use Rattle.laws_calls.specs.Bindings.{IsDummy}
 use Rattle.laws_calls.specs.Scenes.{IsInBlock, IsSceneOf}

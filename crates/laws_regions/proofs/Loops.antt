@@ -78,13 +78,13 @@ module _ (k : Setting) (sound : Sound k) (D : Claim) (locked : Locks) (still : �
   abbrev x1 : Store
   x1 = put x unit (content Int a)
 
-  stored : is_stored (symbol_at k.m.symbols lp.index) ≡ true
+  pub stored : is_stored (symbol_at k.m.symbols lp.index) ≡ true
   stored = stored_by k index lp.index (sound.variables index lp.index named)
 
-  flat : (k.at lp.index).dims ≡ []
+  pub flat : (k.at lp.index).dims ≡ []
   flat = flat_scalar k index lp.index (sound.variables index lp.index named) bare
 
-  solid : 0 < (k.at lp.index).extent
+  pub solid : 0 < (k.at lp.index).extent
   solid = fit.solid index lp.index named bare
 
   zero_off : unit ≡ unit + 0
@@ -93,14 +93,14 @@ module _ (k : Setting) (sound : Sound k) (D : Claim) (locked : Locks) (still : �
   -- ---- what the index does
 
   module _ (free : locked unit ≡ None) where
-    wrote : (n : ℤ) (y : Store) → Wrote e lp.index n (numbers_of y) (numbers_of (put y unit (content Int n)))
+    pub wrote : (n : ℤ) (y : Store) → Wrote e lp.index n (numbers_of y) (numbers_of (put y unit (content Int n)))
     wrote n y = record {
       there = put_here y unit (content Int n);
       cells = λ d r q. put_cells k.sc.names k.m k.scalar k.at k.far k.place sound.names_fit locked still fit y (content Int n) index lp.index 0 unit named solid zero_off free d r q;
       foreign = λ u f. put_far k.sc.names k.m k.scalar k.at k.far k.place sound.names_fit locked still fit y (content Int n) index lp.index 0 unit named solid zero_off free u f;
     }
 
-    does_next : (m : ℤ) (y : Store) → numbers_of y unit ≡ m → StepIs lp.step c → Does e (next lp) (numbers_of y) (numbers_of (put y unit (content Int (m +ℤ c))))
+    pub does_next : (m : ℤ) (y : Store) → numbers_of y unit ≡ m → StepIs lp.step c → Does e (next lp) (numbers_of y) (numbers_of (put y unit (content Int (m +ℤ c))))
     does_next m y h q = go lp.tracked refl
       where
         w : Wrote e lp.index (m +ℤ c) (numbers_of y) (numbers_of (put y unit (content Int (m +ℤ c))))
@@ -133,24 +133,24 @@ module _ (k : Setting) (sound : Sound k) (D : Claim) (locked : Locks) (still : �
 
     module _ (mf : Means e lp.first (numbers_of x) a) (ml : Means e lp.last (numbers_of x) b) (step : StepIs lp.step c) (nz : int_eq c (pos 0) ≡ false) (keeps : (y z : Store) → Kept e (iteration lp).cells (iteration lp).foreign (numbers_of y) (numbers_of z) → I y → I z) (begun : I x) where
       -- what holds stays over the body
-      runs : (y z : Store) → Kept e lp.body.cells lp.body.foreign (numbers_of y) (numbers_of z) → I y → I z
+      pub runs : (y z : Store) → Kept e lp.body.cells lp.body.foreign (numbers_of y) (numbers_of z) → I y → I z
       runs y z d = keeps y z (kept_then e lp.body.cells (own_cells lp) lp.body.foreign [] (numbers_of y) (numbers_of z) (numbers_of z) d (record { cells = λ v r q. refl; foreign = λ u r f. refl }))
 
       -- and where the index changes
-      counts : (n : ℤ) (y : Store) → I y → I (put y unit (content Int n))
+      pub counts : (n : ℤ) (y : Store) → I y → I (put y unit (content Int n))
       counts n y = keeps y (put y unit (content Int n)) (kept_then e lp.body.cells (own_cells lp) lp.body.foreign [] (numbers_of y) (numbers_of y) (numbers_of (put y unit (content Int n))) (record { cells = λ v r q. refl; foreign = λ u r f. refl }) (own_kept n y))
 
-      begins : Begins e g (numbers_of x) a b
+      pub begins : Begins e g (numbers_of x) a b
       begins = record { first = mf; last = ml; tracks = turn_tracks e lp known trs; index = λ r. right_in lp.body.cells (own_cells lp) lp.index (own_in r) }
 
       -- a constant step is the value, and not 0
-      constant : (s : ℤ) → lp.step ≡ Some s → (c ≡ s) × NotZero s
+      pub constant : (s : ℤ) → lp.step ≡ Some s → (c ≡ s) × NotZero s
       constant s q = (let h : c ≡ s = subst (λ o. StepIs o c) q step in (h, not_zero s (ap (λ y. int_eq y (pos 0)) (sym h) ∙ nz)))
 
-      record Count (s : ℤ) (d j : ℕ) (m : ℤ) : Type 0 where
-        place : m ≡ a +ℤ (s *ℤ pos d)
-        after_first : NotBeyond (goes_up s) a m
-        left : iteration_count m b s ≡ j
+      pub record Count (s : ℤ) (d j : ℕ) (m : ℤ) : Type 0 where
+        pub place : m ≡ a +ℤ (s *ℤ pos d)
+        pub after_first : NotBeyond (goes_up s) a m
+        pub left : iteration_count m b s ≡ j
 
       -- an iteration that has ended
       record Past (s : ℤ) (i : ℕ) (es : List Event) : Type 0 where

@@ -21,7 +21,7 @@ use Rattle.laws_regions.proofs.Standing.{Distinct, each_first}
 
 -- ---- numbers of statements
 
-ids_parts : {T : Type 0} (xs ys : List (At T)) (ms ns : List ℕ) → ids xs ≡ ms → ids ys ≡ ns → ids (xs ++ ys) ≡ ms ++ ns
+pub ids_parts : {T : Type 0} (xs ys : List (At T)) (ms ns : List ℕ) → ids xs ≡ ms → ids ys ≡ ns → ids (xs ++ ys) ≡ ms ++ ns
 ids_parts [] ys ms ns e f = subst (λ m. ids ys ≡ m ++ ns) e f
 ids_parts (x ∷ xs) ys ms ns e f = subst (λ m. (x.id ∷ ids (xs ++ ys)) ≡ m ++ ns) e (ap (λ l. x.id ∷ l) (ids_parts xs ys (ids xs) ns refl f))
 

@@ -26,10 +26,10 @@ use Rattle.affine_forms.specs.Claims.{form_value, AtStart, Means}
 use Rattle.affine_forms.proofs.FormSteps.{affine_constant}
 use Rattle.transformer_algebra.specs.Claims.{Scene}
 use Rattle.transformer_algebra.specs.Cells.{has}
-use Rattle.region_translation.specs.Sides.{SidesTree}
-use Rattle.region_translation.specs.Cells.{actual_bound, dummy_bound}
-use Rattle.region_translation.specs.Forms.{is_among, lack, unless_among}
-use Rattle.region_translation.specs.Positions.{number_in, high_number}
+use Rattle.call_equations.specs.Sides.{SidesTree}
+use Rattle.call_equations.specs.Cells.{actual_bound, dummy_bound}
+use Rattle.call_equations.specs.Forms.{is_among, lack, unless_among}
+use Rattle.call_equations.specs.Positions.{number_in, high_number}
 use Rattle.region_translation.specs.Claims.{ConstantsFit, BoundMeans, EachDim, IsClosed, LastMayBeOpen, AtEntry}
 use Rattle.region_translation.specs.Claims as translation
 use Rattle.laws_regions.specs.Claims.{listed_from, listed, elements_of}

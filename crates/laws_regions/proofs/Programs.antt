@@ -36,7 +36,7 @@ use Rattle.transformers.specs.Statement as transformers
 use Rattle.region_sets.specs.declared.region.Region.{Region}
 use Rattle.region_sets.specs.Claims.{IsSharpSet}
 use Rattle.region_sets.specs.Sets.{unite_all}
-use Rattle.region_translation.specs.Sides.{SidesTree, changed_cells}
+use Rattle.call_equations.specs.Sides.{SidesTree, changed_cells}
 use Rattle.array_regions.specs.Calls.{Called, Callees as Summaries, actuals_reads, sides, summary_in_caller}
 use Rattle.array_regions.specs.Entry.{symbols_reads}
 use Rattle.array_regions.specs.Statement.{at_list, list_set}
@@ -97,17 +97,17 @@ numbers_differ (n ∷ ns) j h =
         go true q = absurd (grind (arith, nat_tests))
         go false q = f m (omega (arith, l))
 
-distinct_numbers : (body : StmtTrees) → IsNumbered body → Distinct (list_numbers body)
+pub distinct_numbers : (body : StmtTrees) → IsNumbered body → Distinct (list_numbers body)
 distinct_numbers body h = (numbers_differ (list_numbers body) 0 (λ i n e. (let q = h i n e in omega (arith, q)))).0
 
 -- ---- plans that forget
 
 module _ (D : Claim) where
-  each_forget : (us : List ℕ) (t : Plan) (s : Store) (i : List Content) → ((z : Store) → AtEach D t z i) → AtEach D (forget_all us t) s i
+  pub each_forget : (us : List ℕ) (t : Plan) (s : Store) (i : List Content) → ((z : Store) → AtEach D t z i) → AtEach D (forget_all us t) s i
   each_forget [] t s i h = h s
   each_forget (u ∷ us) t s i h = each_forget us t (put s u (undefined (s u))) i h
 
-  each_after : (us : List ℕ) (f : Flow) (s : Store) (i : List Content) → AtEach D (after_call us f) s i
+  pub each_after : (us : List ℕ) (f : Flow) (s : Store) (i : List Content) → AtEach D (after_call us f) s i
   each_after us Normal s i = each_forget us (Ends Normal) s i (λ z. tt)
   each_after us (Jump l) s i = tt
   each_after us Returned s i = each_forget us (Ends Normal) s i (λ z. tt)
@@ -175,7 +175,7 @@ module _ (ks : List Known) (g : Graph) (b : Blocks) (cs : Callees) (sites : List
         functions = regular.functions;
       }
 
-      found_each : Each (λ (a : At Transformer). (0 < a.id) × (k.found.transformer a.id ≡ a.value)) (transformers.at_list k.routine.body k.scope cs true)
+      pub found_each : Each (λ (a : At Transformer). (0 < a.id) × (k.found.transformer a.id ≡ a.value)) (transformers.at_list k.routine.body k.scope cs true)
       found_each =
           subst (λ (r : Found). Each (λ (a : At Transformer). (0 < a.id) × (r.transformer a.id ≡ a.value)) (transformers.at_list k.routine.body k.scope cs true)) (sym analysed.found)
           (each_found_at _ (transformers_of k.routine.body k.scope cs).at (in_order (transformers_of k.routine.body k.scope cs).at k.routine.body (t_list k.scope cs k.routine.body true) analysed.numbered) (λ a n v. (n, ap or_unchanging v)))
@@ -222,7 +222,7 @@ module _ (ks : List Known) (g : Graph) (b : Blocks) (cs : Callees) (sites : List
       CallsGo = Each (CallGoes D (setting ks g (calls_in k) b cs k sane regular turns callee ps at) (Fits b k ps at) (Steady (setting ks g (calls_in k) b cs k sane regular turns callee ps at) (changed_cells (transformers_of k.routine.body k.scope cs).at) began)) (list_calls k.routine.body)
 
       module _ (calls_go : CallsGo) where
-        stands : StandsList D here Locked_so I k.routine.body true
+        pub stands : StandsList D here Locked_so I k.routine.body true
         stands = record {
           numbers = distinct_numbers k.routine.body analysed.numbered;
           found = found_each;
@@ -273,7 +273,7 @@ module _ (ks : List Known) (g : Graph) (b : Blocks) (cs : Callees) (sites : List
         (arrays_are k.routine.names k.scope.scalars (is_cell k.scope.tracked) s i sane.names_fit.agrees (unit_in (dummy_places k ps)) k.routine.dummies ps (dummy_places k ps) sane.distinct firsts offered)
         (arrays_are k.routine.names (entry_scope g k).scalars (is_cell (entry_scope g k).tracked) s i joins.entry_agrees (unit_in (dummy_places k ps)) k.routine.dummies ps (dummy_places k ps) sane.distinct firsts offered)))
 
-    bounds_looked : (s : Store) → Looked (arrays_bound k.routine.dummies ps k.routine.names (dummy_places k ps)) s (λ a es. Got ks g (calls_in k) b cs k sane regular turns callee ps (dummies_reads k.routine.dummies k.scope) s a es × IfGave a (λ at. Bound g b k sane ps s at))
+    pub bounds_looked : (s : Store) → Looked (arrays_bound k.routine.dummies ps k.routine.names (dummy_places k ps)) s (λ a es. Got ks g (calls_in k) b cs k sane regular turns callee ps (dummies_reads k.routine.dummies k.scope) s a es × IfGave a (λ at. Bound g b k sane ps s at))
     bounds_looked s =
         looked_with (arrays_bound k.routine.dummies ps k.routine.names (dummy_places k ps)) s [] (Got ks g (calls_in k) b cs k sane regular turns callee ps (dummies_reads k.routine.dummies k.scope) s) (λ at z j. Bound g b k sane ps s at)
         (arrays_look ks g (calls_in k) b cs k sane regular turns callee ps s k.routine.dummies ps (dummy_places k ps) (λ x v e h. refl) enters.bare sane.flat)
@@ -481,7 +481,7 @@ module _ (ks : List Known) (g : Graph) (b : Blocks) (cs : Callees) (sites : List
   PartsGo (k ∷ parts) pl = PartGoes parts k pl.0 × PartsGo parts pl.3
 
   module _ (k : Part) (sane : Sane b k) (below : List Part) (analysed : Analysed b cs sites below k) (named : of k.routine.name ≡ k) (goes : PartGoes below k sane) (callee : List ℕ → Meaning) (free : (x : List ℕ) → FreeOk b cs (lookup below x) (callee x)) (fine : (x : List ℕ) → FineOk ks g b (λ p. (regions_in_part g cs (rs p.routine.name) p).summary) (said (EachRegionHolds ks g cs rs of)) (lookup below x) (callee x)) (ps : List Place) where
-    part_calls : (began : Store) (at : Places) (bound : Bound g b k sane ps began at) → CallsGo k sane goes.regular goes.enters goes.joins below analysed named callee free ps began at bound
+    pub part_calls : (began : Store) (at : Places) (bound : Bound g b k sane ps began at) → CallsGo k sane goes.regular goes.enters goes.joins below analysed named callee free ps began at bound
     part_calls began at bound =
         all_calls_go k sane goes.regular goes.joins.own_below below callee free fine ps began at bound
         (sound k sane goes.regular goes.enters goes.joins below analysed named callee free ps began at bound) (list_calls k.routine.body) analysed.calls goes.sends
@@ -492,7 +492,7 @@ module _ (ks : List Known) (g : Graph) (b : Blocks) (cs : Callees) (sites : List
     part_main : (locked : Locks) → Entered k ps locked → (z : Store) (i : List Content) → AtEach D (Within (spot k.routine.name 0) (dummy_places k ps) (body_of k.routine turns callee ps (dummy_places k ps) locked) (λ f. Ends f)) z i
     part_main locked ent z i = main_each k sane goes.regular goes.enters goes.joins below analysed named callee free ps part_calls locked ent z i
 
-  all_fine : (parts : List Part) (pl : AnalysedParts b cs sites of parts) → PartsGo parts pl → (x : List ℕ) → FineOk ks g b seen_of D (lookup parts x) (meanings (routines parts) turns x)
+  pub all_fine : (parts : List Part) (pl : AnalysedParts b cs sites of parts) → PartsGo parts pl → (x : List ℕ) → FineOk ks g b seen_of D (lookup parts x) (meanings (routines parts) turns x)
   all_fine [] pl re x = refl
   all_fine (k ∷ parts) pl re x = go (bytes_eq x k.routine.name) (all_fine parts pl.3 re.1 x) (λ y. all_fine parts pl.3 re.1 y)
     where

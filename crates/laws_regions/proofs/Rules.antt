@@ -96,7 +96,7 @@ then_then (Show xs t) f g = ap (Show xs) (then_then t f g)
 then_then (Take k) f g = λ i. Take (λ o. then_then (k o) f g i)
 then_then (Arrive p t) f g = ap (Arrive p) (then_then t f g)
 
-plan_then : (t : Plan) (f : Flow → Plan) → steps_of (t ▹ f) ≡ (steps_of t >>= λ g. steps_of (f g))
+pub plan_then : (t : Plan) (f : Flow → Plan) → steps_of (t ▹ f) ≡ (steps_of t >>= λ g. steps_of (f g))
 plan_then (plan.Ends g) f = refl
 plan_then (plan.Breaks b) f = refl
 plan_then (plan.Look u k) f = λ i. Look u (λ c. plan_then (k c) f i)

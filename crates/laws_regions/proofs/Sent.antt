@@ -7,7 +7,7 @@ use Rattle.region_sets.specs.declared.region.Access.{Access}
 use Rattle.region_sets.specs.declared.region.Region.{Region}
 use Rattle.region_sets.specs.Claims.{Places, LiesIn, LiesInSet, IsSharp, IsSharpSet}
 use Rattle.region_sets.proofs.StepLaws.{in_left, in_right, in_either}
-use Rattle.region_translation.specs.Sides.{SidesTree}
+use Rattle.call_equations.specs.Sides.{SidesTree}
 use Rattle.region_translation.specs.Caller.{to_caller}
 use Rattle.array_regions.specs.Calls.{all_in_caller}
 

@@ -101,7 +101,7 @@ module _ (k : Setting) (sound : Sound k) (solid : (x : List ℕ) (v : ℕ) → k
         found None f = subst (λ t. Aimed (tree.element x fs) (Broke (Faulty Bounds)) t) (sym (trace_nil es)) (missed (tree.element x fs) Bounds es h.holds)
         found (Some o) f = subst (λ t. Aimed (tree.element x fs) (Gave (to ((k.at v).first + o) (k.at v).tag)) t) (sym (trace_nil es)) (record { holds = h.holds; sharp = (h.sharp, hits o f (has o f (has_bounds y.symbol.bounds) refl)) })
 
-    target_looks : (a : ExprTree) → is_plain k.scalar a ≡ true → Looked (target a k.sc.names k.at) s (Aimed a)
+    pub target_looks : (a : ExprTree) → is_plain k.scalar a ≡ true → Looked (target a k.sc.names k.at) s (Aimed a)
     target_looks (tree.int n) p = missed (tree.int n) Unset [] (holds_none k [] s)
     target_looks (tree.log b) p = missed (tree.log b) Unset [] (holds_none k [] s)
     target_looks (tree.name x) p = name_aims x p (k.sc.names x) refl
@@ -166,7 +166,7 @@ module _ (k : Setting) (sound : Sound k) (solid : (x : List ℕ) (v : ℕ) → k
 
     module _ (still : ℕ → Bool) (fit : Fit k.sc.names k.scalar k.at (scene k) locked still) where
       -- an item is given a number
-      item_moves : (e : ExprTree) (t : Target) (s : Store) (c : Content) → is_target k.scalar e ≡ true → IsUnit e k.sc.names k.at t → locked t.unit ≡ None → Does (scene k) (item_does k.m e) (numbers_of s) (numbers_of (put s t.unit c))
+      pub item_moves : (e : ExprTree) (t : Target) (s : Store) (c : Content) → is_target k.scalar e ≡ true → IsUnit e k.sc.names k.at t → locked t.unit ≡ None → Does (scene k) (item_does k.m e) (numbers_of s) (numbers_of (put s t.unit c))
       item_moves e t s c h q free =
           let hit = hit_of k.sc.names k.m k.scalar k.at k.far k.place sound.names_fit locked still fit e t h q in
           let kept = hit_kept k.sc.names k.m k.scalar k.at k.far k.place sound.names_fit locked still fit e s c t.unit hit free in
@@ -175,7 +175,7 @@ module _ (k : Setting) (sound : Sound k) (solid : (x : List ℕ) (v : ℕ) → k
       abbrev items : ExprTrees → Steps (Unit {0})
       items es = items_read es k.sc.names k.at locked
 
-      aimed_with : (e : ExprTree) (s : Store) → is_plain k.scalar e ≡ true → Looked (target e k.sc.names k.at) s (λ b fs. Aimed s e b fs × IfGave b (λ t. IsUnit e k.sc.names k.at t))
+      pub aimed_with : (e : ExprTree) (s : Store) → is_plain k.scalar e ≡ true → Looked (target e k.sc.names k.at) s (λ b fs. Aimed s e b fs × IfGave b (λ t. IsUnit e k.sc.names k.at t))
       aimed_with e s p = looked_with (target e k.sc.names k.at) s [] (Aimed s e) (λ t z j. IsUnit e k.sc.names k.at t) (target_looks s e p) (target_leads k.sc.names k.at s [] e (λ t z j. IsUnit e k.sc.names k.at t) (λ t h. h))
 
       abbrev item_rest : ExprTree → ExprTrees → List Region

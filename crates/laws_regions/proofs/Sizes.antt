@@ -33,7 +33,7 @@ symmetric x y false e = go (bytes_eq y x) refl
     go false q = refl
 
 -- the size found first
-put_size : (x : List ℕ) (n : ℕ) (bs : List Block) → size_in (block_put x n bs) x ≡ n
+pub put_size : (x : List ℕ) (n : ℕ) (bs : List Block) → size_in (block_put x n bs) x ≡ n
 put_size x n [] = ap (λ b. if b then n else 0) ((bytes_eq-Decides x x).1 refl)
 put_size x n (b ∷ bs) = go (name_cmp x b.name) refl (put_size x n bs)
   where
@@ -42,7 +42,7 @@ put_size x n (b ∷ bs) = go (name_cmp x b.name) refl (put_size x n bs)
     go Equal e ih = ap (λ c. if c then n else size_in bs x) (symmetric x b.name true (same_name x b.name Equal e))
     go Greater e ih = ap (λ c. if c then b.size else size_in (block_put x n bs) x) (symmetric x b.name false (same_name x b.name Greater e)) ∙ ih
 
-put_other_size : (x y : List ℕ) (n : ℕ) (bs : List Block) → bytes_eq x y ≡ false → size_in (block_put x n bs) y ≡ size_in bs y
+pub put_other_size : (x y : List ℕ) (n : ℕ) (bs : List Block) → bytes_eq x y ≡ false → size_in (block_put x n bs) y ≡ size_in bs y
 put_other_size x y n [] d = ap (λ b. if b then n else 0) d
 put_other_size x y n (b ∷ bs) d = go (name_cmp x b.name) refl (put_other_size x y n bs d)
   where
@@ -54,7 +54,7 @@ put_other_size x y n (b ∷ bs) d = go (name_cmp x b.name) refl (put_other_size 
         ap (λ c. if c then n else size_in bs y) other ∙ sym (ap (λ c. if c then b.size else size_in bs y) other)
     go Greater e ih = ap (λ s. if bytes_eq b.name y then b.size else s) ih
 
-known_is : (x : List ℕ) (bs : List Block) → known_size x bs ≡ size_in bs x
+pub known_is : (x : List ℕ) (bs : List Block) → known_size x bs ≡ size_in bs x
 known_is x [] = refl
 known_is x (b ∷ bs) = go (name_cmp x b.name) refl (known_is x bs)
   where

@@ -214,7 +214,7 @@ module _ (k : Setting) (sound : Sound k) (D : Claim) (Fits : Locks → (ℕ → 
     stmt_goes (tree.stmt n label w) last locked still fit st z iz =
         node n label w last locked z (stands_at D k Fits I n label w last st) (what_goes w n last locked still fit (stands_at D k Fits I n label w last st) (stands_within D k Fits I n label w last st) z iz)
 
-    what_goes : (w : WhatTree) (n : ℕ) (last : Bool) (locked : Locks) (still : ℕ → Bool) → Fits locked still → StandsAt D k Fits I n w last → StandsParts D k Fits I w n → (z : Store) → I z → Goes D (execution w n k.sc k.at locked) z (λ a y es. Shown k false (what_set w k.m k.does k.calls) z a es)
+    pub what_goes : (w : WhatTree) (n : ℕ) (last : Bool) (locked : Locks) (still : ℕ → Bool) → Fits locked still → StandsAt D k Fits I n w last → StandsParts D k Fits I w n → (z : Store) → I z → Goes D (execution w n k.sc k.at locked) z (λ a y es. Shown k false (what_set w k.m k.does k.calls) z a es)
     what_goes (tree.assign a b) n last locked still fit st pa z iz =
         let p = and_parts (is_plain k.scalar a) (is_plain k.scalar b) (plain_of (tree.assign a b) n last st) in
         assign_goes k sound (solid locked still fit) D locked a b z p.0 p.1

@@ -8,7 +8,7 @@ use Rattle.transformer_algebra.specs.declared.transformer.Transformer.{Transform
 use Rattle.transformer_algebra.specs.Cells.{has, joined_cells}
 use Rattle.transformer_algebra.specs.Claims.{Kept}
 use Rattle.transformer_algebra.proofs.CellLaws.{left_out, right_out}
-use Rattle.region_translation.specs.Sides.{changed_by, changed_cells}
+use Rattle.call_equations.specs.Sides.{changed_by, changed_cells}
 use Rattle.laws_statements.specs.CallsIn.{Each}
 use Rattle.laws_regions.specs.Settings.{Setting, scene}
 

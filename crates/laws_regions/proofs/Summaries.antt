@@ -23,7 +23,7 @@ each_both : {T : Type 0} (P : T → Type 0) (xs ys : List T) → Each P xs → E
 each_both P [] ys h g = g
 each_both P (x ∷ xs) ys h g = (h.0, each_both P xs ys h.1 g)
 
-each_back : {T : Type 0} (P : T → Type 0) (xs ys : List T) → Each P (xs ++ ys) → Each P ys
+pub each_back : {T : Type 0} (P : T → Type 0) (xs ys : List T) → Each P (xs ++ ys) → Each P ys
 each_back P [] ys h = h
 each_back P (x ∷ xs) ys h = each_back P xs ys h.1
 
@@ -49,11 +49,11 @@ module _ (u : List BlockUnit) where
   found_more cs [] a = refl
   found_more cs (x ∷ xs) a = ap (λ fs. with_regions u cs x ∷ fs) (found_more (with_callee (with_regions u cs x) cs) xs a)
 
-  abbrev found_back : List Analysis → List ModuleRegions
+  abbrev pub found_back : List Analysis → List ModuleRegions
   found_back [] = []
   found_back (a ∷ as') = found_back as' ++ with_regions u (after u as') a ∷ []
 
-  found_is : (as' : List Analysis) → found_in u no_callees (reverse as') ≡ found_back as'
+  pub found_is : (as' : List Analysis) → found_in u no_callees (reverse as') ≡ found_back as'
   found_is [] = refl
   found_is (a ∷ as') =
       ap (found_in u no_callees) (reverse-cons a as')
@@ -98,10 +98,10 @@ module _ (u : List BlockUnit) where
 -- ---- two modules in a list
 
 -- one stands behind another
-record Behind (front : List Analysis) (a : Analysis) (rest : List Analysis) (front2 : List Analysis) (b : Analysis) (rest2 : List Analysis) : Type 0 where
-  between : List Analysis
-  parts : rest ≡ between ++ b ∷ rest2
-  before : front2 ≡ front ++ a ∷ between
+pub record Behind (front : List Analysis) (a : Analysis) (rest : List Analysis) (front2 : List Analysis) (b : Analysis) (rest2 : List Analysis) : Type 0 where
+  pub between : List Analysis
+  pub parts : rest ≡ between ++ b ∷ rest2
+  pub before : front2 ≡ front ++ a ∷ between
 
 heads : (a b : Analysis) (xs ys : List Analysis) → a ∷ xs ≡ b ∷ ys → a ≡ b
 heads a b xs ys e = cc
@@ -109,7 +109,7 @@ heads a b xs ys e = cc
 tails : (a b : Analysis) (xs ys : List Analysis) → a ∷ xs ≡ b ∷ ys → xs ≡ ys
 tails a b xs ys e = cc
 
-is_behind : (front : List Analysis) (a : Analysis) (rest front2 : List Analysis) (b : Analysis) (rest2 : List Analysis) → front ++ a ∷ rest ≡ front2 ++ b ∷ rest2 → NoAnalysis (name_of b) front → bytes_eq (name_of a) (name_of b) ≡ false → Behind front a rest front2 b rest2
+pub is_behind : (front : List Analysis) (a : Analysis) (rest front2 : List Analysis) (b : Analysis) (rest2 : List Analysis) → front ++ a ∷ rest ≡ front2 ++ b ∷ rest2 → NoAnalysis (name_of b) front → bytes_eq (name_of a) (name_of b) ≡ false → Behind front a rest front2 b rest2
 is_behind [] a rest [] b rest2 e n d = (let same = heads a b rest rest2 e in absurd (true≢false (sym (ap (λ z. bytes_eq (name_of z) (name_of b)) same ∙ (bytes_eq-Decides (name_of b) (name_of b)).1 refl) ∙ d)))
 is_behind [] a rest (f ∷ front2) b rest2 e n d = record { between = front2; parts = tails a f rest (front2 ++ b ∷ rest2) e; before = ap (λ z. z ∷ front2) (sym (heads a f rest (front2 ++ b ∷ rest2) e)) }
 is_behind (c ∷ front) a rest [] b rest2 e n d = (let same = heads c b (front ++ a ∷ rest) rest2 e in absurd (true≢false (sym (ap (λ z. bytes_eq (name_of z) (name_of b)) same ∙ (bytes_eq-Decides (name_of b) (name_of b)).1 refl) ∙ n.0)))
@@ -124,7 +124,7 @@ module _ (ps : List ParsedTree) (sss : List (List SymbolTree)) (g : Graph) (l : 
   whole = analyses (known_of ps sss) g
 
   -- each stands once, and before those that it calls
-  abbrev Stand : List Analysis → List Analysis → Type 0
+  abbrev pub Stand : List Analysis → List Analysis → Type 0
   Stand done [] = Unit {0}
   Stand done (a ∷ as') = NoAnalysis (name_of a) done × ((y : List ℕ) → Calls ps sss g l a.found.known y → NoAnalysis y done × (bytes_eq (name_of a) y ≡ false)) × Stand (done ++ a ∷ []) as'
 
@@ -137,12 +137,12 @@ module _ (ps : List ParsedTree) (sss : List (List SymbolTree)) (g : Graph) (l : 
         run_stands fs (done ++ a ∷ []) (f.known.read.name ∷ ns) (λ y n. each_both (λ (b : Analysis). bytes_eq b.found.known.read.name y ≡ false) done (a ∷ []) (p y n.1) (n.0, tt)) h.2,
       )
 
-  all_stand : Stand [] (analyses (known_of ps sss) g)
+  pub all_stand : Stand [] (analyses (known_of ps sss) g)
   all_stand =
       subst (Stand []) (sym (analyses_are ps sss g l))
       (run_stands (reverse (in_order_found ps sss g l)) [] [] (λ y n. tt) (fronted ps sss g l (in_order_found ps sss g l) (found_in_order ps sss g l g.order no_summaries (order_sorted ps sss g l))))
 
-  stands_at : (done front : List Analysis) (a : Analysis) (rest : List Analysis) → Stand done (front ++ a ∷ rest) → NoAnalysis (name_of a) (done ++ front) × ((y : List ℕ) → Calls ps sss g l a.found.known y → NoAnalysis y (done ++ front) × (bytes_eq (name_of a) y ≡ false))
+  pub stands_at : (done front : List Analysis) (a : Analysis) (rest : List Analysis) → Stand done (front ++ a ∷ rest) → NoAnalysis (name_of a) (done ++ front) × ((y : List ℕ) → Calls ps sss g l a.found.known y → NoAnalysis y (done ++ front) × (bytes_eq (name_of a) y ≡ false))
   stands_at done [] a rest h = (subst (NoAnalysis (name_of a)) (sym (nil_right done)) h.0, λ y c. (let r = h.1 y c in (subst (NoAnalysis y) (sym (nil_right done)) r.0, r.1)))
     where
       nil_right : (xs : List Analysis) → xs ++ [] ≡ xs

@@ -34,7 +34,7 @@ use Rattle.transformers.specs.Jumps.{list_has}
 use Rattle.transformers.specs.Modules.{transformers_of}
 use Rattle.region_sets.specs.declared.region.Access.{Access}
 use Rattle.region_sets.specs.declared.region.Region.{Region}
-use Rattle.region_translation.specs.Sides.{entry_cells}
+use Rattle.call_equations.specs.Sides.{entry_cells}
 use Rattle.array_regions.specs.Calls.{Called, Callees as Summaries, scope_with}
 use Rattle.array_regions.specs.Entry.{is_local}
 use Rattle.array_regions.specs.References.{is_constant, whole, element}

@@ -59,7 +59,7 @@ mutual
   what_has (tree.print es) ms ls f h = absurd (true≢false (sym h))
   what_has (tree.read es) ms ls f h = absurd (true≢false (sym h))
 
-  list_goes : (ss : StmtTrees) (ms ls : List ℕ) → Sub ms ls → each_leads ss ms ≡ true → list_has (goes_to ls) ss ≡ true
+  pub list_goes : (ss : StmtTrees) (ms ls : List ℕ) → Sub ms ls → each_leads ss ms ≡ true → list_has (goes_to ls) ss ≡ true
   list_goes tree.no_stmts ms ls f h = h
   list_goes (tree.more_stmts s rest) ms ls f h = or_map (stmt_leads s ms) (each_leads rest ms) (stmt_has (goes_to ls) s) (list_has (goes_to ls) rest) (leads_has s ms ls f) (list_goes rest ms ls f) h
 

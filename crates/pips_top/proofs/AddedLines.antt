@@ -7,10 +7,13 @@ use Rattle.f77_ast.specs.Trees.{StmtTree, WhatTree, ArmTree, ArmTrees, ElseTree,
 use Rattle.f77_ast.specs.Trees as tree
 use Rattle.f77_ast.specs.DeclTrees.{ParsedTree}
 use Rattle.f77_printer.specs.declared.added.Added.{Added}
+use Rattle.f77_symbols.specs.declared.variable.Unit.{Unit as BlockUnit}
 use Rattle.f77_meaning.specs.Modules.{known_of, symbol_names}
 use Rattle.transformer_algebra.specs.declared.transformer.Transformer.{Transformer}
 use Rattle.scalar_phases.specs.Phases.{Analysis, analyses}
-use Rattle.region_phases.specs.Phases.{ModuleRegions, all_regions}
+use Rattle.array_regions.specs.Calls.{Callees}
+use Rattle.region_phases.specs.Phases.{ModuleRegions, no_callees, all_regions}
+use Rattle.in_out_phases.specs.Phases.{ModuleIns, with_callee, with_ins, found_in}
 use Rattle.claim_lines.specs.ScalarLines.{Said, before, holds_lines, changes_lines, does_lines, says_changes, own_lines, stmt_lines, part_lines, list_lines, arms_lines, arm_lines, else_lines, loop_lines, entry_lines, said}
 use Rattle.system_text.specs.SystemText.{precondition_line, transformer_line}
 use Rattle.roundtrip_statements.specs.Formed.{Each}
@@ -22,9 +25,10 @@ use Rattle.laws_programs.specs.Programs.{AreTables}
 use Rattle.laws_lines.proofs.PhaseVars.{EachOf}
 use Rattle.laws_region_lines.specs.Names.{IsNamed, AreNamed}
 use Rattle.laws_region_lines.specs.LineLaws.{RegionLinesPass, AllRegionLinesPass}
+use Rattle.laws_in_lines.specs.Laws.{InLinesPass, AllInLinesPass}
 use Rattle.laws_region_lines.proofs.ProgramRegions.{each_named, regions_with}
 use Rattle.laws_region_lines.proofs.LinesPass.{names_shown}
-use Rattle.pips_top.specs.Claimed.{said_of, said_for, region_lines_found, scalar_lines_found, lines_of, lines_for}
+use Rattle.pips_top.specs.Claimed.{said_of, known_in, said_for, region_lines_found, scalar_lines_found, lines_of, lines_for}
 use Rattle.pips_top.specs.Program.{ProgramTree}
 use Rattle.pips_top.specs.declared.words.Show.{Show}
 use Rattle.pips_top.specs.declared.words.Show.TheVariants.{All, Bare, Why}
@@ -105,23 +109,28 @@ module _ (law : LinesArePassedOver) (k : Said) (shown : AreShown k.names) where
 -- ---- what is said of a module
 
 -- its symbols have such names, and the lines of its regions are passed over
-abbrev pub IsSaid : ModuleRegions → Type 0
-IsSaid f = AreShown (symbol_names f.analysis.found.known.symbols) × RegionLinesPass f
+pub record IsSaid (f : ModuleIns) : Type 0 where
+  pub names : AreShown (symbol_names (known_in f).symbols)
+  pub regions : RegionLinesPass f.known
+  pub ins : InLinesPass f
 
-both_said : (fs : List ModuleRegions) → EachOf (λ (f : ModuleRegions). IsNamed IsShown f.analysis.found.known) fs → Every RegionLinesPass fs → Each IsSaid fs
-both_said [] n h = tt
-both_said (f ∷ fs) n h = record {
-  first = (names_shown f.analysis.found.known.symbols n.0.1, h zero f (omega arith));
-  others = both_said fs n.1 (λ k d l. h (suc k) d (omega (arith, l)));
-}
+each_said : (untracked : List BlockUnit) (cs : Callees) (fs : List ModuleRegions) → EachOf (λ (f : ModuleRegions). IsNamed IsShown f.analysis.found.known) fs → Every RegionLinesPass fs → Every InLinesPass (found_in untracked cs fs)
+    → Each IsSaid (found_in untracked cs fs)
+each_said untracked cs [] n h i = tt
+each_said untracked cs (f ∷ fs) n h i =
+    let new = with_ins untracked cs f in
+    record {
+      first = record { names = names_shown f.analysis.found.known.symbols n.0.1; regions = h zero f (omega arith); ins = i zero new (omega arith) };
+      others = each_said untracked (with_callee new cs) fs n.1 (λ k d l. h (suc k) d (omega (arith, l))) (λ k d l. i (suc k) d (omega (arith, l)));
+    }
 
 -- so it is of all that is said of a program
-pub all_said : AllRegionLinesPass → (show : Show) (p : ProgramTree) → AreTables p.modules p.tables → AreNamed IsShown (known_of p.modules p.tables) → Each IsSaid (said_of show p)
-all_said law All p t n =
+pub all_said : AllRegionLinesPass → AllInLinesPass → (show : Show) (p : ProgramTree) → AreTables p.modules p.tables → AreNamed IsShown (known_of p.modules p.tables) → Each IsSaid (said_of show p)
+all_said law on_ins All p t n =
     let ks = known_of p.modules p.tables in
-    both_said (all_regions p.graph (analyses ks p.graph)) (regions_with (IsNamed IsShown) ks p.graph (each_named IsShown ks n)) (law p.modules p.tables p.graph t n)
-all_said law Bare p t n = tt
-all_said law Why p t n = tt
+    each_said p.graph.untracked no_callees (all_regions p.graph (analyses ks p.graph)) (regions_with (IsNamed IsShown) ks p.graph (each_named IsShown ks n)) (law p.modules p.tables p.graph t n) (on_ins p.modules p.tables p.graph t n)
+all_said law on_ins Bare p t n = tt
+all_said law on_ins Why p t n = tt
 
 each_passed : (xs : List Added) → AllByRecursion IsPassedOver xs → AreOver xs
 each_passed [] h = tt
@@ -138,17 +147,20 @@ module _ (law : LinesArePassedOver) where
       join (entry_lines k.read.main names a.holds.summary own.summary) (list_lines k.read.body (said names own.at a.holds.at))
       (entry-over law names h k.read.main a.holds.summary own.summary) (list-over law (said names own.at a.holds.at) h k.read.body)
 
-  module-over : (f : ModuleRegions) → IsSaid f → AreOver (lines_of (Some f))
-  module-over f h = join (scalar_lines_found f.analysis) (region_lines_found f) (scalars-over f.analysis h.0) (each_passed (region_lines_found f) h.1)
+  module-over : (f : ModuleIns) → IsSaid f → AreOver (lines_of (Some f))
+  module-over f h =
+      let regions = region_lines_found (known_in f) f.known.regions in
+      let ins = region_lines_found (known_in f) f.ins in
+      join (scalar_lines_found f.known.analysis) (regions ++ ins) (scalars-over f.known.analysis h.names) (join regions ins (each_passed regions h.regions) (each_passed ins h.ins))
 
-  choice-over : (b : Bool) (o p : Option ModuleRegions) → AreOver (lines_of o) → AreOver (lines_of p) → AreOver (lines_of (if b then o else p))
+  choice-over : (b : Bool) (o p : Option ModuleIns) → AreOver (lines_of o) → AreOver (lines_of p) → AreOver (lines_of (if b then o else p))
   choice-over true o p h e = h
   choice-over false o p h e = e
 
-  lines-over : (all : List ModuleRegions) (x : List ℕ) → Each IsSaid all → AreOver (lines_for all x)
+  lines-over : (all : List ModuleIns) (x : List ℕ) → Each IsSaid all → AreOver (lines_for all x)
   lines-over [] x h = tt
-  lines-over (f ∷ fs) x h = choice-over (bytes_eq f.analysis.found.known.read.name x) (Some f) (said_for fs x) (module-over f h.first) (lines-over fs x h.others)
+  lines-over (f ∷ fs) x h = choice-over (bytes_eq (known_in f).read.name x) (Some f) (said_for fs x) (module-over f h.first) (lines-over fs x h.others)
 
-  pub all_over : (all : List ModuleRegions) → Each IsSaid all → (ms : List ParsedTree) → AllPassedOver (λ m. lines_for all m.module_read.name) ms
+  pub all_over : (all : List ModuleIns) → Each IsSaid all → (ms : List ParsedTree) → AllPassedOver (λ m. lines_for all m.module_read.name) ms
   all_over all h [] = tt
   all_over all h (m ∷ ms) = record { first = lines-over all m.module_read.name h; others = all_over all h ms }

@@ -6,10 +6,11 @@ use Rattle.f77_parser.specs.Modules.{parse_of}
 use Rattle.f77_symbols.specs.Symbols.{SymbolTree}
 use Rattle.call_graph.specs.declared.graph.Graph.{Graph}
 use Rattle.call_graph.specs.Links.{link_of}
-use Rattle.region_phases.specs.Phases.{ModuleRegions}
+use Rattle.in_out_phases.specs.Phases.{ModuleIns}
 use Rattle.laws_programs.specs.Programs as laws
 use Rattle.laws_programs.proofs.Sources.{all_built}
 use Rattle.laws_region_lines.specs.LineLaws.{AllRegionLinesPass}
+use Rattle.laws_in_lines.specs.Laws.{AllInLinesPass}
 use Rattle.laws_layout.specs.Laws.{BlocksHaveAChain}
 use Rattle.roundtrip_text.specs.Texts as back
 use Rattle.roundtrip_programs.specs.Lines.{LinesArePassedOver}
@@ -43,7 +44,7 @@ is_read text p e =
 
 -- ---- what is written
 
-text_same : (all : List ModuleRegions) (ms : List ParsedTree) → modules_text all ms ≡ back.modules_text (λ m. lines_for all m.module_read.name) ms
+text_same : (all : List ModuleIns) (ms : List ParsedTree) → modules_text all ms ≡ back.modules_text (λ m. lines_for all m.module_read.name) ms
 text_same all [] = refl
 text_same all (m ∷ ms) = ap (λ rest. parsed_text all m ++ rest) (text_same all ms)
 
@@ -65,13 +66,13 @@ unfolding reading
 reading_is text ms ts g is =
     ap (λ r. and_then (and_then (lines_or r) parse_of) program_of) is.read.lined ∙ ap (λ r. and_then r program_of) is.read.parsed ∙ program_is ms ts g is.tabled is.linked
 
-pub back_from : ProgramsReadBack → LinesArePassedOver → AllRegionLinesPass → NamesAreShown → BlocksHaveAChain → ReadWrittenBack
-back_from programs lines on_regions names blocks show bytes p e =
+pub back_from : ProgramsReadBack → LinesArePassedOver → AllRegionLinesPass → AllInLinesPass → NamesAreShown → BlocksHaveAChain → ReadWrittenBack
+back_from programs lines on_regions on_ins names blocks show bytes p e =
     let is = is_read bytes p e in
     let i = is_program bytes p e in
     let shown = modules_shown names blocks p.modules p.tables (all_built i.lines p.modules i.parsed) i.tables in
     let all = said_of show p in
-    let b = programs bytes p.modules p.tables p.graph (λ m. lines_for all m.module_read.name) is (all_over lines all (all_said on_regions show p i.tables shown) p.modules) in
+    let b = programs bytes p.modules p.tables p.graph (λ m. lines_for all m.module_read.name) is (all_over lines all (all_said on_regions on_ins show p i.tables shown) p.modules) in
     let q : ProgramTree = record { modules = b.again; tables = p.tables; graph = p.graph } in (
       q,
       ap reading (text_same all p.modules) ∙ reading_is (back.modules_text (λ m. lines_for all m.module_read.name) p.modules) b.again p.tables p.graph b.program,

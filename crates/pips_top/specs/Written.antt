@@ -2,15 +2,15 @@
 use Rattle.std.specs.Prelude.{ℕ, List, [], ◌∷◌, ◌++◌}
 use Rattle.f77_ast.specs.DeclTrees.{ParsedTree}
 use Rattle.f77_printer.specs.ModuleText.{module_text}
-use Rattle.region_phases.specs.Phases.{ModuleRegions}
+use Rattle.in_out_phases.specs.Phases.{ModuleIns}
 use Rattle.pips_top.specs.Claimed.{said_of, lines_for}
 use Rattle.pips_top.specs.Program.{ProgramTree}
 use Rattle.pips_top.specs.declared.words.Show.{Show}
 
-abbrev pub parsed_text : List ModuleRegions → ParsedTree → List ℕ
+abbrev pub parsed_text : List ModuleIns → ParsedTree → List ℕ
 parsed_text fs m = module_text m.places m.module_read (lines_for fs m.module_read.name)
 
-abbrev pub modules_text : List ModuleRegions → List ParsedTree → List ℕ
+abbrev pub modules_text : List ModuleIns → List ParsedTree → List ℕ
 modules_text fs [] = []
 modules_text fs (m ∷ ms) = parsed_text fs m ++ modules_text fs ms
 

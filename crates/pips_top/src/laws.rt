@@ -2,6 +2,8 @@
 ghost use Rattle.pips_top.specs.Laws.{ReadAllSaid, ReadClaimsHold, ReadLinesMean, ReadWrittenBack};
 
 use laws_analyses::{analyses_are_whole, read_analyses_hold};
+use laws_in_lines::{all_in_lines_pass, in_lines_mean_regions, ins_are_over_places};
+use laws_in_regions::read_ins_hold;
 use laws_layout::blocks_have_a_chain;
 use laws_lines::{analyses_are_read_back, names_are_words};
 use laws_region_lines::{
@@ -17,7 +19,9 @@ pub fn claims_hold()
 {
     read_analyses_hold();
     read_regions_hold();
+    read_ins_hold();
     regions_are_over_places();
+    ins_are_over_places();
 }
 
 /// Each module of a program that was read has one analysis, each of its statements a precondition and a transformer.
@@ -36,6 +40,7 @@ pub fn lines_mean_results()
     names_are_words();
     blocks_have_a_chain();
     region_lines_mean_regions();
+    in_lines_mean_regions();
 }
 
 /// What is written of a program that was read is read again as the same program.
@@ -45,6 +50,7 @@ pub fn written_reads_back()
     programs_read_back();
     lines_are_passed_over();
     all_region_lines_pass();
+    all_in_lines_pass();
     names_are_shown();
     blocks_have_a_chain();
 }

@@ -1,7 +1,7 @@
 //! The written text of a program.
 ghost use Rattle.std.specs.Prelude.{◌≡◌, IfOk, length, map};
 ghost use Rattle.f77_ast.specs.PlainDecl.{parsed_tree};
-ghost use Rattle.region_phases.specs.Views.{regions_tree};
+ghost use Rattle.in_out_phases.specs.Views.{ins_tree};
 ghost use Rattle.pips_top.specs.Program.{program_tree};
 ghost use Rattle.pips_top.specs.Written.{modules_text, parsed_text, written};
 
@@ -12,17 +12,17 @@ use call_graph::Graph;
 use f77_ast::Parsed;
 use f77_printer::plain;
 use fx_base::Text;
-use region_phases::ModuleRegions;
+use in_out_phases::ModuleIns;
 use std::alloc::{AllocError as Memory, Global};
 
 /// A module, with the lines that are added to it.
 fn parsed_text(
     alloc: Global,
     graph: &Graph,
-    all: &[ModuleRegions<'_>],
+    all: &[ModuleIns<'_>],
     parsed: &Parsed,
 ) -> Result<Text, Memory>
-    ensures { IfOk result (λ text. text ≡ parsed_text (map regions_tree all.now) (parsed_tree parsed.now)) }
+    ensures { IfOk result (λ text. text ≡ parsed_text (map ins_tree all.now) (parsed_tree parsed.now)) }
 {
     let added = lines_for(alloc, graph, all, &parsed.module.name)?;
     plain(alloc, &parsed.places, &parsed.module, &added)
@@ -33,10 +33,10 @@ fn parsed_text(
 fn modules_text(
     alloc: Global,
     graph: &Graph,
-    all: &[ModuleRegions<'_>],
+    all: &[ModuleIns<'_>],
     modules: &[Parsed],
 ) -> Result<Text, Memory>
-    ensures { IfOk result (λ text. text ≡ modules_text (map regions_tree all.now) (map parsed_tree modules.now)) }
+    ensures { IfOk result (λ text. text ≡ modules_text (map ins_tree all.now) (map parsed_tree modules.now)) }
 {
     let mut out = Text::new(alloc);
     for parsed in modules {

@@ -3,4 +3,4 @@
 
 mod lines;
 
-pub use lines::region_lines;
+pub use lines::{names_of, region_lines};

@@ -22,7 +22,8 @@ struct Said<'a> {
     at: &'a List<At<RegionSet>>,
 }
 
-fn names_of(alloc: Global, symbols: &Symbols) -> Result<List<Text>, Memory>
+/// The names of the symbols of a module, in their order.
+pub fn names_of(alloc: Global, symbols: &Symbols) -> Result<List<Text>, Memory>
     ensures { IfOk result (λ names. names ≡ names_of_is symbols.now) }
 {
     let mut names = List::new(alloc);

@@ -36,7 +36,7 @@ fn region_order(a: &Region, b: &Region) -> Ordering
 
 /// Copies of the pieces that are not refuted.
 #[tactic(auto, using(crate::proofs::Steps::fitting))]
-fn live_pieces(alloc: Global, pieces: &[System]) -> Result<List<System>, Memory>
+pub fn live_pieces(alloc: Global, pieces: &[System]) -> Result<List<System>, Memory>
     requires { AllFit pieces.now }
     ensures defined { IfOk result (λ ss. ss ≡ live_pieces_is pieces.now) }
     ensures fits { IfOk result AllFit }
@@ -122,7 +122,7 @@ fn push_live(alloc: Global, out: &mut RegionSet, r: &Region) -> Result<(), Memor
 
 /// The regions of a set that are not refuted, without their refuted pieces.
 #[tactic(auto, using(crate::proofs::SetSteps::live_loop))]
-fn live(alloc: Global, regions: &[Region]) -> Result<RegionSet, Memory>
+pub fn live(alloc: Global, regions: &[Region]) -> Result<RegionSet, Memory>
     requires { SetFits regions.now }
     ensures defined { IfOk result (λ qs. qs ≡ live_is regions.now) }
     ensures fits { IfOk result SetFits }

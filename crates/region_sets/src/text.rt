@@ -43,8 +43,9 @@ fn put_own(out: &mut Text, names: &[Text], number: u32) -> Result<(), Memory>
     }
 }
 
+/// Writes a variable: its name, a block as `/B/`, a saved local of another module as `S:X`.
 #[tactic(auto, using(std::proofs::Common::append_assoc))]
-fn put_variable(out: &mut Text, names: &[Text], v: &Variable) -> Result<(), Memory>
+pub fn put_variable(out: &mut Text, names: &[Text], v: &Variable) -> Result<(), Memory>
     ensures { IfOk result (λ _. out.new ≡ out.old ++ name_text names.now v.now) }
 {
     match v {

@@ -104,7 +104,7 @@ fn hull_all(alloc: Global, first: System, systems: &[System]) -> Result<System, 
 }
 
 /// The hull of systems, from left to right; of none, the system without points.
-fn hull_of(alloc: Global, systems: &[System]) -> Result<System, Memory>
+pub fn hull_of(alloc: Global, systems: &[System]) -> Result<System, Memory>
     requires { AllFit systems.now }
     ensures defined { IfOk result (λ s. s ≡ hull_of_is systems.now) }
     ensures fits { IfOk result Fits }

@@ -24,9 +24,9 @@ use Rattle.affine_forms.proofs.RowLaws.{at_most_holds, same_holds}
 use Rattle.transformer_algebra.specs.Claims.{Scene, AtStart, Means}
 use Rattle.transformer_algebra.proofs.CellLaws.{nat_eq_same, clashes}
 use Rattle.region_sets.specs.Claims.{HasSubscripts}
-use Rattle.region_translation.specs.Sides.{SidesTree}
-use Rattle.region_translation.specs.Rows.{constant_form, low_rows, high_rows, high_form, bound_rows, dimension_rows, subscript_rows, all_affine, bounds_rows}
-use Rattle.region_translation.specs.Positions.{number_in, high_number}
+use Rattle.call_equations.specs.Sides.{SidesTree}
+use Rattle.call_equations.specs.Rows.{constant_form, low_rows, high_rows, high_form, bound_rows, dimension_rows, subscript_rows, all_affine, bounds_rows}
+use Rattle.call_equations.specs.Positions.{number_in, high_number}
 use Rattle.region_translation.specs.Claims.{elements_of, ConstantsFit, EachDim, SubscriptsMean}
 use Rattle.region_translation.specs.Laws.{SameElementsHold, ScalarLinkHolds, ElementLinkHolds}
 use Rattle.region_translation.proofs.FormLaws.{same_back, var_value}

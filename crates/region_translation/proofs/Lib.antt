@@ -1,5 +1,4 @@
 pub mod Steps
-pub mod PositionSteps
 pub mod PutSteps
 pub mod PutLaws
 pub mod NamingLaws

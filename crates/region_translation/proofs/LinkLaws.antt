@@ -18,11 +18,11 @@ use Rattle.affine_forms.specs.Claims.{form_value}
 use Rattle.transformer_algebra.specs.Claims.{Scene, AtStart}
 use Rattle.transformer_algebra.proofs.CellLaws.{nat_eq_same}
 use Rattle.region_sets.specs.Claims.{HasSubscripts}
-use Rattle.region_translation.specs.Sides.{SidesTree}
-use Rattle.region_translation.specs.Forms.{offset, less, equation}
-use Rattle.region_translation.specs.Cells.{named, named_form, maybe_form, actual_bound, dummy_bound}
-use Rattle.region_translation.specs.Positions.{actual_extent, dummy_extent, same_extent, aligned_row, is_none_left, row_before, aligned_rows, whole_position, element_position, dummy_position, block_position}
-use Rattle.region_translation.specs.Links.{link, by_position, actual_bounds, whole_by_position, aligned_or, bounds_unless_lines, by_unit}
+use Rattle.call_equations.specs.Sides.{SidesTree}
+use Rattle.call_equations.specs.Forms.{offset, less, equation}
+use Rattle.call_equations.specs.Cells.{named, named_form, maybe_form, actual_bound, dummy_bound}
+use Rattle.call_equations.specs.Positions.{actual_extent, dummy_extent, same_extent, aligned_row, is_none_left, row_before, aligned_rows, whole_position, element_position, dummy_position, block_position}
+use Rattle.call_equations.specs.Links.{link, by_position, actual_bounds, whole_by_position, aligned_or, bounds_unless_lines, by_unit}
 use Rattle.region_translation.specs.Claims.{FormsMean, Matches, LinkHolds, elements_of, ConstantsFit, BoundMeans, EachDim, LastMayBeOpen, AtEntry, ActualStands, DummyStands, IsPart, IsElement}
 use Rattle.region_translation.specs.Laws.{ArrayLinkHolds, RestLinkHolds, BlockLinkHolds}
 use Rattle.region_translation.proofs.PutLaws.{some_is, none_some}

@@ -32,9 +32,9 @@ use Rattle.region_sets.specs.Naming.{in_rows}
 use Rattle.region_sets.specs.Claims.{HasSubscripts, Describes}
 use Rattle.region_sets.proofs.NameLaws.{rows_agree}
 use Rattle.region_sets.proofs.BackLaws.{tidy_weak, push_weak, project_weak, rename_all_back, push_rows_back}
-use Rattle.region_translation.specs.declared.link.Link.{Link}
-use Rattle.region_translation.specs.Sides.{SidesTree}
-use Rattle.region_translation.specs.Cells.{form_of, cell_name}
+use Rattle.call_equations.specs.declared.link.Link.{Link}
+use Rattle.call_equations.specs.Sides.{SidesTree}
+use Rattle.call_equations.specs.Cells.{form_of, cell_name}
 use Rattle.region_translation.specs.Pieces.{standing, names_of, is_own, are_own, linked, aux_row, loses_row, put_aux, cell_row, if_row, with_var, with_forms, if_formless, one_formless, formless, subscripts_from, subscripts, without_all, linked_piece, piece_in_caller}
 use Rattle.region_translation.specs.Claims.{FormsMean, Matches, inner_of, HasInner}
 use Rattle.region_translation.proofs.PutLaws.{none_some, put_holds, put_back, all_gone, aux_nil, row_says, row_means}

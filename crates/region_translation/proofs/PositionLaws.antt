@@ -20,11 +20,11 @@ use Rattle.affine_forms.specs.Forms.{affine, affine_of, limited}
 use Rattle.affine_forms.specs.Claims.{form_value}
 use Rattle.affine_forms.specs.Comparisons.{var_form, difference, at_most_row}
 use Rattle.transformer_algebra.specs.Claims.{Scene, AtStart, Means}
-use Rattle.region_translation.specs.Sides.{SidesTree}
-use Rattle.region_translation.specs.Rows.{constant_form, low_rows, high_rows, high_form, bound_rows, bounds_rows}
-use Rattle.region_translation.specs.Forms.{zero as zero_form, offset}
-use Rattle.region_translation.specs.Cells.{named, named_form, actual_bound, dummy_bound}
-use Rattle.region_translation.specs.Positions.{number_in, high_number, size_between, size_of, sum_with, whole_position, element_position, dummy_position, block_position}
+use Rattle.call_equations.specs.Sides.{SidesTree}
+use Rattle.call_equations.specs.Rows.{constant_form, low_rows, high_rows, high_form, bound_rows, bounds_rows}
+use Rattle.call_equations.specs.Forms.{zero as zero_form, offset}
+use Rattle.call_equations.specs.Cells.{named, named_form, actual_bound, dummy_bound}
+use Rattle.call_equations.specs.Positions.{number_in, high_number, size_between, size_of, sum_with, whole_position, element_position, dummy_position, block_position}
 use Rattle.region_translation.specs.Claims.{Matches, ConstantsFit, BoundMeans, EachDim, AtEntry}
 use Rattle.region_translation.proofs.PutLaws.{some_is, none_some}
 use Rattle.region_translation.proofs.FormLaws.{sum_value, offset_value, named_value, number_value, var_value}

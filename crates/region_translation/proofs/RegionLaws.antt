@@ -10,8 +10,8 @@ use Rattle.transformer_algebra.specs.Laws.{In, here, there}
 use Rattle.region_sets.specs.declared.region.Region.{Region}
 use Rattle.region_sets.specs.Regions.{any_weak, all_exact, systems}
 use Rattle.region_sets.specs.Claims.{Elements, HoldsSome, LiesIn, IsSharp}
-use Rattle.region_translation.specs.declared.link.Link.{Link}
-use Rattle.region_translation.specs.Sides.{SidesTree}
+use Rattle.call_equations.specs.declared.link.Link.{Link}
+use Rattle.call_equations.specs.Sides.{SidesTree}
 use Rattle.region_translation.specs.Pieces.{piece_in_caller}
 use Rattle.region_translation.specs.Caller.{by_link, to_caller}
 use Rattle.region_translation.specs.Claims.{FormsMean, LinkHolds, inner_of}

@@ -2,9 +2,9 @@
 use Rattle.std.specs.Prelude.{◌&&◌, Option, option_map}
 use Rattle.region_sets.specs.declared.region.Region.{Region}
 use Rattle.region_sets.specs.Regions.{region, each_piece}
-use Rattle.region_translation.specs.declared.link.Link.{Link}
-use Rattle.region_translation.specs.Sides.{SidesTree}
-use Rattle.region_translation.specs.Links.{link_of}
+use Rattle.call_equations.specs.declared.link.Link.{Link}
+use Rattle.call_equations.specs.Sides.{SidesTree}
+use Rattle.call_equations.specs.Links.{link_of}
 use Rattle.region_translation.specs.Pieces.{piece_in_caller}
 
 -- piece by piece; exact where the region is, the equations are, and the translation of each piece is

@@ -15,10 +15,10 @@ use Rattle.affine_forms.specs.Scalars.{Scalars}
 use Rattle.affine_forms.specs.Claims.{form_value}
 use Rattle.transformer_algebra.specs.Claims.{Scene, AtStart, Means}
 use Rattle.region_sets.specs.Claims.{HasSubscripts, Elements}
-use Rattle.region_translation.specs.declared.link.Link.{Link}
-use Rattle.region_translation.specs.Sides.{SidesTree}
-use Rattle.region_translation.specs.Cells.{cell_name, form_of, actual_bound, dummy_bound}
-use Rattle.region_translation.specs.Positions.{number_in, high_number}
+use Rattle.call_equations.specs.declared.link.Link.{Link}
+use Rattle.call_equations.specs.Sides.{SidesTree}
+use Rattle.call_equations.specs.Cells.{cell_name, form_of, actual_bound, dummy_bound}
+use Rattle.call_equations.specs.Positions.{number_in, high_number}
 use Rattle.region_translation.specs.Pieces.{standing, is_own}
 
 -- x has the number of each unit at the CALL, y where the callee begins; m has the cells of the caller, e those of the callee

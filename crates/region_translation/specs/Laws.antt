@@ -7,9 +7,9 @@ use Rattle.f77_symbols.specs.Symbols.{BoundTree}
 use Rattle.transformer_algebra.specs.Claims.{Scene}
 use Rattle.region_sets.specs.declared.region.Region.{Region}
 use Rattle.region_sets.specs.Claims.{Elements, LiesIn, IsSharp}
-use Rattle.region_translation.specs.declared.link.Link.{Link}
-use Rattle.region_translation.specs.Sides.{SidesTree}
-use Rattle.region_translation.specs.Links.{same_elements, scalar_link, element_link, array_link, rest_link, block_link, link_of}
+use Rattle.call_equations.specs.declared.link.Link.{Link}
+use Rattle.call_equations.specs.Sides.{SidesTree}
+use Rattle.call_equations.specs.Links.{same_elements, scalar_link, element_link, array_link, rest_link, block_link, link_of}
 use Rattle.region_translation.specs.Claims.{FormsMean, LinkHolds, elements_of, ActualStands, DummyStands, IsPart, IsElement}
 
 -- ---- of regions

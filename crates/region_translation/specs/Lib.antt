@@ -1,9 +1,3 @@
-pub mod Sides
-pub mod Rows
-pub mod Forms
-pub mod Cells
-pub mod Positions
-pub mod Links
 pub mod Pieces
 pub mod Caller
 pub mod Claims

@@ -23,9 +23,9 @@ use Rattle.affine_forms.specs.Comparisons.{var_form, same_row}
 use Rattle.affine_forms.specs.Conditions.{no_rows}
 use Rattle.region_sets.specs.Naming.{in_terms}
 use Rattle.region_sets.specs.Compose.{normal_form, before_rows, is_lost}
-use Rattle.region_translation.specs.declared.link.Link.{Link}
-use Rattle.region_translation.specs.Sides.{SidesTree}
-use Rattle.region_translation.specs.Cells.{form_of, cell_name}
+use Rattle.call_equations.specs.declared.link.Link.{Link}
+use Rattle.call_equations.specs.Sides.{SidesTree}
+use Rattle.call_equations.specs.Cells.{form_of, cell_name}
 
 -- ---- names
 

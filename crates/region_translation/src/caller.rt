@@ -1,15 +1,13 @@
 //! The region of the caller that a region of the callee is.
 ghost use Rattle.std.specs.Prelude.{◌≡◌, ◌&&◌, [], IfOk, IfSome};
 ghost use Rattle.region_sets.specs.Regions.{RegionFits, region};
-ghost use Rattle.region_translation.specs.Sides.{sides_tree};
-ghost use Rattle.region_translation.specs.Links.{LinkFits};
+ghost use Rattle.call_equations.specs.Sides.{sides_tree};
+ghost use Rattle.call_equations.specs.Links.{LinkFits};
 ghost use Rattle.region_translation.specs.Laws.{SendsUnits, SendsSharp};
 ghost use Rattle.region_translation.specs.Caller.{by_link as by_link_is, to_caller as to_caller_is};
 
-use crate::CallSides;
-use crate::equations::link_of;
-use crate::link::Link;
 use crate::pieces::piece_in_caller;
+use call_equations::{CallSides, Link, link_of};
 use f77_results::copy_variable;
 use fx_lists::List;
 use region_sets::{Region, push_system, remade};

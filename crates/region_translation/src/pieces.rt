@@ -5,24 +5,22 @@ ghost use Rattle.affine_systems.specs.Given.{Fits, IsGiven};
 ghost use Rattle.region_sets.specs.Ready.{IsReady};
 ghost use Rattle.system_renaming.specs.Renaming.{rename_all as rename_all_is};
 ghost use Rattle.hull_projection.specs.Variables.{row_vars as row_vars_is};
-ghost use Rattle.region_translation.specs.Sides.{sides_tree};
-ghost use Rattle.region_translation.specs.Links.{LinkFits};
+ghost use Rattle.call_equations.specs.Sides.{sides_tree};
+ghost use Rattle.call_equations.specs.Links.{LinkFits};
 ghost use Rattle.region_translation.specs.Pieces.{standing as standing_is, names_of as names_of_is, is_own as is_own_is, are_own as are_own_is, linked as linked_is, cell_row as cell_row_is, with_var as with_var_is, with_forms as with_forms_is, one_formless, formless as formless_is, IsAuxRow, subscripts_from, subscripts as subscripts_is, without_all as without_all_is, linked_piece as linked_piece_is, piece_in_caller as piece_in_caller_is};
 
-use crate::CallSides;
-use crate::cells::{cell_name, form_of};
-use crate::link::Link;
 use crate::putting::{aux_row, put_aux};
 use affine_forms::no_rows;
 use affine_systems::items::copy_rows;
 use affine_systems::{Row, System, Var, tidy};
+use call_equations::{CallSides, Link, cell_name, form_of};
 use fx_lists::List;
 use hull_projection::{Shadow, add_rows, project};
 use std::alloc::{AllocError as Memory, Global};
 use system_renaming::{Naming, push_rows, rename_all};
 
 /// The variables of rows, ascending.
-fn row_vars(alloc: Global, rows: &[Row]) -> Result<Vec<Var>, Memory>
+pub fn row_vars(alloc: Global, rows: &[Row]) -> Result<Vec<Var>, Memory>
     ensures { IfOk result (λ vs. vs.items ≡ row_vars_is rows.now) }
 {
     let mut vars = Vec::new(alloc);

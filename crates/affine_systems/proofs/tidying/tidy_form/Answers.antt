@@ -4,7 +4,7 @@ use Rattle.affine_systems.specs.Given.{ItemsSmall}
 use Rattle.affine_systems.specs.Items.{tidied, cut_of}
 use Rattle.affine_systems.specs.Tidy.{next_pivot}
 use Rattle.affine_systems.proofs.TurnSteps.{last_turns}
-use Rattle.affine_systems.proofs.PairLaws.{form_small, some_small, form_stops, form_goes_on, next_given}
+use Rattle.affine_systems.proofs.FormSteps.{form_small, some_small, form_stops, form_goes_on, next_given}
 use Rattle.affine_systems.proofs.tidying.tidy_form.Goals as goal
 
 pub merge-requires : goal.merge-requires

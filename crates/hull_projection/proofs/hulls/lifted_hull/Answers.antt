@@ -2,7 +2,7 @@ use Rattle.std.proofs.Common.{◌≡◌, ◌∙◌, List, true, length, ap, ap�
 use Rattle.std.proofs.lemmas.Result.{IfOk-weaker}
 use Rattle.affine_systems.specs.declared.row.Row.{Row}
 use Rattle.affine_systems.specs.declared.row.System.{System}
-use Rattle.hull_projection.specs.declared.elimination.Left.{Left}
+use Rattle.hull_projection.specs.declared.eliminations.Left.{Left}
 use Rattle.affine_systems.specs.Rows.{AllRows}
 use Rattle.affine_systems.specs.Given.{IsSmallRow, ItemsFit}
 use Rattle.affine_systems.proofs.RenameSteps.{fits_small}

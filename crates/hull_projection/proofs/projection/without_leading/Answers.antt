@@ -6,7 +6,7 @@ use Rattle.affine_systems.specs.Items.{items_from, rows_of}
 use Rattle.affine_systems.specs.Given.{AreNormal, ItemsSmall, Fits}
 use Rattle.affine_systems.specs.Lone.{IsClosed, left_by, AllLone}
 use Rattle.affine_systems.proofs.FitLaws.{items_fit, system_fits}
-use Rattle.affine_systems.proofs.ElimSteps.{fit_small}
+use Rattle.elimination.proofs.ElimSteps.{fit_small}
 use Rattle.hull_projection.specs.Project.{shadow}
 use Rattle.hull_projection.proofs.LoneLaws.{lone_shadow, left_fits}
 use Rattle.hull_projection.proofs.projection.without_leading.Goals as goal

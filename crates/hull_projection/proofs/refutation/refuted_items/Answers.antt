@@ -1,6 +1,6 @@
 use Rattle.std.proofs.Common.{◌∙◌, List, false, ap, sym, subst}
 use Rattle.affine_systems.specs.declared.items.Item.{Item}
-use Rattle.hull_projection.specs.declared.elimination.Left.{Left}
+use Rattle.hull_projection.specs.declared.eliminations.Left.{Left}
 use Rattle.affine_systems.specs.Items.{rows_of, any_false}
 use Rattle.affine_systems.specs.Given.{ItemsFit}
 use Rattle.hull_projection.specs.Variables.{row_vars}

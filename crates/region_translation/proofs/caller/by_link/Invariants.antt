@@ -1,7 +1,7 @@
 use Rattle.std.proofs.Common.{◌≡◌, length, ◌++◌, ◌&&◌, map}
 use Rattle.hull_projection.specs.Minus.{AllFit}
 use Rattle.region_sets.specs.Regions.{all_exact, systems}
-use Rattle.region_translation.specs.Sides.{sides_tree}
+use Rattle.call_equations.specs.Sides.{sides_tree}
 use Rattle.region_translation.specs.Pieces.{piece_in_caller}
 use Rattle.region_translation.proofs.caller.by_link.Given as goal
 

@@ -1,7 +1,7 @@
 use Rattle.std.proofs.Common.{◌≡◌, Option, sym, subst}
 use Rattle.std.proofs.lemmas.Result.{IfOk-weaker}
 use Rattle.region_sets.specs.declared.region.Region.{Region}
-use Rattle.region_translation.specs.Sides.{sides_tree}
+use Rattle.call_equations.specs.Sides.{sides_tree}
 use Rattle.region_translation.specs.Caller.{to_caller}
 use Rattle.region_translation.specs.Laws.{SendsUnits, SendsSharp}
 use Rattle.region_translation.proofs.RegionLaws.{units_sent, sharp_sent}

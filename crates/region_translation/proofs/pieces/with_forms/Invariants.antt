@@ -1,7 +1,7 @@
 use Rattle.std.proofs.Common.{◌≡◌, ◌++◌, length}
 use Rattle.affine_systems.specs.Rows.{AllRows}
 use Rattle.region_sets.specs.Ready.{IsReady}
-use Rattle.region_translation.specs.Sides.{sides_tree}
+use Rattle.call_equations.specs.Sides.{sides_tree}
 use Rattle.region_translation.specs.Pieces.{with_forms, formless}
 use Rattle.region_translation.proofs.pieces.with_forms.Given as goal
 

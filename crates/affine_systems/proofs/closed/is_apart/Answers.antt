@@ -1,6 +1,0 @@
-use Rattle.std.proofs.Common.{◌∙◌, sym}
-use Rattle.affine_systems.proofs.LoneSteps.{unfaced_apart}
-use Rattle.affine_systems.proofs.closed.is_apart.Goals as goal
-
-pub returns : goal.returns
-returns c e = unfaced_apart c.args.table.now c.args.item.now.row c.args.items.now c.requires.one.0 c.requires.sided (sym c.may_face.ensures ∙ c.if-may_face.false)

@@ -1,8 +1,0 @@
-use Rattle.std.proofs.Common.{◌≡◌, take, drop}
-use Rattle.affine_systems.specs.Items.{cut_at}
-use Rattle.affine_systems.specs.Eliminate.{is_equal_on}
-use Rattle.affine_systems.proofs.PivotSteps.{after}
-use Rattle.affine_systems.proofs.elimination.find_equal.Given as goal
-
-abbrev pub invariant-loop-i : goal.invariant-loop-i
-invariant-loop-i l = after (take l.i l.items) (cut_at (is_equal_on l.v) (drop l.i l.items)) ≡ cut_at (is_equal_on l.fn.v) l.fn.items

@@ -1,0 +1,8 @@
+use Rattle.std.proofs.Common.{◌≡◌, take, drop}
+use Rattle.affine_systems.specs.Items.{cut_at}
+use Rattle.affine_systems.specs.Eliminate.{is_unit_on}
+use Rattle.affine_systems.proofs.PivotSteps.{after}
+use Rattle.elimination.proofs.elimination.find_unit.Given as goal
+
+abbrev pub invariant-loop-i : goal.invariant-loop-i
+invariant-loop-i l = after (take l.i l.items) (cut_at (is_unit_on l.v) (drop l.i l.items)) ≡ cut_at (is_unit_on l.fn.v) l.fn.items

@@ -1,0 +1,16 @@
+use Rattle.std.proofs.Common.{◌≡◌, length, ◌≤◌, drop, map}
+use Rattle.f77_symbols.specs.Symbols.{symbol_tree}
+use Rattle.transformers.specs.Lists.{transformer_at}
+use Rattle.region_sets.specs.Sets.{SetFits}
+use Rattle.in_out_regions.specs.Lists.{set_at, ins_in_order}
+use Rattle.in_out_regions.proofs.lists.in_order.Given as goal
+
+abbrev pub invariant-loop-left : goal.invariant-loop-left
+invariant-loop-left l = record {
+  within : l.left ≤ length l.ids;
+  same : l.set ≡ ins_in_order (map symbol_tree l.given.symbols.now) (transformer_at l.given.own.now) (set_at l.given.regions.now) (set_at l.given.ins.now) (drop l.left l.ids);
+  fits : SetFits l.set;
+}
+
+abbrev pub decreases-loop-left : goal.decreases-loop-left
+decreases-loop-left l = l.left

@@ -1,0 +1,14 @@
+use Rattle.std.proofs.Common.{◌≡◌}
+use Rattle.f77_ast.specs.PlainStmt.{stmt_trees}
+use Rattle.f77_results.specs.Summaries.{summary_in}
+use Rattle.in_out_regions.proofs.ModuleLaws.{module-ins}
+use Rattle.in_out_regions.proofs.modules.in_regions.Goals as goal
+
+pub returns-clause-defined : goal.returns-clause-defined
+returns-clause-defined c =
+    let v = c.args.view.now in
+    let u = v.graph.now.untracked in
+    let given : c.as_slice.result.now ≡ c.in_ok-body.body = cc c.as_slice.ensures in
+    module-ins (stmt_trees v.«module».now.body) v.symbols.now c.in_ok-tracked.tracked _ c.in_ok-changed.changed u c.args.own.now.at c.args.regions.now.at
+    (summary_in c.args.callees.now) c.new-at.result c.list_set.new.at c.in_ok-body.body c.as_slice.result.now c.in_ok-summary.summary
+    c.in_ok-tracked.ensures c.in_ok-changed.ensures c.new-at.ensures c.in_ok-body.ensures.added c.in_ok-body.ensures.defined given c.in_ok-summary.ensures.defined

@@ -1,0 +1,16 @@
+use Rattle.std.proofs.Common.{◌≡◌, ◌≤◌, length, drop}
+use Rattle.f77_ast.specs.Plain.{expr_trees}
+use Rattle.call_translation.specs.Scopes.{scope_tree}
+use Rattle.region_sets.specs.Sets.{SetFits}
+use Rattle.in_out_regions.specs.Simple.{reading}
+use Rattle.in_out_regions.proofs.simple.reading.Given as goal
+
+abbrev pub invariant-loop-left : goal.invariant-loop-left
+invariant-loop-left l = record {
+  within : l.left ≤ length l.items;
+  same : l.set ≡ reading (expr_trees (drop l.left l.items)) (scope_tree l.scope.symbols.now l.scope.tracked.now);
+  fits : SetFits l.set;
+}
+
+abbrev pub decreases-loop-left : goal.decreases-loop-left
+decreases-loop-left l = l.left

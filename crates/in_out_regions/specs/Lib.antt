@@ -1,0 +1,11 @@
+pub mod Kinds
+pub mod Writes
+pub mod Lists
+pub mod ListClaims
+pub mod Known
+pub mod Calls
+pub mod Contexts
+pub mod Simple
+pub mod Loops
+pub mod Statement
+pub mod Modules

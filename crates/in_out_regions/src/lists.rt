@@ -1,0 +1,331 @@
+//! IN of a list, from IN, READ and WRITE of its statements.
+ghost use Rattle.std.specs.Prelude.{◌≡◌, ◌++◌, map, option_to_list, option_copied, IfOk, IfSome, OnOk};
+ghost use Rattle.affine_systems.specs.Given.{Fits};
+ghost use Rattle.hull_projection.specs.Minus.{AllFit};
+ghost use Rattle.f77_ast.specs.PlainStmt.{stmt_trees};
+ghost use Rattle.f77_symbols.specs.Symbols.{symbol_tree};
+ghost use Rattle.transformers.specs.Given.{ResultsFit};
+ghost use Rattle.transformers.specs.Lists.{transformer_at as transformer_at_is};
+ghost use Rattle.region_sets.specs.Regions.{RegionFits};
+ghost use Rattle.region_sets.specs.Sets.{SetFits};
+ghost use Rattle.region_sets.specs.Lists.{SetsFit, forgetting as forgetting_is, all_forgetting, numbers as numbers_is, all_inexact as all_inexact_is, all_accesses as all_sets_is, in_any_order as in_any_order_is};
+ghost use Rattle.in_out_regions.specs.Lists.{set_at as set_at_is, less_write as less_write_is, all_unwritten, unless_overlapped as unless_overlapped_is, all_unless_overlapped as all_unless_overlapped_is, before_rest as before_rest_is, ins_in_order, list_in as list_in_is};
+ghost use Rattle.in_out_regions.specs.Contexts.{ContextFits};
+ghost use Rattle.in_out_regions.specs.ListClaims.{HasListIn, HasListInAlone};
+
+use crate::kinds::with_flag;
+use crate::writes::{is_overlapped, write_of};
+use array_regions::{push_copies, push_maybe};
+use f77_ast::{Stmt, StmtId};
+use f77_results::{At, Results, View};
+use f77_symbols::Symbols;
+use fx_lists::List;
+use region_sets::{
+    Region, RegionSet, copy_region, push_composed, push_region, push_system, remade, subtract,
+    unite_all,
+};
+use std::alloc::{AllocError as Memory, Global};
+use transformer_algebra::{Transformer, without};
+use transformers::{is_unstructured, list_at, transformer_at, value_at};
+
+/// The regions of the statement with a number; none where there is no result.
+pub fn set_at(at: &List<At<RegionSet>>, id: StmtId) -> &[Region]
+    ensures { result.now ≡ set_at_is at.now id }
+{
+    match value_at(at, id) {
+        None => &[],
+        Some(set) => set.as_slice(),
+    }
+}
+
+/// What is left of a region after what is written of its variable.
+fn less_write(alloc: Global, write: Option<&Region>, r: &Region) -> Result<Option<Region>, Memory>
+    requires write { IfSome (option_copied write) RegionFits }
+    requires region { RegionFits r.now }
+    ensures defined { IfOk result (λ o. o ≡ less_write_is (option_copied write.entry) r.now) }
+    ensures fits { IfOk result (λ o. IfSome o RegionFits) }
+{
+    match write {
+        None => Ok(Some(copy_region(alloc, r)?)),
+        Some(w) => subtract(alloc, r, w),
+    }
+}
+
+/// Appends what is left of regions after these WRITE regions.
+#[tactic(auto, using(crate::proofs::Steps::regions))]
+pub fn push_unwritten(
+    alloc: Global,
+    out: &mut RegionSet,
+    writes: &[Region],
+    set: &[Region],
+) -> Result<(), Memory>
+    requires out { SetFits out.old }
+    requires writes { SetFits writes.now }
+    requires set { SetFits set.now }
+    ensures added { OnOk result (out.new ≡ out.old ++ all_unwritten writes.now set.now) }
+    ensures fits { OnOk result (SetFits out.new) }
+{
+    let mut rest = set;
+    while let [r, more @ ..] = rest {
+        push_maybe(out, less_write(alloc, write_of(&r.variable, writes), r)?)?;
+        rest = more;
+    }
+    Ok(())
+}
+
+/// A region that is not exact where one of these WRITE regions is of a variable that shares units with its own.
+fn unless_overlapped(
+    alloc: Global,
+    symbols: &Symbols,
+    writes: &[Region],
+    r: &Region,
+) -> Result<Region, Memory>
+    requires { RegionFits r.now }
+    ensures defined { IfOk result (λ q. q ≡ unless_overlapped_is (map symbol_tree symbols.now) writes.now r.now) }
+    ensures fits { IfOk result RegionFits }
+{
+    let alone = !is_overlapped(symbols, writes, &r.variable);
+    with_flag(alloc, r, r.exact && alone)
+}
+
+/// Regions, of which none is exact whose variable shares units with that of one of these WRITE regions.
+#[tactic(auto, using(region_sets::proofs::Steps::fitting))]
+pub fn all_unless_overlapped(
+    alloc: Global,
+    symbols: &Symbols,
+    writes: &[Region],
+    set: &[Region],
+) -> Result<RegionSet, Memory>
+    requires { SetFits set.now }
+    ensures defined { IfOk result (λ qs. qs ≡ all_unless_overlapped_is (map symbol_tree symbols.now) writes.now set.now) }
+    ensures fits { IfOk result SetFits }
+{
+    let mut out = List::new(alloc);
+    let mut rest = set;
+    while let [r, more @ ..] = rest {
+        push_region(&mut out, unless_overlapped(alloc, symbols, writes, r)?)?;
+        rest = more;
+    }
+    Ok(out)
+}
+
+/// The set where a statement begins, from that of what follows it. `ins` and `writes`: the IN and WRITE regions of the statement, which does what the
+/// transformer describes.
+pub fn before_rest(
+    alloc: Global,
+    symbols: &Symbols,
+    ins: &[Region],
+    writes: &[Region],
+    t: &Transformer,
+    rest: &[Region],
+) -> Result<RegionSet, Memory>
+    requires ins { SetFits ins.now }
+    requires writes { SetFits writes.now }
+    requires transformer { Fits t.now.system }
+    requires rest { SetFits rest.now }
+    ensures defined { IfOk result (λ qs. qs ≡ before_rest_is (map symbol_tree symbols.now) ins.now writes.now t.now rest.now) }
+    ensures fits { IfOk result SetFits }
+{
+    let mut later = List::new(alloc);
+    push_composed(alloc, &mut later, t, rest)?;
+    let later = unite_all(alloc, later.as_slice())?;
+    let mut all = List::new(alloc);
+    push_copies(alloc, &mut all, ins)?;
+    push_unwritten(alloc, &mut all, writes, later.as_slice())?;
+    let set = unite_all(alloc, all.as_slice())?;
+    all_unless_overlapped(alloc, symbols, writes, set.as_slice())
+}
+
+/// Results for the statements of a module.
+#[derive(Drop)]
+pub struct ListContext<'a> {
+    pub symbols: &'a Symbols,
+    pub own: &'a List<At<Transformer>>,
+    pub regions: &'a List<At<RegionSet>>,
+    pub ins: &'a List<At<RegionSet>>,
+}
+
+/// Before the statement of a number, from what follows it.
+#[tactic(auto, using(crate::proofs::Steps::regions))]
+fn with_rest(
+    alloc: Global,
+    id: StmtId,
+    given: &ListContext<'_>,
+    rest: &[Region],
+) -> Result<RegionSet, Memory>
+    requires given { ContextFits given.now }
+    requires rest { SetFits rest.now }
+    ensures defined { IfOk result (λ qs. qs ≡ before_rest_is (map symbol_tree given.now.symbols.now) (set_at_is given.now.ins.now id) (set_at_is given.now.regions.now id) (transformer_at_is given.now.own.now id) rest.now) }
+    ensures fits { IfOk result SetFits }
+{
+    let t = transformer_at(alloc, given.own, id)?;
+    let ins = set_at(given.ins, id);
+    let writes = set_at(given.regions, id);
+    before_rest(alloc, given.symbols, ins, writes, &t, rest)
+}
+
+/// The numbers of the statements of a list.
+#[tactic(auto, using(region_sets::proofs::Steps::fitting))]
+fn numbers(alloc: Global, list: &[Stmt]) -> Result<Vec<StmtId>, Memory>
+    ensures { IfOk result (λ ns. ns.items ≡ numbers_is (stmt_trees list.now)) }
+{
+    let mut out = Vec::new(alloc);
+    let mut rest = list;
+    while let [s, more @ ..] = rest {
+        out.push(s.id)?;
+        rest = more;
+    }
+    Ok(out)
+}
+
+/// Of statements that are executed from the first to the last; from the last on.
+#[tactic(auto, using(crate::proofs::Steps::order_step))]
+fn in_order(alloc: Global, ids: &[StmtId], given: &ListContext<'_>) -> Result<RegionSet, Memory>
+    requires { ContextFits given.now }
+    ensures defined { IfOk result (λ qs. qs ≡ ins_in_order (map symbol_tree given.now.symbols.now) (transformer_at_is given.now.own.now) (set_at_is given.now.regions.now) (set_at_is given.now.ins.now) ids.now) }
+    ensures fits { IfOk result SetFits }
+{
+    let mut set = List::new(alloc);
+    let mut left = ids.len();
+    while left > 0 {
+        left -= 1;
+        set = with_rest(alloc, ids[left], given, set.as_slice())?;
+    }
+    Ok(set)
+}
+
+/// A region for any numbers of the cells.
+#[tactic(auto, using(region_sets::proofs::Steps::fitting))]
+fn forgetting(alloc: Global, cells: &[u32], r: &Region) -> Result<Region, Memory>
+    requires { RegionFits r.now }
+    ensures defined { IfOk result (λ q. q ≡ forgetting_is cells.now r.now) }
+    ensures fits { IfOk result RegionFits }
+{
+    let mut pieces = List::new(alloc);
+    let mut rest = r.pieces.as_slice();
+    while let [piece, more @ ..] = rest {
+        push_system(&mut pieces, without(alloc, cells, piece)?)?;
+        rest = more;
+    }
+    remade(r, false, pieces)
+}
+
+/// Adds regions for any numbers of the cells.
+#[tactic(auto, using(region_sets::proofs::Steps::fitting))]
+pub fn push_forgetting(
+    alloc: Global,
+    out: &mut RegionSet,
+    cells: &[u32],
+    set: &[Region],
+) -> Result<(), Memory>
+    requires out { SetFits out.old }
+    requires set { SetFits set.now }
+    ensures added { OnOk result (out.new ≡ out.old ++ all_forgetting cells.now set.now) }
+    ensures fits { OnOk result (SetFits out.new) }
+{
+    let mut rest = set;
+    while let [r, more @ ..] = rest {
+        push_region(out, forgetting(alloc, cells, r)?)?;
+        rest = more;
+    }
+    Ok(())
+}
+
+#[tactic(auto, using(crate::proofs::Steps::regions))]
+fn all_sets(alloc: Global, ids: &[StmtId], at: &List<At<RegionSet>>) -> Result<RegionSet, Memory>
+    requires { SetsFit at.now }
+    ensures defined { IfOk result (λ qs. qs ≡ all_sets_is (set_at_is at.now) ids.now) }
+    ensures fits { IfOk result SetFits }
+{
+    let mut out = List::new(alloc);
+    let mut rest = ids;
+    while let [id, more @ ..] = rest {
+        push_copies(alloc, &mut out, set_at(at, *id))?;
+        rest = more;
+    }
+    Ok(out)
+}
+
+/// Regions that are not exact.
+#[tactic(auto, using(region_sets::proofs::Steps::fitting))]
+fn all_inexact(alloc: Global, set: &[Region]) -> Result<RegionSet, Memory>
+    requires { SetFits set.now }
+    ensures defined { IfOk result (λ qs. qs ≡ all_inexact_is set.now) }
+    ensures fits { IfOk result SetFits }
+{
+    let mut out = List::new(alloc);
+    let mut rest = set;
+    while let [r, more @ ..] = rest {
+        push_region(&mut out, with_flag(alloc, r, false)?)?;
+        rest = more;
+    }
+    Ok(out)
+}
+
+/// Of a list whose statements are executed in any order, each any number of times.
+fn in_any_order(
+    alloc: Global,
+    cells: &[u32],
+    ids: &[StmtId],
+    at: &List<At<RegionSet>>,
+) -> Result<RegionSet, Memory>
+    requires { SetsFit at.now }
+    ensures defined { IfOk result (λ qs. qs ≡ in_any_order_is cells.now (set_at_is at.now) ids.now) }
+    ensures fits { IfOk result SetFits }
+{
+    let all = all_sets(alloc, ids, at)?;
+    let mut free = List::new(alloc);
+    push_forgetting(alloc, &mut free, cells, all.as_slice())?;
+    let set = unite_all(alloc, free.as_slice())?;
+    all_inexact(alloc, set.as_slice())
+}
+
+/// Of a list, from what is known of its statements.
+pub fn of_list(
+    alloc: Global,
+    list: &List<Stmt>,
+    whole: bool,
+    given: &ListContext<'_>,
+) -> Result<RegionSet, Memory>
+    requires { ContextFits given.now }
+    ensures defined { IfOk result (λ qs. qs ≡ list_in_is (map symbol_tree given.now.symbols.now) (transformer_at_is given.now.own.now) (set_at_is given.now.regions.now) (set_at_is given.now.ins.now) whole (stmt_trees list.now)) }
+    ensures fits { IfOk result SetFits }
+{
+    let ids = numbers(alloc, list.as_slice())?;
+    if is_unstructured(alloc, list, whole)? {
+        let t = list_at(alloc, list, whole, given.own)?;
+        in_any_order(alloc, t.cells.as_slice(), ids.as_slice(), given.ins)
+    } else {
+        in_order(alloc, ids.as_slice(), given)
+    }
+}
+
+/// The IN regions of a list where it begins, from those in `ins` of its direct statements, from their READ and WRITE regions and their transformers.
+/// `whole`: the list is the body of the module. What a statement certainly writes is not read first in those after it. Where a GO TO in the list leads to
+/// a statement of it, or a RETURN leaves the body early, each statement may come first, the analysed scalars that the list changes may have any value
+/// there, and nothing is exact.
+pub fn list_in(
+    alloc: Global,
+    view: &View<'_>,
+    list: &List<Stmt>,
+    whole: bool,
+    own: &Results<Transformer>,
+    regions: &List<At<RegionSet>>,
+    ins: &List<At<RegionSet>>,
+) -> Result<RegionSet, Memory>
+    requires own { ResultsFit own.now.at }
+    requires regions { SetsFit regions.now }
+    requires ins { SetsFit ins.now }
+    ensures defined { IfOk result (λ qs. qs ≡ list_in_is (map symbol_tree view.now.symbols.now) (transformer_at_is own.now.at) (set_at_is regions.now) (set_at_is ins.now) whole (stmt_trees list.now)) }
+    ensures fits { IfOk result SetFits }
+    ensures sound { IfOk result (HasListIn (transformer_at_is own.now.at) (set_at_is regions.now) (set_at_is ins.now) whole (stmt_trees list.now)) }
+    ensures exact { IfOk result (HasListInAlone (map symbol_tree view.now.symbols.now) (transformer_at_is own.now.at) (set_at_is regions.now) (set_at_is ins.now) whole (stmt_trees list.now)) }
+{
+    let given = ListContext {
+        symbols: view.symbols,
+        own: &own.at,
+        regions,
+        ins,
+    };
+    of_list(alloc, list, whole, &given)
+}

@@ -1,0 +1,36 @@
+-- What callers see of IN regions, on units.
+use Rattle.std.proofs.Common.{◌≡◌, ℕ, ℤ, Bool, true, false, List, ◌++◌, Some}
+use Rattle.f77_symbols.specs.declared.variable.Variable.{Variable}
+use Rattle.transformer_algebra.specs.Claims.{Scene}
+use Rattle.call_translation.specs.Scopes.{ScopeTree}
+use Rattle.region_sets.specs.declared.region.Access.{Access}
+use Rattle.region_sets.specs.declared.region.Access.TheVariants.{In as AtIn}
+use Rattle.region_sets.specs.declared.region.Region.{Region}
+use Rattle.region_sets.specs.Sets.{unite_all}
+use Rattle.region_sets.specs.Claims.{Places, AreByOrder, LiesInSet, IsSharp, IsSharpSet}
+use Rattle.region_sets.proofs.SetLaws.{gathered_units, gathered_sharp}
+use Rattle.array_regions.specs.Entry.{symbols_reads, goes_out, locals, for_callers, seen}
+use Rattle.in_out_regions.specs.Kinds.{all_in}
+use Rattle.in_out_regions.specs.Modules.{summary_of}
+use Rattle.laws_regions.proofs.Callers.{in_seen, of_seen, callers_lie, callers_sharp}
+
+module _ (m : Scene) (at : Places) (by : AreByOrder at) (x : ℕ → ℤ) where
+  -- a unit of a variable that callers see
+  pub summary_lies : (s : ScopeTree) (rs : List Region) (u : ℕ) → ((v : Variable) (phi : ℕ → ℤ) → at v phi ≡ Some u → goes_out s.symbols v ≡ true) → LiesInSet m at AtIn (all_in (symbols_reads s.symbols s) ++ rs) x u → LiesInSet m at AtIn (summary_of s rs) x u
+  summary_lies s rs u out l =
+      let all = unite_all (all_in (symbols_reads s.symbols s) ++ rs) in
+      let g = gathered_units (all_in (symbols_reads s.symbols s) ++ rs) m at by AtIn x u l in
+      gathered_units (seen s.symbols (locals s.symbols) all) m at by AtIn x u
+      (record {
+        region = for_callers (locals s.symbols) g.region;
+        is_one = in_seen s.symbols (locals s.symbols) all g.region g.is_one (out g.region.variable g.lies.phi g.lies.there);
+        kind = g.kind;
+        lies = callers_lie m at by x (locals s.symbols) g.region u g.lies;
+      })
+
+  pub summary_sharp : (s : ScopeTree) (rs : List Region) (c : ℕ → Bool) → IsSharpSet m at (all_in (symbols_reads s.symbols s) ++ rs) x (λ a. c) → IsSharpSet m at (summary_of s rs) x (λ a. c)
+  summary_sharp s rs c h =
+      let all = unite_all (all_in (symbols_reads s.symbols s) ++ rs) in
+      let g = gathered_sharp (all_in (symbols_reads s.symbols s) ++ rs) m at by x (λ a. c) h in
+      gathered_sharp (seen s.symbols (locals s.symbols) all) m at by x (λ a. c)
+      (of_seen (λ (r : Region). IsSharp m (at r.variable) r x c) s.symbols (locals s.symbols) all (λ r i. callers_sharp m at by x (locals s.symbols) r c (g r i)))

@@ -1,0 +1,10 @@
+pub mod Frames
+pub mod Shown
+pub mod Dims
+pub mod Units
+pub mod Knowns
+pub mod Claims
+pub mod Laid
+pub mod Programs
+pub mod Accepted
+pub mod Together

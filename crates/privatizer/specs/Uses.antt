@@ -1,0 +1,37 @@
+-- What is known of a DO where private variables are looked for.
+use Rattle.std.specs.Prelude.{ℕ, false, List, map}
+use Rattle.affine_systems.specs.declared.row.System.{System}
+use Rattle.f77_ast.specs.Trees.{LoopTree}
+use Rattle.f77_ast.specs.Trees as tree
+use Rattle.f77_symbols.specs.Symbols.{SymbolTree, symbol_tree}
+use Rattle.f77_results.specs.declared.results.At.{At}
+use Rattle.transformer_algebra.specs.declared.transformer.Transformer.{Transformer}
+use Rattle.transformers.specs.Lists.{transformer_at}
+use Rattle.region_sets.specs.declared.region.Region.{Region}
+use Rattle.in_out_regions.specs.Lists.{set_at, list_in}
+use Rattle.loop_bodies.specs.declared.analysis.Analysis.{Analysis}
+use Rattle.loop_bodies.specs.Body.{system_at, head_of}
+
+-- what holds where an iteration begins, and the IN regions of the body there; what holds where the DO begins, and the OUT regions of the DO
+pub record Uses : Type 0 where
+  pub head : System
+  pub ins : List Region
+  pub before : System
+  pub outs : List Region
+
+-- `ps` has what holds where each statement begins
+abbrev pub head_in : List (At System) → LoopTree → System
+head_in ps (tree.loop index first last step body) = head_of ps body
+
+-- `t` has the transformer of the statement of each number, `f` its READ and WRITE, `g` its IN
+abbrev pub ins_in : List SymbolTree → (ℕ → Transformer) → (ℕ → List Region) → (ℕ → List Region) → LoopTree → List Region
+ins_in ss t f g (tree.loop index first last step body) = list_in ss t f g false body
+
+-- of a DO of the module, with its number
+abbrev pub known_uses : Analysis → ℕ → LoopTree → Uses
+known_uses a n l = record {
+  head = head_in a.preconditions.now.at l;
+  ins = ins_in (map symbol_tree a.view.now.symbols.now) (transformer_at a.transformers.now.at) (set_at a.regions.now.at) (set_at a.ins.now.at) l;
+  before = system_at a.preconditions.now.at n;
+  outs = set_at a.outs.now.at n;
+}

@@ -1,0 +1,8 @@
+//! Whether each iteration of a DO may have its own copy of a variable.
+#![tactic(auto)]
+
+mod answer;
+mod names;
+mod uses;
+
+pub use answer::may_be_private;

@@ -1,5 +1,0 @@
-use Rattle.std.proofs.Common.{length}
-use Rattle.region_translation.proofs.positions.+dummy_position.Given as goal
-
-abbrev pub decreases-dummy_position : goal.decreases-dummy_position
-decreases-dummy_position l = length l.bounds.now

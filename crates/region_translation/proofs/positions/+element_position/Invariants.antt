@@ -1,5 +1,0 @@
-use Rattle.std.proofs.Common.{length}
-use Rattle.region_translation.proofs.positions.+element_position.Given as goal
-
-abbrev pub decreases-element_position : goal.decreases-element_position
-decreases-element_position l = length l.bounds.now

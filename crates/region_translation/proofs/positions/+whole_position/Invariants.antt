@@ -1,5 +1,0 @@
-use Rattle.std.proofs.Common.{length}
-use Rattle.region_translation.proofs.positions.+whole_position.Given as goal
-
-abbrev pub decreases-whole_position : goal.decreases-whole_position
-decreases-whole_position l = length l.bounds.now
