@@ -16,6 +16,7 @@ from effect_programs import effect_programs
 from graph_programs import graph_programs
 from in_programs import in_programs
 from loop_programs import loop_programs
+from out_programs import out_programs
 from reference import load, write_cases
 from region_programs import region_programs
 from scalar_programs import scalar_programs
@@ -30,6 +31,7 @@ REGIONS = 500_000
 INS = 250_000
 # and of the conflicts of loops
 LOOPS = 240_000
+OUTS = 250_000
 
 layout, loops, model, pipeline, printer, read, reader, regions, scalars = map(load, ['layout', 'loops', 'model', 'pipeline', 'printer', 'read', 'reader', 'regions', 'scalars'])
 
@@ -232,6 +234,20 @@ def loop_lines(text):
                 yield from loop_answers(known, stmt.id)
 
 
+def out_lines(text):
+    program = read.read(text)
+    views, found, known, known_ins, sets, ins, outs = pipeline.views(program), pipeline.analyse_scalars(program), {}, {}, {}, {}, {}
+    for name in program.graph.order:
+        view, own = views[name], found[name]['transformers']
+        sets[name] = regions.regions(view, own, known)
+        ins[name] = regions.in_regions(view, own, sets[name], known_ins)
+        known[name], known_ins[name] = (view.symbols, sets[name].summary), (view.symbols, ins[name].summary)
+    for name in reversed(program.graph.order):
+        sites = [(caller, call, model.SiteOut(found[caller.module.name]['transformers'], outs[caller.module.name].at[call.id])) for caller, call in pipeline.call_sites(program, name)]
+        outs[name] = regions.out_regions(views[name], found[name]['transformers'], sets[name], ins[name], sites)
+        yield from region_module_lines(views[name], outs[name])
+
+
 # ---- cases
 
 class Cases:
@@ -297,10 +313,14 @@ class Cases:
     def add_loops(self, seeds, most):
         self.add_up_to(most, 'loops', loop_programs(seeds), loop_lines)
 
+    def add_outs(self, seeds, most):
+        self.add_up_to(most, 'out', out_programs(seeds), out_lines)
+
+
 
 def write_kind(kind, first, last, folder):
     cases = Cases()
-    add = {'regions': cases.add_regions, 'in': cases.add_ins, 'loops': cases.add_loops}[kind]
+    add = {'regions': cases.add_regions, 'in': cases.add_ins, 'loops': cases.add_loops, 'out': cases.add_outs}[kind]
     add(range(first, last), 1 << 30)
     for name, texts in (('stdin', cases.given), ('stdout', cases.wanted)):
         with open(os.path.join(folder, name), 'wb') as file:
@@ -321,6 +341,7 @@ def main():
     cases.add_regions(range(1_000), REGIONS)
     cases.add_ins(range(1_000), INS)
     cases.add_loops(range(1_000, 2_000), LOOPS)
+    cases.add_outs(range(1_000), OUTS)
     write_cases('cases_programs', cases.given, cases.wanted)
     counts = Counter(kind.split()[0] for kind in cases.counts.elements())
     print(dict(counts), sum(map(len, cases.given)), sum(map(len, cases.wanted)))

@@ -7,6 +7,7 @@ use f77_results::{Results, View};
 use f77_symbols::Symbols;
 use fx_lists::{List, Text};
 use in_out_phases::all_ins;
+use out_phases::all_outs;
 use region_lines::region_lines;
 use region_phases::{ModuleRegions, all_regions};
 use region_sets::{Region, RegionSet, region_text};
@@ -121,6 +122,24 @@ pub fn add_ins(
     let all = all_ins(alloc, graph, regions)?;
     for found in all.as_slice() {
         add_module(alloc, shown, &found.known, &found.ins, graph)?;
+    }
+    Ok(())
+}
+
+/// The OUT regions of each module, callers first.
+pub fn add_outs(
+    alloc: Global,
+    shown: &mut String,
+    modules: &List<Parsed>,
+    tables: &List<Symbols>,
+    graph: &Graph,
+) -> Result<(), Memory>
+    requires { length modules.now ≡ length tables.now }
+{
+    let regions = all_regions(alloc, graph, analyses(alloc, modules, tables, graph)?)?;
+    let all = all_outs(alloc, graph, all_ins(alloc, graph, regions)?)?;
+    for found in all.as_slice() {
+        add_module(alloc, shown, &found.known.known, &found.outs, graph)?;
     }
     Ok(())
 }

@@ -2,3 +2,4 @@ pub mod Uses
 pub mod Names
 pub mod Private
 pub mod Claims
+pub mod Views

@@ -27,11 +27,14 @@ head_in ps (tree.loop index first last step body) = head_of ps body
 abbrev pub ins_in : List SymbolTree → (ℕ → Transformer) → (ℕ → List Region) → (ℕ → List Region) → LoopTree → List Region
 ins_in ss t f g (tree.loop index first last step body) = list_in ss t f g false body
 
--- of a DO of the module, with its number
-abbrev pub known_uses : Analysis → ℕ → LoopTree → Uses
-known_uses a n l = record {
-  head = head_in a.preconditions.now.at l;
-  ins = ins_in (map symbol_tree a.view.now.symbols.now) (transformer_at a.transformers.now.at) (set_at a.regions.now.at) (set_at a.ins.now.at) l;
-  before = system_at a.preconditions.now.at n;
-  outs = set_at a.outs.now.at n;
+-- of a DO with its number, from the results of the analyses of its module
+abbrev pub uses_from : List SymbolTree → List (At Transformer) → List (At System) → List (At (List Region)) → List (At (List Region)) → List (At (List Region)) → ℕ → LoopTree → Uses
+uses_from ss ts ps rs is os n l = record {
+  head = head_in ps l;
+  ins = ins_in ss (transformer_at ts) (set_at rs) (set_at is) l;
+  before = system_at ps n;
+  outs = set_at os n;
 }
+
+abbrev pub known_uses : Analysis → ℕ → LoopTree → Uses
+known_uses a n l = uses_from (map symbol_tree a.view.now.symbols.now) a.transformers.now.at a.preconditions.now.at a.regions.now.at a.ins.now.at a.outs.now.at n l

@@ -10,16 +10,18 @@ ghost use Rattle.region_sets.specs.Sets.{SetFits};
 ghost use Rattle.loop_bodies.specs.Finding.{loop_in as loop_in_is};
 ghost use Rattle.loop_bodies.specs.Given.{AnalysisFits};
 ghost use Rattle.privatizer.specs.Uses.{known_uses};
+ghost use Rattle.privatizer.specs.Views.{uses_tree, UsesFit};
 ghost use Rattle.privatizer.specs.Private.{may_hold as may_hold_is, some_may_hold as some_may_hold_is, region_may as region_may_is, may_lie as may_lie_is, is_carried as is_carried_is, is_live as is_live_is, private_in as private_in_is, private_at};
 ghost use Rattle.privatizer.specs.Claims.{IfPrivate};
 
 use crate::names::may_copy;
-use crate::uses::{head_in, ins_in, outs_at};
+use crate::uses::{Uses, uses_of};
 use affine_systems::{System, meet};
-use f77_ast::{Loop, StmtId};
+use f77_ast::StmtId;
+use f77_results::View;
 use f77_symbols::Variable;
 use hull_projection::refuted;
-use loop_bodies::{Analysis, loop_in, same_variable, system_at};
+use loop_bodies::{Analysis, loop_in, same_variable};
 use region_sets::{Private, Region};
 use std::alloc::{AllocError as Memory, Global};
 
@@ -79,54 +81,38 @@ fn may_lie(alloc: Global, p: &System, v: &Variable, regions: &[Region]) -> Resul
 }
 
 /// Whether an iteration may read a unit of the variable before it writes it.
-fn is_carried(
-    alloc: Global,
-    a: &Analysis<'_>,
-    at: StmtId,
-    l: &Loop,
-    v: &Variable,
-) -> Result<bool, Memory>
-    requires { AnalysisFits a.now }
-    ensures { IfOk result (λ b. b ≡ is_carried_is (known_uses a.now at (loop_tree l.now)) v.now) }
+fn is_carried(alloc: Global, u: &Uses<'_>, v: &Variable) -> Result<bool, Memory>
+    requires { UsesFit u.now }
+    ensures { IfOk result (λ b. b ≡ is_carried_is (uses_tree u.now) v.now) }
 {
-    let head = head_in(alloc, &a.preconditions.at, l)?;
-    let ins = ins_in(alloc, a, l)?;
-    may_lie(alloc, &head, v, ins.as_slice())
+    may_lie(alloc, &u.head, v, u.ins.as_slice())
 }
 
 /// Whether the rest of the run may read what the DO writes of the variable.
-fn is_live(
-    alloc: Global,
-    a: &Analysis<'_>,
-    at: StmtId,
-    l: &Loop,
-    v: &Variable,
-) -> Result<bool, Memory>
-    requires { AnalysisFits a.now }
-    ensures { IfOk result (λ b. b ≡ is_live_is (known_uses a.now at (loop_tree l.now)) v.now) }
+fn is_live(alloc: Global, u: &Uses<'_>, v: &Variable) -> Result<bool, Memory>
+    requires { UsesFit u.now }
+    ensures { IfOk result (λ b. b ≡ is_live_is (uses_tree u.now) v.now) }
 {
-    let before = system_at(alloc, &a.preconditions.at, at)?;
-    may_lie(alloc, &before, v, outs_at(&a.outs.at, at))
+    may_lie(alloc, &u.before, v, u.outs)
 }
 
-/// Of a DO with a number: the first reason that there is.
-fn private_in(
+/// Whether each iteration of a DO of which this is known may have its own copy of a variable: the first reason that there is against it.
+pub fn private_of(
     alloc: Global,
-    a: &Analysis<'_>,
-    at: StmtId,
-    l: &Loop,
+    view: &View<'_>,
+    u: &Uses<'_>,
     v: &Variable,
 ) -> Result<Private, Memory>
-    requires { AnalysisFits a.now }
-    ensures { IfOk result (λ p. p ≡ private_in_is (module_tree a.now.view.now.«module».now) (map symbol_tree a.now.view.now.symbols.now) (known_uses a.now at (loop_tree l.now)) v.now) }
+    requires { UsesFit u.now }
+    ensures { IfOk result (λ p. p ≡ private_in_is (module_tree view.now.«module».now) (map symbol_tree view.now.symbols.now) (uses_tree u.now) v.now) }
 {
-    if !may_copy(a.view, v) {
+    if !may_copy(view, v) {
         return Ok(Private::Name);
     }
-    if is_carried(alloc, a, at, l, v)? {
+    if is_carried(alloc, u, v)? {
         return Ok(Private::Carried);
     }
-    if is_live(alloc, a, at, l, v)? {
+    if is_live(alloc, u, v)? {
         return Ok(Private::Live);
     }
     Ok(Private::Yes)
@@ -139,7 +125,10 @@ fn answer_at(alloc: Global, a: &Analysis<'_>, at: StmtId, v: &Variable) -> Resul
 {
     match loop_in(at, &a.view.module.body) {
         None => Ok(Private::Name),
-        Some(l) => private_in(alloc, a, at, l, v),
+        Some(l) => {
+            let u = uses_of(alloc, a, at, l)?;
+            private_of(alloc, a.view, &u, v)
+        }
     }
 }
 

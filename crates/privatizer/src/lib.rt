@@ -5,4 +5,6 @@ mod answer;
 mod names;
 mod uses;
 
-pub use answer::may_be_private;
+pub use answer::{may_be_private, private_of};
+pub use names::may_copy;
+pub use uses::{Uses, uses_of};

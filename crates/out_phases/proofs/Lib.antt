@@ -1,0 +1,3 @@
+pub mod SiteLaws
+pub mod HandingLaws
+pub mod PhaseLaws

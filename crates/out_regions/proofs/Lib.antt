@@ -1,0 +1,4 @@
+pub mod Steps
+pub mod StatementLaws
+pub mod RestLaws
+pub mod ModuleLaws

@@ -1,0 +1,15 @@
+use Rattle.std.proofs.Common.{◌≡◌, ◌++◌, length, map}
+use Rattle.f77_symbols.specs.Symbols.{symbol_tree}
+use Rattle.region_sets.specs.Sets.{SetFits}
+use Rattle.out_regions.specs.Used.{used}
+use Rattle.out_regions.proofs.used.used.Given as goal
+
+abbrev pub invariant-loop-rest : goal.invariant-loop-rest
+invariant-loop-rest l = record {
+  same : l.out ++ used (map symbol_tree l.symbols) l.later l.rest ≡ used (map symbol_tree l.symbols) l.later l.writes;
+  fits : SetFits l.out;
+  each : SetFits l.rest;
+}
+
+abbrev pub decreases-loop-rest : goal.decreases-loop-rest
+decreases-loop-rest l = length l.rest

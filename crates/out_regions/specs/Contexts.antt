@@ -1,0 +1,25 @@
+-- What the code knows around a statement, as plain data, and what calls ask of it.
+use Rattle.call_translation.specs.Scopes.{scope_tree}
+use Rattle.transformers.specs.Given.{ResultsFit}
+use Rattle.transformers.specs.Lists.{transformer_at}
+use Rattle.region_sets.specs.Lists.{SetsFit}
+use Rattle.region_sets.specs.Sets.{SetFits}
+use Rattle.out_regions.specs.declared.context.OutContext.{OutContext}
+use Rattle.out_regions.specs.declared.rest.Rest.{Rest}
+use Rattle.out_regions.specs.Known.{KnownTree}
+
+abbrev pub known_in : OutContext → KnownTree
+known_in k = record {
+  scope = scope_tree k.scope.now.symbols.now k.scope.now.tracked.now;
+  does = transformer_at k.own.now.at;
+  accesses = k.regions.now;
+  ins = k.ins.now;
+}
+
+pub record KnownFits (k : OutContext) : Type 0 where
+  pub own : ResultsFit k.own.now.at
+  pub regions : SetsFit k.regions.now
+  pub ins : SetsFit k.ins.now
+
+abbrev pub RestFits : Rest → Type 0
+RestFits r = SetFits r.ins × SetFits r.writes

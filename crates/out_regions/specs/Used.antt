@@ -1,0 +1,56 @@
+-- OUT regions: what is written and, in the rest of the run, read before it is written again. They are handed down, from a list to its statements, and are
+-- never exact. `us` has what may be read later, as regions of kind OUT.
+use Rattle.std.specs.Prelude.{Bool, true, false, ◌||◌, ◌++◌, if◌then◌else◌, List, [], ◌∷◌, map}
+use Rattle.affine_systems.specs.declared.row.System.{System}
+use Rattle.affine_systems.specs.Calls.{meet}
+use Rattle.f77_symbols.specs.declared.variable.Variable.{Variable}
+use Rattle.f77_symbols.specs.Symbols.{SymbolTree}
+use Rattle.f77_symbols.specs.Shared.{overlap}
+use Rattle.region_sets.specs.declared.region.Access.TheVariants.{Out}
+use Rattle.region_sets.specs.declared.region.Region.{Region}
+use Rattle.region_sets.specs.Regions.{region, hull_of}
+use Rattle.region_sets.specs.Sets.{live, live_pieces}
+use Rattle.in_out_regions.specs.Kinds.{is_write}
+use Rattle.in_out_regions.specs.Writes.{same_variable}
+
+abbrev pub as_out : Region → Region
+as_out r = region r.variable Out false r.pieces
+
+-- without those that are refuted
+abbrev pub all_out : List Region → List Region
+all_out rs = map as_out (live rs)
+
+-- ---- what of a WRITE region is used
+
+-- another variable that shares units with this one is used
+abbrev pub is_used_beside : List SymbolTree → List Region → Variable → Bool
+is_used_beside ss [] v = false
+is_used_beside ss (u ∷ us) v = overlap ss u.variable v || is_used_beside ss us v
+
+-- the systems of what is used of a variable
+abbrev pub used_pieces : Variable → List Region → List System
+used_pieces v [] = []
+used_pieces v (u ∷ us) = if same_variable v u.variable then u.pieces ++ used_pieces v us else used_pieces v us
+
+abbrev pub is_none : List System → Bool
+is_none [] = true
+is_none (s ∷ ss) = false
+
+abbrev pub unless_empty : Region → List System → List Region
+unless_empty w ss = if is_none ss then [] else region w.variable Out false ss ∷ []
+
+-- within all of them together, where there are any
+abbrev pub met_with : Region → List System → List Region
+met_with w us = if is_none us then [] else unless_empty w (live_pieces (map (λ s. meet s (hull_of us)) w.pieces))
+
+-- all of it, where a variable is used that shares units with its own
+abbrev pub used_of : List SymbolTree → List Region → Region → List Region
+used_of ss us w = if is_used_beside ss us w.variable then as_out w ∷ [] else met_with w (used_pieces w.variable us)
+
+abbrev pub if_write : List SymbolTree → List Region → Region → List Region
+if_write ss us w = if is_write w.kind then used_of ss us w else []
+
+-- what is used of the WRITE regions of a set
+abbrev pub used : List SymbolTree → List Region → List Region → List Region
+used ss us [] = []
+used ss us (w ∷ ws) = if_write ss us w ++ used ss us ws

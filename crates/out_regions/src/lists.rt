@@ -1,0 +1,238 @@
+//! OUT of the statements of a list, from OUT of the list.
+ghost use Rattle.std.specs.Prelude.{◌≡◌, ◌++◌, IfOk, OnOk};
+ghost use Rattle.affine_systems.specs.Given.{Fits};
+ghost use Rattle.f77_ast.specs.PlainStmt.{stmt_tree};
+ghost use Rattle.region_sets.specs.Regions.{RegionFits};
+ghost use Rattle.region_sets.specs.Sets.{SetFits};
+ghost use Rattle.region_sets.specs.Lists.{SetsFit, all_composed, all_accesses, all_forgetting};
+ghost use Rattle.in_out_regions.specs.Lists.{set_at as set_at_is};
+ghost use Rattle.out_regions.specs.Used.{all_out};
+ghost use Rattle.out_regions.specs.Contexts.{known_in, KnownFits, RestFits};
+ghost use Rattle.out_regions.specs.Lists.{applied as applied_is, all_applied as all_applied_is, left_over as left_over_is, used_behind as used_behind_is, first_out as first_out_is, rest_out as rest_out_is, may_leave as may_leave_is, any_out as any_out_is};
+
+use crate::context::OutContext;
+use crate::leaving::stmt_leaves;
+use crate::rest::{Rest, writes_at};
+use crate::used::{push_out, used};
+use array_regions::push_copies;
+use f77_ast::{Stmt, StmtId};
+use f77_results::At;
+use fx_lists::List;
+use in_out_regions::{push_forgetting, push_unwritten, set_at};
+use region_sets::{
+    Region, RegionSet, live_regions as live, push_composed, push_region, push_system, remade,
+};
+use std::alloc::{AllocError as Memory, Global};
+use transformer_algebra::{Transformer, apply};
+use transformers::transformer_at;
+
+/// A region after what a transformer describes, from one before it.
+#[tactic(auto, using(region_sets::proofs::Steps::fitting))]
+fn applied(alloc: Global, t: &Transformer, r: &Region) -> Result<Region, Memory>
+    requires transformer { Fits t.now.system }
+    requires region { RegionFits r.now }
+    ensures defined { IfOk result (λ q. q ≡ applied_is t.now r.now) }
+    ensures fits { IfOk result RegionFits }
+{
+    let mut pieces = List::new(alloc);
+    let mut rest = r.pieces.as_slice();
+    while let [piece, more @ ..] = rest {
+        push_system(&mut pieces, apply(alloc, t, piece)?)?;
+        rest = more;
+    }
+    remade(r, r.exact, pieces)
+}
+
+#[tactic(auto, using(region_sets::proofs::Steps::fitting))]
+fn all_applied(alloc: Global, t: &Transformer, set: &[Region]) -> Result<RegionSet, Memory>
+    requires transformer { Fits t.now.system }
+    requires set { SetFits set.now }
+    ensures defined { IfOk result (λ qs. qs ≡ all_applied_is t.now set.now) }
+    ensures fits { IfOk result SetFits }
+{
+    let mut out = List::new(alloc);
+    let mut rest = set;
+    while let [r, more @ ..] = rest {
+        push_region(&mut out, applied(alloc, t, r)?)?;
+        rest = more;
+    }
+    Ok(out)
+}
+
+/// OUT of a list, less what these regions certainly write; all of it where the list may be left.
+fn left_over(
+    alloc: Global,
+    leaving: bool,
+    writes: &[Region],
+    out: &[Region],
+) -> Result<RegionSet, Memory>
+    requires writes { SetFits writes.now }
+    requires out { SetFits out.now }
+    ensures defined { IfOk result (λ rs. rs ≡ left_over_is leaving writes.now out.now) }
+    ensures fits { IfOk result SetFits }
+{
+    let mut left = List::new(alloc);
+    if leaving {
+        push_copies(alloc, &mut left, out)?;
+        return Ok(left);
+    }
+    let certain = live(alloc, writes)?;
+    push_unwritten(alloc, &mut left, certain.as_slice(), out)?;
+    Ok(left)
+}
+
+/// A set as seen from before what a transformer describes.
+fn composed(alloc: Global, t: &Transformer, set: &[Region]) -> Result<RegionSet, Memory>
+    requires transformer { Fits t.now.system }
+    requires set { SetFits set.now }
+    ensures defined { IfOk result (λ rs. rs ≡ all_composed t.now set.now) }
+    ensures fits { IfOk result SetFits }
+{
+    let mut out = List::new(alloc);
+    push_composed(alloc, &mut out, t, set)?;
+    Ok(out)
+}
+
+/// What may be read behind a statement, by the rest or behind the list, which has this OUT. `leaving`: the statement or the rest may leave the list.
+fn used_behind(
+    alloc: Global,
+    known: &OutContext<'_>,
+    leaving: bool,
+    id: StmtId,
+    rest: &Rest,
+    out: &[Region],
+) -> Result<RegionSet, Memory>
+    requires known { KnownFits known.now }
+    requires rest { RestFits rest.now }
+    requires out { SetFits out.now }
+    ensures defined { IfOk result (λ rs. rs ≡ used_behind_is (known_in known.now) leaving id rest.now out.now) }
+    ensures fits { IfOk result SetFits }
+{
+    let t = transformer_at(alloc, &known.own.at, id)?;
+    let read = composed(alloc, &t, rest.ins.as_slice())?;
+    let writes = composed(alloc, &t, rest.writes.as_slice())?;
+    let left = left_over(alloc, leaving, writes.as_slice(), out)?;
+    let mut later = List::new(alloc);
+    push_out(alloc, &mut later, read.as_slice())?;
+    push_out(alloc, &mut later, left.as_slice())?;
+    Ok(later)
+}
+
+/// Whether a statement or the rest may leave the list.
+pub fn may_leave(alloc: Global, whole: bool, s: &Stmt, rest: &Rest) -> Result<bool, Memory>
+    ensures { IfOk result (λ b. b ≡ may_leave_is whole (stmt_tree s.now) rest.now) }
+{
+    Ok(stmt_leaves(alloc, whole, s)? || rest.leaves)
+}
+
+/// OUT of a statement, from the rest after it and OUT of the list. `leaving`: the statement or the rest may leave the list.
+pub fn first_out(
+    alloc: Global,
+    known: &OutContext<'_>,
+    leaving: bool,
+    id: StmtId,
+    rest: &Rest,
+    out: &[Region],
+) -> Result<RegionSet, Memory>
+    requires known { KnownFits known.now }
+    requires rest { RestFits rest.now }
+    requires out { SetFits out.now }
+    ensures defined { IfOk result (λ rs. rs ≡ first_out_is (known_in known.now) leaving id rest.now out.now) }
+    ensures fits { IfOk result SetFits }
+{
+    let later = used_behind(alloc, known, leaving, id, rest, out)?;
+    let writes = writes_at(alloc, known, id)?;
+    let symbols = known.scope.symbols;
+    used(alloc, symbols, later.as_slice(), writes.as_slice())
+}
+
+/// OUT of the rest after a statement, from OUT of the list.
+pub fn rest_out(
+    alloc: Global,
+    known: &OutContext<'_>,
+    id: StmtId,
+    rest: &Rest,
+    out: &[Region],
+) -> Result<RegionSet, Memory>
+    requires known { KnownFits known.now }
+    requires rest { RestFits rest.now }
+    requires out { SetFits out.now }
+    ensures defined { IfOk result (λ rs. rs ≡ rest_out_is (known_in known.now) id rest.now out.now) }
+    ensures fits { IfOk result SetFits }
+{
+    let t = transformer_at(alloc, &known.own.at, id)?;
+    let after = all_applied(alloc, &t, out)?;
+    let mut later = List::new(alloc);
+    push_out(alloc, &mut later, after.as_slice())?;
+    let symbols = known.scope.symbols;
+    used(alloc, symbols, later.as_slice(), rest.writes.as_slice())
+}
+
+/// Adds a set as OUT, for any numbers of the cells.
+pub fn push_forgotten(
+    alloc: Global,
+    later: &mut RegionSet,
+    cells: &[u32],
+    set: &[Region],
+) -> Result<(), Memory>
+    requires later { SetFits later.old }
+    requires set { SetFits set.now }
+    ensures added { OnOk result (later.new ≡ later.old ++ all_out (all_forgetting cells.now set.now)) }
+    ensures fits { OnOk result (SetFits later.new) }
+{
+    let mut free = List::new(alloc);
+    push_forgetting(alloc, &mut free, cells, set)?;
+    push_out(alloc, later, free.as_slice())
+}
+
+/// The sets of these statements, one after another.
+#[tactic(auto, using(in_out_regions::proofs::Steps::regions))]
+fn all_sets(alloc: Global, ids: &[StmtId], at: &List<At<RegionSet>>) -> Result<RegionSet, Memory>
+    requires { SetsFit at.now }
+    ensures defined { IfOk result (λ rs. rs ≡ all_accesses (set_at_is at.now) ids.now) }
+    ensures fits { IfOk result SetFits }
+{
+    let mut out = List::new(alloc);
+    let mut rest = ids;
+    while let [id, more @ ..] = rest {
+        push_copies(alloc, &mut out, set_at(at, *id))?;
+        rest = more;
+    }
+    Ok(out)
+}
+
+/// What may be read behind any statement of a list that changes these cells and whose statements, with these numbers, come in any order.
+pub fn used_around(
+    alloc: Global,
+    known: &OutContext<'_>,
+    cells: &[u32],
+    ids: &[StmtId],
+    out: &[Region],
+) -> Result<RegionSet, Memory>
+    requires known { KnownFits known.now }
+    requires out { SetFits out.now }
+    ensures defined { IfOk result (λ rs. rs ≡ all_out (all_forgetting cells.now (all_accesses (set_at_is known.now.ins.now) ids.now)) ++ all_out (all_forgetting cells.now out.now)) }
+    ensures fits { IfOk result SetFits }
+{
+    let ins = all_sets(alloc, ids, known.ins)?;
+    let mut later = List::new(alloc);
+    push_forgotten(alloc, &mut later, cells, ins.as_slice())?;
+    push_forgotten(alloc, &mut later, cells, out)?;
+    Ok(later)
+}
+
+/// OUT of a statement where this may be read behind it.
+pub fn any_out(
+    alloc: Global,
+    known: &OutContext<'_>,
+    later: &[Region],
+    id: StmtId,
+) -> Result<RegionSet, Memory>
+    requires known { KnownFits known.now }
+    requires later { SetFits later.now }
+    ensures defined { IfOk result (λ rs. rs ≡ any_out_is (known_in known.now) later.now id) }
+    ensures fits { IfOk result SetFits }
+{
+    let writes = writes_at(alloc, known, id)?;
+    used(alloc, known.scope.symbols, later, writes.as_slice())
+}

@@ -1,0 +1,218 @@
+//! What of WRITE regions may be read later.
+ghost use Rattle.std.specs.Prelude.{◌≡◌, ◌++◌, map, IfOk, OnOk};
+ghost use Rattle.hull_projection.specs.Minus.{AllFit};
+ghost use Rattle.f77_symbols.specs.Symbols.{symbol_tree};
+ghost use Rattle.affine_systems.specs.Given.{Fits};
+ghost use Rattle.affine_systems.specs.Calls.{meet as meet_is};
+ghost use Rattle.region_sets.specs.Regions.{RegionFits};
+ghost use Rattle.region_sets.specs.Sets.{SetFits};
+ghost use Rattle.out_regions.specs.Used.{as_out as as_out_is, all_out, is_used_beside as is_used_beside_is, used_pieces as used_pieces_is, is_none as is_none_is, unless_empty, met_with, used_of, if_write, used as used_is};
+
+use affine_systems::{System, meet};
+use f77_results::copy_variable;
+use f77_symbols::{Symbols, Variable, overlaps};
+use fx_lists::List;
+use in_out_regions::{is_write, same_variable};
+use region_sets::{
+    Access, Region, RegionSet, copy_region, hull_of, live_pieces, live_regions as live,
+    push_copies, push_region, push_system,
+};
+use std::alloc::{AllocError as Memory, Global};
+
+/// A copy of a region, as one of OUT.
+fn as_out(alloc: Global, r: &Region) -> Result<Region, Memory>
+    requires { RegionFits r.now }
+    ensures defined { IfOk result (λ q. q ≡ as_out_is r.now) }
+    ensures fits { IfOk result RegionFits }
+{
+    let copy = copy_region(alloc, r)?;
+    Ok(Region {
+        variable: copy.variable,
+        kind: Access::Out,
+        exact: false,
+        pieces: copy.pieces,
+    })
+}
+
+/// Appends regions as such of OUT, without those that are refuted.
+#[tactic(auto, using(region_sets::proofs::Steps::fitting))]
+pub fn push_out(alloc: Global, out: &mut RegionSet, set: &[Region]) -> Result<(), Memory>
+    requires out { SetFits out.old }
+    requires set { SetFits set.now }
+    ensures added { OnOk result (out.new ≡ out.old ++ all_out set.now) }
+    ensures fits { OnOk result (SetFits out.new) }
+{
+    let alive = live(alloc, set)?;
+    let mut rest = alive.as_slice();
+    while let [r, more @ ..] = rest {
+        push_region(out, as_out(alloc, r)?)?;
+        rest = more;
+    }
+    Ok(())
+}
+
+/// Whether a variable is used that shares units with this one.
+fn is_used_beside(symbols: &Symbols, later: &[Region], v: &Variable) -> bool
+    ensures { result ≡ is_used_beside_is (map symbol_tree symbols.now) later.now v.now }
+{
+    let mut rest = later;
+    while let [u, more @ ..] = rest {
+        if overlaps(symbols, &u.variable, v) {
+            return true;
+        }
+        rest = more;
+    }
+    false
+}
+
+/// The systems of what is used of a variable.
+#[tactic(auto, using(region_sets::proofs::Steps::fitting))]
+fn used_pieces(alloc: Global, v: &Variable, later: &[Region]) -> Result<List<System>, Memory>
+    requires { SetFits later.now }
+    ensures defined { IfOk result (λ ss. ss ≡ used_pieces_is v.now later.now) }
+    ensures fits { IfOk result AllFit }
+{
+    let mut pieces = List::new(alloc);
+    let mut rest = later;
+    while let [u, more @ ..] = rest {
+        if same_variable(v, &u.variable) {
+            push_copies(&mut pieces, u.pieces.as_slice())?;
+        }
+        rest = more;
+    }
+    Ok(pieces)
+}
+
+/// Each system with another.
+#[tactic(auto, using(region_sets::proofs::Steps::fitting))]
+fn all_met(alloc: Global, pieces: &[System], all: &System) -> Result<List<System>, Memory>
+    requires pieces { AllFit pieces.now }
+    requires all { Fits all.now }
+    ensures defined { IfOk result (λ ss. ss ≡ map (λ s. meet_is s all.now) pieces.now) }
+    ensures fits { IfOk result AllFit }
+{
+    let mut out = List::new(alloc);
+    let mut rest = pieces;
+    while let [s, more @ ..] = rest {
+        push_system(&mut out, meet(alloc, s, all)?)?;
+        rest = more;
+    }
+    Ok(out)
+}
+
+fn is_none(systems: &[System]) -> bool
+    ensures { result ≡ is_none_is systems.now }
+{
+    match systems {
+        [] => true,
+        [_, ..] => false,
+    }
+}
+
+/// Adds a region with the variable of another and these systems, where there are any.
+fn push_pieces(out: &mut RegionSet, w: &Region, pieces: List<System>) -> Result<(), Memory>
+    requires out { SetFits out.old }
+    requires pieces { AllFit pieces }
+    ensures added { OnOk result (out.new ≡ out.old ++ unless_empty w.now pieces) }
+    ensures fits { OnOk result (SetFits out.new) }
+{
+    if is_none(pieces.as_slice()) {
+        return Ok(());
+    }
+    push_region(
+        out,
+        Region {
+            variable: copy_variable(&w.variable)?,
+            kind: Access::Out,
+            exact: false,
+            pieces,
+        },
+    )
+}
+
+/// Adds what of a WRITE region lies within the hull of these systems, where there are any.
+fn push_within(
+    alloc: Global,
+    out: &mut RegionSet,
+    w: &Region,
+    later: &[System],
+) -> Result<(), Memory>
+    requires out { SetFits out.old }
+    requires region { RegionFits w.now }
+    requires later { AllFit later.now }
+    ensures added { OnOk result (out.new ≡ out.old ++ met_with w.now later.now) }
+    ensures fits { OnOk result (SetFits out.new) }
+{
+    if is_none(later) {
+        return Ok(());
+    }
+    let together = hull_of(alloc, later)?;
+    let met = all_met(alloc, w.pieces.as_slice(), &together)?;
+    let pieces = live_pieces(alloc, met.as_slice())?;
+    push_pieces(out, w, pieces)
+}
+
+/// Adds what is used of a WRITE region.
+fn push_used(
+    alloc: Global,
+    out: &mut RegionSet,
+    symbols: &Symbols,
+    later: &[Region],
+    w: &Region,
+) -> Result<(), Memory>
+    requires out { SetFits out.old }
+    requires later { SetFits later.now }
+    requires region { RegionFits w.now }
+    ensures added { OnOk result (out.new ≡ out.old ++ used_of (map symbol_tree symbols.now) later.now w.now) }
+    ensures fits { OnOk result (SetFits out.new) }
+{
+    if is_used_beside(symbols, later, &w.variable) {
+        return push_region(out, as_out(alloc, w)?);
+    }
+    let pieces = used_pieces(alloc, &w.variable, later)?;
+    push_within(alloc, out, w, pieces.as_slice())
+}
+
+/// The same, where it is a WRITE region.
+fn push_if_write(
+    alloc: Global,
+    out: &mut RegionSet,
+    symbols: &Symbols,
+    later: &[Region],
+    w: &Region,
+) -> Result<(), Memory>
+    requires out { SetFits out.old }
+    requires later { SetFits later.now }
+    requires region { RegionFits w.now }
+    ensures added { OnOk result (out.new ≡ out.old ++ if_write (map symbol_tree symbols.now) later.now w.now) }
+    ensures fits { OnOk result (SetFits out.new) }
+{
+    if is_write(w.kind) {
+        push_used(alloc, out, symbols, later, w)
+    } else {
+        Ok(())
+    }
+}
+
+/// What of the WRITE regions of a set is used, where `later` has what may be read later: all of a variable where one is used that shares units with
+/// it, else what lies within the hull of what is used of it. Each region is compared with all of `later`.
+#[tactic(auto, using(region_sets::proofs::Steps::fitting))]
+pub fn used(
+    alloc: Global,
+    symbols: &Symbols,
+    later: &[Region],
+    writes: &[Region],
+) -> Result<RegionSet, Memory>
+    requires later { SetFits later.now }
+    requires writes { SetFits writes.now }
+    ensures defined { IfOk result (λ qs. qs ≡ used_is (map symbol_tree symbols.now) later.now writes.now) }
+    ensures fits { IfOk result SetFits }
+{
+    let mut out = List::new(alloc);
+    let mut rest = writes;
+    while let [w, more @ ..] = rest {
+        push_if_write(alloc, &mut out, symbols, later, w)?;
+        rest = more;
+    }
+    Ok(out)
+}
