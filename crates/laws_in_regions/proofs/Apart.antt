@@ -183,7 +183,7 @@ unlocked_before locked ds at common u e = go (doubly_reached ds at common u) (lo
     go true (Some f) q i = cc
     go false (Some f) q i = i
 
-in_inside : (p : Place) (u : ℕ) → in_place p u ≡ true → Inside p u
+pub in_inside : (p : Place) (u : ℕ) → in_place p u ≡ true → Inside p u
 in_inside p u h =
     let q = and_parts (nat_le p.first u) (nat_lt u (p.first + p.extent)) h in
     let low : p.first ≤ u = (let a = q.0 in grind (arith, nat_tests, a)) in
@@ -211,7 +211,7 @@ module _ (ks : List Known) (g : Graph) (b : Blocks) (k : Part) (sane : Sane b k)
   lock_in = lock_doubly locked k.routine.dummies at k.routine.common
 
   -- a unit of a dummy is offered to it
-  offered : (o : ℕ) (d : Dummy) (u : ℕ) → slice_get k.routine.dummies o ≡ Some d → Inside (at d.symbol) u → in_bound k.routine.dummies ps u ≡ true
+  pub offered : (o : ℕ) (d : Dummy) (u : ℕ) → slice_get k.routine.dummies o ≡ Some d → Inside (at d.symbol) u → in_bound k.routine.dummies ps u ≡ true
   offered o d u e h = bound_at k.routine.dummies ps o d u e (⊎_elim (λ a. scalar a.0 a.1) (λ a. array a.1) (made.dummy o d e))
     where
       scalar : d.bounds ≡ [] → at d.symbol ≡ places_in k ps d.symbol → in_place (nth ps o) u ≡ true

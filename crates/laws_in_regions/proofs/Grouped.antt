@@ -21,7 +21,7 @@ use Rattle.laws_in_regions.proofs.Valued.{parameters_have_values}
 
 -- ---- numbers of groups
 
-index_least : (n : ℕ) (gs : List ℕ) (h g : ℕ) → index_from n gs h ≡ Some g → n ≤ g
+pub index_least : (n : ℕ) (gs : List ℕ) (h g : ℕ) → index_from n gs h ≡ Some g → n ≤ g
 index_least n [] h g e = cc
 index_least n (x ∷ gs) h g e = go (nat_eq h x) e (λ i. index_least (n + 1) gs h g i)
   where
@@ -39,7 +39,7 @@ index_same n (x ∷ gs) h k g e f = go (nat_eq h x) (nat_eq k x) refl refl e f (
     go false true p q a b ih = let same : n ≡ g = cc in let low = index_least (n + 1) gs h g a in absurd (omega (arith, same, low))
     go false false p q a b ih = ih a b
 
-abbrev IsThere : ℕ → List ℕ → ℕ → Type 0
+abbrev pub IsThere : ℕ → List ℕ → ℕ → Type 0
 IsThere n gs h = is_some (index_from n gs h) ≡ true
 
 there_more : (n : ℕ) (gs : List ℕ) (h k : ℕ) → IsThere n gs k → IsThere n (gs ++ h ∷ []) k
@@ -92,7 +92,7 @@ groups_keep n [] ss gs k h = h
 groups_keep n (e ∷ es) ss gs k h = groups_keep (n + 1) es ss (with_entry e (slice_get ss n) gs) k (entry_keeps e (slice_get ss n) k gs h)
 
 -- the group of a name that is no dummy and no PARAMETER
-groups_have : (n : ℕ) (es : List EntryTree) (ss : List Seat) (gs : List ℕ) (i : ℕ) (e : EntryTree) (s : Seat) (k : ℕ) → slice_get es i ≡ Some e → e.dummy ≡ None → e.parameter ≡ false → slice_get ss (n + i) ≡ Some s → s.home ≡ Own k → IsThere 1 (groups_from n es ss gs) k
+pub groups_have : (n : ℕ) (es : List EntryTree) (ss : List Seat) (gs : List ℕ) (i : ℕ) (e : EntryTree) (s : Seat) (k : ℕ) → slice_get es i ≡ Some e → e.dummy ≡ None → e.parameter ≡ false → slice_get ss (n + i) ≡ Some s → s.home ≡ Own k → IsThere 1 (groups_from n es ss gs) k
 groups_have n [] ss gs i e s k q d p r h = cc
 groups_have n (x ∷ es) ss gs zero e s k q d p r h =
     let same : x ≡ e = cc in

@@ -183,7 +183,7 @@ count_joined ss m p n q None y = refl
 count_joined ss m p n q (Some a) None = refl
 count_joined ss m p n q (Some a) (Some b) = joined_count ss a b ((a.offset +ℤ p) -ℤ (b.offset +ℤ q))
 
-count_shared : (p : ParsedTree) → length (shared_in p).group.seats ≡ length (names_in p).entries
+pub count_shared : (p : ParsedTree) → length (shared_in p).group.seats ≡ length (names_in p).entries
 unfolding shared laid
 count_shared p =
     let t = names_in p in

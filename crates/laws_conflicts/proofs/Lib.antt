@@ -1,0 +1,15 @@
+pub mod Cuts
+pub mod Parts
+pub mod Each
+pub mod Whats
+pub mod Lists
+pub mod Inside
+pub mod Doing
+pub mod Reaching
+pub mod Narrows
+pub mod Meeting
+pub mod Copies
+pub mod Alone
+pub mod Looping
+pub mod Modules
+pub mod Accepted
