@@ -1,11 +1,11 @@
 #!/usr/bin/env python3
 """Makes the cases of crates/cases_programs: its `stdin`, and its `stdout` by the answers of the reference.
 
-    python3 bench/cases_programs.py [KIND FIRST LAST FOLDER]
+    python3 bench/cases_programs.py [loops FIRST LAST FOLDER]
 
 What the programs by hand say of their answers, and what follows for pairs of faults, must stand in them, or it stops. Of the effects and the analyses of
-tracked cells, array regions and loops programs that are refused are left out. With a kind, `regions`, `in` or `loops`, the random programs are those of these
-seeds, and their cases alone are written to a folder.
+tracked cells and loops programs that are refused are left out. With the kind `loops` the random programs are those of these seeds, and their cases alone are
+written to a folder.
 """
 import os
 import sys
@@ -14,24 +14,17 @@ from types import SimpleNamespace
 
 from effect_programs import effect_programs
 from graph_programs import graph_programs
-from in_programs import in_programs
 from loop_programs import loop_programs
-from out_programs import out_programs
 from reference import load, write_cases
-from region_programs import region_programs
+from region_answers import with_ins
 from scalar_programs import scalar_programs
 from storage_programs import BY_HAND, in_pairs, random_programs, text_of as storage_text
 
 EFFECTS = 600
 # the size of what is stored of the analyses of tracked cells
 SCALARS = 140_000
-# of array regions
-REGIONS = 500_000
-# of what is read before it is written
-INS = 250_000
-# and of the conflicts of loops
-LOOPS = 240_000
-OUTS = 250_000
+# the number of loops of which conflicts are asked for
+LOOPS = 500
 
 layout, loops, model, pipeline, printer, read, reader, regions, scalars = map(load, ['layout', 'loops', 'model', 'pipeline', 'printer', 'read', 'reader', 'regions', 'scalars'])
 
@@ -163,45 +156,6 @@ def scalar_lines(text):
             yield f'{number} T {change(symbols, own.at[number])}'
 
 
-# ---- array regions
-
-def region_module_lines(view, sets):
-    yield f'module {view.module.name}'
-    for before, added in printer.region_lines(view, sets):
-        yield f'{before} {added}'
-    for number in sorted(sets.at):
-        yield f'{number}'
-        yield from (' ' + printer.region_text(view.symbols, r) for r in sets.at[number])
-    yield 'summary'
-    yield from (' ' + printer.region_text(view.symbols, r) for r in sets.summary)
-
-
-def region_lines(text):
-    program = read.read(text)
-    views, found, known = pipeline.views(program), pipeline.analyse_scalars(program), {}
-    for name in program.graph.order:
-        sets = regions.regions(views[name], found[name]['transformers'], known)
-        known[name] = (views[name].symbols, sets.summary)
-        yield from region_module_lines(views[name], sets)
-
-
-def with_ins(text):
-    """Of each module, callees first, its view, what is found of its scalars, its READ and WRITE regions, and its IN regions."""
-    program = read.read(text)
-    views, found, known, known_ins = pipeline.views(program), pipeline.analyse_scalars(program), {}, {}
-    for name in program.graph.order:
-        view, own = views[name], found[name]['transformers']
-        sets = regions.regions(view, own, known)
-        ins = regions.in_regions(view, own, sets, known_ins)
-        known[name], known_ins[name] = (view.symbols, sets.summary), (view.symbols, ins.summary)
-        yield view, found[name], sets, ins
-
-
-def in_lines(text):
-    for view, _, _, ins in with_ins(text):
-        yield from region_module_lines(view, ins)
-
-
 # ---- conflicts of loops
 
 def conflict_line(known, number, variable, kinds):
@@ -232,20 +186,6 @@ def loop_lines(text):
         for stmt in scalars.all_in(view.module.body):
             if stmt.what[0] == 'Do':
                 yield from loop_answers(known, stmt.id)
-
-
-def out_lines(text):
-    program = read.read(text)
-    views, found, known, known_ins, sets, ins, outs = pipeline.views(program), pipeline.analyse_scalars(program), {}, {}, {}, {}, {}
-    for name in program.graph.order:
-        view, own = views[name], found[name]['transformers']
-        sets[name] = regions.regions(view, own, known)
-        ins[name] = regions.in_regions(view, own, sets[name], known_ins)
-        known[name], known_ins[name] = (view.symbols, sets[name].summary), (view.symbols, ins[name].summary)
-    for name in reversed(program.graph.order):
-        sites = [(caller, call, model.SiteOut(found[caller.module.name]['transformers'], outs[caller.module.name].at[call.id])) for caller, call in pipeline.call_sites(program, name)]
-        outs[name] = regions.out_regions(views[name], found[name]['transformers'], sets[name], ins[name], sites)
-        yield from region_module_lines(views[name], outs[name])
 
 
 # ---- cases
@@ -296,32 +236,28 @@ class Cases:
             statements, want = next(programs)
             size += self.add_accepted('scalars', statements, scalar_lines, want)
 
-    def add_up_to(self, most, kind, programs, answer):
-        """Programs of a kind, until they and their answers have that size."""
-        size = 0
-        for statements, want in programs:
-            size += self.add_accepted(kind, statements, answer, want)
-            if size >= most:
+    def add_loops(self, seeds, most):
+        """Programs with loops, until there are answers of that many loops."""
+        count = 0
+        for statements, want in loop_programs(seeds):
+            before = len(self.wanted)
+            self.add_accepted('loops', statements, loop_lines, want)
+            for answer in self.wanted[before:]:
+                count += loops_in(answer)
+            if count >= most:
                 break
 
-    def add_regions(self, seeds, most):
-        self.add_up_to(most, 'regions', region_programs(seeds), region_lines)
 
-    def add_ins(self, seeds, most):
-        self.add_up_to(most, 'in', in_programs(seeds), in_lines)
-
-    def add_loops(self, seeds, most):
-        self.add_up_to(most, 'loops', loop_programs(seeds), loop_lines)
-
-    def add_outs(self, seeds, most):
-        self.add_up_to(most, 'out', out_programs(seeds), out_lines)
+def loops_in(answer):
+    """The number of loops of which something is answered."""
+    lines = [line.split() for line in answer.split('\n')]
+    modules = [k for k, words in enumerate(lines) if words[:1] == ['module']] + [len(lines)]
+    return sum(len({words[0] for words in lines[k:l] if words and words[0].isdigit()}) for k, l in zip(modules, modules[1:]))
 
 
-
-def write_kind(kind, first, last, folder):
+def write_loops(first, last, folder):
     cases = Cases()
-    add = {'regions': cases.add_regions, 'in': cases.add_ins, 'loops': cases.add_loops, 'out': cases.add_outs}[kind]
-    add(range(first, last), 1 << 30)
+    cases.add_loops(range(first, last), 1 << 30)
     for name, texts in (('stdin', cases.given), ('stdout', cases.wanted)):
         with open(os.path.join(folder, name), 'wb') as file:
             file.write(''.join(texts).encode('latin-1'))
@@ -331,17 +267,14 @@ def write_kind(kind, first, last, folder):
 def main():
     sys.setrecursionlimit(1_000_000)
     if len(sys.argv) > 1:
-        write_kind(sys.argv[1], int(sys.argv[2]), int(sys.argv[3]), sys.argv[4])
+        write_loops(int(sys.argv[2]), int(sys.argv[3]), sys.argv[4])
         return
     cases = Cases()
     cases.add_storage()
     cases.add_graphs()
     cases.add_effects()
     cases.add_scalars()
-    cases.add_regions(range(1_000), REGIONS)
-    cases.add_ins(range(1_000), INS)
-    cases.add_loops(range(1_000, 2_000), LOOPS)
-    cases.add_outs(range(1_000), OUTS)
+    cases.add_loops(range(1_000, 9_000), LOOPS)
     write_cases('cases_programs', cases.given, cases.wanted)
     counts = Counter(kind.split()[0] for kind in cases.counts.elements())
     print(dict(counts), sum(map(len, cases.given)), sum(map(len, cases.wanted)))

@@ -7,7 +7,7 @@ COUNT programs of each of the profiles small, loops and jumps of reference/progr
 reference, byte by byte: then the preconditions, transformers and regions in it are those that the reference finds, and its search (reference/soundness.py) looks for a run, on a few inputs, in which one of them is false.
 
 READ, WRITE and IN regions are tried on runs without a fault, preconditions on all. Prints each claim that is false, and how much was tried. A program that takes longer than a minute is given up.
-To try the script itself: python3 bench/false_claims.py 3 sh -c 'python3 reference/pips.py --stage in-out | grep -v "^C> OUT"'
+To try the script itself: python3 bench/false_claims.py 3 python3 reference/pips.py --stage marks
 """
 import collections
 import re

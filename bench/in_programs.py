@@ -1,4 +1,4 @@
-"""Programs by hand, of which crates/cases_programs prints what is read before it is written; and random ones."""
+"""Programs by hand, of which the command writes what is read before it is written; and random ones."""
 from region_programs import CallMaker, Maker, PROFILES
 from reference import load
 

@@ -1,4 +1,4 @@
-"""Programs by hand, of which crates/cases_programs prints what is written and read later; and random ones."""
+"""Programs by hand, of which the command writes what is written and read later; and random ones."""
 from in_programs import BY_HAND as INS, module
 from region_programs import CallMaker, Maker, PROFILES
 from reference import load

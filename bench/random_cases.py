@@ -1,17 +1,26 @@
 #!/usr/bin/env python3
-"""Makes the random programs that bench/pack.py appends: tests/random.in, and tests/random.out by the reference.
+"""Makes the programs that bench/pack.py appends: tests/random.in, and tests/random.out by the reference.
 
     python3 bench/random_cases.py [COUNT]
 
-COUNT is 200 where it is not given.
+COUNT random programs of every form, 200 where it is not given; then with `--show all` the programs of region_programs.py, in_programs.py and out_programs.py that are
+accepted, those by hand and random ones, as many of each as REGIONS says. The lines that their scripts want must be among those written, or it stops.
 """
 import os
 import sys
 from collections import Counter
 
+from cases_programs import text_of
+from in_programs import in_programs
+from out_programs import out_programs
 from pack import TESTS, status_of, write
 from programs import random_programs
-from reference import answer
+from reference import answer, load
+from region_answers import in_lines, out_lines, region_lines
+from region_programs import region_programs
+
+# programs of array regions of each kind
+REGIONS = 150
 
 
 def code_of(status, err):
@@ -22,9 +31,36 @@ def shown(codes):
     return ', '.join(f'{code}: {codes[code]}' for code in sorted(codes) if code)
 
 
+def lines_of(answer, text):
+    """What the reference says of a text; None where it refuses it."""
+    try:
+        return list(answer(text))
+    except load('model').Refused:
+        return None
+
+
+def of_regions():
+    """Accepted programs of array regions."""
+    for programs, answer in ((region_programs, region_lines), (in_programs, in_lines), (out_programs, out_lines)):
+        left = REGIONS
+        for statements, want in programs(range(1_000)):
+            text = text_of(statements)
+            lines = lines_of(answer, text)
+            if lines is None:
+                continue
+            for part in want:
+                if part not in lines:
+                    sys.exit(f'{part} is not among {lines} of\n{text}')
+            yield '--show all', text
+            left -= 1
+            if not left:
+                break
+
+
 def main(count=200):
+    sys.setrecursionlimit(1_000_000)
     given, wanted, codes = [], [], Counter()
-    for words, program in random_programs(int(count)):
+    for words, program in [*random_programs(int(count)), *of_regions()]:
         status, out, err = answer(words.split(), program)
         given.append(f'{program}\n== {words} p.f\n'.encode('latin-1'))
         wanted.append(f'== {status_of(err) if status else "Done"}\n'.encode() + out + err)

@@ -1,4 +1,4 @@
-"""Programs by hand and random, of which crates/cases_programs prints what the statements of modules access."""
+"""Programs by hand and random, of which the command writes what the statements of modules access."""
 import random
 
 from reference import load

@@ -12,11 +12,10 @@ ghost use Rattle.call_equations.specs.Sides.{sides_tree};
 ghost use Rattle.call_equations.specs.Cells.{form_at, form_of as form_of_is, var_in_caller as var_in_caller_is, terms_in_caller as terms_in_caller_is, in_caller as in_caller_is, cell_name as cell_name_is, named as named_is, named_terms as named_terms_is, named_form as named_form_is, maybe_form, actual_bound as actual_bound_is, dummy_bound as dummy_bound_is};
 
 use crate::CallSides;
-use crate::common::{actual_of, tracked_at};
 use crate::forms::{number, sum_of, unless_among};
 use affine_forms::{Affine, affine_of, var_form};
 use affine_systems::{Term, Var};
-use call_translation::CellScope;
+use call_translation::{CellScope, actual_of, tracked_at};
 use f77_ast::Expr;
 use f77_symbols::{Place, Symbols};
 use std::alloc::{AllocError as Memory, Global};

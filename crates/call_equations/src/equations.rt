@@ -12,15 +12,15 @@ ghost use Rattle.call_equations.specs.Sides.{sides_tree};
 ghost use Rattle.call_equations.specs.Links.{LinkFits, link as link_is, same_elements as same_elements_is, scalar_link as scalar_link_is, element_link as element_link_is, by_position as by_position_is, whole_by_position as whole_by_position_is, array_link as array_link_is, bounds_unless_lines as bounds_unless_lines_is, actual_bounds as actual_bounds_is, rest_link as rest_link_is, variable_link as variable_link_is, subscripts_link as subscripts_link_is, is_constant as is_constant_is, variable_of as variable_of_is, variable_at as variable_at_is, element_of as element_of_is, element_at as element_at_is, expr_link as expr_link_is, actual_link as actual_link_is, by_unit as by_unit_is, block_link as block_link_is, common_link as common_link_is, if_saved as if_saved_is, place_link as place_link_is, link_of as link_of_is};
 
 use crate::CallSides;
-use crate::common::actual_of;
 use crate::forms::equation;
 use crate::link::Link;
 use crate::positions::{
     aligned_rows, block_position, dummy_position, element_position, whole_position,
 };
 use crate::rows::{all_affine, bounds_rows, rows_of};
-use crate::shapes::first_like;
 use affine_systems::Row;
+use call_translation::actual_of;
+use effects::first_like;
 use f77_ast::Expr;
 use f77_results::copy_variable;
 use f77_symbols::{Bound, Place, Symbol, Variable};

@@ -2,13 +2,11 @@
 #![tactic(auto)]
 
 mod cells;
-mod common;
 mod equations;
 mod forms;
 mod link;
 mod positions;
 mod rows;
-mod shapes;
 mod sides;
 
 pub use cells::{actual_form, cell_name, form_of, named_form};
@@ -17,5 +15,4 @@ pub use forms::{equation, number, offset, sum_of, zero};
 pub use link::Link;
 pub use positions::{before_dimensions, size_of};
 pub use rows::{all_affine, constant_form, next_dimension, rows_of};
-pub use shapes::first_like;
 pub use sides::{CallSides, changed_cells, entry_cells, is_int_scalar};

@@ -11,8 +11,8 @@ mod sites;
 mod summary;
 mod variables;
 
-pub use actual::{named_cell, push_cell};
-pub use common::copy_unit;
+pub use actual::{actual_of, named_cell, push_cell};
+pub use common::{copy_unit, tracked_at};
 pub use entry::site_entry;
 pub use numbers::next_number;
 pub use scope::{CellScope, tracked_of};

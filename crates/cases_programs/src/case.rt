@@ -4,7 +4,6 @@ use crate::effects_of::add_effects;
 use crate::graphs::add_graphs;
 use crate::loops_of::add_loop_answers;
 use crate::reading::{Stop, graph_of, modules_of, tables_of};
-use crate::regions_of::{add_ins, add_outs, add_program};
 use crate::scalars::add_scalars;
 use crate::storage::add_storage;
 use f77_ast::Parsed;
@@ -23,10 +22,7 @@ fn linked_answer(alloc: Global, kind: &str, modules: &List<Parsed>) -> Result<St
         "graph" => add_graphs(alloc, &mut shown, modules, &tables, &graph)?,
         "effects" => add_effects(alloc, &mut shown, modules, &tables, &graph)?,
         "scalars" => add_scalars(alloc, &mut shown, modules, &tables, &graph)?,
-        "regions" => add_program(alloc, &mut shown, modules, &tables, &graph)?,
-        "in" => add_ins(alloc, &mut shown, modules, &tables, &graph)?,
         "loops" => add_loop_answers(alloc, &mut shown, modules, &tables, &graph)?,
-        "out" => add_outs(alloc, &mut shown, modules, &tables, &graph)?,
         _ => return Err(Stop::Memory),
     }
     Ok(shown)

@@ -2,8 +2,7 @@
 //!
 //! A line `== KIND` ends each program of standard input: `storage` prints the symbols of each module and the pairs that overlap, `graph` the graph with
 //! the tracked cells of the modules, `effects` the effects of the modules and their statements, `scalars` what these do to tracked cells and what holds
-//! where they begin, `regions` the READ and WRITE regions of the modules and the lines that are written of them, `in` and `out` the same of their IN and OUT
-//! regions, and `loops` the conflicts of the iterations of their loops.
+//! where they begin, and `loops` the conflicts of the iterations of their loops.
 #![tactic(auto)]
 
 mod case;
@@ -11,7 +10,6 @@ mod effects_of;
 mod graphs;
 mod loops_of;
 mod reading;
-mod regions_of;
 mod scalars;
 mod shown;
 mod storage;

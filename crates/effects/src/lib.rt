@@ -10,4 +10,5 @@ mod shapes;
 mod statement;
 
 pub use modules::cumulated_effects;
+pub use shapes::first_like;
 pub use statement::proper;

@@ -8,10 +8,10 @@ pub mod TargetLaws
 pub mod MainCallees
 pub mod ThroughoutLaws
 pub mod MainLaws
-mod Members
-mod Sizes
-mod Steps
-mod Insides
+pub mod Members
+pub mod Sizes
+pub mod Steps
+pub mod Insides
 mod Leading
 mod WholeJumps
 pub mod DummyLaws

@@ -45,7 +45,7 @@ module _ (such : Var → Type 0) where
 
   -- ---- the difference of two systems
 
-  abbrev AreNeat : List System → Type 0
+  abbrev pub AreNeat : List System → Type 0
   AreNeat ss = AllByRecursion (IsNeat such) ss
 
   abbrev pub MaybeNeat : Option System → Type 0
@@ -61,7 +61,7 @@ module _ (such : Var → Type 0) where
       let others = parts_neat a ns h k.1 in
       if_cases AreNeat (refuted (push_row a n).rows) (parts a ns) (push_row a n ∷ parts a ns) (λ e. others) (λ e. (part_neat a n h k.0, others))
 
-  hulls_neat : (s : System) (ss : List System) → IsNeat such s → AreNeat ss → IsNeat such (hull_all s ss)
+  pub hulls_neat : (s : System) (ss : List System) → IsNeat such s → AreNeat ss → IsNeat such (hull_all s ss)
   hulls_neat s [] h k = h
   hulls_neat s (t ∷ ts) h k = hulls_neat (hull s t) ts (hull_neat such s t h k.0) k.1
 
@@ -92,7 +92,7 @@ module _ (such : Var → Type 0) where
   all_neat : (p : System) (ss : List System) → IsNeat such p → AreNeat ss → MaybeNeat (less_all p ss).system
   all_neat p ss h k = each_neat (difference (Some p) true) ss h k
 
-  one_of : (ss : List System) → IsOne (IsNeat such) ss → AreNeat ss
+  pub one_of : (ss : List System) → IsOne (IsNeat such) ss → AreNeat ss
   one_of [] h = absurd h
   one_of (s ∷ []) h = (h, tt)
   one_of (s ∷ (q ∷ qs)) h = absurd h

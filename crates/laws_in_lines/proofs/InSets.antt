@@ -50,7 +50,7 @@ module _ (N : Variable → Type 0) (ok : ℕ → Type 0) where
   less_fine None r h k = k
   less_fine (Some w) r h k = subtract_fine N ok r w k h
 
-  unwritten_fine : (ws rs : List Region) → F ws → F rs → F (all_unwritten ws rs)
+  pub unwritten_fine : (ws rs : List Region) → F ws → F rs → F (all_unwritten ws rs)
   unwritten_fine ws [] h k = tt
   unwritten_fine ws (r ∷ rs) h k =
       let left = less_write (write_of r.variable ws) r in
@@ -70,7 +70,7 @@ module _ (N : Variable → Type 0) (ok : ℕ → Type 0) where
   -- ---- lists
 
   module _ (ss : List SymbolTree) (t : ℕ → Transformer) (f g : ℕ → List Region) (done : (n : ℕ) → IsDone ok (t n)) (accessed : (n : ℕ) → F (f n)) (ins : (n : ℕ) → F (g n)) where
-    order_fine : (ns : List ℕ) → F (ins_in_order ss t f g ns)
+    pub order_fine : (ns : List ℕ) → F (ins_in_order ss t f g ns)
     order_fine [] = tt
     order_fine (n ∷ ns) = before_fine ss (g n) (f n) (t n) (ins_in_order ss t f g ns) (ins n) (accessed n) (done n) (order_fine ns)
 

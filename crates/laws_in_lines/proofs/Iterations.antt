@@ -33,11 +33,11 @@ use Rattle.laws_in_lines.proofs.InSets.{write_fine}
 -- ---- rows of two forms
 
 module _ (such : Var → Type 0) where
-  within_given : (s : ℤ) (f g : Affine) → EachVar such f.terms → EachVar such g.terms → Given such (within_row s f g)
+  pub within_given : (s : ℤ) (f g : Affine) → EachVar such f.terms → EachVar such g.terms → Given such (within_row s f g)
   within_given s f g h k =
       if_cases (Given such) (goes_up s) (at_most_row f g) (at_most_row g f) (λ e. compared_given such false f g (g.constant -ℤ f.constant) h k) (λ e. compared_given such false g f (f.constant -ℤ g.constant) k h)
 
-  beyond_given : (s : ℤ) (f g : Affine) → EachVar such f.terms → EachVar such g.terms → Given such (beyond_row s f g)
+  pub beyond_given : (s : ℤ) (f g : Affine) → EachVar such f.terms → EachVar such g.terms → Given such (beyond_row s f g)
   beyond_given s f g h k =
       if_cases (Given such) (goes_up s) (below_row g f) (below_row f g) (λ e. compared_given such false g f ((f.constant -ℤ g.constant) -ℤ pos 1) k h)
       (λ e. compared_given such false f g ((g.constant -ℤ f.constant) -ℤ pos 1) h k)
@@ -86,7 +86,7 @@ module _ (N : Variable → Type 0) (ok : ℕ → Type 0) (g : Range) (range : Is
   abbrev S : Var → Type 0
   S v = P v ⊎ IsOneOf v (Aux 2 ∷ [])
 
-  form_s : (f : Affine) → IsFormOf (IsCellOf ok) f → EachVar S f.terms
+  pub form_s : (f : Affine) → IsFormOf (IsCellOf ok) f → EachVar S f.terms
   form_s f h = each_more P S (λ v i. inl i) f.terms (form_place f h)
 
   earlier_s : ok g.index → (s : Option ℤ) (o : Option Affine) → FormOf (IsCellOf ok) o → AreGiven S (earlier_rows_by s o g.index)
@@ -97,7 +97,7 @@ module _ (N : Variable → Type 0) (ok : ℕ → Type 0) (g : Range) (range : Is
     (beyond_given S s (var_form (Cell g.index)) (var_form (Aux 2)) (inl i, tt) (inr (inl refl), tt), tt),
   )
 
-  renamed_s : (s : System) → IsNeat P s → IsNeat S (rename_all (naming (Cell g.index) (Aux 2) ∷ []) s)
+  pub renamed_s : (s : System) → IsNeat P s → IsNeat S (rename_all (naming (Cell g.index) (Aux 2) ∷ []) s)
   renamed_s s h = rename_neat P S (naming (Cell g.index) (Aux 2) ∷ []) one s h
     where
       one : (v : Var) → P v → S (renamed_by (naming (Cell g.index) (Aux 2) ∷ []) v)

@@ -149,7 +149,7 @@ module _ (ps : List ParsedTree) (sss : List (List SymbolTree)) (g : Graph) (l : 
   of = part_named (known_of ps sss) g (callees_of_all (known_of ps sss) g) (analysed_entry (known_of ps sss) g)
 
   -- its IN regions are those of its part
-  found_ins : (a : Analysis) → Located ps sss g l (analyses (known_of ps sss) g) a → (c d : Summaries) → ins_found g.untracked d (with_regions g.untracked c a) ≡ ins_in_part g (callees_of_all (known_of ps sss) g) c d (part a.found.known)
+  pub found_ins : (a : Analysis) → Located ps sss g l (analyses (known_of ps sss) g) a → (c d : Summaries) → ins_found g.untracked d (with_regions g.untracked c a) ≡ ins_in_part g (callees_of_all (known_of ps sss) g) c d (part a.found.known)
   found_ins a r c d =
       ap (λ (t : Results Transformer). ins_with a.found.known.read.body (scope_of g.untracked a.found.known) g.untracked t.at (regions_with a.found.known.read.body (scope_of g.untracked a.found.known) g.untracked t.at c).at d) r.good.own
 
@@ -245,7 +245,7 @@ module _ (ps : List ParsedTree) (sss : List (List SymbolTree)) (g : Graph) (l : 
         subst (λ (R : Results (List Region)). InRegionsHold (known_of ps sss) g (scope_of g.untracked a.found.known) R x) (sym same)
         (subst (λ (p : Part). InRegionsHold (known_of ps sss) g p.scope (ins_in_part g (callees_of_all (known_of ps sss) g) (rs p.routine.name) (is p.routine.name) p) x) there h)
 
-    all_of_each : {T : Type 0} (P : T → Type 0) (xs : List T) → Each P xs → All P xs
+    pub all_of_each : {T : Type 0} (P : T → Type 0) (xs : List T) → Each P xs → All P xs
     all_of_each P [] e = All-nil P
     all_of_each P (y ∷ xs) e = All-cons P y xs e.0 (all_of_each P xs e.1)
 
@@ -257,7 +257,7 @@ module _ (ps : List ParsedTree) (sss : List (List SymbolTree)) (g : Graph) (l : 
 -- ---- programs
 
 module _ (names : NamesAgree) (stays : JumpsStayInside) (ps : List ParsedTree) (sss : List (List SymbolTree)) (g : Graph) (x : IsProgram ps sss g) where
-  settled : (i : ℕ) (p : ParsedTree) (ss : List SymbolTree) → IsModule ps sss i p ss → Settled g p ss
+  pub settled : (i : ℕ) (p : ParsedTree) (ss : List SymbolTree) → IsModule ps sss i p ss → Settled g p ss
   settled i p ss m =
       let table = (programs_are_linked ps sss g x).1 i p ss m in
       let built = built_at ps (all_built x.lines ps x.parsed) i p m.parsed in
@@ -268,7 +268,7 @@ module _ (names : NamesAgree) (stays : JumpsStayInside) (ps : List ParsedTree) (
         targets = body_lacks_none ss p.module_read built.well.body built.formed (bodies_are_shaped p ss table);
       }
 
-  ready : (i : ℕ) (p : ParsedTree) (ss : List SymbolTree) → IsModule ps sss i p ss → Ready g p ss
+  pub ready : (i : ℕ) (p : ParsedTree) (ss : List SymbolTree) → IsModule ps sss i p ss → Ready g p ss
   ready i p ss m = record { settled = settled i p ss m; subscripts = built_have p (built_at ps (all_built x.lines ps x.parsed) i p m.parsed) }
 
   -- IN regions hold in every run

@@ -102,7 +102,7 @@ module _ (ks : List Known) (g : Graph) (may_name : Part → Named → Bool) wher
         others = λ m y e. (names.others m y e, refl);
       }
 
-      narrow : (v : Named) (l : Link) → may_name k v ≡ true → link_of c v ≡ Some l → IsNarrowLink (may_in h laid_h) c inner v l
+      pub narrow : (v : Named) (l : Link) → may_name k v ≡ true → link_of c v ≡ Some l → IsNarrowLink (may_in h laid_h) c inner v l
       narrow v l e f = link_is_narrow (may_in h laid_h) c inner (may_name k) names_meet v l e f
 
       -- what the callee may name the caller may name

@@ -65,7 +65,7 @@ use Rattle.laws_in_regions.proofs.Rooms.{blocks_fit}
 -- ---- lists
 
 -- where one stands
-in_at : (xs : List Known) (k : Known) → In k xs → (i : ℕ) × (slice_get xs i ≡ Some k)
+pub in_at : (xs : List Known) (k : Known) → In k xs → (i : ℕ) × (slice_get xs i ≡ Some k)
 in_at [] k i = elim i [ ]
 in_at (x ∷ xs) k here = (zero, refl)
 in_at (x ∷ xs) k (there i) = (let r = in_at xs k i in (suc r.0, r.1))
@@ -212,7 +212,7 @@ module _ (ps : List ParsedTree) (sss : List (List SymbolTree)) (g : Graph) where
 
   module _ (l : IsLinked ps sss g) where
     -- a unit of an area, within its room
-    record UnitOf (a : Area) (u : ℕ) : Type 0 where
+    pub record UnitOf (a : Area) (u : ℕ) : Type 0 where
       distance : ℕ
       unit : u ≡ unit_at N a distance
       room : distance < room_for ks
@@ -221,7 +221,7 @@ module _ (ps : List ParsedTree) (sss : List (List SymbolTree)) (g : Graph) where
     same_area : (a b : Area) (u : ℕ) → UnitOf a u → UnitOf b u → a ≡ b
     same_area a b u x y = (units_differ N a b x.distance y.distance x.is_known y.is_known x.room y.room (sym x.unit ∙ y.unit)).0
 
-    no_own : (a : Area) (u : ℕ) → UnitOf a u → is_own a ≡ false → is_own_unit N u ≡ false
+    pub no_own : (a : Area) (u : ℕ) → UnitOf a u → is_own a ≡ false → is_own_unit N u ≡ false
     no_own a u x e = ap (is_own_unit N) x.unit ∙ (temporaries_are_recognisable N a x.distance x.room ∙ e)
 
     occupied : (j : ℕ) (q : ParsedTree) (tt' : List SymbolTree) (mq : IsModule ps sss j q tt') (n : ℕ) (s : SymbolTree) (a : Area) (u : ℕ) → symbol_at tt' n ≡ Some s → area_of q.module_read.name s.place ≡ Some a → in_place (fixed N (known q tt') n) u ≡ true → UnitOf a u
@@ -252,7 +252,7 @@ module _ (ps : List ParsedTree) (sss : List (List SymbolTree)) (g : Graph) where
 
     -- ---- modules by their names
 
-    one_named : (j : ℕ) (q : ParsedTree) (tt' : List SymbolTree) → IsModule ps sss j q tt' → (i : ℕ) (z : Known) → slice_get (known_of ps sss) i ≡ Some z → z.read.name ≡ q.module_read.name → z ≡ known q tt'
+    pub one_named : (j : ℕ) (q : ParsedTree) (tt' : List SymbolTree) → IsModule ps sss j q tt' → (i : ℕ) (z : Known) → slice_get (known_of ps sss) i ≡ Some z → z.read.name ≡ q.module_read.name → z ≡ known q tt'
     one_named j q tt' mq i z e n = sym (module_named_is ps sss g l i z e) ∙ (ap (module_named (known_of ps sss)) n ∙ module_named_is ps sss g l j (known q tt') (known_module ps sss j q tt' mq))
 
     place_found : (q : Known) (y : List ℕ) (zs : List Known) → ((i : ℕ) (z : Known) → slice_get zs i ≡ Some z → z.read.name ≡ q.read.name → z ≡ q) → (i : ℕ) → slice_get zs i ≡ Some q → saved_place ks g zs q.read.name y ≡ fixed_by ks g q (number_from 1 (symbol_names q.symbols) y)
@@ -329,22 +329,22 @@ module _ (ps : List ParsedTree) (sss : List (List SymbolTree)) (g : Graph) where
         (subst (λ (p : RunPlace). in_place p u ≡ true) r.is_place (unit_in (saved_place ks g ks m y) u h)))
 
     -- a unit that is lost at the end of a module
-    record LostOf (m : List ℕ) (u : ℕ) : Type 0 where
-      at : ℕ
-      parsed : ParsedTree
-      table : List SymbolTree
-      is_module : IsModule ps sss at parsed table
-      is_named : parsed.module_read.name ≡ m
-      number : ℕ
-      symbol : SymbolTree
-      is_symbol : symbol_at table number ≡ Some symbol
-      storage : ℕ
-      offset : ℕ
-      lies : symbol.place ≡ place.Local storage offset
-      kept : symbol.saved ≡ false
-      unit : UnitOf (group m storage) u
+    pub record LostOf (m : List ℕ) (u : ℕ) : Type 0 where
+      pub at : ℕ
+      pub parsed : ParsedTree
+      pub table : List SymbolTree
+      pub is_module : IsModule ps sss at parsed table
+      pub is_named : parsed.module_read.name ≡ m
+      pub number : ℕ
+      pub symbol : SymbolTree
+      pub is_symbol : symbol_at table number ≡ Some symbol
+      pub storage : ℕ
+      pub offset : ℕ
+      pub lies : symbol.place ≡ place.Local storage offset
+      pub kept : symbol.saved ≡ false
+      pub unit : UnitOf (group m storage) u
 
-    lost_of : (m : List ℕ) (u : ℕ) → IsLost (known_of ps sss) g m u → LostOf m u
+    pub lost_of : (m : List ℕ) (u : ℕ) → IsLost (known_of ps sss) g m u → LostOf m u
     lost_of m u i =
         let w = in_at (known_of ps sss) i.known i.is_one in
         let q = module_at ps sss w.0 i.known w.1 in

@@ -99,7 +99,7 @@ use Rattle.laws_in_regions.proofs.Summed.{summary_lies, summary_sharp}
 use Rattle.laws_in_regions.proofs.Taking.{NoWrites, free_none, free_both, first_holds_left, seen_first}
 
 -- what is lost where a module is entered is lost by a module of that name
-entry_lost : (ks : List Known) (g : Graph) (m : List ℕ) (u : ℕ) → is_lost ks g (Arrived (spot m 0) ∷ []) u ≡ true → IsLost ks g m u
+pub entry_lost : (ks : List Known) (g : Graph) (m : List ℕ) (u : ℕ) → is_lost ks g (Arrived (spot m 0) ∷ []) u ≡ true → IsLost ks g m u
 entry_lost ks g m u h = among ks (λ q i. i) h
   where
     among : (qs : List Known) → ((q : Known) → In q qs → In q ks) → list_any (λ k. is_entered k.read.name (Arrived (spot m 0) ∷ []) && list_any (λ v. nat_eq v u) (all_lost (numbering ks g) k.read.name k.symbols k.symbols)) qs ≡ true → IsLost ks g m u

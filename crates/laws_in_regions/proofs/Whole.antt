@@ -59,7 +59,7 @@ module _ (ks : List Known) (g : Graph) (b : Blocks) (cs : Callees) (rs is : List
   LaidParts [] = Unit {0}
   LaidParts (k ∷ parts) = LaidPart parts k × LaidParts parts
 
-  regular_parts : (parts : List Part) → LaidParts parts → RegularParts b cs rs ks g parts
+  pub regular_parts : (parts : List Part) → LaidParts parts → RegularParts b cs rs ks g parts
   regular_parts [] re = tt
   regular_parts (k ∷ parts) re = (re.0.regular, regular_parts parts re.1)
 
@@ -69,11 +69,11 @@ module _ (ks : List Known) (g : Graph) (b : Blocks) (cs : Callees) (rs is : List
   summary k = (regions_in_part g cs (rs k.routine.name) k).summary
 
   -- what is known of a module that is called
-  record CalleeIs (k : Part) : Type 0 where
-    enters : Enters ks g k
-    joins : Joins ks g k
-    laid : Laid ks g k (may_name k)
-    narrowed : AreNarrowed (may_in ks g may_name k laid) k.scope.symbols (summary k)
+  pub record CalleeIs (k : Part) : Type 0 where
+    pub enters : Enters ks g k
+    pub joins : Joins ks g k
+    pub laid : Laid ks g k (may_name k)
+    pub narrowed : AreNarrowed (may_in ks g may_name k laid) k.scope.symbols (summary k)
 
   abbrev changed : Part → List ℕ
   changed h = changed_cells (transformers_of h.routine.body h.scope cs).at
@@ -104,7 +104,7 @@ module _ (ks : List Known) (g : Graph) (b : Blocks) (cs : Callees) (rs is : List
           narrowed = summary_narrowed may h.scope (list_set true h.routine.body h.scope h.found.transformer c) (lists may h.scope h.found.transformer c p.done h.routine.body true (at_fits may h.scope h.found.transformer c p.done h.routine.body part_fits));
         }
 
-  callee_is : (parts : List Part) → LaidParts parts → (x : List ℕ) (k : Part) → lookup parts x ≡ Some k → CalleeIs k
+  pub callee_is : (parts : List Part) → LaidParts parts → (x : List ℕ) (k : Part) → lookup parts x ≡ Some k → CalleeIs k
   callee_is [] re x k e = cc
   callee_is (h ∷ parts) re x k e = go (bytes_eq x h.routine.name) e (λ y q i. callee_is parts re.1 y q i)
     where

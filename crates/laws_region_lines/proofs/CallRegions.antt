@@ -31,7 +31,7 @@ got_named Name [] k h = tt
 got_named Name (s ∷ ss) zero h = h.0
 got_named Name (s ∷ ss) (suc k) h = got_named Name ss k h.1
 
-numbered_named : (Name : List ℕ → Type 0) (ss : List SymbolTree) → AllByRecursion (SymbolNamed Name) ss → (n : ℕ) → MaybeNamed Name (symbol_at ss n)
+pub numbered_named : (Name : List ℕ → Type 0) (ss : List SymbolTree) → AllByRecursion (SymbolNamed Name) ss → (n : ℕ) → MaybeNamed Name (symbol_at ss n)
 numbered_named Name ss h n = go (nat_eq n 0)
   where
     go : (b : Bool) → MaybeNamed Name (if b then None else slice_get ss (n - 1))

@@ -45,7 +45,7 @@ use Rattle.laws_region_lines.proofs.CalleeVars.{IsLinkedOf, cell_linked, place_l
 -- ---- sums of forms
 
 module _ (such : Var → Type 0) where
-  limited_of : (f : Affine) → IsFormOf such f → FormOf such (limited f)
+  pub limited_of : (f : Affine) → IsFormOf such f → FormOf such (limited f)
   limited_of f h = if_cases (FormOf such) (is_small f.constant && are_small f.terms) (Some f) None (λ e. h) (λ e. tt)
 
   plus_of : (f : Affine) (k : ℤ) (g : Affine) → IsFormOf such f → IsFormOf such g → FormOf such (plus f k g)
@@ -53,24 +53,24 @@ module _ (such : Var → Type 0) where
       limited_of (affine (combined_terms (pos 1) f.terms k g.terms) (f.constant +ℤ (k *ℤ g.constant)))
       (ascends-combined (pos 1) f.terms k g.terms, each-combined such (pos 1) f.terms k g.terms h.1 i.1)
 
-  sum_form : (f : Option Affine) (k : ℤ) (g : Option Affine) → FormOf such f → FormOf such g → FormOf such (sum_of f k g)
+  pub sum_form : (f : Option Affine) (k : ℤ) (g : Option Affine) → FormOf such f → FormOf such g → FormOf such (sum_of f k g)
   sum_form (Some f) k (Some g) h i = plus_of f k g h i
   sum_form (Some f) k None h i = tt
   sum_form None k g h i = tt
 
-  offset_form : (v : Var) (low : Option Affine) → such v → FormOf such low → FormOf such (offset v low)
+  pub offset_form : (v : Var) (low : Option Affine) → such v → FormOf such low → FormOf such (offset v low)
   offset_form v low p h = sum_form (Some (var_form v)) (negsuc 0) low (var_of such v p) h
 
   unless_form : (cs : List ℕ) (o : Option Affine) → FormOf such o → FormOf such (unless_among cs o)
   unless_form cs None h = tt
   unless_form cs (Some f) h = if_cases (FormOf such) (lack cs f.terms) (Some f) None (λ e. h) (λ e. tt)
 
-  before_form : (f : Option Affine) (n : Option ℤ) (bs : List BoundTree) (g : Option Affine) → FormOf such f → FormOf such g → FormOf such (before_dimensions f n bs g)
+  pub before_form : (f : Option Affine) (n : Option ℤ) (bs : List BoundTree) (g : Option Affine) → FormOf such f → FormOf such g → FormOf such (before_dimensions f n bs g)
   before_form f n [] g h i = h
   before_form f None (b ∷ bs) g h i = tt
   before_form f (Some n) (b ∷ bs) g h i = sum_form f n g h i
 
-  abbrev MaybeRow : Option Row → Type 0
+  abbrev pub MaybeRow : Option Row → Type 0
   MaybeRow None = Unit {0}
   MaybeRow (Some r) = Given such r
 
@@ -78,7 +78,7 @@ module _ (such : Var → Type 0) where
   MaybeRows None = Unit {0}
   MaybeRows (Some rs) = AreGiven such rs
 
-  equation_given : (f g : Option Affine) → FormOf such f → FormOf such g → MaybeRow (equation f g)
+  pub equation_given : (f g : Option Affine) → FormOf such f → FormOf such g → MaybeRow (equation f g)
   equation_given None g h i = tt
   equation_given (Some f) None h i = tt
   equation_given (Some f) (Some g) h i = compared_given such true f g (g.constant -ℤ f.constant) h.1 i.1
@@ -88,7 +88,7 @@ module _ (such : Var → Type 0) where
   row_before_given (Some r) None h k = tt
   row_before_given (Some r) (Some rs) h k = (h, k)
 
-form_more : (such other : Var → Type 0) → ((v : Var) → such v → other v) → (o : Option Affine) → FormOf such o → FormOf other o
+pub form_more : (such other : Var → Type 0) → ((v : Var) → such v → other v) → (o : Option Affine) → FormOf such o → FormOf other o
 form_more such other f None h = tt
 form_more such other f (Some g) h = (h.0, each_more such other f g.terms h.1)
 
@@ -141,7 +141,7 @@ module _ (Name : List ℕ → Type 0) (ok : ℕ → Type 0) (c : SidesTree) (a :
       let f = Some (var_form (named r t.var)) in
       terms_form r (sum_of o t.factor f) ts (sum_form S o t.factor f h (var_of S (named r t.var) (named_var r t.var k.0))) k.1
 
-  named_formed : (r : ℕ) (o : Option Affine) → FormOf (IsCellOf Every) o → F (named_form r o)
+  pub named_formed : (r : ℕ) (o : Option Affine) → FormOf (IsCellOf Every) o → F (named_form r o)
   named_formed r None h = tt
   named_formed r (Some f) h = terms_form r (limited (affine [] f.constant)) f.terms (limited_of S (affine [] f.constant) (tt, tt)) h.1
 

@@ -275,7 +275,7 @@ module _ (Name : List ℕ → Type 0) where
   one_more P Q f (s ∷ []) h = f s h
   one_more P Q f (s ∷ (q ∷ qs)) h = absurd h
 
-  any_fine : (N : Variable → Type 0) (ok : ℕ → Type 0) (rs : List Region) → AreFine N ok rs → AreFine N Every rs
+  pub any_fine : (N : Variable → Type 0) (ok : ℕ → Type 0) (rs : List Region) → AreFine N ok rs → AreFine N Every rs
   any_fine N ok [] h = tt
   any_fine N ok (r ∷ rs) h =
       ((h.0.0, one_more (IsNeat (IsPlaceOf ok)) (IsNeat (IsPlaceOf Every)) (system_more (IsPlaceOf ok) (IsPlaceOf Every) (any_cell ok)) r.pieces h.0.1), any_fine N ok rs h.1)

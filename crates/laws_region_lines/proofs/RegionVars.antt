@@ -43,7 +43,7 @@ map_all P f g (x ∷ xs) h = (g x h.0, map_all P f g xs h.1)
 
 -- ---- one system
 
-one_map : (P : System → Type 0) (f : System → System) → ((s : System) → P s → P (f s)) → (ss : List System) → IsOne P ss → IsOne P (map f ss)
+pub one_map : (P : System → Type 0) (f : System → System) → ((s : System) → P s → P (f s)) → (ss : List System) → IsOne P ss → IsOne P (map f ss)
 one_map P f g [] h = absurd h
 one_map P f g (s ∷ []) h = g s h
 one_map P f g (s ∷ (q ∷ qs)) h = absurd h
@@ -61,12 +61,12 @@ one_hull such (s ∷ []) (q ∷ []) h k = hull_neat such s q h k
 one_hull such (s ∷ []) (q ∷ (r ∷ rs)) h k = absurd k
 
 -- none or one
-abbrev AtMostOne : (System → Type 0) → List System → Type 0
+abbrev pub AtMostOne : (System → Type 0) → List System → Type 0
 AtMostOne P [] = Unit {0}
 AtMostOne P (s ∷ []) = P s
 AtMostOne P (s ∷ (q ∷ qs)) = ⊥
 
-one_live : (P : System → Type 0) (ss : List System) → IsOne P ss → AtMostOne P (live_pieces ss)
+pub one_live : (P : System → Type 0) (ss : List System) → IsOne P ss → AtMostOne P (live_pieces ss)
 one_live P [] h = absurd h
 one_live P (s ∷ []) h = if_cases (AtMostOne P) (refuted s.rows) [] (s ∷ []) (λ e. tt) (λ e. h)
 one_live P (s ∷ (q ∷ qs)) h = absurd h
@@ -118,7 +118,7 @@ module _ (N : Variable → Type 0) (ok : ℕ → Type 0) where
   regions_fine qs [] h k = h
   regions_fine qs (r ∷ rs) h k = regions_fine (with_live r qs) rs (live_fine r qs k.0 h) k.1
 
-  all_live : (rs : List Region) → AreFine rs → AreFine (live rs)
+  pub all_live : (rs : List Region) → AreFine rs → AreFine (live rs)
   all_live [] h = tt
   all_live (r ∷ rs) h =
       let others = all_live rs h.1 in
@@ -141,13 +141,13 @@ module _ (N : Variable → Type 0) (ok : ℕ → Type 0) where
       go (Some rs) e = h n rs e
 
   module _ (t : ℕ → Transformer) (f : ℕ → List Region) (done : (n : ℕ) → IsDone ok (t n)) (fine : (n : ℕ) → AreFine (f n)) where
-    order_fine : (ns : List ℕ) → AreFine (in_order t f ns)
+    pub order_fine : (ns : List ℕ) → AreFine (in_order t f ns)
     order_fine [] = tt
     order_fine (n ∷ ns) =
         united_fine (f n ++ all_composed (t n) (in_order t f ns))
         (both_all IsFine (f n) (all_composed (t n) (in_order t f ns)) (fine n) (map_all IsFine (λ r. compose r (t n)) (composed_fine (t n) (done n)) (in_order t f ns) (order_fine ns)))
 
-    each_fine : (ns : List ℕ) → AreFine (all_accesses f ns)
+    pub each_fine : (ns : List ℕ) → AreFine (all_accesses f ns)
     each_fine [] = tt
     each_fine (n ∷ ns) = both_all IsFine (f n) (all_accesses f ns) (fine n) (each_fine ns)
 

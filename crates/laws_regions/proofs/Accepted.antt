@@ -161,7 +161,7 @@ module _ (ps : List ParsedTree) (sss : List (List SymbolTree)) (g : Graph) (l : 
 
   -- ---- its regions are those of its part
 
-  found_regions : (a : Analysis) → Located ps sss g l (analyses (known_of ps sss) g) a → (c : Summaries) → regions_found g.untracked c a ≡ regions_in_part g (callees_of_all (known_of ps sss) g) c (part a.found.known)
+  pub found_regions : (a : Analysis) → Located ps sss g l (analyses (known_of ps sss) g) a → (c : Summaries) → regions_found g.untracked c a ≡ regions_in_part g (callees_of_all (known_of ps sss) g) c (part a.found.known)
   found_regions a r c = ap (λ (t : Results Transformer). regions_with a.found.known.read.body (scope_of g.untracked a.found.known) g.untracked t.at c) r.good.own
 
   -- the summary of what a CALL calls is known

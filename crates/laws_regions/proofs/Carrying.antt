@@ -157,7 +157,7 @@ module _ (ks : List Known) (g : Graph) (b : Blocks) (cs : Callees) (sites : List
       let t = symbol_in (symbol_at k.scope.symbols n) y f q in
       ap (λ (p : Place). p.first) (entry.other n (sends.common n t.0 y f t.1 t.2)) ∙ sends.unit n t.0 y f t.1 t.2
 
-  forms : FormsMean c m e nx ny
+  pub forms : FormsMean c m e nx ny
   forms =
       forms_mean c m e nx ny binds.caller (λ u. refl) begins.kept
       (λ d n i. subst (λ u. Means m (form_in h.scope (actual_of es n)) nx (ny u)) (sym (entry.firsts d)) (begins.values d n i))
@@ -165,10 +165,10 @@ module _ (ks : List Known) (g : Graph) (b : Blocks) (cs : Callees) (sites : List
 
   -- ---- elements
 
-  stored_inner : (n : ℕ) (t : SymbolTree) → symbol_at k.scope.symbols n ≡ Some t → is_constant t.place ≡ false → (phi : ℕ → ℤ) → inner (Own n) phi ≡ elements_of (atk n) phi
+  pub stored_inner : (n : ℕ) (t : SymbolTree) → symbol_at k.scope.symbols n ≡ Some t → is_constant t.place ≡ false → (phi : ℕ → ℤ) → inner (Own n) phi ≡ elements_of (atk n) phi
   stored_inner n t q f phi = ap (λ w. elements_if (is_stored w) (atk n) phi) q ∙ ap (λ w. elements_if (not w) (atk n) phi) f
 
-  stored_outer : (n : ℕ) (t : SymbolTree) → symbol_at h.scope.symbols n ≡ Some t → is_constant t.place ≡ false → (phi : ℕ → ℤ) → outer (Own n) phi ≡ elements_of (at n) phi
+  pub stored_outer : (n : ℕ) (t : SymbolTree) → symbol_at h.scope.symbols n ≡ Some t → is_constant t.place ≡ false → (phi : ℕ → ℤ) → outer (Own n) phi ≡ elements_of (at n) phi
   stored_outer n t q f phi = ap (λ w. elements_if (is_stored w) (at n) phi) q ∙ ap (λ w. elements_if (not w) (at n) phi) f
 
   unstored_inner : (n : ℕ) → is_stored (symbol_at k.scope.symbols n) ≡ false → (phi : ℕ → ℤ) (u : ℕ) → inner (Own n) phi ≡ Some u → ⊥
@@ -190,7 +190,7 @@ module _ (ks : List Known) (g : Graph) (b : Blocks) (cs : Callees) (sites : List
 
   -- ---- what a variable of what is called is to the caller
 
-  data Way (v : Named) : Type 0 where
+  pub data Way (v : Named) : Type 0 where
     joined : (l : Link) (w : Named) → link_of c v ≡ Some l → l.variable ≡ w → LinkHolds m e nx ny (outer w) (inner v) l → Way v
     hidden : link_of c v ≡ None → ((phi : ℕ → ℤ) (u : ℕ) → inner v phi ≡ Some u → is_own_unit (numbering ks g) u ≡ false → (IsLost ks g k.routine.name u → ⊥) → ⊥) → Way v
 
@@ -671,7 +671,7 @@ module _ (ks : List Known) (g : Graph) (b : Blocks) (cs : Callees) (sites : List
   own_way n None q = hidden (ap (symbol_link c) q) (λ phi u r own lost. unstored_inner n (ap is_stored q) phi u r)
   own_way n (Some t) q = place_way n t q t.place refl
 
-  way : (v : Named) → Way v
+  pub way : (v : Named) → Way v
   way (Own n) = own_way n (symbol_at k.scope.symbols n) refl
   way (Block y) = same_way (Block y) (Block y) refl (λ phi u r. r)
   way (Saved w y) = same_way (Saved w y) (Saved w y) refl (λ phi u r. r)

@@ -1,11 +1,8 @@
 -- Lists that may be left before their end, so that what their statements write need not be written.
-use Rattle.std.specs.Prelude.{ℕ, Bool, true, false, not, ◌||◌, List, [], ◌++◌, if◌then◌else◌}
+use Rattle.std.specs.Prelude.{ℕ, Bool, true, ◌||◌, List, [], ◌++◌, if◌then◌else◌}
 use Rattle.f77_ast.specs.Trees.{StmtTree, WhatTree, ArmTree, ArmTrees, ElseTree, LoopTree, StmtTrees}
 use Rattle.f77_ast.specs.Trees as tree
-use Rattle.transformer_algebra.specs.Cells.{has}
-use Rattle.transformers.specs.Jumps.{list_has, stmt_has, is_return, returns_early, early_return, before_labels}
-use Rattle.out_regions.specs.declared.leaving.Sought.{Sought}
-use Rattle.out_regions.specs.declared.leaving.Sought.TheVariants.{Beyond, Return}
+use Rattle.transformers.specs.Jumps.{list_has, stmt_has, goes_beyond, is_return, returns_early, early_return, before_labels}
 
 abbrev mutual
   -- the labels of a statement and its parts
@@ -42,25 +39,6 @@ abbrev mutual
 
   pub loop_labels : LoopTree → List ℕ
   loop_labels (tree.loop index first last step body) = list_labels body
-
--- a GO TO a label that is none of these (ANSI X3.9-1978 §11.1)
-abbrev pub goes_beyond : List ℕ → WhatTree → Bool
-goes_beyond ls (tree.assign a b) = false
-goes_beyond ls (tree.block_if arms other) = false
-goes_beyond ls (tree.logical_if test s) = false
-goes_beyond ls (tree.do_loop l) = false
-goes_beyond ls (tree.call x es) = false
-goes_beyond ls (tree.goto l) = not (has ls l)
-goes_beyond ls tree.continue = false
-goes_beyond ls tree.return = false
-goes_beyond ls (tree.stop text) = false
-goes_beyond ls (tree.print es) = false
-goes_beyond ls (tree.read es) = false
-
--- what the code looks for
-abbrev pub such_of : Sought → WhatTree → Bool
-such_of (Beyond ls) w = goes_beyond ls.now w
-such_of Return w = is_return w
 
 -- a RETURN (§15.8) that is not the last statement of the body of a module; `whole` says that the list is the end of that
 abbrev pub returns : Bool → StmtTrees → Bool

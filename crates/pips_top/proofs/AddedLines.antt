@@ -1,19 +1,20 @@
 -- Each line that is added to a module is a comment line that reading drops.
-use Rattle.std.proofs.Common.{ℕ, zero, suc, Bool, true, false, List, [], ◌∷◌, ◌++◌, Option, Some, None, arith}
-use Rattle.std.specs.Prelude.{All as Every, if◌then◌else◌, bytes_eq}
+use Rattle.std.proofs.Common.{ℕ, zero, suc, Bool, true, false, List, [], ◌∷◌, ◌++◌, Option, Some, None, ◌≡◌, refl, sym, subst}
+use Rattle.std.specs.Prelude.{if◌then◌else◌, bytes_eq, slice_get}
 use Rattle.std.specs.List.{AllByRecursion}
 use Rattle.affine_systems.specs.declared.row.System.{System}
 use Rattle.f77_ast.specs.Trees.{StmtTree, WhatTree, ArmTree, ArmTrees, ElseTree, LoopTree, StmtTrees}
 use Rattle.f77_ast.specs.Trees as tree
 use Rattle.f77_ast.specs.DeclTrees.{ParsedTree}
 use Rattle.f77_printer.specs.declared.added.Added.{Added}
-use Rattle.f77_symbols.specs.declared.variable.Unit.{Unit as BlockUnit}
-use Rattle.f77_meaning.specs.Modules.{known_of, symbol_names}
+use Rattle.call_graph.specs.declared.graph.Graph.{Graph}
+use Rattle.f77_meaning.specs.Modules.{Known, known_of, symbol_names}
 use Rattle.transformer_algebra.specs.declared.transformer.Transformer.{Transformer}
 use Rattle.scalar_phases.specs.Phases.{Analysis, analyses}
-use Rattle.array_regions.specs.Calls.{Callees}
-use Rattle.region_phases.specs.Phases.{ModuleRegions, no_callees, all_regions}
-use Rattle.in_out_phases.specs.Phases.{ModuleIns, with_callee, with_ins, found_in}
+use Rattle.region_phases.specs.Phases.{ModuleRegions, all_regions}
+use Rattle.in_out_phases.specs.Phases.{ModuleIns, all_ins}
+use Rattle.out_phases.specs.Phases.{ModuleOuts, all_outs}
+use Rattle.mark_phases.specs.Phases.{ModuleMarks, analysis_in, known_in, all_marks}
 use Rattle.claim_lines.specs.ScalarLines.{Said, before, holds_lines, changes_lines, does_lines, says_changes, own_lines, stmt_lines, part_lines, list_lines, arms_lines, arm_lines, else_lines, loop_lines, entry_lines, said}
 use Rattle.system_text.specs.SystemText.{precondition_line, transformer_line}
 use Rattle.roundtrip_statements.specs.Formed.{Each}
@@ -22,16 +23,21 @@ use Rattle.roundtrip_text.specs.Texts.{IsPassedOver}
 use Rattle.roundtrip_text.specs.Laws.{AllPassedOver}
 use Rattle.roundtrip_programs.specs.Lines.{IsShown, AreShown, IsClaimLine, LinesArePassedOver}
 use Rattle.laws_programs.specs.Programs.{AreTables}
-use Rattle.laws_lines.proofs.PhaseVars.{EachOf}
+use Rattle.laws_lines.proofs.PhaseVars.{got_each}
 use Rattle.laws_region_lines.specs.Names.{IsNamed, AreNamed}
 use Rattle.laws_region_lines.specs.LineLaws.{RegionLinesPass, AllRegionLinesPass}
 use Rattle.laws_in_lines.specs.Laws.{InLinesPass, AllInLinesPass}
-use Rattle.laws_region_lines.proofs.ProgramRegions.{each_named, regions_with}
+use Rattle.laws_out_lines.specs.Laws.{OutLinesPass, AllOutLinesPass}
+use Rattle.laws_region_lines.proofs.ProgramRegions.{ModuleFine, ModuleTold, each_named, regions_with, all_told, modules_fine}
 use Rattle.laws_region_lines.proofs.LinesPass.{names_shown}
-use Rattle.pips_top.specs.Claimed.{said_of, known_in, said_for, region_lines_found, scalar_lines_found, lines_of, lines_for}
+use Rattle.pips_top.specs.Shown.{said_of, said_for, region_lines_found, scalar_lines_found, claims_found, mark_lines_found, lines_in, lines_of, lines_for}
 use Rattle.pips_top.specs.Program.{ProgramTree}
 use Rattle.pips_top.specs.declared.words.Show.{Show}
 use Rattle.pips_top.specs.declared.words.Show.TheVariants.{All, Bare, Why}
+use Rattle.pips_top.proofs.Programs.{each_at}
+use Rattle.pips_top.proofs.MarkLines.{MarksShown, marks_pass}
+use Rattle.pips_top.proofs.MarkNames.{found_shown}
+use Rattle.pips_top.proofs.Said.{said_at, regions_at, ins_at, outs_at, marks_are}
 
 -- ---- the lines of a module
 
@@ -108,29 +114,56 @@ module _ (law : LinesArePassedOver) (k : Said) (shown : AreShown k.names) where
 
 -- ---- what is said of a module
 
--- its symbols have such names, and the lines of its regions are passed over
-pub record IsSaid (f : ModuleIns) : Type 0 where
-  pub names : AreShown (symbol_names (known_in f).symbols)
-  pub regions : RegionLinesPass f.known
-  pub ins : InLinesPass f
+-- its symbols have such names, the lines of its regions are passed over, and its obstacles name such variables
+pub record IsSaid (f : ModuleMarks) : Type 0 where
+  pub names : AreShown (symbol_names (known_in f.outs).symbols)
+  pub regions : RegionLinesPass f.outs.known.known
+  pub ins : InLinesPass f.outs.known
+  pub outs : OutLinesPass f.outs
+  pub marks : MarksShown f.marks
 
-each_said : (untracked : List BlockUnit) (cs : Callees) (fs : List ModuleRegions) → EachOf (λ (f : ModuleRegions). IsNamed IsShown f.analysis.found.known) fs → Every RegionLinesPass fs → Every InLinesPass (found_in untracked cs fs)
-    → Each IsSaid (found_in untracked cs fs)
-each_said untracked cs [] n h i = tt
-each_said untracked cs (f ∷ fs) n h i =
-    let new = with_ins untracked cs f in
-    record {
-      first = record { names = names_shown f.analysis.found.known.symbols n.0.1; regions = h zero f (omega arith); ins = i zero new (omega arith) };
-      others = each_said untracked (with_callee new cs) fs n.1 (λ k d l. h (suc k) d (omega (arith, l))) (λ k d l. i (suc k) d (omega (arith, l)));
-    }
+from_places : (fs : List ModuleMarks) → ((j : ℕ) (f : ModuleMarks) → slice_get fs j ≡ Some f → IsSaid f) → Each IsSaid fs
+from_places [] h = tt
+from_places (f ∷ fs) h = record { first = h zero f refl; others = from_places fs (λ j x e. h (suc j) x e) }
 
 -- so it is of all that is said of a program
-pub all_said : AllRegionLinesPass → AllInLinesPass → (show : Show) (p : ProgramTree) → AreTables p.modules p.tables → AreNamed IsShown (known_of p.modules p.tables) → Each IsSaid (said_of show p)
-all_said law on_ins All p t n =
-    let ks = known_of p.modules p.tables in
-    each_said p.graph.untracked no_callees (all_regions p.graph (analyses ks p.graph)) (regions_with (IsNamed IsShown) ks p.graph (each_named IsShown ks n)) (law p.modules p.tables p.graph t n) (on_ins p.modules p.tables p.graph t n)
-all_said law on_ins Bare p t n = tt
-all_said law on_ins Why p t n = tt
+pub all_said : AllRegionLinesPass → AllInLinesPass → AllOutLinesPass → (p : ProgramTree) → AreTables p.modules p.tables → AreNamed IsShown (known_of p.modules p.tables) → Each IsSaid (said_of p)
+all_said law on_ins on_outs p t n = from_places (all_marks g os) each
+  where
+    g : Graph
+    g = p.graph
+
+    ks : List Known
+    ks = known_of p.modules p.tables
+
+    as' : List Analysis
+    as' = analyses ks g
+
+    fs : List ModuleRegions
+    fs = all_regions g as'
+
+    is : List ModuleIns
+    is = all_ins g fs
+
+    os : List ModuleOuts
+    os = all_outs g is
+
+    each : (j : ℕ) (f : ModuleMarks) → slice_get (all_marks g os) j ≡ Some f → IsSaid f
+    each j f e =
+        let out = outs_at g os j f e in
+        let here = ins_at g is out.0 f.outs out.1 in
+        let at = regions_at g fs here.0 f.outs.known here.1 in
+        let there = said_at g as' here.0 f.outs.known here.1 in
+        let named = got_each (λ (r : ModuleRegions). IsNamed IsShown r.analysis.found.known) fs here.0 f.outs.known.known (regions_with (IsNamed IsShown) ks g (each_named IsShown ks n)) at in
+        let told = got_each (ModuleTold IsShown g.untracked) as' there.0 (analysis_in f.outs) (all_told IsShown p.modules p.tables g t n) there.1 in
+        let fine = got_each (ModuleFine IsShown g.untracked) fs here.0 f.outs.known.known (modules_fine IsShown p.modules p.tables g t n) at in
+        record {
+          names = names_shown (known_in f.outs).symbols named.1;
+          regions = each_at RegionLinesPass fs (law p.modules p.tables g t n) here.0 f.outs.known.known at;
+          ins = each_at InLinesPass is (on_ins p.modules p.tables g t n) here.0 f.outs.known here.1;
+          outs = each_at OutLinesPass os (on_outs p.modules p.tables g t n) out.0 f.outs out.1;
+          marks = subst MarksShown (sym (marks_are g os j f e)) (found_shown g.untracked f.outs f.effects told fine);
+        }
 
 each_passed : (xs : List Added) → AllByRecursion IsPassedOver xs → AreOver xs
 each_passed [] h = tt
@@ -147,20 +180,33 @@ module _ (law : LinesArePassedOver) where
       join (entry_lines k.read.main names a.holds.summary own.summary) (list_lines k.read.body (said names own.at a.holds.at))
       (entry-over law names h k.read.main a.holds.summary own.summary) (list-over law (said names own.at a.holds.at) h k.read.body)
 
-  module-over : (f : ModuleIns) → IsSaid f → AreOver (lines_of (Some f))
-  module-over f h =
-      let regions = region_lines_found (known_in f) f.known.regions in
-      let ins = region_lines_found (known_in f) f.ins in
-      join (scalar_lines_found f.known.analysis) (regions ++ ins) (scalars-over f.known.analysis h.names) (join regions ins (each_passed regions h.regions) (each_passed ins h.ins))
+  claims-over : (f : ModuleMarks) → IsSaid f → AreOver (claims_found f.outs)
+  claims-over f h =
+      let k = known_in f.outs in
+      let scalars = scalar_lines_found (analysis_in f.outs) in
+      let regions = region_lines_found k f.outs.known.known.regions in
+      let ins = region_lines_found k f.outs.known.ins in
+      let outs = region_lines_found k f.outs.outs in
+      join scalars (regions ++ (ins ++ outs)) (scalars-over (analysis_in f.outs) h.names)
+      (join regions (ins ++ outs) (each_passed regions h.regions) (join ins outs (each_passed ins h.ins) (each_passed outs h.outs)))
 
-  choice-over : (b : Bool) (o p : Option ModuleIns) → AreOver (lines_of o) → AreOver (lines_of p) → AreOver (lines_of (if b then o else p))
-  choice-over true o p h e = h
-  choice-over false o p h e = e
+  marks-over : (why : Bool) (f : ModuleMarks) → IsSaid f → AreOver (mark_lines_found why f)
+  marks-over why f h = marks_pass (symbol_names (known_in f.outs).symbols) why f.marks h.names h.marks
 
-  lines-over : (all : List ModuleIns) (x : List ℕ) → Each IsSaid all → AreOver (lines_for all x)
-  lines-over [] x h = tt
-  lines-over (f ∷ fs) x h = choice-over (bytes_eq (known_in f).read.name x) (Some f) (said_for fs x) (module-over f h.first) (lines-over fs x h.others)
+  module-over : (show : Show) (f : ModuleMarks) → IsSaid f → AreOver (lines_in show f)
+  module-over All f h = join (claims_found f.outs) (mark_lines_found true f) (claims-over f h) (marks-over true f h)
+  module-over Bare f h = marks-over false f h
+  module-over Why f h = marks-over true f h
 
-  pub all_over : (all : List ModuleIns) → Each IsSaid all → (ms : List ParsedTree) → AllPassedOver (λ m. lines_for all m.module_read.name) ms
-  all_over all h [] = tt
-  all_over all h (m ∷ ms) = record { first = lines-over all m.module_read.name h; others = all_over all h ms }
+  module _ (show : Show) where
+    choice-over : (b : Bool) (o p : Option ModuleMarks) → AreOver (lines_of show o) → AreOver (lines_of show p) → AreOver (lines_of show (if b then o else p))
+    choice-over true o p h e = h
+    choice-over false o p h e = e
+
+    lines-over : (all : List ModuleMarks) (x : List ℕ) → Each IsSaid all → AreOver (lines_for show all x)
+    lines-over [] x h = tt
+    lines-over (f ∷ fs) x h = choice-over (bytes_eq (known_in f.outs).read.name x) (Some f) (said_for fs x) (module-over show f h.first) (lines-over fs x h.others)
+
+    pub all_over : (all : List ModuleMarks) → Each IsSaid all → (ms : List ParsedTree) → AllPassedOver (λ m. lines_for show all m.module_read.name) ms
+    all_over all h [] = tt
+    all_over all h (m ∷ ms) = record { first = lines-over all m.module_read.name h; others = all_over all h ms }

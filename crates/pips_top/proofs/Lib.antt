@@ -3,6 +3,8 @@ pub mod LinkLaws
 pub mod Said
 pub mod Programs
 pub mod BlockNames
+pub mod MarkLines
+pub mod MarkNames
 pub mod AddedLines
 pub mod ReadBack
 pub mod LinesMeant

@@ -5,7 +5,9 @@ use Rattle.std.proofs.lemmas.Slice.Eq.{bytes_eq-Decides}
 use Rattle.f77_meaning.specs.Modules.{known_of}
 use Rattle.scalar_phases.specs.Phases.{analyses}
 use Rattle.region_phases.specs.Phases.{all_regions}
-use Rattle.in_out_phases.specs.Phases.{ModuleIns, all_ins}
+use Rattle.in_out_phases.specs.Phases.{all_ins}
+use Rattle.out_phases.specs.Phases.{all_outs}
+use Rattle.mark_phases.specs.Phases.{ModuleMarks, analysis_in, all_marks}
 use Rattle.laws_analyses.specs.Laws.{AnalysesAreWhole}
 use Rattle.laws_layout.specs.Laws.{BlocksHaveAChain}
 use Rattle.laws_programs.proofs.Sources.{all_built}
@@ -13,19 +15,21 @@ use Rattle.laws_lines.specs.LineLaws.{LinesMeanResults, AnalysesAreReadBack}
 use Rattle.laws_lines.specs.NameLaws.{NamesAreWords}
 use Rattle.laws_region_lines.specs.LineLaws.{RegionLinesMean, RegionLinesMeanRegions}
 use Rattle.laws_in_lines.specs.Laws.{InLinesMean, InLinesMeanRegions}
-use Rattle.pips_top.specs.Claimed.{AreRead, said_for, lines_of}
+use Rattle.laws_out_lines.specs.Laws.{OutLinesMean, OutLinesMeanRegions}
+use Rattle.pips_top.specs.Claimed.{AreRead}
+use Rattle.pips_top.specs.Shown.{said_for, lines_in, lines_of}
 use Rattle.pips_top.specs.Laws.{ReadLinesMean}
-use Rattle.pips_top.specs.declared.words.Show.TheVariants as show
+use Rattle.pips_top.specs.declared.words.Show.{Show}
 use Rattle.pips_top.proofs.BlockNames.{modules_plain}
 use Rattle.pips_top.proofs.Programs.{is_program, each_at}
-use Rattle.pips_top.proofs.Said.{name_of, regions_at, said_at, said_once}
+use Rattle.pips_top.proofs.Said.{name_of, regions_at, said_at, ins_at, outs_at, said_once}
 
 -- no name has two
-abbrev Once : List ModuleIns → Type 0
-Once all = (i j : ℕ) (a b : ModuleIns) → slice_get all i ≡ Some a → slice_get all j ≡ Some b → name_of a ≡ name_of b → i ≡ j
+abbrev Once : List ModuleMarks → Type 0
+Once all = (i j : ℕ) (a b : ModuleMarks) → slice_get all i ≡ Some a → slice_get all j ≡ Some b → name_of a ≡ name_of b → i ≡ j
 
 -- so each is that of its name
-own_found : (all : List ModuleIns) → Once all → (j : ℕ) (a : ModuleIns) → slice_get all j ≡ Some a → said_for all (name_of a) ≡ Some a
+own_found : (all : List ModuleMarks) → Once all → (j : ℕ) (a : ModuleMarks) → slice_get all j ≡ Some a → said_for all (name_of a) ≡ Some a
 own_found [] once j a e = cc
 own_found (b ∷ all) once zero a e =
     let same : b ≡ a = cc in
@@ -38,14 +42,16 @@ own_found (b ∷ all) once (suc j) a e = go (bytes_eq (name_of b) (name_of a)) r
     go false q ih = ih
 
 -- the lines of a module
-lines_read : (f : ModuleIns) → LinesMeanResults f.known.analysis → RegionLinesMean f.known → InLinesMean f → AreRead f (lines_of (Some f))
-lines_read f on_scalars on_regions on_ins = record { parts = refl; scalars = on_scalars; regions = on_regions; ins = on_ins }
+lines_read : (show : Show) (f : ModuleMarks) → LinesMeanResults (analysis_in f.outs) → RegionLinesMean f.outs.known.known → InLinesMean f.outs.known → OutLinesMean f.outs → AreRead show f (lines_in show f)
+lines_read show f on_scalars on_regions on_ins on_outs = record { parts = refl; scalars = on_scalars; regions = on_regions; ins = on_ins; outs = on_outs }
 
-pub lines_from : AnalysesAreWhole → AnalysesAreReadBack → NamesAreWords → BlocksHaveAChain → RegionLinesMeanRegions → InLinesMeanRegions → ReadLinesMean
-lines_from whole back words blocks on_regions on_ins show.All bytes p e =
+pub lines_from : AnalysesAreWhole → AnalysesAreReadBack → NamesAreWords → BlocksHaveAChain → RegionLinesMeanRegions → InLinesMeanRegions → OutLinesMeanRegions → ReadLinesMean
+lines_from whole back words blocks on_regions on_ins on_outs show bytes p e =
     let found = analyses (known_of p.modules p.tables) p.graph in
     let regions = all_regions p.graph found in
-    let all = all_ins p.graph regions in
+    let ins = all_ins p.graph regions in
+    let outs = all_outs p.graph ins in
+    let all = all_marks p.graph outs in
     let i = is_program bytes p e in
     let once : Once all = λ j k a b f g h. said_once p.graph found (whole p.modules p.tables p.graph i).once j k a b f g h in
     let named = words i.lines p.modules p.tables i.parsed i.tables in
@@ -53,8 +59,10 @@ lines_from whole back words blocks on_regions on_ins show.All bytes p e =
     let read = back p.modules p.tables p.graph i.tables named in
     let means = on_regions p.modules p.tables p.graph i.tables named plain in
     let in_means = on_ins p.modules p.tables p.graph i.tables named plain in
-    λ j f there. subst (λ o. AreRead f (lines_of o)) (sym (own_found all once j f there))
-    (let at = said_at p.graph found j f there in
-    lines_read f (each_at LinesMeanResults found read at.0 f.known.analysis at.1) (each_at RegionLinesMean regions means j f.known (regions_at p.graph regions j f there)) (each_at InLinesMean all in_means j f there))
-lines_from whole back words blocks on_regions on_ins show.Bare bytes p e = λ j f there. cc
-lines_from whole back words blocks on_regions on_ins show.Why bytes p e = λ j f there. cc
+    let out_means = on_outs p.modules p.tables p.graph i.tables named plain in
+    λ j f there. subst (λ o. AreRead show f (lines_of show o)) (sym (own_found all once j f there))
+    (let out = outs_at p.graph outs j f there in
+    let here = ins_at p.graph ins out.0 f.outs out.1 in
+    let at = said_at p.graph found here.0 f.outs.known here.1 in
+    lines_read show f (each_at LinesMeanResults found read at.0 (analysis_in f.outs) at.1) (each_at RegionLinesMean regions means here.0 f.outs.known.known (regions_at p.graph regions here.0 f.outs.known here.1))
+    (each_at InLinesMean ins in_means here.0 f.outs.known here.1) (each_at OutLinesMean outs out_means out.0 f.outs out.1))

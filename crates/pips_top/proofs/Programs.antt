@@ -16,12 +16,13 @@ use Rattle.laws_programs.specs.Programs.{AreTables, IsProgram}
 use Rattle.laws_analyses.specs.Laws.{AnalysesAreWhole, ReadAnalysesHold}
 use Rattle.laws_regions.specs.Accepted.{ReadRegionsHold}
 use Rattle.laws_in_regions.specs.Accepted.{ReadInsHold}
+use Rattle.laws_out_regions.specs.Accepted.{ReadOutsHold}
 use Rattle.laws_region_lines.specs.Laws.{RegionsAreOverPlaces}
 use Rattle.laws_in_lines.specs.Laws.{InsAreOverPlaces}
+use Rattle.laws_out_lines.specs.Laws.{OutsAreOverPlaces}
 use Rattle.pips_top.specs.Laws.{ReadAllSaid, ReadClaimsHold}
 use Rattle.pips_top.specs.Program.{ProgramTree}
 use Rattle.pips_top.specs.Reading.{lines_or, table_or, tables_of, graph_or, linked_by, program_of, reading}
-use Rattle.pips_top.specs.declared.words.Show.TheVariants.{All, Bare, Why}
 
 -- ---- tables
 
@@ -94,20 +95,18 @@ each_at P [] h j a e = cc
 each_at P (x ∷ xs) h zero a e = let same : x ≡ a = cc in subst P same (h zero x (omega arith))
 each_at P (x ∷ xs) h (suc j) a e = each_at P xs (λ k d l. h (suc k) d (omega (arith, l))) j a e
 
-pub claims_from : ReadAnalysesHold → ReadRegionsHold → ReadInsHold → RegionsAreOverPlaces → InsAreOverPlaces → ReadClaimsHold
-claims_from law on_regions on_ins over ins_over All bytes p e =
+pub claims_from : ReadAnalysesHold → ReadRegionsHold → ReadInsHold → ReadOutsHold → RegionsAreOverPlaces → InsAreOverPlaces → OutsAreOverPlaces → ReadClaimsHold
+claims_from law on_regions on_ins on_outs over ins_over outs_over bytes p e =
     let i = is_program bytes p e in
     record {
       scalars = law p.modules p.tables p.graph i;
       regions = on_regions p.modules p.tables p.graph i;
       ins = on_ins p.modules p.tables p.graph i;
+      outs = on_outs p.modules p.tables p.graph i;
       places = over p.modules p.tables p.graph i.tables;
       in_places = ins_over p.modules p.tables p.graph i.tables;
+      out_places = outs_over p.modules p.tables p.graph i.tables;
     }
-claims_from law on_regions on_ins over ins_over Bare bytes p e = tt
-claims_from law on_regions on_ins over ins_over Why bytes p e = tt
 
 pub all_said_from : AnalysesAreWhole → ReadAllSaid
-all_said_from law All bytes p e = law p.modules p.tables p.graph (is_program bytes p e)
-all_said_from law Bare bytes p e = tt
-all_said_from law Why bytes p e = tt
+all_said_from law bytes p e = law p.modules p.tables p.graph (is_program bytes p e)

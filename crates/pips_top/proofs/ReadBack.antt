@@ -6,20 +6,22 @@ use Rattle.f77_parser.specs.Modules.{parse_of}
 use Rattle.f77_symbols.specs.Symbols.{SymbolTree}
 use Rattle.call_graph.specs.declared.graph.Graph.{Graph}
 use Rattle.call_graph.specs.Links.{link_of}
-use Rattle.in_out_phases.specs.Phases.{ModuleIns}
+use Rattle.mark_phases.specs.Phases.{ModuleMarks}
 use Rattle.laws_programs.specs.Programs as laws
 use Rattle.laws_programs.proofs.Sources.{all_built}
 use Rattle.laws_region_lines.specs.LineLaws.{AllRegionLinesPass}
 use Rattle.laws_in_lines.specs.Laws.{AllInLinesPass}
+use Rattle.laws_out_lines.specs.Laws.{AllOutLinesPass}
 use Rattle.laws_layout.specs.Laws.{BlocksHaveAChain}
 use Rattle.roundtrip_text.specs.Texts as back
 use Rattle.roundtrip_programs.specs.Lines.{LinesArePassedOver}
 use Rattle.roundtrip_programs.specs.Programs.{AreTables, IsProgram, ProgramsReadBack, NamesAreShown}
-use Rattle.pips_top.specs.Claimed.{said_of, lines_for}
+use Rattle.pips_top.specs.Shown.{said_of, lines_for}
 use Rattle.pips_top.specs.Laws.{ReadWrittenBack}
 use Rattle.pips_top.specs.Program.{ProgramTree}
 use Rattle.pips_top.specs.Reading.{lines_or, table_or, tables_of, graph_or, linked_by, program_of, reading}
 use Rattle.pips_top.specs.Written.{parsed_text, modules_text}
+use Rattle.pips_top.specs.declared.words.Show.{Show}
 use Rattle.pips_top.proofs.AddedLines.{all_said, all_over}
 use Rattle.pips_top.proofs.BlockNames.{modules_shown}
 use Rattle.pips_top.proofs.Programs.{Linked, all_tables, linked_from, parsed_from, is_program}
@@ -44,9 +46,9 @@ is_read text p e =
 
 -- ---- what is written
 
-text_same : (all : List ModuleIns) (ms : List ParsedTree) → modules_text all ms ≡ back.modules_text (λ m. lines_for all m.module_read.name) ms
-text_same all [] = refl
-text_same all (m ∷ ms) = ap (λ rest. parsed_text all m ++ rest) (text_same all ms)
+text_same : (show : Show) (all : List ModuleMarks) (ms : List ParsedTree) → modules_text show all ms ≡ back.modules_text (λ m. lines_for show all m.module_read.name) ms
+text_same show all [] = refl
+text_same show all (m ∷ ms) = ap (λ rest. parsed_text show all m ++ rest) (text_same show all ms)
 
 -- ---- what is read of it
 
@@ -66,15 +68,15 @@ unfolding reading
 reading_is text ms ts g is =
     ap (λ r. and_then (and_then (lines_or r) parse_of) program_of) is.read.lined ∙ ap (λ r. and_then r program_of) is.read.parsed ∙ program_is ms ts g is.tabled is.linked
 
-pub back_from : ProgramsReadBack → LinesArePassedOver → AllRegionLinesPass → AllInLinesPass → NamesAreShown → BlocksHaveAChain → ReadWrittenBack
-back_from programs lines on_regions on_ins names blocks show bytes p e =
+pub back_from : ProgramsReadBack → LinesArePassedOver → AllRegionLinesPass → AllInLinesPass → AllOutLinesPass → NamesAreShown → BlocksHaveAChain → ReadWrittenBack
+back_from programs lines on_regions on_ins on_outs names blocks show bytes p e =
     let is = is_read bytes p e in
     let i = is_program bytes p e in
     let shown = modules_shown names blocks p.modules p.tables (all_built i.lines p.modules i.parsed) i.tables in
-    let all = said_of show p in
-    let b = programs bytes p.modules p.tables p.graph (λ m. lines_for all m.module_read.name) is (all_over lines all (all_said on_regions on_ins show p i.tables shown) p.modules) in
+    let all = said_of p in
+    let b = programs bytes p.modules p.tables p.graph (λ m. lines_for show all m.module_read.name) is (all_over lines show all (all_said on_regions on_ins on_outs p i.tables shown) p.modules) in
     let q : ProgramTree = record { modules = b.again; tables = p.tables; graph = p.graph } in (
       q,
-      ap reading (text_same all p.modules) ∙ reading_is (back.modules_text (λ m. lines_for all m.module_read.name) p.modules) b.again p.tables p.graph b.program,
+      ap reading (text_same show all p.modules) ∙ reading_is (back.modules_text (λ m. lines_for show all m.module_read.name) p.modules) b.again p.tables p.graph b.program,
       record { modules = b.same; tables = refl; graph = refl },
     )

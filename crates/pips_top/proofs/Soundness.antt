@@ -40,7 +40,7 @@ abbrev pub WasRead : List (List ℕ) → Outside → Outside → List ℕ → Ty
 WasRead words old new text = (r : Reads words old new) × IsSound r.request.show r.program × (text ≡ written r.request.show r.program)
 
 sound_of : Laws → (show : Show) (bytes : List ℕ) (p : ProgramTree) → reading bytes ≡ Ok p → IsSound show p
-sound_of law show bytes p e = record { claims = law.holds show bytes p e; whole = law.all show bytes p e; lines = law.lines show bytes p e; back = law.back show bytes p e }
+sound_of law show bytes p e = record { claims = law.holds bytes p e; whole = law.all bytes p e; lines = law.lines show bytes p e; back = law.back show bytes p e }
 
 read_for : Laws → (words : List (List ℕ)) (old new : Outside) (text : List ℕ) (o : Option Request) → asked words ≡ o
     → IsSomeAnd o (DefinesFor old.files (old.counts Input) (new.counts Input) text) → WasRead words old new text

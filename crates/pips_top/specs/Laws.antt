@@ -8,11 +8,11 @@ use Rattle.pips_top.specs.declared.words.Show.{Show}
 
 -- what is said of a program that was read is true of every run
 abbrev pub ReadClaimsHold : Type 0
-ReadClaimsHold = (show : Show) (bytes : List ℕ) (p : ProgramTree) → reading bytes ≡ Ok p → ClaimsHold show p
+ReadClaimsHold = (bytes : List ℕ) (p : ProgramTree) → reading bytes ≡ Ok p → ClaimsHold p
 
 -- and leaves nothing out
 abbrev pub ReadAllSaid : Type 0
-ReadAllSaid = (show : Show) (bytes : List ℕ) (p : ProgramTree) → reading bytes ≡ Ok p → SaysAll show p
+ReadAllSaid = (bytes : List ℕ) (p : ProgramTree) → reading bytes ≡ Ok p → SaysAll p
 
 -- each line of it is read as just what was found
 abbrev pub ReadLinesMean : Type 0

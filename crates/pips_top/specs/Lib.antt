@@ -1,5 +1,6 @@
 pub mod Program
 pub mod Reading
+pub mod Shown
 pub mod Claimed
 pub mod Laws
 pub mod Written

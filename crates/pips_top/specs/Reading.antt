@@ -38,8 +38,7 @@ abbrev pub tables_of : List ParsedTree → Result (List (List SymbolTree)) Refus
 tables_of [] = Ok []
 tables_of (m ∷ ms) = and_then (table_or (symbols_of m)) (λ t. and_then (tables_of ms) (λ ts. Ok (t ∷ ts)))
 
--- the line and the code of what is wrong with links: a line is one of the text in whichever module it stands, and the want of a main
--- program, which has no place, is refused at line 1
+-- the line, which is one of the text in whichever module it stands, and the code of what is wrong with links; the want of a main program is refused at line 1
 abbrev pub refused_for : Fault → Refused
 refused_for NoMain = refused_at 1 50
 refused_for (At place line cause) = refused_at line (number_of cause)

@@ -63,8 +63,7 @@ StopsBy words files old new Memory text = text ≡ codes "pips: out of memory\n"
 
 -- the whole text was appended, or its first n bytes where the count rose
 abbrev pub Gains : Option (List ℕ) → Option (List ℕ) → ℕ → ℕ → List ℕ → Type 0
-Gains old new before after text =
-    (new ≡ appended old text) ⊎ ((n : ℕ) × (n ≤ length text) × (new ≡ appended old (take n text)) × Rose before after)
+Gains old new before after text = (new ≡ appended old text) ⊎ ((n : ℕ) × (n ≤ length text) × (new ≡ appended old (take n text)) × Rose before after)
 
 -- the words name an input, and its bytes were read as a program
 pub record Reads (words : List (List ℕ)) (old new : Outside) : Type 0 where
@@ -77,15 +76,14 @@ pub record Reads (words : List (List ℕ)) (old new : Outside) : Type 0 where
 
 -- what is written of a program with what is said of it: this is true of every run and leaves nothing out, each line is read as just what is said, and the text is read again as the same program
 pub record IsSound (show : Show) (p : ProgramTree) : Type 0 where
-  pub claims : ClaimsHold show p
-  pub whole : SaysAll show p
+  pub claims : ClaimsHold p
+  pub whole : SaysAll p
   pub lines : LinesMean show p
   pub back : ReadsBack show p
 
 -- each status with its cause and its line on err, and what out gained: the whole text of the program that was read, or its first n bytes, or nothing
 abbrev pub CausedBy : List (List ℕ) → Outside → Outside → Status → List ℕ → Type 0
-CausedBy words old new Done line =
-    (r : Reads words old new) × IsSound r.request.show r.program × (new.out ≡ appended old.out (written r.request.show r.program)) × (line ≡ [])
+CausedBy words old new Done line = (r : Reads words old new) × IsSound r.request.show r.program × (new.out ≡ appended old.out (written r.request.show r.program)) × (line ≡ [])
 CausedBy words old new WriteFault line =
     (r : Reads words old new) × IsSound r.request.show r.program × Rose old.out_faults new.out_faults
     × ((n : ℕ) × (n ≤ length (written r.request.show r.program)) × (new.out ≡ appended old.out (take n (written r.request.show r.program))))
@@ -120,5 +118,4 @@ pub record Runs (words : List (List ℕ)) (old new : Outside) (status : Status) 
   pub defined : (held : Files) → old.files ≡ Some held → is_settled status ≡ true →
       (status ≡ (answer words held).status) × (new.out ≡ appended old.out (answer words held).out)
   -- an accepted input is written
-  pub complete : (held : Files) → old.files ≡ Some held → (answer words held).status ≡ Done → NoFault old new →
-      (status ≡ Done) ⊎ (status ≡ Memory)
+  pub complete : (held : Files) → old.files ≡ Some held → (answer words held).status ≡ Done → NoFault old new → (status ≡ Done) ⊎ (status ≡ Memory)

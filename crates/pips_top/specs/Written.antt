@@ -2,17 +2,17 @@
 use Rattle.std.specs.Prelude.{ℕ, List, [], ◌∷◌, ◌++◌}
 use Rattle.f77_ast.specs.DeclTrees.{ParsedTree}
 use Rattle.f77_printer.specs.ModuleText.{module_text}
-use Rattle.in_out_phases.specs.Phases.{ModuleIns}
-use Rattle.pips_top.specs.Claimed.{said_of, lines_for}
+use Rattle.mark_phases.specs.Phases.{ModuleMarks}
+use Rattle.pips_top.specs.Shown.{said_of, lines_for}
 use Rattle.pips_top.specs.Program.{ProgramTree}
 use Rattle.pips_top.specs.declared.words.Show.{Show}
 
-abbrev pub parsed_text : List ModuleIns → ParsedTree → List ℕ
-parsed_text fs m = module_text m.places m.module_read (lines_for fs m.module_read.name)
+abbrev pub parsed_text : Show → List ModuleMarks → ParsedTree → List ℕ
+parsed_text show fs m = module_text m.places m.module_read (lines_for show fs m.module_read.name)
 
-abbrev pub modules_text : List ModuleIns → List ParsedTree → List ℕ
-modules_text fs [] = []
-modules_text fs (m ∷ ms) = parsed_text fs m ++ modules_text fs ms
+abbrev pub modules_text : Show → List ModuleMarks → List ParsedTree → List ℕ
+modules_text show fs [] = []
+modules_text show fs (m ∷ ms) = parsed_text show fs m ++ modules_text show fs ms
 
 abbrev pub written : Show → ProgramTree → List ℕ
-written show p = modules_text (said_of show p) p.modules
+written show p = modules_text show (said_of p) p.modules

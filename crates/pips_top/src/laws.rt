@@ -6,22 +6,26 @@ use laws_in_lines::{all_in_lines_pass, in_lines_mean_regions, ins_are_over_place
 use laws_in_regions::read_ins_hold;
 use laws_layout::blocks_have_a_chain;
 use laws_lines::{analyses_are_read_back, names_are_words};
+use laws_out_lines::{all_out_lines_pass, out_lines_mean_regions, outs_are_over_places};
+use laws_out_regions::read_outs_hold;
 use laws_region_lines::{
     all_region_lines_pass, region_lines_mean_regions, regions_are_over_places,
 };
 use laws_regions::read_regions_hold;
 use roundtrip_programs::{lines_are_passed_over, names_are_shown, programs_read_back};
 
-/// What is said of a program that was read holds in every run of it, up to its end or its first fault: on scalars, and on regions, whose
-/// systems name subscripts and analysed scalars alone.
+/// What is said of a program that was read holds in every run of it, up to its end or its first fault, on OUT regions in each that no fault ends: on scalars, and
+/// on regions, whose systems name subscripts and analysed scalars alone.
 pub fn claims_hold()
     ensures { ReadClaimsHold }
 {
     read_analyses_hold();
     read_regions_hold();
     read_ins_hold();
+    read_outs_hold();
     regions_are_over_places();
     ins_are_over_places();
+    outs_are_over_places();
 }
 
 /// Each module of a program that was read has one analysis, each of its statements a precondition and a transformer.
@@ -41,6 +45,7 @@ pub fn lines_mean_results()
     blocks_have_a_chain();
     region_lines_mean_regions();
     in_lines_mean_regions();
+    out_lines_mean_regions();
 }
 
 /// What is written of a program that was read is read again as the same program.
@@ -51,6 +56,7 @@ pub fn written_reads_back()
     lines_are_passed_over();
     all_region_lines_pass();
     all_in_lines_pass();
+    all_out_lines_pass();
     names_are_shown();
     blocks_have_a_chain();
 }

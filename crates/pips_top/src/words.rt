@@ -5,7 +5,7 @@ ghost use Rattle.pips_top.specs.Words.{asked, input_among, is_option_word, show_
 use fx_base::{Text, Words};
 use std::alloc::{AllocError as Memory, Global};
 
-/// What is written beside the program. Directives and obstacles are not written yet.
+/// What is written beside the program.
 #[derive(Clone, Copy, PartialEq, Eq)]
 pub enum Show {
     /// Directives, obstacles and claims.

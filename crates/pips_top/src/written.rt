@@ -1,7 +1,7 @@
 //! The written text of a program.
 ghost use Rattle.std.specs.Prelude.{◌≡◌, IfOk, length, map};
 ghost use Rattle.f77_ast.specs.PlainDecl.{parsed_tree};
-ghost use Rattle.in_out_phases.specs.Views.{ins_tree};
+ghost use Rattle.mark_phases.specs.Views.{marks_tree};
 ghost use Rattle.pips_top.specs.Program.{program_tree};
 ghost use Rattle.pips_top.specs.Written.{modules_text, parsed_text, written};
 
@@ -12,19 +12,20 @@ use call_graph::Graph;
 use f77_ast::Parsed;
 use f77_printer::plain;
 use fx_base::Text;
-use in_out_phases::ModuleIns;
+use mark_phases::ModuleMarks;
 use std::alloc::{AllocError as Memory, Global};
 
 /// A module, with the lines that are added to it.
 fn parsed_text(
     alloc: Global,
     graph: &Graph,
-    all: &[ModuleIns<'_>],
+    show: Show,
+    all: &[ModuleMarks<'_>],
     parsed: &Parsed,
 ) -> Result<Text, Memory>
-    ensures { IfOk result (λ text. text ≡ parsed_text (map ins_tree all.now) (parsed_tree parsed.now)) }
+    ensures { IfOk result (λ text. text ≡ parsed_text show (map marks_tree all.now) (parsed_tree parsed.now)) }
 {
-    let added = lines_for(alloc, graph, all, &parsed.module.name)?;
+    let added = lines_for(alloc, graph, show, all, &parsed.module.name)?;
     plain(alloc, &parsed.places, &parsed.module, &added)
 }
 
@@ -33,14 +34,15 @@ fn parsed_text(
 fn modules_text(
     alloc: Global,
     graph: &Graph,
-    all: &[ModuleIns<'_>],
+    show: Show,
+    all: &[ModuleMarks<'_>],
     modules: &[Parsed],
 ) -> Result<Text, Memory>
-    ensures { IfOk result (λ text. text ≡ modules_text (map ins_tree all.now) (map parsed_tree modules.now)) }
+    ensures { IfOk result (λ text. text ≡ modules_text show (map marks_tree all.now) (map parsed_tree modules.now)) }
 {
     let mut out = Text::new(alloc);
     for parsed in modules {
-        let text = parsed_text(alloc, graph, all, parsed)?;
+        let text = parsed_text(alloc, graph, show, all, parsed)?;
         out.append(text.as_slice())?;
     }
     Ok(out)
@@ -51,10 +53,11 @@ pub fn write_program(alloc: Global, show: Show, program: &Program) -> Result<Tex
     requires one_each { length program.now.modules ≡ length program.now.tables }
     ensures { IfOk result (λ text. text ≡ written show (program_tree program.now)) }
 {
-    let all = said_of(alloc, show, program)?;
+    let all = said_of(alloc, program)?;
     modules_text(
         alloc,
         &program.graph,
+        show,
         all.as_slice(),
         program.modules.as_slice(),
     )

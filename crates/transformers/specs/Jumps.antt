@@ -4,7 +4,7 @@ use Rattle.f77_ast.specs.Trees.{StmtTree, WhatTree, ArmTree, ArmTrees, ElseTree,
 use Rattle.f77_ast.specs.Trees as tree
 use Rattle.transformer_algebra.specs.Cells.{has}
 use Rattle.transformers.specs.declared.jumps.Sought.{Sought}
-use Rattle.transformers.specs.declared.jumps.Sought.TheVariants.{Jump, Return}
+use Rattle.transformers.specs.declared.jumps.Sought.TheVariants.{Jump, Beyond, Return}
 
 -- ---- a statement among others
 
@@ -72,6 +72,20 @@ goes_to ls (tree.stop text) = false
 goes_to ls (tree.print es) = false
 goes_to ls (tree.read es) = false
 
+-- a GO TO none of these
+abbrev pub goes_beyond : List ℕ → WhatTree → Bool
+goes_beyond ls (tree.assign a b) = false
+goes_beyond ls (tree.block_if arms other) = false
+goes_beyond ls (tree.logical_if test s) = false
+goes_beyond ls (tree.do_loop l) = false
+goes_beyond ls (tree.call x es) = false
+goes_beyond ls (tree.goto l) = not (has ls l)
+goes_beyond ls tree.continue = false
+goes_beyond ls tree.return = false
+goes_beyond ls (tree.stop text) = false
+goes_beyond ls (tree.print es) = false
+goes_beyond ls (tree.read es) = false
+
 -- ---- RETURN (§15.8)
 
 abbrev pub is_return : WhatTree → Bool
@@ -90,6 +104,7 @@ is_return (tree.read es) = false
 -- what the code looks for
 abbrev pub such_of : Sought → WhatTree → Bool
 such_of (Jump ls) w = goes_to ls.now w
+such_of (Beyond ls) w = goes_beyond ls.now w
 such_of Return w = is_return w
 
 abbrev pub is_end : StmtTrees → Bool

@@ -1,7 +1,7 @@
 //! Lists of statements that do not run from the first to the last.
 ghost use Rattle.std.specs.Prelude.{◌≡◌, IfOk};
 ghost use Rattle.f77_ast.specs.PlainStmt.{stmt_tree, stmt_trees, what_tree, arm_trees};
-ghost use Rattle.transformers.specs.Jumps.{such_of, goes_to, is_return, is_end, stmt_has, parts_have, list_has, arms_have, labels as labels_is, returns_early, early_return, unstructured};
+ghost use Rattle.transformers.specs.Jumps.{such_of, goes_to, goes_beyond, is_return, is_end, stmt_has, parts_have, list_has, arms_have, labels as labels_is, returns_early, early_return, unstructured};
 
 use f77_ast::{Arm, Shape, Stmt, What, shape_of};
 use fx_lists::List;
@@ -13,6 +13,8 @@ use transformer_algebra::has;
 pub enum Sought<'a> {
     /// A GO TO one of these labels (ANSI X3.9-1978 §11.1).
     Jump(&'a [u32]),
+    /// A GO TO none of these labels.
+    Beyond(&'a [u32]),
     /// A RETURN (§15.8).
     Return,
 }
@@ -23,6 +25,25 @@ fn goes(labels: &[u32], what: &What) -> bool
 {
     match what {
         What::Goto(label) => has(labels, *label),
+        What::Assign(..)
+        | What::If(..)
+        | What::LogicalIf(..)
+        | What::Do(_)
+        | What::Call(..)
+        | What::Continue
+        | What::Return
+        | What::Stop(_)
+        | What::Print(_)
+        | What::Read(_) => false,
+    }
+}
+
+#[tactic(auto, using(f77_ast::proofs::PlainlyStmt::what_cases))]
+fn goes_beyond(labels: &[u32], what: &What) -> bool
+    ensures { result ≡ goes_beyond labels.now (what_tree what.now) }
+{
+    match what {
+        What::Goto(label) => !has(labels, *label),
         What::Assign(..)
         | What::If(..)
         | What::LogicalIf(..)
@@ -61,6 +82,7 @@ fn is_sought(sought: &Sought<'_>, what: &What) -> bool
 {
     match sought {
         Sought::Jump(labels) => goes(labels, what),
+        Sought::Beyond(labels) => goes_beyond(labels, what),
         Sought::Return => is_return(what),
     }
 }
@@ -82,9 +104,10 @@ fn parts_have(sought: &Sought<'_>, what: &What) -> bool
     }
 }
 
+/// Whether a statement, or one that is a part of it, is what is looked for.
 #[cycle(parts)]
 #[tactic(auto, using(crate::proofs::PartLaws::part_calls))]
-fn stmt_has(sought: &Sought<'_>, s: &Stmt) -> bool
+pub fn stmt_has(sought: &Sought<'_>, s: &Stmt) -> bool
     ensures { result ≡ stmt_has (such_of sought.now) (stmt_tree s.now) }
 {
     is_sought(sought, &s.what) || parts_have(sought, &s.what)
@@ -116,6 +139,20 @@ fn arms_have(sought: &Sought<'_>, arms: &List<Arm>) -> bool
     false
 }
 
+/// Whether a statement among these, or a part of one, is what is looked for. Looks at each statement once.
+pub fn any_has(sought: &Sought<'_>, list: &[Stmt]) -> bool
+    ensures { result ≡ list_has (such_of sought.now) (stmt_trees list.now) }
+{
+    let mut rest = list;
+    while let [s, more @ ..] = rest {
+        if stmt_has(sought, s) {
+            return true;
+        }
+        rest = more;
+    }
+    false
+}
+
 /// Whether a list has no statements.
 pub fn is_end(list: &[Stmt]) -> bool
     ensures { result ≡ is_end (stmt_trees list.now) }
@@ -126,15 +163,15 @@ pub fn is_end(list: &[Stmt]) -> bool
     }
 }
 
-/// Whether a RETURN is a part of a statement, or the statement is one and not the last of its list.
-fn returns_early(last: bool, s: &Stmt) -> bool
+/// Whether a RETURN is a part of a statement, or the statement is one and not the last of its list (`last`).
+pub fn returns_early(last: bool, s: &Stmt) -> bool
     ensures { result ≡ returns_early last (stmt_tree s.now) }
 {
     parts_have(&Sought::Return, &s.what) || (is_return(&s.what) && !last)
 }
 
-/// Whether there is a RETURN that is not the last statement of a list.
-fn early_return(list: &[Stmt]) -> bool
+/// Whether there is a RETURN that is not the last of these statements.
+pub fn early_return(list: &[Stmt]) -> bool
     ensures { result ≡ early_return (stmt_trees list.now) }
 {
     let mut rest = list;

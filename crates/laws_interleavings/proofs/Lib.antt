@@ -1,0 +1,14 @@
+pub mod Stores
+pub mod Picks
+pub mod Scripts
+pub mod Runs
+pub mod Loops
+pub mod Traces
+pub mod Same
+pub mod Anyhow
+pub mod OwnFirst
+pub mod LaterReads
+pub mod Sounds
+pub mod Agree
+pub mod Plain
+pub mod Enough

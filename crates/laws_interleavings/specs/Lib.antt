@@ -1,0 +1,9 @@
+pub mod Alone
+pub mod Iterations
+pub mod Marks
+pub mod Sound
+pub mod Strict
+pub mod Holds
+pub mod MarkedStatements
+pub mod MarkedPrograms
+pub mod Laws

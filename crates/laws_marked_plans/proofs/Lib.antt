@@ -1,0 +1,4 @@
+pub mod Fine
+pub mod Uses
+pub mod MarkedStrict
+pub mod Cleared

@@ -1,0 +1,5 @@
+pub mod CalleePieces
+pub mod CalleeLinks
+pub mod OutSets
+pub mod OutStatements
+pub mod OutPrograms

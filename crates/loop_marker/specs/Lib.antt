@@ -1,0 +1,5 @@
+pub mod Names
+pub mod Jumps
+pub mod Variables
+pub mod Marks
+pub mod Known

@@ -1,0 +1,11 @@
+//! Which loops of a module are parallel, and the first obstacle of each other loop.
+#![tactic(auto)]
+
+mod jumps;
+mod loops;
+mod names;
+mod search;
+mod variables;
+mod verdict;
+
+pub use loops::marks;

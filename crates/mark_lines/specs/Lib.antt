@@ -1,0 +1,2 @@
+pub mod MarkText
+pub mod MarkLines

@@ -1,0 +1,4 @@
+pub mod Cuts
+pub mod DirectiveBack
+pub mod Passed
+pub mod Unique

@@ -1,0 +1,4 @@
+pub mod Directives
+pub mod Marked
+pub mod Lines
+pub mod Laws

@@ -1,0 +1,9 @@
+//! What is written of parallel loops is read again as that: directives, and the loops that they mark.
+#![tactic(auto)]
+
+mod laws;
+
+pub use laws::{
+    directives_read_back, mark_lines_are_passed_over, obstacles_are_no_directives,
+    reading_is_unique,
+};
