@@ -28,6 +28,7 @@ use Rattle.laws_region_lines.specs.Names.{IsNamed, AreNamed}
 use Rattle.laws_region_lines.specs.LineLaws.{RegionLinesPass, AllRegionLinesPass}
 use Rattle.laws_in_lines.specs.Laws.{InLinesPass, AllInLinesPass}
 use Rattle.laws_out_lines.specs.Laws.{OutLinesPass, AllOutLinesPass}
+use Rattle.roundtrip_marks.specs.Laws.{MarkLinesArePassedOver}
 use Rattle.laws_region_lines.proofs.ProgramRegions.{ModuleFine, ModuleTold, each_named, regions_with, all_told, modules_fine}
 use Rattle.laws_region_lines.proofs.LinesPass.{names_shown}
 use Rattle.pips_top.specs.Shown.{said_of, said_for, region_lines_found, scalar_lines_found, claims_found, mark_lines_found, lines_in, lines_of, lines_for}
@@ -35,8 +36,7 @@ use Rattle.pips_top.specs.Program.{ProgramTree}
 use Rattle.pips_top.specs.declared.words.Show.{Show}
 use Rattle.pips_top.specs.declared.words.Show.TheVariants.{All, Bare, Why}
 use Rattle.pips_top.proofs.Programs.{each_at}
-use Rattle.pips_top.proofs.MarkLines.{MarksShown, marks_pass}
-use Rattle.pips_top.proofs.MarkNames.{found_shown}
+use Rattle.pips_top.proofs.MarkNames.{MarksNamed, found_named, all_shown}
 use Rattle.pips_top.proofs.Said.{said_at, regions_at, ins_at, outs_at, marks_are}
 
 -- ---- the lines of a module
@@ -114,21 +114,21 @@ module _ (law : LinesArePassedOver) (k : Said) (shown : AreShown k.names) where
 
 -- ---- what is said of a module
 
--- its symbols have such names, the lines of its regions are passed over, and its obstacles name such variables
+-- its symbols have such names, and the lines of its regions and marks are passed over
 pub record IsSaid (f : ModuleMarks) : Type 0 where
   pub names : AreShown (symbol_names (known_in f.outs).symbols)
   pub regions : RegionLinesPass f.outs.known.known
   pub ins : InLinesPass f.outs.known
   pub outs : OutLinesPass f.outs
-  pub marks : MarksShown f.marks
+  pub marks : (why : Bool) → AllByRecursion IsPassedOver (mark_lines_found why f)
 
 from_places : (fs : List ModuleMarks) → ((j : ℕ) (f : ModuleMarks) → slice_get fs j ≡ Some f → IsSaid f) → Each IsSaid fs
 from_places [] h = tt
 from_places (f ∷ fs) h = record { first = h zero f refl; others = from_places fs (λ j x e. h (suc j) x e) }
 
 -- so it is of all that is said of a program
-pub all_said : AllRegionLinesPass → AllInLinesPass → AllOutLinesPass → (p : ProgramTree) → AreTables p.modules p.tables → AreNamed IsShown (known_of p.modules p.tables) → Each IsSaid (said_of p)
-all_said law on_ins on_outs p t n = from_places (all_marks g os) each
+pub all_said : AllRegionLinesPass → AllInLinesPass → AllOutLinesPass → MarkLinesArePassedOver → (p : ProgramTree) → AreTables p.modules p.tables → AreNamed IsShown (known_of p.modules p.tables) → Each IsSaid (said_of p)
+all_said law on_ins on_outs on_marks p t n = from_places (all_marks g os) each
   where
     g : Graph
     g = p.graph
@@ -157,12 +157,14 @@ all_said law on_ins on_outs p t n = from_places (all_marks g os) each
         let named = got_each (λ (r : ModuleRegions). IsNamed IsShown r.analysis.found.known) fs here.0 f.outs.known.known (regions_with (IsNamed IsShown) ks g (each_named IsShown ks n)) at in
         let told = got_each (ModuleTold IsShown g.untracked) as' there.0 (analysis_in f.outs) (all_told IsShown p.modules p.tables g t n) there.1 in
         let fine = got_each (ModuleFine IsShown g.untracked) fs here.0 f.outs.known.known (modules_fine IsShown p.modules p.tables g t n) at in
+        let names = names_shown (known_in f.outs).symbols named.1 in
+        let marks = subst (MarksNamed IsShown (symbol_names (known_in f.outs).symbols)) (sym (marks_are g os j f e)) (found_named IsShown g.untracked f.outs f.effects told fine) in
         record {
-          names = names_shown (known_in f.outs).symbols named.1;
+          names = names;
           regions = each_at RegionLinesPass fs (law p.modules p.tables g t n) here.0 f.outs.known.known at;
           ins = each_at InLinesPass is (on_ins p.modules p.tables g t n) here.0 f.outs.known here.1;
           outs = each_at OutLinesPass os (on_outs p.modules p.tables g t n) out.0 f.outs out.1;
-          marks = subst MarksShown (sym (marks_are g os j f e)) (found_shown g.untracked f.outs f.effects told fine);
+          marks = λ why. on_marks (symbol_names (known_in f.outs).symbols) why f.marks names (all_shown (symbol_names (known_in f.outs).symbols) f.marks marks);
         }
 
 each_passed : (xs : List Added) → AllByRecursion IsPassedOver xs → AreOver xs
@@ -191,7 +193,7 @@ module _ (law : LinesArePassedOver) where
       (join regions (ins ++ outs) (each_passed regions h.regions) (join ins outs (each_passed ins h.ins) (each_passed outs h.outs)))
 
   marks-over : (why : Bool) (f : ModuleMarks) → IsSaid f → AreOver (mark_lines_found why f)
-  marks-over why f h = marks_pass (symbol_names (known_in f.outs).symbols) why f.marks h.names h.marks
+  marks-over why f h = each_passed (mark_lines_found why f) (h.marks why)
 
   module-over : (show : Show) (f : ModuleMarks) → IsSaid f → AreOver (lines_in show f)
   module-over All f h = join (claims_found f.outs) (mark_lines_found true f) (claims-over f h) (marks-over true f h)

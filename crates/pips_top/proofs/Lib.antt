@@ -3,7 +3,6 @@ pub mod LinkLaws
 pub mod Said
 pub mod Programs
 pub mod BlockNames
-pub mod MarkLines
 pub mod MarkNames
 pub mod AddedLines
 pub mod ReadBack

@@ -2,12 +2,12 @@
 use Rattle.std.proofs.Common.{◌≡◌, ℕ, zero, suc, Bool, true, false, List, [], ◌∷◌, Some, arith, refl, ap, sym, ◌∙◌, subst}
 use Rattle.std.specs.Prelude.{bytes_eq, slice_get, if◌then◌else◌}
 use Rattle.std.proofs.lemmas.Slice.Eq.{bytes_eq-Decides}
-use Rattle.f77_meaning.specs.Modules.{known_of}
+use Rattle.f77_meaning.specs.Modules.{known_of, symbol_names}
 use Rattle.scalar_phases.specs.Phases.{analyses}
-use Rattle.region_phases.specs.Phases.{all_regions}
+use Rattle.region_phases.specs.Phases.{ModuleRegions, all_regions}
 use Rattle.in_out_phases.specs.Phases.{all_ins}
 use Rattle.out_phases.specs.Phases.{all_outs}
-use Rattle.mark_phases.specs.Phases.{ModuleMarks, analysis_in, all_marks}
+use Rattle.mark_phases.specs.Phases.{ModuleMarks, analysis_in, known_in, all_marks}
 use Rattle.laws_analyses.specs.Laws.{AnalysesAreWhole}
 use Rattle.laws_layout.specs.Laws.{BlocksHaveAChain}
 use Rattle.laws_programs.proofs.Sources.{all_built}
@@ -16,13 +16,20 @@ use Rattle.laws_lines.specs.NameLaws.{NamesAreWords}
 use Rattle.laws_region_lines.specs.LineLaws.{RegionLinesMean, RegionLinesMeanRegions}
 use Rattle.laws_in_lines.specs.Laws.{InLinesMean, InLinesMeanRegions}
 use Rattle.laws_out_lines.specs.Laws.{OutLinesMean, OutLinesMeanRegions}
+use Rattle.laws_lines.proofs.PhaseVars.{got_each}
+use Rattle.laws_region_lines.proofs.LinesMean.{HasNames, tables_named}
+use Rattle.laws_region_lines.proofs.ProgramRegions.{ModuleFine, ModuleTold, regions_with, all_told, modules_fine}
+use Rattle.roundtrip_regions.specs.Printed.{IsPlain}
+use Rattle.roundtrip_marks.specs.Laws.{DirectivesReadBack, ObstaclesAreNoDirectives}
 use Rattle.pips_top.specs.Claimed.{AreRead}
 use Rattle.pips_top.specs.Shown.{said_for, lines_in, lines_of}
 use Rattle.pips_top.specs.Laws.{ReadLinesMean}
+use Rattle.pips_top.specs.MarksRead.{AreMarksRead}
 use Rattle.pips_top.specs.declared.words.Show.{Show}
 use Rattle.pips_top.proofs.BlockNames.{modules_plain}
 use Rattle.pips_top.proofs.Programs.{is_program, each_at}
-use Rattle.pips_top.proofs.Said.{name_of, regions_at, said_at, ins_at, outs_at, said_once}
+use Rattle.pips_top.proofs.MarkNames.{MarksNamed, found_named, marks_read}
+use Rattle.pips_top.proofs.Said.{name_of, regions_at, said_at, ins_at, outs_at, marks_are, said_once}
 
 -- no name has two
 abbrev Once : List ModuleMarks → Type 0
@@ -42,11 +49,12 @@ own_found (b ∷ all) once (suc j) a e = go (bytes_eq (name_of b) (name_of a)) r
     go false q ih = ih
 
 -- the lines of a module
-lines_read : (show : Show) (f : ModuleMarks) → LinesMeanResults (analysis_in f.outs) → RegionLinesMean f.outs.known.known → InLinesMean f.outs.known → OutLinesMean f.outs → AreRead show f (lines_in show f)
-lines_read show f on_scalars on_regions on_ins on_outs = record { parts = refl; scalars = on_scalars; regions = on_regions; ins = on_ins; outs = on_outs }
+lines_read : (show : Show) (f : ModuleMarks) → LinesMeanResults (analysis_in f.outs) → RegionLinesMean f.outs.known.known → InLinesMean f.outs.known → OutLinesMean f.outs
+    → AreMarksRead (symbol_names (known_in f.outs).symbols) f.marks → AreRead show f (lines_in show f)
+lines_read show f on_scalars on_regions on_ins on_outs on_marks = record { parts = refl; scalars = on_scalars; regions = on_regions; ins = on_ins; outs = on_outs; marks = on_marks }
 
-pub lines_from : AnalysesAreWhole → AnalysesAreReadBack → NamesAreWords → BlocksHaveAChain → RegionLinesMeanRegions → InLinesMeanRegions → OutLinesMeanRegions → ReadLinesMean
-lines_from whole back words blocks on_regions on_ins on_outs show bytes p e =
+pub lines_from : AnalysesAreWhole → AnalysesAreReadBack → NamesAreWords → BlocksHaveAChain → RegionLinesMeanRegions → InLinesMeanRegions → OutLinesMeanRegions → DirectivesReadBack → ObstaclesAreNoDirectives → ReadLinesMean
+lines_from whole back words blocks on_regions on_ins on_outs directives obstacles show bytes p e =
     let found = analyses (known_of p.modules p.tables) p.graph in
     let regions = all_regions p.graph found in
     let ins = all_ins p.graph regions in
@@ -60,9 +68,16 @@ lines_from whole back words blocks on_regions on_ins on_outs show bytes p e =
     let means = on_regions p.modules p.tables p.graph i.tables named plain in
     let in_means = on_ins p.modules p.tables p.graph i.tables named plain in
     let out_means = on_outs p.modules p.tables p.graph i.tables named plain in
-    λ j f there. subst (λ o. AreRead show f (lines_of show o)) (sym (own_found all once j f there))
-    (let out = outs_at p.graph outs j f there in
+    λ j f there_is. subst (λ o. AreRead show f (lines_of show o)) (sym (own_found all once j f there_is))
+    (let out = outs_at p.graph outs j f there_is in
     let here = ins_at p.graph ins out.0 f.outs out.1 in
     let at = said_at p.graph found here.0 f.outs.known here.1 in
-    lines_read show f (each_at LinesMeanResults found read at.0 (analysis_in f.outs) at.1) (each_at RegionLinesMean regions means here.0 f.outs.known.known (regions_at p.graph regions here.0 f.outs.known here.1))
-    (each_at InLinesMean ins in_means here.0 f.outs.known here.1) (each_at OutLinesMean outs out_means out.0 f.outs out.1))
+    let there = regions_at p.graph regions here.0 f.outs.known here.1 in
+    let u = p.graph.untracked in
+    let names = symbol_names (known_in f.outs).symbols in
+    let told = got_each (ModuleTold IsPlain u) found at.0 (analysis_in f.outs) (all_told IsPlain p.modules p.tables p.graph i.tables plain) at.1 in
+    let fine = got_each (ModuleFine IsPlain u) regions here.0 f.outs.known.known (modules_fine IsPlain p.modules p.tables p.graph i.tables plain) there in
+    let are = got_each (λ (r : ModuleRegions). HasNames r.analysis.found.known) regions here.0 f.outs.known.known (regions_with HasNames (known_of p.modules p.tables) p.graph (tables_named p.modules p.tables i.tables named)) there in
+    let marks = subst (MarksNamed IsPlain names) (sym (marks_are p.graph outs j f there_is)) (found_named IsPlain u f.outs f.effects told fine) in
+    lines_read show f (each_at LinesMeanResults found read at.0 (analysis_in f.outs) at.1) (each_at RegionLinesMean regions means here.0 f.outs.known.known there)
+    (each_at InLinesMean ins in_means here.0 f.outs.known here.1) (each_at OutLinesMean outs out_means out.0 f.outs out.1) (marks_read directives obstacles IsPlain names are f.marks marks))

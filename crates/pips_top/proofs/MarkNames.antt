@@ -1,11 +1,9 @@
--- The variables that obstacles of loops name are those of regions, so their names are of printable ASCII.
-use Rattle.std.proofs.Common.{◌≡◌, ℕ, Bool, true, false, List, [], ◌∷◌, ◌++◌, Option, Some, None, refl}
-use Rattle.std.specs.Prelude.{if◌then◌else◌, ◌||◌, is_some}
-use Rattle.std.specs.List.{AllByRecursion}
+-- The variables that marks of loops name are symbols, or those of regions.
+use Rattle.std.proofs.Common.{◌≡◌, ℕ, Bool, true, false, List, [], ◌∷◌, ◌++◌, Option, Some, None, refl, subst}
+use Rattle.std.specs.Prelude.{if◌then◌else◌}
 use Rattle.std.specs.declared.cmp.Ordering.{Ordering}
 use Rattle.std.specs.declared.cmp.Ordering.TheVariants.{Less, Equal, Greater}
 use Rattle.std.specs.Ordering.{match_ordering}
-use Rattle.affine_systems.specs.declared.row.System.{System}
 use Rattle.f77_ast.specs.Trees.{ExprTree, StmtTree, WhatTree, ArmTree, ArmTrees, ElseTree, LoopTree, StmtTrees}
 use Rattle.f77_ast.specs.Trees as tree
 use Rattle.f77_ast.specs.Shapes.{Walk, walk_stmt, walk_what, walk_body, walk_arms, walk_arm, walk_else, walk_list}
@@ -22,14 +20,11 @@ use Rattle.transformer_algebra.specs.declared.transformer.Transformer.{Transform
 use Rattle.transformers.specs.Lists.{transformer_at}
 use Rattle.scalar_phases.specs.Phases.{Analysis, scope_of}
 use Rattle.region_sets.specs.declared.region.Region.{Region}
-use Rattle.region_sets.specs.declared.marks.Kinds.{Kinds}
-use Rattle.region_sets.specs.declared.marks.Private.{Private}
-use Rattle.region_sets.specs.declared.marks.Private.TheVariants.{Yes, Name, Carried, Live}
+use Rattle.region_sets.specs.declared.marks.Reason.{Reason}
 use Rattle.region_sets.specs.declared.marks.Reason.TheVariants.{Jump, InputOutput, Step, Index, Carries}
 use Rattle.region_sets.specs.declared.marks.Mark.{Mark}
 use Rattle.region_sets.specs.declared.marks.Mark.TheVariants.{Parallel, Serial}
 use Rattle.region_sets.specs.Lists.{accesses_at, list_regions}
-use Rattle.loop_bodies.specs.declared.body.LoopBody.{LoopBody}
 use Rattle.privatizer.specs.Uses.{Uses}
 use Rattle.loop_marker.specs.declared.verdict.Verdict.{Verdict}
 use Rattle.loop_marker.specs.declared.verdict.Verdict.TheVariants.{Free, Copied, Bad}
@@ -41,14 +36,17 @@ use Rattle.out_phases.specs.Phases.{ModuleOuts}
 use Rattle.mark_phases.specs.Phases.{analysis_in, known_in, marks_found}
 use Rattle.laws_lines.specs.Laws.{IsTracked}
 use Rattle.laws_lines.proofs.PhaseVars.{value_is}
-use Rattle.laws_region_lines.proofs.AccessVars.{IsNamedBy}
+use Rattle.laws_region_lines.proofs.AccessVars.{IsNamedBy, named_number}
 use Rattle.laws_region_lines.proofs.RegionVars.{AreFine, at_fine, list_fine}
 use Rattle.laws_region_lines.proofs.ProgramRegions.{found_done, IsNamedHere, ModuleFine, ModuleTold}
 use Rattle.roundtrip_statements.specs.Formed.{Each}
 use Rattle.roundtrip_modules.proofs.Kept.{Each-append}
 use Rattle.roundtrip_programs.specs.Lines.{IsShown}
 use Rattle.roundtrip_regions.specs.Laws.{IsShownVariable}
-use Rattle.pips_top.proofs.MarkLines.{MarkShown, MarksShown}
+use Rattle.roundtrip_systems.specs.Printed.{IsNumber, AreNumbers, AreNames}
+use Rattle.roundtrip_marks.specs.Lines.{IsShownMark, AreShownMarks}
+use Rattle.roundtrip_marks.specs.Laws.{DirectivesReadBack, ObstaclesAreNoDirectives}
+use Rattle.pips_top.specs.MarksRead.{IsMarkRead, AreMarksRead}
 
 -- ---- what holds of each part that a walk puts together
 
@@ -100,127 +98,155 @@ module _ {A : Type 0} (P : A → Type 0) (f : Walk (List A)) (k : Keeps P f) whe
     kept_list tree.no_stmts = k.end
     kept_list (tree.more_stmts s rest) = k.more (walk_stmt f s) (walk_list f rest) (kept_stmt s) (kept_list rest)
 
--- ---- variables
+-- ---- what marks name
 
-abbrev AreShownOnes : List Variable → Type 0
-AreShownOnes vs = Each IsShownVariable vs
+module _ (Word : List ℕ → Type 0) (names : List (List ℕ)) where
+  abbrev N : Variable → Type 0
+  N = IsNamedBy Word names
 
-ordered_shown : (o : Ordering) (xs ys zs : List Variable) → AreShownOnes xs → AreShownOnes ys → AreShownOnes zs → AreShownOnes (match_ordering o xs ys zs)
-ordered_shown Less xs ys zs h i k = h
-ordered_shown Equal xs ys zs h i k = i
-ordered_shown Greater xs ys zs h i k = k
+  abbrev AreN : List Variable → Type 0
+  AreN vs = Each N vs
 
-merged_shown : (v : Variable) (others : List Variable → List Variable) (ws : List Variable) → IsShownVariable v → ((xs : List Variable) → AreShownOnes xs → AreShownOnes (others xs)) → AreShownOnes ws
-    → AreShownOnes (merged v others ws)
-merged_shown v others [] h f k = record { first = h; others = f [] tt }
-merged_shown v others (w ∷ ws) h f k =
-    ordered_shown (variable_cmp v w) (v ∷ others (w ∷ ws)) (v ∷ others ws) (w ∷ merged v others ws) (record { first = h; others = f (w ∷ ws) k }) (record { first = h; others = f ws k.others })
-    (record { first = k.first; others = merged_shown v others ws h f k.others })
+  -- an obstacle names a symbol or what has such a name; private variables are symbols
+  abbrev pub ReasonNamed : Reason → Type 0
+  ReasonNamed Jump = Unit {0}
+  ReasonNamed InputOutput = Unit {0}
+  ReasonNamed Step = Unit {0}
+  ReasonNamed Index = Unit {0}
+  ReasonNamed (Carries v ks p) = N v
 
-union_shown : (vs ws : List Variable) → AreShownOnes vs → AreShownOnes ws → AreShownOnes (union vs ws)
-union_shown [] ws h k = k
-union_shown (v ∷ vs) ws h k = merged_shown v (union vs) ws h.first (λ xs i. union_shown vs xs h.others i) k
+  abbrev pub MarkNamed : Mark → Type 0
+  MarkNamed (Parallel ns) = AreNumbers names ns
+  MarkNamed (Serial r) = ReasonNamed r
 
-in_order_shown : (so_far vs : List Variable) → AreShownOnes so_far → AreShownOnes vs → AreShownOnes (in_order_with so_far vs)
-in_order_shown so_far [] h k = h
-in_order_shown so_far (v ∷ vs) h k = in_order_shown (union so_far (v ∷ [])) vs (union_shown so_far (v ∷ []) h (record { first = k.first; others = tt })) k.others
+  abbrev pub MarksNamed : List (At Mark) → Type 0
+  MarksNamed ms = Each (λ (m : At Mark). MarkNamed m.value) ms
 
-own_shown : (o : Option ℕ) → AreShownOnes (own_variable o)
-own_shown None = tt
-own_shown (Some n) = record { first = tt; others = tt }
+  -- ---- variables
 
-index_shown : (names : List (List ℕ)) (l : LoopTree) → AreShownOnes (index_of names l)
-index_shown names (tree.loop index first last step body) = own_shown (number_from 1 names index)
+  ordered_named : (o : Ordering) (xs ys zs : List Variable) → AreN xs → AreN ys → AreN zs → AreN (match_ordering o xs ys zs)
+  ordered_named Less xs ys zs h i k = h
+  ordered_named Equal xs ys zs h i k = i
+  ordered_named Greater xs ys zs h i k = k
 
--- the variables of DO statements are symbols
-indexes_shown : (names : List (List ℕ)) (list : StmtTrees) → AreShownOnes (indexes_in names list)
-indexes_shown names list =
-    in_order_shown [] (walk_list (the_indexes names) list) tt
-    (kept_list IsShownVariable (the_indexes names) (record {
-      leaf = λ n label w. tt;
-      inner = λ n label test xs h. h;
-      body = λ n label l xs h. Each-append IsShownVariable (index_of names l) xs (index_shown names l) h;
-      arms = λ n label xs ys h i. Each-append IsShownVariable xs ys h i;
-      arm = λ test xs ys h i. Each-append IsShownVariable xs ys h i;
-      no_arms = tt;
-      other = λ xs h. h;
-      no_else = tt;
-      more = λ xs ys h i. Each-append IsShownVariable xs ys h i;
-      end = tt;
-    }) list)
+  merged_named : (v : Variable) (others : List Variable → List Variable) (ws : List Variable) → N v → ((xs : List Variable) → AreN xs → AreN (others xs)) → AreN ws → AreN (merged v others ws)
+  merged_named v others [] h f k = record { first = h; others = f [] tt }
+  merged_named v others (w ∷ ws) h f k =
+      ordered_named (variable_cmp v w) (v ∷ others (w ∷ ws)) (v ∷ others ws) (w ∷ merged v others ws) (record { first = h; others = f (w ∷ ws) k }) (record { first = h; others = f ws k.others })
+      (record { first = k.first; others = merged_named v others ws h f k.others })
 
-abbrev RegionsShown : List Region → Type 0
-RegionsShown rs = Each (λ (r : Region). IsShownVariable r.variable) rs
+  union_named : (vs ws : List Variable) → AreN vs → AreN ws → AreN (union vs ws)
+  union_named [] ws h k = k
+  union_named (v ∷ vs) ws h k = merged_named v (union vs) ws h.first (λ xs i. union_named vs xs h.others i) k
 
-written_shown : (rs : List Region) → RegionsShown rs → AreShownOnes (written_in rs)
-written_shown [] h = tt
-written_shown (r ∷ rs) h = go (is_write r.kind) (written_shown rs h.others)
-  where
-    go : (b : Bool) → AreShownOnes (written_in rs) → AreShownOnes (if b then r.variable ∷ written_in rs else written_in rs)
-    go true k = record { first = h.first; others = k }
-    go false k = k
+  in_order_named : (so_far vs : List Variable) → AreN so_far → AreN vs → AreN (in_order_with so_far vs)
+  in_order_named so_far [] h k = h
+  in_order_named so_far (v ∷ vs) h k = in_order_named (union so_far (v ∷ [])) vs (union_named so_far (v ∷ []) h (record { first = k.first; others = tt })) k.others
 
--- ---- marks
+  own_named : (o : Option ℕ) → ((n : ℕ) → o ≡ Some n → IsNumber names n) → AreN (own_variable o)
+  own_named None f = tt
+  own_named (Some n) f = record { first = f n refl; others = tt }
 
-verdict_shown : (v : Variable) (next copied : Mark) (t : Verdict) → IsShownVariable v → MarkShown next → MarkShown copied → MarkShown (by_verdict v next copied t)
-verdict_shown v next copied Free h i k = i
-verdict_shown v next copied Copied h i k = k
-verdict_shown v next copied (Bad ks p) h i k = h
+  index_named : (l : LoopTree) → AreN (index_of names l)
+  index_named (tree.loop index first last step body) = own_named (number_from 1 names index) (λ n e. named_number names index n e)
 
-marked_shown : (f : Variable → Verdict) (ns : List ℕ) (vs : List Variable) → AreShownOnes vs → MarkShown (marked f ns vs)
-marked_shown f ns [] h = tt
-marked_shown f ns (v ∷ vs) h = verdict_shown v (marked f ns vs) (marked f (with_own ns v) vs) (f v) h.first (marked_shown f ns vs h.others) (marked_shown f (with_own ns v) vs h.others)
-
-choice_shown : (b : Bool) (x y : Mark) → MarkShown x → MarkShown y → MarkShown (if b then x else y)
-choice_shown true x y h k = h
-choice_shown false x y h k = k
-
-module _ (k : Knowledge) (shown : (l : LoopTree) → RegionsShown (k.body l).regions) where
-  by_step_shown : (l : LoopTree) (u : Uses) (inner : List Variable) → AreShownOnes inner → MarkShown (by_step k (k.body l) u l inner)
-  by_step_shown l u inner h =
-      let b = k.body l in
-      choice_shown (has_step b) (by_index k b u l inner) (Serial Step)
-      (choice_shown (index_is_bad k b u l) (Serial Index) (by_variables k b u l inner) tt
-      (marked_shown (verdict_of k b u l inner) [] (union inner (written_in b.regions)) (union_shown inner (written_in b.regions) h (written_shown b.regions (shown l))))) tt
-
-  mark_shown : (n : ℕ) (label : Option ℕ) (l : LoopTree) → MarkShown (mark_of k n label l)
-  mark_shown n label l =
-      let step = by_step k (k.body l) (k.uses n l) l (indexes_in k.names (body_of l)) in
-      choice_shown (may_jump k.tree.body k.effects label l) (Serial Jump) (by_io k n l) tt
-      (choice_shown (may_have_io k.effects (body_of l)) (Serial InputOutput) step tt (by_step_shown l (k.uses n l) (indexes_in k.names (body_of l)) (indexes_shown k.names (body_of l))))
-
-  marks_shown : MarksShown (marks_of k)
-  marks_shown =
-      let P : At Mark → Type 0 = λ m. MarkShown m.value in
-      kept_list P (the_marks (mark_of k)) (record {
+  -- the variables of DO statements are symbols
+  indexes_named : (list : StmtTrees) → AreN (indexes_in names list)
+  indexes_named list =
+      in_order_named [] (walk_list (the_indexes names) list) tt
+      (kept_list N (the_indexes names) (record {
         leaf = λ n label w. tt;
         inner = λ n label test xs h. h;
-        body = λ n label l xs h. record { first = mark_shown n label l; others = h };
-        arms = λ n label xs ys h i. Each-append P xs ys h i;
-        arm = λ test xs ys h i. Each-append P xs ys h i;
+        body = λ n label l xs h. Each-append N (index_of names l) xs (index_named l) h;
+        arms = λ n label xs ys h i. Each-append N xs ys h i;
+        arm = λ test xs ys h i. Each-append N xs ys h i;
         no_arms = tt;
         other = λ xs h. h;
         no_else = tt;
-        more = λ xs ys h i. Each-append P xs ys h i;
+        more = λ xs ys h i. Each-append N xs ys h i;
         end = tt;
-      }) k.tree.body
+      }) list)
+
+  abbrev RegionsNamed : List Region → Type 0
+  RegionsNamed rs = Each (λ (r : Region). N r.variable) rs
+
+  written_named : (rs : List Region) → RegionsNamed rs → AreN (written_in rs)
+  written_named [] h = tt
+  written_named (r ∷ rs) h = go (is_write r.kind) (written_named rs h.others)
+    where
+      go : (b : Bool) → AreN (written_in rs) → AreN (if b then r.variable ∷ written_in rs else written_in rs)
+      go true k = record { first = h.first; others = k }
+      go false k = k
+
+  -- ---- marks
+
+  number_more : (ns : List ℕ) (n : ℕ) → AreNumbers names ns → IsNumber names n → AreNumbers names (ns ++ n ∷ [])
+  number_more [] n h k = (k, tt)
+  number_more (m ∷ ns) n h k = (h.0, number_more ns n h.1 k)
+
+  with_named : (ns : List ℕ) (v : Variable) → AreNumbers names ns → N v → AreNumbers names (with_own ns v)
+  with_named ns (Own n) h k = number_more ns n h k
+  with_named ns (Block b) h k = h
+  with_named ns (Saved s x) h k = h
+
+  verdict_named : (v : Variable) (next copied : Mark) (t : Verdict) → N v → MarkNamed next → MarkNamed copied → MarkNamed (by_verdict v next copied t)
+  verdict_named v next copied Free h i k = i
+  verdict_named v next copied Copied h i k = k
+  verdict_named v next copied (Bad ks p) h i k = h
+
+  marked_named : (f : Variable → Verdict) (ns : List ℕ) (vs : List Variable) → AreNumbers names ns → AreN vs → MarkNamed (marked f ns vs)
+  marked_named f ns [] h k = h
+  marked_named f ns (v ∷ vs) h k =
+      verdict_named v (marked f ns vs) (marked f (with_own ns v) vs) (f v) k.first (marked_named f ns vs h k.others) (marked_named f (with_own ns v) vs (with_named ns v h k.first) k.others)
+
+  choice_named : (b : Bool) (x y : Mark) → MarkNamed x → MarkNamed y → MarkNamed (if b then x else y)
+  choice_named true x y h k = h
+  choice_named false x y h k = k
+
+  module _ (k : Knowledge) (own : names ≡ k.names) (told : (l : LoopTree) → RegionsNamed (k.body l).regions) where
+    by_step_named : (l : LoopTree) (u : Uses) (inner : List Variable) → AreN inner → MarkNamed (by_step k (k.body l) u l inner)
+    by_step_named l u inner h =
+        let b = k.body l in
+        choice_named (has_step b) (by_index k b u l inner) (Serial Step)
+        (choice_named (index_is_bad k b u l) (Serial Index) (by_variables k b u l inner) tt
+        (marked_named (verdict_of k b u l inner) [] (union inner (written_in b.regions)) tt (union_named inner (written_in b.regions) h (written_named b.regions (told l))))) tt
+
+    inner_named : (list : StmtTrees) → AreN (indexes_in k.names list)
+    inner_named list = subst (λ (ns : List (List ℕ)). AreN (indexes_in ns list)) own (indexes_named list)
+
+    mark_named : (n : ℕ) (label : Option ℕ) (l : LoopTree) → MarkNamed (mark_of k n label l)
+    mark_named n label l =
+        let step = by_step k (k.body l) (k.uses n l) l (indexes_in k.names (body_of l)) in
+        choice_named (may_jump k.tree.body k.effects label l) (Serial Jump) (by_io k n l) tt
+        (choice_named (may_have_io k.effects (body_of l)) (Serial InputOutput) step tt (by_step_named l (k.uses n l) (indexes_in k.names (body_of l)) (inner_named (body_of l))))
+
+    marks_named : MarksNamed (marks_of k)
+    marks_named =
+        let P : At Mark → Type 0 = λ m. MarkNamed m.value in
+        kept_list P (the_marks (mark_of k)) (record {
+          leaf = λ n label w. tt;
+          inner = λ n label test xs h. h;
+          body = λ n label l xs h. record { first = mark_named n label l; others = h };
+          arms = λ n label xs ys h i. Each-append P xs ys h i;
+          arm = λ test xs ys h i. Each-append P xs ys h i;
+          no_arms = tt;
+          other = λ xs h. h;
+          no_else = tt;
+          more = λ xs ys h i. Each-append P xs ys h i;
+          end = tt;
+        }) k.tree.body
 
 -- ---- modules
 
-shown_variable : (names : List (List ℕ)) (v : Variable) → IsNamedBy IsShown names v → IsShownVariable v
-shown_variable names (Own n) h = tt
-shown_variable names (Block b) h = h
-shown_variable names (Saved s x) h = h
-
-fine_shown : (names : List (List ℕ)) (ok : ℕ → Type 0) (rs : List Region) → AreFine (IsNamedBy IsShown names) ok rs → RegionsShown rs
-fine_shown names ok [] h = tt
-fine_shown names ok (r ∷ rs) h = record { first = shown_variable names r.variable h.0.0; others = fine_shown names ok rs h.1 }
+fine_named : (Word : List ℕ → Type 0) (names : List (List ℕ)) (ok : ℕ → Type 0) (rs : List Region) → AreFine (IsNamedBy Word names) ok rs → RegionsNamed Word names rs
+fine_named Word names ok [] h = tt
+fine_named Word names ok (r ∷ rs) h = record { first = h.0.0; others = fine_named Word names ok rs h.1 }
 
 -- the marks of a module with such regions, whatever its effects
-pub found_shown : (untracked : List BlockUnit) (f : ModuleOuts) (e : Results EffectSet) → ModuleTold IsShown untracked (analysis_in f) → ModuleFine IsShown untracked f.known.known
-    → MarksShown (marks_found untracked f e)
-found_shown untracked f e told fine =
-    marks_shown (knowledge_of k.read k.symbols (symbol_names k.symbols) (scope_of untracked k) e.at a.found.own.at a.holds.at f.known.known.regions.at f.known.ins.at f.outs.at) body_shown
+pub found_named : (Word : List ℕ → Type 0) (untracked : List BlockUnit) (f : ModuleOuts) (e : Results EffectSet) → ModuleTold Word untracked (analysis_in f) → ModuleFine Word untracked f.known.known
+    → MarksNamed Word (symbol_names (known_in f).symbols) (marks_found untracked f e)
+found_named Word untracked f e told fine =
+    marks_named Word names (knowledge_of k.read k.symbols names (scope_of untracked k) e.at a.found.own.at a.holds.at f.known.known.regions.at f.known.ins.at f.outs.at) refl body_named
   where
     a : Analysis
     a = analysis_in f
@@ -228,11 +254,14 @@ found_shown untracked f e told fine =
     k : Known
     k = known_in f
 
+    names : List (List ℕ)
+    names = symbol_names k.symbols
+
     ok : ℕ → Type 0
     ok = IsTracked untracked k
 
-    N : Variable → Type 0
-    N = IsNamedHere IsShown k
+    M : Variable → Type 0
+    M = IsNamedHere Word k
 
     t : ℕ → Transformer
     t = transformer_at a.found.own.at
@@ -240,7 +269,35 @@ found_shown untracked f e told fine =
     rs : ℕ → List Region
     rs = accesses_at f.known.known.regions.at
 
-    body_shown : (l : LoopTree) → RegionsShown ((knowledge_of k.read k.symbols (symbol_names k.symbols) (scope_of untracked k) e.at a.found.own.at a.holds.at f.known.known.regions.at f.known.ins.at f.outs.at).body l).regions
-    body_shown (tree.loop index first last step body) =
-        fine_shown (symbol_names k.symbols) ok (list_regions t rs false body)
-        (list_fine N ok t rs (found_done ok a.found.own.at told.ok.found.at) (at_fine N ok f.known.known.regions.at (λ n qs q. value_is (AreFine N ok) f.known.known.regions.at n qs fine.at q)) false body)
+    body_named : (l : LoopTree) → RegionsNamed Word names ((knowledge_of k.read k.symbols names (scope_of untracked k) e.at a.found.own.at a.holds.at f.known.known.regions.at f.known.ins.at f.outs.at).body l).regions
+    body_named (tree.loop index first last step body) =
+        fine_named Word names ok (list_regions t rs false body)
+        (list_fine M ok t rs (found_done ok a.found.own.at told.ok.found.at) (at_fine M ok f.known.known.regions.at (λ n qs q. value_is (AreFine M ok) f.known.known.regions.at n qs fine.at q)) false body)
+
+-- ---- as laws on their lines ask
+
+shown_variable : (names : List (List ℕ)) (v : Variable) → IsNamedBy IsShown names v → IsShownVariable v
+shown_variable names (Own n) h = tt
+shown_variable names (Block b) h = h
+shown_variable names (Saved s x) h = h
+
+shown_mark : (names : List (List ℕ)) (m : Mark) → MarkNamed IsShown names m → IsShownMark m
+shown_mark names (Parallel ns) h = tt
+shown_mark names (Serial Jump) h = tt
+shown_mark names (Serial InputOutput) h = tt
+shown_mark names (Serial Step) h = tt
+shown_mark names (Serial Index) h = tt
+shown_mark names (Serial (Carries v ks p)) h = shown_variable names v h
+
+pub all_shown : (names : List (List ℕ)) (ms : List (At Mark)) → MarksNamed IsShown names ms → AreShownMarks ms
+all_shown names [] h = tt
+all_shown names (m ∷ ms) h = (shown_mark names m.value h.first, all_shown names ms h.others)
+
+-- so they are read as just these marks
+mark_read : DirectivesReadBack → ObstaclesAreNoDirectives → (Word : List ℕ → Type 0) (names : List (List ℕ)) → AreNames names → (m : Mark) → MarkNamed Word names m → IsMarkRead names m
+mark_read directives obstacles Word names are (Parallel ns) h = directives names ns are h
+mark_read directives obstacles Word names are (Serial r) h = obstacles names r
+
+pub marks_read : DirectivesReadBack → ObstaclesAreNoDirectives → (Word : List ℕ → Type 0) (names : List (List ℕ)) → AreNames names → (ms : List (At Mark)) → MarksNamed Word names ms → AreMarksRead names ms
+marks_read directives obstacles Word names are [] h = tt
+marks_read directives obstacles Word names are (m ∷ ms) h = (mark_read directives obstacles Word names are m.value h.first, marks_read directives obstacles Word names are ms h.others)

@@ -12,6 +12,7 @@ use Rattle.laws_programs.proofs.Sources.{all_built}
 use Rattle.laws_region_lines.specs.LineLaws.{AllRegionLinesPass}
 use Rattle.laws_in_lines.specs.Laws.{AllInLinesPass}
 use Rattle.laws_out_lines.specs.Laws.{AllOutLinesPass}
+use Rattle.roundtrip_marks.specs.Laws.{MarkLinesArePassedOver}
 use Rattle.laws_layout.specs.Laws.{BlocksHaveAChain}
 use Rattle.roundtrip_text.specs.Texts as back
 use Rattle.roundtrip_programs.specs.Lines.{LinesArePassedOver}
@@ -68,13 +69,13 @@ unfolding reading
 reading_is text ms ts g is =
     ap (λ r. and_then (and_then (lines_or r) parse_of) program_of) is.read.lined ∙ ap (λ r. and_then r program_of) is.read.parsed ∙ program_is ms ts g is.tabled is.linked
 
-pub back_from : ProgramsReadBack → LinesArePassedOver → AllRegionLinesPass → AllInLinesPass → AllOutLinesPass → NamesAreShown → BlocksHaveAChain → ReadWrittenBack
-back_from programs lines on_regions on_ins on_outs names blocks show bytes p e =
+pub back_from : ProgramsReadBack → LinesArePassedOver → AllRegionLinesPass → AllInLinesPass → AllOutLinesPass → MarkLinesArePassedOver → NamesAreShown → BlocksHaveAChain → ReadWrittenBack
+back_from programs lines on_regions on_ins on_outs on_marks names blocks show bytes p e =
     let is = is_read bytes p e in
     let i = is_program bytes p e in
     let shown = modules_shown names blocks p.modules p.tables (all_built i.lines p.modules i.parsed) i.tables in
     let all = said_of p in
-    let b = programs bytes p.modules p.tables p.graph (λ m. lines_for show all m.module_read.name) is (all_over lines show all (all_said on_regions on_ins on_outs p i.tables shown) p.modules) in
+    let b = programs bytes p.modules p.tables p.graph (λ m. lines_for show all m.module_read.name) is (all_over lines show all (all_said on_regions on_ins on_outs on_marks p i.tables shown) p.modules) in
     let q : ProgramTree = record { modules = b.again; tables = p.tables; graph = p.graph } in (
       q,
       ap reading (text_same show all p.modules) ∙ reading_is (back.modules_text (λ m. lines_for show all m.module_read.name) p.modules) b.again p.tables p.graph b.program,

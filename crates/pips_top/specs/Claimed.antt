@@ -17,6 +17,7 @@ use Rattle.laws_in_regions.specs.Accepted.{AllInsHold}
 use Rattle.laws_out_regions.specs.Accepted.{AllOutsHold}
 use Rattle.laws_region_lines.specs.Laws.{SetsAreOver, RegionsAreOver}
 use Rattle.laws_region_lines.specs.Lines.{AreRegionLines}
+use Rattle.pips_top.specs.MarksRead.{AreMarksRead}
 use Rattle.pips_top.specs.Program.{ProgramTree}
 use Rattle.pips_top.specs.Shown.{said_of, scalar_lines_found, region_lines_found, lines_in, lines_for}
 use Rattle.pips_top.specs.declared.words.Show.{Show}
@@ -41,13 +42,14 @@ ClaimsHold p = AllHold (known_of p.modules p.tables) p.graph (analyses (known_of
 abbrev pub SaysAll : ProgramTree → Type 0
 SaysAll p = AreWhole (known_of p.modules p.tables) (analyses (known_of p.modules p.tables) p.graph)
 
--- lines are those of a module; each claim is read, by the names of the symbols, as just what was found there: a precondition, a transformer or, where no symbol is named PHI1 to PHI7, a region
+-- lines are those of a module; each claim is read, by the names of the symbols, as just what was found there: a precondition, a transformer or, where no symbol is named PHI1 to PHI7, a region; each directive as the names of its private variables
 pub record AreRead (show : Show) (f : ModuleMarks) (lines : List Added) : Type 0 where
   pub parts : lines ≡ lines_in show f
   pub scalars : EachMeans (analysis_in f.outs) (scalar_lines_found (analysis_in f.outs))
   pub regions : AreRegionLines (symbol_names (known_in f.outs).symbols) f.outs.known.known.regions (region_lines_found (known_in f.outs) f.outs.known.known.regions)
   pub ins : AreRegionLines (symbol_names (known_in f.outs).symbols) f.outs.known.ins (region_lines_found (known_in f.outs) f.outs.known.ins)
   pub outs : AreRegionLines (symbol_names (known_in f.outs).symbols) f.outs.outs (region_lines_found (known_in f.outs) f.outs.outs)
+  pub marks : AreMarksRead (symbol_names (known_in f.outs).symbols) f.marks
 
 -- and each line that is added to a module is one of these
 abbrev pub LinesMean : Show → ProgramTree → Type 0

@@ -1,6 +1,7 @@
 pub mod Program
 pub mod Reading
 pub mod Shown
+pub mod MarksRead
 pub mod Claimed
 pub mod Laws
 pub mod Written

@@ -12,6 +12,9 @@ use laws_region_lines::{
     all_region_lines_pass, region_lines_mean_regions, regions_are_over_places,
 };
 use laws_regions::read_regions_hold;
+use roundtrip_marks::{
+    directives_read_back, mark_lines_are_passed_over, obstacles_are_no_directives,
+};
 use roundtrip_programs::{lines_are_passed_over, names_are_shown, programs_read_back};
 
 /// What is said of a program that was read holds in every run of it, up to its end or its first fault, on OUT regions in each that no fault ends: on scalars, and
@@ -35,7 +38,7 @@ pub fn all_is_said()
     analyses_are_whole();
 }
 
-/// Each line that is added to the text of a program that was read is read as what was found there.
+/// Each claim, and each directive, that is added to the text of a program that was read is read as what was found there.
 pub fn lines_mean_results()
     ensures { ReadLinesMean }
 {
@@ -46,6 +49,8 @@ pub fn lines_mean_results()
     region_lines_mean_regions();
     in_lines_mean_regions();
     out_lines_mean_regions();
+    directives_read_back();
+    obstacles_are_no_directives();
 }
 
 /// What is written of a program that was read is read again as the same program.
@@ -57,6 +62,7 @@ pub fn written_reads_back()
     all_region_lines_pass();
     all_in_lines_pass();
     all_out_lines_pass();
+    mark_lines_are_passed_over();
     names_are_shown();
     blocks_have_a_chain();
 }

@@ -1,0 +1,17 @@
+-- What the lines of marks are read as.
+use Rattle.std.specs.Prelude.{◌≡◌, ℕ, false, List, map, Some}
+use Rattle.std.specs.List.{AllByRecursion}
+use Rattle.f77_results.specs.declared.results.At.{At}
+use Rattle.system_text.specs.SystemText.{name_at}
+use Rattle.region_sets.specs.declared.marks.Mark.{Mark}
+use Rattle.region_sets.specs.declared.marks.Mark.TheVariants.{Parallel, Serial}
+use Rattle.mark_lines.specs.MarkText.{obstacle_line, directive_text, directive_lines}
+use Rattle.roundtrip_marks.specs.Directives.{is_sentinel, read_lines}
+
+-- the lines of a directive as the names of its private variables; that of an obstacle is no line for compilers
+abbrev pub IsMarkRead : List (List ℕ) → Mark → Type 0
+IsMarkRead names (Parallel ns) = read_lines (directive_lines (directive_text names ns)) ≡ Some (map (name_at names) ns)
+IsMarkRead names (Serial r) = is_sentinel (obstacle_line names r) ≡ false
+
+abbrev pub AreMarksRead : List (List ℕ) → List (At Mark) → Type 0
+AreMarksRead names ms = AllByRecursion (λ (m : At Mark). IsMarkRead names m.value) ms
