@@ -117,7 +117,7 @@ module _ (m : Marked) (s : Store) (normal : (whole_loop m s).answer ≡ Gave Nor
   abbrev next_number : ℕ → Content
   next_number i = content Int (number_in m.first m.step (suc i))
 
-  trace_splits : (i k : ℕ) → i + suc k ≡ m.count → trace_from (suc k) i ≡ own_trace i ++ Wrote m.index (next_number i) ∷ trace_from k (suc i)
+  pub trace_splits : (i k : ℕ) → i + suc k ≡ m.count → trace_from (suc k) i ≡ own_trace i ++ Wrote m.index (next_number i) ∷ trace_from k (suc i)
   trace_splits i k e = one_trace m k (number_in m.first m.step i) (begun m s i) (iterations_left m s normal i (suc k) e).0
 
   pub record LoopReads (known : ℕ → Bool) (i : ℕ) (rest : List Event) : Type 0 where
@@ -140,7 +140,7 @@ module _ (m : Marked) (s : Store) (normal : (whole_loop m s).answer ≡ Gave Nor
         later = ih.later;
       }
 
-  some_false : (n x : ℕ) → some_wrote m s n x ≡ false → (j : ℕ) → j < n → writes x (own_trace j) ≡ false
+  pub some_false : (n x : ℕ) → some_wrote m s n x ≡ false → (j : ℕ) → j < n → writes x (own_trace j) ≡ false
   some_false zero x e j lt = absurd (omega arith)
   some_false (suc n) x e j lt =
       let q = or_false (some_wrote m s n x) (writes x (own_trace n)) e in

@@ -38,18 +38,18 @@ shared_after p (Show xs t) known s z own same x px = shared_after p t known s z 
 shared_after p (Take k) known s z own same x px = absurd own
 shared_after p (Arrive a t) known s z own same x px = shared_after p t known s z own same x px
 
-abbrev IsNormal : Flow → Type 0
+abbrev pub IsNormal : Flow → Type 0
 IsNormal Normal = Unit {0}
 IsNormal (Jump l) = ⊥
 IsNormal Returned = ⊥
 IsNormal Stopped = ⊥
 
-abbrev IsNormalAnswer : Answer Flow → Type 0
+abbrev pub IsNormalAnswer : Answer Flow → Type 0
 IsNormalAnswer (Gave f) = IsNormal f
 IsNormalAnswer (Broke b) = ⊥
 
 -- a number that is kept is the number
-kept_same : (n z : ℤ) → kept n ≡ Some z → n ≡ z
+pub kept_same : (n z : ℤ) → kept n ≡ Some z → n ≡ z
 kept_same n z = go (in_range n)
   where
     go : (b : Bool) → (if b then Some n else None) ≡ Some z → n ≡ z

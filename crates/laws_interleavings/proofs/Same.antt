@@ -70,11 +70,11 @@ printed_append (Wrote u c ∷ a) b = printed_append a b
 printed_append (Printed xs ∷ a) b = ap (λ l. xs ∷ l) (printed_append a b)
 printed_append (Took o ∷ a) b = printed_append a b
 
-abbrev with_input : {A : Type 0} → List Content → Ran A → Ran A
+abbrev pub with_input : {A : Type 0} → List Content → Ran A → Ran A
 with_input i r = record { answer = r.answer; memory = r.memory; input = i; trace = r.trace }
 
 -- a run that takes no input is the same with any
-free_run : {A : Type 0} (t : Steps A) (s : Store) (i : List Content) → NoTake (run t (Whole s) []).trace → run t (Whole s) i ≡ with_input i (run t (Whole s) [])
+pub free_run : {A : Type 0} (t : Steps A) (s : Store) (i : List Content) → NoTake (run t (Whole s) []).trace → run t (Whole s) i ≡ with_input i (run t (Whole s) [])
 free_run (Done a) s i h = refl
 free_run (Breaks b) s i h = refl
 free_run (Look u k) s i h = ap (after_event (Read u (s u))) (free_run (k (s u)) s i h)

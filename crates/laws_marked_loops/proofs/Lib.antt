@@ -1,0 +1,5 @@
+pub mod Begun
+pub mod Shared
+pub mod Ending
+pub mod Begins
+pub mod Fits

@@ -1,0 +1,2 @@
+pub mod Inactive
+pub mod Laws
