@@ -121,7 +121,7 @@ module _ (ps : List ParsedTree) (sss : List (List SymbolTree)) (g : Graph) (l : 
   abbrev of : List ℕ → Part
   of = part_named (known_of ps sss) g (callees_of_all (known_of ps sss) g) (analysed_entry (known_of ps sss) g)
 
-  found_regions : (a : Analysis) → Located ps sss g l (analyses (known_of ps sss) g) a → (c : Summaries) → regions_found g.untracked c a ≡ regions_in_part g (callees_of_all (known_of ps sss) g) c (part a.found.known)
+  pub found_regions : (a : Analysis) → Located ps sss g l (analyses (known_of ps sss) g) a → (c : Summaries) → regions_found g.untracked c a ≡ regions_in_part g (callees_of_all (known_of ps sss) g) c (part a.found.known)
   found_regions a r c = ap (λ (t : Results Transformer). regions_with a.found.known.read.body (scope_of g.untracked a.found.known) g.untracked t.at c) r.good.own
 
   -- what holds at its statements
@@ -131,7 +131,7 @@ module _ (ps : List ParsedTree) (sss : List (List SymbolTree)) (g : Graph) (l : 
       subst (λ (k : Known). a.holds ≡ preconditions_of k.read.body (scope_in g k) (found_in k.read.body (scope_in g k) (callees_of_all (known_of ps sss) g)) (analysed_entry (known_of ps sss) g k)) m.same
       (holds_are ps sss g l r.good.at m.parsed m.table m.is_module (numbered r.good.at m.parsed m.table m.is_module) a r (sym m.same))
 
-  each_back : {T : Type 0} (P : T → Type 0) (xs ys : List T) → Each P (xs ++ ys) → Each P ys
+  pub each_back : {T : Type 0} (P : T → Type 0) (xs ys : List T) → Each P (xs ++ ys) → Each P ys
   each_back P [] ys h = h
   each_back P (x ∷ xs) ys h = each_back P xs ys h.1
 

@@ -97,7 +97,7 @@ none_zero (n ∷ ns) h =
     let other : nat_eq n 0 ≡ false = ne_eqb n 0 (λ q. absurd (omega (arith, l, q))) in
     ap (λ b. b || has ns 0) other ∙ none_zero ns (λ i m e. h (suc i) m e)
 
-numbered_above : (body : StmtTrees) → IsNumbered body → has (list_numbers body) 0 ≡ false
+pub numbered_above : (body : StmtTrees) → IsNumbered body → has (list_numbers body) 0 ≡ false
 numbered_above body h = none_zero (list_numbers body) (λ i n e. (let q = h i n e in omega (arith, q)))
 
 -- a unit that is in no dummy is not reached twice
@@ -175,15 +175,15 @@ module _ (ks : List Known) (g : Graph) (b : Blocks) (cs : Callees) (sites : List
       calls_go : base.CallsGo ks g b cs sites rs of turns k sane first.goes.regular first.goes.enters first.goes.joins below analysed named callee free ps began at bound
       calls_go = ins.calls_go_so ks g b cs sites rs is of may_name turns k sane below analysed named first callee free fine fine_in ps began at bound
 
-      is_sound : Sound (setting ks g (called_in g cs (rs k.routine.name) k) b cs k sane first.goes.regular turns callee ps at)
+      pub is_sound : Sound (setting ks g (called_in g cs (rs k.routine.name) k) b cs k sane first.goes.regular turns callee ps at)
       is_sound = base.sound ks g b cs sites rs of turns k sane first.goes.regular first.goes.enters first.goes.joins below analysed named callee free ps began at bound
 
-      stands : StandsList C0 D0 started (Fits b k ps at) I acc firsts k.routine.body true
+      pub stands : StandsList C0 D0 started (Fits b k ps at) I acc firsts k.routine.body true
       stands =
           ins.stands ks g b cs sites rs is of may_name turns k sane first.goes.regular first.goes.enters first.goes.joins first.ready below analysed named callee free ps began at bound calls_go
           (ins.calls_first_so ks g b cs sites rs is of may_name turns k sane below analysed named first callee free fine fine_in ps began at bound) first.fits
 
-      sets : SetsFit started acc
+      pub sets : SetsFit started acc
       sets =
           ins.sets ks g b cs sites rs is of may_name turns k sane first.goes.regular first.goes.enters first.goes.joins first.ready below analysed named callee free ps began at bound calls_go
           (ins.calls_first_so ks g b cs sites rs is of may_name turns k sane below analysed named first callee free fine fine_in ps began at bound) first.fits
@@ -191,16 +191,16 @@ module _ (ks : List Known) (g : Graph) (b : Blocks) (cs : Callees) (sites : List
       narrow : (ss : StmtTrees) → AreNarrow started (list_regions started.does (accesses_at acc) false ss)
       narrow ss = bodies_narrow started first.ready.done k.routine.body first.fits ss
 
-      fit_base : (locked : Locks) (still : ℕ → Bool) → Fits b k ps at locked still → Fit started.sc.names started.scalar started.at (scene started.base) locked still
+      pub fit_base : (locked : Locks) (still : ℕ → Bool) → Fits b k ps at locked still → Fit started.sc.names started.scalar started.at (scene started.base) locked still
       fit_base l st f = f.base
 
-      fit_more : (locked : Locks) (still : ℕ → Bool) (x : List ℕ) (v : ℕ) → started.sc.names x ≡ Variable v → started.scalar x ≡ true → Fits b k ps at locked still → Fits b k ps at (lock locked (started.at v).first Locked) (also still (started.at v).first)
+      pub fit_more : (locked : Locks) (still : ℕ → Bool) (x : List ℕ) (v : ℕ) → started.sc.names x ≡ Variable v → started.scalar x ≡ true → Fits b k ps at locked still → Fits b k ps at (lock locked (started.at v).first Locked) (also still (started.at v).first)
       fit_more l st x v n sx f = more_fits b k ps at l st x v n sx f
 
       -- ---- the units of its locals
 
       module _ (locked0 : Locks) (ent : Entered k ps locked0) (offers : OffersLocked ks g k ps locked0) where
-        begun_units : UnitsFit started (lock_doubly locked0 k.routine.dummies at k.routine.common)
+        pub begun_units : UnitsFit started (lock_doubly locked0 k.routine.dummies at k.routine.common)
         begun_units = units_fit ks g b k sane first.goes.regular first.goes.joins (may_name k) first.ready.laid ps locked0 ent offers at bound.made began bound (called_in g cs (rs k.routine.name) k) cs turns callee is_sound
 
         -- a unit that the module owns is not locked
@@ -224,7 +224,7 @@ module _ (ks : List Known) (g : Graph) (b : Blocks) (cs : Callees) (sites : List
             let there : (k.routine.fixed n).first + r.offset ≡ u = ap (λ (q : Place). q.first + r.offset) (sym fixed) ∙ r.is_there in
             subst (λ v. k.owns v ≡ true) there (first.ready.laid.lost ((k.routine.fixed n).first + r.offset) (first.goes.enters.lost n s r.offset e local unsaved less))
 
-        sole : AllSole started
+        pub sole : AllSole started
         sole n s e local unsaved phi u p =
             let free = owned_free u (owned n s e local unsaved phi u (element_of started (Own n) phi u p)) in
             record { own = begun_units.no_actual (Own n) phi u p free; others = λ w psi q. ⊎_elim (λ same. inl (sym same)) (λ over. inr over) (begun_units.apart (Own n) w phi psi u p q free) }
@@ -347,10 +347,10 @@ module _ (ks : List Known) (g : Graph) (b : Blocks) (cs : Callees) (sites : List
   -- ---- the main program
 
   module _ (main : Part) (parts : List Part) (z : Store) (pl : AnalysedProgram b cs sites of main parts z) (rm : ins.PartFirst ks g b cs sites rs is of may_name turns parts main pl.sane) (re : ins.PartsFirst ks g b cs sites rs is of may_name turns parts pl.parts_analysed) where
-    none_bound : (u : ℕ) → in_bound main.routine.dummies [] u ≡ true → ⊥
+    pub none_bound : (u : ℕ) → in_bound main.routine.dummies [] u ≡ true → ⊥
     none_bound u h = true≢false (sym (sym (ap (λ ds. in_bound ds [] u) pl.no_dummies) ∙ h))
 
-    begins : Entered main [] no_locks
+    pub begins : Entered main [] no_locks
     begins = record {
       locks = λ u l. absurd (true≢false (sym l));
       places = λ u h. absurd (none_bound u h);
@@ -360,7 +360,7 @@ module _ (ks : List Known) (g : Graph) (b : Blocks) (cs : Callees) (sites : List
         nothing : (i : ℕ) (d : Dummy) → slice_get [] i ≡ Some d → ⊥
         nothing i d e = cc
 
-    fixed_places : dummy_places main [] ≡ main.routine.fixed
+    pub fixed_places : dummy_places main [] ≡ main.routine.fixed
     fixed_places = ap (λ ds. scalars_bound ds [] main.routine.fixed) pl.no_dummies
 
     program_reached : (input : List Content) → AtEachExecution C (program_plan (record { main = main.routine; others = routines parts; initial = z }) turns) z input

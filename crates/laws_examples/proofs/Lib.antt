@@ -1,3 +1,4 @@
 mod Reading
 mod Runs
 mod Claiming
+mod Schedules

@@ -84,7 +84,7 @@ plain_first (steps.Take k) f = λ i. plan.Take (λ o. plain_first (k o) f i)
 plain_first (steps.Arrive p t) f = plain_first t f
 
 -- steps, and then plans that are those
-first_same : {A : Type 0} (t : Steps A) (f : A → MarkedPlan) (g : A → Plan) → ((a : A) → plain (f a) ≡ g a) → plain (steps_first t f) ≡ first t g
+pub first_same : {A : Type 0} (t : Steps A) (f : A → MarkedPlan) (g : A → Plan) → ((a : A) → plain (f a) ≡ g a) → plain (steps_first t f) ≡ first t g
 first_same t f g h = plain_first t f ∙ (λ i. first t (λ a. h a i))
 
 then_same : (t : MarkedPlan) (s : Plan) (f : Flow → MarkedPlan) (g : Flow → Plan) → plain t ≡ s → ((h : Flow) → plain (f h) ≡ g h) → plain (t ▹▹ f) ≡ (s ▹ g)
@@ -152,7 +152,7 @@ begins : (o : Option Fault) (u : ℕ) (c : Content) (t : MarkedPlan) (s : Plan) 
 begins None u c t s e = ap (plan.Set u c) e
 begins (Some f) u c t s e = refl
 
-begins_marked : (o : Option Fault) (m : Marked) → plain (begun_if o m) ≡ first (written o m.index (content Int m.first)) (λ x. loop_of m)
+pub begins_marked : (o : Option Fault) (m : Marked) → plain (begun_if o m) ≡ first (written o m.index (content Int m.first)) (λ x. loop_of m)
 begins_marked None m = ap (plan.Set m.index (content Int m.first)) (ends_again (loop_of m))
 begins_marked (Some f) m = refl
 

@@ -113,7 +113,7 @@ module _ (ks : List Known) (g : Graph) (k : ScopeTree) (at : Places) (d : KnownL
   none kinds a b c u less lt la pu w first second which =
       ⊎_elim
       (λ free. h.known.apart r.variable kinds (free kinds) b c (iteration_at m s b) (iteration_at m s c) less (begun_so b (omega (arith, less, lt))) (begun_so c lt) u (record { earlier = first; later = second; written = which r there }))
-      (λ own. true≢false (sym (own u (record { phi = lies.lies.phi; there = lies.lies.there })) ∙ pu))
+      (λ own. true≢false (sym (own u (record { phi = lies.lies.phi; there = lies.lies.there }) a la w) ∙ pu))
       (h.verdicts r lies.is_one lies.kind)
     where
       lies : LiesInSet (scene_in k at) (elements_with ks g k.symbols at) Write d.body.regions (numbers_of (begun m s a)) u

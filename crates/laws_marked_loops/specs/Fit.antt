@@ -39,9 +39,9 @@ pub record IsUnitOf (ks : List Known) (g : Graph) (k : ScopeTree) (at : Places) 
 abbrev pub IsFree : ScopeTree → KnownLoop → Variable → Type 0
 IsFree k d v = (kinds : Kinds) → conflict_of (kept_system k.symbols d.body v kinds) ≡ answer.None
 
--- each iteration has its units for itself
-abbrev pub HasPrivateUnits : List Known → Graph → ScopeTree → Places → Marked → Variable → Type 0
-HasPrivateUnits ks g k at m v = (u : ℕ) → IsUnitOf ks g k at v u → m.private u ≡ true
+-- of a loop that is begun with the store s: each unit of it that an iteration writes each iteration has for itself
+abbrev pub HasPrivateUnits : List Known → Graph → ScopeTree → Places → Marked → Store → Variable → Type 0
+HasPrivateUnits ks g k at m s v = (u : ℕ) → IsUnitOf ks g k at v u → (j : ℕ) → j < m.count → is_written u (did_in m s j) ≡ true → m.private u ≡ true
 
 -- a unit of a variable of which each iteration may have its own copy, and which no other variable overlaps
 pub record IsCopied (ks : List Known) (g : Graph) (k : ScopeTree) (at : Places) (d : KnownLoop) (u : ℕ) : Type 0 where
@@ -60,8 +60,8 @@ pub record LoopIsFit (ks : List Known) (g : Graph) (k : ScopeTree) (at : Places)
   pub ends : EndsQuietly m s
   -- its iterations are as claimed
   pub known : LoopIs ks g k at d s (iterations_of m s i)
-  -- each variable of a WRITE region of the body has no conflict, or its units are private
-  pub verdicts : (r : Region) → In r d.body.regions → r.kind ≡ Write → IsFree k d r.variable ⊎ HasPrivateUnits ks g k at m r.variable
+  -- each variable of a WRITE region of the body has no conflict, or what is written of it is private
+  pub verdicts : (r : Region) → In r d.body.regions → r.kind ≡ Write → IsFree k d r.variable ⊎ HasPrivateUnits ks g k at m s r.variable
   -- the names of the directive are of variables that may be copied
   pub names : (u : ℕ) → m.named u ≡ true → nat_eq u m.index ≡ false → IsCopied ks g k at d u
   -- the body reads no unit without a value but to fault, and changes without an event only private units that belong to no name

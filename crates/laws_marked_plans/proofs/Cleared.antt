@@ -31,10 +31,10 @@ use Rattle.laws_marked_plans.proofs.Fine.{Yields, yields_then, yields_any, Any, 
 
 module _ (u : ℕ) where
   -- another unit
-  abbrev other : ℕ → Bool
+  abbrev pub other : ℕ → Bool
   other x = not (nat_eq x u)
 
-  is_other : (x : ℕ) → nat_eq x u ≡ false → other x ≡ true
+  pub is_other : (x : ℕ) → nat_eq x u ≡ false → other x ≡ true
   is_other x e = ap not e
 
   apart : (x : ℕ) → other x ≡ true → u ≡ x → ⊥
@@ -47,11 +47,11 @@ module _ (u : ℕ) where
       go true h q = true≢false (sym h)
       go false h q = true≢false (sym q)
 
-  put_off : (s : Store) (x : ℕ) (c : Content) → other x ≡ true → HasNoValue s u → HasNoValue (put s x c) u
+  pub put_off : (s : Store) (x : ℕ) (c : Content) → other x ≡ true → HasNoValue s u → HasNoValue (put s x c) u
   put_off s x c h n = ap (λ (d : Content). d.tag) (put_other s x c u (apart x h)) ∙ n
 
   -- steps that touch other units alone
-  keeps : {A : Type 0} (P : A → Type 0) (t : Steps A) → AreFine other other t → Yields P t → (s : Store) (i : List Content) → HasNoValue s u → Leads t s i (λ a z j. P a × HasNoValue z u)
+  pub keeps : {A : Type 0} (P : A → Type 0) (t : Steps A) → AreFine other other t → Yields P t → (s : Store) (i : List Content) → HasNoValue s u → Leads t s i (λ a z j. P a × HasNoValue z u)
   keeps P (steps.Done a) h y s i n = (y, n)
   keeps P (steps.Breaks b) h y s i n = tt
   keeps P (steps.Look x k) h y s i n = keeps P (k (s x)) (h.0 (s x)) (y (s x)) s i n
@@ -155,7 +155,7 @@ module _ (u : ℕ) where
   -- ---- targets
 
   -- what is written is another unit, or is locked
-  abbrev Aims : Locks → Target → Type 0
+  abbrev pub Aims : Locks → Target → Type 0
   Aims locked t = locked t.unit ≡ None → other t.unit ≡ true
 
   same_unit : (x : ℕ) → nat_eq x u ≡ true → x ≡ u
@@ -198,7 +198,7 @@ module _ (u : ℕ) where
       go None = tt
       go (Some k) = inside k (nat_lt k p.extent) refl
 
-  name_aims : (locked : Locks) (m : Meant) (at : Places) → ((v : ℕ) → m ≡ Variable v → OffPlace u locked (at v)) → Yields (Aims locked) (name_target m at)
+  pub name_aims : (locked : Locks) (m : Meant) (at : Places) → ((v : ℕ) → m ≡ Variable v → OffPlace u locked (at v)) → Yields (Aims locked) (name_target m at)
   name_aims locked (Constant c) at off = tt
   name_aims locked (Variable v) at off = aims locked (at v).first (λ e. (off v refl e).1)
   name_aims locked Function at off = tt
@@ -219,7 +219,7 @@ module _ (u : ℕ) where
   target_aims locked (tree.binary o a b) w at off = tt
   target_aims locked (tree.chars x) w at off = tt
 
-  assigned_off : (a b : ExprTree) (w : Names) (at : Places) (locked : Locks) → TagsStand w at → Off u locked w at → AreFine other other (assigned a b w at locked)
+  pub assigned_off : (a b : ExprTree) (w : Names) (at : Places) (locked : Locks) → TagsStand w at → Off u locked w at → AreFine other other (assigned a b w at locked)
   assigned_off a b w at locked ok off =
       fine_after other other (value b w at) (λ c. target a w at >>= λ t. write locked t.unit (content t.tag c.number)) (fine_value other other b w at ok)
       (λ c. fine_after_so other other (Aims locked) (target a w at) (λ t. write locked t.unit (content t.tag c.number)) (fine_target other other a w at ok) (target_aims locked a w at off) (λ t h. write_off locked t.unit (content t.tag c.number) h))
@@ -232,7 +232,7 @@ module _ (u : ℕ) where
       go true = write_off locked t.unit c h
       go false = tt
 
-  items_off : (es : ExprTrees) (w : Names) (at : Places) (locked : Locks) → TagsStand w at → Off u locked w at → AreFine other other (items_read es w at locked)
+  pub items_off : (es : ExprTrees) (w : Names) (at : Places) (locked : Locks) → TagsStand w at → Off u locked w at → AreFine other other (items_read es w at locked)
   items_off tree.no_exprs w at locked ok off = tt
   items_off (tree.more_exprs e es) w at locked ok off =
       fine_after_so other other (Aims locked) (target e w at) (λ t. steps.Take (taken locked t) >>= λ o. items_read es w at locked) (fine_target other other e w at ok) (target_aims locked e w at off)
@@ -240,7 +240,7 @@ module _ (u : ℕ) where
 
   -- ---- locks
 
-  lock_none : (locked : Locks) (x y : ℕ) (f : Fault) → lock locked x f y ≡ None → locked y ≡ None
+  pub lock_none : (locked : Locks) (x y : ℕ) (f : Fault) → lock locked x f y ≡ None → locked y ≡ None
   lock_none locked x y f e = go (nat_eq y x) (locked y) e
     where
       go : (b : Bool) (o : Option Fault) → (if b then first_lock o f else o) ≡ None → o ≡ None
@@ -254,14 +254,14 @@ module _ (u : ℕ) where
   place_more : (l m : Locks) (p : Place) → (m u ≡ None → l u ≡ None) → OffPlace u l p → OffPlace u m p
   place_more l m p h off e = off (h e)
 
-  off_more : (l m : Locks) (w : Names) (at : Places) → (m u ≡ None → l u ≡ None) → Off u l w at → Off u m w at
+  pub off_more : (l m : Locks) (w : Names) (at : Places) → (m u ≡ None → l u ≡ None) → Off u l w at → Off u m w at
   off_more l m w at h off x v e = place_more l m (at v) h (off x v e)
 
-  own_none : (locked : Locks) (us : List ℕ) → lock_own locked us u ≡ None → locked u ≡ None
+  pub own_none : (locked : Locks) (us : List ℕ) → lock_own locked us u ≡ None → locked u ≡ None
   own_none locked [] e = e
   own_none locked (x ∷ us) e = lock_none locked x u Locked (own_none (lock locked x Locked) us e)
 
-  doubly_none : (locked : Locks) (ds : List Dummy) (at : Places) (common : ℕ → Bool) → lock_doubly locked ds at common u ≡ None → locked u ≡ None
+  pub doubly_none : (locked : Locks) (ds : List Dummy) (at : Places) (common : ℕ → Bool) → lock_doubly locked ds at common u ≡ None → locked u ≡ None
   doubly_none locked ds at common e = go (doubly_reached ds at common u) (locked u) e
     where
       go : (b : Bool) (o : Option Fault) → (if b then first_lock o Shared else o) ≡ None → o ≡ None
@@ -274,7 +274,7 @@ module _ (u : ℕ) where
 
   -- ---- actual arguments
 
-  abbrev held : List ℕ → Bool
+  abbrev pub held : List ℕ → Bool
   held us = list_any (λ x. nat_eq x u) us
 
   -- a unit that is locked so stays locked
@@ -291,7 +291,7 @@ module _ (u : ℕ) where
   now_locked None q = cc
   now_locked (Some f) q = cc
 
-  held_locked : (locked : Locks) (us : List ℕ) → held us ≡ true → lock_own locked us u ≡ None → ⊥
+  pub held_locked : (locked : Locks) (us : List ℕ) → held us ≡ true → lock_own locked us u ≡ None → ⊥
   held_locked locked [] h e = true≢false (sym h)
   held_locked locked (x ∷ us) h e = go (λ r. held_locked (lock locked x Locked) us r e) (nat_eq x u) refl h
     where
@@ -310,14 +310,14 @@ module _ (u : ℕ) where
       go false q = refl
 
   -- an actual has a unit of its own, or is off
-  abbrev OffOr : Locks → Bool → Place → Type 0
+  abbrev pub OffOr : Locks → Bool → Place → Type 0
   OffOr locked true p = in_place p u ≡ true → nat_eq p.first u ≡ true
   OffOr locked false p = OffPlace u locked p
 
-  abbrev ActualOff : Locks → Actual → Type 0
+  abbrev pub ActualOff : Locks → Actual → Type 0
   ActualOff locked x = OffOr locked x.own x.place
 
-  abbrev ActualsOff : Locks → List Actual → Type 0
+  abbrev pub ActualsOff : Locks → List Actual → Type 0
   ActualsOff locked [] = Unit {0}
   ActualsOff locked (x ∷ xs) = ActualOff locked x × ActualsOff locked xs
 
@@ -372,14 +372,14 @@ module _ (u : ℕ) where
   actual_off locked (tree.binary o a b) w at x off = value_stored_off locked (tree.binary o a b) w at x
   actual_off locked (tree.chars y) w at x off = tt
 
-  actuals_off : (locked : Locks) (es : ExprTrees) (k : ℕ) (w : Names) (at : Places) (units : ℕ → ℕ) → Off u locked w at → Yields (ActualsOff locked) (actuals es k w at units)
+  pub actuals_off : (locked : Locks) (es : ExprTrees) (k : ℕ) (w : Names) (at : Places) (units : ℕ → ℕ) → Off u locked w at → Yields (ActualsOff locked) (actuals es k w at units)
   actuals_off locked tree.no_exprs k w at units off = tt
   actuals_off locked (tree.more_exprs e es) k w at units off =
       yields_then (ActualOff locked) (ActualsOff locked) (actual e w at (units k)) (λ x. actuals es (suc k) w at units >>= λ xs. steps.Done (x ∷ xs)) (actual_off locked e w at (units k) off)
       (λ x ox. yields_then (ActualsOff locked) (ActualsOff locked) (actuals es (suc k) w at units) (λ xs. steps.Done (x ∷ xs)) (actuals_off locked es (suc k) w at units off) (λ xs oxs. (ox, oxs)))
 
   -- the places that they offer, where those of their own are locked
-  places_off : (locked l : Locks) → (l u ≡ None → locked u ≡ None) → (xs : List Actual) → (held (own_units xs) ≡ true → l u ≡ None → ⊥) → ActualsOff locked xs → OffPlaces u l (places_of xs)
+  pub places_off : (locked l : Locks) → (l u ≡ None → locked u ≡ None) → (xs : List Actual) → (held (own_units xs) ≡ true → l u ≡ None → ⊥) → ActualsOff locked xs → OffPlaces u l (places_of xs)
   places_off locked l more [] h a = tt
   places_off locked l more (x ∷ xs) h a = (here x.own refl, places_off locked l more xs (λ r. h (later x.own r)) a.1)
     where
@@ -504,7 +504,7 @@ module _ (u : ℕ) where
 
   -- ---- what is forgotten
 
-  forgotten : (s : Store) (x : ℕ) → HasNoValue s u → HasNoValue (put s x (undefined (s x))) u
+  pub forgotten : (s : Store) (x : ℕ) → HasNoValue s u → HasNoValue (put s x (undefined (s x))) u
   forgotten s x n = go (nat_eq u x)
     where
       go : (b : Bool) → (if b then undefined (s x) else s u).tag ≡ Undefined
@@ -583,10 +583,10 @@ module _ (u : ℕ) where
             (cleared_list sc.turns (parts body sc at (lock locked x Locked)) (p (lock locked x Locked) (off_more locked (lock locked x Locked) sc.names at (lock_none locked x u Locked) off))))
 
     mutual
-      cleared_stmt : (s : StmtTree) (locked : Locks) → Off u locked sc.names at → Cleared u (statement_plan s sc at locked)
+      pub cleared_stmt : (s : StmtTree) (locked : Locks) → Off u locked sc.names at → Cleared u (statement_plan s sc at locked)
       cleared_stmt (tree.stmt n label w) locked off = cleared_within (execution w n sc at locked) (λ f. Ends f) (cleared_what w n locked off) ends
 
-      cleared_what : (w : WhatTree) (n : ℕ) (locked : Locks) → Off u locked sc.names at → Cleared u (execution w n sc at locked)
+      pub cleared_what : (w : WhatTree) (n : ℕ) (locked : Locks) → Off u locked sc.names at → Cleared u (execution w n sc at locked)
       cleared_what (tree.assign a b) n locked off = cleared_first Any (assigned a b sc.names at locked) (λ o. Ends Normal) (assigned_off a b sc.names at locked ok off) (yields_any (assigned a b sc.names at locked)) (λ o h s i z. z)
       cleared_what (tree.block_if arms rest) n locked off = cleared_arms arms (else_plan rest sc at locked) locked off (cleared_else rest locked off)
       cleared_what (tree.logical_if test s) n locked off =
@@ -644,7 +644,7 @@ module _ (u : ℕ) where
       go true e ih = scalar_off locked (first_place ps) d.tag (first_off locked ps z o)
       go false e ih = ih e
 
-  scalars_off : (locked : Locks) (w : Names) (ds : List Dummy) (ps : List Place) (at : Places) → nat_eq 0 u ≡ false → OffPlaces u locked ps → ((x : List ℕ) (v : ℕ) → w x ≡ Variable v → IsNoDummy ds v → OffPlace u locked (at v)) → Off u locked w (scalars_bound ds ps at)
+  pub scalars_off : (locked : Locks) (w : Names) (ds : List Dummy) (ps : List Place) (at : Places) → nat_eq 0 u ≡ false → OffPlaces u locked ps → ((x : List ℕ) (v : ℕ) → w x ≡ Variable v → IsNoDummy ds v → OffPlace u locked (at v)) → Off u locked w (scalars_bound ds ps at)
   scalars_off locked w ds ps at z o f x v e = scalar_at locked ds ps at z o v (f x v e)
 
   in_part : (p : Place) (n : ℕ) → nat_le n p.extent ≡ true → nat_le p.first u && nat_lt u (p.first + n) ≡ true → in_place p u ≡ true
@@ -689,13 +689,13 @@ module _ (u : ℕ) where
   dummy_off locked w d p [] at h off = off
   dummy_off locked w d p (m ∷ ms) at h off = yields_then (OffPlace u locked) (Off u locked w) (array_place p d.tag (m ∷ ms)) (λ q. steps.Done (put at d.symbol q)) (array_off locked p d.tag (m ∷ ms) h) (λ q i. put_place locked w at d.symbol q off i)
 
-  arrays_off : (locked : Locks) (ds : List Dummy) (ps : List Place) (w : Names) (at : Places) → nat_eq 0 u ≡ false → OffPlaces u locked ps → Off u locked w at → Yields (Off u locked w) (arrays_bound ds ps w at)
+  pub arrays_off : (locked : Locks) (ds : List Dummy) (ps : List Place) (w : Names) (at : Places) → nat_eq 0 u ≡ false → OffPlaces u locked ps → Off u locked w at → Yields (Off u locked w) (arrays_bound ds ps w at)
   arrays_off locked [] ps w at z o off = off
   arrays_off locked (d ∷ ds) ps w at z o off =
       yields_then Any (Off u locked w) (dims_read d.bounds w at) (λ ms. dummy_bound d (first_place ps) ms at >>= arrays_bound ds (other_places ps) w) (yields_any (dims_read d.bounds w at))
       (λ ms n. yields_then (Off u locked w) (Off u locked w) (dummy_bound d (first_place ps) ms at) (arrays_bound ds (other_places ps) w) (dummy_off locked w d (first_place ps) ms at (first_off locked ps z o) off) (λ at' off'. arrays_off locked ds (other_places ps) w at' z (others_off locked ps o) off'))
 
-  yields_both : {A : Type 0} (P Q : A → Type 0) (t : Steps A) → Yields P t → Yields Q t → Yields (λ a. P a × Q a) t
+  pub yields_both : {A : Type 0} (P Q : A → Type 0) (t : Steps A) → Yields P t → Yields Q t → Yields (λ a. P a × Q a) t
   yields_both P Q (steps.Done a) y q = (y, q)
   yields_both P Q (steps.Breaks b) y q = tt
   yields_both P Q (steps.Look x k) y q = λ c. yields_both P Q (k c) (y c) (q c)
@@ -706,7 +706,7 @@ module _ (u : ℕ) where
   yields_both P Q (steps.Take k) y q = λ o. yields_both P Q (k o) (y o) (q o)
   yields_both P Q (steps.Arrive p t) y q = yields_both P Q t y q
 
-  cleared_forget_all : (us : List ℕ) (t : Plan) → Cleared u t → Cleared u (forget_all us t)
+  pub cleared_forget_all : (us : List ℕ) (t : Plan) → Cleared u t → Cleared u (forget_all us t)
   cleared_forget_all [] t h = h
   cleared_forget_all (x ∷ us) t h = λ s i n. cleared_forget_all us t h (put s x (undefined (s x))) i (forgotten s x n)
 
@@ -717,7 +717,7 @@ module _ (u : ℕ) where
     abbrev CallsEnd : List Routine → Type 0
     CallsEnd rs = (x : List ℕ) → EndsWell (meanings rs turns x)
 
-    cleared_module : (r : Routine) (rs : List Routine) → IsTagged r → CallsCleared rs → CallsEnd rs → (ps : List Place) (at : Places) (locked : Locks) → OffPlaces u locked ps → TagsStand r.names at → Off u locked r.names at → Cleared u (body_of r turns (meanings rs turns) ps at locked)
+    pub cleared_module : (r : Routine) (rs : List Routine) → IsTagged r → CallsCleared rs → CallsEnd rs → (ps : List Place) (at : Places) (locked : Locks) → OffPlaces u locked ps → TagsStand r.names at → Off u locked r.names at → Cleared u (body_of r turns (meanings rs turns) ps at locked)
     cleared_module r rs tagged h well ps at locked o ok off =
         cleared_first (λ at'. TagsStand r.names at' × Off u locked r.names at') (arrays_bound r.dummies ps r.names at) (λ at'. body_plan r.body (scope r turns (meanings rs turns)) at' (lock_doubly locked r.dummies at' r.common)) (fine_arrays other other r.dummies ps r.names at tagged.dummies ok)
         (yields_both (TagsStand r.names) (Off u locked r.names) (arrays_bound r.dummies ps r.names at) (arrays_tagged other other r.dummies ps r.names at tagged.dummies ok) (arrays_off locked r.dummies ps r.names at z o off))

@@ -143,7 +143,7 @@ module _ (free own : ℕ → Bool) where
   fine_after (steps.Arrive p t) f h n = fine_after t f h n
 
   -- with what the first gives
-  fine_first_so : {A : Type 0} (P : A → Type 0) (t : Steps A) (f : A → Plan) → AreFine free own t → Yields P t → ((a : A) → P a → IsFine free own (f a)) → IsFine free own (first t f)
+  pub fine_first_so : {A : Type 0} (P : A → Type 0) (t : Steps A) (f : A → Plan) → AreFine free own t → Yields P t → ((a : A) → P a → IsFine free own (f a)) → IsFine free own (first t f)
   fine_first_so P (steps.Done a) f h y n = n a y
   fine_first_so P (steps.Breaks b) f h y n = tt
   fine_first_so P (steps.Look u k) f h y n = ((λ c. fine_first_so P (k c) f (h.0 c) (y c) n), (λ c e. fault_first (k c) f (h.1 c e)))

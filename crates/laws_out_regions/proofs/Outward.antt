@@ -50,7 +50,7 @@ all_in l ks (y ∷ L) h x m e = (let q = and_parts (not (nat_eq y.label l) || li
 
 module _ (F : List Landing) where
   -- one of the labels that are asked for: all its statements are in these lists
-  record LeadsOut (ms ks : List ℕ) : Type 0 where
+  pub record LeadsOut (ms ks : List ℕ) : Type 0 where
     label : ℕ
     asked : has ms label ≡ true
     all : (x : Landing) → Member x F → x.label ≡ label → In x.list ks
@@ -140,7 +140,7 @@ module _ (F : List Landing) where
       what_out n label (print es) a o ms i h = absurd (true≢false (sym h))
       what_out n label (read es) a o ms i h = absurd (true≢false (sym h))
 
-      loop_out : (n : ℕ) (l : LoopTree) → LoopOrdered n l → (o : Outline) (ms : List ℕ) → Inside F G o (outline_body l o) [] (goings_body l) → loop_leads l ms ≡ true → LeadsOut ms o.within
+      pub loop_out : (n : ℕ) (l : LoopTree) → LoopOrdered n l → (o : Outline) (ms : List ℕ) → Inside F G o (outline_body l o) [] (goings_body l) → loop_leads l ms ≡ true → LeadsOut ms o.within
       loop_out n (loop index first last step body) a o ms i h = list_around ms o (outline_in body (begins o)) body (goings_in body) i (list_step body (begins o)) (list_out n body a (begins o) (others ms (labels body)) (list_part F G [] o (outline_in body (begins o)) body (goings_in body) i (list_step body (begins o))) h)
 
       arms_out : (n : ℕ) (arms : ArmTrees) → ArmsOrdered n arms → (o : Outline) (ms : List ℕ) → Inside F G o (outline_arms arms o) [] (goings_arms arms) → arms_lead arms ms ≡ true → LeadsOut ms o.within
@@ -174,7 +174,7 @@ goes_keeps Stop o x m = m
 goes_keeps Other o x m = m
 
 mutual
-  list_keeps : (t : StmtTrees) (o : Outline) (x : Landing) → Member x o.landings → Member x (outline_in t o).landings
+  pub list_keeps : (t : StmtTrees) (o : Outline) (x : Landing) → Member x o.landings → Member x (outline_in t o).landings
   list_keeps no_stmts o x m = m
   list_keeps (more_stmts (stmt id label w) rest) o x m = list_keeps rest (outline_by label w o) x (what_keeps label w o x m)
 
@@ -194,18 +194,18 @@ mutual
   body_keeps : (l : LoopTree) (o : Outline) (x : Landing) → Member x o.landings → Member x (outline_body l o).landings
   body_keeps (loop index first last step body) o x m = list_keeps body (begins o) x m
 
-  arms_keeps : (arms : ArmTrees) (o : Outline) (x : Landing) → Member x o.landings → Member x (outline_arms arms o).landings
+  pub arms_keeps : (arms : ArmTrees) (o : Outline) (x : Landing) → Member x o.landings → Member x (outline_arms arms o).landings
   arms_keeps no_arms o x m = m
   arms_keeps (more_arms (arm test body) rest) o x m = arms_keeps rest (leaves (outline_in body (begins o))) x (list_keeps body (begins o) x m)
 
-  else_keeps : (other : ElseTree) (o : Outline) (x : Landing) → Member x o.landings → Member x (outline_else other o).landings
+  pub else_keeps : (other : ElseTree) (o : Outline) (x : Landing) → Member x o.landings → Member x (outline_else other o).landings
   else_keeps no_else o x m = m
   else_keeps (otherwise body) o x m = list_keeps body (begins o) x m
 
 -- ---- where labels stand
 
 -- in a list that began since
-record Stands (o p : Outline) (l : ℕ) : Type 0 where
+pub record Stands (o p : Outline) (l : ℕ) : Type 0 where
   landing : Landing
   stands : Member landing p.landings
   label : landing.label ≡ l
@@ -299,7 +299,7 @@ bare_none : (label : Option ℕ) (w : WhatTree) → label ≡ None → IsWhat w 
 bare_none None w e f l h = plain_none w f l h
 bare_none (Some k) w e f l h = cc
 
-block_parts : (n : ℕ) (arms : ArmTrees) → NumberedBlock n arms → NumberedArms n arms
+pub block_parts : (n : ℕ) (arms : ArmTrees) → NumberedBlock n arms → NumberedArms n arms
 block_parts n no_arms a = tt
 block_parts n (more_arms (arm test body) others) a = record { below = a.below; parts = a.parts }
 
@@ -351,7 +351,7 @@ mutual
   what_stands n label (print es) a f o l h = absurd (true≢false (sym h))
   what_stands n label (read es) a f o l h = absurd (true≢false (sym h))
 
-  body_stands : (n : ℕ) (d : LoopTree) → NumberedBody n d → LoopOrdered n d → (o : Outline) (l : ℕ) → has (loop_labels d) l ≡ true → Stands o (outline_body d o) l
+  pub body_stands : (n : ℕ) (d : LoopTree) → NumberedBody n d → LoopOrdered n d → (o : Outline) (l : ℕ) → has (loop_labels d) l ≡ true → Stands o (outline_body d o) l
   body_stands n (loop index first last step body) a f o l h = within_from body o l (list_stands n body a f (begins o) l h)
 
   arms_stand : (n : ℕ) (arms : ArmTrees) → NumberedArms n arms → ArmsOrdered n arms → (o : Outline) (l : ℕ) → has (arms_labels arms) l ≡ true → Stands o (outline_arms arms o) l
@@ -397,7 +397,7 @@ plain_parts (do_loop d) f = absurd f
 
 module _ (F : List Landing) (G : List Going) (reach : AllReach F G) where
   -- a GO TO that leads out does not lead to what stands since
-  apart_from : (o p : Outline) (ks : List ℕ) (l : ℕ) → ((k : ℕ) → In k o.within → k < o.count) → ((x : Landing) → Member x p.landings → Member x F) → LeadsOut F (l ∷ []) o.within → Stands o p l → ⊥
+  pub apart_from : (o p : Outline) (ks : List ℕ) (l : ℕ) → ((k : ℕ) → In k o.within → k < o.count) → ((x : Landing) → Member x p.landings → Member x F) → LeadsOut F (l ∷ []) o.within → Stands o p l → ⊥
   apart_from o p ks l path ends h s =
       let low = path s.landing.list (h.all s.landing (ends s.landing s.stands) (s.label ∙ only l h.label h.asked)) in
       let high = s.inside in
@@ -495,7 +495,7 @@ module _ (F : List Landing) (G : List Going) (reach : AllReach F G) where
 -- ---- bodies
 
 -- the record of the lists of a body, as for `body_stays` of laws_analyses
-whole_inside : (t : StmtTrees) → goings_in t ≤ 4096 → Inside (outline_in t nothing_outlined).landings (outline_in t nothing_outlined).goings nothing_outlined (outline_in t nothing_outlined) [] (goings_in t)
+pub whole_inside : (t : StmtTrees) → goings_in t ≤ 4096 → Inside (outline_in t nothing_outlined).landings (outline_in t nothing_outlined).goings nothing_outlined (outline_in t nothing_outlined) [] (goings_in t)
 whole_inside t few = record {
   later = λ g h. h;
   apart = λ x m h k. m;

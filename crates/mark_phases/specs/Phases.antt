@@ -1,5 +1,5 @@
 -- The marks of the modules of a program, with the effects that they need, callees before callers.
-use Rattle.std.specs.Prelude.{ℕ, List, [], ◌∷◌, Option, Some, None, reverse, bytes_eq, if◌then◌else◌}
+use Rattle.std.specs.Prelude.{List, [], ◌∷◌, Some, None, reverse, bytes_eq, if◌then◌else◌}
 use Rattle.f77_symbols.specs.declared.variable.Unit.{Unit as BlockUnit}
 use Rattle.f77_results.specs.declared.effect_set.EffectSet.{EffectSet}
 use Rattle.f77_results.specs.declared.results.At.{At}
@@ -10,8 +10,6 @@ use Rattle.effects.specs.List.{Callees}
 use Rattle.effects.specs.Modules.{cumulated_of}
 use Rattle.scalar_phases.specs.Phases.{Analysis, scope_of}
 use Rattle.region_sets.specs.declared.marks.Mark.{Mark}
-use Rattle.region_phases.specs.Phases.{ModuleRegions}
-use Rattle.in_out_phases.specs.Phases.{ModuleIns}
 use Rattle.out_phases.specs.Phases.{ModuleOuts}
 use Rattle.loop_marker.specs.Known.{knowledge_of}
 use Rattle.loop_marker.specs.Marks.{marks_of}

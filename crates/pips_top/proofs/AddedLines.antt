@@ -114,12 +114,13 @@ module _ (law : LinesArePassedOver) (k : Said) (shown : AreShown k.names) where
 
 -- ---- what is said of a module
 
--- its symbols have such names, and the lines of its regions and marks are passed over
+-- its symbols have such names, which its marks name, and the lines of its regions and marks are passed over
 pub record IsSaid (f : ModuleMarks) : Type 0 where
   pub names : AreShown (symbol_names (known_in f.outs).symbols)
   pub regions : RegionLinesPass f.outs.known.known
   pub ins : InLinesPass f.outs.known
   pub outs : OutLinesPass f.outs
+  pub named : MarksNamed IsShown (symbol_names (known_in f.outs).symbols) f.marks
   pub marks : (why : Bool) → AllByRecursion IsPassedOver (mark_lines_found why f)
 
 from_places : (fs : List ModuleMarks) → ((j : ℕ) (f : ModuleMarks) → slice_get fs j ≡ Some f → IsSaid f) → Each IsSaid fs
@@ -164,6 +165,7 @@ all_said law on_ins on_outs on_marks p t n = from_places (all_marks g os) each
           regions = each_at RegionLinesPass fs (law p.modules p.tables g t n) here.0 f.outs.known.known at;
           ins = each_at InLinesPass is (on_ins p.modules p.tables g t n) here.0 f.outs.known here.1;
           outs = each_at OutLinesPass os (on_outs p.modules p.tables g t n) out.0 f.outs out.1;
+          named = marks;
           marks = λ why. on_marks (symbol_names (known_in f.outs).symbols) why f.marks names (all_shown (symbol_names (known_in f.outs).symbols) f.marks marks);
         }
 

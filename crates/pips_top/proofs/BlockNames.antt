@@ -35,11 +35,11 @@ use Rattle.laws_programs.specs.Programs.{AreTables}
 use Rattle.laws_programs.proofs.Sources.{AnyLabel, IsBuilt}
 use Rattle.laws_region_lines.specs.Names.{PlaceNamed, SymbolNamed, AreNamed}
 
-left_of : (xs ys : List Card) → AreCards (xs ++ ys) → AreCards xs
+pub left_of : (xs ys : List Card) → AreCards (xs ++ ys) → AreCards xs
 left_of [] ys h = tt
 left_of (x ∷ xs) ys h = record { first = h.first; others = left_of xs ys h.others }
 
-right_of : (xs ys : List Card) → AreCards (xs ++ ys) → AreCards ys
+pub right_of : (xs ys : List Card) → AreCards (xs ++ ys) → AreCards ys
 right_of [] ys h = h
 right_of (x ∷ xs) ys h = right_of xs ys h.others
 
@@ -67,7 +67,7 @@ commons_formed : (place : ℕ) (ds : List DeclTree) → AreCards (decl_cards pla
 commons_formed place [] h = tt
 commons_formed place (d ∷ ds) h = Each-append IsCommon (commons_in d) (commons ds) (in_decl d h.first) (commons_formed (place + 1) ds h.others)
 
-formed : (m : ParsedTree) → IsBuilt m → IsFormed m
+pub formed : (m : ParsedTree) → IsBuilt m → IsFormed m
 formed m b = each-map (Held AnyLabel IsPhrase) (λ (c : Card). IsPhrase c.phrase) (statements_of m.module_read) (λ c h. h.1) b.formed
 
 -- ---- of each name that the grammar gives

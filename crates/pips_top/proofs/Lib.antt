@@ -4,6 +4,13 @@ pub mod Said
 pub mod Programs
 pub mod BlockNames
 pub mod MarkNames
+pub mod ClaimsPlain
+pub mod ModulesSaid
+pub mod Marking
+pub mod DirectivesFound
+pub mod DirectiveMarks
+pub mod MarkedBack
+pub mod Interleaved
 pub mod AddedLines
 pub mod ReadBack
 pub mod LinesMeant

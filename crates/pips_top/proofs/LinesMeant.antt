@@ -1,7 +1,5 @@
 -- The lines that are added to a module are those of its analysis, and each is read as what that has there.
-use Rattle.std.proofs.Common.{◌≡◌, ℕ, zero, suc, Bool, true, false, List, [], ◌∷◌, Some, arith, refl, ap, sym, ◌∙◌, subst}
-use Rattle.std.specs.Prelude.{bytes_eq, slice_get, if◌then◌else◌}
-use Rattle.std.proofs.lemmas.Slice.Eq.{bytes_eq-Decides}
+use Rattle.std.proofs.Common.{refl, sym, subst}
 use Rattle.f77_meaning.specs.Modules.{known_of, symbol_names}
 use Rattle.scalar_phases.specs.Phases.{analyses}
 use Rattle.region_phases.specs.Phases.{ModuleRegions, all_regions}
@@ -22,31 +20,15 @@ use Rattle.laws_region_lines.proofs.ProgramRegions.{ModuleFine, ModuleTold, regi
 use Rattle.roundtrip_regions.specs.Printed.{IsPlain}
 use Rattle.roundtrip_marks.specs.Laws.{DirectivesReadBack, ObstaclesAreNoDirectives}
 use Rattle.pips_top.specs.Claimed.{AreRead}
-use Rattle.pips_top.specs.Shown.{said_for, lines_in, lines_of}
+use Rattle.pips_top.specs.Shown.{lines_in, lines_of}
 use Rattle.pips_top.specs.Laws.{ReadLinesMean}
 use Rattle.pips_top.specs.MarksRead.{AreMarksRead}
 use Rattle.pips_top.specs.declared.words.Show.{Show}
 use Rattle.pips_top.proofs.BlockNames.{modules_plain}
 use Rattle.pips_top.proofs.Programs.{is_program, each_at}
 use Rattle.pips_top.proofs.MarkNames.{MarksNamed, found_named, marks_read}
-use Rattle.pips_top.proofs.Said.{name_of, regions_at, said_at, ins_at, outs_at, marks_are, said_once}
-
--- no name has two
-abbrev Once : List ModuleMarks → Type 0
-Once all = (i j : ℕ) (a b : ModuleMarks) → slice_get all i ≡ Some a → slice_get all j ≡ Some b → name_of a ≡ name_of b → i ≡ j
-
--- so each is that of its name
-own_found : (all : List ModuleMarks) → Once all → (j : ℕ) (a : ModuleMarks) → slice_get all j ≡ Some a → said_for all (name_of a) ≡ Some a
-own_found [] once j a e = cc
-own_found (b ∷ all) once zero a e =
-    let same : b ≡ a = cc in
-    let it : bytes_eq (name_of b) (name_of a) ≡ true = (bytes_eq-Decides (name_of b) (name_of a)).1 (ap name_of same) in
-    ap (λ t. if t then Some b else said_for all (name_of a)) it ∙ ap Some same
-own_found (b ∷ all) once (suc j) a e = go (bytes_eq (name_of b) (name_of a)) refl (own_found all (λ i k c d f g h. omega (arith, once (suc i) (suc k) c d f g h)) j a e)
-  where
-    go : (t : Bool) → bytes_eq (name_of b) (name_of a) ≡ t → said_for all (name_of a) ≡ Some a → (if t then Some b else said_for all (name_of a)) ≡ Some a
-    go true q ih = absurd (omega (arith, once zero (suc j) b a refl e ((bytes_eq-Decides (name_of b) (name_of a)).0 q)))
-    go false q ih = ih
+use Rattle.pips_top.proofs.ModulesSaid.{Once, own_found}
+use Rattle.pips_top.proofs.Said.{regions_at, said_at, ins_at, outs_at, marks_are, said_once}
 
 -- the lines of a module
 lines_read : (show : Show) (f : ModuleMarks) → LinesMeanResults (analysis_in f.outs) → RegionLinesMean f.outs.known.known → InLinesMean f.outs.known → OutLinesMean f.outs

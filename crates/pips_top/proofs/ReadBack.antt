@@ -1,27 +1,36 @@
--- What is written of a program that was read is read again as the same program.
-use Rattle.std.proofs.Common.{◌≡◌, ℕ, List, [], ◌∷◌, ◌++◌, Ok, refl, ap, sym, ◌∙◌, subst}
-use Rattle.f77_ast.specs.DeclTrees.{ParsedTree}
+-- What is written of a program that was read is read again as the same program, and written as the same text.
+use Rattle.std.proofs.Common.{◌≡◌, ℕ, List, [], ◌∷◌, ◌++◌, map, Ok, refl, ap, ap₂, sym, ◌∙◌, subst}
+use Rattle.f77_ast.specs.DeclTrees.{ModuleTree, ParsedTree}
+use Rattle.f77_printer.specs.declared.added.Added.{Added}
 use Rattle.f77_parser.specs.Gives.{and_then}
 use Rattle.f77_parser.specs.Modules.{parse_of}
 use Rattle.f77_symbols.specs.Symbols.{SymbolTree}
 use Rattle.call_graph.specs.declared.graph.Graph.{Graph}
 use Rattle.call_graph.specs.Links.{link_of}
-use Rattle.mark_phases.specs.Phases.{ModuleMarks}
+use Rattle.f77_meaning.specs.Modules.{Known, known_of}
+use Rattle.scalar_phases.specs.Phases.{analyses}
+use Rattle.region_phases.specs.Phases.{all_regions}
+use Rattle.in_out_phases.specs.Phases.{all_ins}
+use Rattle.out_phases.specs.Phases.{all_outs}
+use Rattle.mark_phases.specs.Phases.{ModuleMarks, all_marks}
 use Rattle.laws_programs.specs.Programs as laws
 use Rattle.laws_programs.proofs.Sources.{all_built}
 use Rattle.laws_region_lines.specs.LineLaws.{AllRegionLinesPass}
 use Rattle.laws_in_lines.specs.Laws.{AllInLinesPass}
 use Rattle.laws_out_lines.specs.Laws.{AllOutLinesPass}
 use Rattle.roundtrip_marks.specs.Laws.{MarkLinesArePassedOver}
+use Rattle.roundtrip_marks.specs.WholeLaws.{TextsAreWrittenAgain}
 use Rattle.laws_layout.specs.Laws.{BlocksHaveAChain}
 use Rattle.roundtrip_text.specs.Texts as back
+use Rattle.roundtrip_text.specs.Laws.{AllPassedOver}
 use Rattle.roundtrip_programs.specs.Lines.{LinesArePassedOver}
 use Rattle.roundtrip_programs.specs.Programs.{AreTables, IsProgram, ProgramsReadBack, NamesAreShown}
 use Rattle.pips_top.specs.Shown.{said_of, lines_for}
 use Rattle.pips_top.specs.Laws.{ReadWrittenBack}
 use Rattle.pips_top.specs.Program.{ProgramTree}
+use Rattle.pips_top.specs.ReadBack.{SameProgram}
 use Rattle.pips_top.specs.Reading.{lines_or, table_or, tables_of, graph_or, linked_by, program_of, reading}
-use Rattle.pips_top.specs.Written.{parsed_text, modules_text}
+use Rattle.pips_top.specs.Written.{parsed_text, modules_text, written}
 use Rattle.pips_top.specs.declared.words.Show.{Show}
 use Rattle.pips_top.proofs.AddedLines.{all_said, all_over}
 use Rattle.pips_top.proofs.BlockNames.{modules_shown}
@@ -40,14 +49,14 @@ of_parts text ms p read (same, tables, links) =
     let Q : List ParsedTree → Type 0 = λ ns. IsProgram text ns p.tables p.graph in
     subst Q (sym same) (record { read = read; tabled = same_tables ms p.tables (all_tables ms p.tables tables); linked = links })
 
-is_read : (text : List ℕ) (p : ProgramTree) → reading text ≡ Ok p → IsProgram text p.modules p.tables p.graph
+pub is_read : (text : List ℕ) (p : ProgramTree) → reading text ≡ Ok p → IsProgram text p.modules p.tables p.graph
 is_read text p e =
     let f = parsed_from text p e in
     of_parts text f.1 p (record { lines = f.0; lined = f.2; parsed = f.3 }) (linked_from f.1 p f.4)
 
 -- ---- what is written
 
-text_same : (show : Show) (all : List ModuleMarks) (ms : List ParsedTree) → modules_text show all ms ≡ back.modules_text (λ m. lines_for show all m.module_read.name) ms
+pub text_same : (show : Show) (all : List ModuleMarks) (ms : List ParsedTree) → modules_text show all ms ≡ back.modules_text (λ m. lines_for show all m.module_read.name) ms
 text_same show all [] = refl
 text_same show all (m ∷ ms) = ap (λ rest. parsed_text show all m ++ rest) (text_same show all ms)
 
@@ -69,15 +78,47 @@ unfolding reading
 reading_is text ms ts g is =
     ap (λ r. and_then (and_then (lines_or r) parse_of) program_of) is.read.lined ∙ ap (λ r. and_then r program_of) is.read.parsed ∙ program_is ms ts g is.tabled is.linked
 
-pub back_from : ProgramsReadBack → LinesArePassedOver → AllRegionLinesPass → AllInLinesPass → AllOutLinesPass → MarkLinesArePassedOver → NamesAreShown → BlocksHaveAChain → ReadWrittenBack
-back_from programs lines on_regions on_ins on_outs on_marks names blocks show bytes p e =
+-- ---- it is written as the same text
+
+-- what is known of modules does not depend on the lines at which their statements stand
+pub known_same : (qs ps : List ParsedTree) (ts : List (List SymbolTree)) → map back.module_of qs ≡ map back.module_of ps → known_of qs ts ≡ known_of ps ts
+known_same [] [] ts e = refl
+known_same [] (p ∷ ps) ts e = cc
+known_same (q ∷ qs) [] ts e = cc
+known_same (q ∷ qs) (p ∷ ps) [] e = refl
+known_same (q ∷ qs) (p ∷ ps) (t ∷ ts) e =
+    let first : q.module_read ≡ p.module_read = cc in
+    let others : map back.module_of qs ≡ map back.module_of ps = cc in
+    ap₂ (λ (m : ModuleTree) (ks : List Known). record { read = m; symbols = t } ∷ ks) first (known_same qs ps ts others)
+
+abbrev said_with : List Known → Graph → List ModuleMarks
+said_with ks g = all_marks g (all_outs g (all_ins g (all_regions g (analyses ks g))))
+
+pub said_same : (p q : ProgramTree) → SameProgram p q → said_of q ≡ said_of p
+said_same p q same =
+    ap₂ said_with (ap (known_of q.modules) same.tables ∙ known_same q.modules p.modules p.tables same.modules) same.graph
+
+written_twice : TextsAreWrittenAgain → (show : Show) (bytes : List ℕ) (p q : ProgramTree) → reading bytes ≡ Ok p → reading (written show p) ≡ Ok q → SameProgram p q
+    → AllPassedOver (λ m. lines_for show (said_of p) m.module_read.name) p.modules → written show q ≡ written show p
+written_twice law show bytes p q e f same over =
+    let all = said_of p in
+    let added : ParsedTree → List Added = λ m. lines_for show all m.module_read.name in
+    let text = text_same show all p.modules in
+    let again = subst (λ t. back.IsReadAs t q.modules) text (is_read (written show p) q f).read in
+    ap (λ fs. modules_text show fs q.modules) (said_same p q same)
+    ∙ text_same show all q.modules
+    ∙ law bytes p.modules q.modules added (is_read bytes p e).read over (λ m n k. ap (λ (t : ModuleTree). lines_for show all t.name) k) again
+    ∙ sym text
+
+pub back_from : ProgramsReadBack → TextsAreWrittenAgain → LinesArePassedOver → AllRegionLinesPass → AllInLinesPass → AllOutLinesPass → MarkLinesArePassedOver → NamesAreShown → BlocksHaveAChain → ReadWrittenBack
+back_from programs texts lines on_regions on_ins on_outs on_marks names blocks show bytes p e =
     let is = is_read bytes p e in
     let i = is_program bytes p e in
     let shown = modules_shown names blocks p.modules p.tables (all_built i.lines p.modules i.parsed) i.tables in
     let all = said_of p in
-    let b = programs bytes p.modules p.tables p.graph (λ m. lines_for show all m.module_read.name) is (all_over lines show all (all_said on_regions on_ins on_outs on_marks p i.tables shown) p.modules) in
-    let q : ProgramTree = record { modules = b.again; tables = p.tables; graph = p.graph } in (
-      q,
-      ap reading (text_same show all p.modules) ∙ reading_is (back.modules_text (λ m. lines_for show all m.module_read.name) p.modules) b.again p.tables p.graph b.program,
-      record { modules = b.same; tables = refl; graph = refl },
-    )
+    let over = all_over lines show all (all_said on_regions on_ins on_outs on_marks p i.tables shown) p.modules in
+    let b = programs bytes p.modules p.tables p.graph (λ m. lines_for show all m.module_read.name) is over in
+    let q : ProgramTree = record { modules = b.again; tables = p.tables; graph = p.graph } in
+    let read = ap reading (text_same show all p.modules) ∙ reading_is (back.modules_text (λ m. lines_for show all m.module_read.name) p.modules) b.again p.tables p.graph b.program in
+    let same : SameProgram p q = record { modules = b.same; tables = refl; graph = refl } in
+    (q, read, same, written_twice texts show bytes p q e read same over)

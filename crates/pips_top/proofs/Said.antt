@@ -25,7 +25,7 @@ in_order u cs [] j f e = cc
 in_order u cs (a ∷ as') zero f e = let same : with_regions u cs a ≡ f = cc in ap (λ (g : ModuleRegions). Some g.analysis) same
 in_order u cs (a ∷ as') (suc j) f e = in_order u (with_callee (with_regions u cs a) cs) as' j f e
 
-back : {A : Type 0} (xs : List A) (j : ℕ) (x : A) → slice_get (reverse xs) j ≡ Some x → (j < length xs) × (slice_get xs (length xs - 1 - j) ≡ Some x)
+pub back : {A : Type 0} (xs : List A) (j : ℕ) (x : A) → slice_get (reverse xs) j ≡ Some x → (j < length xs) × (slice_get xs (length xs - 1 - j) ≡ Some x)
 back xs j x e =
     let l : j < length xs = subst (λ n. j < n) (length-reverse xs) (slice_get_within (reverse xs) j x e) in
     let g : get_or xs (length xs - 1 - j) x ≡ x = sym (get_or-reverse xs j x l) ∙ get_or_from_slice_get (reverse xs) j x x e in
@@ -64,14 +64,14 @@ known_at [] j f e = cc
 known_at (x ∷ fs) zero f e = let same : x ≡ f = cc in ap (λ (y : ModuleOuts). Some y.known) same
 known_at (x ∷ fs) (suc j) f e = known_at fs j f e
 
-abbrev all_known : List ModuleOuts → List ModuleIns
+abbrev pub all_known : List ModuleOuts → List ModuleIns
 all_known fs = map (λ (x : ModuleOuts). x.known) fs
 
 known_more : (done : List ModuleOuts) (f : ModuleOuts) → all_known (done ++ f ∷ []) ≡ all_known done ++ f.known ∷ []
 known_more [] f = refl
 known_more (x ∷ done) f = ap (λ fs. x.known ∷ fs) (known_more done f)
 
-known_from : (g : Graph) (done : List ModuleOuts) (fs : List ModuleIns) → all_known (outs_from g done fs) ≡ all_known done ++ fs
+pub known_from : (g : Graph) (done : List ModuleOuts) (fs : List ModuleIns) → all_known (outs_from g done fs) ≡ all_known done ++ fs
 known_from g done [] = sym (append-nil (all_known done))
 known_from g done (f ∷ fs) =
     let new = with_outs g (sites_of g.untracked done (outs.name_of f)) f in

@@ -8,7 +8,7 @@ use Rattle.fx_base.specs.declared.store.Role.TheVariants.{Input}
 use Rattle.fx_base.specs.declared.store.Fetched.TheVariants as fetched
 use Rattle.f77_parser.specs.Gives.{Refused}
 use Rattle.pips_top.specs.Answer.{Answer, answer, answer_asked, answer_held}
-use Rattle.pips_top.specs.Laws.{ReadClaimsHold, ReadAllSaid, ReadLinesMean, ReadWrittenBack}
+use Rattle.pips_top.specs.Laws.{ReadClaimsHold, ReadAllSaid, ReadLinesMean, ReadWrittenBack, ReadMarkedBack, ReadRunsInterleaved}
 use Rattle.pips_top.specs.Made.{made, made_of, input_limit}
 use Rattle.pips_top.specs.Program.{ProgramTree}
 use Rattle.pips_top.specs.Reading.{reading}
@@ -34,13 +34,22 @@ pub record Laws : Type 0 where
   pub all : ReadAllSaid
   pub lines : ReadLinesMean
   pub back : ReadWrittenBack
+  pub marked : ReadMarkedBack
+  pub interleaved : ReadRunsInterleaved
 
 -- what was read is that program, which is sound, and this is its text
 abbrev pub WasRead : List (List ℕ) → Outside → Outside → List ℕ → Type 0
 WasRead words old new text = (r : Reads words old new) × IsSound r.request.show r.program × (text ≡ written r.request.show r.program)
 
 sound_of : Laws → (show : Show) (bytes : List ℕ) (p : ProgramTree) → reading bytes ≡ Ok p → IsSound show p
-sound_of law show bytes p e = record { claims = law.holds bytes p e; whole = law.all bytes p e; lines = law.lines show bytes p e; back = law.back show bytes p e }
+sound_of law show bytes p e = record {
+  claims = law.holds bytes p e;
+  whole = law.all bytes p e;
+  lines = law.lines show bytes p e;
+  back = law.back show bytes p e;
+  marked = law.marked show bytes p e;
+  interleaved = law.interleaved show bytes p e (law.marked show bytes p e);
+}
 
 read_for : Laws → (words : List (List ℕ)) (old new : Outside) (text : List ℕ) (o : Option Request) → asked words ≡ o
     → IsSomeAnd o (DefinesFor old.files (old.counts Input) (new.counts Input) text) → WasRead words old new text

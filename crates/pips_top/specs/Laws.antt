@@ -1,6 +1,7 @@
 -- What is said of programs that are read.
 use Rattle.std.specs.Prelude.{◌≡◌, ℕ, List, Ok}
 use Rattle.pips_top.specs.Claimed.{ClaimsHold, SaysAll, LinesMean}
+use Rattle.pips_top.specs.MarkedText.{ReadsMarked, RunsInterleaved}
 use Rattle.pips_top.specs.Program.{ProgramTree}
 use Rattle.pips_top.specs.ReadBack.{ReadsBack}
 use Rattle.pips_top.specs.Reading.{reading}
@@ -18,6 +19,14 @@ ReadAllSaid = (bytes : List ℕ) (p : ProgramTree) → reading bytes ≡ Ok p �
 abbrev pub ReadLinesMean : Type 0
 ReadLinesMean = (show : Show) (bytes : List ℕ) (p : ProgramTree) → reading bytes ≡ Ok p → LinesMean show p
 
--- what is written of a program that was read is read again as the same program
+-- what is written of a program that was read is read again as the same program, and written as the same text
 abbrev pub ReadWrittenBack : Type 0
 ReadWrittenBack = (show : Show) (bytes : List ℕ) (p : ProgramTree) → reading bytes ≡ Ok p → ReadsBack show p
+
+-- and, with its directives, as that program with its parallel loops marked
+abbrev pub ReadMarkedBack : Type 0
+ReadMarkedBack = (show : Show) (bytes : List ℕ) (p : ProgramTree) → reading bytes ≡ Ok p → ReadsMarked show p
+
+-- and this does as the program does, its marked loops interleaved
+abbrev pub ReadRunsInterleaved : Type 0
+ReadRunsInterleaved = (show : Show) (bytes : List ℕ) (p : ProgramTree) → reading bytes ≡ Ok p → (m : ReadsMarked show p) → RunsInterleaved show p m

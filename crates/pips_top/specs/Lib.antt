@@ -6,6 +6,7 @@ pub mod Claimed
 pub mod Laws
 pub mod Written
 pub mod ReadBack
+pub mod MarkedText
 pub mod Made
 pub mod Words
 pub mod Codes

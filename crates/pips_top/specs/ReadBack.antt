@@ -1,4 +1,4 @@
--- What is written of a program is read again as the same program.
+-- What is written of a program is read again as the same program, and written as the same text.
 use Rattle.std.specs.Prelude.{◌≡◌, map, Ok}
 use Rattle.f77_ast.specs.DeclTrees.{ParsedTree}
 use Rattle.pips_top.specs.Program.{ProgramTree}
@@ -12,6 +12,6 @@ pub record SameProgram (p q : ProgramTree) : Type 0 where
   pub tables : q.tables ≡ p.tables
   pub graph : q.graph ≡ p.graph
 
--- what is written of it, with the lines of what is said of it, is not refused, and is the same program
+-- what is written of it, with the lines of what is said of it, is not refused, is the same program, and is written as the same text again
 abbrev pub ReadsBack : Show → ProgramTree → Type 0
-ReadsBack show p = (q : ProgramTree) × (reading (written show p) ≡ Ok q) × SameProgram p q
+ReadsBack show p = (q : ProgramTree) × (reading (written show p) ≡ Ok q) × SameProgram p q × (written show q ≡ written show p)

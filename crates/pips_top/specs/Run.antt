@@ -10,6 +10,7 @@ use Rattle.fx_base.specs.declared.store.Role.TheVariants.{Input, Base}
 use Rattle.fx_base.specs.declared.store.Fetched.{Fetched}
 use Rattle.fx_base.specs.declared.store.Fetched.TheVariants as fetched
 use Rattle.pips_top.specs.Made.{made, input_limit}
+use Rattle.pips_top.specs.MarkedText.{ReadsMarked, RunsInterleaved}
 use Rattle.pips_top.specs.Program.{ProgramTree}
 use Rattle.pips_top.specs.Reading.{reading}
 use Rattle.pips_top.specs.Claimed.{ClaimsHold, SaysAll, LinesMean}
@@ -74,12 +75,15 @@ pub record Reads (words : List (List ℕ)) (old new : Outside) : Type 0 where
   pub program : ProgramTree
   pub as_program : reading bytes ≡ Ok program
 
--- what is written of a program with what is said of it: this is true of every run and leaves nothing out, each line is read as just what is said, and the text is read again as the same program
+-- what is written of a program with what is said of it: this is true of every run and leaves nothing out, each line is read as just what is said, the text is read again as the same program,
+-- and with its directives as that program with just the parallel loops marked that were found, which does as the program does, these loops interleaved anyhow
 pub record IsSound (show : Show) (p : ProgramTree) : Type 0 where
   pub claims : ClaimsHold p
   pub whole : SaysAll p
   pub lines : LinesMean show p
   pub back : ReadsBack show p
+  pub marked : ReadsMarked show p
+  pub interleaved : RunsInterleaved show p marked
 
 -- each status with its cause and its line on err, and what out gained: the whole text of the program that was read, or its first n bytes, or nothing
 abbrev pub CausedBy : List (List ℕ) → Outside → Outside → Status → List ℕ → Type 0

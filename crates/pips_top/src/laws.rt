@@ -1,11 +1,12 @@
-//! What is said of a program that was read is true and leaves nothing out, and what is written of it is read again, line by line and as a program.
-ghost use Rattle.pips_top.specs.Laws.{ReadAllSaid, ReadClaimsHold, ReadLinesMean, ReadWrittenBack};
+//! What is said of a program that was read is true and leaves nothing out, and what is written of it is read again, line by line, as a program, and as one with marked loops.
+ghost use Rattle.pips_top.specs.Laws.{ReadAllSaid, ReadClaimsHold, ReadLinesMean, ReadMarkedBack, ReadRunsInterleaved, ReadWrittenBack};
 
 use laws_analyses::{analyses_are_whole, read_analyses_hold};
 use laws_in_lines::{all_in_lines_pass, in_lines_mean_regions, ins_are_over_places};
 use laws_in_regions::read_ins_hold;
 use laws_layout::blocks_have_a_chain;
 use laws_lines::{analyses_are_read_back, names_are_words};
+use laws_marks::read_runs_do_as_plain;
 use laws_out_lines::{all_out_lines_pass, out_lines_mean_regions, outs_are_over_places};
 use laws_out_regions::read_outs_hold;
 use laws_region_lines::{
@@ -13,7 +14,8 @@ use laws_region_lines::{
 };
 use laws_regions::read_regions_hold;
 use roundtrip_marks::{
-    directives_read_back, mark_lines_are_passed_over, obstacles_are_no_directives,
+    directives_read_back, mark_lines_are_passed_over, marks_read_back, obstacles_are_no_directives,
+    texts_are_written_again,
 };
 use roundtrip_programs::{lines_are_passed_over, names_are_shown, programs_read_back};
 
@@ -53,11 +55,12 @@ pub fn lines_mean_results()
     obstacles_are_no_directives();
 }
 
-/// What is written of a program that was read is read again as the same program.
+/// What is written of a program that was read is read again as the same program, and written as the same text.
 pub fn written_reads_back()
     ensures { ReadWrittenBack }
 {
     programs_read_back();
+    texts_are_written_again();
     lines_are_passed_over();
     all_region_lines_pass();
     all_in_lines_pass();
@@ -65,4 +68,30 @@ pub fn written_reads_back()
     mark_lines_are_passed_over();
     names_are_shown();
     blocks_have_a_chain();
+}
+
+/// What is written of a program that was read is read, with its directives, as that program with just its parallel loops marked.
+pub fn written_reads_marked()
+    ensures { ReadMarkedBack }
+{
+    marks_read_back();
+    analyses_are_whole();
+    names_are_words();
+    lines_are_passed_over();
+    all_region_lines_pass();
+    all_in_lines_pass();
+    all_out_lines_pass();
+    mark_lines_are_passed_over();
+    names_are_shown();
+    blocks_have_a_chain();
+    written_reads_back();
+}
+
+/// And this program does as the one that was read: in each run that comes to its end without a fault, its marked loops interleaved by whatever schedule, it never faults, and
+/// ends with the same output and the same readable variables.
+pub fn written_runs_interleaved()
+    ensures { ReadRunsInterleaved }
+{
+    read_runs_do_as_plain();
+    analyses_are_whole();
 }

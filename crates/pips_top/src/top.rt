@@ -3,7 +3,10 @@ ghost use Rattle.std.specs.Prelude.{◌≤◌};
 ghost use Rattle.pips_top.specs.Run.{Gains, Outside, Runs};
 
 use crate::Status;
-use crate::laws::{all_is_said, claims_hold, lines_mean_results, written_reads_back};
+use crate::laws::{
+    all_is_said, claims_hold, lines_mean_results, written_reads_back, written_reads_marked,
+    written_runs_interleaved,
+};
 use crate::reply::{Reply, reply_to};
 use fx_base::{Sent, Sink, Store, Words, send, send_bytes};
 use std::alloc::Global;
@@ -51,6 +54,8 @@ pub fn run<F: Store, O: Sink, E: Sink>(
     all_is_said();
     lines_mean_results();
     written_reads_back();
+    written_reads_marked();
+    written_runs_interleaved();
     match reply_to(alloc, words, files) {
         Reply::Writing(text) => match send(out, &text) {
             Sent::All => Status::Done,

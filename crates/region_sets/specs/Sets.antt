@@ -1,6 +1,7 @@
 -- Sets of regions, in order: at most one of a variable and kind, none that is refuted.
-use Rattle.std.specs.Prelude.{ℕ, if◌then◌else◌, List, [], ◌∷◌}
+use Rattle.std.specs.Prelude.{◌≡◌, ℕ, if◌then◌else◌, List, [], ◌∷◌}
 use Rattle.std.specs.declared.cmp.Ordering.{Ordering}
+use Rattle.std.specs.declared.cmp.Ordering.TheVariants.{Greater}
 use Rattle.std.specs.Ordering.{nat_cmp, ordering_then, match_ordering}
 use Rattle.affine_systems.specs.declared.row.System.{System}
 use Rattle.hull_projection.specs.Refute.{refuted}
@@ -26,6 +27,11 @@ access_number Out = 3
 -- by kind, then by variable
 abbrev pub region_cmp : Region → Region → Ordering
 region_cmp a b = ordering_then (nat_cmp (access_number a.kind) (access_number b.kind)) (variable_cmp a.variable b.variable)
+
+-- each of a list comes before a region
+abbrev pub ComeBefore : Region → List Region → Type 0
+ComeBefore r [] = Unit {0}
+ComeBefore r (q ∷ qs) = (region_cmp r q ≡ Greater) × ComeBefore r qs
 
 -- ---- regions without points
 

@@ -1,9 +1,10 @@
 //! Sets of regions, in order.
-ghost use Rattle.std.specs.Prelude.{◌≡◌, ◌++◌, ◌∷◌, [], IfOk, OnOk};
+ghost use Rattle.std.specs.Prelude.{◌≡◌, ◌++◌, ◌∷◌, ◌<◌, ◌-◌, [], length, take, slice_index_or, List as Elements, IfOk, OnOk};
 ghost use Rattle.hull_projection.specs.Minus.{AllFit};
 ghost use Rattle.region_sets.specs.Regions.{RegionFits};
 ghost use Rattle.region_sets.specs.Laws.{HasUnits, IsAsSharp};
-ghost use Rattle.region_sets.specs.Sets.{SetFits, access_number as access_number_is, region_cmp, live_pieces as live_pieces_is, with_region as with_region_is, with_live as with_live_is, with_regions, live as live_is, unite_all as unite_all_is};
+ghost use Rattle.region_sets.specs.declared.region.Region.{Region as ARegion};
+ghost use Rattle.region_sets.specs.Sets.{SetFits, ComeBefore, access_number as access_number_is, region_cmp, live_pieces as live_pieces_is, with_region as with_region_is, with_live as with_live_is, with_regions, live as live_is, unite_all as unite_all_is};
 
 use crate::region::{copy_system, push_system, remade};
 use crate::{Access, Region, RegionSet, unite};
@@ -64,45 +65,82 @@ pub fn push_region(out: &mut RegionSet, r: Region) -> Result<(), Memory>
     Ok(())
 }
 
-/// Puts a region into a set: united with the one of its variable and kind, or before the first that comes after it.
+/// A set into which a region was put, and an index before which all come before the region.
+#[derive(Drop)]
+struct Placed {
+    set: RegionSet,
+    at: usize,
+}
+
+/// Puts a region into a set: united with the one of its variable and kind, or before the first that comes after it. All before `start` come
+/// before it.
 #[tactic(auto, using(crate::proofs::SetSteps::region_loop))]
-fn with_region(alloc: Global, set: RegionSet, r: Region) -> Result<RegionSet, Memory>
+fn with_region(alloc: Global, set: RegionSet, start: usize, r: Region) -> Result<Placed, Memory>
     requires set { SetFits set }
     requires r { RegionFits r }
-    ensures defined { IfOk result (λ qs. qs ≡ with_region_is r set) }
-    ensures fits { IfOk result SetFits }
+    requires before { ComeBefore r (take start set) }
+    ensures defined { IfOk result (λ p. p.set ≡ with_region_is r set) }
+    ensures fits { IfOk result (λ p. SetFits p.set) }
+    ensures before { IfOk result (λ p. ComeBefore r (take p.at p.set)) }
 {
     let mut regions = set.into_vec();
-    for i in 0..regions.len() {
+    for i in start..regions.len() {
         match region_order(&r, &regions[i]) {
             Ordering::Less => {
                 regions.insert(i, r)?;
-                return Ok(List::from_vec(regions));
+                return Ok(Placed {
+                    set: List::from_vec(regions),
+                    at: i,
+                });
             }
             Ordering::Equal => {
                 regions[i] = unite(alloc, &regions[i], &r)?;
-                return Ok(List::from_vec(regions));
+                return Ok(Placed {
+                    set: List::from_vec(regions),
+                    at: i,
+                });
             }
             Ordering::Greater => {}
         }
     }
+    let at = regions.len();
     regions.push(r)?;
-    Ok(List::from_vec(regions))
+    Ok(Placed {
+        set: List::from_vec(regions),
+        at,
+    })
 }
 
-/// Puts a region into a set, without its refuted pieces, unless all are.
-fn with_live(alloc: Global, set: RegionSet, r: &Region) -> Result<RegionSet, Memory>
+/// Puts a region into a set, without its refuted pieces, unless all are. All before `start` come before it.
+#[tactic(auto, using(crate::proofs::SetSteps::come_same, crate::proofs::SetSteps::come_back))]
+fn with_live(alloc: Global, set: RegionSet, start: usize, r: &Region) -> Result<Placed, Memory>
     requires set { SetFits set }
     requires r { RegionFits r.now }
-    ensures defined { IfOk result (λ qs. qs ≡ with_live_is r.now set) }
-    ensures fits { IfOk result SetFits }
+    requires before { ComeBefore r.now (take start set) }
+    ensures defined { IfOk result (λ p. p.set ≡ with_live_is r.now set) }
+    ensures fits { IfOk result (λ p. SetFits p.set) }
+    ensures before { IfOk result (λ p. ComeBefore r.now (take p.at p.set)) }
 {
     let pieces = live_pieces(alloc, r.pieces.as_slice())?;
     if pieces.is_empty() {
-        return Ok(set);
+        return Ok(Placed { set, at: start });
     }
     let alive = remade(r, r.exact, pieces)?;
-    with_region(alloc, set, alive)
+    let placed = with_region(alloc, set, start, alive)?;
+    Ok(placed)
+}
+
+#[tactic(auto, using(crate::proofs::SetSteps::start_steps))]
+/// An index before which all of a set come before a region, where those before `at` come before the region before it in a list.
+fn start_for(regions: &[Region], i: usize, at: usize) -> usize
+    requires { i < length regions.now }
+    ensures { (set : Elements ARegion) (d : ARegion) → (0 < i → ComeBefore (slice_index_or regions.now (i - 1) d) (take at set)) → ComeBefore (slice_index_or regions.now i d) (take result set) }
+{
+    if i > 0 && region_order(&regions[i - 1], &regions[i]).is_lt() {
+        at
+    } else {
+        0
+    }
 }
 
 /// Adds a region without its refuted pieces, unless all are.
@@ -136,23 +174,27 @@ pub fn live(alloc: Global, regions: &[Region]) -> Result<RegionSet, Memory>
     Ok(out)
 }
 
-/// Regions that are united from left to right. Each is looked up among those before it.
+#[tactic(auto, using(crate::proofs::SetSteps::gather_loop))]
+/// Regions that are united from left to right. Each is looked up among those before it, from the place of the last on where it comes after that.
 fn all_gathered(alloc: Global, regions: &[Region]) -> Result<RegionSet, Memory>
     requires { SetFits regions.now }
     ensures defined { IfOk result (λ qs. qs ≡ unite_all_is regions.now) }
     ensures fits { IfOk result SetFits }
 {
     let mut set = List::new(alloc);
-    let mut rest = regions;
-    while let [r, more @ ..] = rest {
-        set = with_live(alloc, set, r)?;
-        rest = more;
+    let mut at = 0;
+    for i in 0..regions.len() {
+        let start = start_for(regions, i, at);
+        let placed = with_live(alloc, set, start, &regions[i])?;
+        set = placed.set;
+        at = placed.at;
     }
     live(alloc, set.as_slice())
 }
 
 /// The set of some regions, in the order of `RegionSet`: those of one variable and kind are united from left to right, and systems that are
-/// shown infeasible are left out, with a region that has no other. Each region is compared with those before it: quadratic in their number.
+/// shown infeasible are left out, with a region that has no other. Each region is compared with those before it, from the place of the last on where
+/// it comes after that: linear in regions that are in order already.
 pub fn unite_all(alloc: Global, regions: &[Region]) -> Result<RegionSet, Memory>
     requires { SetFits regions.now }
     ensures defined { IfOk result (λ qs. qs ≡ unite_all_is regions.now) }

@@ -1,8 +1,8 @@
 -- A text over the lines of a directive is read as that text.
-use Rattle.std.proofs.Common.{◌≡◌, ℕ, zero, suc, ◌+◌, ◌-◌, ◌≤◌, Bool, true, false, List, [], ◌∷◌, ◌++◌, length, take, drop, replicate, map, refl, sym, ap, ◌∙◌, subst, arith, append_assoc, append-nil, length-append, Option, Some, None, if◌then◌else◌, not}
+use Rattle.std.proofs.Common.{◌≡◌, ℕ, ◌+◌, ◌-◌, ◌≤◌, Bool, true, false, List, [], ◌∷◌, ◌++◌, length, drop, replicate, map, refl, sym, ap, ◌∙◌, arith, append_assoc, append-nil, length-append, Some, None, if◌then◌else◌, not}
 use Rattle.std.specs.Prelude.{nat_eq, bytes_eq, codes, option_map, ◌&&◌}
 use Rattle.std.proofs.lemmas.Bool.{eqb-true, eqb-false}
-use Rattle.std.proofs.lemmas.List.{take_all, drop_at}
+use Rattle.std.proofs.lemmas.List.{take_all}
 use Rattle.fixed_form.specs.Characters.{upper_case}
 use Rattle.fixed_form.specs.Cards.{front, filled, card, field, columns, is_initial}
 use Rattle.fixed_form.specs.Body.{stripped}

@@ -1,17 +1,17 @@
 -- The lines of a directive are read as the names of its private variables.
-use Rattle.std.proofs.Common.{inl, inr, ◌⊎◌, ◌<◌, ◌≡◌, ℕ, zero, suc, ◌+◌, ◌-◌, ◌≤◌, Bool, true, false, List, [], ◌∷◌, ◌++◌, replicate, map, refl, sym, ap, ◌∙◌, subst, arith, append_assoc, append-nil, Option, Some, None, if◌then◌else◌, not}
+use Rattle.std.proofs.Common.{inl, inr, ◌⊎◌, ◌<◌, ◌≡◌, ℕ, zero, suc, Bool, true, false, List, [], ◌∷◌, ◌++◌, replicate, map, refl, sym, ap, ◌∙◌, arith, append_assoc, append-nil, Option, Some, None, if◌then◌else◌}
 use Rattle.std.specs.Prelude.{nat_eq, nat_le, codes, bytes_eq, ◌&&◌, ◌||◌}
 use Rattle.std.specs.List.{list_all}
 use Rattle.std.specs.Char.{is_ascii_digit, is_ascii_uppercase}
 use Rattle.std.proofs.lemmas.Bool.{and_from, and_parts, and_left, or_cases, leb-true, lt-leb, eqb-true}
 use Rattle.fixed_form.specs.Body.{stripped}
 use Rattle.system_text.specs.SystemText.{each_after, joined, name_at}
-use Rattle.mark_lines.specs.MarkText.{private_clause, directive_text, directive_lines}
-use Rattle.roundtrip_systems.specs.Reading.{Bytes, ◌>>=◌, comma, cut, pieces}
-use Rattle.roundtrip_systems.specs.Printed.{in_name, is_name, AreNames, IsNumber, AreNumbers}
+use Rattle.mark_lines.specs.MarkText.{directive_text}
+use Rattle.roundtrip_systems.specs.Reading.{Bytes, ◌>>=◌, comma, pieces}
+use Rattle.roundtrip_systems.specs.Printed.{in_name, is_name, AreNames, AreNumbers}
 use Rattle.roundtrip_systems.proofs.Texts.{IsFree, AreFree, free-append, free-each_after, cut-at, pieces-each}
 use Rattle.roundtrip_systems.proofs.Names.{IsMade, name_made, made_free, other_character, name_of_number}
-use Rattle.roundtrip_marks.specs.Directives.{bracket, text_of, read_names, read_private, read_directive, read_lines}
+use Rattle.roundtrip_marks.specs.Directives.{read_names, read_private, read_directive}
 use Rattle.roundtrip_marks.specs.Laws.{DirectivesReadBack}
 use Rattle.roundtrip_marks.proofs.Cuts.{lines_have}
 

@@ -1,5 +1,5 @@
 -- The lines of marks are comment lines that reading drops.
-use Rattle.std.proofs.Common.{◌≡◌, ℕ, zero, suc, ◌+◌, Bool, true, false, List, [], ◌∷◌, ◌++◌, map, refl, sym, ap, ◌∙◌, subst, arith, append_assoc, append-nil, if◌then◌else◌}
+use Rattle.std.proofs.Common.{◌≡◌, ℕ, zero, suc, ◌+◌, Bool, true, false, List, [], ◌∷◌, ◌++◌, map, refl, sym, ap, ◌∙◌, arith, append_assoc, append-nil, if◌then◌else◌}
 use Rattle.std.specs.Prelude.{nat_eq, nat_le, codes, slice_index_or}
 use Rattle.std.specs.List.{list_all, list_any, AllByRecursion}
 use Rattle.std.proofs.lemmas.List.Folds.{list_all-append}
@@ -7,7 +7,6 @@ use Rattle.std.proofs.lemmas.Bool.{and_from, and_parts, or_from, leb-true, ne_eq
 use Rattle.fixed_form.specs.Cards.{is_comment, is_dropped}
 use Rattle.fixed_form.specs.TextLines.{unless_return, without_returns}
 use Rattle.f77_printer.specs.declared.added.Added.{Added}
-use Rattle.f77_results.specs.declared.results.At.{At}
 use Rattle.f77_symbols.specs.declared.variable.Variable.{Variable}
 use Rattle.f77_symbols.specs.declared.variable.Variable.TheVariants.{Own, Block, Saved}
 use Rattle.system_text.specs.SystemText.{name_at, each_after, joined}
@@ -21,15 +20,15 @@ use Rattle.region_sets.specs.declared.marks.Reason.{Reason}
 use Rattle.region_sets.specs.declared.marks.Reason.TheVariants.{Jump, InputOutput, Step, Index, Carries}
 use Rattle.region_sets.specs.declared.marks.Mark.{Mark}
 use Rattle.region_sets.specs.declared.marks.Mark.TheVariants.{Parallel, Serial}
-use Rattle.mark_lines.specs.MarkText.{kinds_text, all_kinds_text, private_text, reason_text, obstacle_line, private_clause, directive_text, cut, directive_lines}
+use Rattle.mark_lines.specs.MarkText.{all_kinds_text, private_text, reason_text, obstacle_line, private_clause, directive_text, cut, directive_lines}
 use Rattle.mark_lines.specs.MarkLines.{lines_at, mark_lines_of}
-use Rattle.roundtrip_lines.specs.Good.{IsComment, is_printable}
+use Rattle.roundtrip_lines.specs.Good.{is_printable}
 use Rattle.roundtrip_systems.specs.Reading.{Bytes}
 use Rattle.roundtrip_text.specs.Texts.{IsPassedOver}
 use Rattle.roundtrip_programs.specs.Lines.{IsShown, AreShown}
 use Rattle.roundtrip_regions.specs.Laws.{IsShownVariable}
 use Rattle.roundtrip_marks.specs.Directives.{is_sentinel}
-use Rattle.roundtrip_marks.specs.Lines.{IsShownReason, IsShownMark, AreShownMarks}
+use Rattle.roundtrip_marks.specs.Lines.{IsShownReason, IsShownMark}
 use Rattle.roundtrip_marks.specs.Laws.{ObstaclesAreNoDirectives, MarkLinesArePassedOver}
 
 -- ---- lines of printable ASCII have no line feed, and no carriage return

@@ -1,18 +1,14 @@
 -- A text is read as one program, with one choice of marked loops.
-use Rattle.std.proofs.Common.{◌≡◌, ℕ, List, refl, sym, ap, ◌∙◌, subst, Some}
+use Rattle.std.proofs.Common.{◌≡◌, List, sym, ap, ◌∙◌, Some}
 use Rattle.std.specs.Prelude.{Ok}
 use Rattle.f77_ast.specs.DeclTrees.{ParsedTree}
-use Rattle.f77_results.specs.declared.results.At.{At}
-use Rattle.fixed_form.specs.declared.line.Lines.{Lines}
-use Rattle.fixed_form.specs.Reading.{reading}
 use Rattle.f77_parser.specs.Modules.{parse_of}
 use Rattle.roundtrip_systems.specs.Reading.{Bytes}
 use Rattle.roundtrip_text.specs.Texts.{IsReadAs}
-use Rattle.roundtrip_marks.specs.Directives.{Directive}
-use Rattle.roundtrip_marks.specs.Marked.{all_attached, ReadMarked}
+use Rattle.roundtrip_marks.specs.Marked.{all_attached}
 use Rattle.roundtrip_marks.specs.Laws.{ReadingIsUnique}
 
-one_reading : (text : Bytes) (ps qs : List ParsedTree) → IsReadAs text ps → IsReadAs text qs → ps ≡ qs
+pub one_reading : (text : Bytes) (ps qs : List ParsedTree) → IsReadAs text ps → IsReadAs text qs → ps ≡ qs
 one_reading text ps qs h k =
     let e : Ok h.lines ≡ Ok k.lines = sym h.lined ∙ k.lined in
     let same : h.lines ≡ k.lines = cc in

@@ -1,8 +1,7 @@
 -- What is asked of marks, so that their lines are read as they were written.
-use Rattle.std.specs.Prelude.{◌≡◌, ℕ, List, [], ◌∷◌, ◌++◌, map}
+use Rattle.std.specs.Prelude.{List}
 use Rattle.std.specs.List.{AllByRecursion}
 use Rattle.f77_results.specs.declared.results.At.{At}
-use Rattle.system_text.specs.SystemText.{name_at}
 use Rattle.region_sets.specs.declared.marks.Reason.{Reason}
 use Rattle.region_sets.specs.declared.marks.Reason.TheVariants.{Jump, InputOutput, Step, Index, Carries}
 use Rattle.region_sets.specs.declared.marks.Mark.{Mark}
@@ -10,8 +9,6 @@ use Rattle.region_sets.specs.declared.marks.Mark.TheVariants.{Parallel, Serial}
 use Rattle.roundtrip_systems.specs.Reading.{Bytes}
 use Rattle.roundtrip_systems.specs.Printed.{AreNumbers}
 use Rattle.roundtrip_regions.specs.Laws.{IsShownVariable}
-
--- ---- names
 
 -- the variable of an obstacle is a symbol, or has a name of printable ASCII
 abbrev pub IsShownReason : Reason → Type 0
@@ -35,13 +32,3 @@ IsNumberedMark names (Serial r) = Unit {0}
 
 abbrev pub AreNumberedMarks : List Bytes → List (At Mark) → Type 0
 AreNumberedMarks names ms = AllByRecursion (λ (m : At Mark). IsNumberedMark names m.value) ms
-
--- ---- the parallel loops among marked ones, with the names of their private variables
-
-abbrev pub as_parallel : List Bytes → ℕ → Mark → List (At (List Bytes))
-as_parallel names n (Parallel ns) = record { id = n; value = map (name_at names) ns } ∷ []
-as_parallel names n (Serial r) = []
-
-abbrev pub parallel_in : List Bytes → List (At Mark) → List (At (List Bytes))
-parallel_in names [] = []
-parallel_in names (m ∷ ms) = as_parallel names m.id m.value ++ parallel_in names ms

@@ -17,7 +17,7 @@ use Rattle.roundtrip_marks.specs.Directives.{Directive, directives_in}
 abbrev pub the_loops : Walk (List ℕ)
 the_loops = record {
   of_leaf = λ n label w. [];
-  of_inner = λ n label test s. s;
+  of_inner = λ n label test s. [];
   of_body = λ n label l body. n ∷ body;
   of_arms = λ n label arms other. arms ++ other;
   of_arm = λ test body rest. body ++ rest;
@@ -28,7 +28,7 @@ the_loops = record {
   of_end = [];
 }
 
--- the numbers of the DO statements, in the order of the text
+-- the numbers of the DO statements, in the order of the text; the statement in a logical IF is none (ANSI X3.9-1978 §11.5)
 abbrev pub loops_in : StmtTrees → List ℕ
 loops_in body = walk_list the_loops body
 

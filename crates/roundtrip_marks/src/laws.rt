@@ -1,4 +1,5 @@
 //! The laws of lines of marks.
+ghost use Rattle.roundtrip_marks.specs.WholeLaws.{MarksReadBack, TextsAreWrittenAgain};
 ghost use Rattle.roundtrip_marks.specs.Laws.{DirectivesReadBack, ObstaclesAreNoDirectives, MarkLinesArePassedOver, ReadingIsUnique};
 
 /// The lines of a directive are read as the names of its private variables.
@@ -19,4 +20,14 @@ pub fn mark_lines_are_passed_over()
 /// A text is read as one program, with one choice of marked loops, or not at all.
 pub fn reading_is_unique()
     ensures { ReadingIsUnique }
+{}
+
+/// The written text of a program with the lines of its marks is read, with its directives, as that program with these marks.
+pub fn marks_read_back()
+    ensures { MarksReadBack }
+{}
+
+/// What is read of the written text of modules is written, with the same lines added, as the same text.
+pub fn texts_are_written_again()
+    ensures { TextsAreWrittenAgain }
 {}

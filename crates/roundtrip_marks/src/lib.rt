@@ -4,6 +4,6 @@
 mod laws;
 
 pub use laws::{
-    directives_read_back, mark_lines_are_passed_over, obstacles_are_no_directives,
-    reading_is_unique,
+    directives_read_back, mark_lines_are_passed_over, marks_read_back, obstacles_are_no_directives,
+    reading_is_unique, texts_are_written_again,
 };

@@ -1,11 +1,11 @@
 mod Labels
-mod Sources
-mod Read
-mod SpotsKept
-mod CardsFit
-mod Rows
-mod RowsBack
-mod Standing
+pub mod Sources
+pub mod Read
+pub mod SpotsKept
+pub mod CardsFit
+pub mod Rows
+pub mod RowsBack
+pub mod Standing
 mod SameText
 mod Faultless
-mod Whole
+pub mod Whole

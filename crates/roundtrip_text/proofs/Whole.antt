@@ -44,11 +44,11 @@ use Rattle.roundtrip_text.proofs.Faultless.{IsAsWritten, all-formed, again-fault
 -- ---- a module
 
 -- a statement that is written: formed as the grammar says, read as it is written, and no longer than lines hold
-record IsGood (c : Card) : Type 0 where
+pub record IsGood (c : Card) : Type 0 where
   pub own : IsCard c
   pub fits : Fits c.phrase
 
-record IsSound (p : ParsedTree) : Type 0 where
+pub record IsSound (p : ParsedTree) : Type 0 where
   pub well : IsWell p.module_read
   pub cards : Each IsGood (statements_of p.module_read)
   pub spots : SpotsKept p.places.spots
@@ -85,7 +85,7 @@ sound p h =
 abbrev Comments : List (List ℕ) → Type 0
 Comments ls = Each IsComment ls
 
-plain : (ls : List (List ℕ)) → AreKept ls → Comments ls
+pub plain : (ls : List (List ℕ)) → AreKept ls → Comments ls
 plain ls h = each-map IsKept IsComment ls (λ l k. k.comment) h
 
 chosen-comments : (b : Bool) (l : List ℕ) (ls : List (List ℕ)) → IsComment l → Comments ls → Comments (if b then l ∷ ls else ls)
@@ -136,24 +136,24 @@ module-ended added p =
 
 -- ---- all modules
 
-all-sound : (ps : List ParsedTree) → AreParsed ps → Each IsSound ps
+pub all-sound : (ps : List ParsedTree) → AreParsed ps → Each IsSound ps
 all-sound [] h = tt
 all-sound (p ∷ ps) h = record { first = sound p h.first; others = all-sound ps h.others }
 
-all-rows : (added : ParsedTree → List Added) (ps : List ParsedTree) → AllPassedOver added ps → Each IsSound ps → Each IsRow (all_rows added ps)
+pub all-rows : (added : ParsedTree → List Added) (ps : List ParsedTree) → AllPassedOver added ps → Each IsSound ps → Each IsRow (all_rows added ps)
 all-rows added [] a h = tt
 all-rows added (p ∷ ps) a h = Each-append IsRow (module_rows added p) (all_rows added ps) (module-rows added p a.first h.first) (all-rows added ps a.others h.others)
 
-all-ended : (added : ParsedTree → List Added) (ps : List ParsedTree) → EndWell (all_rows added ps)
+pub all-ended : (added : ParsedTree → List Added) (ps : List ParsedTree) → EndWell (all_rows added ps)
 all-ended added [] = tt
 all-ended added (p ∷ ps) = joined-ended (module_rows added p) (all_rows added ps) (module-ended added p) (all-ended added ps)
 
-closing-kept : (ps : List ParsedTree) → Each IsSound ps → AreKept (last_closing ps)
+pub closing-kept : (ps : List ParsedTree) → Each IsSound ps → AreKept (last_closing ps)
 closing-kept [] h = tt
 closing-kept (p ∷ []) h = h.first.closing
 closing-kept (p ∷ q ∷ qs) h = closing-kept (q ∷ qs) h.others
 
-all-text : (added : ParsedTree → List Added) (ps : List ParsedTree) → AreParsed ps → Each IsSound ps → modules_text added ps ≡ cards_text (map line_card (all_rows added ps)) (last_closing ps)
+pub all-text : (added : ParsedTree → List Added) (ps : List ParsedTree) → AreParsed ps → Each IsSound ps → modules_text added ps ≡ cards_text (map line_card (all_rows added ps)) (last_closing ps)
 all-text added [] h s = refl
 all-text added (p ∷ []) h s = append-nil (text_of added p) ∙ last-text added p s.first.well
 all-text added (p ∷ q ∷ qs) h s =
@@ -167,18 +167,18 @@ as-written [] n = tt
 as-written (r ∷ rs) n = record { first = refl; others = as-written rs _ }
 
 -- what a module is read as, before others
-abbrev again_of : (ParsedTree → List Added) → List (List ℕ) → ℕ → ParsedTree → List ParsedTree → ParsedTree
+abbrev pub again_of : (ParsedTree → List Added) → List (List ℕ) → ℕ → ParsedTree → List ParsedTree → ParsedTree
 again_of added closing n p ps =
     build_module (closing_at (is_none_of (read_rows (lines_behind n (module_rows added p)) (all_rows added ps))) closing) (read_rows n (module_rows added p))
 
-abbrev all_again : (ParsedTree → List Added) → List (List ℕ) → ℕ → List ParsedTree → List ParsedTree
+abbrev pub all_again : (ParsedTree → List Added) → List (List ℕ) → ℕ → List ParsedTree → List ParsedTree
 all_again added closing n [] = []
 all_again added closing n (p ∷ ps) = again_of added closing n p ps ∷ all_again added closing (lines_behind n (module_rows added p)) ps
 
-again-written : (added : ParsedTree → List Added) (n : ℕ) (p : ParsedTree) → AreWritten p.module_read (read_rows n (module_rows added p))
+pub again-written : (added : ParsedTree → List Added) (n : ℕ) (p : ParsedTree) → AreWritten p.module_read (read_rows n (module_rows added p))
 again-written added n p = rows-written (added_lines (first_part p.module_read) (added p)) p.places.spots (statements_of p.module_read) n
 
-all-again : (added : ParsedTree → List Added) (closing : List (List ℕ)) (ps : List ParsedTree) (n : ℕ) (done : List ParsedTree) → AreParsed ps
+pub all-again : (added : ParsedTree → List Added) (closing : List (List ℕ)) (ps : List ParsedTree) (n : ℕ) (done : List ParsedTree) → AreParsed ps
     → modules_from closing done [] (read_rows n (all_rows added ps)) ≡ Ok (done ++ all_again added closing n ps)
 all-again added closing [] n done h = ap (λ (x : List ParsedTree). Ok x) (sym (append-nil done))
 all-again added closing (p ∷ ps) n done h =
@@ -191,7 +191,7 @@ all-again added closing (p ∷ ps) n done h =
     ∙ all-again added closing ps k (done ++ again_of added closing n p ps ∷ []) h.others
     ∙ ap (λ (x : List ParsedTree). Ok x) (append_assoc done (again_of added closing n p ps ∷ []) (all_again added closing k ps))
 
-all-same : (added : ParsedTree → List Added) (closing : List (List ℕ)) (ps : List ParsedTree) (n : ℕ) → Each IsSound ps → map module_of (all_again added closing n ps) ≡ map module_of ps
+pub all-same : (added : ParsedTree → List Added) (closing : List (List ℕ)) (ps : List ParsedTree) (n : ℕ) → Each IsSound ps → map module_of (all_again added closing n ps) ≡ map module_of ps
 all-same added closing [] n h = refl
 all-same added closing (p ∷ ps) n h =
     let k = lines_behind n (module_rows added p) in
@@ -226,7 +226,7 @@ one-text added n p closing a h c =
     (ap (λ x. page_text (λ part. []) x (statements_of p.module_read)) (built-spots p.module_read closing own h.well w)
     ∙ same-page (added_lines first (added p)) p.places.spots (statements_of p.module_read) n (λ x. added-dropped first (added p) x a) h.spots)
 
-all-written : (added : ParsedTree → List Added) (closing : List (List ℕ)) (ps : List ParsedTree) (n : ℕ) → AllPassedOver added ps → AreParsed ps → Each IsSound ps → closing ≡ last_closing ps
+pub all-written : (added : ParsedTree → List Added) (closing : List (List ℕ)) (ps : List ParsedTree) (n : ℕ) → AllPassedOver added ps → AreParsed ps → Each IsSound ps → closing ≡ last_closing ps
     → map plain_text (all_again added closing n ps) ≡ map plain_text ps
 all-written added closing [] n a h s c = refl
 all-written added closing (p ∷ []) n a h s c = ap (λ (x : List ℕ). x ∷ []) (one-text added n p closing a.first s.first c)
@@ -239,7 +239,7 @@ all-written added closing (p ∷ q ∷ qs) n a h s c =
 
 -- ---- the laws
 
-parsed-back : (ps : List ParsedTree) (added : ParsedTree → List Added) → AreParsed ps → AllPassedOver added ps → ReadBack (modules_text added ps) ps
+unfoldable pub parsed-back : (ps : List ParsedTree) (added : ParsedTree → List Added) → AreParsed ps → AllPassedOver added ps → ReadBack (modules_text added ps) ps
 unfolding parse_of
 parsed-back ps added h a =
     let s = all-sound ps h in

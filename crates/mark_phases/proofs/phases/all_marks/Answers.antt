@@ -1,4 +1,4 @@
-use Rattle.std.proofs.Common.{◌≡◌, ◌++◌, map, reverse, Some, sym, ap, ◌∙◌}
+use Rattle.std.proofs.Common.{◌++◌, map, reverse, Some, sym, ap, ◌∙◌}
 use Rattle.std.proofs.lemmas.List.Elements.{All-pop}
 use Rattle.f77_results.specs.Summaries.{summary_in}
 use Rattle.scalar_phases.proofs.PhaseLaws.{popped}

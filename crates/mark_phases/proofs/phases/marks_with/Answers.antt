@@ -3,8 +3,6 @@ use Rattle.std.specs.Prelude.{IfOk}
 use Rattle.f77_ast.specs.PlainDecl.{module_tree}
 use Rattle.f77_symbols.specs.Symbols.{symbol_tree}
 use Rattle.f77_symbols.specs.Index.{names_of}
-use Rattle.f77_meaning.specs.Modules.{symbol_names}
-use Rattle.call_translation.specs.Scopes as code
 use Rattle.call_translation.specs.Scopes.{ScopeTree}
 use Rattle.scalar_phases.specs.Phases.{scope_of}
 use Rattle.scalar_phases.specs.Views.{known}

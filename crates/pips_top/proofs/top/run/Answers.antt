@@ -1,14 +1,14 @@
 use Rattle.std.proofs.Common.{rules, ℕ, List, [], codes, inl, refl}
 use Rattle.fx_base.specs.declared.store.Role.TheVariants.{Input}
-use Rattle.pips_top.specs.Laws.{ReadClaimsHold, ReadAllSaid, ReadLinesMean, ReadWrittenBack}
+use Rattle.pips_top.specs.Laws.{ReadClaimsHold, ReadAllSaid, ReadLinesMean, ReadWrittenBack, ReadMarkedBack, ReadRunsInterleaved}
 use Rattle.pips_top.specs.Run.{CausedBy, Outside, StopsBy}
 use Rattle.pips_top.specs.declared.status.Status.TheVariants.{Done, WriteFault}
 use Rattle.pips_top.proofs.Soundness.{Laws, Sent, CutOff, caused_done, caused_fault, defined_from}
 use Rattle.pips_top.proofs.Stopping.{stop_caused, stop_defined, stop_complete}
 use Rattle.pips_top.proofs.top.run.Goals as goal
 
-laws : ReadClaimsHold → ReadAllSaid → ReadLinesMean → ReadWrittenBack → Laws
-laws holds all lines back = record { holds = holds; all = all; lines = lines; back = back }
+laws : ReadClaimsHold → ReadAllSaid → ReadLinesMean → ReadWrittenBack → ReadMarkedBack → ReadRunsInterleaved → Laws
+laws holds all lines back marked interleaved = record { holds = holds; all = all; lines = lines; back = back; marked = marked; interleaved = interleaved }
 
 pub returns-in-All : goal.returns-in-All
 returns-in-All g c =
@@ -29,7 +29,7 @@ returns-in-All g c =
       err_faults = g.E.Sink.faults c.args.err.now;
     } in
     let sent : Sent c.args.words.now old new = search rules in
-    let cause : CausedBy c.args.words.now old new Done [] = caused_done (laws c.claims_hold.ensures c.all_is_said.ensures c.lines_mean_results.ensures c.written_reads_back.ensures) c.args.words.now old new sent in
+    let cause : CausedBy c.args.words.now old new Done [] = caused_done (laws c.claims_hold.ensures c.all_is_said.ensures c.lines_mean_results.ensures c.written_reads_back.ensures c.written_reads_marked.ensures c.written_runs_interleaved.ensures) c.args.words.now old new sent in
     record {
       line = [];
       cause = cause;
@@ -62,7 +62,7 @@ returns-in-Writing g c =
     } in
     let line : List ℕ = codes "pips: cannot write\n" in
     let cut : CutOff c.args.words.now old new = search rules in
-    let cause : CausedBy c.args.words.now old new WriteFault line = caused_fault (laws c.claims_hold.ensures c.all_is_said.ensures c.lines_mean_results.ensures c.written_reads_back.ensures) c.args.words.now old new cut in
+    let cause : CausedBy c.args.words.now old new WriteFault line = caused_fault (laws c.claims_hold.ensures c.all_is_said.ensures c.lines_mean_results.ensures c.written_reads_back.ensures c.written_reads_marked.ensures c.written_runs_interleaved.ensures) c.args.words.now old new cut in
     record {
       line = line;
       cause = cause;

@@ -1,13 +1,11 @@
-use Rattle.std.proofs.Common.{◌≡◌, length, []}
-use Rattle.region_sets.specs.Sets.{SetFits, with_regions}
+use Rattle.std.proofs.Common.{◌≡◌, ◌-◌, ◌<◌, drop, take, get_or, []}
+use Rattle.region_sets.specs.declared.region.Region.{Region}
+use Rattle.region_sets.specs.Sets.{SetFits, ComeBefore, with_regions}
 use Rattle.region_sets.proofs.sets.all_gathered.Given as goal
 
-abbrev pub invariant-loop-rest : goal.invariant-loop-rest
-invariant-loop-rest l = record {
-  same : with_regions l.set l.rest ≡ with_regions [] l.fn.regions;
+abbrev pub invariant-loop-i : goal.invariant-loop-i
+invariant-loop-i l = record {
+  same : with_regions l.set (drop l.i l.fn.regions) ≡ with_regions [] l.fn.regions;
   fits : SetFits l.set;
-  each : SetFits l.rest;
+  before : (d : Region) → 0 < l.i → ComeBefore (get_or l.fn.regions (l.i - 1) d) (take l.at l.set);
 }
-
-abbrev pub decreases-loop-rest : goal.decreases-loop-rest
-decreases-loop-rest l = length l.rest

@@ -1,0 +1,224 @@
+-- At each execution of a marked DO of a program that is read its loop holds.
+use Rattle.std.proofs.Common.{◌≡◌, ◌⊎◌, inl, inr, ⊎_elim, ℕ, zero, suc, ◌<◌, true, false, List, [], ◌∷◌, map, Option, Some, None, Bool, refl, sym, ap, ◌∙◌, subst, bytes_eq, nat_eq, true≢false}
+use Rattle.std.specs.Prelude.{slice_get, All}
+use Rattle.std.specs.List.{list_any}
+use Rattle.std.proofs.lemmas.Slice.Eq.{bytes_eq-Decides}
+use Rattle.system_text.specs.SystemText.{name_at}
+use Rattle.f77_ast.specs.Trees.{ExprTree, StmtTrees, LoopTree}
+use Rattle.f77_ast.specs.Trees as tree
+use Rattle.f77_ast.specs.DeclTrees.{ParsedTree}
+use Rattle.f77_ast.specs.StatementNumbers.{loop_numbers, IsNumbered}
+use Rattle.f77_ast.specs.Store.{Content, Store}
+use Rattle.f77_ast.specs.Faults.{Locked}
+use Rattle.f77_ast.specs.Runs.{Event, Answer}
+use Rattle.f77_ast.specs.Places.{Variable, Names, Place, Places}
+use Rattle.f77_ast.specs.Writes.{Locks, lock}
+use Rattle.f77_ast.specs.Loops.{Range}
+use Rattle.f77_ast.specs.Calls.{in_place}
+use Rattle.f77_ast.specs.Plans.{Flow}
+use Rattle.f77_ast.specs.Executions.{run_of}
+use Rattle.f77_ast.specs.Statements.{spot, do_plan}
+use Rattle.f77_ast.specs.Programs.{Routine, Program, meanings}
+use Rattle.f77_symbols.specs.declared.variable.Variable.TheVariants.{Own}
+use Rattle.f77_symbols.specs.Symbols.{SymbolTree}
+use Rattle.f77_symbols.specs.Shared.{symbol_at}
+use Rattle.call_graph.specs.declared.graph.Graph.{Graph}
+use Rattle.f77_meaning.specs.Modules.{Known, known_of, is_function, names, symbol_names, fixed}
+use Rattle.f77_meaning.specs.Linked.{numbering, routine, program_of}
+use Rattle.f77_meaning.specs.Areas.{Numbering}
+use Rattle.f77_meaning.specs.Processes.{Marked}
+use Rattle.transformer_algebra.specs.Cells.{has}
+use Rattle.transformer_algebra.specs.Laws.{In, here, there}
+use Rattle.transformers.specs.Lists.{value_at}
+use Rattle.scalar_phases.specs.Phases.{scope_of}
+use Rattle.region_sets.specs.declared.marks.Mark.TheVariants.{Parallel}
+use Rattle.mark_phases.specs.Phases.{ModuleMarks, known_in, all_marks}
+use Rattle.loop_bodies.specs.Finding.{loop_in}
+use Rattle.laws_programs.specs.Programs.{IsProgram}
+use Rattle.laws_statements.specs.CallsIn.{Each}
+use Rattle.laws_analyses.proofs.Modules.{IsIn}
+use Rattle.laws_conflicts.specs.Claims.{loop_with}
+use Rattle.laws_conflicts.specs.Executions.{Execution}
+use Rattle.laws_conflicts.proofs.Modules.{numbered_above}
+use Rattle.laws_conflicts.proofs.Whats.{no_list}
+use Rattle.laws_interleavings.specs.Holds.{LoopHolds}
+use Rattle.laws_interleavings.specs.MarkedStatements.{MarkedScope, marked_loop, own_in}
+use Rattle.laws_interleavings.specs.MarkedPrograms.{Directives, marked_scope, marked_meanings}
+use Rattle.laws_regions.specs.Settings.{is_stored}
+use Rattle.laws_marked_plans.specs.Fine.{TagsStand}
+use Rattle.laws_marked_loops.specs.Begins.{Begins}
+use Rattle.laws_marked_loops.specs.Fit.{HasPrivateUnits, LoopIsFit, IsDeadAfter}
+use Rattle.laws_marked_loops.specs.Laws.{LoopsBegin, LoopsHold}
+use Rattle.laws_marks.specs.Inactive.{InactiveHaveNone}
+use Rattle.laws_marks.proofs.Order.{Distinct, names_once}
+use Rattle.laws_marks.proofs.Apart.{linked}
+use Rattle.laws_marks.specs.DeadLaws.{AllNamesStand, AllMarkedLoopsAreDead, outs_of}
+use Rattle.laws_marks.specs.Dead.{index_name}
+use Rattle.laws_marks.specs.Named.{AreNamesOf, NamesStand, ModuleNamesStand, PlacesStand, ModulePlacesStand, MarkedLoopIsDead, NamesAreCopied}
+use Rattle.laws_marks.specs.Units.{IsPassing}
+use Rattle.laws_marks.proofs.Written.{name_means}
+use Rattle.laws_marks.proofs.UnitsStanding.{each_of_all}
+use Rattle.laws_marks.specs.Known.{LoopIsKnown, MarkedLoopIsKnown, AllMarkedLoopsAreKnown}
+use Rattle.laws_marks.proofs.Private.{stored_place, name_private}
+use Rattle.laws_marks.specs.Rests.{occurrence_of}
+use Rattle.laws_marks.specs.Loops.{AreOff, IsOutside, MarkedDoHolds, RoutineHolds}
+use Rattle.laws_marks.specs.Directives.{IsMarkOf, AreOfMarks}
+use Rattle.laws_marks.proofs.Unbroken.{IsUnbroken}
+use Rattle.laws_marks.proofs.Dos.{all_dos}
+use Rattle.laws_marks.proofs.Units.{units, nameless_outside, nameless_local}
+use Rattle.laws_marks.proofs.Fitted.{Stands, IsFixed, is_free, body_fine, own_cleared, own_valueless, hidden_private, nameless_unwritten, owned}
+
+in_map : (f : ℕ → List ℕ) (n : ℕ) (ns : List ℕ) → In n ns → In (f n) (map f ns)
+in_map f n [] i = elim i [ ]
+in_map f n (m ∷ ns) here = here
+in_map f n (m ∷ ns) (there i) = there (in_map f n ns i)
+
+each_in : {T : Type 0} (P : T → Type 0) (xs : List T) (x : T) → In x xs → Each P xs → P x
+each_in {T = T} P [] x j h = elim j [ ]
+each_in P (y ∷ xs) x here h = h.0
+each_in P (y ∷ xs) x (there j) h = each_in P xs x j h.1
+
+module _ (begin : LoopsBegin) (hold : LoopsHold) (copied : NamesAreCopied) (ps : List ParsedTree) (sss : List (List SymbolTree)) (g : Graph) (x : IsProgram ps sss g) (turns : ℕ) (d : Directives) where
+  abbrev fs : List ModuleMarks
+  fs = all_marks g (outs_of ps sss g)
+
+  abbrev of : Known → Routine
+  of k = routine (known_of ps sss) g k
+
+  abbrev P : Program
+  P = program_of (known_of ps sss) g
+
+  -- of a module, by its name
+  abbrev pub PlacesOf : Execution → ModuleMarks → Type 0
+  PlacesOf e f = (known_in f.outs).read.name ≡ e.spot.module_name → ModulePlacesStand (known_of ps sss) g f e
+
+  -- what is claimed of an execution, and of what the run does after it
+  pub record Claimed (e : Execution) (later : List Event) : Type 0 where
+    pub unbroken : IsUnbroken e later
+    pub known : AllMarkedLoopsAreKnown (known_of ps sss) g (all_marks g (outs_of ps sss g)) e
+    pub inactive : InactiveHaveNone (program_of (known_of ps sss) g) e
+    pub names : AllNamesStand (known_of ps sss) g (all_marks g (outs_of ps sss g)) e
+    pub placed : Each (PlacesOf e) (all_marks g (outs_of ps sss g))
+    pub dead : AllMarkedLoopsAreDead (known_of ps sss) g (all_marks g (outs_of ps sss g)) (occurrence_of e later)
+
+  module _ (of_marks : AreOfMarks (all_marks g (outs_of ps sss g)) d) (modules : Each (λ (f : ModuleMarks). IsIn (known_of ps sss) (known_in f.outs)) (all_marks g (outs_of ps sss g))) (numbered : (k : Known) → IsIn (known_of ps sss) k → IsNumbered k.read.body) (k : Known) (is_in : IsIn (known_of ps sss) k) (xs : List Known) (behind : Each (IsIn (known_of ps sss)) xs)
+      (distinct : Distinct (map of (k ∷ xs))) (st : Stands (program_of (known_of ps sss) g) turns (of k) (map of xs)) where
+    abbrev sc : MarkedScope
+    sc = marked_scope (of k) turns d (meanings (map of xs) turns) (marked_meanings (map of xs) turns d)
+
+    abbrev N : Numbering
+    N = numbering (known_of ps sss) g
+
+    -- the module of a mark
+    same_module : (f : ModuleMarks) → In f fs → (known_in f.outs).read.name ≡ k.read.name → known_in f.outs ≡ k
+    same_module f i e =
+        let h = each_in (λ (z : ModuleMarks). IsIn (known_of ps sss) (known_in z.outs)) fs f i modules in
+        let at : h.at ≡ is_in.at = names_once ps sss g (linked ps sss g x) h.at is_in.at (known_in f.outs) k h.is_module is_in.is_module e in
+        let one : Some (known_in f.outs) ≡ Some k = sym h.is_module ∙ ap (slice_get (known_of ps sss)) at ∙ is_in.is_module in
+        cc
+
+    -- a DO
+    module _ (j : ℕ) (index : List ℕ) (e1 e2 : ExprTree) (e3 : Option ExprTree) (body : StmtTrees) (is_do : loop_in (suc j) k.read.body ≡ Some (tree.loop index e1 e2 e3 body)) (numbers : has (loop_numbers (tree.loop index e1 e2 e3 body)) 0 ≡ false)
+        (ns : List (List ℕ)) (at : Places) (locked : Locks) (tags : TagsStand (of k).names at) (off : AreOff (units N (of k ∷ map of xs)) locked (of k).names at) (s : Store) (i : List Content) (later : List Event) where
+      abbrev l : LoopTree
+      l = tree.loop index e1 e2 e3 body
+
+      abbrev e : Execution
+      e = record { spot = spot k.read.name (suc j); places = at; does = do_plan (tree.loop index e1 e2 e3 body) sc.plain at locked; start = s; input = i }
+
+      module _ (c : Claimed e later) (q : IsMarkOf fs k.read.name (suc j) ns) (r : Range) (w : ℕ) (b : Begins sc.plain index (tree.loop index e1 e2 e3 body) at locked (marked_loop ns sc body at r w (lock locked w Locked)) s i) where
+        abbrev m : Marked
+        m = marked_loop ns sc body at r w (lock locked w Locked)
+
+        abbrev K : Known
+        K = known_in q.found.outs
+
+        same : K ≡ k
+        same = same_module q.found q.is_one q.named
+
+        is_do' : loop_in (suc j) K.read.body ≡ Some l
+        is_do' = ap (λ (z : Known). loop_in (suc j) z.read.body) same ∙ is_do
+
+        same_names : names k.symbols ≡ names K.symbols
+        same_names = ap (λ (z : Known). names z.symbols) (sym same)
+
+        stand : NamesStand (known_of ps sss) g (scope_of g.untracked K) (names K.symbols) (loop_with g q.found.outs.known l) l q.privates at
+        stand =
+            each_in (λ (f : ModuleMarks). (known_in f.outs).read.name ≡ k.read.name → ModuleNamesStand (known_of ps sss) g f e) fs q.found q.is_one
+            (each_of_all (λ (f : ModuleMarks). (known_in f.outs).read.name ≡ k.read.name → ModuleNamesStand (known_of ps sss) g f e) fs c.names) q.named l is_do' q.privates q.mark
+
+        are : AreNamesOf ns (names K.symbols) l q.privates
+        are = subst (λ (zs : List (List ℕ)). AreNamesOf zs (names K.symbols) l q.privates) (sym q.names) stand.written
+
+        places : PlacesStand (known_of ps sss) g K l q.privates at
+        places = each_in (PlacesOf e) fs q.found q.is_one c.placed q.named l is_do' q.privates q.mark
+
+        at_place : (v : ℕ) → In v q.privates ⊎ (names K.symbols (index_name l) ≡ Variable v) → IsFixed (of k) at v
+        at_place v h = let z = places.placed v h in subst (λ (y : Known). IsFixed (of y) at v) same (record { no_dummy = z.0; fixed = z.1 })
+
+        named : (y : List ℕ) → In y ns → (v : ℕ) → (of k).names y ≡ Variable v → IsFixed (of k) at v
+        named y i v h = at_place v (are y i v (subst (λ (f : Names). f y ≡ Variable v) same_names h))
+
+        -- what is written of the variables of the mark is private: a name of the directive stands for the variable, or no name does
+        private_units : (n : ℕ) → In n q.privates → HasPrivateUnits (known_of ps sss) g (scope_of g.untracked K) at m s (Own n)
+        private_units n i u h t lt v = go (is_function (places.locals n i).symbol) refl
+          where
+            p : IsPassing K.symbols n
+            p = places.locals n i
+
+            has : in_place (fixed N K n) u ≡ true
+            has = subst (λ (y : Place). in_place y u ≡ true) (places.placed n (inl i)).1 (stored_place (is_stored (symbol_at K.symbols n)) (at n) h.phi u h.there)
+
+            k_in : IsIn (known_of ps sss) K
+            k_in = subst (IsIn (known_of ps sss)) (sym same) is_in
+
+            go : (b : Bool) → is_function (places.locals n i).symbol ≡ b → m.private u ≡ true
+            go false f =
+                let name = name_at (symbol_names K.symbols) n in
+                let one : In name ns = subst (λ (zs : List (List ℕ)). In name zs) (sym q.names) (in_map (name_at (symbol_names K.symbols)) n q.privates i) in
+                name_private (known_of ps sss) g (scope_of g.untracked K) at (loop_with g q.found.outs.known l) ns sc body r w (lock locked w Locked) name n u one
+                (ap (λ (f : Names). f name) same_names ∙ name_means K.symbols n p places.distinct f) h
+            go true f =
+                let local = subst (λ (y : Known). list_any (λ c. nat_eq c u) (of y).locals ≡ true) same (nameless_local ps sss g x K k_in n p f (places.sole n i) u has) in
+                let outside = subst (λ (y : Known). IsOutside u (of y)) same (nameless_outside ps sss g x K k_in n p f (places.sole n i) u has) in
+                absurd (true≢false (sym v ∙ nameless_unwritten ps sss g x turns d numbered k is_in xs behind distinct st body numbers at tags locked off ns r w u local outside t s))
+
+        known : LoopIsKnown (known_of ps sss) g (scope_of g.untracked K) at (loop_with g q.found.outs.known l) m s i
+        known =
+            each_in (λ (f : ModuleMarks). (known_in f.outs).read.name ≡ k.read.name → MarkedLoopIsKnown (known_of ps sss) g f e) fs q.found q.is_one
+            (each_of_all (λ (f : ModuleMarks). (known_in f.outs).read.name ≡ k.read.name → MarkedLoopIsKnown (known_of ps sss) g f e) fs c.known) q.named c.unbroken l is_do' q.privates q.mark ns sc body r w (lock locked w Locked) locked same_names refl private_units b
+
+        dead : IsDeadAfter m s later
+        dead =
+            each_in (λ (f : ModuleMarks). (known_in f.outs).read.name ≡ k.read.name → MarkedLoopIsDead (known_of ps sss) g f (occurrence_of e later)) fs q.found q.is_one
+            (each_of_all (λ (f : ModuleMarks). (known_in f.outs).read.name ≡ k.read.name → MarkedLoopIsDead (known_of ps sss) g f (occurrence_of e later)) fs c.dead) q.named l is_do' q.privates q.mark ns are sc body r w (lock locked w Locked) locked i same_names refl b known.ends
+
+        fit : LoopIsFit (known_of ps sss) g (scope_of g.untracked K) at (loop_with g q.found.outs.known l) m s i
+        fit = record {
+          ends = known.ends;
+          known = known.known;
+          verdicts = known.verdicts;
+          names = λ u h n. copied (known_of ps sss) g (scope_of g.untracked K) (names K.symbols) (loop_with g q.found.outs.known l) l q.privates at stand ns are sc body r w (lock locked w Locked) locked s i same_names b u h n;
+          free = is_free (lock locked w Locked);
+          own = own_in sc body;
+          fine = body_fine ps sss g x turns d numbered k is_in xs behind distinct st body numbers at tags locked off ns r w;
+          owned = owned ps sss g x turns d numbered k is_in xs behind distinct st body numbers at tags locked off ns r w named index b.symbol b.is_symbol
+              (at_place b.symbol (inr (subst (λ (f : Names). f index ≡ Variable b.symbol) same_names b.is_symbol))) b.unit;
+          hidden = λ t u lt h v f. hidden_private ps sss g x turns d numbered k is_in xs behind distinct st body numbers at tags locked off ns r w t s u h v;
+          own_before = own_valueless ps sss g x turns d numbered k is_in xs behind distinct st body numbers at tags locked off ns r w e c.inactive refl;
+          cleared = own_cleared ps sss g x turns d numbered k is_in xs behind distinct st body numbers at tags locked off ns r w;
+        }
+
+        holds : LoopHolds m s later
+        holds = hold ns sc body at r w (lock locked w Locked) (known_of ps sss) g (scope_of g.untracked K) at (loop_with g q.found.outs.known l) s i later fit dead
+
+    none_some : (l : LoopTree) → None ≡ Some l → ⊥
+    none_some l e = cc
+
+    do_holds : (n : ℕ) (l : LoopTree) → loop_in n k.read.body ≡ Some l → has (loop_numbers l) 0 ≡ false → MarkedDoHolds (units N (of k ∷ map of xs)) Claimed sc n l
+    do_holds zero l e z ns mark at locked tags off s i later c = absurd (none_some l (sym (no_list 0 k.read.body (numbered_above k.read.body (numbered k is_in))) ∙ e))
+    do_holds (suc j) (tree.loop index e1 e2 e3 body) e z ns mark at locked tags off s i later c =
+        begin ns sc index e1 e2 e3 body at locked s i later (λ r w b. holds j index e1 e2 e3 body e z ns at locked tags off s i later c (of_marks k.read.name (suc j) ns mark) r w b)
+
+    pub routine_holds : RoutineHolds turns d (units N) Claimed (of k) (map of xs)
+    routine_holds = all_dos (MarkedDoHolds (units N (of k ∷ map of xs)) Claimed sc) k.read.body (numbered k is_in) do_holds

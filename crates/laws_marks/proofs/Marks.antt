@@ -1,0 +1,200 @@
+-- What a mark says of a DO that is parallel.
+use Rattle.std.proofs.Common.{◌≡◌, ℕ, ◌||◌, Bool, true, false, List, [], ◌∷◌, Option, Some, None, refl, sym, ◌∙◌, subst, true≢false, nat_eq, suc, zero, ◌-◌}
+use Rattle.std.specs.Prelude.{if◌then◌else◌, not, slice_get}
+use Rattle.std.proofs.lemmas.Bool.{or_parts, not-false, eqb-true}
+use Rattle.f77_ast.specs.Trees.{StmtTree, WhatTree, ArmTrees, ElseTree, LoopTree, StmtTrees}
+use Rattle.f77_ast.specs.Trees as tree
+use Rattle.f77_ast.specs.Shapes.{walk_stmt, walk_what, walk_body, walk_arms, walk_else, walk_list}
+use Rattle.f77_symbols.specs.declared.variable.Variable.{Variable as Named}
+use Rattle.f77_symbols.specs.declared.variable.Variable.TheVariants.{Own, Block, Saved}
+use Rattle.f77_symbols.specs.Shared.{numbered}
+use Rattle.f77_results.specs.declared.results.At.{At}
+use Rattle.transformer_algebra.specs.Laws.{In, here, there}
+use Rattle.transformers.specs.Lists.{first_at, or_first, value_at}
+use Rattle.transformers.specs.Statement.{at}
+use Rattle.region_sets.specs.declared.marks.Kinds.{Kinds}
+use Rattle.region_sets.specs.declared.marks.Mark.{Mark}
+use Rattle.region_sets.specs.declared.marks.Mark.TheVariants.{Parallel, Serial}
+use Rattle.region_sets.specs.declared.marks.Private.{Private}
+use Rattle.region_sets.specs.declared.marks.Private.TheVariants.{Yes, Name, Carried, Live}
+use Rattle.region_sets.specs.declared.marks.Reason.{Reason}
+use Rattle.region_sets.specs.declared.region.Region.{Region}
+use Rattle.loop_bodies.specs.declared.body.LoopBody.{LoopBody}
+use Rattle.loop_bodies.specs.Same.{same_variable}
+use Rattle.privatizer.specs.Names.{may_copy}
+use Rattle.privatizer.specs.Private.{private_in}
+use Rattle.privatizer.specs.Uses.{Uses}
+use Rattle.loop_marker.specs.declared.verdict.Verdict.{Verdict}
+use Rattle.loop_marker.specs.declared.verdict.Verdict.TheVariants.{Free, Copied, Bad}
+use Rattle.loop_marker.specs.Jumps.{may_jump, may_have_io, body_of}
+use Rattle.loop_marker.specs.Marks.{Knowledge, is_in_bounds, index_is_bad, kinds_of, unless_named, copy_answer, with_own, by_kinds, verdict_of, by_verdict, marked, by_variables, has_step, by_index, by_step, by_io, mark_of, the_marks}
+use Rattle.loop_marker.specs.Variables.{indexes_in, written_in, is_of_some}
+use Rattle.f77_results.specs.Variables.{union}
+use Rattle.laws_statements.specs.CallsIn.{Each}
+use Rattle.laws_statements.proofs.Placing.{each_parts}
+use Rattle.laws_analyses.proofs.CallLists.{each_joined}
+use Rattle.laws_conflicts.proofs.Meeting.{same_own}
+use Rattle.laws_conflicts.proofs.Whats.{stmt_whats, part_whats, list_whats, arms_whats, else_whats, loop_whats}
+use Rattle.laws_marks.proofs.Outs.{in_both}
+
+-- ---- verdicts
+
+copied_yes : (ks : List Kinds) (p : Private) → by_kinds ks p ≡ Copied → p ≡ Yes
+copied_yes [] p e = cc
+copied_yes (k ∷ ks) Yes e = refl
+copied_yes (k ∷ ks) Name e = cc
+copied_yes (k ∷ ks) Carried e = cc
+copied_yes (k ∷ ks) Live e = cc
+
+unnamed_yes : (named : Bool) (p : Private) → unless_named named p ≡ Yes → p ≡ Yes
+unnamed_yes named Yes e = refl
+unnamed_yes named Name e = cc
+unnamed_yes named Carried e = cc
+unnamed_yes named Live e = cc
+
+copied_private : (k : Knowledge) (b : LoopBody) (u : Uses) (l : LoopTree) (inner : List Named) (v : Named) → verdict_of k b u l inner v ≡ Copied → private_in k.tree k.symbols u v ≡ Yes
+copied_private k b u l inner v e = unnamed_yes (is_in_bounds k.symbols l v) (private_in k.tree k.symbols u v) (copied_yes (kinds_of k.symbols b inner v) (copy_answer k u l v) (go (same_variable v (Own b.index)) e))
+  where
+    go : (c : Bool) → (if c then Free else by_kinds (kinds_of k.symbols b inner v) (copy_answer k u l v)) ≡ Copied → by_kinds (kinds_of k.symbols b inner v) (copy_answer k u l v) ≡ Copied
+    go true q = cc
+    go false q = q
+
+module _ (f : Named → Verdict) (P : ℕ → Type 0) (copied : (n : ℕ) → f (Own n) ≡ Copied → P n) where
+  more_own : (v : Named) → f v ≡ Copied → (so_far : List ℕ) → ((n : ℕ) → In n so_far → P n) → (n : ℕ) → In n (with_own so_far v) → P n
+  more_own (Own m) e so_far h n i = in_both P so_far (m ∷ []) h one n i
+    where
+      one : (n : ℕ) → In n (m ∷ []) → P n
+      one n here = copied n e
+      one n (there j) = elim j [ ]
+  more_own (Block x) e so_far h n i = h n i
+  more_own (Saved x y) e so_far h n i = h n i
+
+  pub names_copied : (vs : List Named) (so_far ns : List ℕ) → ((n : ℕ) → In n so_far → P n) → marked f so_far vs ≡ Parallel ns → (n : ℕ) → In n ns → P n
+  names_copied [] so_far ns h e n i = (let same : so_far ≡ ns = cc in h n (subst (λ zs. In n zs) (sym same) i))
+  names_copied (v ∷ vs) so_far ns h e n i = go (f v) refl e (names_copied vs so_far ns h) (λ q. names_copied vs (with_own so_far v) ns (λ m j. more_own v q so_far h m j))
+    where
+      go : (w : Verdict) → f v ≡ w → by_verdict v (marked f so_far vs) (marked f (with_own so_far v) vs) w ≡ Parallel ns → (marked f so_far vs ≡ Parallel ns → (n : ℕ) → In n ns → P n) → (f v ≡ Copied → marked f (with_own so_far v) vs ≡ Parallel ns → (n : ℕ) → In n ns → P n) → P n
+      go Free q r next more = next r n i
+      go Copied q r next more = more q r n i
+      go (Bad ks p) q r next more = cc
+
+-- ---- the mark of a DO
+
+pub record Says (k : Knowledge) (n : ℕ) (l : LoopTree) (ns : List ℕ) : Type 0 where
+  pub index : may_copy k.tree k.symbols (Own (k.body l).index) ≡ true
+  pub unused : is_of_some (Own (k.body l).index) (k.uses n l).outs ≡ false
+  pub names : (m : ℕ) → In m ns → private_in k.tree k.symbols (k.uses n l) (Own m) ≡ Yes
+
+serial_no : (r : Reason) (ns : List ℕ) → Serial r ≡ Parallel ns → ⊥
+serial_no r ns e = cc
+
+unless : (c : Bool) (r : Reason) (m : Mark) (ns : List ℕ) → (if c then Serial r else m) ≡ Parallel ns → (c ≡ false) × (m ≡ Parallel ns)
+unless true r m ns e = absurd (serial_no r ns e)
+unless false r m ns e = (refl, e)
+
+only_if : (c : Bool) (r : Reason) (m : Mark) (ns : List ℕ) → (if c then m else Serial r) ≡ Parallel ns → m ≡ Parallel ns
+only_if true r m ns e = e
+only_if false r m ns e = absurd (serial_no r ns e)
+
+pub mark_says : (k : Knowledge) (n : ℕ) (label : Option ℕ) (l : LoopTree) (ns : List ℕ) → mark_of k n label l ≡ Parallel ns → Says k n l ns
+mark_says k n label l ns e =
+    let b = k.body l in
+    let u = k.uses n l in
+    let inner = indexes_in k.names (body_of l) in
+    let a = (unless (may_jump k.tree.body k.effects label l) _ (by_io k n l) ns e).1 in
+    let c = (unless (may_have_io k.effects (body_of l)) _ (by_step k b u l inner) ns a).1 in
+    let d = only_if (has_step b) _ (by_index k b u l inner) ns c in
+    let i = unless (index_is_bad k b u l) _ (by_variables k b u l inner) ns d in
+    let o = or_parts (not (may_copy k.tree k.symbols (Own b.index))) (is_of_some (Own b.index) u.outs || is_in_bounds k.symbols l (Own b.index)) i.0 in
+    record {
+      index = not-false (may_copy k.tree k.symbols (Own b.index)) o.0;
+      unused = (or_parts (is_of_some (Own b.index) u.outs) (is_in_bounds k.symbols l (Own b.index)) o.1).0;
+      names = names_copied (verdict_of k b u l inner) (λ m. private_in k.tree k.symbols u (Own m) ≡ Yes) (λ m q. copied_private k b u l inner (Own m) q) (union inner (written_in b.regions)) [] ns none i.1;
+    }
+  where
+    none : (m : ℕ) → In m [] → private_in k.tree k.symbols (k.uses n l) (Own m) ≡ Yes
+    none m i = elim i [ ]
+
+-- a variable of which no region is
+pub none_of_it : (v : Named) (rs : List Region) → is_of_some v rs ≡ false → (r : Region) → In r rs → r.variable ≡ v → ⊥
+none_of_it v [] e r i same = elim i [ ]
+none_of_it v (q ∷ rs) e r here same = true≢false (sym (subst (λ w. same_variable v w ≡ true) (sym same) (same_own v)) ∙ (or_parts (same_variable v q.variable) (is_of_some v rs) e).0)
+none_of_it v (q ∷ rs) e r (there i) same = none_of_it v rs (or_parts (same_variable v q.variable) (is_of_some v rs) e).1 r i same
+
+-- ---- the marks of a module
+
+module _ (f : ℕ → Option ℕ → LoopTree → Mark) (P : At WhatTree → Type 0) (Q : At Mark → Type 0) (one : (n : ℕ) (label : Option ℕ) (l : LoopTree) → P (at n (tree.do_loop l)) → Q (record { id = n; value = f n label l })) where
+  mutual
+    stmt_marks : (s : StmtTree) → Each P (stmt_whats s) → Each Q (walk_stmt (the_marks f) s)
+    stmt_marks (tree.stmt n label w) h = what_marks n label w h.0 h.1
+
+    what_marks : (n : ℕ) (label : Option ℕ) (w : WhatTree) → P (at n w) → Each P (part_whats w) → Each Q (walk_what (the_marks f) n label w)
+    what_marks n label (tree.assign a b) p h = tt
+    what_marks n label (tree.block_if arms other) p h = (let q = each_parts P (arms_whats arms) (else_whats other) h in each_joined Q (walk_arms (the_marks f) arms) (walk_else (the_marks f) other) (arms_marks arms q.0) (else_marks other q.1))
+    what_marks n label (tree.logical_if test s) p h = stmt_marks s h
+    what_marks n label (tree.do_loop l) p h = (one n label l p, body_marks l h)
+    what_marks n label (tree.call x es) p h = tt
+    what_marks n label (tree.goto l) p h = tt
+    what_marks n label tree.continue p h = tt
+    what_marks n label tree.return p h = tt
+    what_marks n label (tree.stop text) p h = tt
+    what_marks n label (tree.print es) p h = tt
+    what_marks n label (tree.read es) p h = tt
+
+    body_marks : (l : LoopTree) → Each P (loop_whats l) → Each Q (walk_body (the_marks f) l)
+    body_marks (tree.loop index first last step body) h = list_marks body h
+
+    arms_marks : (arms : ArmTrees) → Each P (arms_whats arms) → Each Q (walk_arms (the_marks f) arms)
+    arms_marks tree.no_arms h = tt
+    arms_marks (tree.more_arms (tree.arm test body) rest) h = (let q = each_parts P (list_whats body) (arms_whats rest) h in each_joined Q (walk_list (the_marks f) body) (walk_arms (the_marks f) rest) (list_marks body q.0) (arms_marks rest q.1))
+
+    else_marks : (other : ElseTree) → Each P (else_whats other) → Each Q (walk_else (the_marks f) other)
+    else_marks tree.no_else h = tt
+    else_marks (tree.otherwise body) h = list_marks body h
+
+    pub list_marks : (ss : StmtTrees) → Each P (list_whats ss) → Each Q (walk_list (the_marks f) ss)
+    list_marks tree.no_stmts h = tt
+    list_marks (tree.more_stmts s rest) h = (let q = each_parts P (stmt_whats s) (list_whats rest) h in each_joined Q (walk_stmt (the_marks f) s) (walk_list (the_marks f) rest) (stmt_marks s q.0) (list_marks rest q.1))
+
+-- ---- results by numbers
+
+pub record FoundAt {T : Type 0} (Q : At T → Type 0) (n : ℕ) (v : T) : Type 0 where
+  pub item : At T
+  pub is_so : Q item
+  pub number : item.id ≡ n
+  pub value : item.value ≡ v
+
+module _ {T : Type 0} (Q : At T → Type 0) (n : ℕ) (v : T) where
+  this_one : (a : At T) → Q a → nat_eq a.id n ≡ true → a.value ≡ v → FoundAt Q n v
+  this_one a q e same = record { item = a; is_so = q; number = eqb-true a.id n e; value = same }
+
+  first_found : (xs : List (At T)) → Each Q xs → first_at n xs ≡ Some v → FoundAt Q n v
+  first_found [] h e = cc
+  first_found (x ∷ xs) h e = go (nat_eq x.id n) refl e (first_found xs h.1)
+    where
+      go : (b : Bool) → nat_eq x.id n ≡ b → (if b then Some x.value else first_at n xs) ≡ Some v → (first_at n xs ≡ Some v → FoundAt Q n v) → FoundAt Q n v
+      go true w q ih = (let same : x.value ≡ v = cc in this_one x h.0 w same)
+      go false w q ih = ih q
+
+  got : (xs : List (At T)) (i : ℕ) (a : At T) → Each Q xs → slice_get xs i ≡ Some a → Q a
+  got [] i a h e = cc
+  got (x ∷ xs) zero a h e = (let same : x ≡ a = cc in subst Q same h.0)
+  got (x ∷ xs) (suc i) a h e = got xs i a h.1 e
+
+  numbered_found : (xs : List (At T)) (a : At T) → Each Q xs → numbered xs n ≡ Some a → Q a
+  numbered_found xs a h e = go (nat_eq n 0) e
+    where
+      go : (b : Bool) → (if b then None else slice_get xs (n - 1)) ≡ Some a → Q a
+      go true q = cc
+      go false q = got xs (n - 1) a h q
+
+  pub found_at : (xs : List (At T)) → Each Q xs → value_at xs n ≡ Some v → FoundAt Q n v
+  found_at xs h e = go (numbered xs n) refl e
+    where
+      there' : (a : At T) → numbered xs n ≡ Some a → (b : Bool) → nat_eq a.id n ≡ b → (if b then Some a.value else first_at n xs) ≡ Some v → FoundAt Q n v
+      there' a q true w k = (let same : a.value ≡ v = cc in this_one a (numbered_found xs a h q) w same)
+      there' a q false w k = first_found xs h k
+
+      go : (o : Option (At T)) → numbered xs n ≡ o → or_first o n xs ≡ Some v → FoundAt Q n v
+      go None q k = first_found xs h k
+      go (Some a) q k = there' a q (nat_eq a.id n) refl k

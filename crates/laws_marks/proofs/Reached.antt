@@ -1,0 +1,276 @@
+-- The modules of a program, from the last to the first: what is claimed of the units of their variables where DOs are executed.
+use Rattle.std.proofs.Common.{◌≡◌, ℕ, ◌<◌, List, [], ◌∷◌, Option, Some, None, Bool, true, false, refl, sym, ◌∙◌, subst}
+use Rattle.std.specs.Prelude.{if◌then◌else◌, bytes_eq}
+use Rattle.affine_systems.specs.declared.row.System.{System}
+use Rattle.f77_ast.specs.Trees.{WhatTree, LoopTree}
+use Rattle.f77_ast.specs.Trees as tree
+use Rattle.f77_ast.specs.Store.{Content, Store}
+use Rattle.f77_ast.specs.Runs.{Ran, store_of}
+use Rattle.f77_ast.specs.Places.{Place, Places, Variable}
+use Rattle.f77_ast.specs.Faults.{Locked}
+use Rattle.f77_ast.specs.Writes.{Locks, no_locks, lock}
+use Rattle.f77_ast.specs.Plans.{Flow, Plan, Ends, Within, ◌▹◌}
+use Rattle.f77_ast.specs.Executions.{run_of, Claim}
+use Rattle.f77_ast.specs.Calls.{Actual, Meaning, arrays_bound, lock_doubly, forget_all, after_call, actuals, places_of, own_units, lock_own, call_plan}
+use Rattle.f77_ast.specs.Statements.{spot, execution, body_plan, do_plan}
+use Rattle.f77_ast.specs.Programs.{Program, scope, body_of, called, meanings, program_plan}
+use Rattle.f77_ast.proofs.StepLaws.{at_end_more, at_end_true}
+use Rattle.f77_symbols.specs.declared.variable.Variable.{Variable as Named}
+use Rattle.f77_results.specs.declared.results.At.{At}
+use Rattle.call_graph.specs.declared.graph.Graph.{Graph}
+use Rattle.f77_meaning.specs.Modules.{Known}
+use Rattle.f77_meaning.specs.Linked.{program_of}
+use Rattle.affine_forms.specs.Scalars.{is_cell}
+use Rattle.affine_forms.specs.Claims.{unit_in}
+use Rattle.call_translation.specs.Sites.{HoldingSite}
+use Rattle.transformers.specs.Given.{Callees}
+use Rattle.transformers.specs.Modules.{transformers_of}
+use Rattle.region_sets.specs.declared.region.Region.{Region}
+use Rattle.in_out_regions.specs.Lists.{set_at}
+use Rattle.call_equations.specs.Sides.{changed_cells}
+use Rattle.array_regions.specs.Calls.{Called, Callees as Summaries}
+use Rattle.loop_bodies.specs.Finding.{loop_in}
+use Rattle.laws_statements.specs.Good.{said}
+use Rattle.laws_statements.specs.CallsIn.{CallAt, Each, list_calls}
+use Rattle.laws_statements.specs.Activation.{Fit}
+use Rattle.laws_statements.specs.Results.{pre_in}
+use Rattle.laws_statements.proofs.Loops.{also}
+use Rattle.laws_calls.proofs.Enter.{Fits, begin_fits, more_fits}
+use Rattle.laws_calls.specs.Parts.{Blocks, Part, NoDummy, places_in as dummy_places, still_in, Sane}
+use Rattle.laws_calls.specs.ProgramLaws.{routines, Analysed, AnalysedParts, AnalysedProgram}
+use Rattle.laws_calls.specs.Sites.{CoversFrom, Covers, lookup, Entered}
+use Rattle.laws_calls.proofs.Bound.{scalars_fixed}
+use Rattle.laws_regions.specs.Settings.{scene, Sound}
+use Rattle.laws_regions.specs.Entries.{dummies_reads}
+use Rattle.laws_regions.specs.Programs.{called_in, regions_in_part, EachRegionHolds}
+use Rattle.laws_regions.proofs.Actuals.{AllOffer, actuals_hold}
+use Rattle.laws_regions.proofs.Bounds.{setting, Got}
+use Rattle.laws_regions.proofs.CalledShown.{Bound, FineOk}
+use Rattle.laws_regions.proofs.Calling.{Known_of, solid, apart, leads, entered_there}
+use Rattle.laws_regions.proofs.Free.{FreeOk, all_free}
+use Rattle.laws_regions.proofs.Looks.{IfGave}
+use Rattle.laws_regions.proofs.Programs as base
+use Rattle.laws_regions.proofs.Programs.{distinct_numbers}
+use Rattle.laws_regions.proofs.Steady.{Steady, steady_begin}
+use Rattle.laws_regions.proofs.Storing.{holding_with}
+use Rattle.laws_in_regions.specs.Frames.{Frame}
+use Rattle.laws_in_regions.specs.Programs.{ins_called, ins_in_part, EachInHolds}
+use Rattle.laws_in_regions.specs.Units.{UnitsFit, SetsFit}
+use Rattle.laws_in_regions.proofs.Apart.{OffersLocked}
+use Rattle.laws_in_regions.proofs.CalledIn.{FirstOk, offers_there}
+use Rattle.laws_in_regions.proofs.Programs as ins
+use Rattle.laws_in_regions.proofs.Running.{frame}
+use Rattle.laws_in_regions.proofs.Standing.{StandsList, StandsParts, InAt}
+use Rattle.laws_conflicts.specs.Executions.{Execution, AtEachExecution, InEachExecution}
+use Rattle.laws_conflicts.proofs.Copies.{AllSole}
+use Rattle.laws_conflicts.proofs.Each.{plan_looked, plan_holding, plan_forget, plan_after, plan_called}
+use Rattle.laws_conflicts.proofs.Modules as loops
+use Rattle.laws_conflicts.proofs.Reaching.{Owed, CallReaches, list_reached}
+use Rattle.laws_conflicts.proofs.Whats.{list_whats, as_loop, no_list, each_found}
+use Rattle.laws_marks.specs.Units.{UnitsStand, PartUnitsStand, EachUnitsStand}
+use Rattle.laws_marks.proofs.Standing.{units_stand}
+
+module _ (ks : List Known) (g : Graph) (b : Blocks) (cs : Callees) (sites : List ℕ → List HoldingSite) (rs is : List ℕ → Summaries) (of : List ℕ → Part) (may_name : Part → Named → Bool) (turns : ℕ) where
+  abbrev C0 : Claim
+  C0 = said (EachRegionHolds ks g cs rs of)
+
+  abbrev D0 : Claim
+  D0 = said (EachInHolds ks g cs rs is of)
+
+  abbrev pub C : Execution → Type 0
+  C = EachUnitsStand ks g cs rs of
+
+  -- what is known of a call of a module
+  abbrev pub ReachOk : Option Part → Meaning → Type 0
+  ReachOk None meaning = Unit {0}
+  ReachOk (Some k) meaning = (ps : List Place) (locked : Locks) → Entered k ps locked → OffersLocked ks g k ps locked → (z : Store) (i : List Content) → AtEachExecution C (meaning ps locked) z i
+
+  none_some : (l : LoopTree) → None ≡ Some l → ⊥
+  none_some l e = cc
+
+  same_loop : (l o : LoopTree) → Some l ≡ Some o → l ≡ o
+  same_loop l o e = cc
+
+  -- ---- a module
+
+  module _ (k : Part) (sane : Sane b k) (below : List Part) (analysed : Analysed b cs sites below k) (named : of k.routine.name ≡ k) (first : ins.PartFirst ks g b cs sites rs is of may_name turns below k sane) (callee : List ℕ → Meaning) (free : (x : List ℕ) → FreeOk b cs (lookup below x) (callee x))
+      (fine : (x : List ℕ) → FineOk ks g b (λ p. (regions_in_part g cs (rs p.routine.name) p).summary) (said (EachRegionHolds ks g cs rs of)) (lookup below x) (callee x)) (fine_in : (x : List ℕ) → FirstOk ks g b (λ p. (ins_in_part g cs (rs p.routine.name) (is p.routine.name) p).summary) may_name (said (EachInHolds ks g cs rs is of)) (lookup below x) (callee x)) (ps : List Place) where
+    -- a claim of the module is one of the part of its name
+    of_part : (n : ℕ) (at : Places) (t : Plan) (s : Store) (i : List Content) → PartUnitsStand ks g cs (rs k.routine.name) k (record { spot = spot k.routine.name n; places = at; does = t; start = s; input = i }) → EachUnitsStand ks g cs rs of (record { spot = spot k.routine.name n; places = at; does = t; start = s; input = i })
+    of_part n at t s i h = subst (λ (p : Part). PartUnitsStand ks g cs (rs p.routine.name) p (record { spot = spot k.routine.name n; places = at; does = t; start = s; input = i })) (sym named) h
+
+    -- the entry is no DO
+    entry_claim : (at : Places) (t : Plan) (s : Store) (i : List Content) → C (record { spot = spot k.routine.name 0; places = at; does = t; start = s; input = i })
+    entry_claim at t s i = of_part 0 at t s i (λ l e. absurd (none_some l (sym (no_list 0 k.routine.body (loops.numbered_above k.routine.body analysed.numbered)) ∙ e)))
+
+    module _ (began : Store) (at : Places) (bound : Bound g b k sane ps began at) where
+      abbrev started : Frame
+      started = frame ks g (called_in g cs (rs k.routine.name) k) b cs k sane first.goes.regular turns callee ps (may_name k) first.ready.laid at
+
+      abbrev I : Store → Type 0
+      I = Steady (setting ks g (called_in g cs (rs k.routine.name) k) b cs k sane first.goes.regular turns callee ps at) (changed_cells (transformers_of k.routine.body k.scope cs).at) began
+
+      abbrev acc : List (At (List Region))
+      acc = (regions_in_part g cs (rs k.routine.name) k).at
+
+      abbrev firsts : Called
+      firsts = ins_called g cs (is k.routine.name) k
+
+      abbrev Fit_so : Locks → (ℕ → Bool) → Type 0
+      Fit_so = Fits b k ps at
+
+      is_sound : Sound (setting ks g (called_in g cs (rs k.routine.name) k) b cs k sane first.goes.regular turns callee ps at)
+      is_sound = loops.is_sound ks g b cs sites rs is of may_name turns k sane below analysed named first callee free fine fine_in ps began at bound
+
+      stands : StandsList C0 D0 started (Fits b k ps at) I acc firsts k.routine.body true
+      stands = loops.stands ks g b cs sites rs is of may_name turns k sane below analysed named first callee free fine fine_in ps began at bound
+
+      sets : SetsFit started acc
+      sets = loops.sets ks g b cs sites rs is of may_name turns k sane below analysed named first callee free fine fine_in ps began at bound
+
+      fit_base : (locked : Locks) (still : ℕ → Bool) → Fits b k ps at locked still → Fit started.sc.names started.scalar started.at (scene started.base) locked still
+      fit_base l st f = f.base
+
+      fit_more : (locked : Locks) (still : ℕ → Bool) (x : List ℕ) (v : ℕ) → started.sc.names x ≡ Variable v → started.scalar x ≡ true → Fits b k ps at locked still → Fits b k ps at (lock locked (started.at v).first Locked) (also still (started.at v).first)
+      fit_more l st x v n sx f = more_fits b k ps at l st x v n sx f
+
+      -- variables that are no dummies stay where they are
+      stay : (v : ℕ) → NoDummy k.routine.dummies v → at v ≡ k.routine.fixed v
+      stay v none = bound.made.other v none ∙ scalars_fixed k.routine.dummies ps k.routine.fixed v none
+
+      module _ (locked0 : Locks) (ent : Entered k ps locked0) (offers : OffersLocked ks g k ps locked0) where
+        begun_units : UnitsFit started (lock_doubly locked0 k.routine.dummies at k.routine.common)
+        begun_units = loops.begun_units ks g b cs sites rs is of may_name turns k sane below analysed named first callee free fine fine_in ps began at bound locked0 ent offers
+
+        sole : AllSole started
+        sole = loops.sole ks g b cs sites rs is of may_name turns k sane below analysed named first callee free fine fine_in ps began at bound locked0 ent offers
+
+        -- ---- its statements
+
+        claim : (w : WhatTree) (n : ℕ) → loop_in n k.routine.body ≡ as_loop w → (last : Bool) (locked : Locks) (still : ℕ → Bool) → Fits b k ps at locked still → UnitsFit started locked → InAt C0 D0 started (Fits b k ps at) I acc firsts n w last → StandsParts C0 D0 started (Fits b k ps at) I acc firsts w n → (z : Store) → I z → (i : List Content) →
+            PartUnitsStand ks g cs (rs k.routine.name) k (record { spot = spot k.routine.name n; places = at; does = execution w n started.sc at locked; start = z; input = i })
+        claim (tree.assign x e) n q last locked still fit units st pa z iz i l f = absurd (none_some l (sym q ∙ f))
+        claim (tree.block_if arms other) n q last locked still fit units st pa z iz i l f = absurd (none_some l (sym q ∙ f))
+        claim (tree.logical_if e s) n q last locked still fit units st pa z iz i l f = absurd (none_some l (sym q ∙ f))
+        claim (tree.do_loop (tree.loop index e1 e2 e3 inner)) n q last locked still fit units st pa z iz i l f =
+            subst (λ y. UnitsStand ks g k.routine.names k.routine.fixed k.routine.dummies k.scope (set_at acc n) y (record { spot = spot k.routine.name n; places = at; does = do_plan (tree.loop index e1 e2 e3 inner) started.sc at locked; start = z; input = i })) (same_loop (tree.loop index e1 e2 e3 inner) l (sym q ∙ f))
+            (units_stand started is_sound C0 D0 (Fits b k ps at) fit_base fit_more I acc firsts sets sole index e1 e2 e3 inner n last locked still fit units st pa z iz i k.routine.dummies k.routine.fixed stay)
+        claim (tree.call x es) n q last locked still fit units st pa z iz i l f = absurd (none_some l (sym q ∙ f))
+        claim (tree.goto j) n q last locked still fit units st pa z iz i l f = absurd (none_some l (sym q ∙ f))
+        claim tree.continue n q last locked still fit units st pa z iz i l f = absurd (none_some l (sym q ∙ f))
+        claim tree.return n q last locked still fit units st pa z iz i l f = absurd (none_some l (sym q ∙ f))
+        claim (tree.stop text) n q last locked still fit units st pa z iz i l f = absurd (none_some l (sym q ∙ f))
+        claim (tree.print es) n q last locked still fit units st pa z iz i l f = absurd (none_some l (sym q ∙ f))
+        claim (tree.read es) n q last locked still fit units st pa z iz i l f = absurd (none_some l (sym q ∙ f))
+
+        owed : (as' : List (At WhatTree)) → Each (λ (a : At WhatTree). loop_in a.id k.routine.body ≡ as_loop a.value) as' → Each (Owed started is_sound C0 D0 (Fits b k ps at) fit_base fit_more I acc firsts C) as'
+        owed [] h = tt
+        owed (a ∷ as') h = (
+          (λ last locked still fit units st pa z iz i. of_part a.id at (execution a.value a.id started.sc at locked) z i (claim a.value a.id h.0 last locked still fit units st pa z iz i)),
+          owed as' h.1,
+        )
+
+        -- ---- its CALLs
+
+        module _ (reach : (x : List ℕ) → ReachOk (lookup below x) (callee x)) where
+          called_by : (c : CallAt) (P : System) → CoversFrom b cs sites k c.callee c.actuals P (lookup below c.callee) → ins.SendsFirstFrom ks g b cs sites rs is of may_name turns k sane first.goes.regular first.goes.joins.own_below first.ready c.callee c.actuals (lookup below c.callee) → CallReaches started is_sound C0 D0 (Fits b k ps at) fit_base fit_more I acc firsts C c
+          called_by c P cov snd plain locked still fit units z iz i = go (lookup below c.callee) refl (free c.callee) (reach c.callee) cov snd
+            where
+              go : (o : Option Part) → lookup below c.callee ≡ o → FreeOk b cs o (callee c.callee) → ReachOk o (callee c.callee) → CoversFrom b cs sites k c.callee c.actuals P o → ins.SendsFirstFrom ks g b cs sites rs is of may_name turns k sane first.goes.regular first.goes.joins.own_below first.ready c.callee c.actuals o → AtEachExecution C (call_plan (actuals c.actuals 0 k.routine.names at (k.routine.own_unit c.number)) (callee c.callee) locked) z i
+              go None q fr re cv sn = absurd sn
+              go (Some h) q fr re cv sn =
+                  plan_holding C (actuals c.actuals 0 k.routine.names at (k.routine.own_unit c.number)) (λ xs. callee c.callee (places_of xs) (lock_own locked (own_units xs)) ▹ after_call (own_units xs)) z i
+                  (λ a w fs. AllOffer started.base is_sound sol (k.routine.own_unit c.number) apt z c.actuals 0 a w fs × IfGave a (λ xs. Known_here xs w))
+                  (holding_with (actuals c.actuals 0 k.routine.names at (k.routine.own_unit c.number)) z [] (AllOffer started.base is_sound sol (k.routine.own_unit c.number) apt z c.actuals 0) (λ xs s j. Known_here xs s) (actuals_hold started.base is_sound sol (k.routine.own_unit c.number) apt z c.actuals 0 z (λ j t. refl) plain)
+                  (leads C0 ks g b cs sites seen_of calls_in k sane first.goes.regular turns callee ps at bound.made is_sound first.goes.joins.own_below c.callee c.actuals c.number locked still fit z h fr.0 P cv (base.lookup_named ks g b cs sites rs of turns below c.callee h q) []))
+                  (λ xs s fs p. plan_called C (callee c.callee (places_of xs) (lock_own locked (own_units xs))) (own_units xs) s i
+                  (re (places_of xs) (lock_own locked (own_units xs))
+                  (entered_there C0 ks g b cs sites seen_of calls_in k sane first.goes.regular turns callee ps at bound.made is_sound first.goes.joins.own_below c.callee c.actuals c.number locked still fit z h fr.0 P cv (base.lookup_named ks g b cs sites rs of turns below c.callee h q) xs s p.1)
+                  (offers_there C0 D0 ks g b cs sites seen_of ins_of calls_in k sane first.goes.regular turns callee ps at bound.made is_sound first.goes.joins.own_below may_name first.ready.laid c.callee c.actuals c.number locked still fit z units h xs s (record { each = p.0.2; same = p.0.0; known = p.1 }))
+                  s i))
+                where
+                  seen_of : Part → List Region
+                  seen_of p = (regions_in_part g cs (rs p.routine.name) p).summary
+
+                  ins_of : Part → List Region
+                  ins_of p = (ins_in_part g cs (rs p.routine.name) (is p.routine.name) p).summary
+
+                  calls_in : Called
+                  calls_in = called_in g cs (rs k.routine.name) k
+
+                  sol : (y : List ℕ) (v : ℕ) → k.routine.names y ≡ Variable v → k.scalar y ≡ true → 0 < (at v).extent
+                  sol = solid C0 ks g b cs sites seen_of calls_in k sane first.goes.regular turns callee ps at bound.made is_sound first.goes.joins.own_below c.callee c.actuals c.number locked still fit z
+
+                  apt : (j d : ℕ) → is_cell k.scope.tracked d ≡ true → k.routine.own_unit c.number j ≡ unit_in at d → ⊥
+                  apt = apart C0 ks g b cs sites seen_of calls_in k sane first.goes.regular turns callee ps at bound.made is_sound first.goes.joins.own_below c.callee c.actuals c.number locked still fit z
+
+                  Known_here : List Actual → Store → Type 0
+                  Known_here = Known_of C0 ks g b cs sites seen_of calls_in k sane first.goes.regular turns callee ps at bound.made is_sound first.goes.joins.own_below c.callee c.actuals c.number locked still fit z
+
+          all_called : (cl : List CallAt) → Each (λ (c : CallAt). Covers b cs sites below k c.callee c.actuals (pre_in k.routine.body k.scope cs k.entry c.number)) cl → Each (λ (c : CallAt). ins.SendsFirstFrom ks g b cs sites rs is of may_name turns k sane first.goes.regular first.goes.joins.own_below first.ready c.callee c.actuals (lookup below c.callee)) cl → Each (CallReaches started is_sound C0 D0 (Fits b k ps at) fit_base fit_more I acc firsts C) cl
+          all_called [] cov snd = tt
+          all_called (c ∷ cl) cov snd = (called_by c (pre_in k.routine.body k.scope cs k.entry c.number) cov.0 snd.0, all_called cl cov.1 snd.1)
+
+          statements_reached : (i : List Content) → AtEachExecution C (body_plan k.routine.body (scope k.routine turns callee) at (lock_doubly locked0 k.routine.dummies at k.routine.common)) began i
+          statements_reached i =
+              list_reached started is_sound C0 D0 (Fits b k ps at) fit_base fit_more I acc firsts C k.routine.body true (lock_doubly locked0 k.routine.dummies at k.routine.common) (still_in k ps locked0) (begin_fits b k sane ps locked0 ent at bound.made)
+              begun_units
+              stands (owed (list_whats k.routine.body) (each_found k.routine.body (distinct_numbers k.routine.body analysed.numbered))) (all_called (list_calls k.routine.body) analysed.calls first.sends) began
+              (steady_begin started.base (changed_cells (transformers_of k.routine.body k.scope cs).at) began) i
+
+    -- ---- a call of it
+
+    module _ (reach : (x : List ℕ) → ReachOk (lookup below x) (callee x)) where
+      inner_reached : (locked : Locks) → Entered k ps locked → OffersLocked ks g k ps locked → (s : Store) (i : List Content) → AtEachExecution C (body_of k.routine turns callee ps (dummy_places k ps) locked) s i
+      inner_reached locked ent offers s i =
+          plan_looked C (arrays_bound k.routine.dummies ps k.routine.names (dummy_places k ps)) (λ at. body_plan k.routine.body (scope k.routine turns callee) at (lock_doubly locked k.routine.dummies at k.routine.common)) s i
+          (λ a es. Got ks g (called_in g cs (rs k.routine.name) k) b cs k sane first.goes.regular turns callee ps (dummies_reads k.routine.dummies k.scope) s a es × IfGave a (λ at. Bound g b k sane ps s at))
+          (base.bounds_looked ks g b cs sites rs of turns k sane first.goes.regular first.goes.enters first.goes.joins below analysed named callee free ps s)
+          (λ at es p. statements_reached s at p.1 locked ent offers reach i)
+
+      called_reached : (locked : Locks) → Entered k ps locked → OffersLocked ks g k ps locked → (z : Store) (i : List Content) → AtEachExecution C (called k.routine turns callee ps locked) z i
+      called_reached locked ent offers z i = (
+        entry_claim (dummy_places k ps) (forget_all k.routine.locals (body_of k.routine turns callee ps (dummy_places k ps) locked)) z i,
+        plan_forget C k.routine.locals (body_of k.routine turns callee ps (dummy_places k ps) locked) z i (λ v. inner_reached locked ent offers v i),
+        at_end_more q.answer (store_of q.memory) q.input (λ f y j. Unit {0}) (λ f y j. AtEachExecution C (after_call k.routine.locals f) y j) (λ f y j u. plan_after C k.routine.locals f y j) (at_end_true q.answer (store_of q.memory) q.input),
+      )
+        where
+          q : Ran Flow
+          q = run_of (forget_all k.routine.locals (body_of k.routine turns callee ps (dummy_places k ps) locked)) z i
+
+      -- the main program, which no CALL enters
+      main_reached : (locked : Locks) → Entered k ps locked → OffersLocked ks g k ps locked → (z : Store) (i : List Content) → AtEachExecution C (Within (spot k.routine.name 0) (dummy_places k ps) (body_of k.routine turns callee ps (dummy_places k ps) locked) (λ f. Ends f)) z i
+      main_reached locked ent offers z i = (
+        entry_claim (dummy_places k ps) (body_of k.routine turns callee ps (dummy_places k ps) locked) z i,
+        inner_reached locked ent offers z i,
+        at_end_true q.answer (store_of q.memory) q.input,
+      )
+        where
+          q : Ran Flow
+          q = run_of (body_of k.routine turns callee ps (dummy_places k ps) locked) z i
+
+  -- ---- all modules
+
+  all_reached : (parts : List Part) (pl : AnalysedParts b cs sites of parts) → ins.PartsFirst ks g b cs sites rs is of may_name turns parts pl → (x : List ℕ) → ReachOk (lookup parts x) (meanings (routines parts) turns x)
+  all_reached [] pl re x = tt
+  all_reached (k ∷ parts) pl re x = go (bytes_eq x k.routine.name) (all_reached parts pl.3 re.1 x) (λ y. all_reached parts pl.3 re.1 y)
+    where
+      go : (c : Bool) → ReachOk (lookup parts x) (meanings (routines parts) turns x) → ((y : List ℕ) → ReachOk (lookup parts y) (meanings (routines parts) turns y)) → ReachOk (if c then Some k else lookup parts x) (if c then called k.routine turns (meanings (routines parts) turns) else meanings (routines parts) turns x)
+      go true h f = λ ps locked ent offers z i.
+          called_reached k pl.0 parts pl.1 pl.2 re.0 (meanings (routines parts) turns) (λ y. all_free b cs sites of turns parts pl.3 y) (λ y. base.all_fine ks g b cs sites rs of turns parts pl.3 (ins.parts_go ks g b cs sites rs is of may_name turns parts pl.3 re.1) y) (λ y. ins.all_first ks g b cs sites rs is of may_name turns parts pl.3 re.1 y) ps f locked ent offers z i
+      go false h f = h
+
+  -- ---- the main program
+
+  module _ (main : Part) (parts : List Part) (z : Store) (pl : AnalysedProgram b cs sites of main parts z) (rm : ins.PartFirst ks g b cs sites rs is of may_name turns parts main pl.sane) (re : ins.PartsFirst ks g b cs sites rs is of may_name turns parts pl.parts_analysed) where
+    pub program_units : (input : List Content) → AtEachExecution C (program_plan (record { main = main.routine; others = routines parts; initial = z }) turns) z input
+    program_units input =
+        subst (λ (at : Places). AtEachExecution C (Within (spot main.routine.name 0) at (body_of main.routine turns (meanings (routines parts) turns) [] at no_locks) (λ f. Ends f)) z input) (loops.fixed_places ks g b cs sites rs is of may_name turns main parts z pl rm re)
+        (main_reached main pl.sane parts pl.analysed pl.named rm (meanings (routines parts) turns) (λ y. all_free b cs sites of turns parts pl.parts_analysed y) (λ y. base.all_fine ks g b cs sites rs of turns parts pl.parts_analysed (ins.parts_go ks g b cs sites rs is of may_name turns parts pl.parts_analysed re) y) (λ y. ins.all_first ks g b cs sites rs is of may_name turns parts pl.parts_analysed re y) [] (λ y. all_reached parts pl.parts_analysed re y) no_locks (loops.begins ks g b cs sites rs is of may_name turns main parts z pl rm re) (λ u h o l. loops.none_bound ks g b cs sites rs is of may_name turns main parts z pl rm re u h) z input)
+
+-- so it is of programs with what their parts give
+pub units_hold : (b : Blocks) (cs : Callees) (sites : List ℕ → List HoldingSite) (of : List ℕ → Part) (may_name : Part → Named → Bool) (main : Part) (parts : List Part) (z : Store) (pl : AnalysedProgram b cs sites of main parts z) (ks : List Known) (g : Graph) (rs is : List ℕ → Summaries) →
+    ((turns : ℕ) → ins.PartFirst ks g b cs sites rs is of may_name turns parts main pl.sane × ins.PartsFirst ks g b cs sites rs is of may_name turns parts pl.parts_analysed) →
+    program_of ks g ≡ record { main = main.routine; others = routines parts; initial = z } → InEachExecution ks g (EachUnitsStand ks g cs rs of)
+units_hold b cs sites of may_name main parts z pl ks g rs is go e turns input =
+    subst (λ (p : Program). AtEachExecution (EachUnitsStand ks g cs rs of) (program_plan p turns) p.initial input) (sym e) (program_units ks g b cs sites rs is of may_name turns main parts z pl (go turns).0 (go turns).1 input)

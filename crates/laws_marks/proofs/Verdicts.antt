@@ -1,0 +1,342 @@
+-- What a mark says of a DO that is parallel.
+use Rattle.std.proofs.Common.{◌≡◌, ◌⊎◌, inl, inr, ℕ, ◌<◌, ◌||◌, Bool, true, false, List, [], ◌∷◌, ◌++◌, Option, Some, None, refl, sym, ap, ◌∙◌, subst, true≢false}
+use Rattle.std.specs.Prelude.{if◌then◌else◌, not, is_some}
+use Rattle.std.specs.declared.cmp.Ordering.{Ordering}
+use Rattle.std.specs.declared.cmp.Ordering.TheVariants.{Less, Equal, Greater}
+use Rattle.std.specs.Ordering.{nat_cmp, match_ordering, MatchOrdering}
+use Rattle.std.specs.Cmp.{ranks}
+use Rattle.std.proofs.lemmas.Bool.{or_parts, not-false}
+use Rattle.affine_systems.specs.declared.row.System.{System}
+use Rattle.f77_ast.specs.Trees.{StmtTree, WhatTree, ArmTree, ArmTrees, ElseTree, LoopTree, StmtTrees}
+use Rattle.f77_ast.specs.Trees as tree
+use Rattle.f77_ast.specs.Shapes.{walk_stmt, walk_what, walk_body, walk_arms, walk_arm, walk_else, walk_list}
+use Rattle.f77_symbols.specs.Symbols.{SymbolTree, number_from}
+use Rattle.f77_symbols.specs.declared.variable.Variable.{Variable as Named}
+use Rattle.f77_symbols.specs.declared.variable.Variable.TheVariants.{Own, Block, Saved}
+use Rattle.f77_results.specs.Variables.{variable_cmp, merged, union}
+use Rattle.transformer_algebra.specs.Laws.{In, here, there}
+use Rattle.region_sets.specs.declared.marks.Kinds.{Kinds}
+use Rattle.region_sets.specs.declared.marks.Kinds.TheVariants.{WriteRead, ReadWrite, WriteWrite}
+use Rattle.region_sets.specs.declared.marks.Mark.{Mark}
+use Rattle.region_sets.specs.declared.marks.Mark.TheVariants.{Parallel, Serial}
+use Rattle.region_sets.specs.declared.marks.Private.{Private}
+use Rattle.region_sets.specs.declared.marks.Private.TheVariants.{Yes, Name, Carried, Live}
+use Rattle.region_sets.specs.declared.marks.Reason.{Reason}
+use Rattle.region_sets.specs.declared.region.Access.{Access}
+use Rattle.region_sets.specs.declared.region.Access.TheVariants.{Write}
+use Rattle.region_sets.specs.declared.region.Region.{Region}
+use Rattle.region_sets.proofs.StepLaws.{in_left, in_right}
+use Rattle.loop_bodies.specs.declared.body.LoopBody.{LoopBody}
+use Rattle.loop_bodies.specs.Same.{same_variable}
+use Rattle.dependence_test.specs.Conflicts.{kept_system}
+use Rattle.privatizer.specs.Names.{may_copy}
+use Rattle.privatizer.specs.Private.{is_carried, is_live, private_by, private_in}
+use Rattle.privatizer.specs.Uses.{Uses}
+use Rattle.out_regions.specs.Leaving.{leaves}
+use Rattle.loop_marker.specs.declared.verdict.Verdict.{Verdict}
+use Rattle.loop_marker.specs.declared.verdict.Verdict.TheVariants.{Free, Copied, Bad}
+use Rattle.loop_marker.specs.Jumps.{is_jumped_to, may_stop, may_jump, may_have_io, body_of}
+use Rattle.loop_marker.specs.Marks.{Knowledge, is_in_bounds, index_is_bad, with_kind, keeps, kept_kinds, or_of_index, kinds_of, unless_named, copy_answer, with_own, by_answer, by_kinds, verdict_of, by_verdict, marked, by_variables, has_step, by_index, by_step, by_io, mark_of}
+use Rattle.loop_marker.specs.Variables.{own_variable, index_of, the_indexes, in_order_with, indexes_in, is_write, written_in, is_among, is_of_some}
+use Rattle.laws_statements.specs.CallsIn.{Each}
+use Rattle.laws_analyses.proofs.CallLists.{each_joined}
+use Rattle.laws_marks.specs.Verdicts.{IsOneOf, IsCleared, SaysParallel}
+
+-- ---- variables
+
+at_equal : (A B C : Type 0) (o : Ordering) → MatchOrdering o A B C → o ≡ Equal → B
+at_equal A B C Less m e = cc
+at_equal A B C Equal m e = m
+at_equal A B C Greater m e = cc
+
+same_numbers : (m n : ℕ) → nat_cmp m n ≡ Equal → m ≡ n
+same_numbers m n e = at_equal (m < n) (m ≡ n) (n < m) (nat_cmp m n) (ranks m n) e
+
+-- what is no other than a symbol is that symbol
+own_first : (n : ℕ) (v : Named) → variable_cmp (Own n) v ≡ Equal → v ≡ Own n
+own_first n (Own m) e = ap Own (sym (same_numbers n m e))
+own_first n (Block b) e = cc
+own_first n (Saved s x) e = cc
+
+own_second : (n : ℕ) (v : Named) → variable_cmp v (Own n) ≡ Equal → v ≡ Own n
+own_second n (Own m) e = ap Own (same_numbers m n e)
+own_second n (Block b) e = cc
+own_second n (Saved s x) e = cc
+
+same_own : (n : ℕ) (v : Named) → same_variable v (Own n) ≡ true → v ≡ Own n
+same_own n v e = own_second n v (go (variable_cmp v (Own n)) e)
+  where
+    go : (o : Ordering) → match_ordering o false true false ≡ true → o ≡ Equal
+    go Less q = cc
+    go Equal q = refl
+    go Greater q = cc
+
+-- ---- unions in which the first list has symbols alone
+
+abbrev IsSymbol : Named → Type 0
+IsSymbol (Own n) = Unit {0}
+IsSymbol (Block b) = ⊥
+IsSymbol (Saved s x) = ⊥
+
+equal_symbol : (v w : Named) → IsSymbol v → variable_cmp v w ≡ Equal → w ≡ v
+equal_symbol (Own n) w s e = own_first n w e
+equal_symbol (Block b) w s e = absurd s
+equal_symbol (Saved t x) w s e = absurd s
+
+module _ (x v : Named) (symbol : IsSymbol v) (others : List Named → List Named) (h : (zs : List Named) → In x zs → In x (others zs)) where
+  in_place : (w : Named) (ws : List Named) → variable_cmp v w ≡ Equal → In x (w ∷ ws) → In x (v ∷ others ws)
+  in_place w ws e here = subst (λ z. In x (z ∷ others ws)) (equal_symbol v x symbol e) here
+  in_place w ws e (there i) = there (h ws i)
+
+  behind : (w : Named) (ws rest : List Named) → (In x ws → In x rest) → In x (w ∷ ws) → In x (w ∷ rest)
+  behind w ws rest ih here = here
+  behind w ws rest ih (there i) = there (ih i)
+
+  in_merged : (ws : List Named) → In x ws → In x (merged v others ws)
+  in_merged [] i = there (h [] i)
+  in_merged (w ∷ ws) i = go (variable_cmp v w) refl (in_merged ws)
+    where
+      go : (o : Ordering) → variable_cmp v w ≡ o → (In x ws → In x (merged v others ws)) → In x (match_ordering o (v ∷ others (w ∷ ws)) (v ∷ others ws) (w ∷ merged v others ws))
+      go Less e ih = there (h (w ∷ ws) i)
+      go Equal e ih = in_place w ws e i
+      go Greater e ih = behind w ws (merged v others ws) ih i
+
+in_union : (x : Named) (vs ws : List Named) → Each IsSymbol vs → In x ws → In x (union vs ws)
+in_union x [] ws s i = i
+in_union x (v ∷ vs) ws s i = in_merged x v s.0 (union vs) (λ zs j. in_union x vs zs s.1 j) ws i
+
+merged_symbols : (v : Named) → IsSymbol v → (others : List Named → List Named) → ((zs : List Named) → Each IsSymbol zs → Each IsSymbol (others zs)) → (ws : List Named) → Each IsSymbol ws → Each IsSymbol (merged v others ws)
+merged_symbols v s others h [] t = (s, h [] tt)
+merged_symbols v s others h (w ∷ ws) t = go (variable_cmp v w) (merged_symbols v s others h ws t.1)
+  where
+    go : (o : Ordering) → Each IsSymbol (merged v others ws) → Each IsSymbol (match_ordering o (v ∷ others (w ∷ ws)) (v ∷ others ws) (w ∷ merged v others ws))
+    go Less ih = (s, h (w ∷ ws) t)
+    go Equal ih = (s, h ws t.1)
+    go Greater ih = (t.0, ih)
+
+union_symbols : (vs ws : List Named) → Each IsSymbol vs → Each IsSymbol ws → Each IsSymbol (union vs ws)
+union_symbols [] ws s t = t
+union_symbols (v ∷ vs) ws s t = merged_symbols v s.0 (union vs) (λ zs z. union_symbols vs zs s.1 z) ws t
+
+-- ---- the variables of DO statements are symbols
+
+own_symbol : (o : Option ℕ) → Each IsSymbol (own_variable o)
+own_symbol None = tt
+own_symbol (Some n) = (tt, tt)
+
+module _ (names : List (List ℕ)) where
+  mutual
+    stmt_symbols : (s : StmtTree) → Each IsSymbol (walk_stmt (the_indexes names) s)
+    stmt_symbols (tree.stmt n label w) = what_symbols n label w
+
+    what_symbols : (n : ℕ) (label : Option ℕ) (w : WhatTree) → Each IsSymbol (walk_what (the_indexes names) n label w)
+    what_symbols n label (tree.assign a b) = tt
+    what_symbols n label (tree.block_if arms other) = each_joined IsSymbol (walk_arms (the_indexes names) arms) (walk_else (the_indexes names) other) (arms_symbols arms) (else_symbols other)
+    what_symbols n label (tree.logical_if test s) = stmt_symbols s
+    what_symbols n label (tree.do_loop l) = loop_symbols l
+    what_symbols n label (tree.call x es) = tt
+    what_symbols n label (tree.goto l) = tt
+    what_symbols n label tree.continue = tt
+    what_symbols n label tree.return = tt
+    what_symbols n label (tree.stop text) = tt
+    what_symbols n label (tree.print es) = tt
+    what_symbols n label (tree.read es) = tt
+
+    loop_symbols : (l : LoopTree) → Each IsSymbol (index_of names l ++ walk_body (the_indexes names) l)
+    loop_symbols (tree.loop index first last step body) = each_joined IsSymbol (own_variable (number_from 1 names index)) (walk_list (the_indexes names) body) (own_symbol (number_from 1 names index)) (list_symbols body)
+
+    arms_symbols : (arms : ArmTrees) → Each IsSymbol (walk_arms (the_indexes names) arms)
+    arms_symbols tree.no_arms = tt
+    arms_symbols (tree.more_arms (tree.arm test body) rest) = each_joined IsSymbol (walk_list (the_indexes names) body) (walk_arms (the_indexes names) rest) (list_symbols body) (arms_symbols rest)
+
+    else_symbols : (other : ElseTree) → Each IsSymbol (walk_else (the_indexes names) other)
+    else_symbols tree.no_else = tt
+    else_symbols (tree.otherwise body) = list_symbols body
+
+    list_symbols : (ss : StmtTrees) → Each IsSymbol (walk_list (the_indexes names) ss)
+    list_symbols tree.no_stmts = tt
+    list_symbols (tree.more_stmts s rest) = each_joined IsSymbol (walk_stmt (the_indexes names) s) (walk_list (the_indexes names) rest) (stmt_symbols s) (list_symbols rest)
+
+ordered_symbols : (so_far vs : List Named) → Each IsSymbol so_far → Each IsSymbol vs → Each IsSymbol (in_order_with so_far vs)
+ordered_symbols so_far [] s t = s
+ordered_symbols so_far (v ∷ vs) s t = ordered_symbols (union so_far (v ∷ [])) vs (union_symbols so_far (v ∷ []) s (t.0, tt)) t.1
+
+indexes_symbols : (names : List (List ℕ)) (ss : StmtTrees) → Each IsSymbol (indexes_in names ss)
+indexes_symbols names ss = ordered_symbols [] (walk_list (the_indexes names) ss) tt (list_symbols names ss)
+
+-- ---- what is written
+
+write_kind : (a : Access) → a ≡ Write → is_write a ≡ true
+write_kind a e = subst (λ z. is_write z ≡ true) (sym e) refl
+
+in_written : (rs : List Region) (r : Region) → In r rs → r.kind ≡ Write → In r.variable (written_in rs)
+in_written [] r i e = elim i [ ]
+in_written (q ∷ rs) r here e = subst (λ b. In r.variable (if b then r.variable ∷ written_in rs else written_in rs)) (sym (write_kind r.kind e)) here
+in_written (q ∷ rs) r (there i) e = go (is_write q.kind) (in_written rs r i e)
+  where
+    go : (b : Bool) → In r.variable (written_in rs) → In r.variable (if b then q.variable ∷ written_in rs else written_in rs)
+    go true j = there j
+    go false j = j
+
+-- ---- verdicts
+
+copied_yes : (ks : List Kinds) (p : Private) → by_kinds ks p ≡ Copied → p ≡ Yes
+copied_yes [] p e = cc
+copied_yes (k ∷ ks) Yes e = refl
+copied_yes (k ∷ ks) Name e = cc
+copied_yes (k ∷ ks) Carried e = cc
+copied_yes (k ∷ ks) Live e = cc
+
+free_none : (ks : List Kinds) (p : Private) → by_kinds ks p ≡ Free → ks ≡ []
+free_none [] p e = refl
+free_none (k ∷ ks) Yes e = cc
+free_none (k ∷ ks) Name e = cc
+free_none (k ∷ ks) Carried e = cc
+free_none (k ∷ ks) Live e = cc
+
+unnamed_yes : (named : Bool) (p : Private) → unless_named named p ≡ Yes → p ≡ Yes
+unnamed_yes named Yes e = refl
+unnamed_yes named Name e = cc
+unnamed_yes named Carried e = cc
+unnamed_yes named Live e = cc
+
+none_of_index : (inner : Bool) (ks : List Kinds) → or_of_index inner ks ≡ [] → ks ≡ []
+none_of_index inner [] e = refl
+none_of_index inner (k ∷ ks) e = e
+
+with_none : (kept : Bool) (k : Kinds) (ks : List Kinds) → with_kind kept k ks ≡ [] → (kept ≡ false) × (ks ≡ [])
+with_none true k ks e = cc
+with_none false k ks e = (refl, e)
+
+none_some : (o : Option System) → is_some o ≡ false → o ≡ None
+none_some None e = refl
+none_some (Some s) e = absurd (true≢false e)
+
+none_kept : (ss : List SymbolTree) (b : LoopBody) (v : Named) → kept_kinds ss b v ≡ [] → (kinds : Kinds) → kept_system ss b v kinds ≡ None
+none_kept ss b v e kinds = go kinds
+  where
+    first : (keeps ss b v WriteRead ≡ false) × (with_kind (keeps ss b v ReadWrite) ReadWrite (with_kind (keeps ss b v WriteWrite) WriteWrite []) ≡ [])
+    first = with_none (keeps ss b v WriteRead) WriteRead (with_kind (keeps ss b v ReadWrite) ReadWrite (with_kind (keeps ss b v WriteWrite) WriteWrite [])) e
+
+    second : (keeps ss b v ReadWrite ≡ false) × (with_kind (keeps ss b v WriteWrite) WriteWrite [] ≡ [])
+    second = with_none (keeps ss b v ReadWrite) ReadWrite (with_kind (keeps ss b v WriteWrite) WriteWrite []) first.1
+
+    third : keeps ss b v WriteWrite ≡ false
+    third = (with_none (keeps ss b v WriteWrite) WriteWrite [] second.1).0
+
+    go : (kinds : Kinds) → kept_system ss b v kinds ≡ None
+    go WriteRead = none_some (kept_system ss b v WriteRead) first.0
+    go ReadWrite = none_some (kept_system ss b v ReadWrite) second.0
+    go WriteWrite = none_some (kept_system ss b v WriteWrite) third
+
+-- what is copied has a name that allows it
+yes_copy : (a b c : Bool) → private_by a b c ≡ Yes → a ≡ true
+yes_copy true b c e = refl
+yes_copy false b c e = cc
+
+module _ (k : Knowledge) (b : LoopBody) (u : Uses) (l : LoopTree) (inner : List Named) where
+  copied_private : (v : Named) → verdict_of k b u l inner v ≡ Copied → private_in k.tree k.symbols u v ≡ Yes
+  copied_private v e = unnamed_yes (is_in_bounds k.symbols l v) (private_in k.tree k.symbols u v) (copied_yes (kinds_of k.symbols b inner v) (copy_answer k u l v) (go (same_variable v (Own b.index)) e))
+    where
+      go : (c : Bool) → (if c then Free else by_kinds (kinds_of k.symbols b inner v) (copy_answer k u l v)) ≡ Copied → by_kinds (kinds_of k.symbols b inner v) (copy_answer k u l v) ≡ Copied
+      go true q = cc
+      go false q = q
+
+  free_so : (ns : List ℕ) (v : Named) → verdict_of k b u l inner v ≡ Free → IsCleared k.tree k.symbols b ns v
+  free_so ns v e = go (same_variable v (Own b.index)) refl e
+    where
+      go : (c : Bool) → same_variable v (Own b.index) ≡ c → (if c then Free else by_kinds (kinds_of k.symbols b inner v) (copy_answer k u l v)) ≡ Free → IsCleared k.tree k.symbols b ns v
+      go true w q = inl (same_own b.index v w)
+      go false w q = inr (inl (none_kept k.symbols b v (none_of_index (is_among inner v) (kept_kinds k.symbols b v) (free_none (kinds_of k.symbols b inner v) (copy_answer k u l v) q))))
+
+-- ---- marks
+
+kept_own : (so_far : List ℕ) (v : Named) (m : ℕ) → In m so_far → In m (with_own so_far v)
+kept_own so_far (Own n) m i = in_left m so_far (n ∷ []) i
+kept_own so_far (Block x) m i = i
+kept_own so_far (Saved x y) m i = i
+
+new_own : (so_far : List ℕ) (n : ℕ) → In n (with_own so_far (Own n))
+new_own so_far n = in_right n so_far (n ∷ []) here
+
+-- a symbol is one of these
+abbrev OwnIn : List ℕ → Named → Type 0
+OwnIn ms (Own n) = In n ms
+OwnIn ms (Block b) = Unit {0}
+OwnIn ms (Saved s x) = Unit {0}
+
+serial_no : (r : Reason) (ns : List ℕ) → Serial r ≡ Parallel ns → ⊥
+serial_no r ns e = cc
+
+parallel_same : (ns ms : List ℕ) → Parallel ns ≡ Parallel ms → ns ≡ ms
+parallel_same ns ms e = cc
+
+module _ (f : Named → Verdict) where
+  -- what is copied so far
+  stay : (vs : List Named) (so_far ms : List ℕ) → marked f so_far vs ≡ Parallel ms → (m : ℕ) → In m so_far → In m ms
+  stay [] so_far ms e m i = subst (λ zs. In m zs) (parallel_same so_far ms e) i
+  stay (v ∷ vs) so_far ms e m i = go (f v) e (λ q. stay vs so_far ms q m i) (λ q. stay vs (with_own so_far v) ms q m (kept_own so_far v m i))
+    where
+      go : (w : Verdict) → by_verdict v (marked f so_far vs) (marked f (with_own so_far v) vs) w ≡ Parallel ms → (marked f so_far vs ≡ Parallel ms → In m ms) → (marked f (with_own so_far v) vs ≡ Parallel ms → In m ms) → In m ms
+      go Free q next copied = next q
+      go Copied q next copied = copied q
+      go (Bad ks p) q next copied = absurd (serial_no _ ms q)
+
+  abbrev Said : List ℕ → Named → Type 0
+  Said ms v = (f v ≡ Free) ⊎ ((f v ≡ Copied) × OwnIn ms v)
+
+  first_said : (v : Named) (vs : List Named) (so_far ms : List ℕ) (w : Verdict) → f v ≡ w → by_verdict v (marked f so_far vs) (marked f (with_own so_far v) vs) w ≡ Parallel ms → Said ms v
+  first_said v vs so_far ms Free e q = inl e
+  first_said (Own n) vs so_far ms Copied e q = inr (e, stay vs (with_own so_far (Own n)) ms q n (new_own so_far n))
+  first_said (Block b) vs so_far ms Copied e q = inr (e, tt)
+  first_said (Saved s x) vs so_far ms Copied e q = inr (e, tt)
+  first_said v vs so_far ms (Bad ks p) e q = absurd (serial_no _ ms q)
+
+  said : (vs : List Named) (so_far ms : List ℕ) → marked f so_far vs ≡ Parallel ms → (v : Named) → In v vs → Said ms v
+  said [] so_far ms e v i = elim i [ ]
+  said (w ∷ vs) so_far ms e v here = first_said v vs so_far ms (f v) refl e
+  said (w ∷ vs) so_far ms e v (there i) = go (f w) e (λ q. said vs so_far ms q v i) (λ q. said vs (with_own so_far w) ms q v i)
+    where
+      go : (z : Verdict) → by_verdict w (marked f so_far vs) (marked f (with_own so_far w) vs) z ≡ Parallel ms → (marked f so_far vs ≡ Parallel ms → Said ms v) → (marked f (with_own so_far w) vs ≡ Parallel ms → Said ms v) → Said ms v
+      go Free q next copied = next q
+      go Copied q next copied = copied q
+      go (Bad ks p) q next copied = absurd (serial_no _ ms q)
+
+-- ---- the mark of a DO
+
+one_of : (k : Knowledge) (u : Uses) (ns : List ℕ) (v : Named) → private_in k.tree k.symbols u v ≡ Yes → OwnIn ns v → IsOneOf k.tree k.symbols ns v
+one_of k u ns (Own n) s i = record { number = n; is = refl; one = i; may = yes_copy (may_copy k.tree k.symbols (Own n)) (is_carried u (Own n)) (is_live u (Own n)) s }
+one_of k u ns (Block b) s i = cc
+one_of k u ns (Saved t x) s i = cc
+
+unless : (c : Bool) (r : Reason) (m : Mark) (ns : List ℕ) → (if c then Serial r else m) ≡ Parallel ns → (c ≡ false) × (m ≡ Parallel ns)
+unless true r m ns e = absurd (serial_no r ns e)
+unless false r m ns e = (refl, e)
+
+only_if : (c : Bool) (r : Reason) (m : Mark) (ns : List ℕ) → (if c then m else Serial r) ≡ Parallel ns → m ≡ Parallel ns
+only_if true r m ns e = e
+only_if false r m ns e = absurd (serial_no r ns e)
+
+pub says_parallel : (k : Knowledge) (n : ℕ) (label : Option ℕ) (l : LoopTree) (ns : List ℕ) → mark_of k n label l ≡ Parallel ns → SaysParallel k n l ns
+says_parallel k n label l ns e =
+    let b = k.body l in
+    let u = k.uses n l in
+    let inner = indexes_in k.names (body_of l) in
+    let a = unless (may_jump k.tree.body k.effects label l) _ (by_io k n l) ns e in
+    let jump = or_parts (is_jumped_to k.tree.body label) (leaves false (body_of l) || may_stop k.effects (body_of l)) a.0 in
+    let leave = or_parts (leaves false (body_of l)) (may_stop k.effects (body_of l)) jump.1 in
+    let c = unless (may_have_io k.effects (body_of l)) _ (by_step k b u l inner) ns a.1 in
+    let d = only_if (has_step b) _ (by_index k b u l inner) ns c.1 in
+    let i = unless (index_is_bad k b u l) _ (by_variables k b u l inner) ns d in
+    let o = or_parts (not (may_copy k.tree k.symbols (Own b.index))) (is_of_some (Own b.index) u.outs || is_in_bounds k.symbols l (Own b.index)) i.0 in
+    record {
+      stays = leave.0;
+      no_stop = leave.1;
+      no_io = c.0;
+      index = not-false (may_copy k.tree k.symbols (Own b.index)) o.0;
+      verdicts = λ r j w. so r.variable (said (verdict_of k b u l inner) (union inner (written_in b.regions)) [] ns i.1 r.variable (in_union r.variable inner (written_in b.regions) (indexes_symbols k.names (body_of l)) (in_written b.regions r j w)));
+    }
+  where
+    so : (v : Named) → Said (verdict_of k (k.body l) (k.uses n l) l (indexes_in k.names (body_of l))) ns v → IsCleared k.tree k.symbols (k.body l) ns v
+    so v (inl q) = free_so k (k.body l) (k.uses n l) l (indexes_in k.names (body_of l)) ns v q
+    so v (inr q) = inr (inr (one_of k (k.uses n l) ns v (copied_private k (k.body l) (k.uses n l) l (indexes_in k.names (body_of l)) v q.0) q.1))

@@ -1,0 +1,77 @@
+-- What is known of a marked loop at an execution of its DO.
+use Rattle.std.specs.Prelude.{◌≡◌, ◌⊎◌, ℕ, List, Option, Some, All}
+use Rattle.f77_ast.specs.Trees.{LoopTree, StmtTrees}
+use Rattle.f77_ast.specs.DeclTrees.{ParsedTree}
+use Rattle.f77_ast.specs.Places.{Places}
+use Rattle.f77_ast.specs.Store.{Content, Store}
+use Rattle.f77_ast.specs.Writes.{Locks}
+use Rattle.f77_ast.specs.Loops.{Range}
+use Rattle.f77_ast.specs.Plans.{Flow}
+use Rattle.f77_ast.specs.Runs.{Answer, Gave, Broke}
+use Rattle.f77_ast.specs.Executions.{run_of}
+use Rattle.f77_ast.specs.Statements.{do_plan}
+use Rattle.f77_symbols.specs.declared.variable.Variable.TheVariants.{Own}
+use Rattle.f77_symbols.specs.Symbols.{SymbolTree}
+use Rattle.call_graph.specs.declared.graph.Graph.{Graph}
+use Rattle.f77_meaning.specs.Modules.{Known, known_of, names}
+use Rattle.f77_meaning.specs.Processes.{Marked}
+use Rattle.transformer_algebra.specs.Laws.{In}
+use Rattle.call_translation.specs.Scopes.{ScopeTree}
+use Rattle.transformers.specs.Lists.{value_at}
+use Rattle.region_sets.specs.declared.marks.Mark.TheVariants.{Parallel}
+use Rattle.region_sets.specs.declared.region.Access.TheVariants.{Write}
+use Rattle.region_sets.specs.declared.region.Region.{Region}
+use Rattle.scalar_phases.specs.Phases.{scope_of}
+use Rattle.loop_bodies.specs.Finding.{loop_in}
+use Rattle.loop_marker.specs.Marks.{Knowledge, mark_of}
+use Rattle.mark_phases.specs.Phases.{ModuleMarks, known_in, all_marks}
+use Rattle.laws_programs.specs.Programs.{IsProgram}
+use Rattle.laws_conflicts.specs.Executions.{Execution, InEachExecution}
+use Rattle.laws_conflicts.specs.Claims.{KnownLoop, LoopIs, loop_with}
+use Rattle.laws_interleavings.specs.MarkedStatements.{MarkedScope, marked_loop}
+use Rattle.laws_marked_loops.specs.Begun.{iterations_of}
+use Rattle.laws_marked_loops.specs.Ending.{EndsQuietly}
+use Rattle.laws_marked_loops.specs.Begins.{Begins}
+use Rattle.laws_marked_loops.specs.Fit.{IsFree, HasPrivateUnits}
+use Rattle.laws_marks.specs.Dead.{index_name}
+use Rattle.laws_marks.specs.DeadLaws.{outs_of}
+use Rattle.laws_marks.specs.Verdicts.{SaysParallel}
+
+-- it came to an end
+abbrev pub Finishes : Answer Flow → Type 0
+Finishes (Gave f) = Unit {0}
+Finishes (Broke b) = ⊥
+
+-- the first of what is asked of a loop so that its iterations may be interleaved (`LoopIsFit`): it ends normally and has no input or output; its iterations are as claimed; and each variable of a WRITE
+-- region of its body has no conflict, or what is written of it is private
+pub record LoopIsKnown (ks : List Known) (g : Graph) (k : ScopeTree) (at : Places) (d : KnownLoop) (m : Marked) (s : Store) (i : List Content) : Type 0 where
+  pub ends : EndsQuietly m s
+  pub known : LoopIs ks g k at d s (iterations_of m s i)
+  pub verdicts : (r : Region) → In r d.body.regions → r.kind ≡ Write → IsFree k d r.variable ⊎ HasPrivateUnits ks g k at m s r.variable
+
+-- of an execution of whatever statement of the module that came to an end, where it is a DO that is marked so: each loop to which it comes, where what an iteration writes of the variables of the
+-- mark is private in the loop
+abbrev pub MarkedLoopIsKnown : List Known → Graph → ModuleMarks → Execution → Type 0
+MarkedLoopIsKnown ks g f x =
+    let k = known_in f.outs in
+    Finishes (run_of x.does x.start x.input).answer →
+    (l : LoopTree) → loop_in x.spot.statement k.read.body ≡ Some l →
+    (ns : List ℕ) → value_at f.marks x.spot.statement ≡ Some (Parallel ns) →
+    (xs : List (List ℕ)) (sc : MarkedScope) (body : StmtTrees) (r : Range) (u : ℕ) (inner locked : Locks) → sc.plain.names ≡ names k.symbols → x.does ≡ do_plan l sc.plain x.places locked →
+    let m = marked_loop xs sc body x.places r u inner in
+    ((n : ℕ) → In n ns → HasPrivateUnits ks g (scope_of g.untracked k) x.places m x.start (Own n)) → Begins sc.plain (index_name l) l x.places locked m x.start x.input →
+    LoopIsKnown ks g (scope_of g.untracked k) x.places (loop_with g f.outs.known l) m x.start x.input
+
+-- of an execution in whatever module
+abbrev pub AllMarkedLoopsAreKnown : List Known → Graph → List ModuleMarks → Execution → Type 0
+AllMarkedLoopsAreKnown ks g fs x = All (λ f. (known_in f.outs).read.name ≡ x.spot.module_name → MarkedLoopIsKnown ks g f x) fs
+
+-- ---- laws
+
+-- what a mark says of a DO
+abbrev pub MarksSayParallel : Type 0
+MarksSayParallel = (k : Knowledge) (n : ℕ) (label : Option ℕ) (l : LoopTree) (ns : List ℕ) → mark_of k n label l ≡ Parallel ns → SaysParallel k n l ns
+
+-- so it is in every run of a program that is read, up to its first fault
+abbrev pub ReadMarkedLoopsAreKnown : Type 0
+ReadMarkedLoopsAreKnown = (ps : List ParsedTree) (sss : List (List SymbolTree)) (g : Graph) → IsProgram ps sss g → InEachExecution (known_of ps sss) g (AllMarkedLoopsAreKnown (known_of ps sss) g (all_marks g (outs_of ps sss g)))

@@ -1,0 +1,15 @@
+pub mod Inactive
+pub mod OwnLaws
+pub mod Dead
+pub mod Units
+pub mod Named
+pub mod DeadLaws
+pub mod Names
+pub mod Verdicts
+pub mod Known
+pub mod Rests
+pub mod Loops
+pub mod RunLaws
+pub mod Directives
+pub mod Schedules
+pub mod Accepted

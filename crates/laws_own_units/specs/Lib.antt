@@ -1,2 +1,0 @@
-pub mod Inactive
-pub mod Laws

@@ -1,0 +1,168 @@
+-- The marks of the modules of a program that was read are as the law of whole texts asks.
+use Rattle.std.proofs.Common.{◌≡◌, ℕ, zero, suc, Bool, true, false, List, [], ◌∷◌, ◌++◌, map, Option, Some, None, refl, sym, ap, ◌∙◌, subst}
+use Rattle.std.specs.Prelude.{slice_get}
+use Rattle.f77_ast.specs.declared.places.Part.TheVariants as parts
+use Rattle.f77_ast.specs.DeclTrees.{ModuleTree, ParsedTree}
+use Rattle.f77_statements.specs.Phrases.{end_module}
+use Rattle.f77_printer.specs.declared.added.Added.{Added}
+use Rattle.f77_symbols.specs.Symbols.{SymbolTree}
+use Rattle.f77_symbols.specs.declared.variable.Unit.{Unit as BlockUnit}
+use Rattle.f77_meaning.specs.Modules.{Known, known_of, symbol_names}
+use Rattle.f77_results.specs.declared.effect_set.EffectSet.{EffectSet}
+use Rattle.f77_results.specs.declared.results.At.{At}
+use Rattle.f77_results.specs.declared.results.Results.{Results}
+use Rattle.scalar_phases.specs.Phases.{analyses, scope_of}
+use Rattle.region_phases.specs.Phases.{all_regions}
+use Rattle.in_out_phases.specs.Phases.{all_ins}
+use Rattle.out_phases.specs.Phases.{ModuleOuts, all_outs}
+use Rattle.region_sets.specs.declared.marks.Mark.{Mark}
+use Rattle.region_sets.specs.declared.marks.Mark.TheVariants.{Parallel, Serial}
+use Rattle.loop_marker.specs.Known.{knowledge_of}
+use Rattle.loop_marker.specs.Marks.{mark_of}
+use Rattle.mark_lines.specs.MarkLines.{mark_lines_of}
+use Rattle.mark_phases.specs.Phases.{ModuleMarks, analysis_in, known_in, marks_found}
+use Rattle.roundtrip_statements.specs.Formed.{Each}
+use Rattle.roundtrip_modules.specs.Cards.{card, title_cards, decl_cards, cards_in, statements_of}
+use Rattle.roundtrip_modules.specs.Numbered.{AreNumbered}
+use Rattle.roundtrip_programs.specs.Lines.{IsShown, AreShown}
+use Rattle.roundtrip_programs.proofs.Body.{AreCards}
+use Rattle.roundtrip_systems.specs.Printed.{AreNames}
+use Rattle.roundtrip_marks.specs.Marked.{loops_in}
+use Rattle.roundtrip_marks.specs.Lines.{IsNumberedMark, AreNumberedMarks}
+use Rattle.roundtrip_marks.specs.WholeLaws.{IsMarking, IsMarked}
+use Rattle.roundtrip_marks.proofs.MarkNumbers.{marks_numbers}
+use Rattle.laws_programs.proofs.Sources.{IsBuilt}
+use Rattle.laws_programs.specs.Programs.{AreTables}
+use Rattle.laws_analyses.specs.Coverage.{AreWhole}
+use Rattle.laws_lines.proofs.PhaseVars.{EachOf, got_each}
+use Rattle.laws_region_lines.proofs.LinesMean.{HasNames}
+use Rattle.pips_top.specs.Program.{ProgramTree}
+use Rattle.pips_top.specs.Shown.{said_of, said_for, claims_found, lines_of}
+use Rattle.pips_top.specs.declared.words.Show.{Show}
+use Rattle.pips_top.specs.declared.words.Show.TheVariants.{All, Bare, Why}
+use Rattle.pips_top.proofs.BlockNames.{left_of, right_of, formed}
+use Rattle.pips_top.proofs.MarkNames.{MarkNamed, MarksNamed}
+use Rattle.pips_top.proofs.ClaimsPlain.{ArePlain, claims_plain}
+use Rattle.pips_top.proofs.Said.{marks_are}
+use Rattle.pips_top.proofs.ModulesSaid.{IsOwn, each_own, known_there}
+use Rattle.pips_top.proofs.AddedLines.{IsSaid}
+
+-- ---- the lines that are added to a module: those of its marks behind others
+
+abbrev pub names_of : Option ModuleMarks → List (List ℕ)
+names_of None = []
+names_of (Some f) = symbol_names (known_in f.outs).symbols
+
+abbrev pub marks_of : Option ModuleMarks → List (At Mark)
+marks_of None = []
+marks_of (Some f) = f.marks
+
+abbrev pub shows_why : Show → Bool
+shows_why All = true
+shows_why Bare = false
+shows_why Why = true
+
+abbrev pub others_of : Show → Option ModuleMarks → List Added
+others_of show None = []
+others_of All (Some f) = claims_found f.outs
+others_of Bare (Some f) = []
+others_of Why (Some f) = []
+
+pub lines_parts : (show : Show) (o : Option ModuleMarks) → lines_of show o ≡ others_of show o ++ mark_lines_of (names_of o) (shows_why show) (marks_of o)
+lines_parts All None = refl
+lines_parts Bare None = refl
+lines_parts Why None = refl
+lines_parts All (Some f) = refl
+lines_parts Bare (Some f) = refl
+lines_parts Why (Some f) = refl
+
+others_plain : (show : Show) (o : Option ModuleMarks) → ArePlain (others_of show o)
+others_plain All None = tt
+others_plain Bare None = tt
+others_plain Why None = tt
+others_plain All (Some f) = claims_plain f.outs
+others_plain Bare (Some f) = tt
+others_plain Why (Some f) = tt
+
+-- ---- the marks of a module
+
+pub body_cards : (m : ModuleTree) → AreCards (statements_of m) → AreCards (cards_in m.body)
+unfolding statements_of
+body_cards m k =
+    right_of (title_cards m ++ decl_cards 0 m.decls) (cards_in m.body) (left_of (title_cards m ++ decl_cards 0 m.decls ++ cards_in m.body) (card parts.End None end_module ∷ []) k)
+
+abbrev pub numbers : List (At Mark) → List ℕ
+numbers ms = map (λ (m : At Mark). m.id) ms
+
+pub found_numbers : (u : List BlockUnit) (f : ModuleOuts) (e : Results EffectSet) → AreNumbered 0 (known_in f).read.body → AreCards (cards_in (known_in f).read.body) → numbers (marks_found u f e) ≡ loops_in (known_in f).read.body
+found_numbers u f e n c =
+    let k = known_in f in
+    let a = analysis_in f in
+    marks_numbers (mark_of (knowledge_of k.read k.symbols (symbol_names k.symbols) (scope_of u k) e.at a.found.own.at a.holds.at f.known.known.regions.at f.known.ins.at f.outs.at)) k.read.body n c
+
+numbered_mark : (names : List (List ℕ)) (v : Mark) → MarkNamed IsShown names v → IsNumberedMark names v
+numbered_mark names (Parallel ns) h = h
+numbered_mark names (Serial r) h = tt
+
+numbered : (names : List (List ℕ)) (ms : List (At Mark)) → MarksNamed IsShown names ms → AreNumberedMarks names ms
+numbered names [] h = tt
+numbered names (m ∷ ms) h = (numbered_mark names m.value h.first, numbered names ms h.others)
+
+-- of a module with this tree
+record IsGood (show : Show) (m : ModuleTree) (o : Option ModuleMarks) : Type 0 where
+  named : AreNames (names_of o)
+  shown : AreShown (names_of o)
+  marking : IsMarking (names_of o) m.body (marks_of o)
+
+pub got : {A : Type 0} (P : A → Type 0) (xs : List A) (j : ℕ) (x : A) → Each P xs → slice_get xs j ≡ Some x → P x
+got P [] j x h e = cc
+got P (y ∷ xs) zero x h e = let same : y ≡ x = cc in subst P same h.first
+got P (y ∷ xs) (suc j) x h e = got P xs j x h.others e
+
+each_from : {A : Type 0} (P : A → Type 0) (xs : List A) → ((j : ℕ) (x : A) → slice_get xs j ≡ Some x → P x) → Each P xs
+each_from P [] h = tt
+each_from P (x ∷ xs) h = record { first = h zero x refl; others = each_from P xs (λ j y e. h (suc j) y e) }
+
+module _ (p : ProgramTree) (show : Show) (whole : AreWhole (known_of p.modules p.tables) (analyses (known_of p.modules p.tables) p.graph)) (tables : AreTables p.modules p.tables)
+    (built : Each IsBuilt p.modules) (are : EachOf HasNames (known_of p.modules p.tables)) (said : Each IsSaid (said_of p)) where
+  abbrev ks : List Known
+  ks = known_of p.modules p.tables
+
+  abbrev outs : List ModuleOuts
+  outs = all_outs p.graph (all_ins p.graph (all_regions p.graph (analyses ks p.graph)))
+
+  good_at : (i : ℕ) (m : ParsedTree) (ss : List SymbolTree) → slice_get p.modules i ≡ Some m → slice_get ks i ≡ Some (record { read = m.module_read; symbols = ss })
+      → IsOwn p (record { read = m.module_read; symbols = ss }) → IsGood show m.module_read (said_for (said_of p) m.module_read.name)
+  good_at i m ss e k own =
+      let this : Known = record { read = m.module_read; symbols = ss } in
+      let f = own.found in
+      let b = got IsBuilt p.modules i m built e in
+      let names = symbol_names (known_in f.outs).symbols in
+      let is = got IsSaid (said_of p) own.place f said own.there in
+      let read : m.module_read ≡ (known_in f.outs).read = ap (λ (x : Known). x.read) (sym own.known) in
+      let found = marks_are p.graph outs own.place f own.there in
+      let count = found_numbers p.graph.untracked f.outs f.effects (subst (λ (t : ModuleTree). AreNumbered 0 t.body) read b.well.body) (subst (λ (t : ModuleTree). AreCards (cards_in t.body)) read (body_cards m.module_read (formed m b))) in
+      let here : IsGood show m.module_read (Some f) = record {
+        named = subst HasNames (sym own.known) (got_each HasNames ks i this are k);
+        shown = is.names;
+        marking = record { each = ap numbers found ∙ count ∙ ap (λ (t : ModuleTree). loops_in t.body) (sym read); numbered = numbered names f.marks is.named };
+      } in
+      subst (IsGood show m.module_read) (sym own.own) here
+
+  abbrev pub names : ParsedTree → List (List ℕ)
+  names m = names_of (said_for (said_of p) m.module_read.name)
+
+  abbrev pub marks : ParsedTree → List (At Mark)
+  marks m = marks_of (said_for (said_of p) m.module_read.name)
+
+  abbrev pub others : ParsedTree → List Added
+  others m = others_of show (said_for (said_of p) m.module_read.name)
+
+  marked_at : (i : ℕ) (m : ParsedTree) → slice_get p.modules i ≡ Some m → IsMarked names marks others m
+  marked_at i m e =
+      let t = known_there p.modules p.tables i m tables e in
+      let g = good_at i m t.0 e t.1 (each_own p whole i (record { read = m.module_read; symbols = t.0 }) t.1) in
+      record { named = g.named; shown = g.shown; marking = g.marking; plain = others_plain show (said_for (said_of p) m.module_read.name) }
+
+  pub all_marked : Each (IsMarked names marks others) p.modules
+  all_marked = each_from (IsMarked names marks others) p.modules marked_at
