@@ -8,11 +8,12 @@ use Rattle.f77_ast.specs.Plans.{Flow}
 use Rattle.f77_ast.specs.Programs.{Conforms}
 use Rattle.f77_meaning.specs.Accesses.{is_read_first}
 use Rattle.laws_interleavings.specs.Iterations.{on_store, OwnFirst, with_unit, without_unit}
-use Rattle.laws_interleavings.specs.Strict.{IsFault, Strict, Quiet}
+use Rattle.laws_interleavings.specs.Faults.{StepsFault}
+use Rattle.laws_interleavings.specs.Strict.{Strict, Quiet}
 use Rattle.laws_interleavings.specs.Sound.{NoTake}
 use Rattle.laws_interleavings.proofs.Stores.{put_same, put_other}
 
-pub fault_ends : (t : Steps Flow) (s : Store) → IsFault t → Conforms (on_store t s).answer → ⊥
+pub fault_ends : (t : Steps Flow) (s : Store) → StepsFault t → Conforms (on_store t s).answer → ⊥
 fault_ends (Breaks (Faulty k)) s f n = n
 fault_ends (Breaks (Wants u)) s f n = f
 fault_ends (Breaks OutOfTurns) s f n = f

@@ -2,7 +2,9 @@ pub mod Alone
 pub mod Iterations
 pub mod Marks
 pub mod Sound
+pub mod Faults
 pub mod Strict
+pub mod Typed
 pub mod Holds
 pub mod MarkedStatements
 pub mod MarkedPrograms

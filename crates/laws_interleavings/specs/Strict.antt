@@ -5,26 +5,13 @@ use Rattle.f77_ast.specs.Steps.{Faulty, Wants, OutOfTurns, Steps, Done, Breaks, 
 use Rattle.f77_ast.specs.Plans.{Flow, steps_of}
 use Rattle.laws_interleavings.specs.Marks.{MarkedPlan, Loop, Within}
 use Rattle.laws_interleavings.specs.Marks as marks
-
--- it ends with a fault at once
-abbrev pub IsFault : {A : Type 0} → Steps A → Type 0
-IsFault (Done a) = ⊥
-IsFault (Breaks (Faulty f)) = Unit {0}
-IsFault (Breaks (Wants u)) = ⊥
-IsFault (Breaks OutOfTurns) = ⊥
-IsFault (Look u k) = ⊥
-IsFault (Set u c t) = ⊥
-IsFault (Hold u c t) = ⊥
-IsFault (Forget u t) = ⊥
-IsFault (Show xs t) = ⊥
-IsFault (Take k) = ⊥
-IsFault (Arrive p t) = ⊥
+use Rattle.laws_interleavings.specs.Faults.{StepsFault}
 
 -- a read of a unit without a value is a fault (ANSI X3.9-1978 §17.2)
 abbrev pub Strict : {A : Type 0} → Steps A → Type 0
 Strict (Done a) = Unit {0}
 Strict (Breaks b) = Unit {0}
-Strict (Look u k) = ((c : Content) → c.tag ≡ Undefined → IsFault (k c)) × ((c : Content) → Strict (k c))
+Strict (Look u k) = ((c : Content) → c.tag ≡ Undefined → StepsFault (k c)) × ((c : Content) → Strict (k c))
 Strict (Set u c t) = Strict t
 Strict (Hold u c t) = Strict t
 Strict (Forget u t) = Strict t

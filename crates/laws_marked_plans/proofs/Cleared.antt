@@ -25,7 +25,8 @@ use Rattle.f77_ast.specs.Programs.{Routine, scope, body_of, called, meanings}
 use Rattle.f77_ast.proofs.StepLaws.{Leads, at_end_more, leads_then, first_leads, leads_true}
 use Rattle.laws_interleavings.proofs.Runs.{steps_then}
 use Rattle.laws_interleavings.proofs.Stores.{put_other}
-use Rattle.laws_marked_plans.specs.Fine.{AreFine, TagsStand, IsTagged, AllTagged, IsNoDummy}
+use Rattle.laws_interleavings.specs.Typed.{TagsStand, IsTagged, AllTagged, IsNoDummy}
+use Rattle.laws_marked_plans.specs.Fine.{AreFine}
 use Rattle.laws_marked_plans.specs.Cleared.{HasNoValue, Ending, Cleared, OffPlace, OffPlaces, Off, IsNoJump, EndsWell, MeaningCleared, IsApartFrom, AllApart, AllEnd}
 use Rattle.laws_marked_plans.proofs.Fine.{Yields, yields_then, yields_any, Any, fine_after, fine_after_so, fine_given, fine_value, fine_values, fine_range_of, fine_target, fine_all_shown, fine_name_target, fine_arrays, arrays_tagged, scalars_tagged}
 

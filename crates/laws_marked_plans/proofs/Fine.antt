@@ -24,7 +24,9 @@ use Rattle.f77_ast.specs.Statements.{statement_plan, execution, arms_plan, arm_p
 use Rattle.f77_ast.specs.Programs.{Routine, scope, body_of, called, meanings}
 use Rattle.laws_interleavings.specs.MarkedStatements.{one_of, count, MarkedScope, own_of_leaf, own_walk, own_in}
 use Rattle.laws_interleavings.specs.MarkedPrograms.{Directives, marked_scope, marked_called, marked_meanings}
-use Rattle.laws_marked_plans.specs.Fine.{IsFault, IsFine, StepsFault, AreFine, Frees, MeaningFine, HasTag, TagsStand, DummiesTagged, IsNoDummy, IsTagged, AllTagged}
+use Rattle.laws_interleavings.specs.Faults.{IsFault, StepsFault}
+use Rattle.laws_interleavings.specs.Typed.{HasTag, TagsStand, DummiesTagged, IsNoDummy, IsTagged, AllTagged}
+use Rattle.laws_marked_plans.specs.Fine.{IsFine, AreFine, Frees, MeaningFine}
 
 no_undefined : (t c : Tag) → HasTag t → c ≡ Undefined → same_tag t c ≡ false
 no_undefined t c h e = ap (same_tag t) e ∙ h

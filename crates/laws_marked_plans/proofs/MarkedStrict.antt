@@ -22,8 +22,9 @@ use Rattle.laws_interleavings.specs.Marks.{MarkedPlan, Ends, Breaks, Look, Set, 
 use Rattle.laws_interleavings.specs.Strict.{IsFaultPlan, StrictPlan}
 use Rattle.laws_interleavings.specs.MarkedStatements.{unmarked, ◌▹▹◌, steps_first, when_normal, MarkedPart, stands, parts_from, go_on, one_by_one, with_jumps, marked_list, marked_iterations, written_first, MarkedScope, marked_loop, begun_if, marked_statement, marked_execution, marked_arms, marked_arm, marked_else, loop_with, marked_parts}
 use Rattle.laws_interleavings.specs.MarkedPrograms.{Directives, forget_units, marked_scope, marked_body, marked_called, marked_meanings}
-use Rattle.laws_marked_plans.specs.Fine as fine
-use Rattle.laws_marked_plans.specs.Fine.{IsFine, AreFine, StepsFault, Frees, MeaningFine, TagsStand, IsNoDummy, IsTagged, AllTagged}
+use Rattle.laws_interleavings.specs.Faults.{IsFault, StepsFault}
+use Rattle.laws_interleavings.specs.Typed.{TagsStand, IsNoDummy, IsTagged, AllTagged}
+use Rattle.laws_marked_plans.specs.Fine.{IsFine, AreFine, Frees, MeaningFine}
 use Rattle.laws_marked_plans.specs.Uses.{MarkedProgramsAreStrict}
 use Rattle.laws_marked_plans.proofs.Uses.{strict_of}
 use Rattle.laws_marked_plans.proofs.Fine.{Yields, fine_given, fine_value, fine_name_target, fine_range_of, fine_actuals, fine_what, fine_body_list, fine_arrays, arrays_tagged, scalars_tagged, fine_meanings}
@@ -32,7 +33,7 @@ use Rattle.laws_marked_plans.proofs.Fine.{Yields, fine_given, fine_value, fine_n
 abbrev all : ℕ → Bool
 all u = true
 
-fault_unmarked : (t : Plan) → fine.IsFault t → IsFaultPlan (unmarked t)
+fault_unmarked : (t : Plan) → IsFault t → IsFaultPlan (unmarked t)
 fault_unmarked (plan.Breaks (Faulty f)) h = tt
 fault_unmarked (plan.Breaks (Wants u)) h = absurd h
 fault_unmarked (plan.Breaks OutOfTurns) h = absurd h

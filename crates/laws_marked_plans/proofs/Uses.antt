@@ -8,14 +8,14 @@ use Rattle.f77_ast.specs.Runs.{Event, Whole, Answer, Gave, Broke, Ran, store_of,
 use Rattle.f77_ast.specs.Plans.{Flow, Plan, Ends, Breaks, Look, Set, Hold, Forget, Show, Take, Within, steps_of}
 use Rattle.f77_ast.specs.Executions.{run_of}
 use Rattle.f77_meaning.specs.Processes.{writes}
-use Rattle.laws_interleavings.specs.Strict.{IsFault, Strict, Quiet}
+use Rattle.laws_interleavings.specs.Faults.{IsFault, StepsFault}
+use Rattle.laws_interleavings.specs.Strict.{Strict, Quiet}
 use Rattle.laws_interleavings.proofs.Runs.{run_bind, on_from, stays_whole}
 use Rattle.laws_interleavings.proofs.LaterReads.{written_append}
-use Rattle.laws_marked_plans.specs.Fine as fine
 use Rattle.laws_marked_plans.specs.Fine.{IsFine}
 use Rattle.laws_marked_plans.specs.Uses.{FinePlansServe}
 
-fault_steps : (t : Plan) → fine.IsFault t → IsFault (steps_of t)
+fault_steps : (t : Plan) → IsFault t → StepsFault (steps_of t)
 fault_steps (Breaks (Faulty f)) h = tt
 fault_steps (Breaks (Wants u)) h = absurd h
 fault_steps (Breaks OutOfTurns) h = absurd h
@@ -28,7 +28,7 @@ fault_steps (Show xs t) h = absurd h
 fault_steps (Take k) h = absurd h
 fault_steps (Within p at t k) h = absurd h
 
-fault_on : {A B : Type 0} (t : Steps A) (f : A → Steps B) → IsFault t → IsFault (t >>= f)
+fault_on : {A B : Type 0} (t : Steps A) (f : A → Steps B) → StepsFault t → StepsFault (t >>= f)
 fault_on (steps.Breaks (Faulty k)) f h = tt
 fault_on (steps.Breaks (Wants u)) f h = absurd h
 fault_on (steps.Breaks OutOfTurns) f h = absurd h

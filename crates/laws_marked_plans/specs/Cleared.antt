@@ -8,7 +8,7 @@ use Rattle.f77_ast.specs.Calls.{Meaning, in_place}
 use Rattle.f77_ast.specs.Plans.{Flow, Normal, Jump, Returned, Stopped, Plan}
 use Rattle.f77_ast.specs.Executions.{run_of, AtEndOf}
 use Rattle.f77_ast.specs.Programs.{Routine, called, meanings}
-use Rattle.laws_marked_plans.specs.Fine.{IsNoDummy}
+use Rattle.laws_interleavings.specs.Typed.{IsNoDummy}
 
 abbrev pub HasNoValue : Store → ℕ → Type 0
 HasNoValue s u = (s u).tag ≡ Undefined

@@ -6,7 +6,8 @@ use Rattle.f77_ast.specs.Writes.{Locks}
 use Rattle.f77_ast.specs.Statements.{Scope, body_plan}
 use Rattle.f77_ast.specs.Programs.{Routine, meanings}
 use Rattle.laws_interleavings.specs.MarkedPrograms.{Directives, marked_meanings}
-use Rattle.laws_marked_plans.specs.Fine.{MeaningFine, TagsStand, AllTagged}
+use Rattle.laws_interleavings.specs.Typed.{TagsStand, AllTagged}
+use Rattle.laws_marked_plans.specs.Fine.{MeaningFine}
 use Rattle.laws_marked_plans.specs.Cleared.{Cleared, Off, EndsWell, MeaningCleared, AllApart, AllEnd}
 
 -- modules whose variables have types read no unit without a value but to fault, write no unit that is locked, and change without an event only units of their own

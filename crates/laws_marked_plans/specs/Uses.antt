@@ -7,7 +7,8 @@ use Rattle.f77_ast.specs.Programs.{Program}
 use Rattle.f77_meaning.specs.Processes.{writes}
 use Rattle.laws_interleavings.specs.Strict.{Strict, Quiet, StrictPlan}
 use Rattle.laws_interleavings.specs.MarkedPrograms.{Directives, marked_program}
-use Rattle.laws_marked_plans.specs.Fine.{IsFine, IsTagged, AllTagged}
+use Rattle.laws_interleavings.specs.Typed.{IsTagged, AllTagged}
+use Rattle.laws_marked_plans.specs.Fine.{IsFine}
 
 -- a read of a unit without a value is a fault; only these units change without an event; and what may not be written is not written in any run
 pub record FineUses (free own : ℕ → Bool) (t : Plan) : Type 0 where

@@ -38,7 +38,7 @@ use Rattle.laws_analyses.proofs.IntegerLaws.{integers_fit}
 use Rattle.laws_analyses.proofs.MainLaws.{MainOf, some_main, main_from}
 use Rattle.laws_analyses.proofs.Modules.{IsIn, subs, subs_in, subs_are}
 use Rattle.laws_analyses.proofs.UnitLaws.{in_own, module_at}
-use Rattle.laws_marked_plans.specs.Fine.{IsNoDummy}
+use Rattle.laws_interleavings.specs.Typed.{IsNoDummy}
 use Rattle.laws_marked_plans.specs.Cleared.{IsApartFrom, AllApart}
 use Rattle.laws_marks.specs.Inactive.{IsOfExpression, IsOfModule, IsOfSome}
 use Rattle.laws_marks.specs.OwnLaws.{UnitsAreApart}

@@ -45,7 +45,7 @@ use Rattle.laws_interleavings.specs.Holds.{LoopHolds}
 use Rattle.laws_interleavings.specs.MarkedStatements.{MarkedScope, marked_loop, own_in}
 use Rattle.laws_interleavings.specs.MarkedPrograms.{Directives, marked_scope, marked_meanings}
 use Rattle.laws_regions.specs.Settings.{is_stored}
-use Rattle.laws_marked_plans.specs.Fine.{TagsStand}
+use Rattle.laws_interleavings.specs.Typed.{TagsStand}
 use Rattle.laws_marked_loops.specs.Begins.{Begins}
 use Rattle.laws_marked_loops.specs.Fit.{HasPrivateUnits, LoopIsFit, IsDeadAfter}
 use Rattle.laws_marked_loops.specs.Laws.{LoopsBegin, LoopsHold}

@@ -40,7 +40,8 @@ use Rattle.laws_conflicts.proofs.Modules.{numbered_above}
 use Rattle.laws_interleavings.specs.MarkedStatements.{MarkedScope, marked_loop, own_in, unit_of, unit_of_some}
 use Rattle.laws_interleavings.specs.MarkedPrograms.{Directives, marked_scope, marked_meanings}
 use Rattle.laws_interleavings.specs.Sound.{is_own}
-use Rattle.laws_marked_plans.specs.Fine.{IsFine, Frees, TagsStand, IsNoDummy, AllTagged}
+use Rattle.laws_interleavings.specs.Typed.{TagsStand, IsNoDummy, AllTagged}
+use Rattle.laws_marked_plans.specs.Fine.{IsFine, Frees}
 use Rattle.laws_marked_plans.specs.Cleared.{HasNoValue, Cleared, Off, EndsWell, MeaningCleared, AllApart, AllEnd}
 use Rattle.laws_marked_plans.proofs.Cleared.{other, off_more, lock_none, cleared_meanings, cleared_body}
 use Rattle.laws_marked_plans.proofs.Fine.{fine_body_list, fine_meanings}

@@ -35,7 +35,7 @@ use Rattle.laws_regions.specs.Claims.{elements_of}
 use Rattle.laws_regions.specs.Settings.{elements_if, elements_with}
 use Rattle.laws_conflicts.specs.Executions.{Execution}
 use Rattle.laws_conflicts.specs.Claims.{loop_with}
-use Rattle.laws_marked_plans.specs.Fine.{IsNoDummy}
+use Rattle.laws_interleavings.specs.Typed.{IsNoDummy}
 use Rattle.laws_marked_loops.specs.Fit.{IsCopied}
 use Rattle.laws_marks.specs.Dead.{index_name}
 use Rattle.laws_marks.specs.Units.{IsPassing, UnitsStand, ModuleUnitsStand}

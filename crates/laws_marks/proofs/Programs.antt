@@ -29,7 +29,7 @@ use Rattle.laws_interleavings.specs.Marks.{plain, plain_run, parallel_run}
 use Rattle.laws_interleavings.specs.Holds.{MarksHold}
 use Rattle.laws_interleavings.specs.Sound.{SameEnd, IsShort, Enough}
 use Rattle.laws_interleavings.specs.MarkedPrograms.{Directives, marked_program, marked_run}
-use Rattle.laws_marked_plans.specs.Fine.{AllTagged}
+use Rattle.laws_interleavings.specs.Typed.{AllTagged}
 use Rattle.laws_marked_plans.specs.Cleared.{AllApart, AllEnd}
 use Rattle.laws_marked_plans.specs.Uses.{MarkedProgramsAreStrict}
 use Rattle.laws_marked_loops.specs.Laws.{LoopsBegin, LoopsHold}

@@ -11,7 +11,7 @@ use Rattle.f77_ast.specs.Statements.{spot}
 use Rattle.f77_ast.specs.Programs.{Routine, Program, body_of, called, meanings, program_plan}
 use Rattle.f77_ast.proofs.StepLaws.{leads_true}
 use Rattle.laws_statements.proofs.Ends.{more}
-use Rattle.laws_marked_plans.specs.Fine.{IsTagged, AllTagged}
+use Rattle.laws_interleavings.specs.Typed.{IsTagged, AllTagged}
 use Rattle.laws_marked_plans.specs.Cleared.{HasNoValue, Cleared, OffPlaces, EndsWell, MeaningCleared, AllApart, AllEnd}
 use Rattle.laws_marked_plans.proofs.Fine.{scalars_tagged}
 use Rattle.laws_marked_plans.proofs.Cleared.{other, forgotten, scalars_off, cleared_forget_all, cleared_module, cleared_meanings}

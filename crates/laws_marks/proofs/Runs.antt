@@ -26,7 +26,7 @@ use Rattle.laws_interleavings.specs.MarkedPrograms.{Directives, forget_units, ma
 use Rattle.laws_interleavings.specs.Holds.{LoopHolds, MarksHold}
 use Rattle.laws_interleavings.proofs.Plain.{first_same, begins_marked, program_same}
 use Rattle.laws_conflicts.specs.Executions.{Execution}
-use Rattle.laws_marked_plans.specs.Fine.{TagsStand, IsTagged, AllTagged, IsNoDummy}
+use Rattle.laws_interleavings.specs.Typed.{TagsStand, IsTagged, AllTagged, IsNoDummy}
 use Rattle.laws_marked_plans.specs.Cleared.{OffPlaces, Off}
 use Rattle.laws_marked_plans.proofs.Fine.{Yields, scalars_tagged, arrays_tagged}
 use Rattle.laws_marked_plans.proofs.Cleared.{ActualsOff, off_more, own_none, lock_none, doubly_none, held_locked, actuals_off, places_off, scalars_off, arrays_off}

@@ -17,7 +17,8 @@ use Rattle.f77_ast.specs.Loops.{Range, range_of, iteration_count, iterations_fro
 use Rattle.f77_ast.specs.Calls.{Actual, actuals, places_of, own_units, lock_own, forget_all, after_call, Meaning, scalars_bound, arrays_bound, lock_doubly}
 use Rattle.f77_ast.specs.Statements.{Scope, statement_plan, execution, arms_plan, arm_plan, else_plan, do_plan, parts, body_plan}
 use Rattle.f77_ast.specs.Programs.{Routine, scope, body_of, called, meanings}
-use Rattle.laws_marked_plans.specs.Fine.{AreFine, IsFine, TagsStand, IsTagged, AllTagged}
+use Rattle.laws_interleavings.specs.Typed.{TagsStand, IsTagged, AllTagged}
+use Rattle.laws_marked_plans.specs.Fine.{AreFine, IsFine}
 use Rattle.laws_marked_plans.specs.Cleared.{OffPlaces, Off}
 use Rattle.laws_marked_plans.proofs.Fine.{Yields, fine_then, fine_first, fine_first_so, fine_value, fine_range_of, fine_name_target, fine_all_shown, fine_actuals, fine_arrays, arrays_tagged, scalars_tagged, PartsFine, fine_jumps, fine_iterations, Owned, fine_forget, fine_after_call}
 use Rattle.laws_marked_plans.proofs.Cleared.{Aims, other, ActualsOff, off_more, own_none, lock_none, doubly_none, held_locked, actuals_off, places_off, scalars_off, arrays_off, assigned_off, items_off, name_aims}

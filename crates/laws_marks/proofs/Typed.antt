@@ -22,33 +22,21 @@ use Rattle.laws_analyses.proofs.DummyLaws.{none_listed}
 use Rattle.laws_analyses.proofs.MainLaws.{MainOf, some_main, main_from}
 use Rattle.laws_analyses.proofs.Modules.{IsIn, subs, subs_in, subs_are}
 use Rattle.laws_analyses.proofs.UnitLaws.{module_at}
-use Rattle.laws_out_regions.specs.Rests as rests
 use Rattle.laws_out_regions.proofs.Routines.{routine_tagged}
-use Rattle.laws_marked_plans.specs.Fine.{DummiesTagged, IsNoDummy, IsTagged, AllTagged}
+use Rattle.laws_interleavings.specs.Typed.{AllTagged}
 use Rattle.laws_marks.specs.OwnLaws.{VariablesHaveTypes, CallsEnd}
 use Rattle.laws_marks.proofs.Ends.{AllStay, all_end}
 
 -- ---- types
 
-same_dummies : (ds : List Dummy) → rests.DummiesTagged ds → DummiesTagged ds
-same_dummies [] h = tt
-same_dummies (d ∷ ds) h = (h.0, same_dummies ds h.1)
-
-same_none : (ds : List Dummy) (v : ℕ) → IsNoDummy ds v → rests.IsNoDummy ds v
-same_none [] v h = tt
-same_none (d ∷ ds) v h = (h.0, same_none ds v h.1)
-
-tagged : (r : Routine) → rests.IsTagged r → IsTagged r
-tagged r h = record { dummies = same_dummies r.dummies h.dummies; fixed = λ x v e n. h.fixed x v e (same_none r.dummies v n) }
-
 all_tagged : (ks : List Known) (g : Graph) (xs : List Known) → AllTagged (map (routine ks g) xs)
 all_tagged ks g [] = tt
-all_tagged ks g (k ∷ xs) = (tagged (routine ks g k) (routine_tagged ks g k), all_tagged ks g xs)
+all_tagged ks g (k ∷ xs) = (routine_tagged ks g k, all_tagged ks g xs)
 
 pub variables_have_types : VariablesHaveTypes
 variables_have_types ps sss g x = record {
   no_dummies = ap (λ (k : Known). dummies_from 1 k.symbols) r.is_main ∙ none;
-  main = tagged (routine (known_of ps sss) g (main_of (known_of ps sss))) (routine_tagged (known_of ps sss) g (main_of (known_of ps sss)));
+  main = routine_tagged (known_of ps sss) g (main_of (known_of ps sss));
   others = subst AllTagged (subs_are (known_of ps sss) g g.order) (all_tagged (known_of ps sss) g (subs (known_of ps sss) g.order));
 }
   where

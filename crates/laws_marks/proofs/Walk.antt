@@ -20,7 +20,8 @@ use Rattle.f77_ast.specs.Statements.{Scope, spot, statement_plan, execution, arm
 use Rattle.f77_ast.specs.Programs.{Routine, scope, body_of, called, meanings}
 use Rattle.f77_ast.proofs.StepLaws.{at_end_more, leads_true}
 use Rattle.laws_statements.proofs.Ends.{more}
-use Rattle.laws_marked_plans.specs.Fine.{AreFine, TagsStand, IsTagged}
+use Rattle.laws_interleavings.specs.Typed.{TagsStand, IsTagged}
+use Rattle.laws_marked_plans.specs.Fine.{AreFine}
 use Rattle.laws_marked_plans.specs.Cleared.{HasNoValue, Ending, Cleared, OffPlaces, Off, EndsWell, MeaningCleared}
 use Rattle.laws_marked_plans.proofs.Fine.{Yields, yields_any, Any, fine_value, fine_range_of, fine_name_target, fine_all_shown, fine_actuals, fine_arrays, arrays_tagged, scalars_tagged}
 use Rattle.laws_marked_plans.proofs.Cleared.{other, is_other, put_off, keeps, Aims, name_aims, off_more, lock_none, own_none, doubly_none, held_locked, ActualsOff, actuals_off, places_off, assigned_off, items_off, cleared_what, cleared_stmt, cleared_body, scalars_off, arrays_off, yields_both}

@@ -13,7 +13,7 @@ use Rattle.laws_interleavings.specs.MarkedStatements.{MarkedScope, loop_with}
 use Rattle.laws_interleavings.specs.MarkedPrograms.{Directives, marked_scope, marked_meanings}
 use Rattle.laws_interleavings.specs.Holds.{MarksHold}
 use Rattle.laws_conflicts.specs.Executions.{Execution}
-use Rattle.laws_marked_plans.specs.Fine.{TagsStand, IsNoDummy}
+use Rattle.laws_interleavings.specs.Typed.{TagsStand, IsNoDummy}
 use Rattle.laws_marked_plans.specs.Cleared.{Off}
 
 -- ---- the DOs of a list, with their numbers

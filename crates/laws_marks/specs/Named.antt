@@ -27,7 +27,7 @@ use Rattle.laws_interleavings.specs.MarkedStatements.{MarkedScope, unit_of_some,
 use Rattle.laws_regions.specs.Settings.{elements_with}
 use Rattle.laws_conflicts.specs.Executions.{Execution}
 use Rattle.laws_conflicts.specs.Claims.{KnownLoop, loop_with, IsSole}
-use Rattle.laws_marked_plans.specs.Fine.{IsNoDummy}
+use Rattle.laws_interleavings.specs.Typed.{IsNoDummy}
 use Rattle.laws_marked_loops.specs.Begins.{Begins}
 use Rattle.laws_marked_loops.specs.Ending.{EndsQuietly}
 use Rattle.laws_marked_loops.specs.Fit.{IsCopied, IsDeadAfter}

@@ -66,7 +66,8 @@ use Rattle.laws_in_regions.proofs.Running.{frame}
 use Rattle.laws_in_regions.proofs.Taking.{NoWrites, free_none, free_both}
 use Rattle.laws_out_regions.specs.Claims.{OutRegionsHold}
 use Rattle.laws_out_regions.specs.Programs.{outs_in_part, EachOutHolds, is_some_lost, OutPart}
-use Rattle.laws_out_regions.specs.Rests.{onward_by, Follows, TagsStand}
+use Rattle.laws_interleavings.specs.Typed.{TagsStand}
+use Rattle.laws_out_regions.specs.Rests.{onward_by, Follows}
 use Rattle.laws_out_regions.specs.Shown.{IsNeeded, NeedsLie}
 use Rattle.laws_out_regions.proofs.Claimed.{out_set_holds}
 use Rattle.laws_out_regions.proofs.Forgetting.{unread_after, quiet_after, some_lost}

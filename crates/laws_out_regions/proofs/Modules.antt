@@ -63,7 +63,7 @@ use Rattle.laws_in_regions.proofs.Standing.{i_list}
 use Rattle.laws_in_regions.proofs.Statements.{calls_end}
 use Rattle.laws_out_regions.specs.Claims.{OutRegionsHold, OutSetHolds}
 use Rattle.laws_out_regions.specs.Programs.{known_in_part, outs_in_part, EachOutHolds, is_some_lost, OutPart}
-use Rattle.laws_out_regions.specs.Rests.{TagsStand}
+use Rattle.laws_interleavings.specs.Typed.{TagsStand}
 use Rattle.laws_out_regions.specs.Shown.{NeedsLie, OutShown}
 use Rattle.laws_out_regions.proofs.Claimed.{shown_holds}
 use Rattle.laws_out_regions.proofs.Hands.{Hands, hands_knowing}

@@ -25,7 +25,7 @@ use Rattle.laws_in_regions.proofs.Layouts.{in_at, lost_of, no_own, one_named}
 use Rattle.transformer_algebra.specs.Laws.{In, here, there}
 use Rattle.transformer_algebra.proofs.CellLaws.{nat_same}
 use Rattle.laws_out_regions.specs.Programs.{is_some_lost}
-use Rattle.laws_out_regions.specs.Rests.{HasTag, DummiesTagged, IsNoDummy, IsTagged}
+use Rattle.laws_interleavings.specs.Typed.{HasTag, DummiesTagged, IsNoDummy, IsTagged}
 use Rattle.laws_out_regions.proofs.CalleeLinks.{stands}
 
 scalar_tag : (t : Scalar) → HasTag (tag_of t)

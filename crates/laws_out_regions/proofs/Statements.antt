@@ -75,7 +75,8 @@ use Rattle.laws_in_regions.specs.Knowns.{known_in}
 use Rattle.laws_in_regions.proofs.Lists.{Both}
 use Rattle.laws_in_regions.proofs.Standing.{StandsStmt, StandsParts, StandsList, StandsArms, StandsElse, InAt, in_at, in_within, in_next, in_arms, in_if, body_same}
 use Rattle.laws_in_regions.proofs.Statements.{units_lock, solid, what_first, stmt_first, with_accesses, moved, keeps_at, turn_keeps, plain_of, body_first, calls_end}
-use Rattle.laws_out_regions.specs.Rests.{onward_by, IsStrict, TagsStand}
+use Rattle.laws_interleavings.specs.Typed.{TagsStand}
+use Rattle.laws_out_regions.specs.Rests.{onward_by, IsStrict}
 use Rattle.laws_out_regions.specs.Shown.{NeedsLie, OutShown, IsHanded, LiesAs}
 use Rattle.laws_out_regions.specs.Labels.{IsOutward, PartsOutward, StmtOutward, StmtsOutward, ArmsOutward, ElseOutward}
 use Rattle.laws_out_regions.proofs.Runs.{throughout_first}

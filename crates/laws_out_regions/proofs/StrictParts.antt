@@ -18,7 +18,9 @@ use Rattle.f77_ast.specs.Loops.{Range, range, step_value, range_of, iteration_co
 use Rattle.f77_ast.specs.Calls.{stored, rest_after, name_actual, element_actual, actual, actuals, places_of, own_units, lock_own, forget_all, after_call, Meaning, BoundTree, Dummy, first_place, other_places, scalars_bound, high_value, dims_read, is_open, array_at, open_extent, array_place, dummy_bound, arrays_bound, lock_doubly}
 use Rattle.f77_ast.specs.Statements.{Scope, statement_plan, execution, arms_plan, arm_plan, else_plan, do_plan, parts, body_plan}
 use Rattle.f77_ast.specs.Programs.{Routine, scope, body_of, called, meanings}
-use Rattle.laws_out_regions.specs.Rests.{IsFault, IsStrict, StepsFault, AreStrict, Follows, HasTag, TagsStand, DummiesTagged, IsNoDummy, IsTagged}
+use Rattle.laws_interleavings.specs.Faults.{IsFault, StepsFault}
+use Rattle.laws_interleavings.specs.Typed.{HasTag, TagsStand, DummiesTagged, IsNoDummy, IsTagged}
+use Rattle.laws_out_regions.specs.Rests.{IsStrict, AreStrict, Follows}
 
 no_undefined : (t c : Tag) → HasTag t → c ≡ Undefined → same_tag t c ≡ false
 no_undefined t c h e = ap (same_tag t) e ∙ h

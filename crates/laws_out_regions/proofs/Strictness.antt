@@ -11,7 +11,8 @@ use Rattle.f77_ast.specs.Programs.{Conforms}
 use Rattle.f77_meaning.specs.Accesses.{is_written, is_read_first}
 use Rattle.transformer_algebra.proofs.CellLaws.{nat_same}
 use Rattle.laws_in_regions.proofs.Firsts.{not_so, first_split, written_left, written_right}
-use Rattle.laws_out_regions.specs.Rests.{IsFault, IsStrict}
+use Rattle.laws_interleavings.specs.Faults.{IsFault}
+use Rattle.laws_out_regions.specs.Rests.{IsStrict}
 use Rattle.laws_out_regions.proofs.Runs.{on_from, run_after}
 
 flip : (v u : ℕ) → nat_eq v u ≡ false → nat_eq u v ≡ false

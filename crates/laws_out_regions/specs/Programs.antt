@@ -25,7 +25,7 @@ use Rattle.laws_regions.specs.Entries.{IsLost}
 use Rattle.laws_regions.specs.Programs.{regions_in_part}
 use Rattle.laws_in_regions.specs.Programs.{ins_in_part}
 use Rattle.laws_out_regions.specs.Claims.{OutRegionsHold}
-use Rattle.laws_out_regions.specs.Rests.{IsTagged}
+use Rattle.laws_interleavings.specs.Typed.{IsTagged}
 use Rattle.laws_out_regions.specs.Labels.{IsOutward, StmtsOutward}
 
 -- what OUT of a module is made from: rs has the summaries of READ and WRITE of what it calls, is those of IN
