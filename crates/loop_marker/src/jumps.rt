@@ -4,20 +4,19 @@ ghost use Rattle.f77_ast.specs.PlainStmt.{stmt_trees, loop_tree};
 ghost use Rattle.transformers.specs.Lists.{value_at as value_at_is};
 ghost use Rattle.loop_marker.specs.Jumps.{is_jumped_to as is_jumped_to_is, stops as stops_is, has_io as has_io_is, may_stop as may_stop_is, may_have_io as may_have_io_is, may_jump as may_jump_is, body_of};
 
-use crate::search::list_goes_to;
 use f77_ast::{Loop, Stmt, StmtId};
 use f77_results::{At, EffectSet};
 use fx_lists::List;
 use out_regions::leaves;
 use std::alloc::{AllocError as Memory, Global};
-use transformers::value_at;
+use transformers::{Sought, any_has, value_at};
 
 fn is_jumped_to(whole: &List<Stmt>, label: Option<u32>) -> bool
     ensures { result ≡ is_jumped_to_is (stmt_trees whole.now) label }
 {
     match label {
         None => false,
-        Some(label) => list_goes_to(label, whole),
+        Some(label) => any_has(&Sought::Jump(&[label]), whole.as_slice()),
     }
 }
 

@@ -4,7 +4,6 @@
 mod jumps;
 mod loops;
 mod names;
-mod search;
 mod variables;
 mod verdict;
 

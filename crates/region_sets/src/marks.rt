@@ -6,7 +6,7 @@ use fx_lists::List;
 use transformer_algebra::Transformer;
 
 /// The kinds of dependence of a later iteration on an earlier one, at a storage unit.
-#[derive(Clone, Copy)]
+#[derive(Clone, Copy, PartialEq, Eq)]
 pub enum Kinds {
     /// Flow dependence: the earlier one writes the unit, the later one reads it.
     WriteRead,
@@ -17,7 +17,7 @@ pub enum Kinds {
 }
 
 /// Whether each iteration may have its own copy of a variable; if not, the first reason, in the order of the variants.
-#[derive(Clone, Copy)]
+#[derive(Clone, Copy, PartialEq, Eq)]
 pub enum Private {
     Yes,
     /// Its name does not allow it.
@@ -29,7 +29,7 @@ pub enum Private {
 }
 
 /// Why a loop is serial.
-#[derive(Drop)]
+#[derive(PartialEq, Eq, Drop)]
 pub enum Reason {
     /// Control may leave its body.
     Jump,
@@ -44,7 +44,7 @@ pub enum Reason {
 }
 
 /// Whether the iterations of a loop may be executed at the same time.
-#[derive(Drop)]
+#[derive(PartialEq, Eq, Drop)]
 pub enum Mark {
     /// They may, each with its own copies of the variables with these numbers, from 1.
     Parallel(List<u32>),

@@ -11,7 +11,7 @@ use fx_lists::List;
 use std::alloc::{AllocError as Memory, Global};
 
 /// How elements are accessed.
-#[derive(Clone, Copy)]
+#[derive(Clone, Copy, PartialEq, Eq)]
 pub enum Access {
     /// They are read.
     Read,
@@ -25,7 +25,7 @@ pub enum Access {
 
 /// The elements of a variable whose subscripts (`Phi`, the first is 1) satisfy one of the systems, for the values of the analysed scalars
 /// (`Cell`) where a statement begins; of a scalar, all of it where one of the systems holds. The analyses make regions of one system.
-#[derive(Drop)]
+#[derive(PartialEq, Eq, Drop)]
 pub struct Region {
     pub variable: Variable,
     pub kind: Access,
