@@ -6,4 +6,7 @@ mod phases;
 mod sites;
 mod walk;
 
+pub use handing::used_at;
 pub use phases::{ModuleOuts, all_outs};
+pub use sites::{OutSite, OutSites};
+pub use walk::{OutCaller, add_list};

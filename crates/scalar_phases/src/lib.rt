@@ -9,3 +9,5 @@ mod walk;
 
 pub use found::Found;
 pub use holds::{Analysis, analyses};
+pub use sites::Sites;
+pub use walk::{Caller, add_list};
