@@ -1,0 +1,15 @@
+mod Texts
+mod Cutting
+mod Counting
+mod LineFaults
+mod Structure
+mod Ends
+mod Parsing
+mod First
+mod Pieces
+mod Frame
+mod JoinedLines
+mod Fronted
+mod Joining
+mod Programs
+mod LinkFaults

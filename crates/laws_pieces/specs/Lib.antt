@@ -1,0 +1,5 @@
+pub mod Moved
+pub mod Laws
+pub mod Joined
+pub mod Programs
+pub mod Faults
