@@ -1,0 +1,13 @@
+pub mod EffectLaws
+pub mod RegionLaws
+pub mod InLaws
+pub mod Lists
+pub mod Orders
+pub mod BottomUp
+pub mod TopDown
+pub mod Sites
+pub mod Phases
+pub mod Entries
+pub mod Graphs
+pub mod Follows
+pub mod SameNeeds
