@@ -1,0 +1,103 @@
+//! The lines of a module: claims on scalars first, then READ and WRITE, then IN, then OUT, and last directives and obstacles.
+ghost use Rattle.std.specs.Prelude.{◌≡◌, IfOk};
+ghost use Rattle.scalar_phases.specs.Views.{known_in};
+ghost use Rattle.result_lines.specs.Lines.{claims_of, mark_lines_of, lines_of, region_lines_of, results_tree, scalar_lines_of};
+
+use crate::show::Show;
+use affine_systems::System;
+use claim_lines::scalar_lines;
+use f77_printer::Added;
+use f77_results::{At, Results, View};
+use fx_lists::List;
+use mark_lines::mark_lines;
+use region_lines::region_lines;
+use region_sets::{Mark, RegionSet};
+use std::alloc::{AllocError as Memory, Global};
+use transformer_algebra::Transformer;
+
+/// The results of a module that lines say.
+#[derive(Drop)]
+pub struct ModuleResults<'a> {
+    pub own: &'a Results<Transformer>,
+    pub holds: &'a Results<System>,
+    pub regions: &'a Results<RegionSet>,
+    pub ins: &'a Results<RegionSet>,
+    pub outs: &'a Results<RegionSet>,
+    pub marks: &'a List<At<Mark>>,
+}
+
+/// The lines on the preconditions and transformers of a module.
+#[tactic(auto, using(crate::proofs::Naming::name_steps))]
+fn lines_on_scalars(
+    alloc: Global,
+    view: &View<'_>,
+    results: &ModuleResults<'_>,
+) -> Result<List<Added>, Memory>
+    ensures { IfOk result (λ lines. lines ≡ scalar_lines_of (known_in view.now) results.now.own.now results.now.holds.now) }
+{
+    scalar_lines(alloc, view, results.own, results.holds)
+}
+
+/// The lines on sets of regions of a module: READ and WRITE, IN, or OUT.
+#[tactic(auto, using(crate::proofs::Naming::name_steps))]
+fn lines_on_regions(
+    alloc: Global,
+    view: &View<'_>,
+    sets: &Results<RegionSet>,
+) -> Result<List<Added>, Memory>
+    ensures { IfOk result (λ lines. lines ≡ region_lines_of (known_in view.now) sets.now) }
+{
+    region_lines(alloc, view, sets)
+}
+
+/// The lines that claim something of a module.
+fn claims_of(
+    alloc: Global,
+    view: &View<'_>,
+    results: &ModuleResults<'_>,
+) -> Result<List<Added>, Memory>
+    ensures { IfOk result (λ lines. lines ≡ claims_of (known_in view.now) (results_tree results.now)) }
+{
+    let mut lines = lines_on_scalars(alloc, view, results)?.into_vec();
+    let mut regions = lines_on_regions(alloc, view, results.regions)?.into_vec();
+    let mut ins = lines_on_regions(alloc, view, results.ins)?.into_vec();
+    let mut outs = lines_on_regions(alloc, view, results.outs)?.into_vec();
+    ins.append(&mut outs)?;
+    regions.append(&mut ins)?;
+    lines.append(&mut regions)?;
+    Ok(List::from_vec(lines))
+}
+
+/// The directives of a module and, where `why` says so, the obstacles of its other loops.
+#[tactic(auto, using(crate::proofs::Naming::name_steps))]
+fn lines_on_loops(
+    alloc: Global,
+    view: &View<'_>,
+    marks: &List<At<Mark>>,
+    why: bool,
+) -> Result<List<Added>, Memory>
+    ensures { IfOk result (λ lines. lines ≡ mark_lines_of (known_in view.now) why marks.now) }
+{
+    mark_lines(alloc, view, marks, why)
+}
+
+/// The comment lines that `show` adds to a module: at one place claims on scalars, then READ and WRITE, then IN, then OUT, and last the directive or the obstacle of a loop.
+pub fn result_lines(
+    alloc: Global,
+    view: &View<'_>,
+    results: &ModuleResults<'_>,
+    show: Show,
+) -> Result<List<Added>, Memory>
+    ensures { IfOk result (λ lines. lines ≡ lines_of show (known_in view.now) (results_tree results.now)) }
+{
+    match show {
+        Show::All => {
+            let mut lines = claims_of(alloc, view, results)?.into_vec();
+            let mut loops = lines_on_loops(alloc, view, results.marks, true)?.into_vec();
+            lines.append(&mut loops)?;
+            Ok(List::from_vec(lines))
+        }
+        Show::Bare => lines_on_loops(alloc, view, results.marks, false),
+        Show::Why => lines_on_loops(alloc, view, results.marks, true),
+    }
+}
