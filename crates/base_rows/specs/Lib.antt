@@ -1,0 +1,4 @@
+pub mod Scopes
+pub mod Distinct
+pub mod Read
+pub mod Written
