@@ -1,0 +1,4 @@
+pub mod Command
+pub mod Texts
+pub mod Options
+pub mod Requests
