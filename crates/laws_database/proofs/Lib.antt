@@ -1,0 +1,11 @@
+pub mod Stamps
+pub mod Keeping
+pub mod InOrder
+pub mod Modules
+pub mod Needs
+pub mod Called
+pub mod Made
+pub mod Same
+pub mod Linked
+pub mod Whole
+pub mod Changes

@@ -1,0 +1,9 @@
+pub mod Values
+pub mod Shelves
+pub mod Texts
+pub mod Definitions
+pub mod Session
+pub mod Rules
+pub mod Making
+pub mod Stands
+pub mod Laws

@@ -1,0 +1,62 @@
+-- What it is that kept values stand for a session.
+use Rattle.std.specs.Prelude.{◌≡◌, ℕ, List, [], ◌∷◌, ◌++◌, map, slice_get, Option, Some, None, IfSome, option_map}
+use Rattle.pipsmake_rules.specs.declared.kind.Kind.{Kind}
+use Rattle.pipsmake_rules.specs.declared.kind.Kind.TheVariants as kind
+use Rattle.pipsmake_rules.specs.declared.key.Key.{Key}
+use Rattle.laws_database.specs.Texts.{ModuleText, AreModules, text_of}
+use Rattle.laws_database.specs.Definitions.{definition}
+use Rattle.laws_database.specs.Session.{Makings, needs_in}
+use Rattle.laws_database.specs.Shelves.{Shelves, Stamped, Kept, kept_value, AreDistinct}
+use Rattle.laws_database.specs.Values.{Value, source, Item, text, result}
+
+-- a need, and its value where it has one
+pub record Needed : Type 0 where
+  pub item : Item
+  pub name : List ℕ
+  pub value : Option Value
+
+abbrev pub text_needed : List ModuleText → Kind → List ℕ → List Needed
+text_needed ts kind.Parsed x = record { item = text; name = x; value = option_map source (text_of ts x) } ∷ []
+text_needed ts kind.Lines x = record { item = text; name = x; value = option_map source (text_of ts x) } ∷ []
+text_needed ts kind.Symbols x = []
+text_needed ts kind.CallGraph x = []
+text_needed ts kind.Effects x = []
+text_needed ts kind.Transformers x = []
+text_needed ts kind.Preconditions x = []
+text_needed ts kind.Regions x = []
+text_needed ts kind.InRegions x = []
+text_needed ts kind.OutRegions x = []
+text_needed ts kind.Marks x = []
+text_needed ts kind.Printed x = []
+
+-- what a result is made from for these texts
+abbrev pub needed : List ModuleText → Key → List Needed
+needed ts k = text_needed ts k.kind k.name ++ map (λ (n : Key). record { item = result n.kind; name = n.name; value = definition ts n.kind n.name }) (needs_in ts k)
+
+-- stamps are those of these values
+abbrev pub AreStamps : Shelves → List Stamped → List Needed → Type 0
+AreStamps sh [] [] = Unit {0}
+AreStamps sh [] (n ∷ ns) = ⊥
+AreStamps sh (s ∷ ss) [] = ⊥
+AreStamps sh (s ∷ ss) (n ∷ ns) =
+    (s.item ≡ n.item) × (s.name ≡ n.name) × ((v : Value) × (n.value ≡ Some v) × (slice_get (sh s.item s.name).values s.stamp ≡ Some v)) × AreStamps sh ss ns
+
+-- a kept result is what it was for the texts at which it was made, and its stamps are those of its needs then
+pub record WasMade (sh : Shelves) (k : Key) (kept : Kept) (old : List ModuleText) : Type 0 where
+  pub modules : AreModules old
+  pub value : Value
+  pub is : definition old k.kind k.name ≡ Some value
+  pub at : slice_get (sh (result k.kind) k.name).values kept.stamp ≡ Some value
+  pub needs : AreStamps sh kept.needs (needed old k)
+
+abbrev pub KeptStands : Shelves → Key → Option Kept → Option (List ModuleText) → Type 0
+KeptStands sh k None None = Unit {0}
+KeptStands sh k None (Some old) = ⊥
+KeptStands sh k (Some kept) None = ⊥
+KeptStands sh k (Some kept) (Some old) = WasMade sh k kept old
+
+pub record StandsFor (sh : Shelves) (ts : List ModuleText) (made : Makings) : Type 0 where
+  pub modules : AreModules ts
+  pub texts : (x : List ℕ) → IfSome (text_of ts x) (λ t. kept_value (sh text x) ≡ Some (source t))
+  pub distinct : (item : Item) (x : List ℕ) → AreDistinct (sh item x).values
+  pub kept : (kind : Kind) (x : List ℕ) → KeptStands sh (record { kind = kind; name = x }) ((sh (result kind) x).kept) (made kind x)
