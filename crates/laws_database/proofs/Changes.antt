@@ -12,7 +12,7 @@ use Rattle.laws_database.specs.Laws.{TextsMayChange, TextsMayGo}
 use Rattle.laws_database.proofs.Stamps.{adds_keep, adds_distinct, Distinct, Grows}
 use Rattle.laws_database.proofs.Keeping.{kept_grow}
 
-differs : (y x : List ℕ) → bytes_eq y x ≡ false → y ≡ x → ⊥
+pub differs : (y x : List ℕ) → bytes_eq y x ≡ false → y ≡ x → ⊥
 differs y x e p = true≢false (sym ((bytes_eq-Decides y x).1 p) ∙ e)
 
 module _ (sh new : Shelves) (x t : List ℕ) (keeps : KeepsIn sh new text x (source t) []) where
@@ -34,18 +34,18 @@ module _ (sh new : Shelves) (x t : List ℕ) (keeps : KeepsIn sh new text x (sou
         | inr n ↦ subst (λ s. P (sh item y) s) (sym (keeps.others item y n)) (other (sh item y))
       ]
 
-  grows : Grows sh new
+  pub grows : Grows sh new
   grows =
       at_it (λ s d. (i : ℕ) (w : Value) → slice_get s.values i ≡ Some w → slice_get d.values i ≡ Some w)
       (λ i w e. adds_keep (sh text x).values (new text x).values (source t) w i keeps.keeps.values e) (λ s i w e. e)
 
-  distinct_now : Distinct sh → Distinct new
+  pub distinct_now : Distinct sh → Distinct new
   distinct_now d item y = at_it (λ s z. AreDistinct s.values → AreDistinct z.values) (adds_distinct (sh text x).values (new text x).values (source t) keeps.keeps.values) (λ s e. e) item y (d item y)
 
-  results_stay : (k : Kind) (y : List ℕ) → new (result k) y ≡ sh (result k) y
+  pub results_stay : (k : Kind) (y : List ℕ) → new (result k) y ≡ sh (result k) y
   results_stay k y = keeps.others (result k) y (λ e. (let f : result k ≡ text = e.0 in cc))
 
-  text_kept : kept_value (new text x) ≡ Some (source t)
+  pub text_kept : kept_value (new text x) ≡ Some (source t)
   text_kept = ap (value_under (new text x).values) keeps.keeps.kept ∙ keeps.keeps.at
 
   module _ (ts us : List ModuleText) (made : Makings) (stands : StandsFor sh ts made) (ms : AreModules us) (is_text : text_of us x ≡ Some t) (others : (y : List ℕ) → (y ≡ x → ⊥) → text_of us y ≡ text_of ts y) where

@@ -19,7 +19,7 @@ use Rattle.laws_database.proofs.Stamps.{adds_keep, adds_distinct, Distinct, Grow
 
 -- ---- lists of results
 
-either : (a b : Bool) → (a || b) ≡ false → (a ≡ false) × (b ≡ false)
+pub either : (a b : Bool) → (a || b) ≡ false → (a ≡ false) × (b ≡ false)
 either true b e = cc
 either false b e = (refl, e)
 
@@ -39,7 +39,7 @@ held P (d ∷ ds) n h e =
       | inr r ↦ held P ds n h.1 r
     ]
 
-all_held : (P : Key → Type 0) (done ns : List Key) → Each P done → list_all (λ n. holds done n) ns ≡ true → Each P ns
+pub all_held : (P : Key → Type 0) (done ns : List Key) → Each P done → list_all (λ n. holds done n) ns ≡ true → Each P ns
 all_held P done [] h e = tt
 all_held P done (n ∷ ns) h e = let p = and_parts (holds done n) (list_all (λ m. holds done m) ns) e in (held P done n h p.0, all_held P done ns h p.1)
 
@@ -61,7 +61,7 @@ kept_grow old new g k (Some kept) (Some t) s = record {
   needs = stamps_grow old new g kept.needs (needed t k) s.needs;
 }
 
-texts_of : (sh : Shelves) (ts : List ModuleText) → ((x : List ℕ) → IfSome (text_of ts x) (λ t. kept_value (sh text x) ≡ Some (source t))) → HasTexts sh ts
+pub texts_of : (sh : Shelves) (ts : List ModuleText) → ((x : List ℕ) → IfSome (text_of ts x) (λ t. kept_value (sh text x) ≡ Some (source t))) → HasTexts sh ts
 texts_of sh ts h x t e = subst (λ o. IfSome o (λ u. kept_value (sh text x) ≡ Some (source u))) e (h x)
 
 -- ---- what is current
@@ -146,10 +146,10 @@ module _ (sh mid : Shelves) (k : Key) (v : Value) (ss : List Stamped) (keeps : K
   pub kept_now : kept_of mid k.kind k.name ≡ Some v
   kept_now = ap (value_under (mid (result k.kind) k.name).values) keeps.keeps.kept ∙ keeps.keeps.at
 
--- ---- a makes step keeps what values stand for
+-- ---- a result that is kept keeps what values stand for
 
-module _ (ts : List ModuleText) (made : Makings) (so_far : List Key) (sh mid : Shelves) (k : Key) (v : Value) (stands : StandsFor sh ts (made_now made ts so_far)) (is : definition ts k.kind k.name ≡ Some v)
-    (keeps : KeepsIn sh mid (result k.kind) k.name v (stamps_now sh ts k)) (stamps : AreStamps sh (stamps_now sh ts k) (needed ts k)) where
+module _ (ts : List ModuleText) (made : Makings) (so_far : List Key) (sh mid : Shelves) (k : Key) (v : Value) (ss : List Stamped) (stands : StandsFor sh ts (made_now made ts so_far)) (is : definition ts k.kind k.name ≡ Some v)
+    (keeps : KeepsIn sh mid (result k.kind) k.name v ss) (stamps : AreStamps sh ss (needed ts k)) where
   abbrev later : List Key
   later = so_far ++ k ∷ []
 
@@ -158,16 +158,16 @@ module _ (ts : List ModuleText) (made : Makings) (so_far : List Key) (sh mid : S
 
   it_stands : Stands k
   it_stands =
-      let g = grows sh mid k v (stamps_now sh ts k) keeps in
-      let kept : Kept = record { stamp = keeps.keeps.stamp; needs = stamps_now sh ts k } in
-      let was : WasMade mid k kept ts = record { modules = stands.modules; value = v; is = is; at = keeps.keeps.at; needs = stamps_grow sh mid g (stamps_now sh ts k) (needed ts k) stamps } in
+      let g = grows sh mid k v ss keeps in
+      let kept : Kept = record { stamp = keeps.keeps.stamp; needs = ss } in
+      let was : WasMade mid k kept ts = record { modules = stands.modules; value = v; is = is; at = keeps.keeps.at; needs = stamps_grow sh mid g ss (needed ts k) stamps } in
       subst (λ o. KeptStands mid k o (made_now made ts later k.kind k.name)) (sym keeps.keeps.kept)
       (subst (λ b. KeptStands mid k (Some kept) (if b then Some ts else made k.kind k.name)) (sym (holds-last so_far k)) was)
 
   other_stands : (j : Key) → same_key k j ≡ false → same_key j k ≡ false → Stands j
   other_stands j e f =
-      let g = grows sh mid k v (stamps_now sh ts k) keeps in
-      subst (λ (s : Shelf). KeptStands mid j s.kept (made_now made ts later j.kind j.name)) (sym (other_result sh mid k v (stamps_now sh ts k) keeps j f))
+      let g = grows sh mid k v ss keeps in
+      subst (λ (s : Shelf). KeptStands mid j s.kept (made_now made ts later j.kind j.name)) (sym (other_result sh mid k v ss keeps j f))
       (subst (λ b. KeptStands mid j ((sh (result j.kind) j.name).kept) (if b then Some ts else made j.kind j.name)) (sym (holds_other so_far k j e))
       (kept_grow sh mid g j ((sh (result j.kind) j.name).kept) (made_now made ts so_far j.kind j.name) (stands.kept j.kind j.name)))
 
@@ -182,8 +182,8 @@ module _ (ts : List ModuleText) (made : Makings) (so_far : List Key) (sh mid : S
   pub stands_later : StandsFor mid ts (made_now made ts later)
   stands_later = record {
     modules = stands.modules;
-    texts = λ x. subst (λ (s : Shelf). IfSome (text_of ts x) (λ t. kept_value s ≡ Some (source t))) (sym (texts_now sh mid k v (stamps_now sh ts k) keeps x)) (stands.texts x);
-    distinct = distinct_now sh mid k v (stamps_now sh ts k) keeps stands.distinct;
+    texts = λ x. subst (λ (s : Shelf). IfSome (text_of ts x) (λ t. kept_value s ≡ Some (source t))) (sym (texts_now sh mid k v ss keeps x)) (stands.texts x);
+    distinct = distinct_now sh mid k v ss keeps stands.distinct;
     kept = λ kind x. each_stands (record { kind = kind; name = x });
   }
 
@@ -292,7 +292,7 @@ module _ (ts : List ModuleText) (Can : Key → Type 0) (facts : Facts ts Can) (m
             let all : now ≡ k ∷ b.2 = b.5 ∙ ap (λ ns. ns ++ b.2) f in
             let one : IsKnown b.0 ts k = record { value = m.value; defined = is; kept = kept_now sh b.0 k m.value (stamps_now sh ts k) m.keeps } in
             let r = ih (done ++ k ∷ []) (so_far ++ k ∷ []) b.0 new b.2 onward can.1 (within_both so_far done k within)
-            (stands_later ts made so_far sh b.0 k m.value stands is m.keeps stamps)
+            (stands_later ts made so_far sh b.0 k m.value (stamps_now sh ts k) stands is m.keeps stamps)
             (each_last (IsKnown b.0 ts) done k (known_still sh b.0 k m.value (stamps_now sh ts k) m.keeps ts done place.0 known) one) b.4 in
             record {
               are_made = inr ((λ u. m.outdated (current_from ts sh (made_now made ts so_far) stands k has needs (up_from so_far k new_so_far u))), (b.2, all, r.are_made));

@@ -9,3 +9,7 @@ pub mod Same
 pub mod Linked
 pub mod Whole
 pub mod Changes
+pub mod Resting
+pub mod Going
+pub mod Rests
+pub mod AtLines

@@ -40,6 +40,7 @@ use Rattle.laws_results.proofs.Graphs.{name_in_call, are_in_graph}
 use Rattle.laws_results.proofs.Follows.{results_follow}
 use Rattle.f77_printer.specs.ModuleText as printer
 use Rattle.result_lines.specs.Lines.{lines_of}
+use Rattle.result_lines.specs.declared.show.Show.{Show}
 use Rattle.result_lines.specs.declared.show.Show.TheVariants.{All}
 use Rattle.result_rules.specs.Callees as rules
 use Rattle.result_rules.specs.Callers as rules_up
@@ -52,11 +53,11 @@ use Rattle.pipsmake_rules.specs.Needs.{by_module}
 use Rattle.pipsmake_rules.specs.Neighbours.{has_name, callees_of, callers_of}
 use Rattle.laws_database.specs.Values.{Value, parsed, lines, symbols, effects, transformers, preconditions, regions, ins, outs, marks, printed}
 use Rattle.laws_database.specs.Texts.{ModuleText, ReadModule, AreModules, trees_in, tables_in, names_in, links_in, known_in, graph_or_none, graph_of}
-use Rattle.laws_database.specs.Definitions.{module_named, results_of, text_shown, printed_with, definition}
+use Rattle.laws_database.specs.Definitions.{module_named, results_in, results_of, text_shown, printed_with, definition}
 use Rattle.laws_database.specs.Session.{needs_in}
 use Rattle.laws_database.specs.Shelves.{Shelves, kept_of}
 use Rattle.laws_database.specs.Rules as made
-use Rattle.laws_database.specs.Rules.{known, effects_kept, transformers_kept, preconditions_kept, regions_kept, ins_kept, outs_kept, marks_kept, callees_with, holding_with, holding_callers, outs_with as later_with, later_callers, rule_of, rule_with, rule_for, rule_value}
+use Rattle.laws_database.specs.Rules.{known, effects_kept, transformers_kept, preconditions_kept, regions_kept, ins_kept, outs_kept, marks_kept, callees_with, holding_with, holding_callers, outs_with as later_with, later_callers, rule_of, rule_with, rule_for, rule_value, results_from, kept_results, text_with}
 use Rattle.laws_database.specs.Laws.{AreLinked, CanMake}
 use Rattle.laws_database.proofs.Stamps.{IsKnown}
 use Rattle.laws_database.proofs.Modules.{read_at, Entry, entry_of as entry_at, linked}
@@ -350,6 +351,17 @@ module _ (ts : List ModuleText) (ms : AreModules ts) (sh : Shelves) (links : lin
         (marks_at x n h.1.1.1.1.1.1.1.1.0 i)) (outs_at x n h.1.1.1.1.1.1.1.0 i)) (ins_at x n h.1.1.1.1.1.1.0 i)) (regions_at x n h.1.1.1.1.1.0 i)) (preconditions_at x n h.1.1.1.1.0 i)) (transformers_at x n h.1.1.1.0 i))
         ∙ (λ i. Some (printed (printer.module_text m.module_is.places m.module_is.module_read (lines_of All (sym is_of i) (results_of d)))))
 
+    results_known : Known-needs kind.Printed → kept_results sh x ≡ Some (results_of (entry x n).entry)
+    results_known h =
+        λ i. results_from (transformers_at x n h.1.1.1.0 i) (preconditions_at x n h.1.1.1.1.0 i) (regions_at x n h.1.1.1.1.1.0 i) (ins_at x n h.1.1.1.1.1.1.0 i) (outs_at x n h.1.1.1.1.1.1.1.0 i) (marks_at x n h.1.1.1.1.1.1.1.1.0 i)
+
+    shown_made : (show : Show) → Known-needs kind.Printed → text_with sh (read_at ts ms x n).read x show ≡ Some (text_shown show (read_at ts ms x n).read (entry x n).entry)
+    shown_made show h =
+        let m = (read_at ts ms x n).read in
+        let d = (entry x n).entry in
+        ap (option_map (λ r. printer.module_text m.module_is.places m.module_is.module_read (lines_of show (known m) r))) (results_known h)
+        ∙ (λ i. Some (printer.module_text m.module_is.places m.module_is.module_read (lines_of show (sym is_of i) (results_of d))))
+
 module _ (ts : List ModuleText) (ms : AreModules ts) (sh : Shelves) where
   linked_so : (l : AreLinked ts) → links_in ts ≡ Ok (graph_of ts)
   linked_so l = l.1 ∙ ap (λ g. Ok g) (sym (ap graph_or_none l.1))
@@ -390,3 +402,11 @@ module _ (ts : List ModuleText) (ms : AreModules ts) (sh : Shelves) where
 
   pub rule_is : (k : Key) → CanMake ts k.kind k.name → Each (IsKnown sh ts) (needs_in ts k) → rule_value sh ts k ≡ definition ts k.kind k.name
   rule_is k c h = rule_is_for k.kind k.name c h
+
+  pub shown_is : (x : List ℕ) (show : Show) → CanMake ts kind.Printed x → Each (IsKnown sh ts) (needs_in ts (record { kind = kind.Printed; name = x })) →
+      (m : ReadModule) × (f : ModuleMarks) × (module_named ts x ≡ Some m) × (results_in ts x ≡ Some f) × (text_with sh m x show ≡ Some (text_shown show m f))
+  shown_is x show c h =
+      let l = linked_so c.0 in
+      let r = read_at ts ms x c.1 in
+      let e = entry_at ts (graph_of ts) l x r in
+      (r.read, e.entry, r.is_read, e.result, shown_made ts ms sh l x c.1 show h)

@@ -117,7 +117,7 @@ HasText ts k x = Unit {0}
 abbrev pub HasTexts : Shelves → List ModuleText → Type 0
 HasTexts sh ts = (x t : List ℕ) → text_of ts x ≡ Some t → kept_value (sh text x) ≡ Some (source t)
 
-kept_stamp_at : (s : Shelf) (v : Value) → kept_value s ≡ Some v → slice_get s.values (unwrap_or (kept_stamp s) 0) ≡ Some v
+pub kept_stamp_at : (s : Shelf) (v : Value) → kept_value s ≡ Some v → slice_get s.values (unwrap_or (kept_stamp s) 0) ≡ Some v
 kept_stamp_at s v e = go s.kept e
   where
     go : (o : Option Kept) → value_under s.values o ≡ Some v → slice_get s.values (unwrap_or (option_map (λ (k : Kept). k.stamp) o) 0) ≡ Some v
@@ -139,7 +139,7 @@ module _ (sh : Shelves) (ts : List ModuleText) (texts : HasTexts sh ts) where
   text_is : (x : List ℕ) → ((t : List ℕ) × (text_of ts x ≡ Some t)) → (v : Value) × (option_map source (text_of ts x) ≡ Some v) × (slice_get (sh text x).values (stamp_of sh text x).stamp ≡ Some v)
   text_is x h = (source h.0, ap (option_map source) h.1, kept_stamp_at (sh text x) (source h.0) (texts x h.0 h.1))
 
-  with_text : (k : Kind) (x : List ℕ) (ss : List Stamped) (ns : List Needed) → HasText ts k x → AreStamps sh ss ns → AreStamps sh (text_stamps sh k x ++ ss) (text_needed ts k x ++ ns)
+  pub with_text : (k : Kind) (x : List ℕ) (ss : List Stamped) (ns : List Needed) → HasText ts k x → AreStamps sh ss ns → AreStamps sh (text_stamps sh k x ++ ss) (text_needed ts k x ++ ns)
   with_text kind.Parsed x ss ns h a = (refl, refl, text_is x h, a)
   with_text kind.Lines x ss ns h a = (refl, refl, text_is x h, a)
   with_text k x ss ns h a = a

@@ -1,6 +1,7 @@
 -- What is made of kept results is what is defined.
-use Rattle.std.proofs.Common.{◌≡◌, ℕ, zero, suc, Bool, true, false, ◌||◌, List, [], ◌∷◌, ◌++◌, Option, Some, None, refl, sym, ap, ◌∙◌, subst}
+use Rattle.std.proofs.Common.{◌≡◌, ℕ, zero, suc, Bool, true, false, ◌||◌, List, [], ◌∷◌, ◌++◌, Option, Some, None, refl, sym, ap, ◌∙◌, subst, append_assoc, append-nil}
 use Rattle.std.specs.Prelude.{bytes_eq, fold, option_map, option_and_then, option_to_list, Result, Ok, Err, if◌then◌else◌}
+use Rattle.std.specs.List.{list_all}
 use Rattle.std.proofs.lemmas.Slice.Eq.{bytes_eq-Decides}
 use Rattle.f77_symbols.specs.Symbols.{SymbolTree}
 use Rattle.call_graph.specs.declared.graph.Graph.{Graph}
@@ -28,13 +29,13 @@ use Rattle.laws_database.specs.Definitions.{module_named, results_with, results_
 use Rattle.laws_database.specs.Session.{needs_in, SameValue}
 use Rattle.laws_database.specs.Shelves.{Shelves, Shelf, value_under}
 use Rattle.laws_database.specs.Rules.{rule_value}
-use Rattle.laws_database.specs.Laws.{AreLinked, CanMake, walk_in, IsDefined, MakingIsDefined}
+use Rattle.laws_database.specs.Laws.{AreLinked, CanMake, walk_in, IsDefined, MakingIsDefined, MakingMayStop, ResultsHaveValues, RulesHaveValues, printed_key, TextsAreShown}
 use Rattle.laws_database.proofs.Stamps.{IsKnown, SameNeeds}
-use Rattle.laws_database.proofs.Keeping.{Facts, brought, each_last}
+use Rattle.laws_database.proofs.Keeping.{Facts, brought, each_last, all_held}
 use Rattle.laws_database.proofs.InOrder.{bottom_up}
 use Rattle.laws_database.proofs.Modules.{read_at, linked}
 use Rattle.laws_database.proofs.Needs.{Can, has_value, has_text, needs_can}
-use Rattle.laws_database.proofs.Made.{said_each, rule_is}
+use Rattle.laws_database.proofs.Made.{said_each, rule_is, shown_is}
 use Rattle.laws_database.proofs.Same.{read_is, tree_same, rule_same, effects_same, transformers_same, preconditions_same, regions_same, ins_same, outs_same, marks_same, printed_same}
 use Rattle.laws_database.proofs.Linked.{table_of, known_named, graph_stays, modules_same}
 
@@ -214,6 +215,54 @@ graph_in_order ts = go (links_in ts) refl
     go (Ok g) e = bottom_up (trees_in ts) (tables_in ts) g (linked ts g e)
     go (Err f) e = refl
 
+pub each_front : (P : Key → Type 0) (xs ys : List Key) → Each P (xs ++ ys) → Each P xs
+each_front P [] ys h = tt
+each_front P (x ∷ xs) ys h = (h.0, each_front P xs ys h.1)
+
+each_back : (P : Key → Type 0) (xs ys : List Key) → Each P (xs ++ ys) → Each P ys
+each_back P [] ys h = h
+each_back P (x ∷ xs) ys h = each_back P xs ys h.1
+
+pub walk_can : (ts : List ModuleText) (ms : AreModules ts) (k : Key) → CanMake ts k.kind k.name → Each (Can ts ms) (walk_in ts k)
+walk_can ts ms k can = walk_each (names_in ts) (graph_of ts) (Can ts ms) (needs_can ts ms) (depth_of (graph_of ts)) [] k can tt
+
+pub in_order : (ts : List ModuleText) (k : Key) (before : List Key) (j : Key) (after : List Key) → walk_in ts k ≡ before ++ j ∷ after → (holds before j ≡ false) × (list_all (λ n. holds before n) (needs_in ts j) ≡ true)
+in_order ts k = (complete (names_in ts) (graph_of ts) k (graph_in_order ts)).0
+
+pub results_have_values : ResultsHaveValues
+results_have_values ts k ms can = has_value ts ms k can
+
+-- what comes before a result of a walk has all that it needs
+module _ (sh : Shelves) (ts : List ModuleText) (ms : AreModules ts) (k : Key) (can : CanMake ts k.kind k.name) (before : List Key) (j : Key) (after : List Key) (parts : walk_in ts k ≡ before ++ j ∷ after) (are : Each (IsDefined sh ts) before) where
+  cans_in : Each (Can ts ms) (before ++ j ∷ after)
+  cans_in = subst (Each (Can ts ms)) parts (walk_can ts ms k can)
+
+  can_there : Can ts ms j
+  can_there = (each_back (Can ts ms) before (j ∷ after) cans_in).0
+
+  known_there : Each (IsKnown sh ts) before
+  known_there =
+      each_more (λ n. Can ts ms n × IsDefined sh ts n) (IsKnown sh ts) before one (each_both (Can ts ms) (IsDefined sh ts) before (each_front (Can ts ms) before (j ∷ after) cans_in) are)
+    where
+      one : (n : Key) → Can ts ms n × IsDefined sh ts n → IsKnown sh ts n
+      one n q = let w = has_value ts ms n q.0 in record { value = w.0; defined = w.1; kept = q.1 ∙ w.1 }
+
+  needs_known : Each (IsKnown sh ts) (needs_in ts j)
+  needs_known = all_held (IsKnown sh ts) before (needs_in ts j) known_there (in_order ts k before j after parts).1
+
+pub rules_have_values : RulesHaveValues
+rules_have_values sh ts k before j after ms can parts are =
+    let c = can_there sh ts ms k can before j after parts are in
+    let w = has_value ts ms j c in
+    (w.0, w.1, rule_is ts ms sh j c (needs_known sh ts ms k can before j after parts are) ∙ w.1)
+
+pub texts_are_shown : TextsAreShown
+texts_are_shown sh ts x show ms can are =
+    let k = printed_key x in
+    let end = (complete (names_in ts) (graph_of ts) k (graph_in_order ts)).1 in
+    let front : Each (IsDefined sh ts) end.0 = each_front (IsDefined sh ts) end.0 (k ∷ []) (subst (Each (IsDefined sh ts)) end.1 are) in
+    shown_is ts ms sh x show can (needs_known sh ts ms k can end.0 k [] end.1 front)
+
 module _ (tables_law : TablesIgnorePlaces) (graphs_law : GraphsIgnorePlaces) where
   facts : (ts : List ModuleText) (ms : AreModules ts) → Facts ts (Can ts ms)
   facts ts ms = record {
@@ -223,14 +272,18 @@ module _ (tables_law : TablesIgnorePlaces) (graphs_law : GraphsIgnorePlaces) whe
     same = λ k c old v mo e s. same_for tables_law graphs_law old ts mo ms k.kind k.name c v e s;
   }
 
-  pub making_is_defined : MakingIsDefined
-  making_is_defined sh new ts made k now can stands b =
+  pub making_may_stop : MakingMayStop
+  making_may_stop sh new ts made k before after now can stands parts b =
       let ms = stands.modules in
-      let walk = walk_in ts k in
-      let cans : Each (Can ts ms) walk = walk_each (names_in ts) (graph_of ts) (Can ts ms) (needs_can ts ms) (depth_of (graph_of ts)) [] k can tt in
-      let r = brought ts (Can ts ms) (facts ts ms) made walk (complete (names_in ts) (graph_of ts) k (graph_in_order ts)).0 walk [] [] sh new now refl cans (λ j e. e) stands tt b in
+      let cans : Each (Can ts ms) before = each_front (Can ts ms) before after (subst (Each (Can ts ms)) parts (walk_can ts ms k can)) in
+      let r = brought ts (Can ts ms) (facts ts ms) made before
+      (λ front j rest e. in_order ts k front j (rest ++ after) (parts ∙ (ap (λ ks. ks ++ after) e ∙ append_assoc front (j ∷ rest) after)))
+      before [] [] sh new now refl cans (λ j e. e) stands tt b in
       record {
         are_made = r.are_made;
         stands = r.stands;
-        defined = each_more (IsKnown new ts) (IsDefined new ts) walk (λ n q. q.kept ∙ sym q.defined) r.known;
+        defined = each_more (IsKnown new ts) (IsDefined new ts) before (λ n q. q.kept ∙ sym q.defined) r.known;
       }
+
+  pub making_is_defined : MakingIsDefined
+  making_is_defined sh new ts made k now can stands b = making_may_stop sh new ts made k (walk_in ts k) [] now can stands (sym (append-nil (walk_in ts k))) b

@@ -7,3 +7,4 @@ pub mod Rules
 pub mod Making
 pub mod Stands
 pub mod Laws
+pub mod Resting

@@ -16,7 +16,8 @@ use Rattle.pipsmake_rules.specs.declared.kind.Kind.{Kind}
 use Rattle.pipsmake_rules.specs.declared.kind.Kind.TheVariants as kind
 use Rattle.pipsmake_rules.specs.declared.key.Key.{Key}
 use Rattle.pipsmake_rules.specs.Neighbours.{callees_of, callers_of}
-use Rattle.result_lines.specs.Lines.{lines_of}
+use Rattle.result_lines.specs.Lines.{ModuleResults, lines_of}
+use Rattle.result_lines.specs.declared.show.Show.{Show}
 use Rattle.result_lines.specs.declared.show.Show.TheVariants.{All}
 use Rattle.result_rules.specs.Callees.{Callee}
 use Rattle.result_rules.specs.Callers.{CallerHolds, CallerOuts}
@@ -227,3 +228,19 @@ rule_for sh ts k x = rule_with sh ts k x (module_named ts x)
 
 abbrev pub rule_value : Shelves → List ModuleText → Key → Option Value
 rule_value sh ts k = rule_for sh ts k.kind k.name
+
+-- ---- the text of a module with what is kept of it
+
+abbrev pub results_from : Option (Results Transformer) → Option (Results System) → Option (Results (List Region)) → Option (Results (List Region)) → Option (Results (List Region)) → Option (List (At Mark)) → Option ModuleResults
+results_from own holds found taken later ms =
+    option_and_then (λ own. option_and_then (λ holds. option_and_then (λ found. option_and_then (λ taken. option_and_then (λ later. option_map (λ ms.
+    record { own = own; holds = holds; regions = found; ins = taken; outs = later; marks = ms })
+    ms) later) taken) found) holds) own
+
+-- the results of a module that lines say, where all are kept
+abbrev pub kept_results : Shelves → List ℕ → Option ModuleResults
+kept_results sh x = results_from (transformers_kept sh x) (preconditions_kept sh x) (regions_kept sh x) (ins_kept sh x) (outs_kept sh x) (marks_kept sh x)
+
+-- the written text, with what `show` adds to it
+abbrev pub text_with : Shelves → ReadModule → List ℕ → Show → Option (List ℕ)
+text_with sh m x show = option_map (λ r. printer.module_text m.module_is.places m.module_is.module_read (lines_of show (known m) r)) (kept_results sh x)

@@ -1,5 +1,5 @@
 -- A session: the present texts, and for each kept result the texts at which it was made.
-use Rattle.std.specs.Prelude.{◌≡◌, ℕ, List, [], ◌∷◌, Option, Some, ◌⊎◌, if◌then◌else◌}
+use Rattle.std.specs.Prelude.{◌≡◌, ℕ, List, [], ◌∷◌, Option, Some, None, ◌⊎◌, bytes_eq, if◌then◌else◌}
 use Rattle.pipsmake_rules.specs.declared.kind.Kind.{Kind}
 use Rattle.pipsmake_rules.specs.declared.kind.Kind.TheVariants.{Parsed, Lines, Symbols, CallGraph, Effects, Transformers, Preconditions, Regions, InRegions, OutRegions, Marks, Printed}
 use Rattle.pipsmake_rules.specs.declared.key.Key.{Key}
@@ -51,3 +51,11 @@ MadeOf made ts (k ∷ ks) now = (UpToDate made ts k × MadeOf made ts ks now) �
 -- these results were made at these texts
 abbrev pub made_now : Makings → List ModuleText → List Key → Makings
 made_now made ts now kind x = if holds now (record { kind = kind; name = x }) then Some ts else made kind x
+
+-- nothing was made
+abbrev pub none_made : Makings
+none_made kind x = None
+
+-- what was made, but of this name
+abbrev pub made_without : Makings → List ℕ → Makings
+made_without made x kind y = if bytes_eq y x then None else made kind y

@@ -1,7 +1,7 @@
 -- The values that were seen of each item and name, and what is kept of them.
 use Rattle.std.specs.Prelude.{◌≡◌, ◌⊎◌, ℕ, List, [], ◌∷◌, ◌++◌, slice_get, Option, Some, None, option_map}
 use Rattle.pipsmake_rules.specs.declared.kind.Kind.{Kind}
-use Rattle.laws_database.specs.Values.{Value, Item, result}
+use Rattle.laws_database.specs.Values.{Value, Item, text as text_item, result}
 
 -- a value from which a result was made: its place among those that were seen there
 pub record Stamped : Type 0 where
@@ -62,3 +62,33 @@ pub record Keeps (old : Shelf) (v : Value) (needs : List Stamped) (new : Shelf) 
 pub record KeepsIn (old new : Shelves) (item : Item) (x : List ℕ) (v : Value) (needs : List Stamped) : Type 0 where
   pub keeps : Keeps (old item x) v needs (new item x)
   pub others : (other : Item) (y : List ℕ) → (((other ≡ item) × (y ≡ x)) → ⊥) → new other y ≡ old other y
+
+-- ---- other changes
+
+abbrev pub no_shelf : Shelf
+no_shelf = record { values = []; kept = None }
+
+-- what was seen stays, and nothing is kept of it
+abbrev pub forgotten : Shelf → Shelf
+forgotten s = record { values = s.values; kept = None }
+
+-- a value is among those that were seen, at this place; what is kept stays
+pub record Sees (old : Shelf) (v : Value) (stamp : ℕ) (new : Shelf) : Type 0 where
+  pub values : Adds old.values v new.values
+  pub at : slice_get new.values stamp ≡ Some v
+  pub kept : new.kept ≡ old.kept
+
+-- and every other shelf is as it was
+pub record SeenIn (old new : Shelves) (item : Item) (x : List ℕ) (v : Value) (stamp : ℕ) : Type 0 where
+  pub sees : Sees (old item x) v stamp (new item x)
+  pub others : (other : Item) (y : List ℕ) → (((other ≡ item) × (y ≡ x)) → ⊥) → new other y ≡ old other y
+
+-- no result of a name is kept; its text is, and all of other names
+pub record Forgets (old new : Shelves) (x : List ℕ) : Type 0 where
+  pub text : new text_item x ≡ old text_item x
+  pub results : (kind : Kind) → new (result kind) x ≡ forgotten (old (result kind) x)
+  pub others : (item : Item) (y : List ℕ) → (y ≡ x → ⊥) → new item y ≡ old item y
+
+-- nothing was seen
+abbrev pub AreEmpty : Shelves → Type 0
+AreEmpty sh = (item : Item) (x : List ℕ) → sh item x ≡ no_shelf

@@ -60,3 +60,35 @@ pub record StandsFor (sh : Shelves) (ts : List ModuleText) (made : Makings) : Ty
   pub texts : (x : List ℕ) → IfSome (text_of ts x) (λ t. kept_value (sh text x) ≡ Some (source t))
   pub distinct : (item : Item) (x : List ℕ) → AreDistinct (sh item x).values
   pub kept : (kind : Kind) (x : List ℕ) → KeptStands sh (record { kind = kind; name = x }) ((sh (result kind) x).kept) (made kind x)
+
+-- ---- results that are kept with given values
+
+-- what each result is
+abbrev pub Valuation : Type 0
+Valuation = Kind → List ℕ → Option Value
+
+-- what a result is made from where results have these values
+abbrev pub needed_with : List ModuleText → Valuation → Key → List Needed
+needed_with ts d k = text_needed ts k.kind k.name ++ map (λ (n : Key). record { item = result n.kind; name = n.name; value = d n.kind n.name }) (needs_in ts k)
+
+-- a kept result has its value, and its stamps are those of the values of its needs
+pub record HasValue (sh : Shelves) (ts : List ModuleText) (d : Valuation) (k : Key) (kept : Kept) : Type 0 where
+  pub value : Value
+  pub is : d k.kind k.name ≡ Some value
+  pub at : slice_get (sh (result k.kind) k.name).values kept.stamp ≡ Some value
+  pub needs : AreStamps sh kept.needs (needed_with ts d k)
+
+-- so has each; and the present texts are kept
+pub record KeepsValues (sh : Shelves) (ts : List ModuleText) (d : Valuation) : Type 0 where
+  pub modules : AreModules ts
+  pub texts : (x : List ℕ) → IfSome (text_of ts x) (λ t. kept_value (sh text x) ≡ Some (source t))
+  pub distinct : (item : Item) (x : List ℕ) → AreDistinct (sh item x).values
+  pub kept : (kind : Kind) (x : List ℕ) → IfSome ((sh (result kind) x).kept) (λ kept. HasValue sh ts d (record { kind = kind; name = x }) kept)
+
+-- each kept result is what it is for these texts
+abbrev pub IsLoaded : Shelves → List ModuleText → Type 0
+IsLoaded sh ts = KeepsValues sh ts (definition ts)
+
+-- what is kept was made at these texts, and nothing else
+abbrev pub made_at : Shelves → List ModuleText → Makings
+made_at sh ts kind x = option_map (λ (kept : Kept). ts) ((sh (result kind) x).kept)

@@ -94,3 +94,10 @@ graph_of ts = graph_or_none (links_in ts)
 abbrev pub text_of : List ModuleText → List ℕ → Option (List ℕ)
 text_of [] x = None
 text_of (t ∷ ts) x = if bytes_eq t.name x then Some t.text else text_of ts x
+
+-- the same names and texts in the same order, at whatever lines they begin
+abbrev pub SameTexts : List ModuleText → List ModuleText → Type 0
+SameTexts [] [] = Unit {0}
+SameTexts [] (u ∷ us) = ⊥
+SameTexts (t ∷ ts) [] = ⊥
+SameTexts (t ∷ ts) (u ∷ us) = (t.name ≡ u.name) × (t.text ≡ u.text) × SameTexts ts us

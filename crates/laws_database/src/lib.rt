@@ -1,7 +1,8 @@
 //! What is made of kept results is what is defined.
 #![tactic(auto)]
 
-ghost use Rattle.laws_database.specs.Laws.{MakingIsDefined, TextsMayChange, TextsMayGo};
+ghost use Rattle.laws_database.specs.Laws.{MakingIsDefined, MakingMayStop, ResultsHaveValues, RulesHaveValues, TextsAreShown, TextsMayChange, TextsMayGo, ResultsMayGo, ValuesMayBeSeen, ResultsMayBeKept, NothingStands, LoadedStands, NothingIsGiven, GivenMayBeKept, GivenMayBeSeen, GivenTextsMayStay};
+ghost use Rattle.laws_database.specs.Resting.{RestingStays, LinesMayChange};
 
 use roundtrip_programs::{graphs_ignore_places, tables_ignore_places};
 
@@ -13,6 +14,29 @@ pub fn making_is_defined()
     graphs_ignore_places();
 }
 
+/// The same of the first of these results, where making stops after them.
+pub fn making_may_stop()
+    ensures { MakingMayStop }
+{
+    tables_ignore_places();
+    graphs_ignore_places();
+}
+
+/// A result that can be made has a value.
+pub fn results_have_values()
+    ensures { ResultsHaveValues }
+{}
+
+/// Where the results before it in a walk are kept as they are defined, the rule of a result makes what is defined.
+pub fn rules_have_values()
+    ensures { RulesHaveValues }
+{}
+
+/// Where the printed text of a module and its needs are kept as they are defined, so is the written text with whatever is shown.
+pub fn texts_are_shown()
+    ensures { TextsAreShown }
+{}
+
 /// What was kept still stands where a text is changed or added, and kept as the present one.
 pub fn texts_may_change()
     ensures { TextsMayChange }
@@ -21,4 +45,59 @@ pub fn texts_may_change()
 /// And where texts are taken away.
 pub fn texts_may_go()
     ensures { TextsMayGo }
+{}
+
+/// And where results are forgotten, for the session in which they were not made.
+pub fn results_may_go()
+    ensures { ResultsMayGo }
+{}
+
+/// And where a value is seen that is not kept.
+pub fn values_may_be_seen()
+    ensures { ValuesMayBeSeen }
+{}
+
+/// And where a result is kept that is what it is defined to be for the present texts.
+pub fn results_may_be_kept()
+    ensures { ResultsMayBeKept }
+{}
+
+/// Where nothing was seen, that stands for the session without texts and results.
+pub fn nothing_stands()
+    ensures { NothingStands }
+{}
+
+/// Stored results that are what they are defined to be stand for the session in which they were made at the present texts.
+pub fn loaded_stands()
+    ensures { LoadedStands }
+{}
+
+/// Where texts alone are kept, each kept result has its value, whatever values there are.
+pub fn nothing_is_given()
+    ensures { NothingIsGiven }
+{}
+
+/// So it is where one more is kept that has its value.
+pub fn given_may_be_kept()
+    ensures { GivenMayBeKept }
+{}
+
+/// And where a value is seen that is not kept.
+pub fn given_may_be_seen()
+    ensures { GivenMayBeSeen }
+{}
+
+/// And where the text of a module is kept again.
+pub fn given_texts_may_stay()
+    ensures { GivenTextsMayStay }
+{}
+
+/// Where stored results of all modules are kept, whatever they are, making what can be made makes none of them anew, and all others of them.
+pub fn resting_stays()
+    ensures { RestingStays }
+{}
+
+/// So it is of the same texts at other lines.
+pub fn lines_may_change()
+    ensures { LinesMayChange }
 {}

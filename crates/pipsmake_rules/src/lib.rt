@@ -13,6 +13,7 @@ mod table;
 pub use key::Key;
 pub use kind::{KINDS, Kind};
 pub use laws::{rules_are_ranked, walks_are_complete};
+pub use listed::Listed;
 pub use need::needs;
 pub use neighbours::{callees, callers};
 pub use order::walk;

@@ -65,6 +65,29 @@ impl Listed {
         self.index.push(code.into_vec(), &mut self.keys, key)
     }
 
+    /// Adds copies of results at the end. Err also where there are 2^32 - 1.
+    fn push_all(&mut self, alloc: Global, keys: &[Key]) -> Result<(), Memory>
+        ensures { IfOk result (λ _. self.new ≡ self.old ++ keys.now) }
+    {
+        let mut rest = keys;
+        while let [key, more @ ..] = rest {
+            let name = key.name.clone()?;
+            let kind = key.kind;
+            self.push(alloc, Key { kind, name })?;
+            rest = more;
+        }
+        Ok(())
+    }
+
+    /// The same results once more, in the same order.
+    pub fn copied(&self, alloc: Global) -> Result<Listed, Memory>
+        ensures { IfOk result (λ l. l ≡ self.now) }
+    {
+        let mut all = Listed::new(alloc);
+        all.push_all(alloc, self.keys.as_slice())?;
+        Ok(all)
+    }
+
     /// The results, in order. Takes no memory.
     pub fn into_list(self) -> List<Key>
         ensures { result ≡ self }

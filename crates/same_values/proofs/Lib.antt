@@ -1,3 +1,5 @@
 pub mod TestLaws
 pub mod GraphLaws
 pub mod SymbolLaws
+pub mod StmtLaws
+pub mod DeclLaws

@@ -1,0 +1,11 @@
+pub mod Options
+pub mod ScopeLaws
+pub mod RowsBack
+pub mod NamesBack
+pub mod ValuesBack
+pub mod ReadLaws
+pub mod TakenLaws
+pub mod DepthLaws
+pub mod StatementLaws
+pub mod NameLaws
+pub mod Steps

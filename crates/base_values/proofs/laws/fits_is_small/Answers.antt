@@ -1,0 +1,5 @@
+use Rattle.base_values.proofs.TakenLaws as lemma
+use Rattle.base_values.proofs.laws.fits_is_small.Goals as goal
+
+pub returns : goal.returns
+returns c = lemma.fits_is_small

@@ -1,0 +1,9 @@
+pub mod Modules
+pub mod Scopes
+pub mod Naming
+pub mod Words
+pub mod Read
+pub mod Written
+pub mod Sizes
+pub mod Fits
+pub mod Laws

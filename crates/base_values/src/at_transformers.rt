@@ -1,0 +1,116 @@
+//! Transformers as JSON, and back.
+ghost use Rattle.std.specs.Prelude.{IfOk, nat_eq, codes};
+ghost use Rattle.std.specs.HashSet.{IsFromIterResult};
+ghost use Rattle.serde_json.specs.View.{view};
+ghost use Rattle.base_json.specs.Gives.{Gives};
+ghost use Rattle.base_json.specs.Shapes.{member_as};
+ghost use Rattle.base_rows.specs.Scopes.{scope_tree, with_exits};
+ghost use Rattle.base_rows.specs.Read.{system_of};
+ghost use Rattle.base_values.specs.Read.{unit_in, unit_of, transformer_of};
+ghost use Rattle.base_values.specs.Written.{unit_data, transformer_data};
+
+use crate::scope::{SymbolNames, ValueScope};
+use affine_systems::System;
+use base_json::{
+    Decode, Encode, Trouble, field, has_members, list_field, list_value, offset_at, pair, text_at,
+    text_value,
+};
+use base_rows::{Scope, is_block, system_value};
+use f77_symbols::Unit;
+use fx_lists::List;
+use serde_json::{Value, json};
+use std::alloc::{AllocError as Memory, Global};
+use std::collections::HashSet;
+use transformer_algebra::Transformer;
+
+impl<'a> Encode<SymbolNames<'a>> for Unit {
+    ghost data_of = { λ _ u. unit_data u };
+
+    fn encode(&self, alloc: Global, _scope: &SymbolNames<'a>) -> Result<Value, Memory> {
+        let block = text_value(alloc, self.block.as_slice())?;
+        json!(in alloc; [block, self.offset])
+    }
+}
+
+impl<'a> Encode<SymbolNames<'a>> for Transformer {
+    ghost data_of = { λ _ t. transformer_data t };
+
+    fn encode(&self, alloc: Global, scope: &SymbolNames<'a>) -> Result<Value, Memory> {
+        let cells = list_value(alloc, scope, self.cells.as_slice())?;
+        let foreign = list_value(alloc, scope, self.foreign.as_slice())?;
+        let system = system_value(alloc, &self.system)?;
+        json!(in alloc; {"cells": cells, "foreign": foreign, "system": system})
+    }
+}
+
+/// A unit of its block and its offset.
+fn unit_in(alloc: Global, block: &Value, offset: &Value) -> Result<Unit, Trouble>
+    ensures { Gives result (unit_in (view block.now) (view offset.now)) }
+{
+    let block = text_at(alloc, block)?;
+    let Some(offset) = offset_at(offset) else {
+        return Err(Trouble::Shape);
+    };
+    if !is_block(block.as_slice()) {
+        return Err(Trouble::Shape);
+    }
+    Ok(Unit { block, offset })
+}
+
+impl<'a> Decode<ValueScope<'a>> for Unit {
+    ghost read_as = { λ _. unit_of };
+
+    fn decode(alloc: Global, _scope: &ValueScope<'a>, value: &Value) -> Result<Unit, Trouble> {
+        match pair(value) {
+            None => Err(Trouble::Shape),
+            Some((block, offset)) => unit_in(alloc, block, offset),
+        }
+    }
+}
+
+/// The set of these numbers.
+fn set_of(alloc: Global, numbers: &[u32]) -> Result<HashSet<u32>, Memory>
+    ensures { IfOk result (IsFromIterResult nat_eq numbers.now) }
+{
+    numbers.iter().copied().collect(alloc)
+}
+
+/// The system under the key `system`, which may name the exits of these cells.
+fn exit_system(
+    alloc: Global,
+    scope: &ValueScope<'_>,
+    cells: &[u32],
+    value: &Value,
+) -> Result<System, Trouble>
+    ensures { Gives result (member_as (system_of (with_exits cells.now (scope_tree scope.now.cells))) (codes "system") (view value.now)) }
+{
+    let exits = set_of(alloc, cells)?;
+    let scope = Scope {
+        symbols: scope.cells.symbols,
+        exits: &exits,
+        phi: scope.cells.phi,
+    };
+    field(alloc, &scope, value, "system")
+}
+
+impl<'a> Decode<ValueScope<'a>> for Transformer {
+    ghost read_as = { λ s. transformer_of (scope_tree s.cells) };
+
+    fn decode(
+        alloc: Global,
+        scope: &ValueScope<'a>,
+        value: &Value,
+    ) -> Result<Transformer, Trouble> {
+        if !has_members(value, 3) {
+            return Err(Trouble::Shape);
+        }
+        let cells: List<u32> = list_field(alloc, &scope.cells, value, "cells")?;
+        let foreign: List<Unit> = list_field(alloc, scope, value, "foreign")?;
+        let system = exit_system(alloc, scope, cells.as_slice(), value)?;
+        Ok(Transformer {
+            cells,
+            foreign,
+            system,
+        })
+    }
+}

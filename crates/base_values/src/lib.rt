@@ -1,0 +1,26 @@
+//! Results of a module as JSON values, and back.
+#![tactic(auto)]
+
+mod at_transformers;
+mod effect_lists;
+mod laws;
+mod marks;
+mod names;
+mod read;
+mod regions;
+mod scope;
+mod sizes;
+mod statements;
+mod stored;
+mod variables;
+mod words;
+mod write;
+
+pub use laws::{
+    fits_is_small, fits_is_taken, read_fits, written_is_flat, written_is_read, written_is_whole,
+};
+pub use names::{Names, Numbers, numbers_in};
+pub use read::stored_at;
+pub use sizes::is_small_value;
+pub use stored::{StoredValue, kind_of};
+pub use write::{stored_value, value_text};

@@ -1,0 +1,177 @@
+//! Regions as JSON, and back.
+ghost use Rattle.std.specs.Prelude.{◌≡◌, ◌++◌, ◌∷◌, [], IfOk, map, codes, option_and_then};
+ghost use Rattle.serde_json.specs.View.{view};
+ghost use Rattle.pipsmake_rules.specs.Kinds.{same_kind};
+ghost use Rattle.f77_symbols.specs.Index.{names_of};
+ghost use Rattle.region_sets.specs.Written.{access_text as access_text_is};
+ghost use Rattle.base_json.specs.Gives.{Gives};
+ghost use Rattle.base_json.specs.Shapes.{member_as, when};
+ghost use Rattle.base_rows.specs.Scopes.{scope_tree, with_phi};
+ghost use Rattle.base_rows.specs.Read.{system_of};
+ghost use Rattle.base_rows.specs.Written.{system_data};
+ghost use Rattle.base_values.specs.Read.{access_of, region_of, regions_of, region_key as region_key_is, are_apart as are_apart_is};
+ghost use Rattle.base_values.specs.Words.{access_named as access_named_is, result_with as result_with_is};
+ghost use Rattle.base_values.specs.Written.{piece_of, region_data, regions_data};
+
+use crate::scope::{SymbolNames, ValueScope};
+use crate::variables::put_variable;
+use crate::words::{access_named, access_word, result_with};
+use affine_forms::infeasible;
+use affine_systems::System;
+use base_json::{Decode, Encode, Trouble, field, has_members, list_at, list_value, word};
+use base_rows::{Scope, are_distinct, system_value};
+use f77_symbols::{Symbols, Variable};
+use fx_lists::{List, Text};
+use pipsmake_rules::Kind;
+use region_sets::{Access, Region, RegionSet};
+use serde_json::{Value, json};
+use std::alloc::{AllocError as Memory, Global};
+
+/// The first of some systems; the infeasible one where there is none.
+fn piece_value(alloc: Global, pieces: &[System]) -> Result<Value, Memory>
+    ensures { IfOk result (λ v. view v ≡ system_data (piece_of pieces.now)) }
+{
+    match pieces {
+        [] => system_value(alloc, &infeasible(alloc)?),
+        [piece, ..] => system_value(alloc, piece),
+    }
+}
+
+impl<'a> Encode<SymbolNames<'a>> for Region {
+    ghost data_of = { λ s r. region_data (names_of s.symbols.now) r };
+
+    fn encode(&self, alloc: Global, scope: &SymbolNames<'a>) -> Result<Value, Memory> {
+        let of = self.variable.encode(alloc, scope)?;
+        let system = piece_value(alloc, self.pieces.as_slice())?;
+        json!(in alloc; {"exact": self.exact, "kind": access_word(self.kind), "of": of, "system": system})
+    }
+}
+
+impl<'a> Encode<SymbolNames<'a>> for RegionSet {
+    ghost data_of = { λ s rs. regions_data (names_of s.symbols.now) rs };
+
+    fn encode(&self, alloc: Global, scope: &SymbolNames<'a>) -> Result<Value, Memory> {
+        list_value(alloc, scope, self.as_slice())
+    }
+}
+
+/// A kind of region that results of this kind have.
+fn access_in(kind: Kind, word: &str) -> Option<Access>
+    ensures { result ≡ option_and_then (λ a. when (same_kind (result_with_is a) kind) a) (access_named_is word.now) }
+{
+    match access_named(word) {
+        None => None,
+        Some(access) => if result_with(access).number() == kind.number() {
+            Some(access)
+        } else {
+            None
+        },
+    }
+}
+
+impl<'a> Decode<ValueScope<'a>> for Access {
+    ghost read_as = { λ s. access_of s.kind };
+
+    fn decode(_alloc: Global, scope: &ValueScope<'a>, value: &Value) -> Result<Access, Trouble> {
+        let Some(word) = word(value) else {
+            return Err(Trouble::Shape);
+        };
+        match access_in(scope.kind, word) {
+            None => Err(Trouble::Shape),
+            Some(access) => Ok(access),
+        }
+    }
+}
+
+/// The system under the key `system`, which may name subscripts.
+fn phi_system(alloc: Global, scope: &ValueScope<'_>, value: &Value) -> Result<System, Trouble>
+    ensures { Gives result (member_as (system_of (with_phi (scope_tree scope.now.cells))) (codes "system") (view value.now)) }
+{
+    let scope = Scope {
+        symbols: scope.cells.symbols,
+        exits: scope.cells.exits,
+        phi: true,
+    };
+    field(alloc, &scope, value, "system")
+}
+
+/// A list of one system.
+fn one_piece(alloc: Global, piece: System) -> Result<List<System>, Memory>
+    ensures { IfOk result (λ pieces. pieces ≡ piece ∷ []) }
+{
+    let mut pieces = List::new(alloc);
+    pieces.push(piece)?;
+    Ok(pieces)
+}
+
+impl<'a> Decode<ValueScope<'a>> for Region {
+    ghost read_as = { λ s. region_of (scope_tree s.cells) s.kind };
+
+    fn decode(alloc: Global, scope: &ValueScope<'a>, value: &Value) -> Result<Region, Trouble> {
+        if !has_members(value, 4) {
+            return Err(Trouble::Shape);
+        }
+        let exact: bool = field(alloc, scope, value, "exact")?;
+        let kind: Access = field(alloc, scope, value, "kind")?;
+        let variable: Variable = field(alloc, &scope.cells, value, "of")?;
+        let piece = phi_system(alloc, scope, value)?;
+        Ok(Region {
+            variable,
+            kind,
+            exact,
+            pieces: one_piece(alloc, piece)?,
+        })
+    }
+}
+
+/// What is written of the kind of a region.
+fn access_text(access: Access) -> &'static [u8]
+    ensures { result.now ≡ access_text_is access }
+{
+    match access {
+        Access::Read => b"READ ",
+        Access::Write => b"WRITE ",
+        Access::In => b"IN ",
+        Access::Out => b"OUT ",
+    }
+}
+
+/// What tells a region from others of its set.
+fn region_key(alloc: Global, symbols: &Symbols, r: &Region) -> Result<Text, Memory>
+    ensures { IfOk result (λ key. key ≡ region_key_is (names_of symbols.now) r.now) }
+{
+    let mut key = Text::from_bytes(alloc, access_text(r.kind))?;
+    put_variable(&mut key, symbols, &r.variable)?;
+    Ok(key)
+}
+
+#[tactic(auto, using(crate::proofs::Steps::keys))]
+fn region_keys(alloc: Global, symbols: &Symbols, regions: &[Region]) -> Result<List<Text>, Memory>
+    ensures { IfOk result (λ keys. keys ≡ map (region_key_is (names_of symbols.now)) regions.now) }
+{
+    let mut keys = List::new(alloc);
+    for r in regions {
+        keys.push(region_key(alloc, symbols, r)?)?;
+    }
+    Ok(keys)
+}
+
+/// Whether no two are of one kind and variable.
+fn are_apart(alloc: Global, symbols: &Symbols, regions: &[Region]) -> Result<bool, Memory>
+    ensures { IfOk result (λ b. b ≡ are_apart_is (names_of symbols.now) regions.now) }
+{
+    let keys = region_keys(alloc, symbols, regions)?;
+    are_distinct(alloc, keys.as_slice())
+}
+
+impl<'a> Decode<ValueScope<'a>> for RegionSet {
+    ghost read_as = { λ s. regions_of (scope_tree s.cells) s.kind };
+
+    fn decode(alloc: Global, scope: &ValueScope<'a>, value: &Value) -> Result<RegionSet, Trouble> {
+        let regions: RegionSet = list_at(alloc, scope, value)?;
+        if !are_apart(alloc, scope.cells.symbols, regions.as_slice())? {
+            return Err(Trouble::Shape);
+        }
+        Ok(regions)
+    }
+}

@@ -1,0 +1,95 @@
+//! The sizes of the numbers of a result.
+ghost use Rattle.std.specs.Prelude.{◌≡◌};
+ghost use Rattle.std.specs.List.{list_all};
+ghost use Rattle.base_rows.specs.Read.{is_small_system as is_small_system_is};
+ghost use Rattle.base_values.specs.Sizes.{is_small_transformer as is_small_transformer_is, is_small_region as is_small_region_is, are_small_regions as are_small_regions_is, small_at, is_small_value as is_small_value_is};
+
+use crate::StoredValue;
+use affine_systems::System;
+use base_rows::is_small_system;
+use f77_results::At;
+use region_sets::{Region, RegionSet};
+use transformer_algebra::Transformer;
+
+fn are_small_systems(systems: &[System]) -> bool
+    ensures { result ≡ list_all is_small_system_is systems.now }
+{
+    let mut rest = systems;
+    while let [system, more @ ..] = rest {
+        if !is_small_system(system) {
+            return false;
+        }
+        rest = more;
+    }
+    true
+}
+
+fn are_small_regions(regions: &[Region]) -> bool
+    ensures { result ≡ are_small_regions_is regions.now }
+{
+    let mut rest = regions;
+    while let [region, more @ ..] = rest {
+        if !are_small_systems(region.pieces.as_slice()) {
+            return false;
+        }
+        rest = more;
+    }
+    true
+}
+
+fn small_transformers(at: &[At<Transformer>]) -> bool
+    ensures { result ≡ small_at is_small_transformer_is at.now }
+{
+    let mut rest = at;
+    while let [one, more @ ..] = rest {
+        if !is_small_system(&one.value.system) {
+            return false;
+        }
+        rest = more;
+    }
+    true
+}
+
+fn small_systems(at: &[At<System>]) -> bool
+    ensures { result ≡ small_at is_small_system_is at.now }
+{
+    let mut rest = at;
+    while let [one, more @ ..] = rest {
+        if !is_small_system(&one.value) {
+            return false;
+        }
+        rest = more;
+    }
+    true
+}
+
+fn small_regions(at: &[At<RegionSet>]) -> bool
+    ensures { result ≡ small_at are_small_regions_is at.now }
+{
+    let mut rest = at;
+    while let [one, more @ ..] = rest {
+        if !are_small_regions(one.value.as_slice()) {
+            return false;
+        }
+        rest = more;
+    }
+    true
+}
+
+/// Whether all numbers of the rows of a result are below 2^62 in magnitude.
+pub fn is_small_value(value: &StoredValue) -> bool
+    ensures { result ≡ is_small_value_is value.now }
+{
+    match value {
+        StoredValue::Effects(_) | StoredValue::Marks(_) => true,
+        StoredValue::Transformers(r) => {
+            is_small_system(&r.summary.system) && small_transformers(r.at.as_slice())
+        }
+        StoredValue::Preconditions(r) => {
+            is_small_system(&r.summary) && small_systems(r.at.as_slice())
+        }
+        StoredValue::Regions(r) | StoredValue::InRegions(r) | StoredValue::OutRegions(r) => {
+            are_small_regions(r.summary.as_slice()) && small_regions(r.at.as_slice())
+        }
+    }
+}

@@ -1,0 +1,4 @@
+mod Read
+mod Same
+mod Pieces
+mod Named

@@ -1,0 +1,7 @@
+mod Moved
+mod Pieces
+mod Beginning
+mod Starting
+mod Read
+mod Fronts
+mod Joined

@@ -1,0 +1,5 @@
+pub mod ListLaws
+pub mod Outcomes
+pub mod ShelfLaws
+pub mod RowLaws
+pub mod StoreLaws

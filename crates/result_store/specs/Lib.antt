@@ -1,0 +1,5 @@
+pub mod Values
+pub mod Fits
+pub mod Changes
+pub mod Rows
+pub mod RowChanges

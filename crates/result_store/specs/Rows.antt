@@ -1,0 +1,60 @@
+-- The shelves of the code: a row of them for each name.
+use Rattle.std.specs.Prelude.{◌≡◌, ℕ, List, [], ◌∷◌, map, length, slice_get, Option, Some, None, option_map, unwrap_or, bytes_eq, if◌then◌else◌}
+use Rattle.std.specs.List.{AllByRecursion}
+use Rattle.f77_symbols.specs.declared.name_index.NameIndex.{NameIndex}
+use Rattle.f77_symbols.specs.Index.{Indexes}
+use Rattle.pipsmake_rules.specs.Kinds.{number_of}
+use Rattle.laws_database.specs.Shelves.{Shelf, Shelves}
+use Rattle.laws_database.specs.Values.{Item, text, result}
+use Rattle.result_store.specs.declared.shelf.Shelf as code
+use Rattle.result_store.specs.declared.row.Row.{Row}
+use Rattle.result_store.specs.Values.{value_tree, kept_tree}
+use Rattle.result_store.specs.Fits.{ShelfFits}
+use Rattle.result_store.specs.Changes.{no_shelf}
+
+abbrev pub shelf_tree : code.Shelf → Shelf
+shelf_tree s = record { values = map value_tree s.values; kept = option_map kept_tree s.kept }
+
+-- the shelves of a name: that of its text, and those of its results in the order of the kinds
+pub record RowTree : Type 0 where
+  pub name : List ℕ
+  pub text : Shelf
+  pub results : List Shelf
+
+abbrev pub row_tree : Row → RowTree
+row_tree r = record { name = r.name; text = shelf_tree r.text; results = map shelf_tree r.results.items }
+
+abbrev pub shelf_or_none : Option Shelf → Shelf
+shelf_or_none s = unwrap_or s no_shelf
+
+abbrev pub shelf_at : RowTree → Item → Shelf
+shelf_at r text = r.text
+shelf_at r (result kind) = shelf_or_none (slice_get r.results (number_of kind))
+
+-- the row of a name
+abbrev pub row_in : List RowTree → List ℕ → Option RowTree
+row_in [] x = None
+row_in (r ∷ rs) x = if bytes_eq x r.name then Some r else row_in rs x
+
+abbrev pub shelf_in : Option RowTree → Item → Shelf
+shelf_in None item = no_shelf
+shelf_in (Some r) item = shelf_at r item
+
+-- what the rows have of each item and name
+abbrev pub shelves_of : List Row → Shelves
+shelves_of rows item x = shelf_in (row_in (map row_tree rows) x) item
+
+-- ---- what always holds of them
+
+abbrev pub names_of : List Row → List (List ℕ)
+names_of rows = map (λ r. r.name) rows
+
+-- a shelf for each kind, and values that calls take
+pub record RowFits (r : RowTree) : Type 0 where
+  pub kinds : length r.results ≡ 12
+  pub text : ShelfFits r.text
+  pub results : AllByRecursion ShelfFits r.results
+
+pub record AreRows (i : NameIndex) (rows : List Row) : Type 0 where
+  pub index : Indexes i (names_of rows)
+  pub fits : AllByRecursion RowFits (map row_tree rows)

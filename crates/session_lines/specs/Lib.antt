@@ -1,0 +1,5 @@
+pub mod Words
+pub mod Commands
+pub mod Steps
+pub mod Refusals
+pub mod Answers

@@ -1,0 +1,11 @@
+pub mod Puts
+pub mod Replaced
+pub mod Removed
+pub mod AtPlaces
+pub mod PutAt
+pub mod Keeping
+pub mod Named
+pub mod SourceNames
+pub mod SourceTexts
+pub mod SymbolLaws
+pub mod Sizes

@@ -1,0 +1,10 @@
+use Rattle.std.proofs.Common.{◌≡◌, drop, map}
+use Rattle.f77_ast.specs.PlainDecl.{parsed_tree}
+use Rattle.f77_symbols.specs.Symbols.{symbol_tree}
+use Rattle.session_texts.specs.Sources.{tables_of}
+use Rattle.session_texts.proofs.SymbolLaws.{remaining}
+use Rattle.session_texts.proofs.reading.tables_of.Given as goal
+
+abbrev pub invariant-loop-parsed : goal.invariant-loop-parsed
+invariant-loop-parsed l =
+    remaining (map (map symbol_tree) l.tables) (map parsed_tree (drop l.parsed-index l.parsed-items)) ≡ tables_of (map parsed_tree l.parsed-items)
