@@ -195,6 +195,31 @@ fn err_fails_at_no_input(rt: HostRuntime) -> Result<(), Fail> {
     Ok(())
 }
 
+#[test]
+fn word_is_no_text(rt: HostRuntime) -> Result<(), Fail> {
+    let outcome = run_word(rt.alloc(), b"p.f\xff", PROGRAM, NOTHING)?;
+    assert_eq!(rt; outcome.status, Status::Usage);
+    assert_eq!(rt; outcome.out.bytes(), b"".as_slice());
+    Ok(())
+}
+
+#[test]
+fn sample_needs_no_store(rt: HostRuntime) -> Result<(), Fail> {
+    let failing = Failing {
+        store: 0,
+        ..NOTHING
+    };
+    let outcome = run_word(rt.alloc(), b"--generate=4", PROGRAM, failing)?;
+    expect(
+        &rt,
+        &outcome,
+        Status::Done,
+        b"modules 2\nstatements 9\nloops 4\nparallel 3\nweak 0\n",
+        b"",
+    );
+    Ok(())
+}
+
 /// 511 statements and END, behind each as many blanks as make it this many bytes.
 fn long_text(alloc: Global, bytes: usize) -> Result<Vec<u8>, Memory> {
     let mut held = Vec::new(alloc);

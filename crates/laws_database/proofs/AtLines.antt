@@ -5,7 +5,7 @@ use Rattle.call_graph.specs.declared.graph.Graph.{Graph}
 use Rattle.call_graph.specs.declared.refusal.Fault.{Fault}
 use Rattle.call_graph.specs.Links.{link_of}
 use Rattle.f77_meaning.specs.Modules.{known_of}
-use Rattle.laws_results.specs.Entries.{marks_in, said_for}
+use Rattle.laws_database.specs.ResultEntries.{marks_in, said_for}
 use Rattle.pipsmake_rules.specs.declared.kind.Kind.{Kind}
 use Rattle.pipsmake_rules.specs.declared.kind.Kind.TheVariants as kind
 use Rattle.pipsmake_rules.specs.declared.key.Key.{Key}
@@ -18,7 +18,7 @@ use Rattle.laws_database.specs.Session.{needs_in}
 use Rattle.laws_database.specs.Shelves.{Shelves, Kept, kept_value}
 use Rattle.laws_database.specs.Stands.{text_needed, AreStamps, Valuation, needed_with, HasValue}
 use Rattle.laws_database.specs.Resting.{stored_results, printed_with_results, value_with, LinesMayChange}
-use Rattle.laws_results.specs.Entries.{transformers_in, preconditions_in, regions_in, ins_in, outs_in}
+use Rattle.laws_database.specs.ResultEntries.{transformers_in, preconditions_in, regions_in, ins_in, outs_in}
 
 modules_same : (ts us : List ModuleText) → SameTexts ts us → modules_in ts ≡ modules_in us
 modules_same [] [] s = refl

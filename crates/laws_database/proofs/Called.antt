@@ -12,9 +12,9 @@ use Rattle.call_graph.specs.declared.graph.Edge.{Edge}
 use Rattle.call_graph.specs.declared.graph.Graph.{Graph}
 use Rattle.f77_meaning.specs.Linked.{callees}
 use Rattle.laws_statements.specs.CallsIn.{Each}
-use Rattle.laws_results.specs.Callees.{Summaries}
-use Rattle.laws_results.specs.Callers.{calls_by, caller_names}
-use Rattle.laws_results.specs.Needs.{SameAt}
+use Rattle.laws_database.specs.ResultCallees.{Summaries}
+use Rattle.laws_database.specs.ResultCallers.{calls_by, caller_names}
+use Rattle.laws_database.specs.ResultNeeds.{SameAt}
 use Rattle.result_rules.specs.Callees.{Callee, summary_of, callee_at, callees_of}
 use Rattle.pipsmake_rules.specs.declared.kind.Kind.{Kind}
 use Rattle.pipsmake_rules.specs.declared.key.Key.{Key}

@@ -13,3 +13,16 @@ pub mod Resting
 pub mod Going
 pub mod Rests
 pub mod AtLines
+pub mod ResultEffectLaws
+pub mod ResultRegionLaws
+pub mod ResultInLaws
+pub mod ResultLists
+pub mod ResultOrders
+pub mod ResultBottomUp
+pub mod ResultTopDown
+pub mod ResultSites
+pub mod ResultPhases
+pub mod ResultEntries
+pub mod ResultGraphs
+pub mod ResultFollows
+pub mod ResultSameNeeds

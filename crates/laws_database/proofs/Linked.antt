@@ -16,7 +16,7 @@ use Rattle.roundtrip_programs.specs.Laws.{tree_of, GraphsIgnorePlaces}
 use Rattle.laws_storage.proofs.ModuleLaws.{place_of_name}
 use Rattle.laws_statements.specs.CallsIn.{Each}
 use Rattle.laws_analyses.proofs.UnitLaws.{module_at}
-use Rattle.laws_results.proofs.Lists.{each_mapped}
+use Rattle.laws_database.proofs.ResultLists.{each_mapped}
 use Rattle.pipsmake_rules.specs.declared.kind.Kind.{Kind}
 use Rattle.pipsmake_rules.specs.declared.kind.Kind.TheVariants as kind
 use Rattle.pipsmake_rules.specs.declared.key.Key.{Key}

@@ -26,18 +26,18 @@ use Rattle.laws_statements.specs.CallsIn.{Each, list_calls}
 use Rattle.laws_analyses.proofs.CallLists.{each_both, each_more}
 use Rattle.laws_analyses.proofs.Passes.{each_reversed}
 use Rattle.laws_analyses.proofs.CalleeLaws.{same_transformers}
-use Rattle.laws_results.specs.Entries.{marks_in, module_in, name_in, transformers_in, preconditions_in, regions_in, ins_in, outs_in, said_for}
-use Rattle.laws_results.specs.Callees.{Summaries, SameCallees, seen_of, summaries, effect_summaries, transformer_summaries, region_summaries, in_summaries}
-use Rattle.laws_results.specs.Callers.{calls, callers, holding_sites, later_sites}
-use Rattle.laws_results.specs.Equations.{FollowsFrom}
-use Rattle.laws_results.specs.Laws.{IsFound, IsInGraph}
-use Rattle.laws_results.proofs.EffectLaws.{same_effects}
-use Rattle.laws_results.proofs.RegionLaws.{same_regions}
-use Rattle.laws_results.proofs.InLaws.{same_ins}
-use Rattle.laws_results.proofs.Lists.{each_mapped}
-use Rattle.laws_results.proofs.Entries.{modules_have_entries}
-use Rattle.laws_results.proofs.Graphs.{name_in_call, are_in_graph}
-use Rattle.laws_results.proofs.Follows.{results_follow}
+use Rattle.laws_database.specs.ResultEntries.{marks_in, module_in, name_in, transformers_in, preconditions_in, regions_in, ins_in, outs_in, said_for}
+use Rattle.laws_database.specs.ResultCallees.{Summaries, SameCallees, seen_of, summaries, effect_summaries, transformer_summaries, region_summaries, in_summaries}
+use Rattle.laws_database.specs.ResultCallers.{calls, callers, holding_sites, later_sites}
+use Rattle.laws_database.specs.ResultEquations.{FollowsFrom}
+use Rattle.laws_database.specs.ResultLaws.{IsFound, IsInGraph}
+use Rattle.laws_database.proofs.ResultEffectLaws.{same_effects}
+use Rattle.laws_database.proofs.ResultRegionLaws.{same_regions}
+use Rattle.laws_database.proofs.ResultInLaws.{same_ins}
+use Rattle.laws_database.proofs.ResultLists.{each_mapped}
+use Rattle.laws_database.proofs.ResultEntries.{modules_have_entries}
+use Rattle.laws_database.proofs.ResultGraphs.{name_in_call, are_in_graph}
+use Rattle.laws_database.proofs.ResultFollows.{results_follow}
 use Rattle.f77_printer.specs.ModuleText as printer
 use Rattle.result_lines.specs.Lines.{lines_of}
 use Rattle.result_lines.specs.declared.show.Show.{Show}

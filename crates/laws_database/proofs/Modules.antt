@@ -12,8 +12,8 @@ use Rattle.mark_phases.specs.Phases.{ModuleMarks}
 use Rattle.laws_storage.specs.Programs.{IsLinked}
 use Rattle.laws_statements.specs.CallsIn.{Each}
 use Rattle.laws_analyses.proofs.Passes.{each_reversed}
-use Rattle.laws_results.specs.Entries.{marks_in, module_in, said_for}
-use Rattle.laws_results.proofs.Entries.{modules_have_entries}
+use Rattle.laws_database.specs.ResultEntries.{marks_in, module_in, said_for}
+use Rattle.laws_database.proofs.ResultEntries.{modules_have_entries}
 use Rattle.pipsmake_rules.specs.Neighbours.{has_name, name_put, callees_from, callees_of, calls, callers_of}
 use Rattle.laws_database.specs.Texts.{ModuleText, ReadModule, module_read, AreModules, modules_in, trees_in, tables_in, names_in, links_in, known_in, text_of}
 use Rattle.laws_database.specs.Definitions.{module_named, results_with, results_in}

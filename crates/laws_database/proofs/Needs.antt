@@ -5,7 +5,7 @@ use Rattle.std.proofs.lemmas.Bool.{or_left, or_right}
 use Rattle.std.proofs.lemmas.Slice.Eq.{bytes_eq-Decides}
 use Rattle.laws_statements.specs.CallsIn.{Each}
 use Rattle.laws_analyses.proofs.CallLists.{each_more, each_joined}
-use Rattle.laws_results.specs.Entries.{transformers_in, preconditions_in, regions_in, ins_in, outs_in}
+use Rattle.laws_database.specs.ResultEntries.{transformers_in, preconditions_in, regions_in, ins_in, outs_in}
 use Rattle.result_lines.specs.declared.show.Show.TheVariants.{All}
 use Rattle.pipsmake_rules.specs.declared.kind.Kind.{Kind}
 use Rattle.pipsmake_rules.specs.declared.kind.Kind.TheVariants as kind

@@ -11,9 +11,9 @@ use Rattle.roundtrip_programs.specs.Laws.{TablesIgnorePlaces, GraphsIgnorePlaces
 use Rattle.refusal_codes.specs.declared.refusal.Refusal.{Refusal}
 use Rattle.laws_statements.specs.CallsIn.{Each}
 use Rattle.laws_analyses.proofs.CallLists.{each_both, each_more}
-use Rattle.laws_results.specs.Entries.{marks_in, module_in, name_in, transformers_in, preconditions_in, regions_in, ins_in, outs_in, said_for}
-use Rattle.laws_results.specs.Laws.{IsFound}
-use Rattle.laws_results.proofs.Entries.{modules_have_entries}
+use Rattle.laws_database.specs.ResultEntries.{marks_in, module_in, name_in, transformers_in, preconditions_in, regions_in, ins_in, outs_in, said_for}
+use Rattle.laws_database.specs.ResultLaws.{IsFound}
+use Rattle.laws_database.proofs.ResultEntries.{modules_have_entries}
 use Rattle.pipsmake_rules.specs.declared.kind.Kind.{Kind}
 use Rattle.pipsmake_rules.specs.declared.kind.Kind.TheVariants as kind
 use Rattle.pipsmake_rules.specs.declared.key.Key.{Key}

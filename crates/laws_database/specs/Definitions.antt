@@ -9,7 +9,7 @@ use Rattle.pipsmake_rules.specs.declared.kind.Kind.TheVariants.{Parsed, Lines, S
 use Rattle.result_lines.specs.Lines.{ModuleResults, lines_of}
 use Rattle.result_lines.specs.declared.show.Show.{Show}
 use Rattle.result_lines.specs.declared.show.Show.TheVariants.{All}
-use Rattle.laws_results.specs.Entries.{marks_in, module_in, transformers_in, preconditions_in, regions_in, ins_in, outs_in, said_for}
+use Rattle.laws_database.specs.ResultEntries.{marks_in, module_in, transformers_in, preconditions_in, regions_in, ins_in, outs_in, said_for}
 use Rattle.laws_database.specs.Texts.{ModuleText, ReadModule, module_read, text_of, links_in, known_in}
 use Rattle.laws_database.specs.Values.{Value, parsed, lines, symbols, graph, effects, transformers, preconditions, regions, ins, outs, marks, printed}
 

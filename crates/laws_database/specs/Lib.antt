@@ -8,3 +8,9 @@ pub mod Making
 pub mod Stands
 pub mod Laws
 pub mod Resting
+pub mod ResultEntries
+pub mod ResultCallees
+pub mod ResultCallers
+pub mod ResultEquations
+pub mod ResultNeeds
+pub mod ResultLaws

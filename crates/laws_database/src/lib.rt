@@ -1,9 +1,24 @@
-//! What is made of kept results is what is defined.
+//! Each result of a module follows from what its kind needs, and what is made of kept results is what is defined.
 #![tactic(auto)]
+
+mod result_determined;
+mod result_equations;
+mod result_needs;
 
 ghost use Rattle.laws_database.specs.Laws.{MakingIsDefined, MakingMayStop, ResultsHaveValues, RulesHaveValues, TextsAreShown, TextsMayChange, TextsMayGo, ResultsMayGo, ValuesMayBeSeen, ResultsMayBeKept, NothingStands, LoadedStands, NothingIsGiven, GivenMayBeKept, GivenMayBeSeen, GivenTextsMayStay};
 ghost use Rattle.laws_database.specs.Resting.{RestingStays, LinesMayChange};
 
+pub use result_determined::{
+    effects_are_determined, ins_are_determined, marks_are_determined, outs_are_determined,
+    preconditions_are_determined, regions_are_determined, transformers_are_determined,
+};
+pub use result_equations::{
+    entries_are_in_graph, entries_have_passes, modules_have_entries, results_follow,
+};
+pub use result_needs::{
+    callers_have_all_sites, effects_need_callees, ins_need_callees, regions_need_callees,
+    transformers_need_callees,
+};
 use roundtrip_programs::{graphs_ignore_places, tables_ignore_places};
 
 /// Where kept results stand for a session, just those that are missing or out of date are made, and each one that was asked for is then what it is defined to be for the present texts.

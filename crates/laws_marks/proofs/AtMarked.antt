@@ -37,18 +37,18 @@ use Rattle.loop_bodies.specs.Finding.{loop_in}
 use Rattle.laws_programs.specs.Programs.{IsProgram}
 use Rattle.laws_statements.specs.CallsIn.{Each}
 use Rattle.laws_analyses.proofs.Modules.{IsIn}
-use Rattle.laws_conflicts.specs.Claims.{loop_with}
-use Rattle.laws_conflicts.specs.Executions.{Execution}
-use Rattle.laws_conflicts.proofs.Modules.{numbered_above}
-use Rattle.laws_conflicts.proofs.Whats.{no_list}
+use Rattle.laws_marks.specs.ConflictClaims.{loop_with}
+use Rattle.laws_marks.specs.ConflictExecutions.{Execution}
+use Rattle.laws_marks.proofs.ConflictModules.{numbered_above}
+use Rattle.laws_marks.proofs.ConflictWhats.{no_list}
 use Rattle.laws_interleavings.specs.Holds.{LoopHolds}
 use Rattle.laws_interleavings.specs.MarkedStatements.{MarkedScope, marked_loop, own_in}
 use Rattle.laws_interleavings.specs.MarkedPrograms.{Directives, marked_scope, marked_meanings}
 use Rattle.laws_regions.specs.Settings.{is_stored}
 use Rattle.laws_interleavings.specs.Typed.{TagsStand}
-use Rattle.laws_marked_loops.specs.Begins.{Begins}
-use Rattle.laws_marked_loops.specs.Fit.{HasPrivateUnits, LoopIsFit, IsDeadAfter}
-use Rattle.laws_marked_loops.specs.Laws.{LoopsBegin, LoopsHold}
+use Rattle.laws_marks.specs.MarkedBegins.{Begins}
+use Rattle.laws_marks.specs.MarkedFit.{HasPrivateUnits, LoopIsFit, IsDeadAfter}
+use Rattle.laws_marks.specs.MarkedLaws.{LoopsBegin, LoopsHold}
 use Rattle.laws_marks.specs.Inactive.{InactiveHaveNone}
 use Rattle.laws_marks.proofs.Order.{Distinct, names_once}
 use Rattle.laws_marks.proofs.Apart.{linked}

@@ -34,7 +34,7 @@ use Rattle.privatizer.specs.Claims.{IsPrivate, IfPrivate}
 use Rattle.privatizer.proofs.PrivateLaws.{answer_sound}
 use Rattle.laws_statements.specs.Results.{SystemHolds}
 use Rattle.laws_analyses.specs.Claims.{precondition_in, AnalysisHolds}
-use Rattle.laws_conflicts.proofs.Meeting.{same_own}
+use Rattle.laws_marks.proofs.ConflictMeeting.{same_own}
 use Rattle.laws_marks.specs.Dead.{IsDead, LiesInOwn, CopiesLieInOwn, uses_in, PrivatesAreDead}
 
 -- only a variable whose name allows copies is private

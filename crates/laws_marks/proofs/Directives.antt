@@ -21,11 +21,11 @@ use Rattle.laws_programs.specs.Programs.{IsProgram}
 use Rattle.laws_statements.specs.CallsIn.{Each}
 use Rattle.laws_analyses.proofs.CallLists.{each_more}
 use Rattle.laws_analyses.proofs.Modules.{IsIn}
-use Rattle.laws_conflicts.specs.Accepted.{CopiesAreSole}
-use Rattle.laws_conflicts.specs.Claims.{loop_with}
-use Rattle.laws_conflicts.specs.Executions.{Execution, AtEachExecution}
-use Rattle.laws_conflicts.proofs.Each.{plan_more}
-use Rattle.laws_marked_loops.specs.Laws.{IterationsAreBegun}
+use Rattle.laws_marks.specs.ConflictAccepted.{CopiesAreSole}
+use Rattle.laws_marks.specs.ConflictClaims.{loop_with}
+use Rattle.laws_marks.specs.ConflictExecutions.{Execution, AtEachExecution}
+use Rattle.laws_marks.proofs.ConflictEach.{plan_more}
+use Rattle.laws_marks.specs.MarkedLaws.{IterationsAreBegun}
 use Rattle.laws_marks.specs.Dead.{MarkIsDead}
 use Rattle.laws_marks.specs.Units.{ModuleUnitsStand}
 use Rattle.laws_marks.specs.Named.{NamesStand, ModuleNamesStand, ModulePlacesStand, MarkedLoopIsDead}

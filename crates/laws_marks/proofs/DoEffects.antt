@@ -7,7 +7,7 @@ use Rattle.transformers.specs.Statement.{at}
 use Rattle.laws_statements.specs.CallsIn.{Each}
 use Rattle.laws_statements.proofs.Placing.{each_parts}
 use Rattle.laws_analyses.proofs.CallLists.{each_joined}
-use Rattle.laws_conflicts.proofs.Whats.{stmt_whats, part_whats, list_whats, arms_whats, arm_whats, else_whats, loop_whats}
+use Rattle.laws_marks.proofs.ConflictWhats.{stmt_whats, part_whats, list_whats, arms_whats, arm_whats, else_whats, loop_whats}
 
 -- of a statement, if it is a DO
 abbrev pub OfDo : (ℕ → LoopTree → Type 0) → ℕ → WhatTree → Type 0

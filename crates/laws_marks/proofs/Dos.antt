@@ -9,8 +9,8 @@ use Rattle.transformer_algebra.specs.Cells.{has}
 use Rattle.loop_bodies.specs.Finding.{loop_in}
 use Rattle.laws_statements.specs.CallsIn.{Each}
 use Rattle.laws_regions.proofs.Programs.{distinct_numbers}
-use Rattle.laws_conflicts.proofs.Modules.{numbered_above}
-use Rattle.laws_conflicts.proofs.Whats.{stmt_whats, part_whats, list_whats, arms_whats, else_whats, loop_whats, as_loop, FoundAt, each_found}
+use Rattle.laws_marks.proofs.ConflictModules.{numbered_above}
+use Rattle.laws_marks.proofs.ConflictWhats.{stmt_whats, part_whats, list_whats, arms_whats, else_whats, loop_whats, as_loop, FoundAt, each_found}
 use Rattle.laws_marks.specs.Loops.{StmtDos, WhatDos, LoopDos, ArmsDos, ElseDos, ListDos}
 use Rattle.laws_marks.proofs.Entered.{none_parts}
 

@@ -25,7 +25,7 @@ use Rattle.laws_analyses.proofs.Orders.{NotIn, Sorted, order_sorted, other_name}
 use Rattle.laws_analyses.proofs.Passes.{next as passes_next, run as passed, run_is}
 use Rattle.laws_analyses.proofs.CallLists.{each_more}
 use Rattle.transformer_algebra.specs.Laws.{In, here, there}
-use Rattle.laws_out_regions.proofs.Summaries.{next, run, outs_are}
+use Rattle.laws_marks.proofs.OutSummaries.{next, run, outs_are}
 use Rattle.laws_marks.specs.DeadLaws.{outs_of}
 
 same_name : (x : List ℕ) → bytes_eq x x ≡ true

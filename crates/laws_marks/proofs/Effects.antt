@@ -20,7 +20,7 @@ use Rattle.laws_statements.proofs.NumberLaws.{ids, in_order}
 use Rattle.laws_statements.proofs.Placing.{each_parts}
 use Rattle.laws_analyses.proofs.CallLists.{each_joined}
 use Rattle.laws_regions.proofs.Numbering.{ids_parts}
-use Rattle.laws_conflicts.proofs.Whats.{stmt_whats, part_whats, list_whats, arms_whats, arm_whats, else_whats, loop_whats}
+use Rattle.laws_marks.proofs.ConflictWhats.{stmt_whats, part_whats, list_whats, arms_whats, arm_whats, else_whats, loop_whats}
 use Rattle.laws_marks.proofs.DoEffects.{DoIs, list_dos}
 
 -- the effects that results give the statement of a number

@@ -16,7 +16,7 @@ use Rattle.laws_regions.specs.Claims.{elements_of}
 use Rattle.laws_regions.specs.Programs.{ConstantsAre}
 use Rattle.laws_regions.specs.Settings.{is_stored}
 use Rattle.laws_regions.proofs.Outlines.{elements_are}
-use Rattle.laws_out_regions.proofs.CommonUnits.{number_there}
+use Rattle.laws_marks.proofs.OutCommonUnits.{number_there}
 use Rattle.laws_marks.specs.Units.{IsPassing}
 
 pub record HasElement (p : Place) (u : ℕ) : Type 0 where

@@ -19,7 +19,7 @@ use Rattle.laws_interleavings.specs.MarkedStatements.{unmarked, ◌▹▹◌, st
 use Rattle.laws_interleavings.specs.Sound.{OnGave}
 use Rattle.laws_interleavings.specs.Holds.{later_events, MarksHold}
 use Rattle.laws_interleavings.proofs.Runs.{run_bind, on_from, stays_whole}
-use Rattle.laws_conflicts.specs.Executions.{Execution}
+use Rattle.laws_marks.specs.ConflictExecutions.{Execution}
 use Rattle.laws_marked_plans.proofs.Fine.{Yields, Any, yields_any}
 use Rattle.laws_marks.specs.Rests.{EachWithRest}
 

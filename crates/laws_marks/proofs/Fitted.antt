@@ -35,8 +35,8 @@ use Rattle.laws_programs.proofs.Numbers.{is_numbered}
 use Rattle.laws_statements.specs.CallsIn.{Each}
 use Rattle.laws_analyses.proofs.Modules.{IsIn}
 use Rattle.laws_regions.specs.Shown.{is_lost, is_hidden}
-use Rattle.laws_conflicts.specs.Executions.{Execution}
-use Rattle.laws_conflicts.proofs.Modules.{numbered_above}
+use Rattle.laws_marks.specs.ConflictExecutions.{Execution}
+use Rattle.laws_marks.proofs.ConflictModules.{numbered_above}
 use Rattle.laws_interleavings.specs.MarkedStatements.{MarkedScope, marked_loop, own_in, unit_of, unit_of_some}
 use Rattle.laws_interleavings.specs.MarkedPrograms.{Directives, marked_scope, marked_meanings}
 use Rattle.laws_interleavings.specs.Sound.{is_own}
@@ -46,7 +46,7 @@ use Rattle.laws_marked_plans.specs.Cleared.{HasNoValue, Cleared, Off, EndsWell, 
 use Rattle.laws_marked_plans.proofs.Cleared.{other, off_more, lock_none, cleared_meanings, cleared_body}
 use Rattle.laws_marked_plans.proofs.Fine.{fine_body_list, fine_meanings}
 use Rattle.laws_marked_plans.proofs.Uses.{unwritten_of}
-use Rattle.laws_marked_loops.specs.Begun.{did_in}
+use Rattle.laws_marks.specs.MarkedBegun.{did_in}
 use Rattle.laws_marks.specs.Inactive.{IsOfExpression, IsOfModule, IsOfSome, IsInactive, HasNone, InactiveHaveNone}
 use Rattle.laws_marks.proofs.Order.{Distinct, names_once}
 use Rattle.laws_marks.proofs.OwnIn.{own_units_are_inactive}

@@ -17,8 +17,8 @@ use Rattle.laws_statements.proofs.Ends.{more}
 use Rattle.laws_programs.specs.Programs.{IsProgram}
 use Rattle.laws_analyses.specs.JumpLaws.{JumpsStayInside}
 use Rattle.laws_analyses.specs.ScalarLaws.{AcceptedDataStaysInLocals}
-use Rattle.laws_conflicts.specs.Executions.{Execution, AtEachExecution}
-use Rattle.laws_conflicts.proofs.Each.{plan_more}
+use Rattle.laws_marks.specs.ConflictExecutions.{Execution, AtEachExecution}
+use Rattle.laws_marks.proofs.ConflictEach.{plan_more}
 use Rattle.laws_marks.specs.Inactive.{IsOfExpression, IsOfSome, IsInactive, HasNone, InactiveHaveNone}
 use Rattle.laws_marks.specs.OwnLaws.{InactiveUnitsHaveNone}
 use Rattle.laws_marks.proofs.Typed.{variables_have_types, calls_end}

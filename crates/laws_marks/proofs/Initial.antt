@@ -40,7 +40,7 @@ use Rattle.laws_storage.proofs.LocalLaws.{next_symbol}
 use Rattle.laws_storage.proofs.ModuleLaws.{own_known}
 use Rattle.laws_analyses.specs.ScalarLaws.{AcceptedDataStaysInLocals}
 use Rattle.laws_analyses.proofs.UnitLaws.{module_at}
-use Rattle.laws_in_regions.proofs.Grouped.{locals_are_saved_together}
+use Rattle.laws_marks.proofs.InGrouped.{locals_are_saved_together}
 use Rattle.laws_marked_plans.specs.Cleared.{HasNoValue}
 use Rattle.laws_marks.specs.OwnLaws.{UnitsBeginUnset}
 use Rattle.laws_marks.proofs.Apart.{OwnOf, LostOf, lost_of, same_group, one_module, linked, laid, Owned, of_local, of_expression, OwnerOf, owner}

@@ -31,9 +31,9 @@ use Rattle.laws_analyses.proofs.Insides.{Inside, first_part, second_part, list_p
 use Rattle.laws_analyses.proofs.Members.{Member}
 use Rattle.laws_analyses.proofs.Sizes.{goings_by, goings_body, goings_arms, goings_else, goings_in, goings_few}
 use Rattle.laws_analyses.proofs.Steps.{Never, Own, InLabels, step_then, lands_step, list_step_in, list_step, what_step, body_step, arms_step, else_step}
-use Rattle.laws_in_regions.proofs.Firsts.{not_so}
-use Rattle.laws_conflicts.proofs.Whats.{stmt_whats, part_whats, list_whats, arms_whats, arm_whats, else_whats, loop_whats}
-use Rattle.laws_out_regions.proofs.Outward.{loop_out, list_keeps, arms_keeps, else_keeps, body_stands, apart_from, block_parts, whole_inside}
+use Rattle.laws_marks.proofs.InFirsts.{not_so}
+use Rattle.laws_marks.proofs.ConflictWhats.{stmt_whats, part_whats, list_whats, arms_whats, arm_whats, else_whats, loop_whats}
+use Rattle.laws_marks.proofs.Outward.{loop_out, list_keeps, arms_keeps, else_keeps, body_stands, apart_from, block_parts, whole_inside}
 use Rattle.laws_marks.proofs.DoEffects.{OfDo, DoIs}
 
 -- of a DO

@@ -58,17 +58,17 @@ use Rattle.laws_analyses.proofs.CallLists.{each_more, each_joined}
 use Rattle.laws_analyses.proofs.UnitLaws.{module_at}
 use Rattle.laws_regions.proofs.Programs.{distinct_numbers}
 use Rattle.laws_regions.specs.Settings.{elements_with}
-use Rattle.laws_conflicts.specs.Accepted.{AllLoopsHold, ReadLoopsHold}
-use Rattle.laws_conflicts.specs.Claims.{LoopIs, LoopsHold, body_list, loop_with}
-use Rattle.laws_conflicts.specs.Executions.{Execution, InEachExecution}
-use Rattle.laws_conflicts.specs.Iterations.{Iteration, iterations}
-use Rattle.laws_conflicts.proofs.Whats.{list_whats, as_loop, each_found}
+use Rattle.laws_marks.specs.ConflictAccepted.{AllLoopsHold, ReadLoopsHold}
+use Rattle.laws_marks.specs.ConflictClaims.{LoopIs, LoopsHold, body_list, loop_with}
+use Rattle.laws_marks.specs.ConflictExecutions.{Execution, InEachExecution}
+use Rattle.laws_marks.specs.ConflictIterations.{Iteration, iterations}
+use Rattle.laws_marks.proofs.ConflictWhats.{list_whats, as_loop, each_found}
 use Rattle.laws_interleavings.specs.MarkedStatements.{MarkedScope, marked_loop}
-use Rattle.laws_marked_loops.specs.Begun.{iterations_of}
-use Rattle.laws_marked_loops.specs.Fit.{HasPrivateUnits}
-use Rattle.laws_marked_loops.specs.Begins.{Begins}
-use Rattle.laws_marked_loops.specs.Ending.{IsQuietDo}
-use Rattle.laws_marked_loops.proofs.Ending.{ends_quietly, loop_is_quiet}
+use Rattle.laws_marks.specs.MarkedBegun.{iterations_of}
+use Rattle.laws_marks.specs.MarkedFit.{HasPrivateUnits}
+use Rattle.laws_marks.specs.MarkedBegins.{Begins}
+use Rattle.laws_marks.specs.MarkedEnding.{IsQuietDo}
+use Rattle.laws_marks.proofs.MarkedEnding.{ends_quietly, loop_is_quiet}
 use Rattle.laws_marks.specs.Dead.{index_name}
 use Rattle.laws_marks.specs.Units.{UnitsStand, ModuleUnitsStand, index_in}
 use Rattle.laws_marks.specs.DeadLaws.{outs_of, AllUnitsStand, ReadUnitsStand}

@@ -8,7 +8,7 @@ use Rattle.f77_ast.specs.Plans.{Plan, Ends, Breaks, Look, Set, Hold, Forget, Sho
 use Rattle.f77_ast.specs.Executions.{run_of}
 use Rattle.f77_meaning.specs.Occurrences.{Occurrence, Onward, places_in, events_from, events_after, Throughout}
 use Rattle.laws_statements.proofs.Ends.{both}
-use Rattle.laws_conflicts.specs.Executions.{Execution, AtEachExecution}
+use Rattle.laws_marks.specs.ConflictExecutions.{Execution, AtEachExecution}
 
 -- an execution, as what the run does
 abbrev pub occurrence_of : Execution → List Event → Occurrence

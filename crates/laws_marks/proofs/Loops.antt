@@ -23,14 +23,14 @@ use Rattle.laws_interleavings.specs.Iterations.{on_store, begun, loop_plan}
 use Rattle.laws_interleavings.specs.MarkedStatements.{MarkedScope, unit_of_some, marked_loop}
 use Rattle.laws_interleavings.specs.Sound.{some_wrote}
 use Rattle.laws_regions.specs.Settings.{elements_with}
-use Rattle.laws_in_regions.proofs.Firsts.{written_left, written_right}
-use Rattle.laws_conflicts.specs.Claims.{KnownLoop}
-use Rattle.laws_conflicts.proofs.Parts.{iterations_are_parts}
-use Rattle.laws_marked_loops.specs.Begun.{begun_plan, did_in, iteration_at}
-use Rattle.laws_marked_loops.specs.Begins.{Begins}
-use Rattle.laws_marked_loops.specs.Ending.{EndsQuietly}
-use Rattle.laws_marked_loops.specs.Fit.{IsCopied, IsDeadAfter}
-use Rattle.laws_marked_loops.specs.Laws.{IterationsAreBegun}
+use Rattle.laws_marks.proofs.InFirsts.{written_left, written_right}
+use Rattle.laws_marks.specs.ConflictClaims.{KnownLoop}
+use Rattle.laws_marks.proofs.ConflictParts.{iterations_are_parts}
+use Rattle.laws_marks.specs.MarkedBegun.{begun_plan, did_in, iteration_at}
+use Rattle.laws_marks.specs.MarkedBegins.{Begins}
+use Rattle.laws_marks.specs.MarkedEnding.{EndsQuietly}
+use Rattle.laws_marks.specs.MarkedFit.{IsCopied, IsDeadAfter}
+use Rattle.laws_marks.specs.MarkedLaws.{IterationsAreBegun}
 use Rattle.laws_marks.specs.Dead.{index_name, MarkedIsDead}
 use Rattle.laws_marks.specs.Named.{AreNamesOf, IsOfIndex, IsOfOne, NamesStand, NamesAreCopied}
 

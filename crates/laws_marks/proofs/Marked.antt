@@ -16,7 +16,7 @@ use Rattle.loop_marker.specs.Known.{knowledge_of}
 use Rattle.loop_marker.specs.Marks.{Knowledge, mark_of}
 use Rattle.laws_statements.specs.CallsIn.{Each}
 use Rattle.laws_regions.proofs.Programs.{distinct_numbers}
-use Rattle.laws_conflicts.proofs.Whats.{as_loop, each_found}
+use Rattle.laws_marks.proofs.ConflictWhats.{as_loop, each_found}
 use Rattle.laws_marks.specs.Units.{index_in}
 use Rattle.laws_marks.proofs.Marks.{Says, mark_says, list_marks, found_at}
 

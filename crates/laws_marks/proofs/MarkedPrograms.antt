@@ -33,8 +33,8 @@ use Rattle.region_sets.specs.declared.marks.Private.TheVariants.{Yes}
 use Rattle.laws_regions.specs.Settings.{elements_with}
 use Rattle.laws_programs.specs.Programs.{IsProgram}
 use Rattle.laws_statements.specs.CallsIn.{Each}
-use Rattle.laws_conflicts.specs.Accepted.{CopiesAreSole}
-use Rattle.laws_conflicts.specs.Executions.{Execution}
+use Rattle.laws_marks.specs.ConflictAccepted.{CopiesAreSole}
+use Rattle.laws_marks.specs.ConflictExecutions.{Execution}
 use Rattle.laws_marks.specs.Dead.{uses_in, CopiesLieInOwn, PrivatesAreDead, MarkedIsDead, MarkIsDead, index_name}
 use Rattle.laws_marks.specs.Units.{ModuleUnitsStand}
 use Rattle.laws_marks.specs.DeadLaws.{outs_of, AllUnitsStand, AllCopiesLieInOwn, AllPrivatesAreDead, AllMarksAreDead, ReadUnitsStand, ReadCopiesLieInOwn, ReadPrivatesAreDead}

@@ -33,8 +33,8 @@ use Rattle.f77_results.specs.Variables.{union}
 use Rattle.laws_statements.specs.CallsIn.{Each}
 use Rattle.laws_statements.proofs.Placing.{each_parts}
 use Rattle.laws_analyses.proofs.CallLists.{each_joined}
-use Rattle.laws_conflicts.proofs.Meeting.{same_own}
-use Rattle.laws_conflicts.proofs.Whats.{stmt_whats, part_whats, list_whats, arms_whats, else_whats, loop_whats}
+use Rattle.laws_marks.proofs.ConflictMeeting.{same_own}
+use Rattle.laws_marks.proofs.ConflictWhats.{stmt_whats, part_whats, list_whats, arms_whats, else_whats, loop_whats}
 use Rattle.laws_marks.proofs.Outs.{in_both}
 
 -- ---- verdicts

@@ -8,7 +8,7 @@ use Rattle.f77_ast.specs.Plans.{Plan, Ends, Breaks, Look, Set, Hold, Forget, Sho
 use Rattle.f77_ast.specs.Executions.{run_of}
 use Rattle.f77_meaning.specs.Occurrences.{Occurrence, Onward, Throughout, places_in, events_from, events_after}
 use Rattle.laws_statements.proofs.Ends.{both}
-use Rattle.laws_conflicts.specs.Executions.{Execution, AtEachExecution}
+use Rattle.laws_marks.specs.ConflictExecutions.{Execution, AtEachExecution}
 
 -- of an execution and of what it is in a run
 abbrev pub Joined : (Execution → Type 0) → (Occurrence → Type 0) → (Occurrence → Type 0) → Type 0

@@ -33,10 +33,10 @@ use Rattle.laws_analyses.proofs.Analyses.{Located, all_located}
 use Rattle.laws_analyses.proofs.CallLists.{each_more, each_joined}
 use Rattle.laws_analyses.proofs.Modules.{IsIn}
 use Rattle.laws_analyses.proofs.UnitLaws.{module_at}
-use Rattle.laws_conflicts.specs.Accepted.{CopiesAreSole}
-use Rattle.laws_conflicts.proofs.Modules.{numbered_above}
-use Rattle.laws_conflicts.proofs.Whats.{no_list}
-use Rattle.laws_out_regions.proofs.Summaries.{front_outs, outs_at, Placed, outs_placed}
+use Rattle.laws_marks.specs.ConflictAccepted.{CopiesAreSole}
+use Rattle.laws_marks.proofs.ConflictModules.{numbered_above}
+use Rattle.laws_marks.proofs.ConflictWhats.{no_list}
+use Rattle.laws_marks.proofs.OutSummaries.{front_outs, outs_at, Placed, outs_placed}
 use Rattle.laws_marks.specs.DeadLaws.{outs_of}
 use Rattle.laws_marks.proofs.UnitsStanding.{each_of_all}
 use Rattle.laws_marks.proofs.Marks.{found_at}

@@ -33,10 +33,10 @@ use Rattle.laws_interleavings.specs.MarkedStatements.{unit_of, unit_of_some}
 use Rattle.laws_calls.specs.Parts.{NoDummy}
 use Rattle.laws_regions.specs.Claims.{elements_of}
 use Rattle.laws_regions.specs.Settings.{elements_if, elements_with}
-use Rattle.laws_conflicts.specs.Executions.{Execution}
-use Rattle.laws_conflicts.specs.Claims.{loop_with}
+use Rattle.laws_marks.specs.ConflictExecutions.{Execution}
+use Rattle.laws_marks.specs.ConflictClaims.{loop_with}
 use Rattle.laws_interleavings.specs.Typed.{IsNoDummy}
-use Rattle.laws_marked_loops.specs.Fit.{IsCopied}
+use Rattle.laws_marks.specs.MarkedFit.{IsCopied}
 use Rattle.laws_marks.specs.Dead.{index_name}
 use Rattle.laws_marks.specs.Units.{IsPassing, UnitsStand, ModuleUnitsStand}
 use Rattle.laws_marks.specs.Named.{AreNamesOf, IsOfIndex, IsOfOne, NamesStand, PlacesStand}

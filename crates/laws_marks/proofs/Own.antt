@@ -40,9 +40,9 @@ use Rattle.laws_regions.specs.Claims.{elements_of, as_region, before_if, regions
 use Rattle.laws_regions.specs.Settings.{is_stored, elements_if, is_told, elements_with}
 use Rattle.laws_regions.specs.Shown.{is_lost, is_hidden}
 use Rattle.laws_regions.proofs.Entering.{inside_of}
-use Rattle.laws_conflicts.specs.Executions.{Execution}
-use Rattle.laws_conflicts.specs.Claims.{IsSole}
-use Rattle.laws_out_regions.specs.Claims.{is_out, OutRegionsHold, OutSetHolds}
+use Rattle.laws_marks.specs.ConflictExecutions.{Execution}
+use Rattle.laws_marks.specs.ConflictClaims.{IsSole}
+use Rattle.laws_marks.specs.OutClaims.{is_out, OutRegionsHold, OutSetHolds}
 use Rattle.laws_marks.specs.Dead.{LiesInOwn, CopiesLieInOwn}
 use Rattle.laws_marks.specs.Units.{IsPassing, UnitsStand, ModuleUnitsStand}
 use Rattle.laws_marks.proofs.Elements.{HasElement}

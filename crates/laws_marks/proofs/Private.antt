@@ -22,8 +22,8 @@ use Rattle.call_translation.specs.Scopes.{ScopeTree}
 use Rattle.dependence_test.specs.Conflicts.{conflict_of}
 use Rattle.laws_interleavings.specs.MarkedStatements.{MarkedScope, own_in, unit_of, unit_of_some, marked_loop}
 use Rattle.laws_regions.specs.Settings.{is_stored, elements_if, elements_with}
-use Rattle.laws_conflicts.specs.Claims.{KnownLoop}
-use Rattle.laws_marked_loops.specs.Fit.{IsUnitOf, IsFree, HasPrivateUnits}
+use Rattle.laws_marks.specs.ConflictClaims.{KnownLoop}
+use Rattle.laws_marks.specs.MarkedFit.{IsUnitOf, IsFree, HasPrivateUnits}
 use Rattle.laws_marks.proofs.Own.{in_its_place}
 use Rattle.laws_marks.specs.Verdicts.{IsCleared}
 

@@ -19,10 +19,10 @@ use Rattle.laws_programs.specs.Programs.{IsProgram}
 use Rattle.laws_statements.specs.CallsIn.{Each}
 use Rattle.laws_analyses.specs.Claims.{AnalysisHolds, AnalysesHold}
 use Rattle.laws_analyses.specs.Laws.{ReadAnalysesHold}
-use Rattle.laws_conflicts.specs.Accepted.{CopiesAreSole}
-use Rattle.laws_conflicts.specs.Executions.{Execution}
-use Rattle.laws_out_regions.specs.Accepted.{AllOutsHold, ReadOutsHold}
-use Rattle.laws_out_regions.specs.Claims.{OutRegionsHold}
+use Rattle.laws_marks.specs.ConflictAccepted.{CopiesAreSole}
+use Rattle.laws_marks.specs.ConflictExecutions.{Execution}
+use Rattle.laws_marks.specs.OutAccepted.{AllOutsHold, ReadOutsHold}
+use Rattle.laws_marks.specs.OutClaims.{OutRegionsHold}
 use Rattle.laws_marks.specs.Dead.{CopiesLieInOwn, PrivatesAreDead}
 use Rattle.laws_marks.specs.Units.{ModuleUnitsStand}
 use Rattle.laws_marks.specs.DeadLaws.{outs_of, AllUnitsStand, AllCopiesLieInOwn, AllPrivatesAreDead, ReadUnitsStand, ReadCopiesLieInOwn}

@@ -30,7 +30,7 @@ use Rattle.laws_lines.proofs.TableNames.{names_are_distinct}
 use Rattle.laws_regions.specs.Settings.{is_stored}
 use Rattle.laws_regions.specs.Programs.{FixedFits}
 use Rattle.laws_regions.proofs.Entered.{module_fits}
-use Rattle.laws_conflicts.specs.Accepted.{CopiesAreSole}
+use Rattle.laws_marks.specs.ConflictAccepted.{CopiesAreSole}
 use Rattle.laws_marks.specs.Units.{IsPassing}
 use Rattle.laws_marks.proofs.Elements.{in_place_element}
 use Rattle.laws_marks.proofs.Own.{TablesTell}

@@ -23,7 +23,7 @@ use Rattle.laws_statements.specs.CallsIn.{Each}
 use Rattle.laws_analyses.proofs.MainLaws.{MainOf, some_main, main_from}
 use Rattle.laws_analyses.proofs.Modules.{IsIn, subs, subs_in, subs_are}
 use Rattle.laws_analyses.proofs.UnitLaws.{module_at}
-use Rattle.laws_conflicts.specs.Executions.{Execution}
+use Rattle.laws_marks.specs.ConflictExecutions.{Execution}
 use Rattle.laws_interleavings.specs.Laws.{MarkedRunsAgree, LongSchedulesEnd, MarksAreForgotten}
 use Rattle.laws_interleavings.specs.Marks.{plain, plain_run, parallel_run}
 use Rattle.laws_interleavings.specs.Holds.{MarksHold}
@@ -32,7 +32,7 @@ use Rattle.laws_interleavings.specs.MarkedPrograms.{Directives, marked_program, 
 use Rattle.laws_interleavings.specs.Typed.{AllTagged}
 use Rattle.laws_marked_plans.specs.Cleared.{AllApart, AllEnd}
 use Rattle.laws_marked_plans.specs.Uses.{MarkedProgramsAreStrict}
-use Rattle.laws_marked_loops.specs.Laws.{LoopsBegin, LoopsHold}
+use Rattle.laws_marks.specs.MarkedLaws.{LoopsBegin, LoopsHold}
 use Rattle.laws_marks.specs.Inactive.{IsOfSome, IsInactive, InactiveHaveNone}
 use Rattle.laws_marks.specs.OwnLaws.{VariablesHaveTypes, CallsEnd, InactiveUnitsHaveNone}
 use Rattle.laws_marks.proofs.Order.{Named, Distinct, names_distinct}

@@ -23,11 +23,11 @@ use Rattle.laws_effects.specs.Claims.{has_io, is_stopped, EffectsHold}
 use Rattle.laws_statements.specs.Leads.{each_leads, list_leads}
 use Rattle.laws_statements.specs.Activation.{Jumps}
 use Rattle.laws_interleavings.specs.Sound.{NoTake, printed_by}
-use Rattle.laws_conflicts.specs.Iterations.{Iteration, iterations}
-use Rattle.laws_conflicts.specs.Claims.{LeavesBy, body_list, KnownLoop, LoopIs}
-use Rattle.laws_in_regions.proofs.Firsts.{not_so}
-use Rattle.laws_out_regions.proofs.Leaving.{list_jumps, list_returns}
-use Rattle.laws_marked_loops.specs.Ending.{do_run, IsQuietDo}
+use Rattle.laws_marks.specs.ConflictIterations.{Iteration, iterations}
+use Rattle.laws_marks.specs.ConflictClaims.{LeavesBy, body_list, KnownLoop, LoopIs}
+use Rattle.laws_marks.proofs.InFirsts.{not_so}
+use Rattle.laws_marks.proofs.OutLeaving.{list_jumps, list_returns}
+use Rattle.laws_marks.specs.MarkedEnding.{do_run, IsQuietDo}
 use Rattle.laws_marks.proofs.Inside.{LeadsBeyond}
 
 -- ---- events without input and output

@@ -15,8 +15,8 @@ use Rattle.laws_interleavings.specs.Typed.{IsTagged, AllTagged}
 use Rattle.laws_marked_plans.specs.Cleared.{HasNoValue, Cleared, OffPlaces, EndsWell, MeaningCleared, AllApart, AllEnd}
 use Rattle.laws_marked_plans.proofs.Fine.{scalars_tagged}
 use Rattle.laws_marked_plans.proofs.Cleared.{other, forgotten, scalars_off, cleared_forget_all, cleared_module, cleared_meanings}
-use Rattle.laws_conflicts.specs.Executions.{Execution, AtEachExecution}
-use Rattle.laws_conflicts.proofs.Each.{plan_after}
+use Rattle.laws_marks.specs.ConflictExecutions.{Execution, AtEachExecution}
+use Rattle.laws_marks.proofs.ConflictEach.{plan_after}
 use Rattle.laws_marks.proofs.Apart.{FixedOff}
 use Rattle.laws_marks.proofs.Spots.{AllNamed, at_spots, meanings_in, program_in}
 use Rattle.laws_marks.proofs.Walk.{C, Each, EachMeaning, Wild, each_module}

@@ -53,20 +53,20 @@ use Rattle.laws_regions.proofs.Programs as base
 use Rattle.laws_regions.proofs.Programs.{distinct_numbers}
 use Rattle.laws_regions.proofs.Steady.{Steady, steady_begin}
 use Rattle.laws_regions.proofs.Storing.{holding_with}
-use Rattle.laws_in_regions.specs.Frames.{Frame}
-use Rattle.laws_in_regions.specs.Programs.{ins_called, ins_in_part, EachInHolds}
-use Rattle.laws_in_regions.specs.Units.{UnitsFit, SetsFit}
-use Rattle.laws_in_regions.proofs.Apart.{OffersLocked}
-use Rattle.laws_in_regions.proofs.CalledIn.{FirstOk, offers_there}
-use Rattle.laws_in_regions.proofs.Programs as ins
-use Rattle.laws_in_regions.proofs.Running.{frame}
-use Rattle.laws_in_regions.proofs.Standing.{StandsList, StandsParts, InAt}
-use Rattle.laws_conflicts.specs.Executions.{Execution, AtEachExecution, InEachExecution}
-use Rattle.laws_conflicts.proofs.Copies.{AllSole}
-use Rattle.laws_conflicts.proofs.Each.{plan_looked, plan_holding, plan_forget, plan_after, plan_called}
-use Rattle.laws_conflicts.proofs.Modules as loops
-use Rattle.laws_conflicts.proofs.Reaching.{Owed, CallReaches, list_reached}
-use Rattle.laws_conflicts.proofs.Whats.{list_whats, as_loop, no_list, each_found}
+use Rattle.laws_marks.specs.InFrames.{Frame}
+use Rattle.laws_marks.specs.InPrograms.{ins_called, ins_in_part, EachInHolds}
+use Rattle.laws_marks.specs.InUnits.{UnitsFit, SetsFit}
+use Rattle.laws_marks.proofs.InApart.{OffersLocked}
+use Rattle.laws_marks.proofs.InCalledIn.{FirstOk, offers_there}
+use Rattle.laws_marks.proofs.InPrograms as ins
+use Rattle.laws_marks.proofs.InRunning.{frame}
+use Rattle.laws_marks.proofs.InStanding.{StandsList, StandsParts, InAt}
+use Rattle.laws_marks.specs.ConflictExecutions.{Execution, AtEachExecution, InEachExecution}
+use Rattle.laws_marks.proofs.ConflictCopies.{AllSole}
+use Rattle.laws_marks.proofs.ConflictEach.{plan_looked, plan_holding, plan_forget, plan_after, plan_called}
+use Rattle.laws_marks.proofs.ConflictModules as loops
+use Rattle.laws_marks.proofs.ConflictReaching.{Owed, CallReaches, list_reached}
+use Rattle.laws_marks.proofs.ConflictWhats.{list_whats, as_loop, no_list, each_found}
 use Rattle.laws_marks.specs.Units.{UnitsStand, PartUnitsStand, EachUnitsStand}
 use Rattle.laws_marks.proofs.Standing.{units_stand}
 

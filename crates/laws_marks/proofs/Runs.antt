@@ -25,7 +25,7 @@ use Rattle.laws_interleavings.specs.MarkedStatements.{unmarked, marked_list, Mar
 use Rattle.laws_interleavings.specs.MarkedPrograms.{Directives, forget_units, marked_scope, marked_body, marked_called, marked_meanings, marked_program}
 use Rattle.laws_interleavings.specs.Holds.{LoopHolds, MarksHold}
 use Rattle.laws_interleavings.proofs.Plain.{first_same, begins_marked, program_same}
-use Rattle.laws_conflicts.specs.Executions.{Execution}
+use Rattle.laws_marks.specs.ConflictExecutions.{Execution}
 use Rattle.laws_interleavings.specs.Typed.{TagsStand, IsTagged, AllTagged, IsNoDummy}
 use Rattle.laws_marked_plans.specs.Cleared.{OffPlaces, Off}
 use Rattle.laws_marked_plans.proofs.Fine.{Yields, scalars_tagged, arrays_tagged}

@@ -22,7 +22,7 @@ use Rattle.f77_ast.specs.Statements.{Scope, statement_plan, execution, arms_plan
 use Rattle.f77_ast.specs.Programs.{Routine, Program, scope, body_of, called, meanings, program_plan}
 use Rattle.f77_ast.proofs.StepLaws.{leads_true}
 use Rattle.laws_statements.proofs.Ends.{more}
-use Rattle.laws_conflicts.specs.Executions.{Execution, AtEachExecution}
+use Rattle.laws_marks.specs.ConflictExecutions.{Execution, AtEachExecution}
 
 module _ (B : List ℕ → Type 0) where
   -- statements of such modules alone

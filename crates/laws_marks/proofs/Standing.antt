@@ -30,15 +30,15 @@ use Rattle.laws_calls.specs.Parts.{NoDummy}
 use Rattle.laws_regions.specs.Claims.{listed, elements_of}
 use Rattle.laws_regions.specs.Settings.{scene, Sound, DimsFit, is_stored, elements_if, elements_at, is_plain, maybe_plain, has_plain}
 use Rattle.laws_regions.specs.Shown.{is_lost, is_hidden}
-use Rattle.laws_in_regions.specs.Frames.{Frame, elements_in}
-use Rattle.laws_in_regions.specs.Shown.{IsFree}
-use Rattle.laws_in_regions.specs.Units.{UnitsFit, SetsFit}
-use Rattle.laws_in_regions.proofs.Firsts.{lost_known}
-use Rattle.laws_in_regions.proofs.Framed.{elements_on}
-use Rattle.laws_in_regions.proofs.Standing.{StandsParts, InAt}
-use Rattle.laws_in_regions.proofs.Statements.{what_first}
-use Rattle.laws_conflicts.specs.Executions.{Execution}
-use Rattle.laws_conflicts.proofs.Copies.{AllSole}
+use Rattle.laws_marks.specs.InFrames.{Frame, elements_in}
+use Rattle.laws_marks.specs.InShown.{IsFree}
+use Rattle.laws_marks.specs.InUnits.{UnitsFit, SetsFit}
+use Rattle.laws_marks.proofs.InFirsts.{lost_known}
+use Rattle.laws_marks.proofs.InFramed.{elements_on}
+use Rattle.laws_marks.proofs.InStanding.{StandsParts, InAt}
+use Rattle.laws_marks.proofs.InStatements.{what_first}
+use Rattle.laws_marks.specs.ConflictExecutions.{Execution}
+use Rattle.laws_marks.proofs.ConflictCopies.{AllSole}
 use Rattle.laws_marks.specs.Units.{IsPassing, UnitsStand}
 use Rattle.laws_marks.proofs.Elements.{passing_stored}
 

@@ -6,7 +6,7 @@ use Rattle.f77_ast.specs.Plans.{Flow, Plan, Ends, Breaks, Look, Set, Hold, Forge
 use Rattle.f77_ast.specs.Executions.{run_of, AtEnd}
 use Rattle.f77_ast.proofs.StepLaws.{at_end_more}
 use Rattle.f77_meaning.specs.Occurrences.{Onward, events_after, events_from, Throughout}
-use Rattle.laws_conflicts.specs.Executions.{Execution, AtEachExecution}
+use Rattle.laws_marks.specs.ConflictExecutions.{Execution, AtEachExecution}
 use Rattle.laws_marks.specs.Rests.{Both, EachWithRest, ClaimsStandTogether}
 
 both_ends : (a : Answer Flow) (s : Store) (i : List Content) (P Q R : Flow → Store → List Content → Type 0) → ((f : Flow) (z : Store) (j : List Content) → P f z j → Q f z j → R f z j) → AtEnd a s i P → AtEnd a s i Q → AtEnd a s i R

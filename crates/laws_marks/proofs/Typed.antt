@@ -22,7 +22,7 @@ use Rattle.laws_analyses.proofs.DummyLaws.{none_listed}
 use Rattle.laws_analyses.proofs.MainLaws.{MainOf, some_main, main_from}
 use Rattle.laws_analyses.proofs.Modules.{IsIn, subs, subs_in, subs_are}
 use Rattle.laws_analyses.proofs.UnitLaws.{module_at}
-use Rattle.laws_out_regions.proofs.Routines.{routine_tagged}
+use Rattle.laws_marks.proofs.OutRoutines.{routine_tagged}
 use Rattle.laws_interleavings.specs.Typed.{AllTagged}
 use Rattle.laws_marks.specs.OwnLaws.{VariablesHaveTypes, CallsEnd}
 use Rattle.laws_marks.proofs.Ends.{AllStay, all_end}

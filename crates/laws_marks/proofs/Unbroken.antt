@@ -8,7 +8,7 @@ use Rattle.f77_ast.specs.Executions.{run_of, AtEnd}
 use Rattle.f77_ast.proofs.StepLaws.{at_end_more}
 use Rattle.f77_meaning.specs.Occurrences.{Onward, events_from}
 use Rattle.laws_interleavings.proofs.Runs.{run_bind, on_from, stays_whole}
-use Rattle.laws_conflicts.specs.Executions.{Execution}
+use Rattle.laws_marks.specs.ConflictExecutions.{Execution}
 use Rattle.laws_marks.specs.Known.{Finishes}
 use Rattle.laws_marks.specs.Rests.{EachWithRest}
 

@@ -30,7 +30,7 @@ use Rattle.laws_analyses.proofs.Modules.{IsIn}
 use Rattle.laws_analyses.proofs.NameLaws.{name_number}
 use Rattle.laws_analyses.proofs.UnitLaws.{ModuleAt, module_at}
 use Rattle.privatizer.specs.Names.{is_local}
-use Rattle.laws_conflicts.specs.Claims.{IsSole}
+use Rattle.laws_marks.specs.ConflictClaims.{IsSole}
 use Rattle.laws_marks.proofs.Apart.{linked, off_from, lost_of, lost_in, lost_some, lost_off}
 use Rattle.laws_marks.proofs.Order.{Named, Distinct}
 use Rattle.laws_marks.specs.Units.{IsPassing}

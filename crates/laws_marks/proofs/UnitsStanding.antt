@@ -41,15 +41,15 @@ use Rattle.laws_regions.proofs.Parts.{program, program_is}
 use Rattle.laws_regions.proofs.Summaries as regions
 use Rattle.laws_regions.proofs.ToldBlocks.{blocks_told}
 use Rattle.laws_regions.proofs.ToldSymbols.{names_told}
-use Rattle.laws_in_regions.specs.Accepted.{summaries_of}
-use Rattle.laws_in_regions.specs.Together.{LocalsAreSavedTogether}
-use Rattle.laws_in_regions.proofs.Accepted.{cards_of_held, settled, ready, all_laid, main_laid}
-use Rattle.laws_in_regions.proofs.Layouts.{may_name}
-use Rattle.laws_in_regions.proofs.Whole.{part_first, parts_first}
-use Rattle.laws_conflicts.specs.Executions.{Execution}
-use Rattle.laws_conflicts.proofs.Accepted.{found_regions, each_back}
-use Rattle.laws_conflicts.proofs.Each.{plan_more}
-use Rattle.laws_out_regions.proofs.Summaries.{outs_at, Placed, outs_placed}
+use Rattle.laws_marks.specs.InAccepted.{summaries_of}
+use Rattle.laws_marks.specs.InTogether.{LocalsAreSavedTogether}
+use Rattle.laws_marks.proofs.InAccepted.{cards_of_held, settled, ready, all_laid, main_laid}
+use Rattle.laws_marks.proofs.InLayouts.{may_name}
+use Rattle.laws_marks.proofs.InWhole.{part_first, parts_first}
+use Rattle.laws_marks.specs.ConflictExecutions.{Execution}
+use Rattle.laws_marks.proofs.ConflictAccepted.{found_regions, each_back}
+use Rattle.laws_marks.proofs.ConflictEach.{plan_more}
+use Rattle.laws_marks.proofs.OutSummaries.{outs_at, Placed, outs_placed}
 use Rattle.laws_marks.specs.Units.{UnitsStand, PartUnitsStand, EachUnitsStand, ModuleUnitsStand}
 use Rattle.laws_marks.specs.DeadLaws.{outs_of, AllUnitsStand, ReadUnitsStand}
 use Rattle.laws_marks.proofs.Reached.{units_hold}

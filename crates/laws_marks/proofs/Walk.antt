@@ -25,9 +25,9 @@ use Rattle.laws_marked_plans.specs.Fine.{AreFine}
 use Rattle.laws_marked_plans.specs.Cleared.{HasNoValue, Ending, Cleared, OffPlaces, Off, EndsWell, MeaningCleared}
 use Rattle.laws_marked_plans.proofs.Fine.{Yields, yields_any, Any, fine_value, fine_range_of, fine_name_target, fine_all_shown, fine_actuals, fine_arrays, arrays_tagged, scalars_tagged}
 use Rattle.laws_marked_plans.proofs.Cleared.{other, is_other, put_off, keeps, Aims, name_aims, off_more, lock_none, own_none, doubly_none, held_locked, ActualsOff, actuals_off, places_off, assigned_off, items_off, cleared_what, cleared_stmt, cleared_body, scalars_off, arrays_off, yields_both}
-use Rattle.laws_conflicts.specs.Executions.{Execution, AtEachExecution}
-use Rattle.laws_conflicts.proofs.Each.{plan_first, plan_called}
-use Rattle.laws_conflicts.proofs.Lists.{Stays, Again, PartsAre, jumps_reached, iterations_reached}
+use Rattle.laws_marks.specs.ConflictExecutions.{Execution, AtEachExecution}
+use Rattle.laws_marks.proofs.ConflictEach.{plan_first, plan_called}
+use Rattle.laws_marks.proofs.ConflictLists.{Stays, Again, PartsAre, jumps_reached, iterations_reached}
 use Rattle.laws_marks.specs.Inactive.{HasNone}
 use Rattle.laws_marks.proofs.Apart.{FixedOff}
 

@@ -12,7 +12,7 @@ use Rattle.in_out_phases.specs.Phases.{all_ins}
 use Rattle.out_phases.specs.Phases.{ModuleOuts, all_outs}
 use Rattle.mark_phases.specs.Phases.{ModuleMarks, known_in, all_marks}
 use Rattle.laws_programs.specs.Programs.{IsProgram}
-use Rattle.laws_conflicts.specs.Executions.{Execution, InEachExecution}
+use Rattle.laws_marks.specs.ConflictExecutions.{Execution, InEachExecution}
 use Rattle.laws_marks.specs.Dead.{CopiesLieInOwn, PrivatesAreDead, MarkIsDead}
 use Rattle.laws_marks.specs.Units.{ModuleUnitsStand}
 use Rattle.laws_marks.specs.Named.{ModuleNamesStand, MarkedLoopIsDead}

@@ -4,7 +4,7 @@ use Rattle.std.specs.List.{list_any}
 use Rattle.f77_ast.specs.Executions.{run_of, AtEndOf}
 use Rattle.f77_ast.specs.Programs.{Routine, Program}
 use Rattle.laws_marked_plans.specs.Cleared.{HasNoValue, Ending}
-use Rattle.laws_conflicts.specs.Executions.{Execution}
+use Rattle.laws_marks.specs.ConflictExecutions.{Execution}
 
 -- the unit of an expression that is an actual in the module
 pub record IsOfExpression (r : Routine) (u : ℕ) : Type 0 where

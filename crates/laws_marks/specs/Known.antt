@@ -26,13 +26,13 @@ use Rattle.loop_bodies.specs.Finding.{loop_in}
 use Rattle.loop_marker.specs.Marks.{Knowledge, mark_of}
 use Rattle.mark_phases.specs.Phases.{ModuleMarks, known_in, all_marks}
 use Rattle.laws_programs.specs.Programs.{IsProgram}
-use Rattle.laws_conflicts.specs.Executions.{Execution, InEachExecution}
-use Rattle.laws_conflicts.specs.Claims.{KnownLoop, LoopIs, loop_with}
+use Rattle.laws_marks.specs.ConflictExecutions.{Execution, InEachExecution}
+use Rattle.laws_marks.specs.ConflictClaims.{KnownLoop, LoopIs, loop_with}
 use Rattle.laws_interleavings.specs.MarkedStatements.{MarkedScope, marked_loop}
-use Rattle.laws_marked_loops.specs.Begun.{iterations_of}
-use Rattle.laws_marked_loops.specs.Ending.{EndsQuietly}
-use Rattle.laws_marked_loops.specs.Begins.{Begins}
-use Rattle.laws_marked_loops.specs.Fit.{IsFree, HasPrivateUnits}
+use Rattle.laws_marks.specs.MarkedBegun.{iterations_of}
+use Rattle.laws_marks.specs.MarkedEnding.{EndsQuietly}
+use Rattle.laws_marks.specs.MarkedBegins.{Begins}
+use Rattle.laws_marks.specs.MarkedFit.{IsFree, HasPrivateUnits}
 use Rattle.laws_marks.specs.Dead.{index_name}
 use Rattle.laws_marks.specs.DeadLaws.{outs_of}
 use Rattle.laws_marks.specs.Verdicts.{SaysParallel}

@@ -12,7 +12,7 @@ use Rattle.f77_ast.specs.Programs.{Routine, meanings}
 use Rattle.laws_interleavings.specs.MarkedStatements.{MarkedScope, loop_with}
 use Rattle.laws_interleavings.specs.MarkedPrograms.{Directives, marked_scope, marked_meanings}
 use Rattle.laws_interleavings.specs.Holds.{MarksHold}
-use Rattle.laws_conflicts.specs.Executions.{Execution}
+use Rattle.laws_marks.specs.ConflictExecutions.{Execution}
 use Rattle.laws_interleavings.specs.Typed.{TagsStand, IsNoDummy}
 use Rattle.laws_marked_plans.specs.Cleared.{Off}
 

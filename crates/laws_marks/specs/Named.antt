@@ -25,12 +25,12 @@ use Rattle.scalar_phases.specs.Phases.{scope_of}
 use Rattle.loop_bodies.specs.Finding.{loop_in}
 use Rattle.laws_interleavings.specs.MarkedStatements.{MarkedScope, unit_of_some, marked_loop}
 use Rattle.laws_regions.specs.Settings.{elements_with}
-use Rattle.laws_conflicts.specs.Executions.{Execution}
-use Rattle.laws_conflicts.specs.Claims.{KnownLoop, loop_with, IsSole}
+use Rattle.laws_marks.specs.ConflictExecutions.{Execution}
+use Rattle.laws_marks.specs.ConflictClaims.{KnownLoop, loop_with, IsSole}
 use Rattle.laws_interleavings.specs.Typed.{IsNoDummy}
-use Rattle.laws_marked_loops.specs.Begins.{Begins}
-use Rattle.laws_marked_loops.specs.Ending.{EndsQuietly}
-use Rattle.laws_marked_loops.specs.Fit.{IsCopied, IsDeadAfter}
+use Rattle.laws_marks.specs.MarkedBegins.{Begins}
+use Rattle.laws_marks.specs.MarkedEnding.{EndsQuietly}
+use Rattle.laws_marks.specs.MarkedFit.{IsCopied, IsDeadAfter}
 use Rattle.laws_marks.specs.Dead.{index_name}
 use Rattle.laws_marks.specs.Units.{IsPassing}
 

@@ -5,7 +5,7 @@ use Rattle.f77_ast.specs.Runs.{Event, first_of, rest_of}
 use Rattle.f77_ast.specs.Plans.{Plan, Ends, Breaks, Look, Set, Hold, Forget, Show, Take, Within}
 use Rattle.f77_ast.specs.Executions.{run_of, AtEndOf}
 use Rattle.f77_meaning.specs.Occurrences.{Occurrence, Onward, events_after, events_from, places_in, Throughout}
-use Rattle.laws_conflicts.specs.Executions.{Execution, AtEachExecution}
+use Rattle.laws_marks.specs.ConflictExecutions.{Execution, AtEachExecution}
 
 -- the claim holds of each execution in the run of the plan from the store on the input, and of what the run does after it
 abbrev pub EachWithRest : (Execution → List Event → Type 0) → Plan → Store → List Content → Onward → Type 0

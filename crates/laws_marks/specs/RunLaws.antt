@@ -5,7 +5,7 @@ use Rattle.f77_ast.specs.Runs.{Event}
 use Rattle.f77_ast.specs.Programs.{Routine, Program, program_plan}
 use Rattle.laws_interleavings.specs.MarkedPrograms.{Directives, marked_program}
 use Rattle.laws_interleavings.specs.Holds.{MarksHold}
-use Rattle.laws_conflicts.specs.Executions.{Execution}
+use Rattle.laws_marks.specs.ConflictExecutions.{Execution}
 use Rattle.laws_interleavings.specs.Typed.{IsTagged, AllTagged}
 use Rattle.laws_marks.specs.Rests.{EachWithRest}
 use Rattle.laws_marks.specs.Loops.{AreOutside, RoutineHolds, RoutinesHold}

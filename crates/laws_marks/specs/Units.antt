@@ -27,7 +27,7 @@ use Rattle.laws_calls.specs.Parts.{Part, NoDummy}
 use Rattle.laws_regions.specs.Settings.{is_told, elements_with}
 use Rattle.laws_regions.specs.Shown.{is_hidden}
 use Rattle.laws_regions.specs.Programs.{regions_in_part}
-use Rattle.laws_conflicts.specs.Executions.{Execution}
+use Rattle.laws_marks.specs.ConflictExecutions.{Execution}
 use Rattle.laws_marks.specs.Dead.{index_name}
 
 -- a local that is not saved

@@ -2,11 +2,10 @@
 ghost use Rattle.laws_marks.specs.DeadLaws.{ReadCopiesLieInOwn, ReadMarkedLoopsAreDead, ReadMarksAreDead, ReadNamesStand, ReadPrivatesAreDead, ReadUnitsStand};
 ghost use Rattle.laws_marks.specs.Named.{NamesAreCopied};
 
+use crate::{iterations_are_begun, read_outs_hold};
 use laws_analyses::{
     accepted_data_stays_in_locals, jumps_stay_inside, names_agree, read_analyses_hold,
 };
-use laws_marked_loops::iterations_are_begun;
-use laws_out_regions::read_outs_hold;
 use region_translation::links_hold;
 
 /// In every run of a program that is read, up to its first fault, and at each execution of a DO: a unit of a local, not saved, is visible, and another variable that has

@@ -2,7 +2,7 @@
 ghost use Rattle.laws_marks.specs.Known.{MarksSayParallel, ReadMarkedLoopsAreKnown};
 
 use crate::dead_variables::units_stand;
-use laws_conflicts::read_loops_hold;
+use crate::read_loops_hold;
 use laws_programs::all_are_of_programs;
 
 /// A DO that is marked as parallel has a body that control does not leave but at its end, without STOP, input and output; and each variable of a WRITE region of the body

@@ -6,8 +6,8 @@ use crate::dead_variables::{
 };
 use crate::inactive_units::{calls_end, inactive_units_have_none, variables_have_types};
 use crate::known_loops::marked_loops_are_known;
+use crate::{loops_begin, loops_hold};
 use laws_interleavings::{long_schedules_end, marked_runs_agree, marks_are_forgotten};
-use laws_marked_loops::{loops_begin, loops_hold};
 use laws_marked_plans::marked_programs_are_strict;
 
 /// Of every program that is read, with directives of which each is a mark that was found: in each run that comes to its end without a fault, at each execution of a marked

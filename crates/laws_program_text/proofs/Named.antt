@@ -10,7 +10,7 @@ use Rattle.mark_phases.specs.Phases.{ModuleMarks}
 use Rattle.result_lines.specs.declared.show.Show.{Show}
 use Rattle.roundtrip_statements.specs.Formed.{Each}
 use Rattle.laws_storage.proofs.ModuleLaws.{place_of_name}
-use Rattle.laws_results.specs.Entries.{marks_in, said_for}
+use Rattle.laws_database.specs.ResultEntries.{marks_in, said_for}
 use Rattle.laws_database.specs.Texts.{ModuleText, ReadModule, module_read, AreModules, modules_in, trees_in, tables_in, names_in, links_in, known_in, text_of}
 use Rattle.laws_database.specs.Definitions.{module_named, results_with, results_in, text_shown}
 use Rattle.laws_program_text.specs.Texts.{text_with, texts_with, text_named, before_text, texts_named}

@@ -11,7 +11,7 @@ use Rattle.result_lines.specs.declared.show.Show.{Show}
 use Rattle.roundtrip_text.specs.Texts.{modules_text}
 use Rattle.roundtrip_programs.specs.Laws.{tree_of}
 use Rattle.laws_written.specs.Laws.{by_tree, JoinedAreWrittenAlike, JoinedHaveTheSameTrees}
-use Rattle.laws_results.specs.Entries.{marks_in, said_for}
+use Rattle.laws_database.specs.ResultEntries.{marks_in, said_for}
 use Rattle.laws_database.specs.Texts.{ModuleText, ReadModule, modules_in, trees_in, tables_in}
 use Rattle.laws_program_text.specs.Texts.{lines_with, lines_found, program_text, texts_of, text_with, texts_with, session_text, joined_modules}
 use Rattle.laws_program_text.specs.Laws.{TextsAreWrittenAlike}

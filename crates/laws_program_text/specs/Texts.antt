@@ -12,7 +12,7 @@ use Rattle.result_lines.specs.declared.show.Show.{Show}
 use Rattle.roundtrip_text.specs.Texts.{modules_text}
 use Rattle.laws_pieces.specs.Joined.{joined_from}
 use Rattle.laws_written.specs.Laws.{by_tree}
-use Rattle.laws_results.specs.Entries.{marks_in, module_in, said_for}
+use Rattle.laws_database.specs.ResultEntries.{marks_in, module_in, said_for}
 use Rattle.laws_database.specs.Texts.{ModuleText, ReadModule, modules_in, trees_in, known_in}
 use Rattle.laws_database.specs.Definitions.{module_named, results_of, results_in, text_shown}
 

@@ -31,10 +31,13 @@ use Rattle.laws_out_lines.specs.Laws.{OutLinesPass, AllOutLinesPass}
 use Rattle.roundtrip_marks.specs.Laws.{MarkLinesArePassedOver}
 use Rattle.laws_region_lines.proofs.ProgramRegions.{ModuleFine, ModuleTold, each_named, regions_with, all_told, modules_fine}
 use Rattle.laws_region_lines.proofs.LinesPass.{names_shown}
-use Rattle.pips_top.specs.Shown.{said_of, said_for, region_lines_found, scalar_lines_found, claims_found, mark_lines_found, lines_in, lines_of, lines_for}
+use Rattle.laws_database.specs.ResultEntries.{said_for}
+use Rattle.laws_program_text.specs.Texts.{lines_with}
+use Rattle.pips_top.specs.Shown.{said_of, lines_for}
 use Rattle.pips_top.specs.Program.{ProgramTree}
-use Rattle.pips_top.specs.declared.words.Show.{Show}
-use Rattle.pips_top.specs.declared.words.Show.TheVariants.{All, Bare, Why}
+use Rattle.result_lines.specs.declared.show.Show.{Show}
+use Rattle.result_lines.specs.declared.show.Show.TheVariants.{All, Bare, Why}
+use Rattle.pips_top.proofs.LinesFound.{region_lines_found, scalar_lines_found, claims_found, mark_lines_found, lines_in}
 use Rattle.pips_top.proofs.Programs.{each_at}
 use Rattle.pips_top.proofs.MarkNames.{MarksNamed, found_named, all_shown}
 use Rattle.pips_top.proofs.Said.{said_at, regions_at, ins_at, outs_at, marks_are}
@@ -203,7 +206,7 @@ module _ (law : LinesArePassedOver) where
   module-over Why f h = marks-over true f h
 
   module _ (show : Show) where
-    choice-over : (b : Bool) (o p : Option ModuleMarks) → AreOver (lines_of show o) → AreOver (lines_of show p) → AreOver (lines_of show (if b then o else p))
+    choice-over : (b : Bool) (o p : Option ModuleMarks) → AreOver (lines_with show o) → AreOver (lines_with show p) → AreOver (lines_with show (if b then o else p))
     choice-over true o p h e = h
     choice-over false o p h e = e
 

@@ -21,7 +21,7 @@ use Rattle.mark_phases.specs.Phases.{analysis_in, known_in}
 use Rattle.roundtrip_statements.specs.Formed.{Each}
 use Rattle.roundtrip_modules.proofs.Kept.{Each-append}
 use Rattle.roundtrip_marks.specs.Directives.{is_sentinel}
-use Rattle.pips_top.specs.Shown.{scalar_lines_found, region_lines_found, claims_found}
+use Rattle.pips_top.proofs.LinesFound.{scalar_lines_found, region_lines_found, claims_found}
 
 abbrev IsPlain : Added → Type 0
 IsPlain a = is_sentinel a.line ≡ false

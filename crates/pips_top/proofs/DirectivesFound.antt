@@ -14,7 +14,8 @@ use Rattle.roundtrip_marks.specs.MarkedLoops.{names_at, directives_of, parallel_
 use Rattle.laws_analyses.specs.Coverage.{AreWhole}
 use Rattle.pips_top.specs.MarkedText.{loops_of, loops_found}
 use Rattle.pips_top.specs.Program.{ProgramTree}
-use Rattle.pips_top.specs.Shown.{said_of, said_for}
+use Rattle.laws_database.specs.ResultEntries.{said_for}
+use Rattle.pips_top.specs.Shown.{said_of}
 use Rattle.pips_top.proofs.Said.{name_of}
 use Rattle.pips_top.proofs.ModulesSaid.{known_back}
 

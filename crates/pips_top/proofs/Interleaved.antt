@@ -10,14 +10,13 @@ use Rattle.laws_programs.proofs.Sources.{all_built}
 use Rattle.laws_analyses.specs.Laws.{AnalysesAreWhole}
 use Rattle.laws_marks.specs.Schedules.{DoesAs}
 use Rattle.laws_marks.specs.Accepted.{ReadRunsAsPlain}
-use Rattle.laws_marks.specs.Directives.{IsMarkOf, AreOfMarks}
+use Rattle.laws_marks.specs.Directives.{AreOfMarks}
 use Rattle.roundtrip_marks.specs.MarkedLoops.{directives_of, directives_found}
 use Rattle.pips_top.specs.Laws.{ReadRunsInterleaved}
-use Rattle.pips_top.specs.MarkedText.{ReadsMarked, loops_found, executed}
+use Rattle.pips_top.specs.MarkedText.{loops_found, executed}
 use Rattle.pips_top.specs.Program.{ProgramTree}
 use Rattle.pips_top.specs.ReadBack.{SameProgram}
 use Rattle.pips_top.specs.Shown.{said_of}
-use Rattle.pips_top.specs.declared.words.Show.{Show}
 use Rattle.pips_top.proofs.Programs.{is_program}
 use Rattle.pips_top.proofs.ReadBack.{known_same}
 use Rattle.pips_top.proofs.DirectiveMarks.{directive_marks}

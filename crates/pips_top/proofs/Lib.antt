@@ -1,6 +1,7 @@
 pub mod Joining
 pub mod LinkLaws
 pub mod Said
+pub mod LinesFound
 pub mod Programs
 pub mod BlockNames
 pub mod MarkNames
@@ -14,6 +15,7 @@ pub mod Interleaved
 pub mod AddedLines
 pub mod ReadBack
 pub mod LinesMeant
+pub mod SampleSize
 pub mod Soundness
 pub mod Stopping
 pub mod SymbolLaws

@@ -20,11 +20,12 @@ use Rattle.laws_region_lines.proofs.ProgramRegions.{ModuleFine, ModuleTold, regi
 use Rattle.roundtrip_regions.specs.Printed.{IsPlain}
 use Rattle.roundtrip_marks.specs.Laws.{DirectivesReadBack, ObstaclesAreNoDirectives}
 use Rattle.pips_top.specs.Claimed.{AreRead}
-use Rattle.pips_top.specs.Shown.{lines_in, lines_of}
+use Rattle.laws_program_text.specs.Texts.{lines_with}
 use Rattle.pips_top.specs.Laws.{ReadLinesMean}
 use Rattle.pips_top.specs.MarksRead.{AreMarksRead}
-use Rattle.pips_top.specs.declared.words.Show.{Show}
+use Rattle.result_lines.specs.declared.show.Show.{Show}
 use Rattle.pips_top.proofs.BlockNames.{modules_plain}
+use Rattle.pips_top.proofs.LinesFound.{lines_in}
 use Rattle.pips_top.proofs.Programs.{is_program, each_at}
 use Rattle.pips_top.proofs.MarkNames.{MarksNamed, found_named, marks_read}
 use Rattle.pips_top.proofs.ModulesSaid.{Once, own_found}
@@ -50,7 +51,7 @@ lines_from whole back words blocks on_regions on_ins on_outs directives obstacle
     let means = on_regions p.modules p.tables p.graph i.tables named plain in
     let in_means = on_ins p.modules p.tables p.graph i.tables named plain in
     let out_means = on_outs p.modules p.tables p.graph i.tables named plain in
-    λ j f there_is. subst (λ o. AreRead show f (lines_of show o)) (sym (own_found all once j f there_is))
+    λ j f there_is. subst (λ o. AreRead show f (lines_with show o)) (sym (own_found all once j f there_is))
     (let out = outs_at p.graph outs j f there_is in
     let here = ins_at p.graph ins out.0 f.outs out.1 in
     let at = said_at p.graph found here.0 f.outs.known here.1 in

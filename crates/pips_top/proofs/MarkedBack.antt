@@ -25,9 +25,10 @@ use Rattle.laws_out_lines.specs.Laws.{AllOutLinesPass}
 use Rattle.pips_top.specs.Laws.{ReadWrittenBack, ReadMarkedBack}
 use Rattle.pips_top.specs.MarkedText.{loops_of, loops_found}
 use Rattle.pips_top.specs.Program.{ProgramTree}
-use Rattle.pips_top.specs.Shown.{said_of, said_for, lines_for}
+use Rattle.laws_database.specs.ResultEntries.{said_for}
+use Rattle.pips_top.specs.Shown.{said_of, lines_for}
 use Rattle.pips_top.specs.Written.{written}
-use Rattle.pips_top.specs.declared.words.Show.{Show}
+use Rattle.result_lines.specs.declared.show.Show.{Show}
 use Rattle.pips_top.proofs.Programs.{is_program}
 use Rattle.pips_top.proofs.BlockNames.{modules_shown}
 use Rattle.pips_top.proofs.AddedLines.{all_said, all_over}

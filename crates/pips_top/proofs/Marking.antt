@@ -37,9 +37,12 @@ use Rattle.laws_analyses.specs.Coverage.{AreWhole}
 use Rattle.laws_lines.proofs.PhaseVars.{EachOf, got_each}
 use Rattle.laws_region_lines.proofs.LinesMean.{HasNames}
 use Rattle.pips_top.specs.Program.{ProgramTree}
-use Rattle.pips_top.specs.Shown.{said_of, said_for, claims_found, lines_of}
-use Rattle.pips_top.specs.declared.words.Show.{Show}
-use Rattle.pips_top.specs.declared.words.Show.TheVariants.{All, Bare, Why}
+use Rattle.laws_database.specs.ResultEntries.{said_for}
+use Rattle.laws_program_text.specs.Texts.{lines_with}
+use Rattle.pips_top.specs.Shown.{said_of}
+use Rattle.result_lines.specs.declared.show.Show.{Show}
+use Rattle.result_lines.specs.declared.show.Show.TheVariants.{All, Bare, Why}
+use Rattle.pips_top.proofs.LinesFound.{claims_found}
 use Rattle.pips_top.proofs.BlockNames.{left_of, right_of, formed}
 use Rattle.pips_top.proofs.MarkNames.{MarkNamed, MarksNamed}
 use Rattle.pips_top.proofs.ClaimsPlain.{ArePlain, claims_plain}
@@ -68,7 +71,7 @@ others_of All (Some f) = claims_found f.outs
 others_of Bare (Some f) = []
 others_of Why (Some f) = []
 
-pub lines_parts : (show : Show) (o : Option ModuleMarks) → lines_of show o ≡ others_of show o ++ mark_lines_of (names_of o) (shows_why show) (marks_of o)
+pub lines_parts : (show : Show) (o : Option ModuleMarks) → lines_with show o ≡ others_of show o ++ mark_lines_of (names_of o) (shows_why show) (marks_of o)
 lines_parts All None = refl
 lines_parts Bare None = refl
 lines_parts Why None = refl

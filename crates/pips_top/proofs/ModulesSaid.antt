@@ -20,7 +20,8 @@ use Rattle.mark_phases.specs.Phases as marks
 use Rattle.laws_programs.specs.Programs.{AreTables}
 use Rattle.laws_analyses.specs.Coverage.{AreWhole}
 use Rattle.pips_top.specs.Program.{ProgramTree}
-use Rattle.pips_top.specs.Shown.{said_of, said_for}
+use Rattle.laws_database.specs.ResultEntries.{said_for}
+use Rattle.pips_top.specs.Shown.{said_of}
 use Rattle.pips_top.proofs.Said.{name_of, back, known_from, said_at, ins_at, outs_at, said_once}
 
 -- ---- one that has this one

@@ -15,8 +15,8 @@ use Rattle.call_graph.specs.Links.{link_of}
 use Rattle.laws_programs.specs.Programs.{AreTables, IsProgram}
 use Rattle.laws_analyses.specs.Laws.{AnalysesAreWhole, ReadAnalysesHold}
 use Rattle.laws_regions.specs.Accepted.{ReadRegionsHold}
-use Rattle.laws_in_regions.specs.Accepted.{ReadInsHold}
-use Rattle.laws_out_regions.specs.Accepted.{ReadOutsHold}
+use Rattle.laws_marks.specs.InAccepted.{ReadInsHold}
+use Rattle.laws_marks.specs.OutAccepted.{ReadOutsHold}
 use Rattle.laws_region_lines.specs.Laws.{RegionsAreOverPlaces}
 use Rattle.laws_in_lines.specs.Laws.{InsAreOverPlaces}
 use Rattle.laws_out_lines.specs.Laws.{OutsAreOverPlaces}

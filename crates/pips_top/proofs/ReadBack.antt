@@ -25,13 +25,15 @@ use Rattle.roundtrip_text.specs.Texts as back
 use Rattle.roundtrip_text.specs.Laws.{AllPassedOver}
 use Rattle.roundtrip_programs.specs.Lines.{LinesArePassedOver}
 use Rattle.roundtrip_programs.specs.Programs.{AreTables, IsProgram, ProgramsReadBack, NamesAreShown}
+use Rattle.result_lines.specs.declared.show.Show.{Show}
+use Rattle.laws_written.specs.Laws.{by_tree}
+use Rattle.laws_program_text.specs.Texts.{lines_found}
 use Rattle.pips_top.specs.Shown.{said_of, lines_for}
 use Rattle.pips_top.specs.Laws.{ReadWrittenBack}
 use Rattle.pips_top.specs.Program.{ProgramTree}
 use Rattle.pips_top.specs.ReadBack.{SameProgram}
 use Rattle.pips_top.specs.Reading.{lines_or, table_or, tables_of, graph_or, linked_by, program_of, reading}
-use Rattle.pips_top.specs.Written.{parsed_text, modules_text, written}
-use Rattle.pips_top.specs.declared.words.Show.{Show}
+use Rattle.pips_top.specs.Written.{written}
 use Rattle.pips_top.proofs.AddedLines.{all_said, all_over}
 use Rattle.pips_top.proofs.BlockNames.{modules_shown}
 use Rattle.pips_top.proofs.Programs.{Linked, all_tables, linked_from, parsed_from, is_program}
@@ -56,9 +58,12 @@ is_read text p e =
 
 -- ---- what is written
 
-pub text_same : (show : Show) (all : List ModuleMarks) (ms : List ParsedTree) → modules_text show all ms ≡ back.modules_text (λ m. lines_for show all m.module_read.name) ms
+abbrev pub texts_shown : Show → List ModuleMarks → List ParsedTree → List ℕ
+texts_shown show all ms = back.modules_text (by_tree (lines_found show all)) ms
+
+pub text_same : (show : Show) (all : List ModuleMarks) (ms : List ParsedTree) → texts_shown show all ms ≡ back.modules_text (λ m. lines_for show all m.module_read.name) ms
 text_same show all [] = refl
-text_same show all (m ∷ ms) = ap (λ rest. parsed_text show all m ++ rest) (text_same show all ms)
+text_same show all (m ∷ ms) = ap (λ rest. back.text_of (by_tree (lines_found show all)) m ++ rest) (text_same show all ms)
 
 -- ---- what is read of it
 
@@ -105,7 +110,7 @@ written_twice law show bytes p q e f same over =
     let added : ParsedTree → List Added = λ m. lines_for show all m.module_read.name in
     let text = text_same show all p.modules in
     let again = subst (λ t. back.IsReadAs t q.modules) text (is_read (written show p) q f).read in
-    ap (λ fs. modules_text show fs q.modules) (said_same p q same)
+    ap (λ fs. texts_shown show fs q.modules) (said_same p q same)
     ∙ text_same show all q.modules
     ∙ law bytes p.modules q.modules added (is_read bytes p e).read over (λ m n k. ap (λ (t : ModuleTree). lines_for show all t.name) k) again
     ∙ sym text

@@ -9,18 +9,21 @@ use Rattle.region_phases.specs.Phases.{all_regions}
 use Rattle.in_out_phases.specs.Phases.{all_ins}
 use Rattle.out_phases.specs.Phases.{all_outs}
 use Rattle.mark_phases.specs.Phases.{ModuleMarks, analysis_in, known_in}
+use Rattle.result_lines.specs.Lines.{scalar_lines_of, region_lines_of, lines_of}
+use Rattle.laws_database.specs.ResultEntries.{module_in, name_in, transformers_in, preconditions_in, regions_in, ins_in, outs_in}
+use Rattle.laws_database.specs.Definitions.{results_of}
 use Rattle.laws_analyses.specs.Claims.{AnalysesHold}
 use Rattle.laws_analyses.specs.Coverage.{AreWhole}
 use Rattle.laws_lines.specs.Lines.{EachMeans}
 use Rattle.laws_regions.specs.Accepted.{AllRegionsHold}
-use Rattle.laws_in_regions.specs.Accepted.{AllInsHold}
-use Rattle.laws_out_regions.specs.Accepted.{AllOutsHold}
+use Rattle.laws_marks.specs.InAccepted.{AllInsHold}
+use Rattle.laws_marks.specs.OutAccepted.{AllOutsHold}
 use Rattle.laws_region_lines.specs.Laws.{SetsAreOver, RegionsAreOver}
 use Rattle.laws_region_lines.specs.Lines.{AreRegionLines}
 use Rattle.pips_top.specs.MarksRead.{AreMarksRead}
 use Rattle.pips_top.specs.Program.{ProgramTree}
-use Rattle.pips_top.specs.Shown.{said_of, scalar_lines_found, region_lines_found, lines_in, lines_for}
-use Rattle.pips_top.specs.declared.words.Show.{Show}
+use Rattle.pips_top.specs.Shown.{said_of, lines_for}
+use Rattle.result_lines.specs.declared.show.Show.{Show}
 
 -- in every run, up to its end or its first fault, hold the preconditions and transformers, the READ and WRITE regions, and the IN regions
 pub record AllHold (ks : List Known) (g : Graph) (as' : List Analysis) : Type 0 where
@@ -44,13 +47,13 @@ SaysAll p = AreWhole (known_of p.modules p.tables) (analyses (known_of p.modules
 
 -- lines are those of a module; each claim is read, by the names of the symbols, as just what was found there: a precondition, a transformer or, where no symbol is named PHI1 to PHI7, a region; each directive as the names of its private variables
 pub record AreRead (show : Show) (f : ModuleMarks) (lines : List Added) : Type 0 where
-  pub parts : lines ≡ lines_in show f
-  pub scalars : EachMeans (analysis_in f.outs) (scalar_lines_found (analysis_in f.outs))
-  pub regions : AreRegionLines (symbol_names (known_in f.outs).symbols) f.outs.known.known.regions (region_lines_found (known_in f.outs) f.outs.known.known.regions)
-  pub ins : AreRegionLines (symbol_names (known_in f.outs).symbols) f.outs.known.ins (region_lines_found (known_in f.outs) f.outs.known.ins)
-  pub outs : AreRegionLines (symbol_names (known_in f.outs).symbols) f.outs.outs (region_lines_found (known_in f.outs) f.outs.outs)
-  pub marks : AreMarksRead (symbol_names (known_in f.outs).symbols) f.marks
+  pub parts : lines ≡ lines_of show (module_in f) (results_of f)
+  pub scalars : EachMeans (analysis_in f.outs) (scalar_lines_of (module_in f) (transformers_in f) (preconditions_in f))
+  pub regions : AreRegionLines (symbol_names (module_in f).symbols) (regions_in f) (region_lines_of (module_in f) (regions_in f))
+  pub ins : AreRegionLines (symbol_names (module_in f).symbols) (ins_in f) (region_lines_of (module_in f) (ins_in f))
+  pub outs : AreRegionLines (symbol_names (module_in f).symbols) (outs_in f) (region_lines_of (module_in f) (outs_in f))
+  pub marks : AreMarksRead (symbol_names (module_in f).symbols) f.marks
 
 -- and each line that is added to a module is one of these
 abbrev pub LinesMean : Show → ProgramTree → Type 0
-LinesMean show p = (j : ℕ) (f : ModuleMarks) → slice_get (said_of p) j ≡ Some f → AreRead show f (lines_for show (said_of p) (known_in f.outs).read.name)
+LinesMean show p = (j : ℕ) (f : ModuleMarks) → slice_get (said_of p) j ≡ Some f → AreRead show f (lines_for show (said_of p) (name_in f))

@@ -5,7 +5,7 @@ use Rattle.pips_top.specs.MarkedText.{ReadsMarked, RunsInterleaved}
 use Rattle.pips_top.specs.Program.{ProgramTree}
 use Rattle.pips_top.specs.ReadBack.{ReadsBack}
 use Rattle.pips_top.specs.Reading.{reading}
-use Rattle.pips_top.specs.declared.words.Show.{Show}
+use Rattle.result_lines.specs.declared.show.Show.{Show}
 
 -- what is said of a program that was read is true of every run
 abbrev pub ReadClaimsHold : Type 0

@@ -7,8 +7,9 @@ pub mod Laws
 pub mod Written
 pub mod ReadBack
 pub mod MarkedText
+pub mod Counts
 pub mod Made
-pub mod Words
+pub mod Jobs
 pub mod Codes
 pub mod Status
 pub mod Answer

@@ -1,10 +1,12 @@
--- What becomes of a text: it is refused, or the written program.
+-- What becomes of a text: it is refused, or there is a text to be written.
 use Rattle.std.specs.Prelude.{ℕ, List, Result, Ok, Err}
 use Rattle.f77_parser.specs.Gives.{Refused}
+use Rattle.result_lines.specs.declared.show.Show.{Show}
+use Rattle.sample_program.specs.Sample.{sample_program}
+use Rattle.pips_top.specs.Counts.{counts_text}
 use Rattle.pips_top.specs.Program.{ProgramTree}
 use Rattle.pips_top.specs.Reading.{reading}
 use Rattle.pips_top.specs.Written.{written}
-use Rattle.pips_top.specs.declared.words.Show.{Show}
 use Rattle.pips_top.specs.declared.make.Made.{Made}
 use Rattle.pips_top.specs.declared.make.Made.TheVariants.{Writes, Refuses}
 
@@ -16,5 +18,14 @@ abbrev pub made_of : Show → Result ProgramTree Refused → Made
 made_of show (Ok p) = Writes (written show p)
 made_of show (Err r) = Refuses r.line r.code r.keyword
 
+-- of INPUT: the written program
 abbrev pub made : Show → List ℕ → Made
 made show bytes = made_of show (reading bytes)
+
+abbrev pub counted_of : Result ProgramTree Refused → Made
+counted_of (Ok p) = Writes (counts_text p)
+counted_of (Err r) = Refuses r.line r.code r.keyword
+
+-- of a sample program of this many parts: its counts
+abbrev pub counted : ℕ → Made
+counted parts = counted_of (reading (sample_program parts))

@@ -12,9 +12,10 @@ use Rattle.roundtrip_marks.specs.MarkedLoops.{parallel_loops, directives_of, dir
 use Rattle.pips_top.specs.Program.{ProgramTree}
 use Rattle.pips_top.specs.ReadBack.{SameProgram}
 use Rattle.pips_top.specs.Reading.{reading}
-use Rattle.pips_top.specs.Shown.{said_of, said_for}
+use Rattle.laws_database.specs.ResultEntries.{said_for}
+use Rattle.pips_top.specs.Shown.{said_of}
 use Rattle.pips_top.specs.Written.{written}
-use Rattle.pips_top.specs.declared.words.Show.{Show}
+use Rattle.result_lines.specs.declared.show.Show.{Show}
 
 abbrev pub loops_of : Option ModuleMarks → List (At (List (List ℕ)))
 loops_of None = []

@@ -3,12 +3,10 @@ ghost use Rattle.pips_top.specs.Laws.{ReadAllSaid, ReadClaimsHold, ReadLinesMean
 
 use laws_analyses::{analyses_are_whole, read_analyses_hold};
 use laws_in_lines::{all_in_lines_pass, in_lines_mean_regions, ins_are_over_places};
-use laws_in_regions::read_ins_hold;
 use laws_layout::blocks_have_a_chain;
 use laws_lines::{analyses_are_read_back, names_are_words};
-use laws_marks::read_runs_do_as_plain;
+use laws_marks::{read_ins_hold, read_outs_hold, read_runs_do_as_plain};
 use laws_out_lines::{all_out_lines_pass, out_lines_mean_regions, outs_are_over_places};
-use laws_out_regions::read_outs_hold;
 use laws_region_lines::{
     all_region_lines_pass, region_lines_mean_regions, regions_are_over_places,
 };

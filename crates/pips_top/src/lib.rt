@@ -1,15 +1,16 @@
 //! All that the program does, over a store and two sinks.
 #![tactic(auto)]
 
-mod claims;
+mod counts;
+mod job;
 mod laws;
 mod make;
 mod program;
 mod reading;
 mod reply;
+mod results;
 mod status;
 mod top;
-mod words;
 mod written;
 
 pub use status::Status;

@@ -1,12 +1,14 @@
 //! What becomes of a text.
 ghost use Rattle.std.specs.Prelude.{◌≡◌, ◌≤◌, length, IfOk};
-ghost use Rattle.pips_top.specs.Made.{made, input_limit};
+ghost use Rattle.pips_top.specs.Made.{counted, made, input_limit};
 
+use crate::counts::count_program;
 use crate::reading::read;
-use crate::words::Show;
 use crate::written::write_program;
 use f77_parser::ParseRefusal;
 use fx_base::Text;
+use result_lines::Show;
+use sample_program::sample_program;
 use std::alloc::{AllocError as Memory, Global};
 
 /// What becomes of a text.
@@ -25,6 +27,19 @@ pub fn make(alloc: Global, show: Show, text: &Text) -> Result<Made, Memory>
 {
     match read(alloc, text) {
         Ok(program) => Ok(Made::Writes(write_program(alloc, show, &program)?)),
+        Err(ParseRefusal::At(line, code, keyword)) => Ok(Made::Refuses(line, code, keyword)),
+        Err(ParseRefusal::Memory) => Err(Memory),
+    }
+}
+
+/// Makes a sample program of this many parts, reads it as an INPUT, and counts what is found of it.
+#[tactic(auto, using(crate::proofs::SampleSize::sample_short))]
+pub fn count_sample(alloc: Global, parts: u8) -> Result<Made, Memory>
+    ensures { IfOk result (λ m. m ≡ counted parts) }
+{
+    let text = sample_program(alloc, parts)?;
+    match read(alloc, &text) {
+        Ok(program) => Ok(Made::Writes(count_program(alloc, &program)?)),
         Err(ParseRefusal::At(line, code, keyword)) => Ok(Made::Refuses(line, code, keyword)),
         Err(ParseRefusal::Memory) => Err(Memory),
     }

@@ -23,8 +23,8 @@ fn tell<E: Sink>(err: &mut E, line: &[u8])
 }
 
 /// All that the program does: it reads INPUT, from standard input where no word names it or `-` does, and writes the program with what
-/// `--show` requests on `out`; where this fails, it writes one line on `err`. The whole output is made before its first byte is written, and
-/// writing takes no memory.
+/// `--show` requests on `out`, or with `--generate` the counts of a sample program; where this fails, it writes one line on `err`. The
+/// whole output is made before its first byte is written, and writing takes no memory.
 pub fn run<F: Store, O: Sink, E: Sink>(
     alloc: Global,
     words: &Words,

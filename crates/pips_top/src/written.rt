@@ -2,28 +2,31 @@
 ghost use Rattle.std.specs.Prelude.{◌≡◌, IfOk, length, map};
 ghost use Rattle.f77_ast.specs.PlainDecl.{parsed_tree};
 ghost use Rattle.mark_phases.specs.Views.{marks_tree};
+ghost use Rattle.roundtrip_text.specs.Texts.{modules_text, text_of};
+ghost use Rattle.laws_written.specs.Laws.{by_tree};
+ghost use Rattle.laws_program_text.specs.Texts.{lines_found};
 ghost use Rattle.pips_top.specs.Program.{program_tree};
-ghost use Rattle.pips_top.specs.Written.{modules_text, parsed_text, written};
+ghost use Rattle.pips_top.specs.Written.{written};
 
-use crate::claims::{lines_for, said_of};
 use crate::program::Program;
-use crate::words::Show;
+use crate::results::{lines_for, said_of};
 use call_graph::Graph;
 use f77_ast::Parsed;
 use f77_printer::plain;
 use fx_base::Text;
 use mark_phases::ModuleMarks;
+use result_lines::Show;
 use std::alloc::{AllocError as Memory, Global};
 
 /// A module, with the lines that are added to it.
-fn parsed_text(
+fn text_of(
     alloc: Global,
     graph: &Graph,
     show: Show,
     all: &[ModuleMarks<'_>],
     parsed: &Parsed,
 ) -> Result<Text, Memory>
-    ensures { IfOk result (λ text. text ≡ parsed_text show (map marks_tree all.now) (parsed_tree parsed.now)) }
+    ensures { IfOk result (λ text. text ≡ text_of (by_tree (lines_found show (map marks_tree all.now))) (parsed_tree parsed.now)) }
 {
     let added = lines_for(alloc, graph, show, all, &parsed.module.name)?;
     plain(alloc, &parsed.places, &parsed.module, &added)
@@ -38,11 +41,11 @@ fn modules_text(
     all: &[ModuleMarks<'_>],
     modules: &[Parsed],
 ) -> Result<Text, Memory>
-    ensures { IfOk result (λ text. text ≡ modules_text show (map marks_tree all.now) (map parsed_tree modules.now)) }
+    ensures { IfOk result (λ text. text ≡ modules_text (by_tree (lines_found show (map marks_tree all.now))) (map parsed_tree modules.now)) }
 {
     let mut out = Text::new(alloc);
     for parsed in modules {
-        let text = parsed_text(alloc, graph, show, all, parsed)?;
+        let text = text_of(alloc, graph, show, all, parsed)?;
         out.append(text.as_slice())?;
     }
     Ok(out)

@@ -1,4 +1,4 @@
-use Rattle.laws_conflicts.proofs.Alone.{copies_are_sole}
+use Rattle.laws_marks.proofs.ConflictAlone.{copies_are_sole}
 use Rattle.laws_marks.proofs.PrivatePrograms.{copies_lie_in_own}
 use Rattle.laws_marks.proofs.dead_variables.copies_lie_in_own_regions.Goals as goal
 

@@ -1,4 +1,4 @@
-use Rattle.laws_conflicts.proofs.Alone.{copies_are_sole}
+use Rattle.laws_marks.proofs.ConflictAlone.{copies_are_sole}
 use Rattle.laws_marks.proofs.Directives.{read_names_stand}
 use Rattle.laws_marks.proofs.dead_variables.directive_names_stand.Goals as goal
 

@@ -1,4 +1,4 @@
-use Rattle.laws_conflicts.proofs.Alone.{copies_are_sole}
+use Rattle.laws_marks.proofs.ConflictAlone.{copies_are_sole}
 use Rattle.laws_marks.proofs.Directives.{marked_loops_dead}
 use Rattle.laws_marks.proofs.dead_variables.marked_loops_are_dead.Goals as goal
 

@@ -1,4 +1,4 @@
-use Rattle.laws_conflicts.proofs.Alone.{copies_are_sole}
+use Rattle.laws_marks.proofs.ConflictAlone.{copies_are_sole}
 use Rattle.laws_marks.proofs.MarkedPrograms.{marks_are_dead}
 use Rattle.laws_marks.proofs.dead_variables.marked_names_are_dead.Goals as goal
 

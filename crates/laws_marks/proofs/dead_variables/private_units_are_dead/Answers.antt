@@ -1,4 +1,4 @@
-use Rattle.laws_conflicts.proofs.Alone.{copies_are_sole}
+use Rattle.laws_marks.proofs.ConflictAlone.{copies_are_sole}
 use Rattle.laws_marks.proofs.PrivatePrograms.{privates_are_dead}
 use Rattle.laws_marks.proofs.dead_variables.private_units_are_dead.Goals as goal
 

@@ -1,4 +1,4 @@
-use Rattle.laws_in_regions.proofs.Grouped.{locals_are_saved_together}
+use Rattle.laws_marks.proofs.InGrouped.{locals_are_saved_together}
 use Rattle.laws_marks.proofs.UnitsStanding.{read_units_stand}
 use Rattle.laws_marks.proofs.dead_variables.units_stand.Goals as goal
 

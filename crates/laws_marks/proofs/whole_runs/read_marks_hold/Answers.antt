@@ -1,4 +1,4 @@
-use Rattle.laws_conflicts.proofs.Alone.{copies_are_sole}
+use Rattle.laws_marks.proofs.ConflictAlone.{copies_are_sole}
 use Rattle.laws_marks.proofs.Directives.{modules_in, places_follow}
 use Rattle.laws_marks.proofs.Programs.{marks_hold}
 use Rattle.laws_marks.proofs.whole_runs.read_marks_hold.Goals as goal

@@ -3,8 +3,8 @@ use Rattle.fx_base.specs.declared.store.Role.TheVariants.{Input}
 use Rattle.pips_top.specs.Laws.{ReadClaimsHold, ReadAllSaid, ReadLinesMean, ReadWrittenBack, ReadMarkedBack, ReadRunsInterleaved}
 use Rattle.pips_top.specs.Run.{CausedBy, Outside, StopsBy}
 use Rattle.pips_top.specs.declared.status.Status.TheVariants.{Done, WriteFault}
-use Rattle.pips_top.proofs.Soundness.{Laws, Sent, CutOff, caused_done, caused_fault, defined_from}
-use Rattle.pips_top.proofs.Stopping.{stop_caused, stop_defined, stop_complete}
+use Rattle.pips_top.proofs.Soundness.{Laws, Sent, CutOff, caused_done, caused_fault, defined_from, output_refused}
+use Rattle.pips_top.proofs.Stopping.{stop_caused, stop_defined, stop_refused, stop_complete}
 use Rattle.pips_top.proofs.top.run.Goals as goal
 
 laws : ReadClaimsHold → ReadAllSaid → ReadLinesMean → ReadWrittenBack → ReadMarkedBack → ReadRunsInterleaved → Laws
@@ -38,8 +38,9 @@ returns-in-All g c =
       counts = search rules;
       out_faults = search rules;
       err_faults = search rules;
-      defined = λ held is settled. defined_from c.args.words.now old new [] cause held is;
-      complete = λ held is done none. inl refl;
+      defined = λ held is settled accepted. defined_from c.args.words.now old new [] cause held is;
+      refused = output_refused c.args.words.now old new cause.0 Done cause.1;
+      complete = λ held is accepted done none. inl refl;
     }
 
 pub returns-in-Writing : goal.returns-in-Writing
@@ -71,8 +72,9 @@ returns-in-Writing g c =
       counts = search rules;
       out_faults = search rules;
       err_faults = search rules;
-      defined = λ held is settled. cc;
-      complete = λ held is done none. elim (none.out cut.2) [ ];
+      defined = λ held is settled accepted. cc;
+      refused = output_refused c.args.words.now old new cause.0 WriteFault cause.1;
+      complete = λ held is accepted done none. elim (none.out cut.2) [ ];
     }
 
 pub returns-in-Stopping : goal.returns-in-Stopping
@@ -107,5 +109,6 @@ returns-in-Stopping g c =
       out_faults = search rules;
       err_faults = search rules;
       defined = stop_defined words old new status line stops refl;
+      refused = stop_refused words old new status line stops;
       complete = stop_complete words old new status line stops;
     }

@@ -1,0 +1,10 @@
+pub mod NamedKinds
+pub mod ModuleLaws
+pub mod Names
+pub mod KnownLaws
+pub mod OrderLaws
+pub mod Back
+pub mod Sizes
+pub mod Fits
+pub mod Texts
+pub mod KeptLaws

@@ -1,0 +1,39 @@
+-- The kinds of results and their names.
+use Rattle.std.proofs.Common.{◌≡◌, ℕ, false, List, [], ◌∷◌, Option, Some, None, refl, sym, ap, ◌∙◌, cond}
+use Rattle.std.specs.Prelude.{◌≢◌, bytes_eq, find, IfSome, IfNone}
+use Rattle.std.proofs.lemmas.Bool.{false_from_ne_true}
+use Rattle.std.proofs.lemmas.Slice.Eq.{bytes_eq-Decides}
+use Rattle.pipsmake_rules.specs.declared.kind.Kind.{Kind}
+use Rattle.pipsmake_rules.specs.declared.kind.Kind.TheVariants.{Parsed, Lines, Symbols, CallGraph, Effects, Transformers, Preconditions, Regions, InRegions, OutRegions, Marks, Printed}
+use Rattle.pipsmake_rules.specs.Kinds.{name_of, kinds, kind_with}
+
+-- a kind has its name alone
+pub named_back : (k : Kind) → kind_with (name_of k) ≡ Some k
+named_back Parsed = refl
+named_back Lines = refl
+named_back Symbols = refl
+named_back CallGraph = refl
+named_back Effects = refl
+named_back Transformers = refl
+named_back Preconditions = refl
+named_back Regions = refl
+named_back InRegions = refl
+named_back OutRegions = refl
+named_back Marks = refl
+named_back Printed = refl
+
+none_found : (x : List ℕ) → ((k : Kind) → name_of k ≢ x) → (ks : List Kind) → find (λ k. bytes_eq (name_of k) x) ks ≡ None
+none_found x h [] = refl
+none_found x h (k ∷ ks) =
+    let other : bytes_eq (name_of k) x ≡ false = false_from_ne_true (bytes_eq (name_of k) x) (λ e. h k ((bytes_eq-Decides (name_of k) x).0 e)) in
+    ap (λ b. cond b (Some k) (find (λ j. bytes_eq (name_of j) x) ks)) other ∙ none_found x h ks
+
+kind_found : (k : Kind) (x : List ℕ) → name_of k ≡ x → Some k ≡ kind_with x
+kind_found k x e = sym (named_back k) ∙ ap kind_with e
+
+kind_missing : (x : List ℕ) → ((k : Kind) → name_of k ≢ x) → None ≡ kind_with x
+kind_missing x h = sym (none_found x h kinds)
+
+pub with_name : (r : Option Kind) (x : List ℕ) → IfSome r (λ k. name_of k ≡ x) → IfNone r ((k : Kind) → name_of k ≢ x) → r ≡ kind_with x
+with_name None x some none = kind_missing x none
+with_name (Some k) x some none = kind_found k x some

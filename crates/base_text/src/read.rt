@@ -1,0 +1,121 @@
+//! A base out of a text.
+ghost use Rattle.std.specs.Prelude.{◌≡◌, Some};
+ghost use Rattle.serde_json.specs.View.{view};
+ghost use Rattle.base_json.specs.Gives.{Gives};
+ghost use Rattle.base_text.specs.Gives.{GivesAs, GivesBase};
+ghost use Rattle.base_text.specs.Read.{version_of, is_first, is_another, base_with as base_with_is, base_at as base_at_is, data_of, are_small as are_small_is, base_in as base_in_is, base_of};
+
+use crate::known::Known;
+use crate::results::results_at;
+use crate::{Base, BaseModule, BaseRefusal, StoredResult};
+use base_json::{Trouble, has_members, list_field, member, whole_at};
+use base_values::is_small_value;
+use fx_lists::{List, Text};
+use serde_json::Value;
+use std::alloc::Global;
+
+/// The whole number under the key `pips`.
+fn version(value: &Value) -> Option<i128>
+    ensures { result ≡ version_of (view value.now) }
+{
+    match member(value, "pips") {
+        None => None,
+        Some(found) => whole_at(found),
+    }
+}
+
+fn is_first_version(value: &Value) -> bool
+    ensures { result ≡ is_first (version_of (view value.now)) }
+{
+    match version(value) {
+        None => false,
+        Some(number) => number == 1,
+    }
+}
+
+fn is_another_version(value: &Value) -> bool
+    ensures { result ≡ is_another (version_of (view value.now)) }
+{
+    match version(value) {
+        None => false,
+        Some(number) => number != 1,
+    }
+}
+
+/// A base with these modules.
+fn base_with(alloc: Global, value: &Value, modules: List<BaseModule>) -> Result<Base, Trouble>
+    ensures { Gives result (base_with_is (view value.now) modules) }
+{
+    let known = Known::read(alloc, modules.as_slice())?;
+    let Some(found) = member(value, "results") else {
+        return Err(Trouble::Shape);
+    };
+    let results = results_at(alloc, &known, found)?;
+    Ok(Base { modules, results })
+}
+
+/// A base of version 1.
+fn base_at(alloc: Global, value: &Value) -> Result<Base, Trouble>
+    ensures { Gives result (base_at_is (view value.now)) }
+{
+    if !(has_members(value, 3) && is_first_version(value)) {
+        return Err(Trouble::Shape);
+    }
+    let modules: List<BaseModule> = list_field(alloc, &(), value, "modules")?;
+    base_with(alloc, value, modules)
+}
+
+fn are_small(results: &[StoredResult]) -> bool
+    ensures { result ≡ are_small_is results.now }
+{
+    let mut rest = results;
+    while let [stored, more @ ..] = rest {
+        if !is_small_value(&stored.value) {
+            return false;
+        }
+        rest = more;
+    }
+    true
+}
+
+/// The JSON value of a text. Err(Shape) where it is no JSON.
+fn value_of(alloc: Global, text: &Text) -> Result<Value, Trouble>
+    ensures { GivesAs view result (data_of text.now) }
+{
+    match Value::from_slice(alloc, text.as_slice()) {
+        Ok(value) => Ok(value),
+        Err(error) => if error.is_memory() {
+            Err(Trouble::Memory)
+        } else {
+            Err(Trouble::Shape)
+        },
+    }
+}
+
+/// The base of a JSON value.
+fn base_in(alloc: Global, value: &Value) -> Result<Base, BaseRefusal>
+    ensures { GivesBase result (base_in_is (Some (view value.now))) }
+{
+    if is_another_version(value) {
+        return Err(BaseRefusal::WrongVersion);
+    }
+    let base = base_at(alloc, value)?;
+    if are_small(base.results.as_slice()) {
+        Ok(base)
+    } else {
+        Err(BaseRefusal::NumberTooBig)
+    }
+}
+
+/// The base of a text, in version 1 of its grammar. Err says why there is none: no JSON, then another version, then another shape or what cannot be, then
+/// a number of a row that is too big. Takes time in proportion to the text.
+#[tactic(auto, unfolding(crate::specs::Read::base_of))]
+pub fn base_read(alloc: Global, text: &Text) -> Result<Base, BaseRefusal>
+    ensures { GivesBase result (base_of text.now) }
+{
+    match value_of(alloc, text) {
+        Ok(value) => base_in(alloc, &value),
+        Err(Trouble::Shape) => Err(BaseRefusal::NotJson),
+        Err(Trouble::Memory) => Err(BaseRefusal::Memory),
+    }
+}

@@ -1,5 +1,0 @@
-pub mod Begun
-pub mod Shared
-pub mod Ending
-pub mod Begins
-pub mod Fits

@@ -1,5 +1,0 @@
-pub mod Begun
-pub mod Ending
-pub mod Begins
-pub mod Fit
-pub mod Laws

@@ -1,0 +1,231 @@
+-- What the IN regions of a statement, and of what follows it, say of both.
+use Rattle.std.proofs.Common.{◌≡◌, ⊎_elim, ℕ, ℤ, List, [], ◌∷◌, ◌++◌, ◌&&◌, Option, Some, None, Bool, true, false, refl, sym, ◌∙◌, subst, ap, Ordering}
+use Rattle.std.specs.Prelude.{not, MatchOption, if◌then◌else◌, option_to_list}
+use Rattle.std.specs.declared.cmp.Ordering.TheVariants.{Less, Equal, Greater}
+use Rattle.std.specs.Ordering.{is_eq}
+use Rattle.std.proofs.lemmas.Bool.{and_parts, not-true}
+use Rattle.affine_systems.specs.declared.row.Var.TheVariants.{Phi}
+use Rattle.affine_systems.specs.declared.row.System.{System}
+use Rattle.affine_systems.specs.Points.{Point}
+use Rattle.f77_symbols.specs.declared.variable.Variable.{Variable}
+use Rattle.f77_symbols.specs.Symbols.{SymbolTree}
+use Rattle.f77_results.specs.Variables.{variable_cmp}
+use Rattle.transformer_algebra.specs.declared.transformer.Transformer.{Transformer}
+use Rattle.transformer_algebra.specs.Claims.{Scene, AtStart, Does}
+use Rattle.transformer_algebra.specs.Laws.{In, here, there}
+use Rattle.region_sets.specs.declared.region.Access.{Access}
+use Rattle.region_sets.specs.declared.region.Access.TheVariants.{Read, Write, In as AtIn, Out}
+use Rattle.region_sets.specs.declared.region.Region.{Region}
+use Rattle.region_sets.specs.Regions.{remade, any_weak}
+use Rattle.region_sets.specs.Subtract.{left_of, all_left_exactly, unless_empty, all_apart, subtract}
+use Rattle.region_sets.specs.Compose.{compose}
+use Rattle.region_sets.specs.Sets.{unite_all}
+use Rattle.region_sets.specs.Lists.{all_composed}
+use Rattle.region_sets.specs.Claims.{HoldsSome, Elements, Accessed, LiesIn, LiesInSet, IsSharp, IsSharpSet, Places, AreByOrder}
+use Rattle.region_sets.proofs.SetLaws.{gathered_units, gathered_sharp}
+use Rattle.region_sets.proofs.StepLaws.{in_left, in_right, in_either, in_map, of_map}
+use Rattle.region_sets.proofs.PieceLaws.{compose_moves, compose_sharp}
+use Rattle.region_sets.proofs.SubtractLaws.{subtract_keeps, subtract_exact}
+use Rattle.in_out_regions.specs.Kinds.{is_write}
+use Rattle.in_out_regions.specs.Writes.{same_variable, is_write_of, write_of, is_overlapped}
+use Rattle.in_out_regions.specs.Lists.{less_write, all_unwritten, unless_overlapped, all_unless_overlapped, before_rest}
+use Rattle.in_out_regions.specs.ListClaims.{AreWritten, IsDescribed, IsWithinWrites, IsFirstOf}
+use Rattle.laws_marks.proofs.InGathering.{EachOne, gathered_so}
+
+-- ---- the WRITE region of a variable
+
+pub write_kind : (a : Access) → is_write a ≡ true → a ≡ Write
+write_kind Read e = cc
+write_kind Write e = refl
+write_kind AtIn e = cc
+write_kind Out e = cc
+
+pub same_order : (v w : Variable) → same_variable v w ≡ true → variable_cmp v w ≡ Equal
+same_order v w e = go (variable_cmp v w) e
+  where
+    go : (o : Ordering) → is_eq o ≡ true → o ≡ Equal
+    go Less e = cc
+    go Equal e = refl
+    go Greater e = cc
+
+pub record WriteOf (v : Variable) (ws : List Region) (w : Region) : Type 0 where
+  pub is_one : In w ws
+  pub kind : w.kind ≡ Write
+  pub place : variable_cmp v w.variable ≡ Equal
+
+pub write_found : (v : Variable) (ws : List Region) (w : Region) → write_of v ws ≡ Some w → WriteOf v ws w
+write_found v [] w e = absurd (cc)
+write_found v (u ∷ ws) w e = go (is_write_of v u) refl e (λ q. write_found v ws w q)
+  where
+    later : WriteOf v ws w → WriteOf v (u ∷ ws) w
+    later h = record { is_one = there h.is_one; kind = h.kind; place = h.place }
+
+    go : (b : Bool) → is_write_of v u ≡ b → (if b then Some u else write_of v ws) ≡ Some w → (write_of v ws ≡ Some w → WriteOf v ws w) → WriteOf v (u ∷ ws) w
+    go true h q ih =
+        let both = and_parts (is_write u.kind) (same_variable v u.variable) h in
+        let one : u ≡ w = cc in
+        subst (λ z. WriteOf v (u ∷ ws) z) one (record { is_one = here; kind = write_kind u.kind both.0; place = same_order v u.variable both.1 })
+    go false h q ih = later (ih q)
+
+module _ (ss : List SymbolTree) (m : Scene) (at : Places) (by_order : AreByOrder at) where
+  -- ---- what is exact no more
+
+  pub overlapped_lies : (ws rs : List Region) (k : Access) (x : ℕ → ℤ) (u : ℕ) → LiesInSet m at k rs x u → LiesInSet m at k (all_unless_overlapped ss ws rs) x u
+  overlapped_lies ws rs k x u l = record {
+    region = unless_overlapped ss ws l.region;
+    is_one = in_map (unless_overlapped ss ws) l.region rs l.is_one;
+    kind = l.kind;
+    lies = record { phi = l.lies.phi; there = l.lies.there; piece = l.lies.piece; is_one = l.lies.is_one; described = l.lies.described };
+  }
+
+  -- sharp where nothing is written that shares units with the variable
+  abbrev pub SharpUnless : List Region → (ℕ → ℤ) → (ℕ → Bool) → Region → Type 0
+  SharpUnless ws x c r = is_overlapped ss ws r.variable ≡ false → IsSharp m (at r.variable) r x c
+
+  overlapped_sharp : (ws rs : List Region) (x : ℕ → ℤ) (c : ℕ → Bool) → EachOne (SharpUnless ws x c) rs → IsSharpSet m at (all_unless_overlapped ss ws rs) x (λ k. c)
+  overlapped_sharp ws rs x c h = of_map (unless_overlapped ss ws) (λ (r : Region). IsSharp m (at r.variable) r x c) rs one
+    where
+      one : (r : Region) → In r rs → IsSharp m (at r.variable) (unless_overlapped ss ws r) x c
+      one r i e p st g =
+          let q = and_parts (r.exact && not (is_overlapped ss ws r.variable)) (not (any_weak r.pieces)) e in
+          let z = and_parts r.exact (not (is_overlapped ss ws r.variable)) q.0 in
+          h r i (not-true (is_overlapped ss ws r.variable) z.1) z.0 p st g
+
+  gathered_unless : (ws rs : List Region) (x : ℕ → ℤ) (c : ℕ → Bool) → EachOne (SharpUnless ws x c) rs → EachOne (SharpUnless ws x c) (unite_all rs)
+  gathered_unless ws rs x c h =
+      gathered_so (λ (r : Region). is_overlapped ss ws r.variable ≡ false → IsSharp m (at r.variable) r x c)
+      (λ r q o e p st g. absurd (clash r.exact e q))
+      (λ r ps f g o e p st i. g o (and_parts r.exact (not (any_weak ps)) e).0 p st (f p i))
+      rs h
+    where
+      clash : (b : Bool) → b ≡ true → b ≡ false → ⊥
+      clash true e q = cc
+      clash false e q = cc
+
+  pub united_unless : (ws rs : List Region) (x : ℕ → ℤ) (c : ℕ → Bool) → EachOne (SharpUnless ws x c) rs → IsSharpSet m at (all_unless_overlapped ss ws (unite_all rs)) x (λ k. c)
+  united_unless ws rs x c h = overlapped_sharp ws (unite_all rs) x c (gathered_unless ws rs x c h)
+
+  -- ---- less what is certainly written
+
+  from_option : {A : Type 0} (o : Option Region) (qs : List Region) (r : Region) → In r (option_to_list o ++ qs) → ((w : Region) → o ≡ Some w → w ≡ r → A) → (In r qs → A) → A
+  from_option None qs r i f g = g i
+  from_option (Some w) qs r here f g = f w refl refl
+  from_option (Some w) qs r (there i) f g = g i
+
+  in_option : (o : Option Region) (qs : List Region) (r : Region) → o ≡ Some r → In r (option_to_list o ++ qs)
+  in_option None qs r e = absurd (cc)
+  in_option (Some w) qs r e = let same : w ≡ r = cc in subst (λ z. In z (w ∷ qs)) same here
+
+  abbrev InOption : Access → Variable → (ℕ → ℤ) → ℕ → Option Region → Type 0
+  InOption k v x u o = MatchOption o ⊥ (λ r. (r.kind ≡ k) × (r.variable ≡ v) × LiesIn m (at r.variable) r x u)
+
+  kept_as : (a b : Region) → MatchOption (subtract a b) (Unit {0}) (λ r. (r.kind ≡ a.kind) × (r.variable ≡ a.variable))
+  kept_as a b = go b.exact
+    where
+      one : (e : Bool) (ps : List System) → MatchOption (unless_empty a e ps) (Unit {0}) (λ r. (r.kind ≡ a.kind) × (r.variable ≡ a.variable))
+      one e [] = tt
+      one e (p ∷ ps) = (refl, refl)
+
+      go : (c : Bool) → MatchOption (if c then unless_empty a (a.exact && all_left_exactly a.pieces b.pieces) (left_of a.pieces b.pieces) else Some (remade a (a.exact && all_apart a.pieces b.pieces) a.pieces)) (Unit {0}) (λ r. (r.kind ≡ a.kind) × (r.variable ≡ a.variable))
+      go true = one (a.exact && all_left_exactly a.pieces b.pieces) (left_of a.pieces b.pieces)
+      go false = (refl, refl)
+
+  less_lies : (ws : List Region) (written : ℕ → Bool) (x : ℕ → ℤ) (u : ℕ) → AreWritten m at ws x written → written u ≡ false → (r : Region) → LiesIn m (at r.variable) r x u → InOption r.kind r.variable x u (less_write (write_of r.variable ws) r)
+  less_lies ws written x u h n r l = go (write_of r.variable ws) refl
+    where
+      go : (o : Option Region) → write_of r.variable ws ≡ o → InOption r.kind r.variable x u (less_write o r)
+      go None e = (refl, refl, l)
+      go (Some w) e =
+          let f = write_found r.variable ws w e in
+          let same : at r.variable ≡ at w.variable = by_order r.variable w.variable f.place in
+          both (subtract r w) (kept_as r w) (subtract_keeps r w m (at r.variable) x written (subst (λ (a : Elements). IsSharp m a w x written) (sym same) (h w f.is_one f.kind)) u n l)
+        where
+          both : (o : Option Region) → MatchOption o (Unit {0}) (λ q. (q.kind ≡ r.kind) × (q.variable ≡ r.variable)) → MatchOption o ⊥ (λ q. LiesIn m (at r.variable) q x u) → InOption r.kind r.variable x u o
+          both None a b = b
+          both (Some q) a b = (a.0, a.1, subst (λ (e : Elements). LiesIn m e q x u) (ap at (sym a.1)) b)
+
+  pub unwritten_lies : (ws : List Region) (written : ℕ → Bool) (x : ℕ → ℤ) (u : ℕ) → AreWritten m at ws x written → written u ≡ false → (k : Access) (rs : List Region) → LiesInSet m at k rs x u → LiesInSet m at k (all_unwritten ws rs) x u
+  unwritten_lies ws written x u h n k [] l = elim l.is_one [ ]
+  unwritten_lies ws written x u h n k (r ∷ rs) l = go l.region l.is_one l.kind l.lies (λ z. unwritten_lies ws written x u h n k rs z)
+    where
+      later : LiesInSet m at k (all_unwritten ws rs) x u → LiesInSet m at k (option_to_list (less_write (write_of r.variable ws) r) ++ all_unwritten ws rs) x u
+      later q = record { region = q.region; is_one = in_right q.region (option_to_list (less_write (write_of r.variable ws) r)) (all_unwritten ws rs) q.is_one; kind = q.kind; lies = q.lies }
+
+      first : r.kind ≡ k → (o : Option Region) → InOption r.kind r.variable x u o → LiesInSet m at k (option_to_list o ++ all_unwritten ws rs) x u
+      first e None q = absurd q
+      first e (Some w) q = record { region = w; is_one = here; kind = q.0 ∙ e; lies = q.2 }
+
+      go : (q : Region) → In q (r ∷ rs) → q.kind ≡ k → LiesIn m (at q.variable) q x u → (LiesInSet m at k rs x u → LiesInSet m at k (all_unwritten ws rs) x u) → LiesInSet m at k (option_to_list (less_write (write_of r.variable ws) r) ++ all_unwritten ws rs) x u
+      go q here e b ih = first e (less_write (write_of r.variable ws) r) (less_lies ws written x u h n r b)
+      go q (there i) e b ih = later (ih (record { region = q; is_one = i; kind = e; lies = b }))
+
+  -- what is left is read first and not written before
+  less_sharp : (ws : List Region) (x : ℕ → ℤ) (written later all : ℕ → Bool) → IsWithinWrites ss m at ws x written → ((u : ℕ) → written u ≡ false → later u ≡ true → all u ≡ true) → (r : Region) → IsSharp m (at r.variable) r x later →
+      MatchOption (less_write (write_of r.variable ws) r) (Unit {0}) (λ q. SharpUnless ws x all q)
+  less_sharp ws x written later all w f r h = go (write_of r.variable ws) refl
+    where
+      -- a point of which no write is known
+      one : (p : Point) → AtStart m x p → is_overlapped ss ws r.variable ≡ false → (IsDescribed r.variable ws p → ⊥) → Accessed (at r.variable) later (λ k. p (Phi k)) → Accessed (at r.variable) all (λ k. p (Phi k))
+      one p st o n a = record { unit = a.unit; there = a.there; is_so = f a.unit (off (written a.unit) refl) a.is_so }
+        where
+          off : (b : Bool) → written a.unit ≡ b → b ≡ false
+          off true e = absurd (n (w r.variable o p st (record { unit = a.unit; there = a.there; is_so = e })))
+          off false e = refl
+
+      go : (o : Option Region) → write_of r.variable ws ≡ o → MatchOption (less_write o r) (Unit {0}) (λ q. SharpUnless ws x all q)
+      go None e = λ o i p st g. one p st o (λ d. subst (λ z. MatchOption z ⊥ (λ v. HoldsSome p v.pieces)) e d) (h i p st g)
+      go (Some v) e = both (subtract r v) (kept_as r v) (subtract_exact r v)
+        where
+          both : (o : Option Region) → MatchOption o (Unit {0}) (λ q. (q.kind ≡ r.kind) × (q.variable ≡ r.variable)) → MatchOption o (Unit {0}) (λ q. q.exact ≡ true → (r.exact ≡ true) × ((p : Point) → HoldsSome p q.pieces → HoldsSome p r.pieces × (HoldsSome p v.pieces → ⊥))) → MatchOption o (Unit {0}) (λ q. SharpUnless ws x all q)
+          both None a b = tt
+          both (Some q) a b = λ o i p st g.
+              (let t = b i in
+              let s = t.1 p g in
+              let o' : is_overlapped ss ws r.variable ≡ false = ap (is_overlapped ss ws) (sym a.1) ∙ o in
+              subst (λ (z : Elements). Accessed z all (λ k. p (Phi k))) (ap at (sym a.1)) (one p st o' (λ d. s.1 (subst (λ z. MatchOption z ⊥ (λ y. HoldsSome p y.pieces)) e d)) (h t.0 p st s.0)))
+
+  unwritten_sharp : (ws : List Region) (x : ℕ → ℤ) (written later all : ℕ → Bool) → IsWithinWrites ss m at ws x written → ((u : ℕ) → written u ≡ false → later u ≡ true → all u ≡ true) → (rs : List Region) → IsSharpSet m at rs x (λ k. later) → EachOne (SharpUnless ws x all) (all_unwritten ws rs)
+  unwritten_sharp ws x written later all w f [] h r i = elim i [ ]
+  unwritten_sharp ws x written later all w f (r ∷ rs) h q i =
+      from_option (less_write (write_of r.variable ws) r) (all_unwritten ws rs) q i
+      (λ v e same. subst (λ z. SharpUnless ws x all z) same (of_some (less_write (write_of r.variable ws) r) v e (less_sharp ws x written later all w f r (h r here))))
+      (λ j. unwritten_sharp ws x written later all w f rs (λ z n. h z (there n)) q j)
+    where
+      of_some : (o : Option Region) (v : Region) → o ≡ Some v → MatchOption o (Unit {0}) (λ z. SharpUnless ws x all z) → SharpUnless ws x all v
+      of_some o v e k = subst (λ z. MatchOption z (Unit {0}) (λ y. SharpUnless ws x all y)) e k
+
+  -- ---- both
+
+  module _ (is ws rest : List Region) (t : Transformer) where
+    abbrev moved : List Region
+    moved = unite_all (all_composed t rest)
+
+    -- what is read first in the statement
+    pub before_lies : (k : Access) (x : ℕ → ℤ) (u : ℕ) → LiesInSet m at k is x u → LiesInSet m at k (before_rest ss is ws t rest) x u
+    before_lies k x u l =
+        overlapped_lies ws (unite_all (is ++ all_unwritten ws moved)) k x u
+        (gathered_units (is ++ all_unwritten ws moved) m at by_order k x u (record { region = l.region; is_one = in_left l.region is (all_unwritten ws moved) l.is_one; kind = l.kind; lies = l.lies }))
+
+    -- what is not written in it, and read first after it
+    pub after_lies : (k : Access) (x y : ℕ → ℤ) (written : ℕ → Bool) (u : ℕ) → Does m t x y → AreWritten m at ws x written → written u ≡ false → LiesInSet m at k rest y u → LiesInSet m at k (before_rest ss is ws t rest) x u
+    after_lies k x y written u d h n l =
+        let c : LiesInSet m at k (all_composed t rest) x u = record {
+          region = compose l.region t;
+          is_one = in_map (λ (q : Region). compose q t) l.region rest l.is_one;
+          kind = l.kind;
+          lies = compose_moves l.region t m (at l.region.variable) x y d u l.lies;
+        } in
+        let v = unwritten_lies ws written x u h n k moved (gathered_units (all_composed t rest) m at by_order k x u c) in
+        overlapped_lies ws (unite_all (is ++ all_unwritten ws moved)) k x u
+        (gathered_units (is ++ all_unwritten ws moved) m at by_order k x u (record { region = v.region; is_one = in_right v.region is (all_unwritten ws moved) v.is_one; kind = v.kind; lies = v.lies }))
+
+    pub both_sharp : (x y : ℕ → ℤ) (first written later all : ℕ → Bool) → Does m t x y → IsSharpSet m at is x (λ k. first) → IsWithinWrites ss m at ws x written → IsSharpSet m at rest y (λ k. later) → IsFirstOf first written later all → IsSharpSet m at (before_rest ss is ws t rest) x (λ k. all)
+    both_sharp x y first written later all d s w r f =
+        united_unless ws (is ++ all_unwritten ws moved) x all
+        (λ q i. ⊎_elim (λ j. now q j) (λ j. unwritten_sharp ws x written later all w f.after moved back q j) (in_either q is (all_unwritten ws moved) i))
+      where
+        now : (q : Region) → In q is → SharpUnless ws x all q
+        now q j o e p st g = (let a = s q j e p st g in record { unit = a.unit; there = a.there; is_so = f.at_once a.unit a.is_so })
+
+        back : IsSharpSet m at (unite_all (all_composed t rest)) x (λ k. later)
+        back = gathered_sharp (all_composed t rest) m at by_order x (λ k. later) (of_map (λ (q : Region). compose q t) (λ (q : Region). IsSharp m (at q.variable) q x later) rest (λ q i. compose_sharp q t m (at q.variable) x y d later (r q i)))

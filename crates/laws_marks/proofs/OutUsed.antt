@@ -1,0 +1,137 @@
+-- What is used of WRITE regions: a unit that lies in one of them, and in a region of what may be read later, lies in it.
+use Rattle.std.proofs.Common.{◌≡◌, ⊎_elim, ℕ, List, [], ◌∷◌, ◌++◌, map, Some, None, Bool, true, false, refl, sym, ap, ◌∙◌, subst, true≢false}
+use Rattle.std.specs.Prelude.{if◌then◌else◌}
+use Rattle.std.specs.Ordering.{is_eq}
+use Rattle.std.proofs.lemmas.Bool.{or_left, or_right}
+use Rattle.affine_systems.specs.declared.row.Var.{Var}
+use Rattle.affine_systems.specs.declared.row.Var.TheVariants.{Cell, Exit, Phi, Aux}
+use Rattle.affine_systems.specs.declared.row.System.{System}
+use Rattle.affine_systems.specs.Calls.{meet}
+use Rattle.affine_systems.specs.Points.{Point}
+use Rattle.affine_systems.proofs.CallLaws.{meet_holds}
+use Rattle.f77_ast.specs.Store.{Store}
+use Rattle.f77_ast.specs.Writes.{Locks}
+use Rattle.f77_symbols.specs.declared.variable.Variable.{Variable}
+use Rattle.f77_symbols.specs.Symbols.{SymbolTree}
+use Rattle.f77_symbols.specs.Shared.{overlap}
+use Rattle.affine_forms.specs.Claims.{numbers_of}
+use Rattle.transformer_algebra.specs.Laws.{In, here, there}
+use Rattle.region_sets.specs.declared.region.Access.TheVariants.{Write, Out}
+use Rattle.region_sets.specs.declared.region.Region.{Region}
+use Rattle.region_sets.specs.Regions.{region, hull_of}
+use Rattle.region_sets.specs.Sets.{live_pieces}
+use Rattle.region_sets.specs.Naming.{in_rows}
+use Rattle.region_sets.specs.Claims.{HasSubscripts, Describes, LiesIn, LiesInSet}
+use Rattle.region_sets.proofs.NameLaws.{rows_agree}
+use Rattle.region_sets.proofs.StepLaws.{in_left, in_right, in_map}
+use Rattle.in_out_regions.specs.Kinds.{is_write}
+use Rattle.in_out_regions.specs.Writes.{same_variable}
+use Rattle.out_regions.specs.Used.{as_out, is_used_beside, used_pieces, unless_empty, met_with, used_of, if_write, used}
+use Rattle.out_regions.specs.Lists.{writes}
+use Rattle.laws_regions.specs.Settings.{scene}
+use Rattle.laws_marks.specs.InFrames.{Frame, elements_in, rank}
+use Rattle.laws_marks.specs.InUnits.{UnitsFit, IsNarrow}
+use Rattle.laws_marks.proofs.InRests.{write_kind}
+use Rattle.laws_marks.proofs.InUnique.{itself}
+use Rattle.laws_marks.proofs.InWithin.{resubscripted}
+use Rattle.laws_marks.specs.OutShown.{LiesAs}
+use Rattle.laws_marks.proofs.OutMoves.{in_hull, in_live}
+
+-- ---- lists of regions
+
+beside_by : (ss : List SymbolTree) (us : List Region) (v : Variable) (o : Region) → In o us → overlap ss o.variable v ≡ true → is_used_beside ss us v ≡ true
+beside_by ss [] v o i e = elim i [ ]
+beside_by ss (u ∷ us) v o here e = or_left (overlap ss o.variable v) (is_used_beside ss us v) e
+beside_by ss (u ∷ us) v o (there i) e = or_right (overlap ss u.variable v) (is_used_beside ss us v) (beside_by ss us v o i e)
+
+same_is : (v w : Variable) → v ≡ w → same_variable v w ≡ true
+same_is v w e = subst (λ (z : Variable). same_variable v z ≡ true) e (ap is_eq (itself v))
+
+pieces_in : (v : Variable) (us : List Region) (o : Region) (s : System) → In o us → v ≡ o.variable → In s o.pieces → In s (used_pieces v us)
+pieces_in v [] o s i e j = elim i [ ]
+pieces_in v (u ∷ us) o s here e j = subst (λ b. In s (if b then o.pieces ++ used_pieces v us else used_pieces v us)) (sym (same_is v o.variable e)) (in_left s o.pieces (used_pieces v us) j)
+pieces_in v (u ∷ us) o s (there i) e j = go (same_variable v u.variable) (pieces_in v us o s i e j)
+  where
+    go : (b : Bool) → In s (used_pieces v us) → In s (if b then u.pieces ++ used_pieces v us else used_pieces v us)
+    go true k = in_right s u.pieces (used_pieces v us) k
+    go false k = k
+
+pub write_in : (rs : List Region) (w : Region) → In w rs → w.kind ≡ Write → In w (writes rs)
+write_in [] w i e = elim i [ ]
+write_in (r ∷ rs) w here e = subst (λ b. In w (if b then w ∷ writes rs else writes rs)) (sym (ap is_write e)) here
+write_in (r ∷ rs) w (there i) e = go (is_write r.kind) (write_in rs w i e)
+  where
+    go : (b : Bool) → In w (writes rs) → In w (if b then r ∷ writes rs else writes rs)
+    go true j = there j
+    go false j = j
+
+pub of_writes : (P : Region → Type 0) (rs : List Region) → ((r : Region) → In r rs → r.kind ≡ Write → P r) → (w : Region) → In w (writes rs) → P w
+of_writes P [] h w i = elim i [ ]
+of_writes P (r ∷ rs) h w i = go (is_write r.kind) refl i (λ j. of_writes P rs (λ q l. h q (there l)) w j)
+  where
+    front : (q : Region) → In q (r ∷ writes rs) → P r → (In q (writes rs) → P q) → P q
+    front q here p f = p
+    front q (there j) p f = f j
+
+    go : (b : Bool) → is_write r.kind ≡ b → In w (if b then r ∷ writes rs else writes rs) → (In w (writes rs) → P w) → P w
+    go true e j ih = front w j (h r here (write_kind r.kind e)) ih
+    go false e j ih = ih j
+
+-- ---- what is used
+
+module _ (k : Frame) (locked : Locks) (units : UnitsFit k locked) (us : List Region) (s : Store) where
+  -- each piece names the subscripts of the variable alone
+  abbrev pub AreNarrow : Region → Type 0
+  AreNarrow w = (p : System) → In p w.pieces → IsNarrow (rank k.ks k.g k.m.symbols w.variable) p
+
+  module _ (w : Region) (narrow : AreNarrow w) (u : ℕ) (free : locked u ≡ None) (l : LiesIn (scene k.base) (elements_in k w.variable) w (numbers_of s) u) (o : LiesInSet (scene k.base) (elements_in k) Out us (numbers_of s) u) where
+    module _ (q : w.variable ≡ o.region.variable) where
+      there_too : elements_in k w.variable o.lies.phi ≡ Some u
+      there_too = subst (λ (v : Variable). elements_in k v o.lies.phi ≡ Some u) (sym q) o.lies.there
+
+      agree : (p : Point) → HasSubscripts o.lies.phi p → (z : Var) → in_rows z l.piece.rows ≡ true → resubscripted p l.phi z ≡ p z
+      agree p ph (Cell c) n = refl
+      agree p ph (Exit c) n = refl
+      agree p ph (Phi i) n = (let b = narrow l.piece l.is_one i n in units.once w.variable l.phi o.lies.phi u l.there there_too i b.0 b.1 ∙ sym (ph i))
+      agree p ph (Aux c) n = refl
+
+      described : (qs : List System) → In o.lies.piece qs → Describes (scene k.base) (meet l.piece (hull_of qs)) (numbers_of s) o.lies.phi
+      described qs i p st ph = meet_holds p l.piece (hull_of qs) (
+        rows_agree l.piece.rows (resubscripted p l.phi) p (agree p ph) (l.described (resubscripted p l.phi) (λ c t. st c t) (λ i. refl)),
+        in_hull p o.lies.piece qs i (o.lies.described p st ph),
+      )
+
+      kept : (d : System) (ss : List System) → In d ss → Describes (scene k.base) d (numbers_of s) o.lies.phi → LiesAs k w.variable (unless_empty w ss) s u
+      kept d [] i h = elim i [ ]
+      kept d (c ∷ ss) i h = record { region = region w.variable Out false (c ∷ ss); is_one = here; kind = refl; same = refl; lies = record { phi = o.lies.phi; there = there_too; piece = d; is_one = i; described = h } }
+
+      met_some : (qs : List System) → In o.lies.piece qs → LiesAs k w.variable (met_with w qs) s u
+      met_some [] i = elim i [ ]
+      met_some (c ∷ qs) i =
+          kept (meet l.piece (hull_of (c ∷ qs))) (live_pieces (map (λ z. meet z (hull_of (c ∷ qs))) w.pieces))
+          (in_live (scene k.base) (meet l.piece (hull_of (c ∷ qs))) (map (λ z. meet z (hull_of (c ∷ qs))) w.pieces) (numbers_of s) o.lies.phi (described (c ∷ qs) i) (in_map (λ z. meet z (hull_of (c ∷ qs))) l.piece w.pieces l.is_one)) (described (c ∷ qs) i)
+
+      met : LiesAs k w.variable (met_with w (used_pieces w.variable us)) s u
+      met = met_some (used_pieces w.variable us) (pieces_in w.variable us o.region o.lies.piece o.is_one q o.lies.is_one)
+
+    used_one : LiesAs k w.variable (used_of k.m.symbols us w) s u
+    used_one = go (is_used_beside k.m.symbols us w.variable) refl
+      where
+        go : (b : Bool) → is_used_beside k.m.symbols us w.variable ≡ b → LiesAs k w.variable (if b then as_out w ∷ [] else met_with w (used_pieces w.variable us)) s u
+        go true e = record { region = as_out w; is_one = here; kind = refl; same = refl; lies = record { phi = l.phi; there = l.there; piece = l.piece; is_one = l.is_one; described = l.described } }
+        go false e = ⊎_elim met (λ c. absurd (true≢false (sym (beside_by k.m.symbols us w.variable o.region o.is_one c) ∙ e))) (units.apart w.variable o.region.variable l.phi o.lies.phi u l.there o.lies.there free)
+
+  as_left : (v : Variable) (rs qs : List Region) (u : ℕ) → LiesAs k v rs s u → LiesAs k v (rs ++ qs) s u
+  as_left v rs qs u l = record { region = l.region; is_one = in_left l.region rs qs l.is_one; kind = l.kind; same = l.same; lies = l.lies }
+
+  as_right : (v : Variable) (rs qs : List Region) (u : ℕ) → LiesAs k v qs s u → LiesAs k v (rs ++ qs) s u
+  as_right v rs qs u l = record { region = l.region; is_one = in_right l.region rs qs l.is_one; kind = l.kind; same = l.same; lies = l.lies }
+
+  pub used_lies : (ws : List Region) (w : Region) → In w ws → w.kind ≡ Write → AreNarrow w → (u : ℕ) → locked u ≡ None → LiesIn (scene k.base) (elements_in k w.variable) w (numbers_of s) u → LiesInSet (scene k.base) (elements_in k) Out us (numbers_of s) u → LiesAs k w.variable (used k.m.symbols us ws) s u
+  used_lies [] w i e n u free l o = elim i [ ]
+  used_lies (q ∷ ws) w here e n u free l o = as_left w.variable (if_write k.m.symbols us w) (used k.m.symbols us ws) u (subst (λ b. LiesAs k w.variable (if b then used_of k.m.symbols us w else []) s u) (sym (ap is_write e)) (used_one w n u free l o))
+  used_lies (q ∷ ws) w (there i) e n u free l o = as_right w.variable (if_write k.m.symbols us q) (used k.m.symbols us ws) u (used_lies ws w i e n u free l o)
+
+  -- of whatever variable
+  pub used_set : (ws : List Region) → ((w : Region) → In w ws → w.kind ≡ Write → AreNarrow w) → (u : ℕ) → locked u ≡ None → LiesInSet (scene k.base) (elements_in k) Write ws (numbers_of s) u → LiesInSet (scene k.base) (elements_in k) Out us (numbers_of s) u → LiesInSet (scene k.base) (elements_in k) Out (used k.m.symbols us ws) (numbers_of s) u
+  used_set ws n u free l o = (let h = used_lies ws l.region l.is_one l.kind (n l.region l.is_one l.kind) u free l.lies o in record { region = h.region; is_one = h.is_one; kind = h.kind; lies = h.lies })

@@ -1,0 +1,210 @@
+-- The results of a module of a program that links: what holds of them by the passes that made them, and that they fit the module.
+use Rattle.std.proofs.Common.{◌≡◌, ℕ, true, List, refl, sym, ap, ◌∙◌, subst}
+use Rattle.f77_ast.specs.DeclTrees.{ParsedTree}
+use Rattle.f77_ast.specs.StatementNumbers.{list_numbers}
+use Rattle.f77_symbols.specs.declared.variable.Unit.{Unit as BlockUnit}
+use Rattle.f77_symbols.specs.Symbols.{SymbolTree}
+use Rattle.f77_results.specs.declared.results.At.{At}
+use Rattle.call_graph.specs.declared.graph.Graph.{Graph}
+use Rattle.f77_meaning.specs.Modules.{Known, known_of, symbol_names}
+use Rattle.scalar_phases.specs.Phases.{Analysis, scope_of, analyses}
+use Rattle.pipsmake_rules.specs.declared.kind.Kind.TheVariants.{Regions, InRegions, OutRegions}
+use Rattle.pipsmake_rules.specs.Kinds.{same_kind}
+use Rattle.region_sets.specs.declared.region.Access.{Access}
+use Rattle.region_sets.specs.declared.region.Access.TheVariants as access
+use Rattle.region_phases.specs.Phases.{ModuleRegions, all_regions}
+use Rattle.in_out_phases.specs.Phases.{ModuleIns, all_ins}
+use Rattle.out_phases.specs.Phases.{ModuleOuts, used_after, all_outs}
+use Rattle.mark_phases.specs.Phases.{ModuleMarks, analysis_in, known_in, all_marks}
+use Rattle.mark_phases.specs.Phases as marks
+use Rattle.laws_programs.specs.Programs.{AreTables}
+use Rattle.laws_lines.specs.Laws.{AnalysisIsOver}
+use Rattle.laws_lines.proofs.PhaseVars.{EachOf, analyses_are_over_cells}
+use Rattle.laws_region_lines.specs.Laws.{SetsAreOver, RegionsAreOver}
+use Rattle.laws_region_lines.proofs.ProgramRegions.{Any, any_named, ModuleFine, modules_fine, regions_of, regions_are_over_places}
+use Rattle.laws_in_lines.proofs.InPrograms.{InsFine, ins_fine, ins_with, ins_are_over_places}
+use Rattle.laws_out_lines.proofs.OutPrograms.{outs_with, outs_are_over_places}
+use Rattle.laws_database.specs.ResultEntries.{marks_in, module_in, transformers_in, preconditions_in, regions_in, ins_in, outs_in, name_in}
+use Rattle.laws_database.specs.ResultCallees.{region_summaries, in_summaries}
+use Rattle.laws_database.specs.ResultCallers.{callers, later_sites}
+use Rattle.laws_database.specs.ResultEquations.{FollowsFrom}
+use Rattle.base_values.specs.declared.stored.StoredValue.TheVariants as stored
+use Rattle.base_values.specs.Modules.{ModuleNames, module_names}
+use Rattle.base_values.specs.Naming.{AreNames}
+use Rattle.base_values.specs.Words.{result_with}
+use Rattle.base_values.specs.Fits.{StoredFits}
+use Rattle.laws_stored.proofs.Symbols.{ModuleNamed}
+use Rattle.laws_stored.proofs.Access.{IsAccess}
+use Rattle.laws_stored.proofs.Ins.{IsIn}
+use Rattle.laws_stored.proofs.Outs.{IsOut}
+use Rattle.laws_stored.proofs.Order.{SetsOrdered, regions_ordered, ins_ordered, outs_ordered}
+use Rattle.laws_stored.proofs.Marks.{marks_fit, marks_numbers}
+use Rattle.laws_stored.proofs.Phases.{of_all, of_both, of_more, FoundGood, analyses_good, RegionsGood, all_regions_good, InsGood, all_ins_good, FittingSets, OutsGood, all_outs_good, EffectsGood, all_effects_good, marks_with, MarksAre, all_marks_are}
+use Rattle.laws_stored.proofs.Fitting.{of_each, ids_are, named_sets, each_transformer, one_transformer, each_system, one_system, sets_fit}
+
+-- ---- what holds of the results of a module
+
+-- by the passes up to IN
+record InsTold (untracked : List BlockUnit) (f : ModuleIns) : Type 0 where
+  good : InsGood f
+  over : AnalysisIsOver untracked f.known.analysis
+  fitting : FittingSets f.known
+  places : RegionsAreOver untracked f.known
+  in_places : SetsAreOver untracked f.known.analysis.found.known f.ins
+  in_fine : InsFine Any untracked f
+
+-- by all of them
+pub record EntryTold (untracked : List BlockUnit) (f : ModuleMarks) : Type 0 where
+  ins : InsTold untracked f.outs.known
+  outs : OutsGood f.outs
+  out_places : SetsAreOver untracked (module_in f) f.outs.outs
+  effects : EffectsGood f
+  marks : MarksAre untracked f
+
+module _ (ps : List ParsedTree) (sss : List (List SymbolTree)) (g : Graph) (tables : AreTables ps sss) (named : EachOf ModuleNamed (known_of ps sss)) where
+  abbrev ks : List Known
+  ks = known_of ps sss
+
+  abbrev as' : List Analysis
+  as' = analyses ks g
+
+  abbrev fs : List ModuleRegions
+  fs = all_regions g as'
+
+  abbrev is : List ModuleIns
+  is = all_ins g fs
+
+  abbrev os : List ModuleOuts
+  os = all_outs g is
+
+  abbrev Over : ModuleRegions → Type 0
+  Over f = AnalysisIsOver g.untracked f.analysis
+
+  abbrev Told : ModuleRegions → Type 0
+  Told f = ModuleFine Any g.untracked f × (RegionsAreOver g.untracked f × Over f)
+
+  regions_good : EachOf RegionsGood fs
+  regions_good = all_regions_good g as' (analyses_good ks g named)
+
+  regions_told : EachOf Told fs
+  regions_told =
+      of_both (ModuleFine Any g.untracked) (λ f. RegionsAreOver g.untracked f × Over f) fs (modules_fine Any ps sss g tables (any_named ks))
+      (of_both (RegionsAreOver g.untracked) Over fs (of_all (RegionsAreOver g.untracked) fs (regions_are_over_places ps sss g tables))
+      (regions_of (AnalysisIsOver g.untracked) g as' (of_all (AnalysisIsOver g.untracked) as' (analyses_are_over_cells ps sss g tables))))
+
+  abbrev InOver : ModuleIns → Type 0
+  InOver f = SetsAreOver g.untracked f.known.analysis.found.known f.ins
+
+  abbrev InParts : ModuleIns → Type 0
+  InParts f = InsGood f × (Told f.known × (InOver f × InsFine Any g.untracked f))
+
+  in_parts : EachOf InParts is
+  in_parts =
+      of_both InsGood (λ f. Told f.known × (InOver f × InsFine Any g.untracked f)) is (all_ins_good g fs regions_good)
+      (of_both (λ (f : ModuleIns). Told f.known) (λ f. InOver f × InsFine Any g.untracked f) is (ins_with Told g fs regions_told)
+      (of_both InOver (InsFine Any g.untracked) is (of_all InOver is (ins_are_over_places ps sss g tables)) (ins_fine Any ps sss g tables (any_named ks))))
+
+  in_told : (f : ModuleIns) → InParts f → InsTold g.untracked f
+  in_told f h = record {
+    good = h.0;
+    over = h.1.0.1.1;
+    fitting = named_sets IsAccess g.untracked f.known.analysis.found.known f.known.regions h.0.known.sets h.1.0.0;
+    places = h.1.0.1.0;
+    in_places = h.1.1.0;
+    in_fine = h.1.1.1;
+  }
+
+  ins_told : EachOf (InsTold g.untracked) is
+  ins_told = of_more InParts (InsTold g.untracked) in_told is in_parts
+
+  abbrev OutOver : ModuleOuts → Type 0
+  OutOver f = SetsAreOver g.untracked (known_in f) f.outs
+
+  abbrev OutParts : ModuleOuts → Type 0
+  OutParts f = InsTold g.untracked f.known × (OutsGood f × OutOver f)
+
+  out_parts : EachOf OutParts os
+  out_parts =
+      of_both (λ (f : ModuleOuts). InsTold g.untracked f.known) (λ f. OutsGood f × OutOver f) os (outs_with (InsTold g.untracked) g is ins_told)
+      (of_both OutsGood OutOver os (all_outs_good g is (of_more (InsTold g.untracked) (λ (f : ModuleIns). InsGood f × FittingSets f.known) (λ f h. (h.good, h.fitting)) is ins_told))
+      (of_all OutOver os (outs_are_over_places ps sss g tables)))
+
+  abbrev EntryParts : ModuleMarks → Type 0
+  EntryParts f = OutParts f.outs × (EffectsGood f × MarksAre g.untracked f)
+
+  entry_told : (f : ModuleMarks) → EntryParts f → EntryTold g.untracked f
+  entry_told f h = record { ins = h.0.0; outs = h.0.1.0; out_places = h.0.1.1; effects = h.1.0; marks = h.1.1 }
+
+  pub entries_told : EachOf (EntryTold g.untracked) (marks_in ks g)
+  entries_told =
+      let es = all_marks g os in
+      of_more EntryParts (EntryTold g.untracked) entry_told es
+      (of_both (λ (f : ModuleMarks). OutParts f.outs) (λ f. EffectsGood f × MarksAre g.untracked f) es (marks_with OutParts g os out_parts)
+      (of_both EffectsGood (MarksAre g.untracked) es
+      (all_effects_good g os (of_more OutParts (λ (f : ModuleOuts). ModuleNamed (known_in f)) (λ f h. h.0.good.known.analysis.found.named) os out_parts)) (all_marks_are g os)))
+
+-- ---- they fit the module
+
+access_right : (a : Access) → IsAccess a → same_kind (result_with a) Regions ≡ true
+access_right access.Read h = refl
+access_right access.Write h = refl
+access_right access.In h = cc
+access_right access.Out h = cc
+
+in_right : (a : Access) → IsIn a → same_kind (result_with a) InRegions ≡ true
+in_right a h = ap (λ k. same_kind (result_with k) InRegions) h
+
+out_right : (a : Access) → IsOut a → same_kind (result_with a) OutRegions ≡ true
+out_right a h = ap (λ k. same_kind (result_with k) OutRegions) h
+
+-- what the results of a module may name
+abbrev pub names_of : Known → ModuleNames
+names_of k = module_names (symbol_names k.symbols) k.read.body
+
+pub record EntryFits (f : ModuleMarks) : Type 0 where
+  pub effects : StoredFits (names_of (module_in f)) (stored.Effects f.effects)
+  pub transformers : StoredFits (names_of (module_in f)) (stored.Transformers (transformers_in f))
+  pub preconditions : StoredFits (names_of (module_in f)) (stored.Preconditions (preconditions_in f))
+  pub regions : StoredFits (names_of (module_in f)) (stored.Regions (regions_in f))
+  pub ins : StoredFits (names_of (module_in f)) (stored.InRegions (ins_in f))
+  pub outs : StoredFits (names_of (module_in f)) (stored.OutRegions (outs_in f))
+  pub marks : StoredFits (names_of (module_in f)) (stored.Marks f.marks)
+
+module _ (g : Graph) (all : List ModuleMarks) (f : ModuleMarks) (follows : FollowsFrom g all f) (h : EntryTold g.untracked f) (are : AreNames (symbol_names (module_in f).symbols)) where
+  abbrev k : Known
+  k = module_in f
+
+  abbrev ns : List ℕ
+  ns = list_numbers (module_in f).read.body
+
+  found : FoundGood (analysis_in f.outs).found
+  found = h.ins.good.known.analysis.found
+
+  regions_are_ordered : SetsOrdered (regions_in f)
+  regions_are_ordered = subst SetsOrdered (sym follows.regions) (regions_ordered k.read.body (scope_of g.untracked k) g.untracked (transformers_in f).at (region_summaries all))
+
+  ins_are_ordered : SetsOrdered (ins_in f)
+  ins_are_ordered = subst SetsOrdered (sym follows.ins) (ins_ordered k.read.body (scope_of g.untracked k) g.untracked (transformers_in f).at (regions_in f).at (in_summaries all) regions_are_ordered.0)
+
+  outs_are_ordered : SetsOrdered (outs_in f)
+  outs_are_ordered =
+      subst SetsOrdered (sym follows.outs)
+      (outs_ordered k.read.body (scope_of g.untracked k) (transformers_in f).at (regions_in f).at (ins_in f).at (used_after g k (later_sites g.untracked (callers all (name_in f)) (name_in f))) regions_are_ordered.0)
+
+  pub entry_fits : EntryFits f
+  entry_fits = record {
+    effects = ((ids_are f.effects.at ∙ h.effects.numbers, h.effects.at), h.effects.summary);
+    transformers = (
+      (ids_are (transformers_in f).at ∙ found.numbers, each_transformer g.untracked k are (transformers_in f).at found.fits found.foreign (of_each _ (transformers_in f).at h.ins.over.own)),
+      one_transformer g.untracked k are (transformers_in f).summary found.summary_fits found.summary_foreign h.ins.over.summary,
+    );
+    preconditions = (
+      (ids_are (preconditions_in f).at ∙ h.ins.good.known.analysis.numbers, each_system g.untracked k are (preconditions_in f).at h.ins.good.known.analysis.fits (of_each _ (preconditions_in f).at h.ins.over.at)),
+      one_system g.untracked k are (preconditions_in f).summary h.ins.good.known.analysis.entry_fits h.ins.over.entry,
+    );
+    regions = sets_fit g.untracked k are IsAccess Regions access_right ns (regions_in f) h.ins.good.known.numbers h.ins.fitting h.ins.places regions_are_ordered;
+    ins = sets_fit g.untracked k are IsIn InRegions in_right ns (ins_in f) h.ins.good.numbers (named_sets IsIn g.untracked k (ins_in f) h.ins.good.sets h.ins.in_fine) h.ins.in_places ins_are_ordered;
+    outs = sets_fit g.untracked k are IsOut OutRegions out_right ns (outs_in f) h.outs.numbers h.outs.sets h.out_places outs_are_ordered;
+    marks = subst (λ (ms : List (At _)). StoredFits (names_of k) (stored.Marks ms)) (sym h.marks.are)
+        (ids_are (marks.marks_found g.untracked f.outs f.effects) ∙ marks_numbers g.untracked f.outs f.effects, marks_fit g.untracked f.outs f.effects found.fits h.ins.fitting.0);
+  }

@@ -1,0 +1,34 @@
+use Rattle.std.proofs.Common.{◌≡◌, List, map, Some, ap, ◌∙◌}
+use Rattle.std.specs.Prelude.{option_map, option_and_then}
+use Rattle.call_graph.specs.declared.graph.Graph.{Graph}
+use Rattle.f77_results.specs.declared.results.Results.{Results}
+use Rattle.transformer_algebra.specs.declared.transformer.Transformer.{Transformer}
+use Rattle.region_sets.specs.declared.region.Region.{Region}
+use Rattle.pipsmake_rules.specs.Neighbours.{callees_of}
+use Rattle.result_rules.specs.declared.callees.Callee.{Callee}
+use Rattle.result_rules.specs.Callees.{callee_tree}
+use Rattle.result_rules.specs.Rules.{ins_from}
+use Rattle.laws_database.specs.Texts.{graph_of}
+use Rattle.laws_database.specs.Rules.{known, transformers_kept, regions_kept, ins_kept, callees_with}
+use Rattle.laws_database.specs.Values.{Value, ins}
+use Rattle.result_store.specs.Rows.{shelves_of}
+use Rattle.result_making.specs.Parts.{own_tree}
+use Rattle.result_making.proofs.callees_first.ins_value.Goals as goal
+
+pub returns-clause-value : goal.returns-clause-value
+returns-clause-value c =
+    let m = c.args.modules.now in
+    let sh = shelves_of c.args.store.now in
+    let k = known (own_tree c.args.own.now) in
+    let x = c.args.name.now in
+    let own = c.in-Some.transformers.now in
+    let found = c.in-Some-regions.regions.now in
+    let kept : Some own ≡ transformers_kept sh x = c.in-Some.ensures.value in
+    let there : Some found ≡ regions_kept sh x = c.in-Some-regions.ensures.value in
+    let made : c.in_ok-made.made ≡ ins_from m.graph.now.untracked k own found (map callee_tree c.as_slice-2.result.now) = c.in_ok-made.ensures.defined in
+    let below : map callee_tree c.as_slice-2.result.now ≡ callees_with (ins_kept sh) m.sources.now (callees_of m.graph.now x) =
+    ap (λ (cs : List (Callee (List Region))). map callee_tree cs) c.as_slice-2.ensures.value ∙ (c.in_ok-below.ensures.defined ∙ ap (callees_with (ins_kept sh) m.sources.now) (c.as_slice.ensures ∙ c.in_ok-names.ensures)) in
+    let f : Results Transformer → Results (List Region) → Value = λ t r. ins (ins_from (graph_of m.sources.now).untracked k t r (callees_with (ins_kept sh) m.sources.now (callees_of (graph_of m.sources.now) x))) in
+    ap (λ (r : Results (List Region)). Some (ins r))
+    (made ∙ (ap (ins_from m.graph.now.untracked k own found) below ∙ ap (λ (g : Graph). ins_from g.untracked k own found (callees_with (ins_kept sh) m.sources.now (callees_of g x))) c.requires))
+    ∙ (λ i. option_and_then (λ t. option_map (f t) (there i)) (kept i))

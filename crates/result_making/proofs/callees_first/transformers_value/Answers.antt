@@ -1,0 +1,25 @@
+use Rattle.std.proofs.Common.{◌≡◌, List, map, Some, ap, ◌∙◌}
+use Rattle.call_graph.specs.declared.graph.Graph.{Graph}
+use Rattle.f77_results.specs.declared.results.Results.{Results}
+use Rattle.transformer_algebra.specs.declared.transformer.Transformer.{Transformer}
+use Rattle.pipsmake_rules.specs.Neighbours.{callees_of}
+use Rattle.result_rules.specs.declared.callees.Callee.{Callee}
+use Rattle.result_rules.specs.Callees.{callee_tree}
+use Rattle.result_rules.specs.Rules.{transformers_from}
+use Rattle.laws_database.specs.Rules.{known, transformers_kept, callees_with}
+use Rattle.laws_database.specs.Values.{transformers}
+use Rattle.result_store.specs.Rows.{shelves_of}
+use Rattle.result_making.specs.Parts.{own_tree}
+use Rattle.result_making.proofs.callees_first.transformers_value.Goals as goal
+
+pub returns-clause-value : goal.returns-clause-value
+returns-clause-value c =
+    let m = c.args.modules.now in
+    let sh = shelves_of c.args.store.now in
+    let k = known (own_tree c.args.own.now) in
+    let x = c.args.name.now in
+    let made : c.in_ok-made.made ≡ transformers_from m.graph.now.untracked k (map callee_tree c.as_slice-2.result.now) = c.in_ok-made.ensures.defined in
+    let below : map callee_tree c.as_slice-2.result.now ≡ callees_with (transformers_kept sh) m.sources.now (callees_of m.graph.now x) =
+    ap (λ (cs : List (Callee Transformer)). map callee_tree cs) c.as_slice-2.ensures.value ∙ (c.in_ok-below.ensures.defined ∙ ap (callees_with (transformers_kept sh) m.sources.now) (c.as_slice.ensures ∙ c.in_ok-names.ensures)) in
+    ap (λ (r : Results Transformer). Some (transformers r))
+    (made ∙ (ap (transformers_from m.graph.now.untracked k) below ∙ ap (λ (g : Graph). transformers_from g.untracked k (callees_with (transformers_kept sh) m.sources.now (callees_of g x))) c.requires))
