@@ -5,6 +5,7 @@ cd "$(dirname "$0")/.."
 python3 bench/cases_rows.py
 python3 bench/cases_programs.py
 python3 bench/cases_bases.py
+python3 bench/cases_sessions.py
 python3 bench/random_cases.py
 python3 bench/pack.py --answers
 python3 bench/pack.py

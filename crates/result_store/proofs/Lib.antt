@@ -3,3 +3,4 @@ pub mod Outcomes
 pub mod ShelfLaws
 pub mod RowLaws
 pub mod StoreLaws
+pub mod StampLaws

@@ -6,13 +6,13 @@ use Rattle.std.proofs.lemmas.List.{map-append, map-set, replicate_more}
 use Rattle.pipsmake_rules.specs.declared.kind.Kind.{Kind}
 use Rattle.pipsmake_rules.specs.declared.kind.Kind.TheVariants.{Parsed, Lines, Symbols, CallGraph, Effects, Transformers, Preconditions, Regions, InRegions, OutRegions, Marks, Printed}
 use Rattle.pipsmake_rules.specs.Kinds.{number_of}
-use Rattle.laws_database.specs.Shelves.{Shelf}
+use Rattle.laws_database.specs.Shelves.{Shelf, Stamped, no_shelf, forgotten}
 use Rattle.laws_database.specs.Values.{Item, text, result}
 use Rattle.result_store.specs.declared.shelf.Shelf as code
 use Rattle.result_store.specs.declared.item.Item as code_item
 use Rattle.result_store.specs.declared.item.Item.TheVariants as variant
+use Rattle.result_store.specs.Seen.{kept_at}
 use Rattle.result_store.specs.Values.{item_of}
-use Rattle.result_store.specs.Changes.{no_shelf, forgotten}
 use Rattle.result_store.specs.Fits.{ShelfFits}
 use Rattle.result_store.specs.Rows.{RowTree, shelf_tree, shelf_at, shelf_or_none, RowFits}
 use Rattle.result_store.specs.RowChanges.{IsEmptyRow, ChangesAt, ForgetsAll}
@@ -190,3 +190,7 @@ module _ (x : List ℕ) (t : Shelf) (ss : List code.Shelf) (item : code_item.Ite
 
   pub row_unchanged : shelf_tree new ≡ shelf_tree old → tree x t (set ss n new) ≡ tree x t ss
   row_unchanged e = let mk : List Shelf → RowTree = λ us. record { name = x; text = t; results = us } in ap mk (map-set_same shelf_tree ss n old new at e)
+
+-- the same values fit
+pub fits_kept_at : (old new : Shelf) (n : ℕ) (needs : List Stamped) → new ≡ kept_at old n needs → ShelfFits old → ShelfFits new
+fits_kept_at old new n needs e f = subst ShelfFits (sym e) f

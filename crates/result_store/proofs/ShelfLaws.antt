@@ -5,10 +5,9 @@ use Rattle.std.specs.Borrow.{Bor}
 use Rattle.std.specs.List.{AllByRecursion}
 use Rattle.std.proofs.lemmas.List.{map-append}
 use Rattle.std.proofs.lemmas.Option.{slice_get-map}
-use Rattle.laws_database.specs.Shelves.{Shelf, Adds, IsNew, Keeps, Stamped, Kept}
+use Rattle.laws_database.specs.Shelves.{Shelf, Adds, IsNew, Keeps, Stamped, Kept, Sees}
 use Rattle.laws_database.specs.Values.{Value}
 use Rattle.result_store.specs.declared.value.Value as code
-use Rattle.result_store.specs.Changes.{Sees}
 use Rattle.result_store.specs.Fits.{ValueFits}
 use Rattle.result_store.specs.Values.{value_tree}
 use Rattle.result_store.proofs.ListLaws.{all_at, all_more}

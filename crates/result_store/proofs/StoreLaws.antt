@@ -1,5 +1,5 @@
 -- Rows of shelves: the row of a name, one row more, and a row that is changed.
-use Rattle.std.proofs.Common.{◌≡◌, ◌<◌, ℕ, zero, suc, ◌+◌, Bool, true, false, List, [], ◌∷◌, ◌++◌, length, map, set, get_or, Option, Some, None, refl, sym, ap, ◌∙◌, subst, arith}
+use Rattle.std.proofs.Common.{◌≡◌, ◌<◌, ℕ, zero, suc, ◌+◌, Bool, true, false, List, [], ◌∷◌, ◌++◌, length, map, set, get_or, Option, Some, None, inl, refl, sym, ap, ◌∙◌, subst, arith}
 use Rattle.std.specs.Prelude.{slice_get, bytes_eq, IfSome, if◌then◌else◌}
 use Rattle.std.specs.List.{AllByRecursion}
 use Rattle.std.specs.Cmp.Lexicographic.{bytes_decides}
@@ -9,12 +9,12 @@ use Rattle.f77_symbols.specs.declared.name_index.NameIndex.{NameIndex}
 use Rattle.f77_symbols.specs.Index.{Indexes}
 use Rattle.f77_symbols.proofs.NumbersLaws.{number_from-append}
 use Rattle.laws_database.specs.Making.{AllStay}
-use Rattle.laws_database.specs.Shelves.{Shelves, Stamped, Keeps, KeepsIn}
+use Rattle.laws_database.specs.Shelves.{Shelf, Shelves, Stamped, Keeps, KeepsIn, no_shelf, forgotten, Sees, SeenIn, Forgets}
 use Rattle.laws_database.specs.Values.{Value, Item, text, result}
 use Rattle.result_store.specs.declared.row.Row.{Row}
-use Rattle.result_store.specs.Changes.{no_shelf, forgotten, Sees, SeenIn, Forgets}
 use Rattle.result_store.specs.Rows.{RowTree, row_tree, shelf_at, row_in, shelf_in, shelves_of, names_of, RowFits, AreRows}
 use Rattle.result_store.specs.RowChanges.{IsEmptyRow, ChangesAt, ForgetsAll}
+use Rattle.result_store.specs.Seen.{kept_at, KeepsSeen}
 use Rattle.result_store.proofs.ListLaws.{map-set_same, slice_get-map_at, all_at, all_set, all_more}
 
 -- the first row of a name is at this place
@@ -144,7 +144,7 @@ module _ (rows : List Row) (x : List ℕ) (p : ℕ) (old : Row) (at : number_fro
 
   pub row_forgotten : (new : Row) → ForgetsAll (row_tree old) (row_tree new) → Forgets (shelves_of rows) (shelves_of (set rows p new)) x
   row_forgotten new f = record {
-    same_text = after text ∙ f.text ∙ sym (before text);
+    text = after text ∙ f.text ∙ sym (before text);
     results = λ k. after (result k) ∙ f.results k ∙ sym (ap forgotten (before (result k)));
     others = λ item y d. ap (λ rs. shelf_in (row_in rs y) item) (map-set row_tree rows p new) ∙ ap (λ o. shelf_in o item) (row_in-others (map row_tree rows) x y p (row_tree old) (row_tree new) (row_at rows x p at) found f.name d);
   }
@@ -160,7 +160,7 @@ pub no_name_forgets : (rows : List Row) (x : List ℕ) → number_from 0 (names_
 no_name_forgets rows x e =
     let none = no_row 0 rows x e in
     record {
-      same_text = refl;
+      text = refl;
       results = λ k. ap (λ o. shelf_in o (result k)) none ∙ sym (ap (λ o. forgotten (shelf_in o (result k))) none);
       others = λ item y d. refl;
     }
@@ -182,6 +182,25 @@ module _ (old : Shelves) (rs news : List RowTree) (x : List ℕ) (item : Item) (
     sees = subst (λ a. Sees a v n (now news item x)) (sym c.before ∙ s item x) (subst (λ b. Sees (shelf_at r item) v n b) (sym c.after) k);
     others = λ other y d. c.others other y d ∙ s other y;
   }
+
+-- of a name that has no row nothing was seen
+pub no_name_keeps : (rows : List Row) (x : List ℕ) (item : Item) (n : ℕ) (needs : List Stamped) → number_from 0 (names_of rows) x ≡ None → KeepsSeen (shelves_of rows) (shelves_of rows) item x n needs
+no_name_keeps rows x item n needs e v at =
+    let none : slice_get (shelves_of rows item x).values n ≡ None = ap (λ o. slice_get (shelf_in o item).values n) (no_row 0 rows x e) in
+    absurd (let z : None ≡ Some v = sym none ∙ at in cc)
+
+pub keeps_seen_in : (rs news : List RowTree) (x : List ℕ) (item : Item) (r new : RowTree) (n : ℕ) (needs : List Stamped) → IsChanged rs x item r new news → shelf_at new item ≡ kept_at (shelf_at r item) n needs → KeepsSeen (now rs) (now news) item x n needs
+keeps_seen_in rs news x item r new n needs c e v at =
+    let is : now news item x ≡ kept_at (now rs item x) n needs = c.after ∙ e ∙ ap (λ s. kept_at s n needs) (sym c.before) in
+    record {
+      keeps = record {
+        stamp = n;
+        values = inl (ap (λ (s : Shelf). s.values) is);
+        at = ap (λ (s : Shelf). slice_get s.values n) is ∙ at;
+        kept = ap (λ (s : Shelf). s.kept) is;
+      };
+      others = c.others;
+    }
 
 -- ---- a row more
 

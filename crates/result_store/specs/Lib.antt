@@ -1,5 +1,6 @@
 pub mod Values
 pub mod Fits
-pub mod Changes
 pub mod Rows
 pub mod RowChanges
+pub mod Seen
+pub mod Stamps

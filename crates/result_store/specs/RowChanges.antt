@@ -2,7 +2,7 @@
 use Rattle.std.specs.Prelude.{◌≡◌, ℕ, List}
 use Rattle.pipsmake_rules.specs.declared.kind.Kind.{Kind}
 use Rattle.laws_database.specs.Values.{Item, result}
-use Rattle.result_store.specs.Changes.{no_shelf, forgotten}
+use Rattle.laws_database.specs.Shelves.{no_shelf, forgotten}
 use Rattle.result_store.specs.Rows.{RowTree, shelf_at, RowFits}
 
 -- the row of a name of which nothing was seen

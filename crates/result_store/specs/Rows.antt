@@ -4,13 +4,12 @@ use Rattle.std.specs.List.{AllByRecursion}
 use Rattle.f77_symbols.specs.declared.name_index.NameIndex.{NameIndex}
 use Rattle.f77_symbols.specs.Index.{Indexes}
 use Rattle.pipsmake_rules.specs.Kinds.{number_of}
-use Rattle.laws_database.specs.Shelves.{Shelf, Shelves}
+use Rattle.laws_database.specs.Shelves.{Shelf, Shelves, no_shelf}
 use Rattle.laws_database.specs.Values.{Item, text, result}
 use Rattle.result_store.specs.declared.shelf.Shelf as code
 use Rattle.result_store.specs.declared.row.Row.{Row}
 use Rattle.result_store.specs.Values.{value_tree, kept_tree}
 use Rattle.result_store.specs.Fits.{ShelfFits}
-use Rattle.result_store.specs.Changes.{no_shelf}
 
 abbrev pub shelf_tree : code.Shelf → Shelf
 shelf_tree s = record { values = map value_tree s.values; kept = option_map kept_tree s.kept }

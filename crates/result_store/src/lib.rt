@@ -6,6 +6,7 @@ mod item;
 mod row;
 mod same;
 mod shelf;
+mod stamps;
 mod store;
 mod typed;
 mod value;

@@ -1,10 +1,10 @@
 //! The shelves of a name.
 ghost use Rattle.std.specs.Prelude.{◌≡◌, map, replicate, IfOk, OnOk, OnErr};
-ghost use Rattle.laws_database.specs.Shelves.{Keeps};
-ghost use Rattle.result_store.specs.Changes.{no_shelf, forgotten, Sees};
+ghost use Rattle.laws_database.specs.Shelves.{Keeps, no_shelf, forgotten, Sees};
 ghost use Rattle.result_store.specs.Fits.{ValueFits, ShelfFits};
 ghost use Rattle.result_store.specs.Rows.{row_tree, shelf_tree, shelf_at, RowFits};
 ghost use Rattle.result_store.specs.RowChanges.{IsEmptyRow, ChangesAt, ForgetsAll};
+ghost use Rattle.result_store.specs.Seen.{kept_at};
 ghost use Rattle.result_store.specs.Values.{value_tree, stamped_tree, item_of};
 
 use crate::item::{Item, Stamped};
@@ -97,6 +97,21 @@ impl Row {
             Item::Result(kind) => {
                 let shelf = &mut self.results[kind.number() as usize];
                 shelf.see(value)
+            }
+        }
+    }
+
+    /// The value of an item with a stamp is kept. Takes no memory.
+    pub fn keep_seen(&mut self, item: Item, stamp: u32, needs: List<Stamped>)
+        requires { RowFits (row_tree self.old) }
+        ensures changes { ChangesAt (item_of item) (row_tree self.old) (row_tree self.new) }
+        ensures kept { shelf_at (row_tree self.new) (item_of item) ≡ kept_at (shelf_at (row_tree self.old) (item_of item)) stamp (map stamped_tree needs) }
+    {
+        match item {
+            Item::Text => self.text.keep_seen(stamp, needs),
+            Item::Result(kind) => {
+                let shelf = &mut self.results[kind.number() as usize];
+                shelf.keep_seen(stamp, needs)
             }
         }
     }

@@ -1,9 +1,9 @@
 //! The values that were seen of one item and name.
 ghost use Rattle.std.specs.Prelude.{◌≡◌, map, slice_get, Some, IfOk, OnOk, OnErr, IfSome, IfNone, option_map};
-ghost use Rattle.laws_database.specs.Shelves.{Keeps, IsNew, kept_value};
-ghost use Rattle.result_store.specs.Changes.{no_shelf, forgotten, Sees};
+ghost use Rattle.laws_database.specs.Shelves.{Keeps, IsNew, kept_value, no_shelf, forgotten, Sees};
 ghost use Rattle.result_store.specs.Fits.{ValueFits, ShelfFits};
 ghost use Rattle.result_store.specs.Rows.{shelf_tree};
+ghost use Rattle.result_store.specs.Seen.{kept_at};
 ghost use Rattle.result_store.specs.Values.{value_tree, stamped_tree};
 
 use crate::item::{Kept, Stamped};
@@ -80,6 +80,13 @@ impl Shelf {
         let stamp = self.see(value)?;
         self.kept = Some(Kept { stamp, needs });
         Ok(())
+    }
+
+    /// The value with a stamp is kept. Takes no memory.
+    pub fn keep_seen(&mut self, stamp: u32, needs: List<Stamped>)
+        ensures { shelf_tree self.new ≡ kept_at (shelf_tree self.old) stamp (map stamped_tree needs) }
+    {
+        self.kept = Some(Kept { stamp, needs });
     }
 
     /// Nothing is kept; what was seen stays.

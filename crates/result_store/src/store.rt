@@ -1,16 +1,17 @@
 //! The shelves of all names.
-ghost use Rattle.std.specs.Prelude.{◌≡◌, ◌<◌, ℕ, List, length, map, IfOk, OnOk, OnErr, IfSome, option_map};
+ghost use Rattle.std.specs.Prelude.{◌≡◌, ◌<◌, ◌↔◌, ℕ, List, length, map, Some, IfOk, OnOk, OnErr, IfSome, IsTrue, option_map};
 ghost use Rattle.f77_symbols.specs.Symbols.{number_from};
 ghost use Rattle.laws_database.specs.Making.{stamp_of, AllStay};
-ghost use Rattle.laws_database.specs.Shelves.{KeepsIn, kept_value};
+ghost use Rattle.laws_database.specs.Shelves.{KeepsIn, kept_value, no_shelf, SeenIn, Forgets};
 ghost use Rattle.laws_database.specs.Values.{Item as Of};
-ghost use Rattle.result_store.specs.Changes.{no_shelf, SeenIn, Forgets};
 ghost use Rattle.result_store.specs.Fits.{ValueFits};
 ghost use Rattle.result_store.specs.Rows.{row_tree, row_in, names_of, shelves_of, RowFits};
+ghost use Rattle.result_store.specs.Seen.{KeepsSeen};
 ghost use Rattle.result_store.specs.Values.{item_of, value_tree, stamped_tree, kept_tree};
 
 use crate::item::{Item, Kept, Stamped};
 use crate::row::Row;
+use crate::stamps::same_stamps;
 use crate::value::Value;
 use f77_symbols::NameIndex;
 use fx_lists::{List, Text};
@@ -118,6 +119,16 @@ impl Store {
         }
     }
 
+    /// Whether the kept value was made from just these, in this order. Takes no memory.
+    pub fn is_made_from(&self, item: Item, name: &Text, stamps: &[Stamped]) -> bool
+        ensures { IsTrue result ↔ (option_map (λ k. k.needs) (shelves_of self.now (item_of item) name.now).kept ≡ Some (map stamped_tree stamps.now)) }
+    {
+        match self.needs(item, name) {
+            None => false,
+            Some(needs) => same_stamps(needs.as_slice(), stamps),
+        }
+    }
+
     /// Adds a row of a name that has none; its place.
     fn add(&mut self, alloc: Global, name: &Text) -> Result<usize, Memory>
         requires { number_from 0 (names_of self.old) name.now ≡ None }
@@ -178,6 +189,19 @@ impl Store {
         let at = self.place_or_add(alloc, name)?;
         let row = &mut self.rows[at];
         row.see(item, value)
+    }
+
+    /// The value that was seen with a stamp is kept of an item and name, with what it was made from. Takes no memory.
+    pub fn keep_seen(&mut self, item: Item, name: &Text, stamp: u32, needs: List<Stamped>)
+        ensures { KeepsSeen (shelves_of self.old) (shelves_of self.new) (item_of item) name.now stamp (map stamped_tree needs) }
+    {
+        match self.place(name) {
+            None => {}
+            Some(at) => {
+                let row = &mut self.rows[at as usize];
+                row.keep_seen(item, stamp, needs);
+            }
+        }
     }
 
     /// No result of a name is kept any more. What was seen stays, and what is kept of its text. Takes no memory.

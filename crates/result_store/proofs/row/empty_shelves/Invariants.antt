@@ -1,5 +1,5 @@
 use Rattle.std.proofs.Common.{◌≡◌, map, replicate}
-use Rattle.result_store.specs.Changes.{no_shelf}
+use Rattle.laws_database.specs.Shelves.{no_shelf}
 use Rattle.result_store.specs.Rows.{shelf_tree}
 use Rattle.result_store.proofs.row.empty_shelves.Given as goal
 

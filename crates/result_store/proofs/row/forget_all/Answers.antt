@@ -1,5 +1,5 @@
 use Rattle.std.proofs.Common.{◌≡◌, ◌+◌, ◌<◌, ◌++◌, suc, length, map, set, take, drop, subst, sym, ap, ◌∙◌, arith}
-use Rattle.result_store.specs.Changes.{forgotten}
+use Rattle.laws_database.specs.Shelves.{forgotten}
 use Rattle.result_store.specs.Rows.{shelf_tree}
 use Rattle.result_store.proofs.ListLaws.{forget_step}
 use Rattle.result_store.proofs.row.forget_all.Goals as goal

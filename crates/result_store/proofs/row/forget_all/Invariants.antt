@@ -1,5 +1,5 @@
 use Rattle.std.proofs.Common.{◌≡◌, ◌++◌, map, take, drop}
-use Rattle.result_store.specs.Changes.{forgotten}
+use Rattle.laws_database.specs.Shelves.{forgotten}
 use Rattle.result_store.specs.Rows.{shelf_tree}
 use Rattle.result_store.proofs.row.forget_all.Given as goal
 

@@ -1,6 +1,6 @@
 use Rattle.std.proofs.Common.{◌≡◌, length, map, refl, ap, ◌∙◌, arith}
 use Rattle.std.proofs.lemmas.List.{with_items_is}
-use Rattle.result_store.specs.Changes.{forgotten}
+use Rattle.laws_database.specs.Shelves.{forgotten}
 use Rattle.result_store.specs.Rows.{row_tree, shelf_tree}
 use Rattle.result_store.proofs.RowLaws.{forgets_all, forgotten_trees}
 use Rattle.result_store.proofs.row.Row.forget.Goals as goal

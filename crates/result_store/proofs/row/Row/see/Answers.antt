@@ -1,6 +1,6 @@
 use Rattle.std.proofs.Common.{set, subst}
 use Rattle.std.specs.Prelude.{IfOk}
-use Rattle.result_store.specs.Changes.{Sees}
+use Rattle.laws_database.specs.Shelves.{Sees}
 use Rattle.result_store.specs.Rows.{shelf_tree, shelf_at}
 use Rattle.result_store.specs.Values.{value_tree, item_of}
 use Rattle.result_store.proofs.Outcomes.{on_err}

@@ -1,0 +1,15 @@
+pub mod ListLaws
+pub mod LinkLaws
+pub mod AskedLaws
+pub mod TextLaws
+pub mod BringLaws
+pub mod MakeLaws
+pub mod ShowLaws
+pub mod PutLaws
+pub mod CommandLemmas
+pub mod PrintLemmas
+pub mod ScriptLemmas
+pub mod Once
+pub mod Staying
+pub mod Printing
+pub mod SmallSession

@@ -1,0 +1,112 @@
+-- What making leads to.
+use Rattle.std.proofs.Common.{◌≡◌, ℕ, List, [], ◌++◌, None, sym, ap, ◌∙◌, subst, append-nil}
+use Rattle.pipsmake_rules.specs.declared.kind.Kind.{Kind}
+use Rattle.pipsmake_rules.specs.declared.key.Key.{Key}
+use Rattle.laws_database.specs.Texts.{ModuleText}
+use Rattle.laws_database.specs.Shelves.{Shelves}
+use Rattle.laws_database.specs.Making.{AllStay, BringsAll}
+use Rattle.laws_database.specs.Laws.{CanMake, walk_in, MakesAsDefined, MakingMayStop}
+use Rattle.laws_database.specs.Resting.{RestingStays}
+use Rattle.result_store.specs.Rows.{shelves_of}
+use Rattle.pipsmake_db.specs.declared.db.Db.{Db}
+use Rattle.pipsmake_db.specs.declared.make.Brought as code
+use Rattle.pipsmake_db.specs.Bring.{BringsSome, Brought}
+use Rattle.pipsmake_db.specs.Calls.{Stays, Loses, Makes, MakesLinked, key}
+use Rattle.pipsmake_db.specs.Fresh.{keys_put}
+use Rattle.pipsmake_db.specs.Refusals.{owner_refusal, links_refusal}
+use Rattle.pipsmake_db.specs.State.{State, texts_of, shelves_in, IsIn}
+use Rattle.pipsmake_db.proofs.AskedLaws.{can_make}
+use Rattle.pipsmake_db.proofs.TextLaws.{stands_same}
+
+-- ---- what stays
+
+pub stays : (old new : Db) → new.linked ≡ old.linked → new.store ≡ old.store → new.fresh ≡ old.fresh → Stays old new
+stays old new l s f = record { texts = l; kept = λ item x. ap (λ rows. shelves_of rows item x) s; fresh = f }
+
+-- nothing was made
+pub loses_nothing : (old new : Db) → new.linked ≡ old.linked → AllStay (shelves_in old) (shelves_in new) → new.fresh ≡ old.fresh → Loses old new
+loses_nothing old new l k f = record {
+  texts = l;
+  fresh = f;
+  stands = λ s i. (
+    [],
+    record {
+      texts = l ∙ i.texts;
+      stands = stands_same (shelves_in old) (shelves_in new) k s.texts s.made i.stands;
+      fresh = f ∙ i.fresh;
+    },
+  );
+}
+
+pub loses_same : (old new : Db) → new.linked ≡ old.linked → new.store ≡ old.store → new.fresh ≡ old.fresh → Loses old new
+loses_same old new l s f = loses_nothing old new l (λ item x. ap (λ rows. shelves_of rows item x) s) f
+
+-- ---- what was made
+
+module _ (may_stop : MakingMayStop) (old new : Db) (k : Kind) (x : List ℕ) (owned : owner_refusal (texts_of old) k x ≡ None) (links : links_refusal (texts_of old) k ≡ None) (texts : new.linked ≡ old.linked) where
+  can : CanMake (texts_of old) k x
+  can = can_make (texts_of old) k x owned links
+
+  -- the first of a walk, from a state
+  pub stopped : (s : State) → IsIn old s → (before after now : List Key) → walk_in (texts_of old) (key k x) ≡ before ++ after → BringsAll (shelves_in old) (texts_of old) before now (shelves_in new) → MakesAsDefined s.texts s.made before now (shelves_in new)
+  stopped s i before after now parts b =
+      may_stop (shelves_in old) (shelves_in new) s.texts s.made (key k x) before after now
+      (subst (λ ts. CanMake ts k x) i.texts can) i.stands
+      (subst (λ ts. walk_in ts (key k x) ≡ before ++ after) i.texts parts)
+      (subst (λ ts. BringsAll (shelves_in old) ts before now (shelves_in new)) i.texts b)
+
+  pub loses : new.fresh ≡ old.fresh → BringsSome (shelves_in old) (texts_of old) (walk_in (texts_of old) (key k x)) (shelves_in new) → Loses old new
+  loses fresh b = record {
+    texts = texts;
+    fresh = fresh;
+    stands = λ s i. (
+      b.now,
+      record {
+        texts = texts ∙ i.texts;
+        stands = (stopped s i b.before b.after b.now b.are b.brings).stands;
+        fresh = fresh ∙ i.fresh;
+      },
+    );
+  }
+
+  whole : walk_in (texts_of old) (key k x) ≡ walk_in (texts_of old) (key k x) ++ []
+  whole = sym (append-nil (walk_in (texts_of old) (key k x)))
+
+  pub leads : (now : List Key) → BringsAll (shelves_in old) (texts_of old) (walk_in (texts_of old) (key k x)) now (shelves_in new) → (s : State) → IsIn old s → MakesAsDefined s.texts s.made (walk_in s.texts (key k x)) now (shelves_in new)
+  leads now b s i = subst (λ ts. MakesAsDefined s.texts s.made (walk_in ts (key k x)) now (shelves_in new)) i.texts (stopped s i (walk_in (texts_of old) (key k x)) [] now whole b)
+
+  pub makes : (rests : RestingStays) (now : List Key) → BringsAll (shelves_in old) (texts_of old) (walk_in (texts_of old) (key k x)) now (shelves_in new) → new.fresh ≡ keys_put old.fresh (walk_in (texts_of old) (key k x)) → Makes old new (key k x) now
+  makes rests now b fresh = record {
+    texts = texts;
+    fresh = fresh;
+    leads = λ s i. (let m = leads now b s i in record {
+      made = m.are_made;
+      next = record {
+        texts = texts ∙ i.texts;
+        stands = m.stands;
+        fresh = fresh ∙ ap (λ f. keys_put f (walk_in (texts_of old) (key k x))) i.fresh ∙ ap (λ ts. keys_put s.fresh (walk_in ts (key k x))) i.texts;
+      };
+    });
+    rests = λ stored w r. rests (shelves_in old) (shelves_in new) (texts_of old) stored (key k x) (walk_in (texts_of old) (key k x)) [] now can w r whole b;
+  }
+
+-- ---- over the links that were taken out
+
+module _ (may_stop : MakingMayStop) (old mid after new : Db) (k : Kind) (x : List ℕ) (owned : owner_refusal (texts_of old) k x ≡ None) (links : links_refusal (texts_of old) k ≡ None)
+    (same : mid.linked ≡ old.linked) (store : mid.store ≡ old.store) (fresh : mid.fresh ≡ old.fresh) (back : new.linked ≡ mid.linked) (kept : new.store ≡ after.store) where
+  in_place : (P : List ModuleText → Shelves → Shelves → Type 0) → P (texts_of mid) (shelves_in mid) (shelves_in after) → P (texts_of old) (shelves_in old) (shelves_in new)
+  in_place P p =
+      subst (λ ts. P ts (shelves_in old) (shelves_in new)) same
+      (subst (λ rows. P (texts_of mid) (shelves_of rows) (shelves_in new)) store (subst (λ rows. P (texts_of mid) (shelves_in mid) (shelves_of rows)) (sym kept) p))
+
+  pub loses_linked : new.fresh ≡ mid.fresh → BringsSome (shelves_in mid) (texts_of mid) (walk_in (texts_of mid) (key k x)) (shelves_in after) → Loses old new
+  loses_linked f b = loses may_stop old new k x owned links (back ∙ same) (f ∙ fresh) (in_place (λ ts sh z. BringsSome sh ts (walk_in ts (key k x)) z) b)
+
+  pub brings_linked : (now : List Key) → BringsAll (shelves_in mid) (texts_of mid) (walk_in (texts_of mid) (key k x)) now (shelves_in after) → BringsAll (shelves_in old) (texts_of old) (walk_in (texts_of old) (key k x)) now (shelves_in new)
+  brings_linked now b = in_place (λ ts sh z. BringsAll sh ts (walk_in ts (key k x)) now z) b
+
+  pub fresh_linked : (f : List Key) → f ≡ keys_put mid.fresh (walk_in (texts_of mid) (key k x)) → f ≡ keys_put old.fresh (walk_in (texts_of old) (key k x))
+  fresh_linked f e = e ∙ ap (λ g. keys_put g (walk_in (texts_of mid) (key k x))) fresh ∙ ap (λ ts. keys_put old.fresh (walk_in ts (key k x))) same
+
+  pub makes_linked : (rests : RestingStays) (b : code.Brought) → Brought mid (key k x) after b → new.fresh ≡ b.fresh → MakesLinked old new (key k x) b.made
+  makes_linked rests b h f = record { links = links; makes = makes may_stop old new k x owned links (back ∙ same) rests b.made (brings_linked b.made h.brings) (f ∙ fresh_linked b.fresh h.fresh) }

@@ -1,0 +1,118 @@
+-- The text that shows what is kept.
+use Rattle.std.proofs.Common.{◌≡◌, ℕ, true, List, [], ◌∷◌, ◌++◌, map, Some, None, Result, Ok, Err, refl, sym, ap, ◌∙◌, subst}
+use Rattle.std.specs.Prelude.{codes, option_map, option_and_then}
+use Rattle.serde_json.specs.Written.{compact_text}
+use Rattle.f77_symbols.specs.declared.symbol.Symbol.{Symbol}
+use Rattle.f77_symbols.specs.Index.{names_of}
+use Rattle.f77_symbols.specs.Symbols.{symbol_tree}
+use Rattle.call_graph.specs.declared.graph.Graph.{Graph}
+use Rattle.call_graph.specs.declared.refusal.Fault.{Fault}
+use Rattle.f77_meaning.specs.Modules.{symbol_names}
+use Rattle.pipsmake_rules.specs.declared.kind.Kind.{Kind}
+use Rattle.pipsmake_rules.specs.declared.kind.Kind.TheVariants as kind
+use Rattle.pipsmake_rules.specs.declared.key.Key.{Key}
+use Rattle.pipsmake_rules.specs.Laws.{is_bottom_up}
+use Rattle.pipsmake_rules.proofs.WalkLaws.{complete}
+use Rattle.base_values.specs.declared.stored.StoredValue.{StoredValue}
+use Rattle.base_values.specs.Written.{stored_data}
+use Rattle.result_lines.specs.declared.show.Show.{Show}
+use Rattle.laws_statements.specs.CallsIn.{Each}
+use Rattle.laws_database.specs.Texts.{ModuleText, AreModules, names_in, trees_in, tables_in, links_in, graph_of, graph_or_none}
+use Rattle.laws_database.specs.Definitions.{module_named, definition, results_in, text_shown}
+use Rattle.laws_database.specs.Shelves.{Shelves}
+use Rattle.laws_database.specs.Rules.{text_with}
+use Rattle.laws_database.specs.Laws.{CanMake, walk_in, IsDefined, MakingMayStop, TextsAreShown}
+use Rattle.laws_database.specs.Resting.{RestingStays}
+use Rattle.laws_database.specs.Making.{BringsAll}
+use Rattle.laws_database.proofs.InOrder.{bottom_up}
+use Rattle.laws_database.proofs.Modules.{linked}
+use Rattle.laws_program_text.specs.Texts.{text_named}
+use Rattle.result_making.specs.Making.{text_made}
+use Rattle.pipsmake_db.specs.Kept.{json_kept, text_kept, IsShown}
+use Rattle.pipsmake_db.specs.declared.show.Ready.{Ready}
+use Rattle.result_store.specs.Rows.{shelves_of}
+use Rattle.pipsmake_db.specs.Shown.{json_with, json_line, text_for}
+use Rattle.pipsmake_db.specs.Calls.{key, ShowsLinked}
+use Rattle.pipsmake_db.specs.Fresh.{keys_put}
+use Rattle.pipsmake_db.specs.Refusals.{owner_refusal, links_refusal}
+use Rattle.pipsmake_db.specs.State.{texts_of, shelves_in}
+use Rattle.pipsmake_db.specs.declared.db.Db.{Db}
+use Rattle.pipsmake_db.specs.declared.db.Shown.{Shown}
+use Rattle.pipsmake_db.proofs.AskedLaws.{can_make}
+use Rattle.pipsmake_db.proofs.MakeLaws.{makes, leads, brings_linked, fresh_linked}
+
+-- ---- names of symbols
+
+pub names_are : (ss : List Symbol) → names_of ss ≡ symbol_names (map symbol_tree ss)
+names_are [] = refl
+names_are (s ∷ ss) = ap (λ xs. s.name ∷ xs) (names_are ss)
+
+pub line_is : (ss : List Symbol) (v : StoredValue) (t : List ℕ) → t ≡ compact_text (stored_data (names_of ss) v) → t ++ codes "\n" ≡ json_line (map symbol_tree ss) v
+line_is ss v t e = ap (λ u. u ++ codes "\n") (e ∙ ap (λ names. compact_text (stored_data names v)) (names_are ss))
+
+-- ---- the last of a walk
+
+graph_in_order : (ts : List ModuleText) → is_bottom_up (graph_of ts) ≡ true
+graph_in_order ts = go (links_in ts) refl
+  where
+    go : (r : Result Graph Fault) → links_in ts ≡ r → is_bottom_up (graph_or_none r) ≡ true
+    go (Ok g) e = bottom_up (trees_in ts) (tables_in ts) g (linked ts g e)
+    go (Err f) e = refl
+
+last : (P : Key → Type 0) (before : List Key) (k : Key) → Each P (before ++ k ∷ []) → P k
+last P [] k h = h.0
+last P (j ∷ before) k h = last P before k h.1
+
+pub asked_defined : (sh : Shelves) (ts : List ModuleText) (k : Key) → Each (IsDefined sh ts) (walk_in ts k) → IsDefined sh ts k
+asked_defined sh ts k are =
+    let end = (complete (names_in ts) (graph_of ts) k (graph_in_order ts)).1 in
+    last (IsDefined sh ts) end.0 k (subst (Each (IsDefined sh ts)) end.1 are)
+
+-- ---- the text
+
+module _ (shown : TextsAreShown) (sh : Shelves) (ts : List ModuleText) (ms : AreModules ts) (show : Show) (x : List ℕ) where
+  printed_is : CanMake ts kind.Printed x → Each (IsDefined sh ts) (walk_in ts (key kind.Printed x)) → text_made sh ts x show ≡ text_named show ts x
+  printed_is can are =
+      let s = shown sh ts x show ms can are in
+      ap (option_and_then (λ m. text_with sh m x show)) s.2 ∙ s.4
+      ∙ sym (ap (option_and_then (λ m. option_map (text_shown show m) (results_in ts x))) s.2 ∙ ap (option_map (text_shown show s.0)) s.3)
+
+  json_is : (k : Kind) → Each (IsDefined sh ts) (walk_in ts (key k x)) → json_kept sh ts k x ≡ json_with (module_named ts x) (definition ts k x)
+  json_is k are = ap (json_with (module_named ts x)) (asked_defined sh ts (key k x) are)
+
+  pub text_is : (k : Kind) → CanMake ts k x → Each (IsDefined sh ts) (walk_in ts (key k x)) → text_kept sh ts show k x ≡ text_for ts show k x
+  text_is kind.Parsed can are = refl
+  text_is kind.Lines can are = refl
+  text_is kind.Symbols can are = refl
+  text_is kind.CallGraph can are = refl
+  text_is kind.Effects can are = json_is kind.Effects are
+  text_is kind.Transformers can are = json_is kind.Transformers are
+  text_is kind.Preconditions can are = json_is kind.Preconditions are
+  text_is kind.Regions can are = json_is kind.Regions are
+  text_is kind.InRegions can are = json_is kind.InRegions are
+  text_is kind.OutRegions can are = json_is kind.OutRegions are
+  text_is kind.Marks can are = json_is kind.Marks are
+  text_is kind.Printed can are = printed_is can are
+
+-- ---- what is shown
+
+module _ (may_stop : MakingMayStop) (rests : RestingStays) (shown : TextsAreShown) (old new : Db) (k : Kind) (x : List ℕ) (owned : owner_refusal (texts_of old) k x ≡ None) (links : links_refusal (texts_of old) k ≡ None) (texts : new.linked ≡ old.linked) where
+  pub shows : (show : Show) (s : Shown) → BringsAll (shelves_in old) (texts_of old) (walk_in (texts_of old) (key k x)) s.made (shelves_in new) → new.fresh ≡ keys_put old.fresh (walk_in (texts_of old) (key k x))
+      → text_kept (shelves_in new) (texts_of old) show k x ≡ Some s.text → ShowsLinked old new k x show s
+  shows show s b fresh text = record {
+    links = links;
+    shows = record {
+      makes = makes may_stop old new k x owned links texts rests s.made b fresh;
+      text = λ st i. sym (text_is shown (shelves_in new) (texts_of old) (subst AreModules (sym i.texts) i.stands.modules) show x k (can_make (texts_of old) k x owned links)
+          (subst (λ ts. Each (IsDefined (shelves_in new) ts) (walk_in ts (key k x))) (sym i.texts) (leads may_stop old new k x owned links texts s.made b st i).defined)) ∙ text;
+    };
+  }
+
+module _ (may_stop : MakingMayStop) (rests : RestingStays) (shown : TextsAreShown) (old mid after new : Db) (k : Kind) (x : List ℕ) (owned : owner_refusal (texts_of old) k x ≡ None) (links : links_refusal (texts_of old) k ≡ None)
+    (same : mid.linked ≡ old.linked) (store : mid.store ≡ old.store) (fresh : mid.fresh ≡ old.fresh) (back : new.linked ≡ mid.linked) (kept : new.store ≡ after.store) where
+  pub shows_linked : (show : Show) (r : Ready) → IsShown mid k x show after r → new.fresh ≡ r.brought.fresh → ShowsLinked old new k x show (record { made = r.brought.made; text = r.text })
+  shows_linked show r h f =
+      shows may_stop rests shown old new k x owned links (back ∙ same) show (record { made = r.brought.made; text = r.text })
+      (brings_linked may_stop old mid after new k x owned links same store fresh back kept r.brought.made h.brought.brings)
+      (f ∙ fresh_linked may_stop old mid after new k x owned links same store fresh back kept r.brought.fresh h.brought.fresh)
+      (ap (λ rows. text_kept (shelves_of rows) (texts_of old) show k x) kept ∙ ap (λ ts. text_kept (shelves_in after) ts show k x) (sym same) ∙ h.text)

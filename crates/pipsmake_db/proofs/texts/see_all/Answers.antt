@@ -1,0 +1,19 @@
+use Rattle.std.proofs.Common.{map, subst}
+use Rattle.result_store.specs.Rows.{shelves_of}
+use Rattle.session_texts.specs.Modules.{source_text}
+use Rattle.pipsmake_db.proofs.ListLaws.{first-rest}
+use Rattle.pipsmake_db.proofs.TextLaws.{Sees, stands_same, still_stands, sees_more}
+use Rattle.pipsmake_db.proofs.texts.see_all.Goals as goal
+
+pub returns-in_err-seen-clause-stands : goal.returns-in_err-seen-clause-stands
+returns-in_err-seen-clause-stands c = λ ts made s. stands_same (shelves_of c.loop-rest.store) (shelves_of c.see.new.store) c.in_err-seen.ensures.err ts made (c.loop-rest.invariant.stands ts made s)
+
+pub returns-in_err-push-clause-stands : goal.returns-in_err-push-clause-stands
+returns-in_err-push-clause-stands c =
+    still_stands c.values_may_be_seen.ensures (shelves_of c.args.store.now) (shelves_of c.loop-rest.store) (shelves_of c.see.new.store) (source_text c.source-item.result) c.in_ok-seen.seen c.loop-rest.invariant.stands c.in_ok-seen.ensures.ok
+
+pub loop-rest-preserved : goal.loop-rest-preserved
+loop-rest-preserved c =
+    let parts = first-rest c.loop-rest.rest.now c.source-item.result _ c.in-len1-up.len_at_least c.source-item.is in
+    sees_more c.values_may_be_seen.ensures (shelves_of c.args.store.now) (map source_text c.args.found.now) (shelves_of c.loop-rest.store) (shelves_of c.see.new.store) (source_text c.source-item.result) _ c.loop-rest.all c.push.new.self c.in_ok-seen.seen
+    (subst (λ ss. Sees (shelves_of c.args.store.now) (map source_text c.args.found.now) (shelves_of c.loop-rest.store) (map source_text ss) c.loop-rest.all) parts c.loop-rest.invariant) c.in_ok-seen.ensures.ok c.in_ok-push.ensures.ok

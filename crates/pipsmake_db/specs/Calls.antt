@@ -1,0 +1,118 @@
+-- What each call of a database does.
+use Rattle.std.specs.Prelude.{◌≡◌, ℕ, true, List, [], Some, None, Ok}
+use Rattle.pipsmake_rules.specs.declared.kind.Kind.{Kind}
+use Rattle.pipsmake_rules.specs.declared.key.Key.{Key}
+use Rattle.pipsmake_rules.specs.Kinds.{kind_with}
+use Rattle.pipsmake_rules.specs.Neighbours.{has_name}
+use Rattle.result_lines.specs.declared.show.Show.{Show}
+use Rattle.laws_database.specs.Texts.{ModuleText, names_in}
+use Rattle.laws_database.specs.Session.{MadeOf, made_now}
+use Rattle.laws_database.specs.Stands.{Valuation}
+use Rattle.laws_database.specs.Making.{AllStay}
+use Rattle.laws_database.specs.Laws.{walk_in}
+use Rattle.laws_database.specs.Resting.{RestsOn, RestsStill, IsWhole, value_with}
+use Rattle.session_texts.specs.Changes.{replaced, without}
+use Rattle.session_texts.specs.Sources.{source_modules}
+use Rattle.pipsmake_db.specs.declared.db.Db.{Db}
+use Rattle.pipsmake_db.specs.declared.db.Shown.{Shown}
+use Rattle.pipsmake_db.specs.declared.refusal.DbRefusal.{DbRefusal}
+use Rattle.pipsmake_db.specs.declared.refusal.DbRefusal.TheVariants.{NoSuchKind, NoSuchName, NotShown, Source, Link, Memory}
+use Rattle.pipsmake_db.specs.Fresh.{keys_put}
+use Rattle.pipsmake_db.specs.Refusals.{links_refusal, make_refusal, value_refusal}
+use Rattle.pipsmake_db.specs.Shown.{text_for}
+use Rattle.pipsmake_db.specs.State.{State, after_source, after_all, after_drop, after_make, texts_of, shelves_in, IsIn}
+
+-- ---- what a refusal leaves
+
+-- texts and fresh results stay, and so does all that is kept
+pub record Stays (old new : Db) : Type 0 where
+  pub texts : texts_of new ≡ texts_of old
+  pub kept : AllStay (shelves_in old) (shelves_in new)
+  pub fresh : new.fresh ≡ old.fresh
+
+-- texts and fresh results stay; what is kept is of the session before, or was made at the present texts
+pub record Loses (old new : Db) : Type 0 where
+  pub texts : texts_of new ≡ texts_of old
+  pub fresh : new.fresh ≡ old.fresh
+  pub stands : (s : State) → IsIn old s → (now : List Key) × IsIn new (record s { made = made_now s.made s.texts now })
+
+-- after want of memory a database may have made some of what it had to make; after another refusal all is as it was
+abbrev pub IsLeft : Db → Db → DbRefusal → Type 0
+IsLeft old new NoSuchKind = Stays old new
+IsLeft old new NoSuchName = Stays old new
+IsLeft old new NotShown = Stays old new
+IsLeft old new (Source line code keyword) = Stays old new
+IsLeft old new (Link x line first code) = Stays old new
+IsLeft old new Memory = Loses old new
+
+-- ---- texts
+
+-- the modules of a source text take the place of those of their names, or are added
+pub record Replaces (old new : Db) (text : List ℕ) (names : List (List ℕ)) : Type 0 where
+  pub found : List ModuleText
+  pub read : source_modules text ≡ Ok found
+  pub named : names ≡ names_in found
+  pub texts : texts_of new ≡ replaced (texts_of old) found
+  pub fresh : new.fresh ≡ []
+  pub leads : (s : State) → IsIn old s → IsIn new (after_source s found)
+
+-- the modules are just those of a source text
+pub record ReplacesAll (old new : Db) (text : List ℕ) (names : List (List ℕ)) : Type 0 where
+  pub found : List ModuleText
+  pub read : source_modules text ≡ Ok found
+  pub named : names ≡ names_in found
+  pub texts : texts_of new ≡ found
+  pub fresh : new.fresh ≡ []
+  pub leads : (s : State) → IsIn old s → IsIn new (after_all s found)
+
+-- the module of a name is gone
+pub record Drops (old new : Db) (x : List ℕ) : Type 0 where
+  pub was_there : has_name (names_in (texts_of old)) x ≡ true
+  pub texts : texts_of new ≡ without x (texts_of old)
+  pub fresh : new.fresh ≡ []
+  pub leads : (s : State) → IsIn old s → IsIn new (after_drop s x)
+
+-- ---- results
+
+-- from a state just those results of the walk are made that are not up to date
+pub record LeadsOn (new : Db) (s : State) (k : Key) (now : List Key) : Type 0 where
+  pub made : MadeOf s.made s.texts (walk_in s.texts k) now
+  pub next : IsIn new (after_make s k now)
+
+-- where all stored results of the modules are kept, whatever they are, the walk has the values that follow from them, and no stored one is made
+abbrev pub StillRests : Db → Db → Key → List Key → Type 0
+StillRests old new k now =
+    (stored : Valuation) → IsWhole (texts_of old) stored → RestsOn (shelves_in old) (texts_of old) (value_with (texts_of old) stored) →
+    RestsStill (texts_of old) stored (walk_in (texts_of old) k) now (shelves_in new)
+
+-- a result is brought up to date, with all that it needs: these were made, in this order
+pub record Makes (old new : Db) (k : Key) (now : List Key) : Type 0 where
+  pub texts : texts_of new ≡ texts_of old
+  pub fresh : new.fresh ≡ keys_put old.fresh (walk_in (texts_of old) k)
+  pub leads : (s : State) → IsIn old s → LeadsOn new s k now
+  pub rests : StillRests old new k now
+
+abbrev pub key : Kind → List ℕ → Key
+key k x = record { kind = k; name = x }
+
+-- the result of a kind by the name of that kind
+abbrev pub MakesNamed : Db → Db → List ℕ → List ℕ → List Key → Type 0
+MakesNamed old new kind x now = (make_refusal (texts_of old) kind x ≡ None) × ((k : Kind) → kind_with kind ≡ Some k → Makes old new (key k x) now)
+
+-- the texts link where its kind needs that
+pub record MakesLinked (old new : Db) (k : Key) (now : List Key) : Type 0 where
+  pub links : links_refusal (texts_of old) k.kind ≡ None
+  pub makes : Makes old new k now
+
+-- it is made and shown
+pub record Shows (old new : Db) (k : Kind) (x : List ℕ) (show : Show) (shown : Shown) : Type 0 where
+  pub makes : Makes old new (key k x) shown.made
+  pub text : (s : State) → IsIn old s → text_for (texts_of old) show k x ≡ Some shown.text
+
+pub record ShowsLinked (old new : Db) (k : Kind) (x : List ℕ) (show : Show) (shown : Shown) : Type 0 where
+  pub links : links_refusal (texts_of old) k ≡ None
+  pub shows : Shows old new k x show shown
+
+abbrev pub ShowsNamed : Db → Db → List ℕ → List ℕ → Show → Shown → Type 0
+ShowsNamed old new kind x show shown =
+    (value_refusal (texts_of old) kind x ≡ None) × ((k : Kind) → kind_with kind ≡ Some k → Shows old new k x show shown)

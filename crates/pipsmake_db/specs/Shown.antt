@@ -1,0 +1,57 @@
+-- The text that shows a result.
+use Rattle.std.specs.Prelude.{ℕ, List, ◌++◌, codes, Option, Some, None, option_map, option_and_then}
+use Rattle.serde_json.specs.Written.{compact_text}
+use Rattle.f77_symbols.specs.Symbols.{SymbolTree}
+use Rattle.f77_meaning.specs.Modules.{symbol_names}
+use Rattle.pipsmake_rules.specs.declared.kind.Kind.{Kind}
+use Rattle.pipsmake_rules.specs.declared.kind.Kind.TheVariants as kind
+use Rattle.base_values.specs.declared.stored.StoredValue.{StoredValue}
+use Rattle.base_values.specs.declared.stored.StoredValue.TheVariants as stored
+use Rattle.base_values.specs.Written.{stored_data}
+use Rattle.result_lines.specs.declared.show.Show.{Show}
+use Rattle.laws_database.specs.Texts.{ModuleText, ReadModule}
+use Rattle.laws_database.specs.Definitions.{module_named, definition}
+use Rattle.laws_database.specs.Values.{Value, source, parsed, lines, symbols, graph, effects, transformers, preconditions, regions, ins, outs, marks, printed}
+use Rattle.laws_program_text.specs.Texts.{text_named}
+
+-- a value of a kind that is stored
+abbrev pub stored_in : Value → Option StoredValue
+stored_in (source x) = None
+stored_in (parsed x) = None
+stored_in (lines x) = None
+stored_in (symbols x) = None
+stored_in (graph x) = None
+stored_in (effects x) = Some (stored.Effects x)
+stored_in (transformers x) = Some (stored.Transformers x)
+stored_in (preconditions x) = Some (stored.Preconditions x)
+stored_in (regions x) = Some (stored.Regions x)
+stored_in (ins x) = Some (stored.InRegions x)
+stored_in (outs x) = Some (stored.OutRegions x)
+stored_in (marks x) = Some (stored.Marks x)
+stored_in (printed x) = None
+
+-- its JSON, in one line
+abbrev pub json_line : List SymbolTree → StoredValue → List ℕ
+json_line table v = compact_text (stored_data (symbol_names table) v) ++ codes "\n"
+
+abbrev pub json_with : Option ReadModule → Option Value → Option (List ℕ)
+json_with m v = option_and_then (λ m. option_and_then (λ v. option_map (json_line m.table) (stored_in v)) v) m
+
+-- of the result of a kind and a module
+abbrev pub json_named : List ModuleText → Kind → List ℕ → Option (List ℕ)
+json_named ts k x = json_with (module_named ts x) (definition ts k x)
+
+-- the text that shows a result of these texts: the written text of a module, with what `show` adds to it, and of stored kinds the JSON
+abbrev pub text_for : List ModuleText → Show → Kind → List ℕ → Option (List ℕ)
+text_for ts show kind.Printed x = text_named show ts x
+text_for ts show kind.Parsed x = None
+text_for ts show kind.Lines x = None
+text_for ts show kind.Symbols x = None
+text_for ts show kind.CallGraph x = None
+text_for ts show kind.Effects x = json_named ts kind.Effects x
+text_for ts show kind.Transformers x = json_named ts kind.Transformers x
+text_for ts show kind.Preconditions x = json_named ts kind.Preconditions x
+text_for ts show kind.Regions x = json_named ts kind.Regions x
+text_for ts show kind.InRegions x = json_named ts kind.InRegions x
+text_for ts show kind.OutRegions x = json_named ts kind.OutRegions x
+text_for ts show kind.Marks x = json_named ts kind.Marks x

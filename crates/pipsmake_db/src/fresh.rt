@@ -1,0 +1,39 @@
+//! Which results are fresh.
+ghost use Rattle.std.specs.Prelude.{◌≡◌, IfOk, OnOk};
+ghost use Rattle.pipsmake_db.specs.Fresh.{key_put, keys_put};
+
+use pipsmake_rules::{Key, Listed};
+use std::alloc::{AllocError as Memory, Global};
+
+/// The same result.
+pub(crate) fn copy_key(key: &Key) -> Result<Key, Memory>
+    ensures { IfOk result (λ copy. copy ≡ key.now) }
+{
+    let name = key.name.clone()?;
+    let kind = key.kind;
+    Ok(Key { kind, name })
+}
+
+/// Adds a result, unless it is there.
+fn put_key(alloc: Global, fresh: &mut Listed, key: &Key) -> Result<(), Memory>
+    ensures { OnOk result (fresh.new ≡ key_put key.now fresh.old) }
+{
+    if fresh.has(alloc, key)? {
+        return Ok(());
+    }
+    let key = copy_key(key)?;
+    fresh.push(alloc, key)
+}
+
+/// Fresh results, and then those of a walk.
+pub(crate) fn with_walk(alloc: Global, fresh: &Listed, walk: &[Key]) -> Result<Listed, Memory>
+    ensures { IfOk result (λ all. all ≡ keys_put fresh.now walk.now) }
+{
+    let mut all = fresh.copied(alloc)?;
+    let mut rest = walk;
+    while let [key, more @ ..] = rest {
+        put_key(alloc, &mut all, key)?;
+        rest = more;
+    }
+    Ok(all)
+}

@@ -1,0 +1,27 @@
+//! The database of a session: the present texts, and results that are kept and made again where they are out of date; and what a session answers to a script of commands.
+#![tactic(auto)]
+
+mod asked;
+mod bring;
+mod command;
+mod db;
+mod fresh;
+mod laws;
+mod linked;
+mod make;
+mod print;
+mod refusal;
+mod refuse;
+mod script;
+mod show;
+mod stamps;
+mod stored;
+mod texts;
+
+pub use command::answer_command;
+pub use db::{Db, Shown};
+pub use laws::{
+    answers_are_unique, each_print_is_the_program, small_session_is_answered, texts_stay_modules,
+};
+pub use refusal::DbRefusal;
+pub use script::answer_script;
