@@ -9,7 +9,7 @@ import os
 import sys
 from collections import Counter
 
-from reference import TOP, run, write_cases
+from reference import TOP, whole, write_cases
 from session_programs import sessions
 
 # the stage at which the reference answers as sessions do
@@ -37,7 +37,7 @@ def cases(count):
 def main(words):
     given, wanted, codes = [], [], Counter()
     for show, script, answer in cases(int(words[0]) if words else 200):
-        status, out, err = run(['--show', show, '--session', 's'], {'s': script}, STAGE)
+        status, out, err, _ = whole(['--show', show, '--session', 's'], {'s': script}, STAGE)
         if status or err:
             sys.exit(f'status {status}: {err}')
         if answer not in (None, out):

@@ -1,8 +1,8 @@
 #!/usr/bin/env python3
 """What the gate costs: processor seconds of each crate (proof, tests, must-fail edits), and the dearest functions.
 
-    bench/gate.py run [WORD ..]        runs `rt ci WORD ..` at the top (`--anew` for all of it from nothing), samples the prover's processes once a second
-                                       from /proc, and writes what it saw to bench/gate.json
+    bench/gate.py run [WORD ..]        runs `rt ci WORD ..` at the top, samples the prover's processes once a second from /proc, and writes what it saw to
+                                       bench/gate.json. Words are for kits whose gate takes some, and keeps what passed unless one of them forbids it (`rt help`)
     bench/gate.py table                prints the table of bench/gate.json, dearest first, as it stands in docs/PERFORMANCE.md
     bench/gate.py functions CRATE ..   checks each of these crates from nothing with one job and prints its dearest functions, each with all time since the line before it; their libraries must be built (`rt check`)
 

@@ -1,11 +1,12 @@
 #!/usr/bin/env python3
-"""Times the projections and hulls that programs ask for, by the proved crates and by a library of the field.
+"""Times the projections and hulls that programs ask for, by the proved crates and by two libraries of the field.
 
     python3 bench/library.py [PATH_TO_CASES_ROWS [COUNT]]
 
 The requests are those of the analyses of scalars and of READ and WRITE regions over COUNT random programs (50), recorded from the reference, which asks for the same as the command. The
-library is isl (libisl.so.23, which C compilers bring along): rational elimination of the variables without redundant rows, and the closed convex hull of two systems; `bench/library.c` is
-compiled here. Both read all requests as text; times are processor seconds with that. They need not answer alike: isl has no limit of rows and rounds otherwise.
+libraries are isl (libisl.so.23, which C compilers bring along) and, where it is there, the Parma Polyhedra Library (libppl-dev): rational elimination of the variables without redundant rows, and the closed
+convex hull of two systems; `bench/library.c` and `bench/ppl.cc` are compiled here. All read all requests as text; times are processor seconds with that. They need not answer alike: the libraries have no limit
+of rows, and round otherwise or not at all.
 """
 import os
 import resource
@@ -66,18 +67,29 @@ def seconds(command, text):
     return after.ru_utime + after.ru_stime - before.ru_utime - before.ru_stime
 
 
+def libraries(place):
+    """The libraries that are there: names, and programs that take requests."""
+    found = []
+    for name, command in (('isl', ['cc', '-O2', os.path.join(reference.HERE, 'library.c'), '-l:libisl.so.23']), ('PPL', ['c++', '-O2', os.path.join(reference.HERE, 'ppl.cc'), '-lppl', '-lgmpxx', '-lgmp'])):
+        program = os.path.join(place, name)
+        if subprocess.run([*command, '-o', program], stderr=subprocess.DEVNULL).returncode == 0:
+            found.append((name, program))
+        else:
+            print(f'{name} is not there')
+    return found
+
+
 def main(*words):
     driver = os.path.abspath(words[0]) if words else os.path.join(reference.TOP, 'crates', 'cases_rows', 'out', 'cases_rows')
     asked = recorded(int(words[1]) if len(words) > 1 else 50)
     with tempfile.TemporaryDirectory() as place:
-        library = os.path.join(place, 'library')
-        subprocess.run(['cc', '-O2', '-o', library, os.path.join(reference.HERE, 'library.c'), '-l:libisl.so.23'], check=True)
+        programs = [('proved', driver), *libraries(place)]
         for kind in ('project', 'hull'):
             some = [a for a in asked if a[0] == kind]
             ours = ''.join(case_text(k, vs, [system_text(s) for s in ss]) + '\n' for k, vs, ss in some)
             theirs = ''.join(numbers(*a) + '\n' for a in some)
-            one, other = (min(seconds(c, t) for _ in range(3)) for c, t in (([driver], ours), ([library], theirs)))
-            print(f'{kind}: {len(some)} requests, {one:.3f} s, isl {other:.3f} s')
+            took = [f'{name} {min(seconds([program], ours if name == "proved" else theirs) for _ in range(3)):.3f} s' for name, program in programs]
+            print(f'{kind}: {len(some)} requests, ' + ', '.join(took), flush=True)
 
 
 if __name__ == '__main__':

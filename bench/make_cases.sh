@@ -6,6 +6,7 @@ python3 bench/cases_rows.py
 python3 bench/cases_programs.py
 python3 bench/cases_bases.py
 python3 bench/cases_sessions.py
+python3 bench/cases_faults.py
 python3 bench/random_cases.py
 python3 bench/pack.py --answers
 python3 bench/pack.py

@@ -7,7 +7,8 @@
 
 A program NAME.f is a case for each file of wanted bytes beside it: NAME.all, NAME.bare and NAME.why are what `--show all`, `--show bare`
 and `--show why` write, NAME.out what is written without words, and NAME.err the line of a refusal, of a run without words.
-tests/words/NAME.words is a command line, in which p.f names tests/words/p.f; what it answers is NAME.out or NAME.err. A case is added
+tests/words/NAME.words is a command line, in which p.f names tests/words/p.f; what it answers is NAME.out or NAME.err. A script
+tests/sessions/NAME.script is answered with `--session` by NAME.out. A case is added
 by adding its files: for --answers an empty file of wanted bytes will do. The cases come in the order of their paths, and after them those
 of tests/random.in and tests/random.out, which bench/random_cases.py makes in the same form.
 """
@@ -16,7 +17,8 @@ import sys
 
 TOP = os.path.dirname(os.path.dirname(os.path.abspath(__file__)))
 TESTS = os.path.join(TOP, 'tests')
-FOLDERS = [os.path.join(TESTS, 'accepted'), os.path.join(TESTS, 'refused'), os.path.join(TESTS, 'words'), os.path.join(TOP, 'examples')]
+FOLDERS = [os.path.join(TESTS, 'accepted'), os.path.join(TESTS, 'refused'), os.path.join(TESTS, 'words'), os.path.join(TESTS, 'sessions'), os.path.join(TOP, 'examples')]
+PROGRAM, SCRIPT, LINE = '.f', '.script', '.words'
 WORDS = {'.all': b'--show all p.f', '.bare': b'--show bare p.f', '.why': b'--show why p.f', '.out': b'p.f', '.err': b'p.f'}
 
 
@@ -57,12 +59,14 @@ def cases_of(folder):
     for name in sorted(os.listdir(folder)):
         path = os.path.join(folder, name)
         stem, kind = os.path.splitext(path)
-        if kind in ('.f', '.words'):
+        if kind in (PROGRAM, SCRIPT, LINE):
             wanted = [stem + end for end in WORDS if os.path.exists(stem + end)]
             if not wanted and name != 'p.f':
                 sys.exit(f'{path}: there are no wanted bytes beside it')
             for other in wanted:
-                if kind == '.f':
+                if kind == SCRIPT:
+                    yield Case(b'--session p.f', path, other)
+                elif kind == PROGRAM:
                     yield Case(WORDS[os.path.splitext(other)[1]], path, other)
                 else:
                     yield Case(content(path).strip(), os.path.join(folder, 'p.f'), other)

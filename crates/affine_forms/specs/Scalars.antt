@@ -1,6 +1,6 @@
 -- What the names of a module stand for, as far as forms look: constants and tracked cells.
 use Rattle.std.specs.Prelude.{ℕ, List, map, Option, Some, None, Bool, false, if◌then◌else◌}
-use Rattle.f77_constants.specs.declared.constant.Constant.{Constant}
+use Rattle.f77_symbols.specs.declared.constant.Constant.{Constant}
 use Rattle.f77_symbols.specs.declared.symbol.Symbol.{Symbol}
 use Rattle.f77_symbols.specs.Symbols.{number_from, symbol_tree, value_in}
 use Rattle.f77_symbols.specs.Shared.{numbered}

@@ -10,8 +10,7 @@ use crate::comparisons::{comparison, exactly, unknown};
 use crate::{Affine, affine_of, infeasible, no_rows};
 use affine_systems::{System, meet};
 use f77_ast::{BinaryOp, Expr, UnaryOp};
-use f77_constants::{Constant, Constants};
-use f77_symbols::Symbols;
+use f77_symbols::{Constant, Constants, Symbols};
 use fx_lists::List;
 use std::alloc::{AllocError as Memory, Global};
 

@@ -10,8 +10,7 @@ use crate::{Affine, cell_of};
 use affine_systems::terms::{blend, combination};
 use affine_systems::{Term, Var};
 use f77_ast::{BinaryOp, Expr, UnaryOp};
-use f77_constants::{Constant, Worth, worth_of};
-use f77_symbols::Symbols;
+use f77_symbols::{Constant, Symbols, Worth, worth_of};
 use fx_lists::{List, Text};
 use std::alloc::{AllocError as Memory, Global};
 

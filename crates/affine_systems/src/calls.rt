@@ -100,7 +100,7 @@ fn renamed_rows(alloc: Global, rows: &[Row], from: Var, to: Var) -> Result<Vec<R
     requires { AllRows IsSmallRow rows.now }
     ensures { IfOk result (λ rs. rs.items ≡ map (renamed_row_is (one_by from to)) rows.now) }
 {
-    let mut out = Vec::new(alloc);
+    let mut out = Vec::with_capacity(alloc, rows.len())?;
     for row in rows {
         out.push(renamed_row(alloc, row, from, to)?)?;
     }

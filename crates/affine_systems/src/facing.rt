@@ -148,7 +148,7 @@ pub fn face_all(alloc: Global, items: Vec<Item>) -> Result<Vec<Item>, Memory>
     }
     let made = next_made(items.as_slice(), items.len())?;
     let table = sides(items.as_slice());
-    let mut out = Vec::new(alloc);
+    let mut out = Vec::with_capacity(alloc, items.len())?;
     for i in 0..items.len() {
         let item = faced_by_place(alloc, made + i as u64, &table, &items[i], items.as_slice())?;
         out.push(item)?;

@@ -16,7 +16,7 @@ use std::alloc::{AllocError as Memory, Global};
 pub fn copy_rows(alloc: Global, rows: &[Row]) -> Result<Vec<Row>, Memory>
     ensures { IfOk result (λ v. v.items ≡ rows.now) }
 {
-    let mut out = Vec::new(alloc);
+    let mut out = Vec::with_capacity(alloc, rows.len())?;
     for row in rows {
         out.push(copy_row(alloc, row)?)?;
     }
@@ -27,7 +27,7 @@ pub fn copy_rows(alloc: Global, rows: &[Row]) -> Result<Vec<Row>, Memory>
 pub fn items_of(alloc: Global, mut rows: Vec<Row>) -> Result<Items, Memory>
     ensures { IfOk result (λ is. is ≡ items_from 0 rows.items) }
 {
-    let mut out = Vec::new(alloc);
+    let mut out = Vec::with_capacity(alloc, rows.len())?;
     while let Some(row) = rows.pop() {
         out.push(Item {
             row,
@@ -44,7 +44,7 @@ pub fn rows_of(alloc: Global, items: Items) -> Result<Rows, Memory>
     ensures { IfOk result (λ rs. rs ≡ rows_of_is items) }
 {
     let mut items = items.into_vec();
-    let mut out = Vec::new(alloc);
+    let mut out = Vec::with_capacity(alloc, items.len())?;
     while let Some(item) = items.pop() {
         out.push(item.row)?;
     }

@@ -21,8 +21,7 @@ use crate::rows::next_dimension;
 use affine_forms::Affine;
 use affine_systems::{Row, Var};
 use f77_ast::Expr;
-use f77_constants::{Constant, Worth, worth_of};
-use f77_symbols::{Bound, Symbols};
+use f77_symbols::{Bound, Constant, Symbols, Worth, worth_of};
 use fx_lists::List;
 use std::alloc::{AllocError as Memory, Global};
 

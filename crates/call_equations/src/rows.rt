@@ -13,8 +13,7 @@ use affine_forms::{Affine, affine_of, at_most_row, same_row, var_form};
 use affine_systems::{Row, Var};
 use call_translation::CellScope;
 use f77_ast::Expr;
-use f77_constants::{Constant, Worth, worth_of};
-use f77_symbols::{Bound, Symbols};
+use f77_symbols::{Bound, Constant, Symbols, Worth, worth_of};
 use fx_lists::List;
 use std::alloc::{AllocError as Memory, Global};
 

@@ -1,8 +1,6 @@
-//! Tests of lists, texts, stores and sinks, and of runs of the command whose store or sinks fail: what no program can show.
+//! Tests of lists, texts, stores and sinks: what no program can show.
 #![tactic(auto)]
 
-#[cfg(test)]
-mod faults;
 #[cfg(test)]
 mod lists;
 #[cfg(test)]

@@ -1,7 +1,7 @@
 //! Conflicts of the iterations of loops, and private variables.
 ghost use Rattle.std.specs.Prelude.{◌≡◌, All, length};
 ghost use Rattle.region_sets.specs.Lists.{SetsFit};
-ghost use Rattle.in_out_phases.specs.Views.{ModuleFits};
+ghost use Rattle.region_phases.specs.InViews.{ModuleFits};
 ghost use Rattle.loop_bodies.specs.Given.{AnalysisFits};
 
 use crate::scalars::add_system;
@@ -13,10 +13,9 @@ use f77_ast::{Parsed, StmtId};
 use f77_results::{EffectSet, Results, Variable, View};
 use f77_symbols::Symbols;
 use fx_lists::List;
-use in_out_phases::{ModuleIns, all_ins};
 use loop_bodies::{Analysis, body_of, loop_in};
 use privatizer::may_be_private;
-use region_phases::all_regions;
+use region_phases::{ModuleIns, all_ins, all_regions};
 use region_sets::{Access, Kinds, Private, RegionSet};
 use scalar_phases::analyses;
 use std::alloc::{AllocError as Memory, Global};

@@ -9,8 +9,8 @@ ghost use Rattle.f77_checks.specs.Expressions.{check_call, check_count, count, d
 
 use crate::sort::{Sort, sort_of};
 use f77_ast::Expr;
-use f77_constants::{joins_logical, turns_logical};
 use f77_names::{Function, NameTable};
+use f77_symbols::{joins_logical, turns_logical};
 use fx_lists::{List, Text};
 use refusal_codes::{Code, Refusal, refuse_if};
 

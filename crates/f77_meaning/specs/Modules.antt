@@ -11,10 +11,10 @@ use Rattle.f77_ast.specs.Places.{Meant, Constant, Variable, Function, Names, Dim
 use Rattle.f77_ast.specs.Places as places
 use Rattle.f77_ast.specs.Calls.{Dummy, nowhere}
 use Rattle.f77_ast.specs.Calls as calls
-use Rattle.f77_constants.specs.declared.constant.Constant.TheVariants as constant
-use Rattle.f77_constants.specs.declared.constant.Worth.{Worth}
-use Rattle.f77_constants.specs.declared.constant.Worth.TheVariants.{Is, Faults, Varies}
-use Rattle.f77_constants.specs.Constants.{worth}
+use Rattle.f77_symbols.specs.declared.constant.Constant.TheVariants as constant
+use Rattle.f77_symbols.specs.declared.constant.Worth.{Worth}
+use Rattle.f77_symbols.specs.declared.constant.Worth.TheVariants.{Is, Faults, Varies}
+use Rattle.f77_symbols.specs.Constants.{worth}
 use Rattle.f77_symbols.specs.declared.symbol.Place.{Place}
 use Rattle.f77_symbols.specs.declared.symbol.Place.TheVariants as place
 use Rattle.f77_symbols.specs.declared.symbol.InitialRun.{InitialRun}

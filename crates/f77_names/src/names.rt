@@ -5,8 +5,7 @@ ghost use Rattle.f77_names.specs.Entries.{changed, entry_tree, find, has_shape, 
 ghost use Rattle.f77_names.specs.Words.{was_said_of, with_word};
 
 use crate::{Entry, Word};
-use f77_constants::{Constant, Constants};
-use f77_symbols::NameIndex;
+use f77_symbols::{Constant, Constants, NameIndex};
 use fx_lists::Text;
 use std::alloc::{AllocError as Memory, Global};
 use std::marker::Model;

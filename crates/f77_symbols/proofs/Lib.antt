@@ -1,3 +1,4 @@
+mod ConstantsExample
 mod Example
 pub mod UnitsLaws
 pub mod NumbersLaws

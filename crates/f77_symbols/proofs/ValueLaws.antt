@@ -2,7 +2,7 @@
 use Rattle.std.proofs.Common.{◌≡◌, ℕ, zero, suc, ◌-◌, ◌≤◌, Bool, true, false, List, [], ◌∷◌, map, Option, Some, None, refl, sym, ap, ◌∙◌, arith}
 use Rattle.std.specs.Prelude.{if◌then◌else◌, bytes_eq, nat_eq, slice_get}
 use Rattle.std.proofs.lemmas.Bool.{eqb-true}
-use Rattle.f77_constants.specs.declared.constant.Constant.{Constant}
+use Rattle.f77_symbols.specs.declared.constant.Constant.{Constant}
 use Rattle.f77_symbols.specs.declared.symbol.Symbol.{Symbol}
 use Rattle.f77_symbols.specs.Symbols.{number_from, symbol_tree, value_in, constant_at}
 use Rattle.f77_symbols.specs.Shared.{numbered}

@@ -1,3 +1,4 @@
+pub mod Constants
 pub mod Symbols
 pub mod Index
 pub mod Units

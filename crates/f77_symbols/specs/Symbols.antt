@@ -6,8 +6,8 @@ use Rattle.f77_ast.specs.Trees.{ExprTree}
 use Rattle.f77_ast.specs.Plain.{expr_tree}
 use Rattle.f77_ast.specs.PlainStmt.{maybe_tree}
 use Rattle.f77_ast.specs.Numbers.{in_range, is_true}
-use Rattle.f77_constants.specs.declared.constant.Constant.{Constant}
-use Rattle.f77_constants.specs.declared.constant.Constant.TheVariants as constant
+use Rattle.f77_symbols.specs.declared.constant.Constant.{Constant}
+use Rattle.f77_symbols.specs.declared.constant.Constant.TheVariants as constant
 use Rattle.f77_symbols.specs.declared.symbol.Bound.{Bound}
 use Rattle.f77_symbols.specs.declared.symbol.Symbol.{Symbol}
 use Rattle.f77_symbols.specs.declared.symbol.Place.{Place}

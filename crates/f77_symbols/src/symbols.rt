@@ -5,9 +5,8 @@ ghost use Rattle.f77_symbols.specs.Symbols.{number_from, symbol_tree, constant_a
 ghost use Rattle.f77_symbols.specs.Shared.{numbered, place_at};
 ghost use Rattle.f77_symbols.specs.Index.{names_of};
 
-use crate::{NameIndex, Place, Symbol};
+use crate::{Constant, Constants, NameIndex, Place, Symbol};
 use f77_ast::Scalar;
-use f77_constants::{Constant, Constants};
 use fx_lists::Text;
 use std::alloc::{AllocError as Memory, Global};
 use std::marker::Model;

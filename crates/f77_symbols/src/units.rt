@@ -4,8 +4,7 @@ ghost use Rattle.f77_ast.specs.Places.{as_count};
 ghost use Rattle.f77_symbols.specs.Symbols.{bound_tree, symbol_tree, value_in};
 ghost use Rattle.f77_symbols.specs.Units.{bound_units, bounds_units, in_64_bits, span_units, units_in};
 
-use crate::{Bound, Symbol, Symbols};
-use f77_constants::{Constant, Worth, worth_of};
+use crate::{Bound, Constant, Symbol, Symbols, Worth, worth_of};
 
 /// The numbers from one to another, none where they descend.
 fn count_between(low: i32, high: i32) -> u64

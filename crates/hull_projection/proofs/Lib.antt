@@ -10,6 +10,7 @@ pub mod MinusLaws
 pub mod ClosureLaws
 pub mod GivenLaws
 pub mod VarSteps
+pub mod PlaceSteps
 pub mod FreshSteps
 pub mod HullSteps
 pub mod PartSteps

@@ -12,7 +12,7 @@ use Rattle.array_regions.specs.declared.arms.Reached.{Reached}
 use Rattle.array_regions.specs.Reads.{reads}
 use Rattle.array_regions.specs.Arms.{always, if_true, into_arm, past_arm, past_arms, all_met, tests_reads}
 use Rattle.in_out_regions.specs.Kinds.{all_in, first_reads}
-use Rattle.in_out_regions.specs.Lists.{set_at, list_in}
+use Rattle.in_out_regions.specs.Lists.{set_at, all_unless_overlapped, list_in}
 use Rattle.in_out_regions.specs.Known.{KnownTree}
 use Rattle.in_out_regions.specs.Simple.{reading}
 use Rattle.in_out_regions.specs.Loops.{do_in}
@@ -20,6 +20,10 @@ use Rattle.in_out_regions.specs.Loops.{do_in}
 -- a list with these sets at its statements; `whole` says that it is the body of the module
 abbrev pub list_of : Bool → StmtTrees → KnownTree → List (At (List Region)) → List Region
 list_of whole body k as' = list_in k.scope.symbols k.does (set_at k.accesses) (set_at as') whole body
+
+-- the statement of a logical IF, which has this number and set, as a list of it alone
+abbrev pub alone : KnownTree → ℕ → List Region → List Region
+alone k n rs = all_unless_overlapped k.scope.symbols (set_at k.accesses n) (unite_all rs)
 
 -- a logical IF whose statement has this set
 abbrev pub if_in : ScopeTree → ExprTree → List Region → List Region
@@ -41,7 +45,7 @@ abbrev mutual
   pub what_in : ℕ → WhatTree → KnownTree → List Region
   what_in n (tree.assign a b) k = first_reads (set_at k.accesses n)
   what_in n (tree.block_if arms other) k = unite_all (all_in (tests_reads arms k.scope always) ++ (arms_in arms k always ++ else_in other k (past_arms arms k.scope always)))
-  what_in n (tree.logical_if e s) k = if_in k.scope e (stmt_in s k)
+  what_in n (tree.logical_if e s) k = if_in k.scope e (only_in s k)
   what_in n (tree.do_loop l) k = do_of l k (at_loop l k)
   what_in n (tree.call x es) k = k.called x es
   what_in n (tree.goto l) k = first_reads (set_at k.accesses n)
@@ -50,6 +54,10 @@ abbrev mutual
   what_in n (tree.stop text) k = first_reads (set_at k.accesses n)
   what_in n (tree.print es) k = first_reads (set_at k.accesses n)
   what_in n (tree.read es) k = reading es k.scope
+
+  -- the statement of a logical IF
+  pub only_in : StmtTree → KnownTree → List Region
+  only_in (tree.stmt n label w) k = alone k n (what_in n w k)
 
   -- the arms of an IF, each where its test is true and those above it are false
   pub arms_in : ArmTrees → KnownTree → Reached → List Region

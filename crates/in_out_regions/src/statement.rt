@@ -9,12 +9,12 @@ ghost use Rattle.array_regions.specs.Reads.{reads};
 ghost use Rattle.array_regions.specs.Arms.{ReachedFits, always as always_is, past_arms, tests_reads};
 ghost use Rattle.in_out_regions.specs.Kinds.{all_in};
 ghost use Rattle.in_out_regions.specs.Contexts.{known_in, KnownFits};
-ghost use Rattle.in_out_regions.specs.Statement.{list_of as list_of_is, if_in as if_in_is, do_of as do_of_is, what_in as what_in_is, arms_in, list_set as list_set_is, at_stmt, at_parts, at_list, at_arms, at_loop};
+ghost use Rattle.in_out_regions.specs.Statement.{list_of as list_of_is, alone as alone_is, if_in as if_in_is, do_of as do_of_is, what_in as what_in_is, arms_in, list_set as list_set_is, at_stmt, at_parts, at_list, at_arms, at_loop};
 
 use crate::calls::call_in;
 use crate::context::InContext;
 use crate::kinds::{first_reads, push_in};
-use crate::lists::{ListContext, of_list, set_at};
+use crate::lists::{ListContext, all_unless_overlapped, of_list, set_at};
 use crate::loops::do_set;
 use crate::simple::reading;
 use array_regions::{
@@ -66,6 +66,26 @@ fn push_reads_in(
     let mut read = List::new(alloc);
     push_reads(alloc, &mut read, scope, e)?;
     push_in(alloc, out, read.as_slice())
+}
+
+/// Of the statement of a logical IF, which has this number and set, as of a list of it alone: it reads nothing certainly that shares units with what it writes.
+fn alone(
+    alloc: Global,
+    known: &InContext<'_>,
+    id: StmtId,
+    set: &[Region],
+) -> Result<RegionSet, Memory>
+    requires { SetFits set.now }
+    ensures defined { IfOk result (λ rs. rs ≡ alone_is (known_in known.now) id set.now) }
+    ensures fits { IfOk result SetFits }
+{
+    let united = unite_all(alloc, set)?;
+    all_unless_overlapped(
+        alloc,
+        known.around.scope.symbols,
+        set_at(known.regions, id),
+        united.as_slice(),
+    )
 }
 
 /// Of a logical IF whose statement has this set.
@@ -168,7 +188,8 @@ fn what_in(
         What::LogicalIf(test, s) => {
             let mut inner = List::new(alloc);
             let set = what_in(alloc, known, s.id, &s.what, &mut inner)?;
-            let all = if_in(alloc, known.around.scope, test, set.as_slice())?;
+            let only = alone(alloc, known, s.id, set.as_slice())?;
+            let all = if_in(alloc, known.around.scope, test, only.as_slice())?;
             put(alloc, parts, s.id, set, inner)?;
             Ok(all)
         }

@@ -9,8 +9,8 @@ use Rattle.f77_ast.specs.Store.{content, truth}
 use Rattle.f77_ast.specs.Numbers.{in_range, is_true}
 use Rattle.f77_ast.specs.Places.{Meant, Variable, Function}
 use Rattle.f77_ast.specs.Places as meant
-use Rattle.f77_constants.specs.declared.constant.Constant.{Constant}
-use Rattle.f77_constants.specs.declared.constant.Constant.TheVariants as constant
+use Rattle.f77_symbols.specs.declared.constant.Constant.{Constant}
+use Rattle.f77_symbols.specs.declared.constant.Constant.TheVariants as constant
 use Rattle.f77_symbols.specs.declared.symbol.Place.{Place}
 use Rattle.f77_symbols.specs.declared.symbol.Place.TheVariants as place
 use Rattle.f77_symbols.specs.declared.variable.Unit.{Unit as BlockUnit}

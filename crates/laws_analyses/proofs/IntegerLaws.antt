@@ -7,11 +7,11 @@ use Rattle.f77_ast.specs.DeclTrees as decl
 use Rattle.f77_ast.specs.declared.decl.Scalar.TheVariants as scalar
 use Rattle.f77_ast.specs.declared.places.Part.TheVariants as parts
 use Rattle.f77_ast.specs.Numbers.{in_range}
-use Rattle.f77_constants.specs.declared.constant.Constant.{Constant}
-use Rattle.f77_constants.specs.declared.constant.Constant.TheVariants as constant
-use Rattle.f77_constants.specs.declared.constant.Worth.{Worth}
-use Rattle.f77_constants.specs.declared.constant.Worth.TheVariants.{Is, Faults, Varies}
-use Rattle.f77_constants.specs.Constants.{number_of, worth}
+use Rattle.f77_symbols.specs.declared.constant.Constant.{Constant}
+use Rattle.f77_symbols.specs.declared.constant.Constant.TheVariants as constant
+use Rattle.f77_symbols.specs.declared.constant.Worth.{Worth}
+use Rattle.f77_symbols.specs.declared.constant.Worth.TheVariants.{Is, Faults, Varies}
+use Rattle.f77_symbols.specs.Constants.{number_of, worth}
 use Rattle.f77_statements.specs.Phrases.{specification, end_module}
 use Rattle.f77_parser.specs.Modules.{parse_of}
 use Rattle.f77_symbols.specs.declared.symbol.Place.TheVariants as place

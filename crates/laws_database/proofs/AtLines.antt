@@ -76,7 +76,7 @@ module _ (ts us : List ModuleText) (s : SameTexts ts us) where
   results_same : (x : List ℕ) → results_in ts x ≡ results_in us x
   results_same x = ap (λ r. results_with ts r x) links_same ∙ with_same x (links_in us)
 
-  definition_same : (k : Kind) (x : List ℕ) → definition ts k x ≡ definition us k x
+  pub definition_same : (k : Kind) (x : List ℕ) → definition ts k x ≡ definition us k x
   definition_same kind.Parsed x = ap (option_map (λ m. parsed m.module_is.module_read)) (named_same x)
   definition_same kind.Lines x = ap (option_map (λ m. lines m.module_is.places)) (named_same x)
   definition_same kind.Symbols x = ap (option_map (λ m. symbols m.table)) (named_same x)

@@ -26,3 +26,7 @@ pub mod ResultEntries
 pub mod ResultGraphs
 pub mod ResultFollows
 pub mod ResultSameNeeds
+mod TextRead
+mod TextSame
+mod TextPieces
+mod TextNamed

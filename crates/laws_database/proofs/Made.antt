@@ -18,10 +18,10 @@ use Rattle.in_out_regions.specs.Lists.{set_at}
 use Rattle.in_out_regions.specs.Modules.{ins_with}
 use Rattle.out_regions.specs.Modules.{outs_with}
 use Rattle.scalar_phases.specs.Phases.{scope_of, list_sites}
-use Rattle.out_phases.specs.Phases.{list_sites as out_list_sites, used_after}
+use Rattle.region_phases.specs.OutPhases.{list_sites as out_list_sites, used_after}
 use Rattle.loop_marker.specs.Known.{knowledge_of}
 use Rattle.loop_marker.specs.Marks.{marks_of}
-use Rattle.mark_phases.specs.Phases.{ModuleMarks}
+use Rattle.loop_marker.specs.Phases.{ModuleMarks}
 use Rattle.laws_statements.specs.CallsIn.{Each, list_calls}
 use Rattle.laws_analyses.proofs.CallLists.{each_both, each_more}
 use Rattle.laws_analyses.proofs.Passes.{each_reversed}

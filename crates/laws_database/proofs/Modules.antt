@@ -8,7 +8,7 @@ use Rattle.f77_ast.specs.DeclTrees.{ParsedTree}
 use Rattle.call_graph.specs.declared.graph.Edge.{Edge}
 use Rattle.call_graph.specs.declared.graph.Graph.{Graph}
 use Rattle.f77_meaning.specs.Modules.{Known, known_of}
-use Rattle.mark_phases.specs.Phases.{ModuleMarks}
+use Rattle.loop_marker.specs.Phases.{ModuleMarks}
 use Rattle.laws_storage.specs.Programs.{IsLinked}
 use Rattle.laws_statements.specs.CallsIn.{Each}
 use Rattle.laws_analyses.proofs.Passes.{each_reversed}

@@ -8,9 +8,9 @@ use Rattle.call_graph.specs.declared.graph.Graph.{Graph}
 use Rattle.f77_meaning.specs.Modules.{Known, known_of}
 use Rattle.scalar_phases.specs.Phases.{module_of, Found, Analysis, analyses_from, analyses}
 use Rattle.region_phases.specs.Phases.{ModuleRegions, all_regions}
-use Rattle.in_out_phases.specs.Phases.{ModuleIns, all_ins}
-use Rattle.out_phases.specs.Phases.{ModuleOuts, all_outs}
-use Rattle.mark_phases.specs.Phases.{ModuleMarks, analysis_in, all_marks}
+use Rattle.region_phases.specs.InPhases.{ModuleIns, all_ins}
+use Rattle.region_phases.specs.OutPhases.{ModuleOuts, all_outs}
+use Rattle.loop_marker.specs.Phases.{ModuleMarks, analysis_in, all_marks}
 use Rattle.laws_storage.specs.Programs.{IsLinked, known}
 use Rattle.laws_statements.specs.CallsIn.{Each}
 use Rattle.laws_analyses.proofs.CallLists.{each_more, each_both}

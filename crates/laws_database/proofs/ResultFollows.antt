@@ -8,9 +8,9 @@ use Rattle.call_graph.specs.declared.graph.Graph.{Graph}
 use Rattle.f77_meaning.specs.Modules.{Known, known_of}
 use Rattle.scalar_phases.specs.Phases.{Found, found_of, Analysis, analysis_of, sites_of}
 use Rattle.region_phases.specs.Phases.{ModuleRegions, with_regions}
-use Rattle.in_out_phases.specs.Phases.{ModuleIns, with_ins}
-use Rattle.out_phases.specs.Phases.{ModuleOuts, with_outs, sites_of as out_sites_of}
-use Rattle.mark_phases.specs.Phases.{ModuleMarks, analysis_in, with_marks, marks_found}
+use Rattle.region_phases.specs.InPhases.{ModuleIns, with_ins}
+use Rattle.region_phases.specs.OutPhases.{ModuleOuts, with_outs, sites_of as out_sites_of}
+use Rattle.loop_marker.specs.Phases.{ModuleMarks, analysis_in, with_marks, marks_found}
 use Rattle.laws_storage.specs.Programs.{IsLinked}
 use Rattle.laws_statements.specs.CallsIn.{Each}
 use Rattle.laws_analyses.proofs.CallLists.{each_more, each_both}

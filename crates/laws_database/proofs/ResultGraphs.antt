@@ -20,7 +20,7 @@ use Rattle.call_graph.proofs.CycleLaws.{in_order}
 use Rattle.f77_meaning.specs.Linked.{callees}
 use Rattle.f77_meaning.specs.Modules.{Known, known_of}
 use Rattle.scalar_phases.specs.Phases.{module_of}
-use Rattle.mark_phases.specs.Phases.{ModuleMarks}
+use Rattle.loop_marker.specs.Phases.{ModuleMarks}
 use Rattle.laws_storage.specs.Programs.{IsLinked, known}
 use Rattle.laws_storage.proofs.ModuleLaws.{graph_is, place_of_name}
 use Rattle.laws_statements.specs.CallsIn.{CallAt, Each, stmt_calls, what_calls, list_calls, arms_calls, arm_calls, else_calls, loop_calls}

@@ -19,7 +19,7 @@ use Rattle.array_regions.specs.Calls.{Called, Callees}
 use Rattle.in_out_regions.specs.Kinds.{all_in}
 use Rattle.in_out_regions.specs.Known.{KnownTree}
 use Rattle.in_out_regions.specs.Calls.{summary_in, call_in}
-use Rattle.in_out_regions.specs.Statement.{list_of, if_in, do_of, stmt_in, what_in, arms_in, arm_in, else_in, at_stmt, at_parts, at_list, at_arms, at_arm, at_else, at_loop}
+use Rattle.in_out_regions.specs.Statement.{list_of, alone, if_in, do_of, what_in, arms_in, arm_in, else_in, at_stmt, at_parts, at_list, at_arms, at_arm, at_else, at_loop}
 use Rattle.in_out_regions.specs.Modules.{summary_of, ins_of, ins_with}
 use Rattle.laws_statements.specs.CallsIn.{CallAt, Each, stmt_calls, what_calls, list_calls, arms_calls, arm_calls, else_calls, loop_calls}
 use Rattle.laws_statements.proofs.Placing.{each_parts}
@@ -37,15 +37,12 @@ module _ (m : ScopeTree) (t : Found) (accesses : List (At (List Region))) (c d :
   j = record { scope = m; does = t; accesses = accesses; called = d }
 
   mutual
-    stmt_same : (s : StmtTree) → Each Same (stmt_calls s) → stmt_in s k ≡ stmt_in s j
-    stmt_same (tree.stmt n label w) h = what_same w n h
-
     what_same : (w : WhatTree) (n : ℕ) → Each Same (what_calls w n) → what_in n w k ≡ what_in n w j
     what_same (tree.assign a b) n h = refl
     what_same (tree.block_if arms other) n h =
         let r = each_parts Same (arms_calls arms) (else_calls other) h in
         λ i. unite_all (all_in (tests_reads arms m always) ++ (arms_same arms always r.0 i ++ else_same other (past_arms arms m always) r.1 i))
-    what_same (tree.logical_if e s) n h = ap (if_in m e) (stmt_same s h)
+    what_same (tree.logical_if e (tree.stmt i label w)) n h = ap (λ rs. if_in m e (alone k i rs)) (what_same w i h)
     what_same (tree.do_loop l) n h = loop_same l h
     what_same (tree.call x es) n h = h.0
     what_same (tree.goto l) n h = refl

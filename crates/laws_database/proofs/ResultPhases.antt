@@ -12,13 +12,13 @@ use Rattle.scalar_phases.specs.Phases.{scope_of, module_of, Found, found_of, may
 use Rattle.scalar_phases.specs.Phases as scalar
 use Rattle.region_phases.specs.Phases.{ModuleRegions, with_regions}
 use Rattle.region_phases.specs.Phases as region
-use Rattle.in_out_phases.specs.Phases.{ModuleIns, with_ins}
-use Rattle.in_out_phases.specs.Phases as in_out
-use Rattle.out_phases.specs.declared.sites.OutSite.{OutSite}
-use Rattle.out_phases.specs.Phases.{ModuleOuts, with_outs, body_of}
-use Rattle.out_phases.specs.Phases as out
-use Rattle.mark_phases.specs.Phases.{ModuleMarks, known_in, with_effects, with_marks}
-use Rattle.mark_phases.specs.Phases as mark
+use Rattle.region_phases.specs.InPhases.{ModuleIns, with_ins}
+use Rattle.region_phases.specs.InPhases as in_out
+use Rattle.region_phases.specs.declared.sites.OutSite.{OutSite}
+use Rattle.region_phases.specs.OutPhases.{ModuleOuts, with_outs, body_of}
+use Rattle.region_phases.specs.OutPhases as out
+use Rattle.loop_marker.specs.Phases.{ModuleMarks, known_in, with_effects, with_marks}
+use Rattle.loop_marker.specs.Phases as mark
 use Rattle.laws_analyses.proofs.CalleeLaws.{same_transformers}
 use Rattle.laws_database.specs.ResultCallees.{Summaries}
 use Rattle.laws_database.proofs.ResultEffectLaws.{same_effects}

@@ -25,9 +25,9 @@ use Rattle.out_regions.specs.Modules.{outs_with}
 use Rattle.loop_marker.specs.Known.{knowledge_of}
 use Rattle.loop_marker.specs.Marks.{marks_of}
 use Rattle.scalar_phases.specs.Phases.{scope_of, list_sites}
-use Rattle.out_phases.specs.declared.sites.OutSite.{OutSite}
-use Rattle.out_phases.specs.Phases.{list_sites as out_list_sites, used_after}
-use Rattle.mark_phases.specs.Phases.{ModuleMarks, effects_found}
+use Rattle.region_phases.specs.declared.sites.OutSite.{OutSite}
+use Rattle.region_phases.specs.OutPhases.{list_sites as out_list_sites, used_after}
+use Rattle.loop_marker.specs.Phases.{ModuleMarks, effects_found}
 use Rattle.laws_storage.specs.Programs.{IsLinked}
 use Rattle.laws_statements.specs.CallsIn.{Each, list_calls}
 use Rattle.laws_analyses.proofs.CallLists.{each_more}

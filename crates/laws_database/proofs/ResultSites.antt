@@ -7,8 +7,8 @@ use Rattle.f77_ast.specs.Trees.{StmtTree, WhatTree, ArmTree, ArmTrees, ElseTree,
 use Rattle.f77_ast.specs.Trees as tree
 use Rattle.f77_symbols.specs.declared.variable.Unit.{Unit as BlockUnit}
 use Rattle.scalar_phases.specs.Phases as scalar
-use Rattle.out_phases.specs.Phases as out
-use Rattle.mark_phases.specs.Phases.{ModuleMarks, analysis_in}
+use Rattle.region_phases.specs.OutPhases as out
+use Rattle.loop_marker.specs.Phases.{ModuleMarks, analysis_in}
 use Rattle.laws_statements.specs.CallsIn.{CallAt, Each, stmt_calls, what_calls, list_calls, arms_calls, arm_calls, else_calls, loop_calls}
 use Rattle.laws_statements.proofs.Placing.{each_parts}
 use Rattle.laws_database.specs.ResultEntries.{module_in}

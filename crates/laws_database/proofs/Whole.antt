@@ -6,7 +6,7 @@ use Rattle.std.proofs.lemmas.Slice.Eq.{bytes_eq-Decides}
 use Rattle.f77_symbols.specs.Symbols.{SymbolTree}
 use Rattle.call_graph.specs.declared.graph.Graph.{Graph}
 use Rattle.call_graph.specs.declared.refusal.Fault.{Fault}
-use Rattle.mark_phases.specs.Phases.{ModuleMarks}
+use Rattle.loop_marker.specs.Phases.{ModuleMarks}
 use Rattle.roundtrip_programs.specs.Laws.{TablesIgnorePlaces, GraphsIgnorePlaces}
 use Rattle.refusal_codes.specs.declared.refusal.Refusal.{Refusal}
 use Rattle.laws_statements.specs.CallsIn.{Each}
@@ -157,7 +157,7 @@ module _ (tables_law : TablesIgnorePlaces) (graphs_law : GraphsIgnorePlaces) (ol
           ap graph_found (graph_stays (shelves_of old) old ts mo ms g l.0 q l.1 m.names m.values graphs_law) ∙ w
       go (Err f) q w = cc
 
-  same_for : (k : Kind) (x : List ℕ) → CanMake ts k x → (v : Value) → definition old k x ≡ Some v → SameNeeds old ts (record { kind = k; name = x }) → definition ts k x ≡ Some v
+  pub same_for : (k : Kind) (x : List ℕ) → CanMake ts k x → (v : Value) → definition old k x ≡ Some v → SameNeeds old ts (record { kind = k; name = x }) → definition ts k x ≡ Some v
   same_for kind.Parsed x c v e s =
       let no = of_module old mo x (λ m. parsed m.module_is.module_read) v e in
       by_rule (record { kind = kind.Parsed; name = x }) no c v e s (rule_same old ts mo ms (shelves_of old) x no c kind.Parsed (ap (λ z. Some (parsed z.module_is.module_read)) (read_same x no c s.text)))

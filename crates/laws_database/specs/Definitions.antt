@@ -3,7 +3,7 @@ use Rattle.std.specs.Prelude.{ℕ, List, Option, Some, None, option_map, option_
 use Rattle.call_graph.specs.declared.graph.Graph.{Graph}
 use Rattle.call_graph.specs.declared.refusal.Fault.{Fault}
 use Rattle.f77_printer.specs.ModuleText as printer
-use Rattle.mark_phases.specs.Phases.{ModuleMarks}
+use Rattle.loop_marker.specs.Phases.{ModuleMarks}
 use Rattle.pipsmake_rules.specs.declared.kind.Kind.{Kind}
 use Rattle.pipsmake_rules.specs.declared.kind.Kind.TheVariants.{Parsed, Lines, Symbols, CallGraph, Effects, Transformers, Preconditions, Regions, InRegions, OutRegions, Marks, Printed}
 use Rattle.result_lines.specs.Lines.{ModuleResults, lines_of}

@@ -7,7 +7,7 @@ use Rattle.pipsmake_rules.specs.declared.key.Key.{Key}
 use Rattle.pipsmake_rules.specs.Neighbours.{has_name}
 use Rattle.pipsmake_rules.specs.Walk.{walk_of}
 use Rattle.laws_statements.specs.CallsIn.{Each}
-use Rattle.mark_phases.specs.Phases.{ModuleMarks}
+use Rattle.loop_marker.specs.Phases.{ModuleMarks}
 use Rattle.result_lines.specs.declared.show.Show.{Show}
 use Rattle.laws_database.specs.Texts.{ModuleText, ReadModule, AreModules, names_in, links_in, graph_of, text_of}
 use Rattle.laws_database.specs.Definitions.{module_named, results_in, text_shown, definition}

@@ -14,3 +14,5 @@ pub mod ResultCallers
 pub mod ResultEquations
 pub mod ResultNeeds
 pub mod ResultLaws
+pub mod ProgramTexts
+pub mod ProgramTextLaws

@@ -5,7 +5,7 @@ use Rattle.f77_results.specs.declared.effect_set.EffectSet.{EffectSet}
 use Rattle.f77_results.specs.Summaries.{SummaryTree}
 use Rattle.transformer_algebra.specs.declared.transformer.Transformer.{Transformer}
 use Rattle.region_sets.specs.declared.region.Region.{Region}
-use Rattle.mark_phases.specs.Phases.{ModuleMarks}
+use Rattle.loop_marker.specs.Phases.{ModuleMarks}
 use Rattle.laws_statements.specs.CallsIn.{CallAt, Each, list_calls}
 use Rattle.laws_database.specs.ResultEntries.{module_in, transformers_in, regions_in, ins_in, said_for}
 

@@ -11,9 +11,9 @@ use Rattle.call_translation.specs.Sites.{SiteTree, HoldingSite}
 use Rattle.transformer_algebra.specs.declared.transformer.Transformer.{Transformer}
 use Rattle.region_sets.specs.declared.region.Region.{Region}
 use Rattle.scalar_phases.specs.Phases.{sites_of}
-use Rattle.out_phases.specs.declared.sites.OutSite.{OutSite}
-use Rattle.out_phases.specs.Phases.{sites_of as out_sites_of}
-use Rattle.mark_phases.specs.Phases.{ModuleMarks, analysis_in}
+use Rattle.region_phases.specs.declared.sites.OutSite.{OutSite}
+use Rattle.region_phases.specs.OutPhases.{sites_of as out_sites_of}
+use Rattle.loop_marker.specs.Phases.{ModuleMarks, analysis_in}
 use Rattle.laws_statements.specs.CallsIn.{CallAt, list_calls}
 use Rattle.laws_database.specs.ResultEntries.{module_in, transformers_in, preconditions_in, outs_in, said_for}
 

@@ -8,9 +8,9 @@ use Rattle.transformer_algebra.specs.declared.transformer.Transformer.{Transform
 use Rattle.region_sets.specs.declared.region.Region.{Region}
 use Rattle.scalar_phases.specs.Phases.{analyses}
 use Rattle.region_phases.specs.Phases.{all_regions}
-use Rattle.in_out_phases.specs.Phases.{all_ins}
-use Rattle.out_phases.specs.Phases.{all_outs}
-use Rattle.mark_phases.specs.Phases.{ModuleMarks, analysis_in, known_in, all_marks}
+use Rattle.region_phases.specs.InPhases.{all_ins}
+use Rattle.region_phases.specs.OutPhases.{all_outs}
+use Rattle.loop_marker.specs.Phases.{ModuleMarks, analysis_in, known_in, all_marks}
 
 -- callees before callers
 abbrev pub marks_in : List Known → Graph → List ModuleMarks

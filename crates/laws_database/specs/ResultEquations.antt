@@ -7,9 +7,9 @@ use Rattle.preconditions.specs.Entry.{entry_of}
 use Rattle.preconditions.specs.Modules.{preconditions_of}
 use Rattle.scalar_phases.specs.Phases.{scope_of}
 use Rattle.region_phases.specs.Phases.{regions_found}
-use Rattle.in_out_phases.specs.Phases.{ins_found}
-use Rattle.out_phases.specs.Phases.{outs_found}
-use Rattle.mark_phases.specs.Phases.{ModuleMarks, analysis_in, effects_found, marks_found}
+use Rattle.region_phases.specs.InPhases.{ins_found}
+use Rattle.region_phases.specs.OutPhases.{outs_found}
+use Rattle.loop_marker.specs.Phases.{ModuleMarks, analysis_in, effects_found, marks_found}
 use Rattle.laws_database.specs.ResultEntries.{module_in, name_in, transformers_in, preconditions_in, regions_in, ins_in, outs_in}
 use Rattle.laws_database.specs.ResultCallees.{effect_summaries, transformer_summaries, region_summaries, in_summaries}
 use Rattle.laws_database.specs.ResultCallers.{callers, holding_sites, later_sites}

@@ -18,9 +18,9 @@ use Rattle.array_regions.specs.Modules.{regions_with}
 use Rattle.in_out_regions.specs.Modules.{ins_with}
 use Rattle.scalar_phases.specs.Phases.{analyses}
 use Rattle.region_phases.specs.Phases.{all_regions}
-use Rattle.in_out_phases.specs.Phases.{all_ins}
-use Rattle.out_phases.specs.Phases.{all_outs}
-use Rattle.mark_phases.specs.Phases.{ModuleMarks, analysis_in}
+use Rattle.region_phases.specs.InPhases.{all_ins}
+use Rattle.region_phases.specs.OutPhases.{all_outs}
+use Rattle.loop_marker.specs.Phases.{ModuleMarks, analysis_in}
 use Rattle.laws_storage.specs.Programs.{IsLinked}
 use Rattle.laws_statements.specs.CallsIn.{CallAt, Each, list_calls}
 use Rattle.laws_database.specs.ResultEntries.{marks_in, module_in, name_in, transformers_in, preconditions_in, regions_in, ins_in, outs_in, said_for}

@@ -3,7 +3,7 @@
 use Rattle.std.specs.Prelude.{◌≡◌, ℕ, List}
 use Rattle.call_graph.specs.declared.graph.Graph.{Graph}
 use Rattle.f77_meaning.specs.Linked.{callees}
-use Rattle.mark_phases.specs.Phases.{ModuleMarks}
+use Rattle.loop_marker.specs.Phases.{ModuleMarks}
 use Rattle.laws_statements.specs.CallsIn.{Each}
 use Rattle.laws_database.specs.ResultEntries.{module_in, name_in, transformers_in, preconditions_in, regions_in, ins_in, outs_in}
 use Rattle.laws_database.specs.ResultCallees.{effect_summaries, transformer_summaries, region_summaries, in_summaries}

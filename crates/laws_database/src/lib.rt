@@ -4,6 +4,7 @@
 mod result_determined;
 mod result_equations;
 mod result_needs;
+mod text_laws;
 
 ghost use Rattle.laws_database.specs.Laws.{MakingIsDefined, MakingMayStop, ResultsHaveValues, RulesHaveValues, TextsAreShown, TextsMayChange, TextsMayGo, ResultsMayGo, ValuesMayBeSeen, ResultsMayBeKept, NothingStands, LoadedStands, NothingIsGiven, GivenMayBeKept, GivenMayBeSeen, GivenTextsMayStay};
 ghost use Rattle.laws_database.specs.Resting.{RestingStays, LinesMayChange};
@@ -20,6 +21,9 @@ pub use result_needs::{
     transformers_need_callees,
 };
 use roundtrip_programs::{graphs_ignore_places, tables_ignore_places};
+pub use text_laws::{
+    names_show_the_text, pieces_are_the_program, texts_are_written_alike, texts_make_the_program,
+};
 
 /// Where kept results stand for a session, just those that are missing or out of date are made, and each one that was asked for is then what it is defined to be for the present texts.
 pub fn making_is_defined()

@@ -12,7 +12,7 @@ use Rattle.array_regions.specs.Calls.{Callees}
 use Rattle.region_phases.specs.Phases.{ModuleRegions, no_callees, all_regions}
 use Rattle.in_out_regions.specs.Known.{KnownTree}
 use Rattle.in_out_regions.specs.Modules.{known_of as known_in}
-use Rattle.in_out_phases.specs.Phases.{ModuleIns, with_callee, with_ins, found_in, all_ins}
+use Rattle.region_phases.specs.InPhases.{ModuleIns, with_callee, with_ins, found_in, all_ins}
 use Rattle.roundtrip_programs.specs.Lines.{IsShown}
 use Rattle.roundtrip_regions.specs.Laws.{RegionLinesArePassedOver}
 use Rattle.roundtrip_regions.specs.Printed.{IsPlain}

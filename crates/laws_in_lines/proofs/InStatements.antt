@@ -26,7 +26,7 @@ use Rattle.in_out_regions.specs.Lists.{set_at}
 use Rattle.in_out_regions.specs.Simple.{item_in, item_written, reading}
 use Rattle.in_out_regions.specs.Loops.{all_iterations, do_united, do_in}
 use Rattle.in_out_regions.specs.Calls.{summary_in, call_in}
-use Rattle.in_out_regions.specs.Statement.{list_of, stmt_in, what_in, arms_in, arm_in, else_in, body_accesses, do_of, at_stmt, at_parts, at_list, at_arms, at_arm, at_else, at_loop, list_set}
+use Rattle.in_out_regions.specs.Statement.{list_of, only_in, what_in, arms_in, arm_in, else_in, body_accesses, do_of, at_stmt, at_parts, at_list, at_arms, at_arm, at_else, at_loop, list_set}
 use Rattle.in_out_regions.specs.Modules.{ins_of}
 use Rattle.laws_lines.proofs.RuleVars.{IsDone}
 use Rattle.laws_lines.proofs.StatementVars.{AllAt, all_at-append, Scope}
@@ -104,9 +104,6 @@ module _ (Name : List ℕ → Type 0) (ok : ℕ → Type 0) (k : KnownTree) (a :
       (iterations_fine N ok g (range_is Name ok m a few k.does done k.called called l) (is_cell m.tracked g.index) (λ e. a.flags g.index e) m.symbols ws is h i)))
 
   mutual
-    stmt_fine : (s : StmtTree) → F (stmt_in s k)
-    stmt_fine (tree.stmt n label w) = what_fine n w
-
     what_fine : (n : ℕ) (w : WhatTree) → F (what_in n w k)
     what_fine n (tree.assign x y) = first_fine N ok (set_at k.accesses n) (accessed n)
     what_fine n (tree.block_if arms other) =
@@ -118,9 +115,9 @@ module _ (Name : List ℕ → Type 0) (ok : ℕ → Type 0) (k : KnownTree) (a :
         (join sets rest (arms_fine arms always (always_ok Name ok m a few)) (else_fine other (past_arms arms m always) (all_past_ok Name ok m a few arms always (always_ok Name ok m a few)))))
     what_fine n (tree.logical_if e s) =
         let own = all_in (reads e m) in
-        let rest = all_met (if_true m e always) (stmt_in s k) in
+        let rest = all_met (if_true m e always) (only_in s k) in
         united_fine N ok (own ++ rest)
-        (join own rest (all_in_fine N ok (reads e m) (reads_fine Name ok m a few e)) (met_fine Name ok m a few (if_true m e always) (true_ok Name ok m a few e always (always_ok Name ok m a few)) (stmt_in s k) (stmt_fine s)))
+        (join own rest (all_in_fine N ok (reads e m) (reads_fine Name ok m a few e)) (met_fine Name ok m a few (if_true m e always) (true_ok Name ok m a few e always (always_ok Name ok m a few)) (only_in s k) (only_fine s)))
     what_fine n (tree.do_loop l) = loop_fine l
     what_fine n (tree.call x es) = called x es
     what_fine n (tree.goto l) = first_fine N ok (set_at k.accesses n) (accessed n)
@@ -129,6 +126,9 @@ module _ (Name : List ℕ → Type 0) (ok : ℕ → Type 0) (k : KnownTree) (a :
     what_fine n (tree.stop text) = first_fine N ok (set_at k.accesses n) (accessed n)
     what_fine n (tree.print es) = first_fine N ok (set_at k.accesses n) (accessed n)
     what_fine n (tree.read es) = reading_fine es
+
+    only_fine : (s : StmtTree) → F (only_in s k)
+    only_fine (tree.stmt n label w) = overlapped_fine N ok m.symbols (set_at k.accesses n) (unite_all (what_in n w k)) (united_fine N ok (what_in n w k) (what_fine n w))
 
     arms_fine : (xs : ArmTrees) (w : Reached) → W w → F (arms_in xs k w)
     arms_fine tree.no_arms w h = tt

@@ -7,7 +7,7 @@ use Rattle.call_graph.specs.declared.graph.Graph.{Graph}
 use Rattle.f77_meaning.specs.Modules.{known_of}
 use Rattle.scalar_phases.specs.Phases.{analyses}
 use Rattle.region_phases.specs.Phases.{all_regions}
-use Rattle.in_out_phases.specs.Phases.{ModuleIns, all_ins}
+use Rattle.region_phases.specs.InPhases.{ModuleIns, all_ins}
 use Rattle.roundtrip_programs.specs.Lines.{IsShown}
 use Rattle.roundtrip_regions.specs.Printed.{IsPlain}
 use Rattle.laws_programs.specs.Programs.{AreTables}

@@ -9,10 +9,10 @@ use Rattle.f77_ast.specs.Trees.{ExprTree}
 use Rattle.f77_ast.specs.DeclTrees.{EntityTree, CommonTree, DeclTree, ParsedTree}
 use Rattle.f77_ast.specs.DeclTrees as decl
 use Rattle.f77_ast.specs.Places.{Dim, as_count, total_size}
-use Rattle.f77_constants.specs.declared.constant.Constant.{Constant}
-use Rattle.f77_constants.specs.declared.constant.Constant.TheVariants as constant
-use Rattle.f77_constants.specs.declared.constant.Worth.{Worth}
-use Rattle.f77_constants.specs.declared.constant.Worth.TheVariants.{Is, Faults, Varies}
+use Rattle.f77_symbols.specs.declared.constant.Constant.{Constant}
+use Rattle.f77_symbols.specs.declared.constant.Constant.TheVariants as constant
+use Rattle.f77_symbols.specs.declared.constant.Worth.{Worth}
+use Rattle.f77_symbols.specs.declared.constant.Worth.TheVariants.{Is, Faults, Varies}
 use Rattle.f77_symbols.specs.Symbols.{BoundTree, SymbolTree}
 use Rattle.f77_symbols.specs.Units.{span_units, span_to, bound_units, bounds_units, units_in}
 use Rattle.f77_names.specs.Entries.{ShapeTree, EntryTree, value_among}

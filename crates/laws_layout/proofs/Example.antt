@@ -4,7 +4,7 @@ use Rattle.std.specs.Prelude.{codes}
 use Rattle.f77_ast.specs.declared.decl.Scalar.TheVariants.{Int}
 use Rattle.f77_ast.specs.Trees.{ExprTree, ExprTrees, name, int, element, no_exprs, more_exprs}
 use Rattle.f77_ast.specs.DeclTrees.{EntityTree, DataTree, DeclTree, common, equivalence}
-use Rattle.f77_constants.specs.declared.constant.Constant.TheVariants as constant
+use Rattle.f77_symbols.specs.declared.constant.Constant.TheVariants as constant
 use Rattle.f77_symbols.specs.declared.symbol.Place.{Place}
 use Rattle.f77_symbols.specs.declared.symbol.Place.TheVariants.{Local, Block}
 use Rattle.f77_symbols.specs.declared.symbol.InitialRun.{InitialRun}

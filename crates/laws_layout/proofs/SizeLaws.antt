@@ -4,9 +4,9 @@ use Rattle.std.specs.Prelude.{if◌then◌else◌, nat_lt, ◌||◌, is_some}
 use Rattle.std.proofs.lemmas.Bool.{or_parts}
 use Rattle.f77_ast.specs.Trees.{ExprTree}
 use Rattle.f77_ast.specs.Places.{Dim}
-use Rattle.f77_constants.specs.declared.constant.Constant.TheVariants as constant
-use Rattle.f77_constants.specs.declared.constant.Worth.{Worth}
-use Rattle.f77_constants.specs.declared.constant.Worth.TheVariants.{Is, Faults, Varies}
+use Rattle.f77_symbols.specs.declared.constant.Constant.TheVariants as constant
+use Rattle.f77_symbols.specs.declared.constant.Worth.{Worth}
+use Rattle.f77_symbols.specs.declared.constant.Worth.TheVariants.{Is, Faults, Varies}
 use Rattle.f77_symbols.specs.Symbols.{BoundTree}
 use Rattle.f77_names.specs.Entries.{ShapeTree, EntryTree}
 use Rattle.f77_names.specs.Tables.{NameTable}

@@ -6,9 +6,9 @@ use Rattle.f77_ast.specs.Trees as tree
 use Rattle.f77_ast.specs.DeclTrees.{EntityTree, CommonTree, DataValueTree, DataTree, DeclTree}
 use Rattle.f77_ast.specs.DeclTrees as decl
 use Rattle.f77_ast.specs.Places.{position}
-use Rattle.f77_constants.specs.declared.constant.Constant.{Constant}
-use Rattle.f77_constants.specs.declared.constant.Worth.TheVariants.{Is}
-use Rattle.f77_constants.specs.Constants.{number_of, worth}
+use Rattle.f77_symbols.specs.declared.constant.Constant.{Constant}
+use Rattle.f77_symbols.specs.declared.constant.Worth.TheVariants.{Is}
+use Rattle.f77_symbols.specs.Constants.{number_of, worth}
 use Rattle.f77_symbols.specs.declared.symbol.Place.TheVariants.{Block}
 use Rattle.f77_symbols.specs.Symbols.{SymbolTree, value_in}
 use Rattle.f77_symbols.specs.Units.{units_in}

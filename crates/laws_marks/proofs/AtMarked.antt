@@ -32,7 +32,7 @@ use Rattle.transformer_algebra.specs.Laws.{In, here, there}
 use Rattle.transformers.specs.Lists.{value_at}
 use Rattle.scalar_phases.specs.Phases.{scope_of}
 use Rattle.region_sets.specs.declared.marks.Mark.TheVariants.{Parallel}
-use Rattle.mark_phases.specs.Phases.{ModuleMarks, known_in, all_marks}
+use Rattle.loop_marker.specs.Phases.{ModuleMarks, known_in, all_marks}
 use Rattle.loop_bodies.specs.Finding.{loop_in}
 use Rattle.laws_programs.specs.Programs.{IsProgram}
 use Rattle.laws_statements.specs.CallsIn.{Each}

@@ -27,7 +27,7 @@ use Rattle.array_regions.specs.Modules.{regions_with}
 use Rattle.region_phases.specs.Phases.{ModuleRegions, no_callees, regions_found, with_regions, all_regions}
 use Rattle.in_out_regions.specs.Lists.{set_at}
 use Rattle.in_out_regions.specs.Modules.{ins_with}
-use Rattle.in_out_phases.specs.Phases.{ModuleIns, with_callee, ins_found, with_ins, found_in as with_ins_of, all_ins}
+use Rattle.region_phases.specs.InPhases.{ModuleIns, with_callee, ins_found, with_ins, found_in as with_ins_of, all_ins}
 use Rattle.privatizer.specs.Uses.{ins_in}
 use Rattle.scalar_phases.specs.Phases.{scope_of, Analysis, analyses}
 use Rattle.loop_bodies.specs.Body.{body_of}

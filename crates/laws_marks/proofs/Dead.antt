@@ -25,7 +25,7 @@ use Rattle.in_out_regions.specs.Lists.{set_at}
 use Rattle.loop_bodies.specs.Body.{or_no_rows, system_at}
 use Rattle.loop_bodies.specs.Finding.{loop_in}
 use Rattle.loop_bodies.specs.Same.{same_variable}
-use Rattle.out_phases.specs.Phases.{ModuleOuts}
+use Rattle.region_phases.specs.OutPhases.{ModuleOuts}
 use Rattle.scalar_phases.specs.Phases.{scope_of}
 use Rattle.privatizer.specs.Names.{may_copy}
 use Rattle.privatizer.specs.Uses.{Uses}

@@ -13,8 +13,8 @@ use Rattle.call_graph.specs.declared.graph.Graph.{Graph}
 use Rattle.f77_meaning.specs.Modules.{known_of, names}
 use Rattle.f77_meaning.specs.Linked.{program_of}
 use Rattle.f77_meaning.specs.Occurrences.{Occurrence, Throughout, places_in}
-use Rattle.out_phases.specs.Phases.{ModuleOuts}
-use Rattle.mark_phases.specs.Phases.{ModuleMarks, known_in, all_marks}
+use Rattle.region_phases.specs.OutPhases.{ModuleOuts}
+use Rattle.loop_marker.specs.Phases.{ModuleMarks, known_in, all_marks}
 use Rattle.scalar_phases.specs.Phases.{scope_of}
 use Rattle.loop_bodies.specs.Finding.{loop_in}
 use Rattle.laws_programs.specs.Programs.{IsProgram}

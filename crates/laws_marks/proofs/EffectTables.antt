@@ -14,9 +14,9 @@ use Rattle.effects.specs.Modules.{cumulated_of}
 use Rattle.transformers.specs.Given.{Callees as TransformerCallees}
 use Rattle.scalar_phases.specs.Phases.{module_names, module_at, module_of, Found, no_callees as no_found, with_callee as with_found, found_of, maybe_found, found_in as founds_in, Analysis, analysis_of, analyses_from, sites_of, analyses}
 use Rattle.region_phases.specs.Phases.{all_regions}
-use Rattle.in_out_phases.specs.Phases.{all_ins}
-use Rattle.out_phases.specs.Phases.{ModuleOuts, all_outs}
-use Rattle.mark_phases.specs.Phases.{ModuleMarks, known_in, no_callees, with_callee, with_marks, effects_found, marks_found, found_in, all_marks}
+use Rattle.region_phases.specs.InPhases.{all_ins}
+use Rattle.region_phases.specs.OutPhases.{ModuleOuts, all_outs}
+use Rattle.loop_marker.specs.Phases.{ModuleMarks, known_in, no_callees, with_callee, with_marks, effects_found, marks_found, found_in, all_marks}
 use Rattle.laws_statements.specs.CallsIn.{Each}
 use Rattle.laws_effects.specs.Summaries.{with_name, made, with_summary, before, no_summary, bottom_up}
 use Rattle.laws_storage.specs.Programs.{IsLinked}

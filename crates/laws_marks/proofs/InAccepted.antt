@@ -24,7 +24,7 @@ use Rattle.array_regions.specs.Calls.{Callees as Summaries}
 use Rattle.array_regions.specs.Modules.{regions_with}
 use Rattle.region_phases.specs.Phases.{with_regions, all_regions}
 use Rattle.in_out_regions.specs.Modules.{ins_with}
-use Rattle.in_out_phases.specs.Phases.{ModuleIns, ins_found, all_ins}
+use Rattle.region_phases.specs.InPhases.{ModuleIns, ins_found, all_ins}
 use Rattle.scalar_phases.specs.Phases.{scope_of, Analysis, analyses}
 use Rattle.laws_programs.specs.Programs.{AreTables, IsProgram}
 use Rattle.laws_programs.proofs.Numbers.{is_numbered}

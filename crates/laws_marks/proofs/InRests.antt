@@ -82,7 +82,7 @@ module _ (ss : List SymbolTree) (m : Scene) (at : Places) (by_order : AreByOrder
   abbrev pub SharpUnless : List Region → (ℕ → ℤ) → (ℕ → Bool) → Region → Type 0
   SharpUnless ws x c r = is_overlapped ss ws r.variable ≡ false → IsSharp m (at r.variable) r x c
 
-  overlapped_sharp : (ws rs : List Region) (x : ℕ → ℤ) (c : ℕ → Bool) → EachOne (SharpUnless ws x c) rs → IsSharpSet m at (all_unless_overlapped ss ws rs) x (λ k. c)
+  pub overlapped_sharp : (ws rs : List Region) (x : ℕ → ℤ) (c : ℕ → Bool) → EachOne (SharpUnless ws x c) rs → IsSharpSet m at (all_unless_overlapped ss ws rs) x (λ k. c)
   overlapped_sharp ws rs x c h = of_map (unless_overlapped ss ws) (λ (r : Region). IsSharp m (at r.variable) r x c) rs one
     where
       one : (r : Region) → In r rs → IsSharp m (at r.variable) (unless_overlapped ss ws r) x c

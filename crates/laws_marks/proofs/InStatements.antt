@@ -46,9 +46,9 @@ use Rattle.array_regions.specs.Statement as regions
 use Rattle.in_out_regions.specs.Kinds.{all_in, first_reads}
 use Rattle.array_regions.specs.Calls.{Called}
 use Rattle.in_out_regions.specs.Known.{KnownTree}
-use Rattle.in_out_regions.specs.Lists.{all_unless_overlapped}
+use Rattle.in_out_regions.specs.Lists.{set_at, all_unless_overlapped}
 use Rattle.in_out_regions.specs.Loops.{all_iterations, do_in}
-use Rattle.in_out_regions.specs.Statement.{list_of, stmt_in, what_in, else_in, at_stmt, at_list}
+use Rattle.in_out_regions.specs.Statement.{list_of, stmt_in, only_in, what_in, else_in, at_stmt, at_list}
 use Rattle.laws_statements.specs.Good.{Ending}
 use Rattle.laws_statements.specs.Leads.{stmt_leads, list_leads}
 use Rattle.laws_statements.specs.CallsIn.{CallAt, Each, stmt_calls, list_calls}
@@ -76,8 +76,8 @@ use Rattle.laws_marks.specs.InUnits.{UnitsFit, AreOf, SetFits, SetsFit}
 use Rattle.laws_marks.specs.InKnowns.{known_in}
 use Rattle.laws_marks.proofs.InFirsts.{first_left, first_right}
 use Rattle.laws_marks.proofs.InGathering.{EachOne}
-use Rattle.laws_marks.proofs.InRests.{SharpUnless, overlapped_lies, united_unless}
-use Rattle.laws_marks.proofs.InTaking.{NoWrites, first_arrived, free_none, free_both, first_holds_left, first_holds_both, first_holds_gathered, seen_first, seen_sharp, first_broke, first_gathered, first_idle}
+use Rattle.laws_marks.proofs.InRests.{SharpUnless, overlapped_lies, overlapped_sharp, united_unless}
+use Rattle.laws_marks.proofs.InTaking.{NoWrites, first_arrived, free_none, free_both, first_holds_left, first_holds_both, first_holds_gathered, seen_first, seen_sharp, first_more, first_broke, first_gathered, first_idle}
 use Rattle.laws_marks.proofs.InQuiet.{looked_quiet}
 use Rattle.laws_marks.proofs.InSimple.{goes_both, assign_in, print_in, read_in}
 use Rattle.laws_marks.proofs.InArms.{logical_in, arms_all, arm_first, otherwise_first}
@@ -245,6 +245,14 @@ module _ (k : Frame) (sound : Sound k.base) (C0 D : Claim) (Fits : Locks → (�
       goes_more D (statement_plan (tree.stmt n label w) k.sc k.at locked) z (λ a y es. Shown k.base false (what_set w k.m k.does k.calls) z a es × FirstShown k false locked (what_in n w T) z a es) (λ a y es. Both k D I acc called locked still units w n z a es) (λ a y es p. record { accesses = p.0; firsts = p.1 })
       (goes_both C0 D (statement_plan (tree.stmt n label w) k.sc k.at locked) z (λ a y es. Shown k.base false (what_set w k.m k.does k.calls) z a es) (λ a y es. FirstShown k false locked (what_in n w T) z a es) (stmt_goes k.base sound C0 Fits base more_fits I (tree.stmt n label w) last locked still fit st.base z iz) h)
 
+  -- and so of the statement of a logical IF, as of a list of it alone
+  first_alone : (ws rs : List Region) (locked : Locks) (z : Store) (a : Answer Flow) (es : List Event) → FirstShown k false locked rs z a es → FirstShown k false locked (all_unless_overlapped k.m.symbols ws (unite_all rs)) z a es
+  first_alone ws rs locked z a es h =
+      first_more k false locked (unite_all rs) (all_unless_overlapped k.m.symbols ws (unite_all rs)) z a es es
+      (λ f u i. overlapped_lies k.m.symbols (scene k.base) (elements_in k) (by_order k) ws (unite_all rs) AtIn (numbers_of z) u (f u i))
+      (λ f. overlapped_sharp k.m.symbols (scene k.base) (elements_in k) (by_order k) ws (unite_all rs) (numbers_of z) (first_read es) (λ r i o. f r i))
+      (λ f. f) (first_gathered k false locked rs z a es h)
+
   -- the sets of a statement of a list
   taken_of : (all : StmtTrees) (whole : Bool) (locked : Locks) (still : ℕ → Bool) (units : UnitsFit k locked) → Distinct (list_numbers all) → (n : ℕ) (w : WhatTree) (last : Bool) → InAt C0 D k Fits I acc called n w last → In (transformers.at n (what_in n w T)) (at_list all T) → Taken k D I acc called locked still units all n w
   taken_of all whole locked still units d n w last st i = record { accesses = st.found; firsts = in_found C0 D k Fits I acc called all d n w i; fit = subst (λ rs. SetFits k rs) st.found (sets.sets n) }
@@ -262,7 +270,7 @@ module _ (k : Frame) (sound : Sound k.base) (C0 D : Claim) (Fits : Locks → (�
         let q = in_if C0 D k Fits I acc called arms other n pa in
         goes_more D (arms_plan arms k.sc k.at locked (else_plan other k.sc k.at locked)) z (λ a y es. FirstShown k false locked (arms_all k sound (solid locked still fit) sets.exprs locked D acc called other z arms always) z a es) (λ a y es. FirstShown k false locked (what_in n (tree.block_if arms other) T) z a es) (λ a y es h. first_gathered k false locked (arms_all k sound (solid locked still fit) sets.exprs locked D acc called other z arms always) z a es h)
         (arms_first arms other always locked still fit units q.0 (plain_of (tree.block_if arms other) n last st) z iz (λ p h. tt) (λ h. else_first other (past_arms arms k.m always) locked still fit units q.1 z iz h))
-    what_first (tree.logical_if e s) n last locked still fit units st pa z iz = logical_in k sound (solid locked still fit) sets.exprs locked D e (stmt_in s T) (statement_plan s k.sc k.at locked) z (plain_of (tree.logical_if e s) n last st) (stmt_first s false locked still fit units pa z iz)
+    what_first (tree.logical_if e s) n last locked still fit units st pa z iz = logical_in k sound (solid locked still fit) sets.exprs locked D e (only_in s T) (statement_plan s k.sc k.at locked) z (plain_of (tree.logical_if e s) n last st) (only_first s locked still fit units pa z iz)
     what_first (tree.do_loop l) n last locked still fit units st pa z iz = loop_list l n last locked still fit units st pa z iz
     what_first (tree.call x es) n last locked still fit units st pa z iz = pa.calls.0 (plain_of (tree.call x es) n last st) locked still fit units z iz
     what_first (tree.goto l) n last locked still fit units st pa z iz = subst (λ rs. Goes D (Ends (Jump l)) z (λ x y es. FirstShown k false locked (first_reads rs) z x es)) (sym st.found) (quiet locked (Jump l) z)
@@ -271,6 +279,12 @@ module _ (k : Frame) (sound : Sound k.base) (C0 D : Claim) (Fits : Locks → (�
     what_first (tree.stop text) n last locked still fit units st pa z iz = subst (λ rs. Goes D (Ends Stopped) z (λ x y es. FirstShown k false locked (first_reads rs) z x es)) (sym st.found) (quiet locked Stopped z)
     what_first (tree.print es) n last locked still fit units st pa z iz = subst (λ rs. Goes D (execution (tree.print es) n k.sc k.at locked) z (λ x y fs. FirstShown k false locked (first_reads rs) z x fs)) (sym st.found) (print_in k sound (solid locked still fit) D locked es z (subst (AreOf k.may_name) st.found (sets.sets n).named) (plain_of (tree.print es) n last st))
     what_first (tree.read es) n last locked still fit units st pa z iz = read_in k sound (solid locked still fit) D locked still (base locked still fit) units sets.items sets.inner es z (targets_of (tree.read es) n last st) (plain_of (tree.read es) n last st)
+
+    -- the statement of a logical IF
+    only_first : (s : StmtTree) (locked : Locks) (still : ℕ → Bool) → Fits locked still → UnitsFit k locked → StandsStmt C0 D k Fits I acc called s false → (z : Store) → I z → Goes D (statement_plan s k.sc k.at locked) z (λ a y es. FirstShown k false locked (only_in s T) z a es)
+    only_first (tree.stmt m label v) locked still fit units st z iz =
+        goes_more D (statement_plan (tree.stmt m label v) k.sc k.at locked) z (λ a y es. FirstShown k false locked (what_in m v T) z a es) (λ a y es. FirstShown k false locked (only_in (tree.stmt m label v) T) z a es) (λ a y es h. first_alone (set_at acc m) (what_in m v T) locked z a es h)
+        (node m label v false locked z (in_at C0 D k Fits I acc called m label v false st) (what_first v m false locked still fit units (in_at C0 D k Fits I acc called m label v false st) (in_within C0 D k Fits I acc called m label v false st) z iz))
 
     loop_list : (l : LoopTree) (n : ℕ) (last : Bool) (locked : Locks) (still : ℕ → Bool) → Fits locked still → UnitsFit k locked → InAt C0 D k Fits I acc called n (tree.do_loop l) last → StandsParts C0 D k Fits I acc called (tree.do_loop l) n → (z : Store) → I z → Goes D (do_plan l k.sc k.at locked) z (λ a y es. FirstShown k false locked (what_in n (tree.do_loop l) T) z a es)
     loop_list (tree.loop index e1 e2 e3 body) n last locked still fit units st pa z iz =

@@ -10,7 +10,7 @@ use Rattle.f77_meaning.specs.Modules.{known_of}
 use Rattle.scalar_phases.specs.Phases.{Analysis, analyses}
 use Rattle.array_regions.specs.Calls.{Callees as Summaries}
 use Rattle.region_phases.specs.Phases.{ModuleRegions, no_callees, with_regions, all_regions}
-use Rattle.in_out_phases.specs.Phases.{ModuleIns, with_callee, ins_found, with_ins, found_in, all_ins}
+use Rattle.region_phases.specs.InPhases.{ModuleIns, with_callee, ins_found, with_ins, found_in, all_ins}
 use Rattle.laws_statements.specs.CallsIn.{Each}
 use Rattle.laws_storage.specs.Programs.{IsLinked}
 use Rattle.laws_analyses.proofs.CallLists.{each_joined}

@@ -33,9 +33,9 @@ use Rattle.region_sets.specs.declared.marks.Mark.{Mark}
 use Rattle.region_sets.specs.declared.marks.Mark.TheVariants.{Parallel}
 use Rattle.scalar_phases.specs.Phases.{scope_of, analyses}
 use Rattle.region_phases.specs.Phases.{all_regions}
-use Rattle.in_out_phases.specs.Phases.{ModuleIns, all_ins}
-use Rattle.out_phases.specs.Phases.{ModuleOuts, with_outs, sites_of, name_of, outs_from, all_outs}
-use Rattle.mark_phases.specs.Phases.{ModuleMarks, known_in, no_callees, with_callee, with_marks, found_in, all_marks}
+use Rattle.region_phases.specs.InPhases.{ModuleIns, all_ins}
+use Rattle.region_phases.specs.OutPhases.{ModuleOuts, with_outs, sites_of, name_of, outs_from, all_outs}
+use Rattle.loop_marker.specs.Phases.{ModuleMarks, known_in, no_callees, with_callee, with_marks, found_in, all_marks}
 use Rattle.loop_bodies.specs.Finding.{loop_in}
 use Rattle.loop_marker.specs.Known.{knowledge_of}
 use Rattle.loop_marker.specs.Marks.{Knowledge, mark_of}

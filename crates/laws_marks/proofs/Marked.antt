@@ -9,7 +9,7 @@ use Rattle.f77_meaning.specs.Modules.{Known, symbol_names}
 use Rattle.transformers.specs.Lists.{value_at}
 use Rattle.region_sets.specs.declared.marks.Mark.{Mark}
 use Rattle.region_sets.specs.declared.marks.Mark.TheVariants.{Parallel}
-use Rattle.mark_phases.specs.Phases.{ModuleMarks, marks_found}
+use Rattle.loop_marker.specs.Phases.{ModuleMarks, marks_found}
 use Rattle.scalar_phases.specs.Phases.{scope_of}
 use Rattle.loop_bodies.specs.Finding.{loop_in}
 use Rattle.loop_marker.specs.Known.{knowledge_of}

@@ -21,8 +21,8 @@ use Rattle.affine_forms.specs.Claims.{unit_in}
 use Rattle.transformers.specs.Lists.{value_at}
 use Rattle.region_sets.specs.declared.marks.Mark.TheVariants.{Parallel}
 use Rattle.in_out_regions.specs.Lists.{set_at}
-use Rattle.out_phases.specs.Phases.{ModuleOuts}
-use Rattle.mark_phases.specs.Phases.{ModuleMarks, known_in, all_marks}
+use Rattle.region_phases.specs.OutPhases.{ModuleOuts}
+use Rattle.loop_marker.specs.Phases.{ModuleMarks, known_in, all_marks}
 use Rattle.scalar_phases.specs.Phases.{scope_of}
 use Rattle.loop_bodies.specs.Finding.{loop_in}
 use Rattle.loop_marker.specs.Variables.{is_of_some}

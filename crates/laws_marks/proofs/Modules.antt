@@ -13,13 +13,13 @@ use Rattle.call_translation.specs.Sites.{SiteTree}
 use Rattle.transformers.specs.Lists.{value_at, transformer_at}
 use Rattle.region_sets.specs.declared.region.Region.{Region}
 use Rattle.in_out_regions.specs.Lists.{set_at}
-use Rattle.in_out_phases.specs.Phases.{ModuleIns}
+use Rattle.region_phases.specs.InPhases.{ModuleIns}
 use Rattle.out_regions.specs.Known.{KnownTree}
 use Rattle.out_regions.specs.Statement.{body_out, at_list}
-use Rattle.out_phases.specs.declared.sites.OutSite.{OutSite}
-use Rattle.out_phases.specs.Phases.{ModuleOuts, used_after, outs_found, sites_of}
+use Rattle.region_phases.specs.declared.sites.OutSite.{OutSite}
+use Rattle.region_phases.specs.OutPhases.{ModuleOuts, used_after, outs_found, sites_of}
 use Rattle.effects.specs.List.{Callees as EffectCallees}
-use Rattle.mark_phases.specs.Phases.{ModuleMarks, no_callees, with_callee, with_marks, marks_found, found_in, all_marks}
+use Rattle.loop_marker.specs.Phases.{ModuleMarks, no_callees, with_callee, with_marks, marks_found, found_in, all_marks}
 use Rattle.scalar_phases.specs.Phases.{Analysis, analyses, scope_of}
 use Rattle.loop_bodies.specs.Finding.{loop_in}
 use Rattle.laws_programs.specs.Programs.{IsProgram}

@@ -21,7 +21,7 @@ use Rattle.region_sets.specs.declared.marks.Mark.TheVariants.{Parallel}
 use Rattle.region_sets.specs.declared.marks.Private.TheVariants.{Yes}
 use Rattle.region_sets.specs.declared.region.Region.{Region}
 use Rattle.region_sets.specs.Lists.{accesses_at}
-use Rattle.mark_phases.specs.Phases.{ModuleMarks, marks_found}
+use Rattle.loop_marker.specs.Phases.{ModuleMarks, marks_found}
 use Rattle.scalar_phases.specs.Phases.{scope_of}
 use Rattle.in_out_regions.specs.Lists.{set_at}
 use Rattle.loop_bodies.specs.Body.{body_of, system_at}

@@ -34,14 +34,14 @@ use Rattle.array_regions.specs.Modules.{regions_with}
 use Rattle.region_phases.specs.Phases.{with_regions, all_regions}
 use Rattle.in_out_regions.specs.Lists.{set_at}
 use Rattle.in_out_regions.specs.Modules.{ins_with}
-use Rattle.in_out_phases.specs.Phases.{with_ins, all_ins}
+use Rattle.region_phases.specs.InPhases.{with_ins, all_ins}
 use Rattle.out_regions.specs.Used.{all_out}
 use Rattle.out_regions.specs.Modules.{outs_with}
 use Rattle.callee_regions.specs.Values.{is_dummy_place, is_scalar_dummy}
 use Rattle.callee_regions.specs.Units.{size_in}
 use Rattle.callee_regions.specs.Callee.{to_callee}
-use Rattle.out_phases.specs.declared.sites.OutSite.{OutSite}
-use Rattle.out_phases.specs.Phases.{ModuleOuts, Caller, call_site, list_sites, handed_down, used_after, outs_found, caller_of, sites_of, all_outs}
+use Rattle.region_phases.specs.declared.sites.OutSite.{OutSite}
+use Rattle.region_phases.specs.OutPhases.{ModuleOuts, Caller, call_site, list_sites, handed_down, used_after, outs_found, caller_of, sites_of, all_outs}
 use Rattle.scalar_phases.specs.Phases.{scope_of, Analysis, analyses}
 use Rattle.laws_programs.specs.Programs.{IsProgram}
 use Rattle.laws_programs.proofs.Tables.{programs_are_linked}

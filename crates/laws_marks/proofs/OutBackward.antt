@@ -14,7 +14,7 @@ use Rattle.f77_ast.specs.Trees.{ExprTree, ExprTrees}
 use Rattle.f77_ast.specs.Store.{Store}
 use Rattle.f77_ast.specs.Places.{Variable, Place, Places, total_size}
 use Rattle.f77_ast.specs.Calls.{Actual, Meaning, places_of}
-use Rattle.f77_constants.specs.declared.constant.Constant.{Constant as Worthy}
+use Rattle.f77_symbols.specs.declared.constant.Constant.{Constant as Worthy}
 use Rattle.f77_symbols.specs.declared.symbol.Place.{Place as SymbolPlace}
 use Rattle.f77_symbols.specs.declared.symbol.Place.TheVariants as place
 use Rattle.f77_symbols.specs.declared.variable.Variable.{Variable as Named}

@@ -15,12 +15,12 @@ use Rattle.region_sets.specs.declared.region.Region.{Region}
 use Rattle.region_sets.proofs.StepLaws.{in_left, in_right}
 use Rattle.array_regions.specs.Calls.{Callees as Summaries}
 use Rattle.region_phases.specs.Phases.{ModuleRegions, no_callees, with_regions, all_regions}
-use Rattle.in_out_phases.specs.Phases.{ModuleIns, with_callee, with_ins, found_in, all_ins}
+use Rattle.region_phases.specs.InPhases.{ModuleIns, with_callee, with_ins, found_in, all_ins}
 use Rattle.out_regions.specs.Used.{all_out}
 use Rattle.callee_regions.specs.Callee.{to_callee}
 use Rattle.call_equations.specs.Sides.{SidesTree}
-use Rattle.out_phases.specs.declared.sites.OutSite.{OutSite}
-use Rattle.out_phases.specs.Phases.{ModuleOuts, Caller, call_site, stmt_sites, what_sites, list_sites, arms_sites, arm_sites, else_sites, loop_sites, sides_at, handed_each, handed_by, handed_down, used_after, with_outs, caller_of, body_of, sites_of, outs_from, all_outs}
+use Rattle.region_phases.specs.declared.sites.OutSite.{OutSite}
+use Rattle.region_phases.specs.OutPhases.{ModuleOuts, Caller, call_site, stmt_sites, what_sites, list_sites, arms_sites, arm_sites, else_sites, loop_sites, sides_at, handed_each, handed_by, handed_down, used_after, with_outs, caller_of, body_of, sites_of, outs_from, all_outs}
 use Rattle.laws_statements.specs.CallsIn.{CallAt, Each, stmt_calls, what_calls, list_calls, arms_calls, arm_calls, else_calls, loop_calls}
 use Rattle.laws_analyses.proofs.CallLists.{each_joined}
 use Rattle.laws_analyses.proofs.Passes.{NoAnalysis, name_of}

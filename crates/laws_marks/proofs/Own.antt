@@ -31,7 +31,7 @@ use Rattle.call_translation.specs.Scopes.{ScopeTree}
 use Rattle.region_sets.specs.declared.region.Region.{Region}
 use Rattle.region_sets.specs.Lists.{or_none}
 use Rattle.in_out_regions.specs.Lists.{set_at}
-use Rattle.out_phases.specs.Phases.{ModuleOuts}
+use Rattle.region_phases.specs.OutPhases.{ModuleOuts}
 use Rattle.scalar_phases.specs.Phases.{scope_of}
 use Rattle.loop_bodies.specs.Finding.{loop_in}
 use Rattle.privatizer.specs.Names.{is_local, is_equivalenced, is_own_symbol, may_copy}

@@ -12,7 +12,7 @@ use Rattle.call_graph.specs.declared.graph.Graph.{Graph}
 use Rattle.f77_meaning.specs.Modules.{known_of}
 use Rattle.f77_meaning.specs.Linked.{program_of}
 use Rattle.f77_meaning.specs.Occurrences.{Occurrence, Throughout, places_in}
-use Rattle.out_phases.specs.Phases.{ModuleOuts}
+use Rattle.region_phases.specs.OutPhases.{ModuleOuts}
 use Rattle.scalar_phases.specs.Phases.{scope_of, analyses}
 use Rattle.loop_bodies.specs.Finding.{loop_in}
 use Rattle.laws_programs.specs.Programs.{IsProgram}

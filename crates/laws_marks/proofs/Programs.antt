@@ -13,7 +13,7 @@ use Rattle.call_graph.specs.declared.graph.Graph.{Graph}
 use Rattle.f77_meaning.specs.Areas.{Numbering}
 use Rattle.f77_meaning.specs.Modules.{Known, known_of}
 use Rattle.f77_meaning.specs.Linked.{numbering, routine, main_of, subroutines, program_of}
-use Rattle.mark_phases.specs.Phases.{ModuleMarks, known_in, all_marks}
+use Rattle.loop_marker.specs.Phases.{ModuleMarks, known_in, all_marks}
 use Rattle.laws_programs.specs.Programs.{IsProgram}
 use Rattle.laws_programs.proofs.Numbers.{is_numbered}
 use Rattle.laws_programs.proofs.Whole.{numbers_go_up}

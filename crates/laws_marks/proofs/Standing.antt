@@ -11,7 +11,7 @@ use Rattle.f77_ast.specs.Calls.{Dummy}
 use Rattle.f77_ast.specs.Writes.{Locks, lock}
 use Rattle.f77_ast.specs.Executions.{run_of, Claim}
 use Rattle.f77_ast.specs.Statements.{spot, do_plan}
-use Rattle.f77_constants.specs.declared.constant.Constant.{Constant}
+use Rattle.f77_symbols.specs.declared.constant.Constant.{Constant}
 use Rattle.f77_symbols.specs.declared.variable.Variable.TheVariants.{Own}
 use Rattle.f77_symbols.specs.Symbols.{BoundTree}
 use Rattle.f77_symbols.specs.Shared.{symbol_at, overlap}

@@ -13,7 +13,7 @@ use Rattle.region_sets.specs.declared.region.Region.{Region}
 use Rattle.array_regions.specs.Calls.{Callees as Summaries}
 use Rattle.region_phases.specs.Phases.{regions_found}
 use Rattle.in_out_regions.specs.Lists.{set_at}
-use Rattle.out_phases.specs.Phases.{ModuleOuts}
+use Rattle.region_phases.specs.OutPhases.{ModuleOuts}
 use Rattle.scalar_phases.specs.Phases.{scope_of, Analysis, analyses}
 use Rattle.laws_programs.proofs.Sources.{all_built}
 use Rattle.laws_programs.proofs.Tables.{programs_are_linked}

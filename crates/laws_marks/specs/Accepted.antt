@@ -7,7 +7,7 @@ use Rattle.f77_symbols.specs.Symbols.{SymbolTree}
 use Rattle.call_graph.specs.declared.graph.Graph.{Graph}
 use Rattle.f77_meaning.specs.Modules.{known_of}
 use Rattle.f77_meaning.specs.Linked.{program_of}
-use Rattle.mark_phases.specs.Phases.{all_marks}
+use Rattle.loop_marker.specs.Phases.{all_marks}
 use Rattle.laws_programs.specs.Programs.{IsProgram}
 use Rattle.laws_interleavings.specs.Holds.{MarksHold}
 use Rattle.laws_interleavings.specs.MarkedPrograms.{Directives, marked_program}

@@ -6,7 +6,7 @@ use Rattle.f77_symbols.specs.declared.variable.Variable.{Variable}
 use Rattle.call_graph.specs.declared.graph.Graph.{Graph}
 use Rattle.f77_meaning.specs.Modules.{Known, known_of}
 use Rattle.region_phases.specs.Phases.{all_regions}
-use Rattle.in_out_phases.specs.Phases.{ModuleIns, all_ins}
+use Rattle.region_phases.specs.InPhases.{ModuleIns, all_ins}
 use Rattle.scalar_phases.specs.Phases.{analyses}
 use Rattle.laws_programs.specs.Programs.{IsProgram}
 use Rattle.laws_storage.specs.Programs.{IsModule}

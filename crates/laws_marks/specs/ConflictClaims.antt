@@ -28,7 +28,7 @@ use Rattle.region_sets.specs.declared.region.Region.{Region}
 use Rattle.region_sets.specs.Claims.{LiesInSet}
 use Rattle.region_sets.specs.Lists.{accesses_at}
 use Rattle.in_out_regions.specs.Lists.{set_at}
-use Rattle.in_out_phases.specs.Phases.{ModuleIns}
+use Rattle.region_phases.specs.InPhases.{ModuleIns}
 use Rattle.scalar_phases.specs.Phases.{scope_of}
 use Rattle.loop_bodies.specs.declared.body.LoopBody.{LoopBody}
 use Rattle.loop_bodies.specs.Body.{body_of}

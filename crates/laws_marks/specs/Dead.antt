@@ -21,8 +21,8 @@ use Rattle.region_sets.specs.declared.marks.Private.TheVariants.{Yes}
 use Rattle.region_sets.specs.declared.region.Access.TheVariants.{Out}
 use Rattle.region_sets.specs.declared.region.Region.{Region}
 use Rattle.in_out_regions.specs.Lists.{set_at}
-use Rattle.out_phases.specs.Phases.{ModuleOuts}
-use Rattle.mark_phases.specs.Phases.{ModuleMarks, known_in}
+use Rattle.region_phases.specs.OutPhases.{ModuleOuts}
+use Rattle.loop_marker.specs.Phases.{ModuleMarks, known_in}
 use Rattle.scalar_phases.specs.Phases.{scope_of}
 use Rattle.loop_bodies.specs.Finding.{loop_in}
 use Rattle.privatizer.specs.Names.{may_copy}

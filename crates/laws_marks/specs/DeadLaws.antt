@@ -8,9 +8,9 @@ use Rattle.f77_meaning.specs.Occurrences.{Occurrence}
 use Rattle.f77_meaning.specs.Claimed.{InConformingRuns}
 use Rattle.scalar_phases.specs.Phases.{analyses}
 use Rattle.region_phases.specs.Phases.{all_regions}
-use Rattle.in_out_phases.specs.Phases.{all_ins}
-use Rattle.out_phases.specs.Phases.{ModuleOuts, all_outs}
-use Rattle.mark_phases.specs.Phases.{ModuleMarks, known_in, all_marks}
+use Rattle.region_phases.specs.InPhases.{all_ins}
+use Rattle.region_phases.specs.OutPhases.{ModuleOuts, all_outs}
+use Rattle.loop_marker.specs.Phases.{ModuleMarks, known_in, all_marks}
 use Rattle.laws_programs.specs.Programs.{IsProgram}
 use Rattle.laws_marks.specs.ConflictExecutions.{Execution, InEachExecution}
 use Rattle.laws_marks.specs.Dead.{CopiesLieInOwn, PrivatesAreDead, MarkIsDead}

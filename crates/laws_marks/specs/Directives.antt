@@ -3,7 +3,7 @@ use Rattle.std.specs.Prelude.{◌≡◌, ℕ, List, Some}
 use Rattle.transformer_algebra.specs.Laws.{In}
 use Rattle.transformers.specs.Lists.{value_at}
 use Rattle.region_sets.specs.declared.marks.Mark.TheVariants.{Parallel}
-use Rattle.mark_phases.specs.Phases.{ModuleMarks, known_in}
+use Rattle.loop_marker.specs.Phases.{ModuleMarks, known_in}
 use Rattle.laws_interleavings.specs.MarkedPrograms.{Directives}
 use Rattle.laws_marks.specs.Names.{directive_names}
 

@@ -10,7 +10,7 @@ use Rattle.f77_meaning.specs.Claimed.{InEveryRun}
 use Rattle.array_regions.specs.Calls.{Callees}
 use Rattle.scalar_phases.specs.Phases.{scope_of, Analysis, analyses}
 use Rattle.region_phases.specs.Phases.{no_callees, with_regions, all_regions}
-use Rattle.in_out_phases.specs.Phases.{ModuleIns, with_callee, with_ins, all_ins}
+use Rattle.region_phases.specs.InPhases.{ModuleIns, with_callee, with_ins, all_ins}
 use Rattle.laws_programs.specs.Programs.{IsProgram}
 use Rattle.laws_regions.specs.Accepted.{after as reads_after, behind}
 use Rattle.laws_marks.specs.InClaims.{InRegionsHold}

@@ -24,7 +24,7 @@ use Rattle.region_sets.specs.declared.region.Region.{Region}
 use Rattle.scalar_phases.specs.Phases.{scope_of}
 use Rattle.loop_bodies.specs.Finding.{loop_in}
 use Rattle.loop_marker.specs.Marks.{Knowledge, mark_of}
-use Rattle.mark_phases.specs.Phases.{ModuleMarks, known_in, all_marks}
+use Rattle.loop_marker.specs.Phases.{ModuleMarks, known_in, all_marks}
 use Rattle.laws_programs.specs.Programs.{IsProgram}
 use Rattle.laws_marks.specs.ConflictExecutions.{Execution, InEachExecution}
 use Rattle.laws_marks.specs.ConflictClaims.{KnownLoop, LoopIs, loop_with}

@@ -20,7 +20,7 @@ use Rattle.transformer_algebra.specs.Laws.{In}
 use Rattle.call_translation.specs.Scopes.{ScopeTree}
 use Rattle.transformers.specs.Lists.{value_at}
 use Rattle.region_sets.specs.declared.marks.Mark.TheVariants.{Parallel}
-use Rattle.mark_phases.specs.Phases.{ModuleMarks, known_in}
+use Rattle.loop_marker.specs.Phases.{ModuleMarks, known_in}
 use Rattle.scalar_phases.specs.Phases.{scope_of}
 use Rattle.loop_bodies.specs.Finding.{loop_in}
 use Rattle.laws_interleavings.specs.MarkedStatements.{MarkedScope, unit_of_some, marked_loop}

@@ -9,8 +9,8 @@ use Rattle.f77_meaning.specs.Claimed.{InConformingRuns}
 use Rattle.scalar_phases.specs.Phases.{scope_of, Analysis, analyses}
 use Rattle.region_sets.specs.declared.region.Region.{Region}
 use Rattle.region_phases.specs.Phases.{with_regions, all_regions}
-use Rattle.in_out_phases.specs.Phases.{with_ins, all_ins}
-use Rattle.out_phases.specs.Phases.{ModuleOuts, sites_of, used_after, with_outs, all_outs}
+use Rattle.region_phases.specs.InPhases.{with_ins, all_ins}
+use Rattle.region_phases.specs.OutPhases.{ModuleOuts, sites_of, used_after, with_outs, all_outs}
 use Rattle.laws_programs.specs.Programs.{IsProgram}
 use Rattle.laws_regions.specs.Accepted.{after as reads_after}
 use Rattle.laws_marks.specs.InAccepted.{after}

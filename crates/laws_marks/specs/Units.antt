@@ -19,7 +19,7 @@ use Rattle.transformers.specs.Loops.{number_in}
 use Rattle.region_sets.specs.declared.region.Region.{Region}
 use Rattle.array_regions.specs.Calls.{Callees as Summaries}
 use Rattle.in_out_regions.specs.Lists.{set_at}
-use Rattle.in_out_phases.specs.Phases.{ModuleIns}
+use Rattle.region_phases.specs.InPhases.{ModuleIns}
 use Rattle.scalar_phases.specs.Phases.{scope_of}
 use Rattle.loop_bodies.specs.Finding.{loop_in}
 use Rattle.privatizer.specs.Names.{is_local}

@@ -26,14 +26,14 @@ use Rattle.call_equations.specs.Sides.{SidesTree, entry_cells, changed_cells}
 use Rattle.array_regions.specs.Calls.{scope_with}
 use Rattle.region_phases.specs.Phases.{ModuleRegions, all_regions}
 use Rattle.in_out_regions.specs.Lists.{set_at}
-use Rattle.in_out_phases.specs.Phases.{ModuleIns, all_ins}
+use Rattle.region_phases.specs.InPhases.{ModuleIns, all_ins}
 use Rattle.callee_regions.specs.Callee.{to_callee}
 use Rattle.callee_regions.specs.Units.{size_in}
 use Rattle.callee_regions.specs.Values.{is_dummy_place, is_scalar_dummy}
 use Rattle.out_regions.specs.Known.{KnownTree}
 use Rattle.out_regions.specs.Used.{all_out}
-use Rattle.out_phases.specs.declared.sites.OutSite.{OutSite}
-use Rattle.out_phases.specs.Phases.{ModuleOuts, Caller, call_site, stmt_sites, what_sites, list_sites, arms_sites, arm_sites, else_sites, loop_sites, sides_at, handed_each, handed_by, handed_down, used_at, used_after, with_outs, caller_of, body_of, sites_of, name_of, outs_from, all_outs}
+use Rattle.region_phases.specs.declared.sites.OutSite.{OutSite}
+use Rattle.region_phases.specs.OutPhases.{ModuleOuts, Caller, call_site, stmt_sites, what_sites, list_sites, arms_sites, arm_sites, else_sites, loop_sites, sides_at, handed_each, handed_by, handed_down, used_at, used_after, with_outs, caller_of, body_of, sites_of, name_of, outs_from, all_outs}
 use Rattle.storage_layout.specs.Symbols.{symbols_of}
 use Rattle.std.specs.Prelude.{Ok}
 use Rattle.roundtrip_programs.specs.Lines.{IsShown}

@@ -16,8 +16,8 @@ use Rattle.pipsmake_rules.specs.Neighbours.{has_name}
 use Rattle.laws_database.specs.Texts.{ModuleText, AreModules, names_in, links_in}
 use Rattle.laws_database.specs.Definitions.{results_in, text_shown}
 use Rattle.laws_database.proofs.Modules.{read_at, entry_of}
-use Rattle.laws_program_text.specs.Texts.{name_of, texts_of, text_named, before_text, texts_named}
-use Rattle.laws_program_text.specs.Laws.{SameProgram, PiecesAreTheProgram, NamesShowTheText}
+use Rattle.laws_database.specs.ProgramTexts.{name_of, texts_of, text_named, before_text, texts_named}
+use Rattle.laws_database.specs.ProgramTextLaws.{SameProgram, PiecesAreTheProgram, NamesShowTheText}
 use Rattle.session_texts.specs.Modules.{NamesDiffer}
 use Rattle.session_texts.specs.Sources.{source_refusal, unless_refused, named_texts}
 use Rattle.session_texts.proofs.SourceNames.{names_differ}

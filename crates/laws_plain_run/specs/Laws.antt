@@ -6,7 +6,7 @@ use Rattle.call_graph.specs.declared.graph.Graph.{Graph}
 use Rattle.result_lines.specs.declared.show.Show.{Show}
 use Rattle.roundtrip_programs.specs.Programs.{IsProgram}
 use Rattle.laws_database.specs.Texts.{ModuleText, AreModules, names_in, tables_in, links_in}
-use Rattle.laws_program_text.specs.Texts.{name_of, program_text, texts_named}
+use Rattle.laws_database.specs.ProgramTexts.{name_of, program_text, texts_named}
 use Rattle.session_texts.specs.Modules.{NamesDiffer}
 use Rattle.session_texts.specs.Sources.{source_modules}
 

@@ -2,8 +2,8 @@
 ghost use Rattle.laws_plain_run.specs.Laws.{AcceptedIsSplit};
 ghost use Rattle.laws_plain_run.specs.Whole.{LinkedAlike, LinkedIsAccepted, TextsBeginAtLines};
 
+use laws_database::{names_show_the_text, pieces_are_the_program};
 use laws_pieces::pieces_are_modules;
-use laws_program_text::{names_show_the_text, pieces_are_the_program};
 use roundtrip_programs::{graphs_ignore_places, tables_ignore_places};
 
 /// The text of an accepted program is read as its modules, which link as it does and are written as it is.

@@ -10,7 +10,7 @@ use Rattle.f77_ast.specs.Trees as tree
 use Rattle.f77_ast.specs.Store.{Store}
 use Rattle.f77_ast.specs.Places.{Constant, Variable, Dim, Place, Places, scalar_place, total_size, within, position, element_in}
 use Rattle.f77_ast.specs.Calls.{Actual, Dummy, Meaning, places_of}
-use Rattle.f77_constants.specs.declared.constant.Constant.{Constant as Worthy}
+use Rattle.f77_symbols.specs.declared.constant.Constant.{Constant as Worthy}
 use Rattle.f77_symbols.specs.declared.symbol.Place.{Place as SymbolPlace}
 use Rattle.f77_symbols.specs.declared.symbol.Place.TheVariants as place
 use Rattle.f77_symbols.specs.declared.variable.Variable.{Variable as Named}

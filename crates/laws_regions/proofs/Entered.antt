@@ -9,11 +9,11 @@ use Rattle.f77_ast.specs.Trees.{ExprTree, ExprTrees}
 use Rattle.f77_ast.specs.Trees as tree
 use Rattle.f77_ast.specs.DeclTrees.{ParsedTree}
 use Rattle.f77_ast.specs.Places.{Dim, dim_size, total_size}
-use Rattle.f77_constants.specs.declared.constant.Constant.{Constant}
-use Rattle.f77_constants.specs.declared.constant.Constant.TheVariants.{Int, Log}
-use Rattle.f77_constants.specs.declared.constant.Worth.{Worth}
-use Rattle.f77_constants.specs.declared.constant.Worth.TheVariants.{Is, Faults, Varies}
-use Rattle.f77_constants.specs.Constants.{turns_logical, gives_logical, unary_worth, binary_worth, named_worth, worth}
+use Rattle.f77_symbols.specs.declared.constant.Constant.{Constant}
+use Rattle.f77_symbols.specs.declared.constant.Constant.TheVariants.{Int, Log}
+use Rattle.f77_symbols.specs.declared.constant.Worth.{Worth}
+use Rattle.f77_symbols.specs.declared.constant.Worth.TheVariants.{Is, Faults, Varies}
+use Rattle.f77_symbols.specs.Constants.{turns_logical, gives_logical, unary_worth, binary_worth, named_worth, worth}
 use Rattle.f77_symbols.specs.declared.symbol.Place.{Place}
 use Rattle.f77_symbols.specs.declared.symbol.Place.TheVariants as place
 use Rattle.f77_symbols.specs.Symbols.{BoundTree, SymbolTree, constant_in, constant_at, value_in}

@@ -5,10 +5,10 @@ use Rattle.f77_ast.specs.Places.{Constant, Variable, Function, Dim, Place, total
 use Rattle.f77_ast.specs.Trees.{ExprTree, ExprTrees}
 use Rattle.f77_ast.specs.Numbers.{intrinsic_named}
 use Rattle.f77_ast.specs.Calls.{Dummy}
-use Rattle.f77_constants.specs.declared.constant.Constant.{Constant as Worthy}
-use Rattle.f77_constants.specs.declared.constant.Constant.TheVariants.{Int}
-use Rattle.f77_constants.specs.declared.constant.Worth.TheVariants.{Is}
-use Rattle.f77_constants.specs.Constants.{worth}
+use Rattle.f77_symbols.specs.declared.constant.Constant.{Constant as Worthy}
+use Rattle.f77_symbols.specs.declared.constant.Constant.TheVariants.{Int}
+use Rattle.f77_symbols.specs.declared.constant.Worth.TheVariants.{Is}
+use Rattle.f77_symbols.specs.Constants.{worth}
 use Rattle.f77_symbols.specs.declared.symbol.Place.TheVariants.{Block as InBlock}
 use Rattle.f77_symbols.specs.declared.variable.Variable.TheVariants.{Block as Whole, Saved}
 use Rattle.f77_symbols.specs.Symbols.{BoundTree, SymbolTree, number_from, value_in}

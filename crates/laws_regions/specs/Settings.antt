@@ -7,10 +7,10 @@ use Rattle.f77_ast.specs.Store.{Content}
 use Rattle.f77_ast.specs.Numbers.{intrinsic_named}
 use Rattle.f77_ast.specs.Places.{Constant, Variable, Function, Dim, Place, Places}
 use Rattle.f77_ast.specs.Statements.{Scope}
-use Rattle.f77_constants.specs.declared.constant.Constant.{Constant as Known}
-use Rattle.f77_constants.specs.declared.constant.Constant.TheVariants.{Int}
-use Rattle.f77_constants.specs.declared.constant.Worth.TheVariants.{Is}
-use Rattle.f77_constants.specs.Constants.{worth}
+use Rattle.f77_symbols.specs.declared.constant.Constant.{Constant as Known}
+use Rattle.f77_symbols.specs.declared.constant.Constant.TheVariants.{Int}
+use Rattle.f77_symbols.specs.declared.constant.Worth.TheVariants.{Is}
+use Rattle.f77_symbols.specs.Constants.{worth}
 use Rattle.f77_symbols.specs.declared.variable.Unit.{Unit as BlockUnit}
 use Rattle.f77_symbols.specs.declared.variable.Variable.{Variable as Named}
 use Rattle.f77_symbols.specs.declared.variable.Variable.TheVariants.{Own, Block, Saved}

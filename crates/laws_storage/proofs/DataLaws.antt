@@ -4,7 +4,7 @@ use Rattle.std.specs.Prelude.{is_some, ◌||◌, ◌-ℤ◌, slice_get}
 use Rattle.std.proofs.lemmas.Bool.{or_parts}
 use Rattle.f77_ast.specs.DeclTrees.{ParsedTree}
 use Rattle.f77_ast.specs.Places.{Dim, as_count, total_size}
-use Rattle.f77_constants.specs.declared.constant.Constant.{Constant}
+use Rattle.f77_symbols.specs.declared.constant.Constant.{Constant}
 use Rattle.f77_symbols.specs.declared.symbol.Place.{Place}
 use Rattle.f77_symbols.specs.declared.symbol.Place.TheVariants as place
 use Rattle.f77_symbols.specs.declared.symbol.InitialRun.{InitialRun}

@@ -44,8 +44,8 @@ use Rattle.callee_regions.specs.Pieces.{with_names, joined, without_caller, piec
 use Rattle.callee_regions.specs.Links.{link, same_link, by_row, same_variable, if_actual, dummy_link, dummy_links, is_like, common_link, in_block, common_links, all_units, block_rest, block_links, own_common, own_links, subscripts_of, callee_links}
 use Rattle.callee_regions.specs.Callee.{by_link, to_callee}
 use Rattle.out_regions.specs.Used.{all_out}
-use Rattle.out_phases.specs.declared.sites.OutSite.{OutSite}
-use Rattle.out_phases.specs.Phases.{sides_at, handed_each, handed_by, handed_down, used_at, used_after}
+use Rattle.region_phases.specs.declared.sites.OutSite.{OutSite}
+use Rattle.region_phases.specs.OutPhases.{sides_at, handed_each, handed_by, handed_down, used_at, used_after}
 use Rattle.base_values.specs.Naming.{Each}
 use Rattle.laws_stored.proofs.Lists.{each-append}
 use Rattle.laws_stored.proofs.Tidied.{AreAscending, ascending-append, push_fit, rename_fit}

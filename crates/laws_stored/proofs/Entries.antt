@@ -13,10 +13,10 @@ use Rattle.pipsmake_rules.specs.Kinds.{same_kind}
 use Rattle.region_sets.specs.declared.region.Access.{Access}
 use Rattle.region_sets.specs.declared.region.Access.TheVariants as access
 use Rattle.region_phases.specs.Phases.{ModuleRegions, all_regions}
-use Rattle.in_out_phases.specs.Phases.{ModuleIns, all_ins}
-use Rattle.out_phases.specs.Phases.{ModuleOuts, used_after, all_outs}
-use Rattle.mark_phases.specs.Phases.{ModuleMarks, analysis_in, known_in, all_marks}
-use Rattle.mark_phases.specs.Phases as marks
+use Rattle.region_phases.specs.InPhases.{ModuleIns, all_ins}
+use Rattle.region_phases.specs.OutPhases.{ModuleOuts, used_after, all_outs}
+use Rattle.loop_marker.specs.Phases.{ModuleMarks, analysis_in, known_in, all_marks}
+use Rattle.loop_marker.specs.Phases as marks
 use Rattle.laws_programs.specs.Programs.{AreTables}
 use Rattle.laws_lines.specs.Laws.{AnalysisIsOver}
 use Rattle.laws_lines.proofs.PhaseVars.{EachOf, analyses_are_over_cells}

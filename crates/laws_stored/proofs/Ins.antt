@@ -50,7 +50,7 @@ use Rattle.in_out_regions.specs.Known.{KnownTree}
 use Rattle.in_out_regions.specs.Calls.{summary_in, call_in}
 use Rattle.in_out_regions.specs.Simple.{item_in, item_written, reading}
 use Rattle.in_out_regions.specs.Loops.{after_first, before_last, index_rows_by, index_rows, in_range, meets_each, is_steady, earlier_rows_by, earlier_rows, earlier_piece, if_exact, earlier, less_earlier, in_iteration, over_maybe, unless_index, all_iterations, do_with}
-use Rattle.in_out_regions.specs.Statement.{list_of, body_accesses, do_of, stmt_in, what_in, arms_in, arm_in, else_in, at_stmt, at_parts, at_list, at_arms, at_arm, at_else, at_loop, list_set}
+use Rattle.in_out_regions.specs.Statement.{list_of, body_accesses, do_of, only_in, what_in, arms_in, arm_in, else_in, at_stmt, at_parts, at_list, at_arms, at_arm, at_else, at_loop, list_set}
 use Rattle.in_out_regions.specs.Modules.{summary_of, ins_with}
 use Rattle.base_values.specs.Naming.{Each}
 use Rattle.laws_stored.proofs.Lists.{each-append, set_found}
@@ -260,9 +260,6 @@ module _ (k : KnownTree) (fit : (n : ℕ) → Fits (k.does n).system) (sets : (n
   lists whole body as' h = list_in_such k.scope.symbols k.does fit (set_at k.accesses) (λ n. systems_of (set_at k.accesses n) (sets n)) (set_at as') (λ n. set_found I tt as' h n) whole body
 
   mutual
-    stmt_such : (s : StmtTree) → I (stmt_in s k)
-    stmt_such (tree.stmt n label w) = what_such n w
-
     what_such : (n : ℕ) (w : WhatTree) → I (what_in n w k)
     what_such n (tree.assign x y) = first_such (set_at k.accesses n) (sets n)
     what_such n (tree.block_if arms other) =
@@ -275,9 +272,9 @@ module _ (k : KnownTree) (fit : (n : ℕ) → Fits (k.does n).system) (sets : (n
         (join own rest (arms_such arms always always_fits) (else_such other (past_arms arms m always) (all_past_fit m arms always always_fits))))
     what_such n (tree.logical_if e s) =
         let m = k.scope in
-        let met = all_met (if_true m e always) (stmt_in s k) in
+        let met = all_met (if_true m e always) (only_in s k) in
         united_such IsCalled IsIn (all_in (reads e m) ++ met)
-        (join (all_in (reads e m)) met (as_in_such (reads e m) (reads_such m e)) (met_such IsIn (if_true m e always) (meet_fit no_rows (condition_of m.scalars e).yes none_fit (condition_fits m.scalars e).0) (stmt_in s k) (stmt_such s)))
+        (join (all_in (reads e m)) met (as_in_such (reads e m) (reads_such m e)) (met_such IsIn (if_true m e always) (meet_fit no_rows (condition_of m.scalars e).yes none_fit (condition_fits m.scalars e).0) (only_in s k) (only_such s)))
     what_such n (tree.do_loop l) = loop_such l
     what_such n (tree.call x es) = called x es
     what_such n (tree.goto l) = first_such (set_at k.accesses n) (sets n)
@@ -286,6 +283,9 @@ module _ (k : KnownTree) (fit : (n : ℕ) → Fits (k.does n).system) (sets : (n
     what_such n (tree.stop text) = first_such (set_at k.accesses n) (sets n)
     what_such n (tree.print es) = first_such (set_at k.accesses n) (sets n)
     what_such n (tree.read es) = reading_such k.scope es
+
+    only_such : (s : StmtTree) → I (only_in s k)
+    only_such (tree.stmt n label w) = overlapped_such k.scope.symbols (set_at k.accesses n) (unite_all (what_in n w k)) (united_such IsCalled IsIn (what_in n w k) (what_such n w))
 
     arms_such : (xs : ArmTrees) (w : Reached) → Fits w.system → I (arms_in xs k w)
     arms_such tree.no_arms w h = tt

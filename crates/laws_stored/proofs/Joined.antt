@@ -5,7 +5,7 @@ use Rattle.f77_symbols.specs.Symbols.{SymbolTree}
 use Rattle.f77_meaning.specs.Modules.{Known, symbol_names}
 use Rattle.call_graph.specs.declared.graph.Graph.{Graph}
 use Rattle.call_graph.specs.declared.refusal.Fault.{Fault}
-use Rattle.mark_phases.specs.Phases.{ModuleMarks}
+use Rattle.loop_marker.specs.Phases.{ModuleMarks}
 use Rattle.pipsmake_rules.specs.declared.kind.Kind.{Kind}
 use Rattle.pipsmake_rules.specs.declared.kind.Kind.TheVariants as kind
 use Rattle.pipsmake_rules.specs.Neighbours.{has_name}

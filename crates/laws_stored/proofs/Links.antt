@@ -7,8 +7,8 @@ use Rattle.affine_systems.specs.declared.row.Row.{Row}
 use Rattle.affine_systems.proofs.Basics.{if_cases}
 use Rattle.f77_ast.specs.Trees.{ExprTree, ExprTrees}
 use Rattle.f77_ast.specs.Trees as tree
-use Rattle.f77_constants.specs.declared.constant.Constant.{Constant}
-use Rattle.f77_constants.specs.Constants.{worth}
+use Rattle.f77_symbols.specs.declared.constant.Constant.{Constant}
+use Rattle.f77_symbols.specs.Constants.{worth}
 use Rattle.f77_symbols.specs.declared.symbol.Place.{Place}
 use Rattle.f77_symbols.specs.declared.symbol.Place.TheVariants.{Local, Dummy, Block as Lies, Constant as Value}
 use Rattle.f77_symbols.specs.declared.variable.Variable.{Variable}

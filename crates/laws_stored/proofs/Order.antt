@@ -267,7 +267,7 @@ module _ (k : known.KnownTree) (sets : (n : ℕ) → Ordered (set_at k.accesses 
   first_in n (tree.assign x y) = first_ordered (set_at k.accesses n) (sets n)
   first_in n (tree.block_if arms other) =
       gathered_ordered (all_in (tests_reads arms k.scope always) ++ (firsts.arms_in arms k always ++ firsts.else_in other k (past_arms arms k.scope always)))
-  first_in n (tree.logical_if e s) = gathered_ordered (all_in (reads e k.scope) ++ all_met (if_true k.scope e always) (firsts.stmt_in s k))
+  first_in n (tree.logical_if e s) = gathered_ordered (all_in (reads e k.scope) ++ all_met (if_true k.scope e always) (firsts.only_in s k))
   first_in n (tree.do_loop (tree.loop index first last step body)) =
       let l = tree.loop index first last step body in
       let m = k.scope in

@@ -27,16 +27,16 @@ use Rattle.region_phases.specs.Phases.{ModuleRegions, with_regions, all_regions}
 use Rattle.region_phases.specs.Phases as regions
 use Rattle.array_regions.specs.Calls.{Callees}
 use Rattle.array_regions.specs.Modules.{calls_of}
-use Rattle.in_out_phases.specs.Phases.{ModuleIns, with_ins, all_ins}
-use Rattle.in_out_phases.specs.Phases as ins
+use Rattle.region_phases.specs.InPhases.{ModuleIns, with_ins, all_ins}
+use Rattle.region_phases.specs.InPhases as ins
 use Rattle.in_out_regions.specs.Modules.{known_of as in_known}
-use Rattle.out_phases.specs.declared.sites.OutSite.{OutSite}
-use Rattle.out_phases.specs.Phases.{ModuleOuts, used_after, with_outs, name_of, outs_from, all_outs}
-use Rattle.out_phases.specs.Phases as outs
+use Rattle.region_phases.specs.declared.sites.OutSite.{OutSite}
+use Rattle.region_phases.specs.OutPhases.{ModuleOuts, used_after, with_outs, name_of, outs_from, all_outs}
+use Rattle.region_phases.specs.OutPhases as outs
 use Rattle.out_regions.specs.Known.{KnownTree}
 use Rattle.out_regions.specs.Statement.{body_out}
-use Rattle.mark_phases.specs.Phases.{ModuleMarks, known_in, with_marks, all_marks}
-use Rattle.mark_phases.specs.Phases as marks
+use Rattle.loop_marker.specs.Phases.{ModuleMarks, known_in, with_marks, all_marks}
+use Rattle.loop_marker.specs.Phases as marks
 use Rattle.laws_statements.proofs.NumberLaws.{ids, t_list, p_list}
 use Rattle.laws_regions.proofs.Numbering.{r_list, ids_parts}
 use Rattle.laws_marks.proofs.InStanding.{i_list}

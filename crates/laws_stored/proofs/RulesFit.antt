@@ -12,8 +12,8 @@ use Rattle.system_renaming.specs.Renaming.{rename_all, push_rows}
 use Rattle.system_renaming.specs.Fresh.{fresh_over, above_rows}
 use Rattle.f77_ast.specs.Trees.{ExprTree, ExprTrees}
 use Rattle.f77_ast.specs.Trees as tree
-use Rattle.f77_constants.specs.declared.constant.Constant.{Constant}
-use Rattle.f77_constants.specs.declared.constant.Constant.TheVariants.{Int, Log}
+use Rattle.f77_symbols.specs.declared.constant.Constant.{Constant}
+use Rattle.f77_symbols.specs.declared.constant.Constant.TheVariants.{Int, Log}
 use Rattle.f77_ast.specs.declared.expr.UnaryOp.{UnaryOp}
 use Rattle.f77_ast.specs.declared.expr.UnaryOp.TheVariants.{Plus, Minus, Not}
 use Rattle.f77_ast.specs.declared.expr.BinaryOp.{BinaryOp}

@@ -3,3 +3,5 @@ pub mod Jumps
 pub mod Variables
 pub mod Marks
 pub mod Known
+pub mod Phases
+pub mod Views

@@ -4,7 +4,9 @@
 mod jumps;
 mod loops;
 mod names;
+mod phases;
 mod variables;
 mod verdict;
 
 pub use loops::marks;
+pub use phases::{ModuleMarks, all_marks};

@@ -12,9 +12,9 @@ use Rattle.f77_meaning.specs.Modules.{Known, known_of, symbol_names}
 use Rattle.transformer_algebra.specs.declared.transformer.Transformer.{Transformer}
 use Rattle.scalar_phases.specs.Phases.{Analysis, analyses}
 use Rattle.region_phases.specs.Phases.{ModuleRegions, all_regions}
-use Rattle.in_out_phases.specs.Phases.{ModuleIns, all_ins}
-use Rattle.out_phases.specs.Phases.{ModuleOuts, all_outs}
-use Rattle.mark_phases.specs.Phases.{ModuleMarks, analysis_in, known_in, all_marks}
+use Rattle.region_phases.specs.InPhases.{ModuleIns, all_ins}
+use Rattle.region_phases.specs.OutPhases.{ModuleOuts, all_outs}
+use Rattle.loop_marker.specs.Phases.{ModuleMarks, analysis_in, known_in, all_marks}
 use Rattle.claim_lines.specs.ScalarLines.{Said, before, holds_lines, changes_lines, does_lines, says_changes, own_lines, stmt_lines, part_lines, list_lines, arms_lines, arm_lines, else_lines, loop_lines, entry_lines, said}
 use Rattle.system_text.specs.SystemText.{precondition_line, transformer_line}
 use Rattle.roundtrip_statements.specs.Formed.{Each}
@@ -32,7 +32,7 @@ use Rattle.roundtrip_marks.specs.Laws.{MarkLinesArePassedOver}
 use Rattle.laws_region_lines.proofs.ProgramRegions.{ModuleFine, ModuleTold, each_named, regions_with, all_told, modules_fine}
 use Rattle.laws_region_lines.proofs.LinesPass.{names_shown}
 use Rattle.laws_database.specs.ResultEntries.{said_for}
-use Rattle.laws_program_text.specs.Texts.{lines_with}
+use Rattle.laws_database.specs.ProgramTexts.{lines_with}
 use Rattle.pips_top.specs.Shown.{said_of, lines_for}
 use Rattle.pips_top.specs.Program.{ProgramTree}
 use Rattle.result_lines.specs.declared.show.Show.{Show}

@@ -16,8 +16,8 @@ use Rattle.claim_lines.specs.ScalarLines as scalar
 use Rattle.region_sets.specs.declared.region.Region.{Region}
 use Rattle.region_lines.specs.RegionLines.{set_lines, found_lines}
 use Rattle.region_lines.specs.RegionLines as region
-use Rattle.out_phases.specs.Phases.{ModuleOuts}
-use Rattle.mark_phases.specs.Phases.{analysis_in, known_in}
+use Rattle.region_phases.specs.OutPhases.{ModuleOuts}
+use Rattle.loop_marker.specs.Phases.{analysis_in, known_in}
 use Rattle.roundtrip_statements.specs.Formed.{Each}
 use Rattle.roundtrip_modules.proofs.Kept.{Each-append}
 use Rattle.roundtrip_marks.specs.Directives.{is_sentinel}

@@ -10,11 +10,11 @@ use Rattle.transformer_algebra.specs.Laws.{In, here, there}
 use Rattle.transformers.specs.Lists.{first_at, or_first, value_at}
 use Rattle.scalar_phases.specs.Phases.{analyses}
 use Rattle.region_phases.specs.Phases.{all_regions}
-use Rattle.in_out_phases.specs.Phases.{all_ins}
-use Rattle.out_phases.specs.Phases.{all_outs}
+use Rattle.region_phases.specs.InPhases.{all_ins}
+use Rattle.region_phases.specs.OutPhases.{all_outs}
 use Rattle.region_sets.specs.declared.marks.Mark.{Mark}
 use Rattle.region_sets.specs.declared.marks.Mark.TheVariants.{Parallel}
-use Rattle.mark_phases.specs.Phases.{ModuleMarks, known_in}
+use Rattle.loop_marker.specs.Phases.{ModuleMarks, known_in}
 use Rattle.roundtrip_statements.specs.Formed.{Each}
 use Rattle.roundtrip_modules.specs.Cards.{cards_in}
 use Rattle.roundtrip_modules.specs.Numbered.{last_in, AreNumbered}

@@ -8,7 +8,7 @@ use Rattle.f77_symbols.specs.Symbols.{SymbolTree}
 use Rattle.f77_meaning.specs.Modules.{Known, known_of}
 use Rattle.f77_results.specs.declared.results.At.{At}
 use Rattle.scalar_phases.specs.Phases.{analyses}
-use Rattle.mark_phases.specs.Phases.{ModuleMarks, known_in}
+use Rattle.loop_marker.specs.Phases.{ModuleMarks, known_in}
 use Rattle.roundtrip_text.specs.Texts.{module_of}
 use Rattle.roundtrip_marks.specs.MarkedLoops.{names_at, directives_of, parallel_loops, directives_found}
 use Rattle.laws_analyses.specs.Coverage.{AreWhole}

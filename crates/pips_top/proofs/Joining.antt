@@ -6,9 +6,9 @@ use Rattle.f77_ast.specs.declared.places.Parsed.{Parsed}
 use Rattle.f77_ast.specs.PlainDecl.{parsed_tree}
 use Rattle.f77_ast.specs.DeclTrees.{ParsedTree}
 use Rattle.f77_printer.specs.declared.added.Added.{Added}
-use Rattle.mark_phases.specs.declared.phases.ModuleMarks as code
-use Rattle.mark_phases.specs.Phases.{ModuleMarks, known_in}
-use Rattle.mark_phases.specs.Views.{marks_tree}
+use Rattle.loop_marker.specs.declared.phases.ModuleMarks as code
+use Rattle.loop_marker.specs.Phases.{ModuleMarks, known_in}
+use Rattle.loop_marker.specs.Views.{marks_tree}
 use Rattle.roundtrip_text.specs.Texts.{modules_text, text_of}
 use Rattle.laws_database.specs.ResultEntries.{said_for}
 use Rattle.pips_top.specs.Counts.{with_module}

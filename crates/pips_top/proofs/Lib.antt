@@ -16,6 +16,12 @@ pub mod AddedLines
 pub mod ReadBack
 pub mod LinesMeant
 pub mod SampleSize
+pub mod Sessions
+pub mod Endings
 pub mod Soundness
 pub mod Stopping
+pub mod FreshKeys
+pub mod ReadAlike
+pub mod PrintedOver
+pub mod OverBase
 pub mod SymbolLaws

@@ -5,8 +5,8 @@ use Rattle.f77_results.specs.declared.results.Results.{Results}
 use Rattle.f77_meaning.specs.Modules.{Known}
 use Rattle.scalar_phases.specs.Phases.{Analysis}
 use Rattle.region_sets.specs.declared.region.Region.{Region}
-use Rattle.out_phases.specs.Phases.{ModuleOuts}
-use Rattle.mark_phases.specs.Phases.{ModuleMarks, analysis_in, known_in}
+use Rattle.region_phases.specs.OutPhases.{ModuleOuts}
+use Rattle.loop_marker.specs.Phases.{ModuleMarks, analysis_in, known_in}
 use Rattle.result_lines.specs.Lines.{scalar_lines_of, region_lines_of, mark_lines_of, lines_of}
 use Rattle.result_lines.specs.declared.show.Show.{Show}
 use Rattle.laws_database.specs.ResultEntries.{module_in}

@@ -3,9 +3,9 @@ use Rattle.std.proofs.Common.{refl, sym, subst}
 use Rattle.f77_meaning.specs.Modules.{known_of, symbol_names}
 use Rattle.scalar_phases.specs.Phases.{analyses}
 use Rattle.region_phases.specs.Phases.{ModuleRegions, all_regions}
-use Rattle.in_out_phases.specs.Phases.{all_ins}
-use Rattle.out_phases.specs.Phases.{all_outs}
-use Rattle.mark_phases.specs.Phases.{ModuleMarks, analysis_in, known_in, all_marks}
+use Rattle.region_phases.specs.InPhases.{all_ins}
+use Rattle.region_phases.specs.OutPhases.{all_outs}
+use Rattle.loop_marker.specs.Phases.{ModuleMarks, analysis_in, known_in, all_marks}
 use Rattle.laws_analyses.specs.Laws.{AnalysesAreWhole}
 use Rattle.laws_layout.specs.Laws.{BlocksHaveAChain}
 use Rattle.laws_programs.proofs.Sources.{all_built}
@@ -20,7 +20,7 @@ use Rattle.laws_region_lines.proofs.ProgramRegions.{ModuleFine, ModuleTold, regi
 use Rattle.roundtrip_regions.specs.Printed.{IsPlain}
 use Rattle.roundtrip_marks.specs.Laws.{DirectivesReadBack, ObstaclesAreNoDirectives}
 use Rattle.pips_top.specs.Claimed.{AreRead}
-use Rattle.laws_program_text.specs.Texts.{lines_with}
+use Rattle.laws_database.specs.ProgramTexts.{lines_with}
 use Rattle.pips_top.specs.Laws.{ReadLinesMean}
 use Rattle.pips_top.specs.MarksRead.{AreMarksRead}
 use Rattle.result_lines.specs.declared.show.Show.{Show}

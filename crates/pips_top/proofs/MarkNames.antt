@@ -32,8 +32,8 @@ use Rattle.loop_marker.specs.Jumps.{may_jump, may_have_io, body_of}
 use Rattle.loop_marker.specs.Variables.{own_variable, index_of, the_indexes, in_order_with, indexes_in, is_write, written_in}
 use Rattle.loop_marker.specs.Marks.{Knowledge, index_is_bad, with_own, verdict_of, by_verdict, marked, by_variables, has_step, by_index, by_step, by_io, mark_of, the_marks, marks_of}
 use Rattle.loop_marker.specs.Known.{knowledge_of}
-use Rattle.out_phases.specs.Phases.{ModuleOuts}
-use Rattle.mark_phases.specs.Phases.{analysis_in, known_in, marks_found}
+use Rattle.region_phases.specs.OutPhases.{ModuleOuts}
+use Rattle.loop_marker.specs.Phases.{analysis_in, known_in, marks_found}
 use Rattle.laws_lines.specs.Laws.{IsTracked}
 use Rattle.laws_lines.proofs.PhaseVars.{value_is}
 use Rattle.laws_region_lines.proofs.AccessVars.{IsNamedBy, named_number}

@@ -4,7 +4,7 @@ use Rattle.std.proofs.Math.Path.{fun_ext}
 use Rattle.f77_ast.specs.DeclTrees.{ParsedTree}
 use Rattle.f77_printer.specs.declared.added.Added.{Added}
 use Rattle.f77_results.specs.declared.results.At.{At}
-use Rattle.mark_phases.specs.Phases.{ModuleMarks}
+use Rattle.loop_marker.specs.Phases.{ModuleMarks}
 use Rattle.roundtrip_text.specs.Texts as back
 use Rattle.roundtrip_text.specs.Laws.{AllPassedOver}
 use Rattle.roundtrip_programs.specs.Lines.{LinesArePassedOver}

@@ -13,14 +13,14 @@ use Rattle.f77_results.specs.declared.results.At.{At}
 use Rattle.f77_results.specs.declared.results.Results.{Results}
 use Rattle.scalar_phases.specs.Phases.{analyses, scope_of}
 use Rattle.region_phases.specs.Phases.{all_regions}
-use Rattle.in_out_phases.specs.Phases.{all_ins}
-use Rattle.out_phases.specs.Phases.{ModuleOuts, all_outs}
+use Rattle.region_phases.specs.InPhases.{all_ins}
+use Rattle.region_phases.specs.OutPhases.{ModuleOuts, all_outs}
 use Rattle.region_sets.specs.declared.marks.Mark.{Mark}
 use Rattle.region_sets.specs.declared.marks.Mark.TheVariants.{Parallel, Serial}
 use Rattle.loop_marker.specs.Known.{knowledge_of}
 use Rattle.loop_marker.specs.Marks.{mark_of}
 use Rattle.mark_lines.specs.MarkLines.{mark_lines_of}
-use Rattle.mark_phases.specs.Phases.{ModuleMarks, analysis_in, known_in, marks_found}
+use Rattle.loop_marker.specs.Phases.{ModuleMarks, analysis_in, known_in, marks_found}
 use Rattle.roundtrip_statements.specs.Formed.{Each}
 use Rattle.roundtrip_modules.specs.Cards.{card, title_cards, decl_cards, cards_in, statements_of}
 use Rattle.roundtrip_modules.specs.Numbered.{AreNumbered}
@@ -38,7 +38,7 @@ use Rattle.laws_lines.proofs.PhaseVars.{EachOf, got_each}
 use Rattle.laws_region_lines.proofs.LinesMean.{HasNames}
 use Rattle.pips_top.specs.Program.{ProgramTree}
 use Rattle.laws_database.specs.ResultEntries.{said_for}
-use Rattle.laws_program_text.specs.Texts.{lines_with}
+use Rattle.laws_database.specs.ProgramTexts.{lines_with}
 use Rattle.pips_top.specs.Shown.{said_of}
 use Rattle.result_lines.specs.declared.show.Show.{Show}
 use Rattle.result_lines.specs.declared.show.Show.TheVariants.{All, Bare, Why}

@@ -12,11 +12,11 @@ use Rattle.effects.specs.List as effects
 use Rattle.array_regions.specs.Calls.{Callees}
 use Rattle.scalar_phases.specs.Phases.{Analysis, analyses}
 use Rattle.region_phases.specs.Phases.{ModuleRegions, no_callees, with_callee, with_regions, found_in, all_regions}
-use Rattle.in_out_phases.specs.Phases.{ModuleIns, all_ins}
-use Rattle.in_out_phases.specs.Phases as ins
-use Rattle.out_phases.specs.Phases.{ModuleOuts, all_outs}
-use Rattle.mark_phases.specs.Phases.{ModuleMarks, analysis_in, known_in, all_marks}
-use Rattle.mark_phases.specs.Phases as marks
+use Rattle.region_phases.specs.InPhases.{ModuleIns, all_ins}
+use Rattle.region_phases.specs.InPhases as ins
+use Rattle.region_phases.specs.OutPhases.{ModuleOuts, all_outs}
+use Rattle.loop_marker.specs.Phases.{ModuleMarks, analysis_in, known_in, all_marks}
+use Rattle.loop_marker.specs.Phases as marks
 use Rattle.laws_programs.specs.Programs.{AreTables}
 use Rattle.laws_analyses.specs.Coverage.{AreWhole}
 use Rattle.pips_top.specs.Program.{ProgramTree}

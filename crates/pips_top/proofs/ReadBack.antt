@@ -10,9 +10,9 @@ use Rattle.call_graph.specs.Links.{link_of}
 use Rattle.f77_meaning.specs.Modules.{Known, known_of}
 use Rattle.scalar_phases.specs.Phases.{analyses}
 use Rattle.region_phases.specs.Phases.{all_regions}
-use Rattle.in_out_phases.specs.Phases.{all_ins}
-use Rattle.out_phases.specs.Phases.{all_outs}
-use Rattle.mark_phases.specs.Phases.{ModuleMarks, all_marks}
+use Rattle.region_phases.specs.InPhases.{all_ins}
+use Rattle.region_phases.specs.OutPhases.{all_outs}
+use Rattle.loop_marker.specs.Phases.{ModuleMarks, all_marks}
 use Rattle.laws_programs.specs.Programs as laws
 use Rattle.laws_programs.proofs.Sources.{all_built}
 use Rattle.laws_region_lines.specs.LineLaws.{AllRegionLinesPass}
@@ -27,7 +27,7 @@ use Rattle.roundtrip_programs.specs.Lines.{LinesArePassedOver}
 use Rattle.roundtrip_programs.specs.Programs.{AreTables, IsProgram, ProgramsReadBack, NamesAreShown}
 use Rattle.result_lines.specs.declared.show.Show.{Show}
 use Rattle.laws_written.specs.Laws.{by_tree}
-use Rattle.laws_program_text.specs.Texts.{lines_found}
+use Rattle.laws_database.specs.ProgramTexts.{lines_found}
 use Rattle.pips_top.specs.Shown.{said_of, lines_for}
 use Rattle.pips_top.specs.Laws.{ReadWrittenBack}
 use Rattle.pips_top.specs.Program.{ProgramTree}
@@ -78,7 +78,7 @@ program_is : (ms : List ParsedTree) (ts : List (List SymbolTree)) (g : Graph) �
 unfolding program_of
 program_is ms ts g h l = ap (λ r. and_then r (λ x. linked_by ms x (graph_or (link_of ms x)))) (tables_are ms ts h) ∙ ap (λ r. linked_by ms ts (graph_or r)) l
 
-reading_is : (text : List ℕ) (ms : List ParsedTree) (ts : List (List SymbolTree)) (g : Graph) → IsProgram text ms ts g → reading text ≡ Ok (record { modules = ms; tables = ts; graph = g })
+pub reading_is : (text : List ℕ) (ms : List ParsedTree) (ts : List (List SymbolTree)) (g : Graph) → IsProgram text ms ts g → reading text ≡ Ok (record { modules = ms; tables = ts; graph = g })
 unfolding reading
 reading_is text ms ts g is =
     ap (λ r. and_then (and_then (lines_or r) parse_of) program_of) is.read.lined ∙ ap (λ r. and_then r program_of) is.read.parsed ∙ program_is ms ts g is.tabled is.linked

@@ -8,13 +8,13 @@ use Rattle.f77_symbols.specs.declared.variable.Unit.{Unit as BlockUnit}
 use Rattle.scalar_phases.specs.Phases.{Analysis}
 use Rattle.array_regions.specs.Calls.{Callees}
 use Rattle.region_phases.specs.Phases.{ModuleRegions, no_callees, with_callee, with_regions, found_in, all_regions}
-use Rattle.in_out_phases.specs.Phases.{ModuleIns, all_ins}
-use Rattle.in_out_phases.specs.Phases as ins
-use Rattle.out_phases.specs.Phases.{ModuleOuts, with_outs, sites_of, outs_from, all_outs}
-use Rattle.out_phases.specs.Phases as outs
+use Rattle.region_phases.specs.InPhases.{ModuleIns, all_ins}
+use Rattle.region_phases.specs.InPhases as ins
+use Rattle.region_phases.specs.OutPhases.{ModuleOuts, with_outs, sites_of, outs_from, all_outs}
+use Rattle.region_phases.specs.OutPhases as outs
 use Rattle.effects.specs.List as effects
-use Rattle.mark_phases.specs.Phases.{ModuleMarks, known_in, marks_found, all_marks}
-use Rattle.mark_phases.specs.Phases as marks
+use Rattle.loop_marker.specs.Phases.{ModuleMarks, known_in, marks_found, all_marks}
+use Rattle.loop_marker.specs.Phases as marks
 
 abbrev pub name_of : ModuleMarks → List ℕ
 name_of f = (known_in f.outs).read.name

@@ -6,9 +6,9 @@ use Rattle.f77_meaning.specs.Modules.{Known, known_of, symbol_names}
 use Rattle.f77_meaning.specs.Claimed.{InEveryRun, InConformingRuns}
 use Rattle.scalar_phases.specs.Phases.{Analysis, analyses}
 use Rattle.region_phases.specs.Phases.{all_regions}
-use Rattle.in_out_phases.specs.Phases.{all_ins}
-use Rattle.out_phases.specs.Phases.{all_outs}
-use Rattle.mark_phases.specs.Phases.{ModuleMarks, analysis_in, known_in}
+use Rattle.region_phases.specs.InPhases.{all_ins}
+use Rattle.region_phases.specs.OutPhases.{all_outs}
+use Rattle.loop_marker.specs.Phases.{ModuleMarks, analysis_in, known_in}
 use Rattle.result_lines.specs.Lines.{scalar_lines_of, region_lines_of, lines_of}
 use Rattle.laws_database.specs.ResultEntries.{module_in, name_in, transformers_in, preconditions_in, regions_in, ins_in, outs_in}
 use Rattle.laws_database.specs.Definitions.{results_of}

@@ -3,7 +3,7 @@ use Rattle.std.specs.Prelude.{ℕ, ◌+◌, Bool, true, false, List, ◌++◌, l
 use Rattle.std.specs.List.{ends_with}
 use Rattle.f77_printer.specs.declared.added.Added.{Added}
 use Rattle.f77_results.specs.declared.results.At.{At}
-use Rattle.mark_phases.specs.Phases.{ModuleMarks}
+use Rattle.loop_marker.specs.Phases.{ModuleMarks}
 use Rattle.region_sets.specs.declared.marks.Mark.{Mark}
 use Rattle.region_sets.specs.declared.marks.Mark.TheVariants.{Parallel, Serial}
 use Rattle.result_lines.specs.Lines.{lines_of}

@@ -1,5 +1,5 @@
 -- The job that words request.
-use Rattle.std.specs.Prelude.{◌≡◌, ℕ, List, Option, Some, None, is_some, option_and_then, IsSomeAnd, Result, Ok, Err, if◌then◌else◌}
+use Rattle.std.specs.Prelude.{◌≡◌, ℕ, List, Option, Some, None, option_map, IsSomeAnd, Result, Ok, Err}
 use Rattle.std.specs.declared.alloc.AllocError.{AllocError}
 use Rattle.command_words.specs.Options.{Accepts, options_of}
 use Rattle.command_words.specs.Requests.{request_in}
@@ -11,31 +11,66 @@ use Rattle.command_words.specs.declared.request.Task.TheVariants as task
 use Rattle.result_lines.specs.declared.show.Show.{Show}
 use Rattle.result_lines.specs.declared.show.Show.TheVariants.{All, Bare, Why}
 use Rattle.pips_top.specs.declared.job.Job.{Job}
-use Rattle.pips_top.specs.declared.job.Job.TheVariants.{Write, Count}
+use Rattle.pips_top.specs.declared.job.Job.TheVariants.{Write, Answer, Count, WriteOver, AnswerOver}
+use Rattle.pips_top.specs.declared.job.Opening.{Opening}
 
 abbrev pub shown : Requested → Show
 shown requested.All = All
 shown requested.Bare = Bare
 shown requested.Why = Why
 
-abbrev pub does_task : Request → Task → Option Job
-does_task r task.Write = Some (Write (shown r.show) r.input)
-does_task r task.Session = None
-does_task r (task.Generate parts) = Some (Count parts)
+-- without a base
+abbrev pub does_alone : Request → Task → Job
+does_alone r task.Write = Write (shown r.show) r.input
+does_alone r task.Session = Answer (shown r.show) r.input
+does_alone r (task.Generate parts) = Count parts
 
--- what is done of what words may request: no session, and nothing with a base
-abbrev pub does : Request → Option Job
-does r = if is_some r.base then None else does_task r r.task
+abbrev pub opening_of : Request → List ℕ → Opening
+opening_of r name = record { name = name; verify = r.verify }
+
+-- with a base; a sample needs none
+abbrev pub does_over : Request → List ℕ → Task → Job
+does_over r name task.Write = WriteOver (shown r.show) r.input (opening_of r name)
+does_over r name task.Session = AnswerOver (shown r.show) r.input (opening_of r name)
+does_over r name (task.Generate parts) = Count parts
+
+abbrev pub does_with : Request → Option (List ℕ) → Job
+does_with r None = does_alone r r.task
+does_with r (Some name) = does_over r name r.task
+
+-- what is done of what words request
+abbrev pub does : Request → Job
+does r = does_with r r.base
 
 -- the job that accepted words request
 abbrev pub job_in : List (List ℕ) → Option Job
-job_in words = option_and_then does (request_in (options_of words))
+job_in words = option_map does (request_in (options_of words))
+
+-- ---- of a job
+
+-- the name of its INPUT
+abbrev pub input_in : Job → Option (List ℕ)
+input_in (Write show input) = Some input
+input_in (Answer show input) = Some input
+input_in (Count parts) = None
+input_in (WriteOver show input opening) = Some input
+input_in (AnswerOver show input opening) = Some input
+
+-- its base
+abbrev pub opening_in : Job → Option Opening
+opening_in (Write show input) = None
+opening_in (Answer show input) = None
+opening_in (Count parts) = None
+opening_in (WriteOver show input opening) = Some opening
+opening_in (AnswerOver show input opening) = Some opening
+
+-- ---- of words
 
 -- the words are accepted, and request a job of which this is so
 abbrev pub HasJob : List (List ℕ) → (Job → Type 0) → Type 0
 HasJob words P = Accepts words × IsSomeAnd (job_in words) P
 
--- the words are not accepted, or request nothing that is done
+-- the words are not accepted, or request nothing
 abbrev pub AreRefused : List (List ℕ) → Type 0
 AreRefused words = Accepts words → job_in words ≡ None
 

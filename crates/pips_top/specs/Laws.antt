@@ -6,6 +6,10 @@ use Rattle.pips_top.specs.Program.{ProgramTree}
 use Rattle.pips_top.specs.ReadBack.{ReadsBack}
 use Rattle.pips_top.specs.Reading.{reading}
 use Rattle.result_lines.specs.declared.show.Show.{Show}
+use Rattle.laws_database.specs.Texts.{AreModules}
+use Rattle.pipsmake_db.specs.State.{State}
+use Rattle.pipsmake_db.specs.Scripts.{AnswersScript}
+use Rattle.pips_top.specs.Sound.{IsSound, PrintsSoundly}
 
 -- what is said of a program that was read is true of every run
 abbrev pub ReadClaimsHold : Type 0
@@ -30,3 +34,11 @@ ReadMarkedBack = (show : Show) (bytes : List ℕ) (p : ProgramTree) → reading 
 -- and this does as the program does, its marked loops interleaved
 abbrev pub ReadRunsInterleaved : Type 0
 ReadRunsInterleaved = (show : Show) (bytes : List ℕ) (p : ProgramTree) → reading bytes ≡ Ok p → (m : ReadsMarked show p) → RunsInterleaved show p m
+
+-- so what is written of it is sound
+abbrev pub ReadSoundly : Type 0
+ReadSoundly = (show : Show) (bytes : List ℕ) (p : ProgramTree) → reading bytes ≡ Ok p → IsSound show p
+
+-- and so is each program that a session prints
+abbrev pub AnsweredSoundly : Type 0
+AnsweredSoundly = (show : Show) (s : State) (script out : List ℕ) (end : State) → AreModules s.texts → AnswersScript show s script out end → PrintsSoundly show s script out

@@ -3,11 +3,13 @@ pub mod Reading
 pub mod Shown
 pub mod MarksRead
 pub mod Claimed
-pub mod Laws
 pub mod Written
 pub mod ReadBack
 pub mod MarkedText
+pub mod Sound
+pub mod Laws
 pub mod Counts
+pub mod Based
 pub mod Made
 pub mod Jobs
 pub mod Codes

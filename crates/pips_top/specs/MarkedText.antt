@@ -5,7 +5,7 @@ use Rattle.f77_ast.specs.Programs.{Program}
 use Rattle.f77_meaning.specs.Modules.{known_of}
 use Rattle.f77_meaning.specs.Linked.{program_of}
 use Rattle.f77_results.specs.declared.results.At.{At}
-use Rattle.mark_phases.specs.Phases.{ModuleMarks}
+use Rattle.loop_marker.specs.Phases.{ModuleMarks}
 use Rattle.laws_marks.specs.Schedules.{DoesAs}
 use Rattle.roundtrip_marks.specs.Marked.{ReadMarked}
 use Rattle.roundtrip_marks.specs.MarkedLoops.{parallel_loops, directives_of, directives_found}

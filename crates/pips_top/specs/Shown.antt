@@ -2,10 +2,10 @@
 use Rattle.std.specs.Prelude.{ℕ, List}
 use Rattle.f77_printer.specs.declared.added.Added.{Added}
 use Rattle.f77_meaning.specs.Modules.{known_of}
-use Rattle.mark_phases.specs.Phases.{ModuleMarks}
+use Rattle.loop_marker.specs.Phases.{ModuleMarks}
 use Rattle.result_lines.specs.declared.show.Show.{Show}
 use Rattle.laws_database.specs.ResultEntries.{marks_in, said_for}
-use Rattle.laws_program_text.specs.Texts.{lines_with}
+use Rattle.laws_database.specs.ProgramTexts.{lines_with}
 use Rattle.pips_top.specs.Program.{ProgramTree}
 
 -- the analyses of all modules: of tracked cells, the READ and WRITE, IN and OUT regions, and the marks of loops

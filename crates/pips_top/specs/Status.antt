@@ -1,5 +1,9 @@
 -- The exit number of each status, and the lines on err.
 use Rattle.std.specs.Prelude.{ℕ, List, [], ◌∷◌, ◌++◌, codes, decimal}
+use Rattle.pipsmake_rules.specs.declared.key.Key.{Key}
+use Rattle.pipsmake_rules.specs.Kinds.{name_of}
+use Rattle.base_text.specs.declared.refusal.BaseRefusal.{BaseRefusal}
+use Rattle.base_text.specs.declared.refusal.BaseRefusal.TheVariants.{NotJson, WrongShape, WrongVersion, NumberTooBig, Memory as NoRoom}
 use Rattle.pips_top.specs.Codes.{code_name}
 use Rattle.pips_top.specs.declared.status.Status.{Status}
 use Rattle.pips_top.specs.declared.status.Status.TheVariants.{Done, Refused, Usage, NoInput, TooLong, ReadFault, WriteFault, BadBase, StaleBase, BaseFault, Memory}
@@ -29,6 +33,22 @@ keyword_text (c ∷ cs) = codes " " ++ c ∷ cs
 abbrev pub refusal_line : ℕ → ℕ → List ℕ → List ℕ
 refusal_line line code keyword =
     codes "pips: line " ++ (decimal line ++ (codes ": " ++ (decimal code ++ (codes " " ++ (code_name code ++ (keyword_text keyword ++ codes "\n"))))))
+
+-- the number and the name of what is wrong with a base; want of memory has none
+abbrev pub base_word : BaseRefusal → List ℕ
+base_word NotJson = codes "60 NotJson"
+base_word WrongShape = codes "61 WrongShape"
+base_word WrongVersion = codes "62 WrongVersion"
+base_word NumberTooBig = codes "63 NumberTooBig"
+base_word NoRoom = []
+
+-- a base by its name, and what is wrong with it
+abbrev pub base_line : List ℕ → BaseRefusal → List ℕ
+base_line name refusal = codes "pips: base " ++ name ++ codes ": " ++ base_word refusal ++ codes "\n"
+
+-- the result that is not what is defined
+abbrev pub stale_line : Key → List ℕ
+stale_line k = codes "pips: stale " ++ name_of k.kind ++ codes " " ++ k.name ++ codes "\n"
 
 abbrev pub usage_line : List ℕ
 usage_line = codes "usage: pips [--show all|bare|why] [--base NAME] [--verify] [--session] [--generate N] [INPUT]\n"

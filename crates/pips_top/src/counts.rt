@@ -1,6 +1,6 @@
 //! What is counted of a program: its modules, statements, loops, parallel loops and weak claims.
 ghost use Rattle.std.specs.Prelude.{◌≡◌, ◌+◌, ◌++◌, map, IfOk, OnOk, length};
-ghost use Rattle.mark_phases.specs.Views.{marks_tree};
+ghost use Rattle.loop_marker.specs.Views.{marks_tree};
 ghost use Rattle.pips_top.specs.Counts.{count_line, counts_lines, counts_of, counts_text, is_parallel, no_counts, parallel_among, weak_among, with_module};
 ghost use Rattle.pips_top.specs.Program.{program_tree};
 
@@ -10,7 +10,7 @@ use call_graph::Graph;
 use f77_printer::Added;
 use f77_results::At;
 use fx_base::Text;
-use mark_phases::ModuleMarks;
+use loop_marker::ModuleMarks;
 use region_sets::Mark;
 use result_lines::Show;
 use std::alloc::{AllocError as Memory, Global};

@@ -7,13 +7,28 @@ use fx_base::{Text, Words};
 use result_lines::Show;
 use std::alloc::{AllocError as Memory, Global};
 
+/// A base that is opened before the work, and kept after it.
+#[derive(Drop)]
+pub struct Opening {
+    /// The name of its file.
+    pub name: Text,
+    /// Whether each result in it is made again and compared.
+    pub verify: bool,
+}
+
 /// What a run does.
 #[derive(Drop)]
 pub enum Job {
     /// The program of an INPUT is written, with what is shown of it. The INPUT `-` is standard input.
     Write(Show, Text),
+    /// The commands of the script of an INPUT are answered.
+    Answer(Show, Text),
     /// The sample program of this many parts is analysed and counted.
     Count(u8),
+    /// As `Write`, over a base.
+    WriteOver(Show, Text, Opening),
+    /// As `Answer`, over a base.
+    AnswerOver(Show, Text, Opening),
 }
 
 /// What is shown, by the value of `--show`.
@@ -27,26 +42,38 @@ fn shown(show: command_words::Show) -> Show
     }
 }
 
-/// What is done of what words may request: no session, and nothing with a base.
-fn does(request: Request) -> Option<Job>
+/// What is done of what words request.
+fn does(request: Request) -> Job
     ensures { result ≡ does request }
 {
-    if request.base.is_some() {
-        return None;
-    }
-    match request.task {
-        Task::Write => Some(Job::Write(shown(request.show), request.input)),
-        Task::Session => None,
-        Task::Generate(parts) => Some(Job::Count(parts)),
+    let Request {
+        task,
+        show,
+        base,
+        verify,
+        input,
+    } = request;
+    let show = shown(show);
+    match base {
+        None => match task {
+            Task::Write => Job::Write(show, input),
+            Task::Session => Job::Answer(show, input),
+            Task::Generate(parts) => Job::Count(parts),
+        },
+        Some(name) => match task {
+            Task::Write => Job::WriteOver(show, input, Opening { name, verify }),
+            Task::Session => Job::AnswerOver(show, input, Opening { name, verify }),
+            Task::Generate(parts) => Job::Count(parts),
+        },
     }
 }
 
-/// The job that the words after the program's name request. None where they are refused, or request what is not done.
+/// The job that the words after the program's name request. None where they are refused.
 pub fn job_of(alloc: Global, words: &Words) -> Result<Option<Job>, Memory>
     ensures { JobBy words.now result }
 {
     match request_of(alloc, words) {
-        Ok(Some(request)) => Ok(does(request)),
+        Ok(Some(request)) => Ok(Some(does(request))),
         Ok(None) => Ok(None),
         Err(error) => Err(error),
     }

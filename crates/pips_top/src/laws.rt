@@ -1,5 +1,5 @@
 //! What is said of a program that was read is true and leaves nothing out, and what is written of it is read again, line by line, as a program, and as one with marked loops.
-ghost use Rattle.pips_top.specs.Laws.{ReadAllSaid, ReadClaimsHold, ReadLinesMean, ReadMarkedBack, ReadRunsInterleaved, ReadWrittenBack};
+ghost use Rattle.pips_top.specs.Laws.{AnsweredSoundly, ReadAllSaid, ReadClaimsHold, ReadLinesMean, ReadMarkedBack, ReadRunsInterleaved, ReadSoundly, ReadWrittenBack};
 
 use laws_analyses::{analyses_are_whole, read_analyses_hold};
 use laws_in_lines::{all_in_lines_pass, in_lines_mean_regions, ins_are_over_places};
@@ -11,6 +11,7 @@ use laws_region_lines::{
     all_region_lines_pass, region_lines_mean_regions, regions_are_over_places,
 };
 use laws_regions::read_regions_hold;
+use pipsmake_db::each_print_is_the_program;
 use roundtrip_marks::{
     directives_read_back, mark_lines_are_passed_over, marks_read_back, obstacles_are_no_directives,
     texts_are_written_again,
@@ -19,7 +20,7 @@ use roundtrip_programs::{lines_are_passed_over, names_are_shown, programs_read_b
 
 /// What is said of a program that was read holds in every run of it, up to its end or its first fault, on OUT regions in each that no fault ends: on scalars, and
 /// on regions, whose systems name subscripts and analysed scalars alone.
-pub fn claims_hold()
+fn claims_hold()
     ensures { ReadClaimsHold }
 {
     read_analyses_hold();
@@ -32,14 +33,14 @@ pub fn claims_hold()
 }
 
 /// Each module of a program that was read has one analysis, each of its statements a precondition and a transformer.
-pub fn all_is_said()
+fn all_is_said()
     ensures { ReadAllSaid }
 {
     analyses_are_whole();
 }
 
 /// Each claim, and each directive, that is added to the text of a program that was read is read as what was found there.
-pub fn lines_mean_results()
+fn lines_mean_results()
     ensures { ReadLinesMean }
 {
     analyses_are_whole();
@@ -54,7 +55,7 @@ pub fn lines_mean_results()
 }
 
 /// What is written of a program that was read is read again as the same program, and written as the same text.
-pub fn written_reads_back()
+fn written_reads_back()
     ensures { ReadWrittenBack }
 {
     programs_read_back();
@@ -69,7 +70,7 @@ pub fn written_reads_back()
 }
 
 /// What is written of a program that was read is read, with its directives, as that program with just its parallel loops marked.
-pub fn written_reads_marked()
+fn written_reads_marked()
     ensures { ReadMarkedBack }
 {
     marks_read_back();
@@ -87,9 +88,29 @@ pub fn written_reads_marked()
 
 /// And this program does as the one that was read: in each run that comes to its end without a fault, its marked loops interleaved by whatever schedule, it never faults, and
 /// ends with the same output and the same readable variables.
-pub fn written_runs_interleaved()
+fn written_runs_interleaved()
     ensures { ReadRunsInterleaved }
 {
     read_runs_do_as_plain();
     analyses_are_whole();
+}
+
+/// So what is written of a program that was read is sound.
+pub fn written_is_sound()
+    ensures { ReadSoundly }
+{
+    claims_hold();
+    all_is_said();
+    lines_mean_results();
+    written_reads_back();
+    written_reads_marked();
+    written_runs_interleaved();
+}
+
+/// And so is each program that a session prints.
+pub fn answered_is_sound()
+    ensures { AnsweredSoundly }
+{
+    each_print_is_the_program();
+    written_is_sound();
 }

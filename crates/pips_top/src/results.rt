@@ -1,6 +1,6 @@
 //! What is said of modules: the analyses of their tracked cells, their regions and the marks of their loops, and the lines that say it.
 ghost use Rattle.std.specs.Prelude.{◌≡◌, length, map, IfOk, option_copied, option_map};
-ghost use Rattle.mark_phases.specs.Views.{marks_tree};
+ghost use Rattle.loop_marker.specs.Views.{marks_tree};
 ghost use Rattle.result_lines.specs.Lines.{lines_of};
 ghost use Rattle.laws_database.specs.ResultEntries.{module_in, said_for};
 ghost use Rattle.laws_database.specs.Definitions.{results_of};
@@ -12,10 +12,8 @@ use call_graph::Graph;
 use f77_printer::Added;
 use f77_results::View;
 use fx_base::{List, Text};
-use in_out_phases::all_ins;
-use mark_phases::{ModuleMarks, all_marks};
-use out_phases::all_outs;
-use region_phases::all_regions;
+use loop_marker::{ModuleMarks, all_marks};
+use region_phases::{all_ins, all_outs, all_regions};
 use result_lines::{ModuleResults, Show, result_lines};
 use scalar_phases::analyses;
 use std::alloc::{AllocError as Memory, Global};

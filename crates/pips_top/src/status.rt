@@ -1,13 +1,15 @@
 //! How a run ended, its exit number, and its line on err.
 ghost use Rattle.std.specs.Prelude.{◌≡◌, ◌++◌, IfOk, OnOk};
 ghost use Rattle.pips_top.specs.Codes.{code_name};
-ghost use Rattle.pips_top.specs.Status.{keyword_text, naming, number_of, refusal_line, usage_line};
+ghost use Rattle.pips_top.specs.Status.{base_line, base_word, keyword_text, naming, number_of, refusal_line, stale_line, usage_line};
 
+use base_text::BaseRefusal;
 use fx_base::Text;
+use pipsmake_rules::Key;
 use refusal_codes::Code;
 use std::alloc::{AllocError as Memory, Global};
 
-/// How a run ended. No run ends with a status on a base yet; `BadBase` has the code of what is wrong with it.
+/// How a run ended. `BadBase` has the code of what is wrong with the base.
 #[derive(Clone, Copy, Debug, PartialEq, Eq)]
 pub enum Status {
     /// The text was written.
@@ -24,8 +26,11 @@ pub enum Status {
     ReadFault,
     /// The text cannot be written, or not all of it.
     WriteFault,
+    /// The file of the base is no base, by this code.
     BadBase(u32),
+    /// The base was to be verified, and holds a result that is not what is defined for its texts.
     StaleBase,
+    /// The file of the base cannot be read or written.
     BaseFault,
     /// Out of memory.
     Memory,
@@ -62,7 +67,7 @@ pub fn usage_line(alloc: Global) -> Result<Text, Memory>
     )
 }
 
-/// A line on err that names INPUT: the words, the name and the end of line.
+/// A line on err that names INPUT or the base: the words, the name and the end of line.
 pub fn naming_line(alloc: Global, words: &[u8], name: &Text) -> Result<Text, Memory>
     ensures { IfOk result (λ line. line ≡ naming words.now name.now) }
 {
@@ -107,4 +112,43 @@ pub fn refusal_line(alloc: Global, line: u32, code: u32, keyword: &Text) -> Resu
     write_keyword(&mut text, keyword.as_slice())?;
     text.push(b'\n')?;
     Ok(text)
+}
+
+/// The number and the name of what is wrong with a base.
+fn base_word(refusal: &BaseRefusal) -> &'static str
+    ensures { result.now ≡ base_word refusal.now }
+{
+    match refusal {
+        BaseRefusal::NotJson => "60 NotJson",
+        BaseRefusal::WrongShape => "61 WrongShape",
+        BaseRefusal::WrongVersion => "62 WrongVersion",
+        BaseRefusal::NumberTooBig => "63 NumberTooBig",
+        BaseRefusal::Memory => "",
+    }
+}
+
+/// The line on err of `BadBase`, with its end of line.
+#[tactic(auto, using(crate::proofs::Joining::text_steps))]
+pub fn base_line(alloc: Global, name: &Text, refusal: &BaseRefusal) -> Result<Text, Memory>
+    ensures { IfOk result (λ line. line ≡ base_line name.now refusal.now) }
+{
+    let mut line = Text::from_bytes(alloc, b"pips: base ")?;
+    line.append(name.as_slice())?;
+    line.append(b": ")?;
+    line.append(base_word(refusal).as_bytes())?;
+    line.append(b"\n")?;
+    Ok(line)
+}
+
+/// The line on err of `StaleBase`, with its end of line.
+#[tactic(auto, using(crate::proofs::Joining::text_steps))]
+pub fn stale_line(alloc: Global, key: &Key) -> Result<Text, Memory>
+    ensures { IfOk result (λ line. line ≡ stale_line key.now) }
+{
+    let mut line = Text::from_bytes(alloc, b"pips: stale ")?;
+    line.append(key.kind.name().as_bytes())?;
+    line.append(b" ")?;
+    line.append(key.name.as_slice())?;
+    line.append(b"\n")?;
+    Ok(line)
 }

@@ -3,10 +3,7 @@ ghost use Rattle.std.specs.Prelude.{◌≤◌};
 ghost use Rattle.pips_top.specs.Run.{Gains, Outside, Runs};
 
 use crate::Status;
-use crate::laws::{
-    all_is_said, claims_hold, lines_mean_results, written_reads_back, written_reads_marked,
-    written_runs_interleaved,
-};
+use crate::laws::{answered_is_sound, written_is_sound};
 use crate::reply::{Reply, reply_to};
 use fx_base::{Sent, Sink, Store, Words, send, send_bytes};
 use std::alloc::Global;
@@ -23,8 +20,9 @@ fn tell<E: Sink>(err: &mut E, line: &[u8])
 }
 
 /// All that the program does: it reads INPUT, from standard input where no word names it or `-` does, and writes the program with what
-/// `--show` requests on `out`, or with `--generate` the counts of a sample program; where this fails, it writes one line on `err`. The
-/// whole output is made before its first byte is written, and writing takes no memory.
+/// `--show` requests on `out`, with `--session` the answers to the commands of its script, or with `--generate` the counts of a sample
+/// program; where this fails, it writes one line on `err`. With `--base` it first opens a base, whose results need not be made again, and
+/// keeps what it leaves. The whole output is made and the base is kept before the first byte is written, and writing takes no memory.
 pub fn run<F: Store, O: Sink, E: Sink>(
     alloc: Global,
     words: &Words,
@@ -33,16 +31,14 @@ pub fn run<F: Store, O: Sink, E: Sink>(
     err: &mut E,
 ) -> Status
     ensures { let old : Outside = record {
-      files = F.files files.old;
-      counts = F.counts files.old;
+      store = record { files = F.files files.old; counts = F.counts files.old };
       out = O.taken out.old;
       out_faults = O.faults out.old;
       err = E.taken err.old;
       err_faults = E.faults err.old;
     } in
         let new : Outside = record {
-          files = F.files files.new;
-          counts = F.counts files.new;
+          store = record { files = F.files files.new; counts = F.counts files.new };
           out = O.taken out.new;
           out_faults = O.faults out.new;
           err = E.taken err.new;
@@ -50,12 +46,8 @@ pub fn run<F: Store, O: Sink, E: Sink>(
         } in
         Runs words.now old new result }
 {
-    claims_hold();
-    all_is_said();
-    lines_mean_results();
-    written_reads_back();
-    written_reads_marked();
-    written_runs_interleaved();
+    written_is_sound();
+    answered_is_sound();
     match reply_to(alloc, words, files) {
         Reply::Writing(text) => match send(out, &text) {
             Sent::All => Status::Done,

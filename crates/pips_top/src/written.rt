@@ -1,10 +1,10 @@
 //! The written text of a program.
 ghost use Rattle.std.specs.Prelude.{◌≡◌, IfOk, length, map};
 ghost use Rattle.f77_ast.specs.PlainDecl.{parsed_tree};
-ghost use Rattle.mark_phases.specs.Views.{marks_tree};
+ghost use Rattle.loop_marker.specs.Views.{marks_tree};
 ghost use Rattle.roundtrip_text.specs.Texts.{modules_text, text_of};
 ghost use Rattle.laws_written.specs.Laws.{by_tree};
-ghost use Rattle.laws_program_text.specs.Texts.{lines_found};
+ghost use Rattle.laws_database.specs.ProgramTexts.{lines_found};
 ghost use Rattle.pips_top.specs.Program.{program_tree};
 ghost use Rattle.pips_top.specs.Written.{written};
 
@@ -14,7 +14,7 @@ use call_graph::Graph;
 use f77_ast::Parsed;
 use f77_printer::plain;
 use fx_base::Text;
-use mark_phases::ModuleMarks;
+use loop_marker::ModuleMarks;
 use result_lines::Show;
 use std::alloc::{AllocError as Memory, Global};
 

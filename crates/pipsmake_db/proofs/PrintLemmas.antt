@@ -9,7 +9,7 @@ use Rattle.pipsmake_rules.specs.Neighbours.{has_name}
 use Rattle.session_lines.specs.Answers.{key_line, made_lines}
 use Rattle.result_lines.specs.declared.show.Show.{Show}
 use Rattle.laws_database.specs.Texts.{ModuleText, names_in}
-use Rattle.laws_program_text.specs.Texts.{text_named, texts_named, before_text}
+use Rattle.laws_database.specs.ProgramTexts.{text_named, texts_named, before_text}
 use Rattle.pipsmake_db.specs.declared.db.Db.{Db}
 use Rattle.pipsmake_db.specs.declared.db.Shown.{Shown}
 use Rattle.pipsmake_db.specs.declared.refusal.DbRefusal.{DbRefusal}

@@ -7,8 +7,8 @@ use Rattle.session_lines.specs.declared.command.Command.TheVariants as command
 use Rattle.session_lines.specs.Answers.{made_lines, text_with_count}
 use Rattle.result_lines.specs.declared.show.Show as shows
 use Rattle.laws_database.specs.Texts.{AreModules, tables_in, links_in}
-use Rattle.laws_program_text.specs.Texts.{program_text, session_text, joined_modules}
-use Rattle.laws_program_text.specs.Laws.{TextsMakeTheProgram, TextsAreWrittenAlike, NamesShowTheText}
+use Rattle.laws_database.specs.ProgramTexts.{program_text, session_text, joined_modules}
+use Rattle.laws_database.specs.ProgramTextLaws.{TextsMakeTheProgram, TextsAreWrittenAlike, NamesShowTheText}
 use Rattle.pipsmake_db.specs.declared.refusal.DbRefusal.{DbRefusal}
 use Rattle.pipsmake_db.specs.State.{State}
 use Rattle.pipsmake_db.specs.Refusals.{refused_links, link_refusal}

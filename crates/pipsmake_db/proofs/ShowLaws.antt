@@ -26,7 +26,7 @@ use Rattle.laws_database.specs.Resting.{RestingStays}
 use Rattle.laws_database.specs.Making.{BringsAll}
 use Rattle.laws_database.proofs.InOrder.{bottom_up}
 use Rattle.laws_database.proofs.Modules.{linked}
-use Rattle.laws_program_text.specs.Texts.{text_named}
+use Rattle.laws_database.specs.ProgramTexts.{text_named}
 use Rattle.result_making.specs.Making.{text_made}
 use Rattle.pipsmake_db.specs.Kept.{json_kept, text_kept, IsShown}
 use Rattle.pipsmake_db.specs.declared.show.Ready.{Ready}

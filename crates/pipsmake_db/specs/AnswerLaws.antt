@@ -9,7 +9,7 @@ use Rattle.result_lines.specs.declared.show.Show.{Show}
 use Rattle.roundtrip_programs.specs.Programs.{IsProgram}
 use Rattle.laws_pieces.specs.Joined.{joined_texts}
 use Rattle.laws_database.specs.Texts.{AreModules, tables_in, links_in}
-use Rattle.laws_program_text.specs.Texts.{program_text, texts_of, joined_modules}
+use Rattle.laws_database.specs.ProgramTexts.{program_text, texts_of, joined_modules}
 use Rattle.pipsmake_db.specs.declared.refusal.DbRefusal.{DbRefusal}
 use Rattle.pipsmake_db.specs.Refusals.{link_refusal}
 use Rattle.pipsmake_db.specs.State.{State}

@@ -7,7 +7,7 @@ use Rattle.session_lines.specs.Answers.{made_lines}
 use Rattle.session_lines.specs.Commands.{commands_of}
 use Rattle.result_lines.specs.declared.show.Show.{Show}
 use Rattle.laws_database.specs.Texts.{names_in}
-use Rattle.laws_program_text.specs.Texts.{text_named, texts_named}
+use Rattle.laws_database.specs.ProgramTexts.{text_named, texts_named}
 use Rattle.pipsmake_db.specs.declared.db.Db.{Db}
 use Rattle.pipsmake_db.specs.State.{State, IsIn, texts_of}
 use Rattle.pipsmake_db.specs.Calls.{key}

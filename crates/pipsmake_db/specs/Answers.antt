@@ -13,7 +13,7 @@ use Rattle.result_lines.specs.declared.show.Show.{Show}
 use Rattle.laws_database.specs.Texts.{ModuleText, names_in}
 use Rattle.laws_database.specs.Session.{MadeOf}
 use Rattle.laws_database.specs.Laws.{walk_in}
-use Rattle.laws_program_text.specs.Texts.{texts_named}
+use Rattle.laws_database.specs.ProgramTexts.{texts_named}
 use Rattle.session_texts.specs.Sources.{source_modules}
 use Rattle.pipsmake_db.specs.declared.refusal.DbRefusal.{DbRefusal}
 use Rattle.pipsmake_db.specs.declared.refusal.DbRefusal.TheVariants as db

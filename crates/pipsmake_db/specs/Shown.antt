@@ -12,7 +12,7 @@ use Rattle.result_lines.specs.declared.show.Show.{Show}
 use Rattle.laws_database.specs.Texts.{ModuleText, ReadModule}
 use Rattle.laws_database.specs.Definitions.{module_named, definition}
 use Rattle.laws_database.specs.Values.{Value, source, parsed, lines, symbols, graph, effects, transformers, preconditions, regions, ins, outs, marks, printed}
-use Rattle.laws_program_text.specs.Texts.{text_named}
+use Rattle.laws_database.specs.ProgramTexts.{text_named}
 
 -- a value of a kind that is stored
 abbrev pub stored_in : Value → Option StoredValue

@@ -14,11 +14,12 @@ use result_store::Store;
 use std::alloc::Global;
 
 /// The texts of a session, what is kept of results, and which results are fresh: those that were asked for, with what they need, since a text changed last.
+/// What holds of these parts together is said of each state that a database is in.
 #[derive(Drop)]
 pub struct Db {
-    pub(crate) linked: Linked,
-    pub(crate) store: Store,
-    pub(crate) fresh: Listed,
+    pub linked: Linked,
+    pub store: Store,
+    pub fresh: Listed,
 }
 
 /// A result that is shown.

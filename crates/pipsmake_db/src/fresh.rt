@@ -6,7 +6,7 @@ use pipsmake_rules::{Key, Listed};
 use std::alloc::{AllocError as Memory, Global};
 
 /// The same result.
-pub(crate) fn copy_key(key: &Key) -> Result<Key, Memory>
+pub fn copy_key(key: &Key) -> Result<Key, Memory>
     ensures { IfOk result (λ copy. copy ≡ key.now) }
 {
     let name = key.name.clone()?;

@@ -2,8 +2,8 @@
 ghost use Rattle.pipsmake_db.specs.AnswerLaws.{AnswersAreUnique, TextsStayModules, EachPrintIsTheProgram};
 ghost use Rattle.pipsmake_db.specs.SmallSession.{SmallSession};
 
+use laws_database::{names_show_the_text, texts_are_written_alike, texts_make_the_program};
 use laws_pieces::pieces_are_modules;
-use laws_program_text::{names_show_the_text, texts_are_written_alike, texts_make_the_program};
 use roundtrip_programs::tables_ignore_places;
 use session_texts::changes_keep_modules;
 

@@ -20,8 +20,12 @@ mod texts;
 
 pub use command::answer_command;
 pub use db::{Db, Shown};
+pub use fresh::copy_key;
 pub use laws::{
     answers_are_unique, each_print_is_the_program, small_session_is_answered, texts_stay_modules,
 };
+pub use linked::{Linked, Links};
+pub use print::{Prints, print_all};
 pub use refusal::DbRefusal;
 pub use script::answer_script;
+pub use stored::stored_of;

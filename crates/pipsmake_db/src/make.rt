@@ -72,8 +72,14 @@ impl Db {
         Ok(Brought { made, fresh })
     }
 
-    /// A result of an owner is brought up to date, with all that it needs.
-    fn make_of(&mut self, alloc: Global, kind: Kind, name: &Text) -> Result<List<Key>, DbRefusal>
+    /// A result of an owner is brought up to date, with all that it needs; the results that were made, in order. Refused where the texts do not link, unless the
+    /// kind needs no links. What a refusal leaves is as after `make`.
+    pub fn make_of(
+        &mut self,
+        alloc: Global,
+        kind: Kind,
+        name: &Text,
+    ) -> Result<List<Key>, DbRefusal>
         requires { owner_refusal (texts_of self.old) kind name.now ≡ None }
         ensures ok { IfOk result (MakesLinked self.old self.new (key kind name.now)) }
         ensures refused { IfErr result (IsRefused (links_refusal (texts_of self.old) kind)) }

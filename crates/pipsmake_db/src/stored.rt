@@ -9,7 +9,7 @@ use same_results::Copied;
 use std::alloc::{AllocError as Memory, Global};
 
 /// The same value as one of a stored kind; None where its kind is not stored.
-pub(crate) fn stored_of(alloc: Global, value: &Value) -> Result<Option<StoredValue>, Memory>
+pub fn stored_of(alloc: Global, value: &Value) -> Result<Option<StoredValue>, Memory>
     ensures { IfOk result (λ s. s ≡ stored_in (value_tree value.now)) }
 {
     match value {

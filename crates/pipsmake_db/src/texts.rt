@@ -128,8 +128,8 @@ fn forget_all(store: &mut Store, sources: &Sources, names: &[Text])
 }
 
 impl Db {
-    /// Each of these modules takes the place of the one of its name, or is added at the end; their names.
-    fn put(&mut self, alloc: Global, found: List<Source>) -> Result<List<Text>, Memory>
+    /// Each of these modules takes the place of the one of its name, or is added at the end; their names. Nothing is fresh then.
+    pub fn put(&mut self, alloc: Global, found: List<Source>) -> Result<List<Text>, Memory>
         requires modules { AreSources found }
         requires differ { NamesDiffer (map source_text found) }
         ensures ok { IfOk result (Puts self.old self.new (map source_text found)) }

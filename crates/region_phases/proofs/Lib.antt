@@ -1,1 +1,5 @@
 pub mod PhaseLaws
+pub mod InPhaseLaws
+pub mod SiteLaws
+pub mod HandingLaws
+pub mod OutPhaseLaws

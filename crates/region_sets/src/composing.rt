@@ -271,7 +271,7 @@ fn of_all(alloc: Global, r: &Region, t: &Transformer) -> Result<Region, Memory>
     ensures defined { IfOk result (λ q. q ≡ compose_is r.now t.now) }
     ensures fits { IfOk result RegionFits }
 {
-    let mut pieces = List::new(alloc);
+    let mut pieces = List::from_vec(Vec::with_capacity(alloc, r.pieces.len())?);
     let mut exact = true;
     let mut rest = r.pieces.as_slice();
     while let [piece, more @ ..] = rest {

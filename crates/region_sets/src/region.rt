@@ -112,7 +112,7 @@ pub fn with_flag(alloc: Global, r: &Region, exact: bool) -> Result<Region, Memor
     ensures defined { IfOk result (λ q. q ≡ remade_is r.now exact r.now.pieces) }
     ensures fits { IfOk result RegionFits }
 {
-    let mut pieces = List::new(alloc);
+    let mut pieces = List::from_vec(Vec::with_capacity(alloc, r.pieces.len())?);
     push_copies(&mut pieces, r.pieces.as_slice())?;
     remade(r, exact, pieces)
 }
@@ -123,7 +123,7 @@ pub fn copy_region(alloc: Global, r: &Region) -> Result<Region, Memory>
     ensures defined { IfOk result (λ q. q ≡ r.now) }
     ensures fits { IfOk result RegionFits }
 {
-    let mut pieces = List::new(alloc);
+    let mut pieces = List::from_vec(Vec::with_capacity(alloc, r.pieces.len())?);
     push_copies(&mut pieces, r.pieces.as_slice())?;
     Ok(Region {
         variable: copy_variable(&r.variable)?,

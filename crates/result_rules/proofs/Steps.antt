@@ -4,8 +4,8 @@ use Rattle.f77_symbols.specs.declared.variable.Unit.{Unit as BlockUnit}
 use Rattle.f77_results.specs.Summaries.{SummaryTree}
 use Rattle.call_translation.specs.Sites.{HoldingSite, SiteTree}
 use Rattle.scalar_phases.specs.Phases.{list_sites}
-use Rattle.out_phases.specs.declared.sites.OutSite.{OutSite}
-use Rattle.out_phases.specs.Phases.{list_sites as list_out_sites}
+use Rattle.region_phases.specs.declared.sites.OutSite.{OutSite}
+use Rattle.region_phases.specs.OutPhases.{list_sites as list_out_sites}
 use Rattle.result_rules.specs.declared.callees.Callee as callee
 use Rattle.result_rules.specs.declared.callers.CallerHolds as holds
 use Rattle.result_rules.specs.declared.callers.CallerOuts as outs

@@ -16,8 +16,8 @@ use Rattle.in_out_regions.specs.Lists.{set_at}
 use Rattle.scalar_phases.specs.Phases.{scope_of}
 use Rattle.scalar_phases.specs.Phases as scalars
 use Rattle.scalar_phases.specs.Views.{known}
-use Rattle.out_phases.specs.declared.sites.OutSite.{OutSite}
-use Rattle.out_phases.specs.Phases as outs
+use Rattle.region_phases.specs.declared.sites.OutSite.{OutSite}
+use Rattle.region_phases.specs.OutPhases as outs
 use Rattle.result_rules.specs.declared.callers.CallerHolds as holds_code
 use Rattle.result_rules.specs.declared.callers.CallerOuts as outs_code
 

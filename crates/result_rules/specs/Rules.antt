@@ -17,7 +17,7 @@ use Rattle.array_regions.specs.Modules.{regions_with}
 use Rattle.in_out_regions.specs.Modules.{ins_with}
 use Rattle.out_regions.specs.Modules.{outs_with}
 use Rattle.scalar_phases.specs.Phases.{scope_of}
-use Rattle.out_phases.specs.Phases.{used_after}
+use Rattle.region_phases.specs.OutPhases.{used_after}
 use Rattle.result_rules.specs.Callees.{Callee, callees_of}
 use Rattle.result_rules.specs.Callers.{CallerHolds, CallerOuts, sites_of, out_sites_of}
 

@@ -6,7 +6,7 @@ use Rattle.f77_meaning.specs.Modules.{symbol_names}
 use Rattle.system_text.specs.SystemText.{name_at}
 use Rattle.region_sets.specs.declared.marks.Mark.{Mark}
 use Rattle.region_sets.specs.declared.marks.Mark.TheVariants.{Parallel, Serial}
-use Rattle.mark_phases.specs.Phases.{ModuleMarks, known_in}
+use Rattle.loop_marker.specs.Phases.{ModuleMarks, known_in}
 use Rattle.roundtrip_systems.specs.Reading.{Bytes}
 
 -- ---- the parallel loops among marked ones, with the names of their private variables

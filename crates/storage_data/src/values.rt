@@ -6,7 +6,7 @@ ghost use Rattle.storage_data.specs.Initials.{literal_of, run_of, runs_of, value
 
 use crate::numbers::sum;
 use f77_ast::{DataValue, Expr};
-use f77_constants::{Constant, Constants, Worth, worth_of};
+use f77_symbols::{Constant, Constants, Worth, worth_of};
 use fx_lists::{List, Text};
 use std::alloc::{AllocError as Memory, Global};
 

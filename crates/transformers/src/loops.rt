@@ -10,8 +10,7 @@ ghost use Rattle.transformers.specs.Loops.{counting as counting_is, step_of as s
 use affine_forms::{affine_of, is_cell};
 use call_translation::CellScope;
 use f77_ast::{Expr, Loop};
-use f77_constants::{Constant, Worth, worth_of};
-use f77_symbols::Symbols;
+use f77_symbols::{Constant, Symbols, Worth, worth_of};
 use std::alloc::{AllocError as Memory, Global};
 use transformer_algebra::{LoopParts, Transformer};
 

@@ -1,6 +1,6 @@
 use Rattle.std.proofs.Common.{◌≡◌, drop, map}
 use Rattle.std.specs.Prelude.{fold}
-use Rattle.mark_phases.specs.Views.{marks_tree}
+use Rattle.loop_marker.specs.Views.{marks_tree}
 use Rattle.pips_top.specs.Counts.{counts_of, with_module}
 use Rattle.pips_top.proofs.counts.counts_of.Given as goal
 

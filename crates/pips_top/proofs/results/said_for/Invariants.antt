@@ -1,5 +1,5 @@
 use Rattle.std.proofs.Common.{◌≡◌, drop, map}
-use Rattle.mark_phases.specs.Views.{marks_tree}
+use Rattle.loop_marker.specs.Views.{marks_tree}
 use Rattle.laws_database.specs.ResultEntries.{said_for}
 use Rattle.pips_top.proofs.results.said_for.Given as goal
 

@@ -1,9 +1,9 @@
 use Rattle.std.proofs.Common.{◌≡◌, ◌++◌, drop, map}
 use Rattle.f77_ast.specs.PlainDecl.{parsed_tree}
-use Rattle.mark_phases.specs.Views.{marks_tree}
+use Rattle.loop_marker.specs.Views.{marks_tree}
 use Rattle.roundtrip_text.specs.Texts.{modules_text}
 use Rattle.laws_written.specs.Laws.{by_tree}
-use Rattle.laws_program_text.specs.Texts.{lines_found}
+use Rattle.laws_database.specs.ProgramTexts.{lines_found}
 use Rattle.pips_top.proofs.written.modules_text.Given as goal
 
 abbrev pub invariant-loop-parsed : goal.invariant-loop-parsed

@@ -4,8 +4,8 @@ use Rattle.f77_ast.specs.PlainStmt.{stmt_trees}
 use Rattle.call_translation.specs.Scopes.{ScopeTree}
 use Rattle.scalar_phases.proofs.ScopeLaws.{scope-same}
 use Rattle.in_out_regions.specs.Lists.{set_at}
-use Rattle.out_phases.specs.Phases.{Caller, list_sites}
-use Rattle.out_phases.specs.Views.{sites_for}
+use Rattle.region_phases.specs.OutPhases.{Caller, list_sites}
+use Rattle.region_phases.specs.OutViews.{sites_for}
 use Rattle.result_rules.proofs.callers.add_outs.Goals as goal
 
 pub returns-clause-added : goal.returns-clause-added

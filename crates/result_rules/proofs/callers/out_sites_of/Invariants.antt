@@ -1,5 +1,5 @@
 use Rattle.std.proofs.Common.{◌≡◌, ◌++◌, ℕ, List, map, length}
-use Rattle.out_phases.specs.Views.{sites_for as out_sites_for, SitesFit as OutSitesFit}
+use Rattle.region_phases.specs.OutViews.{sites_for as out_sites_for, SitesFit as OutSitesFit}
 use Rattle.result_rules.specs.Callers.{outs_tree, out_sites_of, AllOuts}
 use Rattle.result_rules.proofs.callers.out_sites_of.Given as goal
 

@@ -5,7 +5,7 @@ use Rattle.f77_results.specs.declared.results.Results.{Results}
 use Rattle.call_translation.specs.Scopes.{ScopeTree}
 use Rattle.region_sets.specs.declared.region.Region.{Region}
 use Rattle.out_regions.specs.Modules.{outs_with}
-use Rattle.out_phases.specs.Phases.{used_after}
+use Rattle.region_phases.specs.OutPhases.{used_after}
 use Rattle.scalar_phases.specs.Phases.{scope_of}
 use Rattle.scalar_phases.specs.Views.{known_in}
 use Rattle.scalar_phases.proofs.ScopeLaws.{scope-same}

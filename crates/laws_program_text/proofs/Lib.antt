@@ -1,4 +1,0 @@
-mod Read
-mod Same
-mod Pieces
-mod Named

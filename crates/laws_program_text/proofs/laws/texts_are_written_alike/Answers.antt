@@ -1,5 +1,0 @@
-use Rattle.laws_program_text.proofs.Same as same
-use Rattle.laws_program_text.proofs.laws.texts_are_written_alike.Goals as goal
-
-pub returns : goal.returns
-returns c = same.texts_are_written_alike c.joined_have_the_same_trees.ensures c.joined_are_written_alike.ensures

@@ -1,0 +1,128 @@
+//! Marks of modules, callees before callers.
+ghost use Rattle.std.specs.Prelude.{◌≡◌, ◌++◌, ◌∷◌, [], ℕ, List, All, map, reverse, IfOk};
+ghost use Rattle.f77_results.specs.Summaries.{summary_in};
+ghost use Rattle.region_phases.specs.OutViews.{outs_tree, ModuleFits};
+ghost use Rattle.loop_marker.specs.Phases.{known_in, with_callee, effects_found, marks_found, with_effects, with_marks, all_marks as all_marks_is};
+ghost use Rattle.loop_marker.specs.Views.{marks_tree};
+
+use crate::marks;
+use call_graph::Graph;
+use effects::cumulated_effects;
+use f77_results::{At, EffectSet, Results, Summaries, View, copy_effect};
+use fx_lists::List;
+use loop_bodies::Analysis;
+use region_phases::ModuleOuts;
+use region_sets::Mark;
+use std::alloc::{AllocError as Memory, Global};
+
+/// The analyses and regions of a module, the effects of its statements and as its callers see them, and the marks of its loops.
+#[derive(Drop)]
+pub struct ModuleMarks<'a> {
+    pub outs: ModuleOuts<'a>,
+    pub effects: Results<EffectSet>,
+    pub marks: List<At<Mark>>,
+}
+
+/// The marks of the loops of a module.
+fn marks_with<'x>(
+    alloc: Global,
+    graph: &'x Graph,
+    outs: &'x ModuleOuts<'x>,
+    effects: &'x Results<EffectSet>,
+) -> Result<List<At<Mark>>, Memory>
+    requires { ModuleFits outs.now }
+    ensures { IfOk result (λ ms. ms ≡ marks_found graph.now.untracked (outs_tree outs.now) effects.now) }
+{
+    let regions = &outs.known.known;
+    let found = &regions.analysis.found;
+    let view = View {
+        module: found.module,
+        symbols: found.symbols,
+        graph,
+    };
+    let known = Analysis {
+        view: &view,
+        effects,
+        transformers: &found.own,
+        preconditions: &regions.analysis.holds,
+        regions: &regions.regions,
+        ins: &outs.known.ins,
+        outs: &outs.outs,
+    };
+    marks(alloc, &known)
+}
+
+/// The effects of a module, with the summaries of those that it calls.
+fn effects_of(
+    alloc: Global,
+    graph: &Graph,
+    outs: &ModuleOuts<'_>,
+    callees: &Summaries<EffectSet>,
+) -> Result<Results<EffectSet>, Memory>
+    ensures { IfOk result (λ e. e ≡ effects_found (summary_in callees.now) (known_in (outs_tree outs.now))) }
+{
+    let found = &outs.known.known.analysis.found;
+    let view = View {
+        module: found.module,
+        symbols: found.symbols,
+        graph,
+    };
+    cumulated_effects(alloc, &view, callees)
+}
+
+/// Adds what callers see of the effects of a module.
+fn add_summary(
+    alloc: Global,
+    outs: &ModuleOuts<'_>,
+    effects: &Results<EffectSet>,
+    callees: &mut Summaries<EffectSet>,
+) -> Result<(), Memory>
+    ensures { IfOk result (λ _. (x : List ℕ) → summary_in callees.new x ≡ with_callee (record { outs = outs_tree outs.now; effects = effects.now; marks = [] }) (summary_in callees.old) x) }
+{
+    let summary = copy_effect(alloc, &effects.summary)?;
+    let found = &outs.known.known.analysis.found;
+    callees.add(&found.module.name, found.symbols, summary)
+}
+
+/// Adds a module behind others.
+#[tactic(auto, using(crate::proofs::PhaseLaws::one_more))]
+fn add_module<'a>(
+    alloc: Global,
+    graph: &Graph,
+    outs: ModuleOuts<'a>,
+    callees: &mut Summaries<EffectSet>,
+    all: &mut Vec<ModuleMarks<'a>>,
+) -> Result<(), Memory>
+    requires { ModuleFits outs }
+    ensures added { IfOk result (λ _. map marks_tree all.new.items ≡ map marks_tree all.old.items ++ with_marks graph.now.untracked (summary_in callees.old) (outs_tree outs.entry) ∷ []) }
+    ensures callees { IfOk result (λ _. (x : List ℕ) → summary_in callees.new x ≡ with_callee (with_marks graph.now.untracked (summary_in callees.old) (outs_tree outs.entry)) (summary_in callees.old) x) }
+{
+    let effects = effects_of(alloc, graph, &outs, callees)?;
+    let marks = marks_with(alloc, graph, &outs, &effects)?;
+    add_summary(alloc, &outs, &effects, callees)?;
+    all.push(ModuleMarks {
+        outs,
+        effects,
+        marks,
+    })?;
+    Ok(())
+}
+
+/// The marks of the loops of the modules of a program, from their OUT regions, in which callers come before the modules that they call; the result has the opposite order. A module is
+/// looked up by its name in constant time.
+#[tactic(auto, using(crate::proofs::PhaseLaws::module_steps))]
+pub fn all_marks<'a>(
+    alloc: Global,
+    graph: &Graph,
+    mut left: Vec<ModuleOuts<'a>>,
+) -> Result<Vec<ModuleMarks<'a>>, Memory>
+    requires { All ModuleFits left.items }
+    ensures { IfOk result (λ all. map marks_tree all.items ≡ all_marks_is graph.now (map outs_tree left.entry.items)) }
+{
+    let mut callees = Summaries::new(alloc);
+    let mut all = Vec::new(alloc);
+    while let Some(outs) = left.pop() {
+        add_module(alloc, graph, outs, &mut callees, &mut all)?;
+    }
+    Ok(all)
+}

@@ -1,3 +1,0 @@
-pub mod SiteLaws
-pub mod HandingLaws
-pub mod PhaseLaws

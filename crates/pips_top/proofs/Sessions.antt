@@ -1,0 +1,53 @@
+-- What is written of a program that was read, and what a session prints, is sound.
+use Rattle.std.proofs.Common.{◌≡◌, ℕ, List, Option, Some, None, Ok, subst}
+use Rattle.session_lines.specs.declared.command.Command.{Command}
+use Rattle.laws_pieces.specs.Joined.{joined_texts}
+use Rattle.laws_database.specs.Texts.{tables_in}
+use Rattle.laws_database.specs.ProgramTexts.{texts_of, joined_modules}
+use Rattle.result_lines.specs.declared.show.Show.{Show}
+use Rattle.pipsmake_db.specs.declared.refusal.DbRefusal.{DbRefusal}
+use Rattle.pipsmake_db.specs.AnswerLaws as database
+use Rattle.pipsmake_db.specs.AnswerLaws.{EachPrintIsTheProgram}
+use Rattle.pipsmake_db.specs.Refusals.{link_refusal}
+use Rattle.pipsmake_db.specs.Scripts.{AnswersAll}
+use Rattle.pipsmake_db.specs.State.{State}
+use Rattle.pips_top.specs.Laws.{ReadClaimsHold, ReadAllSaid, ReadLinesMean, ReadWrittenBack, ReadMarkedBack, ReadRunsInterleaved, ReadSoundly, AnsweredSoundly}
+use Rattle.pips_top.specs.Program.{ProgramTree}
+use Rattle.pips_top.specs.Reading.{reading}
+use Rattle.pips_top.specs.Sound.{PrintBy}
+use Rattle.pips_top.proofs.ReadBack.{reading_is}
+
+pub soundly_from : ReadClaimsHold → ReadAllSaid → ReadLinesMean → ReadWrittenBack → ReadMarkedBack → ReadRunsInterleaved → ReadSoundly
+soundly_from holds all lines back marked interleaved show bytes p e = record {
+  claims = holds bytes p e;
+  whole = all bytes p e;
+  lines = lines show bytes p e;
+  back = back show bytes p e;
+  marked = marked show bytes p e;
+  interleaved = interleaved show bytes p e (marked show bytes p e);
+}
+
+printed_from : ReadSoundly → (show : Show) (s : State) (r : Option DbRefusal) (lines : List ℕ) → database.PrintBy show s r lines → PrintBy show s.texts r lines
+printed_from law show s None lines p =
+    let bytes : List ℕ = joined_texts (texts_of s.texts) in
+    let program : ProgramTree = record { modules = joined_modules s.texts; tables = tables_in s.texts; graph = p.graph } in
+    let e : reading bytes ≡ Ok program = reading_is bytes (joined_modules s.texts) (tables_in s.texts) p.graph p.program in
+    record { program = program; as_program = e; sound = law show bytes program e; now = p.now; is = p.written }
+printed_from law show s (Some r) lines e = e
+
+pub answered_from : EachPrintIsTheProgram → ReadSoundly → AnsweredSoundly
+answered_from prints law show s script out end modules answers before after e =
+    let P : List Command → Type 0 = λ commands. AnswersAll show s commands out end in
+    let a = prints show s end before after out (subst P e answers) modules in
+    record {
+      earlier = a.earlier;
+      lines = a.lines;
+      later = a.later;
+      is = a.is;
+      here = a.here;
+      next = a.next;
+      end = end;
+      until = a.until;
+      from = a.from;
+      printed = printed_from law show a.here (link_refusal a.here.texts) a.lines a.printed;
+    }

@@ -1,0 +1,86 @@
+-- A base that is opened before the work and kept after it, and the work over it.
+use Rattle.std.specs.Prelude.{◌≡◌, ◌⊎◌, ℕ, Bool, true, false, List, [], ◌∷◌, ◌++◌, map, Option, Ok}
+use Rattle.fx_base.specs.Files.{Files}
+use Rattle.fx_base.specs.Store.{FetchedBy}
+use Rattle.fx_base.specs.declared.tally.Tally.{Tally}
+use Rattle.fx_base.specs.declared.store.Fetched.TheVariants as fetched
+use Rattle.pipsmake_rules.specs.declared.key.Key.{Key}
+use Rattle.session_lines.specs.Commands.{commands_of}
+use Rattle.result_lines.specs.declared.show.Show.{Show}
+use Rattle.base_text.specs.declared.base.Base.{Base}
+use Rattle.base_text.specs.Read.{base_of}
+use Rattle.laws_database.specs.Texts.{ModuleText, names_in}
+use Rattle.session_texts.specs.Sources.{source_modules}
+use Rattle.pipsmake_db.specs.AnswerTexts.{texts_at_end}
+use Rattle.pipsmake_db.specs.Calls.{key}
+use Rattle.pipsmake_db.specs.Scripts.{AnswersScript}
+use Rattle.pipsmake_db.specs.State.{State}
+use Rattle.pipsmake_base.specs.Bases.{empty_base}
+use Rattle.pipsmake_base.specs.Saved.{texts_in, keys_in, loaded_state, IsSaved}
+use Rattle.pipsmake_save.specs.Saving.{module_of, stored_kinds, stored_keys}
+use Rattle.pips_top.specs.Program.{ProgramTree}
+use Rattle.pips_top.specs.Reading.{reading}
+use Rattle.pips_top.specs.Sound.{IsSound, PrintsSoundly}
+use Rattle.pips_top.specs.Written.{written}
+
+-- the most bytes of a base
+abbrev pub base_limit : ℕ
+base_limit = 16777216
+
+-- ---- before the work
+
+-- the file of a name was fetched and read as this base, or there is none and the base is empty
+abbrev pub OpensBy : Option Files → Tally → Tally → List ℕ → Base → Type 0
+OpensBy files old new name b =
+    (FetchedBy files old new name base_limit fetched.Absent × (b ≡ empty_base))
+    ⊎ ((bytes : List ℕ) × FetchedBy files old new name base_limit (fetched.Got bytes) × (base_of bytes ≡ Ok b))
+
+-- where its results are to be verified, each is what is defined for the texts of the base
+abbrev pub IsVerified : Bool → Base → Type 0
+IsVerified false b = Unit {0}
+IsVerified true b = IsSaved b
+
+-- ---- after it
+
+-- the base of a session in a state: its texts, and just its fresh stored results, each as it is defined for these texts
+pub record IsBaseOf (s : State) (b : Base) : Type 0 where
+  pub modules : b.modules ≡ map module_of s.texts
+  pub keys : keys_in b ≡ stored_keys s.fresh (names_in s.texts)
+  pub saved : IsSaved b
+
+-- these bytes are read as a base that holds only results of its own texts
+pub record ReadsSaved (bytes : List ℕ) : Type 0 where
+  pub found : Base
+  pub is : base_of bytes ≡ Ok found
+  pub saved : IsSaved found
+
+-- ---- the work
+
+-- a session that goes on from a base answers its script so, and leaves this base
+pub record GoesOn (show : Show) (b : Base) (script text : List ℕ) (left : Base) : Type 0 where
+  pub end : State
+  pub answers : AnswersScript show (loaded_state b) script text end
+  pub prints : PrintsSoundly show (loaded_state b) script text
+  pub leaves : IsBaseOf end left
+
+-- it does where the base holds only results of its own texts; the texts that it leaves are those of the commands, whatever the base holds
+pub record AnswersOver (show : Show) (b : Base) (script text : List ℕ) (left : Base) : Type 0 where
+  pub texts : left.modules ≡ map module_of (texts_at_end (texts_in b) (commands_of script))
+  pub goes_on : IsSaved b → GoesOn show b script text left
+
+-- all stored results of these modules are fresh
+abbrev pub all_keys : List (List ℕ) → List Key
+all_keys [] = []
+all_keys (x ∷ xs) = map (λ k. key k x) stored_kinds ++ all_keys xs
+
+-- the program of the input is written over a base, which has its modules afterwards; where the base held only results of its own texts, the text is that of the program, and the base that is left has all its results
+pub record WritesOver (show : Show) (b : Base) (bytes text : List ℕ) (left : Base) : Type 0 where
+  pub program : ProgramTree
+  pub as_program : reading bytes ≡ Ok program
+  pub sound : IsSound show program
+  pub sources : List ModuleText
+  pub split : source_modules bytes ≡ Ok sources
+  pub modules : left.modules ≡ map module_of sources
+  pub is : IsSaved b → text ≡ written show program
+  pub keys : IsSaved b → keys_in left ≡ all_keys (names_in sources)
+  pub saved : IsSaved b → IsSaved left

@@ -1,0 +1,14 @@
+pub mod Lists
+pub mod Distinct
+pub mod Sources
+pub mod Taking
+pub mod NeedLaws
+pub mod StoredCan
+pub mod Defined
+pub mod LoadLaws
+pub mod MadeLaws
+pub mod StoredLaws
+pub mod StaleLaws
+pub mod BaseLaws
+pub mod Current
+pub mod CurrentAnswers

@@ -1,0 +1,82 @@
+//! Stored results that are kept.
+ghost use Rattle.std.specs.Prelude.{◌≡◌, [], ◌∷◌, map, IfOk, OnOk};
+ghost use Rattle.result_making.specs.Making.{AreGraphed};
+ghost use Rattle.result_store.specs.Rows.{shelves_of};
+ghost use Rattle.result_store.specs.Values.{stamped_tree};
+ghost use Rattle.pipsmake_db.specs.State.{texts_of};
+ghost use Rattle.pipsmake_base.specs.Taken.{IsInSome, SeesStamps, KeepsResults};
+
+use crate::need::see_needs;
+use fx_lists::List;
+use pipsmake_db::Db;
+use pipsmake_rules::{Key, Listed, needs};
+use result_making::Modules;
+use result_store::{Item, Stamped, Store};
+use std::alloc::{AllocError as Memory, Global};
+
+/// The stamps of what a result needs. Of texts that do not link there are none: what is kept of them is out of date as soon as they do.
+fn stamps_of(
+    alloc: Global,
+    plain: &mut Db,
+    modules: &Modules<'_>,
+    store: &mut Store,
+    seen: &mut Listed,
+    key: &Key,
+) -> Result<List<Stamped>, Memory>
+    requires graphed { AreGraphed modules.now }
+    requires in_some { IsInSome plain.old }
+    requires texts { texts_of plain.old ≡ modules.now.sources.now }
+    ensures ok { IfOk result (λ ss. SeesStamps modules.now.sources.now (shelves_of store.old) seen.old key.now (shelves_of store.new) seen.new (map stamped_tree ss)) }
+    ensures texts { OnOk result (texts_of plain.new ≡ modules.now.sources.now) }
+    ensures in_some { OnOk result (IsInSome plain.new) }
+{
+    if !modules.linked {
+        return Ok(List::new(alloc));
+    }
+    let names = modules.sources.names();
+    let needs = needs(alloc, names, modules.graph, key.kind, &key.name)?;
+    see_needs(alloc, plain, modules, store, seen, needs.as_slice())
+}
+
+/// A result that was seen is kept.
+fn keep_result(
+    alloc: Global,
+    plain: &mut Db,
+    modules: &Modules<'_>,
+    store: &mut Store,
+    seen: &mut Listed,
+    key: &Key,
+) -> Result<(), Memory>
+    requires graphed { AreGraphed modules.now }
+    requires in_some { IsInSome plain.old }
+    requires texts { texts_of plain.old ≡ modules.now.sources.now }
+    ensures ok { OnOk result (KeepsResults modules.now.sources.now (shelves_of store.old) seen.old (key.now ∷ []) (shelves_of store.new) seen.new) }
+    ensures texts { OnOk result (texts_of plain.new ≡ modules.now.sources.now) }
+    ensures in_some { OnOk result (IsInSome plain.new) }
+{
+    let stamps = stamps_of(alloc, plain, modules, store, seen, key)?;
+    store.keep_seen(Item::Result(key.kind), &key.name, 0, stamps);
+    Ok(())
+}
+
+/// Results that were seen are kept one after another.
+pub(crate) fn keep_results(
+    alloc: Global,
+    plain: &mut Db,
+    modules: &Modules<'_>,
+    store: &mut Store,
+    seen: &mut Listed,
+    keys: &[Key],
+) -> Result<(), Memory>
+    requires graphed { AreGraphed modules.now }
+    requires in_some { IsInSome plain.old }
+    requires texts { texts_of plain.old ≡ modules.now.sources.now }
+    ensures { OnOk result (KeepsResults modules.now.sources.now (shelves_of store.old) seen.old keys.now (shelves_of store.new) seen.new) }
+{
+    let mut rest = keys;
+    while let [key, more @ ..] = rest {
+        keep_result(alloc, plain, modules, store, seen, key)?;
+        rest = more;
+    }
+    Ok(())
+}
