@@ -1,24 +1,20 @@
 -- How a run ends, by what it found outside.
-use Rattle.std.proofs.Common.{◌≡◌, ℕ, ◌≤◌, ◌<◌, ◌⊎◌, inl, inr, Bool, true, List, [], length, sym, ap, ◌∙◌, refl, subst, Option, Some, None, IsSomeAnd, Result, Ok, Err, arith}
+use Rattle.std.proofs.Common.{◌≡◌, ℕ, ◌≤◌, ◌<◌, inl, inr, Bool, List, [], length, sym, ap, ◌∙◌, refl, subst, Option, Some, None, IsSomeAnd, Result, Ok, Err, arith}
 use Rattle.std.specs.Prelude.{IfSome}
 use Rattle.std.proofs.lemmas.Grind.{common_steps}
 use Rattle.fx_base.specs.Files.{Files, bytes_of}
-use Rattle.fx_base.specs.declared.store.Fetched.TheVariants as fetched
 use Rattle.base_text.specs.declared.base.Base.{Base}
 use Rattle.base_text.specs.declared.refusal.BaseRefusal.{BaseRefusal}
 use Rattle.base_text.specs.Gives.{number_of}
 use Rattle.base_text.specs.Read.{base_of}
-use Rattle.base_text.specs.Written.{kept as kept_text}
 use Rattle.pipsmake_base.specs.Bases.{empty_base}
-use Rattle.pipsmake_base.specs.Saved.{IsSaved}
-use Rattle.pips_top.specs.Answer.{Ending, EndsGot, EndsKept, EndsOpened, EndsMade, EndsWrittenOver, EndsSilent, got_as, opened_as, read_or}
-use Rattle.pips_top.specs.Based.{base_limit, OpensBy, IsVerified, WritesOver}
-use Rattle.pips_top.specs.Made.{made, input_limit}
+use Rattle.pips_top.specs.Answer.{Ending, EndsGot, EndsKept, EndsOpened, EndsMade, got_as, opened_as, read_or}
+use Rattle.pips_top.specs.Based.{base_limit, OpensBy}
+use Rattle.pips_top.specs.Made.{input_limit}
 use Rattle.pips_top.specs.declared.make.Made.{Made}
 use Rattle.pips_top.specs.declared.make.Made.TheVariants.{Writes, Refuses}
 use Rattle.pips_top.specs.declared.status.Status.{Status}
-use Rattle.pips_top.specs.declared.status.Status.TheVariants.{Done, Refused, NoInput, TooLong, BadBase, StaleBase}
-use Rattle.result_lines.specs.declared.show.Show.{Show}
+use Rattle.pips_top.specs.declared.status.Status.TheVariants.{Done, Refused, NoInput, TooLong, BadBase}
 use Rattle.fx_base.specs.declared.tally.Tally.{Tally}
 
 -- what is so of files that are told

@@ -1,5 +1,5 @@
 -- Where the written texts of all modules were made, all stored results of these modules are fresh.
-use Rattle.std.proofs.Common.{◌≡◌, ℕ, Bool, true, false, ◌&&◌, ◌||◌, List, [], ◌∷◌, ◌++◌, map, codes, Result, Ok, Err, refl, sym, ap, ap₂, ◌∙◌, subst}
+use Rattle.std.proofs.Common.{◌≡◌, ℕ, Bool, true, false, ◌||◌, List, [], ◌∷◌, ◌++◌, map, codes, Result, Ok, Err, refl, sym, ap, ap₂, ◌∙◌, subst}
 use Rattle.std.specs.Prelude.{if◌then◌else◌}
 use Rattle.std.specs.List.{list_all}
 use Rattle.std.proofs.lemmas.Bool.{and_parts, or_left, or_right}
@@ -9,7 +9,7 @@ use Rattle.pipsmake_rules.specs.declared.kind.Kind.{Kind}
 use Rattle.pipsmake_rules.specs.declared.kind.Kind.TheVariants as kind
 use Rattle.pipsmake_rules.specs.declared.key.Key.{Key}
 use Rattle.pipsmake_rules.specs.Keys.{same_key, holds}
-use Rattle.pipsmake_rules.specs.Laws.{is_bottom_up, StandBehindNeeds}
+use Rattle.pipsmake_rules.specs.Laws.{is_bottom_up}
 use Rattle.pipsmake_rules.specs.Needs.{needs_of}
 use Rattle.pipsmake_rules.proofs.KeyLaws.{same_key-true, same_key_self, holds-last, holds-more}
 use Rattle.pipsmake_rules.proofs.WalkLaws.{complete}
@@ -20,7 +20,7 @@ use Rattle.laws_database.proofs.Modules.{linked}
 use Rattle.pipsmake_db.specs.Answers.{MakesIn, MakesPrinted}
 use Rattle.pipsmake_db.specs.Calls.{key}
 use Rattle.pipsmake_db.specs.Fresh.{key_put, keys_put}
-use Rattle.pipsmake_db.specs.State.{State, after_make}
+use Rattle.pipsmake_db.specs.State.{State}
 use Rattle.pipsmake_save.specs.Saving.{stored_kinds, fresh_keys, stored_keys}
 use Rattle.pips_top.specs.Based.{all_keys}
 

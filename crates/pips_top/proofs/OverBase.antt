@@ -1,37 +1,35 @@
 -- What is replied over a base, by what was found before the work and kept after it.
-use Rattle.std.proofs.Common.{◌≡◌, ℕ, ◌+◌, ◌≤◌, ◌⊎◌, inl, inr, min, List, [], length, codes, refl, sym, ap, ◌∙◌, subst, Bool, true, false, Option, Some, None, IsSomeAnd, Result, Ok, Err, arith}
+use Rattle.std.proofs.Common.{◌≡◌, ℕ, ◌+◌, ◌≤◌, inl, inr, min, List, length, refl, sym, ap, ◌∙◌, subst, Bool, true, false, Option, Some, None, IsSomeAnd, Result, Ok, Err, arith}
 use Rattle.std.specs.Prelude.{if◌then◌else◌, nat_le, map, IfOk}
 use Rattle.std.specs.declared.alloc.AllocError.{AllocError}
 use Rattle.fx_base.specs.Counts.{Rose, last_count}
 use Rattle.fx_base.specs.Files.{Files, OthersStay}
 use Rattle.fx_base.specs.Store.{NoneFalls, OnlyBaseFaults}
 use Rattle.fx_base.specs.declared.store.Role.{Role}
-use Rattle.fx_base.specs.declared.store.Role.TheVariants.{Input, Base as BaseRole}
-use Rattle.fx_base.specs.declared.store.Fetched.{Fetched}
+use Rattle.fx_base.specs.declared.store.Role.TheVariants.{Base as BaseRole}
 use Rattle.fx_base.specs.declared.store.Fetched.TheVariants as fetched
 use Rattle.command_words.specs.Options.{Accepts}
 use Rattle.base_text.specs.declared.base.Base.{Base}
 use Rattle.base_text.specs.Grammar.{IsBase}
-use Rattle.base_text.specs.Read.{base_of}
-use Rattle.base_text.specs.Written.{base_text, without_results, kept_base, kept as kept_text}
-use Rattle.laws_database.specs.Texts.{ModuleText, names_in}
+use Rattle.base_text.specs.Written.{base_text, without_results, kept_base}
+use Rattle.laws_database.specs.Texts.{names_in}
 use Rattle.result_lines.specs.declared.show.Show.{Show}
 use Rattle.session_lines.specs.Commands.{commands_of}
 use Rattle.pipsmake_db.specs.declared.db.Db.{Db}
 use Rattle.pipsmake_db.specs.AnswerSteps.{AnswersWhole, AnswersWholeFrom}
 use Rattle.pipsmake_db.specs.AnswerTexts.{texts_at_end}
-use Rattle.pipsmake_db.specs.State.{State, texts_of, IsIn}
+use Rattle.pipsmake_db.specs.State.{State, IsIn}
 use Rattle.pipsmake_base.specs.Bases.{BasesAreModules}
 use Rattle.pipsmake_base.specs.Current.{FreshIsCurrent, LoadedIsCurrent, AnswersStayCurrent}
-use Rattle.pipsmake_base.specs.Saved.{texts_in, keys_in, loaded_state, IsSaved}
+use Rattle.pipsmake_base.specs.Saved.{keys_in, loaded_state, IsSaved}
 use Rattle.pipsmake_save.specs.Saving.{module_of, stored_keys, saved_base}
-use Rattle.pips_top.specs.Based.{base_limit, IsVerified, IsBaseOf, ReadsSaved, GoesOn, AnswersOver, WritesOver, all_keys}
+use Rattle.pips_top.specs.Based.{base_limit, IsVerified, IsBaseOf, GoesOn, AnswersOver, WritesOver, all_keys}
 use Rattle.pips_top.specs.Jobs.{job_in, input_in, opening_in}
 use Rattle.pips_top.specs.Laws.{ReadSoundly, AnsweredSoundly}
 use Rattle.pips_top.specs.Made.{made}
 use Rattle.pips_top.specs.Replies.{LacksFor, UnopenedFor, StaleFor, GoesOnFrom, FoundOr, KeepsAs, NotKeptFor, KeptOr, IsLeftBy, KeptWith, PrintsFrom, PrintsOver, Makes, RepliesFor, RepliesBy, StopsOr}
-use Rattle.pips_top.specs.Run.{Stored, FetchesInput, Opens, HasSomeInput, HasBase, StopsFor, LeavesOver, WorksOver, Keeps, CountsFor, CountsBy, Untouched}
-use Rattle.pips_top.specs.Status.{naming, refusal_line}
+use Rattle.pips_top.specs.Run.{Stored, FetchesInput, Opens, HasSomeInput, StopsFor, WorksOver, Keeps, CountsFor, CountsBy}
+use Rattle.pips_top.specs.Status.{refusal_line}
 use Rattle.pips_top.specs.declared.job.Job.{Job}
 use Rattle.pips_top.specs.declared.job.Job.TheVariants as jobs
 use Rattle.pips_top.specs.declared.job.Opening.{Opening}

@@ -1,5 +1,5 @@
 -- What is written is the text of a program that was read and is sound, or the counts of a sample, and what the definitions answer.
-use Rattle.std.proofs.Common.{◌≡◌, ℕ, ◌≤◌, ◌⊎◌, inl, inr, List, [], length, take, codes, ap, sym, ◌∙◌, refl, subst, Option, Some, None, IsSomeAnd, Result, Ok, Err}
+use Rattle.std.proofs.Common.{◌≡◌, ℕ, ◌≤◌, ◌⊎◌, inr, List, [], length, take, codes, ap, sym, ◌∙◌, refl, subst, Option, Some, None, IsSomeAnd, Result, Ok, Err}
 use Rattle.fx_base.specs.Counts.{Rose}
 use Rattle.std.specs.Prelude.{IfSome}
 use Rattle.fx_base.specs.Files.{Files, bytes_of, OthersStay}

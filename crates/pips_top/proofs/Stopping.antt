@@ -34,7 +34,7 @@ use Rattle.pips_top.specs.declared.make.Made.{Made}
 use Rattle.pips_top.specs.declared.make.Made.TheVariants.{Writes}
 use Rattle.pips_top.specs.declared.status.Status.{Status}
 use Rattle.pips_top.specs.declared.status.Status.TheVariants.{Done, Refused, Usage, NoInput, TooLong, ReadFault, WriteFault, BadBase, StaleBase, BaseFault, Memory}
-use Rattle.pips_top.proofs.Endings.{told, got_within, got_absent, got_long, ends_got, opened_from, opened_long, opened_bad, ends_opened, ends_unkept, ends_refused}
+use Rattle.pips_top.proofs.Endings.{told, got_absent, got_long, ends_got, opened_from, opened_long, opened_bad, ends_opened, ends_unkept, ends_refused}
 use Rattle.pips_top.proofs.Soundness.{held_input, not_refused}
 
 -- no job ends so

@@ -41,6 +41,7 @@ EndsSilent s status out kept = (status ≡ s) × (out ≡ []) × (kept ≡ None)
 
 -- ---- without a base
 
+-- with what is made of the input: its text, or its refusal
 abbrev pub EndsMade : Made → Ending
 EndsMade (Writes text) status out kept = (status ≡ Done) × (out ≡ text) × (kept ≡ None)
 EndsMade (Refuses line code keyword) status out kept = EndsSilent (Refused line code) status out kept
@@ -56,6 +57,7 @@ abbrev pub EndsKept : Option (List ℕ) → List ℕ → Ending
 EndsKept None text status out kept = EndsSilent TooLong status out kept
 EndsKept (Some bytes) text status out kept = (status ≡ Done) × (out ≡ text) × (kept ≡ Some bytes)
 
+-- with the answers of a session that goes on from a base
 abbrev pub EndsAnsweredOver : Show → Base → List ℕ → Ending
 EndsAnsweredOver show b script status out kept = (text : List ℕ) × (left : Base) × AnswersOver show b script text left × EndsKept (kept_text left base_limit) text status out kept
 
@@ -65,6 +67,7 @@ EndsWrittenOver show b bytes (Refuses line code keyword) status out kept = EndsS
 EndsWrittenOver show b bytes (Writes defined) status out kept =
     (text : List ℕ) × (left : Base) × WritesOver show b bytes text left × EndsKept (kept_text left base_limit) text status out kept
 
+-- a base that was read, or the status for a file that is none
 abbrev pub read_or : Result Base BaseRefusal → Result Base Status
 read_or (Ok b) = Ok b
 read_or (Err refusal) = Err (BadBase (unwrap_or (number_of refusal) 0))
@@ -79,6 +82,7 @@ abbrev pub EndsOpened : Bool → Result Base Status → (Base → Ending) → En
 EndsOpened verify (Err s) Ends status out kept = EndsSilent s status out kept
 EndsOpened verify (Ok b) Ends status out kept = ((verify ≡ true) × (IsSaved b → ⊥) × EndsSilent StaleBase status out kept) ⊎ (IsVerified verify b × Ends b status out kept)
 
+-- over the base that the held files give
 abbrev pub EndsOver : Opening → Files → (Base → Ending) → Ending
 EndsOver opening held Ends status out kept = EndsOpened opening.verify (opened_as (bytes_of held opening.name)) Ends status out kept
 
@@ -89,13 +93,16 @@ abbrev pub got_as : Option (List ℕ) → Result (List ℕ) Status
 got_as None = Err NoInput
 got_as (Some bytes) = if nat_lt input_limit (length bytes) then Err TooLong else Ok bytes
 
+-- over an INPUT that is got, or with that status
 abbrev pub EndsGot : Result (List ℕ) Status → (List ℕ → Ending) → Ending
 EndsGot (Err s) Ends status out kept = EndsSilent s status out kept
 EndsGot (Ok bytes) Ends status out kept = Ends bytes status out kept
 
+-- over the INPUT that the held files give
 abbrev pub EndsHeld : Files → List ℕ → (List ℕ → Ending) → Ending
 EndsHeld held input Ends status out kept = EndsGot (got_as (bytes_of held input)) Ends status out kept
 
+-- how each job ends
 abbrev pub EndsJob : Job → Files → Ending
 EndsJob (jobs.Write show input) held status out kept = EndsHeld held input (λ bytes. EndsMade (made show bytes)) status out kept
 EndsJob (jobs.Answer show input) held status out kept = EndsHeld held input (EndsAnswered show) status out kept
@@ -123,6 +130,7 @@ EndsAs words held status old new files = EndsFor (job_in words) held status old 
 
 -- ---- what is accepted
 
+-- the bytes are read as a program
 abbrev pub IsProgram : List ℕ → Type 0
 IsProgram bytes = (program : ProgramTree) × (reading bytes ≡ Ok program)
 
@@ -138,6 +146,7 @@ IsHeld held input P = (bytes : List ℕ) × (got_as (bytes_of held input) ≡ Ok
 abbrev pub IsOpened : Files → Opening → (Base → Type 0) → Type 0
 IsOpened held opening P = (b : Base) × (opened_as (bytes_of held opening.name) ≡ Ok b) × IsVerified opening.verify b × P b
 
+-- the input of a job is held and accepted, its base is opened, and what is left fits
 abbrev pub IsAccepted : Files → Job → Type 0
 IsAccepted held (jobs.Write show input) = IsHeld held input IsProgram
 IsAccepted held (jobs.Answer show input) = IsHeld held input (λ script. Unit {0})
@@ -147,5 +156,6 @@ IsAccepted held (jobs.WriteOver show input opening) =
 IsAccepted held (jobs.AnswerOver show input opening) =
     IsHeld held input (λ script. IsOpened held opening (λ b. FitAlone (texts_at_end (texts_in b) (commands_of script))))
 
+-- so for the job that the words request
 abbrev pub AreAccepted : List (List ℕ) → Files → Type 0
 AreAccepted words held = IsSomeAnd (job_in words) (IsAccepted held)

@@ -54,9 +54,11 @@ pub record Outside : Type 0 where
 
 -- ---- what was fetched
 
+-- a fetch of an input answered so, within the limit of inputs
 abbrev pub FetchesInput : Stored → Stored → Fetched → List ℕ → Type 0
 FetchesInput old new answer name = FetchedBy old.files (old.counts Input) (new.counts Input) name input_limit answer
 
+-- a fetch of a base answered so, within the limit of bases
 abbrev pub FetchesBase : Stored → Stored → Fetched → List ℕ → Type 0
 FetchesBase old new answer name = FetchedBy old.files (old.counts Base) (new.counts Base) name base_limit answer
 
@@ -64,18 +66,21 @@ FetchesBase old new answer name = FetchedBy old.files (old.counts Base) (new.cou
 abbrev pub HasInput : Stored → Stored → Job → List ℕ → Type 0
 HasInput old new job bytes = IsSomeAnd (input_in job) (FetchesInput old new (fetched.Got bytes))
 
+-- whatever its bytes are
 abbrev pub HasSomeInput : Stored → Stored → Job → Type 0
 HasSomeInput old new job = (bytes : List ℕ) × HasInput old new job bytes
 
--- its base was opened
+-- the file of a base was read as this one, or there is none
 abbrev pub Opens : Stored → Stored → BaseFile → Opening → Type 0
 Opens old new b opening = OpensBy old.files (old.counts Base) (new.counts Base) opening.name b
 
+-- the base of a job was opened, and holds only results of its own texts where it is to be verified
 abbrev pub HasBase : Stored → Stored → Job → BaseFile → Type 0
 HasBase old new job b = IsSomeAnd (opening_in job) (λ (o : Opening). Opens old new b o × IsVerified o.verify b)
 
 -- ---- a status with which a job ends before it writes, with its line on err
 
+-- the input is not got, with this answer
 abbrev pub LacksInput : Stored → Stored → Fetched → List ℕ → List ℕ → Job → Type 0
 LacksInput old new answer start text job = IsSomeAnd (input_in job) (λ name. FetchesInput old new answer name × (text ≡ naming start name))
 
@@ -113,6 +118,7 @@ LeavesOver b bytes text left (Count parts) = ⊥
 LeavesOver b bytes text left (WriteOver show input opening) = WritesOver show b bytes text left
 LeavesOver b bytes text left (AnswerOver show input opening) = AnswersOver show b bytes text left
 
+-- the input was got and the base opened, and this is written and left over them
 pub record WorksOver (old new : Stored) (job : Job) (text : List ℕ) (left : BaseFile) : Type 0 where
   pub bytes : List ℕ
   pub got : HasInput old new job bytes
@@ -135,6 +141,7 @@ IsNotKept old new line job =
 abbrev pub Untouched : Stored → Stored → Type 0
 Untouched old new = new.files ≡ old.files
 
+-- the job ends with this status before it writes, and with this line; no file has changed, but that a base that cannot be kept may hold anything
 abbrev pub StopsFor : Stored → Stored → Status → List ℕ → Job → Type 0
 StopsFor old new Done line job = ⊥
 StopsFor old new (Refused at code) line job = IsRefused old new at code line job × Untouched old new
@@ -204,6 +211,7 @@ OutputOf old new text (Count parts) = Counts parts text × Untouched old new
 OutputOf old new text (WriteOver show input opening) = Keeps old new (WriteOver show input opening) opening text
 OutputOf old new text (AnswerOver show input opening) = Keeps old new (AnswerOver show input opening) opening text
 
+-- what the job that the words request writes
 abbrev pub Outputs : List (List ℕ) → Stored → Stored → List ℕ → Type 0
 Outputs words old new text = HasJob words (OutputOf old new text)
 
@@ -236,6 +244,7 @@ abbrev pub CountsFor : Option Opening → Stored → Stored → Type 0
 CountsFor None old new = OnlyCounts old.counts new.counts Input
 CountsFor (Some opening) old new = (r : Role) → NoneFalls (old.counts r) (new.counts r)
 
+-- so for the job that the words request
 abbrev pub CountsBy : Option Job → Stored → Stored → Type 0
 CountsBy None old new = OnlyCounts old.counts new.counts Input
 CountsBy (Some job) old new = CountsFor (opening_in job) old new
