@@ -162,13 +162,13 @@ def has_subscript_too_many(data):
     """Whether a region of a base names a subscript that its variable does not have. No analysis makes such a region, a base may hold it, and no clause says what analyses make of it."""
     bases, layout = reference.load('base'), reference.load('layout')
     try:
-        base = bases.base_read(data, reference.WHOLE)
+        base = bases.base_read(data, reference.STAGE)
     except bases.BadBase:
         return False
     texts = dict(zip(base.names, base.modules))
     for stored in base.results:
         if stored.kind in bases.REGION_KINDS:
-            symbols = layout.symbols(bases.the_module(texts[stored.name], stored.name, reference.WHOLE))
+            symbols = layout.symbols(bases.the_module(texts[stored.name], stored.name, reference.STAGE))
             found = [region for regions in [stored.value.summary, *stored.value.at.values()] for region in regions]
             if any(has_more_than(rank_of(symbols, region.variable), region) for region in found):
                 return True
