@@ -11,7 +11,7 @@ import random
 import sys
 import types
 
-from affine_text import case_text, exact_text, row_text, system_text
+from affine_text import case_text, exact_text, row_text, system_text, var_text
 from reference import load, write_cases
 
 NAMES = ['I', 'J', 'K', 'L', 'M', 'N']
@@ -215,6 +215,49 @@ class Systems:
         given = self.model.System(tuple(rows), False)
         left, exact = self.affine.eliminate(self.affine.tidy(given), v)
         return case_text('eliminate', [v], [system_text(given)]), exact_text(exact, left)
+
+
+class Areas(Systems):
+    """Calls on a work area."""
+
+    def columns(self, systems):
+        """Columns that are enough for systems, or nearly."""
+        most = max(len({v for row in s.rows for v, _ in row.terms}) for s in systems)
+        return max(0, most + self.pick.choice([-1, 0, 0, 0, 1]))
+
+    def has_room(self, columns, sys_):
+        return len({v for row in sys_.rows for v, _ in row.terms}) <= columns
+
+    def eliminate_in(self):
+        """In an area of so many columns, one variable after another."""
+        names, given, sys_ = self.tidied()
+        columns = self.columns([sys_])
+        chosen = self.pick.sample(names, self.pick.randint(1, len(names)))
+        line = f'eliminate_in {columns}' + case_text('', chosen, [system_text(given)])
+        if not self.has_room(columns, sys_):
+            return line, 'no room'
+        exact = True
+        for var in chosen:
+            sys_, one = self.affine.eliminate(sys_, var)
+            exact = exact and one
+        return line, exact_text(exact, sys_)
+
+    def refuted_in(self):
+        """Of several systems, one after another in one area."""
+        systems = [self.tidied() for _ in range(self.pick.randint(1, 3))]
+        columns = self.columns([s for _, _, s in systems])
+        answers = ['no room' if not self.has_room(columns, s) else 'yes' if self.affine.refuted(s) else 'no' for _, _, s in systems]
+        return f'refuted_in {columns}' + case_text('', (), [system_text(given) for _, given, _ in systems]), ' , '.join(answers)
+
+    def crowded(self, lows, ups):
+        """An elimination with more than 512 pairs, and an equal row beside them."""
+        v, w, x = self.model.Cell(0), self.model.Cell(1), self.model.Cell(2)
+        rows = [self.affine.row_of(False, {v: -self.pick.randint(1, 9), w: k + 1}, k) for k in range(lows)]
+        rows += [self.affine.row_of(False, {v: self.pick.randint(1, 9), self.model.Phi(1): k + 1}, -k) for k in range(ups)]
+        rows.append(self.affine.row_of(True, {w: 1, x: -2}, 3))
+        given = self.model.System(tuple(rows), False)
+        left, exact = self.affine.eliminate(self.affine.tidy(given), v)
+        return f'eliminate_in 4 {var_text(v)} ; {system_text(given)}', exact_text(exact, left)
 
 
 class Namings(Systems):
@@ -505,6 +548,14 @@ BY_HAND = [
     ('refuted ;', 'no'),
     ('refuted ; 1 c0 -1 c1 <= 0 , 1 c1 -1 c2 <= 0 , -1 c0 1 c2 <= -1', 'yes'),
     ('refuted ; -1 c0 <= 0 , -1 c1 <= 0 , 2 c0 3 c1 <= 5', 'no'),
+    # an area of one column has no room for two variables, and room for one; of two columns for two variables twice, and then for none
+    ('eliminate_in 1 c0 ; -1 c0 <= -1 , 1 c0 -1 c1 <= 0', 'no room'),
+    ('eliminate_in 1 c0 ; -1 c0 <= -1 , 1 c0 <= 4', 'exact ; '),
+    ('eliminate_in 3 c0 ; -2 c0 1 c1 <= 0 , 3 c0 -1 c2 <= 0', 'not exact ; 3 c1 -2 c2 <= 0'),
+    ('eliminate_in 0 c0 ;', 'exact ; '),
+    ('eliminate_in 0 c0 ; <= -1', 'exact ; <= -1'),
+    ('refuted_in 2 ; 1 c0 -1 c1 <= 0 , -1 c0 1 c1 <= -1 ; 1 c0 -1 c2 <= 0 ; 1 c0 1 c1 1 c2 <= 0 ;', 'yes , no , no room , no'),
+    ('refuted_in 3 ; 1 c0 -1 c1 <= 0 , 1 c1 -1 c2 <= 0 , -1 c0 1 c2 <= -1', 'yes'),
     # what two rows say together, one less, the sum, and both sides of an equal row
     ('entails ; 1 c0 <= 3 , -1 c0 1 c1 <= 0 ; 1 c1 <= 3', 'yes'),
     ('entails ; 1 c0 <= 3 , -1 c0 1 c1 <= 0 ; 1 c1 <= 2', 'no'),
@@ -553,6 +604,7 @@ COUNTS = [('normalise', 150), ('tidy', 350), ('push_row', 120), ('meet', 120), (
 BATCHES = [('hull', 20), ('minus', 20), ('closure', 20)]
 
 FORMS = 700
+AREAS = [('eliminate_in', 150), ('refuted_in', 100)]
 NAMINGS = [('rename_all', 60), ('of_rows', 20), ('push_rows', 50), ('fresh_over', 20), ('text', 80)]
 
 
@@ -571,6 +623,12 @@ def dropped(seed, want):
         affine.reading()
         found += [sys_ for sys_, one, two in zip(given, with_drop, without) if two and not one]
     return [(case_text('refuted', (), [system_text(sys_)]), 'no') for sys_ in found[:want]]
+
+
+def area_cases(seed):
+    maker = Areas(f'{seed} areas')
+    cases = [getattr(maker, call)() for call, count in AREAS for _ in range(count)] + [maker.crowded(24, 26), maker.crowded(2, 300)]
+    return [case for case in cases if len(case[0]) + len(case[1]) < 40000]
 
 
 def batch(seed, call, number):
@@ -601,7 +659,7 @@ def main(seed='1'):
     cases = NAMED + [getattr(maker, call)() for call, count in COUNTS for _ in range(count)]
     cases += [maker.wide(24, 26), maker.wide(2, 300)] + dropped(seed, 8) + batches(seed)
     cases += [(' ; '.join(line), answer) for line, answer in Forms(seed).cases(FORMS)]
-    cases += BY_HAND + naming_cases(seed)
+    cases += BY_HAND + naming_cases(seed) + area_cases(seed)
     write_cases('cases_rows', [line + '\n' for line, _ in cases], [answer + '\n' for _, answer in cases])
     answers = [answer for _, answer in cases]
     counts = {word: sum(a.startswith(word) for a in answers) for word in ('yes', 'no', 'exact', 'not exact', 'nothing', 'too big')}

@@ -193,7 +193,7 @@ IMPORTS = [
     ('Rattle.f77_ast.specs.Steps', ['Faulty', 'OutOfTurns', 'Value', 'Text']),
     ('Rattle.f77_ast.specs.Runs', ['Gave', 'Broke']),
     ('Rattle.f77_ast.specs.Plans', ['Normal', 'Returned', 'Stopped']),
-    ('Rattle.f77_symbols.specs.declared.symbol.Place.TheVariants', 'place'),
+    ('Rattle.f77_ast.specs.declared.symbol.Place.TheVariants', 'place'),
     ('Rattle.call_graph.specs.declared.graph.Graph', ['Graph']),
     ('Rattle.f77_meaning.specs.Areas', ['Area', 'block', 'group', 'own', 'unit_at']),
     ('Rattle.f77_meaning.specs.Modules', ['Known']),

@@ -22,9 +22,9 @@ use Rattle.f77_ast.specs.Numbers.{is_true, unary_number, unary_tag, binary_numbe
 use Rattle.f77_ast.specs.Places.{Meant, Names, Places}
 use Rattle.f77_ast.specs.Values.{value}
 use Rattle.f77_ast.proofs.StepLaws.{Leads, leads_then}
-use Rattle.f77_symbols.specs.declared.constant.Constant.{Constant as Known}
-use Rattle.f77_symbols.specs.declared.constant.Constant.TheVariants as known
-use Rattle.f77_symbols.specs.Constants.{named_worth}
+use Rattle.f77_ast.specs.declared.constant.Constant.{Constant as Known}
+use Rattle.f77_ast.specs.declared.constant.Constant.TheVariants as known
+use Rattle.f77_ast.specs.Constants.{named_worth}
 use Rattle.affine_forms.specs.declared.affine.Affine.{Affine}
 use Rattle.affine_forms.specs.declared.conditions.Condition.{Condition}
 use Rattle.affine_forms.specs.Scalars.{Scalars}

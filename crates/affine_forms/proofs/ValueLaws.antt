@@ -16,11 +16,11 @@ use Rattle.f77_ast.specs.Numbers.{is_true, same_truth, unary_number, unary_tag, 
 use Rattle.f77_ast.specs.Places.{Meant, Constant, Variable, Function, Names, Places, element_in}
 use Rattle.f77_ast.specs.Values.{fault, given, read_unit, unit_after, element_unit, name_value, intrinsic_value, element_value, value, values}
 use Rattle.f77_ast.proofs.StepLaws.{Leads, leads_then}
-use Rattle.f77_symbols.specs.declared.constant.Constant.{Constant as Known}
-use Rattle.f77_symbols.specs.declared.constant.Constant.TheVariants as known
-use Rattle.f77_symbols.specs.declared.constant.Worth.{Worth}
-use Rattle.f77_symbols.specs.declared.constant.Worth.TheVariants.{Is, Faults, Varies}
-use Rattle.f77_symbols.specs.Constants.{number_of, is_logical, turns_logical, joins_logical, gives_logical, worth_as, unary_of, unary_worth, binary_of, binary_worth, named_worth, worth}
+use Rattle.f77_ast.specs.declared.constant.Constant.{Constant as Known}
+use Rattle.f77_ast.specs.declared.constant.Constant.TheVariants as known
+use Rattle.f77_ast.specs.declared.constant.Worth.{Worth}
+use Rattle.f77_ast.specs.declared.constant.Worth.TheVariants.{Is, Faults, Varies}
+use Rattle.f77_ast.specs.Constants.{number_of, is_logical, turns_logical, joins_logical, gives_logical, worth_as, unary_of, unary_worth, binary_of, binary_worth, named_worth, worth}
 use Rattle.affine_forms.specs.declared.affine.Affine.{Affine}
 use Rattle.affine_forms.specs.Scalars.{Scalars}
 use Rattle.affine_forms.specs.Forms.{affine_of, cell_form, name_form, constant_or, unary_form, binary_form}

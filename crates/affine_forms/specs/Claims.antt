@@ -11,8 +11,8 @@ use Rattle.f77_ast.specs.Places as meant
 use Rattle.f77_ast.specs.Values as values
 use Rattle.f77_ast.specs.Runs as run
 use Rattle.f77_ast.specs.Executions.{AtEndOf}
-use Rattle.f77_symbols.specs.declared.constant.Constant.{Constant}
-use Rattle.f77_symbols.specs.declared.constant.Constant.TheVariants as constant
+use Rattle.f77_ast.specs.declared.constant.Constant.{Constant}
+use Rattle.f77_ast.specs.declared.constant.Constant.TheVariants as constant
 use Rattle.affine_forms.specs.declared.affine.Affine.{Affine}
 use Rattle.affine_forms.specs.Scalars.{Scalars}
 use Rattle.affine_forms.specs.Forms.{affine_of}

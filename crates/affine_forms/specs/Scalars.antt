@@ -1,10 +1,10 @@
 -- What the names of a module stand for, as far as forms look: constants and tracked cells.
 use Rattle.std.specs.Prelude.{ℕ, List, map, Option, Some, None, Bool, false, if◌then◌else◌}
-use Rattle.f77_symbols.specs.declared.constant.Constant.{Constant}
-use Rattle.f77_symbols.specs.declared.symbol.Symbol.{Symbol}
-use Rattle.f77_symbols.specs.Symbols.{number_from, symbol_tree, value_in}
-use Rattle.f77_symbols.specs.Shared.{numbered}
-use Rattle.f77_symbols.specs.Index.{names_of}
+use Rattle.f77_ast.specs.declared.constant.Constant.{Constant}
+use Rattle.f77_ast.specs.declared.symbol.Symbol.{Symbol}
+use Rattle.f77_ast.specs.Symbols.{number_from, symbol_tree, value_in}
+use Rattle.f77_ast.specs.Shared.{numbered}
+use Rattle.f77_ast.specs.Index.{names_of}
 
 -- the value of a name that stands for a constant, and the number of a name that is a tracked cell
 pub record Scalars : Type 0 where

@@ -1,9 +1,9 @@
 //! Names of tracked cells.
 ghost use Rattle.std.specs.Prelude.{◌≡◌};
-ghost use Rattle.f77_symbols.specs.Index.{names_of};
+ghost use Rattle.f77_ast.specs.Index.{names_of};
 ghost use Rattle.affine_forms.specs.Scalars.{is_cell as is_cell_is, cell_in};
 
-use f77_symbols::Symbols;
+use f77_ast::Symbols;
 use fx_lists::{List, Text};
 
 /// Whether the symbol with a number, from 1, is an analysed scalar, by flags for the symbols in order. False where no

@@ -9,8 +9,7 @@ ghost use Rattle.affine_forms.specs.Conditions.{ConditionFits, of_truth as of_tr
 use crate::comparisons::{comparison, exactly, unknown};
 use crate::{Affine, affine_of, infeasible, no_rows};
 use affine_systems::{System, meet};
-use f77_ast::{BinaryOp, Expr, UnaryOp};
-use f77_symbols::{Constant, Constants, Symbols};
+use f77_ast::{BinaryOp, Constant, Constants, Expr, Symbols, UnaryOp};
 use fx_lists::List;
 use std::alloc::{AllocError as Memory, Global};
 

@@ -9,8 +9,7 @@ ghost use Rattle.affine_forms.specs.Forms.{IsSmallForm, affine, number_form as n
 use crate::{Affine, cell_of};
 use affine_systems::terms::{blend, combination};
 use affine_systems::{Term, Var};
-use f77_ast::{BinaryOp, Expr, UnaryOp};
-use f77_symbols::{Constant, Symbols, Worth, worth_of};
+use f77_ast::{BinaryOp, Constant, Expr, Symbols, UnaryOp, Worth, worth_of};
 use fx_lists::{List, Text};
 use std::alloc::{AllocError as Memory, Global};
 

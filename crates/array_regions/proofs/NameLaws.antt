@@ -2,9 +2,9 @@
 use Rattle.std.proofs.Common.{◌≡◌, ℕ, zero, suc, ◌-◌, Bool, true, false, Option, Some, None, List, [], ◌∷◌, ◌++◌, map, refl, append-nil, ap, sym, ◌∙◌}
 use Rattle.std.specs.Prelude.{if◌then◌else◌, nat_eq, slice_get}
 use Rattle.f77_ast.specs.Trees.{ExprTrees}
-use Rattle.f77_symbols.specs.declared.symbol.Symbol.{Symbol}
-use Rattle.f77_symbols.specs.Symbols.{SymbolTree, bound_tree, symbol_tree}
-use Rattle.f77_symbols.specs.Shared.{numbered, symbol_at}
+use Rattle.f77_ast.specs.declared.symbol.Symbol.{Symbol}
+use Rattle.f77_ast.specs.Symbols.{SymbolTree, bound_tree, symbol_tree}
+use Rattle.f77_ast.specs.Shared.{numbered, symbol_at}
 use Rattle.tracked_cells.specs.Standing.{has_bounds}
 use Rattle.call_translation.specs.Scopes.{ScopeTree}
 use Rattle.region_sets.specs.declared.region.Access.{Access}

@@ -5,7 +5,7 @@ use Rattle.affine_systems.specs.declared.row.Var.TheVariants.{Phi}
 use Rattle.affine_systems.specs.Points.{Point, HoldsAll}
 use Rattle.f77_ast.specs.Trees.{ExprTree, ExprTrees, ArmTree, ArmTrees}
 use Rattle.f77_ast.specs.Trees as tree
-use Rattle.f77_symbols.specs.Symbols.{BoundTree}
+use Rattle.f77_ast.specs.Symbols.{BoundTree}
 use Rattle.affine_forms.specs.declared.affine.Affine.{Affine}
 use Rattle.affine_forms.specs.Claims.{form_value}
 use Rattle.affine_forms.specs.Conditions.{condition_of}

@@ -2,7 +2,7 @@
 ghost use Rattle.std.specs.Prelude.{◌≡◌, ◌++◌, map, IfOk, IfSome, OnOk, option_to_list};
 ghost use Rattle.f77_ast.specs.Plain.{expr_trees};
 ghost use Rattle.f77_results.specs.Summaries.{summary_in};
-ghost use Rattle.f77_symbols.specs.Symbols.{symbol_tree};
+ghost use Rattle.f77_ast.specs.Symbols.{symbol_tree};
 ghost use Rattle.region_sets.specs.Regions.{RegionFits};
 ghost use Rattle.region_sets.specs.Sets.{SetFits};
 ghost use Rattle.call_equations.specs.Sides.{sides_tree};

@@ -1,6 +1,6 @@
 //! What a module accesses where it is entered, and what its callers see.
 ghost use Rattle.std.specs.Prelude.{◌≡◌, ◌+◌, ◌++◌, map, filter, IfOk, OnOk};
-ghost use Rattle.f77_symbols.specs.Symbols.{symbol_tree, bound_tree};
+ghost use Rattle.f77_ast.specs.Symbols.{symbol_tree, bound_tree};
 ghost use Rattle.call_translation.specs.Scopes.{scope_tree};
 ghost use Rattle.hull_projection.specs.Minus.{AllFit};
 ghost use Rattle.region_sets.specs.Regions.{RegionFits};
@@ -10,7 +10,7 @@ ghost use Rattle.array_regions.specs.Entry.{bounds_reads, symbols_reads, place_g
 use crate::reads::{push_maybe_reads, push_reads};
 use affine_systems::System;
 use call_translation::{CellScope, next_number};
-use f77_symbols::{Bound, Place, Symbols, Variable};
+use f77_ast::{Bound, Place, Symbols, Variable};
 use fx_lists::List;
 use region_sets::{
     Region, RegionSet, copy_region, has_none, named_cells, push_region, push_system, remade,

@@ -2,7 +2,7 @@
 ghost use Rattle.std.specs.Prelude.{◌≡◌, [], IfOk};
 ghost use Rattle.base_rows.specs.Distinct.{are_new};
 
-use f77_symbols::NameIndex;
+use f77_ast::NameIndex;
 use fx_lists::Text;
 use std::alloc::{AllocError as Memory, Global};
 

@@ -2,13 +2,13 @@
 ghost use Rattle.std.specs.Prelude.{◌≡◌, ◌<◌, ◌==◌, IfSome, length, position};
 ghost use Rattle.std.specs.List.{list_all};
 ghost use Rattle.serde_json.specs.View.{view};
-ghost use Rattle.f77_symbols.specs.Index.{names_of};
+ghost use Rattle.f77_ast.specs.Index.{names_of};
 ghost use Rattle.base_json.specs.Gives.{Gives};
 ghost use Rattle.base_rows.specs.Scopes.{in_name as in_name_is, is_name as is_name_is, scope_tree, number_of, cell_of, is_symbol as is_symbol_is, is_short_name as is_short_name_is, is_block as is_block_is, block_named as block_named_is, block_in as block_in_is, saved_named as saved_named_is, saved_at as saved_at_is, foreign_variable as foreign_variable_is, variable_named as variable_named_is, variable_of};
 
 use crate::Scope;
 use base_json::{Decode, Trouble, number_below, text_at};
-use f77_symbols::{Symbols, Variable};
+use f77_ast::{Symbols, Variable};
 use fx_lists::Text;
 use serde_json::Value;
 use std::alloc::Global;

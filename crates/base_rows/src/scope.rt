@@ -1,5 +1,5 @@
 //! What may be named in the JSON values of a module.
-use f77_symbols::Symbols;
+use f77_ast::Symbols;
 use std::collections::HashSet;
 
 /// What may be named.

@@ -1,7 +1,7 @@
 -- A base in the grammar is read again as it was written.
 use Rattle.std.proofs.Common.{◌≡◌, true, List, [], map, Some, None, option_map, option_and_then, Ok, Err, ap, ◌∙◌}
 use Rattle.std.specs.Prelude.{unwrap_or, slice_get}
-use Rattle.f77_symbols.specs.Symbols.{number_from}
+use Rattle.f77_ast.specs.Symbols.{number_from}
 use Rattle.base_json.specs.Shapes.{list_as, when, text_of}
 use Rattle.base_json.specs.Written.{list_data, text_data}
 use Rattle.base_rows.specs.Distinct.{are_new}

@@ -2,7 +2,7 @@
 use Rattle.std.proofs.Common.{◌≡◌, ℕ, zero, suc, List, [], ◌∷◌, map, Some, None, option_map, option_and_then, Bool, true, false, refl, sym, subst, ap, ◌∙◌, if◌then◌else◌}
 use Rattle.std.specs.Prelude.{slice_get, unwrap_or, bytes_eq}
 use Rattle.std.proofs.lemmas.Slice.Eq.{bytes_eq-Decides}
-use Rattle.f77_symbols.specs.Symbols.{number_from}
+use Rattle.f77_ast.specs.Symbols.{number_from}
 use Rattle.base_values.specs.Modules.{ModuleNames}
 use Rattle.base_values.specs.Naming.{Each, AreBytes, AreNames}
 use Rattle.base_values.proofs.Options.{and_then_some, map_some}

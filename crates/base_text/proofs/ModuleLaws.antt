@@ -9,9 +9,9 @@ use Rattle.f77_ast.specs.declared.places.Parsed.{Parsed}
 use Rattle.f77_ast.specs.DeclTrees.{ParsedTree}
 use Rattle.f77_ast.specs.PlainDecl.{parsed_tree}
 use Rattle.f77_parser.specs.Gives.{Refused}
-use Rattle.f77_symbols.specs.declared.symbol.Symbol.{Symbol}
-use Rattle.f77_symbols.specs.Symbols.{SymbolTree, symbol_tree}
-use Rattle.f77_symbols.specs.Index.{names_of as own_names}
+use Rattle.f77_ast.specs.declared.symbol.Symbol.{Symbol}
+use Rattle.f77_ast.specs.Symbols.{SymbolTree, symbol_tree}
+use Rattle.f77_ast.specs.Index.{names_of as own_names}
 use Rattle.f77_meaning.specs.Modules.{symbol_names}
 use Rattle.refusal_codes.specs.declared.refusal.Refusal.{Refusal}
 use Rattle.storage_layout.specs.Gives.{IsRefusal}

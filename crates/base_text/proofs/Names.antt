@@ -10,7 +10,7 @@ use Rattle.fixed_form.specs.Reading.{reading}
 use Rattle.f77_ast.specs.DeclTrees.{ParsedTree}
 use Rattle.f77_parser.specs.Gives.{Refused, and_then}
 use Rattle.f77_parser.specs.Modules.{parse_of}
-use Rattle.f77_symbols.specs.Symbols.{SymbolTree, number_from}
+use Rattle.f77_ast.specs.Symbols.{SymbolTree, number_from}
 use Rattle.f77_meaning.specs.Modules.{symbol_names}
 use Rattle.refusal_codes.specs.declared.refusal.Refusal.{Refusal}
 use Rattle.storage_layout.specs.Symbols.{symbols_of}

@@ -1,7 +1,7 @@
 -- Results in their order.
 use Rattle.std.proofs.Common.{◌≡◌, ℕ, List, Some, None, ap, length}
 use Rattle.std.specs.Prelude.{unwrap_or}
-use Rattle.f77_symbols.specs.Symbols.{number_from}
+use Rattle.f77_ast.specs.Symbols.{number_from}
 use Rattle.base_text.specs.declared.base.StoredResult.{StoredResult}
 use Rattle.base_text.specs.Order.{place_of}
 

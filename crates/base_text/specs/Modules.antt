@@ -2,8 +2,8 @@
 use Rattle.std.specs.Prelude.{ℕ, ◌&&◌, if◌then◌else◌, nat_le, nat_lt, bytes_eq, List, [], ◌∷◌, length, map, slice_get, Option, Some, None, option_map, option_and_then, Result, Ok, Err}
 use Rattle.f77_ast.specs.DeclTrees.{ParsedTree}
 use Rattle.f77_parser.specs.Gives.{Refused}
-use Rattle.f77_symbols.specs.Symbols.{number_from}
-use Rattle.f77_symbols.specs.Index.{names_of as own_names}
+use Rattle.f77_ast.specs.Symbols.{number_from}
+use Rattle.f77_ast.specs.Index.{names_of as own_names}
 use Rattle.f77_meaning.specs.Modules.{symbol_names}
 use Rattle.laws_database.specs.Texts.{ReadModule, module_read}
 use Rattle.base_json.specs.Shapes.{when}

@@ -9,7 +9,7 @@ use crate::modules::{Table, table_of, tables_of};
 use base_json::Trouble;
 use base_rows::are_distinct;
 use base_values::Numbers;
-use f77_symbols::Symbols;
+use f77_ast::Symbols;
 use fx_lists::{List, Text};
 use std::alloc::{AllocError as Memory, Global};
 use tracked_cells::Names;

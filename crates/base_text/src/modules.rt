@@ -9,9 +9,8 @@ ghost use Rattle.base_text.specs.Modules.{names_if, names_of, names_each, table_
 use crate::BaseModule;
 use base_json::Trouble;
 use base_values::{Numbers, numbers_in};
-use f77_ast::Parsed;
+use f77_ast::{Parsed, Symbols};
 use f77_parser::{ParseRefusal, parse};
-use f77_symbols::Symbols;
 use fixed_form::{ReadRefusal, statements};
 use fx_lists::{List, Text};
 use std::alloc::Global;

@@ -11,7 +11,7 @@ use crate::known::Known;
 use crate::{Base, BaseModule, StoredResult};
 use base_json::{Encode, list_value, text_value};
 use base_values::{kind_of, stored_value};
-use f77_symbols::Symbols;
+use f77_ast::Symbols;
 use fx_lists::{List, Text};
 use serde_json::{Value, json};
 use std::alloc::{AllocError as Memory, Global};

@@ -4,9 +4,9 @@ use Rattle.std.specs.Prelude.{slice_get, slice_index_or, nat_eq}
 use Rattle.std.proofs.lemmas.Bool.{false_from_ne_true}
 use Rattle.std.proofs.lemmas.Bool.Decides.{Decides-eqb}
 use Rattle.system_text.specs.SystemText.{name_at}
-use Rattle.f77_symbols.specs.declared.symbol.Symbol.{Symbol}
-use Rattle.f77_symbols.specs.Index.{names_of}
-use Rattle.f77_symbols.specs.Shared.{numbered}
+use Rattle.f77_ast.specs.declared.symbol.Symbol.{Symbol}
+use Rattle.f77_ast.specs.Index.{names_of}
+use Rattle.f77_ast.specs.Shared.{numbered}
 
 got_none : (ss : List Symbol) (k : ℕ) → slice_get ss k ≡ None → slice_index_or (names_of ss) k [] ≡ []
 got_none [] k e = refl

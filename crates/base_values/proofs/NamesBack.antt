@@ -11,9 +11,9 @@ use Rattle.std.proofs.lemmas.Slice.Eq.{bytes_eq-Decides}
 use Rattle.std.proofs.lemmas.Str.{chars-encodes}
 use lib.Utf8.{scalar, scalars, low_scalar}
 use Rattle.serde_json.specs.Data.{Data, string}
-use Rattle.f77_symbols.specs.declared.variable.Variable.{Variable}
-use Rattle.f77_symbols.specs.declared.variable.Variable.TheVariants.{Own, Block, Saved}
-use Rattle.f77_symbols.specs.Symbols.{number_from}
+use Rattle.f77_ast.specs.declared.variable.Variable.{Variable}
+use Rattle.f77_ast.specs.declared.variable.Variable.TheVariants.{Own, Block, Saved}
+use Rattle.f77_ast.specs.Symbols.{number_from}
 use Rattle.system_text.specs.SystemText.{name_at}
 use Rattle.base_json.specs.Shapes.{when, is_latin, latin, text_of}
 use Rattle.base_json.specs.Written.{text_data}

@@ -1,5 +1,5 @@
 -- What values in code stand for.
-use Rattle.f77_symbols.specs.Index.{names_of}
+use Rattle.f77_ast.specs.Index.{names_of}
 use Rattle.base_values.specs.declared.names.Names.{Names}
 use Rattle.base_values.specs.Modules.{ModuleNames}
 

@@ -16,7 +16,7 @@ use base_json::{
     text_value,
 };
 use base_rows::{Scope, is_block, system_value};
-use f77_symbols::Unit;
+use f77_ast::Unit;
 use fx_lists::List;
 use serde_json::{Value, json};
 use std::alloc::{AllocError as Memory, Global};

@@ -1,13 +1,13 @@
 //! Effects as JSON, and back.
-ghost use Rattle.f77_symbols.specs.Index.{names_of};
+ghost use Rattle.f77_ast.specs.Index.{names_of};
 ghost use Rattle.base_rows.specs.Scopes.{scope_tree};
 ghost use Rattle.base_values.specs.Read.{effects_of};
 ghost use Rattle.base_values.specs.Written.{effects_data};
 
 use crate::scope::{SymbolNames, ValueScope};
 use base_json::{Decode, Encode, Trouble, field, has_members, list_field, list_value};
+use f77_ast::Variable;
 use f77_results::EffectSet;
-use f77_symbols::Variable;
 use fx_lists::List;
 use serde_json::{Value, json};
 use std::alloc::{AllocError as Memory, Global};

@@ -2,7 +2,7 @@
 ghost use Rattle.std.specs.Prelude.{◌≡◌, IfOk, map, option_and_then};
 ghost use Rattle.serde_json.specs.Find.{as_str};
 ghost use Rattle.serde_json.specs.View.{view};
-ghost use Rattle.f77_symbols.specs.Index.{names_of};
+ghost use Rattle.f77_ast.specs.Index.{names_of};
 ghost use Rattle.region_sets.specs.declared.marks.Mark.TheVariants.{Parallel as parallel_is, Serial as serial_is};
 ghost use Rattle.base_json.specs.Gives.{Gives};
 ghost use Rattle.base_json.specs.Shapes.{each_as};
@@ -18,7 +18,7 @@ use base_json::{
     Decode, Encode, Trouble, decode_each, items_of, list_at, list_value, text_value, word,
 };
 use base_rows::variable_at;
-use f77_symbols::{Symbols, Variable};
+use f77_ast::{Symbols, Variable};
 use fx_lists::{List, Text};
 use region_sets::{Kinds, Mark, Private, Reason};
 use serde_json::{Value, json};

@@ -5,8 +5,7 @@ ghost use Rattle.f77_ast.specs.StatementNumbers.{list_numbers};
 ghost use Rattle.base_values.specs.Modules.{loops_in};
 
 use crate::statements::put_list;
-use f77_ast::{Stmt, StmtId};
-use f77_symbols::Symbols;
+use f77_ast::{Stmt, StmtId, Symbols};
 use fx_lists::List;
 use std::alloc::{AllocError as Memory, Global};
 

@@ -2,7 +2,7 @@
 ghost use Rattle.std.specs.Prelude.{◌≡◌, ◌++◌, ◌∷◌, [], IfOk, map, codes, option_and_then};
 ghost use Rattle.serde_json.specs.View.{view};
 ghost use Rattle.pipsmake_rules.specs.Kinds.{same_kind};
-ghost use Rattle.f77_symbols.specs.Index.{names_of};
+ghost use Rattle.f77_ast.specs.Index.{names_of};
 ghost use Rattle.region_sets.specs.Written.{access_text as access_text_is};
 ghost use Rattle.base_json.specs.Gives.{Gives};
 ghost use Rattle.base_json.specs.Shapes.{member_as, when};
@@ -20,7 +20,7 @@ use affine_forms::infeasible;
 use affine_systems::System;
 use base_json::{Decode, Encode, Trouble, field, has_members, list_at, list_value, word};
 use base_rows::{Scope, are_distinct, system_value};
-use f77_symbols::{Symbols, Variable};
+use f77_ast::{Symbols, Variable};
 use fx_lists::{List, Text};
 use pipsmake_rules::Kind;
 use region_sets::{Access, Region, RegionSet};

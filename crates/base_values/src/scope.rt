@@ -1,6 +1,6 @@
 //! What may be named in one result of a module.
 use base_rows::Scope;
-use f77_symbols::Symbols;
+use f77_ast::Symbols;
 use pipsmake_rules::Kind;
 
 /// What may be named in a result that is read.

@@ -1,13 +1,13 @@
 //! Variables as JSON.
 ghost use Rattle.std.specs.Prelude.{◌≡◌, ◌++◌, IfOk};
 ghost use Rattle.system_text.specs.SystemText.{name_at};
-ghost use Rattle.f77_symbols.specs.Index.{names_of};
+ghost use Rattle.f77_ast.specs.Index.{names_of};
 ghost use Rattle.region_sets.specs.Written.{name_text};
 ghost use Rattle.base_values.specs.Written.{variable_data};
 
 use crate::scope::SymbolNames;
 use base_json::{Encode, text_value};
-use f77_symbols::{Symbols, Variable};
+use f77_ast::{Symbols, Variable};
 use fx_lists::Text;
 use serde_json::Value;
 use std::alloc::{AllocError as Memory, Global};

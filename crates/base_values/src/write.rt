@@ -2,7 +2,7 @@
 ghost use Rattle.std.specs.Prelude.{◌≡◌, IfOk, map};
 ghost use Rattle.serde_json.specs.View.{view};
 ghost use Rattle.serde_json.specs.Written.{compact_text};
-ghost use Rattle.f77_symbols.specs.Index.{names_of};
+ghost use Rattle.f77_ast.specs.Index.{names_of};
 ghost use Rattle.base_rows.specs.Written.{system_data};
 ghost use Rattle.base_values.specs.Written.{at_data, all_data, results_data, entry_data, stored_data};
 
@@ -11,8 +11,8 @@ use crate::scope::SymbolNames;
 use affine_systems::System;
 use base_json::{Encode, list_value};
 use base_rows::system_value;
+use f77_ast::Symbols;
 use f77_results::{At, Results};
-use f77_symbols::Symbols;
 use fx_lists::Text;
 use serde_json::{Value, json};
 use std::alloc::{AllocError as Memory, Global};

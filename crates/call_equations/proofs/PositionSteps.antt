@@ -2,8 +2,8 @@
 use Rattle.std.proofs.Common.{◌≡◌, ℕ, suc, ◌+◌, ◌-◌, ◌≤◌, List, [], ◌∷◌, map, length, take, drop, get_or, Option, refl, sym, ap, ap₂, ◌∙◌, arith, add-one}
 use Rattle.affine_systems.specs.declared.row.Var.TheVariants.{Phi, Aux}
 use Rattle.affine_systems.specs.declared.row.Row.{Row}
-use Rattle.f77_symbols.specs.declared.symbol.Bound.{Bound}
-use Rattle.f77_symbols.specs.Symbols.{bound_tree}
+use Rattle.f77_ast.specs.declared.symbol.Bound.{Bound}
+use Rattle.f77_ast.specs.Symbols.{bound_tree}
 use Rattle.affine_forms.specs.declared.affine.Affine.{Affine}
 use Rattle.call_equations.specs.Sides.{SidesTree}
 use Rattle.call_equations.specs.Forms.{offset}

@@ -5,8 +5,8 @@ use Rattle.affine_systems.specs.Rows.{AllRows}
 use Rattle.affine_systems.specs.Given.{IsGiven}
 use Rattle.f77_ast.specs.declared.expr.Expr.{Expr, the_lemmas}
 use Rattle.f77_ast.specs.Plain.{expr_trees}
-use Rattle.f77_symbols.specs.declared.symbol.Bound.{Bound}
-use Rattle.f77_symbols.specs.Symbols.{bound_tree}
+use Rattle.f77_ast.specs.declared.symbol.Bound.{Bound}
+use Rattle.f77_ast.specs.Symbols.{bound_tree}
 use Rattle.f77_ast.proofs.Plainly.{expr_lists}
 use Rattle.affine_forms.specs.Forms.{affine, IsSmallForm}
 use Rattle.call_translation.proofs.Steps.{given-push}

@@ -3,9 +3,9 @@ ghost use Rattle.std.specs.Prelude.{◌≡◌, ◌+◌, suc, map, IfOk, IfSome, 
 ghost use Rattle.affine_systems.specs.Given.{AreSmall};
 ghost use Rattle.f77_ast.specs.Plain.{expr_tree};
 ghost use Rattle.f77_ast.specs.PlainStmt.{maybe_tree};
-ghost use Rattle.f77_symbols.specs.Symbols.{symbol_tree};
-ghost use Rattle.f77_symbols.specs.Shared.{place_at};
-ghost use Rattle.f77_symbols.specs.declared.symbol.Place.TheVariants.{Dummy};
+ghost use Rattle.f77_ast.specs.Symbols.{symbol_tree};
+ghost use Rattle.f77_ast.specs.Shared.{place_at};
+ghost use Rattle.f77_ast.specs.declared.symbol.Place.TheVariants.{Dummy};
 ghost use Rattle.affine_forms.specs.Forms.{IsSmallForm, affine_of as affine_of_is, cell_form as cell_form_is};
 ghost use Rattle.call_translation.specs.Scopes.{scope_tree};
 ghost use Rattle.call_equations.specs.Sides.{sides_tree};
@@ -16,8 +16,7 @@ use crate::forms::{number, sum_of, unless_among};
 use affine_forms::{Affine, affine_of, var_form};
 use affine_systems::{Term, Var};
 use call_translation::{CellScope, actual_of, tracked_at};
-use f77_ast::Expr;
-use f77_symbols::{Place, Symbols};
+use f77_ast::{Expr, Place, Symbols};
 use std::alloc::{AllocError as Memory, Global};
 
 /// The form of an expression in a module.

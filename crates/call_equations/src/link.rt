@@ -1,6 +1,6 @@
 //! Equations between the subscripts of a variable of the callee and of the variable of the caller that it is.
 use affine_systems::Row;
-use f77_symbols::Variable;
+use f77_ast::Variable;
 use fx_lists::List;
 
 /// The variable of the caller that a variable of the callee is, and what subscripts its elements have there.

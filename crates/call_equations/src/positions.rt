@@ -4,7 +4,7 @@ ghost use Rattle.affine_systems.specs.Given.{IsGiven};
 ghost use Rattle.affine_systems.specs.Rows.{AllRows};
 ghost use Rattle.f77_ast.specs.Plain.{expr_tree, expr_trees};
 ghost use Rattle.f77_ast.specs.PlainStmt.{maybe_tree};
-ghost use Rattle.f77_symbols.specs.Symbols.{bound_tree, symbol_tree, value_in};
+ghost use Rattle.f77_ast.specs.Symbols.{bound_tree, symbol_tree, value_in};
 ghost use Rattle.affine_systems.specs.declared.row.Var.TheVariants.{Phi, Aux};
 ghost use Rattle.affine_forms.specs.Forms.{IsSmallForm, affine_of as affine_of_is};
 ghost use Rattle.call_equations.specs.Forms.{offset as offset_is};
@@ -20,8 +20,7 @@ use crate::forms::{equation, is_zero, less, number, offset, sum_of, zero};
 use crate::rows::next_dimension;
 use affine_forms::Affine;
 use affine_systems::{Row, Var};
-use f77_ast::Expr;
-use f77_symbols::{Bound, Constant, Symbols, Worth, worth_of};
+use f77_ast::{Bound, Constant, Expr, Symbols, Worth, worth_of};
 use fx_lists::List;
 use std::alloc::{AllocError as Memory, Global};
 

@@ -4,7 +4,7 @@ ghost use Rattle.affine_systems.specs.Given.{IsGiven};
 ghost use Rattle.affine_systems.specs.Rows.{AllRows};
 ghost use Rattle.f77_ast.specs.Plain.{expr_tree, expr_trees};
 ghost use Rattle.f77_ast.specs.PlainStmt.{maybe_tree};
-ghost use Rattle.f77_symbols.specs.Symbols.{bound_tree, symbol_tree, value_in};
+ghost use Rattle.f77_ast.specs.Symbols.{bound_tree, symbol_tree, value_in};
 ghost use Rattle.affine_forms.specs.Forms.{IsSmallForm};
 ghost use Rattle.call_translation.specs.Scopes.{scope_tree};
 ghost use Rattle.call_equations.specs.Rows.{constant_form as constant_form_is, low_rows, high_rows, high_form as high_form_is, bound_rows, dimension_rows, subscript_rows, all_affine as all_affine_is, bounds_rows as bounds_rows_is};
@@ -12,8 +12,7 @@ ghost use Rattle.call_equations.specs.Rows.{constant_form as constant_form_is, l
 use affine_forms::{Affine, affine_of, at_most_row, same_row, var_form};
 use affine_systems::{Row, Var};
 use call_translation::CellScope;
-use f77_ast::Expr;
-use f77_symbols::{Bound, Constant, Symbols, Worth, worth_of};
+use f77_ast::{Bound, Constant, Expr, Symbols, Worth, worth_of};
 use fx_lists::List;
 use std::alloc::{AllocError as Memory, Global};
 

@@ -1,15 +1,14 @@
 //! A CALL with the two modules that it joins, and what is known of both.
 ghost use Rattle.std.specs.Prelude.{◌≡◌, map, IfOk};
 ghost use Rattle.std.specs.List.{list_any};
-ghost use Rattle.f77_symbols.specs.Symbols.{symbol_tree};
+ghost use Rattle.f77_ast.specs.Symbols.{symbol_tree};
 ghost use Rattle.tracked_cells.specs.Standing.{is_int_scalar as is_int_scalar_is};
 ghost use Rattle.tracked_cells.specs.Tracked.{is_unit};
 ghost use Rattle.call_equations.specs.Sides.{is_entry_place as is_entry_place_is, is_entry_cell as is_entry_cell_is, entry_cells as entry_cells_is, changed_cells as changed_cells_is};
 
 use call_translation::CellScope;
-use f77_ast::{Expr, Scalar};
+use f77_ast::{Expr, Place, Scalar, Symbol, Symbols, Unit};
 use f77_results::Results;
-use f77_symbols::{Place, Symbol, Symbols, Unit};
 use fx_lists::{List, Text};
 use std::alloc::{AllocError as Memory, Global};
 use tracked_cells::has_bounds;

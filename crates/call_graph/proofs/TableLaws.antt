@@ -4,7 +4,7 @@ use Rattle.std.specs.Prelude.{nat_eq, nat_lt, if◌then◌else◌}
 use Rattle.std.specs.List.{list_any}
 use Rattle.std.proofs.lemmas.Bool.Decides.{nat_tests}
 use Rattle.f77_ast.specs.DeclTrees.{ParsedTree}
-use Rattle.f77_symbols.specs.Symbols.{number_from}
+use Rattle.f77_ast.specs.Symbols.{number_from}
 use Rattle.call_graph.specs.declared.calls.Called.{Called}
 use Rattle.call_graph.specs.Recursion.{callees_at, leads, reaches, is_back, cyclic_in, cyclic_at, cyclic_from}
 use Rattle.call_graph.specs.Tables.{cell, longer_cell, row_from, rows_from, longer, table_after}

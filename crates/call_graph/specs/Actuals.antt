@@ -8,9 +8,9 @@ use Rattle.f77_ast.specs.declared.expr.BinaryOp.{BinaryOp}
 use Rattle.f77_ast.specs.declared.expr.BinaryOp.TheVariants as binary_op
 use Rattle.f77_ast.specs.Trees.{ExprTree, ExprTrees}
 use Rattle.f77_ast.specs.Trees as tree
-use Rattle.f77_symbols.specs.declared.symbol.Place.{Place}
-use Rattle.f77_symbols.specs.declared.symbol.Place.TheVariants.{Local, Dummy, Block, Constant}
-use Rattle.f77_symbols.specs.Symbols.{SymbolTree}
+use Rattle.f77_ast.specs.declared.symbol.Place.{Place}
+use Rattle.f77_ast.specs.declared.symbol.Place.TheVariants.{Local, Dummy, Block, Constant}
+use Rattle.f77_ast.specs.Symbols.{SymbolTree}
 pub use Rattle.tracked_cells.specs.Standing.{has_bounds}
 use Rattle.call_graph.specs.declared.actuals.Offer.{Offer}
 use Rattle.call_graph.specs.declared.actuals.Offer.TheVariants.{Array, Element, Variable, Value}

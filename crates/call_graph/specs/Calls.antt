@@ -3,7 +3,7 @@ use Rattle.std.specs.Prelude.{ℕ, List, [], ◌∷◌, ◌++◌}
 use Rattle.f77_ast.specs.Trees.{StmtTree, WhatTree, ArmTree, ArmTrees, ElseTree, LoopTree, StmtTrees}
 use Rattle.f77_ast.specs.Trees as tree
 use Rattle.f77_ast.specs.DeclTrees.{ParsedTree}
-use Rattle.f77_symbols.specs.Symbols.{SymbolTree}
+use Rattle.f77_ast.specs.Symbols.{SymbolTree}
 use Rattle.call_graph.specs.declared.calls.Called.{Called}
 use Rattle.call_graph.specs.Actuals.{actuals_of}
 

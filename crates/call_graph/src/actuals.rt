@@ -2,12 +2,11 @@
 ghost use Rattle.std.specs.Prelude.{◌≡◌, map, IfOk};
 ghost use Rattle.std.specs.Option.{option_copied, option_map};
 ghost use Rattle.f77_ast.specs.Plain.{expr_tree, expr_trees};
-ghost use Rattle.f77_symbols.specs.Symbols.{symbol_tree};
+ghost use Rattle.f77_ast.specs.Symbols.{symbol_tree};
 ghost use Rattle.tracked_cells.specs.Standing.{has_bounds};
 ghost use Rattle.call_graph.specs.Actuals.{symbol_with_name, type_of_symbol, is_array, element_type, binary_type, unary_type, type_of, name_offer, offer_of, actual_of, actuals_of, fits, is_scalar_of, suits, all_fit};
 
-use f77_ast::{BinaryOp, Expr, Scalar, UnaryOp};
-use f77_symbols::{Place, Symbol, Symbols};
+use f77_ast::{BinaryOp, Expr, Place, Scalar, Symbol, Symbols, UnaryOp};
 use fx_lists::{List, Text};
 use std::alloc::{AllocError as Memory, Global};
 use tracked_cells::has_bounds;

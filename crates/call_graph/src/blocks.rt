@@ -1,12 +1,12 @@
 //! The COMMON blocks of a program and their sizes.
 ghost use Rattle.std.specs.Prelude.{◌≡◌, ◌+◌, [], map, IfOk};
-ghost use Rattle.f77_symbols.specs.Symbols.{symbol_tree};
-ghost use Rattle.f77_symbols.specs.Units.{units_in};
+ghost use Rattle.f77_ast.specs.Symbols.{symbol_tree};
+ghost use Rattle.f77_ast.specs.Units.{units_in};
 ghost use Rattle.call_graph.specs.Blocks.{block_grown, place_grown, symbols_grown, tables_grown, blocks_of};
 ghost use Rattle.call_graph.specs.Sizes.{entry_block, sized};
 
 use crate::graph::Block;
-use f77_symbols::{Place, Symbol, Symbols, units_of};
+use f77_ast::{Place, Symbol, Symbols, units_of};
 use fx_lists::{List, Text};
 use std::alloc::{AllocError as Memory, Global};
 use std::collections::BTreeMap;

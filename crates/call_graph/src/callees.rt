@@ -1,7 +1,7 @@
 //! Whether the CALLs of a program fit what they call.
 ghost use Rattle.std.specs.Prelude.{◌≡◌, ◌≤◌, ◌++◌, [], length, map, IfOk};
 ghost use Rattle.f77_ast.specs.PlainDecl.{parsed_tree, module_tree};
-ghost use Rattle.f77_symbols.specs.Symbols.{symbol_tree};
+ghost use Rattle.f77_ast.specs.Symbols.{symbol_tree};
 ghost use Rattle.call_graph.specs.Callees.{against, call_cause, first_in, unfit_from, place_put, found_put, places_of, all_places, edge_of, edges_of, all_edges};
 
 use crate::actuals::all_fit;
@@ -10,8 +10,7 @@ use crate::graph::Edge;
 use crate::modules::statement_line;
 use crate::order::holds;
 use crate::refusal::Fault;
-use f77_ast::{Module, Parsed, StmtId};
-use f77_symbols::Symbols;
+use f77_ast::{Module, Parsed, StmtId, Symbols};
 use fx_lists::{List, Text};
 use refusal_codes::Code;
 use std::alloc::{AllocError as Memory, Global};

@@ -2,12 +2,11 @@
 ghost use Rattle.std.specs.Prelude.{◌≡◌, map, IfOk};
 ghost use Rattle.f77_ast.specs.PlainStmt.{stmt_trees, what_tree, loop_tree, arm_trees};
 ghost use Rattle.f77_ast.specs.PlainDecl.{parsed_tree};
-ghost use Rattle.f77_symbols.specs.Symbols.{symbol_tree};
+ghost use Rattle.f77_ast.specs.Symbols.{symbol_tree};
 ghost use Rattle.call_graph.specs.Calls.{with_list, with_what, with_loop, with_arms, calls_of, all_calls};
 
 use crate::actuals::{Actual, actuals_of};
-use f77_ast::{Arm, Loop, Parsed, Stmt, StmtId, What};
-use f77_symbols::Symbols;
+use f77_ast::{Arm, Loop, Parsed, Stmt, StmtId, Symbols, What};
 use fx_lists::{List, Text};
 use std::alloc::{AllocError as Memory, Global};
 

@@ -1,6 +1,5 @@
 //! The graph of a program.
-use f77_ast::StmtId;
-use f77_symbols::Unit;
+use f77_ast::{StmtId, Unit};
 use fx_lists::{List, Text};
 
 /// A CALL: the name of the calling module, the number of the statement there, from 1, and the name of the called module.

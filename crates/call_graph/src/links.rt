@@ -1,7 +1,7 @@
 //! From the modules of a program to its graph.
 ghost use Rattle.std.specs.Prelude.{◌≡◌, ◌≤◌, length, map, IfOk};
 ghost use Rattle.f77_ast.specs.PlainDecl.{parsed_tree};
-ghost use Rattle.f77_symbols.specs.Symbols.{symbol_tree};
+ghost use Rattle.f77_ast.specs.Symbols.{symbol_tree};
 ghost use Rattle.call_graph.specs.Faults.{Gives};
 ghost use Rattle.call_graph.specs.Modules.{names_of};
 ghost use Rattle.call_graph.specs.Links.{program_calls, graph_from, module_fault, acyclic_of, joined_of, named_of, link_of};
@@ -14,8 +14,7 @@ use crate::modules::{main_twice, name_twice, no_main, too_many};
 use crate::order::names_in_order;
 use crate::recursion::recursion;
 use crate::refusal::{Fault, LinkRefusal, refusal_of};
-use f77_ast::Parsed;
-use f77_symbols::Symbols;
+use f77_ast::{Parsed, Symbols};
 use fx_lists::List;
 use std::alloc::{AllocError as Memory, Global};
 use tracked_cells::{Names, untracked_of};

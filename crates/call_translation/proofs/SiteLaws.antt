@@ -2,9 +2,9 @@
 use Rattle.std.proofs.Common.{◌≡◌, ℕ, Bool, List, [], ◌∷◌, ◌++◌, map, refl, sym, ap, ap₂, ◌∙◌}
 use Rattle.f77_ast.specs.Trees.{ExprTrees}
 use Rattle.f77_ast.specs.Plain.{expr_trees}
-use Rattle.f77_symbols.specs.declared.symbol.Symbol.{Symbol}
-use Rattle.f77_symbols.specs.Symbols.{SymbolTree, symbol_tree, value_in}
-use Rattle.f77_symbols.specs.Index.{names_of}
+use Rattle.f77_ast.specs.declared.symbol.Symbol.{Symbol}
+use Rattle.f77_ast.specs.Symbols.{SymbolTree, symbol_tree, value_in}
+use Rattle.f77_ast.specs.Index.{names_of}
 use Rattle.affine_forms.specs.Scalars.{cell_in}
 use Rattle.call_translation.specs.declared.sites.Site.{Site}
 use Rattle.call_translation.specs.Scopes.{ScopeTree, scope_tree}

@@ -6,8 +6,8 @@ use Rattle.affine_systems.specs.Rows.{AllRows}
 use Rattle.affine_systems.specs.Given.{IsGiven}
 use Rattle.system_renaming.specs.declared.naming.Naming.{Naming}
 use Rattle.system_renaming.specs.Renaming.{naming}
-use Rattle.f77_symbols.specs.declared.symbol.Symbol.{Symbol}
-use Rattle.f77_symbols.specs.Symbols.{symbol_tree}
+use Rattle.f77_ast.specs.declared.symbol.Symbol.{Symbol}
+use Rattle.f77_ast.specs.Symbols.{symbol_tree}
 use Rattle.call_translation.specs.Scopes.{ScopeTree}
 use Rattle.call_translation.specs.Variables.{auxiliary_of, auxiliaries_in}
 use Rattle.call_translation.specs.Sites.{HoldingSite}

@@ -7,10 +7,10 @@ use Rattle.system_renaming.specs.declared.naming.Naming.{Naming}
 use Rattle.system_renaming.specs.Renaming.{naming}
 use Rattle.f77_ast.specs.Trees.{ExprTrees}
 use Rattle.f77_ast.specs.Plain.{expr_trees}
-use Rattle.f77_symbols.specs.declared.symbol.Place.{Place}
-use Rattle.f77_symbols.specs.declared.symbol.Place.TheVariants.{Local, Dummy, Block, Constant}
-use Rattle.f77_symbols.specs.Symbols.{SymbolTree, symbol_tree}
-use Rattle.f77_symbols.specs.Shared.{place_at}
+use Rattle.f77_ast.specs.declared.symbol.Place.{Place}
+use Rattle.f77_ast.specs.declared.symbol.Place.TheVariants.{Local, Dummy, Block, Constant}
+use Rattle.f77_ast.specs.Symbols.{SymbolTree, symbol_tree}
+use Rattle.f77_ast.specs.Shared.{place_at}
 use Rattle.affine_forms.specs.declared.affine.Affine.{Affine}
 use Rattle.affine_forms.specs.Comparisons.{var_form, same_row}
 use Rattle.transformer_algebra.specs.Cells.{has}

@@ -2,10 +2,10 @@
 use Rattle.std.specs.Prelude.{ℕ, List, map, Bool}
 use Rattle.f77_ast.specs.declared.module.Module.{Module}
 use Rattle.f77_ast.specs.PlainDecl.{module_tree}
-use Rattle.f77_symbols.specs.declared.symbol.Symbol.{Symbol}
-use Rattle.f77_symbols.specs.declared.variable.Unit.{Unit as BlockUnit}
-use Rattle.f77_symbols.specs.Symbols.{SymbolTree, symbol_tree}
-use Rattle.f77_symbols.specs.Index.{names_of}
+use Rattle.f77_ast.specs.declared.symbol.Symbol.{Symbol}
+use Rattle.f77_ast.specs.declared.variable.Unit.{Unit as BlockUnit}
+use Rattle.f77_ast.specs.Symbols.{SymbolTree, symbol_tree}
+use Rattle.f77_ast.specs.Index.{names_of}
 use Rattle.tracked_cells.specs.Tracked.{tracked_of}
 use Rattle.affine_forms.specs.Scalars.{Scalars, scalars}
 

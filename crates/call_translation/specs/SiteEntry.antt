@@ -10,10 +10,10 @@ use Rattle.hull_projection.specs.Project.{project}
 use Rattle.system_renaming.specs.declared.naming.Naming.{Naming}
 use Rattle.system_renaming.specs.Renaming.{naming, renamed_by, rename_all, push_rows}
 use Rattle.system_renaming.specs.Fresh.{above_rows}
-use Rattle.f77_symbols.specs.declared.symbol.Place.{Place}
-use Rattle.f77_symbols.specs.declared.symbol.Place.TheVariants.{Local, Dummy, Block, Constant}
-use Rattle.f77_symbols.specs.Symbols.{SymbolTree}
-use Rattle.f77_symbols.specs.Shared.{place_at}
+use Rattle.f77_ast.specs.declared.symbol.Place.{Place}
+use Rattle.f77_ast.specs.declared.symbol.Place.TheVariants.{Local, Dummy, Block, Constant}
+use Rattle.f77_ast.specs.Symbols.{SymbolTree}
+use Rattle.f77_ast.specs.Shared.{place_at}
 use Rattle.affine_forms.specs.declared.affine.Affine.{Affine}
 use Rattle.affine_forms.specs.Scalars.{is_cell}
 use Rattle.affine_forms.specs.Comparisons.{var_form, same_row}

@@ -10,10 +10,10 @@ use Rattle.system_renaming.specs.declared.naming.Naming.{Naming}
 use Rattle.system_renaming.specs.Renaming.{rename_all, push_rows}
 use Rattle.system_renaming.specs.Fresh.{above_rows}
 use Rattle.f77_ast.specs.Trees.{ExprTrees}
-use Rattle.f77_symbols.specs.declared.symbol.Place.{Place}
-use Rattle.f77_symbols.specs.declared.symbol.Place.TheVariants.{Local, Dummy, Block, Constant}
-use Rattle.f77_symbols.specs.declared.variable.Unit.{Unit as BlockUnit}
-use Rattle.f77_symbols.specs.Shared.{place_at}
+use Rattle.f77_ast.specs.declared.symbol.Place.{Place}
+use Rattle.f77_ast.specs.declared.symbol.Place.TheVariants.{Local, Dummy, Block, Constant}
+use Rattle.f77_ast.specs.declared.variable.Unit.{Unit as BlockUnit}
+use Rattle.f77_ast.specs.Shared.{place_at}
 use Rattle.tracked_cells.specs.Scalars.{unit}
 use Rattle.transformer_algebra.specs.declared.transformer.Transformer.{Transformer}
 use Rattle.transformer_algebra.specs.Cells.{joined_cells}

@@ -2,8 +2,8 @@
 //! caller is lent to a dummy whose actual names it; where it is lent to several, the first of them has it.
 ghost use Rattle.std.specs.Prelude.{◌≡◌, map, IfOk, IfSome, option_copied};
 ghost use Rattle.affine_systems.specs.Given.{IsGiven};
-ghost use Rattle.f77_symbols.specs.Symbols.{symbol_tree};
-ghost use Rattle.f77_symbols.specs.Shared.{place_at};
+ghost use Rattle.f77_ast.specs.Symbols.{symbol_tree};
+ghost use Rattle.f77_ast.specs.Shared.{place_at};
 ghost use Rattle.affine_forms.specs.Forms.{IsSmallForm};
 ghost use Rattle.call_translation.specs.Actuals.{one_cell};
 ghost use Rattle.call_translation.specs.Call.{actual_cell as actual_cell_is, cell_at as cell_at_is, block_cell_at as block_cell_at_is, dummy_cell_at as dummy_cell_at_is, form_at as form_at_is, unless_among as unless_among_is, exit_of as exit_of_is, cell_or_aux as cell_or_aux_is, exit_or_aux as exit_or_aux_is, in_caller as in_caller_is, cell_lent_by as cell_lent_by_is, form_row as form_row_is, row_of as row_of_is, maybe_row, call_tree};
@@ -13,8 +13,7 @@ use crate::common::tracked_at;
 use crate::{CellScope, named_cell};
 use affine_forms::{Affine, same_row, var_form};
 use affine_systems::{Row, Var};
-use f77_ast::Expr;
-use f77_symbols::{Place, Symbols};
+use f77_ast::{Expr, Place, Symbols};
 use fx_lists::List;
 use std::alloc::{AllocError as Memory, Global};
 use transformer_algebra::has;

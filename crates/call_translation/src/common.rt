@@ -1,13 +1,13 @@
 //! What a module has at a unit of a block.
 ghost use Rattle.std.specs.Prelude.{◌≡◌, ◌&&◌, map, IfOk};
-ghost use Rattle.f77_symbols.specs.Symbols.{symbol_tree};
+ghost use Rattle.f77_ast.specs.Symbols.{symbol_tree};
 ghost use Rattle.tracked_cells.specs.Standing.{stands_at};
-ghost use Rattle.f77_symbols.specs.declared.symbol.Place.TheVariants.{Block};
+ghost use Rattle.f77_ast.specs.declared.symbol.Place.TheVariants.{Block};
 ghost use Rattle.call_translation.specs.Scopes.{scope_tree};
 ghost use Rattle.call_translation.specs.Common.{is_unit as is_unit_is, tracked_at as tracked_at_is, declares as declares_is};
 
 use crate::{CellScope, next_number};
-use f77_symbols::{Place, Symbol, Symbols, Unit};
+use f77_ast::{Place, Symbol, Symbols, Unit};
 use fx_lists::Text;
 use std::alloc::AllocError as Memory;
 use tracked_cells::reaches;

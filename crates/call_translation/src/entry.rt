@@ -2,7 +2,7 @@
 ghost use Rattle.std.specs.Prelude.{◌≡◌, ◌+◌, ◌++◌, map, IfOk, IfSome};
 ghost use Rattle.affine_systems.specs.Rows.{AllRows, renamed_row as renamed_row_is};
 ghost use Rattle.affine_systems.specs.Given.{IsGiven, IsSmallRow, Fits};
-ghost use Rattle.f77_symbols.specs.Symbols.{symbol_tree};
+ghost use Rattle.f77_ast.specs.Symbols.{symbol_tree};
 ghost use Rattle.system_renaming.specs.Renaming.{renamed_by};
 ghost use Rattle.call_translation.specs.Scopes.{scope_tree};
 ghost use Rattle.call_translation.specs.Sites.{site_tree};
@@ -16,8 +16,7 @@ use crate::variables::auxiliaries_in;
 use crate::{CellScope, Site, next_number};
 use affine_forms::{Affine, is_cell, no_rows, same_row, var_form};
 use affine_systems::{Row, System, Var};
-use f77_ast::Scalar;
-use f77_symbols::{Place, Symbol};
+use f77_ast::{Place, Scalar, Symbol};
 use fx_lists::List;
 use hull_projection::{add_rows, project};
 use std::alloc::{AllocError as Memory, Global};

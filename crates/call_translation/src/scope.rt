@@ -1,11 +1,11 @@
 //! The scope of a module: what its statements and its CALLs are looked at with.
 ghost use Rattle.std.specs.Prelude.{◌≡◌, map, IfOk};
 ghost use Rattle.f77_ast.specs.PlainDecl.{module_tree};
-ghost use Rattle.f77_symbols.specs.Symbols.{symbol_tree};
+ghost use Rattle.f77_ast.specs.Symbols.{symbol_tree};
 ghost use Rattle.tracked_cells.specs.Tracked.{tracked_of};
 
+use f77_ast::Symbols;
 use f77_results::View;
-use f77_symbols::Symbols;
 use fx_lists::List;
 use std::alloc::{AllocError as Memory, Global};
 use tracked_cells::tracked_flags;

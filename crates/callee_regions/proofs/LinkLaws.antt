@@ -15,7 +15,7 @@ use Rattle.affine_systems.proofs.NormalLaws.{Agrees, normal_agrees}
 use Rattle.affine_systems.proofs.CallLaws.{append_all, value-renamed}
 use Rattle.affine_systems.proofs.TermLaws.{var_eq-true}
 use Rattle.system_renaming.specs.Renaming.{renamed_by}
-use Rattle.f77_symbols.specs.declared.variable.Variable.{Variable}
+use Rattle.f77_ast.specs.declared.variable.Variable.{Variable}
 use Rattle.transformer_algebra.specs.Claims.{Scene}
 use Rattle.transformer_algebra.proofs.CellLaws.{clashes}
 use Rattle.region_sets.specs.Naming.{in_terms, in_rows}

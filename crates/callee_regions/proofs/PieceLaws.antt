@@ -10,10 +10,10 @@ use Rattle.affine_systems.specs.declared.row.System.{System}
 use Rattle.affine_systems.specs.Terms.{has_no_terms}
 use Rattle.affine_systems.specs.Points.{Point, Holds, HoldsAll}
 use Rattle.affine_systems.proofs.CallLaws.{append_all}
-use Rattle.f77_symbols.specs.declared.symbol.Place.{Place}
-use Rattle.f77_symbols.specs.declared.symbol.Place.TheVariants.{Local, Dummy, Block, Constant}
-use Rattle.f77_symbols.specs.Symbols.{SymbolTree}
-use Rattle.f77_symbols.specs.Shared.{symbol_at, place_of}
+use Rattle.f77_ast.specs.declared.symbol.Place.{Place}
+use Rattle.f77_ast.specs.declared.symbol.Place.TheVariants.{Local, Dummy, Block, Constant}
+use Rattle.f77_ast.specs.Symbols.{SymbolTree}
+use Rattle.f77_ast.specs.Shared.{symbol_at, place_of}
 use Rattle.tracked_cells.specs.Standing.{is_int_scalar}
 use Rattle.hull_projection.specs.Laws.{IsOneOf, DiffersAt}
 use Rattle.hull_projection.specs.Variables.{row_vars}

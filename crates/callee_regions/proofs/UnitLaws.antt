@@ -1,9 +1,9 @@
 -- Places of elements, one dimension before the others.
 use Rattle.std.proofs.Common.{◌≡◌, ℕ, suc, ◌+◌, Bool, List, ◌∷◌, map, Option, sym, ap, ◌∙◌, add-one}
-use Rattle.f77_symbols.specs.declared.constant.Constant.{Constant}
-use Rattle.f77_symbols.specs.Constants.{worth}
-use Rattle.f77_symbols.specs.declared.symbol.Bound.{Bound}
-use Rattle.f77_symbols.specs.Symbols.{bound_tree}
+use Rattle.f77_ast.specs.declared.constant.Constant.{Constant}
+use Rattle.f77_ast.specs.Constants.{worth}
+use Rattle.f77_ast.specs.declared.symbol.Bound.{Bound}
+use Rattle.f77_ast.specs.Symbols.{bound_tree}
 use Rattle.affine_forms.specs.declared.affine.Affine.{Affine}
 use Rattle.call_equations.specs.Rows.{constant_form}
 use Rattle.call_equations.specs.Forms.{offset}

@@ -3,7 +3,7 @@
 use Rattle.std.specs.Prelude.{◌≡◌, ℕ, true, false, Option, Some, ℤ}
 use Rattle.affine_systems.specs.declared.row.Var.TheVariants.{Cell, Phi, Aux}
 use Rattle.affine_systems.specs.Points.{Point, HoldsAll}
-use Rattle.f77_symbols.specs.Shared.{symbol_at}
+use Rattle.f77_ast.specs.Shared.{symbol_at}
 use Rattle.transformer_algebra.specs.Claims.{Scene}
 use Rattle.region_sets.specs.Claims.{HasSubscripts, Elements}
 use Rattle.call_equations.specs.Sides.{SidesTree}

@@ -4,12 +4,12 @@ use Rattle.affine_systems.specs.declared.row.Row.{Row}
 use Rattle.affine_systems.specs.Given.{IsGiven}
 use Rattle.affine_systems.specs.Rows.{AllRows}
 use Rattle.affine_systems.specs.declared.row.Var.TheVariants.{Phi, Aux}
-use Rattle.f77_symbols.specs.declared.symbol.Place.{Place}
-use Rattle.f77_symbols.specs.declared.symbol.Place.TheVariants.{Local, Dummy, Block, Constant}
-use Rattle.f77_symbols.specs.declared.variable.Variable.{Variable}
-use Rattle.f77_symbols.specs.declared.variable.Variable.TheVariants.{Own, Block as Whole, Saved}
-use Rattle.f77_symbols.specs.Symbols.{BoundTree, SymbolTree, number_from}
-use Rattle.f77_symbols.specs.Shared.{symbol_at}
+use Rattle.f77_ast.specs.declared.symbol.Place.{Place}
+use Rattle.f77_ast.specs.declared.symbol.Place.TheVariants.{Local, Dummy, Block, Constant}
+use Rattle.f77_ast.specs.declared.variable.Variable.{Variable}
+use Rattle.f77_ast.specs.declared.variable.Variable.TheVariants.{Own, Block as Whole, Saved}
+use Rattle.f77_ast.specs.Symbols.{BoundTree, SymbolTree, number_from}
+use Rattle.f77_ast.specs.Shared.{symbol_at}
 use Rattle.f77_results.specs.Variables.{variable_cmp}
 use Rattle.std.specs.Ordering.{is_eq}
 use Rattle.affine_forms.specs.declared.affine.Affine.{Affine}

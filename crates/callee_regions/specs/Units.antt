@@ -2,10 +2,10 @@
 use Rattle.std.specs.Prelude.{ℕ, suc, ◌+◌, min, max, Bool, true, nat_le, nat_lt, bytes_eq, if◌then◌else◌, List, [], ◌∷◌, Option, Some, pos}
 use Rattle.affine_systems.specs.declared.row.Var.{Var}
 use Rattle.affine_systems.specs.declared.row.Var.TheVariants.{Phi, Aux}
-use Rattle.f77_symbols.specs.declared.constant.Constant.{Constant}
-use Rattle.f77_symbols.specs.Constants.{worth}
-use Rattle.f77_symbols.specs.Symbols.{BoundTree, SymbolTree, value_in}
-use Rattle.f77_symbols.specs.Units.{units_in}
+use Rattle.f77_ast.specs.declared.constant.Constant.{Constant}
+use Rattle.f77_ast.specs.Constants.{worth}
+use Rattle.f77_ast.specs.Symbols.{BoundTree, SymbolTree, value_in}
+use Rattle.f77_ast.specs.Units.{units_in}
 use Rattle.call_graph.specs.declared.graph.Block.{Block}
 use Rattle.affine_forms.specs.declared.affine.Affine.{Affine}
 use Rattle.affine_forms.specs.Forms.{affine, limited, sum_of}

@@ -1,8 +1,8 @@
 //! Variables of the callee that have units of a block (ANSI X3.9-1978, §8.3).
 ghost use Rattle.std.specs.Prelude.{◌≡◌, ◌++◌, ◌&&◌, map, bytes_eq, IfOk, IfSome, OnOk};
-ghost use Rattle.f77_symbols.specs.Symbols.{symbol_tree};
-ghost use Rattle.f77_symbols.specs.declared.symbol.Place.TheVariants.{Block as AtBlock};
-ghost use Rattle.f77_symbols.specs.declared.variable.Variable.TheVariants.{Block as Whole};
+ghost use Rattle.f77_ast.specs.Symbols.{symbol_tree};
+ghost use Rattle.f77_ast.specs.declared.symbol.Place.TheVariants.{Block as AtBlock};
+ghost use Rattle.f77_ast.specs.declared.variable.Variable.TheVariants.{Block as Whole};
 ghost use Rattle.affine_forms.specs.Forms.{IsSmallForm};
 ghost use Rattle.call_equations.specs.Sides.{sides_tree};
 ghost use Rattle.callee_regions.specs.Units.{meet, units_of as units_of_is, size_in};
@@ -16,7 +16,7 @@ use call_equations::{CallSides, equation};
 use call_graph::{Block, Graph};
 use call_translation::next_number;
 use effects::first_like;
-use f77_symbols::{Place, Symbol, Symbols, Variable};
+use f77_ast::{Place, Symbol, Symbols, Variable};
 use fx_lists::Text;
 use std::alloc::{AllocError as Memory, Global};
 

@@ -2,7 +2,7 @@
 ghost use Rattle.std.specs.Prelude.{◌≡◌, ◌++◌, option_map, option_copied, option_to_list, IfOk, IfSome, OnOk};
 ghost use Rattle.affine_systems.specs.Given.{IsGiven};
 ghost use Rattle.affine_systems.specs.Rows.{AllRows};
-ghost use Rattle.f77_symbols.specs.Symbols.{symbol_tree};
+ghost use Rattle.f77_ast.specs.Symbols.{symbol_tree};
 ghost use Rattle.call_equations.specs.Links.{LinkFits as OuterFits};
 ghost use Rattle.call_equations.specs.Sides.{sides_tree};
 ghost use Rattle.callee_regions.specs.Units.{size_in};
@@ -14,8 +14,8 @@ use affine_systems::Row;
 use call_equations::{CallSides, Link, link_of, rank_of};
 use call_graph::Graph;
 use call_translation::next_number;
+use f77_ast::{Place, Symbol, Variable};
 use f77_results::order;
-use f77_symbols::{Place, Symbol, Variable};
 use fx_lists::{List, Text};
 use std::alloc::{AllocError as Memory, Global};
 use std::cmp::Ordering;

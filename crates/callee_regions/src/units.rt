@@ -1,8 +1,8 @@
 //! Units of a block, by the elements of its variables (ANSI X3.9-1978, §5.2.4, §8.3).
 ghost use Rattle.std.specs.Prelude.{◌≡◌, ◌^◌, ◌<◌, map, unsigned_abs, IfOk, IfSome};
 ghost use Rattle.f77_ast.specs.Plain.{expr_tree};
-ghost use Rattle.f77_symbols.specs.Constants.{worth};
-ghost use Rattle.f77_symbols.specs.Symbols.{bound_tree, symbol_tree, value_in};
+ghost use Rattle.f77_ast.specs.Constants.{worth};
+ghost use Rattle.f77_ast.specs.Symbols.{bound_tree, symbol_tree, value_in};
 ghost use Rattle.affine_forms.specs.Forms.{IsSmallForm};
 ghost use Rattle.call_equations.specs.Rows.{constant_form as constant_form_is};
 ghost use Rattle.call_equations.specs.Forms.{offset as offset_is};
@@ -14,7 +14,7 @@ use affine_systems::Var;
 use call_equations::{
     before_dimensions, constant_form, next_dimension, number, offset, size_of, sum_of, zero,
 };
-use f77_symbols::{Bound, Symbol, Symbols, units_of as units_taken, worth_of};
+use f77_ast::{Bound, Symbol, Symbols, units_of as units_taken, worth_of};
 use std::alloc::{AllocError as Memory, Global};
 
 /// The k-th subscript, of the caller's variable or of the callee's.

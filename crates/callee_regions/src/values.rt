@@ -2,8 +2,8 @@
 ghost use Rattle.std.specs.Prelude.{◌≡◌, ◌++◌, map, option_to_list, IfOk, IfSome, OnOk};
 ghost use Rattle.affine_systems.specs.Given.{IsGiven};
 ghost use Rattle.affine_systems.specs.Rows.{AllRows};
-ghost use Rattle.f77_symbols.specs.Symbols.{symbol_tree};
-ghost use Rattle.f77_symbols.specs.Shared.{symbol_at};
+ghost use Rattle.f77_ast.specs.Symbols.{symbol_tree};
+ghost use Rattle.f77_ast.specs.Shared.{symbol_at};
 ghost use Rattle.affine_forms.specs.Forms.{IsSmallForm};
 ghost use Rattle.call_equations.specs.Sides.{sides_tree};
 ghost use Rattle.callee_regions.specs.Values.{with_cells as with_cells_is, dummy_row as dummy_row_is, symbol_row as symbol_row_is, value_rows as value_rows_is, is_dummy_place as is_dummy_place_is, is_scalar_dummy as is_scalar_dummy_is, goes_away as goes_away_is, going_away as going_away_is};
@@ -12,7 +12,7 @@ use affine_forms::{Affine, var_form};
 use affine_systems::{Row, Var};
 use call_equations::{CallSides, actual_form, equation, is_int_scalar, named_form};
 use call_translation::next_number;
-use f77_symbols::{Place, Symbol, Symbols};
+use f77_ast::{Place, Symbol, Symbols};
 use fx_lists::List;
 use std::alloc::{AllocError as Memory, Global};
 

@@ -2,8 +2,7 @@
 
 use crate::shown::text_of;
 use call_graph::Graph;
-use f77_ast::Parsed;
-use f77_symbols::Symbols;
+use f77_ast::{Parsed, Symbols};
 use fx_lists::List;
 use std::alloc::{AllocError as Memory, Global};
 use tracked_cells::tracked_flags;

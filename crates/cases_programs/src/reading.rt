@@ -2,9 +2,8 @@
 ghost use Rattle.std.specs.Prelude.{◌≡◌, length};
 
 use call_graph::{Graph, LinkRefusal, link};
-use f77_ast::Parsed;
+use f77_ast::{Parsed, Symbols};
 use f77_parser::{ParseRefusal, parse};
-use f77_symbols::Symbols;
 use fixed_form::{ReadRefusal, statements};
 use fx_lists::{List, Text};
 use std::alloc::{AllocError as Memory, Global};

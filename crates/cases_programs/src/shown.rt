@@ -1,6 +1,6 @@
 //! Names as they are printed.
 
-use f77_symbols::Symbols;
+use f77_ast::Symbols;
 use fx_lists::Text;
 
 pub fn text_of(text: &Text) -> &str {

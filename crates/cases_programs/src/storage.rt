@@ -1,8 +1,7 @@
 //! The symbols of modules.
 
 use crate::shown::text_of;
-use f77_ast::Parsed;
-use f77_symbols::{Place, Symbol, Symbols, Variable, overlaps, units_of};
+use f77_ast::{Parsed, Place, Symbol, Symbols, Variable, overlaps, units_of};
 use fx_lists::List;
 use std::alloc::{AllocError as Memory, Global};
 use storage_layout::{LayoutRefusal, symbols};

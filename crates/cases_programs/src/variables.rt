@@ -1,8 +1,8 @@
 //! Variables as they are printed.
 
 use crate::shown::{name_of, text_of};
+use f77_ast::Symbols;
 use f77_results::Variable;
-use f77_symbols::Symbols;
 use std::alloc::{AllocError as Memory, Global};
 
 /// A blank and the name.

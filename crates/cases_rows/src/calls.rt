@@ -1,5 +1,6 @@
 //! What each call answers.
 
+use crate::area_calls::{eliminated_case, refuted_cases};
 use crate::form_calls::{condition_answer, form_answer};
 use crate::loop_calls::loop_answer;
 use crate::naming_calls::{all_pushed, all_renamed, fresh_case, variables_case};
@@ -26,6 +27,15 @@ fn scalar_call(alloc: Global, call: &str, words: &str, parts: &[&str]) -> Result
     }
 }
 
+/// The calls on a work area.
+fn area_call(alloc: Global, call: &str, words: &str, parts: &[&str]) -> Result<String, Trouble> {
+    match call {
+        "eliminate_in" => eliminated_case(alloc, words, parts),
+        "refuted_in" => refuted_cases(alloc, words, parts),
+        _ => scalar_call(alloc, call, words, parts),
+    }
+}
+
 /// The calls that make systems of rows of other systems.
 fn naming_call(alloc: Global, call: &str, words: &str, parts: &[&str]) -> Result<String, Trouble> {
     match call {
@@ -33,7 +43,7 @@ fn naming_call(alloc: Global, call: &str, words: &str, parts: &[&str]) -> Result
         "of_rows" => variables_case(alloc, parts),
         "push_rows" => all_pushed(alloc, parts),
         "fresh_over" => fresh_case(alloc, words, parts),
-        _ => scalar_call(alloc, call, words, parts),
+        _ => area_call(alloc, call, words, parts),
     }
 }
 

@@ -6,6 +6,7 @@
 //! one that is not tracked, and `N=5` or `L=T` for a constant; an expression has its operators behind the operands: `I 2 K mul add`.
 #![tactic(auto)]
 
+mod area_calls;
 mod calls;
 mod expressions;
 mod form_calls;

@@ -1,7 +1,6 @@
 //! Tables of symbols.
 use crate::trouble::Trouble;
-use f77_ast::Scalar;
-use f77_symbols::{Place, Symbol, Symbols};
+use f77_ast::{Place, Scalar, Symbol, Symbols};
 use fx_lists::{List, Text};
 use std::alloc::Global;
 

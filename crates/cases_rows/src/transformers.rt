@@ -4,7 +4,7 @@ ghost use Rattle.affine_systems.specs.Given.{Fits};
 
 use crate::rows::system_of;
 use crate::trouble::Trouble;
-use f77_symbols::Unit;
+use f77_ast::Unit;
 use fx_lists::{List, Text};
 use std::alloc::Global;
 use transformer_algebra::{Transformer, joined_cells, joined_units};

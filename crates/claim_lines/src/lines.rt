@@ -1,14 +1,14 @@
 //! The lines of a module.
 ghost use Rattle.std.specs.Prelude.{◌≡◌, ◌++◌, map, IfOk};
 ghost use Rattle.f77_ast.specs.PlainStmt.{stmt_trees};
-ghost use Rattle.f77_symbols.specs.Index.{names_of};
+ghost use Rattle.f77_ast.specs.Index.{names_of};
 ghost use Rattle.claim_lines.specs.ScalarLines.{entry_lines, scalar_lines_of};
 
 use crate::statement::{Said, put_changes, put_list};
 use affine_systems::System;
+use f77_ast::Symbols;
 use f77_printer::Added;
 use f77_results::{Results, View};
-use f77_symbols::Symbols;
 use fx_lists::{List, Text};
 use std::alloc::{AllocError as Memory, Global};
 use system_text::precondition_line;

@@ -9,8 +9,8 @@ use Rattle.affine_systems.specs.declared.row.System.{System}
 use Rattle.hull_projection.specs.Refute.{refuted}
 use Rattle.hull_projection.proofs.RefuteLaws.{refuted_none}
 use Rattle.f77_ast.specs.Trees.{LoopTree}
-use Rattle.f77_symbols.specs.Symbols.{SymbolTree}
-use Rattle.f77_symbols.specs.declared.variable.Variable.{Variable}
+use Rattle.f77_ast.specs.Symbols.{SymbolTree}
+use Rattle.f77_ast.specs.declared.variable.Variable.{Variable}
 use Rattle.f77_results.specs.Variables.{variable_cmp}
 use Rattle.transformer_algebra.specs.Cells.{has}
 use Rattle.transformer_algebra.specs.Laws.{In, here, there}

@@ -3,8 +3,8 @@ use Rattle.std.specs.Prelude.{Bool, List, [], ◌∷◌, Option, Some, None, if�
 use Rattle.affine_systems.specs.declared.row.System.{System}
 use Rattle.hull_projection.specs.Refute.{refuted}
 use Rattle.f77_ast.specs.Trees.{LoopTree}
-use Rattle.f77_symbols.specs.Symbols.{SymbolTree}
-use Rattle.f77_symbols.specs.declared.variable.Variable.{Variable}
+use Rattle.f77_ast.specs.Symbols.{SymbolTree}
+use Rattle.f77_ast.specs.declared.variable.Variable.{Variable}
 use Rattle.region_sets.specs.declared.marks.Kinds.{Kinds}
 use Rattle.region_sets.specs.declared.region.Region.{Region}
 use Rattle.loop_bodies.specs.Same.{same_variable}

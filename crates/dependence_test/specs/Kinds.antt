@@ -1,8 +1,8 @@
 -- The accesses of two iterations between which there is a dependence, and the variables.
 use Rattle.std.specs.Prelude.{Bool, true, false, ◌&&◌, ◌||◌, List}
-use Rattle.f77_symbols.specs.Symbols.{SymbolTree}
-use Rattle.f77_symbols.specs.Shared.{overlap}
-use Rattle.f77_symbols.specs.declared.variable.Variable.{Variable}
+use Rattle.f77_ast.specs.Symbols.{SymbolTree}
+use Rattle.f77_ast.specs.Shared.{overlap}
+use Rattle.f77_ast.specs.declared.variable.Variable.{Variable}
 use Rattle.region_sets.specs.declared.marks.Kinds.{Kinds}
 use Rattle.region_sets.specs.declared.marks.Kinds.TheVariants.{WriteRead, ReadWrite, WriteWrite}
 use Rattle.region_sets.specs.declared.region.Access.{Access}

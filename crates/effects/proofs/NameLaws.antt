@@ -2,10 +2,10 @@
 use Rattle.std.proofs.Common.{◌≡◌, ℕ, zero, suc, ◌+◌, ◌-◌, ◌≤◌, Bool, true, false, List, [], ◌∷◌, map, Option, Some, None, refl, sym, ap, ◌∙◌, arith, subst}
 use Rattle.std.specs.Prelude.{if◌then◌else◌, bytes_eq, nat_eq, slice_get, option_map}
 use Rattle.std.proofs.lemmas.Bool.{eqb-true}
-use Rattle.f77_symbols.specs.declared.symbol.Symbol.{Symbol}
-use Rattle.f77_symbols.specs.Symbols.{SymbolTree, number_from, symbol_tree}
-use Rattle.f77_symbols.specs.Shared.{numbered}
-use Rattle.f77_symbols.specs.Index.{names_of}
+use Rattle.f77_ast.specs.declared.symbol.Symbol.{Symbol}
+use Rattle.f77_ast.specs.Symbols.{SymbolTree, number_from, symbol_tree}
+use Rattle.f77_ast.specs.Shared.{numbered}
+use Rattle.f77_ast.specs.Index.{names_of}
 use Rattle.effects.specs.Names.{variable_number, number_of}
 
 -- a name without a symbol

@@ -1,12 +1,12 @@
 -- What a module reads and writes, at each statement and as its callers see it.
 use Rattle.std.specs.Prelude.{ℕ, Bool, true, false, List, [], ◌∷◌, filter, Option, Some, None}
 use Rattle.f77_ast.specs.Trees.{ExprTree, StmtTrees}
-use Rattle.f77_symbols.specs.declared.symbol.Place.{Place}
-use Rattle.f77_symbols.specs.declared.symbol.Place.TheVariants.{Local, Dummy, Block, Constant}
-use Rattle.f77_symbols.specs.declared.variable.Variable.{Variable}
-use Rattle.f77_symbols.specs.declared.variable.Variable.TheVariants.{Own, Block as Whole, Saved}
-use Rattle.f77_symbols.specs.Symbols.{BoundTree, SymbolTree}
-use Rattle.f77_symbols.specs.Shared.{symbol_at}
+use Rattle.f77_ast.specs.declared.symbol.Place.{Place}
+use Rattle.f77_ast.specs.declared.symbol.Place.TheVariants.{Local, Dummy, Block, Constant}
+use Rattle.f77_ast.specs.declared.variable.Variable.{Variable}
+use Rattle.f77_ast.specs.declared.variable.Variable.TheVariants.{Own, Block as Whole, Saved}
+use Rattle.f77_ast.specs.Symbols.{BoundTree, SymbolTree}
+use Rattle.f77_ast.specs.Shared.{symbol_at}
 use Rattle.f77_results.specs.declared.effect_set.EffectSet.{EffectSet}
 use Rattle.f77_results.specs.declared.results.Results.{Results}
 use Rattle.f77_results.specs.Variables.{union}

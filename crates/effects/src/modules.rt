@@ -1,15 +1,15 @@
 //! The effects of a module, at each statement and as its callers see it.
 ghost use Rattle.std.specs.Prelude.{◌≡◌, ◌++◌, [], map, filter, IfOk};
 ghost use Rattle.f77_ast.specs.PlainStmt.{stmt_trees};
-ghost use Rattle.f77_symbols.specs.Symbols.{symbol_tree, bound_tree};
+ghost use Rattle.f77_ast.specs.Symbols.{symbol_tree, bound_tree};
 ghost use Rattle.f77_results.specs.Summaries.{summary_in};
 ghost use Rattle.effects.specs.Modules.{place_goes_out, goes_out, with_bounds, with_symbols, summary_of, cumulated_of};
 
 use crate::list::with_list;
 use crate::reads::reads;
 use crate::statement::step_reads;
+use f77_ast::{Bound, Place, Symbol, Symbols};
 use f77_results::{EffectSet, Results, Summaries, Variable, View, copy_variable, union};
-use f77_symbols::{Bound, Place, Symbol, Symbols};
 use fx_lists::List;
 use std::alloc::{AllocError as Memory, Global};
 

@@ -1,13 +1,12 @@
 //! The variables that names and expressions name.
 ghost use Rattle.std.specs.Prelude.{◌≡◌, map, IfOk, option_copied, option_map};
 ghost use Rattle.f77_ast.specs.Plain.{expr_tree};
-ghost use Rattle.f77_symbols.specs.Symbols.{symbol_tree};
+ghost use Rattle.f77_ast.specs.Symbols.{symbol_tree};
 ghost use Rattle.call_graph.specs.Actuals.{is_array};
 ghost use Rattle.effects.specs.Names.{symbol_of, variable_number, number_of, own, one, array, variable_named};
 
-use f77_ast::Expr;
+use f77_ast::{Expr, Place, Symbol, Symbols};
 use f77_results::Variable;
-use f77_symbols::{Place, Symbol, Symbols};
 use fx_lists::{List, Text};
 use std::alloc::{AllocError as Memory, Global};
 use tracked_cells::has_bounds;

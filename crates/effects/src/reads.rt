@@ -1,13 +1,12 @@
 //! The variables that are read where expressions are evaluated. Lists are in `order` and without repeats.
 ghost use Rattle.std.specs.Prelude.{◌≡◌, [], map, IfOk};
 ghost use Rattle.f77_ast.specs.Plain.{expr_tree, expr_trees};
-ghost use Rattle.f77_symbols.specs.Symbols.{symbol_tree};
+ghost use Rattle.f77_ast.specs.Symbols.{symbol_tree};
 ghost use Rattle.effects.specs.Reads.{reads, with_reads, inner_reads, actual_reads, with_actuals, with_items, with_named};
 
 use crate::names::{array, own, variable_named};
-use f77_ast::Expr;
+use f77_ast::{Expr, Symbols};
 use f77_results::{Variable, union};
-use f77_symbols::Symbols;
 use fx_lists::List;
 use std::alloc::{AllocError as Memory, Global};
 

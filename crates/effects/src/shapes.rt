@@ -1,11 +1,10 @@
 //! Which variables of a block are the same in two modules.
 ghost use Rattle.std.specs.Prelude.{◌≡◌, ◌+◌, map, IfOk};
 ghost use Rattle.f77_ast.specs.PlainStmt.{maybe_tree};
-ghost use Rattle.f77_symbols.specs.Symbols.{symbol_tree, bound_tree, value_in};
+ghost use Rattle.f77_ast.specs.Symbols.{symbol_tree, bound_tree, value_in};
 ghost use Rattle.effects.specs.Callee.{same_scalar, same_number, same_high, same_bound, same_bounds, is_at, is_like, first_like};
 
-use f77_ast::{Expr, Scalar};
-use f77_symbols::{Bound, Constant, Place, Symbol, Symbols, Worth, worth_of};
+use f77_ast::{Bound, Constant, Expr, Place, Scalar, Symbol, Symbols, Worth, worth_of};
 use fx_lists::Text;
 use std::alloc::AllocError as Memory;
 

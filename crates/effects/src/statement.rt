@@ -3,15 +3,14 @@ ghost use Rattle.std.specs.Prelude.{◌≡◌, [], map, IfOk};
 ghost use Rattle.f77_ast.specs.Plain.{expr_tree, expr_trees};
 ghost use Rattle.f77_ast.specs.PlainStmt.{maybe_tree, what_tree, loop_tree, arm_trees};
 ghost use Rattle.f77_ast.specs.Trees.{assign, print, read};
-ghost use Rattle.f77_symbols.specs.Symbols.{symbol_tree};
+ghost use Rattle.f77_ast.specs.Symbols.{symbol_tree};
 ghost use Rattle.effects.specs.Reads.{with_reads, with_items, with_named};
 ghost use Rattle.effects.specs.Statement.{effect, ends, with_tests, step_reads, loop_effect, proper_of};
 
 use crate::names::{own, variable_named};
 use crate::reads::{actuals_reads, inner_reads, items_named, items_reads, reads, with_reads};
-use f77_ast::{Arm, Expr, Loop, Stmt, What};
+use f77_ast::{Arm, Expr, Loop, Stmt, Symbols, What};
 use f77_results::{EffectSet, Variable, View, union};
-use f77_symbols::Symbols;
 use fx_lists::List;
 use std::alloc::{AllocError as Memory, Global};
 

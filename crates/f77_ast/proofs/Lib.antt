@@ -1,3 +1,11 @@
+mod ConstantsExample
+mod SymbolExample
+pub mod UnitsLaws
+pub mod NumbersLaws
+pub mod ValueLaws
+pub mod SharingLaws
+mod StorageExample
+pub mod StorageLaws
 pub mod Plainly
 pub mod PlainlyStmt
 pub mod PlainlyDecl

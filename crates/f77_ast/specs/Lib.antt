@@ -1,3 +1,9 @@
+pub mod Constants
+pub mod Symbols
+pub mod Index
+pub mod Units
+pub mod Shared
+pub mod Storages
 pub mod Trees
 pub mod DeclTrees
 pub mod Plain

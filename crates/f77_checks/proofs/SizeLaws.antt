@@ -6,7 +6,7 @@ use Rattle.std.proofs.lemmas.Bool.Decides.{eqb_tells, nat_tests}
 use Rattle.std.proofs.Math.Nat.{le-mul_of_pos_right, mul_assoc}
 use Rattle.f77_ast.specs.Places.{Dim, dim_size, total_size}
 use Rattle.f77_ast.proofs.PlainlyDecl.{decl_lists}
-use Rattle.f77_symbols.specs.Symbols.{BoundTree}
+use Rattle.f77_ast.specs.Symbols.{BoundTree}
 use Rattle.f77_checks.specs.Dimensions.{is_last, with_dim, is_too_big}
 use Rattle.f77_checks.specs.Sizes.{capped, capped_units, is_above}
 

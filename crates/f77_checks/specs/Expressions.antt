@@ -2,7 +2,7 @@
 use Rattle.std.specs.Prelude.{ℕ, suc, Bool, true, false, not, nat_eq, List, length, Option, Some, None, if◌then◌else◌}
 use Rattle.f77_ast.specs.Trees.{ExprTree, ExprTrees}
 use Rattle.f77_ast.specs.Trees as tree
-use Rattle.f77_symbols.specs.Constants.{turns_logical, joins_logical, gives_logical}
+use Rattle.f77_ast.specs.Constants.{turns_logical, joins_logical, gives_logical}
 use Rattle.refusal_codes.specs.declared.code.Code.TheVariants.{SubscriptCount, TypeMismatch, NotAnArray}
 use Rattle.refusal_codes.specs.declared.refusal.Refusal.{Refusal}
 use Rattle.f77_names.specs.declared.functions.Function.{Function}

@@ -8,9 +8,8 @@ ghost use Rattle.f77_names.specs.Views.{table_tree};
 ghost use Rattle.f77_checks.specs.Expressions.{check_call, check_count, count, dimensions_of, check_expr, check_int, check_log, check_name, check_subscripts, wants, wants_int, wants_log};
 
 use crate::sort::{Sort, sort_of};
-use f77_ast::Expr;
+use f77_ast::{Expr, joins_logical, turns_logical};
 use f77_names::{Function, NameTable};
-use f77_symbols::{joins_logical, turns_logical};
 use fx_lists::{List, Text};
 use refusal_codes::{Code, Refusal, refuse_if};
 

@@ -9,9 +9,8 @@ ghost use Rattle.f77_checks.specs.Parameters.{decl_valued, decls_valued, given_t
 ghost use Rattle.f77_checks.specs.Views.{valued_tree};
 
 use crate::expressions::check_expr;
-use f77_ast::{Decl, Setting};
+use f77_ast::{Constant, Decl, Setting, Worth, worth_of};
 use f77_names::{Kind, LineTable, NameTable, Names, Sited};
-use f77_symbols::{Constant, Worth, worth_of};
 use fx_lists::{List, Text};
 use refusal_codes::{Code, Refusal, refuse_if};
 use std::alloc::AllocError as Memory;

@@ -4,9 +4,8 @@ ghost use Rattle.f77_ast.specs.Plain.{expr_tree};
 ghost use Rattle.f77_names.specs.Views.{table_tree};
 ghost use Rattle.f77_checks.specs.Expressions.{fits, is_chars, is_int, is_log, logical_or_not, named_sort, sort_of, sort_of_kind};
 
-use f77_ast::Expr;
+use f77_ast::{Expr, gives_logical, turns_logical};
 use f77_names::{Kind, NameTable};
-use f77_symbols::{gives_logical, turns_logical};
 use fx_lists::Text;
 
 /// The type of an expression; it is unknown where a name is REAL, which is refused elsewhere.

@@ -7,9 +7,9 @@ use Rattle.f77_ast.specs.Steps.{Shown}
 use Rattle.f77_ast.specs.Runs.{Event, Arrived, Read, Wrote, Printed, Took, Answer, Ran}
 use Rattle.f77_ast.specs.Plans.{Flow}
 use Rattle.f77_ast.specs.Programs.{program_run}
-use Rattle.f77_symbols.specs.declared.symbol.Place.{Place}
-use Rattle.f77_symbols.specs.declared.symbol.InitialRun.{InitialRun}
-use Rattle.f77_symbols.specs.Symbols.{BoundTree, SymbolTree}
+use Rattle.f77_ast.specs.declared.symbol.Place.{Place}
+use Rattle.f77_ast.specs.declared.symbol.InitialRun.{InitialRun}
+use Rattle.f77_ast.specs.Symbols.{BoundTree, SymbolTree}
 use Rattle.call_graph.specs.declared.graph.Graph.{Graph}
 use Rattle.call_graph.specs.declared.graph.Edge.{Edge}
 use Rattle.call_graph.specs.declared.graph.Block.{Block}

@@ -10,11 +10,11 @@ use Rattle.std.proofs.lemmas.Bool.Decides.{nat_tests}
 use Rattle.std.proofs.lemmas.Map.Text.{is_eq-slice_cmp}
 use Rattle.std.proofs.lemmas.Slice.Eq.{bytes_eq-Decides}
 use Rattle.f77_ast.specs.DeclTrees.{ParsedTree}
-use Rattle.f77_symbols.specs.declared.symbol.Place.{Place}
-use Rattle.f77_symbols.specs.declared.symbol.Place.TheVariants as place
-use Rattle.f77_symbols.specs.declared.variable.Unit.{Unit as BlockUnit}
-use Rattle.f77_symbols.specs.Symbols.{SymbolTree, number_from, value_in}
-use Rattle.f77_symbols.specs.Units.{units_in, bounds_units}
+use Rattle.f77_ast.specs.declared.symbol.Place.{Place}
+use Rattle.f77_ast.specs.declared.symbol.Place.TheVariants as place
+use Rattle.f77_ast.specs.declared.variable.Unit.{Unit as BlockUnit}
+use Rattle.f77_ast.specs.Symbols.{SymbolTree, number_from, value_in}
+use Rattle.f77_ast.specs.Units.{units_in, bounds_units}
 use Rattle.tracked_cells.specs.Equivalences.{equivalenced_names}
 use Rattle.tracked_cells.specs.Standing.{is_int, has_bounds, is_int_scalar, is_plain, reaches, place_has, stands_at, spoils, spoils_at, two_at}
 use Rattle.tracked_cells.specs.Scalars.{name_cmp, unit_cmp, unit, unit_put, place_unit, with_scalar, with_scalars, all_scalars}

@@ -4,12 +4,12 @@ use Rattle.std.specs.Prelude.{if◌then◌else◌, nat_eq, nat_le, nat_lt, slice
 use Rattle.std.proofs.lemmas.Bool.{and_parts, leb-true, ltb-true}
 use Rattle.f77_ast.specs.Places.{Place as RunPlace}
 use Rattle.f77_ast.specs.Calls.{in_place}
-use Rattle.f77_symbols.specs.declared.symbol.Place.{Place}
-use Rattle.f77_symbols.specs.declared.symbol.Place.TheVariants as place
-use Rattle.f77_symbols.specs.Symbols.{SymbolTree}
-use Rattle.f77_symbols.specs.Units.{units_in}
-use Rattle.f77_symbols.specs.Shared.{OneUnit, group_unit, block_unit, unit_after, symbol_at}
-use Rattle.f77_symbols.proofs.SharingLaws.{sharing_is_of_units}
+use Rattle.f77_ast.specs.declared.symbol.Place.{Place}
+use Rattle.f77_ast.specs.declared.symbol.Place.TheVariants as place
+use Rattle.f77_ast.specs.Symbols.{SymbolTree}
+use Rattle.f77_ast.specs.Units.{units_in}
+use Rattle.f77_ast.specs.Shared.{OneUnit, group_unit, block_unit, unit_after, symbol_at}
+use Rattle.f77_ast.proofs.SharingLaws.{sharing_is_of_units}
 use Rattle.f77_meaning.specs.Areas.{Area, block, group, own, Numbering, area_number, unit_at}
 use Rattle.f77_meaning.specs.Modules.{Known, laid_at, fixed_place, fixed_maybe, fixed}
 use Rattle.f77_meaning.specs.Linked.{offset_in, room_of, room_for, numbering}

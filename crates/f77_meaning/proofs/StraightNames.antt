@@ -7,8 +7,8 @@ use Rattle.f77_ast.specs.Numbers.{intrinsic_named}
 use Rattle.f77_ast.specs.Places.{Variable, Function, scalar_place}
 use Rattle.f77_ast.specs.Straight as straight
 use Rattle.f77_ast.specs.Straight.{as_variable, numbered}
-use Rattle.f77_symbols.specs.Symbols.{SymbolTree, number_from}
-use Rattle.f77_symbols.specs.Shared.{symbol_at}
+use Rattle.f77_ast.specs.Symbols.{SymbolTree, number_from}
+use Rattle.f77_ast.specs.Shared.{symbol_at}
 use Rattle.f77_meaning.specs.Areas.{group, Numbering, unit_at}
 use Rattle.f77_meaning.specs.Modules.{symbol_names, names, meant_in, meant_at, fixed_maybe}
 use Rattle.f77_meaning.specs.Laws.{IsKnown}

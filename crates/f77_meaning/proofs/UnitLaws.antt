@@ -4,7 +4,7 @@ use Rattle.std.specs.Prelude.{if◌then◌else◌, bytes_eq, nat_eq}
 use Rattle.std.proofs.lemmas.Nat.{div-mul-add}
 use Rattle.std.proofs.Math.Nat.{pow-suc, mul-add-mod_self_left}
 use Rattle.std.proofs.lemmas.Slice.Eq.{bytes_eq-Decides}
-use Rattle.f77_symbols.specs.Symbols.{number_from}
+use Rattle.f77_ast.specs.Symbols.{number_from}
 use Rattle.f77_meaning.specs.Areas.{Area, block, group, own, Numbering, or_zero, place_in, paired, area_number, unit_at}
 use Rattle.f77_meaning.specs.Laws.{IsKnown, UnitsDiffer, is_own, TemporariesAreRecognisable}
 

@@ -1,6 +1,6 @@
 -- The storage of a program: areas of units, each unit with a number of its own (ANSI X3.9-1978 §17.1).
 use Rattle.std.specs.Prelude.{ℕ, ◌+◌, ◌*◌, ◌^◌, ◌/◌, ◌%◌, Bool, nat_eq, List, Option, Some, None}
-use Rattle.f77_symbols.specs.Symbols.{number_from}
+use Rattle.f77_ast.specs.Symbols.{number_from}
 
 -- units that stand one behind the other
 pub data Area : Type 0 where

@@ -11,16 +11,16 @@ use Rattle.f77_ast.specs.Places.{Meant, Constant, Variable, Function, Names, Dim
 use Rattle.f77_ast.specs.Places as places
 use Rattle.f77_ast.specs.Calls.{Dummy, nowhere}
 use Rattle.f77_ast.specs.Calls as calls
-use Rattle.f77_symbols.specs.declared.constant.Constant.TheVariants as constant
-use Rattle.f77_symbols.specs.declared.constant.Worth.{Worth}
-use Rattle.f77_symbols.specs.declared.constant.Worth.TheVariants.{Is, Faults, Varies}
-use Rattle.f77_symbols.specs.Constants.{worth}
-use Rattle.f77_symbols.specs.declared.symbol.Place.{Place}
-use Rattle.f77_symbols.specs.declared.symbol.Place.TheVariants as place
-use Rattle.f77_symbols.specs.declared.symbol.InitialRun.{InitialRun}
-use Rattle.f77_symbols.specs.Symbols.{BoundTree, SymbolTree, number_from, value_in}
-use Rattle.f77_symbols.specs.Units.{units_in}
-use Rattle.f77_symbols.specs.Shared.{symbol_at}
+use Rattle.f77_ast.specs.declared.constant.Constant.TheVariants as constant
+use Rattle.f77_ast.specs.declared.constant.Worth.{Worth}
+use Rattle.f77_ast.specs.declared.constant.Worth.TheVariants.{Is, Faults, Varies}
+use Rattle.f77_ast.specs.Constants.{worth}
+use Rattle.f77_ast.specs.declared.symbol.Place.{Place}
+use Rattle.f77_ast.specs.declared.symbol.Place.TheVariants as place
+use Rattle.f77_ast.specs.declared.symbol.InitialRun.{InitialRun}
+use Rattle.f77_ast.specs.Symbols.{BoundTree, SymbolTree, number_from, value_in}
+use Rattle.f77_ast.specs.Units.{units_in}
+use Rattle.f77_ast.specs.Shared.{symbol_at}
 use Rattle.tracked_cells.specs.Standing.{has_bounds}
 use Rattle.f77_meaning.specs.Areas.{block, group, Numbering, unit_at}
 

@@ -8,8 +8,8 @@ use Rattle.f77_ast.specs.Numbers.{intrinsic_named}
 use Rattle.f77_ast.specs.Runs.{Event, Arrived, Read, Wrote, Printed, Took}
 use Rattle.f77_ast.specs.Programs.{Program, program_run}
 use Rattle.f77_ast.specs.Straight.{is_straight, variables, straight_program}
-use Rattle.f77_symbols.specs.declared.symbol.Place.TheVariants.{Local}
-use Rattle.f77_symbols.specs.Symbols.{SymbolTree}
+use Rattle.f77_ast.specs.declared.symbol.Place.TheVariants.{Local}
+use Rattle.f77_ast.specs.Symbols.{SymbolTree}
 use Rattle.call_graph.specs.declared.graph.Graph.{Graph}
 use Rattle.f77_meaning.specs.Modules.{Known}
 use Rattle.f77_meaning.specs.Linked.{program_of}

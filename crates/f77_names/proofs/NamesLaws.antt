@@ -1,7 +1,7 @@
 -- Names, their places, and what is said of one.
 use Rattle.std.proofs.Common.{◌≡◌, ℕ, zero, suc, ◌+◌, ◌-◌, ◌<◌, ◌≤◌, Bool, true, false, List, [], ◌∷◌, ◌++◌, length, map, get_or, set, Option, Some, None, refl, sym, ap, ◌∙◌, arith}
 use Rattle.std.specs.Prelude.{if◌then◌else◌, bytes_eq, is_some, IfSome}
-use Rattle.f77_symbols.specs.Symbols.{number_from}
+use Rattle.f77_ast.specs.Symbols.{number_from}
 use Rattle.f77_names.specs.declared.entry.Entry.{Entry}
 use Rattle.f77_names.specs.declared.entry.Word.{Word}
 use Rattle.f77_names.specs.declared.entry.Word.TheVariants as word

@@ -5,7 +5,7 @@ use Rattle.f77_ast.specs.declared.decl.Extent.{Extent}
 use Rattle.f77_ast.specs.PlainDecl.{extent_tree}
 use Rattle.f77_ast.proofs.PlainlyDecl.{mapped-drop}
 use Rattle.std.proofs.Math.Seq.{drop-cons}
-use Rattle.f77_symbols.specs.Symbols.{bound_tree}
+use Rattle.f77_ast.specs.Symbols.{bound_tree}
 use Rattle.f77_names.specs.declared.entry.Shape.{Shape}
 use Rattle.f77_names.specs.declared.entry.Word.TheVariants.{Bounds}
 use Rattle.refusal_codes.specs.declared.code.Code.TheVariants.{DeclaredTwice}

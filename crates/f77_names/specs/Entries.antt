@@ -1,8 +1,8 @@
 -- What a module says of its names, in order of first appearance.
 use Rattle.std.specs.Prelude.{ℕ, List, [], ◌∷◌, ◌++◌, map, Option, Some, None, Bool, true, false, is_some, if◌then◌else◌, bytes_eq}
 use Rattle.f77_ast.specs.declared.decl.Scalar.{Scalar}
-use Rattle.f77_symbols.specs.declared.constant.Constant.{Constant}
-use Rattle.f77_symbols.specs.Symbols.{BoundTree, bound_tree, number_from}
+use Rattle.f77_ast.specs.declared.constant.Constant.{Constant}
+use Rattle.f77_ast.specs.Symbols.{BoundTree, bound_tree, number_from}
 use Rattle.f77_names.specs.declared.entry.Shape.{Shape}
 use Rattle.f77_names.specs.declared.entry.Entry.{Entry}
 

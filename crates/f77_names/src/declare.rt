@@ -3,7 +3,7 @@ ghost use Rattle.std.specs.Prelude.{◌≡◌, IfOk, OnOk, map};
 ghost use Rattle.f77_ast.specs.Plain.{expr_tree};
 ghost use Rattle.f77_ast.specs.PlainStmt.{maybe_tree};
 ghost use Rattle.f77_ast.specs.PlainDecl.{common_tree, data_tree, decl_tree, entity_tree, extent_tree, setting_tree};
-ghost use Rattle.f77_symbols.specs.Symbols.{bound_tree};
+ghost use Rattle.f77_ast.specs.Symbols.{bound_tree};
 ghost use Rattle.f77_names.specs.Entries.{entry_tree};
 ghost use Rattle.f77_names.specs.Words.{mentioned, said_once};
 ghost use Rattle.f77_names.specs.Declaring.{blocks_told, bound_of, decl_told, decls_told, dummies_told, entity_seen, extents_seen, groups_told, item_told, items_told, low_of, members_told, mention_told, save_told, saves_told, seen_told, setting_told, settings_told, shaped, shaped_entities, targets_told, typed_entities, typed_entity};
@@ -12,9 +12,8 @@ ghost use Rattle.f77_names.specs.Views.{line_in, told_tree};
 use crate::appear::{Sight, see_expr, see_exprs, see_maybe};
 use crate::{Names, Shape, Sited, Word};
 use f77_ast::{
-    CommonPart, DataGroup, Decl, Entity, Expr, Extent, SaveItem, Scalar, Setting, copy_expr,
+    Bound, CommonPart, DataGroup, Decl, Entity, Expr, Extent, SaveItem, Scalar, Setting, copy_expr,
 };
-use f77_symbols::Bound;
 use fx_lists::{List, Text};
 use refusal_codes::{Code, Refusal, refuse_if};
 use std::alloc::{AllocError as Memory, Global};

@@ -3,8 +3,7 @@ ghost use Rattle.std.specs.Prelude.{◌≡◌, is_some, true};
 ghost use Rattle.f77_names.specs.Entries.{entry_tree, fresh, or_this, with_value};
 ghost use Rattle.f77_names.specs.Words.{was_said, with_word};
 
-use f77_ast::Scalar;
-use f77_symbols::{Bound, Constant};
+use f77_ast::{Bound, Constant, Scalar};
 use fx_lists::{List, Text};
 
 /// The bounds of an array, the first dimension first, and the line of the statement that gives them.

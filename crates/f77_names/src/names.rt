@@ -5,7 +5,7 @@ ghost use Rattle.f77_names.specs.Entries.{changed, entry_tree, find, has_shape, 
 ghost use Rattle.f77_names.specs.Words.{was_said_of, with_word};
 
 use crate::{Entry, Word};
-use f77_symbols::{Constant, Constants, NameIndex};
+use f77_ast::{Constant, Constants, NameIndex};
 use fx_lists::Text;
 use std::alloc::{AllocError as Memory, Global};
 use std::marker::Model;
@@ -21,7 +21,7 @@ impl Model for Names {
     ghost use Rattle.std.specs.Prelude.{List, map};
     ghost use Rattle.f77_names.specs.declared.entry.Entry.{Entry};
     ghost use Rattle.f77_names.specs.Entries.{entry_tree, entry_names};
-    ghost use Rattle.f77_symbols.specs.Index.{Indexes};
+    ghost use Rattle.f77_ast.specs.Index.{Indexes};
     ghost use Rattle.f77_ast.specs.contracts.expr.Expr as expr;
     ghost use Rattle.std.specs.Coded.{codes};
 

@@ -1,6 +1,6 @@
 -- The ends of unions.
 use Rattle.std.proofs.Common.{◌≡◌, ◌<◌, ◌⊎◌, inl, inr, List, [], ◌∷◌, ◌++◌, length, append-nil, ap, sym, ◌∙◌, refl, arith}
-use Rattle.f77_symbols.specs.declared.variable.Variable.{Variable}
+use Rattle.f77_ast.specs.declared.variable.Variable.{Variable}
 use Rattle.f77_results.specs.Variables.{union}
 
 pub union-nil : (vs : List Variable) → union vs [] ≡ vs

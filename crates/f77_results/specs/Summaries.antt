@@ -1,7 +1,7 @@
 -- Summaries of modules, by name.
 use Rattle.std.specs.Prelude.{ℕ, List, map, Option, bytes_eq, option_map}
 use Rattle.std.specs.HashMap.{get_by}
-use Rattle.f77_symbols.specs.Symbols.{SymbolTree, symbol_tree}
+use Rattle.f77_ast.specs.Symbols.{SymbolTree, symbol_tree}
 use Rattle.f77_results.specs.declared.summaries.Summary.{Summary}
 use Rattle.f77_results.specs.declared.summaries.Summaries.{Summaries}
 

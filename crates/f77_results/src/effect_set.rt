@@ -3,7 +3,7 @@ ghost use Rattle.std.specs.Prelude.{◌≡◌, ◌||◌, IfOk};
 ghost use Rattle.f77_results.specs.Effects.{no_effect, unite};
 
 use crate::variables::{add_copies, union};
-use f77_symbols::Variable;
+use f77_ast::Variable;
 use fx_lists::List;
 use std::alloc::{AllocError as Memory, Global};
 

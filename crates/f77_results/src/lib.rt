@@ -9,7 +9,7 @@ mod variables;
 mod view;
 
 pub use effect_set::{EffectSet, copy_effect, unite};
-pub use f77_symbols::Variable;
+pub use f77_ast::Variable;
 pub use ordering::order;
 pub use results::{At, Results};
 pub use summaries::{Summaries, Summary, copy_symbols};

@@ -3,7 +3,7 @@ ghost use Rattle.std.specs.Prelude.{◌≡◌, ◌++◌, ◌∷◌, length, slic
 ghost use Rattle.std.specs.Ordering.{nat_cmp};
 ghost use Rattle.f77_results.specs.Variables.{variable_text, text_cmp, variable_cmp};
 
-use f77_symbols::Variable;
+use f77_ast::Variable;
 use std::cmp::Ordering;
 
 /// The byte at a place of a text with a byte and another text behind it.

@@ -1,12 +1,11 @@
 //! The summaries of the modules that a module calls.
 ghost use Rattle.std.specs.Prelude.{◌≡◌, ℕ, List, None, Some, map, IfOk, OnErr, if◌then◌else◌, bytes_eq, option_copied, option_map};
 ghost use Rattle.std.specs.HashMap.{IsUnchanged};
-ghost use Rattle.f77_symbols.specs.Symbols.{symbol_tree, bound_tree};
+ghost use Rattle.f77_ast.specs.Symbols.{symbol_tree, bound_tree};
 ghost use Rattle.f77_ast.specs.PlainStmt.{maybe_tree};
 ghost use Rattle.f77_results.specs.Summaries.{SummaryTree, summary_tree, summary_in};
 
-use f77_ast::{Expr, copy_expr};
-use f77_symbols::{Bound, InitialRun, Place, Symbol, Symbols};
+use f77_ast::{Bound, Expr, InitialRun, Place, Symbol, Symbols, copy_expr};
 use fx_lists::{List, Text};
 use std::alloc::{AllocError as Memory, Global};
 use std::collections::HashMap;

@@ -3,7 +3,7 @@ ghost use Rattle.std.specs.Prelude.{◌≡◌, ◌++◌, IfOk};
 ghost use Rattle.f77_results.specs.Variables.{union};
 
 use crate::ordering::order;
-use f77_symbols::Variable;
+use f77_ast::Variable;
 use fx_lists::List;
 use std::alloc::{AllocError as Memory, Global};
 use std::cmp::Ordering;

@@ -1,7 +1,6 @@
 //! A module in its program.
 use call_graph::Graph;
-use f77_ast::Module;
-use f77_symbols::Symbols;
+use f77_ast::{Module, Symbols};
 
 /// A module of a program, the symbols of the module, and the graph of the program.
 #[derive(Drop)]

@@ -1,7 +1,7 @@
 -- IN of a CALL, by the name of the callee.
 use Rattle.std.proofs.Common.{◌≡◌, ℕ, List, [], Some, None, ap, ◌∙◌}
 use Rattle.f77_ast.specs.Trees.{ExprTrees}
-use Rattle.f77_symbols.specs.declared.variable.Unit.{Unit as BlockUnit}
+use Rattle.f77_ast.specs.declared.variable.Unit.{Unit as BlockUnit}
 use Rattle.f77_results.specs.Summaries.{SummaryTree}
 use Rattle.call_translation.specs.Scopes.{ScopeTree}
 use Rattle.region_sets.specs.declared.region.Region.{Region}

@@ -5,8 +5,8 @@ use Rattle.f77_ast.specs.declared.expr.Expr.{Expr}
 use Rattle.f77_ast.specs.Trees.{ExprTrees}
 use Rattle.f77_ast.specs.Plain.{expr_tree, expr_trees}
 use Rattle.f77_ast.proofs.Plainly.{expr_trees-drop}
-use Rattle.f77_symbols.specs.declared.variable.Variable.{Variable}
-use Rattle.f77_symbols.specs.Symbols.{SymbolTree}
+use Rattle.f77_ast.specs.declared.variable.Variable.{Variable}
+use Rattle.f77_ast.specs.Symbols.{SymbolTree}
 use Rattle.f77_results.specs.declared.results.At.{At}
 use Rattle.transformer_algebra.specs.declared.transformer.Transformer.{Transformer}
 use Rattle.transformers.specs.Lists.{value_at}

@@ -1,7 +1,7 @@
 -- IN of a CALL (ANSI X3.9-1978 §15.9): its actuals are evaluated, and then the called module is executed.
 use Rattle.std.specs.Prelude.{ℕ, List, [], ◌++◌, Option, Some, None}
 use Rattle.f77_ast.specs.Trees.{ExprTrees}
-use Rattle.f77_symbols.specs.declared.variable.Unit.{Unit as BlockUnit}
+use Rattle.f77_ast.specs.declared.variable.Unit.{Unit as BlockUnit}
 use Rattle.f77_results.specs.Summaries.{SummaryTree}
 use Rattle.call_translation.specs.Scopes.{ScopeTree}
 use Rattle.region_sets.specs.declared.region.Region.{Region}

@@ -1,9 +1,9 @@
 -- The WRITE regions of a set: that of a variable, and whether some are of variables that share units with it.
 use Rattle.std.specs.Prelude.{Bool, false, ◌&&◌, ◌||◌, if◌then◌else◌, is_some, List, [], ◌∷◌, Option, Some, None}
 use Rattle.std.specs.Ordering.{is_eq}
-use Rattle.f77_symbols.specs.declared.variable.Variable.{Variable}
-use Rattle.f77_symbols.specs.Symbols.{SymbolTree}
-use Rattle.f77_symbols.specs.Shared.{overlap}
+use Rattle.f77_ast.specs.declared.variable.Variable.{Variable}
+use Rattle.f77_ast.specs.Symbols.{SymbolTree}
+use Rattle.f77_ast.specs.Shared.{overlap}
 use Rattle.f77_results.specs.Variables.{variable_cmp}
 use Rattle.region_sets.specs.declared.region.Region.{Region}
 use Rattle.in_out_regions.specs.Kinds.{is_write}

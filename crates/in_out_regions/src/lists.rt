@@ -3,7 +3,7 @@ ghost use Rattle.std.specs.Prelude.{◌≡◌, ◌++◌, map, option_to_list, op
 ghost use Rattle.affine_systems.specs.Given.{Fits};
 ghost use Rattle.hull_projection.specs.Minus.{AllFit};
 ghost use Rattle.f77_ast.specs.PlainStmt.{stmt_trees};
-ghost use Rattle.f77_symbols.specs.Symbols.{symbol_tree};
+ghost use Rattle.f77_ast.specs.Symbols.{symbol_tree};
 ghost use Rattle.transformers.specs.Given.{ResultsFit};
 ghost use Rattle.transformers.specs.Lists.{transformer_at as transformer_at_is};
 ghost use Rattle.region_sets.specs.Regions.{RegionFits};
@@ -16,13 +16,12 @@ ghost use Rattle.in_out_regions.specs.ListClaims.{HasListIn, HasListInAlone};
 use crate::kinds::with_flag;
 use crate::writes::{is_overlapped, write_of};
 use array_regions::{push_copies, push_maybe};
-use f77_ast::{Stmt, StmtId};
+use f77_ast::{Stmt, StmtId, Symbols};
 use f77_results::{At, Results, View};
-use f77_symbols::Symbols;
 use fx_lists::List;
 use region_sets::{
     Region, RegionSet, copy_region, push_composed, push_region, push_system, remade, subtract,
-    unite_all,
+    unite_all, unite_owned,
 };
 use std::alloc::{AllocError as Memory, Global};
 use transformer_algebra::{Transformer, without};
@@ -128,11 +127,11 @@ pub fn before_rest(
 {
     let mut later = List::new(alloc);
     push_composed(alloc, &mut later, t, rest)?;
-    let later = unite_all(alloc, later.as_slice())?;
+    let later = unite_owned(alloc, later)?;
     let mut all = List::new(alloc);
     push_copies(alloc, &mut all, ins)?;
     push_unwritten(alloc, &mut all, writes, later.as_slice())?;
-    let set = unite_all(alloc, all.as_slice())?;
+    let set = unite_owned(alloc, all)?;
     all_unless_overlapped(alloc, symbols, writes, set.as_slice())
 }
 

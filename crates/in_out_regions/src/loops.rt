@@ -1,7 +1,7 @@
 //! IN of a DO, from IN, READ and WRITE of its body.
 ghost use Rattle.std.specs.Prelude.{◌≡◌, ◌++◌, map, IfOk, OnOk, IfSome};
 ghost use Rattle.f77_ast.specs.PlainStmt.{loop_tree};
-ghost use Rattle.f77_symbols.specs.Symbols.{symbol_tree};
+ghost use Rattle.f77_ast.specs.Symbols.{symbol_tree};
 ghost use Rattle.hull_projection.specs.Minus.{AllFit};
 ghost use Rattle.call_translation.specs.Scopes.{scope_tree};
 ghost use Rattle.transformers.specs.Given.{ResultsFit};
@@ -20,9 +20,8 @@ use crate::writes::{is_touched, same_variable, write_of};
 use affine_forms::is_cell;
 use array_regions::{push_copies, push_loop_reads, range_of, scalar};
 use call_translation::CellScope;
-use f77_ast::Loop;
+use f77_ast::{Loop, Symbols, Variable};
 use f77_results::At;
-use f77_symbols::{Symbols, Variable};
 use fx_lists::List;
 use region_sets::{
     Access, Range, Region, RegionSet, over_loop, push_region, push_system, remade, subtract,

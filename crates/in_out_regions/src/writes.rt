@@ -1,11 +1,11 @@
 //! The WRITE regions of a set.
 ghost use Rattle.std.specs.Prelude.{◌≡◌, map, option_copied};
-ghost use Rattle.f77_symbols.specs.Symbols.{symbol_tree};
+ghost use Rattle.f77_ast.specs.Symbols.{symbol_tree};
 ghost use Rattle.in_out_regions.specs.Writes.{same_variable as same_variable_is, is_write_of as is_write_of_is, write_of as write_of_is, is_write_beside as is_write_beside_is, is_overlapped as is_overlapped_is, is_touched as is_touched_is};
 
 use crate::kinds::is_write;
+use f77_ast::{Symbols, Variable, overlaps};
 use f77_results::order;
-use f77_symbols::{Symbols, Variable, overlaps};
 use region_sets::Region;
 use std::cmp::Ordering;
 

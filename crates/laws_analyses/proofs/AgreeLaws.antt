@@ -9,13 +9,13 @@ use Rattle.f77_ast.specs.Store.{content, truth}
 use Rattle.f77_ast.specs.Numbers.{in_range, is_true}
 use Rattle.f77_ast.specs.Places.{Meant, Variable, Function}
 use Rattle.f77_ast.specs.Places as meant
-use Rattle.f77_symbols.specs.declared.constant.Constant.{Constant}
-use Rattle.f77_symbols.specs.declared.constant.Constant.TheVariants as constant
-use Rattle.f77_symbols.specs.declared.symbol.Place.{Place}
-use Rattle.f77_symbols.specs.declared.symbol.Place.TheVariants as place
-use Rattle.f77_symbols.specs.declared.variable.Unit.{Unit as BlockUnit}
-use Rattle.f77_symbols.specs.Symbols.{SymbolTree, number_from, constant_of, constant_in, constant_at, value_in}
-use Rattle.f77_symbols.specs.Shared.{numbered, symbol_at}
+use Rattle.f77_ast.specs.declared.constant.Constant.{Constant}
+use Rattle.f77_ast.specs.declared.constant.Constant.TheVariants as constant
+use Rattle.f77_ast.specs.declared.symbol.Place.{Place}
+use Rattle.f77_ast.specs.declared.symbol.Place.TheVariants as place
+use Rattle.f77_ast.specs.declared.variable.Unit.{Unit as BlockUnit}
+use Rattle.f77_ast.specs.Symbols.{SymbolTree, number_from, constant_of, constant_in, constant_at, value_in}
+use Rattle.f77_ast.specs.Shared.{numbered, symbol_at}
 use Rattle.storage_layout.specs.Symbols.{symbols_of}
 use Rattle.tracked_cells.specs.Equivalences.{equivalenced_names}
 use Rattle.tracked_cells.specs.Standing.{is_plain}

@@ -7,15 +7,15 @@ use Rattle.f77_ast.specs.DeclTrees as decl
 use Rattle.f77_ast.specs.declared.decl.Scalar.TheVariants as scalar
 use Rattle.f77_ast.specs.declared.places.Part.TheVariants as parts
 use Rattle.f77_ast.specs.Numbers.{in_range}
-use Rattle.f77_symbols.specs.declared.constant.Constant.{Constant}
-use Rattle.f77_symbols.specs.declared.constant.Constant.TheVariants as constant
-use Rattle.f77_symbols.specs.declared.constant.Worth.{Worth}
-use Rattle.f77_symbols.specs.declared.constant.Worth.TheVariants.{Is, Faults, Varies}
-use Rattle.f77_symbols.specs.Constants.{number_of, worth}
+use Rattle.f77_ast.specs.declared.constant.Constant.{Constant}
+use Rattle.f77_ast.specs.declared.constant.Constant.TheVariants as constant
+use Rattle.f77_ast.specs.declared.constant.Worth.{Worth}
+use Rattle.f77_ast.specs.declared.constant.Worth.TheVariants.{Is, Faults, Varies}
+use Rattle.f77_ast.specs.Constants.{number_of, worth}
 use Rattle.f77_statements.specs.Phrases.{specification, end_module}
 use Rattle.f77_parser.specs.Modules.{parse_of}
-use Rattle.f77_symbols.specs.declared.symbol.Place.TheVariants as place
-use Rattle.f77_symbols.specs.Symbols.{SymbolTree}
+use Rattle.f77_ast.specs.declared.symbol.Place.TheVariants as place
+use Rattle.f77_ast.specs.Symbols.{SymbolTree}
 use Rattle.f77_names.specs.declared.kinds.Kind.{Kind}
 use Rattle.f77_names.specs.declared.kinds.Kind.TheVariants as kind
 use Rattle.f77_names.specs.declared.lines.Sited.TheVariants.{Decl}

@@ -3,7 +3,7 @@ use Rattle.std.proofs.Common.{◌≡◌, inl, inr, ℕ, false, List, [], ◌∷�
 use Rattle.std.specs.Prelude.{if◌then◌else◌, bytes_eq, reverse}
 use mathlib.Core.List.{reverse-cons}
 use Rattle.std.proofs.lemmas.Slice.Eq.{bytes_eq-Decides}
-use Rattle.f77_symbols.specs.declared.variable.Unit.{Unit as BlockUnit}
+use Rattle.f77_ast.specs.declared.variable.Unit.{Unit as BlockUnit}
 use Rattle.f77_meaning.specs.Modules.{Known}
 use Rattle.transformer_algebra.specs.Laws.{In}
 use Rattle.call_translation.specs.Sites.{HoldingSite}

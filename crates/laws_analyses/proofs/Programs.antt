@@ -5,7 +5,7 @@ use Rattle.std.proofs.lemmas.Slice.Eq.{bytes_eq-Decides}
 use Rattle.affine_systems.specs.declared.row.System.{System}
 use Rattle.f77_ast.specs.DeclTrees.{ParsedTree}
 use Rattle.f77_ast.specs.Programs.{Routine, Program}
-use Rattle.f77_symbols.specs.Symbols.{SymbolTree}
+use Rattle.f77_ast.specs.Symbols.{SymbolTree}
 use Rattle.laws_tables.specs.Laws.{DummiesFirst}
 use Rattle.laws_tables.proofs.DummyLaws.{dummies_come_first}
 use Rattle.call_graph.specs.declared.graph.Graph.{Graph}

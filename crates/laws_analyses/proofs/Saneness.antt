@@ -4,12 +4,12 @@ use Rattle.std.specs.Prelude.{slice_get}
 use Rattle.f77_ast.specs.DeclTrees.{ParsedTree}
 use Rattle.f77_ast.specs.Places.{Variable}
 use Rattle.f77_ast.specs.Calls.{Dummy}
-use Rattle.f77_symbols.specs.declared.symbol.Place.{Place}
-use Rattle.f77_symbols.specs.declared.symbol.Place.TheVariants as place
-use Rattle.f77_symbols.specs.declared.variable.Unit.{Unit as BlockUnit}
-use Rattle.f77_symbols.specs.Symbols.{SymbolTree, value_in}
-use Rattle.f77_symbols.specs.Units.{units_in, bounds_units}
-use Rattle.f77_symbols.specs.Shared.{symbol_at, place_at}
+use Rattle.f77_ast.specs.declared.symbol.Place.{Place}
+use Rattle.f77_ast.specs.declared.symbol.Place.TheVariants as place
+use Rattle.f77_ast.specs.declared.variable.Unit.{Unit as BlockUnit}
+use Rattle.f77_ast.specs.Symbols.{SymbolTree, value_in}
+use Rattle.f77_ast.specs.Units.{units_in, bounds_units}
+use Rattle.f77_ast.specs.Shared.{symbol_at, place_at}
 use Rattle.tracked_cells.specs.Standing.{is_int_scalar}
 use Rattle.storage_layout.specs.Symbols.{symbols_of}
 use Rattle.laws_tables.specs.Laws.{DummiesFirst}

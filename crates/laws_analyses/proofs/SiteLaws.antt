@@ -12,9 +12,9 @@ use Rattle.f77_ast.specs.Steps.{Done, ◌>>=◌}
 use Rattle.f77_ast.specs.Places.{Places, Variable, scalar_place}
 use Rattle.f77_ast.specs.Values.{value, name_value}
 use Rattle.f77_ast.specs.Calls.{Dummy, lent, stored, actual, name_actual}
-use Rattle.f77_symbols.specs.declared.symbol.Place.TheVariants as place
-use Rattle.f77_symbols.specs.Symbols.{BoundTree, SymbolTree}
-use Rattle.f77_symbols.specs.Shared.{symbol_at}
+use Rattle.f77_ast.specs.declared.symbol.Place.TheVariants as place
+use Rattle.f77_ast.specs.Symbols.{BoundTree, SymbolTree}
+use Rattle.f77_ast.specs.Shared.{symbol_at}
 use Rattle.tracked_cells.specs.Standing.{is_int, has_bounds, is_int_scalar}
 use Rattle.call_graph.specs.declared.graph.Graph.{Graph}
 use Rattle.f77_meaning.specs.Modules.{known_of, names, bound_of, dummies_from}

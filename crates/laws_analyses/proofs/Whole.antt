@@ -2,7 +2,7 @@
 use Rattle.std.proofs.Common.{ℕ, List, []}
 use Rattle.f77_ast.specs.DeclTrees.{ParsedTree}
 use Rattle.f77_ast.specs.Programs.{program_plan}
-use Rattle.f77_symbols.specs.Symbols.{SymbolTree}
+use Rattle.f77_ast.specs.Symbols.{SymbolTree}
 use Rattle.call_graph.specs.declared.graph.Graph.{Graph}
 use Rattle.laws_tables.proofs.ShapeLaws.{bodies_are_shaped}
 use Rattle.f77_meaning.specs.Modules.{known_of}

@@ -1,7 +1,7 @@
 -- What the analyses of tracked cells over the modules of a program say of its runs.
 use Rattle.std.specs.Prelude.{ℕ, List}
 use Rattle.f77_ast.specs.DeclTrees.{ParsedTree}
-use Rattle.f77_symbols.specs.Symbols.{SymbolTree}
+use Rattle.f77_ast.specs.Symbols.{SymbolTree}
 use Rattle.call_graph.specs.declared.graph.Graph.{Graph}
 use Rattle.f77_meaning.specs.Modules.{known_of}
 use Rattle.f77_meaning.specs.Claimed.{InEveryRun}

@@ -1,7 +1,7 @@
 -- The analyses of a program as summaries, CALLs and entries by the names of modules.
 use Rattle.std.specs.Prelude.{ℕ, List, [], ◌∷◌, if◌then◌else◌, bytes_eq}
 use Rattle.affine_systems.specs.declared.row.System.{System}
-use Rattle.f77_symbols.specs.declared.variable.Unit.{Unit as BlockUnit}
+use Rattle.f77_ast.specs.declared.variable.Unit.{Unit as BlockUnit}
 use Rattle.call_graph.specs.declared.graph.Graph.{Graph}
 use Rattle.f77_meaning.specs.Modules.{Known}
 use Rattle.affine_forms.specs.Conditions.{no_rows}

@@ -7,9 +7,9 @@ use Rattle.f77_ast.specs.declared.decl.Scalar.TheVariants.{Log}
 use Rattle.f77_ast.specs.Numbers.{is_true}
 use Rattle.f77_ast.specs.Store.{truth}
 use Rattle.f77_parser.specs.Modules.{parse_of}
-use Rattle.f77_symbols.specs.declared.symbol.Place.TheVariants.{Constant}
-use Rattle.f77_symbols.specs.declared.variable.Unit.{Unit as BlockUnit}
-use Rattle.f77_symbols.specs.Symbols.{SymbolTree}
+use Rattle.f77_ast.specs.declared.symbol.Place.TheVariants.{Constant}
+use Rattle.f77_ast.specs.declared.variable.Unit.{Unit as BlockUnit}
+use Rattle.f77_ast.specs.Symbols.{SymbolTree}
 use Rattle.storage_layout.specs.Symbols.{symbols_of}
 use Rattle.laws_tables.specs.Shapes.{symbol_named}
 use Rattle.tracked_cells.specs.Tracked.{tracked_of}

@@ -10,7 +10,7 @@ use Rattle.f77_ast.specs.Store.{Store}
 use Rattle.f77_ast.specs.Places.{Variable, Place, Places}
 use Rattle.f77_ast.specs.Writes.{Locks}
 use Rattle.f77_ast.specs.Calls.{Dummy, Actual, lent, places_of, own_units, lock_own, in_place}
-use Rattle.f77_symbols.specs.declared.variable.Unit.{Unit as BlockUnit}
+use Rattle.f77_ast.specs.declared.variable.Unit.{Unit as BlockUnit}
 use Rattle.tracked_cells.specs.Scalars.{unit}
 use Rattle.affine_forms.specs.Scalars.{is_cell}
 use Rattle.affine_forms.specs.Claims.{unit_in, numbers_of}

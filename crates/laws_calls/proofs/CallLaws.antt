@@ -12,9 +12,9 @@ use Rattle.hull_projection.specs.Laws.{IsOneOf}
 use Rattle.hull_projection.proofs.ProjectLaws.{project_keeps}
 use Rattle.hull_projection.proofs.VarLaws.{rows_covered}
 use Rattle.hull_projection.proofs.LiftLaws.{agree_hold}
-use Rattle.f77_symbols.specs.declared.symbol.Place.{Place}
-use Rattle.f77_symbols.specs.declared.symbol.Place.TheVariants.{Local, Dummy, Block, Constant}
-use Rattle.f77_symbols.specs.Shared.{place_at}
+use Rattle.f77_ast.specs.declared.symbol.Place.{Place}
+use Rattle.f77_ast.specs.declared.symbol.Place.TheVariants.{Local, Dummy, Block, Constant}
+use Rattle.f77_ast.specs.Shared.{place_at}
 use Rattle.system_renaming.specs.declared.naming.Naming.{Naming}
 use Rattle.system_renaming.specs.Renaming.{renamed_by, rename_all, push_rows}
 use Rattle.system_renaming.specs.Fresh.{above_rows}

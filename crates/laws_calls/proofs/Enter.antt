@@ -7,7 +7,7 @@ use Rattle.f77_ast.specs.Faults.{Fault, Locked, Shared}
 use Rattle.f77_ast.specs.Places.{Variable, Place, Places, scalar_place}
 use Rattle.f77_ast.specs.Writes.{Locks, lock, first_lock}
 use Rattle.f77_ast.specs.Calls.{Dummy, in_place, in_dummies, doubly_reached, lock_doubly}
-use Rattle.f77_symbols.specs.declared.variable.Unit.{Unit as BlockUnit}
+use Rattle.f77_ast.specs.declared.variable.Unit.{Unit as BlockUnit}
 use Rattle.affine_forms.specs.Scalars.{is_cell}
 use Rattle.affine_forms.specs.Claims.{unit_in}
 use Rattle.transformer_algebra.proofs.CellLaws.{nat_eq_same, nat_same, clashes}

@@ -8,9 +8,9 @@ use Rattle.affine_systems.specs.Points.{Point, HoldsAll}
 use Rattle.affine_systems.proofs.CallLaws.{append_all}
 use Rattle.hull_projection.specs.Hull.{hull}
 use Rattle.hull_projection.proofs.HullLaws.{hull_holds}
-use Rattle.f77_symbols.specs.declared.symbol.InitialRun.{InitialRun}
-use Rattle.f77_symbols.specs.Symbols.{SymbolTree}
-use Rattle.f77_symbols.specs.Shared.{symbol_at}
+use Rattle.f77_ast.specs.declared.symbol.InitialRun.{InitialRun}
+use Rattle.f77_ast.specs.Symbols.{SymbolTree}
+use Rattle.f77_ast.specs.Shared.{symbol_at}
 use Rattle.system_renaming.proofs.KeepLaws.{of_rows_holds}
 use Rattle.affine_forms.specs.Scalars.{is_cell}
 use Rattle.transformer_algebra.specs.Claims.{Scene, AtStart, HoldsAt}

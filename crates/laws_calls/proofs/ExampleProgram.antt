@@ -8,9 +8,9 @@ use Rattle.affine_systems.specs.declared.row.Row.{Row}
 use Rattle.f77_ast.specs.declared.decl.Scalar.TheVariants.{Int}
 use Rattle.f77_ast.specs.declared.expr.BinaryOp.TheVariants.{Add}
 use Rattle.f77_ast.specs.Trees.{ExprTrees, no_exprs, more_exprs, int, name, binary}
-use Rattle.f77_symbols.specs.declared.symbol.Place.{Place}
-use Rattle.f77_symbols.specs.declared.symbol.Place.TheVariants.{Local, Dummy, Block}
-use Rattle.f77_symbols.specs.Symbols.{SymbolTree, value_in}
+use Rattle.f77_ast.specs.declared.symbol.Place.{Place}
+use Rattle.f77_ast.specs.declared.symbol.Place.TheVariants.{Local, Dummy, Block}
+use Rattle.f77_ast.specs.Symbols.{SymbolTree, value_in}
 use Rattle.system_renaming.specs.Renaming.{of_rows}
 use Rattle.affine_forms.specs.Scalars.{cell_in}
 use Rattle.affine_forms.specs.Forms.{affine}

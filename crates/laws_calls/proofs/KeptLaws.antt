@@ -1,8 +1,8 @@
 -- The cells of the caller that a CALL does not list, and its far units, keep their numbers.
 use Rattle.std.proofs.Common.{◌≡◌, ℕ, List, ◌&&◌, Some, true, false, refl, sym, ap, ◌∙◌, ℤ}
 use Rattle.std.proofs.lemmas.Bool.{and_from, false_from_ne_true}
-use Rattle.f77_symbols.specs.declared.variable.Unit.{Unit as BlockUnit}
-use Rattle.f77_symbols.specs.Shared.{place_at}
+use Rattle.f77_ast.specs.declared.variable.Unit.{Unit as BlockUnit}
+use Rattle.f77_ast.specs.Shared.{place_at}
 use Rattle.tracked_cells.specs.Scalars.{unit}
 use Rattle.transformer_algebra.specs.declared.transformer.Transformer.{Transformer}
 use Rattle.transformer_algebra.specs.Cells.{has}

@@ -12,7 +12,7 @@ use Rattle.f77_ast.specs.Steps.{◌>>=◌}
 use Rattle.f77_ast.specs.Values.{value, values, name_value}
 use Rattle.f77_ast.specs.Calls.{Actual, lent, stored, rest_after, name_actual, element_actual, actual, actuals}
 use Rattle.f77_ast.proofs.StepLaws.{Leads, leads_then}
-use Rattle.f77_symbols.specs.declared.constant.Constant.{Constant as Known}
+use Rattle.f77_ast.specs.declared.constant.Constant.{Constant as Known}
 use Rattle.affine_forms.specs.declared.affine.Affine.{Affine}
 use Rattle.affine_forms.specs.Forms.{affine_of, cell_form}
 use Rattle.affine_forms.specs.Claims.{unit_in, numbers_of, content_of}

@@ -11,10 +11,10 @@ use Rattle.f77_ast.specs.Executions.{Claim}
 use Rattle.f77_ast.specs.Calls.{Dummy, Meaning, scalars_bound}
 use Rattle.f77_ast.specs.Statements.{spot}
 use Rattle.f77_ast.specs.Programs.{Program, scope, body_of, called, meanings, program_plan}
-use Rattle.f77_symbols.specs.declared.symbol.Place.{Place as SymbolPlace}
-use Rattle.f77_symbols.specs.declared.symbol.Place.TheVariants as place
-use Rattle.f77_symbols.specs.Symbols.{SymbolTree}
-use Rattle.f77_symbols.specs.Shared.{symbol_at, place_of}
+use Rattle.f77_ast.specs.declared.symbol.Place.{Place as SymbolPlace}
+use Rattle.f77_ast.specs.declared.symbol.Place.TheVariants as place
+use Rattle.f77_ast.specs.Symbols.{SymbolTree}
+use Rattle.f77_ast.specs.Shared.{symbol_at, place_of}
 use Rattle.f77_meaning.specs.Occurrences.{Throughout, is_normal}
 use Rattle.f77_meaning.specs.Claims.{is_outer, is_outer_symbol}
 use Rattle.affine_forms.specs.Scalars.{is_cell}

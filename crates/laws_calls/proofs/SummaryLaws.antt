@@ -11,7 +11,7 @@ use Rattle.hull_projection.specs.Laws.{IsOneOf}
 use Rattle.hull_projection.proofs.ProjectLaws.{project_keeps}
 use Rattle.hull_projection.proofs.VarLaws.{rows_covered}
 use Rattle.hull_projection.proofs.LiftLaws.{agree_hold}
-use Rattle.f77_symbols.specs.Symbols.{SymbolTree}
+use Rattle.f77_ast.specs.Symbols.{SymbolTree}
 use Rattle.transformer_algebra.specs.declared.transformer.Transformer.{Transformer}
 use Rattle.transformer_algebra.specs.Cells.{has}
 use Rattle.transformer_algebra.specs.Claims.{Scene, AtStart, AtEnd, Does}

@@ -5,7 +5,7 @@ use Rattle.f77_ast.specs.Store.{Content, Store}
 use Rattle.f77_ast.specs.Calls.{Actual, actuals}
 use Rattle.f77_ast.specs.Runs.{Whole, run}
 use Rattle.f77_ast.specs.Executions.{AtEndOf}
-use Rattle.f77_symbols.specs.Symbols.{SymbolTree}
+use Rattle.f77_ast.specs.Symbols.{SymbolTree}
 use Rattle.affine_forms.specs.Claims.{numbers_of}
 use Rattle.transformer_algebra.specs.Claims.{Scene}
 use Rattle.call_translation.specs.Call.{CallTree}

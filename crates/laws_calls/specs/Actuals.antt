@@ -4,7 +4,7 @@ use Rattle.f77_ast.specs.Trees.{ExprTree, ExprTrees}
 use Rattle.f77_ast.specs.Store.{Content, Store}
 use Rattle.f77_ast.specs.Places.{Variable, Names, Places, scalar_place}
 use Rattle.f77_ast.specs.Calls.{Actual, lent, in_place}
-use Rattle.f77_symbols.specs.declared.variable.Unit.{Unit as BlockUnit}
+use Rattle.f77_ast.specs.declared.variable.Unit.{Unit as BlockUnit}
 use Rattle.affine_forms.specs.Forms.{affine_of}
 use Rattle.affine_forms.specs.Claims.{unit_in, numbers_of, Agrees}
 use Rattle.transformer_algebra.specs.Claims.{Scene, Means}

@@ -2,10 +2,10 @@
 -- when the CALL begins and ends, and how each cell of the caller may be reached in between (ANSI X3.9-1978 §15.9.3, §8.3). In what follows h is the
 -- scene of the caller and k that of what is called.
 use Rattle.std.specs.Prelude.{◌≡◌, ℕ, true, List, [], Some, ℤ}
-use Rattle.f77_symbols.specs.declared.symbol.Place.TheVariants.{Dummy}
-use Rattle.f77_symbols.specs.declared.variable.Unit.{Unit as BlockUnit}
-use Rattle.f77_symbols.specs.Symbols.{SymbolTree}
-use Rattle.f77_symbols.specs.Shared.{place_at}
+use Rattle.f77_ast.specs.declared.symbol.Place.TheVariants.{Dummy}
+use Rattle.f77_ast.specs.declared.variable.Unit.{Unit as BlockUnit}
+use Rattle.f77_ast.specs.Symbols.{SymbolTree}
+use Rattle.f77_ast.specs.Shared.{place_at}
 use Rattle.transformer_algebra.specs.Claims.{Scene, Kept, Means}
 use Rattle.call_translation.specs.Actuals.{actual_of, form_in}
 use Rattle.call_translation.specs.Call.{CallTree, actual_cell}

@@ -1,9 +1,9 @@
 -- What is known where a module is entered, on units and numbers: by a CALL, or as the main program.
 use Rattle.std.specs.Prelude.{◌≡◌, ℕ, true, List, ◌∷◌, Some, ℤ}
-use Rattle.f77_symbols.specs.declared.symbol.Place.TheVariants.{Dummy}
-use Rattle.f77_symbols.specs.declared.symbol.InitialRun.{InitialRun}
-use Rattle.f77_symbols.specs.Symbols.{SymbolTree}
-use Rattle.f77_symbols.specs.Shared.{symbol_at}
+use Rattle.f77_ast.specs.declared.symbol.Place.TheVariants.{Dummy}
+use Rattle.f77_ast.specs.declared.symbol.InitialRun.{InitialRun}
+use Rattle.f77_ast.specs.Symbols.{SymbolTree}
+use Rattle.f77_ast.specs.Shared.{symbol_at}
 use Rattle.affine_forms.specs.Scalars.{is_cell}
 use Rattle.tracked_cells.specs.Standing.{is_int_scalar}
 use Rattle.transformer_algebra.specs.Claims.{Scene}

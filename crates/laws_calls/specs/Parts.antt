@@ -5,10 +5,10 @@ use Rattle.f77_ast.specs.Places.{Variable, Place, Places}
 use Rattle.f77_ast.specs.Writes.{Locks}
 use Rattle.f77_ast.specs.Calls.{Dummy, first_place, other_places, in_place, scalars_bound}
 use Rattle.f77_ast.specs.Programs.{Routine}
-use Rattle.f77_symbols.specs.declared.symbol.Place.TheVariants.{Dummy as DummyPlace}
-use Rattle.f77_symbols.specs.declared.variable.Unit.{Unit as BlockUnit}
-use Rattle.f77_symbols.specs.Symbols.{SymbolTree}
-use Rattle.f77_symbols.specs.Shared.{symbol_at, place_at}
+use Rattle.f77_ast.specs.declared.symbol.Place.TheVariants.{Dummy as DummyPlace}
+use Rattle.f77_ast.specs.declared.variable.Unit.{Unit as BlockUnit}
+use Rattle.f77_ast.specs.Symbols.{SymbolTree}
+use Rattle.f77_ast.specs.Shared.{symbol_at, place_at}
 use Rattle.tracked_cells.specs.Standing.{is_int_scalar}
 use Rattle.tracked_cells.specs.Scalars.{unit}
 use Rattle.affine_forms.specs.Scalars.{is_cell}

@@ -2,7 +2,7 @@
 use Rattle.std.specs.Prelude.{◌≡◌, ℕ, true, List, Option, Some, ℤ}
 use Rattle.affine_systems.specs.declared.row.System.{System}
 use Rattle.f77_ast.specs.Trees.{ExprTrees}
-use Rattle.f77_symbols.specs.Symbols.{SymbolTree}
+use Rattle.f77_ast.specs.Symbols.{SymbolTree}
 use Rattle.affine_forms.specs.Scalars.{is_cell}
 use Rattle.f77_results.specs.Summaries.{SummaryTree}
 use Rattle.transformer_algebra.specs.declared.transformer.Transformer.{Transformer}

@@ -1,9 +1,9 @@
 -- What is known of the scene of a module where a CALL stands or leads: where its tracked cells are, by its table of symbols.
 use Rattle.std.specs.Prelude.{◌≡◌, ℕ, true, false, ◌&&◌, List, Some}
-use Rattle.f77_symbols.specs.declared.symbol.Place.TheVariants.{Block}
-use Rattle.f77_symbols.specs.declared.variable.Unit.{Unit as BlockUnit}
-use Rattle.f77_symbols.specs.Symbols.{SymbolTree}
-use Rattle.f77_symbols.specs.Shared.{place_at}
+use Rattle.f77_ast.specs.declared.symbol.Place.TheVariants.{Block}
+use Rattle.f77_ast.specs.declared.variable.Unit.{Unit as BlockUnit}
+use Rattle.f77_ast.specs.Symbols.{SymbolTree}
+use Rattle.f77_ast.specs.Shared.{place_at}
 use Rattle.tracked_cells.specs.Scalars.{unit}
 use Rattle.affine_forms.specs.Scalars.{is_cell}
 use Rattle.transformer_algebra.specs.Claims.{Scene}

@@ -15,7 +15,7 @@ use Rattle.laws_statements.specs.CallsIn.{Each}
 use Rattle.laws_database.specs.ResultCallees.{Summaries}
 use Rattle.laws_database.specs.ResultCallers.{calls_by, caller_names}
 use Rattle.laws_database.specs.ResultNeeds.{SameAt}
-use Rattle.result_rules.specs.Callees.{Callee, summary_of, callee_at, callees_of}
+use Rattle.region_phases.specs.Callees.{Callee, summary_of, callee_at, callees_of}
 use Rattle.pipsmake_rules.specs.declared.kind.Kind.{Kind}
 use Rattle.pipsmake_rules.specs.declared.key.Key.{Key}
 use Rattle.pipsmake_rules.specs.Keys.{key_of}

@@ -2,7 +2,7 @@
 use Rattle.std.proofs.Common.{◌≡◌, ℕ, Bool, true, false, List, [], ◌∷◌, ◌++◌, map, Option, Some, refl, sym, ap, ◌∙◌, subst}
 use Rattle.std.specs.Prelude.{bytes_eq, cond, reverse, option_map, option_and_then, option_to_list, Ok, if◌then◌else◌}
 use Rattle.std.specs.List.{filter}
-use Rattle.f77_symbols.specs.declared.variable.Unit.{Unit as BlockUnit}
+use Rattle.f77_ast.specs.declared.variable.Unit.{Unit as BlockUnit}
 use Rattle.f77_results.specs.declared.results.Results.{Results}
 use Rattle.f77_meaning.specs.Linked.{callees}
 use Rattle.f77_meaning.specs.Modules.{Known, symbol_names}
@@ -42,9 +42,9 @@ use Rattle.f77_printer.specs.ModuleText as printer
 use Rattle.result_lines.specs.Lines.{lines_of}
 use Rattle.result_lines.specs.declared.show.Show.{Show}
 use Rattle.result_lines.specs.declared.show.Show.TheVariants.{All}
-use Rattle.result_rules.specs.Callees as rules
-use Rattle.result_rules.specs.Callers as rules_up
-use Rattle.result_rules.specs.Rules.{preconditions_from, regions_from, ins_from, outs_from}
+use Rattle.region_phases.specs.Callees as rules
+use Rattle.region_phases.specs.Callers as rules_up
+use Rattle.region_phases.specs.Rules.{preconditions_from, regions_from, ins_from, outs_from}
 use Rattle.pipsmake_rules.specs.declared.kind.Kind.{Kind}
 use Rattle.pipsmake_rules.specs.declared.kind.Kind.TheVariants as kind
 use Rattle.pipsmake_rules.specs.declared.key.Key.{Key}

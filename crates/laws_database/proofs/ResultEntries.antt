@@ -3,7 +3,7 @@ use Rattle.std.proofs.Common.{◌≡◌, ◌⊎◌, inl, inr, ℕ, zero, suc, fa
 use Rattle.std.specs.Prelude.{map, reverse, slice_get, bytes_eq, option_to_list, if◌then◌else◌}
 use mathlib.Core.List.{map-map, reverse-reverse}
 use Rattle.f77_ast.specs.DeclTrees.{ParsedTree}
-use Rattle.f77_symbols.specs.Symbols.{SymbolTree}
+use Rattle.f77_ast.specs.Symbols.{SymbolTree}
 use Rattle.call_graph.specs.declared.graph.Graph.{Graph}
 use Rattle.f77_meaning.specs.Modules.{Known, known_of}
 use Rattle.scalar_phases.specs.Phases.{module_of, Found, Analysis, analyses_from, analyses}

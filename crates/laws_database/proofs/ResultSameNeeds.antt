@@ -4,8 +4,8 @@ use Rattle.std.specs.Prelude.{map, reverse, bytes_eq, cond, option_map, option_t
 use Rattle.std.specs.List.{filter}
 use Rattle.affine_systems.specs.declared.row.System.{System}
 use Rattle.f77_ast.specs.DeclTrees.{ParsedTree}
-use Rattle.f77_symbols.specs.declared.variable.Unit.{Unit as BlockUnit}
-use Rattle.f77_symbols.specs.Symbols.{SymbolTree}
+use Rattle.f77_ast.specs.declared.variable.Unit.{Unit as BlockUnit}
+use Rattle.f77_ast.specs.Symbols.{SymbolTree}
 use Rattle.f77_results.specs.declared.results.Results.{Results}
 use Rattle.call_graph.specs.declared.graph.Block.{Block}
 use Rattle.call_graph.specs.declared.graph.Graph.{Graph}

@@ -4,7 +4,7 @@ use Rattle.std.specs.Prelude.{option_map, option_and_then, option_to_list, codes
 use Rattle.affine_systems.specs.declared.row.System.{System}
 use Rattle.f77_ast.specs.declared.places.Places.{Places}
 use Rattle.f77_ast.specs.DeclTrees.{ModuleTree}
-use Rattle.f77_symbols.specs.Symbols.{SymbolTree}
+use Rattle.f77_ast.specs.Symbols.{SymbolTree}
 use Rattle.f77_results.specs.declared.results.Results.{Results}
 use Rattle.f77_meaning.specs.Modules.{symbol_names}
 use Rattle.f77_printer.specs.ModuleText as printer
@@ -18,7 +18,7 @@ use Rattle.laws_statements.specs.CallsIn.{Each}
 use Rattle.laws_analyses.proofs.CallLists.{each_more}
 use Rattle.result_lines.specs.Lines.{lines_of}
 use Rattle.result_lines.specs.declared.show.Show.TheVariants.{All}
-use Rattle.result_rules.specs.Rules.{effects_from, transformers_from, preconditions_from, regions_from, ins_from, outs_from}
+use Rattle.region_phases.specs.Rules.{effects_from, transformers_from, preconditions_from, regions_from, ins_from, outs_from}
 use Rattle.pipsmake_rules.specs.declared.kind.Kind.{Kind}
 use Rattle.pipsmake_rules.specs.declared.kind.Kind.TheVariants as kind
 use Rattle.pipsmake_rules.specs.declared.key.Key.{Key}

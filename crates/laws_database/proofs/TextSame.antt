@@ -2,7 +2,7 @@
 use Rattle.std.proofs.Common.{◌≡◌, ℕ, List, [], ◌∷◌, ◌++◌, map, refl, ap, ◌∙◌}
 use Rattle.std.specs.Prelude.{Option, Some, None}
 use Rattle.f77_ast.specs.DeclTrees.{ModuleTree, ParsedTree}
-use Rattle.f77_symbols.specs.Symbols.{SymbolTree}
+use Rattle.f77_ast.specs.Symbols.{SymbolTree}
 use Rattle.f77_printer.specs.ModuleText as printer
 use Rattle.call_graph.specs.declared.graph.Graph.{Graph}
 use Rattle.f77_meaning.specs.Modules.{Known, known_of}

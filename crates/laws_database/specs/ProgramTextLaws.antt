@@ -1,7 +1,7 @@
 -- A program is the same, and is written as the same text, whether one text has its modules or each has its own.
 use Rattle.std.specs.Prelude.{◌≡◌, ℕ, List, map, Some, Ok}
 use Rattle.f77_ast.specs.DeclTrees.{ParsedTree}
-use Rattle.f77_symbols.specs.Symbols.{SymbolTree}
+use Rattle.f77_ast.specs.Symbols.{SymbolTree}
 use Rattle.call_graph.specs.declared.graph.Graph.{Graph}
 use Rattle.module_texts.specs.Pieces.{pieces_of}
 use Rattle.result_lines.specs.declared.show.Show.{Show}

@@ -1,7 +1,7 @@
 -- The written text of a program, and of texts of its modules.
 use Rattle.std.specs.Prelude.{ℕ, List, [], ◌∷◌, ◌++◌, map, Option, Some, None, option_map, option_and_then}
 use Rattle.f77_ast.specs.DeclTrees.{ModuleTree, ParsedTree}
-use Rattle.f77_symbols.specs.Symbols.{SymbolTree}
+use Rattle.f77_ast.specs.Symbols.{SymbolTree}
 use Rattle.f77_printer.specs.declared.added.Added.{Added}
 use Rattle.f77_printer.specs.ModuleText as printer
 use Rattle.call_graph.specs.declared.graph.Graph.{Graph}

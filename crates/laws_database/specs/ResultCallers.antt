@@ -2,7 +2,7 @@
 use Rattle.std.specs.Prelude.{ℕ, Bool, List, map, reverse, Option, option_map, bytes_eq}
 use Rattle.std.specs.List.{list_any, filter}
 use Rattle.affine_systems.specs.declared.row.System.{System}
-use Rattle.f77_symbols.specs.declared.variable.Unit.{Unit as BlockUnit}
+use Rattle.f77_ast.specs.declared.variable.Unit.{Unit as BlockUnit}
 use Rattle.f77_results.specs.declared.results.Results.{Results}
 use Rattle.f77_meaning.specs.Modules.{Known}
 use Rattle.f77_meaning.specs.Linked.{callees}

@@ -2,8 +2,8 @@
 use Rattle.std.specs.Prelude.{◌≡◌, ℕ, List, map, reverse, slice_get, Some}
 use Rattle.f77_ast.specs.Trees.{StmtTrees}
 use Rattle.f77_ast.specs.DeclTrees.{ParsedTree}
-use Rattle.f77_symbols.specs.declared.variable.Unit.{Unit as BlockUnit}
-use Rattle.f77_symbols.specs.Symbols.{SymbolTree}
+use Rattle.f77_ast.specs.declared.variable.Unit.{Unit as BlockUnit}
+use Rattle.f77_ast.specs.Symbols.{SymbolTree}
 use Rattle.f77_results.specs.declared.effect_set.EffectSet.{EffectSet}
 use Rattle.f77_results.specs.declared.results.At.{At}
 use Rattle.f77_meaning.specs.Modules.{Known, known_of}

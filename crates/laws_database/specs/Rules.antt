@@ -19,9 +19,9 @@ use Rattle.pipsmake_rules.specs.Neighbours.{callees_of, callers_of}
 use Rattle.result_lines.specs.Lines.{ModuleResults, lines_of}
 use Rattle.result_lines.specs.declared.show.Show.{Show}
 use Rattle.result_lines.specs.declared.show.Show.TheVariants.{All}
-use Rattle.result_rules.specs.Callees.{Callee}
-use Rattle.result_rules.specs.Callers.{CallerHolds, CallerOuts}
-use Rattle.result_rules.specs.Rules.{effects_from, transformers_from, preconditions_from, regions_from, ins_from, outs_from}
+use Rattle.region_phases.specs.Callees.{Callee}
+use Rattle.region_phases.specs.Callers.{CallerHolds, CallerOuts}
+use Rattle.region_phases.specs.Rules.{effects_from, transformers_from, preconditions_from, regions_from, ins_from, outs_from}
 use Rattle.laws_database.specs.Texts.{ModuleText, ReadModule, graph_of}
 use Rattle.laws_database.specs.Definitions.{module_named, definition}
 use Rattle.laws_database.specs.Shelves.{Shelves, kept_of}

@@ -3,7 +3,7 @@ use Rattle.std.specs.Prelude.{ℕ, List}
 use Rattle.affine_systems.specs.declared.row.System.{System}
 use Rattle.f77_ast.specs.declared.places.Places.{Places}
 use Rattle.f77_ast.specs.DeclTrees.{ModuleTree}
-use Rattle.f77_symbols.specs.Symbols.{SymbolTree}
+use Rattle.f77_ast.specs.Symbols.{SymbolTree}
 use Rattle.call_graph.specs.declared.graph.Graph.{Graph}
 use Rattle.f77_results.specs.declared.effect_set.EffectSet.{EffectSet}
 use Rattle.f77_results.specs.declared.results.At.{At}

@@ -5,8 +5,8 @@ use Rattle.f77_ast.specs.Store.{put}
 use Rattle.f77_ast.specs.Steps.{Done, ◌>>=◌}
 use Rattle.f77_ast.specs.Places.{Dim, Place, Places}
 use Rattle.f77_ast.specs.Calls.{Dummy, first_place, other_places, array_place, dims_read, dummy_bound, arrays_bound}
-use Rattle.f77_symbols.specs.Symbols.{BoundTree, SymbolTree}
-use Rattle.f77_symbols.specs.Shared.{symbol_at}
+use Rattle.f77_ast.specs.Symbols.{BoundTree, SymbolTree}
+use Rattle.f77_ast.specs.Shared.{symbol_at}
 use Rattle.call_graph.specs.Actuals.{has_bounds}
 use Rattle.f77_meaning.specs.Modules.{names}
 use Rattle.f77_meaning.proofs.ModuleLaws.{numbered_place}

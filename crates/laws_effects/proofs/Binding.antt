@@ -8,9 +8,9 @@ use Rattle.f77_ast.specs.Steps.{Done}
 use Rattle.f77_ast.specs.Places.{Dim, Place, Places, scalar_place, total_size}
 use Rattle.f77_ast.specs.Values.{fault}
 use Rattle.f77_ast.specs.Calls.{Dummy, first_place, other_places, scalars_bound, is_open, open_extent, array_at, array_place, in_place}
-use Rattle.f77_symbols.specs.declared.symbol.Place.{Place as SymbolPlace}
-use Rattle.f77_symbols.specs.declared.symbol.Place.TheVariants as place
-use Rattle.f77_symbols.specs.Symbols.{SymbolTree}
+use Rattle.f77_ast.specs.declared.symbol.Place.{Place as SymbolPlace}
+use Rattle.f77_ast.specs.declared.symbol.Place.TheVariants as place
+use Rattle.f77_ast.specs.Symbols.{SymbolTree}
 use Rattle.f77_meaning.specs.Modules.{tag_of, bound_of, as_dummy, dummies_from}
 use Rattle.laws_effects.specs.Tables.{is_dummy, HasNoDummy, DummiesLead}
 use Rattle.laws_effects.proofs.Access.{Allowed}

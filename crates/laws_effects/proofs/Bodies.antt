@@ -11,8 +11,8 @@ use Rattle.f77_ast.specs.Lists.{Part, list_plan}
 use Rattle.f77_ast.specs.Calls.{Meaning, forget_all, arrays_bound, lock_doubly}
 use Rattle.f77_ast.specs.Statements.{spot, execution, parts, body_plan}
 use Rattle.f77_ast.specs.Programs.{scope, body_of, called}
-use Rattle.f77_symbols.specs.Symbols.{SymbolTree}
-use Rattle.f77_symbols.specs.Shared.{symbol_at}
+use Rattle.f77_ast.specs.Symbols.{SymbolTree}
+use Rattle.f77_ast.specs.Shared.{symbol_at}
 use Rattle.call_graph.specs.declared.graph.Graph.{Graph}
 use Rattle.f77_results.specs.Effects.{no_effect}
 use Rattle.f77_meaning.specs.Modules.{Known, names, dummies_from}

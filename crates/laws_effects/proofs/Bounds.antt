@@ -8,10 +8,10 @@ use Rattle.f77_ast.specs.Numbers.{unary_number, unary_tag, binary_number, binary
 use Rattle.f77_ast.specs.Places.{Meant, Constant, Variable, Function, Dim, Places}
 use Rattle.f77_ast.specs.Values.{given, name_value, value}
 use Rattle.f77_ast.specs.Calls.{high_value, dims_read}
-use Rattle.f77_symbols.specs.declared.variable.Variable.{Variable as Named}
-use Rattle.f77_symbols.specs.declared.variable.Variable.TheVariants.{Own}
-use Rattle.f77_symbols.specs.Symbols.{BoundTree, SymbolTree, number_from}
-use Rattle.f77_symbols.specs.Shared.{symbol_at}
+use Rattle.f77_ast.specs.declared.variable.Variable.{Variable as Named}
+use Rattle.f77_ast.specs.declared.variable.Variable.TheVariants.{Own}
+use Rattle.f77_ast.specs.Symbols.{BoundTree, SymbolTree, number_from}
+use Rattle.f77_ast.specs.Shared.{symbol_at}
 use Rattle.f77_results.specs.Variables.{union}
 use Rattle.call_graph.specs.Actuals.{has_bounds, is_array}
 use Rattle.f77_meaning.specs.Modules.{names, symbol_names, bound_of}

@@ -7,7 +7,7 @@ use Rattle.f77_ast.specs.Places.{Place, Places}
 use Rattle.f77_ast.specs.Writes.{Locks}
 use Rattle.f77_ast.specs.Plans.{◌▹◌}
 use Rattle.f77_ast.specs.Calls.{Meaning, Actual, actuals, places_of, own_units, lock_own, after_call}
-use Rattle.f77_symbols.specs.declared.variable.Variable.{Variable}
+use Rattle.f77_ast.specs.declared.variable.Variable.{Variable}
 use Rattle.call_graph.specs.declared.graph.Graph.{Graph}
 use Rattle.call_graph.specs.Actuals.{actuals_of, all_fit}
 use Rattle.f77_meaning.specs.Areas.{is_own_unit, own, unit_at}

@@ -6,9 +6,9 @@ use Rattle.f77_ast.specs.declared.decl.Scalar.TheVariants as scalar
 use Rattle.f77_ast.specs.Plain.{exprs_of}
 use Rattle.f77_ast.specs.Trees.{int, name, element, StmtTrees, stmt, assign, call, print, read}
 use Rattle.f77_ast.specs.DeclTrees.{ParsedTree}
-use Rattle.f77_symbols.specs.declared.symbol.Place.TheVariants as place
-use Rattle.f77_symbols.specs.declared.variable.Variable.TheVariants.{Own}
-use Rattle.f77_symbols.specs.Symbols.{SymbolTree}
+use Rattle.f77_ast.specs.declared.symbol.Place.TheVariants as place
+use Rattle.f77_ast.specs.declared.variable.Variable.TheVariants.{Own}
+use Rattle.f77_ast.specs.Symbols.{SymbolTree}
 use Rattle.f77_results.specs.declared.effect_set.EffectSet.{EffectSet}
 use Rattle.f77_results.specs.Summaries.{SummaryTree}
 use Rattle.f77_ast.specs.Store.{Int, content}

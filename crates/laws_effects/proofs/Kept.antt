@@ -2,8 +2,8 @@
 use Rattle.std.proofs.Common.{inl, ℕ, List, [], ◌∷◌}
 use Rattle.f77_ast.specs.Trees.{ExprTree, ExprTrees, ArmTrees}
 use Rattle.f77_ast.specs.Trees as tree
-use Rattle.f77_symbols.specs.declared.variable.Variable.{Variable}
-use Rattle.f77_symbols.specs.Symbols.{BoundTree, SymbolTree}
+use Rattle.f77_ast.specs.declared.variable.Variable.{Variable}
+use Rattle.f77_ast.specs.Symbols.{BoundTree, SymbolTree}
 use Rattle.f77_results.specs.Variables.{union}
 use Rattle.effects.specs.Names.{variable_named}
 use Rattle.effects.specs.Reads.{reads, with_reads, inner_reads, actual_reads, with_actuals, with_items, with_named}

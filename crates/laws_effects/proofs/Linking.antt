@@ -2,7 +2,7 @@
 use Rattle.std.proofs.Common.{inl, ℕ, List, [], ◌∷◌, refl}
 use Rattle.f77_ast.specs.Trees.{ExprTrees, StmtTree, StmtTrees, WhatTree, ArmTree, ArmTrees, ElseTree, LoopTree}
 use Rattle.f77_ast.specs.Trees as tree
-use Rattle.f77_symbols.specs.Symbols.{SymbolTree}
+use Rattle.f77_ast.specs.Symbols.{SymbolTree}
 use Rattle.call_graph.specs.declared.calls.Called.{Called}
 use Rattle.call_graph.specs.Actuals.{actuals_of}
 use Rattle.call_graph.specs.Calls.{with_list, with_stmt, with_what, with_arms, with_arm, with_else, with_loop}

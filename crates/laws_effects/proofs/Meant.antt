@@ -5,10 +5,10 @@ use Rattle.std.proofs.lemmas.Slice.Eq.{bytes_eq-Decides}
 use Rattle.std.proofs.lemmas.Bool.{eqb-true}
 use Rattle.f77_ast.specs.declared.decl.Scalar.{Scalar}
 use Rattle.f77_ast.specs.Places.{Variable, Function}
-use Rattle.f77_symbols.specs.declared.symbol.Place.{Place}
-use Rattle.f77_symbols.specs.declared.symbol.Place.TheVariants as place
-use Rattle.f77_symbols.specs.Symbols.{SymbolTree, number_from}
-use Rattle.f77_symbols.specs.Shared.{symbol_at}
+use Rattle.f77_ast.specs.declared.symbol.Place.{Place}
+use Rattle.f77_ast.specs.declared.symbol.Place.TheVariants as place
+use Rattle.f77_ast.specs.Symbols.{SymbolTree, number_from}
+use Rattle.f77_ast.specs.Shared.{symbol_at}
 use Rattle.call_graph.specs.Actuals.{symbol_with_name}
 use Rattle.f77_meaning.specs.Modules.{symbol_names, is_function, meant_by, meant_at, meant_in, names}
 use Rattle.f77_meaning.proofs.UnitLaws.{number_least}

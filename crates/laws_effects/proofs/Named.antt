@@ -7,8 +7,8 @@ use Rattle.std.specs.Ordering.{nat_cmp, is_eq, MatchOrdering, match_ordering}
 use Rattle.std.specs.Cmp.{ranks}
 use Rattle.std.proofs.lemmas.Map.Text.{is_eq-slice_cmp}
 use Rattle.std.proofs.lemmas.Slice.Eq.{bytes_eq-Decides}
-use Rattle.f77_symbols.specs.declared.variable.Variable.{Variable}
-use Rattle.f77_symbols.specs.declared.variable.Variable.TheVariants.{Own, Block, Saved}
+use Rattle.f77_ast.specs.declared.variable.Variable.{Variable}
+use Rattle.f77_ast.specs.declared.variable.Variable.TheVariants.{Own, Block, Saved}
 use Rattle.f77_results.specs.Variables.{variable_text, text_cmp, variable_cmp, merged, union}
 
 -- an own symbol's number, or what is written

@@ -7,7 +7,7 @@ use Rattle.f77_ast.specs.Store.{Content, Store, put, undefined}
 use Rattle.f77_ast.specs.Runs.{Answer, Gave, Broke, store_of, first_of, rest_of}
 use Rattle.f77_ast.specs.Plans.{Flow, Plan, Ends, Breaks, Look, Set, Hold, Forget, Show, Take, Within}
 use Rattle.f77_ast.specs.Executions.{run_of, AtEnd}
-use Rattle.f77_symbols.specs.Symbols.{SymbolTree}
+use Rattle.f77_ast.specs.Symbols.{SymbolTree}
 use Rattle.call_graph.specs.declared.graph.Graph.{Graph}
 use Rattle.f77_results.specs.declared.effect_set.EffectSet.{EffectSet}
 use Rattle.f77_results.specs.declared.results.At.{At}

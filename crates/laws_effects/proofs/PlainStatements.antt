@@ -2,12 +2,12 @@
 use Rattle.std.proofs.Common.{◌≡◌, ℕ, zero, suc, ◌-◌, Bool, true, false, List, [], ◌∷◌, Option, Some, None}
 use Rattle.f77_ast.specs.Trees.{ExprTree, ExprTrees, StmtTree, StmtTrees, WhatTree, ArmTree, ArmTrees, ElseTree, LoopTree}
 use Rattle.f77_ast.specs.Trees as tree
-use Rattle.f77_symbols.specs.declared.symbol.Place.{Place}
-use Rattle.f77_symbols.specs.declared.symbol.Place.TheVariants as place
-use Rattle.f77_symbols.specs.declared.variable.Variable.{Variable}
-use Rattle.f77_symbols.specs.declared.variable.Variable.TheVariants.{Own, Block, Saved}
-use Rattle.f77_symbols.specs.Symbols.{SymbolTree}
-use Rattle.f77_symbols.specs.Shared.{symbol_at}
+use Rattle.f77_ast.specs.declared.symbol.Place.{Place}
+use Rattle.f77_ast.specs.declared.symbol.Place.TheVariants as place
+use Rattle.f77_ast.specs.declared.variable.Variable.{Variable}
+use Rattle.f77_ast.specs.declared.variable.Variable.TheVariants.{Own, Block, Saved}
+use Rattle.f77_ast.specs.Symbols.{SymbolTree}
+use Rattle.f77_ast.specs.Shared.{symbol_at}
 use Rattle.f77_results.specs.declared.effect_set.EffectSet.{EffectSet}
 use Rattle.f77_results.specs.Variables.{union}
 use Rattle.f77_results.specs.Effects.{unite}

@@ -3,8 +3,8 @@ use Rattle.std.proofs.Common.{ℕ, Bool, true, false, List, [], ◌∷◌, Optio
 use Rattle.std.specs.Prelude.{if◌then◌else◌}
 use Rattle.f77_ast.specs.Trees.{ExprTree, ExprTrees, StmtTree, StmtTrees, WhatTree, ArmTree, ArmTrees, ElseTree, LoopTree}
 use Rattle.f77_ast.specs.Trees as tree
-use Rattle.f77_symbols.specs.declared.variable.Variable.{Variable}
-use Rattle.f77_symbols.specs.Symbols.{BoundTree, SymbolTree}
+use Rattle.f77_ast.specs.declared.variable.Variable.{Variable}
+use Rattle.f77_ast.specs.Symbols.{BoundTree, SymbolTree}
 use Rattle.f77_results.specs.declared.effect_set.EffectSet.{EffectSet}
 use Rattle.f77_results.specs.Variables.{union}
 use Rattle.call_graph.specs.Actuals.{symbol_with_name as symbol_of, is_array}

@@ -9,8 +9,8 @@ use Rattle.f77_ast.specs.Plans.{Ends, Within}
 use Rattle.f77_ast.specs.Calls.{scalars_bound}
 use Rattle.f77_ast.specs.Statements.{spot}
 use Rattle.f77_ast.specs.Programs.{Routine, body_of, called, meanings, program_plan}
-use Rattle.f77_symbols.specs.declared.symbol.Place.{Place as SymbolPlace}
-use Rattle.f77_symbols.specs.declared.symbol.Place.TheVariants as place
+use Rattle.f77_ast.specs.declared.symbol.Place.{Place as SymbolPlace}
+use Rattle.f77_ast.specs.declared.symbol.Place.TheVariants as place
 use Rattle.call_graph.specs.declared.graph.Graph.{Graph}
 use Rattle.f77_meaning.specs.Modules.{Known, dummies_from, fixed}
 use Rattle.f77_meaning.specs.Linked.{numbering, routine, named, subroutines_among, subroutines, main_of, program_of}

@@ -11,7 +11,7 @@ use Rattle.f77_ast.specs.Places.{Meant, Constant, Variable, Function, Places, el
 use Rattle.f77_ast.specs.Values.{fault, unit_after, value, values, Target, to, name_target, element_target, target, shown, all_shown}
 use Rattle.f77_ast.specs.Writes.{Locks, written, write, assigned, is_value, taken, items_read}
 use Rattle.f77_ast.specs.Loops.{Range, range, step_value, range_of}
-use Rattle.f77_symbols.specs.declared.variable.Variable.{Variable as Named}
+use Rattle.f77_ast.specs.declared.variable.Variable.{Variable as Named}
 use Rattle.f77_results.specs.Variables.{union}
 use Rattle.call_graph.specs.declared.graph.Graph.{Graph}
 use Rattle.f77_meaning.specs.Modules.{Known, names}

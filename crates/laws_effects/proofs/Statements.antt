@@ -20,7 +20,7 @@ use Rattle.f77_results.specs.declared.effect_set.EffectSet.{EffectSet}
 use Rattle.f77_results.specs.declared.results.At.{At}
 use Rattle.f77_results.specs.Variables.{union}
 use Rattle.f77_results.specs.Effects.{unite}
-use Rattle.f77_symbols.specs.declared.variable.Variable.{Variable as Named}
+use Rattle.f77_ast.specs.declared.variable.Variable.{Variable as Named}
 use Rattle.f77_meaning.specs.Modules.{Known, names}
 use Rattle.f77_meaning.specs.Linked.{routine}
 use Rattle.f77_meaning.specs.Occurrences.{Occurrence}

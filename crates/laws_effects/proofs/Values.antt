@@ -11,9 +11,9 @@ use Rattle.f77_ast.specs.Store.{Int}
 use Rattle.f77_ast.specs.Places.{Meant, Constant, Variable, Function, Place, Places, position, within, element_in}
 use Rattle.f77_ast.specs.Faults.{Unset}
 use Rattle.f77_ast.specs.Values.{fault, given, read_unit, of_type, unit_after, name_value, intrinsic_value, element_value, value, values}
-use Rattle.f77_symbols.specs.declared.variable.Variable.{Variable as Named}
-use Rattle.f77_symbols.specs.declared.variable.Variable.TheVariants.{Own}
-use Rattle.f77_symbols.specs.Symbols.{SymbolTree}
+use Rattle.f77_ast.specs.declared.variable.Variable.{Variable as Named}
+use Rattle.f77_ast.specs.declared.variable.Variable.TheVariants.{Own}
+use Rattle.f77_ast.specs.Symbols.{SymbolTree}
 use Rattle.f77_results.specs.Variables.{union}
 use Rattle.call_graph.specs.declared.graph.Graph.{Graph}
 use Rattle.call_graph.specs.Actuals.{symbol_with_name as symbol_of, is_array}

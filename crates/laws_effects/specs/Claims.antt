@@ -5,7 +5,7 @@ use Rattle.f77_ast.specs.Runs.{Event, Arrived, Read, Wrote, Printed, Took, Answe
 use Rattle.f77_ast.specs.Places.{Places}
 use Rattle.f77_ast.specs.Plans.{Flow, Normal, Jump, Returned, Stopped}
 use Rattle.f77_ast.specs.Calls.{in_place}
-use Rattle.f77_symbols.specs.declared.variable.Variable.{Variable}
+use Rattle.f77_ast.specs.declared.variable.Variable.{Variable}
 use Rattle.call_graph.specs.declared.graph.Graph.{Graph}
 use Rattle.f77_meaning.specs.Modules.{Known}
 use Rattle.f77_meaning.specs.Occurrences.{Occurrence}

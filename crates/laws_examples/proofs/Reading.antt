@@ -23,7 +23,7 @@ use Rattle.f77_parser.specs.Gives.{Refused, and_then}
 use Rattle.f77_parser.specs.SoFar.{add_spot, add_executable, add_logical_if, open_block}
 use Rattle.f77_parser.specs.Building.{build_module}
 use Rattle.f77_parser.specs.Modules.{parse_of}
-use Rattle.f77_symbols.specs.Symbols.{SymbolTree}
+use Rattle.f77_ast.specs.Symbols.{SymbolTree}
 use Rattle.refusal_codes.specs.declared.refusal.Refusal.{Refusal}
 use Rattle.refusal_codes.specs.Refusals.{refuse_if, is_before}
 use Rattle.f77_names.specs.Entries.{find, place_in}

@@ -9,7 +9,7 @@ use Rattle.f77_ast.specs.Store.{Int, content}
 use Rattle.f77_ast.specs.Steps.{Shown, Value}
 use Rattle.f77_ast.specs.Plans.{Normal}
 use Rattle.f77_ast.specs.Programs.{Program}
-use Rattle.f77_symbols.specs.declared.symbol.Place.TheVariants.{Local}
+use Rattle.f77_ast.specs.declared.symbol.Place.TheVariants.{Local}
 use Rattle.f77_meaning.specs.Modules.{Known}
 use Rattle.f77_meaning.specs.Linked.{program_of}
 use Rattle.f77_meaning.proofs.CaseWords.{bound, symbol, main_module, graph, stmts_of}

@@ -12,8 +12,8 @@ use Rattle.f77_ast.specs.DeclTrees.{EntityTree, integer, ParsedTree}
 use Rattle.f77_ast.specs.Store.{Int, content}
 use Rattle.f77_ast.specs.Steps.{Value}
 use Rattle.f77_ast.specs.Runs.{Event, Arrived, Read, Wrote, Printed}
-use Rattle.f77_symbols.specs.declared.symbol.Place.TheVariants.{Local}
-use Rattle.f77_symbols.specs.Symbols.{SymbolTree}
+use Rattle.f77_ast.specs.declared.symbol.Place.TheVariants.{Local}
+use Rattle.f77_ast.specs.Symbols.{SymbolTree}
 use Rattle.call_graph.specs.declared.graph.Graph.{Graph}
 use Rattle.f77_meaning.specs.Modules.{Known, known_of}
 

@@ -15,7 +15,7 @@ use Rattle.hull_projection.specs.declared.parts.Minus.{Minus}
 use Rattle.hull_projection.specs.Refute.{refuted, above, below, negations}
 use Rattle.hull_projection.specs.Hull.{hull}
 use Rattle.hull_projection.specs.Minus.{difference, all_negations, parts, hull_all, minus_parts, minus}
-use Rattle.f77_symbols.specs.declared.variable.Variable.{Variable}
+use Rattle.f77_ast.specs.declared.variable.Variable.{Variable}
 use Rattle.region_sets.specs.declared.region.Region.{Region}
 use Rattle.region_sets.specs.Regions.{remade}
 use Rattle.region_sets.specs.Subtract.{less_from, less_one, less_each, less_all, before_left, left_of, all_left_exactly, unless_empty, all_apart, subtract}

@@ -3,8 +3,8 @@ use Rattle.std.proofs.Common.{◌≡◌, ℕ, Bool, List, [], ◌∷◌, ◌++�
 use Rattle.std.specs.Prelude.{option_to_list}
 use Rattle.affine_systems.proofs.Basics.{if_cases}
 use Rattle.f77_ast.specs.Trees.{StmtTrees}
-use Rattle.f77_symbols.specs.declared.variable.Variable.{Variable}
-use Rattle.f77_symbols.specs.Symbols.{SymbolTree}
+use Rattle.f77_ast.specs.declared.variable.Variable.{Variable}
+use Rattle.f77_ast.specs.Symbols.{SymbolTree}
 use Rattle.f77_results.specs.declared.results.At.{At}
 use Rattle.transformer_algebra.specs.declared.transformer.Transformer.{Transformer}
 use Rattle.transformers.specs.Jumps.{unstructured}

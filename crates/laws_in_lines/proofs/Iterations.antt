@@ -9,9 +9,9 @@ use Rattle.affine_systems.proofs.Basics.{if_cases}
 use Rattle.hull_projection.specs.Project.{project}
 use Rattle.hull_projection.specs.Laws.{IsOneOf}
 use Rattle.system_renaming.specs.Renaming.{naming, renamed_by, rename_all, push_rows}
-use Rattle.f77_symbols.specs.declared.variable.Variable.{Variable}
-use Rattle.f77_symbols.specs.declared.variable.Variable.TheVariants.{Own}
-use Rattle.f77_symbols.specs.Symbols.{SymbolTree}
+use Rattle.f77_ast.specs.declared.variable.Variable.{Variable}
+use Rattle.f77_ast.specs.declared.variable.Variable.TheVariants.{Own}
+use Rattle.f77_ast.specs.Symbols.{SymbolTree}
 use Rattle.affine_forms.specs.declared.affine.Affine.{Affine}
 use Rattle.affine_forms.specs.Comparisons.{var_form, at_most_row, below_row}
 use Rattle.transformer_algebra.specs.Loops.{goes_up, terms_stay, within_row, beyond_row}

@@ -1,8 +1,8 @@
 -- IN regions of a program, and their lines: which variables they have, and what the lines are read as.
 use Rattle.std.specs.Prelude.{List, All}
 use Rattle.f77_ast.specs.DeclTrees.{ParsedTree}
-use Rattle.f77_symbols.specs.declared.variable.Unit.{Unit as BlockUnit}
-use Rattle.f77_symbols.specs.Symbols.{SymbolTree}
+use Rattle.f77_ast.specs.declared.variable.Unit.{Unit as BlockUnit}
+use Rattle.f77_ast.specs.Symbols.{SymbolTree}
 use Rattle.call_graph.specs.declared.graph.Graph.{Graph}
 use Rattle.f77_meaning.specs.Modules.{known_of}
 use Rattle.scalar_phases.specs.Phases.{analyses}

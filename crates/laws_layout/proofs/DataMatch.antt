@@ -7,8 +7,8 @@ use Rattle.f77_ast.specs.Trees.{ExprTree, ExprTrees}
 use Rattle.f77_ast.specs.Trees as tree
 use Rattle.f77_ast.specs.DeclTrees.{DataTree, ParsedTree}
 use Rattle.f77_ast.specs.Places.{Dim}
-use Rattle.f77_symbols.specs.Symbols.{SymbolTree}
-use Rattle.f77_symbols.specs.Units.{units_in}
+use Rattle.f77_ast.specs.Symbols.{SymbolTree}
+use Rattle.f77_ast.specs.Units.{units_in}
 use Rattle.f77_names.specs.declared.lines.Sited.TheVariants.{Title}
 use Rattle.f77_names.specs.Lines.{line_or}
 use Rattle.f77_names.specs.Functions.{arrays_named}

@@ -3,8 +3,8 @@ use Rattle.std.proofs.Common.{◌≡◌, ℕ, zero, suc, ◌+◌, Bool, true, fa
 use Rattle.std.specs.Prelude.{slice_get, bytes_eq, is_some, if◌then◌else◌}
 use Rattle.std.proofs.lemmas.Slice.Eq.{bytes_eq-Decides}
 use Rattle.f77_ast.specs.DeclTrees.{ParsedTree}
-use Rattle.f77_symbols.specs.Symbols.{number_from}
-use Rattle.f77_symbols.proofs.NumbersLaws.{number_from-append}
+use Rattle.f77_ast.specs.Symbols.{number_from}
+use Rattle.f77_ast.proofs.NumbersLaws.{number_from-append}
 use Rattle.f77_names.specs.declared.lines.Sited.TheVariants.{Title}
 use Rattle.f77_names.specs.Lines.{line_or}
 use Rattle.f77_names.specs.Functions.{arrays_named}

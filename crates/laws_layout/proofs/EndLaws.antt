@@ -9,12 +9,12 @@ use Rattle.f77_ast.specs.Trees.{ExprTree}
 use Rattle.f77_ast.specs.DeclTrees.{EntityTree, CommonTree, DeclTree, ParsedTree}
 use Rattle.f77_ast.specs.DeclTrees as decl
 use Rattle.f77_ast.specs.Places.{Dim, as_count, total_size}
-use Rattle.f77_symbols.specs.declared.constant.Constant.{Constant}
-use Rattle.f77_symbols.specs.declared.constant.Constant.TheVariants as constant
-use Rattle.f77_symbols.specs.declared.constant.Worth.{Worth}
-use Rattle.f77_symbols.specs.declared.constant.Worth.TheVariants.{Is, Faults, Varies}
-use Rattle.f77_symbols.specs.Symbols.{BoundTree, SymbolTree}
-use Rattle.f77_symbols.specs.Units.{span_units, span_to, bound_units, bounds_units, units_in}
+use Rattle.f77_ast.specs.declared.constant.Constant.{Constant}
+use Rattle.f77_ast.specs.declared.constant.Constant.TheVariants as constant
+use Rattle.f77_ast.specs.declared.constant.Worth.{Worth}
+use Rattle.f77_ast.specs.declared.constant.Worth.TheVariants.{Is, Faults, Varies}
+use Rattle.f77_ast.specs.Symbols.{BoundTree, SymbolTree}
+use Rattle.f77_ast.specs.Units.{span_units, span_to, bound_units, bounds_units, units_in}
 use Rattle.f77_names.specs.Entries.{ShapeTree, EntryTree, value_among}
 use Rattle.f77_names.specs.Tables.{NameTable}
 use Rattle.f77_checks.specs.Dimensions.{worth_in, dim_from, dim_up_to, dim_of, with_dim, dims_of, has_bad_bound, is_too_big, entry_dims, dims_in}

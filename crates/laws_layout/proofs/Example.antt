@@ -4,12 +4,12 @@ use Rattle.std.specs.Prelude.{codes}
 use Rattle.f77_ast.specs.declared.decl.Scalar.TheVariants.{Int}
 use Rattle.f77_ast.specs.Trees.{ExprTree, ExprTrees, name, int, element, no_exprs, more_exprs}
 use Rattle.f77_ast.specs.DeclTrees.{EntityTree, DataTree, DeclTree, common, equivalence}
-use Rattle.f77_symbols.specs.declared.constant.Constant.TheVariants as constant
-use Rattle.f77_symbols.specs.declared.symbol.Place.{Place}
-use Rattle.f77_symbols.specs.declared.symbol.Place.TheVariants.{Local, Block}
-use Rattle.f77_symbols.specs.declared.symbol.InitialRun.{InitialRun}
-use Rattle.f77_symbols.specs.Symbols.{BoundTree, SymbolTree}
-use Rattle.f77_symbols.specs.Shared.{group_unit}
+use Rattle.f77_ast.specs.declared.constant.Constant.TheVariants as constant
+use Rattle.f77_ast.specs.declared.symbol.Place.{Place}
+use Rattle.f77_ast.specs.declared.symbol.Place.TheVariants.{Local, Block}
+use Rattle.f77_ast.specs.declared.symbol.InitialRun.{InitialRun}
+use Rattle.f77_ast.specs.Symbols.{BoundTree, SymbolTree}
+use Rattle.f77_ast.specs.Shared.{group_unit}
 use Rattle.storage_layout.specs.Statements.{members}
 use Rattle.laws_layout.specs.Layout.{LieInARow, element_number, ShareTheirFirst, in_group, Chained, GivesItsValues}
 

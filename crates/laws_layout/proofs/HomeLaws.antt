@@ -4,8 +4,8 @@ use Rattle.std.specs.Prelude.{slice_get, slice_set, if◌then◌else◌, bytes_e
 use Rattle.std.proofs.lemmas.Slice.Eq.{bytes_eq-Decides}
 use Rattle.f77_ast.specs.DeclTrees.{EntityTree, CommonTree, DeclTree}
 use Rattle.f77_ast.specs.DeclTrees as decl
-use Rattle.f77_symbols.specs.Symbols.{number_from}
-use Rattle.f77_symbols.proofs.NumbersLaws.{number_from-append}
+use Rattle.f77_ast.specs.Symbols.{number_from}
+use Rattle.f77_ast.proofs.NumbersLaws.{number_from-append}
 use Rattle.f77_names.specs.Tables.{NameTable}
 use Rattle.storage_groups.specs.declared.seat.Home.{Home}
 use Rattle.storage_groups.specs.declared.seat.Home.TheVariants.{Block, Own}

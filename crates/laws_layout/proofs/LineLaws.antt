@@ -3,7 +3,7 @@ use Rattle.std.proofs.Common.{◌≡◌, ℕ, Bool, true, false, List, Option, S
 use Rattle.std.specs.Prelude.{not, nat_eq}
 use Rattle.f77_ast.specs.Trees.{ExprTree, ExprTrees}
 use Rattle.f77_ast.specs.Trees as tree
-use Rattle.f77_symbols.specs.Constants.{turns_logical, joins_logical}
+use Rattle.f77_ast.specs.Constants.{turns_logical, joins_logical}
 use Rattle.refusal_codes.specs.declared.code.Code.{Code}
 use Rattle.refusal_codes.specs.declared.code.Code.TheVariants.{SubscriptCount, TypeMismatch, NotAnArray}
 use Rattle.refusal_codes.specs.declared.refusal.Refusal.{Refusal}

@@ -4,7 +4,7 @@ use Rattle.std.specs.Prelude.{if◌then◌else◌, nat_eq, nat_le, ◌&&◌, ◌
 use Rattle.std.specs.List.{list_any}
 use Rattle.std.proofs.lemmas.Bool.{or_parts, and_from}
 use Rattle.std.proofs.lemmas.Int.{ints}
-use Rattle.f77_symbols.specs.declared.constant.Constant.{Constant}
+use Rattle.f77_ast.specs.declared.constant.Constant.{Constant}
 use Rattle.storage_groups.specs.declared.seat.Seat.{Seat}
 use Rattle.storage_groups.specs.Seats.{same_home}
 use Rattle.storage_groups.proofs.BlockLaws.{same_home-refl}

@@ -5,9 +5,9 @@ use Rattle.std.specs.Ordering.{int_eq}
 use Rattle.std.proofs.lemmas.Bool.{and_parts, and_from, eqb-true, eq-eqb, cases_lt, leb-true, ltb-true, le-leb, lt-ltb}
 use Rattle.std.proofs.lemmas.Int.{ints}
 use Rattle.std.proofs.lemmas.List.{reverse-append}
-use Rattle.f77_symbols.specs.declared.constant.Constant.{Constant}
-use Rattle.f77_symbols.specs.Constants.{number_of}
-use Rattle.f77_symbols.specs.declared.symbol.InitialRun.{InitialRun}
+use Rattle.f77_ast.specs.declared.constant.Constant.{Constant}
+use Rattle.f77_ast.specs.Constants.{number_of}
+use Rattle.f77_ast.specs.declared.symbol.InitialRun.{InitialRun}
 use Rattle.f77_meaning.specs.Modules.{value_from}
 use Rattle.storage_data.specs.declared.deals.Piece.{Piece}
 use Rattle.storage_data.specs.Runs.{place_before, run_of, with_value, with_piece, pieces_for, is_next, one_run, behind, all_behind, initial_of}

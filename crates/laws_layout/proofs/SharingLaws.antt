@@ -4,8 +4,8 @@ use Rattle.std.specs.Prelude.{slice_get, if◌then◌else◌, unwrap_or, nat_eq,
 use Rattle.std.proofs.lemmas.Bool.{eqb-true}
 use Rattle.f77_ast.specs.DeclTrees.{ParsedTree}
 use Rattle.f77_ast.specs.Places.{as_count}
-use Rattle.f77_symbols.specs.declared.constant.Constant.{Constant}
-use Rattle.f77_symbols.specs.Shared.{OneUnit, group_unit, block_unit, unit_after}
+use Rattle.f77_ast.specs.declared.constant.Constant.{Constant}
+use Rattle.f77_ast.specs.Shared.{OneUnit, group_unit, block_unit, unit_after}
 use Rattle.storage_groups.specs.declared.seat.Home.{Home}
 use Rattle.storage_groups.specs.declared.seat.Home.TheVariants.{Block, Own}
 use Rattle.storage_groups.specs.declared.seat.Seat.{Seat}

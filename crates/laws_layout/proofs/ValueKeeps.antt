@@ -2,11 +2,11 @@
 use Rattle.std.proofs.Common.{ℕ, ◌+◌, Bool, true, false, List, [], ◌∷◌, sym, subst}
 use Rattle.f77_ast.specs.DeclTrees.{SettingTree, DeclTree}
 use Rattle.f77_ast.specs.DeclTrees as decl
-use Rattle.f77_symbols.specs.declared.constant.Constant.{Constant}
-use Rattle.f77_symbols.specs.declared.constant.Constant.TheVariants as constant
-use Rattle.f77_symbols.specs.declared.constant.Worth.{Worth}
-use Rattle.f77_symbols.specs.declared.constant.Worth.TheVariants.{Is, Faults, Varies}
-use Rattle.f77_symbols.specs.Constants.{worth}
+use Rattle.f77_ast.specs.declared.constant.Constant.{Constant}
+use Rattle.f77_ast.specs.declared.constant.Constant.TheVariants as constant
+use Rattle.f77_ast.specs.declared.constant.Worth.{Worth}
+use Rattle.f77_ast.specs.declared.constant.Worth.TheVariants.{Is, Faults, Varies}
+use Rattle.f77_ast.specs.Constants.{worth}
 use Rattle.f77_names.specs.declared.kinds.Kind.{Kind}
 use Rattle.f77_names.specs.declared.kinds.Kind.TheVariants.{Int, Log, Real}
 use Rattle.f77_names.specs.declared.lines.Sited.TheVariants.{Decl}

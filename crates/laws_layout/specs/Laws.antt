@@ -3,10 +3,10 @@ use Rattle.std.specs.Prelude.{◌≡◌, ◌+◌, ◌*◌, ◌<◌, ◌≤◌, �
 use Rattle.std.specs.List.{AllByRecursion}
 use Rattle.f77_ast.specs.DeclTrees.{DataTree, ParsedTree}
 use Rattle.f77_ast.specs.Places.{Dim, position}
-use Rattle.f77_symbols.specs.declared.symbol.Place.TheVariants.{Block}
-use Rattle.f77_symbols.specs.Symbols.{SymbolTree}
-use Rattle.f77_symbols.specs.Units.{units_in}
-use Rattle.f77_symbols.specs.Shared.{OneUnit, group_unit, block_unit, HasUnit}
+use Rattle.f77_ast.specs.declared.symbol.Place.TheVariants.{Block}
+use Rattle.f77_ast.specs.Symbols.{SymbolTree}
+use Rattle.f77_ast.specs.Units.{units_in}
+use Rattle.f77_ast.specs.Shared.{OneUnit, group_unit, block_unit, HasUnit}
 use Rattle.f77_meaning.specs.Linked.{offset_in}
 use Rattle.storage_data.specs.Laws.{IsNext}
 use Rattle.storage_layout.specs.Symbols.{symbols_of, valued, checked, laid, shared, filled}

@@ -6,13 +6,13 @@ use Rattle.f77_ast.specs.Trees as tree
 use Rattle.f77_ast.specs.DeclTrees.{EntityTree, CommonTree, DataValueTree, DataTree, DeclTree}
 use Rattle.f77_ast.specs.DeclTrees as decl
 use Rattle.f77_ast.specs.Places.{position}
-use Rattle.f77_symbols.specs.declared.constant.Constant.{Constant}
-use Rattle.f77_symbols.specs.declared.constant.Worth.TheVariants.{Is}
-use Rattle.f77_symbols.specs.Constants.{number_of, worth}
-use Rattle.f77_symbols.specs.declared.symbol.Place.TheVariants.{Block}
-use Rattle.f77_symbols.specs.Symbols.{SymbolTree, value_in}
-use Rattle.f77_symbols.specs.Units.{units_in}
-use Rattle.f77_symbols.specs.Shared.{OneUnit, unit_after}
+use Rattle.f77_ast.specs.declared.constant.Constant.{Constant}
+use Rattle.f77_ast.specs.declared.constant.Worth.TheVariants.{Is}
+use Rattle.f77_ast.specs.Constants.{number_of, worth}
+use Rattle.f77_ast.specs.declared.symbol.Place.TheVariants.{Block}
+use Rattle.f77_ast.specs.Symbols.{SymbolTree, value_in}
+use Rattle.f77_ast.specs.Units.{units_in}
+use Rattle.f77_ast.specs.Shared.{OneUnit, unit_after}
 use Rattle.tracked_cells.specs.Equivalences.{item_names}
 use Rattle.storage_layout.specs.Statements.{members, equivalences, Has}
 use Rattle.f77_meaning.specs.Modules.{as_number, dim_of, value_from}

@@ -20,10 +20,10 @@ use Rattle.system_renaming.specs.Renaming.{naming, renamed_by, rename_all, push_
 use Rattle.system_renaming.specs.Fresh.{above_rows}
 use Rattle.f77_ast.specs.Trees.{ExprTree, ExprTrees}
 use Rattle.f77_ast.specs.Trees as tree
-use Rattle.f77_symbols.specs.declared.symbol.Place.{Place}
-use Rattle.f77_symbols.specs.declared.symbol.Place.TheVariants.{Local, Dummy, Block, Constant}
-use Rattle.f77_symbols.specs.declared.variable.Unit.{Unit as BlockUnit}
-use Rattle.f77_symbols.specs.Shared.{place_at}
+use Rattle.f77_ast.specs.declared.symbol.Place.{Place}
+use Rattle.f77_ast.specs.declared.symbol.Place.TheVariants.{Local, Dummy, Block, Constant}
+use Rattle.f77_ast.specs.declared.variable.Unit.{Unit as BlockUnit}
+use Rattle.f77_ast.specs.Shared.{place_at}
 use Rattle.f77_results.specs.Summaries.{SummaryTree}
 use Rattle.affine_forms.specs.declared.affine.Affine.{Affine}
 use Rattle.affine_forms.specs.Scalars.{Scalars}

@@ -16,7 +16,7 @@ use Rattle.affine_systems.proofs.TidyLaws.{clash}
 use Rattle.system_text.specs.SystemText.{is_never, are_never}
 use Rattle.f77_ast.specs.Trees.{StmtTree, WhatTree, ArmTree, ArmTrees, ElseTree, LoopTree, StmtTrees}
 use Rattle.f77_ast.specs.Trees as tree
-use Rattle.f77_symbols.specs.declared.variable.Unit.{Unit as BlockUnit}
+use Rattle.f77_ast.specs.declared.variable.Unit.{Unit as BlockUnit}
 use Rattle.f77_printer.specs.declared.added.Added.{Added}
 use Rattle.f77_meaning.specs.Modules.{Known, symbol_names}
 use Rattle.affine_forms.specs.Scalars.{flag_of, is_cell}

@@ -1,7 +1,7 @@
 -- What is written of analyses is read as what they found.
 use Rattle.std.specs.Prelude.{List, All}
 use Rattle.f77_ast.specs.DeclTrees.{ParsedTree}
-use Rattle.f77_symbols.specs.Symbols.{SymbolTree}
+use Rattle.f77_ast.specs.Symbols.{SymbolTree}
 use Rattle.call_graph.specs.declared.graph.Graph.{Graph}
 use Rattle.f77_meaning.specs.Modules.{known_of, symbol_names}
 use Rattle.claim_lines.specs.ScalarLines.{scalar_lines_of}

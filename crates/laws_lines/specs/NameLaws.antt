@@ -4,7 +4,7 @@ use Rattle.std.specs.List.{list_all, IsDistinct}
 use Rattle.fixed_form.specs.declared.line.Lines.{Lines}
 use Rattle.f77_ast.specs.DeclTrees.{ParsedTree}
 use Rattle.f77_parser.specs.Modules.{parse_of}
-use Rattle.f77_symbols.specs.Symbols.{SymbolTree}
+use Rattle.f77_ast.specs.Symbols.{SymbolTree}
 use Rattle.f77_meaning.specs.Modules.{symbol_names}
 use Rattle.storage_layout.specs.Symbols.{symbols_of}
 use Rattle.roundtrip_systems.specs.Printed.{is_name}

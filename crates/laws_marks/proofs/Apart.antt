@@ -10,11 +10,11 @@ use Rattle.f77_ast.specs.Calls.{Dummy, in_place}
 use Rattle.f77_ast.specs.Places.{Variable}
 use Rattle.f77_ast.specs.Places as places
 use Rattle.f77_ast.specs.Programs.{Routine}
-use Rattle.f77_symbols.specs.declared.symbol.Place.{Place}
-use Rattle.f77_symbols.specs.declared.symbol.Place.TheVariants as place
-use Rattle.f77_symbols.specs.Symbols.{SymbolTree}
-use Rattle.f77_symbols.specs.Units.{units_in}
-use Rattle.f77_symbols.specs.Shared.{symbol_at}
+use Rattle.f77_ast.specs.declared.symbol.Place.{Place}
+use Rattle.f77_ast.specs.declared.symbol.Place.TheVariants as place
+use Rattle.f77_ast.specs.Symbols.{SymbolTree}
+use Rattle.f77_ast.specs.Units.{units_in}
+use Rattle.f77_ast.specs.Shared.{symbol_at}
 use Rattle.call_graph.specs.declared.graph.Graph.{Graph}
 use Rattle.f77_meaning.specs.Areas.{Area, group, block, own, Numbering, unit_at}
 use Rattle.f77_meaning.specs.Modules.{Known, known_of, names, fixed, fixed_place, fixed_maybe, dummies_from, units_from, lost_units, all_lost}

@@ -19,9 +19,9 @@ use Rattle.f77_ast.specs.Plans.{Flow}
 use Rattle.f77_ast.specs.Executions.{run_of}
 use Rattle.f77_ast.specs.Statements.{spot, do_plan}
 use Rattle.f77_ast.specs.Programs.{Routine, Program, meanings}
-use Rattle.f77_symbols.specs.declared.variable.Variable.TheVariants.{Own}
-use Rattle.f77_symbols.specs.Symbols.{SymbolTree}
-use Rattle.f77_symbols.specs.Shared.{symbol_at}
+use Rattle.f77_ast.specs.declared.variable.Variable.TheVariants.{Own}
+use Rattle.f77_ast.specs.Symbols.{SymbolTree}
+use Rattle.f77_ast.specs.Shared.{symbol_at}
 use Rattle.call_graph.specs.declared.graph.Graph.{Graph}
 use Rattle.f77_meaning.specs.Modules.{Known, known_of, is_function, names, symbol_names, fixed}
 use Rattle.f77_meaning.specs.Linked.{numbering, routine, program_of}

@@ -8,15 +8,15 @@ use Rattle.std.proofs.lemmas.Slice.Eq.{bytes_eq-Decides}
 use Rattle.f77_ast.specs.Trees.{ExprTree}
 use Rattle.f77_ast.specs.DeclTrees.{DeclTree, ParsedTree}
 use Rattle.f77_ast.specs.DeclTrees as decl
-use Rattle.f77_symbols.specs.declared.constant.Constant.{Constant}
-use Rattle.f77_symbols.specs.declared.symbol.Place.{Place}
-use Rattle.f77_symbols.specs.declared.symbol.Place.TheVariants as place
-use Rattle.f77_symbols.specs.declared.variable.Variable.{Variable}
-use Rattle.f77_symbols.specs.declared.variable.Variable.TheVariants as variable
-use Rattle.f77_symbols.specs.Symbols.{SymbolTree, number_from}
-use Rattle.f77_symbols.specs.Units.{units_in}
-use Rattle.f77_symbols.specs.Shared.{OneUnit, group_unit, unit_after, HasUnit, share, symbol_at, share_maybe, numbers_share, is_in, is_symbol_in, lies_in}
-use Rattle.f77_symbols.proofs.SharingLaws.{sharing_is_of_units}
+use Rattle.f77_ast.specs.declared.constant.Constant.{Constant}
+use Rattle.f77_ast.specs.declared.symbol.Place.{Place}
+use Rattle.f77_ast.specs.declared.symbol.Place.TheVariants as place
+use Rattle.f77_ast.specs.declared.variable.Variable.{Variable}
+use Rattle.f77_ast.specs.declared.variable.Variable.TheVariants as variable
+use Rattle.f77_ast.specs.Symbols.{SymbolTree, number_from}
+use Rattle.f77_ast.specs.Units.{units_in}
+use Rattle.f77_ast.specs.Shared.{OneUnit, group_unit, unit_after, HasUnit, share, symbol_at, share_maybe, numbers_share, is_in, is_symbol_in, lies_in}
+use Rattle.f77_ast.proofs.SharingLaws.{sharing_is_of_units}
 use Rattle.f77_names.specs.Entries.{EntryTree}
 use Rattle.tracked_cells.specs.Equivalences.{item_names, group_names, decl_names, decls_names}
 use Rattle.storage_groups.specs.declared.seat.Home.{Home}

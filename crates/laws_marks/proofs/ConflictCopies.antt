@@ -6,10 +6,10 @@ use Rattle.affine_systems.specs.declared.row.System.{System}
 use Rattle.f77_ast.specs.Trees.{LoopTree}
 use Rattle.f77_ast.specs.DeclTrees.{ModuleTree}
 use Rattle.f77_ast.specs.Writes.{Locks}
-use Rattle.f77_symbols.specs.Symbols.{SymbolTree}
-use Rattle.f77_symbols.specs.Shared.{symbol_at, overlap}
-use Rattle.f77_symbols.specs.declared.variable.Variable.{Variable}
-use Rattle.f77_symbols.specs.declared.variable.Variable.TheVariants.{Own, Block, Saved}
+use Rattle.f77_ast.specs.Symbols.{SymbolTree}
+use Rattle.f77_ast.specs.Shared.{symbol_at, overlap}
+use Rattle.f77_ast.specs.declared.variable.Variable.{Variable}
+use Rattle.f77_ast.specs.declared.variable.Variable.TheVariants.{Own, Block, Saved}
 use Rattle.f77_meaning.specs.Accesses.{is_read_first}
 use Rattle.f77_meaning.specs.Areas.{is_own_unit}
 use Rattle.f77_meaning.specs.Linked.{numbering}

@@ -8,7 +8,7 @@ use Rattle.f77_ast.specs.Executions.{Claim}
 use Rattle.f77_ast.specs.Store.{Store}
 use Rattle.f77_ast.specs.Writes.{Locks}
 use Rattle.f77_results.specs.declared.results.At.{At}
-use Rattle.f77_symbols.specs.Symbols.{SymbolTree}
+use Rattle.f77_ast.specs.Symbols.{SymbolTree}
 use Rattle.transformer_algebra.specs.declared.transformer.Transformer.{Transformer}
 use Rattle.transformer_algebra.specs.Laws.{In, here, there}
 use Rattle.transformers.specs.Jumps.{unstructured}

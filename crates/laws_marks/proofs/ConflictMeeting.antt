@@ -5,8 +5,8 @@ use Rattle.std.specs.Ordering.{match_ordering}
 use Rattle.std.proofs.lemmas.Bool.{and_parts, and_from, or_from, or_left, or_right, not-true}
 use Rattle.f77_ast.specs.Writes.{Locks}
 use Rattle.f77_ast.specs.Runs.{Event}
-use Rattle.f77_symbols.specs.Shared.{overlap}
-use Rattle.f77_symbols.specs.declared.variable.Variable.{Variable}
+use Rattle.f77_ast.specs.Shared.{overlap}
+use Rattle.f77_ast.specs.declared.variable.Variable.{Variable}
 use Rattle.f77_meaning.specs.Accesses.{is_written}
 use Rattle.f77_meaning.specs.Areas.{is_own_unit}
 use Rattle.f77_meaning.specs.Linked.{numbering}

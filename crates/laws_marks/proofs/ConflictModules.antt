@@ -17,10 +17,10 @@ use Rattle.f77_ast.specs.Statements.{spot, execution, body_plan, do_plan}
 use Rattle.f77_ast.specs.StatementNumbers.{list_numbers, IsNumbered}
 use Rattle.f77_ast.specs.Programs.{Program, scope, body_of, called, meanings, program_plan}
 use Rattle.f77_ast.proofs.StepLaws.{at_end_more, at_end_true}
-use Rattle.f77_symbols.specs.declared.variable.Variable.{Variable as Named}
-use Rattle.f77_symbols.specs.declared.variable.Variable.TheVariants.{Own}
-use Rattle.f77_symbols.specs.Symbols.{SymbolTree}
-use Rattle.f77_symbols.specs.Shared.{symbol_at}
+use Rattle.f77_ast.specs.declared.variable.Variable.{Variable as Named}
+use Rattle.f77_ast.specs.declared.variable.Variable.TheVariants.{Own}
+use Rattle.f77_ast.specs.Symbols.{SymbolTree}
+use Rattle.f77_ast.specs.Shared.{symbol_at}
 use Rattle.f77_results.specs.declared.results.At.{At}
 use Rattle.call_graph.specs.declared.graph.Graph.{Graph}
 use Rattle.f77_meaning.specs.Modules.{Known}

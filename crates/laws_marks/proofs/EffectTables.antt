@@ -4,8 +4,8 @@ use Rattle.std.specs.Prelude.{if◌then◌else◌, bytes_eq, slice_get, map, rev
 use Rattle.std.proofs.lemmas.Slice.Eq.{bytes_eq-Decides}
 use mathlib.Core.List.{reverse-cons, reverse-reverse, map-append}
 use Rattle.f77_ast.specs.DeclTrees.{ParsedTree}
-use Rattle.f77_symbols.specs.declared.variable.Unit.{Unit as BlockUnit}
-use Rattle.f77_symbols.specs.Symbols.{SymbolTree, number_from}
+use Rattle.f77_ast.specs.declared.variable.Unit.{Unit as BlockUnit}
+use Rattle.f77_ast.specs.Symbols.{SymbolTree, number_from}
 use Rattle.call_graph.specs.declared.graph.Graph.{Graph}
 use Rattle.f77_meaning.specs.Modules.{Known, known_of}
 use Rattle.f77_meaning.proofs.UnitLaws.{number_least}

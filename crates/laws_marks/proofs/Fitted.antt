@@ -19,7 +19,7 @@ use Rattle.f77_ast.specs.Calls.{in_place}
 use Rattle.f77_ast.specs.Plans.{Plan}
 use Rattle.f77_ast.specs.Executions.{run_of}
 use Rattle.f77_ast.specs.Programs.{Routine, Program, called, meanings}
-use Rattle.f77_symbols.specs.Symbols.{SymbolTree}
+use Rattle.f77_ast.specs.Symbols.{SymbolTree}
 use Rattle.call_graph.specs.declared.graph.Graph.{Graph}
 use Rattle.f77_meaning.specs.Areas.{Numbering, own, is_own_unit}
 use Rattle.f77_meaning.specs.Accesses.{is_written}

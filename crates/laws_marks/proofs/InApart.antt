@@ -9,11 +9,11 @@ use Rattle.f77_ast.specs.Store.{Store}
 use Rattle.f77_ast.specs.Places.{Dim, Place, Places, position, within}
 use Rattle.f77_ast.specs.Writes.{Locks, first_lock}
 use Rattle.f77_ast.specs.Calls.{Dummy, Meaning, in_place, in_dummies, doubly_reached, lock_doubly}
-use Rattle.f77_symbols.specs.declared.variable.Variable.{Variable as Named}
-use Rattle.f77_symbols.specs.declared.variable.Variable.TheVariants.{Own, Block, Saved}
-use Rattle.f77_symbols.specs.Symbols.{BoundTree as Bounds, SymbolTree}
-use Rattle.f77_symbols.specs.Shared.{symbol_at, overlap}
-use Rattle.f77_symbols.specs.declared.constant.Constant.{Constant}
+use Rattle.f77_ast.specs.declared.variable.Variable.{Variable as Named}
+use Rattle.f77_ast.specs.declared.variable.Variable.TheVariants.{Own, Block, Saved}
+use Rattle.f77_ast.specs.Symbols.{BoundTree as Bounds, SymbolTree}
+use Rattle.f77_ast.specs.Shared.{symbol_at, overlap}
+use Rattle.f77_ast.specs.declared.constant.Constant.{Constant}
 use Rattle.call_graph.specs.declared.graph.Graph.{Graph}
 use Rattle.f77_meaning.specs.Areas.{is_own_unit}
 use Rattle.f77_meaning.specs.Claims.{block_place, saved_place}

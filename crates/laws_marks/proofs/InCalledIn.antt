@@ -16,8 +16,8 @@ use Rattle.f77_ast.specs.Plans.{Flow}
 use Rattle.f77_ast.specs.Calls.{Dummy, Actual, Meaning, actuals, nowhere, places_of, own_units, lock_own, in_place, call_plan}
 use Rattle.f77_ast.specs.Executions.{Claim}
 use Rattle.f77_ast.specs.Programs.{no_module}
-use Rattle.f77_symbols.specs.declared.variable.Variable.{Variable as Named}
-use Rattle.f77_symbols.specs.Symbols.{SymbolTree}
+use Rattle.f77_ast.specs.declared.variable.Variable.{Variable as Named}
+use Rattle.f77_ast.specs.Symbols.{SymbolTree}
 use Rattle.call_graph.specs.declared.graph.Graph.{Graph}
 use Rattle.f77_meaning.specs.Areas.{Numbering, is_own_unit}
 use Rattle.f77_meaning.specs.Accesses.{is_written}

@@ -12,7 +12,7 @@ use Rattle.f77_ast.specs.Lists.{list_plan}
 use Rattle.f77_ast.specs.Executions.{run_of}
 use Rattle.f77_ast.specs.Calls.{BoundTree, Dummy, Meaning}
 use Rattle.f77_ast.specs.Statements.{Scope, spot, body_plan}
-use Rattle.f77_symbols.specs.declared.variable.Variable.{Variable}
+use Rattle.f77_ast.specs.declared.variable.Variable.{Variable}
 use Rattle.f77_results.specs.declared.results.At.{At}
 use Rattle.call_graph.specs.declared.graph.Graph.{Graph}
 use Rattle.f77_meaning.specs.Modules.{Known}

@@ -5,9 +5,9 @@ use Rattle.std.proofs.lemmas.Bool.{and_parts, or_parts, not-true}
 use Rattle.affine_systems.specs.declared.row.Var.TheVariants.{Phi}
 use Rattle.affine_systems.specs.declared.row.System.{System}
 use Rattle.affine_systems.specs.Points.{Point}
-use Rattle.f77_symbols.specs.declared.variable.Variable.{Variable}
-use Rattle.f77_symbols.specs.declared.variable.Variable.TheVariants.{Own}
-use Rattle.f77_symbols.specs.Symbols.{SymbolTree}
+use Rattle.f77_ast.specs.declared.variable.Variable.{Variable}
+use Rattle.f77_ast.specs.declared.variable.Variable.TheVariants.{Own}
+use Rattle.f77_ast.specs.Symbols.{SymbolTree}
 use Rattle.transformer_algebra.specs.Claims.{Scene, AtStart}
 use Rattle.transformer_algebra.specs.Laws.{In, here, there}
 use Rattle.region_sets.specs.declared.range.Range.{Range}

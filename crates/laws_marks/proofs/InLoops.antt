@@ -14,9 +14,9 @@ use Rattle.f77_ast.specs.Writes.{Locks, first_lock, lock}
 use Rattle.f77_ast.specs.Plans.{Flow, Normal, Jump, Returned, Stopped, Plan}
 use Rattle.f77_ast.specs.Executions.{Claim}
 use Rattle.f77_ast.specs.Loops.{iteration_count, iterations_from}
-use Rattle.f77_symbols.specs.declared.variable.Variable.{Variable as Named}
-use Rattle.f77_symbols.specs.declared.variable.Variable.TheVariants.{Own}
-use Rattle.f77_symbols.specs.Shared.{overlap}
+use Rattle.f77_ast.specs.declared.variable.Variable.{Variable as Named}
+use Rattle.f77_ast.specs.declared.variable.Variable.TheVariants.{Own}
+use Rattle.f77_ast.specs.Shared.{overlap}
 use Rattle.f77_meaning.specs.Accesses.{is_written, is_read_first}
 use Rattle.affine_forms.specs.Conditions.{no_rows}
 use Rattle.affine_forms.specs.Claims.{unit_in, numbers_of}

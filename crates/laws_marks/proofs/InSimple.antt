@@ -13,7 +13,7 @@ use Rattle.f77_ast.specs.Values.{fault, value, Target, target, all_shown}
 use Rattle.f77_ast.specs.Writes.{Locks, written, write, assigned, is_value, taken, items_read}
 use Rattle.f77_ast.specs.Plans.{Flow, Normal, Plan, Ends, Show as ShowPlan, first}
 use Rattle.f77_ast.specs.Executions.{Claim}
-use Rattle.f77_symbols.specs.Symbols.{SymbolTree}
+use Rattle.f77_ast.specs.Symbols.{SymbolTree}
 use Rattle.f77_meaning.specs.Accesses.{is_written, is_read_first}
 use Rattle.affine_forms.specs.Claims.{numbers_of}
 use Rattle.transformer_algebra.specs.Claims.{Does}

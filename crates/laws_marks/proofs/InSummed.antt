@@ -1,6 +1,6 @@
 -- What callers see of IN regions, on units.
 use Rattle.std.proofs.Common.{◌≡◌, ℕ, ℤ, Bool, true, false, List, ◌++◌, Some}
-use Rattle.f77_symbols.specs.declared.variable.Variable.{Variable}
+use Rattle.f77_ast.specs.declared.variable.Variable.{Variable}
 use Rattle.transformer_algebra.specs.Claims.{Scene}
 use Rattle.call_translation.specs.Scopes.{ScopeTree}
 use Rattle.region_sets.specs.declared.region.Access.{Access}

@@ -19,9 +19,9 @@ use Rattle.hull_projection.specs.Project.{shadow, project}
 use Rattle.hull_projection.specs.Laws.{IsOneOf}
 use Rattle.hull_projection.proofs.VarLaws.{rows_covered}
 use Rattle.system_renaming.specs.Renaming.{renamed_by, rename_all}
-use Rattle.f77_symbols.specs.declared.symbol.Place.{Place}
-use Rattle.f77_symbols.specs.declared.symbol.Place.TheVariants.{Local, Dummy, Block, Constant}
-use Rattle.f77_symbols.specs.Shared.{place_at}
+use Rattle.f77_ast.specs.declared.symbol.Place.{Place}
+use Rattle.f77_ast.specs.declared.symbol.Place.TheVariants.{Local, Dummy, Block, Constant}
+use Rattle.f77_ast.specs.Shared.{place_at}
 use Rattle.f77_ast.specs.Trees.{ExprTree}
 use Rattle.affine_forms.specs.declared.affine.Affine.{Affine}
 use Rattle.affine_forms.specs.Forms.{affine_of, cell_form}

@@ -9,9 +9,9 @@ use Rattle.affine_systems.specs.Points.{Point, HoldsAll}
 use Rattle.f77_ast.specs.Store.{Store}
 use Rattle.f77_ast.specs.Runs.{Event}
 use Rattle.f77_ast.specs.Writes.{Locks}
-use Rattle.f77_symbols.specs.declared.variable.Variable.{Variable}
-use Rattle.f77_symbols.specs.Symbols.{SymbolTree}
-use Rattle.f77_symbols.specs.Shared.{overlap}
+use Rattle.f77_ast.specs.declared.variable.Variable.{Variable}
+use Rattle.f77_ast.specs.Symbols.{SymbolTree}
+use Rattle.f77_ast.specs.Shared.{overlap}
 use Rattle.f77_meaning.specs.Areas.{is_own_unit}
 use Rattle.f77_meaning.specs.Linked.{numbering}
 use Rattle.f77_meaning.specs.Accesses.{is_written}

@@ -15,8 +15,8 @@ use Rattle.f77_ast.specs.Executions.{run_of}
 use Rattle.f77_ast.specs.StatementNumbers.{list_numbers, IsNumbered}
 use Rattle.f77_ast.specs.Statements.{do_plan}
 use Rattle.f77_ast.specs.Programs.{program_plan}
-use Rattle.f77_symbols.specs.Symbols.{SymbolTree}
-use Rattle.f77_symbols.specs.declared.variable.Variable.TheVariants.{Own}
+use Rattle.f77_ast.specs.Symbols.{SymbolTree}
+use Rattle.f77_ast.specs.declared.variable.Variable.TheVariants.{Own}
 use Rattle.f77_results.specs.declared.effect_set.EffectSet.{EffectSet}
 use Rattle.f77_results.specs.declared.results.At.{At}
 use Rattle.f77_results.specs.declared.results.Results.{Results}

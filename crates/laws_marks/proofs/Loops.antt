@@ -11,7 +11,7 @@ use Rattle.f77_ast.specs.Loops.{Range}
 use Rattle.f77_ast.specs.Plans.{steps_of}
 use Rattle.f77_ast.specs.Executions.{run_of}
 use Rattle.f77_ast.specs.Statements.{do_plan}
-use Rattle.f77_symbols.specs.declared.variable.Variable.TheVariants.{Own}
+use Rattle.f77_ast.specs.declared.variable.Variable.TheVariants.{Own}
 use Rattle.call_graph.specs.declared.graph.Graph.{Graph}
 use Rattle.f77_meaning.specs.Modules.{Known, names}
 use Rattle.f77_meaning.specs.Occurrences.{Occurrence}

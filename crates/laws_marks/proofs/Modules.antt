@@ -5,7 +5,7 @@ use mathlib.Core.List.{reverse-cons}
 use Rattle.f77_ast.specs.Trees.{LoopTree, StmtTrees}
 use Rattle.f77_ast.specs.DeclTrees.{ParsedTree}
 use Rattle.f77_ast.specs.StatementNumbers.{IsNumbered}
-use Rattle.f77_symbols.specs.Symbols.{SymbolTree}
+use Rattle.f77_ast.specs.Symbols.{SymbolTree}
 use Rattle.call_graph.specs.declared.graph.Graph.{Graph}
 use Rattle.f77_meaning.specs.Modules.{Known, known_of}
 use Rattle.f77_meaning.specs.Occurrences.{Occurrence}

@@ -6,7 +6,7 @@ use Rattle.f77_ast.specs.Trees as tree
 use Rattle.f77_ast.specs.Places.{Meant, Constant, Variable, Function, Names, Place, Places}
 use Rattle.f77_ast.specs.Calls.{Dummy, in_place}
 use Rattle.f77_ast.specs.StatementNumbers.{IsNumbered}
-use Rattle.f77_symbols.specs.declared.variable.Variable.TheVariants.{Own}
+use Rattle.f77_ast.specs.declared.variable.Variable.TheVariants.{Own}
 use Rattle.affine_systems.specs.declared.row.System.{System}
 use Rattle.call_graph.specs.declared.graph.Graph.{Graph}
 use Rattle.f77_meaning.specs.Modules.{Known, names, fixed, dummies_from}

@@ -15,7 +15,7 @@ use Rattle.f77_ast.specs.Executions.{run_of}
 use Rattle.f77_ast.specs.Calls.{Meaning, arrays_bound, lock_doubly, forget_all, after_call}
 use Rattle.f77_ast.specs.Statements.{spot, body_plan}
 use Rattle.f77_ast.specs.Programs.{Conforms, scope, body_of, called}
-use Rattle.f77_symbols.specs.declared.variable.Variable.{Variable as Named}
+use Rattle.f77_ast.specs.declared.variable.Variable.{Variable as Named}
 use Rattle.call_graph.specs.declared.graph.Graph.{Graph}
 use Rattle.f77_meaning.specs.Accesses.{is_written, is_read_first}
 use Rattle.f77_meaning.specs.Areas.{is_own_unit}

@@ -12,7 +12,7 @@ use Rattle.f77_ast.specs.Executions.{run_of, AtEnd, Claim}
 use Rattle.f77_ast.specs.Calls.{Meaning, lock_doubly}
 use Rattle.f77_ast.specs.Statements.{spot, body_plan}
 use Rattle.f77_ast.specs.Programs.{scope}
-use Rattle.f77_symbols.specs.declared.variable.Variable.{Variable as Named}
+use Rattle.f77_ast.specs.declared.variable.Variable.{Variable as Named}
 use Rattle.f77_results.specs.declared.results.At.{At}
 use Rattle.call_graph.specs.declared.graph.Graph.{Graph}
 use Rattle.f77_meaning.specs.Modules.{Known}

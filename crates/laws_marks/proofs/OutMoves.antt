@@ -14,7 +14,7 @@ use Rattle.hull_projection.specs.Minus.{hull_all}
 use Rattle.hull_projection.proofs.RefuteLaws.{refuted_none}
 use Rattle.hull_projection.proofs.HullLaws.{hull_holds}
 use Rattle.hull_projection.proofs.ProjectLaws.{project_keeps}
-use Rattle.f77_symbols.specs.declared.variable.Unit.{Unit as BlockUnit}
+use Rattle.f77_ast.specs.declared.variable.Unit.{Unit as BlockUnit}
 use Rattle.system_renaming.specs.Renaming.{renamed_by}
 use Rattle.system_renaming.proofs.KeepLaws.{rename_all_holds}
 use Rattle.transformer_algebra.specs.declared.transformer.Transformer.{Transformer}

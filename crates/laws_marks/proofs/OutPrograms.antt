@@ -13,7 +13,7 @@ use Rattle.f77_ast.specs.Executions.{run_of, Claim}
 use Rattle.f77_ast.specs.Calls.{Actual, Meaning, actuals, places_of, own_units, lock_own, after_call, call_plan}
 use Rattle.f77_ast.specs.Statements.{spot}
 use Rattle.f77_ast.specs.Programs.{Program, Conforms, body_of, called, no_module, meanings, program_plan}
-use Rattle.f77_symbols.specs.declared.variable.Variable.{Variable as Named}
+use Rattle.f77_ast.specs.declared.variable.Variable.{Variable as Named}
 use Rattle.f77_results.specs.declared.results.At.{At}
 use Rattle.call_graph.specs.declared.graph.Graph.{Graph}
 use Rattle.f77_meaning.specs.Areas.{is_own_unit}

@@ -6,7 +6,7 @@ use Rattle.f77_statements.specs.Phrases.{end_module}
 use Rattle.f77_structure.specs.Checks.{fault_of}
 use Rattle.f77_parser.specs.Statements.{StatementTree, marks_of}
 use Rattle.f77_parser.specs.Building.{build_module}
-use Rattle.f77_symbols.specs.Symbols.{SymbolTree}
+use Rattle.f77_ast.specs.Symbols.{SymbolTree}
 use Rattle.call_graph.specs.declared.graph.Graph.{Graph}
 use Rattle.f77_meaning.specs.Modules.{known_of}
 use Rattle.affine_systems.specs.declared.row.System.{System}

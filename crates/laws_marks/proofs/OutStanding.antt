@@ -11,7 +11,7 @@ use Rattle.f77_ast.specs.Executions.{Claim}
 use Rattle.f77_ast.specs.Statements.{spot}
 use Rattle.f77_ast.specs.StatementNumbers.{list_numbers}
 use Rattle.f77_results.specs.declared.results.At.{At}
-use Rattle.f77_symbols.specs.Symbols.{SymbolTree}
+use Rattle.f77_ast.specs.Symbols.{SymbolTree}
 use Rattle.f77_meaning.specs.Occurrences.{Occurrence}
 use Rattle.transformer_algebra.specs.declared.transformer.Transformer.{Transformer}
 use Rattle.transformer_algebra.specs.Laws.{In, here, there}

@@ -11,9 +11,9 @@ use Rattle.affine_systems.specs.Points.{Point}
 use Rattle.affine_systems.proofs.CallLaws.{meet_holds}
 use Rattle.f77_ast.specs.Store.{Store}
 use Rattle.f77_ast.specs.Writes.{Locks}
-use Rattle.f77_symbols.specs.declared.variable.Variable.{Variable}
-use Rattle.f77_symbols.specs.Symbols.{SymbolTree}
-use Rattle.f77_symbols.specs.Shared.{overlap}
+use Rattle.f77_ast.specs.declared.variable.Variable.{Variable}
+use Rattle.f77_ast.specs.Symbols.{SymbolTree}
+use Rattle.f77_ast.specs.Shared.{overlap}
 use Rattle.affine_forms.specs.Claims.{numbers_of}
 use Rattle.transformer_algebra.specs.Laws.{In, here, there}
 use Rattle.region_sets.specs.declared.region.Access.TheVariants.{Write, Out}

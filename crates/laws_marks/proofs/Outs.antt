@@ -5,7 +5,7 @@ use Rattle.affine_systems.specs.declared.row.System.{System}
 use Rattle.affine_systems.specs.Calls.{meet}
 use Rattle.f77_ast.specs.Trees.{WhatTree, ArmTrees, ElseTree, StmtTrees}
 use Rattle.f77_ast.specs.Trees as tree
-use Rattle.f77_symbols.specs.Symbols.{SymbolTree}
+use Rattle.f77_ast.specs.Symbols.{SymbolTree}
 use Rattle.f77_results.specs.declared.results.At.{At}
 use Rattle.transformer_algebra.specs.Laws.{In, here, there}
 use Rattle.transformers.specs.Jumps.{unstructured}

@@ -8,7 +8,7 @@ use Rattle.f77_ast.specs.Runs.{Event, Answer, Gave, Broke, Ran}
 use Rattle.f77_ast.specs.Plans.{Flow, Normal, Jump, Returned, Stopped, Plan}
 use Rattle.f77_ast.specs.Executions.{run_of}
 use Rattle.f77_ast.specs.Programs.{Routine, Program, program_plan, program_run, Conforms, EndsRun}
-use Rattle.f77_symbols.specs.Symbols.{SymbolTree}
+use Rattle.f77_ast.specs.Symbols.{SymbolTree}
 use Rattle.call_graph.specs.declared.graph.Graph.{Graph}
 use Rattle.f77_meaning.specs.Areas.{Numbering}
 use Rattle.f77_meaning.specs.Modules.{Known, known_of}

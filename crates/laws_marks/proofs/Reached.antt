@@ -15,7 +15,7 @@ use Rattle.f77_ast.specs.Calls.{Actual, Meaning, arrays_bound, lock_doubly, forg
 use Rattle.f77_ast.specs.Statements.{spot, execution, body_plan, do_plan}
 use Rattle.f77_ast.specs.Programs.{Program, scope, body_of, called, meanings, program_plan}
 use Rattle.f77_ast.proofs.StepLaws.{at_end_more, at_end_true}
-use Rattle.f77_symbols.specs.declared.variable.Variable.{Variable as Named}
+use Rattle.f77_ast.specs.declared.variable.Variable.{Variable as Named}
 use Rattle.f77_results.specs.declared.results.At.{At}
 use Rattle.call_graph.specs.declared.graph.Graph.{Graph}
 use Rattle.f77_meaning.specs.Modules.{Known}

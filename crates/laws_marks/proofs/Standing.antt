@@ -11,10 +11,10 @@ use Rattle.f77_ast.specs.Calls.{Dummy}
 use Rattle.f77_ast.specs.Writes.{Locks, lock}
 use Rattle.f77_ast.specs.Executions.{run_of, Claim}
 use Rattle.f77_ast.specs.Statements.{spot, do_plan}
-use Rattle.f77_symbols.specs.declared.constant.Constant.{Constant}
-use Rattle.f77_symbols.specs.declared.variable.Variable.TheVariants.{Own}
-use Rattle.f77_symbols.specs.Symbols.{BoundTree}
-use Rattle.f77_symbols.specs.Shared.{symbol_at, overlap}
+use Rattle.f77_ast.specs.declared.constant.Constant.{Constant}
+use Rattle.f77_ast.specs.declared.variable.Variable.TheVariants.{Own}
+use Rattle.f77_ast.specs.Symbols.{BoundTree}
+use Rattle.f77_ast.specs.Shared.{symbol_at, overlap}
 use Rattle.f77_results.specs.declared.results.At.{At}
 use Rattle.tracked_cells.specs.Standing.{has_bounds}
 use Rattle.f77_meaning.specs.Areas.{is_own_unit}

@@ -4,7 +4,7 @@ use Rattle.std.specs.Prelude.{length}
 use Rattle.f77_ast.specs.DeclTrees.{ParsedTree}
 use Rattle.f77_ast.specs.Calls.{Dummy}
 use Rattle.f77_ast.specs.Programs.{Routine}
-use Rattle.f77_symbols.specs.Symbols.{SymbolTree}
+use Rattle.f77_ast.specs.Symbols.{SymbolTree}
 use Rattle.call_graph.specs.declared.graph.Graph.{Graph}
 use Rattle.f77_meaning.specs.Modules.{Known, known_of, dummies_from}
 use Rattle.f77_meaning.specs.Linked.{routine, subroutines, main_of}

@@ -9,12 +9,12 @@ use Rattle.f77_ast.specs.DeclTrees.{ParsedTree}
 use Rattle.f77_ast.specs.Places.{Variable, Function}
 use Rattle.f77_ast.specs.Calls.{in_place}
 use Rattle.f77_ast.specs.Programs.{Routine}
-use Rattle.f77_symbols.specs.declared.symbol.Place.{Place}
-use Rattle.f77_symbols.specs.declared.symbol.Place.TheVariants as place
-use Rattle.f77_symbols.specs.Symbols.{SymbolTree}
-use Rattle.f77_symbols.specs.declared.variable.Variable.TheVariants.{Own}
-use Rattle.f77_symbols.specs.Units.{units_in}
-use Rattle.f77_symbols.specs.Shared.{symbol_at, share, share_maybe}
+use Rattle.f77_ast.specs.declared.symbol.Place.{Place}
+use Rattle.f77_ast.specs.declared.symbol.Place.TheVariants as place
+use Rattle.f77_ast.specs.Symbols.{SymbolTree}
+use Rattle.f77_ast.specs.declared.variable.Variable.TheVariants.{Own}
+use Rattle.f77_ast.specs.Units.{units_in}
+use Rattle.f77_ast.specs.Shared.{symbol_at, share, share_maybe}
 use Rattle.call_graph.specs.declared.graph.Graph.{Graph}
 use Rattle.f77_meaning.specs.Areas.{Area, group, Numbering, unit_at, is_own_unit}
 use Rattle.f77_meaning.specs.Modules.{Known, known_of, is_function, meant_by, meant_at, meant_in, names, fixed_place, fixed_maybe, fixed, units_from, lost_units, all_lost}

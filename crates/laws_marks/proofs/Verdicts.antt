@@ -10,9 +10,9 @@ use Rattle.affine_systems.specs.declared.row.System.{System}
 use Rattle.f77_ast.specs.Trees.{StmtTree, WhatTree, ArmTree, ArmTrees, ElseTree, LoopTree, StmtTrees}
 use Rattle.f77_ast.specs.Trees as tree
 use Rattle.f77_ast.specs.Shapes.{walk_stmt, walk_what, walk_body, walk_arms, walk_arm, walk_else, walk_list}
-use Rattle.f77_symbols.specs.Symbols.{SymbolTree, number_from}
-use Rattle.f77_symbols.specs.declared.variable.Variable.{Variable as Named}
-use Rattle.f77_symbols.specs.declared.variable.Variable.TheVariants.{Own, Block, Saved}
+use Rattle.f77_ast.specs.Symbols.{SymbolTree, number_from}
+use Rattle.f77_ast.specs.declared.variable.Variable.{Variable as Named}
+use Rattle.f77_ast.specs.declared.variable.Variable.TheVariants.{Own, Block, Saved}
 use Rattle.f77_results.specs.Variables.{variable_cmp, merged, union}
 use Rattle.transformer_algebra.specs.Laws.{In, here, there}
 use Rattle.region_sets.specs.declared.marks.Kinds.{Kinds}

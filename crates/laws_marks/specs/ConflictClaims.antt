@@ -8,9 +8,9 @@ use Rattle.f77_ast.specs.Runs.{Answer, Gave, Broke}
 use Rattle.f77_ast.specs.Plans.{Flow, Normal, Jump, Returned, Stopped}
 use Rattle.f77_ast.specs.DeclTrees.{ModuleTree}
 use Rattle.f77_ast.specs.Places.{Places}
-use Rattle.f77_symbols.specs.Symbols.{SymbolTree}
-use Rattle.f77_symbols.specs.Shared.{overlap}
-use Rattle.f77_symbols.specs.declared.variable.Variable.{Variable}
+use Rattle.f77_ast.specs.Symbols.{SymbolTree}
+use Rattle.f77_ast.specs.Shared.{overlap}
+use Rattle.f77_ast.specs.declared.variable.Variable.{Variable}
 use Rattle.call_graph.specs.declared.graph.Graph.{Graph}
 use Rattle.f77_meaning.specs.Modules.{Known}
 use Rattle.f77_meaning.specs.Accesses.{is_read_first}

@@ -1,7 +1,7 @@
 -- What is claimed of private variables, and of marked loops, in the runs of a program that is read that no fault ends.
 use Rattle.std.specs.Prelude.{◌≡◌, List, All}
 use Rattle.f77_ast.specs.DeclTrees.{ParsedTree}
-use Rattle.f77_symbols.specs.Symbols.{SymbolTree}
+use Rattle.f77_ast.specs.Symbols.{SymbolTree}
 use Rattle.call_graph.specs.declared.graph.Graph.{Graph}
 use Rattle.f77_meaning.specs.Modules.{Known, known_of}
 use Rattle.f77_meaning.specs.Occurrences.{Occurrence}

@@ -1,11 +1,11 @@
 -- What the tables of a module, and their layout, give of the units of its variables.
 use Rattle.std.specs.Prelude.{◌≡◌, ◌⊎◌, ℕ, ◌+◌, ◌<◌, Bool, true, false, List, Some}
 use Rattle.f77_ast.specs.Places.{Place}
-use Rattle.f77_symbols.specs.declared.symbol.Place.TheVariants.{Block as InBlock}
-use Rattle.f77_symbols.specs.declared.variable.Variable.{Variable as Named}
-use Rattle.f77_symbols.specs.declared.variable.Variable.TheVariants.{Own, Block, Saved}
-use Rattle.f77_symbols.specs.Symbols.{SymbolTree}
-use Rattle.f77_symbols.specs.Shared.{symbol_at, overlap}
+use Rattle.f77_ast.specs.declared.symbol.Place.TheVariants.{Block as InBlock}
+use Rattle.f77_ast.specs.declared.variable.Variable.{Variable as Named}
+use Rattle.f77_ast.specs.declared.variable.Variable.TheVariants.{Own, Block, Saved}
+use Rattle.f77_ast.specs.Symbols.{SymbolTree}
+use Rattle.f77_ast.specs.Shared.{symbol_at, overlap}
 use Rattle.call_graph.specs.declared.graph.Graph.{Graph}
 use Rattle.f77_meaning.specs.Areas.{is_own_unit}
 use Rattle.f77_meaning.specs.Claims.{block_place, saved_place}

@@ -1,6 +1,6 @@
 -- What is claimed of the runs of a program: the IN regions of its modules.
 use Rattle.std.specs.Prelude.{◌≡◌, ℕ, Bool, List, [], ◌∷◌, Option, Some, None}
-use Rattle.f77_symbols.specs.declared.variable.Variable.{Variable}
+use Rattle.f77_ast.specs.declared.variable.Variable.{Variable}
 use Rattle.f77_results.specs.declared.results.Results.{Results}
 use Rattle.f77_results.specs.Summaries.{SummaryTree}
 use Rattle.call_graph.specs.declared.graph.Graph.{Graph}

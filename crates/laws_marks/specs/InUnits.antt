@@ -6,8 +6,8 @@ use Rattle.f77_ast.specs.Trees.{ExprTree, StmtTrees}
 use Rattle.f77_ast.specs.Places.{Variable}
 use Rattle.f77_ast.specs.Calls.{in_place}
 use Rattle.f77_ast.specs.Writes.{Locks}
-use Rattle.f77_symbols.specs.declared.variable.Variable.{Variable as Named}
-use Rattle.f77_symbols.specs.Shared.{overlap}
+use Rattle.f77_ast.specs.declared.variable.Variable.{Variable as Named}
+use Rattle.f77_ast.specs.Shared.{overlap}
 use Rattle.f77_results.specs.declared.results.At.{At}
 use Rattle.f77_meaning.specs.Areas.{is_own_unit}
 use Rattle.f77_meaning.specs.Linked.{numbering}

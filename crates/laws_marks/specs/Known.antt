@@ -10,8 +10,8 @@ use Rattle.f77_ast.specs.Plans.{Flow}
 use Rattle.f77_ast.specs.Runs.{Answer, Gave, Broke}
 use Rattle.f77_ast.specs.Executions.{run_of}
 use Rattle.f77_ast.specs.Statements.{do_plan}
-use Rattle.f77_symbols.specs.declared.variable.Variable.TheVariants.{Own}
-use Rattle.f77_symbols.specs.Symbols.{SymbolTree}
+use Rattle.f77_ast.specs.declared.variable.Variable.TheVariants.{Own}
+use Rattle.f77_ast.specs.Symbols.{SymbolTree}
 use Rattle.call_graph.specs.declared.graph.Graph.{Graph}
 use Rattle.f77_meaning.specs.Modules.{Known, known_of, names}
 use Rattle.f77_meaning.specs.Processes.{Marked}

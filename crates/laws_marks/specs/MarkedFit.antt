@@ -5,7 +5,7 @@ use Rattle.f77_ast.specs.DeclTrees.{ModuleTree}
 use Rattle.f77_ast.specs.Places.{Places}
 use Rattle.f77_ast.specs.Store.{Content, Store}
 use Rattle.f77_ast.specs.Runs.{Event}
-use Rattle.f77_symbols.specs.declared.variable.Variable.{Variable}
+use Rattle.f77_ast.specs.declared.variable.Variable.{Variable}
 use Rattle.call_graph.specs.declared.graph.Graph.{Graph}
 use Rattle.f77_meaning.specs.Modules.{Known}
 use Rattle.f77_meaning.specs.Accesses.{is_written, is_read_first}

@@ -9,8 +9,8 @@ use Rattle.f77_ast.specs.Writes.{Locks}
 use Rattle.f77_ast.specs.Loops.{Range}
 use Rattle.f77_ast.specs.Executions.{run_of}
 use Rattle.f77_ast.specs.Statements.{do_plan}
-use Rattle.f77_symbols.specs.declared.variable.Variable.TheVariants.{Own}
-use Rattle.f77_symbols.specs.Symbols.{SymbolTree}
+use Rattle.f77_ast.specs.declared.variable.Variable.TheVariants.{Own}
+use Rattle.f77_ast.specs.Symbols.{SymbolTree}
 use Rattle.call_graph.specs.declared.graph.Graph.{Graph}
 use Rattle.f77_meaning.specs.Modules.{Known, names, symbol_names, fixed, dummies_from}
 use Rattle.f77_meaning.specs.Linked.{numbering}

@@ -1,12 +1,12 @@
 -- What is claimed of the runs of a program: the OUT regions of its modules.
 use Rattle.std.specs.Prelude.{◌≡◌, ℕ, Bool, true, false, nat_eq, List, map, Some}
 use Rattle.std.specs.List.{list_any}
-use Rattle.f77_symbols.specs.declared.symbol.Place.TheVariants.{Block as InBlock}
-use Rattle.f77_symbols.specs.declared.variable.Variable.{Variable}
-use Rattle.f77_symbols.specs.declared.variable.Variable.TheVariants.{Saved}
-use Rattle.f77_symbols.specs.Symbols.{SymbolTree, number_from}
-use Rattle.f77_symbols.specs.Shared.{symbol_at}
-use Rattle.f77_symbols.specs.Units.{units_in}
+use Rattle.f77_ast.specs.declared.symbol.Place.TheVariants.{Block as InBlock}
+use Rattle.f77_ast.specs.declared.variable.Variable.{Variable}
+use Rattle.f77_ast.specs.declared.variable.Variable.TheVariants.{Saved}
+use Rattle.f77_ast.specs.Symbols.{SymbolTree, number_from}
+use Rattle.f77_ast.specs.Shared.{symbol_at}
+use Rattle.f77_ast.specs.Units.{units_in}
 use Rattle.f77_results.specs.declared.results.Results.{Results}
 use Rattle.call_graph.specs.declared.graph.Graph.{Graph}
 use Rattle.f77_meaning.specs.Modules.{Known, all_lost}

@@ -2,7 +2,7 @@
 use Rattle.std.specs.Prelude.{◌≡◌, ℕ, ℤ, true, false, List, Some}
 use Rattle.f77_ast.specs.Store.{Store}
 use Rattle.f77_ast.specs.Runs.{Event}
-use Rattle.f77_symbols.specs.declared.variable.Variable.{Variable}
+use Rattle.f77_ast.specs.declared.variable.Variable.{Variable}
 use Rattle.f77_meaning.specs.Accesses.{is_written, is_read_first}
 use Rattle.affine_forms.specs.Claims.{numbers_of}
 use Rattle.transformer_algebra.specs.Laws.{In}

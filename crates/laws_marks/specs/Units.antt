@@ -5,9 +5,9 @@ use Rattle.f77_ast.specs.Trees as tree
 use Rattle.f77_ast.specs.Executions.{run_of}
 use Rattle.f77_ast.specs.Places.{Variable, Names, Places}
 use Rattle.f77_ast.specs.Calls.{Dummy}
-use Rattle.f77_symbols.specs.declared.variable.Variable.TheVariants.{Own}
-use Rattle.f77_symbols.specs.Symbols.{SymbolTree}
-use Rattle.f77_symbols.specs.Shared.{symbol_at, overlap}
+use Rattle.f77_ast.specs.declared.variable.Variable.TheVariants.{Own}
+use Rattle.f77_ast.specs.Symbols.{SymbolTree}
+use Rattle.f77_ast.specs.Shared.{symbol_at, overlap}
 use Rattle.call_graph.specs.declared.graph.Graph.{Graph}
 use Rattle.f77_meaning.specs.Modules.{Known, names, fixed, dummies_from}
 use Rattle.f77_meaning.specs.Linked.{numbering}

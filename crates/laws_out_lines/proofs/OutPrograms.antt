@@ -7,11 +7,11 @@ use Rattle.affine_systems.proofs.Basics.{if_cases}
 use Rattle.f77_ast.specs.Trees.{ExprTrees, StmtTree, WhatTree, ArmTree, ArmTrees, ElseTree, LoopTree, StmtTrees}
 use Rattle.f77_ast.specs.Trees as tree
 use Rattle.f77_ast.specs.DeclTrees.{ParsedTree}
-use Rattle.f77_symbols.specs.declared.symbol.Place.{Place}
-use Rattle.f77_symbols.specs.declared.symbol.Place.TheVariants.{Local, Dummy, Block, Constant}
-use Rattle.f77_symbols.specs.declared.variable.Unit.{Unit as BlockUnit}
-use Rattle.f77_symbols.specs.Symbols.{SymbolTree}
-use Rattle.f77_symbols.specs.Shared.{symbol_at}
+use Rattle.f77_ast.specs.declared.symbol.Place.{Place}
+use Rattle.f77_ast.specs.declared.symbol.Place.TheVariants.{Local, Dummy, Block, Constant}
+use Rattle.f77_ast.specs.declared.variable.Unit.{Unit as BlockUnit}
+use Rattle.f77_ast.specs.Symbols.{SymbolTree}
+use Rattle.f77_ast.specs.Shared.{symbol_at}
 use Rattle.f77_results.specs.declared.results.Results.{Results}
 use Rattle.tracked_cells.specs.Standing.{is_int_scalar}
 use Rattle.call_graph.specs.declared.graph.Graph.{Graph}

@@ -1,7 +1,7 @@
 -- A program of one text, and of a text for each module.
 use Rattle.std.proofs.Common.{◌≡◌, ℕ, ◌+◌, List, [], ◌∷◌, length, map, refl, ap, ◌∙◌}
 use Rattle.f77_ast.specs.DeclTrees.{ParsedTree}
-use Rattle.f77_symbols.specs.Symbols.{SymbolTree}
+use Rattle.f77_ast.specs.Symbols.{SymbolTree}
 use Rattle.fixed_form.specs.TextLines.{text_lines}
 use Rattle.module_texts.specs.declared.source.Piece.{Piece}
 use Rattle.module_texts.specs.Pieces.{pieces_of}

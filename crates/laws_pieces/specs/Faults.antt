@@ -1,7 +1,7 @@
 -- What is wrong with links is said of modules, wherever their statements stand.
 use Rattle.std.specs.Prelude.{◌≡◌, List, map, Err}
 use Rattle.f77_ast.specs.DeclTrees.{ParsedTree}
-use Rattle.f77_symbols.specs.Symbols.{SymbolTree}
+use Rattle.f77_ast.specs.Symbols.{SymbolTree}
 use Rattle.call_graph.specs.declared.refusal.Fault.{Fault}
 use Rattle.call_graph.specs.declared.refusal.Fault.TheVariants.{NoMain, At}
 use Rattle.call_graph.specs.Links.{link_of}

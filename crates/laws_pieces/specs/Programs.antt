@@ -1,7 +1,7 @@
 -- A program, its modules in one text or each in its own.
 use Rattle.std.specs.Prelude.{◌≡◌, ℕ, List, [], map, Ok}
 use Rattle.f77_ast.specs.DeclTrees.{ParsedTree}
-use Rattle.f77_symbols.specs.Symbols.{SymbolTree}
+use Rattle.f77_ast.specs.Symbols.{SymbolTree}
 use Rattle.call_graph.specs.declared.graph.Graph.{Graph}
 use Rattle.call_graph.specs.Links.{link_of}
 use Rattle.module_texts.specs.declared.source.Piece.{Piece}

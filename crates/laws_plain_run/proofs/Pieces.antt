@@ -4,7 +4,7 @@ use Rattle.std.specs.Prelude.{slice_get, option_to_list}
 use Rattle.f77_ast.specs.DeclTrees.{ParsedTree}
 use Rattle.f77_parser.specs.Gives.{and_then}
 use Rattle.f77_parser.specs.Modules.{parse_of}
-use Rattle.f77_symbols.specs.Symbols.{SymbolTree}
+use Rattle.f77_ast.specs.Symbols.{SymbolTree}
 use Rattle.storage_layout.specs.Symbols.{symbols_of}
 use Rattle.module_texts.specs.declared.source.Piece.{Piece}
 use Rattle.roundtrip_statements.specs.Formed.{Each}

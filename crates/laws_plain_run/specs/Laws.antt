@@ -1,7 +1,7 @@
 -- A source text, read into its modules: what a session makes of an accepted program.
 use Rattle.std.specs.Prelude.{◌≡◌, ℕ, List, map, Some, Ok}
 use Rattle.f77_ast.specs.DeclTrees.{ParsedTree}
-use Rattle.f77_symbols.specs.Symbols.{SymbolTree}
+use Rattle.f77_ast.specs.Symbols.{SymbolTree}
 use Rattle.call_graph.specs.declared.graph.Graph.{Graph}
 use Rattle.result_lines.specs.declared.show.Show.{Show}
 use Rattle.roundtrip_programs.specs.Programs.{IsProgram}

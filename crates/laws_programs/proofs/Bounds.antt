@@ -7,11 +7,11 @@ use Rattle.f77_ast.specs.declared.expr.BinaryOp.{BinaryOp}
 use Rattle.f77_ast.specs.Trees.{ExprTree, ExprTrees}
 use Rattle.f77_ast.specs.Trees as tree
 use Rattle.f77_ast.specs.DeclTrees.{ParsedTree}
-use Rattle.f77_symbols.specs.declared.constant.Constant.{Constant}
-use Rattle.f77_symbols.specs.declared.constant.Worth.{Worth}
-use Rattle.f77_symbols.specs.declared.constant.Worth.TheVariants.{Is, Faults, Varies}
-use Rattle.f77_symbols.specs.Constants.{turns_logical, gives_logical, unary_worth, binary_worth, worth}
-use Rattle.f77_symbols.specs.Symbols.{BoundTree, SymbolTree}
+use Rattle.f77_ast.specs.declared.constant.Constant.{Constant}
+use Rattle.f77_ast.specs.declared.constant.Worth.{Worth}
+use Rattle.f77_ast.specs.declared.constant.Worth.TheVariants.{Is, Faults, Varies}
+use Rattle.f77_ast.specs.Constants.{turns_logical, gives_logical, unary_worth, binary_worth, worth}
+use Rattle.f77_ast.specs.Symbols.{BoundTree, SymbolTree}
 use Rattle.refusal_codes.specs.declared.code.Code.TheVariants.{BadDimension}
 use Rattle.refusal_codes.specs.declared.refusal.Refusal.{Refusal}
 use Rattle.f77_names.specs.Entries.{ShapeTree, EntryTree, find, of_entry, has_shape, value_among}

@@ -1,8 +1,8 @@
 -- The dummies of a table come first: as the two definitions say it.
 use Rattle.std.proofs.Common.{◌≡◌, ℕ, zero, suc, false, List, [], ◌∷◌, refl}
-use Rattle.f77_symbols.specs.declared.symbol.Place.{Place}
-use Rattle.f77_symbols.specs.declared.symbol.Place.TheVariants as place
-use Rattle.f77_symbols.specs.Symbols.{SymbolTree}
+use Rattle.f77_ast.specs.declared.symbol.Place.{Place}
+use Rattle.f77_ast.specs.declared.symbol.Place.TheVariants as place
+use Rattle.f77_ast.specs.Symbols.{SymbolTree}
 use Rattle.laws_tables.specs.Laws.{NoDummies, DummiesFirst}
 use Rattle.laws_effects.specs.Tables.{is_dummy, HasNoDummy, DummiesLead}
 

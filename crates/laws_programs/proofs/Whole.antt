@@ -2,7 +2,7 @@
 use Rattle.std.proofs.Common.{◌≡◌, ℕ, zero, suc, List, [], ◌∷◌, length, Some, Ok, subst}
 use Rattle.std.specs.Prelude.{slice_get}
 use Rattle.f77_ast.specs.DeclTrees.{ParsedTree}
-use Rattle.f77_symbols.specs.Symbols.{SymbolTree}
+use Rattle.f77_ast.specs.Symbols.{SymbolTree}
 use Rattle.roundtrip_statements.specs.Formed.{Each}
 use Rattle.storage_layout.specs.Symbols.{symbols_of}
 use Rattle.laws_tables.proofs.Answers.{answered_by}

@@ -7,12 +7,12 @@ use Rattle.f77_ast.specs.Trees.{ExprTree, StmtTree, WhatTree, ArmTree, ArmTrees,
 use Rattle.f77_ast.specs.Trees as tree
 use Rattle.f77_ast.specs.DeclTrees.{SettingTree, DeclTree, ParsedTree}
 use Rattle.f77_ast.specs.DeclTrees as decl
-use Rattle.f77_symbols.specs.declared.constant.Constant.{Constant}
-use Rattle.f77_symbols.specs.declared.constant.Constant.TheVariants as constant
-use Rattle.f77_symbols.specs.declared.constant.Worth.{Worth}
-use Rattle.f77_symbols.specs.declared.constant.Worth.TheVariants.{Is, Faults, Varies}
-use Rattle.f77_symbols.specs.Constants.{worth}
-use Rattle.f77_symbols.specs.Symbols.{SymbolTree, number_from}
+use Rattle.f77_ast.specs.declared.constant.Constant.{Constant}
+use Rattle.f77_ast.specs.declared.constant.Constant.TheVariants as constant
+use Rattle.f77_ast.specs.declared.constant.Worth.{Worth}
+use Rattle.f77_ast.specs.declared.constant.Worth.TheVariants.{Is, Faults, Varies}
+use Rattle.f77_ast.specs.Constants.{worth}
+use Rattle.f77_ast.specs.Symbols.{SymbolTree, number_from}
 use Rattle.f77_names.specs.declared.functions.Function.{Function}
 use Rattle.f77_names.specs.declared.kinds.Kind.{Kind}
 use Rattle.f77_names.specs.declared.kinds.Kind.TheVariants.{Int, Log, Real}

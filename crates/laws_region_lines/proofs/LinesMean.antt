@@ -10,10 +10,10 @@ use Rattle.affine_systems.specs.declared.row.Var.TheVariants.{Cell, Exit, Phi, A
 use Rattle.affine_systems.specs.declared.row.Term.{Term}
 use Rattle.affine_systems.specs.declared.row.System.{System}
 use Rattle.f77_results.specs.declared.results.Results.{Results}
-use Rattle.f77_symbols.specs.declared.variable.Unit.{Unit as BlockUnit}
-use Rattle.f77_symbols.specs.declared.variable.Variable.{Variable}
-use Rattle.f77_symbols.specs.declared.variable.Variable.TheVariants.{Own, Block, Saved}
-use Rattle.f77_symbols.specs.Symbols.{SymbolTree}
+use Rattle.f77_ast.specs.declared.variable.Unit.{Unit as BlockUnit}
+use Rattle.f77_ast.specs.declared.variable.Variable.{Variable}
+use Rattle.f77_ast.specs.declared.variable.Variable.TheVariants.{Own, Block, Saved}
+use Rattle.f77_ast.specs.Symbols.{SymbolTree}
 use Rattle.f77_meaning.specs.Modules.{Known, known_of, symbol_names}
 use Rattle.affine_forms.specs.Scalars.{flag_of, is_cell}
 use Rattle.transformer_algebra.specs.Laws.{In, here, there}

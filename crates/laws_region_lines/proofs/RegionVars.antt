@@ -11,7 +11,7 @@ use Rattle.affine_systems.proofs.Basics.{if_cases}
 use Rattle.hull_projection.specs.declared.projection.Shadow.{Shadow}
 use Rattle.hull_projection.specs.Refute.{refuted}
 use Rattle.f77_ast.specs.Trees.{StmtTrees}
-use Rattle.f77_symbols.specs.declared.variable.Variable.{Variable}
+use Rattle.f77_ast.specs.declared.variable.Variable.{Variable}
 use Rattle.f77_results.specs.declared.results.At.{At}
 use Rattle.transformer_algebra.specs.declared.transformer.Transformer.{Transformer}
 use Rattle.transformer_algebra.specs.Transformers.{without}

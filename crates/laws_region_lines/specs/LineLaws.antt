@@ -3,7 +3,7 @@ use Rattle.std.specs.Prelude.{List, All}
 use Rattle.std.specs.List.{AllByRecursion}
 use Rattle.f77_ast.specs.DeclTrees.{ParsedTree}
 use Rattle.f77_printer.specs.declared.added.Added.{Added}
-use Rattle.f77_symbols.specs.Symbols.{SymbolTree}
+use Rattle.f77_ast.specs.Symbols.{SymbolTree}
 use Rattle.f77_results.specs.declared.results.Results.{Results}
 use Rattle.call_graph.specs.declared.graph.Graph.{Graph}
 use Rattle.f77_meaning.specs.Modules.{Known, known_of, symbol_names}

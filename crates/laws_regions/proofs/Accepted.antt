@@ -10,11 +10,11 @@ use Rattle.f77_ast.specs.Calls.{Dummy}
 use Rattle.f77_ast.specs.Places.{Constant, Variable, Function, Place}
 use Rattle.f77_ast.specs.Store.{Content}
 use Rattle.f77_ast.specs.Programs.{program_plan}
-use Rattle.f77_symbols.specs.declared.symbol.Place.TheVariants as place
-use Rattle.f77_symbols.specs.declared.variable.Variable.TheVariants.{Saved}
-use Rattle.f77_symbols.specs.Symbols.{SymbolTree, number_from}
-use Rattle.f77_symbols.specs.Units.{units_in}
-use Rattle.f77_symbols.specs.Shared.{symbol_at}
+use Rattle.f77_ast.specs.declared.symbol.Place.TheVariants as place
+use Rattle.f77_ast.specs.declared.variable.Variable.TheVariants.{Saved}
+use Rattle.f77_ast.specs.Symbols.{SymbolTree, number_from}
+use Rattle.f77_ast.specs.Units.{units_in}
+use Rattle.f77_ast.specs.Shared.{symbol_at}
 use Rattle.f77_results.specs.declared.results.Results.{Results}
 use Rattle.storage_layout.specs.Symbols.{symbols_of}
 use Rattle.laws_tables.specs.Laws.{DummiesFirst}

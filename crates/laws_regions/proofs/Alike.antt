@@ -5,15 +5,15 @@ use Rattle.std.proofs.lemmas.Bool.{and_parts, eqb-true}
 use Rattle.std.proofs.lemmas.Bool.Decides.{Decides-int_eq}
 use Rattle.std.proofs.lemmas.Slice.Eq.{bytes_eq-Decides}
 use Rattle.f77_ast.specs.Trees.{ExprTree}
-use Rattle.f77_symbols.specs.declared.constant.Constant.{Constant}
-use Rattle.f77_symbols.specs.declared.constant.Constant.TheVariants as constant
-use Rattle.f77_symbols.specs.declared.constant.Worth.{Worth}
-use Rattle.f77_symbols.specs.declared.constant.Worth.TheVariants.{Is, Faults, Varies}
-use Rattle.f77_symbols.specs.Constants.{worth}
-use Rattle.f77_symbols.specs.declared.symbol.Place.{Place}
-use Rattle.f77_symbols.specs.declared.symbol.Place.TheVariants as place
-use Rattle.f77_symbols.specs.Symbols.{BoundTree, SymbolTree, value_in}
-use Rattle.f77_symbols.specs.Units.{span_units, span_to, bound_units, bounds_units, units_in}
+use Rattle.f77_ast.specs.declared.constant.Constant.{Constant}
+use Rattle.f77_ast.specs.declared.constant.Constant.TheVariants as constant
+use Rattle.f77_ast.specs.declared.constant.Worth.{Worth}
+use Rattle.f77_ast.specs.declared.constant.Worth.TheVariants.{Is, Faults, Varies}
+use Rattle.f77_ast.specs.Constants.{worth}
+use Rattle.f77_ast.specs.declared.symbol.Place.{Place}
+use Rattle.f77_ast.specs.declared.symbol.Place.TheVariants as place
+use Rattle.f77_ast.specs.Symbols.{BoundTree, SymbolTree, value_in}
+use Rattle.f77_ast.specs.Units.{span_units, span_to, bound_units, bounds_units, units_in}
 use Rattle.effects.specs.Callee.{is_number, same_number, same_high, same_bound, same_bounds, same_scalar, is_at, is_like, first_like}
 
 -- ---- the same constant bounds

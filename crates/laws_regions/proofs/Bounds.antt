@@ -13,8 +13,8 @@ use Rattle.f77_ast.specs.Places.{Meant, Constant, Variable, Function, Dim, Place
 use Rattle.f77_ast.specs.Values.{fault, given, read_unit, name_value, value}
 use Rattle.f77_ast.specs.Calls.{BoundTree, Dummy, Meaning, first_place, other_places, high_value, dims_read, is_open, open_extent, array_at, array_place, dummy_bound, arrays_bound}
 use Rattle.f77_ast.specs.Programs.{scope}
-use Rattle.f77_symbols.specs.declared.variable.Variable.TheVariants.{Own}
-use Rattle.f77_symbols.specs.Symbols.{BoundTree as Bound}
+use Rattle.f77_ast.specs.declared.variable.Variable.TheVariants.{Own}
+use Rattle.f77_ast.specs.Symbols.{BoundTree as Bound}
 use Rattle.tracked_cells.specs.Standing.{has_bounds}
 use Rattle.call_graph.specs.declared.graph.Graph.{Graph}
 use Rattle.f77_meaning.specs.Modules.{Known}

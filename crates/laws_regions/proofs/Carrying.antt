@@ -10,13 +10,13 @@ use Rattle.f77_ast.specs.Trees as tree
 use Rattle.f77_ast.specs.Store.{Store}
 use Rattle.f77_ast.specs.Places.{Constant, Variable, Dim, Place, Places, scalar_place, total_size, within, position, element_in}
 use Rattle.f77_ast.specs.Calls.{Actual, Dummy, Meaning, places_of}
-use Rattle.f77_symbols.specs.declared.constant.Constant.{Constant as Worthy}
-use Rattle.f77_symbols.specs.declared.symbol.Place.{Place as SymbolPlace}
-use Rattle.f77_symbols.specs.declared.symbol.Place.TheVariants as place
-use Rattle.f77_symbols.specs.declared.variable.Variable.{Variable as Named}
-use Rattle.f77_symbols.specs.declared.variable.Variable.TheVariants.{Own, Block, Saved}
-use Rattle.f77_symbols.specs.Symbols.{BoundTree, SymbolTree, number_from}
-use Rattle.f77_symbols.specs.Shared.{symbol_at, place_at, place_of}
+use Rattle.f77_ast.specs.declared.constant.Constant.{Constant as Worthy}
+use Rattle.f77_ast.specs.declared.symbol.Place.{Place as SymbolPlace}
+use Rattle.f77_ast.specs.declared.symbol.Place.TheVariants as place
+use Rattle.f77_ast.specs.declared.variable.Variable.{Variable as Named}
+use Rattle.f77_ast.specs.declared.variable.Variable.TheVariants.{Own, Block, Saved}
+use Rattle.f77_ast.specs.Symbols.{BoundTree, SymbolTree, number_from}
+use Rattle.f77_ast.specs.Shared.{symbol_at, place_at, place_of}
 use Rattle.tracked_cells.specs.Standing.{has_bounds}
 use Rattle.tracked_cells.specs.Scalars.{unit}
 use Rattle.call_graph.specs.declared.graph.Graph.{Graph}

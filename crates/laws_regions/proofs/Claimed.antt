@@ -10,10 +10,10 @@ use Rattle.f77_ast.specs.Places.{element_in}
 use Rattle.affine_systems.specs.declared.row.Var.TheVariants.{Phi}
 use Rattle.f77_ast.specs.Plans.{Flow, Normal, Jump, Returned, Stopped}
 use Rattle.f77_ast.specs.Executions.{AtEnd, AtEndOf}
-use Rattle.f77_symbols.specs.declared.variable.Variable.{Variable}
-use Rattle.f77_symbols.specs.declared.variable.Variable.TheVariants.{Own, Block, Saved}
+use Rattle.f77_ast.specs.declared.variable.Variable.{Variable}
+use Rattle.f77_ast.specs.declared.variable.Variable.TheVariants.{Own, Block, Saved}
 use Rattle.call_graph.specs.declared.graph.Graph.{Graph}
-use Rattle.f77_symbols.specs.Shared.{symbol_at}
+use Rattle.f77_ast.specs.Shared.{symbol_at}
 use Rattle.f77_meaning.specs.Areas.{is_own_unit}
 use Rattle.f77_meaning.specs.Modules.{Known, all_lost}
 use Rattle.f77_meaning.specs.Linked.{numbering}

@@ -10,12 +10,12 @@ use Rattle.f77_ast.specs.Places.{Names, Dim, Place, Places, total_size}
 use Rattle.f77_ast.specs.Values.{fault, value}
 use Rattle.f77_ast.specs.Calls.{Dummy, BoundTree, first_place, other_places, high_value, dims_read, is_open, open_extent, array_at, array_place, dummy_bound, arrays_bound}
 use Rattle.f77_ast.proofs.StepLaws.{Leads, leads_then}
-use Rattle.f77_symbols.specs.declared.constant.Constant.{Constant}
-use Rattle.f77_symbols.specs.declared.constant.Constant.TheVariants.{Int}
-use Rattle.f77_symbols.specs.declared.constant.Worth.{Worth}
-use Rattle.f77_symbols.specs.declared.constant.Worth.TheVariants.{Is}
-use Rattle.f77_symbols.specs.Constants.{worth}
-use Rattle.f77_symbols.specs.Symbols.{BoundTree as Bound}
+use Rattle.f77_ast.specs.declared.constant.Constant.{Constant}
+use Rattle.f77_ast.specs.declared.constant.Constant.TheVariants.{Int}
+use Rattle.f77_ast.specs.declared.constant.Worth.{Worth}
+use Rattle.f77_ast.specs.declared.constant.Worth.TheVariants.{Is}
+use Rattle.f77_ast.specs.Constants.{worth}
+use Rattle.f77_ast.specs.Symbols.{BoundTree as Bound}
 use Rattle.f77_meaning.specs.Modules.{bound_of}
 use Rattle.affine_forms.specs.Scalars.{Scalars}
 use Rattle.affine_forms.specs.Claims.{Agrees}

@@ -9,16 +9,16 @@ use Rattle.f77_ast.specs.Trees.{ExprTree, ExprTrees}
 use Rattle.f77_ast.specs.Trees as tree
 use Rattle.f77_ast.specs.DeclTrees.{ParsedTree}
 use Rattle.f77_ast.specs.Places.{Dim, dim_size, total_size}
-use Rattle.f77_symbols.specs.declared.constant.Constant.{Constant}
-use Rattle.f77_symbols.specs.declared.constant.Constant.TheVariants.{Int, Log}
-use Rattle.f77_symbols.specs.declared.constant.Worth.{Worth}
-use Rattle.f77_symbols.specs.declared.constant.Worth.TheVariants.{Is, Faults, Varies}
-use Rattle.f77_symbols.specs.Constants.{turns_logical, gives_logical, unary_worth, binary_worth, named_worth, worth}
-use Rattle.f77_symbols.specs.declared.symbol.Place.{Place}
-use Rattle.f77_symbols.specs.declared.symbol.Place.TheVariants as place
-use Rattle.f77_symbols.specs.Symbols.{BoundTree, SymbolTree, constant_in, constant_at, value_in}
-use Rattle.f77_symbols.specs.Units.{span_units, span_to, bounds_units, units_in}
-use Rattle.f77_symbols.specs.Shared.{symbol_at}
+use Rattle.f77_ast.specs.declared.constant.Constant.{Constant}
+use Rattle.f77_ast.specs.declared.constant.Constant.TheVariants.{Int, Log}
+use Rattle.f77_ast.specs.declared.constant.Worth.{Worth}
+use Rattle.f77_ast.specs.declared.constant.Worth.TheVariants.{Is, Faults, Varies}
+use Rattle.f77_ast.specs.Constants.{turns_logical, gives_logical, unary_worth, binary_worth, named_worth, worth}
+use Rattle.f77_ast.specs.declared.symbol.Place.{Place}
+use Rattle.f77_ast.specs.declared.symbol.Place.TheVariants as place
+use Rattle.f77_ast.specs.Symbols.{BoundTree, SymbolTree, constant_in, constant_at, value_in}
+use Rattle.f77_ast.specs.Units.{span_units, span_to, bounds_units, units_in}
+use Rattle.f77_ast.specs.Shared.{symbol_at}
 use Rattle.refusal_codes.specs.declared.code.Code.TheVariants.{BadDimension}
 use Rattle.refusal_codes.specs.declared.refusal.Refusal.{Refusal}
 use Rattle.f77_names.specs.Entries.{ShapeTree, EntryTree, find, of_entry, has_shape, value_among}

@@ -4,12 +4,12 @@ use Rattle.std.specs.Prelude.{if◌then◌else◌}
 use Rattle.std.proofs.lemmas.Bool.{and_parts}
 use Rattle.f77_ast.specs.Places.{Meant, Variable, Function}
 use Rattle.f77_ast.specs.Places as meant
-use Rattle.f77_symbols.specs.declared.constant.Constant.{Constant}
-use Rattle.f77_symbols.specs.declared.symbol.Place.{Place}
-use Rattle.f77_symbols.specs.declared.symbol.Place.TheVariants as place
+use Rattle.f77_ast.specs.declared.constant.Constant.{Constant}
+use Rattle.f77_ast.specs.declared.symbol.Place.{Place}
+use Rattle.f77_ast.specs.declared.symbol.Place.TheVariants as place
 use Rattle.f77_ast.specs.declared.decl.Scalar.{Scalar}
-use Rattle.f77_symbols.specs.declared.variable.Unit.{Unit as BlockUnit}
-use Rattle.f77_symbols.specs.Symbols.{SymbolTree, number_from, value_in}
+use Rattle.f77_ast.specs.declared.variable.Unit.{Unit as BlockUnit}
+use Rattle.f77_ast.specs.Symbols.{SymbolTree, number_from, value_in}
 use Rattle.tracked_cells.specs.Standing.{is_int_scalar}
 use Rattle.f77_meaning.specs.Modules.{symbol_names, meant_by, is_function, meant_at, meant_in, names}
 use Rattle.affine_forms.specs.Scalars.{is_cell, if_cell, cell_in}

@@ -1,12 +1,12 @@
 -- The cells of what is called have, where it is entered, the values of their forms over the cells of the caller where the CALL begins.
 use Rattle.std.proofs.Common.{◌≡◌, ℕ, ℤ, List, [], Option, Some, None, true, refl, sym, ap, ◌∙◌, subst, arith}
 use Rattle.std.proofs.lemmas.Int.{ints}
-use Rattle.f77_symbols.specs.declared.symbol.Place.{Place}
-use Rattle.f77_symbols.specs.declared.symbol.Place.TheVariants.{Local, Dummy, Block, Constant}
-use Rattle.f77_symbols.specs.Shared.{place_at}
+use Rattle.f77_ast.specs.declared.symbol.Place.{Place}
+use Rattle.f77_ast.specs.declared.symbol.Place.TheVariants.{Local, Dummy, Block, Constant}
+use Rattle.f77_ast.specs.Shared.{place_at}
 use Rattle.tracked_cells.specs.Scalars.{unit}
 use Rattle.affine_forms.specs.Forms.{cell_form}
-use Rattle.f77_symbols.specs.declared.variable.Unit.{Unit as BlockUnit}
+use Rattle.f77_ast.specs.declared.variable.Unit.{Unit as BlockUnit}
 use Rattle.transformer_algebra.specs.Claims.{Scene, Means, Kept}
 use Rattle.call_translation.specs.Actuals.{actual_of, form_in}
 use Rattle.call_translation.specs.Common.{tracked_at}

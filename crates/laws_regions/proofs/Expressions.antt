@@ -11,7 +11,7 @@ use Rattle.f77_ast.specs.Numbers.{unary_number, unary_tag, binary_number, binary
 use Rattle.f77_ast.specs.Runs.{Event, Read as Reads, Answer, Gave, Broke}
 use Rattle.f77_ast.specs.Places.{Meant, Constant, Variable, Function, Place, Dim, position, within, element_in}
 use Rattle.f77_ast.specs.Values.{fault, given, of_type, read_unit, unit_after, name_value, intrinsic_value, element_value, value, values, shown, all_shown}
-use Rattle.f77_symbols.specs.Symbols.{BoundTree, number_from}
+use Rattle.f77_ast.specs.Symbols.{BoundTree, number_from}
 use Rattle.tracked_cells.specs.Standing.{has_bounds}
 use Rattle.affine_forms.specs.Scalars.{is_cell}
 use Rattle.affine_forms.specs.Forms.{affine_of}

@@ -42,7 +42,7 @@ use Rattle.laws_statements.proofs.Simple.{does_assigned, does_unchanging}
 use Rattle.laws_statements.proofs.Tracks.{turn_tracks}
 use Rattle.laws_statements.proofs.Counts.{NotZero, not_zero, count_more, count_none}
 use Rattle.laws_statements.proofs.Ranges.{StepIs}
-use Rattle.f77_symbols.specs.Shared.{symbol_at}
+use Rattle.f77_ast.specs.Shared.{symbol_at}
 use Rattle.laws_regions.specs.Settings.{Setting, scene, is_stored, elements_at, Sound}
 use Rattle.laws_regions.specs.Shown.{accessed, Holds, Sharp, Finally, Shown}
 use Rattle.laws_regions.proofs.Traces.{accessed_left}

@@ -6,13 +6,13 @@ use Rattle.f77_ast.specs.Store.{Content}
 use Rattle.f77_ast.specs.Trees.{ExprTree, ExprTrees}
 use Rattle.f77_ast.specs.Numbers.{intrinsic_named}
 use Rattle.f77_ast.specs.Places.{Constant, Variable, Function}
-use Rattle.f77_symbols.specs.declared.constant.Constant.TheVariants as constant
-use Rattle.f77_symbols.specs.declared.constant.Worth.TheVariants.{Is}
-use Rattle.f77_symbols.specs.Constants.{worth}
-use Rattle.f77_symbols.specs.declared.symbol.Place.{Place}
-use Rattle.f77_symbols.specs.declared.symbol.Place.TheVariants as place
-use Rattle.f77_symbols.specs.Symbols.{BoundTree, SymbolTree, number_from, value_in}
-use Rattle.f77_symbols.specs.Shared.{symbol_at}
+use Rattle.f77_ast.specs.declared.constant.Constant.TheVariants as constant
+use Rattle.f77_ast.specs.declared.constant.Worth.TheVariants.{Is}
+use Rattle.f77_ast.specs.Constants.{worth}
+use Rattle.f77_ast.specs.declared.symbol.Place.{Place}
+use Rattle.f77_ast.specs.declared.symbol.Place.TheVariants as place
+use Rattle.f77_ast.specs.Symbols.{BoundTree, SymbolTree, number_from, value_in}
+use Rattle.f77_ast.specs.Shared.{symbol_at}
 use Rattle.tracked_cells.specs.Standing.{has_bounds}
 use Rattle.f77_meaning.specs.Areas.{Numbering}
 use Rattle.f77_meaning.specs.Modules.{Known, is_function, meant_by, meant_at, meant_in, symbol_names, names, as_number, constant_high, dim_of, fixed_place, fixed_maybe, fixed}

@@ -16,7 +16,7 @@ use Rattle.f77_ast.specs.Statements.{spot, body_plan}
 use Rattle.f77_ast.specs.StatementNumbers.{list_numbers, IsNumbered}
 use Rattle.f77_ast.specs.Programs.{Program, scope, body_of, called, meanings, program_plan}
 use Rattle.f77_ast.proofs.StepLaws.{at_end_true}
-use Rattle.f77_symbols.specs.Symbols.{BoundTree}
+use Rattle.f77_ast.specs.Symbols.{BoundTree}
 use Rattle.f77_results.specs.declared.results.At.{At}
 use Rattle.f77_results.specs.Summaries.{SummaryTree}
 use Rattle.call_graph.specs.declared.graph.Graph.{Graph}

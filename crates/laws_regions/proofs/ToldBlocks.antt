@@ -4,11 +4,11 @@ use Rattle.std.specs.Prelude.{if◌then◌else◌, slice_get, unwrap_or}
 use Rattle.f77_ast.specs.DeclTrees.{EntityTree, CommonTree, DeclTree, ModuleTree, ParsedTree}
 use Rattle.f77_ast.specs.DeclTrees as decl
 use Rattle.f77_ast.specs.declared.places.Part.TheVariants as parts
-use Rattle.f77_symbols.specs.declared.constant.Constant.{Constant}
+use Rattle.f77_ast.specs.declared.constant.Constant.{Constant}
 use Rattle.f77_statements.specs.Phrases.{end_module}
-use Rattle.f77_symbols.specs.declared.symbol.Place.TheVariants as place
-use Rattle.f77_symbols.specs.Symbols.{SymbolTree}
-use Rattle.f77_symbols.specs.Shared.{symbol_at}
+use Rattle.f77_ast.specs.declared.symbol.Place.TheVariants as place
+use Rattle.f77_ast.specs.Symbols.{SymbolTree}
+use Rattle.f77_ast.specs.Shared.{symbol_at}
 use Rattle.f77_names.specs.Entries.{EntryTree}
 use Rattle.f77_names.specs.Tables.{NameTable}
 use Rattle.storage_data.specs.Units.{place_of, units_of}

@@ -4,8 +4,8 @@ use Rattle.std.specs.List.{list_any}
 use Rattle.f77_ast.specs.Trees.{ExprTree}
 use Rattle.f77_ast.specs.Trees as tree
 use Rattle.f77_ast.specs.Calls.{BoundTree, Dummy}
-use Rattle.f77_symbols.specs.Symbols.{SymbolTree}
-use Rattle.f77_symbols.specs.Shared.{symbol_at}
+use Rattle.f77_ast.specs.Symbols.{SymbolTree}
+use Rattle.f77_ast.specs.Shared.{symbol_at}
 use Rattle.call_graph.specs.declared.graph.Graph.{Graph}
 use Rattle.f77_meaning.specs.Modules.{Known, all_lost}
 use Rattle.f77_meaning.specs.Linked.{numbering}

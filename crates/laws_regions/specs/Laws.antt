@@ -6,7 +6,7 @@ use Rattle.f77_meaning.specs.Occurrences.{Occurrence}
 use Rattle.f77_meaning.specs.Claims as claims
 use Rattle.f77_meaning.specs.Claims.{place_of}
 use Rattle.affine_forms.specs.Claims.{unit_in, numbers_of}
-use Rattle.f77_symbols.specs.declared.variable.Unit.{Unit as BlockUnit}
+use Rattle.f77_ast.specs.declared.variable.Unit.{Unit as BlockUnit}
 use Rattle.transformer_algebra.specs.Claims.{Scene}
 use Rattle.region_sets.specs.declared.region.Region.{Region}
 use Rattle.region_sets.specs.Claims.{LiesIn, IsSharp}

@@ -5,14 +5,14 @@ use Rattle.f77_ast.specs.Places.{Constant, Variable, Function, Dim, Place, total
 use Rattle.f77_ast.specs.Trees.{ExprTree, ExprTrees}
 use Rattle.f77_ast.specs.Numbers.{intrinsic_named}
 use Rattle.f77_ast.specs.Calls.{Dummy}
-use Rattle.f77_symbols.specs.declared.constant.Constant.{Constant as Worthy}
-use Rattle.f77_symbols.specs.declared.constant.Constant.TheVariants.{Int}
-use Rattle.f77_symbols.specs.declared.constant.Worth.TheVariants.{Is}
-use Rattle.f77_symbols.specs.Constants.{worth}
-use Rattle.f77_symbols.specs.declared.symbol.Place.TheVariants.{Block as InBlock}
-use Rattle.f77_symbols.specs.declared.variable.Variable.TheVariants.{Block as Whole, Saved}
-use Rattle.f77_symbols.specs.Symbols.{BoundTree, SymbolTree, number_from, value_in}
-use Rattle.f77_symbols.specs.Shared.{symbol_at}
+use Rattle.f77_ast.specs.declared.constant.Constant.{Constant as Worthy}
+use Rattle.f77_ast.specs.declared.constant.Constant.TheVariants.{Int}
+use Rattle.f77_ast.specs.declared.constant.Worth.TheVariants.{Is}
+use Rattle.f77_ast.specs.Constants.{worth}
+use Rattle.f77_ast.specs.declared.symbol.Place.TheVariants.{Block as InBlock}
+use Rattle.f77_ast.specs.declared.variable.Variable.TheVariants.{Block as Whole, Saved}
+use Rattle.f77_ast.specs.Symbols.{BoundTree, SymbolTree, number_from, value_in}
+use Rattle.f77_ast.specs.Shared.{symbol_at}
 use Rattle.tracked_cells.specs.Scalars.{unit as unit_of}
 use Rattle.tracked_cells.specs.Standing.{has_bounds}
 use Rattle.call_graph.specs.declared.graph.Graph.{Graph}

@@ -7,15 +7,15 @@ use Rattle.f77_ast.specs.Store.{Content}
 use Rattle.f77_ast.specs.Numbers.{intrinsic_named}
 use Rattle.f77_ast.specs.Places.{Constant, Variable, Function, Dim, Place, Places}
 use Rattle.f77_ast.specs.Statements.{Scope}
-use Rattle.f77_symbols.specs.declared.constant.Constant.{Constant as Known}
-use Rattle.f77_symbols.specs.declared.constant.Constant.TheVariants.{Int}
-use Rattle.f77_symbols.specs.declared.constant.Worth.TheVariants.{Is}
-use Rattle.f77_symbols.specs.Constants.{worth}
-use Rattle.f77_symbols.specs.declared.variable.Unit.{Unit as BlockUnit}
-use Rattle.f77_symbols.specs.declared.variable.Variable.{Variable as Named}
-use Rattle.f77_symbols.specs.declared.variable.Variable.TheVariants.{Own, Block, Saved}
-use Rattle.f77_symbols.specs.Symbols.{BoundTree, SymbolTree}
-use Rattle.f77_symbols.specs.Shared.{symbol_at}
+use Rattle.f77_ast.specs.declared.constant.Constant.{Constant as Known}
+use Rattle.f77_ast.specs.declared.constant.Constant.TheVariants.{Int}
+use Rattle.f77_ast.specs.declared.constant.Worth.TheVariants.{Is}
+use Rattle.f77_ast.specs.Constants.{worth}
+use Rattle.f77_ast.specs.declared.variable.Unit.{Unit as BlockUnit}
+use Rattle.f77_ast.specs.declared.variable.Variable.{Variable as Named}
+use Rattle.f77_ast.specs.declared.variable.Variable.TheVariants.{Own, Block, Saved}
+use Rattle.f77_ast.specs.Symbols.{BoundTree, SymbolTree}
+use Rattle.f77_ast.specs.Shared.{symbol_at}
 use Rattle.tracked_cells.specs.Standing.{has_bounds}
 use Rattle.transformer_algebra.specs.declared.transformer.Transformer.{Transformer}
 use Rattle.transformer_algebra.specs.Claims.{Scene, Tracks}

@@ -15,7 +15,7 @@ use Rattle.f77_ast.specs.Executions.{run_of, AtEndOf, Claim}
 use Rattle.f77_ast.specs.Lists.{Part, has_label, from_label, go_on, in_order, with_jumps, list_plan}
 use Rattle.f77_ast.specs.Statements.{Scope, spot, statement_plan, parts}
 use Rattle.f77_meaning.specs.Occurrences.{places_in, is_normal}
-use Rattle.f77_symbols.specs.declared.variable.Unit.{Unit as BlockUnit}
+use Rattle.f77_ast.specs.declared.variable.Unit.{Unit as BlockUnit}
 use Rattle.affine_forms.specs.Claims.{numbers_of}
 use Rattle.transformer_algebra.specs.declared.transformer.Transformer.{Transformer}
 use Rattle.transformer_algebra.specs.Cells.{has, others}

@@ -12,7 +12,7 @@ use Rattle.f77_ast.specs.Writes.{Locks, lock, first_lock}
 use Rattle.f77_ast.specs.Plans.{Flow, Normal, Jump, Returned, Stopped, Plan}
 use Rattle.f77_ast.specs.Executions.{Claim}
 use Rattle.f77_ast.specs.Loops.{iteration_count, iterations_from}
-use Rattle.f77_symbols.specs.declared.variable.Unit.{Unit as BlockUnit}
+use Rattle.f77_ast.specs.declared.variable.Unit.{Unit as BlockUnit}
 use Rattle.affine_forms.specs.Claims.{unit_in, numbers_of}
 use Rattle.affine_forms.proofs.FormLaws.{kept_is}
 use Rattle.transformer_algebra.specs.declared.transformer.Transformer.{Transformer}

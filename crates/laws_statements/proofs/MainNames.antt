@@ -8,12 +8,12 @@ use Rattle.f77_ast.specs.declared.decl.Scalar.{Scalar}
 use Rattle.f77_ast.specs.Places.{Meant, Constant, Variable, Function, Place, Places}
 use Rattle.f77_ast.specs.Calls.{Dummy, in_place}
 use Rattle.f77_ast.specs.Writes.{Locks, no_locks}
-use Rattle.f77_symbols.specs.declared.symbol.Place.{Place as SymbolPlace}
-use Rattle.f77_symbols.specs.declared.symbol.Place.TheVariants as place
-use Rattle.f77_symbols.specs.declared.variable.Unit.{Unit as BlockUnit}
-use Rattle.f77_symbols.specs.Symbols.{BoundTree, SymbolTree, number_from, value_in}
-use Rattle.f77_symbols.specs.Units.{units_in, bounds_units}
-use Rattle.f77_symbols.specs.Shared.{symbol_at}
+use Rattle.f77_ast.specs.declared.symbol.Place.{Place as SymbolPlace}
+use Rattle.f77_ast.specs.declared.symbol.Place.TheVariants as place
+use Rattle.f77_ast.specs.declared.variable.Unit.{Unit as BlockUnit}
+use Rattle.f77_ast.specs.Symbols.{BoundTree, SymbolTree, number_from, value_in}
+use Rattle.f77_ast.specs.Units.{units_in, bounds_units}
+use Rattle.f77_ast.specs.Shared.{symbol_at}
 use Rattle.tracked_cells.specs.Equivalences.{equivalenced_names}
 use Rattle.tracked_cells.specs.Standing.{has_bounds}
 use Rattle.call_graph.specs.declared.graph.Graph.{Graph}

@@ -3,7 +3,7 @@ use Rattle.std.proofs.Common.{◌≡◌, ℕ, zero, suc, ◌+◌, ◌-◌, ◌<�
 use Rattle.std.specs.Prelude.{if◌then◌else◌, slice_get}
 use Rattle.std.proofs.lemmas.Bool.Decides.{nat_tests}
 use Rattle.f77_results.specs.declared.results.At.{At}
-use Rattle.f77_symbols.specs.Shared.{numbered}
+use Rattle.f77_ast.specs.Shared.{numbered}
 use Rattle.transformers.specs.Lists.{or_first, first_at, value_at}
 use Rattle.laws_statements.specs.Laws.{InOrder}
 use Rattle.laws_statements.specs.CallsIn.{Each}

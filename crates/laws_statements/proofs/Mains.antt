@@ -25,9 +25,9 @@ use Rattle.f77_ast.specs.Calls.{Meaning, Dummy, arrays_bound, lock_doubly}
 use Rattle.f77_ast.specs.Lists.{list_plan}
 use Rattle.f77_ast.specs.Statements.{Scope, spot, parts, body_plan}
 use Rattle.f77_ast.specs.Programs.{Routine, Program, scope, body_of, meanings, program_plan}
-use Rattle.f77_symbols.specs.declared.symbol.InitialRun.{InitialRun}
-use Rattle.f77_symbols.specs.Symbols.{SymbolTree}
-use Rattle.f77_symbols.specs.Shared.{symbol_at}
+use Rattle.f77_ast.specs.declared.symbol.InitialRun.{InitialRun}
+use Rattle.f77_ast.specs.Symbols.{SymbolTree}
+use Rattle.f77_ast.specs.Shared.{symbol_at}
 use Rattle.call_graph.specs.declared.graph.Graph.{Graph}
 use Rattle.f77_meaning.specs.Modules.{Known, names, fixed, dummies_from}
 use Rattle.f77_meaning.specs.Linked.{numbering, main_of, initial, routine, subroutines, program_of}

@@ -19,7 +19,7 @@ use Rattle.f77_ast.specs.Writes.{Locks, written, write, assigned as assigned_ste
 use Rattle.f77_ast.specs.Plans.{Flow, Normal, Jump, Returned, Stopped, Plan, Ends, Show as ShowPlan, first}
 use Rattle.f77_ast.specs.Executions.{Claim}
 use Rattle.f77_ast.proofs.StepLaws.{Leads, leads_then}
-use Rattle.f77_symbols.specs.declared.variable.Unit.{Unit as BlockUnit}
+use Rattle.f77_ast.specs.declared.variable.Unit.{Unit as BlockUnit}
 use Rattle.affine_forms.specs.declared.affine.Affine.{Affine}
 use Rattle.affine_forms.specs.Comparisons.{var_form, same_row}
 use Rattle.affine_forms.specs.Conditions.{no_rows}

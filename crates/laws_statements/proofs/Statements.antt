@@ -20,8 +20,8 @@ use Rattle.f77_ast.specs.Lists.{Part, in_order, list_plan}
 use Rattle.f77_ast.specs.Loops.{Range, range_of, iteration_count, iterations_from, loop_plan}
 use Rattle.f77_ast.specs.Calls.{actuals, call_plan}
 use Rattle.f77_ast.specs.Statements.{Scope, spot, statement_plan, execution, arms_plan, else_plan, do_plan, parts}
-use Rattle.f77_symbols.specs.declared.variable.Unit.{Unit as BlockUnit}
-use Rattle.f77_symbols.specs.Symbols.{number_from}
+use Rattle.f77_ast.specs.declared.variable.Unit.{Unit as BlockUnit}
+use Rattle.f77_ast.specs.Symbols.{number_from}
 use Rattle.affine_forms.specs.Scalars.{is_cell}
 use Rattle.affine_forms.specs.Forms.{affine_of}
 use Rattle.affine_forms.specs.Conditions.{no_rows, condition_of}

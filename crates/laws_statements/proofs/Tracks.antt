@@ -6,7 +6,7 @@ use Rattle.affine_systems.specs.Calls.{meet}
 use Rattle.f77_ast.specs.Trees.{ExprTree, ExprTrees, StmtTree, WhatTree, ArmTree, ArmTrees, ElseTree, LoopTree, StmtTrees}
 use Rattle.f77_ast.specs.Trees as tree
 use Rattle.f77_ast.specs.Places.{Names}
-use Rattle.f77_symbols.specs.declared.variable.Unit.{Unit as BlockUnit}
+use Rattle.f77_ast.specs.declared.variable.Unit.{Unit as BlockUnit}
 use Rattle.affine_forms.specs.declared.affine.Affine.{Affine}
 use Rattle.affine_forms.specs.Scalars.{is_cell}
 use Rattle.affine_forms.specs.Forms.{affine_of}

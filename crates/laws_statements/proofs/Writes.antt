@@ -7,7 +7,7 @@ use Rattle.f77_ast.specs.Store.{Content, Store, put}
 use Rattle.f77_ast.specs.Places.{Names, Places, Variable, Function, Dim, Place, position, within, element_in}
 use Rattle.f77_ast.specs.Values.{Target}
 use Rattle.f77_ast.specs.Writes.{Locks}
-use Rattle.f77_symbols.specs.declared.variable.Unit.{Unit as BlockUnit}
+use Rattle.f77_ast.specs.declared.variable.Unit.{Unit as BlockUnit}
 use Rattle.affine_forms.specs.Scalars.{is_cell}
 use Rattle.affine_forms.specs.Claims.{unit_in, numbers_of}
 use Rattle.transformer_algebra.specs.Cells.{has}

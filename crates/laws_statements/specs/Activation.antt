@@ -5,8 +5,8 @@ use Rattle.f77_ast.specs.Store.{Store}
 use Rattle.f77_ast.specs.Places.{Names, Places, Variable}
 use Rattle.f77_ast.specs.Writes.{Locks}
 use Rattle.f77_ast.specs.Plans.{Flow, Normal, Jump, Returned, Stopped}
-use Rattle.f77_symbols.specs.declared.variable.Unit.{Unit as BlockUnit}
-use Rattle.f77_symbols.specs.Symbols.{number_from}
+use Rattle.f77_ast.specs.declared.variable.Unit.{Unit as BlockUnit}
+use Rattle.f77_ast.specs.Symbols.{number_from}
 use Rattle.affine_forms.specs.Scalars.{is_cell}
 use Rattle.affine_forms.specs.Claims.{unit_in, numbers_of, Agrees}
 use Rattle.transformer_algebra.specs.declared.transformer.Transformer.{Transformer}

@@ -12,10 +12,10 @@ use Rattle.f77_ast.specs.Steps.{◌>>=◌}
 use Rattle.f77_ast.specs.Places.{Meant, Constant, Variable, Function, Places}
 use Rattle.f77_ast.specs.Values.{value, name_value}
 use Rattle.f77_ast.specs.Calls.{stored, actual, name_actual, element_actual}
-use Rattle.f77_symbols.specs.declared.symbol.Place.{Place}
-use Rattle.f77_symbols.specs.declared.symbol.Place.TheVariants as place
-use Rattle.f77_symbols.specs.Symbols.{BoundTree, SymbolTree, number_from}
-use Rattle.f77_symbols.specs.Shared.{symbol_at}
+use Rattle.f77_ast.specs.declared.symbol.Place.{Place}
+use Rattle.f77_ast.specs.declared.symbol.Place.TheVariants as place
+use Rattle.f77_ast.specs.Symbols.{BoundTree, SymbolTree, number_from}
+use Rattle.f77_ast.specs.Shared.{symbol_at}
 use Rattle.tracked_cells.specs.Standing.{has_bounds}
 use Rattle.call_graph.specs.declared.actuals.Offer.TheVariants as offer
 use Rattle.call_graph.specs.Actuals.{symbol_with_name, is_array, is_scalar_of, suits, fits, actual_of, actuals_of, all_fit, type_of, type_of_symbol, element_type, name_offer, place_offer, element_offer, offer_of}

@@ -3,8 +3,8 @@ use Rattle.std.proofs.Common.{◌≡◌, ℕ, zero, suc, ◌+◌, ◌*◌, ◌^�
 use Rattle.std.specs.Prelude.{if◌then◌else◌, bytes_eq, nat_eq, ◌&&◌}
 use Rattle.std.proofs.lemmas.Nat.{div-mul-add}
 use Rattle.std.proofs.Math.Nat.{pow-suc, mul-add-mod_self_left}
-use Rattle.f77_symbols.specs.declared.symbol.Place.TheVariants as place
-use Rattle.f77_symbols.specs.Symbols.{number_from}
+use Rattle.f77_ast.specs.declared.symbol.Place.TheVariants as place
+use Rattle.f77_ast.specs.Symbols.{number_from}
 use Rattle.f77_meaning.specs.Areas.{block, group, own, Numbering, or_zero, place_in, paired, area_number, unit_at}
 use Rattle.laws_storage.specs.Owners.{twos, belongs_to}
 

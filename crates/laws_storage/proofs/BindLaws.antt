@@ -12,9 +12,9 @@ use Rattle.f77_ast.specs.Places.{Names, Dim, Place, Places, scalar_place, total_
 use Rattle.f77_ast.specs.Values.{fault, value}
 use Rattle.f77_ast.specs.Calls.{BoundTree, Dummy, first_place, other_places, scalars_bound, high_value, dims_read, is_open, open_extent, array_at, array_place, dummy_bound, arrays_bound}
 use Rattle.f77_ast.specs.Executions.{AtEndOf}
-use Rattle.f77_symbols.specs.declared.symbol.Place.{Place as SymbolPlace}
-use Rattle.f77_symbols.specs.declared.symbol.Place.TheVariants as place
-use Rattle.f77_symbols.specs.Symbols.{SymbolTree}
+use Rattle.f77_ast.specs.declared.symbol.Place.{Place as SymbolPlace}
+use Rattle.f77_ast.specs.declared.symbol.Place.TheVariants as place
+use Rattle.f77_ast.specs.Symbols.{SymbolTree}
 use Rattle.f77_meaning.specs.Modules.{tag_of, bound_of, as_dummy, dummies_from}
 use Rattle.laws_storage.specs.Activations.{Binds, binds_scalar, binds_array, AllBind, is_dummy, Entered, PlacesAreBound}
 use Rattle.laws_storage.proofs.AskLaws.{Asks, Any, asks_then, asks_weaker, asks_run, value_asks}

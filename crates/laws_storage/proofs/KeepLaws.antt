@@ -9,11 +9,11 @@ use Rattle.f77_ast.specs.Steps.{Done, ◌>>=◌}
 use Rattle.f77_ast.specs.Places.{Place as RunPlace, Places, Variable, scalar_place}
 use Rattle.f77_ast.specs.Values.{value, name_value}
 use Rattle.f77_ast.specs.Calls.{Actual, Dummy, lent, stored, actual, name_actual, places_of, in_place, first_place, other_places}
-use Rattle.f77_symbols.specs.declared.symbol.Place.{Place}
-use Rattle.f77_symbols.specs.declared.symbol.Place.TheVariants as place
-use Rattle.f77_symbols.specs.Symbols.{BoundTree, SymbolTree, value_in}
-use Rattle.f77_symbols.specs.Units.{bounds_units}
-use Rattle.f77_symbols.specs.Shared.{symbol_at}
+use Rattle.f77_ast.specs.declared.symbol.Place.{Place}
+use Rattle.f77_ast.specs.declared.symbol.Place.TheVariants as place
+use Rattle.f77_ast.specs.Symbols.{BoundTree, SymbolTree, value_in}
+use Rattle.f77_ast.specs.Units.{bounds_units}
+use Rattle.f77_ast.specs.Shared.{symbol_at}
 use Rattle.tracked_cells.specs.Standing.{has_bounds}
 use Rattle.laws_tables.specs.Laws.{NoDummies}
 use Rattle.f77_meaning.specs.Areas.{block, group, own, Numbering, unit_at}

@@ -12,7 +12,7 @@ use Rattle.f77_ast.specs.Places.{Meant, Constant, Variable, Function, Place, Pla
 use Rattle.f77_ast.specs.Values.{value, values}
 use Rattle.f77_ast.specs.Calls.{Actual, stored, rest_after, name_actual, element_actual, actual, actuals}
 use Rattle.f77_ast.specs.Executions.{AtEndOf}
-use Rattle.f77_symbols.specs.Symbols.{SymbolTree}
+use Rattle.f77_ast.specs.Symbols.{SymbolTree}
 use Rattle.f77_meaning.specs.Modules.{names}
 use Rattle.laws_storage.specs.Lending.{Lends, lends_variable, lends_element, lends_value, AllLend, ActualsLend}
 use Rattle.laws_storage.proofs.AskLaws.{Asks, Any, value_asks, values_ask}

@@ -5,10 +5,10 @@ use Rattle.std.proofs.lemmas.Bool.{and_from, or_left, or_right, eqb-true}
 use Rattle.f77_ast.specs.DeclTrees.{ParsedTree}
 use Rattle.f77_ast.specs.Places.{Place as RunPlace, Places}
 use Rattle.f77_ast.specs.Calls.{Dummy, in_place, in_dummies, doubly_reached}
-use Rattle.f77_symbols.specs.declared.symbol.Place.{Place}
-use Rattle.f77_symbols.specs.declared.symbol.Place.TheVariants as place
-use Rattle.f77_symbols.specs.Symbols.{SymbolTree}
-use Rattle.f77_symbols.specs.Shared.{symbol_at}
+use Rattle.f77_ast.specs.declared.symbol.Place.{Place}
+use Rattle.f77_ast.specs.declared.symbol.Place.TheVariants as place
+use Rattle.f77_ast.specs.Symbols.{SymbolTree}
+use Rattle.f77_ast.specs.Shared.{symbol_at}
 use Rattle.call_graph.specs.declared.graph.Graph.{Graph}
 use Rattle.call_graph.specs.declared.graph.Block.{Block}
 use Rattle.f77_meaning.specs.Areas.{Area, block, group}

@@ -3,8 +3,8 @@ use Rattle.std.proofs.Common.{◌≡◌, ℕ, zero, suc, ◌+◌, ◌<◌, ◌�
 use Rattle.std.specs.Prelude.{if◌then◌else◌, nat_eq, ◌&&◌, slice_get}
 use Rattle.std.specs.Ordering.{int_eq}
 use Rattle.std.proofs.lemmas.Bool.{and_parts, eqb-true}
-use Rattle.f77_symbols.specs.declared.constant.Constant.{Constant}
-use Rattle.f77_symbols.specs.declared.symbol.InitialRun.{InitialRun}
+use Rattle.f77_ast.specs.declared.constant.Constant.{Constant}
+use Rattle.f77_ast.specs.declared.symbol.InitialRun.{InitialRun}
 use Rattle.storage_data.specs.declared.deals.Piece.{Piece}
 use Rattle.storage_data.specs.Runs.{place_before, placed, run_of, with_value, with_piece, pieces_for, is_next, one_run, behind, all_behind, as_runs, runs_of, initial_of}
 use Rattle.laws_storage.proofs.EveryLaws.{Every, every_inserted, every_turned}

@@ -7,9 +7,9 @@ use Rattle.f77_ast.specs.Runs.{Whole, run}
 use Rattle.f77_ast.specs.Places.{Names, Place, Places, Variable, scalar_place}
 use Rattle.f77_ast.specs.Calls.{Dummy, in_place, first_place, other_places, scalars_bound, arrays_bound, doubly_reached}
 use Rattle.f77_ast.specs.Executions.{AtEndOf}
-use Rattle.f77_symbols.specs.declared.symbol.Place.TheVariants.{Block}
-use Rattle.f77_symbols.specs.Symbols.{SymbolTree}
-use Rattle.f77_symbols.specs.Shared.{symbol_at}
+use Rattle.f77_ast.specs.declared.symbol.Place.TheVariants.{Block}
+use Rattle.f77_ast.specs.Symbols.{SymbolTree}
+use Rattle.f77_ast.specs.Shared.{symbol_at}
 use Rattle.call_graph.specs.declared.graph.Graph.{Graph}
 use Rattle.f77_meaning.specs.Areas.{group}
 use Rattle.f77_meaning.specs.Modules.{tag_of, names, known_of, fixed, dummies_from}

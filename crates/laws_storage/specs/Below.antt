@@ -1,7 +1,7 @@
 -- What modules reach by calls: no module reaches itself so, and the COMMON of what it calls is its own (ANSI X3.9-1978 §15.6.2, §8.3).
 use Rattle.std.specs.Prelude.{◌≡◌, ℕ, true, false, List, length, slice_get, Some}
 use Rattle.f77_ast.specs.DeclTrees.{ParsedTree}
-use Rattle.f77_symbols.specs.Symbols.{SymbolTree}
+use Rattle.f77_ast.specs.Symbols.{SymbolTree}
 use Rattle.call_graph.specs.declared.graph.Graph.{Graph}
 use Rattle.call_graph.specs.declared.calls.Called.{Called}
 use Rattle.call_graph.specs.Calls.{calls_of}

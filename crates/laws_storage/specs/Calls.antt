@@ -8,9 +8,9 @@ use Rattle.f77_ast.specs.Steps.{◌>>=◌}
 use Rattle.f77_ast.specs.Places.{Constant, Variable, Function, Places}
 use Rattle.f77_ast.specs.Values.{value}
 use Rattle.f77_ast.specs.Calls.{stored, actual}
-use Rattle.f77_symbols.specs.declared.symbol.Place.TheVariants.{Dummy}
-use Rattle.f77_symbols.specs.Symbols.{SymbolTree}
-use Rattle.f77_symbols.specs.Shared.{symbol_at}
+use Rattle.f77_ast.specs.declared.symbol.Place.TheVariants.{Dummy}
+use Rattle.f77_ast.specs.Symbols.{SymbolTree}
+use Rattle.f77_ast.specs.Shared.{symbol_at}
 use Rattle.tracked_cells.specs.Standing.{has_bounds, is_int_scalar}
 use Rattle.storage_layout.specs.Symbols.{symbols_of}
 use Rattle.laws_tables.specs.Laws.{NoDummies}

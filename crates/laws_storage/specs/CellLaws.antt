@@ -6,9 +6,9 @@ use Rattle.f77_ast.specs.declared.decl.Scalar.TheVariants.{Int}
 use Rattle.f77_ast.specs.Store as tag
 use Rattle.f77_ast.specs.Places.{scalar_place}
 use Rattle.f77_ast.specs.Calls.{in_place}
-use Rattle.f77_symbols.specs.Symbols.{SymbolTree}
-use Rattle.f77_symbols.specs.Units.{units_in}
-use Rattle.f77_symbols.specs.Shared.{symbol_at}
+use Rattle.f77_ast.specs.Symbols.{SymbolTree}
+use Rattle.f77_ast.specs.Units.{units_in}
+use Rattle.f77_ast.specs.Shared.{symbol_at}
 use Rattle.call_graph.specs.declared.graph.Graph.{Graph}
 use Rattle.f77_meaning.specs.Areas.{Area, group, own, Numbering, unit_at}
 use Rattle.f77_meaning.specs.Modules.{known_of, fixed, all_lost}

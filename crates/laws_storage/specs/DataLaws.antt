@@ -3,8 +3,8 @@ use Rattle.std.specs.Prelude.{◌≡◌, ℕ, ℤ, true, List, Some, Ok}
 use Rattle.f77_ast.specs.DeclTrees.{ParsedTree}
 use Rattle.f77_ast.specs.declared.decl.Scalar.TheVariants.{Int}
 use Rattle.f77_ast.specs.Numbers.{in_range}
-use Rattle.f77_symbols.specs.declared.symbol.Place.TheVariants.{Constant}
-use Rattle.f77_symbols.specs.Symbols.{SymbolTree}
+use Rattle.f77_ast.specs.declared.symbol.Place.TheVariants.{Constant}
+use Rattle.f77_ast.specs.Symbols.{SymbolTree}
 use Rattle.laws_tables.specs.Shapes.{symbol_named}
 use Rattle.laws_storage.specs.Programs.{IsModule}
 use Rattle.laws_storage.specs.Initial.{DataLies}

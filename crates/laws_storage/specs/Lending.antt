@@ -8,7 +8,7 @@ use Rattle.f77_ast.specs.Runs.{Whole, run}
 use Rattle.f77_ast.specs.Places.{Place, Places, Variable, scalar_place}
 use Rattle.f77_ast.specs.Calls.{Actual, actuals, places_of}
 use Rattle.f77_ast.specs.Executions.{AtEndOf}
-use Rattle.f77_symbols.specs.Symbols.{SymbolTree}
+use Rattle.f77_ast.specs.Symbols.{SymbolTree}
 use Rattle.call_graph.specs.declared.graph.Graph.{Graph}
 use Rattle.f77_meaning.specs.Areas.{own, unit_at}
 use Rattle.f77_meaning.specs.Modules.{names, fixed, dummies_from}

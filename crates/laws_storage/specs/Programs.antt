@@ -1,8 +1,8 @@
 -- Modules that were read, with the tables of their symbols, and the graph of their links.
 use Rattle.std.specs.Prelude.{◌≡◌, ℕ, true, List, length, slice_get, Some, Ok}
 use Rattle.f77_ast.specs.DeclTrees.{ParsedTree}
-use Rattle.f77_symbols.specs.Symbols.{SymbolTree}
-use Rattle.f77_symbols.specs.Shared.{symbol_at}
+use Rattle.f77_ast.specs.Symbols.{SymbolTree}
+use Rattle.f77_ast.specs.Shared.{symbol_at}
 use Rattle.tracked_cells.specs.Equivalences.{equivalenced_names}
 use Rattle.tracked_cells.specs.Tracked.{is_tracked}
 use Rattle.call_graph.specs.declared.graph.Graph.{Graph}

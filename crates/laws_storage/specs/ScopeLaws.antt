@@ -3,10 +3,10 @@ use Rattle.std.specs.Prelude.{◌≡◌, ℕ, true, List, [], ◌∷◌, Some}
 use Rattle.f77_ast.specs.DeclTrees.{ParsedTree}
 use Rattle.f77_ast.specs.Store as tag
 use Rattle.f77_ast.specs.Store.{content}
-use Rattle.f77_symbols.specs.declared.symbol.Place.TheVariants.{Block}
-use Rattle.f77_symbols.specs.declared.symbol.InitialRun.{InitialRun}
-use Rattle.f77_symbols.specs.Symbols.{SymbolTree}
-use Rattle.f77_symbols.specs.Shared.{symbol_at}
+use Rattle.f77_ast.specs.declared.symbol.Place.TheVariants.{Block}
+use Rattle.f77_ast.specs.declared.symbol.InitialRun.{InitialRun}
+use Rattle.f77_ast.specs.Symbols.{SymbolTree}
+use Rattle.f77_ast.specs.Shared.{symbol_at}
 use Rattle.tracked_cells.specs.Tracked.{tracked_of}
 use Rattle.call_graph.specs.declared.graph.Graph.{Graph}
 use Rattle.f77_meaning.specs.Modules.{known_of, fixed}

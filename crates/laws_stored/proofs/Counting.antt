@@ -20,7 +20,7 @@ use Rattle.f77_parser.specs.Gives.{Refused, and_then}
 use Rattle.f77_parser.specs.Statements.{StatementTree, read_as, all_read, marks_of, length_of, characters}
 use Rattle.f77_parser.specs.Building.{build_module}
 use Rattle.f77_parser.specs.Modules.{ends_module, closing_at, unless_faulty, modules_from, parse_of}
-use Rattle.f77_symbols.specs.Symbols.{SymbolTree}
+use Rattle.f77_ast.specs.Symbols.{SymbolTree}
 use Rattle.f77_meaning.specs.Modules.{symbol_names}
 use Rattle.refusal_codes.specs.declared.refusal.Refusal.{Refusal}
 use Rattle.storage_layout.specs.Symbols.{symbols_of}

@@ -12,9 +12,9 @@ use Rattle.affine_systems.specs.declared.row.System.{System}
 use Rattle.affine_systems.specs.Given.{Fits}
 use Rattle.affine_systems.specs.Rows.{AllRows}
 use Rattle.hull_projection.specs.Minus.{AllFit}
-use Rattle.f77_symbols.specs.declared.variable.Unit.{Unit as BlockUnit}
-use Rattle.f77_symbols.specs.declared.variable.Variable.{Variable}
-use Rattle.f77_symbols.specs.declared.variable.Variable.TheVariants.{Own, Block, Saved}
+use Rattle.f77_ast.specs.declared.variable.Unit.{Unit as BlockUnit}
+use Rattle.f77_ast.specs.declared.variable.Variable.{Variable}
+use Rattle.f77_ast.specs.declared.variable.Variable.TheVariants.{Own, Block, Saved}
 use Rattle.f77_results.specs.declared.results.At.{At}
 use Rattle.f77_results.specs.declared.results.Results.{Results}
 use Rattle.f77_meaning.specs.Modules.{Known, symbol_names}

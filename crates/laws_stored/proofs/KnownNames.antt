@@ -11,7 +11,7 @@ use Rattle.f77_ast.specs.Trees as tree
 use Rattle.f77_ast.specs.DeclTrees.{ExtentTree, EntityTree, SettingTree, CommonTree, DataTree, DeclTree, ModuleTree, ParsedTree}
 use Rattle.f77_ast.specs.DeclTrees as decl
 use Rattle.f77_statements.specs.Phrases.{PhraseTree, program, subroutine, end_if, end_do, end_module}
-use Rattle.f77_symbols.specs.Symbols.{SymbolTree}
+use Rattle.f77_ast.specs.Symbols.{SymbolTree}
 use Rattle.f77_names.specs.declared.functions.Function.{Function}
 use Rattle.f77_names.specs.declared.lines.Sited.TheVariants.{Decl, Statement, ElseIf, Title}
 use Rattle.f77_names.specs.Lines.{LineTable, line_or}

@@ -7,8 +7,8 @@ use Rattle.affine_systems.specs.Calls.{meet}
 use Rattle.affine_systems.proofs.Basics.{if_cases}
 use Rattle.f77_ast.specs.Trees.{ExprTree, ExprTrees, StmtTree, WhatTree, ArmTree, ArmTrees, ElseTree, LoopTree, StmtTrees}
 use Rattle.f77_ast.specs.Trees as tree
-use Rattle.f77_symbols.specs.declared.variable.Unit.{Unit as BlockUnit}
-use Rattle.f77_symbols.specs.Symbols.{SymbolTree}
+use Rattle.f77_ast.specs.declared.variable.Unit.{Unit as BlockUnit}
+use Rattle.f77_ast.specs.Symbols.{SymbolTree}
 use Rattle.f77_results.specs.declared.results.At.{At}
 use Rattle.f77_results.specs.declared.results.Results.{Results}
 use Rattle.f77_results.specs.Summaries.{SummaryTree}

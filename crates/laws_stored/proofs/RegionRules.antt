@@ -25,7 +25,7 @@ use Rattle.hull_projection.proofs.GivenLaws.{at_least_0_given}
 use Rattle.hull_projection.proofs.ProjectLaws.{project_fits}
 use Rattle.system_renaming.specs.Renaming.{naming, rename_all, push_rows}
 use Rattle.f77_ast.specs.Trees.{StmtTrees}
-use Rattle.f77_symbols.specs.declared.variable.Variable.{Variable}
+use Rattle.f77_ast.specs.declared.variable.Variable.{Variable}
 use Rattle.affine_forms.specs.declared.affine.Affine.{Affine}
 use Rattle.affine_forms.specs.Comparisons.{same_row, at_most_row}
 use Rattle.transformer_algebra.specs.declared.transformer.Transformer.{Transformer}

@@ -12,8 +12,8 @@ use Rattle.system_renaming.specs.Renaming.{rename_all, push_rows}
 use Rattle.system_renaming.specs.Fresh.{fresh_over, above_rows}
 use Rattle.f77_ast.specs.Trees.{ExprTree, ExprTrees}
 use Rattle.f77_ast.specs.Trees as tree
-use Rattle.f77_symbols.specs.declared.constant.Constant.{Constant}
-use Rattle.f77_symbols.specs.declared.constant.Constant.TheVariants.{Int, Log}
+use Rattle.f77_ast.specs.declared.constant.Constant.{Constant}
+use Rattle.f77_ast.specs.declared.constant.Constant.TheVariants.{Int, Log}
 use Rattle.f77_ast.specs.declared.expr.UnaryOp.{UnaryOp}
 use Rattle.f77_ast.specs.declared.expr.UnaryOp.TheVariants.{Plus, Minus, Not}
 use Rattle.f77_ast.specs.declared.expr.BinaryOp.{BinaryOp}
@@ -36,7 +36,7 @@ use Rattle.call_translation.specs.Scopes.{ScopeTree}
 use Rattle.call_translation.specs.Call.{CallTree, form_row, form_at, row_of, rows_from, names_from}
 use Rattle.call_translation.specs.Variables.{auxiliaries_in}
 use Rattle.call_translation.specs.Summary.{summary_vars, call_system, call_transformer}
-use Rattle.f77_symbols.specs.Shared.{place_at}
+use Rattle.f77_ast.specs.Shared.{place_at}
 use Rattle.affine_systems.specs.declared.row.Var.{Var}
 use Rattle.affine_systems.specs.declared.row.Var.TheVariants.{Cell, Exit, Phi, Aux}
 use Rattle.laws_stored.proofs.Tidied.{IsAscending, AreAscending, ascending-append, tidy_fit, meet_fit, push_fit, of_rows_fit, rename_fit}

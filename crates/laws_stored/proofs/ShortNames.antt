@@ -14,7 +14,7 @@ use Rattle.f77_exprs.specs.Lexical.{skip_name}
 use Rattle.f77_exprs.specs.Lexical as lexical
 use Rattle.f77_statements.specs.Phrases.{PhraseTree}
 use Rattle.f77_statements.specs.Phrases as phrases
-use Rattle.f77_symbols.specs.Symbols.{SymbolTree}
+use Rattle.f77_ast.specs.Symbols.{SymbolTree}
 use Rattle.f77_meaning.specs.Modules.{symbol_names}
 use Rattle.storage_layout.specs.Symbols.{symbols_of}
 use Rattle.roundtrip_statements.specs.Formed.{IsName, Each, Filled, IsVariable, Rank, Formed, number, logical, constant, scalar, indexed, enclosed, operand, raised, factor, multiplied, term, signed, added, arithmetic, compared, asserted, denied, conjunct, both, disjunct, either, side, equated, none, more}

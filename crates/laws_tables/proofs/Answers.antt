@@ -5,7 +5,7 @@ use Rattle.std.specs.List.{list_any}
 use Rattle.f77_ast.specs.Trees.{ExprTree}
 use Rattle.f77_ast.specs.DeclTrees.{DataTree, DeclTree, ParsedTree}
 use Rattle.f77_ast.specs.DeclTrees as decl
-use Rattle.f77_symbols.specs.Symbols.{SymbolTree}
+use Rattle.f77_ast.specs.Symbols.{SymbolTree}
 use Rattle.refusal_codes.specs.declared.code.Code.TheVariants.{InitialMismatch}
 use Rattle.refusal_codes.specs.declared.refusal.Refusal.{Refusal}
 use Rattle.f77_names.specs.declared.lines.Sited.TheVariants.{Decl}

@@ -4,7 +4,7 @@ use Rattle.std.specs.Prelude.{nat_eq, if◌then◌else◌}
 use Rattle.std.proofs.lemmas.Bool.{eqb-true, not-false}
 use Rattle.f77_ast.specs.Trees.{ExprTree, ExprTrees, StmtTree, WhatTree, ArmTree, ArmTrees, ElseTree, LoopTree, StmtTrees}
 use Rattle.f77_ast.specs.Trees as tree
-use Rattle.f77_symbols.specs.Constants.{turns_logical, joins_logical}
+use Rattle.f77_ast.specs.Constants.{turns_logical, joins_logical}
 use Rattle.refusal_codes.specs.declared.code.Code.TheVariants.{SubscriptCount, TypeMismatch, NotAnArray, AssignToConstant}
 use Rattle.refusal_codes.specs.declared.refusal.Refusal.{Refusal}
 use Rattle.f77_names.specs.declared.functions.Function.{Function}

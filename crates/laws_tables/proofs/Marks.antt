@@ -1,7 +1,7 @@
 -- What the entries of names say of dummies: the number of each, and whether it has a value.
 use Rattle.std.proofs.Common.{◌≡◌, ℕ, zero, suc, ◌+◌, Bool, true, false, List, [], ◌∷◌, ◌++◌, map, Option, Some, None, refl, sym, ap, ◌∙◌, subst, append_assoc, arith}
 use Rattle.std.specs.Prelude.{if◌then◌else◌, bytes_eq, is_some}
-use Rattle.f77_symbols.specs.declared.constant.Constant.{Constant}
+use Rattle.f77_ast.specs.declared.constant.Constant.{Constant}
 use Rattle.f77_names.specs.Entries.{EntryTree, fresh, find, seen, changed, of_entry, has_dummy}
 use Rattle.laws_tables.proofs.KeptNames.{Said, Typed, Shaped, Shared, Parameter, Saved, Initial, Nothing, with_said}
 

@@ -7,7 +7,7 @@ use Rattle.f77_ast.specs.Trees as tree
 use Rattle.f77_ast.specs.DeclTrees.{ParsedTree}
 use Rattle.f77_ast.specs.Numbers.{Intrinsic, intrinsic_named}
 use Rattle.f77_ast.specs.Numbers as numbers
-use Rattle.f77_symbols.specs.Symbols.{BoundTree, SymbolTree}
+use Rattle.f77_ast.specs.Symbols.{BoundTree, SymbolTree}
 use Rattle.f77_names.specs.declared.functions.Function.{Function}
 use Rattle.f77_names.specs.declared.functions.Function.TheVariants as function
 use Rattle.f77_names.specs.Functions.{function_named, same_function, unless_array, function_of}

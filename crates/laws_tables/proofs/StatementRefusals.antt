@@ -3,7 +3,7 @@ use Rattle.std.proofs.Common.{◌≡◌, ℕ, suc, ◌+◌, Bool, true, false, n
 use Rattle.std.specs.Prelude.{nat_eq, if◌then◌else◌}
 use Rattle.f77_ast.specs.Trees.{ExprTree, ExprTrees, StmtTree, WhatTree, ArmTree, ArmTrees, ElseTree, LoopTree, StmtTrees}
 use Rattle.f77_ast.specs.Trees as tree
-use Rattle.f77_symbols.specs.Constants.{turns_logical, joins_logical}
+use Rattle.f77_ast.specs.Constants.{turns_logical, joins_logical}
 use Rattle.refusal_codes.specs.declared.code.Code.{Code}
 use Rattle.refusal_codes.specs.declared.code.Code.TheVariants.{SubscriptCount, TypeMismatch, NotAnArray, AssignToConstant}
 use Rattle.refusal_codes.specs.declared.refusal.Refusal.{Refusal}

@@ -1,8 +1,8 @@
 -- What the table of a module that is not refused says of dummy arguments and constants.
 use Rattle.std.specs.Prelude.{◌≡◌, ℤ, ℕ, zero, suc, List, [], ◌∷◌, length, None, Ok, slice_get, Some}
 use Rattle.f77_ast.specs.DeclTrees.{ParsedTree}
-use Rattle.f77_symbols.specs.declared.symbol.Place.TheVariants.{Dummy, Constant}
-use Rattle.f77_symbols.specs.Symbols.{SymbolTree, number_from}
+use Rattle.f77_ast.specs.declared.symbol.Place.TheVariants.{Dummy, Constant}
+use Rattle.f77_ast.specs.Symbols.{SymbolTree, number_from}
 use Rattle.tracked_cells.specs.Equivalences.{equivalenced_names}
 use Rattle.storage_layout.specs.Symbols.{symbols_of}
 use Rattle.laws_tables.specs.Shapes.{symbol_named}

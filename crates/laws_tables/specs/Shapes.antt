@@ -4,7 +4,7 @@ use Rattle.f77_ast.specs.Trees.{ExprTree, ExprTrees, StmtTree, WhatTree, ArmTree
 use Rattle.f77_ast.specs.Trees as tree
 use Rattle.f77_ast.specs.DeclTrees.{ParsedTree}
 use Rattle.f77_ast.specs.Numbers.{intrinsic_named}
-use Rattle.f77_symbols.specs.Symbols.{BoundTree, SymbolTree}
+use Rattle.f77_ast.specs.Symbols.{BoundTree, SymbolTree}
 use Rattle.storage_layout.specs.Symbols.{symbols_of}
 use Rattle.std.specs.Prelude.{if◌then◌else◌, bytes_eq, [], ◌∷◌}
 

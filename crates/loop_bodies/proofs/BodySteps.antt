@@ -8,7 +8,7 @@ use Rattle.f77_ast.specs.declared.stmt.Loop.{Loop, out-Loop}
 use Rattle.f77_ast.specs.Trees.{LoopTree}
 use Rattle.f77_ast.specs.PlainStmt.{stmt_trees, loop_tree}
 use Rattle.f77_ast.proofs.PlainlyStmt.{loop_tree-out}
-use Rattle.f77_symbols.specs.Shared.{numbered}
+use Rattle.f77_ast.specs.Shared.{numbered}
 use Rattle.f77_results.specs.declared.results.At.{At}
 use Rattle.transformer_algebra.specs.declared.transformer.Transformer.{Transformer}
 use Rattle.transformer_algebra.specs.declared.loop_parts.LoopParts.{LoopParts}

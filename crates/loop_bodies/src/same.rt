@@ -2,8 +2,8 @@
 ghost use Rattle.std.specs.Prelude.{◌≡◌};
 ghost use Rattle.loop_bodies.specs.Same.{same_variable as same_variable_is};
 
+use f77_ast::Variable;
 use f77_results::order;
-use f77_symbols::Variable;
 use std::cmp::Ordering;
 
 /// Whether two variables are one. Takes no memory.

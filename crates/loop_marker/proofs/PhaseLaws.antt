@@ -2,10 +2,10 @@
 use Rattle.std.proofs.Common.{◌≡◌, ℕ, List, [], ◌∷◌, ◌++◌, map, refl, append_assoc, append-nil, None, ap, ap₂, ◌∙◌}
 use Rattle.std.proofs.lemmas.List.{map-append}
 use Rattle.std.proofs.lemmas.List.Elements.{All-pop}
-use Rattle.f77_symbols.specs.declared.symbol.Symbol.{Symbol}
-use Rattle.f77_symbols.specs.declared.variable.Unit.{Unit as BlockUnit}
-use Rattle.f77_symbols.specs.Symbols.{symbol_tree}
-use Rattle.f77_symbols.specs.Index.{names_of}
+use Rattle.f77_ast.specs.declared.symbol.Symbol.{Symbol}
+use Rattle.f77_ast.specs.declared.variable.Unit.{Unit as BlockUnit}
+use Rattle.f77_ast.specs.Symbols.{symbol_tree}
+use Rattle.f77_ast.specs.Index.{names_of}
 use Rattle.f77_meaning.specs.Modules.{symbol_names}
 use Rattle.effects.specs.List.{Callees}
 use Rattle.region_phases.specs.OutPhases.{ModuleOuts}

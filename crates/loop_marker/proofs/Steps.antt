@@ -7,8 +7,8 @@ use Rattle.f77_ast.specs.PlainStmt.{stmt_tree, stmt_trees, loop_tree}
 use Rattle.f77_ast.specs.Shapes.{walk_stmt, walk_list}
 use Rattle.f77_ast.proofs.PlainlyStmt.{loop_calls, loop_tree-out, stmt_trees-drop}
 use Rattle.f77_ast.proofs.WalkLaws.{shape_calls}
-use Rattle.f77_symbols.specs.Symbols.{number_from}
-use Rattle.f77_symbols.specs.declared.variable.Variable.{Variable}
+use Rattle.f77_ast.specs.Symbols.{number_from}
+use Rattle.f77_ast.specs.declared.variable.Variable.{Variable}
 use Rattle.f77_results.specs.declared.results.At.{At}
 use Rattle.region_sets.specs.declared.marks.Mark.{Mark}
 use Rattle.loop_marker.specs.Variables.{own_variable, index_of}

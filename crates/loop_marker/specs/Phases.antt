@@ -1,6 +1,6 @@
 -- The marks of the modules of a program, with the effects that they need, callees before callers.
 use Rattle.std.specs.Prelude.{List, [], ◌∷◌, Some, None, reverse, bytes_eq, if◌then◌else◌}
-use Rattle.f77_symbols.specs.declared.variable.Unit.{Unit as BlockUnit}
+use Rattle.f77_ast.specs.declared.variable.Unit.{Unit as BlockUnit}
 use Rattle.f77_results.specs.declared.effect_set.EffectSet.{EffectSet}
 use Rattle.f77_results.specs.declared.results.At.{At}
 use Rattle.f77_results.specs.declared.results.Results.{Results}

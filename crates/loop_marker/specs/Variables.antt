@@ -4,9 +4,9 @@ use Rattle.std.specs.List.{list_any}
 use Rattle.f77_ast.specs.Trees.{StmtTrees, LoopTree}
 use Rattle.f77_ast.specs.Trees as tree
 use Rattle.f77_ast.specs.Shapes.{Walk, walk_list}
-use Rattle.f77_symbols.specs.Symbols.{number_from}
-use Rattle.f77_symbols.specs.declared.variable.Variable.{Variable}
-use Rattle.f77_symbols.specs.declared.variable.Variable.TheVariants.{Own}
+use Rattle.f77_ast.specs.Symbols.{number_from}
+use Rattle.f77_ast.specs.declared.variable.Variable.{Variable}
+use Rattle.f77_ast.specs.declared.variable.Variable.TheVariants.{Own}
 use Rattle.f77_results.specs.Variables.{union}
 use Rattle.region_sets.specs.declared.region.Access.{Access}
 use Rattle.region_sets.specs.declared.region.Access.TheVariants.{Read, Write, In, Out}

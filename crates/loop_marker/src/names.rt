@@ -3,12 +3,11 @@ ghost use Rattle.std.specs.Prelude.{◌≡◌, map};
 ghost use Rattle.std.specs.Option.{option_map};
 ghost use Rattle.f77_ast.specs.Plain.{expr_tree, expr_trees};
 ghost use Rattle.f77_ast.specs.PlainStmt.{loop_tree};
-ghost use Rattle.f77_symbols.specs.Symbols.{symbol_tree};
+ghost use Rattle.f77_ast.specs.Symbols.{symbol_tree};
 ghost use Rattle.loop_marker.specs.Names.{has_name as has_name_is, have_name as have_name_is, step_has_name as step_has_name_is, bounds_have_name as bounds_have_name_is};
 ghost use Rattle.loop_marker.specs.Marks.{is_in_bounds as is_in_bounds_is};
 
-use f77_ast::{Expr, Loop};
-use f77_symbols::{Symbols, Variable};
+use f77_ast::{Expr, Loop, Symbols, Variable};
 use fx_lists::{List, Text};
 
 /// Whether a name stands in an expression, of a variable, an array or a function.

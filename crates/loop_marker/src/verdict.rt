@@ -1,7 +1,7 @@
 //! What stands against the iterations of a DO by one of its variables.
 ghost use Rattle.std.specs.Prelude.{◌≡◌, ◌++◌, [], map, IfOk, OnOk};
 ghost use Rattle.f77_ast.specs.PlainStmt.{loop_tree};
-ghost use Rattle.f77_symbols.specs.Symbols.{symbol_tree};
+ghost use Rattle.f77_ast.specs.Symbols.{symbol_tree};
 ghost use Rattle.loop_bodies.specs.Given.{AnalysisFits, BodyFits};
 ghost use Rattle.privatizer.specs.Views.{UsesFit, uses_tree};
 ghost use Rattle.loop_marker.specs.Known.{known_module};
@@ -10,9 +10,8 @@ ghost use Rattle.loop_marker.specs.Marks.{keeps as keeps_is, kept_kinds as kept_
 use crate::names::is_in_bounds;
 use crate::variables::is_among;
 use dependence_test::{Conflict, conflict_of};
-use f77_ast::Loop;
+use f77_ast::{Loop, Symbols};
 use f77_results::Variable;
-use f77_symbols::Symbols;
 use fx_lists::List;
 use loop_bodies::{Analysis, LoopBody, same_variable};
 use privatizer::{Uses, private_of};

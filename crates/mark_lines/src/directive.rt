@@ -3,7 +3,7 @@ ghost use Rattle.std.specs.Prelude.{◌≡◌, ◌++◌, map, IfOk, codes};
 ghost use Rattle.system_text.specs.SystemText.{name_at, joined};
 ghost use Rattle.mark_lines.specs.MarkText.{private_clause, directive_text as directive_text_is, directive_lines as directive_lines_is};
 
-use f77_symbols::Variable;
+use f77_ast::Variable;
 use fx_lists::{List, Text};
 use region_sets::put_variable;
 use std::alloc::{AllocError as Memory, Global};

@@ -1,6 +1,6 @@
 //! The lines on the loops of a module.
 ghost use Rattle.std.specs.Prelude.{◌≡◌, ◌++◌, map, IfOk, OnOk};
-ghost use Rattle.f77_symbols.specs.Index.{names_of as names_of_is};
+ghost use Rattle.f77_ast.specs.Index.{names_of as names_of_is};
 ghost use Rattle.claim_lines.specs.ScalarLines.{before};
 ghost use Rattle.mark_lines.specs.MarkText.{directive_text as directive_text_is, directive_lines as directive_lines_is};
 ghost use Rattle.mark_lines.specs.MarkLines.{lines_at, mark_lines_of};

@@ -1,7 +1,7 @@
 -- OUT of a module, from that of its body.
 use Rattle.std.proofs.Common.{◌≡◌, Bool, true, List, [], ◌++◌, ap, ◌∙◌}
 use Rattle.f77_ast.specs.Trees.{StmtTrees}
-use Rattle.f77_symbols.specs.declared.symbol.Symbol.{Symbol}
+use Rattle.f77_ast.specs.declared.symbol.Symbol.{Symbol}
 use Rattle.f77_results.specs.declared.results.At.{At}
 use Rattle.f77_results.specs.declared.results.Results.{Results}
 use Rattle.transformer_algebra.specs.declared.transformer.Transformer.{Transformer}

@@ -3,9 +3,9 @@
 use Rattle.std.specs.Prelude.{Bool, true, false, ◌||◌, ◌++◌, if◌then◌else◌, List, [], ◌∷◌, map}
 use Rattle.affine_systems.specs.declared.row.System.{System}
 use Rattle.affine_systems.specs.Calls.{meet}
-use Rattle.f77_symbols.specs.declared.variable.Variable.{Variable}
-use Rattle.f77_symbols.specs.Symbols.{SymbolTree}
-use Rattle.f77_symbols.specs.Shared.{overlap}
+use Rattle.f77_ast.specs.declared.variable.Variable.{Variable}
+use Rattle.f77_ast.specs.Symbols.{SymbolTree}
+use Rattle.f77_ast.specs.Shared.{overlap}
 use Rattle.region_sets.specs.declared.region.Access.TheVariants.{Out}
 use Rattle.region_sets.specs.declared.region.Region.{Region}
 use Rattle.region_sets.specs.Regions.{region, hull_of}

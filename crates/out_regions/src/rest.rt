@@ -15,7 +15,7 @@ use crate::leaving::leaves;
 use f77_ast::{Stmt, StmtId};
 use fx_lists::List;
 use in_out_regions::{before_rest, is_write, set_at};
-use region_sets::{Region, RegionSet, copy_region, push_composed, push_region, unite_all};
+use region_sets::{Region, RegionSet, copy_region, push_composed, push_region, unite_owned};
 use std::alloc::{AllocError as Memory, Global};
 use transformer_algebra::Transformer;
 use transformers::transformer_at;
@@ -105,7 +105,7 @@ fn writes_with(
 {
     let mut all = writes_at(alloc, known, id)?;
     push_composed(alloc, &mut all, t, rest)?;
-    unite_all(alloc, all.as_slice())
+    unite_owned(alloc, all)
 }
 
 /// The rest from a statement on, from what follows it; `list` has the statement and all that follows.

@@ -1,7 +1,7 @@
 //! What of WRITE regions may be read later.
 ghost use Rattle.std.specs.Prelude.{◌≡◌, ◌++◌, map, IfOk, OnOk};
 ghost use Rattle.hull_projection.specs.Minus.{AllFit};
-ghost use Rattle.f77_symbols.specs.Symbols.{symbol_tree};
+ghost use Rattle.f77_ast.specs.Symbols.{symbol_tree};
 ghost use Rattle.affine_systems.specs.Given.{Fits};
 ghost use Rattle.affine_systems.specs.Calls.{meet as meet_is};
 ghost use Rattle.region_sets.specs.Regions.{RegionFits};
@@ -9,8 +9,8 @@ ghost use Rattle.region_sets.specs.Sets.{SetFits};
 ghost use Rattle.out_regions.specs.Used.{as_out as as_out_is, all_out, is_used_beside as is_used_beside_is, used_pieces as used_pieces_is, is_none as is_none_is, unless_empty, met_with, used_of, if_write, used as used_is};
 
 use affine_systems::{System, meet};
+use f77_ast::{Symbols, Variable, overlaps};
 use f77_results::copy_variable;
-use f77_symbols::{Symbols, Variable, overlaps};
 use fx_lists::List;
 use in_out_regions::{is_write, same_variable};
 use region_sets::{

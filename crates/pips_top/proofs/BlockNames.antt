@@ -11,9 +11,9 @@ use Rattle.f77_ast.specs.DeclTrees as decl
 use Rattle.f77_exprs.specs.Lexical.{skip_name}
 use Rattle.f77_exprs.specs.Lexical as lexical
 use Rattle.f77_statements.specs.Phrases.{program, subroutine, end_module}
-use Rattle.f77_symbols.specs.declared.symbol.Place.{Place}
-use Rattle.f77_symbols.specs.declared.symbol.Place.TheVariants.{Local, Dummy, Block, Constant}
-use Rattle.f77_symbols.specs.Symbols.{SymbolTree}
+use Rattle.f77_ast.specs.declared.symbol.Place.{Place}
+use Rattle.f77_ast.specs.declared.symbol.Place.TheVariants.{Local, Dummy, Block, Constant}
+use Rattle.f77_ast.specs.Symbols.{SymbolTree}
 use Rattle.f77_meaning.specs.Modules.{known_of, symbol_names}
 use Rattle.storage_layout.specs.Statements.{Has, commons_in, commons, members_in}
 use Rattle.storage_layout.specs.Symbols.{symbols_of}

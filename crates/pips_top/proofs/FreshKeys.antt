@@ -21,7 +21,7 @@ use Rattle.pipsmake_db.specs.Answers.{MakesIn, MakesPrinted}
 use Rattle.pipsmake_db.specs.Calls.{key}
 use Rattle.pipsmake_db.specs.Fresh.{key_put, keys_put}
 use Rattle.pipsmake_db.specs.State.{State}
-use Rattle.pipsmake_save.specs.Saving.{stored_kinds, fresh_keys, stored_keys}
+use Rattle.pipsmake_base.specs.Saving.{stored_kinds, fresh_keys, stored_keys}
 use Rattle.pips_top.specs.Based.{all_keys}
 
 -- ---- results in lists

@@ -7,10 +7,10 @@ use Rattle.std.specs.Ordering.{match_ordering}
 use Rattle.f77_ast.specs.Trees.{ExprTree, StmtTree, WhatTree, ArmTree, ArmTrees, ElseTree, LoopTree, StmtTrees}
 use Rattle.f77_ast.specs.Trees as tree
 use Rattle.f77_ast.specs.Shapes.{Walk, walk_stmt, walk_what, walk_body, walk_arms, walk_arm, walk_else, walk_list}
-use Rattle.f77_symbols.specs.Symbols.{number_from}
-use Rattle.f77_symbols.specs.declared.variable.Unit.{Unit as BlockUnit}
-use Rattle.f77_symbols.specs.declared.variable.Variable.{Variable}
-use Rattle.f77_symbols.specs.declared.variable.Variable.TheVariants.{Own, Block, Saved}
+use Rattle.f77_ast.specs.Symbols.{number_from}
+use Rattle.f77_ast.specs.declared.variable.Unit.{Unit as BlockUnit}
+use Rattle.f77_ast.specs.declared.variable.Variable.{Variable}
+use Rattle.f77_ast.specs.declared.variable.Variable.TheVariants.{Own, Block, Saved}
 use Rattle.f77_meaning.specs.Modules.{Known, symbol_names}
 use Rattle.f77_results.specs.Variables.{variable_cmp, merged, union}
 use Rattle.f77_results.specs.declared.effect_set.EffectSet.{EffectSet}

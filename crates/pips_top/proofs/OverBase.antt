@@ -22,7 +22,7 @@ use Rattle.pipsmake_db.specs.State.{State, IsIn}
 use Rattle.pipsmake_base.specs.Bases.{BasesAreModules}
 use Rattle.pipsmake_base.specs.Current.{FreshIsCurrent, LoadedIsCurrent, AnswersStayCurrent}
 use Rattle.pipsmake_base.specs.Saved.{keys_in, loaded_state, IsSaved}
-use Rattle.pipsmake_save.specs.Saving.{module_of, stored_keys, saved_base}
+use Rattle.pipsmake_base.specs.Saving.{module_of, stored_keys, saved_base}
 use Rattle.pips_top.specs.Based.{base_limit, IsVerified, IsBaseOf, GoesOn, AnswersOver, WritesOver, all_keys}
 use Rattle.pips_top.specs.Jobs.{job_in, input_in, opening_in}
 use Rattle.pips_top.specs.Laws.{ReadSoundly, AnsweredSoundly}

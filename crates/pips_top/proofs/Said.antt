@@ -4,7 +4,7 @@ use Rattle.std.specs.Prelude.{slice_get, reverse}
 use Rattle.std.proofs.lemmas.List.{get_or-reverse, length-reverse}
 use Rattle.std.proofs.lemmas.Option.{slice_get_within, get_or_from_slice_get, slice_get-get_or}
 use Rattle.call_graph.specs.declared.graph.Graph.{Graph}
-use Rattle.f77_symbols.specs.declared.variable.Unit.{Unit as BlockUnit}
+use Rattle.f77_ast.specs.declared.variable.Unit.{Unit as BlockUnit}
 use Rattle.scalar_phases.specs.Phases.{Analysis}
 use Rattle.array_regions.specs.Calls.{Callees}
 use Rattle.region_phases.specs.Phases.{ModuleRegions, no_callees, with_callee, with_regions, found_in, all_regions}

@@ -16,7 +16,7 @@ use Rattle.laws_database.specs.Texts.{ModuleText}
 use Rattle.session_lines.specs.Commands.{commands_of}
 use Rattle.session_texts.specs.Sources.{source_modules}
 use Rattle.pipsmake_db.specs.AnswerTexts.{texts_at_end}
-use Rattle.pipsmake_save.specs.Saving.{module_of}
+use Rattle.pipsmake_base.specs.Saving.{module_of}
 use Rattle.pipsmake_rules.specs.declared.key.Key.{Key}
 use Rattle.pipsmake_base.specs.Saved.{texts_in, IsDefinedAt, FirstStale, IsSaved}
 use Rattle.pips_top.specs.Answer.{Ending, EndsGot, EndsOpened, EndsAs, EndsFor, EndsJob, EndsMade, EndsAnswered, EndsAnsweredOver, EndsWrittenOver, EndsOver, EndsKept, AreAccepted, IsAccepted, got_as, opened_as}

@@ -17,7 +17,7 @@ use Rattle.pipsmake_db.specs.State.{State, first_state}
 use Rattle.pipsmake_db.specs.Scripts.{AnswersScript}
 use Rattle.pipsmake_base.specs.Bases.{empty_base}
 use Rattle.pipsmake_base.specs.Saved.{texts_in, IsSaved}
-use Rattle.pipsmake_save.specs.Saving.{module_of}
+use Rattle.pipsmake_base.specs.Saving.{module_of}
 use Rattle.pips_top.specs.Based.{base_limit, IsVerified, AnswersOver, WritesOver}
 use Rattle.pips_top.specs.Jobs.{job_in, opening_in}
 use Rattle.pips_top.specs.Made.{made, counted, input_limit}

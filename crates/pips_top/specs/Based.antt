@@ -17,7 +17,7 @@ use Rattle.pipsmake_db.specs.Scripts.{AnswersScript}
 use Rattle.pipsmake_db.specs.State.{State}
 use Rattle.pipsmake_base.specs.Bases.{empty_base}
 use Rattle.pipsmake_base.specs.Saved.{texts_in, keys_in, loaded_state, IsSaved}
-use Rattle.pipsmake_save.specs.Saving.{module_of, stored_kinds, stored_keys}
+use Rattle.pipsmake_base.specs.Saving.{module_of, stored_kinds, stored_keys}
 use Rattle.pips_top.specs.Program.{ProgramTree}
 use Rattle.pips_top.specs.Reading.{reading}
 use Rattle.pips_top.specs.Sound.{IsSound, PrintsSoundly}

@@ -2,7 +2,7 @@
 use Rattle.std.specs.Prelude.{List, map}
 use Rattle.f77_ast.specs.DeclTrees.{ParsedTree}
 use Rattle.f77_ast.specs.PlainDecl.{parsed_tree}
-use Rattle.f77_symbols.specs.Symbols.{SymbolTree, symbol_tree}
+use Rattle.f77_ast.specs.Symbols.{SymbolTree, symbol_tree}
 use Rattle.call_graph.specs.declared.graph.Graph.{Graph}
 use Rattle.pips_top.specs.declared.program.Program.{Program}
 

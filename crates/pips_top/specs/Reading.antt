@@ -7,7 +7,7 @@ use Rattle.f77_parser.specs.Gives.{Refused, and_then}
 use Rattle.f77_parser.specs.Modules.{parse_of}
 use Rattle.f77_parser.specs.declared.refusal.ParseRefusal.{ParseRefusal}
 use Rattle.f77_parser.specs.declared.refusal.ParseRefusal.TheVariants as parse
-use Rattle.f77_symbols.specs.Symbols.{SymbolTree}
+use Rattle.f77_ast.specs.Symbols.{SymbolTree}
 use Rattle.refusal_codes.specs.declared.refusal.Refusal.{Refusal}
 use Rattle.refusal_codes.specs.Refusals.{number_of}
 use Rattle.storage_layout.specs.Symbols.{symbols_of}

@@ -22,7 +22,7 @@ use Rattle.base_text.specs.Grammar.{IsBase}
 use Rattle.pipsmake_base.specs.Saved.{texts_in, loaded_state, IsSaved, FirstStale}
 use Rattle.laws_database.specs.Texts.{ModuleText, names_in}
 use Rattle.session_texts.specs.Sources.{source_modules}
-use Rattle.pipsmake_save.specs.Saving.{module_of, stored_keys}
+use Rattle.pipsmake_base.specs.Saving.{module_of, stored_keys}
 use Rattle.pips_top.specs.Based.{base_limit, IsVerified, IsBaseOf, all_keys}
 use Rattle.pips_top.specs.Jobs.{HasJob}
 use Rattle.pips_top.specs.Made.{made, counted}

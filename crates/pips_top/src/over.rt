@@ -16,9 +16,8 @@ use crate::reply::{Reply, stopping};
 use crate::session::print_over;
 use crate::status::{naming_line, refusal_line};
 use fx_base::{Fetched, Role, Store, Text};
-use pipsmake_base::{answers_stay_current, bases_are_modules, load, sessions_begin_current};
+use pipsmake_base::{answers_stay_current, bases_are_modules, load, save, sessions_begin_current};
 use pipsmake_db::{Db, answer_script};
-use pipsmake_save::save;
 use result_lines::Show;
 use std::alloc::Global;
 

@@ -1,7 +1,7 @@
 //! What reading a text gives.
 use call_graph::Graph;
+use f77_ast::Symbols;
 use f77_parser::ModuleTrees;
-use f77_symbols::Symbols;
 use fx_base::List;
 
 /// The modules of a text, the symbols of each in the same order, and the graph of their CALLs and common blocks.

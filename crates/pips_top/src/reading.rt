@@ -2,7 +2,7 @@
 ghost use Rattle.std.specs.Prelude.{◌≡◌, ◌≤◌, length, map, IfOk};
 ghost use Rattle.f77_ast.specs.PlainDecl.{parsed_tree};
 ghost use Rattle.f77_parser.specs.Gives.{Gives};
-ghost use Rattle.f77_symbols.specs.Symbols.{symbol_tree};
+ghost use Rattle.f77_ast.specs.Symbols.{symbol_tree};
 ghost use Rattle.storage_layout.specs.Symbols.{symbols_of};
 ghost use Rattle.call_graph.specs.Links.{link_of};
 ghost use Rattle.pips_top.specs.Made.{input_limit};
@@ -11,9 +11,8 @@ ghost use Rattle.pips_top.specs.Reading.{graph_or, in_reading, program_of, readi
 
 use crate::program::Program;
 use call_graph::{Graph, LinkRefusal, link};
-use f77_ast::Parsed;
+use f77_ast::{Parsed, Symbols};
 use f77_parser::{ModuleTrees, ParseRefusal, parse};
-use f77_symbols::Symbols;
 use fixed_form::{ReadRefusal, statements};
 use fx_base::{List, Text};
 use refusal_codes::Code;

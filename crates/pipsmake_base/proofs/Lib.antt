@@ -1,3 +1,9 @@
+pub mod SameTexts
+pub mod ModuleLaws
+pub mod Names
+pub mod ResultLaws
+pub mod InOrder
+pub mod SavingLaws
 pub mod Lists
 pub mod Distinct
 pub mod Sources
@@ -6,6 +12,8 @@ pub mod NeedLaws
 pub mod StoredCan
 pub mod Defined
 pub mod LoadLaws
+pub mod Ordered
+pub mod WholeLaws
 pub mod MadeLaws
 pub mod StoredLaws
 pub mod StaleLaws

@@ -3,7 +3,6 @@ use Rattle.std.proofs.Common.{◌≡◌, inl, inr, ℕ, Bool, true, false, List,
 use Rattle.std.specs.Prelude.{is_some, option_map, if◌then◌else◌}
 use Rattle.call_graph.specs.declared.graph.Graph.{Graph}
 use Rattle.call_graph.specs.declared.refusal.Fault.{Fault}
-use Rattle.pipsmake_rules.specs.declared.kind.Kind.{Kind}
 use Rattle.pipsmake_rules.specs.declared.key.Key.{Key}
 use Rattle.pipsmake_rules.specs.Keys.{holds}
 use Rattle.base_values.specs.declared.stored.StoredValue.{StoredValue}
@@ -23,11 +22,11 @@ use Rattle.laws_database.specs.Definitions.{definition, results_with, results_in
 use Rattle.laws_database.specs.Resting.{IsStored}
 use Rattle.laws_database.specs.Session.{none_made, made_now}
 use Rattle.laws_database.specs.Shelves.{Shelves, Kept}
-use Rattle.laws_database.specs.Stands.{KeptStands, StandsFor}
+use Rattle.laws_database.specs.Stands.{StandsFor}
 use Rattle.laws_database.specs.Texts.{ModuleText, links_in}
 use Rattle.laws_database.specs.ResultEntries.{transformers_in, preconditions_in, regions_in, ins_in, outs_in}
 use Rattle.laws_database.specs.Values.{Value, effects, transformers, preconditions, regions, ins, outs, marks, result}
-use Rattle.laws_database.proofs.Going.{nothing_is_given, loaded_stands}
+use Rattle.laws_database.proofs.Going.{loaded_stands}
 use Rattle.result_store.specs.Fits.{ValueFits}
 use Rattle.pipsmake_db.specs.declared.db.Db.{Db}
 use Rattle.pipsmake_db.specs.State.{texts_of, shelves_in, IsIn}
@@ -88,19 +87,6 @@ links_for ts (r ∷ rs) d = go (links_in ts) refl
     go (Ok g) e = inr (g, e)
     go (Err f) e = absurd (none_here ts f r.name r.value (value_in r.value) e d.0)
 
--- ---- where nothing is kept
-
-pub nothing_taken : (sh : Shelves) (ts : List ModuleText) → StandsFor sh ts none_made → Taken sh ts [] []
-nothing_taken sh ts s = record {
-  loaded = nothing_is_given sh ts (definition ts) s;
-  first = tt;
-  kept_are = λ k x. go k x ((sh (result k) x).kept) (s.kept k x);
-}
-  where
-    go : (k : Kind) (x : List ℕ) (o : Option Kept) → KeptStands sh (record { kind = k; name = x }) o None → is_some o ≡ false
-    go k x None h = refl
-    go k x (Some kept) h = absurd h
-
 -- ---- the state of a database that was loaded
 
 made_as : (ts : List ModuleText) (o : Option Kept) (b : Bool) → is_some o ≡ b → option_map (λ (kept : Kept). ts) o ≡ (if b then Some ts else None)
@@ -109,15 +95,15 @@ made_as ts None false e = refl
 made_as ts (Some kept) true e = refl
 made_as ts (Some kept) false e = cc
 
-pub taken_stands : (sh : Shelves) (ts : List ModuleText) (seen ks : List Key) → Taken sh ts seen ks → StandsFor sh ts (made_now none_made ts ks)
+pub taken_stands : (sh : Shelves) (ts : List ModuleText) (seen ks : List Key) → Taken sh ts (definition ts) seen ks → StandsFor sh ts (made_now none_made ts ks)
 taken_stands sh ts seen ks t =
-    subst (StandsFor sh ts) (λ i k x. made_as ts ((sh (result k) x).kept) (holds ks (record { kind = k; name = x })) (t.kept_are k x) i) (loaded_stands sh ts t.loaded)
+    subst (StandsFor sh ts) (λ i k x. made_as ts ((sh (result k) x).kept) (holds ks (record { kind = k; name = x })) (t.kept_are k x) i) (loaded_stands sh ts t.keeps)
 
 -- all were kept
 pub keeps_whole : (ts us : List ModuleText) (old new : Shelves) (ks keys before seen : List Key) → us ≡ ts → keys ≡ ks → before ≡ ks → KeepsResults us old before keys new seen → KeepsAll ts old ks new
-keeps_whole ts us old new ks keys before seen t e b k links taken stored =
+keeps_whole ts us old new ks keys before seen t e b k links d taken stored =
     let same : KeepsResults ts old ks ks new seen = subst (λ js. KeepsResults ts old ks js new seen) e (subst (λ js. KeepsResults ts old js keys new seen) b (subst (λ vs. KeepsResults vs old before keys new seen) t k)) in
-    (seen, same.takes links [] taken stored taken.first)
+    (seen, same.takes links d [] taken stored taken.first)
 
 -- a database over texts is in some state
 pub in_plain : (d : Db) (ts : List ModuleText) → IsIn d (plain_state ts) → IsInSome d
@@ -126,9 +112,9 @@ in_plain d ts i = record { state = plain_state ts; is_in = i }
 pub is_loaded : (b : Base) (old mid : Shelves) (d : Db) (ks : List Key) → StandsFor old (texts_in b) none_made → SeesResults old b.results mid ks → KeepsAll (texts_in b) mid ks (shelves_in d) → texts_of d ≡ texts_in b → d.fresh ≡ ks → IsSaved b → IsIn d (loaded_state b)
 is_loaded b old mid d ks s sees keeps texts fresh saved =
     let ts = texts_in b in
-    let first : Taken mid ts ks [] = sees.takes ts saved (nothing_taken old ts s) in
+    let first : Taken mid ts (definition ts) ks [] = sees.takes ts (definition ts) saved (λ k e. refl) s in
     let links : LinksFor ts ks = subst (LinksFor ts) (sym sees.adds) (links_for ts b.results saved) in
-    let all = keeps links first (subst (Each IsStoredKey) (sym sees.adds) (keys_are_stored b.results)) in
+    let all = keeps links (definition ts) first (subst (Each IsStoredKey) (sym sees.adds) (keys_are_stored b.results)) in
     record {
       texts = texts;
       stands = subst (λ js. StandsFor (shelves_in d) ts (made_now none_made ts js)) sees.adds (taken_stands (shelves_in d) ts all.0 ks all.1);

@@ -5,8 +5,8 @@ use Rattle.f77_ast.specs.declared.places.Parsed.{Parsed}
 use Rattle.f77_ast.specs.DeclTrees.{ParsedTree}
 use Rattle.f77_ast.specs.PlainDecl.{parsed_tree}
 use Rattle.f77_parser.specs.Gives.{Refused}
-use Rattle.f77_symbols.specs.declared.symbol.Symbol.{Symbol}
-use Rattle.f77_symbols.specs.Symbols.{SymbolTree, symbol_tree}
+use Rattle.f77_ast.specs.declared.symbol.Symbol.{Symbol}
+use Rattle.f77_ast.specs.Symbols.{SymbolTree, symbol_tree}
 use Rattle.storage_layout.specs.Symbols.{symbols_of}
 use Rattle.base_rows.specs.Distinct.{are_new}
 use Rattle.base_text.specs.declared.base.BaseModule.{BaseModule}

@@ -1,4 +1,6 @@
+pub mod Saving
 pub mod Saved
+pub mod Whole
 pub mod Current
 pub mod Texts
 pub mod Taken

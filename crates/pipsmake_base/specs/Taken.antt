@@ -1,39 +1,50 @@
 -- Stored results that are taken over one by one: cited by private functions alone.
-use Rattle.std.specs.Prelude.{◌≡◌, ◌⊎◌, ℕ, List, [], ◌∷◌, ◌++◌, map, Some, is_some, slice_get}
+use Rattle.std.specs.Prelude.{◌≡◌, ◌⊎◌, ℕ, false, List, [], ◌∷◌, ◌++◌, map, Some, is_some, slice_get}
 use Rattle.pipsmake_rules.specs.declared.kind.Kind.{Kind}
 use Rattle.pipsmake_rules.specs.declared.kind.Kind.TheVariants.{Parsed, Lines, Symbols, CallGraph, Effects, Transformers, Preconditions, Regions, InRegions, OutRegions, Marks, Printed}
 use Rattle.pipsmake_rules.specs.declared.key.Key.{Key}
 use Rattle.pipsmake_rules.specs.Keys.{holds}
 use Rattle.base_text.specs.declared.base.StoredResult.{StoredResult}
 use Rattle.base_values.specs.Naming.{Each as EachStored}
+use Rattle.base_values.specs.Sizes.{kind_of}
 use Rattle.laws_statements.specs.CallsIn.{Each}
 use Rattle.laws_database.specs.Texts.{ModuleText}
 use Rattle.laws_database.specs.Definitions.{definition}
 use Rattle.laws_database.specs.Shelves.{Shelves, Stamped, SeenIn}
-use Rattle.laws_database.specs.Stands.{Needed, needed, AreStamps, IsLoaded}
+use Rattle.laws_database.specs.Session.{none_made}
+use Rattle.laws_database.specs.Stands.{Needed, AreStamps, StandsFor, Valuation, needed_with, KeepsValues}
 use Rattle.laws_database.specs.Laws.{AreLinked}
 use Rattle.laws_database.specs.Resting.{IsStored}
 use Rattle.laws_database.specs.Values.{Value, Item, result}
 use Rattle.pipsmake_db.specs.declared.db.Db.{Db}
 use Rattle.pipsmake_db.specs.State.{State, IsIn}
-use Rattle.pipsmake_base.specs.Saved.{key_at, IsDefinedAt}
+use Rattle.pipsmake_base.specs.Saved.{key_at, value_in}
 
 -- a database is in some state
 pub record IsInSome (d : Db) : Type 0 where
   pub state : State
   pub is_in : IsIn d state
 
--- what was defined of a result is the first value that was seen of it
-pub record HasFirst (sh : Shelves) (ts : List ModuleText) (k : Key) : Type 0 where
+-- a stored result has this value
+abbrev pub IsGivenAt : Valuation → StoredResult → Type 0
+IsGivenAt d r = d (kind_of r.value) r.name ≡ Some (value_in r.value)
+
+-- the value of a result is the first that was seen of it
+pub record HasFirst (sh : Shelves) (d : Valuation) (k : Key) : Type 0 where
   pub value : Value
-  pub is : definition ts k.kind k.name ≡ Some value
+  pub is : d k.kind k.name ≡ Some value
   pub at : slice_get (sh (result k.kind) k.name).values 0 ≡ Some value
 
--- of the results that were seen, just these are kept, as they are defined
-pub record Taken (sh : Shelves) (ts : List ModuleText) (seen kept : List Key) : Type 0 where
-  pub loaded : IsLoaded sh ts
-  pub first : Each (HasFirst sh ts) seen
+-- results that are not among these are what is defined
+abbrev pub OthersDefined : List ModuleText → Valuation → List Key → Type 0
+OthersDefined ts d ks = (k : Key) → holds ks k ≡ false → d k.kind k.name ≡ definition ts k.kind k.name
+
+-- of the results that were seen, just these are kept, with their values; all others are what is defined
+pub record Taken (sh : Shelves) (ts : List ModuleText) (d : Valuation) (seen kept : List Key) : Type 0 where
+  pub keeps : KeepsValues sh ts d
+  pub first : Each (HasFirst sh d) seen
   pub kept_are : (kind : Kind) (x : List ℕ) → is_some ((sh (result kind) x).kept) ≡ holds kept (record { kind = kind; name = x })
+  pub others : OthersDefined ts d seen
 
 -- values that were seen stay where they are
 abbrev pub SlotsStay : Shelves → Shelves → Type 0
@@ -47,20 +58,20 @@ pub record SeesFirst (old : Shelves) (before : List Key) (k : Key) (v : Value) (
 -- so are stored values
 pub record SeesResults (old : Shelves) (rs : List StoredResult) (new : Shelves) (seen : List Key) : Type 0 where
   pub adds : seen ≡ map key_at rs
-  pub takes : (ts : List ModuleText) → EachStored (IsDefinedAt ts) rs → Taken old ts [] [] → Taken new ts seen []
+  pub takes : (ts : List ModuleText) (d : Valuation) → EachStored (IsGivenAt d) rs → OthersDefined ts d (map key_at rs) → StandsFor old ts none_made → Taken new ts d seen []
 
 -- a result that is needed is among those that were seen
 pub record SeesNeed (ts : List ModuleText) (old : Shelves) (before : List Key) (k : Key) (new : Shelves) (seen : List Key) : Type 0 where
-  pub takes : (kept : List Key) → Taken old ts before kept → Taken new ts seen kept × HasFirst new ts k
+  pub takes : (d : Valuation) (kept : List Key) → Taken old ts d before kept → Taken new ts d seen kept × HasFirst new d k
   pub stay : SlotsStay old new
 
 -- a need, with its value
-abbrev pub need_at : List ModuleText → Key → Needed
-need_at ts n = record { item = result n.kind; name = n.name; value = definition ts n.kind n.name }
+abbrev pub need_at : Valuation → Key → Needed
+need_at d n = record { item = result n.kind; name = n.name; value = d n.kind n.name }
 
 -- results that are needed, with the stamps of their values
 pub record SeesNeeds (ts : List ModuleText) (old : Shelves) (before : List Key) (needs : List Key) (new : Shelves) (seen : List Key) (stamps : List Stamped) : Type 0 where
-  pub takes : (kept : List Key) → Taken old ts before kept → Taken new ts seen kept × AreStamps new stamps (map (need_at ts) needs)
+  pub takes : (d : Valuation) (kept : List Key) → Taken old ts d before kept → Taken new ts d seen kept × AreStamps new stamps (map (need_at d) needs)
   pub stay : SlotsStay old new
 
 -- a result of a stored kind
@@ -69,7 +80,7 @@ IsStoredKey k = IsStored k.kind
 
 -- what a result needs is among those that were seen, with the stamps of its values
 pub record SeesStamps (ts : List ModuleText) (old : Shelves) (before : List Key) (k : Key) (new : Shelves) (seen : List Key) (stamps : List Stamped) : Type 0 where
-  pub takes : AreLinked ts → IsStoredKey k → (kept : List Key) → Taken old ts before kept → Taken new ts seen kept × AreStamps new stamps (needed ts k)
+  pub takes : AreLinked ts → IsStoredKey k → (d : Valuation) (kept : List Key) → Taken old ts d before kept → Taken new ts d seen kept × AreStamps new stamps (needed_with ts d k)
   pub stay : SlotsStay old new
 
 -- texts link where there are results of them
@@ -78,12 +89,12 @@ LinksFor ts ks = (ks ≡ []) ⊎ AreLinked ts
 
 -- results that were seen are kept, with the stamps of their needs
 pub record KeepsResults (ts : List ModuleText) (old : Shelves) (before : List Key) (ks : List Key) (new : Shelves) (seen : List Key) : Type 0 where
-  pub takes : LinksFor ts ks → (kept : List Key) → Taken old ts before kept → Each IsStoredKey ks → Each (HasFirst old ts) ks → Taken new ts seen (kept ++ ks)
-  pub stay : Each (HasFirst old ts) ks → SlotsStay old new
+  pub takes : LinksFor ts ks → (d : Valuation) (kept : List Key) → Taken old ts d before kept → Each IsStoredKey ks → Each (HasFirst old d) ks → Taken new ts d seen (kept ++ ks)
+  pub stay : (d : Valuation) → Each (HasFirst old d) ks → SlotsStay old new
 
 -- all results that were seen are kept
 abbrev pub KeepsAll : List ModuleText → Shelves → List Key → Shelves → Type 0
-KeepsAll ts old ks new = LinksFor ts ks → Taken old ts ks [] → Each IsStoredKey ks → (seen : List Key) × Taken new ts seen ks
+KeepsAll ts old ks new = LinksFor ts ks → (d : Valuation) → Taken old ts d ks [] → Each IsStoredKey ks → (seen : List Key) × Taken new ts d seen ks
 
 -- kinds whose results are of a module by itself, or of all modules
 abbrev pub IsPlainKind : Kind → Type 0

@@ -3,7 +3,9 @@ ghost use Rattle.std.specs.Prelude.{◌≡◌, IfOk, OnOk};
 ghost use Rattle.base_text.specs.Grammar.{IsBase};
 ghost use Rattle.pipsmake_db.specs.Links.{AreLinks};
 ghost use Rattle.pipsmake_db.specs.State.{texts_of, shelves_in, IsIn};
+ghost use Rattle.pipsmake_db.specs.Calls.{Rests};
 ghost use Rattle.pipsmake_base.specs.Saved.{texts_in, keys_in, IsSaved, loaded_state};
+ghost use Rattle.pipsmake_base.specs.Whole.{values_in, IsWholeBase};
 ghost use Rattle.pipsmake_base.specs.Taken.{IsInSome, KeepsAll};
 
 use crate::keep::keep_results;
@@ -56,6 +58,7 @@ pub fn load(alloc: Global, base: Base) -> Result<Db, Memory>
     ensures texts { IfOk result (λ d. texts_of d ≡ texts_in base) }
     ensures fresh { IfOk result (λ d. d.fresh ≡ keys_in base) }
     ensures stands { IfOk result (λ d. IsSaved base → IsIn d (loaded_state base)) }
+    ensures rests { IfOk result (λ d. IsWholeBase base → Rests d (values_in base)) }
 {
     fits_is_taken();
     let Base { modules, results } = base;

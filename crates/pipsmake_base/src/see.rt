@@ -38,7 +38,6 @@ pub(crate) fn see_value(
 }
 
 /// Stored values are seen; the results that they are of, in their order.
-#[tactic(auto, using(crate::proofs::Taking::sees_all))]
 pub(crate) fn see_results(
     alloc: Global,
     store: &mut Store,

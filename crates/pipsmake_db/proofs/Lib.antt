@@ -1,6 +1,7 @@
 pub mod ListLaws
 pub mod LinkLaws
 pub mod AskedLaws
+pub mod RestLaws
 pub mod TextLaws
 pub mod BringLaws
 pub mod MakeLaws

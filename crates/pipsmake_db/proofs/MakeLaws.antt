@@ -3,15 +3,17 @@ use Rattle.std.proofs.Common.{◌≡◌, ℕ, List, [], ◌++◌, None, sym, ap,
 use Rattle.pipsmake_rules.specs.declared.kind.Kind.{Kind}
 use Rattle.pipsmake_rules.specs.declared.key.Key.{Key}
 use Rattle.laws_database.specs.Texts.{ModuleText}
-use Rattle.laws_database.specs.Shelves.{Shelves}
+use Rattle.laws_statements.specs.CallsIn.{Each}
+use Rattle.laws_database.specs.Shelves.{Shelves, kept_of}
 use Rattle.laws_database.specs.Making.{AllStay, BringsAll}
 use Rattle.laws_database.specs.Laws.{CanMake, walk_in, MakesAsDefined, MakingMayStop}
-use Rattle.laws_database.specs.Resting.{RestingStays}
+use Rattle.laws_database.specs.Stands.{Valuation}
+use Rattle.laws_database.specs.Resting.{RestsOn, RestsStill, IsWhole, value_with, RestingStays}
 use Rattle.result_store.specs.Rows.{shelves_of}
 use Rattle.pipsmake_db.specs.declared.db.Db.{Db}
 use Rattle.pipsmake_db.specs.declared.make.Brought as code
 use Rattle.pipsmake_db.specs.Bring.{BringsSome, Brought}
-use Rattle.pipsmake_db.specs.Calls.{Stays, Loses, Makes, MakesLinked, key}
+use Rattle.pipsmake_db.specs.Calls.{Stays, Loses, Rests, RestsMaking, Makes, MakesLinked, key}
 use Rattle.pipsmake_db.specs.Fresh.{keys_put}
 use Rattle.pipsmake_db.specs.Refusals.{owner_refusal, links_refusal}
 use Rattle.pipsmake_db.specs.State.{State, texts_of, shelves_in, IsIn}
@@ -75,6 +77,16 @@ module _ (may_stop : MakingMayStop) (old new : Db) (k : Kind) (x : List ℕ) (ow
   pub leads : (now : List Key) → BringsAll (shelves_in old) (texts_of old) (walk_in (texts_of old) (key k x)) now (shelves_in new) → (s : State) → IsIn old s → MakesAsDefined s.texts s.made (walk_in s.texts (key k x)) now (shelves_in new)
   leads now b s i = subst (λ ts. MakesAsDefined s.texts s.made (walk_in ts (key k x)) now (shelves_in new)) i.texts (stopped s i (walk_in (texts_of old) (key k x)) [] now whole b)
 
+  -- the texts stay, and so does what is rested on
+  rests_making : (stored : Valuation) → Rests old stored → (now : List Key) → RestsStill (texts_of old) stored (walk_in (texts_of old) (key k x)) now (shelves_in new) → RestsMaking new stored (walk_in (texts_of old) (key k x)) now
+  rests_making stored r now s =
+      let walked : List Key = walk_in (texts_of old) (key k x) in
+      record {
+        rests = record { whole = subst (λ ts. IsWhole ts stored) (sym texts) r.whole; kept = subst (λ ts. RestsOn (shelves_in new) ts (value_with ts stored)) (sym texts) s.rests };
+        none_stored = s.none_stored;
+        shown = subst (λ ts. Each (λ (n : Key). kept_of (shelves_in new) n.kind n.name ≡ value_with ts stored n.kind n.name) walked) (sym texts) s.shown;
+      }
+
   pub makes : (rests : RestingStays) (now : List Key) → BringsAll (shelves_in old) (texts_of old) (walk_in (texts_of old) (key k x)) now (shelves_in new) → new.fresh ≡ keys_put old.fresh (walk_in (texts_of old) (key k x)) → Makes old new (key k x) now
   makes rests now b fresh = record {
     texts = texts;
@@ -87,7 +99,7 @@ module _ (may_stop : MakingMayStop) (old new : Db) (k : Kind) (x : List ℕ) (ow
         fresh = fresh ∙ ap (λ f. keys_put f (walk_in (texts_of old) (key k x))) i.fresh ∙ ap (λ ts. keys_put s.fresh (walk_in ts (key k x))) i.texts;
       };
     });
-    rests = λ stored w r. rests (shelves_in old) (shelves_in new) (texts_of old) stored (key k x) (walk_in (texts_of old) (key k x)) [] now can w r whole b;
+    rests = λ stored r. rests_making stored r now (rests (shelves_in old) (shelves_in new) (texts_of old) stored (key k x) (walk_in (texts_of old) (key k x)) [] now can r.whole r.kept whole b);
   }
 
 -- ---- over the links that were taken out

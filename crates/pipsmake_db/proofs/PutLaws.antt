@@ -16,7 +16,8 @@ use Rattle.pipsmake_db.specs.declared.texts.Seen.{Seen}
 use Rattle.pipsmake_db.specs.Calls.{Loses, Drops}
 use Rattle.pipsmake_db.specs.Puts.{Puts, PutsOnly}
 use Rattle.pipsmake_db.specs.State.{texts_of, shelves_in, gone_of}
-use Rattle.pipsmake_db.specs.Texts.{StandsStill, ArePlaced, KeepsTexts, TextsStay, StandsWithout}
+use Rattle.pipsmake_db.specs.Texts.{StandsStill, RestsOnSame, ArePlaced, KeepsTexts, TextsStay, StaysWithout, StandsWithout}
+use Rattle.pipsmake_db.proofs.RestLaws.{rests_same, same_gone, rests_put, rests_put_only}
 use Rattle.pipsmake_db.proofs.TextLaws.{replaced_stands, all_replaced_stands, dropped_stands, placed_still}
 
 -- values were seen, and nothing else was changed
@@ -28,12 +29,14 @@ loses_seen old new l f still = record {
 }
 
 module _ (change : TextsMayChange) (text_of_put : TextOfPut) (puts : PutsKeep) (old new : Db) (found : List Source) (sources : AreSources found) (seen : List Seen) (mid : List Row) (names : List (List ℕ)) (named : names ≡ names_in (map source_text found))
-    (still : StandsStill (shelves_in old) (shelves_of mid)) (placed : ArePlaced (shelves_of mid) (map source_text found) seen) (fresh : new.fresh ≡ []) where
+    (still : StandsStill (shelves_in old) (shelves_of mid)) (rests : RestsOnSame (shelves_in old) (shelves_of mid)) (placed : ArePlaced (shelves_of mid) (map source_text found) seen) (fresh : new.fresh ≡ [])
+    (text_of_replaced : TextOfReplaced) (differ : NamesDiffer (map source_text found)) where
   pub are_put : new.linked ≡ replaced old.linked (map source_text found) → KeepsTexts (shelves_of mid) seen (shelves_in new) → Puts old new (map source_text found) names
   are_put texts keeps = record {
     named = named;
     texts = texts;
     fresh = fresh;
+    rests = rests_put old new (map source_text found) (shelves_of mid) differ (keeps (map source_text found) placed) text_of_replaced texts rests;
     leads = λ s i. (record {
       texts = texts ∙ ap (λ ts. replaced ts (map source_text found)) i.texts;
       stands = replaced_stands change text_of_put puts (map source_text found) (shelves_of mid) (shelves_in new) s.texts s.made (are_modules found sources) (keeps (map source_text found) placed) (still s.texts s.made i.stands);
@@ -41,12 +44,15 @@ module _ (change : TextsMayChange) (text_of_put : TextOfPut) (puts : PutsKeep) (
     });
   }
 
-  pub are_put_only : (texts_go : TextsMayGo) (text_of_replaced : TextOfReplaced) → NamesDiffer (map source_text found) → (before : List (List ℕ)) (left : List Row) → before ≡ names_in (texts_of old) → new.linked ≡ map source_text found
-      → TextsStay (shelves_of mid) (shelves_of left) → StandsWithout (shelves_of mid) (gone_of (map source_text found) before) (shelves_of left) → KeepsTexts (shelves_of left) seen (shelves_in new) → PutsOnly old new (map source_text found) names
-  are_put_only texts_go text_of_replaced differ before left are texts stay without keeps = record {
+  pub are_put_only : (texts_go : TextsMayGo) (before : List (List ℕ)) (left : List Row) → before ≡ names_in (texts_of old) → new.linked ≡ map source_text found
+      → TextsStay (shelves_of mid) (shelves_of left) → StandsWithout (shelves_of mid) (gone_of (map source_text found) before) (shelves_of left) → StaysWithout (shelves_of mid) (gone_of (map source_text found) before) (shelves_of left) → KeepsTexts (shelves_of left) seen (shelves_in new) → PutsOnly old new (map source_text found) names
+  are_put_only texts_go before left are texts stay without all_stay keeps = record {
     named = named;
     texts = texts;
     fresh = fresh;
+    rests =
+        rests_put_only old new (map source_text found) (shelves_of left) differ (keeps (map source_text found) (placed_still (shelves_of mid) (shelves_of left) stay (map source_text found) seen placed)) texts
+        (λ same ts d r. rests_same (shelves_of mid) (shelves_of left) (all_stay (same_gone (texts_of old) (texts_of new) (map source_text found) before are texts same)) ts d (rests ts d r));
     leads = λ s i. (record {
       texts = texts;
       stands =

@@ -1,10 +1,10 @@
 -- The text that shows what is kept.
 use Rattle.std.proofs.Common.{◌≡◌, ℕ, true, List, [], ◌∷◌, ◌++◌, map, Some, None, Result, Ok, Err, refl, sym, ap, ◌∙◌, subst}
-use Rattle.std.specs.Prelude.{codes, option_map, option_and_then}
+use Rattle.std.specs.Prelude.{codes, option_map, option_and_then, IfSome}
 use Rattle.serde_json.specs.Written.{compact_text}
-use Rattle.f77_symbols.specs.declared.symbol.Symbol.{Symbol}
-use Rattle.f77_symbols.specs.Index.{names_of}
-use Rattle.f77_symbols.specs.Symbols.{symbol_tree}
+use Rattle.f77_ast.specs.declared.symbol.Symbol.{Symbol}
+use Rattle.f77_ast.specs.Index.{names_of}
+use Rattle.f77_ast.specs.Symbols.{symbol_tree}
 use Rattle.call_graph.specs.declared.graph.Graph.{Graph}
 use Rattle.call_graph.specs.declared.refusal.Fault.{Fault}
 use Rattle.f77_meaning.specs.Modules.{symbol_names}
@@ -12,6 +12,7 @@ use Rattle.pipsmake_rules.specs.declared.kind.Kind.{Kind}
 use Rattle.pipsmake_rules.specs.declared.kind.Kind.TheVariants as kind
 use Rattle.pipsmake_rules.specs.declared.key.Key.{Key}
 use Rattle.pipsmake_rules.specs.Laws.{is_bottom_up}
+use Rattle.pipsmake_rules.specs.Neighbours.{has_name}
 use Rattle.pipsmake_rules.proofs.WalkLaws.{complete}
 use Rattle.base_values.specs.declared.stored.StoredValue.{StoredValue}
 use Rattle.base_values.specs.Written.{stored_data}
@@ -19,10 +20,12 @@ use Rattle.result_lines.specs.declared.show.Show.{Show}
 use Rattle.laws_statements.specs.CallsIn.{Each}
 use Rattle.laws_database.specs.Texts.{ModuleText, AreModules, names_in, trees_in, tables_in, links_in, graph_of, graph_or_none}
 use Rattle.laws_database.specs.Definitions.{module_named, definition, results_in, text_shown}
-use Rattle.laws_database.specs.Shelves.{Shelves}
-use Rattle.laws_database.specs.Rules.{text_with}
+use Rattle.laws_database.specs.Shelves.{Shelves, value_under, kept_of}
+use Rattle.laws_database.specs.Values.{result}
+use Rattle.laws_database.specs.Stands.{Valuation, HasValue}
+use Rattle.laws_database.specs.Rules.{transformers_in, preconditions_in, regions_in, ins_in, outs_in, marks_in, results_from, kept_results, text_with}
 use Rattle.laws_database.specs.Laws.{CanMake, walk_in, IsDefined, MakingMayStop, TextsAreShown}
-use Rattle.laws_database.specs.Resting.{RestingStays}
+use Rattle.laws_database.specs.Resting.{IsStored, stored_results, value_with, RestsOn, RestingStays}
 use Rattle.laws_database.specs.Making.{BringsAll}
 use Rattle.laws_database.proofs.InOrder.{bottom_up}
 use Rattle.laws_database.proofs.Modules.{linked}
@@ -31,8 +34,8 @@ use Rattle.result_making.specs.Making.{text_made}
 use Rattle.pipsmake_db.specs.Kept.{json_kept, text_kept, IsShown}
 use Rattle.pipsmake_db.specs.declared.show.Ready.{Ready}
 use Rattle.result_store.specs.Rows.{shelves_of}
-use Rattle.pipsmake_db.specs.Shown.{json_with, json_line, text_for}
-use Rattle.pipsmake_db.specs.Calls.{key, ShowsLinked}
+use Rattle.pipsmake_db.specs.Shown.{json_with, json_line, text_for, text_of_results, printed_from, text_from}
+use Rattle.pipsmake_db.specs.Calls.{key, Makes, ShowsLinked}
 use Rattle.pipsmake_db.specs.Fresh.{keys_put}
 use Rattle.pipsmake_db.specs.Refusals.{owner_refusal, links_refusal}
 use Rattle.pipsmake_db.specs.State.{texts_of, shelves_in}
@@ -94,15 +97,71 @@ module _ (shown : TextsAreShown) (sh : Shelves) (ts : List ModuleText) (ms : Are
   text_is kind.Marks can are = json_is kind.Marks are
   text_is kind.Printed can are = printed_is can are
 
+-- ---- over stored results, whatever they are
+
+stored_with : (ts : List ModuleText) (stored : Valuation) (k : Kind) (x : List ℕ) → IsStored k → value_with ts stored k x ≡ stored k x
+stored_with ts stored kind.Parsed x s = absurd s
+stored_with ts stored kind.Lines x s = absurd s
+stored_with ts stored kind.Symbols x s = absurd s
+stored_with ts stored kind.CallGraph x s = absurd s
+stored_with ts stored kind.Effects x s = refl
+stored_with ts stored kind.Transformers x s = refl
+stored_with ts stored kind.Preconditions x s = refl
+stored_with ts stored kind.Regions x s = refl
+stored_with ts stored kind.InRegions x s = refl
+stored_with ts stored kind.OutRegions x s = refl
+stored_with ts stored kind.Marks x s = refl
+stored_with ts stored kind.Printed x s = absurd s
+
+module _ (sh : Shelves) (ts : List ModuleText) (stored : Valuation) (rests : RestsOn sh ts (value_with ts stored)) (x : List ℕ) (named : has_name (names_in ts) x ≡ true) where
+  stored_kept : (k : Kind) → IsStored k → kept_of sh k x ≡ stored k x
+  stored_kept k s =
+      let there = rests.stored k x s named in
+      let has : HasValue sh ts (value_with ts stored) (key k x) there.0 = subst (λ o. IfSome o (λ kept. HasValue sh ts (value_with ts stored) (key k x) kept)) there.1 (rests.keeps.kept k x) in
+      ap (value_under (sh (result k) x).values) there.1 ∙ has.at ∙ sym has.is ∙ stored_with ts stored k x s
+
+  all_kept : kept_results sh x ≡ stored_results stored x
+  all_kept =
+      λ i. results_from (option_and_then transformers_in (stored_kept kind.Transformers tt i)) (option_and_then preconditions_in (stored_kept kind.Preconditions tt i)) (option_and_then regions_in (stored_kept kind.Regions tt i))
+      (option_and_then ins_in (stored_kept kind.InRegions tt i)) (option_and_then outs_in (stored_kept kind.OutRegions tt i)) (option_and_then marks_in (stored_kept kind.Marks tt i))
+
+  json_stored : (k : Kind) → IsStored k → json_kept sh ts k x ≡ json_with (module_named ts x) (stored k x)
+  json_stored k s = ap (json_with (module_named ts x)) (stored_kept k s)
+
+  printed_stored : (show : Show) → text_made sh ts x show ≡ printed_from ts stored show x
+  printed_stored show = λ i. option_and_then (λ m. option_map (text_of_results show m) (all_kept i)) (module_named ts x)
+
+module _ (sh : Shelves) (ts : List ModuleText) (stored : Valuation) (rests : RestsOn sh ts (value_with ts stored)) (show : Show) (x : List ℕ) where
+  text_stored : (k : Kind) → CanMake ts k x → text_kept sh ts show k x ≡ text_from ts stored show k x
+  text_stored kind.Parsed can = refl
+  text_stored kind.Lines can = refl
+  text_stored kind.Symbols can = refl
+  text_stored kind.CallGraph can = refl
+  text_stored kind.Effects can = json_stored sh ts stored rests x can.1 kind.Effects tt
+  text_stored kind.Transformers can = json_stored sh ts stored rests x can.1 kind.Transformers tt
+  text_stored kind.Preconditions can = json_stored sh ts stored rests x can.1 kind.Preconditions tt
+  text_stored kind.Regions can = json_stored sh ts stored rests x can.1 kind.Regions tt
+  text_stored kind.InRegions can = json_stored sh ts stored rests x can.1 kind.InRegions tt
+  text_stored kind.OutRegions can = json_stored sh ts stored rests x can.1 kind.OutRegions tt
+  text_stored kind.Marks can = json_stored sh ts stored rests x can.1 kind.Marks tt
+  text_stored kind.Printed can = printed_stored sh ts stored rests x can.1 show
+
 -- ---- what is shown
 
 module _ (may_stop : MakingMayStop) (rests : RestingStays) (shown : TextsAreShown) (old new : Db) (k : Kind) (x : List ℕ) (owned : owner_refusal (texts_of old) k x ≡ None) (links : links_refusal (texts_of old) k ≡ None) (texts : new.linked ≡ old.linked) where
+  made : (s : Shown) → BringsAll (shelves_in old) (texts_of old) (walk_in (texts_of old) (key k x)) s.made (shelves_in new) → new.fresh ≡ keys_put old.fresh (walk_in (texts_of old) (key k x)) → Makes old new (key k x) s.made
+  made s b fresh = makes may_stop old new k x owned links texts rests s.made b fresh
+
   pub shows : (show : Show) (s : Shown) → BringsAll (shelves_in old) (texts_of old) (walk_in (texts_of old) (key k x)) s.made (shelves_in new) → new.fresh ≡ keys_put old.fresh (walk_in (texts_of old) (key k x))
       → text_kept (shelves_in new) (texts_of old) show k x ≡ Some s.text → ShowsLinked old new k x show s
   shows show s b fresh text = record {
     links = links;
     shows = record {
-      makes = makes may_stop old new k x owned links texts rests s.made b fresh;
+      makes = made s b fresh;
+      rests = λ stored r. (
+          let kept : RestsOn (shelves_in new) (texts_of old) (value_with (texts_of old) stored) = subst (λ ts. RestsOn (shelves_in new) ts (value_with ts stored)) texts ((made s b fresh).rests stored r).rests.kept in
+          sym (text_stored (shelves_in new) (texts_of old) stored kept show x k (can_make (texts_of old) k x owned links)) ∙ text
+          );
       text = λ st i. sym (text_is shown (shelves_in new) (texts_of old) (subst AreModules (sym i.texts) i.stands.modules) show x k (can_make (texts_of old) k x owned links)
           (subst (λ ts. Each (IsDefined (shelves_in new) ts) (walk_in ts (key k x))) (sym i.texts) (leads may_stop old new k x owned links texts s.made b st i).defined)) ∙ text;
     };

@@ -1,7 +1,7 @@
 -- Texts that are seen, and then kept.
 use Rattle.std.proofs.Common.{◌≡◌, ℕ, Bool, true, false, inl, inr, List, [], ◌∷◌, ◌++◌, Option, Some, None, refl, sym, ap, ◌∙◌, subst, append_assoc, append-nil, true≢false}
 use Rattle.std.specs.Prelude.{slice_get, bytes_eq, not, is_some, if◌then◌else◌}
-use Rattle.f77_symbols.specs.Symbols.{number_from}
+use Rattle.f77_ast.specs.Symbols.{number_from}
 use Rattle.session_texts.proofs.Removed.{there, none_removed}
 use Rattle.pipsmake_rules.specs.Neighbours.{has_name}
 use Rattle.std.specs.Cmp.Lexicographic.{bytes_decides}
@@ -18,8 +18,9 @@ use Rattle.session_texts.specs.Laws.{or_text, TextOfPut, PutsKeep, TextOfReplace
 use Rattle.session_texts.specs.Modules.{NamesDiffer}
 use Rattle.result_store.specs.Seen.{KeepsSeen}
 use Rattle.pipsmake_db.specs.declared.texts.Seen.{Seen}
-use Rattle.pipsmake_db.specs.Texts.{StandsStill, SeesText, IsPlaced, ArePlaced, KeepsInTurn, KeepsTexts, TextsStay, ForgetsGone, StandsWithout}
+use Rattle.pipsmake_db.specs.Texts.{StandsStill, RestsOnSame, SeesText, IsPlaced, ArePlaced, KeepsInTurn, KeepsTexts, TextsStay, ForgetsGone, StaysWithout, StandsWithout}
 use Rattle.pipsmake_db.specs.State.{made_without_all, gone_of}
+use Rattle.pipsmake_db.proofs.RestLaws.{rests_seen}
 
 -- ---- shelves that stay
 
@@ -69,19 +70,24 @@ placed_more sh (v ∷ us) (m ∷ ns) u n h p = (h.0, placed_more sh us ns u n h.
 -- the first of these texts were seen, and these are left
 pub record Sees (old : Shelves) (us : List ModuleText) (sh : Shelves) (left : List ModuleText) (ns : List Seen) : Type 0 where
   pub stands : StandsStill old sh
+  pub rests : RestsOnSame old sh
   pub done : List ModuleText
   pub parts : done ++ left ≡ us
   pub placed : ArePlaced sh done ns
 
 pub sees_none : (sh : Shelves) (us : List ModuleText) → Sees sh us sh us []
-sees_none sh us = record { stands = λ ts made s. s; done = []; parts = refl; placed = tt }
+sees_none sh us = record { stands = λ ts made s. s; rests = λ ts d r. r; done = []; parts = refl; placed = tt }
 
 pub still_stands : (law : ValuesMayBeSeen) (old sh new : Shelves) (u : ModuleText) (n : Seen) → StandsStill old sh → SeesText sh u n new → StandsStill old new
 still_stands law old sh new u n s t ts made h = law sh new ts made text u.name (source u.text) n.stamp (s ts made h) t.sees
 
+pub still_rests : (old sh new : Shelves) (u : ModuleText) (n : Seen) → RestsOnSame old sh → SeesText sh u n new → RestsOnSame old new
+still_rests old sh new u n r t ts d h = rests_seen sh new u.name u.text n.stamp t.sees ts d (r ts d h)
+
 pub sees_more : (law : ValuesMayBeSeen) (old : Shelves) (us : List ModuleText) (sh new : Shelves) (u : ModuleText) (left : List ModuleText) (ns ms : List Seen) (n : Seen) → Sees old us sh (u ∷ left) ns → SeesText sh u n new → ms ≡ ns ++ n ∷ [] → Sees old us new left ms
 sees_more law old us sh new u left ns ms n s t e = record {
   stands = still_stands law old sh new u n s.stands t;
+  rests = still_rests old sh new u n s.rests t;
   done = s.done ++ u ∷ [];
   parts = append_assoc s.done (u ∷ []) left ∙ s.parts;
   placed = subst (ArePlaced new (s.done ++ u ∷ [])) (sym e)
@@ -148,9 +154,13 @@ module _ (results_go : ResultsMayGo) (texts_go : TextsMayGo) (text_of_without : 
 pub record Forgot (old : Shelves) (ts : List ModuleText) (all : List (List ℕ)) (sh : Shelves) (left : List (List ℕ)) : Type 0 where
   pub texts : TextsStay old sh
   pub stands : (us : List ModuleText) (made : Makings) → StandsFor old us made → (mid : Makings) × StandsFor sh us mid × (made_without_all mid (gone_of ts left) ≡ made_without_all made (gone_of ts all))
+  pub stays : gone_of ts all ≡ [] → (gone_of ts left ≡ []) × AllStay old sh
 
 pub forgot_none : (sh : Shelves) (ts : List ModuleText) (all : List (List ℕ)) → Forgot sh ts all sh all
-forgot_none sh ts all = record { texts = λ y. refl; stands = λ us made s. (made, s, refl) }
+forgot_none sh ts all = record { texts = λ y. refl; stands = λ us made s. (made, s, refl); stays = λ e. (e, λ item x. refl) }
+
+gone_first : (ts : List ModuleText) (x : List ℕ) (left : List (List ℕ)) (b : Bool) → has_name (names_in ts) x ≡ b → gone_of ts (x ∷ left) ≡ (if not b then x ∷ gone_of ts left else gone_of ts left)
+gone_first ts x left b e = ap (λ b. if not b then x ∷ gone_of ts left else gone_of ts left) e
 
 forgot_step : (made : Makings) (ts : List ModuleText) (x : List ℕ) (left : List (List ℕ)) (b : Bool) → has_name (names_in ts) x ≡ b → made_without_all made (gone_of ts (x ∷ left)) ≡ made_without_all (if b then made else made_without made x) (gone_of ts left)
 forgot_step made ts x left true e = ap (λ b. made_without_all made (if not b then x ∷ gone_of ts left else gone_of ts left)) e
@@ -160,10 +170,12 @@ pub forgot_more : (law : ResultsMayGo) (old : Shelves) (ts : List ModuleText) (a
 forgot_more law old ts all sh new x left f (inl h) = record {
   texts = λ y. h.1 text y ∙ f.texts y;
   stands = λ us made s. (let m = f.stands us made s in (m.0, stands_same sh new h.1 us m.0 m.1, sym (forgot_step m.0 ts x left true h.0) ∙ m.2));
+  stays = λ e. (let p = f.stays e in (sym (gone_first ts x left true h.0) ∙ p.0, λ item y. h.1 item y ∙ p.1 item y));
 }
 forgot_more law old ts all sh new x left f (inr h) = record {
   texts = λ y. text_stays y (bytes_eq y x) refl ∙ f.texts y;
   stands = λ us made s. (let m = f.stands us made s in (made_without m.0 x, law sh new us m.0 x m.1 h.1, sym (forgot_step m.0 ts x left false h.0) ∙ m.2));
+  stays = λ e. absurd (let some : x ∷ gone_of ts left ≡ [] = sym (gone_first ts x left false h.0) ∙ (f.stays e).0 in cc);
 }
   where
     text_stays : (y : List ℕ) (b : Bool) → bytes_eq y x ≡ b → new text y ≡ sh text y
@@ -172,6 +184,9 @@ forgot_more law old ts all sh new x left f (inr h) = record {
 
 pub forgot_all : (old : Shelves) (ts : List ModuleText) (all : List (List ℕ)) (sh : Shelves) → Forgot old ts all sh [] → StandsWithout old (gone_of ts all) sh
 forgot_all old ts all sh f us made s = let m = f.stands us made s in subst (StandsFor sh us) m.2 m.1
+
+pub forgot_stays : (old : Shelves) (ts : List ModuleText) (all : List (List ℕ)) (sh : Shelves) → Forgot old ts all sh [] → StaysWithout old (gone_of ts all) sh
+forgot_stays old ts all sh f e = (f.stays e).1
 
 pub placed_still : (old new : Shelves) → TextsStay old new → (us : List ModuleText) (ns : List Seen) → ArePlaced old us ns → ArePlaced new us ns
 placed_still old new t us ns h = placed_grow old new (λ y i w e. ap (λ (s : Shelf). slice_get s.values i) (t y) ∙ e) us ns h

@@ -5,12 +5,14 @@ use Rattle.pipsmake_rules.specs.declared.key.Key.{Key}
 use Rattle.pipsmake_rules.specs.Kinds.{kind_with}
 use Rattle.pipsmake_rules.specs.Neighbours.{has_name}
 use Rattle.result_lines.specs.declared.show.Show.{Show}
-use Rattle.laws_database.specs.Texts.{ModuleText, names_in}
+use Rattle.laws_statements.specs.CallsIn.{Each}
+use Rattle.laws_database.specs.Texts.{ModuleText, names_in, SameTexts}
 use Rattle.laws_database.specs.Session.{MadeOf, made_now}
+use Rattle.laws_database.specs.Shelves.{kept_of}
 use Rattle.laws_database.specs.Stands.{Valuation}
 use Rattle.laws_database.specs.Making.{AllStay}
 use Rattle.laws_database.specs.Laws.{walk_in}
-use Rattle.laws_database.specs.Resting.{RestsOn, RestsStill, IsWhole, value_with}
+use Rattle.laws_database.specs.Resting.{IsStored, RestsOn, IsWhole, value_with}
 use Rattle.session_texts.specs.Changes.{replaced, without}
 use Rattle.session_texts.specs.Sources.{source_modules}
 use Rattle.pipsmake_db.specs.declared.db.Db.{Db}
@@ -19,7 +21,7 @@ use Rattle.pipsmake_db.specs.declared.refusal.DbRefusal.{DbRefusal}
 use Rattle.pipsmake_db.specs.declared.refusal.DbRefusal.TheVariants.{NoSuchKind, NoSuchName, NotShown, Source, Link, Memory}
 use Rattle.pipsmake_db.specs.Fresh.{keys_put}
 use Rattle.pipsmake_db.specs.Refusals.{links_refusal, make_refusal, value_refusal}
-use Rattle.pipsmake_db.specs.Shown.{text_for}
+use Rattle.pipsmake_db.specs.Shown.{text_for, text_from}
 use Rattle.pipsmake_db.specs.State.{State, after_source, after_all, after_drop, after_make, texts_of, shelves_in, IsIn}
 
 -- ---- what a refusal leaves
@@ -45,6 +47,23 @@ IsLeft old new (Source line code keyword) = Stays old new
 IsLeft old new (Link x line first code) = Stays old new
 IsLeft old new Memory = Loses old new
 
+-- ---- stored results, whatever they are
+
+-- a database rests on stored results: one is kept of each stored kind and module, with this value, and all else that is kept was made from these
+pub record Rests (d : Db) (stored : Valuation) : Type 0 where
+  pub whole : IsWhole (texts_of d) stored
+  pub kept : RestsOn (shelves_in d) (texts_of d) (value_with (texts_of d) stored)
+
+-- where the texts are the same as before, at whatever lines, a database rests on what it rested on
+abbrev pub RestsAtSame : Db → Db → Type 0
+RestsAtSame old new = SameTexts (texts_of old) (texts_of new) → (stored : Valuation) → Rests old stored → Rests new stored
+
+-- after making: a database rests on these results still, none of them was made, and what was walked has the values that follow from them
+pub record RestsMaking (new : Db) (stored : Valuation) (walked now : List Key) : Type 0 where
+  pub rests : Rests new stored
+  pub none_stored : Each (λ (n : Key). IsStored n.kind → ⊥) now
+  pub shown : Each (λ (n : Key). kept_of (shelves_in new) n.kind n.name ≡ value_with (texts_of new) stored n.kind n.name) walked
+
 -- ---- texts
 
 -- the modules of a source text take the place of those of their names, or are added
@@ -55,6 +74,7 @@ pub record Replaces (old new : Db) (text : List ℕ) (names : List (List ℕ)) :
   pub texts : texts_of new ≡ replaced (texts_of old) found
   pub fresh : new.fresh ≡ []
   pub leads : (s : State) → IsIn old s → IsIn new (after_source s found)
+  pub rests : RestsAtSame old new
 
 -- the modules are just those of a source text
 pub record ReplacesAll (old new : Db) (text : List ℕ) (names : List (List ℕ)) : Type 0 where
@@ -64,6 +84,7 @@ pub record ReplacesAll (old new : Db) (text : List ℕ) (names : List (List ℕ)
   pub texts : texts_of new ≡ found
   pub fresh : new.fresh ≡ []
   pub leads : (s : State) → IsIn old s → IsIn new (after_all s found)
+  pub rests : RestsAtSame old new
 
 -- the module of a name is gone
 pub record Drops (old new : Db) (x : List ℕ) : Type 0 where
@@ -79,11 +100,9 @@ pub record LeadsOn (new : Db) (s : State) (k : Key) (now : List Key) : Type 0 wh
   pub made : MadeOf s.made s.texts (walk_in s.texts k) now
   pub next : IsIn new (after_make s k now)
 
--- where all stored results of the modules are kept, whatever they are, the walk has the values that follow from them, and no stored one is made
+-- where a database rests on stored results, whatever they are, the walk has the values that follow from them, and no stored one is made
 abbrev pub StillRests : Db → Db → Key → List Key → Type 0
-StillRests old new k now =
-    (stored : Valuation) → IsWhole (texts_of old) stored → RestsOn (shelves_in old) (texts_of old) (value_with (texts_of old) stored) →
-    RestsStill (texts_of old) stored (walk_in (texts_of old) k) now (shelves_in new)
+StillRests old new k now = (stored : Valuation) → Rests old stored → RestsMaking new stored (walk_in (texts_of old) k) now
 
 -- a result is brought up to date, with all that it needs: these were made, in this order
 pub record Makes (old new : Db) (k : Key) (now : List Key) : Type 0 where
@@ -108,6 +127,7 @@ pub record MakesLinked (old new : Db) (k : Key) (now : List Key) : Type 0 where
 pub record Shows (old new : Db) (k : Kind) (x : List ℕ) (show : Show) (shown : Shown) : Type 0 where
   pub makes : Makes old new (key k x) shown.made
   pub text : (s : State) → IsIn old s → text_for (texts_of old) show k x ≡ Some shown.text
+  pub rests : (stored : Valuation) → Rests old stored → text_from (texts_of old) stored show k x ≡ Some shown.text
 
 pub record ShowsLinked (old new : Db) (k : Kind) (x : List ℕ) (show : Show) (shown : Shown) : Type 0 where
   pub links : links_refusal (texts_of old) k ≡ None

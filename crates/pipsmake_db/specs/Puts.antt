@@ -3,6 +3,7 @@ use Rattle.std.specs.Prelude.{◌≡◌, ℕ, List, []}
 use Rattle.laws_database.specs.Texts.{ModuleText, names_in}
 use Rattle.session_texts.specs.Changes.{replaced}
 use Rattle.pipsmake_db.specs.declared.db.Db.{Db}
+use Rattle.pipsmake_db.specs.Calls.{RestsAtSame}
 use Rattle.pipsmake_db.specs.State.{State, after_source, after_all, texts_of, IsIn}
 
 -- in the place of those of their names, or at the end
@@ -11,6 +12,7 @@ pub record Puts (old new : Db) (found : List ModuleText) (names : List (List ℕ
   pub texts : texts_of new ≡ replaced (texts_of old) found
   pub fresh : new.fresh ≡ []
   pub leads : (s : State) → IsIn old s → IsIn new (after_source s found)
+  pub rests : RestsAtSame old new
 
 -- and no others stay
 pub record PutsOnly (old new : Db) (found : List ModuleText) (names : List (List ℕ)) : Type 0 where
@@ -18,3 +20,4 @@ pub record PutsOnly (old new : Db) (found : List ModuleText) (names : List (List
   pub texts : texts_of new ≡ found
   pub fresh : new.fresh ≡ []
   pub leads : (s : State) → IsIn old s → IsIn new (after_all s found)
+  pub rests : RestsAtSame old new

@@ -6,7 +6,8 @@ use Rattle.laws_database.specs.Session.{Makings}
 use Rattle.laws_database.specs.Shelves.{Shelves, KeepsIn, SeenIn, Forgets}
 use Rattle.laws_database.specs.Values.{source, text}
 use Rattle.laws_database.specs.Making.{AllStay}
-use Rattle.laws_database.specs.Stands.{StandsFor}
+use Rattle.laws_database.specs.Stands.{StandsFor, Valuation}
+use Rattle.laws_database.specs.Resting.{RestsOn}
 use Rattle.session_texts.specs.declared.source.Source.{Source}
 use Rattle.session_texts.specs.Modules.{source_text, AreSources, NamesDiffer}
 use Rattle.session_texts.specs.Sources.{source_modules}
@@ -22,6 +23,10 @@ pub record AreRead (of : List ℕ) (found : List Source) : Type 0 where
 -- what is kept stands for each session that it stood for
 abbrev pub StandsStill : Shelves → Shelves → Type 0
 StandsStill old new = (ts : List ModuleText) (made : Makings) → StandsFor old ts made → StandsFor new ts made
+
+-- what is kept rests on what it rested on
+abbrev pub RestsOnSame : Shelves → Shelves → Type 0
+RestsOnSame old new = (ts : List ModuleText) (d : Valuation) → RestsOn old ts d → RestsOn new ts d
 
 -- ---- texts that are seen
 
@@ -60,6 +65,10 @@ TextsStay old new = (y : List ℕ) → new text y ≡ old text y
 -- the results of a name are forgotten where no text has it
 abbrev pub ForgetsGone : Shelves → List ModuleText → List ℕ → Shelves → Type 0
 ForgetsGone old ts x new = ((has_name (names_in ts) x ≡ true) × AllStay old new) ⊎ ((has_name (names_in ts) x ≡ false) × Forgets old new x)
+
+-- where no name goes, all stays
+abbrev pub StaysWithout : Shelves → List (List ℕ) → Shelves → Type 0
+StaysWithout old names new = names ≡ [] → AllStay old new
 
 -- what is kept stands for each session that it stood for, without what was made of these names
 abbrev pub StandsWithout : Shelves → List (List ℕ) → Shelves → Type 0

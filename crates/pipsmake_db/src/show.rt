@@ -1,6 +1,6 @@
 //! Results that are shown.
 ghost use Rattle.std.specs.Prelude.{◌≡◌, None, IfOk, IfErr, OnErr, map};
-ghost use Rattle.f77_symbols.specs.Symbols.{symbol_tree};
+ghost use Rattle.f77_ast.specs.Symbols.{symbol_tree};
 ghost use Rattle.laws_database.specs.Definitions.{module_named};
 ghost use Rattle.laws_database.specs.Laws.{walk_in};
 ghost use Rattle.laws_database.specs.Shelves.{kept_of};
@@ -20,7 +20,7 @@ use crate::make::Brought;
 use crate::refusal::DbRefusal;
 use crate::stored::stored_of;
 use base_values::{StoredValue, value_text};
-use f77_symbols::Symbols;
+use f77_ast::Symbols;
 use fx_lists::Text;
 use laws_database::{making_may_stop, resting_stays, texts_are_shown};
 use pipsmake_rules::Kind;

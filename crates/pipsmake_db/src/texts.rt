@@ -8,7 +8,7 @@ ghost use Rattle.pipsmake_db.specs.Calls.{Replaces, ReplacesAll, Drops, Loses, I
 ghost use Rattle.pipsmake_db.specs.Puts.{Puts, PutsOnly};
 ghost use Rattle.pipsmake_db.specs.Refusals.{IsRefused, name_refusal, text_refusal};
 ghost use Rattle.pipsmake_db.specs.State.{texts_of, gone_of};
-ghost use Rattle.pipsmake_db.specs.Texts.{AreRead, StandsStill, SeesText, ArePlaced, KeepsTexts, TextsStay, ForgetsGone, StandsWithout};
+ghost use Rattle.pipsmake_db.specs.Texts.{AreRead, StandsStill, RestsOnSame, SeesText, ArePlaced, KeepsTexts, TextsStay, ForgetsGone, StaysWithout, StandsWithout};
 
 use crate::db::Db;
 use crate::refusal::DbRefusal;
@@ -67,6 +67,7 @@ fn see(alloc: Global, store: &mut Store, source: &Source) -> Result<Seen, Memory
 /// The texts of modules are among those that were seen; what is kept stays. On Err some of them may be.
 fn see_all(alloc: Global, store: &mut Store, found: &[Source]) -> Result<List<Seen>, Memory>
     ensures stands { StandsStill (shelves_of store.old) (shelves_of store.new) }
+    ensures rests { RestsOnSame (shelves_of store.old) (shelves_of store.new) }
     ensures placed { IfOk result (λ all. ArePlaced (shelves_of store.new) (map source_text found.now) all) }
 {
     values_may_be_seen();
@@ -118,6 +119,7 @@ fn forget_gone(store: &mut Store, sources: &Sources, name: &Text)
 fn forget_all(store: &mut Store, sources: &Sources, names: &[Text])
     ensures texts { TextsStay (shelves_of store.old) (shelves_of store.new) }
     ensures stands { StandsWithout (shelves_of store.old) (gone_of sources.now names.now) (shelves_of store.new) }
+    ensures stays { StaysWithout (shelves_of store.old) (gone_of sources.now names.now) (shelves_of store.new) }
 {
     results_may_go();
     let mut rest = names;

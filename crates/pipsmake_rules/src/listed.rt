@@ -1,10 +1,10 @@
 //! Results in the order in which they are made.
 ghost use Rattle.std.specs.Prelude.{◌≡◌, [], ◌∷◌, ◌++◌, map, IfOk};
-ghost use Rattle.f77_symbols.specs.Symbols.{number_from};
+ghost use Rattle.f77_ast.specs.Symbols.{number_from};
 ghost use Rattle.pipsmake_rules.specs.Keys.{holds, code_of};
 
 use crate::key::{Key, code_of};
-use f77_symbols::NameIndex;
+use f77_ast::NameIndex;
 use fx_lists::{List, Text};
 use std::alloc::{AllocError as Memory, Global};
 use std::marker::Model;
@@ -18,7 +18,7 @@ pub struct Listed {
 
 impl Model for Listed {
     ghost use Rattle.std.specs.Prelude.{List, map};
-    ghost use Rattle.f77_symbols.specs.Index.{Indexes};
+    ghost use Rattle.f77_ast.specs.Index.{Indexes};
     ghost use Rattle.pipsmake_rules.specs.declared.key.Key.{Key};
     ghost use Rattle.pipsmake_rules.specs.Keys.{code_of};
 

@@ -6,8 +6,8 @@ use Rattle.affine_systems.specs.declared.row.System.{System}
 use Rattle.affine_systems.specs.Terms.{term}
 use Rattle.affine_systems.specs.Rows.{row}
 use Rattle.system_renaming.specs.Renaming.{of_rows}
-use Rattle.f77_symbols.specs.declared.symbol.InitialRun.{InitialRun}
-use Rattle.f77_symbols.specs.Symbols.{SymbolTree}
+use Rattle.f77_ast.specs.declared.symbol.InitialRun.{InitialRun}
+use Rattle.f77_ast.specs.Symbols.{SymbolTree}
 use Rattle.affine_forms.specs.Scalars.{is_cell}
 use Rattle.call_translation.specs.declared.sites.Site.{Site}
 use Rattle.call_translation.specs.Scopes.{ScopeTree}

@@ -2,7 +2,7 @@
 ghost use Rattle.std.specs.Prelude.{◌≡◌, ◌+◌, ◌++◌, map, IfOk};
 ghost use Rattle.affine_systems.specs.Rows.{AllRows};
 ghost use Rattle.affine_systems.specs.Given.{IsGiven, Fits};
-ghost use Rattle.f77_symbols.specs.Symbols.{symbol_tree};
+ghost use Rattle.f77_ast.specs.Symbols.{symbol_tree};
 ghost use Rattle.call_translation.specs.Scopes.{scope_tree, scope_of};
 ghost use Rattle.call_translation.specs.Sites.{site_tree, sites_in, AllSitesFit};
 ghost use Rattle.preconditions.specs.Statement.{hull_from};
@@ -11,8 +11,8 @@ ghost use Rattle.preconditions.specs.Entry.{entries_of, initial_row, main_entry 
 use affine_forms::{infeasible, is_cell};
 use affine_systems::{Row, System, Term, Var};
 use call_translation::{CallSites, CellScope, Site, next_number, site_entry, tracked_of};
+use f77_ast::Symbol;
 use f77_results::View;
-use f77_symbols::Symbol;
 use fx_lists::List;
 use hull_projection::hull;
 use std::alloc::{AllocError as Memory, Global};

@@ -11,8 +11,8 @@ use Rattle.hull_projection.specs.Refute.{refuted}
 use Rattle.hull_projection.proofs.RefuteLaws.{refuted_none}
 use Rattle.f77_ast.specs.Trees.{LoopTree}
 use Rattle.f77_ast.specs.DeclTrees.{ModuleTree}
-use Rattle.f77_symbols.specs.Symbols.{SymbolTree}
-use Rattle.f77_symbols.specs.declared.variable.Variable.{Variable}
+use Rattle.f77_ast.specs.Symbols.{SymbolTree}
+use Rattle.f77_ast.specs.declared.variable.Variable.{Variable}
 use Rattle.transformer_algebra.specs.Laws.{In, here, there}
 use Rattle.transformer_algebra.proofs.CellLaws.{clashes}
 use Rattle.region_sets.specs.declared.marks.Private.{Private}

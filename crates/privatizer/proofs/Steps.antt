@@ -5,7 +5,7 @@ use Rattle.f77_ast.specs.declared.stmt.Loop.{Loop, out-Loop}
 use Rattle.f77_ast.specs.Trees.{LoopTree}
 use Rattle.f77_ast.specs.PlainStmt.{stmt_trees, loop_tree}
 use Rattle.f77_ast.proofs.PlainlyStmt.{loop_tree-out}
-use Rattle.f77_symbols.specs.Symbols.{SymbolTree}
+use Rattle.f77_ast.specs.Symbols.{SymbolTree}
 use Rattle.f77_results.specs.declared.results.At.{At}
 use Rattle.transformer_algebra.specs.declared.transformer.Transformer.{Transformer}
 use Rattle.region_sets.specs.declared.region.Region.{Region}

@@ -2,7 +2,7 @@
 use Rattle.std.specs.Prelude.{◌≡◌, ℕ, Bool, true, false, List, Option, Some, None, ℤ}
 use Rattle.affine_systems.specs.declared.row.System.{System}
 use Rattle.f77_ast.specs.Trees.{LoopTree}
-use Rattle.f77_symbols.specs.declared.variable.Variable.{Variable}
+use Rattle.f77_ast.specs.declared.variable.Variable.{Variable}
 use Rattle.transformer_algebra.specs.Claims.{Scene, HoldsAt}
 use Rattle.region_sets.specs.declared.marks.Private.{Private}
 use Rattle.region_sets.specs.declared.marks.Private.TheVariants as answer

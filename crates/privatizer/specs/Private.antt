@@ -5,8 +5,8 @@ use Rattle.affine_systems.specs.Calls.{meet}
 use Rattle.hull_projection.specs.Refute.{refuted}
 use Rattle.f77_ast.specs.Trees.{LoopTree}
 use Rattle.f77_ast.specs.DeclTrees.{ModuleTree}
-use Rattle.f77_symbols.specs.Symbols.{SymbolTree}
-use Rattle.f77_symbols.specs.declared.variable.Variable.{Variable}
+use Rattle.f77_ast.specs.Symbols.{SymbolTree}
+use Rattle.f77_ast.specs.declared.variable.Variable.{Variable}
 use Rattle.region_sets.specs.declared.marks.Private.{Private}
 use Rattle.region_sets.specs.declared.marks.Private.TheVariants.{Yes, Name, Carried, Live}
 use Rattle.region_sets.specs.declared.region.Region.{Region}

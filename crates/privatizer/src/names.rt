@@ -3,13 +3,12 @@ ghost use Rattle.std.specs.Prelude.{◌≡◌, map, bytes_eq};
 ghost use Rattle.std.specs.List.{list_any};
 ghost use Rattle.f77_ast.specs.Plain.{expr_tree};
 ghost use Rattle.f77_ast.specs.PlainDecl.{decl_tree, module_tree};
-ghost use Rattle.f77_symbols.specs.Symbols.{symbol_tree};
+ghost use Rattle.f77_ast.specs.Symbols.{symbol_tree};
 ghost use Rattle.tracked_cells.specs.Equivalences.{item_name, item_names, group_names, decl_names};
 ghost use Rattle.privatizer.specs.Names.{is_local as is_local_is, is_equivalenced as is_equivalenced_is, is_own as is_own_is, may_copy as may_copy_is};
 
-use f77_ast::{Decl, Expr, Module};
+use f77_ast::{Decl, Expr, Module, Place, Symbol, Variable};
 use f77_results::View;
-use f77_symbols::{Place, Symbol, Variable};
 use fx_lists::{List, Text};
 
 fn is_local(place: &Place) -> bool

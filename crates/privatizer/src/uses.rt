@@ -2,7 +2,7 @@
 ghost use Rattle.std.specs.Prelude.{◌≡◌, map, IfOk};
 ghost use Rattle.affine_systems.specs.Given.{Fits};
 ghost use Rattle.f77_ast.specs.PlainStmt.{loop_tree};
-ghost use Rattle.f77_symbols.specs.Symbols.{symbol_tree};
+ghost use Rattle.f77_ast.specs.Symbols.{symbol_tree};
 ghost use Rattle.preconditions.specs.Statement.{EachFits};
 ghost use Rattle.transformers.specs.Lists.{transformer_at};
 ghost use Rattle.region_sets.specs.Lists.{SetsFit};

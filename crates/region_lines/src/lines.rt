@@ -1,15 +1,14 @@
 //! The lines of regions, in the order of the text.
 ghost use Rattle.std.specs.Prelude.{◌≡◌, ◌++◌, IfOk, OnOk, option_copied};
 ghost use Rattle.f77_ast.specs.PlainStmt.{stmt_trees};
-ghost use Rattle.f77_symbols.specs.Index.{names_of as names_of_is};
+ghost use Rattle.f77_ast.specs.Index.{names_of as names_of_is};
 ghost use Rattle.region_lines.specs.RegionLines.{line_of as line_of_is, set_lines, found_lines, list_lines, entry_lines, region_lines_of};
 ghost use Rattle.region_lines.specs.Spots.{spot_lines};
 
 use claim_lines::{LineSpot, line_spots};
-use f77_ast::{Stmt, StmtId};
+use f77_ast::{Stmt, StmtId, Symbols};
 use f77_printer::Added;
 use f77_results::{At, Results, View};
-use f77_symbols::Symbols;
 use fx_lists::{List, Text};
 use region_sets::{Region, RegionSet, region_line};
 use std::alloc::{AllocError as Memory, Global};

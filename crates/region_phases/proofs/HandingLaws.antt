@@ -1,9 +1,9 @@
 -- What CALLs hand down, one after another.
 use Rattle.std.proofs.Common.{◌≡◌, ℕ, suc, ◌<◌, Bool, List, [], ◌∷◌, ◌++◌, map, refl, sym, ap, subst, ◌∙◌, arith, append_assoc, append-nil}
-use Rattle.f77_symbols.specs.declared.symbol.Symbol.{Symbol}
-use Rattle.f77_symbols.specs.declared.variable.Unit.{Unit as BlockUnit}
-use Rattle.f77_symbols.specs.Symbols.{symbol_tree, value_in}
-use Rattle.f77_symbols.specs.Index.{names_of}
+use Rattle.f77_ast.specs.declared.symbol.Symbol.{Symbol}
+use Rattle.f77_ast.specs.declared.variable.Unit.{Unit as BlockUnit}
+use Rattle.f77_ast.specs.Symbols.{symbol_tree, value_in}
+use Rattle.f77_ast.specs.Index.{names_of}
 use Rattle.affine_forms.specs.Scalars.{cell_in}
 use Rattle.call_translation.specs.Scopes.{ScopeTree, scope_tree}
 use Rattle.call_translation.specs.declared.sites.Site.{Site}

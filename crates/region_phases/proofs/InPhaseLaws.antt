@@ -3,7 +3,7 @@ use Rattle.std.proofs.Common.{◌≡◌, ℕ, List, [], ◌∷◌, ◌++◌, app
 use Rattle.std.specs.Prelude.{All}
 use Rattle.std.proofs.lemmas.List.{map-append, reverse-append, reverse-reverse}
 use Rattle.std.proofs.lemmas.List.Elements.{All-head, All-tail, All-push, All-pop}
-use Rattle.f77_symbols.specs.declared.variable.Unit.{Unit as BlockUnit}
+use Rattle.f77_ast.specs.declared.variable.Unit.{Unit as BlockUnit}
 use Rattle.array_regions.specs.Calls.{Callees}
 use Rattle.region_phases.specs.Phases.{ModuleRegions, no_callees}
 use Rattle.region_phases.specs.InPhases.{ModuleIns, with_callee, with_ins, found_in}

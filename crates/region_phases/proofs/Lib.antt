@@ -1,3 +1,4 @@
+pub mod Steps
 pub mod PhaseLaws
 pub mod InPhaseLaws
 pub mod SiteLaws

@@ -1,3 +1,6 @@
+pub mod Callees
+pub mod Callers
+pub mod Rules
 pub mod Phases
 pub mod Views
 pub mod InPhases

@@ -1,6 +1,6 @@
 -- READ and WRITE of the modules of a program, callees before callers.
 use Rattle.std.specs.Prelude.{ℕ, List, [], ◌∷◌, reverse, Some, None, bytes_eq, if◌then◌else◌}
-use Rattle.f77_symbols.specs.declared.variable.Unit.{Unit as BlockUnit}
+use Rattle.f77_ast.specs.declared.variable.Unit.{Unit as BlockUnit}
 use Rattle.f77_results.specs.declared.results.Results.{Results}
 use Rattle.call_graph.specs.declared.graph.Graph.{Graph}
 use Rattle.scalar_phases.specs.Phases.{scope_of, Analysis}

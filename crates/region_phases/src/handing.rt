@@ -1,6 +1,6 @@
 //! What CALLs hand down to the module that they call.
 ghost use Rattle.std.specs.Prelude.{◌≡◌, ◌++◌, map, IfOk, OnOk};
-ghost use Rattle.f77_symbols.specs.Symbols.{symbol_tree};
+ghost use Rattle.f77_ast.specs.Symbols.{symbol_tree};
 ghost use Rattle.call_translation.specs.Scopes.{scope_tree};
 ghost use Rattle.call_translation.specs.Sites.{site_tree, sites_in};
 ghost use Rattle.region_sets.specs.Sets.{SetFits};
@@ -14,7 +14,7 @@ use call_equations::{CallSides, entry_cells};
 use call_graph::Graph;
 use call_translation::{CallSites, CellScope, Site};
 use callee_regions::to_callee;
-use f77_symbols::Symbols;
+use f77_ast::Symbols;
 use fx_lists::{List, Text};
 use out_regions::push_out;
 use region_sets::{Region, RegionSet};

@@ -8,6 +8,8 @@ pub mod ComposeLaws
 pub mod LoopLaws
 pub mod PieceLaws
 pub mod SetSteps
+pub mod LiveSteps
+pub mod MoveSteps
 pub mod PutSteps
 pub mod RowSteps
 pub mod ListSteps

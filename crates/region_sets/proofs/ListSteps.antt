@@ -1,7 +1,7 @@
 -- A statement before the rest of a list.
 use Rattle.std.proofs.Common.{◌≡◌, ℕ, zero, suc, ◌-◌, Bool, true, false, Option, Some, None, subst, nat_eq, ◌+◌, ◌<◌, List, [], ◌∷◌, ◌++◌, length, drop, get_or, drop-cons, add-one, ap, refl, sym, ◌∙◌}
 use Rattle.std.specs.Prelude.{slice_get, if◌then◌else◌}
-use Rattle.f77_symbols.specs.Shared.{numbered}
+use Rattle.f77_ast.specs.Shared.{numbered}
 use Rattle.f77_results.specs.declared.results.At.{At}
 use Rattle.transformer_algebra.specs.declared.transformer.Transformer.{Transformer}
 use Rattle.transformers.specs.Lists.{first_at, or_first, value_at}

@@ -7,10 +7,9 @@ use Rattle.std.proofs.lemmas.Cmp.{ranked}
 use Rattle.affine_systems.specs.declared.row.Var.{Var}
 use Rattle.affine_systems.specs.declared.row.Var.TheVariants.{Cell, Exit, Phi, Aux}
 use Rattle.affine_systems.specs.declared.row.System.{System}
-use Rattle.affine_systems.specs.Points.{Point, HoldsAll}
+use Rattle.affine_systems.specs.Points.{Point}
 use Rattle.hull_projection.specs.Refute.{refuted}
 use Rattle.hull_projection.proofs.RefuteLaws.{refuted_none}
-use Rattle.f77_symbols.specs.declared.variable.Variable.{Variable}
 use Rattle.f77_results.specs.Variables.{variable_cmp}
 use Rattle.transformer_algebra.specs.Laws.{In, here, there}
 use Rattle.transformer_algebra.specs.Claims.{Scene}
@@ -21,7 +20,7 @@ use Rattle.region_sets.specs.declared.region.Region.{Region}
 use Rattle.region_sets.specs.Regions.{any_weak, remade, hull_of}
 use Rattle.region_sets.specs.Sets.{access_number, region_cmp, live_pieces, with_pieces, with_region, with_live, with_regions, live, unite_all}
 use Rattle.region_sets.specs.Unite.{all_within, unite}
-use Rattle.region_sets.specs.Claims.{HoldsSome, Describes, Elements, LiesIn, Accessed, IsSharp, Places, AreByOrder, LiesInSet, IsSharpSet}
+use Rattle.region_sets.specs.Claims.{HoldsSome, Describes, Elements, LiesIn, IsSharp, Places, AreByOrder, LiesInSet, IsSharpSet}
 use Rattle.region_sets.specs.Laws.{HasAll, HasUnits, IsAsSharp}
 use Rattle.std.proofs.lemmas.Bool.{and_parts}
 use Rattle.region_sets.proofs.UniteLaws.{unite_has, unite_exact}

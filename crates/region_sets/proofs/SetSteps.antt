@@ -5,14 +5,14 @@ use Rattle.std.specs.declared.cmp.Ordering.TheVariants.{Less, Equal, Greater}
 use Rattle.std.specs.Ordering.{nat_cmp, ordering_then, ordering_reverse}
 use Rattle.std.specs.Cmp.{IsTotalOrder}
 use Rattle.std.proofs.lemmas.Cmp.{on_total, then_total, lists_total, nat_cmp_total}
-use Rattle.f77_symbols.specs.declared.variable.Variable.{Variable}
-use Rattle.f77_symbols.specs.declared.variable.Variable.TheVariants.{Own, Block, Saved}
+use Rattle.f77_ast.specs.declared.variable.Variable.{Variable}
+use Rattle.f77_ast.specs.declared.variable.Variable.TheVariants.{Own, Block, Saved}
 use Rattle.f77_results.specs.Variables.{variable_text, text_cmp, variable_cmp}
 use Rattle.std.proofs.lemmas.List.{take_more, take-set, drop-set, get_or_default}
 use Rattle.affine_systems.specs.declared.row.System.{System}
 use Rattle.region_sets.specs.declared.region.Region.{Region}
 use Rattle.region_sets.specs.Regions.{RegionFits, remade}
-use Rattle.region_sets.specs.Sets.{SetFits, ComeBefore, access_number, region_cmp, live_pieces, with_pieces, with_region, with_live, with_regions, live}
+use Rattle.region_sets.specs.Sets.{SetFits, ComeBefore, access_number, region_cmp, live_pieces, with_pieces, with_region, live}
 use Rattle.region_sets.specs.Unite.{unite}
 use Rattle.region_sets.proofs.Steps.{set-push}
 
@@ -150,28 +150,6 @@ pub come_none : (r : Region) (qs : List Region) → ComeBefore r (take 0 qs)
 come_none r [] = tt
 come_none r (q ∷ qs) = tt
 
--- from the place of the region before it in a list on, where it comes after that
-pub start_here : (rs qs : List Region) (i at : ℕ) (p r d : Region) → 0 < i → i < length rs → p ≡ get_or rs (i - 1) p → r ≡ get_or rs i r → region_cmp p r ≡ Less → (0 < i → ComeBefore (get_or rs (i - 1) d) (take at qs)) → ComeBefore (get_or rs i d) (take at qs)
-start_here rs qs i at p r d z l e f c h =
-    let m : i - 1 < length rs = omega (arith, z, l) in
-    let a : ComeBefore p (take at qs) = subst (λ (q : Region). ComeBefore q (take at qs)) (sym (e ∙ get_or_default rs (i - 1) p d m)) (h z) in
-    subst (λ (q : Region). ComeBefore q (take at qs)) (f ∙ get_or_default rs i r d l) (come_chain p r (take at qs) c a)
-
-pub ruleset start_steps = (start_here, come_none)
-
-pub gather_step : (set new rs all : List Region) (i : ℕ) (d r : Region) → i < length rs → r ≡ get_or rs i d → new ≡ with_live r set → with_regions set (drop i rs) ≡ all → with_regions new (drop (i + 1) rs) ≡ all
-gather_step set new rs all i d r l e n h =
-    ap (λ m. with_regions new (drop m rs)) (add-one i)
-    ∙ (ap (λ qs. with_regions qs (drop (suc i) rs)) (n ∙ ap (λ q. with_live q set) e) ∙ (sym (ap (with_regions set) (drop-cons rs i d l)) ∙ h))
-
-pub gather_before : (rs qs : List Region) (i : ℕ) (r d : Region) → i < length rs → r ≡ get_or rs i r → ComeBefore r qs → ComeBefore (get_or rs (i + 1 - 1) d) qs
-gather_before rs qs i r d l e h =
-    let s : i + 1 - 1 ≡ i = omega arith in
-    subst (λ m. ComeBefore (get_or rs m d) qs) (sym s) (subst (λ (q : Region). ComeBefore q qs) (e ∙ get_or_default rs i r d l) h)
-
-pub gather_end : (set rs all : List Region) (i : ℕ) → length rs ≤ i → with_regions set (drop i rs) ≡ all → set ≡ all
-gather_end set rs all i l h = sym (ap (with_regions set) (drop_of_length-le rs l)) ∙ h
-
 -- ---- the regions of a set fit
 
 pub set-at : (qs : List Region) (i : ℕ) (d : Region) → i < length qs → SetFits qs → RegionFits (get_or qs i d)
@@ -181,12 +159,6 @@ set-at (q ∷ qs) (suc i) d l h = set-at qs i d (omega (arith, l)) h.1
 
 pub gather_fits : (rs : List Region) (i : ℕ) (r : Region) → i < length rs → r ≡ get_or rs i r → SetFits rs → RegionFits r
 gather_fits rs i r l e h = subst RegionFits (sym e) (set-at rs i r l h)
-
-pub gather_start : (rs set : List Region) (i at start : ℕ) (r : Region) → r ≡ get_or rs i r → ((d : Region) → 0 < i → ComeBefore (get_or rs (i - 1) d) (take at set)) →
-    ((qs : List Region) (d : Region) → (0 < i → ComeBefore (get_or rs (i - 1) d) (take at qs)) → ComeBefore (get_or rs i d) (take start qs)) → ComeBefore r (take start set)
-gather_start rs set i at start r e b f = subst (λ (q : Region). ComeBefore q (take start set)) (sym e) (f set r (b r))
-
-pub ruleset gather_loop = (gather_step, gather_before, gather_end, gather_fits, gather_start)
 
 set-append : (qs us : List Region) → SetFits qs → SetFits us → SetFits (qs ++ us)
 set-append [] us h k = k

@@ -4,12 +4,12 @@ use Rattle.std.specs.Prelude.{if◌then◌else◌}
 use Rattle.affine_systems.specs.declared.row.System.{System}
 use Rattle.f77_ast.specs.Trees.{StmtTrees}
 use Rattle.hull_projection.proofs.ProjectLaws.{project_keeps}
-use Rattle.f77_symbols.specs.declared.variable.Unit.{Unit as BlockUnit}
+use Rattle.f77_ast.specs.declared.variable.Unit.{Unit as BlockUnit}
 use Rattle.transformer_algebra.specs.declared.transformer.Transformer.{Transformer}
 use Rattle.transformer_algebra.specs.Halves.{cell_vars}
 use Rattle.transformer_algebra.specs.Transformers.{without}
 use Rattle.transformer_algebra.specs.Laws.{In, here, there}
-use Rattle.transformer_algebra.specs.Claims.{Scene, Kept, Does}
+use Rattle.transformer_algebra.specs.Claims.{Scene, Kept}
 use Rattle.transformer_algebra.proofs.CellLaws.{clashes}
 use Rattle.transformers.specs.Jumps.{unstructured}
 use Rattle.transformers.specs.Lists.{list_at}
@@ -19,7 +19,7 @@ use Rattle.region_sets.specs.declared.region.Region.{Region}
 use Rattle.region_sets.specs.Compose.{compose}
 use Rattle.region_sets.specs.Sets.{unite_all}
 use Rattle.region_sets.specs.Lists.{all_composed, in_order, forgetting, all_forgetting, all_accesses, inexact, in_any_order, numbers, list_regions}
-use Rattle.region_sets.specs.Claims.{Describes, Places, AreByOrder, LiesIn, LiesInSet, IsSharp, IsSharpSet, Reached, arrived, past, AllSharp, no_more, before_more}
+use Rattle.region_sets.specs.Claims.{Describes, Places, LiesIn, IsSharp, IsSharpSet, arrived, past, no_more, before_more}
 use Rattle.region_sets.specs.Laws.{HasSteps, HasStepsAlone, HasAnyStep, NoneExact, HasList, HasListAlone}
 use Rattle.region_sets.proofs.PieceLaws.{compose_moves, compose_sharp}
 use Rattle.region_sets.proofs.SetLaws.{gathered_units, gathered_sharp}

@@ -9,7 +9,7 @@ use Rattle.transformer_algebra.specs.Cells.{has}
 use Rattle.transformer_algebra.specs.Loops.{goes_up}
 use Rattle.transformer_algebra.specs.Laws.{In}
 use Rattle.transformer_algebra.specs.Claims.{Scene, AtStart, Does, Chain, Wrote, Tracks, Means, NotBeyond}
-use Rattle.f77_symbols.specs.declared.variable.Variable.{Variable}
+use Rattle.f77_ast.specs.declared.variable.Variable.{Variable}
 use Rattle.f77_results.specs.Variables.{variable_cmp}
 use Rattle.transformer_algebra.specs.declared.transformer.Transformer.{Transformer}
 use Rattle.region_sets.specs.declared.range.Range.{Range}

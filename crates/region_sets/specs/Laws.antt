@@ -3,7 +3,7 @@ use Rattle.std.specs.Prelude.{◌≡◌, ◌⊎◌, ℕ, Bool, true, false, List
 use Rattle.affine_systems.specs.declared.row.System.{System}
 use Rattle.affine_systems.specs.Points.{Point, HoldsAll}
 use Rattle.transformer_algebra.specs.declared.transformer.Transformer.{Transformer}
-use Rattle.f77_symbols.specs.declared.variable.Unit.{Unit as BlockUnit}
+use Rattle.f77_ast.specs.declared.variable.Unit.{Unit as BlockUnit}
 use Rattle.transformer_algebra.specs.Claims.{Scene, Kept, Does}
 use Rattle.transformer_algebra.specs.Laws.{In}
 use Rattle.f77_ast.specs.Trees.{StmtTrees}

@@ -4,7 +4,7 @@ use Rattle.std.specs.Prelude.{Bool, true, false, not, ◌&&◌, ◌||◌, List, 
 use Rattle.affine_systems.specs.declared.row.System.{System}
 use Rattle.hull_projection.specs.declared.projection.Shadow.{Shadow}
 use Rattle.hull_projection.specs.Minus.{AllFit, hull_all}
-use Rattle.f77_symbols.specs.declared.variable.Variable.{Variable}
+use Rattle.f77_ast.specs.declared.variable.Variable.{Variable}
 use Rattle.affine_forms.specs.Conditions.{infeasible}
 use Rattle.region_sets.specs.declared.region.Access.{Access}
 use Rattle.region_sets.specs.declared.region.Region.{Region}

@@ -10,8 +10,9 @@ ghost use Rattle.region_sets.specs.Regions.{RegionFits};
 ghost use Rattle.region_sets.specs.Sets.{SetFits, unite_all as unite_all_is};
 ghost use Rattle.region_sets.specs.Lists.{SetsFit, is_access as is_access_is, accesses, accesses_at, all_composed, in_order as in_order_is, forgetting as forgetting_is, all_forgetting, inexact as inexact_is, numbers as numbers_is, all_inexact as all_inexact_is, all_accesses as all_accesses_is, in_any_order as in_any_order_is, list_regions as list_regions_is};
 
+use crate::moving::push_moved;
 use crate::region::{copy_region, push_system, remade, with_flag};
-use crate::sets::{push_region, unite_all};
+use crate::sets::{push_region, unite_owned};
 use crate::{Access, Region, RegionSet, compose};
 use f77_ast::{Stmt, StmtId};
 use f77_results::{At, Results, View};
@@ -93,19 +94,19 @@ fn with_rest(
     id: StmtId,
     own: &List<At<Transformer>>,
     at: &List<At<RegionSet>>,
-    rest: &[Region],
+    rest: RegionSet,
 ) -> Result<RegionSet, Memory>
     requires own { ResultsFit own.now }
     requires at { SetsFit at.now }
-    requires rest { SetFits rest.now }
-    ensures defined { IfOk result (λ qs. qs ≡ unite_all_is (accesses_at at.now id ++ all_composed (transformer_at_is own.now id) rest.now)) }
+    requires rest { SetFits rest }
+    ensures defined { IfOk result (λ qs. qs ≡ unite_all_is (accesses_at at.now id ++ all_composed (transformer_at_is own.now id) rest)) }
     ensures fits { IfOk result SetFits }
 {
-    let mut all = List::new(alloc);
+    let mut all = List::from_vec(Vec::with_capacity(alloc, rest.len())?);
     push_accesses_at(alloc, &mut all, at, id)?;
     let t = transformer_at(alloc, own, id)?;
-    push_composed(alloc, &mut all, &t, rest)?;
-    unite_all(alloc, all.as_slice())
+    push_moved(alloc, &mut all, &t, rest)?;
+    unite_owned(alloc, all)
 }
 
 /// The numbers of the statements of a list.
@@ -139,7 +140,7 @@ fn in_order(
     let mut left = ids.len();
     while left > 0 {
         left -= 1;
-        set = with_rest(alloc, ids[left], own, at, set.as_slice())?;
+        set = with_rest(alloc, ids[left], own, at, set)?;
     }
     Ok(set)
 }
@@ -230,7 +231,7 @@ fn in_any_order(
     let all = all_accesses(alloc, ids, at)?;
     let mut free = List::new(alloc);
     push_forgetting(alloc, &mut free, cells, all.as_slice())?;
-    let set = unite_all(alloc, free.as_slice())?;
+    let set = unite_owned(alloc, free)?;
     all_inexact(alloc, set.as_slice())
 }
 

@@ -1,7 +1,7 @@
 //! What is said of loops.
 use crate::RegionSet;
+use f77_ast::Variable;
 use f77_results::Results;
-use f77_symbols::Variable;
 use fx_lists::List;
 use transformer_algebra::Transformer;
 

@@ -21,7 +21,8 @@ pub fn in_terms(v: Var, terms: &[Term]) -> bool
     false
 }
 
-fn in_rows(v: Var, rows: &[Row]) -> bool
+/// Whether a variable is in one of the rows.
+pub fn in_rows(v: Var, rows: &[Row]) -> bool
     ensures { result ≡ in_rows_is v rows.now }
 {
     let mut rest = rows;

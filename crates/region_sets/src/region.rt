@@ -5,8 +5,8 @@ ghost use Rattle.hull_projection.specs.Minus.{AllFit};
 ghost use Rattle.region_sets.specs.Regions.{RegionFits, any_weak as any_weak_is, remade as remade_is};
 
 use affine_systems::System;
+use f77_ast::Variable;
 use f77_results::copy_variable;
-use f77_symbols::Variable;
 use fx_lists::List;
 use std::alloc::{AllocError as Memory, Global};
 

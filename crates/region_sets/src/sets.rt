@@ -1,12 +1,14 @@
 //! Sets of regions, in order.
-ghost use Rattle.std.specs.Prelude.{◌≡◌, ◌++◌, ◌∷◌, ◌<◌, ◌-◌, [], length, take, slice_index_or, List as Elements, IfOk, OnOk};
+ghost use Rattle.std.specs.Prelude.{◌≡◌, ◌++◌, ◌∷◌, ◌-◌, [], length, reverse, take, slice_index_or, true, if◌then◌else◌, IfOk, OnOk};
 ghost use Rattle.hull_projection.specs.Minus.{AllFit};
 ghost use Rattle.region_sets.specs.Regions.{RegionFits};
 ghost use Rattle.region_sets.specs.Laws.{HasUnits, IsAsSharp};
+ghost use Rattle.std.specs.declared.cmp.Ordering.TheVariants.{Less};
 ghost use Rattle.region_sets.specs.declared.region.Region.{Region as ARegion};
 ghost use Rattle.region_sets.specs.Sets.{SetFits, ComeBefore, access_number as access_number_is, region_cmp, live_pieces as live_pieces_is, with_region as with_region_is, with_live as with_live_is, with_regions, live as live_is, unite_all as unite_all_is};
 
-use crate::region::{copy_system, push_system, remade};
+use crate::living::{alive, live_all};
+use crate::region::{copy_region, copy_system, push_system, remade};
 use crate::{Access, Region, RegionSet, unite};
 use affine_systems::System;
 use f77_results::order;
@@ -42,7 +44,7 @@ pub fn live_pieces(alloc: Global, pieces: &[System]) -> Result<List<System>, Mem
     ensures defined { IfOk result (λ ss. ss ≡ live_pieces_is pieces.now) }
     ensures fits { IfOk result AllFit }
 {
-    let mut out = List::new(alloc);
+    let mut out = List::from_vec(Vec::with_capacity(alloc, pieces.len())?);
     let mut rest = pieces;
     while let [piece, more @ ..] = rest {
         if !refuted(alloc, piece)? {
@@ -112,34 +114,31 @@ fn with_region(alloc: Global, set: RegionSet, start: usize, r: Region) -> Result
 }
 
 /// Puts a region into a set, without its refuted pieces, unless all are. All before `start` come before it.
-#[tactic(auto, using(crate::proofs::SetSteps::come_same, crate::proofs::SetSteps::come_back))]
-fn with_live(alloc: Global, set: RegionSet, start: usize, r: &Region) -> Result<Placed, Memory>
+#[tactic(auto, using(crate::proofs::LiveSteps::put_steps))]
+fn with_live(alloc: Global, set: RegionSet, start: usize, r: Region) -> Result<Placed, Memory>
     requires set { SetFits set }
-    requires r { RegionFits r.now }
-    requires before { ComeBefore r.now (take start set) }
-    ensures defined { IfOk result (λ p. p.set ≡ with_live_is r.now set) }
+    requires r { RegionFits r }
+    requires before { ComeBefore r (take start set) }
+    ensures defined { IfOk result (λ p. p.set ≡ with_live_is r set) }
     ensures fits { IfOk result (λ p. SetFits p.set) }
-    ensures before { IfOk result (λ p. ComeBefore r.now (take p.at p.set)) }
+    ensures before { IfOk result (λ p. ComeBefore r (take p.at p.set)) }
 {
-    let pieces = live_pieces(alloc, r.pieces.as_slice())?;
-    if pieces.is_empty() {
-        return Ok(Placed { set, at: start });
+    match alive(alloc, r)? {
+        None => Ok(Placed { set, at: start }),
+        Some(r) => {
+            let placed = with_region(alloc, set, start, r)?;
+            Ok(placed)
+        }
     }
-    let alive = remade(r, r.exact, pieces)?;
-    let placed = with_region(alloc, set, start, alive)?;
-    Ok(placed)
 }
 
-#[tactic(auto, using(crate::proofs::SetSteps::start_steps))]
-/// An index before which all of a set come before a region, where those before `at` come before the region before it in a list.
-fn start_for(regions: &[Region], i: usize, at: usize) -> usize
-    requires { i < length regions.now }
-    ensures { (set : Elements ARegion) (d : ARegion) → (0 < i → ComeBefore (slice_index_or regions.now (i - 1) d) (take at set)) → ComeBefore (slice_index_or regions.now i d) (take result set) }
+/// Whether the last of some regions comes after one.
+fn is_last_after(r: &Region, regions: &[Region]) -> bool
+    ensures { result ≡ true → (d : ARegion) → region_cmp r.now (slice_index_or regions.now (length regions.now - 1) d) ≡ Less }
 {
-    if i > 0 && region_order(&regions[i - 1], &regions[i]).is_lt() {
-        at
-    } else {
-        0
+    match regions.last() {
+        None => false,
+        Some(next) => region_order(r, next).is_lt(),
     }
 }
 
@@ -165,7 +164,7 @@ pub fn live(alloc: Global, regions: &[Region]) -> Result<RegionSet, Memory>
     ensures defined { IfOk result (λ qs. qs ≡ live_is regions.now) }
     ensures fits { IfOk result SetFits }
 {
-    let mut out = List::new(alloc);
+    let mut out = List::from_vec(Vec::with_capacity(alloc, regions.len())?);
     let mut rest = regions;
     while let [r, more @ ..] = rest {
         push_live(alloc, &mut out, r)?;
@@ -174,22 +173,68 @@ pub fn live(alloc: Global, regions: &[Region]) -> Result<RegionSet, Memory>
     Ok(out)
 }
 
-#[tactic(auto, using(crate::proofs::SetSteps::gather_loop))]
-/// Regions that are united from left to right. Each is looked up among those before it, from the place of the last on where it comes after that.
+/// A place where it is of use, else the first.
+fn start_at(rises: bool, at: usize) -> usize
+    ensures { result ≡ (if rises then at else 0) }
+{
+    if rises { at } else { 0 }
+}
+
+/// Regions that are united from left to right; here the last is the first. Each is looked up among those before it, from the place of the one
+/// before it on where it comes after that.
+#[tactic(auto, using(crate::proofs::LiveSteps::gathering))]
+fn gathered(alloc: Global, mut left: Vec<Region>) -> Result<RegionSet, Memory>
+    requires { SetFits left.items }
+    ensures defined { IfOk result (λ qs. qs ≡ unite_all_is (reverse left.items)) }
+    ensures fits { IfOk result SetFits }
+{
+    let mut set = List::from_vec(Vec::with_capacity(alloc, left.len())?);
+    let mut start = 0;
+    while let Some(r) = left.pop() {
+        let rises = is_last_after(&r, left.as_slice());
+        let placed = with_live(alloc, set, start, r)?;
+        set = placed.set;
+        start = start_at(rises, placed.at);
+    }
+    live_all(alloc, set)
+}
+
+/// Copies of regions, the last first.
+#[tactic(auto, using(crate::proofs::LiveSteps::copying))]
+fn copies_reversed(alloc: Global, regions: &[Region]) -> Result<Vec<Region>, Memory>
+    requires { SetFits regions.now }
+    ensures defined { IfOk result (λ v. v.items ≡ reverse regions.now) }
+    ensures fits { IfOk result (λ v. SetFits v.items) }
+{
+    let mut out = Vec::with_capacity(alloc, regions.len())?;
+    let mut left = regions.len();
+    while left > 0 {
+        left -= 1;
+        out.push(copy_region(alloc, &regions[left])?)?;
+    }
+    Ok(out)
+}
+
+/// The set of regions that are handed on, as `unite_all` makes it.
+#[tactic(auto, using(crate::proofs::LiveSteps::copying))]
+pub fn unite_owned(alloc: Global, regions: RegionSet) -> Result<RegionSet, Memory>
+    requires { SetFits regions }
+    ensures defined { IfOk result (λ qs. qs ≡ unite_all_is regions) }
+    ensures fits { IfOk result SetFits }
+{
+    let mut left = regions.into_vec();
+    left.reverse();
+    gathered(alloc, left)
+}
+
+#[tactic(auto, using(crate::proofs::LiveSteps::copying))]
 fn all_gathered(alloc: Global, regions: &[Region]) -> Result<RegionSet, Memory>
     requires { SetFits regions.now }
     ensures defined { IfOk result (λ qs. qs ≡ unite_all_is regions.now) }
     ensures fits { IfOk result SetFits }
 {
-    let mut set = List::new(alloc);
-    let mut at = 0;
-    for i in 0..regions.len() {
-        let start = start_for(regions, i, at);
-        let placed = with_live(alloc, set, start, &regions[i])?;
-        set = placed.set;
-        at = placed.at;
-    }
-    live(alloc, set.as_slice())
+    let left = copies_reversed(alloc, regions)?;
+    gathered(alloc, left)
 }
 
 /// The set of some regions, in the order of `RegionSet`: those of one variable and kind are united from left to right, and systems that are

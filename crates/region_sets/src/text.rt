@@ -2,13 +2,13 @@
 ghost use Rattle.std.specs.Prelude.{◌≡◌, ◌++◌, IfOk, OnOk, codes};
 ghost use Rattle.affine_systems.specs.Rows.{system};
 ghost use Rattle.system_text.specs.SystemText.{name_at, weak_text};
-ghost use Rattle.f77_symbols.specs.Index.{names_of};
+ghost use Rattle.f77_ast.specs.Index.{names_of};
 ghost use Rattle.region_sets.specs.Written.{access_text as access_text_is, name_text, piece_text as piece_text_is, pieces_text, exact_text as exact_text_is, region_text as region_text_is};
 
 use crate::region::any_weak;
 use crate::{Access, Region};
 use affine_systems::System;
-use f77_symbols::{Symbols, Variable};
+use f77_ast::{Symbols, Variable};
 use fx_lists::{List, Text};
 use std::alloc::{AllocError as Memory, Global};
 use system_text::system_text;

@@ -10,9 +10,9 @@ use Rattle.affine_systems.specs.Points.{Point, Holds, HoldsAll}
 use Rattle.f77_ast.specs.Trees.{ExprTree, ExprTrees}
 use Rattle.f77_ast.specs.Places.{Dim, Place, as_count, size_from, dim_size, total_size}
 use Rattle.f77_ast.specs.Calls.{is_open}
-use Rattle.f77_symbols.specs.declared.variable.Variable.{Variable}
-use Rattle.f77_symbols.specs.declared.variable.Variable.TheVariants.{Own, Block as Whole}
-use Rattle.f77_symbols.specs.Symbols.{BoundTree}
+use Rattle.f77_ast.specs.declared.variable.Variable.{Variable}
+use Rattle.f77_ast.specs.declared.variable.Variable.TheVariants.{Own, Block as Whole}
+use Rattle.f77_ast.specs.Symbols.{BoundTree}
 use Rattle.affine_forms.specs.declared.affine.Affine.{Affine}
 use Rattle.affine_forms.specs.Claims.{form_value}
 use Rattle.transformer_algebra.specs.Claims.{Scene, AtStart}

@@ -1,8 +1,8 @@
 -- Names of symbols, as code and as definitions have them.
 use Rattle.std.proofs.Common.{◌≡◌, List, [], ◌∷◌, map, refl, ap}
-use Rattle.f77_symbols.specs.declared.symbol.Symbol.{Symbol}
-use Rattle.f77_symbols.specs.Symbols.{symbol_tree}
-use Rattle.f77_symbols.specs.Index.{names_of}
+use Rattle.f77_ast.specs.declared.symbol.Symbol.{Symbol}
+use Rattle.f77_ast.specs.Symbols.{symbol_tree}
+use Rattle.f77_ast.specs.Index.{names_of}
 use Rattle.f77_meaning.specs.Modules.{symbol_names}
 
 pub names_same : (ss : List Symbol) → names_of ss ≡ symbol_names (map symbol_tree ss)

@@ -6,11 +6,11 @@ use Rattle.transformer_algebra.specs.declared.transformer.Transformer.{Transform
 use Rattle.region_sets.specs.declared.region.Region.{Region}
 use Rattle.region_sets.specs.Lists.{SetsFit}
 use Rattle.region_sets.specs.Sets.{SetFits}
-use Rattle.result_rules.specs.declared.callees.Callee.{Callee}
-use Rattle.result_rules.specs.declared.callers.CallerHolds.{CallerHolds}
-use Rattle.result_rules.specs.declared.callers.CallerOuts.{CallerOuts}
-use Rattle.result_rules.specs.Callees.{AllFit, AllSetsFit}
-use Rattle.result_rules.specs.Callers.{AllHold, AllOuts}
+use Rattle.region_phases.specs.declared.callees.Callee.{Callee}
+use Rattle.region_phases.specs.declared.callers.CallerHolds.{CallerHolds}
+use Rattle.region_phases.specs.declared.callers.CallerOuts.{CallerOuts}
+use Rattle.region_phases.specs.Callees.{AllFit, AllSetsFit}
+use Rattle.region_phases.specs.Callers.{AllHold, AllOuts}
 
 fit-more : (cs : List (Callee Transformer)) (c : Callee Transformer) → AllFit cs → Fits c.summary.now.system → AllFit (cs ++ c ∷ [])
 fit-more [] c h f = (f, tt)

@@ -1,13 +1,13 @@
 //! The modules that call a module, with what is kept of them.
 ghost use Rattle.std.specs.Prelude.{◌≡◌, ◌++◌, map, option_to_list, IfOk};
-ghost use Rattle.result_rules.specs.Callers.{holds_tree, outs_tree, AllHold, AllOuts};
+ghost use Rattle.region_phases.specs.Callers.{holds_tree, outs_tree, AllHold, AllOuts};
 ghost use Rattle.laws_database.specs.Definitions.{module_named};
 ghost use Rattle.laws_database.specs.Rules.{preconditions_kept, transformers_kept, outs_kept, holding_with, holding_callers, outs_with, later_callers};
 ghost use Rattle.result_store.specs.Rows.{shelves_of};
 
 use crate::modules::own_of;
 use fx_lists::Text;
-use result_rules::{CallerHolds, CallerOuts};
+use region_phases::{CallerHolds, CallerOuts};
 use result_store::Store;
 use session_texts::Sources;
 use std::alloc::{AllocError as Memory, Global};

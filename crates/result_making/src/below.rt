@@ -1,7 +1,7 @@
 //! The modules that a module calls, with what is kept of them.
 ghost use Rattle.std.specs.Prelude.{◌≡◌, ◌++◌, map, option_to_list, IfOk, IfSome, option_copied};
 ghost use Rattle.region_phases.specs.Views.{RegionsFit};
-ghost use Rattle.result_rules.specs.Callees.{callee_tree, AllFit, AllSetsFit};
+ghost use Rattle.region_phases.specs.Callees.{callee_tree, AllFit, AllSetsFit};
 ghost use Rattle.laws_database.specs.Definitions.{module_named};
 ghost use Rattle.laws_database.specs.Rules.{effects_kept, transformers_kept, regions_kept, ins_kept, callee_with, callees_with};
 ghost use Rattle.result_store.specs.Rows.{shelves_of};
@@ -9,8 +9,8 @@ ghost use Rattle.result_store.specs.Rows.{shelves_of};
 use crate::modules::own_of;
 use f77_results::{EffectSet, Results};
 use fx_lists::Text;
+use region_phases::Callee;
 use region_sets::RegionSet;
-use result_rules::Callee;
 use result_store::Store;
 use session_texts::Sources;
 use std::alloc::{AllocError as Memory, Global};

@@ -13,7 +13,7 @@ use crate::modules::{Modules, Own};
 use f77_results::View;
 use fx_lists::Text;
 use pipsmake_rules::{Kind, callees};
-use result_rules::{effects_from, ins_from, regions_from, transformers_from};
+use region_phases::{effects_from, ins_from, regions_from, transformers_from};
 use result_store::{Store, Value};
 use std::alloc::{AllocError as Memory, Global};
 

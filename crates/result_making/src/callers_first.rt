@@ -13,7 +13,7 @@ use crate::modules::{Modules, Own};
 use f77_results::View;
 use fx_lists::Text;
 use pipsmake_rules::{Kind, callers};
-use result_rules::{outs_from, preconditions_from};
+use region_phases::{outs_from, preconditions_from};
 use result_store::{Store, Value};
 use std::alloc::{AllocError as Memory, Global};
 

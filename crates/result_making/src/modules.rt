@@ -6,8 +6,7 @@ ghost use Rattle.laws_database.specs.Definitions.{module_named};
 ghost use Rattle.result_making.specs.Parts.{own_tree};
 
 use call_graph::Graph;
-use f77_ast::Parsed;
-use f77_symbols::Symbols;
+use f77_ast::{Parsed, Symbols};
 use fx_lists::{List, Text};
 use session_texts::Sources;
 use std::alloc::Global;

@@ -4,10 +4,10 @@ use Rattle.std.specs.Prelude.{slice_get, bytes_eq, IfSome, if◌then◌else◌}
 use Rattle.std.specs.List.{AllByRecursion}
 use Rattle.std.specs.Cmp.Lexicographic.{bytes_decides}
 use Rattle.std.proofs.lemmas.List.{map-append, map-set}
-use Rattle.f77_symbols.specs.Symbols.{number_from}
-use Rattle.f77_symbols.specs.declared.name_index.NameIndex.{NameIndex}
-use Rattle.f77_symbols.specs.Index.{Indexes}
-use Rattle.f77_symbols.proofs.NumbersLaws.{number_from-append}
+use Rattle.f77_ast.specs.Symbols.{number_from}
+use Rattle.f77_ast.specs.declared.name_index.NameIndex.{NameIndex}
+use Rattle.f77_ast.specs.Index.{Indexes}
+use Rattle.f77_ast.proofs.NumbersLaws.{number_from-append}
 use Rattle.laws_database.specs.Making.{AllStay}
 use Rattle.laws_database.specs.Shelves.{Shelf, Shelves, Stamped, Keeps, KeepsIn, no_shelf, forgotten, Sees, SeenIn, Forgets}
 use Rattle.laws_database.specs.Values.{Value, Item, text, result}

@@ -1,8 +1,8 @@
 -- The shelves of the code: a row of them for each name.
 use Rattle.std.specs.Prelude.{◌≡◌, ℕ, List, [], ◌∷◌, map, length, slice_get, Option, Some, None, option_map, unwrap_or, bytes_eq, if◌then◌else◌}
 use Rattle.std.specs.List.{AllByRecursion}
-use Rattle.f77_symbols.specs.declared.name_index.NameIndex.{NameIndex}
-use Rattle.f77_symbols.specs.Index.{Indexes}
+use Rattle.f77_ast.specs.declared.name_index.NameIndex.{NameIndex}
+use Rattle.f77_ast.specs.Index.{Indexes}
 use Rattle.pipsmake_rules.specs.Kinds.{number_of}
 use Rattle.laws_database.specs.Shelves.{Shelf, Shelves, no_shelf}
 use Rattle.laws_database.specs.Values.{Item, text, result}

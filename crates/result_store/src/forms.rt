@@ -1,16 +1,15 @@
 //! The values of one kind.
 ghost use Rattle.std.specs.Prelude.{◌≡◌, map, option_copied, option_map};
 ghost use Rattle.f77_ast.specs.PlainDecl.{module_tree};
-ghost use Rattle.f77_symbols.specs.Symbols.{symbol_tree};
+ghost use Rattle.f77_ast.specs.Symbols.{symbol_tree};
 ghost use Rattle.laws_database.specs.Rules.{effects_in, transformers_in, preconditions_in, regions_in, ins_in, outs_in, marks_in};
 ghost use Rattle.result_store.specs.Values.{value_tree, source_in, parsed_in, lines_in, symbols_in, graph_in, printed_in};
 
 use crate::value::Value;
 use affine_systems::System;
 use call_graph::Graph;
-use f77_ast::{Module, Places};
+use f77_ast::{Module, Places, Symbols};
 use f77_results::{At, EffectSet, Results};
-use f77_symbols::Symbols;
 use fx_lists::{List, Text};
 use region_sets::{Mark, RegionSet};
 use transformer_algebra::Transformer;

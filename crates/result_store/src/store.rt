@@ -1,6 +1,6 @@
 //! The shelves of all names.
 ghost use Rattle.std.specs.Prelude.{◌≡◌, ◌<◌, ◌↔◌, ℕ, List, length, map, Some, IfOk, OnOk, OnErr, IfSome, IsTrue, option_map};
-ghost use Rattle.f77_symbols.specs.Symbols.{number_from};
+ghost use Rattle.f77_ast.specs.Symbols.{number_from};
 ghost use Rattle.laws_database.specs.Making.{stamp_of, AllStay};
 ghost use Rattle.laws_database.specs.Shelves.{KeepsIn, kept_value, no_shelf, SeenIn, Forgets};
 ghost use Rattle.laws_database.specs.Values.{Item as Of};
@@ -13,7 +13,7 @@ use crate::item::{Item, Kept, Stamped};
 use crate::row::Row;
 use crate::stamps::same_stamps;
 use crate::value::Value;
-use f77_symbols::NameIndex;
+use f77_ast::NameIndex;
 use fx_lists::{List, Text};
 use std::alloc::{AllocError as Memory, Global};
 use std::marker::Model;

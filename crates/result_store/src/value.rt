@@ -1,9 +1,8 @@
 //! The values of results.
 use affine_systems::System;
 use call_graph::Graph;
-use f77_ast::{Module, Places};
+use f77_ast::{Module, Places, Symbols};
 use f77_results::{At, EffectSet, Results};
-use f77_symbols::Symbols;
 use fx_lists::{List, Text};
 use region_sets::{Mark, RegionSet};
 use transformer_algebra::Transformer;

@@ -7,8 +7,8 @@ use Rattle.std.proofs.lemmas.Bool.{and_from, and_parts, or_from, leb-true, ne_eq
 use Rattle.fixed_form.specs.Cards.{is_comment, is_dropped}
 use Rattle.fixed_form.specs.TextLines.{unless_return, without_returns}
 use Rattle.f77_printer.specs.declared.added.Added.{Added}
-use Rattle.f77_symbols.specs.declared.variable.Variable.{Variable}
-use Rattle.f77_symbols.specs.declared.variable.Variable.TheVariants.{Own, Block, Saved}
+use Rattle.f77_ast.specs.declared.variable.Variable.{Variable}
+use Rattle.f77_ast.specs.declared.variable.Variable.TheVariants.{Own, Block, Saved}
 use Rattle.system_text.specs.SystemText.{name_at, each_after, joined}
 use Rattle.claim_lines.specs.ScalarLines.{before}
 use Rattle.region_sets.specs.Written.{name_text}

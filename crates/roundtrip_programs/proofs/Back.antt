@@ -1,7 +1,7 @@
 -- The written text of a program is read as the same program.
 use Rattle.std.proofs.Common.{◌≡◌, List, [], ◌∷◌, map}
 use Rattle.f77_ast.specs.DeclTrees.{ParsedTree}
-use Rattle.f77_symbols.specs.Symbols.{SymbolTree}
+use Rattle.f77_ast.specs.Symbols.{SymbolTree}
 use Rattle.f77_names.specs.Lines.{lines_of}
 use Rattle.roundtrip_text.specs.Laws.{TextsReadBack}
 use Rattle.roundtrip_programs.specs.Laws.{tree_of}

@@ -2,9 +2,9 @@
 use Rattle.std.proofs.Common.{◌≡◌, ℕ, ◌+◌, Bool, false, List, [], ◌∷◌, ℤ, ◌-ℤ◌, Option, Some, None, refl, ap, ◌∙◌}
 use Rattle.std.specs.Prelude.{if◌then◌else◌, ◌||◌, slice_get, is_some, unwrap_or}
 use Rattle.f77_ast.specs.Places.{as_count}
-use Rattle.f77_symbols.specs.declared.symbol.Place.{Place}
-use Rattle.f77_symbols.specs.declared.symbol.Place.TheVariants as place
-use Rattle.f77_symbols.specs.Symbols.{BoundTree, SymbolTree}
+use Rattle.f77_ast.specs.declared.symbol.Place.{Place}
+use Rattle.f77_ast.specs.declared.symbol.Place.TheVariants as place
+use Rattle.f77_ast.specs.Symbols.{BoundTree, SymbolTree}
 use Rattle.f77_names.specs.Entries.{ShapeTree, EntryTree}
 use Rattle.f77_names.specs.Tables.{entry_kind}
 use Rattle.storage_groups.specs.declared.seat.Home.{Home}

@@ -1,7 +1,7 @@
 -- Tables of symbols and graphs are made of the trees of modules, not of the lines at which they stand.
 use Rattle.std.specs.Prelude.{◌≡◌, List, map, Ok}
 use Rattle.f77_ast.specs.DeclTrees.{ModuleTree, ParsedTree}
-use Rattle.f77_symbols.specs.Symbols.{SymbolTree}
+use Rattle.f77_ast.specs.Symbols.{SymbolTree}
 use Rattle.storage_layout.specs.Symbols.{symbols_of}
 use Rattle.call_graph.specs.declared.graph.Graph.{Graph}
 use Rattle.call_graph.specs.Links.{link_of}

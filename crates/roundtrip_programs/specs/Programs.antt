@@ -1,7 +1,7 @@
 -- Programs as reading gives them, and what reading their written text gives.
 use Rattle.std.specs.Prelude.{◌≡◌, ℕ, List, [], ◌∷◌, map, Ok}
 use Rattle.f77_ast.specs.DeclTrees.{ParsedTree}
-use Rattle.f77_symbols.specs.Symbols.{SymbolTree}
+use Rattle.f77_ast.specs.Symbols.{SymbolTree}
 use Rattle.f77_printer.specs.declared.added.Added.{Added}
 use Rattle.storage_layout.specs.Symbols.{symbols_of}
 use Rattle.call_graph.specs.declared.graph.Graph.{Graph}

@@ -4,7 +4,7 @@ use Rattle.std.specs.Prelude.{codes}
 use Rattle.affine_systems.specs.declared.row.Var.TheVariants.{Cell, Phi}
 use Rattle.affine_systems.specs.Terms.{var_eq, var_lt, term}
 use Rattle.affine_systems.specs.Rows.{row, system}
-use Rattle.f77_symbols.specs.declared.variable.Variable.TheVariants.{Own, Block, Saved}
+use Rattle.f77_ast.specs.declared.variable.Variable.TheVariants.{Own, Block, Saved}
 use Rattle.roundtrip_systems.specs.Reading.{Bytes}
 use Rattle.region_sets.specs.declared.region.Access.TheVariants.{Read, Write, In, Out}
 use Rattle.region_sets.specs.Regions.{region}

@@ -8,8 +8,8 @@ use Rattle.affine_systems.specs.declared.row.Row.{Row}
 use Rattle.affine_systems.specs.declared.row.System.{System}
 use Rattle.affine_systems.specs.Rows.{system}
 use Rattle.system_text.specs.SystemText.{name_at, weak_text}
-use Rattle.f77_symbols.specs.declared.variable.Variable.{Variable}
-use Rattle.f77_symbols.specs.declared.variable.Variable.TheVariants.{Own, Block, Saved}
+use Rattle.f77_ast.specs.declared.variable.Variable.{Variable}
+use Rattle.f77_ast.specs.declared.variable.Variable.TheVariants.{Own, Block, Saved}
 use Rattle.roundtrip_systems.specs.Reading.{Bytes, after, cut, read_name}
 use Rattle.roundtrip_systems.specs.Printed.{in_name, is_name, AreNames, IsNumber, IsOrdered}
 use Rattle.roundtrip_systems.proofs.Texts.{IsFree, free-append, cut-at, cut-none}

@@ -8,8 +8,8 @@ use Rattle.affine_systems.specs.declared.row.System.{System}
 use Rattle.affine_systems.specs.Rows.{system}
 use Rattle.fixed_form.specs.TextLines.{unless_return, without_returns}
 use Rattle.system_text.specs.SystemText.{each_after, system_text, weak_text}
-use Rattle.f77_symbols.specs.declared.variable.Variable.{Variable}
-use Rattle.f77_symbols.specs.declared.variable.Variable.TheVariants.{Own, Block, Saved}
+use Rattle.f77_ast.specs.declared.variable.Variable.{Variable}
+use Rattle.f77_ast.specs.declared.variable.Variable.TheVariants.{Own, Block, Saved}
 use Rattle.roundtrip_lines.specs.Good.{is_printable}
 use Rattle.roundtrip_systems.specs.Reading.{Bytes}
 use Rattle.roundtrip_programs.specs.Lines.{IsShown, AreShown, LinesArePassedOver}

@@ -2,8 +2,8 @@
 use Rattle.std.specs.Prelude.{◌≡◌, List, [], ◌∷◌, Some}
 use Rattle.std.specs.List.{AllByRecursion}
 use Rattle.affine_systems.specs.declared.row.System.{System}
-use Rattle.f77_symbols.specs.declared.variable.Variable.{Variable}
-use Rattle.f77_symbols.specs.declared.variable.Variable.TheVariants.{Own, Block, Saved}
+use Rattle.f77_ast.specs.declared.variable.Variable.{Variable}
+use Rattle.f77_ast.specs.declared.variable.Variable.TheVariants.{Own, Block, Saved}
 use Rattle.roundtrip_systems.specs.Reading.{Bytes}
 use Rattle.roundtrip_systems.specs.Printed.{IsOrdered}
 use Rattle.roundtrip_programs.specs.Lines.{IsShown, AreShown, IsClaimLine}

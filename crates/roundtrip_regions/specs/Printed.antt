@@ -6,8 +6,8 @@ use Rattle.affine_systems.specs.declared.row.Var.TheVariants.{Cell, Exit, Phi, A
 use Rattle.affine_systems.specs.declared.row.Term.{Term}
 use Rattle.affine_systems.specs.declared.row.System.{System}
 use Rattle.affine_systems.specs.Rows.{system, AllRows}
-use Rattle.f77_symbols.specs.declared.variable.Variable.{Variable}
-use Rattle.f77_symbols.specs.declared.variable.Variable.TheVariants.{Own, Block, Saved}
+use Rattle.f77_ast.specs.declared.variable.Variable.{Variable}
+use Rattle.f77_ast.specs.declared.variable.Variable.TheVariants.{Own, Block, Saved}
 use Rattle.roundtrip_systems.specs.Reading.{Bytes}
 use Rattle.roundtrip_systems.specs.Printed.{in_name, IsNumber, IsOrdered, AreNames}
 use Rattle.roundtrip_regions.specs.Reading.{with_phis}

@@ -6,13 +6,13 @@ use Rattle.std.specs.Cmp.{IsEquivalence, signed_Decides}
 use Rattle.std.specs.Cmp.Lexicographic.{pointwise, pointwise_decides, bytes_decides}
 use Rattle.std.proofs.lemmas.Bool.{eqb-true, eq-eqb, and_parts, and_from}
 use mathlib.Core.Bool.{beq}
-use Rattle.f77_symbols.specs.declared.variable.Unit.{Unit}
-use Rattle.f77_symbols.specs.declared.variable.Variable.{Variable}
-use Rattle.f77_symbols.specs.declared.variable.Variable.TheVariants.{Own, Block, Saved}
-use Rattle.f77_symbols.specs.contracts.variable.VariablePartialEq.TheImpl as variable_impl
-use Rattle.f77_symbols.specs.contracts.variable.VariableEq.TheImpl.Laws as variable_laws
-use Rattle.f77_symbols.specs.contracts.variable.UnitPartialEq.TheImpl as unit_impl
-use Rattle.f77_symbols.specs.contracts.variable.UnitEq.TheImpl.Laws as unit_laws
+use Rattle.f77_ast.specs.declared.variable.Unit.{Unit}
+use Rattle.f77_ast.specs.declared.variable.Variable.{Variable}
+use Rattle.f77_ast.specs.declared.variable.Variable.TheVariants.{Own, Block, Saved}
+use Rattle.f77_ast.specs.contracts.variable.VariablePartialEq.TheImpl as variable_impl
+use Rattle.f77_ast.specs.contracts.variable.VariableEq.TheImpl.Laws as variable_laws
+use Rattle.f77_ast.specs.contracts.variable.UnitPartialEq.TheImpl as unit_impl
+use Rattle.f77_ast.specs.contracts.variable.UnitEq.TheImpl.Laws as unit_laws
 use Rattle.f77_results.specs.declared.effect_set.EffectSet.{EffectSet}
 use Rattle.f77_results.specs.contracts.effect_set.EffectSetPartialEq.TheImpl as effect_impl
 use Rattle.f77_results.specs.contracts.effect_set.EffectSetEq.TheImpl.Laws as effect_laws

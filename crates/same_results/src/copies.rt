@@ -2,8 +2,8 @@
 ghost use Rattle.std.specs.Prelude.{◌≡◌, ◌++◌, IfOk, OnOk};
 
 use affine_systems::System;
+use f77_ast::{Unit, Variable};
 use f77_results::{At, EffectSet, Results, copy_effect, copy_variable};
-use f77_symbols::{Unit, Variable};
 use fx_lists::List;
 use region_sets::{Mark, Reason, Region, RegionSet};
 use std::alloc::{AllocError as Memory, Global};

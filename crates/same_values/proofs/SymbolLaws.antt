@@ -8,12 +8,12 @@ use Rattle.std.proofs.lemmas.Bool.{eqb-true, eq-eqb, ne_eqb, and_parts, and_from
 use Rattle.f77_ast.specs.declared.decl.Scalar.{Scalar}
 use Rattle.f77_ast.specs.declared.decl.Scalar.TheVariants as scalar
 use Rattle.f77_ast.specs.Trees.{ExprTree}
-use Rattle.f77_symbols.specs.declared.symbol.Place.{Place}
-use Rattle.f77_symbols.specs.declared.symbol.Place.TheVariants.{Local, Dummy, Block, Constant}
-use Rattle.f77_symbols.specs.declared.symbol.InitialRun.{InitialRun}
-use Rattle.f77_symbols.specs.declared.symbol.Bound.{Bound}
-use Rattle.f77_symbols.specs.declared.symbol.Symbol.{Symbol}
-use Rattle.f77_symbols.specs.Symbols.{BoundTree, SymbolTree, bound_tree, symbol_tree}
+use Rattle.f77_ast.specs.declared.symbol.Place.{Place}
+use Rattle.f77_ast.specs.declared.symbol.Place.TheVariants.{Local, Dummy, Block, Constant}
+use Rattle.f77_ast.specs.declared.symbol.InitialRun.{InitialRun}
+use Rattle.f77_ast.specs.declared.symbol.Bound.{Bound}
+use Rattle.f77_ast.specs.declared.symbol.Symbol.{Symbol}
+use Rattle.f77_ast.specs.Symbols.{BoundTree, SymbolTree, bound_tree, symbol_tree}
 use Rattle.same_values.specs.Tests.{same_bool, expr_test}
 use Rattle.same_values.specs.SymbolTests.{maybe_test, bound_test, scalar_number, place_test, run_test, symbol_test}
 use Rattle.same_values.proofs.TestLaws.{same_bool-true, same_bool_self, expr_decides}

@@ -1,7 +1,7 @@
 -- Whether two graphs, and the lines of two modules, are the same, field by field.
 use Rattle.std.specs.Prelude.{ℕ, Bool, ◌&&◌, nat_eq, bytes_eq}
 use Rattle.std.specs.Cmp.Lexicographic.{pointwise}
-use Rattle.f77_symbols.specs.declared.variable.Unit.{Unit}
+use Rattle.f77_ast.specs.declared.variable.Unit.{Unit}
 use Rattle.call_graph.specs.declared.graph.Edge.{Edge}
 use Rattle.call_graph.specs.declared.graph.Block.{Block}
 use Rattle.call_graph.specs.declared.graph.Graph.{Graph}

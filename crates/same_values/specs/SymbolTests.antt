@@ -5,10 +5,10 @@ use Rattle.std.specs.Cmp.Lexicographic.{pointwise}
 use Rattle.f77_ast.specs.declared.decl.Scalar.{Scalar}
 use Rattle.f77_ast.specs.declared.decl.Scalar.TheVariants as scalar
 use Rattle.f77_ast.specs.Trees.{ExprTree}
-use Rattle.f77_symbols.specs.declared.symbol.Place.{Place}
-use Rattle.f77_symbols.specs.declared.symbol.Place.TheVariants.{Local, Dummy, Block, Constant}
-use Rattle.f77_symbols.specs.declared.symbol.InitialRun.{InitialRun}
-use Rattle.f77_symbols.specs.Symbols.{BoundTree, SymbolTree}
+use Rattle.f77_ast.specs.declared.symbol.Place.{Place}
+use Rattle.f77_ast.specs.declared.symbol.Place.TheVariants.{Local, Dummy, Block, Constant}
+use Rattle.f77_ast.specs.declared.symbol.InitialRun.{InitialRun}
+use Rattle.f77_ast.specs.Symbols.{BoundTree, SymbolTree}
 use Rattle.same_values.specs.Tests.{same_bool, expr_test}
 
 abbrev pub maybe_test : Option ExprTree → Option ExprTree → Bool

@@ -2,8 +2,7 @@
 ghost use Rattle.std.specs.Prelude.{◌≡◌, ◌++◌, ◌∷◌, [], IfOk};
 
 use call_graph::{Block, Edge, Graph};
-use f77_ast::{Places, Spot};
-use f77_symbols::Unit;
+use f77_ast::{Places, Spot, Unit};
 use fx_lists::{List, Text};
 use std::alloc::{AllocError as Memory, Global};
 

@@ -2,12 +2,11 @@
 ghost use Rattle.std.specs.Prelude.{◌≡◌, ◌↔◌, IsTrue, map, nat_eq};
 ghost use Rattle.std.specs.Cmp.Lexicographic.{pointwise};
 ghost use Rattle.f77_ast.specs.PlainStmt.{maybe_tree};
-ghost use Rattle.f77_symbols.specs.Symbols.{bound_tree, symbol_tree};
+ghost use Rattle.f77_ast.specs.Symbols.{bound_tree, symbol_tree};
 ghost use Rattle.same_values.specs.SymbolTests.{maybe_test, bound_test, scalar_number, place_test, run_test, symbol_test};
 
 use crate::exprs::{expr_test, same_bool};
-use f77_ast::{Expr, Scalar};
-use f77_symbols::{Bound, InitialRun, Place, Symbol, Symbols};
+use f77_ast::{Bound, Expr, InitialRun, Place, Scalar, Symbol, Symbols};
 use fx_lists::List;
 
 fn maybe_test(a: &Option<Expr>, b: &Option<Expr>) -> bool

@@ -12,7 +12,7 @@ use Rattle.affine_systems.specs.Given.{Fits}
 use Rattle.f77_ast.proofs.PlainlyStmt.{what_calls, list_calls, loop_calls as do_calls, arm_calls as if_calls}
 use Rattle.call_translation.specs.declared.sites.CallSites.{CallSites}
 use Rattle.call_translation.specs.Sites.{HoldingSite, sites_in, AllSitesFit}
-use Rattle.f77_symbols.specs.Shared.{numbered}
+use Rattle.f77_ast.specs.Shared.{numbered}
 use Rattle.f77_results.specs.declared.results.At.{At}
 use Rattle.transformers.specs.Lists.{first_at, or_first, value_at}
 use Rattle.preconditions.specs.Statement.{EachFits}

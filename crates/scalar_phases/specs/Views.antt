@@ -5,8 +5,8 @@ use Rattle.affine_systems.specs.declared.row.System.{System}
 use Rattle.affine_systems.specs.Given.{Fits}
 use Rattle.f77_ast.specs.declared.module.Module.{Module}
 use Rattle.f77_ast.specs.PlainDecl.{module_tree, parsed_tree}
-use Rattle.f77_symbols.specs.declared.symbol.Symbol.{Symbol}
-use Rattle.f77_symbols.specs.Symbols.{symbol_tree}
+use Rattle.f77_ast.specs.declared.symbol.Symbol.{Symbol}
+use Rattle.f77_ast.specs.Symbols.{symbol_tree}
 use Rattle.f77_results.specs.declared.results.Results.{Results}
 use Rattle.f77_results.specs.declared.view.View.{View}
 use Rattle.f77_meaning.specs.Modules.{Known, known_of}

@@ -9,9 +9,8 @@ ghost use Rattle.scalar_phases.specs.Phases.{scope_of, module_of as module_of_is
 ghost use Rattle.scalar_phases.specs.Views.{known_in, modules_in, IsNamed, found_tree, OwnFits, FoundFits};
 
 use crate::program::{Program, module_of};
-use f77_ast::Module;
+use f77_ast::{Module, Symbols};
 use f77_results::{EffectSet, Results, Summaries, View};
-use f77_symbols::Symbols;
 use fx_lists::{List, Text};
 use std::alloc::{AllocError as Memory, Global};
 use transformer_algebra::Transformer;

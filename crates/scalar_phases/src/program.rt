@@ -4,9 +4,8 @@ ghost use Rattle.scalar_phases.specs.Phases.{module_of as module_of_is};
 ghost use Rattle.scalar_phases.specs.Views.{known_in, modules_in, IsNamed};
 
 use call_graph::Graph;
-use f77_ast::Parsed;
+use f77_ast::{Parsed, Symbols};
 use f77_results::View;
-use f77_symbols::Symbols;
 use fx_lists::{List, Text};
 use tracked_cells::Names;
 

@@ -2,7 +2,7 @@
 use Rattle.std.proofs.Common.{◌≡◌, ℕ, zero, suc, ◌+◌, ◌<◌, Bool, true, false, List, [], ◌∷◌, ◌++◌, length, map, Option, Some, None, refl, sym, ap, ◌∙◌, arith}
 use Rattle.std.specs.Prelude.{bytes_eq, option_map, option_to_list, unwrap_or, remove, if◌then◌else◌}
 use Rattle.f77_ast.specs.declared.places.Parsed.{Parsed}
-use Rattle.f77_symbols.specs.Symbols.{number_from}
+use Rattle.f77_ast.specs.Symbols.{number_from}
 use Rattle.pipsmake_rules.specs.Neighbours.{name_put}
 use Rattle.laws_database.specs.Texts.{ModuleText, ReadModule, IsModule, AreModules, modules_in, names_in}
 use Rattle.session_texts.specs.declared.source.Source.{Source}

@@ -6,8 +6,8 @@ use Rattle.std.proofs.lemmas.List.{length-map}
 use Rattle.f77_ast.specs.declared.places.Parsed.{Parsed}
 use Rattle.f77_ast.specs.DeclTrees.{ParsedTree}
 use Rattle.f77_ast.specs.PlainDecl.{parsed_tree}
-use Rattle.f77_symbols.specs.declared.symbol.Symbol.{Symbol}
-use Rattle.f77_symbols.specs.Symbols.{SymbolTree, symbol_tree, number_from}
+use Rattle.f77_ast.specs.declared.symbol.Symbol.{Symbol}
+use Rattle.f77_ast.specs.Symbols.{SymbolTree, symbol_tree, number_from}
 use Rattle.laws_database.specs.Texts.{ModuleText, ReadModule, AreModules, modules_in, names_in, trees_in, tables_in}
 use Rattle.session_texts.specs.declared.lists.Lists.{Lists}
 use Rattle.session_texts.specs.declared.source.ModuleText.{ModuleText as Kept}

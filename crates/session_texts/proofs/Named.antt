@@ -4,8 +4,8 @@ use Rattle.std.specs.Prelude.{bytes_eq, option_map, option_and_then, slice_get, 
 use Rattle.f77_ast.specs.declared.places.Parsed.{Parsed}
 use Rattle.f77_ast.specs.DeclTrees.{ParsedTree}
 use Rattle.f77_ast.specs.PlainDecl.{parsed_tree}
-use Rattle.f77_symbols.specs.declared.symbol.Symbol.{Symbol}
-use Rattle.f77_symbols.specs.Symbols.{SymbolTree, symbol_tree, number_from}
+use Rattle.f77_ast.specs.declared.symbol.Symbol.{Symbol}
+use Rattle.f77_ast.specs.Symbols.{SymbolTree, symbol_tree, number_from}
 use Rattle.laws_database.specs.Texts.{ModuleText, ReadModule, module_read, AreModules, modules_in, names_in, trees_in, tables_in, text_of}
 use Rattle.laws_database.specs.Definitions.{module_named}
 use Rattle.session_texts.specs.declared.source.ModuleText.{ModuleText as Kept}

@@ -3,7 +3,7 @@ use Rattle.std.proofs.Common.{◌≡◌, ℕ, zero, suc, ◌+◌, ◌<◌, Bool,
 use Rattle.std.specs.Prelude.{bytes_eq, filter, not, remove, is_some, if◌then◌else◌}
 use Rattle.std.specs.List.{AllByRecursion, IsDistinct}
 use Rattle.std.proofs.lemmas.Map.Keys.{IsDistinct-head, IsDistinct-tail, IsDistinct-cons}
-use Rattle.f77_symbols.specs.Symbols.{number_from}
+use Rattle.f77_ast.specs.Symbols.{number_from}
 use Rattle.pipsmake_rules.specs.Neighbours.{has_name}
 use Rattle.laws_database.specs.Texts.{ModuleText, IsModule, AreModules, names_in, text_of}
 use Rattle.session_texts.specs.Modules.{NamesDiffer}

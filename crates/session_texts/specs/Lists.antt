@@ -1,7 +1,7 @@
 -- Texts, trees and tables of modules, in one order: cited by private functions alone.
 use Rattle.std.specs.Prelude.{ℕ, ◌+◌, ◌≤◌, List, map, remove, vec_len, vec_capacity}
 use Rattle.f77_ast.specs.declared.places.Parsed.{Parsed}
-use Rattle.f77_symbols.specs.declared.symbol.Symbol.{Symbol}
+use Rattle.f77_ast.specs.declared.symbol.Symbol.{Symbol}
 use Rattle.session_texts.specs.declared.lists.Lists.{Lists}
 use Rattle.session_texts.specs.declared.lists.Rooms.{Rooms}
 use Rattle.session_texts.specs.declared.source.ModuleText.{ModuleText as Kept}

@@ -2,7 +2,7 @@
 use Rattle.std.specs.Prelude.{◌≡◌, List, [], ◌∷◌, map, Some, bytes_eq}
 use Rattle.std.specs.List.{IsDistinct}
 use Rattle.f77_ast.specs.PlainDecl.{parsed_tree}
-use Rattle.f77_symbols.specs.Symbols.{symbol_tree}
+use Rattle.f77_ast.specs.Symbols.{symbol_tree}
 use Rattle.session_texts.specs.declared.source.ModuleText.{ModuleText as Kept}
 use Rattle.session_texts.specs.declared.source.Source.{Source}
 use Rattle.laws_database.specs.Texts.{ModuleText, ReadModule, module_read, names_in}

@@ -1,7 +1,7 @@
 -- Lists that change at places: cited by private functions alone.
 use Rattle.std.specs.Prelude.{ℕ, zero, suc, ◌+◌, ◌≤◌, List, [], ◌∷◌, length, unwrap_or, vec_len, vec_capacity}
 use Rattle.std.specs.Prelude.{Vec}
-use Rattle.f77_symbols.specs.Symbols.{number_from}
+use Rattle.f77_ast.specs.Symbols.{number_from}
 use Rattle.pipsmake_rules.specs.Neighbours.{name_put}
 
 -- the place of a name; of a new name the place after the last

@@ -4,10 +4,9 @@ ghost use Rattle.session_texts.specs.Places.{put_at, all_put};
 ghost use Rattle.session_texts.specs.Lists.{own_texts, own_trees, own_tables, lists_in, HasRoom, all_placed, all_but};
 
 use crate::source::{ModuleText, Source};
-use f77_ast::Parsed;
+use f77_ast::{Parsed, Symbols};
 use f77_parser::ModuleTrees;
 use f77_structure::stack_of;
-use f77_symbols::Symbols;
 use fx_lists::List;
 use std::alloc::{AllocError as Memory, Global};
 use std::mem::replace;

@@ -5,7 +5,7 @@ ghost use Rattle.fixed_form.specs.Reading.{reading};
 ghost use Rattle.f77_ast.specs.PlainDecl.{parsed_tree};
 ghost use Rattle.f77_parser.specs.Gives.{Gives};
 ghost use Rattle.f77_parser.specs.Modules.{parse_of};
-ghost use Rattle.f77_symbols.specs.Symbols.{symbol_tree};
+ghost use Rattle.f77_ast.specs.Symbols.{symbol_tree};
 ghost use Rattle.refusal_codes.specs.Refusals.{number_of};
 ghost use Rattle.storage_layout.specs.Symbols.{symbols_of};
 ghost use Rattle.session_texts.specs.Modules.{AreSources, NamesDiffer, source_text};
@@ -13,9 +13,8 @@ ghost use Rattle.session_texts.specs.Sources.{source_modules, table_or, tables_o
 
 use crate::checks::source_refusal;
 use crate::source::{Source, sources_from};
-use f77_ast::Parsed;
+use f77_ast::{Parsed, Symbols};
 use f77_parser::{ModuleTrees, ParseRefusal, parse};
-use f77_symbols::Symbols;
 use fixed_form::{Lines, ReadRefusal, statements};
 use fx_lists::{List, Text};
 use laws_pieces::pieces_are_modules;

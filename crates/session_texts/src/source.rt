@@ -2,10 +2,9 @@
 ghost use Rattle.std.specs.Prelude.{◌≡◌, map, IfOk};
 ghost use Rattle.session_texts.specs.Joined.{spot_back, counted_back, made_of, sources_from};
 
-use f77_ast::{Parsed, Places, Spot};
+use f77_ast::{Parsed, Places, Spot, Symbols};
 use f77_parser::ModuleTrees;
 use f77_structure::stack_of;
-use f77_symbols::Symbols;
 use fx_lists::{List, Text};
 use module_texts::Piece;
 use std::alloc::{AllocError as Memory, Global};

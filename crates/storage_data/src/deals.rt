@@ -5,7 +5,7 @@ ghost use Rattle.storage_data.specs.Initials.{dealt, piece_of, taken, taken_for}
 use crate::numbers::sum;
 use crate::targets::Target;
 use crate::values::Run;
-use f77_symbols::Constant;
+use f77_ast::Constant;
 use fx_lists::List;
 use std::alloc::{AllocError as Memory, Global};
 

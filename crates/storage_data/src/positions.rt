@@ -9,10 +9,9 @@ ghost use Rattle.f77_checks.specs.Sizes.{dim_tree, dims_tree};
 ghost use Rattle.storage_data.specs.Items.{element_position, numbers_of};
 
 use crate::numbers::{as_count, product, sum};
-use f77_ast::Expr;
+use f77_ast::{Constant, Expr, Worth, worth_of};
 use f77_checks::{Size, dimensions_of};
 use f77_names::{Entry, NameTable};
-use f77_symbols::{Constant, Worth, worth_of};
 use fx_lists::{List, Text};
 use std::alloc::{AllocError as Memory, Global};
 

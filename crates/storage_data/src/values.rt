@@ -5,8 +5,7 @@ ghost use Rattle.f77_ast.specs.PlainDecl.{data_value_tree};
 ghost use Rattle.storage_data.specs.Initials.{literal_of, run_of, runs_of, values_in};
 
 use crate::numbers::sum;
-use f77_ast::{DataValue, Expr};
-use f77_symbols::{Constant, Constants, Worth, worth_of};
+use f77_ast::{Constant, Constants, DataValue, Expr, Worth, worth_of};
 use fx_lists::{List, Text};
 use std::alloc::{AllocError as Memory, Global};
 

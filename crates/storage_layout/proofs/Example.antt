@@ -6,9 +6,9 @@ use Rattle.f77_ast.specs.declared.places.Part.TheVariants.{Decl, Stmt}
 use Rattle.f77_ast.specs.declared.places.Spot.{Spot}
 use Rattle.f77_ast.specs.Trees.{ExprTree, name, int, log, element, no_exprs, more_exprs, stmt, assign, no_stmts, more_stmts}
 use Rattle.f77_ast.specs.DeclTrees.{EntityTree, DeclTree, integer, common, equivalence, initial, ParsedTree}
-use Rattle.f77_symbols.specs.declared.symbol.Place.{Place}
-use Rattle.f77_symbols.specs.declared.symbol.Place.TheVariants.{Local, Block}
-use Rattle.f77_symbols.specs.Symbols.{BoundTree, SymbolTree}
+use Rattle.f77_ast.specs.declared.symbol.Place.{Place}
+use Rattle.f77_ast.specs.declared.symbol.Place.TheVariants.{Local, Block}
+use Rattle.f77_ast.specs.Symbols.{BoundTree, SymbolTree}
 use Rattle.refusal_codes.specs.declared.code.Code.TheVariants.{EquivalenceExtendsBack, InitialMismatch, TypeMismatch}
 use Rattle.refusal_codes.specs.Refusals.{refuse_if, is_before}
 use Rattle.f77_names.specs.Entries.{find, place_in}

@@ -5,8 +5,8 @@ use Rattle.std.proofs.lemmas.Bool.{eqb-true, eqb-false}
 use Rattle.std.proofs.lemmas.Slice.Eq.{bytes_eq-Decides}
 use Rattle.f77_ast.specs.DeclTrees.{EntityTree, CommonTree, DeclTree}
 use Rattle.f77_ast.specs.DeclTrees as decl
-use Rattle.f77_symbols.specs.Symbols.{number_from}
-use Rattle.f77_symbols.proofs.NumbersLaws.{number_from-append}
+use Rattle.f77_ast.specs.Symbols.{number_from}
+use Rattle.f77_ast.proofs.NumbersLaws.{number_from-append}
 use Rattle.f77_names.proofs.NamesLaws.{number_from-least}
 use Rattle.f77_names.specs.Entries.{place_in}
 use Rattle.f77_names.specs.Tables.{NameTable}

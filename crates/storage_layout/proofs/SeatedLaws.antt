@@ -3,7 +3,7 @@ use Rattle.std.proofs.Common.{◌≡◌, ℕ, zero, suc, ◌+◌, ◌-◌, Bool,
 use Rattle.std.specs.Prelude.{slice_get, slice_set, bytes_eq, if◌then◌else◌}
 use Rattle.f77_ast.specs.DeclTrees.{EntityTree, CommonTree, DeclTree}
 use Rattle.f77_ast.specs.DeclTrees as decl
-use Rattle.f77_symbols.specs.Symbols.{number_from}
+use Rattle.f77_ast.specs.Symbols.{number_from}
 use Rattle.f77_names.proofs.NamesLaws.{number_from-least}
 use Rattle.f77_names.specs.Entries.{EntryTree, place_in}
 use Rattle.f77_names.specs.Tables.{NameTable}

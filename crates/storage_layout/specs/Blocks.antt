@@ -2,7 +2,7 @@
 use Rattle.std.specs.Prelude.{ℕ, ◌+◌, Bool, true, pos, List, [], ◌∷◌, ◌++◌, slice_get, slice_set, Option, Some, None, if◌then◌else◌}
 use Rattle.f77_ast.specs.DeclTrees.{EntityTree, CommonTree, DeclTree}
 use Rattle.f77_ast.specs.DeclTrees as decl
-use Rattle.f77_symbols.specs.Symbols.{number_from}
+use Rattle.f77_ast.specs.Symbols.{number_from}
 use Rattle.f77_names.specs.Tables.{NameTable}
 use Rattle.storage_groups.specs.declared.seat.Home.TheVariants.{Block}
 use Rattle.storage_groups.specs.declared.seat.Seat.{Seat}

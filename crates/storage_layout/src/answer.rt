@@ -1,8 +1,8 @@
 //! The table of symbols of a module, or its first refusal.
 ghost use Rattle.std.specs.Prelude.{◌≡◌, IfOk, map};
 ghost use Rattle.f77_ast.specs.PlainDecl.{decl_tree, module_tree, parsed_tree};
-ghost use Rattle.f77_symbols.specs.Symbols.{number_from};
-ghost use Rattle.f77_symbols.specs.Index.{names_of};
+ghost use Rattle.f77_ast.specs.Symbols.{number_from};
+ghost use Rattle.f77_ast.specs.Index.{names_of};
 ghost use Rattle.f77_names.specs.Views.{line_in, table_tree};
 ghost use Rattle.f77_checks.specs.Views.{valued_tree};
 ghost use Rattle.storage_layout.specs.Gives.{Gives};
@@ -13,10 +13,9 @@ use crate::blocks::Laid;
 use crate::equivalences::{Grouping, Shared};
 use crate::layout::Layout;
 use crate::table::is_save_all;
-use f77_ast::{Decl, Module, Parsed};
+use f77_ast::{Decl, Module, Parsed, Symbols};
 use f77_checks::{check_list, check_shapes, parameters_valued};
 use f77_names::{LineTable, NameTable, table_of};
-use f77_symbols::Symbols;
 use fx_lists::{List, Text};
 use refusal_codes::Refusal;
 use std::alloc::{AllocError as Memory, Global};

@@ -1,7 +1,7 @@
 //! COMMON blocks: the variables of a block follow one another in storage (ANSI X3.9-1978 §8.3.2).
 ghost use Rattle.std.specs.Prelude.{◌≡◌, OnOk, map, slice_get};
 ghost use Rattle.f77_ast.specs.PlainDecl.{common_tree, decl_tree, entity_tree};
-ghost use Rattle.f77_symbols.specs.Symbols.{number_from};
+ghost use Rattle.f77_ast.specs.Symbols.{number_from};
 ghost use Rattle.f77_names.specs.Views.{table_tree};
 
 use f77_ast::{CommonPart, Decl, Entity};

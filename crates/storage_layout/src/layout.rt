@@ -8,8 +8,8 @@ ghost use Rattle.storage_layout.specs.Groups.{groups_from, some_keeps};
 
 use crate::numbering::{Numbering, kept_groups};
 use crate::table::{bounds_in, scalar_of};
+use f77_ast::{Place, Symbol, Symbols};
 use f77_names::{Entry, NameTable};
-use f77_symbols::{Place, Symbol, Symbols};
 use fx_lists::{List, Text};
 use std::alloc::{AllocError as Memory, Global};
 use std::collections::HashMap;
@@ -36,7 +36,7 @@ pub struct Layout<'a> {
 
 impl<'a> Layout<'a> {
     ghost use Rattle.std.specs.Prelude.{◌≡◌, IfOk};
-    ghost use Rattle.f77_symbols.specs.Symbols.{symbol_tree};
+    ghost use Rattle.f77_ast.specs.Symbols.{symbol_tree};
     ghost use Rattle.f77_names.specs.Entries.{entry_tree};
     ghost use Rattle.storage_groups.specs.Seats.{lowest};
     ghost use Rattle.storage_layout.specs.Table.{entry_place, group_in, home_place, is_kept, is_kept_at, is_saved, place_in, symbol_of, symbols_in};

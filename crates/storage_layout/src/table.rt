@@ -2,14 +2,13 @@
 ghost use Rattle.std.specs.Prelude.{◌≡◌, IfOk, map};
 ghost use Rattle.std.specs.List.{list_any};
 ghost use Rattle.f77_ast.specs.PlainDecl.{decl_tree};
-ghost use Rattle.f77_symbols.specs.Symbols.{bound_tree};
+ghost use Rattle.f77_ast.specs.Symbols.{bound_tree};
 ghost use Rattle.f77_names.specs.Entries.{maybe_shape};
 ghost use Rattle.storage_layout.specs.Table.{bounds_in, is_empty, is_save_all, scalar_of};
 ghost use Rattle.f77_ast.specs.PlainStmt.{maybe_tree};
 
-use f77_ast::{Decl, Expr, SaveItem, Scalar, copy_expr};
+use f77_ast::{Bound, Decl, Expr, SaveItem, Scalar, copy_expr};
 use f77_names::{Kind, Shape};
-use f77_symbols::Bound;
 use fx_lists::List;
 use std::alloc::{AllocError as Memory, Global};
 

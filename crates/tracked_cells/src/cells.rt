@@ -2,14 +2,13 @@
 ghost use Rattle.std.specs.Prelude.{◌≡◌, map, IfOk};
 ghost use Rattle.std.specs.List.{list_any};
 ghost use Rattle.f77_ast.specs.PlainDecl.{module_tree};
-ghost use Rattle.f77_symbols.specs.Symbols.{symbol_tree};
+ghost use Rattle.f77_ast.specs.Symbols.{symbol_tree};
 ghost use Rattle.tracked_cells.specs.Tracked.{is_unit, is_alone, is_tracked, tracked_of};
 
 use crate::equivalences::equivalenced_names;
 use crate::names::Names;
 use crate::standing::{is_plain, spoils};
-use f77_ast::Module;
-use f77_symbols::{Place, Symbol, Symbols, Unit};
+use f77_ast::{Module, Place, Symbol, Symbols, Unit};
 use fx_lists::{List, Text};
 use std::alloc::{AllocError as Memory, Global};
 

@@ -2,11 +2,10 @@
 ghost use Rattle.std.specs.Prelude.{◌≡◌, ◌++◌, ◌∷◌, [], map, slice_get, IfOk, OnOk, OnErr};
 ghost use Rattle.std.specs.Option.{option_copied};
 ghost use Rattle.f77_ast.specs.PlainDecl.{parsed_tree};
-ghost use Rattle.f77_symbols.specs.Symbols.{number_from};
+ghost use Rattle.f77_ast.specs.Symbols.{number_from};
 ghost use Rattle.tracked_cells.specs.Names.{names_of};
 
-use f77_ast::Parsed;
-use f77_symbols::NameIndex;
+use f77_ast::{NameIndex, Parsed};
 use fx_lists::{List, Text};
 use std::alloc::{AllocError as Memory, Global};
 use std::marker::Model;
@@ -20,7 +19,7 @@ pub struct Names {
 
 impl Model for Names {
     ghost use Rattle.std.specs.Prelude.{List, ℕ};
-    ghost use Rattle.f77_symbols.specs.Index.{Indexes};
+    ghost use Rattle.f77_ast.specs.Index.{Indexes};
 
     ghost Value = { List (List ℕ) };
 

@@ -1,10 +1,10 @@
 //! The units of blocks that hold an INTEGER scalar, in order.
 ghost use Rattle.std.specs.Prelude.{◌≡◌, [], map, IfOk};
-ghost use Rattle.f77_symbols.specs.Symbols.{symbol_tree};
+ghost use Rattle.f77_ast.specs.Symbols.{symbol_tree};
 ghost use Rattle.tracked_cells.specs.Scalars.{unit, unit_put, place_unit, with_scalar, with_scalars, all_scalars, keyed};
 
 use crate::standing::is_int_scalar;
-use f77_symbols::{Place, Symbol, Symbols};
+use f77_ast::{Place, Symbol, Symbols};
 use fx_lists::{List, Text};
 use std::alloc::{AllocError as Memory, Global};
 use std::collections::BTreeSet;

@@ -1,13 +1,13 @@
 //! The units that some module makes not analysable.
 ghost use Rattle.std.specs.Prelude.{◌≡◌, ◌++◌, map, IfOk};
-ghost use Rattle.f77_symbols.specs.Symbols.{symbol_tree};
+ghost use Rattle.f77_ast.specs.Symbols.{symbol_tree};
 ghost use Rattle.tracked_cells.specs.Scalars.{key_unit, keyed};
 ghost use Rattle.tracked_cells.specs.Untracked.{some_spoils, begin_of, spoilt, one_spoilt};
 
 use crate::names::Names;
 use crate::scalars::UnitKey;
 use crate::standing::spoils;
-use f77_symbols::{Place, Symbols, Unit};
+use f77_ast::{Place, Symbols, Unit};
 use fx_lists::{List, Text};
 use std::alloc::{AllocError as Memory, Global};
 

@@ -1,13 +1,12 @@
 //! The variables that have a unit.
 ghost use Rattle.std.specs.Prelude.{◌≡◌, map};
 ghost use Rattle.std.specs.List.{list_any};
-ghost use Rattle.f77_symbols.specs.Symbols.{symbol_tree};
-ghost use Rattle.f77_symbols.specs.Units.{units_in};
+ghost use Rattle.f77_ast.specs.Symbols.{symbol_tree};
+ghost use Rattle.f77_ast.specs.Units.{units_in};
 ghost use Rattle.tracked_cells.specs.Standing.{has_bounds, is_int_scalar, is_plain, reaches, stands_at, spoils_at, two_at, spoils};
 
 use crate::names::Names;
-use f77_ast::Scalar;
-use f77_symbols::{Place, Symbol, Symbols, has_more};
+use f77_ast::{Place, Scalar, Symbol, Symbols, has_more};
 
 /// Whether a symbol is an array.
 pub fn has_bounds(symbol: &Symbol) -> bool

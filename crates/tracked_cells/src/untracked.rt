@@ -1,14 +1,13 @@
 //! The units of blocks that hold an INTEGER scalar and may not be tracked.
 ghost use Rattle.std.specs.Prelude.{◌≡◌, map, IfOk};
 ghost use Rattle.f77_ast.specs.PlainDecl.{parsed_tree};
-ghost use Rattle.f77_symbols.specs.Symbols.{symbol_tree};
+ghost use Rattle.f77_ast.specs.Symbols.{symbol_tree};
 ghost use Rattle.tracked_cells.specs.Untracked.{untracked_of};
 
 use crate::equivalences::equivalenced_names_of_all;
 use crate::scalars::{all_scalars, unit_list};
 use crate::spoilt::spoilt;
-use f77_ast::Parsed;
-use f77_symbols::{Symbols, Unit};
+use f77_ast::{Parsed, Symbols, Unit};
 use fx_lists::List;
 use std::alloc::{AllocError as Memory, Global};
 

@@ -9,7 +9,7 @@ use Rattle.affine_systems.specs.declared.row.System.{System}
 use Rattle.affine_systems.specs.Terms.{number}
 use Rattle.affine_systems.specs.Given.{Fits}
 use Rattle.hull_projection.specs.Hull.{hull}
-use Rattle.f77_symbols.specs.declared.variable.Unit.{Unit as BlockUnit}
+use Rattle.f77_ast.specs.declared.variable.Unit.{Unit as BlockUnit}
 use Rattle.transformer_algebra.specs.declared.transformer.Transformer.{Transformer}
 use Rattle.transformer_algebra.specs.Cells.{has, joined_cells}
 use Rattle.transformer_algebra.specs.Units.{unit_cmp, with_unit, with_units, joined_units}

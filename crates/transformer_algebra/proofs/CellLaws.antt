@@ -11,7 +11,7 @@ use Rattle.affine_systems.specs.declared.row.Var.TheVariants.{Cell, Exit}
 use Rattle.affine_systems.specs.Terms.{var_eq, number}
 use Rattle.affine_systems.proofs.Basics.{if_cases}
 use Rattle.affine_systems.proofs.TermLaws.{var_eq-true}
-use Rattle.f77_symbols.specs.declared.variable.Unit.{Unit as BlockUnit}
+use Rattle.f77_ast.specs.declared.variable.Unit.{Unit as BlockUnit}
 use Rattle.transformer_algebra.specs.Cells.{has, with_cell, with_cells, joined_cells}
 use Rattle.transformer_algebra.specs.Units.{unit_cmp, with_unit, with_units, joined_units}
 use Rattle.transformer_algebra.specs.Claims.{IsIn}

@@ -14,7 +14,7 @@ use Rattle.affine_systems.proofs.CallLaws.{append_all}
 use Rattle.hull_projection.specs.Hull.{hull}
 use Rattle.hull_projection.proofs.HullLaws.{hull_holds}
 use Rattle.hull_projection.proofs.CleanLaws.{clean_same}
-use Rattle.f77_symbols.specs.declared.variable.Unit.{Unit as BlockUnit}
+use Rattle.f77_ast.specs.declared.variable.Unit.{Unit as BlockUnit}
 use Rattle.system_renaming.specs.Renaming.{push_rows}
 use Rattle.system_renaming.proofs.KeepLaws.{push_rows_holds, of_rows_holds}
 use Rattle.affine_forms.specs.declared.affine.Affine.{Affine}

@@ -12,7 +12,7 @@ use Rattle.hull_projection.specs.Hull.{hull}
 use Rattle.hull_projection.specs.Laws.{IsOneOf}
 use Rattle.hull_projection.proofs.HullLaws.{hull_holds}
 use Rattle.hull_projection.proofs.ProjectLaws.{project_keeps}
-use Rattle.f77_symbols.specs.declared.variable.Unit.{Unit as BlockUnit}
+use Rattle.f77_ast.specs.declared.variable.Unit.{Unit as BlockUnit}
 use Rattle.system_renaming.specs.Renaming.{renamed_by, rename_all}
 use Rattle.system_renaming.specs.Fresh.{fresh_over}
 use Rattle.system_renaming.proofs.KeepLaws.{rename_all_holds, push_rows_holds}

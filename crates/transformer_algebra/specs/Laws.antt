@@ -1,7 +1,7 @@
 -- What the rules keep: where the parts describe the ways between numbers, so does what is made of them.
 use Rattle.std.specs.Prelude.{◌≡◌, ℕ, List, ◌∷◌, Some, true, ℤ, ◌+ℤ◌}
 use Rattle.affine_systems.specs.declared.row.System.{System}
-use Rattle.f77_symbols.specs.declared.variable.Unit.{Unit as BlockUnit}
+use Rattle.f77_ast.specs.declared.variable.Unit.{Unit as BlockUnit}
 use Rattle.transformer_algebra.specs.declared.transformer.Transformer.{Transformer}
 use Rattle.transformer_algebra.specs.declared.loop_parts.LoopParts.{LoopParts}
 use Rattle.transformer_algebra.specs.Cells.{has}

@@ -8,7 +8,7 @@ use Rattle.affine_systems.specs.Calls.{meet}
 use Rattle.hull_projection.specs.Project.{project}
 use Rattle.hull_projection.specs.Hull.{hull}
 use Rattle.hull_projection.specs.Closure.{closure}
-use Rattle.f77_symbols.specs.declared.variable.Unit.{Unit as BlockUnit}
+use Rattle.f77_ast.specs.declared.variable.Unit.{Unit as BlockUnit}
 use Rattle.system_renaming.specs.Renaming.{rename_all, of_rows, push_rows}
 use Rattle.system_renaming.specs.Fresh.{fresh_over}
 use Rattle.affine_forms.specs.declared.affine.Affine.{Affine}

@@ -7,7 +7,7 @@ ghost use Rattle.transformer_algebra.specs.Transformers.{AllFit, equal as equal_
 use crate::{Transformer, joined_cells, joined_units, nowhere, others};
 use affine_forms::{same_row, var_form};
 use affine_systems::{Row, System, Var};
-use f77_symbols::Unit;
+use f77_ast::Unit;
 use fx_lists::List;
 use hull_projection::hull;
 use std::alloc::{AllocError as Memory, Global};

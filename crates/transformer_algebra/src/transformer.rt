@@ -7,7 +7,7 @@ ghost use Rattle.transformer_algebra.specs.Transformers.{unchanging as unchangin
 use crate::joined_cells;
 use affine_forms::{Affine, infeasible, no_rows, same_row, var_form};
 use affine_systems::{System, Var};
-use f77_symbols::Unit;
+use f77_ast::Unit;
 use fx_lists::List;
 use std::alloc::{AllocError as Memory, Global};
 use system_renaming::of_rows;

@@ -2,7 +2,7 @@
 ghost use Rattle.std.specs.Prelude.{◌≡◌, IfOk, OnOk};
 ghost use Rattle.transformer_algebra.specs.Units.{unit_cmp, with_unit as with_unit_is, with_units as with_units_is, joined_units as joined_units_is};
 
-use f77_symbols::Unit;
+use f77_ast::Unit;
 use fx_lists::List;
 use std::alloc::{AllocError as Memory, Global};
 use std::cmp::Ordering;

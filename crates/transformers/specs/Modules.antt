@@ -6,10 +6,10 @@ use Rattle.affine_systems.specs.Terms.{number}
 use Rattle.hull_projection.specs.Variables.{row_vars}
 use Rattle.hull_projection.specs.Project.{project}
 use Rattle.f77_ast.specs.Trees.{StmtTrees}
-use Rattle.f77_symbols.specs.declared.symbol.Place.{Place}
-use Rattle.f77_symbols.specs.declared.symbol.Place.TheVariants.{Local, Dummy, Block, Constant}
-use Rattle.f77_symbols.specs.Symbols.{SymbolTree}
-use Rattle.f77_symbols.specs.Shared.{place_at}
+use Rattle.f77_ast.specs.declared.symbol.Place.{Place}
+use Rattle.f77_ast.specs.declared.symbol.Place.TheVariants.{Local, Dummy, Block, Constant}
+use Rattle.f77_ast.specs.Symbols.{SymbolTree}
+use Rattle.f77_ast.specs.Shared.{place_at}
 use Rattle.f77_results.specs.declared.results.Results.{Results}
 use Rattle.transformer_algebra.specs.declared.transformer.Transformer.{Transformer}
 use Rattle.transformer_algebra.specs.Transformers.{transformer}

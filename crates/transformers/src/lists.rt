@@ -2,7 +2,7 @@
 ghost use Rattle.std.specs.Prelude.{◌≡◌, [], ◌∷◌, ◌++◌, IfOk, OnOk, option_copied};
 ghost use Rattle.affine_systems.specs.Given.{Fits};
 ghost use Rattle.f77_ast.specs.PlainStmt.{stmt_trees};
-ghost use Rattle.f77_symbols.specs.Shared.{numbered};
+ghost use Rattle.f77_ast.specs.Shared.{numbered};
 ghost use Rattle.transformer_algebra.specs.Transformers.{AllFit};
 ghost use Rattle.transformers.specs.Given.{ResultsFit};
 ghost use Rattle.transformers.specs.Lists.{first_at, value_at as value_at_is, transformer_at as transformer_at_is, followed_by, in_order as in_order_is, in_any_order as in_any_order_is, list_of as list_of_is, list_at as list_at_is};
@@ -10,9 +10,8 @@ ghost use Rattle.transformers.specs.Lists.{first_at, value_at as value_at_is, tr
 use crate::is_unstructured;
 use affine_forms::no_rows;
 use call_translation::copy_unit;
-use f77_ast::{Stmt, StmtId};
+use f77_ast::{Stmt, StmtId, Unit};
 use f77_results::{At, View};
-use f77_symbols::Unit;
 use fx_lists::List;
 use std::alloc::{AllocError as Memory, Global};
 use transformer_algebra::{Transformer, joined_cells, joined_units, then, unchanging};

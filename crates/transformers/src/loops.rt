@@ -2,15 +2,14 @@
 ghost use Rattle.std.specs.Prelude.{◌≡◌, map, IfOk};
 ghost use Rattle.affine_systems.specs.Given.{Fits};
 ghost use Rattle.f77_ast.specs.PlainStmt.{loop_tree, maybe_tree};
-ghost use Rattle.f77_symbols.specs.Symbols.{symbol_tree, value_in};
+ghost use Rattle.f77_ast.specs.Symbols.{symbol_tree, value_in};
 ghost use Rattle.transformer_algebra.specs.Loops.{LoopFits};
 ghost use Rattle.call_translation.specs.Scopes.{scope_tree};
 ghost use Rattle.transformers.specs.Loops.{counting as counting_is, step_of as step_of_is, number_in, loop_parts as loop_parts_is};
 
 use affine_forms::{affine_of, is_cell};
 use call_translation::CellScope;
-use f77_ast::{Expr, Loop};
-use f77_symbols::{Constant, Symbols, Worth, worth_of};
+use f77_ast::{Constant, Expr, Loop, Symbols, Worth, worth_of};
 use std::alloc::{AllocError as Memory, Global};
 use transformer_algebra::{LoopParts, Transformer};
 

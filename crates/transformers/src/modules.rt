@@ -3,7 +3,7 @@ ghost use Rattle.std.specs.Prelude.{◌≡◌, map, filter, IfOk};
 ghost use Rattle.affine_systems.specs.Terms.{number};
 ghost use Rattle.affine_systems.specs.Given.{Fits};
 ghost use Rattle.f77_ast.specs.PlainStmt.{stmt_trees};
-ghost use Rattle.f77_symbols.specs.Symbols.{symbol_tree};
+ghost use Rattle.f77_ast.specs.Symbols.{symbol_tree};
 ghost use Rattle.f77_results.specs.Summaries.{summary_in};
 ghost use Rattle.call_translation.specs.Scopes.{scope_of};
 ghost use Rattle.transformers.specs.Given.{CalleesFit, ResultsFit};
@@ -12,8 +12,8 @@ ghost use Rattle.transformers.specs.Modules.{goes_out as goes_out_is, hidden_var
 use crate::statement::{TransformerContext, with_list};
 use affine_systems::{System, Var};
 use call_translation::{CellScope, tracked_of};
+use f77_ast::{Place, Symbols};
 use f77_results::{EffectSet, Results, Summaries, View};
-use f77_symbols::{Place, Symbols};
 use fx_lists::List;
 use hull_projection::{add_rows, project};
 use std::alloc::{AllocError as Memory, Global};

@@ -7,7 +7,7 @@ use Rattle.f77_ast.specs.Trees.{int, name, binary, stmt, assign, goto}
 use Rattle.f77_ast.specs.Store.{Int, Content, content}
 use Rattle.f77_ast.specs.Steps.{OutOfTurns}
 use Rattle.f77_ast.specs.Runs.{Broke}
-use Rattle.f77_symbols.specs.declared.symbol.Place.TheVariants as place
+use Rattle.f77_ast.specs.declared.symbol.Place.TheVariants as place
 use Rattle.call_graph.specs.declared.graph.Graph.{Graph}
 use Rattle.f77_meaning.specs.Areas.{Area, group, unit_at}
 use Rattle.f77_meaning.specs.Modules.{Known}

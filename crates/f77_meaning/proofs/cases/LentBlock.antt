@@ -8,7 +8,7 @@ use Rattle.f77_ast.specs.Store.{Int, Content, content}
 use Rattle.f77_ast.specs.Steps.{Value}
 use Rattle.f77_ast.specs.Runs.{Gave}
 use Rattle.f77_ast.specs.Plans.{Normal}
-use Rattle.f77_symbols.specs.declared.symbol.Place.TheVariants as place
+use Rattle.f77_ast.specs.declared.symbol.Place.TheVariants as place
 use Rattle.call_graph.specs.declared.graph.Graph.{Graph}
 use Rattle.f77_meaning.specs.Areas.{Area, block, group, unit_at}
 use Rattle.f77_meaning.specs.Modules.{Known}

@@ -9,7 +9,7 @@ use Rattle.f77_ast.specs.Store.{Int, Content, content}
 use Rattle.f77_ast.specs.Faults.{Unset}
 use Rattle.f77_ast.specs.Steps.{Faulty, Value}
 use Rattle.f77_ast.specs.Runs.{Broke}
-use Rattle.f77_symbols.specs.declared.symbol.Place.TheVariants as place
+use Rattle.f77_ast.specs.declared.symbol.Place.TheVariants as place
 use Rattle.call_graph.specs.declared.graph.Graph.{Graph}
 use Rattle.f77_meaning.specs.Areas.{Area, group, own, unit_at}
 use Rattle.f77_meaning.specs.Modules.{Known}

@@ -1,10 +1,10 @@
 use Rattle.std.proofs.Common.{◌≡◌, ◌∙◌, ap, sym, map, SFits, to_z-of_z, rules}
 use Rattle.std.specs.Int.{w32}
 use Rattle.f77_ast.specs.Plain.{expr_tree}
-use Rattle.f77_symbols.specs.declared.constant.Constant.TheVariants.{Int}
-use Rattle.f77_symbols.specs.declared.constant.Worth.TheVariants.{Is}
-use Rattle.f77_symbols.specs.Constants.{worth}
-use Rattle.f77_symbols.specs.Symbols.{symbol_tree, value_in}
+use Rattle.f77_ast.specs.declared.constant.Constant.TheVariants.{Int}
+use Rattle.f77_ast.specs.declared.constant.Worth.TheVariants.{Is}
+use Rattle.f77_ast.specs.Constants.{worth}
+use Rattle.f77_ast.specs.Symbols.{symbol_tree, value_in}
 use Rattle.affine_forms.specs.Scalars.{scalars}
 use Rattle.affine_forms.specs.Forms.{number_form}
 use Rattle.affine_forms.proofs.FormSteps.{affine_constant}

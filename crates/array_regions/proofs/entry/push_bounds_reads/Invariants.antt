@@ -1,5 +1,5 @@
 use Rattle.std.proofs.Common.{◌≡◌, ◌++◌, length, map}
-use Rattle.f77_symbols.specs.Symbols.{bound_tree}
+use Rattle.f77_ast.specs.Symbols.{bound_tree}
 use Rattle.call_translation.specs.Scopes.{scope_tree}
 use Rattle.region_sets.specs.Sets.{SetFits}
 use Rattle.array_regions.specs.Entry.{bounds_reads}

@@ -1,5 +1,5 @@
 use Rattle.std.proofs.Common.{◌≡◌, [], take, drop}
-use Rattle.f77_symbols.specs.Index.{Indexes}
+use Rattle.f77_ast.specs.Index.{Indexes}
 use Rattle.base_rows.specs.Distinct.{are_new}
 use Rattle.base_rows.proofs.distinct.are_distinct.Given as goal
 

@@ -1,7 +1,7 @@
 use Rattle.std.proofs.Common.{subst}
 use Rattle.std.specs.Prelude.{codes}
 use Rattle.serde_json.specs.View.{view}
-use Rattle.f77_symbols.specs.Index.{names_of}
+use Rattle.f77_ast.specs.Index.{names_of}
 use Rattle.base_json.specs.Gives.{Gives}
 use Rattle.base_json.specs.Shapes.{member_as}
 use Rattle.base_rows.specs.Scopes.{ScopeTree}

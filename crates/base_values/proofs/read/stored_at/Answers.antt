@@ -2,7 +2,7 @@ use Rattle.std.proofs.Common.{ap, subst, false}
 use Rattle.std.specs.Prelude.{nat_eq}
 use Rattle.std.specs.List.{list_any}
 use Rattle.serde_json.specs.View.{view}
-use Rattle.f77_symbols.specs.Index.{names_of}
+use Rattle.f77_ast.specs.Index.{names_of}
 use Rattle.base_json.specs.Gives.{Gives}
 use Rattle.base_rows.specs.Scopes.{ScopeTree}
 use Rattle.base_values.specs.Read.{value_of}

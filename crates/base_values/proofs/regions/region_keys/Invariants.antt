@@ -1,5 +1,5 @@
 use Rattle.std.proofs.Common.{◌≡◌, ◌++◌, map, drop}
-use Rattle.f77_symbols.specs.Index.{names_of}
+use Rattle.f77_ast.specs.Index.{names_of}
 use Rattle.base_values.specs.Read.{region_key}
 use Rattle.base_values.proofs.regions.region_keys.Given as goal
 

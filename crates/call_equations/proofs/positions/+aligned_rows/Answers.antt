@@ -1,7 +1,7 @@
 use Rattle.std.proofs.Common.{◌≡◌, List, Option, map}
 use Rattle.std.proofs.lemmas.Result.{IfOk-weaker}
 use Rattle.affine_systems.specs.declared.row.Row.{Row}
-use Rattle.f77_symbols.specs.Symbols.{bound_tree}
+use Rattle.f77_ast.specs.Symbols.{bound_tree}
 use Rattle.call_equations.specs.Sides.{sides_tree}
 use Rattle.call_equations.specs.Positions.{aligned_rows}
 use Rattle.call_equations.proofs.PositionSteps.{first-rest, aligned-more}

@@ -1,6 +1,6 @@
 use Rattle.std.proofs.Common.{◌≡◌, Option, map}
 use Rattle.std.proofs.lemmas.Result.{IfOk-weaker}
-use Rattle.f77_symbols.specs.Symbols.{bound_tree}
+use Rattle.f77_ast.specs.Symbols.{bound_tree}
 use Rattle.affine_forms.specs.declared.affine.Affine.{Affine}
 use Rattle.call_equations.specs.Sides.{sides_tree}
 use Rattle.call_equations.specs.Positions.{dummy_position}

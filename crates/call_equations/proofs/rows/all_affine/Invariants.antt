@@ -1,6 +1,6 @@
 use Rattle.std.proofs.Common.{◌≡◌, length, map}
 use Rattle.f77_ast.specs.Plain.{expr_trees}
-use Rattle.f77_symbols.specs.Symbols.{bound_tree}
+use Rattle.f77_ast.specs.Symbols.{bound_tree}
 use Rattle.call_translation.specs.Scopes.{scope_tree}
 use Rattle.call_equations.specs.Rows.{all_affine}
 use Rattle.call_equations.proofs.rows.all_affine.Given as goal

@@ -1,7 +1,7 @@
 use Rattle.std.proofs.Common.{◌≡◌, ◌++◌, length, map}
 use Rattle.affine_systems.specs.Given.{IsGiven}
 use Rattle.affine_systems.specs.Rows.{AllRows}
-use Rattle.f77_symbols.specs.Symbols.{bound_tree, symbol_tree, value_in}
+use Rattle.f77_ast.specs.Symbols.{bound_tree, symbol_tree, value_in}
 use Rattle.call_equations.specs.Rows.{bounds_rows}
 use Rattle.call_equations.proofs.rows.bounds_rows.Given as goal
 

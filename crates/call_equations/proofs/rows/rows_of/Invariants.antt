@@ -2,7 +2,7 @@ use Rattle.std.proofs.Common.{◌≡◌, ◌++◌, length, map}
 use Rattle.affine_systems.specs.Given.{IsGiven}
 use Rattle.affine_systems.specs.Rows.{AllRows}
 use Rattle.f77_ast.specs.Plain.{expr_trees}
-use Rattle.f77_symbols.specs.Symbols.{bound_tree}
+use Rattle.f77_ast.specs.Symbols.{bound_tree}
 use Rattle.call_translation.specs.Scopes.{scope_tree}
 use Rattle.call_equations.specs.Rows.{subscript_rows}
 use Rattle.call_equations.proofs.rows.rows_of.Given as goal

@@ -1,6 +1,6 @@
 use Rattle.std.proofs.Common.{◌≡◌, ◌++◌, drop, map}
 use Rattle.f77_ast.specs.Plain.{expr_trees}
-use Rattle.f77_symbols.specs.Symbols.{symbol_tree}
+use Rattle.f77_ast.specs.Symbols.{symbol_tree}
 use Rattle.call_graph.specs.Actuals.{actuals_of}
 use Rattle.call_graph.proofs.actuals.actuals_of.Given as goal
 

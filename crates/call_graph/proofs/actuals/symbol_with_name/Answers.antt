@@ -1,6 +1,6 @@
 use Rattle.std.proofs.Common.{sym, ap, ◌∙◌}
 use Rattle.std.specs.Prelude.{option_map}
-use Rattle.f77_symbols.specs.Symbols.{symbol_tree}
+use Rattle.f77_ast.specs.Symbols.{symbol_tree}
 use Rattle.call_graph.proofs.ActualLaws.{named-none, named-numbered}
 use Rattle.call_graph.proofs.actuals.symbol_with_name.Goals as goal
 

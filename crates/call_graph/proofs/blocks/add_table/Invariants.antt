@@ -1,5 +1,5 @@
 use Rattle.std.proofs.Common.{◌≡◌, length, map}
-use Rattle.f77_symbols.specs.Symbols.{symbol_tree}
+use Rattle.f77_ast.specs.Symbols.{symbol_tree}
 use Rattle.call_graph.specs.Blocks.{symbols_grown}
 use Rattle.call_graph.specs.Sizes.{sized}
 use Rattle.call_graph.proofs.blocks.add_table.Given as goal

@@ -1,5 +1,5 @@
 use Rattle.std.proofs.Common.{◌≡◌, length, map}
-use Rattle.f77_symbols.specs.Symbols.{symbol_tree}
+use Rattle.f77_ast.specs.Symbols.{symbol_tree}
 use Rattle.call_graph.specs.Blocks.{tables_grown, blocks_of}
 use Rattle.call_graph.specs.Sizes.{sized}
 use Rattle.call_graph.proofs.blocks.sizes_of.Given as goal

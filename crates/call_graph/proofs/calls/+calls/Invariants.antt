@@ -1,6 +1,6 @@
 use Rattle.std.proofs.Common.{◌≡◌, drop, map}
 use Rattle.f77_ast.specs.PlainStmt.{stmt_trees, arm_trees}
-use Rattle.f77_symbols.specs.Symbols.{symbol_tree}
+use Rattle.f77_ast.specs.Symbols.{symbol_tree}
 use Rattle.call_graph.specs.Calls.{with_list, with_arms}
 use Rattle.call_graph.proofs.calls.+calls.Given as goal
 

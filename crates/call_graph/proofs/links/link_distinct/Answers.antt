@@ -2,7 +2,7 @@ use Rattle.std.proofs.Common.{◌≡◌, ◌≤◌, List, length, map, None, sym
 use Rattle.std.specs.Prelude.{Ok}
 use Rattle.f77_ast.specs.DeclTrees.{ParsedTree}
 use Rattle.f77_ast.specs.PlainDecl.{parsed_tree}
-use Rattle.f77_symbols.specs.Symbols.{SymbolTree, symbol_tree}
+use Rattle.f77_ast.specs.Symbols.{SymbolTree, symbol_tree}
 use Rattle.call_graph.specs.Callees.{unfit_from}
 use Rattle.call_graph.specs.Links.{unfit, acyclic_of}
 use Rattle.call_graph.proofs.LinkLaws.{refused_by, passed}

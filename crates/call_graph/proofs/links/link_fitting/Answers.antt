@@ -2,7 +2,7 @@ use Rattle.std.proofs.Common.{◌≡◌, ◌≤◌, List, length, map, None, sym
 use Rattle.std.specs.Prelude.{Ok}
 use Rattle.f77_ast.specs.DeclTrees.{ParsedTree}
 use Rattle.f77_ast.specs.PlainDecl.{parsed_tree}
-use Rattle.f77_symbols.specs.Symbols.{SymbolTree, symbol_tree}
+use Rattle.f77_ast.specs.Symbols.{SymbolTree, symbol_tree}
 use Rattle.call_graph.specs.Callees.{all_places}
 use Rattle.call_graph.specs.Recursion.{reaches, cyclic_from}
 use Rattle.call_graph.specs.Links.{callees_of, cyclic, graph_from, graph_of, program_calls}

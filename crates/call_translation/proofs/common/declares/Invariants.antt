@@ -1,7 +1,7 @@
 use Rattle.std.proofs.Common.{◌≡◌, length, map}
 use Rattle.std.specs.List.{list_any}
-use Rattle.f77_symbols.specs.declared.symbol.Place.TheVariants.{Block}
-use Rattle.f77_symbols.specs.Symbols.{symbol_tree}
+use Rattle.f77_ast.specs.declared.symbol.Place.TheVariants.{Block}
+use Rattle.f77_ast.specs.Symbols.{symbol_tree}
 use Rattle.tracked_cells.specs.Standing.{stands_at}
 use Rattle.call_translation.proofs.common.declares.Given as goal
 

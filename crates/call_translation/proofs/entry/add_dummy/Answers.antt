@@ -1,5 +1,5 @@
 use Rattle.std.proofs.Common.{sym, ◌∙◌}
-use Rattle.f77_symbols.specs.Symbols.{symbol_tree}
+use Rattle.f77_ast.specs.Symbols.{symbol_tree}
 use Rattle.call_translation.specs.Sites.{site_tree}
 use Rattle.call_translation.proofs.FormLaws.{dummy_pushed}
 use Rattle.call_translation.proofs.entry.add_dummy.Goals as goal

@@ -1,7 +1,7 @@
 use Rattle.std.proofs.Common.{◌≡◌, ◌+◌, ◌++◌, map, drop}
 use Rattle.affine_systems.specs.Rows.{AllRows}
 use Rattle.affine_systems.specs.Given.{IsSmallRow}
-use Rattle.f77_symbols.specs.Symbols.{symbol_tree}
+use Rattle.f77_ast.specs.Symbols.{symbol_tree}
 use Rattle.call_translation.specs.Sites.{site_tree}
 use Rattle.call_translation.specs.SiteEntry.{rows_from}
 use Rattle.call_translation.proofs.entry.dummy_rows.Given as goal

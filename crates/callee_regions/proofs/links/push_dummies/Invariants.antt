@@ -1,5 +1,5 @@
 use Rattle.std.proofs.Common.{◌≡◌, ◌++◌, length, map}
-use Rattle.f77_symbols.specs.Symbols.{symbol_tree}
+use Rattle.f77_ast.specs.Symbols.{symbol_tree}
 use Rattle.call_equations.specs.Sides.{sides_tree}
 use Rattle.callee_regions.specs.Links.{AllLinksFit, dummy_links}
 use Rattle.callee_regions.proofs.links.push_dummies.Given as goal

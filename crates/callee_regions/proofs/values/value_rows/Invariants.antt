@@ -1,7 +1,7 @@
 use Rattle.std.proofs.Common.{◌≡◌, ◌++◌, length, map}
 use Rattle.affine_systems.specs.Given.{IsGiven}
 use Rattle.affine_systems.specs.Rows.{AllRows}
-use Rattle.f77_symbols.specs.Symbols.{symbol_tree}
+use Rattle.f77_ast.specs.Symbols.{symbol_tree}
 use Rattle.call_equations.specs.Sides.{sides_tree}
 use Rattle.callee_regions.specs.Values.{value_rows_from, value_rows}
 use Rattle.callee_regions.proofs.values.value_rows.Given as goal

@@ -2,7 +2,7 @@ use Rattle.std.proofs.Common.{◌≡◌, false, map, sym, subst}
 use Rattle.std.proofs.lemmas.Result.{IfOk-weaker}
 use Rattle.hull_projection.specs.Refute.{refuted}
 use Rattle.f77_ast.specs.PlainStmt.{stmt_trees}
-use Rattle.f77_symbols.specs.Symbols.{symbol_tree}
+use Rattle.f77_ast.specs.Symbols.{symbol_tree}
 use Rattle.loop_bodies.specs.Finding.{loop_in}
 use Rattle.loop_bodies.specs.Given.{known_body}
 use Rattle.dependence_test.specs.declared.answer.Conflict.{Conflict}

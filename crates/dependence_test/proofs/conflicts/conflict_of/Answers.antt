@@ -1,7 +1,7 @@
 use Rattle.std.proofs.Common.{◌≡◌, false, map, sym, subst}
 use Rattle.std.proofs.lemmas.Result.{IfOk-weaker}
 use Rattle.hull_projection.specs.Refute.{refuted}
-use Rattle.f77_symbols.specs.Symbols.{symbol_tree}
+use Rattle.f77_ast.specs.Symbols.{symbol_tree}
 use Rattle.dependence_test.specs.declared.answer.Conflict.{Conflict}
 use Rattle.dependence_test.specs.Conflicts.{kept_system, conflict_of}
 use Rattle.dependence_test.specs.Claims.{DoNotMeet, IfNoConflict, IfKept}

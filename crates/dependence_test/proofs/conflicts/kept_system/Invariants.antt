@@ -1,5 +1,5 @@
 use Rattle.std.proofs.Common.{◌≡◌, length, map}
-use Rattle.f77_symbols.specs.Symbols.{symbol_tree}
+use Rattle.f77_ast.specs.Symbols.{symbol_tree}
 use Rattle.region_sets.specs.Sets.{SetFits}
 use Rattle.dependence_test.specs.Conflicts.{kept_among, kept_system}
 use Rattle.dependence_test.proofs.conflicts.kept_system.Given as goal

@@ -1,8 +1,8 @@
 use Rattle.std.proofs.Common.{◌≡◌, ◌-◌, List, map, sym, ap, ◌∙◌, subst, arith}
 use Rattle.std.specs.Prelude.{IfOk}
 use Rattle.f77_ast.specs.Plain.{expr_trees}
-use Rattle.f77_symbols.specs.declared.variable.Variable.{Variable}
-use Rattle.f77_symbols.specs.Symbols.{symbol_tree}
+use Rattle.f77_ast.specs.declared.variable.Variable.{Variable}
+use Rattle.f77_ast.specs.Symbols.{symbol_tree}
 use Rattle.effects.specs.Callee.{actual_variable}
 use Rattle.effects.proofs.CalleeLaws.{actual-none, actual-some}
 use Rattle.effects.proofs.callee.actual_variable.Goals as goal

@@ -1,6 +1,6 @@
 use Rattle.std.proofs.Common.{◌≡◌, [], ◌∷◌, ◌++◌, map, ap, ◌∙◌}
 use Rattle.f77_ast.specs.PlainStmt.{what_tree}
-use Rattle.f77_symbols.specs.Symbols.{symbol_tree}
+use Rattle.f77_ast.specs.Symbols.{symbol_tree}
 use Rattle.f77_results.specs.Summaries.{summary_in}
 use Rattle.effects.specs.List.{at, at_parts, with_parts}
 use Rattle.effects.proofs.ListLaws.{filled}

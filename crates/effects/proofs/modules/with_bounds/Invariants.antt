@@ -1,5 +1,5 @@
 use Rattle.std.proofs.Common.{◌≡◌, length, map}
-use Rattle.f77_symbols.specs.Symbols.{symbol_tree, bound_tree}
+use Rattle.f77_ast.specs.Symbols.{symbol_tree, bound_tree}
 use Rattle.effects.specs.Modules.{with_bounds}
 use Rattle.effects.proofs.modules.with_bounds.Given as goal
 

@@ -1,5 +1,5 @@
 use Rattle.std.proofs.Common.{◌≡◌, length, map}
-use Rattle.f77_symbols.specs.Symbols.{symbol_tree, bound_tree, value_in}
+use Rattle.f77_ast.specs.Symbols.{symbol_tree, bound_tree, value_in}
 use Rattle.effects.specs.Callee.{same_bounds}
 use Rattle.effects.proofs.shapes.same_bounds.Given as goal
 

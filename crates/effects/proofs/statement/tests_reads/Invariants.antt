@@ -1,6 +1,6 @@
 use Rattle.std.proofs.Common.{◌≡◌, [], drop, map}
 use Rattle.f77_ast.specs.PlainStmt.{arm_trees}
-use Rattle.f77_symbols.specs.Symbols.{symbol_tree}
+use Rattle.f77_ast.specs.Symbols.{symbol_tree}
 use Rattle.effects.specs.Statement.{with_tests}
 use Rattle.effects.proofs.statement.tests_reads.Given as goal
 

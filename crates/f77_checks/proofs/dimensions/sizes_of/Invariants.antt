@@ -1,5 +1,5 @@
 use Rattle.std.proofs.Common.{◌≡◌, drop, map}
-use Rattle.f77_symbols.specs.Symbols.{bound_tree}
+use Rattle.f77_ast.specs.Symbols.{bound_tree}
 use Rattle.f77_names.specs.Views.{table_tree}
 use Rattle.f77_checks.specs.Dimensions.{dims_of}
 use Rattle.f77_checks.specs.Sizes.{dims_tree}

@@ -1,7 +1,7 @@
 use Rattle.std.proofs.Common.{map, sym, ◌∙◌, arith, List}
 use Rattle.std.proofs.lemmas.List.{at_drop_all}
-use Rattle.f77_symbols.specs.declared.symbol.Bound.{Bound}
-use Rattle.f77_symbols.specs.Symbols.{bound_tree}
+use Rattle.f77_ast.specs.declared.symbol.Bound.{Bound}
+use Rattle.f77_ast.specs.Symbols.{bound_tree}
 use Rattle.f77_names.specs.Views.{table_tree}
 use Rattle.f77_checks.specs.Dimensions.{dims_of}
 use Rattle.f77_checks.specs.Sizes.{capped_units}

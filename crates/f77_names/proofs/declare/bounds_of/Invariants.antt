@@ -1,6 +1,6 @@
 use Rattle.std.proofs.Common.{◌≡◌, take, map}
 use Rattle.f77_ast.specs.PlainDecl.{extent_tree}
-use Rattle.f77_symbols.specs.Symbols.{bound_tree}
+use Rattle.f77_ast.specs.Symbols.{bound_tree}
 use Rattle.f77_names.specs.Declaring.{bound_of}
 use Rattle.f77_names.proofs.declare.bounds_of.Given as goal
 

@@ -1,5 +1,5 @@
 use Rattle.std.proofs.Common.{◌≡◌, length, ◌≤◌, drop, map}
-use Rattle.f77_symbols.specs.Symbols.{symbol_tree}
+use Rattle.f77_ast.specs.Symbols.{symbol_tree}
 use Rattle.transformers.specs.Lists.{transformer_at}
 use Rattle.region_sets.specs.Sets.{SetFits}
 use Rattle.in_out_regions.specs.Lists.{set_at, ins_in_order}

@@ -1,7 +1,7 @@
 use Rattle.std.proofs.Common.{◌≡◌, List, map, sym, subst}
 use Rattle.std.proofs.lemmas.Result.{IfOk-weaker}
 use Rattle.f77_ast.specs.PlainStmt.{stmt_trees}
-use Rattle.f77_symbols.specs.Symbols.{symbol_tree}
+use Rattle.f77_ast.specs.Symbols.{symbol_tree}
 use Rattle.transformers.specs.Lists.{transformer_at}
 use Rattle.region_sets.specs.declared.region.Region.{Region}
 use Rattle.in_out_regions.specs.Lists.{set_at, list_in}

@@ -1,5 +1,5 @@
 use Rattle.std.proofs.Common.{◌≡◌, length, map}
-use Rattle.f77_symbols.specs.Symbols.{symbol_tree}
+use Rattle.f77_ast.specs.Symbols.{symbol_tree}
 use Rattle.in_out_regions.specs.Writes.{is_overlapped}
 use Rattle.in_out_regions.proofs.writes.is_overlapped.Given as goal
 

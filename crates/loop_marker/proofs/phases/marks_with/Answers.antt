@@ -1,8 +1,8 @@
 use Rattle.std.proofs.Common.{◌≡◌, ℕ, List, subst, map}
 use Rattle.std.specs.Prelude.{IfOk}
 use Rattle.f77_ast.specs.PlainDecl.{module_tree}
-use Rattle.f77_symbols.specs.Symbols.{symbol_tree}
-use Rattle.f77_symbols.specs.Index.{names_of}
+use Rattle.f77_ast.specs.Symbols.{symbol_tree}
+use Rattle.f77_ast.specs.Index.{names_of}
 use Rattle.call_translation.specs.Scopes.{ScopeTree}
 use Rattle.scalar_phases.specs.Phases.{scope_of}
 use Rattle.scalar_phases.specs.Views.{known}

@@ -1,7 +1,7 @@
 use Rattle.std.proofs.Common.{◌≡◌, ◌++◌, drop}
 use Rattle.f77_ast.specs.PlainStmt.{stmt_trees, arm_trees}
 use Rattle.f77_ast.specs.Shapes.{walk_list, walk_arms}
-use Rattle.f77_symbols.specs.Index.{names_of}
+use Rattle.f77_ast.specs.Index.{names_of}
 use Rattle.loop_marker.specs.Variables.{the_indexes}
 use Rattle.loop_marker.proofs.variables.+indexes.Given as goal
 

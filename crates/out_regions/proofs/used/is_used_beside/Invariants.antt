@@ -1,5 +1,5 @@
 use Rattle.std.proofs.Common.{◌≡◌, length, map}
-use Rattle.f77_symbols.specs.Symbols.{symbol_tree}
+use Rattle.f77_ast.specs.Symbols.{symbol_tree}
 use Rattle.out_regions.specs.Used.{is_used_beside}
 use Rattle.out_regions.proofs.used.is_used_beside.Given as goal
 

@@ -1,5 +1,5 @@
 use Rattle.std.proofs.Common.{◌≡◌, ◌++◌, length, map}
-use Rattle.f77_symbols.specs.Symbols.{symbol_tree}
+use Rattle.f77_ast.specs.Symbols.{symbol_tree}
 use Rattle.region_sets.specs.Sets.{SetFits}
 use Rattle.out_regions.specs.Used.{used}
 use Rattle.out_regions.proofs.used.used.Given as goal

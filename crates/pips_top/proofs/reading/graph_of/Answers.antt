@@ -1,6 +1,6 @@
 use Rattle.std.proofs.Common.{map, ap}
 use Rattle.f77_ast.specs.PlainDecl.{parsed_tree}
-use Rattle.f77_symbols.specs.Symbols.{symbol_tree}
+use Rattle.f77_ast.specs.Symbols.{symbol_tree}
 use Rattle.call_graph.specs.Links.{link_of}
 use Rattle.pips_top.specs.Reading.{graph_or}
 use Rattle.pips_top.proofs.LinkLaws.{refused_links}

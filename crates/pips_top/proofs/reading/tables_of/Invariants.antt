@@ -1,6 +1,6 @@
 use Rattle.std.proofs.Common.{◌≡◌, drop, length, map}
 use Rattle.f77_ast.specs.PlainDecl.{parsed_tree}
-use Rattle.f77_symbols.specs.Symbols.{symbol_tree}
+use Rattle.f77_ast.specs.Symbols.{symbol_tree}
 use Rattle.pips_top.specs.Reading.{tables_of}
 use Rattle.pips_top.proofs.SymbolLaws.{remaining}
 use Rattle.pips_top.proofs.reading.tables_of.Given as goal

@@ -11,6 +11,7 @@ use Rattle.result_store.specs.Rows.{shelves_of}
 use Rattle.pipsmake_base.specs.Saved.{text_at, texts_in}
 use Rattle.pipsmake_base.specs.Taken.{KeepsAll}
 use Rattle.pipsmake_base.proofs.LoadLaws.{values_fit, in_plain, is_loaded}
+use Rattle.pipsmake_base.proofs.WholeLaws.{rests_loaded}
 use Rattle.pipsmake_base.proofs.loading.load.Goals as goal
 
 pub over_texts-requires : goal.over_texts-requires
@@ -51,3 +52,14 @@ returns-clause-stands c =
     let stands : StandsFor old (texts_in base) none_made = subst (λ ts. StandsFor old ts none_made) (ap (map text_at) c.as_slice-2.ensures) c.in_ok-db.ensures.stands in
     let kept : KeepsAll (texts_in base) mid c.in_ok-fresh.fresh (shelves_in d) = subst (λ ts. KeepsAll ts mid c.in_ok-fresh.fresh (shelves_in d)) (c.links.ensures.same ∙ texts) c.in_ok-keep_all.ensures.ok in
     λ saved. is_loaded base old mid d c.in_ok-fresh.fresh stands c.in_ok-fresh.ensures kept (c.give_back.ensures ∙ c.keep_all.ensures.same ∙ c.links.ensures.same ∙ texts) refl saved
+
+pub returns-clause-rests : goal.returns-clause-rests
+returns-clause-rests c =
+    let base = c.args.base in
+    let d : Db = record { linked = c.give_back.new.self; store = c.keep_all.new.db.store; fresh = c.in_ok-fresh.fresh } in
+    let old = shelves_in c.in_ok-db.db in
+    let mid = shelves_of c.see_results.new.store in
+    let texts : texts_of c.in_ok-db.db ≡ texts_in base = c.in_ok-db.ensures.texts ∙ ap (map text_at) c.as_slice-2.ensures in
+    let stands : StandsFor old (texts_in base) none_made = subst (λ ts. StandsFor old ts none_made) (ap (map text_at) c.as_slice-2.ensures) c.in_ok-db.ensures.stands in
+    let kept : KeepsAll (texts_in base) mid c.in_ok-fresh.fresh (shelves_in d) = subst (λ ts. KeepsAll ts mid c.in_ok-fresh.fresh (shelves_in d)) (c.links.ensures.same ∙ texts) c.in_ok-keep_all.ensures.ok in
+    rests_loaded base (module_names_in base.modules) old mid d c.in_ok-fresh.fresh c.requires.ordered stands c.in_ok-fresh.ensures kept (c.give_back.ensures ∙ c.keep_all.ensures.same ∙ c.links.ensures.same ∙ texts)

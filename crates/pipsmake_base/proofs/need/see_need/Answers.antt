@@ -9,4 +9,5 @@ returns-then-there-clause-ok c = seen_already c.args.modules.now.sources.now (sh
 
 pub returns-clause-ok : goal.returns-clause-ok
 returns-clause-ok c =
-    seen_now c.args.modules.now.sources.now (shelves_of c.args.store.now) (shelves_of c.see_value.new.store) c.args.seen.now c.see_value.new.seen c.args.need.now (value_tree c.in_ok-value.value) c.in_ok-value.ensures.value c.in_ok-see_value.ensures
+    seen_now c.args.modules.now.sources.now (shelves_of c.args.store.now) (shelves_of c.see_value.new.store) c.args.seen.now c.see_value.new.seen c.args.need.now (value_tree c.in_ok-value.value)
+    (sym c.in_ok-there.ensures ∙ c.if-there.false) c.in_ok-value.ensures.value c.in_ok-see_value.ensures

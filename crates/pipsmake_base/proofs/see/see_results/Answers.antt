@@ -3,7 +3,7 @@ use Rattle.result_store.specs.Fits.{ValueFits}
 use Rattle.result_store.specs.Rows.{shelves_of}
 use Rattle.pipsmake_base.specs.Saved.{value_in}
 use Rattle.pipsmake_base.specs.Taken.{SeesFirst}
-use Rattle.pipsmake_base.proofs.Taking.{SeesRest, sees_none, sees_more}
+use Rattle.pipsmake_base.proofs.Taking.{SeesRest, sees_none, sees_more, sees_all}
 use Rattle.pipsmake_base.proofs.see.see_results.Goals as goal
 
 pub loop-stored-init : goal.loop-stored-init
@@ -28,3 +28,9 @@ loop-stored-preserved c =
     sees_more old c.args.results sh new c.loop-stored.seen c.see_value.new.seen c.in-Some.stored c.pop.new.self
     (subst (SeesRest old c.args.results sh c.loop-stored.seen) c.in-Some.ensures c.loop-stored.invariant)
     (subst (λ k. SeesFirst sh c.loop-stored.seen (record { kind = k; name = stored.name }) (value_in stored.value) new c.see_value.new.seen) c.kind_of.ensures named)
+
+pub returns : goal.returns
+returns c =
+    let old = shelves_of c.args.store.now in
+    let sh = shelves_of c.loop-stored.store in
+    sees_all old c.args.results sh c.loop-stored.seen (subst (SeesRest old c.args.results sh c.loop-stored.seen) c.in_default.ensures.0 c.loop-stored.invariant)

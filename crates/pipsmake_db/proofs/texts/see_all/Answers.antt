@@ -2,11 +2,18 @@ use Rattle.std.proofs.Common.{map, subst}
 use Rattle.result_store.specs.Rows.{shelves_of}
 use Rattle.session_texts.specs.Modules.{source_text}
 use Rattle.pipsmake_db.proofs.ListLaws.{first-rest}
-use Rattle.pipsmake_db.proofs.TextLaws.{Sees, stands_same, still_stands, sees_more}
+use Rattle.pipsmake_db.proofs.RestLaws.{rests_same}
+use Rattle.pipsmake_db.proofs.TextLaws.{Sees, stands_same, still_stands, still_rests, sees_more}
 use Rattle.pipsmake_db.proofs.texts.see_all.Goals as goal
 
 pub returns-in_err-seen-clause-stands : goal.returns-in_err-seen-clause-stands
 returns-in_err-seen-clause-stands c = λ ts made s. stands_same (shelves_of c.loop-rest.store) (shelves_of c.see.new.store) c.in_err-seen.ensures.err ts made (c.loop-rest.invariant.stands ts made s)
+
+pub returns-in_err-seen-clause-rests : goal.returns-in_err-seen-clause-rests
+returns-in_err-seen-clause-rests c = λ ts d r. rests_same (shelves_of c.loop-rest.store) (shelves_of c.see.new.store) c.in_err-seen.ensures.err ts d (c.loop-rest.invariant.rests ts d r)
+
+pub returns-in_err-push-clause-rests : goal.returns-in_err-push-clause-rests
+returns-in_err-push-clause-rests c = still_rests (shelves_of c.args.store.now) (shelves_of c.loop-rest.store) (shelves_of c.see.new.store) (source_text c.source-item.result) c.in_ok-seen.seen c.loop-rest.invariant.rests c.in_ok-seen.ensures.ok
 
 pub returns-in_err-push-clause-stands : goal.returns-in_err-push-clause-stands
 returns-in_err-push-clause-stands c =

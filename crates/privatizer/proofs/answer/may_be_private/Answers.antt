@@ -2,7 +2,7 @@ use Rattle.std.proofs.Common.{◌≡◌, map, sym, subst}
 use Rattle.std.proofs.lemmas.Result.{IfOk-weaker}
 use Rattle.f77_ast.specs.PlainDecl.{module_tree}
 use Rattle.f77_ast.specs.PlainStmt.{stmt_trees}
-use Rattle.f77_symbols.specs.Symbols.{symbol_tree}
+use Rattle.f77_ast.specs.Symbols.{symbol_tree}
 use Rattle.region_sets.specs.declared.marks.Private.{Private}
 use Rattle.loop_bodies.specs.Finding.{loop_in}
 use Rattle.privatizer.specs.Uses.{known_uses}

@@ -1,6 +1,6 @@
 use Rattle.std.proofs.Common.{◌≡◌, List, map, ap}
 use Rattle.std.proofs.lemmas.Result.{IfOk-weaker}
-use Rattle.f77_symbols.specs.Symbols.{symbol_tree}
+use Rattle.f77_ast.specs.Symbols.{symbol_tree}
 use Rattle.call_translation.specs.Sites.{site_tree, sites_in}
 use Rattle.region_sets.specs.declared.region.Region.{Region}
 use Rattle.callee_regions.specs.Units.{size_in}

@@ -1,5 +1,5 @@
 use Rattle.std.proofs.Common.{◌≡◌, ◌++◌, drop}
-use Rattle.f77_symbols.specs.Index.{names_of}
+use Rattle.f77_ast.specs.Index.{names_of}
 use Rattle.region_sets.proofs.text.all_names.Given as goal
 
 abbrev pub invariant-loop-symbol : goal.invariant-loop-symbol

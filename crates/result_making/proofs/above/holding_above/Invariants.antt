@@ -1,5 +1,5 @@
 use Rattle.std.proofs.Common.{◌≡◌, ◌++◌, map, length}
-use Rattle.result_rules.specs.Callers.{holds_tree, AllHold}
+use Rattle.region_phases.specs.Callers.{holds_tree, AllHold}
 use Rattle.laws_database.specs.Rules.{holding_callers}
 use Rattle.result_store.specs.Rows.{shelves_of}
 use Rattle.result_making.proofs.above.holding_above.Given as goal

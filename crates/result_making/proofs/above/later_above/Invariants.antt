@@ -1,5 +1,5 @@
 use Rattle.std.proofs.Common.{◌≡◌, ◌++◌, map, length}
-use Rattle.result_rules.specs.Callers.{outs_tree, AllOuts}
+use Rattle.region_phases.specs.Callers.{outs_tree, AllOuts}
 use Rattle.laws_database.specs.Rules.{later_callers}
 use Rattle.result_store.specs.Rows.{shelves_of}
 use Rattle.result_making.proofs.above.later_above.Given as goal

@@ -1,5 +1,5 @@
 use Rattle.std.proofs.Common.{◌≡◌, ◌++◌, map, length}
-use Rattle.result_rules.specs.Callees.{callee_tree, AllSetsFit}
+use Rattle.region_phases.specs.Callees.{callee_tree, AllSetsFit}
 use Rattle.laws_database.specs.Rules.{regions_kept, callees_with}
 use Rattle.result_store.specs.Rows.{shelves_of}
 use Rattle.result_making.proofs.below.regions_below.Given as goal

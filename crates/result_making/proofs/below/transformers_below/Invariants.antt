@@ -1,5 +1,5 @@
 use Rattle.std.proofs.Common.{◌≡◌, ◌++◌, map, length}
-use Rattle.result_rules.specs.Callees.{callee_tree, AllFit}
+use Rattle.region_phases.specs.Callees.{callee_tree, AllFit}
 use Rattle.laws_database.specs.Rules.{transformers_kept, callees_with}
 use Rattle.result_store.specs.Rows.{shelves_of}
 use Rattle.result_making.proofs.below.transformers_below.Given as goal

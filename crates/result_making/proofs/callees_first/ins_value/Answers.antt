@@ -5,9 +5,9 @@ use Rattle.f77_results.specs.declared.results.Results.{Results}
 use Rattle.transformer_algebra.specs.declared.transformer.Transformer.{Transformer}
 use Rattle.region_sets.specs.declared.region.Region.{Region}
 use Rattle.pipsmake_rules.specs.Neighbours.{callees_of}
-use Rattle.result_rules.specs.declared.callees.Callee.{Callee}
-use Rattle.result_rules.specs.Callees.{callee_tree}
-use Rattle.result_rules.specs.Rules.{ins_from}
+use Rattle.region_phases.specs.declared.callees.Callee.{Callee}
+use Rattle.region_phases.specs.Callees.{callee_tree}
+use Rattle.region_phases.specs.Rules.{ins_from}
 use Rattle.laws_database.specs.Texts.{graph_of}
 use Rattle.laws_database.specs.Rules.{known, transformers_kept, regions_kept, ins_kept, callees_with}
 use Rattle.laws_database.specs.Values.{Value, ins}

@@ -3,9 +3,9 @@ use Rattle.call_graph.specs.declared.graph.Graph.{Graph}
 use Rattle.f77_results.specs.declared.results.Results.{Results}
 use Rattle.transformer_algebra.specs.declared.transformer.Transformer.{Transformer}
 use Rattle.pipsmake_rules.specs.Neighbours.{callees_of}
-use Rattle.result_rules.specs.declared.callees.Callee.{Callee}
-use Rattle.result_rules.specs.Callees.{callee_tree}
-use Rattle.result_rules.specs.Rules.{transformers_from}
+use Rattle.region_phases.specs.declared.callees.Callee.{Callee}
+use Rattle.region_phases.specs.Callees.{callee_tree}
+use Rattle.region_phases.specs.Rules.{transformers_from}
 use Rattle.laws_database.specs.Rules.{known, transformers_kept, callees_with}
 use Rattle.laws_database.specs.Values.{transformers}
 use Rattle.result_store.specs.Rows.{shelves_of}

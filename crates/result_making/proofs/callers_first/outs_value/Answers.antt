@@ -5,9 +5,9 @@ use Rattle.f77_results.specs.declared.results.Results.{Results}
 use Rattle.transformer_algebra.specs.declared.transformer.Transformer.{Transformer}
 use Rattle.region_sets.specs.declared.region.Region.{Region}
 use Rattle.pipsmake_rules.specs.Neighbours.{callers_of}
-use Rattle.result_rules.specs.declared.callers.CallerOuts.{CallerOuts}
-use Rattle.result_rules.specs.Callers.{outs_tree}
-use Rattle.result_rules.specs.Rules.{outs_from}
+use Rattle.region_phases.specs.declared.callers.CallerOuts.{CallerOuts}
+use Rattle.region_phases.specs.Callers.{outs_tree}
+use Rattle.region_phases.specs.Rules.{outs_from}
 use Rattle.laws_database.specs.Texts.{graph_of}
 use Rattle.laws_database.specs.Rules.{known, transformers_kept, regions_kept, ins_kept, later_callers}
 use Rattle.laws_database.specs.Values.{Value, outs}

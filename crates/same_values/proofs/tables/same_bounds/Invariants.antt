@@ -1,6 +1,6 @@
 use Rattle.std.proofs.Common.{◌≡◌, length, map}
 use Rattle.std.specs.Cmp.Lexicographic.{pointwise}
-use Rattle.f77_symbols.specs.Symbols.{bound_tree}
+use Rattle.f77_ast.specs.Symbols.{bound_tree}
 use Rattle.same_values.specs.SymbolTests.{bound_test}
 use Rattle.same_values.proofs.tables.same_bounds.Given as goal
 

@@ -1,5 +1,5 @@
 use Rattle.std.proofs.Common.{◌≡◌, Bool, true, sym, subst, map, rules}
-use Rattle.f77_symbols.specs.Symbols.{symbol_tree}
+use Rattle.f77_ast.specs.Symbols.{symbol_tree}
 use Rattle.std.specs.Cmp.Lexicographic.{pointwise}
 use Rattle.same_values.specs.SymbolTests.{symbol_test}
 use Rattle.same_values.proofs.SymbolLaws.{symbols_decide}

@@ -1,6 +1,6 @@
 use Rattle.std.proofs.Common.{◌≡◌, length, map}
 use Rattle.std.specs.Cmp.Lexicographic.{pointwise}
-use Rattle.f77_symbols.specs.Symbols.{symbol_tree}
+use Rattle.f77_ast.specs.Symbols.{symbol_tree}
 use Rattle.same_values.specs.SymbolTests.{symbol_test}
 use Rattle.same_values.proofs.tables.symbols_test.Given as goal
 

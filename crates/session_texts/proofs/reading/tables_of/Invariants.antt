@@ -1,6 +1,6 @@
 use Rattle.std.proofs.Common.{◌≡◌, drop, map}
 use Rattle.f77_ast.specs.PlainDecl.{parsed_tree}
-use Rattle.f77_symbols.specs.Symbols.{symbol_tree}
+use Rattle.f77_ast.specs.Symbols.{symbol_tree}
 use Rattle.session_texts.specs.Sources.{tables_of}
 use Rattle.session_texts.proofs.SymbolLaws.{remaining}
 use Rattle.session_texts.proofs.reading.tables_of.Given as goal

@@ -1,6 +1,6 @@
 use Rattle.std.proofs.Common.{◌≡◌, sym, pos, ◌≤ℤ◌, arith, w64, to_z, of_z}
 use Rattle.std.proofs.lemmas.Int.{ints}
-use Rattle.f77_symbols.proofs.UnitsLaws.{as_count-none, as_count-is}
+use Rattle.f77_ast.proofs.UnitsLaws.{as_count-none, as_count-is}
 use Rattle.storage_data.proofs.numbers.as_count.Goals as goal
 
 pub returns-then-n-lt0 : goal.returns-then-n-lt0

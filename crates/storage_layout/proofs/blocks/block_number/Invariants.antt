@@ -1,5 +1,5 @@
 use Rattle.std.proofs.Common.{◌≡◌, drop}
-use Rattle.f77_symbols.specs.Symbols.{number_from}
+use Rattle.f77_ast.specs.Symbols.{number_from}
 use Rattle.storage_layout.proofs.blocks.block_number.Given as goal
 
 abbrev pub invariant-loop-place : goal.invariant-loop-place

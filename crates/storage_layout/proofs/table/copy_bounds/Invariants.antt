@@ -1,5 +1,5 @@
 use Rattle.std.proofs.Common.{◌≡◌, ◌++◌, drop, map}
-use Rattle.f77_symbols.specs.Symbols.{bound_tree}
+use Rattle.f77_ast.specs.Symbols.{bound_tree}
 use Rattle.storage_layout.proofs.table.copy_bounds.Given as goal
 
 abbrev pub invariant-loop-bound : goal.invariant-loop-bound

@@ -1,6 +1,6 @@
 use Rattle.std.proofs.Common.{◌≡◌, ℕ, Bool, List, map, subst}
 use Rattle.std.specs.Prelude.{IfOk}
-use Rattle.f77_symbols.specs.Symbols.{symbol_tree}
+use Rattle.f77_ast.specs.Symbols.{symbol_tree}
 use Rattle.tracked_cells.specs.Tracked.{is_tracked}
 use Rattle.tracked_cells.proofs.cells.tracked_flags.Goals as goal
 

@@ -1,5 +1,5 @@
 use Rattle.std.proofs.Common.{◌≡◌, length, map}
-use Rattle.f77_symbols.specs.Symbols.{symbol_tree}
+use Rattle.f77_ast.specs.Symbols.{symbol_tree}
 use Rattle.tracked_cells.specs.Standing.{two_at}
 use Rattle.tracked_cells.proofs.standing.two_at.Given as goal
 

@@ -1,8 +1,8 @@
 use Rattle.std.proofs.Common.{◌≡◌, List, map, ap, ◌∙◌, subst}
 use Rattle.std.specs.Prelude.{IfOk, []}
 use Rattle.f77_ast.specs.PlainDecl.{parsed_tree}
-use Rattle.f77_symbols.specs.Symbols.{symbol_tree}
-use Rattle.f77_symbols.specs.declared.variable.Unit.{Unit as BlockUnit}
+use Rattle.f77_ast.specs.Symbols.{symbol_tree}
+use Rattle.f77_ast.specs.declared.variable.Unit.{Unit as BlockUnit}
 use Rattle.tracked_cells.specs.Scalars.{all_scalars, keyed}
 use Rattle.tracked_cells.specs.Untracked.{spoilt, untracked_of}
 use Rattle.tracked_cells.proofs.untracked.untracked_of.Goals as goal

@@ -1,7 +1,7 @@
 use Rattle.std.proofs.Common.{◌≡◌, ◌++◌, length, map}
 use Rattle.std.specs.Prelude.{filter}
 use Rattle.hull_projection.specs.Variables.{row_vars}
-use Rattle.f77_symbols.specs.Symbols.{symbol_tree}
+use Rattle.f77_ast.specs.Symbols.{symbol_tree}
 use Rattle.transformers.specs.Modules.{stays_in}
 use Rattle.transformers.proofs.modules.hidden_vars.Given as goal
 

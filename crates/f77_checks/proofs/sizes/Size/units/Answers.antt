@@ -1,7 +1,7 @@
 use Rattle.std.proofs.Common.{◌≡◌, ℤ, pos, ◌+ℤ◌, ◌-ℤ◌, ◌≤ℤ◌, arith, w64, to_z}
 use mir.Val.{of_z}
 use Rattle.std.proofs.lemmas.Int.{ints}
-use Rattle.f77_symbols.proofs.UnitsLaws.{as_count-is}
+use Rattle.f77_ast.proofs.UnitsLaws.{as_count-is}
 use Rattle.f77_checks.proofs.sizes.Size.units.Goals as goal
 
 abbrev held : ℤ → ℤ

@@ -1,5 +1,5 @@
 use Rattle.std.proofs.Common.{map, false, sym, ap, ◌∙◌, subst}
-use Rattle.f77_symbols.specs.Index.{Indexes}
+use Rattle.f77_ast.specs.Index.{Indexes}
 use Rattle.f77_names.specs.Entries.{entry_tree, changed, find, entry_names, of_entry, place_in}
 use Rattle.f77_names.specs.Words.{with_word, was_said}
 use Rattle.f77_names.proofs.NamesLaws.{find-none, find-at, changed-none, changed-at, entry_names-changed}

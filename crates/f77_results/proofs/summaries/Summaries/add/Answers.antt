@@ -1,5 +1,5 @@
 use Rattle.std.proofs.Common.{List, ap, ◌∙◌, map}
-use Rattle.f77_symbols.specs.Symbols.{SymbolTree, symbol_tree}
+use Rattle.f77_ast.specs.Symbols.{SymbolTree, symbol_tree}
 use Rattle.f77_results.specs.declared.summaries.Summary.{Summary}
 use Rattle.f77_results.specs.Summaries.{SummaryTree}
 use Rattle.f77_results.proofs.MapLaws.{added}

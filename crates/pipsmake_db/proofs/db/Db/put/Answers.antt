@@ -21,6 +21,6 @@ pub returns-clause-ok : goal.returns-clause-ok
 returns-clause-ok c =
     let new = shelves_of c.keep_all.new.store in
     are_put c.texts_may_change.ensures c.texts_after_changes.ensures.put c.changes_keep_modules.ensures.put c.args.self.now (record { linked = c.put.new.self; store = c.keep_all.new.store; fresh = c.new.result }) c.args.found c.requires.modules
-    c.in_ok-seen.seen c.see_all.new.store c.in_ok-names.names (c.in_ok-names.ensures ∙ ap (λ fs. names_in (map source_text fs)) c.as_slice.ensures) c.see_all.ensures.stands
-    (subst (λ fs. ArePlaced (shelves_of c.see_all.new.store) (map source_text fs) c.in_ok-seen.seen) c.as_slice-2.ensures c.in_ok-seen.ensures.placed) c.new.ensures c.in_ok-put.ensures.ok
+    c.in_ok-seen.seen c.see_all.new.store c.in_ok-names.names (c.in_ok-names.ensures ∙ ap (λ fs. names_in (map source_text fs)) c.as_slice.ensures) c.see_all.ensures.stands c.see_all.ensures.rests
+    (subst (λ fs. ArePlaced (shelves_of c.see_all.new.store) (map source_text fs) c.in_ok-seen.seen) c.as_slice-2.ensures c.in_ok-seen.ensures.placed) c.new.ensures c.texts_after_changes.ensures.replaced c.requires.differ c.in_ok-put.ensures.ok
     (subst (λ ss. KeepsTexts (shelves_of c.see_all.new.store) ss new) c.as_slice-3.ensures c.keep_all.ensures)

@@ -1,5 +1,5 @@
 use Rattle.std.proofs.Common.{◌≡◌, length, Some, None, subst, ap, ◌∙◌, rules, arith}
-use Rattle.f77_symbols.specs.Symbols.{number_from}
+use Rattle.f77_ast.specs.Symbols.{number_from}
 use Rattle.result_store.specs.Rows.{row_tree, names_of, shelves_of}
 use Rattle.result_store.specs.RowChanges.{IsEmptyRow}
 use Rattle.result_store.proofs.StoreLaws.{place_of_more, same_with_more}

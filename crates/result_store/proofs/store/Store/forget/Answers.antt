@@ -1,5 +1,5 @@
 use Rattle.std.proofs.Common.{set, ap, subst, sym, ◌∙◌}
-use Rattle.f77_symbols.specs.Symbols.{number_from}
+use Rattle.f77_ast.specs.Symbols.{number_from}
 use Rattle.laws_database.specs.Shelves.{Forgets}
 use Rattle.result_store.specs.Rows.{names_of, shelves_of}
 use Rattle.result_store.proofs.StoreLaws.{row_fits, rows_after, row_forgotten, no_name_forgets}

@@ -1,5 +1,5 @@
 use Rattle.std.proofs.Common.{map, set, ap, ◌∙◌}
-use Rattle.f77_symbols.specs.Symbols.{number_from}
+use Rattle.f77_ast.specs.Symbols.{number_from}
 use Rattle.laws_database.specs.Making.{AllStay}
 use Rattle.result_store.specs.Rows.{row_tree, names_of, shelves_of}
 use Rattle.result_store.specs.Values.{item_of, value_tree, stamped_tree}

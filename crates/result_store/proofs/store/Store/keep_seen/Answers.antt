@@ -1,5 +1,5 @@
 use Rattle.std.proofs.Common.{map, set, sym, subst, ap, ◌∙◌}
-use Rattle.f77_symbols.specs.Symbols.{number_from}
+use Rattle.f77_ast.specs.Symbols.{number_from}
 use Rattle.result_store.specs.Rows.{row_tree, names_of, shelves_of}
 use Rattle.result_store.specs.Seen.{KeepsSeen}
 use Rattle.result_store.specs.Values.{item_of, stamped_tree}

@@ -1,5 +1,5 @@
 use Rattle.std.proofs.Common.{get_or, sym, ap, ◌∙◌}
-use Rattle.f77_symbols.specs.Symbols.{number_from}
+use Rattle.f77_ast.specs.Symbols.{number_from}
 use Rattle.result_store.specs.Rows.{names_of}
 use Rattle.result_store.proofs.StoreLaws.{no_row, row_found, row_fits}
 use Rattle.result_store.proofs.store.Store.row.Goals as goal

@@ -1,6 +1,6 @@
 use Rattle.std.proofs.Common.{map, sym, ap, ◌∙◌}
 use Rattle.std.specs.Prelude.{option_map}
-use Rattle.f77_symbols.specs.Symbols.{symbol_tree}
+use Rattle.f77_ast.specs.Symbols.{symbol_tree}
 use Rattle.laws_database.specs.Texts.{ReadModule}
 use Rattle.laws_database.specs.Definitions.{module_named}
 use Rattle.session_texts.proofs.Named.{table_missing, table_found}

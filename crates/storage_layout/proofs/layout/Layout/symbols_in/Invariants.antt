@@ -1,5 +1,5 @@
 use Rattle.std.proofs.Common.{◌≡◌, ◌++◌, drop, map}
-use Rattle.f77_symbols.specs.Symbols.{symbol_tree}
+use Rattle.f77_ast.specs.Symbols.{symbol_tree}
 use Rattle.f77_names.specs.Entries.{entry_tree}
 use Rattle.storage_layout.specs.Table.{symbols_from, symbols_in}
 use Rattle.storage_layout.specs.Views.{layout_tree}

@@ -1,5 +1,0 @@
-use Rattle.f77_symbols.proofs.StorageLaws.{sizes_are_reached}
-use Rattle.f77_symbols.proofs.storages.sizes_are_reached.Goals as goal
-
-pub returns : goal.returns
-returns c = sizes_are_reached

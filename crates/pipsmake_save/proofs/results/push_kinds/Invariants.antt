@@ -1,9 +1,0 @@
-use Rattle.std.proofs.Common.{◌≡◌, ◌++◌, length}
-use Rattle.pipsmake_save.specs.Saving.{results_of_kinds}
-use Rattle.pipsmake_save.proofs.results.push_kinds.Given as goal
-
-abbrev pub invariant-loop-rest : goal.invariant-loop-rest
-invariant-loop-rest l = l.results ++ results_of_kinds l.db l.name l.rest ≡ l.fn.results ++ results_of_kinds l.db l.name l.fn.kinds
-
-abbrev pub decreases-loop-rest : goal.decreases-loop-rest
-decreases-loop-rest l = length l.rest

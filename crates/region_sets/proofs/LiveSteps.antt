@@ -1,0 +1,188 @@
+-- Regions that are handed on: what is left of them, and their place in a set.
+use Rattle.std.proofs.Common.{◌≡◌, ℕ, ◌+◌, ◌-◌, ◌<◌, ◌≤◌, Bool, true, false, List, [], ◌∷◌, ◌++◌, length, take, get_or, reverse, append_assoc, append-nil, length-append, take_all, ap, ap₂, refl, sym, subst, ◌∙◌, arith}
+use Rattle.std.specs.Prelude.{if◌then◌else◌, not, ◌&&◌}
+use Rattle.std.specs.declared.cmp.Ordering.TheVariants.{Less}
+use Rattle.std.proofs.lemmas.List.{reverse-append, reverse-reverse, take_more}
+use Rattle.affine_systems.specs.declared.row.System.{System}
+use Rattle.affine_systems.proofs.Basics.{if_cases}
+use Rattle.affine_systems.proofs.ItemSteps.{reverse_pushed}
+use Rattle.hull_projection.specs.Minus.{AllFit}
+use Rattle.hull_projection.specs.Refute.{refuted}
+use Rattle.region_sets.specs.declared.region.Region.{Region}
+use Rattle.region_sets.specs.Regions.{RegionFits, region, remade, any_weak}
+use Rattle.region_sets.specs.Sets.{SetFits, ComeBefore, region_cmp, live_pieces, with_pieces, with_region, with_live, with_regions, live}
+use Rattle.region_sets.proofs.Steps.{set-push}
+use Rattle.region_sets.proofs.SetSteps.{come_same, come_back, come_chain, come_none, live_more, gather_fits}
+
+-- ---- pieces and regions that are not refuted
+
+pub piece_stays : (s : System) (ss : List System) → refuted s.rows ≡ false → live_pieces ss ≡ ss → live_pieces (s ∷ ss) ≡ s ∷ ss
+piece_stays s ss e h = rw e (ap (λ (ts : List System). s ∷ ts) h)
+
+live_pieces_fit : (ss : List System) → AllFit ss → AllFit (live_pieces ss)
+live_pieces_fit [] h = tt
+live_pieces_fit (s ∷ ss) h = if_cases AllFit (refuted s.rows) (live_pieces ss) (s ∷ live_pieces ss) (λ e. live_pieces_fit ss h.1) (λ e. (h.0, live_pieces_fit ss h.1))
+
+-- a region of other pieces
+alive_some : (r : Region) (p : System) (ss : List System) → p ∷ ss ≡ live_pieces r.pieces → remade r r.exact (p ∷ ss) ∷ [] ≡ live (r ∷ [])
+alive_some r p ss e = ap (λ (ts : List System). with_pieces r ts (λ s. s ∷ []) []) e
+
+pub alive_none : (r : Region) (ss : List System) → ss ≡ live_pieces r.pieces → ss ≡ [] → [] ≡ live (r ∷ [])
+alive_none r ss e f = ap (λ (ts : List System). with_pieces r ts (λ s. s ∷ []) []) (sym f ∙ e)
+
+alive_more : (r : Region) (ss : List System) → ss ≡ live_pieces r.pieces → (ss ≡ [] → ⊥) → remade r r.exact ss ∷ [] ≡ live (r ∷ [])
+alive_more r [] e f = absurd (f refl)
+alive_more r (p ∷ ss) e f = alive_some r p ss e
+
+pub alive_is : (r : Region) (ss us : List System) (b : Bool) → ss ≡ live_pieces r.pieces → (ss ≡ [] → ⊥) → us ≡ ss → b ≡ (r.exact && not (any_weak us)) → region r.variable r.kind b ss ∷ [] ≡ live (r ∷ [])
+alive_is r ss us b e f u x =
+    ap (λ c. region r.variable r.kind c ss ∷ []) (x ∙ ap (λ (ts : List System). r.exact && not (any_weak ts)) u) ∙ alive_more r ss e f
+
+live_append : (rs ss : List Region) → live (rs ++ ss) ≡ live rs ++ live ss
+live_append [] ss = refl
+live_append (r ∷ rs) ss =
+    live_more r (rs ++ ss)
+    ∙ (ap (λ (us : List Region). live (r ∷ []) ++ us) (live_append rs ss)
+    ∙ (sym (append_assoc (live (r ∷ [])) (live rs) (live ss)) ∙ ap (λ (us : List Region). us ++ live ss) (sym (live_more r rs))))
+
+live_one : (r : Region) → reverse (live (r ∷ [])) ≡ live (r ∷ [])
+live_one r = go (live_pieces r.pieces)
+  where
+    go : (ss : List System) → reverse (with_pieces r ss (λ s. s ∷ []) []) ≡ with_pieces r ss (λ s. s ∷ []) []
+    go [] = refl
+    go (s ∷ ss) = refl
+
+-- one region more, from the last on
+pub live_back : (left less out new goal : List Region) (r : Region) → left ≡ less ++ r ∷ [] → new ≡ out ++ live (r ∷ []) → live left ++ reverse out ≡ goal → live less ++ reverse new ≡ goal
+live_back left less out new goal r e n h =
+    let x : reverse new ≡ live (r ∷ []) ++ reverse out = ap reverse n ∙ (reverse-append out (live (r ∷ [])) ∙ ap (λ (us : List Region). us ++ reverse out) (live_one r)) in
+    let y : live left ≡ live less ++ live (r ∷ []) = ap live e ∙ live_append less (r ∷ []) in
+    ap (λ (us : List Region). live less ++ us) x
+    ∙ (sym (append_assoc (live less) (live (r ∷ [])) (reverse out)) ∙ (ap (λ (us : List Region). us ++ reverse out) (sym y) ∙ h))
+
+pub live_done : (left out goal : List Region) → left ≡ [] → live left ++ reverse out ≡ goal → reverse out ≡ goal
+live_done left out goal e h = ap (λ (us : List Region). live us ++ reverse out) (sym e) ∙ h
+
+pub live_fits : (rs : List Region) → SetFits rs → SetFits (live rs)
+live_fits [] h = tt
+live_fits (r ∷ rs) h = go (live_pieces r.pieces) (live_pieces_fit r.pieces h.0) (live_fits rs h.1)
+  where
+    go : (ss : List System) → AllFit ss → SetFits (live rs) → SetFits (with_pieces r ss (λ s. s ∷ live rs) (live rs))
+    go [] f later = later
+    go (s ∷ ss) f later = (f, later)
+
+-- ---- a set whose last region is taken away
+
+parts_fit : (qs : List Region) (r : Region) → SetFits (qs ++ r ∷ []) → SetFits qs × RegionFits r
+parts_fit [] r f = (tt, f.0)
+parts_fit (q ∷ qs) r f = let k = parts_fit qs r f.1 in ((f.0, k.0), k.1)
+
+pub less_fits : (left less : List Region) (r : Region) → left ≡ less ++ r ∷ [] → SetFits left → SetFits less
+less_fits left less r e h = (parts_fit less r (subst SetFits e h)).0
+
+pub last_fits : (left less : List Region) (r : Region) → left ≡ less ++ r ∷ [] → SetFits left → RegionFits r
+last_fits left less r e h = (parts_fit less r (subst SetFits e h)).1
+
+pub reverse_fits : (rs : List Region) → SetFits rs → SetFits (reverse rs)
+reverse_fits [] h = tt
+reverse_fits (r ∷ rs) h = subst SetFits (sym (reverse-append (r ∷ []) rs)) (set-push (reverse rs) r (reverse_fits rs h.1) h.0)
+
+pub ruleset keeping = (piece_stays, alive_is, alive_none, live_back, live_done, live_fits, less_fits, last_fits)
+
+-- ---- a region put into a set without its refuted pieces
+
+pub put_some : (r s : Region) (qs : List Region) → s ∷ [] ≡ live (r ∷ []) → with_region s qs ≡ with_live r qs
+put_some r s qs e = go (live_pieces r.pieces) e
+  where
+    go : (ss : List System) → s ∷ [] ≡ with_pieces r ss (λ t. t ∷ []) [] → with_region s qs ≡ with_pieces r ss (λ t. with_region t qs) qs
+    go [] f = absurd (cc)
+    go (p ∷ ss) f = let same : s ≡ remade r r.exact (p ∷ ss) = cc in ap (λ (t : Region). with_region t qs) same
+
+pub put_none : (r : Region) (qs : List Region) → [] ≡ live (r ∷ []) → qs ≡ with_live r qs
+put_none r qs e = go (live_pieces r.pieces) e
+  where
+    go : (ss : List System) → [] ≡ with_pieces r ss (λ t. t ∷ []) [] → qs ≡ with_pieces r ss (λ t. with_region t qs) qs
+    go [] f = refl
+    go (p ∷ ss) f = absurd (cc)
+
+pub put_same : (r s : Region) (qs : List Region) → s ∷ [] ≡ live (r ∷ []) → ComeBefore r qs → ComeBefore s qs
+put_same r s qs e h = go (live_pieces r.pieces) e
+  where
+    go : (ss : List System) → s ∷ [] ≡ with_pieces r ss (λ t. t ∷ []) [] → ComeBefore s qs
+    go [] f = absurd (cc)
+    go (p ∷ ss) f = let same : s ≡ remade r r.exact (p ∷ ss) = cc in come_same r s qs r.exact (p ∷ ss) same h
+
+pub put_back : (r s : Region) (qs : List Region) → s ∷ [] ≡ live (r ∷ []) → ComeBefore s qs → ComeBefore r qs
+put_back r s qs e h = go (live_pieces r.pieces) e
+  where
+    go : (ss : List System) → s ∷ [] ≡ with_pieces r ss (λ t. t ∷ []) [] → ComeBefore r qs
+    go [] f = absurd (cc)
+    go (p ∷ ss) f = let same : s ≡ remade r r.exact (p ∷ ss) = cc in come_back r s qs r.exact (p ∷ ss) same h
+
+pub ruleset put_steps = (put_some, put_none, put_same, put_back)
+
+-- ---- regions gathered from the last on
+
+-- the last of the regions that are left comes behind those before a place
+abbrev pub StartsAt : List Region → List Region → ℕ → Type 0
+StartsAt left set start = (d : Region) → 0 < length left → ComeBefore (get_or left (length left - 1) d) (take start set)
+
+last_is : (less : List Region) (r d : Region) → get_or (less ++ r ∷ []) (length less) d ≡ r
+last_is [] r d = refl
+last_is (q ∷ less) r d = last_is less r d
+
+pub start_of_last : (left less set : List Region) (r : Region) (start : ℕ) → left ≡ less ++ r ∷ [] → StartsAt left set start → ComeBefore r (take start set)
+start_of_last left less set r start e h =
+    let n : length left ≡ length less + 1 = ap length e ∙ length-append less (r ∷ []) in
+    let m : length left - 1 ≡ length less = omega (arith, n) in
+    let at : get_or left (length left - 1) r ≡ r = ap₂ (λ (us : List Region) k. get_or us k r) e m ∙ last_is less r r in
+    subst (λ (q : Region). ComeBefore q (take start set)) at (h r (omega (arith, n)))
+
+pub next_before : (less us set : List Region) (r d : Region) (at start : ℕ) (rises : Bool) → us ≡ less → start ≡ (if rises then at else 0) →
+    (rises ≡ true → (c : Region) → region_cmp r (get_or us (length us - 1) c) ≡ Less) → ComeBefore r (take at set) → 0 < length less → ComeBefore (get_or less (length less - 1) d) (take start set)
+next_before less us set r d at start true u e f h l =
+    let k : region_cmp r (get_or less (length less - 1) d) ≡ Less = subst (λ (qs : List Region). region_cmp r (get_or qs (length qs - 1) d) ≡ Less) u (f refl d) in
+    subst (λ m. ComeBefore (get_or less (length less - 1) d) (take m set)) (sym e) (come_chain r (get_or less (length less - 1) d) (take at set) k h)
+next_before less us set r d at start false u e f h l = subst (λ m. ComeBefore (get_or less (length less - 1) d) (take m set)) (sym e) (come_none (get_or less (length less - 1) d) set)
+
+pub first_before : (left set : List Region) (d : Region) → ComeBefore (get_or left (length left - 1) d) (take 0 set)
+first_before left set d = come_none (get_or left (length left - 1) d) set
+
+pub gather_back : (left less set new goal : List Region) (r : Region) → left ≡ less ++ r ∷ [] → new ≡ with_live r set → with_regions set (reverse left) ≡ goal → with_regions new (reverse less) ≡ goal
+gather_back left less set new goal r e n h =
+    ap (λ (qs : List Region). with_regions qs (reverse less)) n ∙ (ap (with_regions set) (sym (ap reverse e ∙ reverse_pushed less (less ++ r ∷ []) r refl)) ∙ h)
+
+pub gather_done : (left set goal : List Region) → left ≡ [] → with_regions set (reverse left) ≡ goal → set ≡ goal
+gather_done left set goal e h = ap (λ (us : List Region). with_regions set (reverse us)) (sym e) ∙ h
+
+pub ruleset gathering = (start_of_last, next_before, first_before, gather_back, gather_done, less_fits, last_fits)
+
+-- ---- copies, the last first
+
+copied_next : (rs out new : List Region) (i : ℕ) (r : Region) → i < length rs → r ≡ get_or rs i r → new ≡ out ++ r ∷ [] → out ++ reverse (take (i + 1) rs) ≡ reverse rs → new ++ reverse (take i rs) ≡ reverse rs
+copied_next rs out new i r l e n h =
+    let x : reverse (take (i + 1) rs) ≡ r ∷ reverse (take i rs) =
+    ap reverse (take_more rs i r l) ∙ (reverse_pushed (take i rs) (take i rs ++ get_or rs i r ∷ []) (get_or rs i r) refl ∙ ap (λ (q : Region). q ∷ reverse (take i rs)) (sym e)) in
+    ap (λ (us : List Region). us ++ reverse (take i rs)) n ∙ (append_assoc out (r ∷ []) (reverse (take i rs)) ∙ (ap (λ (us : List Region). out ++ us) (sym x) ∙ h))
+
+pub copied_more : (rs out new : List Region) (n : ℕ) (r : Region) → 0 < n → n ≤ length rs → r ≡ get_or rs (n - 1) r → new ≡ out ++ r ∷ [] → out ++ reverse (take n rs) ≡ reverse rs → new ++ reverse (take (n - 1) rs) ≡ reverse rs
+copied_more rs out new n r z l e x h =
+    let m : n ≡ n - 1 + 1 = omega (arith, z) in
+    copied_next rs out new (n - 1) r (omega (arith, z, l)) e x (subst (λ k. out ++ reverse (take k rs) ≡ reverse rs) m h)
+
+pub copied_begin : (rs : List Region) → [] ++ reverse (take (length rs) rs) ≡ reverse rs
+copied_begin rs = ap reverse (take_all (length rs) rs (omega arith))
+
+pub copied_end : (rs out : List Region) (n : ℕ) → n ≤ 0 → out ++ reverse (take n rs) ≡ reverse rs → out ≡ reverse rs
+copied_end rs out n l h =
+    let z : n ≡ 0 = omega (arith, l) in
+    sym (append-nil out) ∙ (ap (λ (us : List Region). out ++ reverse us) (sym (nothing rs)) ∙ (ap (λ k. out ++ reverse (take k rs)) (sym z) ∙ h))
+  where
+    nothing : (qs : List Region) → take 0 qs ≡ []
+    nothing [] = refl
+    nothing (q ∷ qs) = refl
+
+pub twice : (rs : List Region) → reverse (reverse rs) ≡ rs
+twice rs = reverse-reverse rs
+
+pub ruleset copying = (copied_more, copied_begin, copied_end, set-push, gather_fits, reverse_fits, twice)

@@ -1,3 +1,0 @@
-pub mod Callees
-pub mod Callers
-pub mod Rules

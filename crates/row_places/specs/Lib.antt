@@ -1,0 +1,4 @@
+pub mod Slots
+pub mod Choices
+pub mod Columns
+pub mod Filling

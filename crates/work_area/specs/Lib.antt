@@ -1,0 +1,5 @@
+pub mod Tables
+pub mod Area
+pub mod Inside
+pub mod Outcomes
+pub mod Refuting
