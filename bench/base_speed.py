@@ -4,9 +4,9 @@
     python3 bench/base_speed.py [PATH_TO_PIPS [PART..]]        # PARTs: size, change, commands; all of them unless some are named
 
 size: bases up to the limit of 16 MiB, of modules with 4,000 assignments each: made by a run on the program, then read and written again by an empty session. Linear, at most 5 s and 1 GiB is wanted.
-change: 64 modules in a chain of CALLs, each with nests of loops; one module is changed, and the program is analysed again with the base of the first run, and without. A fifth of the time is wanted.
+change: 64 modules in a chain of CALLs, each with nests of loops, two in each module, then six, then ten; one module is changed, and the program is analysed again with the base of the first run, and without: the least of three runs each. A fifth of the time is wanted.
 commands: up to 1,000 commands on 64 modules, which put other texts in place of modules and make results; time linear in what is made is wanted.
-All times are processor seconds of one run; memory is the greatest of that run. The status is 1 where something is not as wanted.
+All times are processor seconds of a run; memory is the greatest of that run. The status is 1 where something is not as wanted.
 """
 import os
 import subprocess
@@ -20,6 +20,7 @@ from region_speed import nest
 LIMIT = 16_777_216
 ASSIGNMENTS = 4_000
 MODULES = 64
+NESTS = (2, 6, 10)
 
 
 @dataclass
@@ -89,50 +90,63 @@ def size(binary):
 
 # ---- one module changed
 
-def chained(number, more=(), name='S', constant='5'):
-    """A module of the chain, which may have more statements, another name of a local or another constant."""
+def chained(number, more=(), last=(), name='S', constant='5', nests=NESTS[0]):
+    """A module of the chain, of so many nests of loops, which may have more statements, the first or the last ones, another name of a local or another constant."""
     head = ['PROGRAM M0', 'INTEGER X(99)'] if number == 0 else [f'SUBROUTINE M{number}(X,N)', 'INTEGER X(99)']
     head += [f'INTEGER A(999,999),B(999,999),C(999),D(999),E(999),{name}']
-    body = ['N=' + constant] * (number == 0) + [line if line[:2] != 'S=' else name + line[1:] for k in (1, 2) for line in nest(k)]
+    body = ['N=' + constant] * (number == 0) + [line if line[:2] != 'S=' else name + line[1:] for k in range(1, nests + 1) for line in nest(k)]
     call = [f'CALL M{number + 1}(X,N)'] if number < MODULES - 1 else []
-    return text_of(head) + ''.join(more) + text_of(body + [f'X({number + 1})={constant}'] + call + ['END'])
+    return text_of(head) + ''.join(more) + text_of(body + [f'X({number + 1})={constant}'] + call + [*last, 'END'])
 
 
-def program(**changes):
+def program(nests=NESTS[0], first=None, **changes):
     """The 64 modules, with the changes of that in the middle, or of the first by `first`."""
-    first = changes.pop('first', {})
-    return [chained(k, **(changes if k == MODULES // 2 else first if k == 0 else {})) for k in range(MODULES)]
+    return [chained(k, nests=nests, **(changes if k == MODULES // 2 else first or {} if k == 0 else {})) for k in range(MODULES)]
 
 
 CHANGES = {
-    'nothing': program(),
-    'a comment': program(more=['C another comment\n']),
-    'a local has another name': program(name='S9'),
-    'a constant that is written to an element': program(constant='6'),
-    'a statement more': program(more=[folded('C(9)=1')]),
-    'the constant that all modules are handed': program(first={'constant': '6'}),
+    'nothing': {},
+    'a comment': {'more': ['C another comment\n']},
+    'a local has another name': {'name': 'S9'},
+    'a constant that is written to an element': {'constant': '6'},
+    'a statement more, behind the CALL': {'last': ['C(9)=1']},
+    'a statement more, in front of the CALL': {'more': [folded('C(9)=1')]},
+    'the constant that all modules are handed': {'first': {'constant': '6'}},
 }
 
 
-def change(binary):
+def least(runs):
+    return min(runs, key=lambda run: run.seconds)
+
+
+def over_base(binary, place, base):
+    """A run with a base as it is."""
+    with open(os.path.join(place, 'b'), 'wb') as file:
+        file.write(base)
+    return timed(binary, place, ['--base', 'b', 'p'])
+
+
+def changes_of(binary, nests):
     good = True
     with tempfile.TemporaryDirectory() as place:
-        put(place, p=''.join(program()))
+        put(place, p=''.join(program(nests)))
         fresh = timed(binary, place, ['p'])
         first = timed(binary, place, ['--base', 'b', 'p'])
         base = content(os.path.join(place, 'b'))
-        print(f'{MODULES} modules, base of {len(base):,} bytes: fresh run {fresh.seconds:.2f} s, kept as well {first.seconds:.2f} s, {first.mib:.0f} MiB', flush=True)
-        for what, modules in CHANGES.items():
-            put(place, p=''.join(modules))
-            with open(os.path.join(place, 'b'), 'wb') as file:
-                file.write(base)
-            fresh = timed(binary, place, ['p'])
-            again = timed(binary, place, ['--base', 'b', 'p'])
-            if again.out != fresh.out:
+        print(f'{MODULES} modules of {nests} nests, base of {len(base):,} bytes: fresh run {fresh.seconds:.2f} s, kept as well {first.seconds:.2f} s, {first.mib:.0f} MiB', flush=True)
+        for what, changed in CHANGES.items():
+            put(place, p=''.join(program(nests, **changed)))
+            runs = [(timed(binary, place, ['p']), over_base(binary, place, base)) for _ in range(3)]
+            if any(again.out != fresh.out for fresh, again in runs):
                 sys.exit(f'{what}: with the base something else is written')
+            fresh, again = (least(some) for some in zip(*runs))
             print(f'changed: {what}: fresh {fresh.seconds:.2f} s, with the base {again.seconds:.2f} s, {again.seconds / fresh.seconds:.2f} of it, {again.mib:.0f} MiB', flush=True)
             good = good and (again.seconds <= fresh.seconds / 5 or 'handed' in what)
     return good
+
+
+def change(binary):
+    return all([changes_of(binary, nests) for nests in NESTS])
 
 
 # ---- many commands

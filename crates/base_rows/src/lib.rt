@@ -4,6 +4,7 @@
 mod distinct;
 mod encode;
 mod names;
+mod put;
 mod reduced;
 mod rows;
 mod scope;
@@ -14,5 +15,6 @@ mod words;
 pub use distinct::are_distinct;
 pub use encode::{Numbers, system_value};
 pub use names::{cell_at, is_block, number_at, variable_at};
+pub use put::put_system;
 pub use scope::Scope;
 pub use systems::is_small_system;

@@ -8,3 +8,4 @@ pub mod Sizes
 pub mod Fits
 pub mod Texts
 pub mod KeptLaws
+pub mod TextsBack

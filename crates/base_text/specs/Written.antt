@@ -59,3 +59,11 @@ kept_base b limit = if nat_le (length (base_text b)) limit then b else without_r
 -- none where the text of its modules alone is longer, too
 abbrev pub kept : Base → ℕ → Option (List ℕ)
 kept b limit = when (nat_le (length (base_text (kept_base b limit))) limit) (base_text (kept_base b limit))
+
+-- ---- in code: cited by private functions alone
+
+-- with what results may name
+abbrev pub data_for : KnownNames → List BaseModule → List StoredResult → Data
+data_for k ms rs =
+    object (member (codes "modules") (list_data (map module_data ms)) (member (codes "pips") (number_data 1)
+    (member (codes "results") (list_data (map (result_data k) rs)) no_members)))

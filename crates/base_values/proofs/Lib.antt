@@ -9,3 +9,7 @@ pub mod DepthLaws
 pub mod StatementLaws
 pub mod NameLaws
 pub mod Steps
+pub mod TextsBack
+pub mod Rests
+pub mod Joins
+pub mod SevenJoins

@@ -25,7 +25,7 @@ use Rattle.base_values.proofs.RowsBack.{less, when_true, if_true, if_false, eith
 
 -- ---- texts
 
-scalars_of : (x : List ℕ) → AreBytes x → scalars x ≡ true
+pub scalars_of : (x : List ℕ) → AreBytes x → scalars x ≡ true
 scalars_of [] h = refl
 scalars_of (c ∷ cs) h = let l : c < 256 = h.0 in and_from (scalar c) (scalars cs) (low_scalar c (omega arith)) (scalars_of cs h.1)
 
@@ -74,7 +74,7 @@ name_bytes (c ∷ cs) e =
     let l : c < 91 = u.1 in
     (omega arith, each_map (λ d. in_name d ≡ true) (λ d. d < 256) (λ d k. (name_char d k).1) cs (each_all in_name cs a.1))
 
-short_name : (x : List ℕ) → is_short_name x ≡ true → is_name x ≡ true
+pub short_name : (x : List ℕ) → is_short_name x ≡ true → is_name x ≡ true
 short_name x e = (and_parts (is_name x) (nat_le (length x) 31) e).0
 
 pub block_bytes : (b : List ℕ) → is_block b ≡ true → AreBytes b
@@ -130,7 +130,7 @@ numbered_new before (k ∷ ks) (suc j) e l =
     ap (λ xs. number_from 1 xs (slice_index_or ks j [])) (sym (append_assoc before (k ∷ []) ks))
     ∙ (numbered_new (before ++ k ∷ []) ks j a.1 (omega arith) ∙ ap Some z)
 
-symbol_between : (names : List (List ℕ)) (n : ℕ) → is_symbol names n ≡ true → (0 < n) × (n ≤ length names)
+pub symbol_between : (names : List (List ℕ)) (n : ℕ) → is_symbol names n ≡ true → (0 < n) × (n ≤ length names)
 symbol_between names n e =
     let h = and_parts (nat_lt 0 n) (nat_le n (length names)) e in
     ((Decides-ltb 0 n).0 h.0, (Decides-leb n (length names)).0 h.1)

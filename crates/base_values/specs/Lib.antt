@@ -6,4 +6,5 @@ pub mod Read
 pub mod Written
 pub mod Sizes
 pub mod Fits
+pub mod Ranges
 pub mod Laws

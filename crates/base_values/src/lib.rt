@@ -6,6 +6,8 @@ mod effect_lists;
 mod laws;
 mod marks;
 mod names;
+mod put;
+mod ranges;
 mod read;
 mod regions;
 mod scope;
@@ -20,6 +22,8 @@ pub use laws::{
     fits_is_small, fits_is_taken, read_fits, written_is_flat, written_is_read, written_is_whole,
 };
 pub use names::{Names, Numbers, numbers_in};
+pub use put::put_stored;
+pub use ranges::numbers_fit;
 pub use read::stored_at;
 pub use sizes::is_small_value;
 pub use stored::{StoredValue, kind_of};

@@ -2,3 +2,4 @@ pub mod Steps
 pub mod StatementLaws
 pub mod RestLaws
 pub mod ModuleLaws
+pub mod BesideLaws

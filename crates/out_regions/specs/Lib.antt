@@ -6,3 +6,4 @@ pub mod Later
 pub mod Statement
 pub mod Modules
 pub mod Contexts
+pub mod Beside

@@ -1,6 +1,7 @@
 //! OUT regions: which elements a piece of code writes that the rest of the run may read before they are written again.
 #![tactic(auto)]
 
+mod beside;
 mod context;
 mod later;
 mod leaving;

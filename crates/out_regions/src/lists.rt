@@ -8,8 +8,9 @@ ghost use Rattle.region_sets.specs.Lists.{SetsFit, all_composed, all_accesses, a
 ghost use Rattle.in_out_regions.specs.Lists.{set_at as set_at_is};
 ghost use Rattle.out_regions.specs.Used.{all_out};
 ghost use Rattle.out_regions.specs.Contexts.{known_in, KnownFits, RestFits};
-ghost use Rattle.out_regions.specs.Lists.{applied as applied_is, all_applied as all_applied_is, left_over as left_over_is, used_behind as used_behind_is, first_out as first_out_is, rest_out as rest_out_is, may_leave as may_leave_is, any_out as any_out_is};
+ghost use Rattle.out_regions.specs.Lists.{applied as applied_is, all_applied as all_applied_is, left_over as left_over_is, first_out as first_out_is, rest_out as rest_out_is, may_leave as may_leave_is, any_out as any_out_is};
 
+use crate::beside::beside;
 use crate::context::OutContext;
 use crate::leaving::stmt_leaves;
 use crate::rest::{Rest, writes_at};
@@ -93,25 +94,49 @@ fn composed(alloc: Global, t: &Transformer, set: &[Region]) -> Result<RegionSet,
     Ok(out)
 }
 
-/// What may be read behind a statement, by the rest or behind the list, which has this OUT. `leaving`: the statement or the rest may leave the list.
-fn used_behind(
+/// OUT of a list behind a statement, less what the rest certainly writes; nothing of nothing.
+#[tactic(auto, using(crate::proofs::BesideLaws::nothings))]
+fn left_behind(
     alloc: Global,
-    known: &OutContext<'_>,
     leaving: bool,
-    id: StmtId,
-    rest: &Rest,
+    t: &Transformer,
+    writes: &[Region],
     out: &[Region],
 ) -> Result<RegionSet, Memory>
-    requires known { KnownFits known.now }
-    requires rest { RestFits rest.now }
+    requires transformer { Fits t.now.system }
+    requires writes { SetFits writes.now }
     requires out { SetFits out.now }
-    ensures defined { IfOk result (λ rs. rs ≡ used_behind_is (known_in known.now) leaving id rest.now out.now) }
+    ensures defined { IfOk result (λ rs. rs ≡ left_over_is leaving (all_composed t.now writes.now) out.now) }
     ensures fits { IfOk result SetFits }
 {
-    let t = transformer_at(alloc, &known.own.at, id)?;
-    let read = composed(alloc, &t, rest.ins.as_slice())?;
-    let writes = composed(alloc, &t, rest.writes.as_slice())?;
-    let left = left_over(alloc, leaving, writes.as_slice(), out)?;
+    match out {
+        [] => Ok(List::new(alloc)),
+        [_, ..] => {
+            let writes = composed(alloc, t, writes)?;
+            left_over(alloc, leaving, writes.as_slice(), out)
+        }
+    }
+}
+
+/// What may be read behind a statement: by the rest, which has these IN and WRITE regions, or behind the list, which has this OUT. `leaving`: the
+/// statement or the rest may leave the list.
+fn used_behind(
+    alloc: Global,
+    t: &Transformer,
+    leaving: bool,
+    ins: &[Region],
+    writes: &[Region],
+    out: &[Region],
+) -> Result<RegionSet, Memory>
+    requires transformer { Fits t.now.system }
+    requires ins { SetFits ins.now }
+    requires writes { SetFits writes.now }
+    requires out { SetFits out.now }
+    ensures defined { IfOk result (λ rs. rs ≡ all_out (all_composed t.now ins.now) ++ all_out (left_over_is leaving (all_composed t.now writes.now) out.now)) }
+    ensures fits { IfOk result SetFits }
+{
+    let read = composed(alloc, t, ins)?;
+    let left = left_behind(alloc, leaving, t, writes, out)?;
     let mut later = List::new(alloc);
     push_out(alloc, &mut later, read.as_slice())?;
     push_out(alloc, &mut later, left.as_slice())?;
@@ -125,7 +150,8 @@ pub fn may_leave(alloc: Global, whole: bool, s: &Stmt, rest: &Rest) -> Result<bo
     Ok(stmt_leaves(alloc, whole, s)? || rest.leaves)
 }
 
-/// OUT of a statement, from the rest after it and OUT of the list. `leaving`: the statement or the rest may leave the list.
+/// OUT of a statement, from the rest after it and OUT of the list. `leaving`: the statement or the rest may leave the list. Of both only the regions that
+/// may matter to what the statement writes are looked at.
 pub fn first_out(
     alloc: Global,
     known: &OutContext<'_>,
@@ -140,10 +166,14 @@ pub fn first_out(
     ensures defined { IfOk result (λ rs. rs ≡ first_out_is (known_in known.now) leaving id rest.now out.now) }
     ensures fits { IfOk result SetFits }
 {
-    let later = used_behind(alloc, known, leaving, id, rest, out)?;
-    let writes = writes_at(alloc, known, id)?;
     let symbols = known.scope.symbols;
-    used(alloc, symbols, later.as_slice(), writes.as_slice())
+    let own = writes_at(alloc, known, id)?;
+    let ins = beside(alloc, symbols, own.as_slice(), rest.ins.as_slice())?;
+    let out = beside(alloc, symbols, own.as_slice(), out)?;
+    let t = transformer_at(alloc, &known.own.at, id)?;
+    let writes = rest.writes.as_slice();
+    let later = used_behind(alloc, &t, leaving, ins.as_slice(), writes, out.as_slice())?;
+    used(alloc, symbols, later.as_slice(), own.as_slice())
 }
 
 /// OUT of the rest after a statement, from OUT of the list.

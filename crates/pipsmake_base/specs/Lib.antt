@@ -4,6 +4,7 @@ pub mod Whole
 pub mod Current
 pub mod Texts
 pub mod Taken
+pub mod Plain
 pub mod Stale
 pub mod Made
 pub mod Bases

@@ -7,6 +7,7 @@ mod loading;
 mod made;
 mod modules;
 mod need;
+mod plain;
 mod results;
 mod saving;
 mod see;

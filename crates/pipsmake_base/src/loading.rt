@@ -4,11 +4,13 @@ ghost use Rattle.base_text.specs.Grammar.{IsBase};
 ghost use Rattle.pipsmake_db.specs.Links.{AreLinks};
 ghost use Rattle.pipsmake_db.specs.State.{texts_of, shelves_in, IsIn};
 ghost use Rattle.pipsmake_db.specs.Calls.{Rests};
+ghost use Rattle.pipsmake_base.specs.Plain.{IsPlain, texts_behind};
 ghost use Rattle.pipsmake_base.specs.Saved.{texts_in, keys_in, IsSaved, loaded_state};
 ghost use Rattle.pipsmake_base.specs.Whole.{values_in, IsWholeBase};
-ghost use Rattle.pipsmake_base.specs.Taken.{IsInSome, KeepsAll};
+ghost use Rattle.pipsmake_base.specs.Taken.{KeepsAll};
 
 use crate::keep::keep_results;
+use crate::plain::Plain;
 use crate::see::see_results;
 use crate::source::over_texts;
 use base_text::Base;
@@ -22,13 +24,13 @@ use std::alloc::{AllocError as Memory, Global};
 fn keep_all(
     alloc: Global,
     db: &mut Db,
-    plain: &mut Db,
+    plain: &mut Plain<'_>,
     links: &Links,
     fresh: &Listed,
 ) -> Result<(), Memory>
     requires links { AreLinks links.now (texts_of db.old) }
-    requires in_some { IsInSome plain.old }
-    requires texts { texts_of plain.old ≡ texts_of db.old }
+    requires in_some { IsPlain plain.old }
+    requires texts { texts_behind plain.old ≡ texts_of db.old }
     ensures same { texts_of db.new ≡ texts_of db.old }
     ensures ok { OnOk result (KeepsAll (texts_of db.old) (shelves_in db.old) fresh.now (shelves_in db.new)) }
 {
@@ -62,7 +64,10 @@ pub fn load(alloc: Global, base: Base) -> Result<Db, Memory>
 {
     fits_is_taken();
     let Base { modules, results } = base;
-    let mut plain = over_texts(alloc, modules.as_slice())?;
+    let mut plain = Plain {
+        modules: modules.as_slice(),
+        db: None,
+    };
     let mut db = over_texts(alloc, modules.as_slice())?;
     let fresh = see_results(alloc, &mut db.store, results)?;
     let links = match db.linked.links(alloc, Kind::Parsed) {

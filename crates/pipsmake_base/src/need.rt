@@ -7,9 +7,11 @@ ghost use Rattle.result_store.specs.Fits.{ValueFits};
 ghost use Rattle.result_store.specs.Rows.{shelves_of};
 ghost use Rattle.result_store.specs.Values.{value_tree, stamped_tree};
 ghost use Rattle.pipsmake_db.specs.State.{texts_of};
+ghost use Rattle.pipsmake_base.specs.Plain.{IsPlain, texts_behind};
 ghost use Rattle.pipsmake_base.specs.Taken.{IsInSome, SeesNeed, SeesNeeds, IsPlainKind};
 
 use crate::made::made;
+use crate::plain::{Plain, taken_out};
 use crate::see::see_value;
 use crate::stored::value_of;
 use fx_lists::List;
@@ -54,7 +56,7 @@ fn copied_kept(alloc: Global, store: &Store, key: &Key) -> Result<Value, Memory>
 }
 
 /// What is defined of a stored kind and a module, by another database over the same texts.
-fn analysed_value(alloc: Global, plain: &mut Db, key: &Key) -> Result<Value, Memory>
+fn value_over(alloc: Global, plain: &mut Db, key: &Key) -> Result<Value, Memory>
     requires { IsInSome plain.old }
     ensures value { IfOk result (λ v. definition (texts_of plain.old) key.now.kind key.now.name ≡ Some (value_tree v)) }
     ensures fits { IfOk result (λ v. ValueFits (value_tree v)) }
@@ -69,21 +71,35 @@ fn analysed_value(alloc: Global, plain: &mut Db, key: &Key) -> Result<Value, Mem
     }
 }
 
+/// What is defined of a stored kind and a module.
+fn analysed_value(alloc: Global, plain: &mut Plain<'_>, key: &Key) -> Result<Value, Memory>
+    requires { IsPlain plain.old }
+    ensures value { IfOk result (λ v. definition (texts_behind plain.old) key.now.kind key.now.name ≡ Some (value_tree v)) }
+    ensures fits { IfOk result (λ v. ValueFits (value_tree v)) }
+    ensures texts { OnOk result (texts_behind plain.new ≡ texts_behind plain.old) }
+    ensures in_some { OnOk result (IsPlain plain.new) }
+{
+    let mut db = taken_out(alloc, plain)?;
+    let value = value_over(alloc, &mut db, key)?;
+    plain.db = Some(db);
+    Ok(value)
+}
+
 /// What is defined of a result that is needed and not stored. None is of written texts.
 fn needed_value(
     alloc: Global,
-    plain: &mut Db,
+    plain: &mut Plain<'_>,
     modules: &Modules<'_>,
     store: &Store,
     key: &Key,
 ) -> Result<Value, Memory>
     requires graphed { AreGraphed modules.now }
-    requires in_some { IsInSome plain.old }
-    requires texts { texts_of plain.old ≡ modules.now.sources.now }
+    requires in_some { IsPlain plain.old }
+    requires texts { texts_behind plain.old ≡ modules.now.sources.now }
     ensures value { IfOk result (λ v. definition modules.now.sources.now key.now.kind key.now.name ≡ Some (value_tree v)) }
     ensures fits { IfOk result (λ v. ValueFits (value_tree v)) }
-    ensures texts { OnOk result (texts_of plain.new ≡ modules.now.sources.now) }
-    ensures in_some { OnOk result (IsInSome plain.new) }
+    ensures texts { OnOk result (texts_behind plain.new ≡ modules.now.sources.now) }
+    ensures in_some { OnOk result (IsPlain plain.new) }
 {
     match key.kind {
         Kind::Parsed | Kind::Lines | Kind::Symbols | Kind::CallGraph => {
@@ -103,18 +119,18 @@ fn needed_value(
 /// A result that is needed is among those that were seen.
 fn see_need(
     alloc: Global,
-    plain: &mut Db,
+    plain: &mut Plain<'_>,
     modules: &Modules<'_>,
     store: &mut Store,
     seen: &mut Listed,
     need: &Key,
 ) -> Result<(), Memory>
     requires graphed { AreGraphed modules.now }
-    requires in_some { IsInSome plain.old }
-    requires texts { texts_of plain.old ≡ modules.now.sources.now }
+    requires in_some { IsPlain plain.old }
+    requires texts { texts_behind plain.old ≡ modules.now.sources.now }
     ensures ok { OnOk result (SeesNeed modules.now.sources.now (shelves_of store.old) seen.old need.now (shelves_of store.new) seen.new) }
-    ensures texts { OnOk result (texts_of plain.new ≡ modules.now.sources.now) }
-    ensures in_some { OnOk result (IsInSome plain.new) }
+    ensures texts { OnOk result (texts_behind plain.new ≡ modules.now.sources.now) }
+    ensures in_some { OnOk result (IsPlain plain.new) }
 {
     let there = seen.has(alloc, need)?;
     if there {
@@ -128,18 +144,18 @@ fn see_need(
 /// Results that are needed are among those that were seen; their stamps.
 pub(crate) fn see_needs(
     alloc: Global,
-    plain: &mut Db,
+    plain: &mut Plain<'_>,
     modules: &Modules<'_>,
     store: &mut Store,
     seen: &mut Listed,
     needs: &[Key],
 ) -> Result<List<Stamped>, Memory>
     requires graphed { AreGraphed modules.now }
-    requires in_some { IsInSome plain.old }
-    requires texts { texts_of plain.old ≡ modules.now.sources.now }
+    requires in_some { IsPlain plain.old }
+    requires texts { texts_behind plain.old ≡ modules.now.sources.now }
     ensures ok { IfOk result (λ ss. SeesNeeds modules.now.sources.now (shelves_of store.old) seen.old needs.now (shelves_of store.new) seen.new (map stamped_tree ss)) }
-    ensures texts { OnOk result (texts_of plain.new ≡ modules.now.sources.now) }
-    ensures in_some { OnOk result (IsInSome plain.new) }
+    ensures texts { OnOk result (texts_behind plain.new ≡ modules.now.sources.now) }
+    ensures in_some { OnOk result (IsPlain plain.new) }
 {
     let mut stamps = List::new(alloc);
     let mut rest = needs;

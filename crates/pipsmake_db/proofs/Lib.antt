@@ -8,6 +8,9 @@ pub mod MakeLaws
 pub mod ShowLaws
 pub mod PutLaws
 pub mod CommandLemmas
+pub mod WalkedLists
+pub mod UpToDate
+pub mod WalkedLaws
 pub mod PrintLemmas
 pub mod ScriptLemmas
 pub mod Once

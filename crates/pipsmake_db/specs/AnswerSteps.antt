@@ -62,7 +62,3 @@ pub record PrintsOneFrom (show : Show) (x : List ℕ) (s : State) (old new : Pri
   pub is : text_named show s.texts x ≡ Some text
   pub made : new.made ≡ old.made ++ made_lines now
   pub written : new.text ≡ old.text ++ text
-
-pub record PrintsOne (show : Show) (x : List ℕ) (d e : Db) (old new : Prints) : Type 0 where
-  pub texts : texts_of e ≡ texts_of d
-  pub prints : (s : State) → IsIn d s → PrintsOneFrom show x s old new e

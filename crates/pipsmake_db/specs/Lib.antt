@@ -9,6 +9,7 @@ pub mod Texts
 pub mod Calls
 pub mod Bring
 pub mod Kept
+pub mod Walked
 pub mod Puts
 pub mod Answers
 pub mod Scripts

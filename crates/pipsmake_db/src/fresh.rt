@@ -25,15 +25,23 @@ fn put_key(alloc: Global, fresh: &mut Listed, key: &Key) -> Result<(), Memory>
     fresh.push(alloc, key)
 }
 
+/// Adds results, but those that are there.
+pub(crate) fn put_all(alloc: Global, fresh: &mut Listed, keys: &[Key]) -> Result<(), Memory>
+    ensures { OnOk result (fresh.new ≡ keys_put fresh.old keys.now) }
+{
+    let mut rest = keys;
+    while let [key, more @ ..] = rest {
+        put_key(alloc, fresh, key)?;
+        rest = more;
+    }
+    Ok(())
+}
+
 /// Fresh results, and then those of a walk.
 pub(crate) fn with_walk(alloc: Global, fresh: &Listed, walk: &[Key]) -> Result<Listed, Memory>
     ensures { IfOk result (λ all. all ≡ keys_put fresh.now walk.now) }
 {
     let mut all = fresh.copied(alloc)?;
-    let mut rest = walk;
-    while let [key, more @ ..] = rest {
-        put_key(alloc, &mut all, key)?;
-        rest = more;
-    }
+    put_all(alloc, &mut all, walk)?;
     Ok(all)
 }

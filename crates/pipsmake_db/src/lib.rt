@@ -17,6 +17,7 @@ mod show;
 mod stamps;
 mod stored;
 mod texts;
+mod walked;
 
 pub use command::answer_command;
 pub use db::{Db, Shown};

@@ -64,7 +64,7 @@ fn json_kept(
 }
 
 /// The text that shows what is kept.
-fn text_kept(
+pub(crate) fn text_kept(
     alloc: Global,
     modules: &Modules<'_>,
     store: &Store,

@@ -10,15 +10,12 @@ use Rattle.pipsmake_db.specs.State.{texts_of, shelves_in}
 use Rattle.result_store.specs.Rows.{shelves_of}
 use Rattle.pipsmake_base.specs.Saved.{text_at, texts_in}
 use Rattle.pipsmake_base.specs.Taken.{KeepsAll}
-use Rattle.pipsmake_base.proofs.LoadLaws.{values_fit, in_plain, is_loaded}
+use Rattle.pipsmake_base.proofs.LoadLaws.{values_fit, is_loaded}
 use Rattle.pipsmake_base.proofs.WholeLaws.{rests_loaded}
 use Rattle.pipsmake_base.proofs.loading.load.Goals as goal
 
 pub over_texts-requires : goal.over_texts-requires
-over_texts-requires c = ap (λ (ms : List BaseModule). are_new [] (module_names_in ms)) c.as_slice.ensures ∙ c.requires.once
-
-pub over_texts-requires-2 : goal.over_texts-requires-2
-over_texts-requires-2 c = ap (λ (ms : List BaseModule). are_new [] (module_names_in ms)) c.as_slice-2.ensures ∙ c.requires.once
+over_texts-requires c = ap (λ (ms : List BaseModule). are_new [] (module_names_in ms)) c.as_slice-2.ensures ∙ c.requires.once
 
 pub see_results-requires : goal.see_results-requires
 see_results-requires c = values_fit c.fits_is_taken.ensures (known c.args.base.modules c.requires.found) c.args.base.results c.requires.fit
@@ -27,11 +24,11 @@ pub keep_all-requires-clause-links : goal.keep_all-requires-clause-links
 keep_all-requires-clause-links c = subst (AreLinks c.in-Ok.links) (sym c.links.ensures.same) c.in-Ok.ensures.links
 
 pub keep_all-requires-clause-in_some : goal.keep_all-requires-clause-in_some
-keep_all-requires-clause-in_some c = in_plain c.in_ok-plain.plain (map text_at c.as_slice.result.now) c.in_ok-plain.ensures
+keep_all-requires-clause-in_some c = record { once = ap (λ (ms : List BaseModule). are_new [] (module_names_in ms)) c.as_slice.ensures ∙ c.requires.once; over = tt }
 
 pub keep_all-requires-clause-texts : goal.keep_all-requires-clause-texts
 keep_all-requires-clause-texts c =
-    c.in_ok-plain.ensures.texts ∙ ap (map text_at) (c.as_slice.ensures ∙ sym c.as_slice-2.ensures) ∙ sym c.in_ok-db.ensures.texts ∙ sym c.links.ensures.same
+    ap (map text_at) (c.as_slice.ensures ∙ sym c.as_slice-2.ensures) ∙ sym c.in_ok-db.ensures.texts ∙ sym c.links.ensures.same
 
 pub give_back-requires : goal.give_back-requires
 give_back-requires c = subst (AreLinks c.in-Ok.links) (sym (c.keep_all.ensures.same ∙ c.links.ensures.same)) c.in-Ok.ensures.links

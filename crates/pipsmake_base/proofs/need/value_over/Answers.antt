@@ -5,7 +5,7 @@ use Rattle.result_store.specs.Values.{value_tree}
 use Rattle.pipsmake_db.specs.State.{texts_of, shelves_in}
 use Rattle.pipsmake_base.specs.Made.{IsMade}
 use Rattle.pipsmake_base.proofs.MadeLaws.{ok_any, some_as}
-use Rattle.pipsmake_base.proofs.need.analysed_value.Goals as goal
+use Rattle.pipsmake_base.proofs.need.value_over.Goals as goal
 
 pub returns-then-is_made-clause-value : goal.returns-then-is_made-clause-value
 returns-then-is_made-clause-value c =

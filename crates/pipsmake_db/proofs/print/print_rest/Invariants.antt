@@ -1,16 +1,19 @@
 use Rattle.std.proofs.Common.{◌≡◌, None, length}
 use Rattle.laws_database.specs.Texts.{names_in}
+use Rattle.pipsmake_db.specs.Links.{AreLinks}
 use Rattle.pipsmake_db.specs.Refusals.{link_refusal}
 use Rattle.pipsmake_db.specs.State.{State, IsIn, texts_of}
 use Rattle.pipsmake_db.proofs.PrintLemmas.{AllThere, SoFar}
-use Rattle.pipsmake_db.proofs.print.print_all.Given as goal
+use Rattle.pipsmake_db.proofs.print.print_rest.Given as goal
 
 abbrev pub invariant-loop-rest : goal.invariant-loop-rest
 invariant-loop-rest l = record {
+  links : AreLinks l.links (texts_of l.db);
   linked : link_refusal (texts_of l.db) ≡ None;
   there : AllThere (names_in (texts_of l.db)) l.rest;
+  same : l.walked.keys ≡ l.walked.listed;
   texts : texts_of l.db ≡ texts_of l.fn.db;
-  so_far : (s : State) → IsIn l.fn.db s → SoFar l.show s l.rest l.prints l.db;
+  so_far : (s : State) → IsIn l.fn.db s → SoFar l.show s l.rest l.prints l.db l.walked.listed;
 }
 
 abbrev pub decreases-loop-rest : goal.decreases-loop-rest
