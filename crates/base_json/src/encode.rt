@@ -3,7 +3,7 @@ ghost use Rattle.std.specs.Prelude.{◌≡◌, map, IfOk, string_bytes};
 ghost use Rattle.std.specs.Str.{encode_utf8_all};
 ghost use Rattle.serde_json.specs.Data.{Data};
 ghost use Rattle.serde_json.specs.View.{view};
-ghost use Rattle.base_json.specs.Written.{list_data, number_data, text_data, whole_data};
+ghost use Rattle.base_json.specs.Written.{list_data, text_data};
 
 use serde_json::Value;
 use std::alloc::{AllocError as Memory, Global};
@@ -15,14 +15,6 @@ pub trait Encode<S> {
     /// The JSON value.
     fn encode(&self, alloc: Global, scope: &S) -> Result<Value, Memory>
         ensures { IfOk result (λ v. view v ≡ data_of scope.now self.now) };
-}
-
-impl<S> Encode<S> for u32 {
-    ghost data_of = { λ _ n. number_data n };
-
-    fn encode(&self, _alloc: Global, _scope: &S) -> Result<Value, Memory> {
-        Ok(Value::from(*self))
-    }
 }
 
 /// The array of the values of a list.
@@ -54,21 +46,4 @@ pub fn text_value(alloc: Global, text: &[u8]) -> Result<Value, Memory>
     ensures { IfOk result (λ v. view v ≡ text_data text.now) }
 {
     Ok(Value::String(latin_text(alloc, text)?))
-}
-
-/// A whole number; null where it does not fit 64 bits.
-pub fn whole_value(z: i128) -> Value
-    ensures { view result ≡ whole_data z }
-{
-    if z < 0 {
-        if -9223372036854775808 <= z {
-            Value::from(z as i64)
-        } else {
-            Value::Null
-        }
-    } else if z < 18446744073709551616 {
-        Value::from(z as u64)
-    } else {
-        Value::Null
-    }
 }

@@ -10,7 +10,7 @@ mod shapes;
 mod trouble;
 
 pub use decode::{Decode, decode_each, field, list_at, list_field};
-pub use encode::{Encode, list_value, text_value, whole_value};
+pub use encode::{Encode, list_value, text_value};
 pub use plain::{flag_at, number_below, offset_at, text_at, whole_at};
 pub use put::{Put, put_list};
 pub use put_plain::{put_flag, put_number, put_value, put_whole};

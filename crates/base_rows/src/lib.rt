@@ -1,8 +1,7 @@
-//! Rows, systems and variables as JSON data, and back.
+//! Rows and systems as JSON, and rows, systems and variables out of JSON values.
 #![tactic(auto)]
 
 mod distinct;
-mod encode;
 mod names;
 mod put;
 mod reduced;
@@ -10,11 +9,11 @@ mod rows;
 mod scope;
 mod systems;
 mod terms;
-mod words;
 
 pub use distinct::are_distinct;
-pub use encode::{Numbers, system_value};
 pub use names::{cell_at, is_block, number_at, variable_at};
-pub use put::put_system;
+pub use put::{Numbers, put_system};
+pub use reduced::rows_fit;
 pub use scope::Scope;
 pub use systems::is_small_system;
+pub use terms::terms_ascend;

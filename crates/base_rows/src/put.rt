@@ -2,14 +2,16 @@
 ghost use Rattle.std.specs.Prelude.{◌≡◌, ◌++◌, OnOk};
 ghost use Rattle.serde_json.specs.Data.{string};
 ghost use Rattle.serde_json.specs.Written.{compact_text};
+ghost use Rattle.affine_systems.specs.Terms.{number as number_is};
 ghost use Rattle.base_rows.specs.Written.{letter, flag_data, term_data, row_data, system_data};
 
-use crate::encode::Numbers;
-use crate::words::number;
 use affine_systems::{Row, System, Term, Var};
 use base_json::{Put, put_flag, put_list, put_number, put_whole};
 use fx_lists::Text;
 use std::alloc::{AllocError as Memory, Global};
+
+/// Variables of rows are written by their numbers: no names are needed.
+pub struct Numbers;
 
 /// Appends the letter of a variable.
 #[tactic(auto, unfolding(serde_json::proofs::OnLiterals::serde_json_on_literals))]
@@ -21,6 +23,16 @@ fn put_letter(var: Var, out: &mut Text) -> Result<(), Memory>
         Var::Exit(_) => out.append(b"\"x\""),
         Var::Phi(_) => out.append(b"\"p\""),
         Var::Aux(_) => out.append(b"\"a\""),
+    }
+}
+
+/// The number of a variable.
+fn number(var: Var) -> u32
+    ensures { result ≡ number_is var }
+{
+    match var {
+        Var::Cell(n) | Var::Exit(n) | Var::Aux(n) => n,
+        Var::Phi(n) => u32::from(n),
     }
 }
 

@@ -76,7 +76,7 @@ fn are_reduced(rows: &[Row]) -> bool
 }
 
 /// Whether rows are a system: at most 512, each its own normal form but for the size of its numbers, or the row `0 <= -1` alone.
-pub(crate) fn rows_fit(rows: &[Row]) -> bool
+pub fn rows_fit(rows: &[Row]) -> bool
     ensures { result ≡ rows_fit_is rows.now }
 {
     rows.len() <= 512 && (is_false_alone(rows) || are_reduced(rows))

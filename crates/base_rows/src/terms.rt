@@ -83,7 +83,7 @@ impl<'a> Decode<Scope<'a>> for Term {
 }
 
 /// Whether each variable comes before the next, and no factor is 0.
-pub(crate) fn terms_ascend(terms: &[Term]) -> bool
+pub fn terms_ascend(terms: &[Term]) -> bool
     ensures { result ≡ terms_ascend_is terms.now }
 {
     let mut rest = terms;

@@ -9,3 +9,4 @@ pub mod Fits
 pub mod Texts
 pub mod KeptLaws
 pub mod TextsBack
+pub mod TakenBase

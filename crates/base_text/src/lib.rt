@@ -9,6 +9,7 @@ mod order;
 mod read;
 mod refusal;
 mod results;
+mod taken;
 mod write;
 
 pub use base::{Base, BaseModule, StoredResult};

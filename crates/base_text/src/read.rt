@@ -7,6 +7,7 @@ ghost use Rattle.base_text.specs.Read.{version_of, is_first, is_another, base_wi
 
 use crate::known::Known;
 use crate::results::results_at;
+use crate::taken::base_taken;
 use crate::{Base, BaseModule, BaseRefusal, StoredResult};
 use base_json::{Trouble, has_members, list_field, member, whole_at};
 use base_values::is_small_value;
@@ -107,15 +108,26 @@ fn base_in(alloc: Global, value: &Value) -> Result<Base, BaseRefusal>
     }
 }
 
-/// The base of a text, in version 1 of its grammar. Err says why there is none: no JSON, then another version, then another shape or what cannot be, then
-/// a number of a row that is too big. Takes time in proportion to the text.
+/// The base of a text by its JSON value.
 #[tactic(auto, unfolding(crate::specs::Read::base_of))]
-pub fn base_read(alloc: Global, text: &Text) -> Result<Base, BaseRefusal>
+fn base_decoded(alloc: Global, text: &Text) -> Result<Base, BaseRefusal>
     ensures { GivesBase result (base_of text.now) }
 {
     match value_of(alloc, text) {
         Ok(value) => base_in(alloc, &value),
         Err(Trouble::Shape) => Err(BaseRefusal::NotJson),
+        Err(Trouble::Memory) => Err(BaseRefusal::Memory),
+    }
+}
+
+/// The base of a text, in version 1 of its grammar. Err says why there is none: no JSON, then another version, then another shape or what cannot be, then
+/// a number of a row that is too big. Takes time in proportion to the text, least where it is as `base_write` writes it.
+pub fn base_read(alloc: Global, text: &Text) -> Result<Base, BaseRefusal>
+    ensures { GivesBase result (base_of text.now) }
+{
+    match base_taken(alloc, text) {
+        Ok(base) => Ok(base),
+        Err(Trouble::Shape) => base_decoded(alloc, text),
         Err(Trouble::Memory) => Err(BaseRefusal::Memory),
     }
 }

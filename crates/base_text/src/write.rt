@@ -129,7 +129,7 @@ fn all_numbers_fit(results: &[StoredResult])
 }
 
 /// The text of a base with these modules and results.
-fn text_with(
+pub(crate) fn text_with(
     alloc: Global,
     known: &Known,
     modules: &List<BaseModule>,

@@ -243,7 +243,7 @@ term_read s d t e =
     let m = map_some (λ z. term c.0 z) (whole_of a.0.1.1) t c.2 in
     subst (λ (u : Term). VarFits s u.var) m.2 (var_read s b.0 a.0.1.0 c.0 c.1)
 
-test_ascend : (ts : List Term) → terms_ascend ts ≡ true → Ascends ts
+pub test_ascend : (ts : List Term) → terms_ascend ts ≡ true → Ascends ts
 test_ascend [] e = tt
 test_ascend (t ∷ []) e = (not_true (int_eq t.factor (pos 0)) e, tt, tt)
 test_ascend (t ∷ u ∷ us) e =
@@ -253,7 +253,7 @@ test_ascend (t ∷ u ∷ us) e =
     (not_true (int_eq t.factor (pos 0)) a.0, (b.0, before_later t.var u.var us b.0 h.1), h)
 
 -- the variables of a row may be named, and its terms ascend
-abbrev RowRead : ScopeTree → Row → Type 0
+abbrev pub RowRead : ScopeTree → Row → Type 0
 RowRead s r = RowNames s r × Ascends r.terms
 
 terms_read : (s : ScopeTree) (d : Data) (ts : List Term) → terms_of s d ≡ Some ts → Each (λ (t : Term). VarFits s t.var) ts × Ascends ts
@@ -290,7 +290,7 @@ pub or_cases : (a b : Bool) → (a || b) ≡ true → (a ≡ true) ⊎ (b ≡ tr
 or_cases true b e = inl refl
 or_cases false b e = inr e
 
-rows_normal : (s : ScopeTree) (rs : List Row) → Each (RowRead s) rs → list_all is_small_row rs ≡ true → rows_fit rs ≡ true → (length rs ≤ row_limit) × AreNormal false rs
+pub rows_normal : (s : ScopeTree) (rs : List Row) → Each (RowRead s) rs → list_all is_small_row rs ≡ true → rows_fit rs ≡ true → (length rs ≤ row_limit) × AreNormal false rs
 rows_normal s rs h k e =
     let a = and_parts (nat_le (length rs) row_limit) (is_false_alone rs || list_all is_reduced rs) e in
     ((Decides-leb (length rs) row_limit).0 a.0, go (or_cases (is_false_alone rs) (list_all is_reduced rs) a.1))

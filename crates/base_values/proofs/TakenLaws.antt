@@ -181,7 +181,7 @@ reason_whole names Step = refl
 reason_whole names Index = refl
 reason_whole names (Carries v ks p) = or_false (has_float (list_data (map conflict_data ks))) false (items_whole conflict_data conflict_whole ks) refl
 
-mark_whole : (names : List (List ℕ)) (m : Mark) → IsWhole (mark_data names m)
+pub mark_whole : (names : List (List ℕ)) (m : Mark) → IsWhole (mark_data names m)
 mark_whole names (Parallel ns) = items_whole (private_data names) (λ n. refl) ns
 mark_whole names (Serial r) = reason_whole names r
 

@@ -1,4 +1,4 @@
-//! Transformers as JSON, and back.
+//! Transformers out of JSON values.
 ghost use Rattle.std.specs.Prelude.{IfOk, nat_eq, codes};
 ghost use Rattle.std.specs.HashSet.{IsFromIterResult};
 ghost use Rattle.serde_json.specs.View.{view};
@@ -7,41 +7,17 @@ ghost use Rattle.base_json.specs.Shapes.{member_as};
 ghost use Rattle.base_rows.specs.Scopes.{scope_tree, with_exits};
 ghost use Rattle.base_rows.specs.Read.{system_of};
 ghost use Rattle.base_values.specs.Read.{unit_in, unit_of, transformer_of};
-ghost use Rattle.base_values.specs.Written.{unit_data, transformer_data};
 
-use crate::scope::{SymbolNames, ValueScope};
+use crate::scope::ValueScope;
 use affine_systems::System;
-use base_json::{
-    Decode, Encode, Trouble, field, has_members, list_field, list_value, offset_at, pair, text_at,
-    text_value,
-};
-use base_rows::{Scope, is_block, system_value};
+use base_json::{Decode, Trouble, field, has_members, list_field, offset_at, pair, text_at};
+use base_rows::{Scope, is_block};
 use f77_ast::Unit;
 use fx_lists::List;
-use serde_json::{Value, json};
+use serde_json::Value;
 use std::alloc::{AllocError as Memory, Global};
 use std::collections::HashSet;
 use transformer_algebra::Transformer;
-
-impl<'a> Encode<SymbolNames<'a>> for Unit {
-    ghost data_of = { λ _ u. unit_data u };
-
-    fn encode(&self, alloc: Global, _scope: &SymbolNames<'a>) -> Result<Value, Memory> {
-        let block = text_value(alloc, self.block.as_slice())?;
-        json!(in alloc; [block, self.offset])
-    }
-}
-
-impl<'a> Encode<SymbolNames<'a>> for Transformer {
-    ghost data_of = { λ _ t. transformer_data t };
-
-    fn encode(&self, alloc: Global, scope: &SymbolNames<'a>) -> Result<Value, Memory> {
-        let cells = list_value(alloc, scope, self.cells.as_slice())?;
-        let foreign = list_value(alloc, scope, self.foreign.as_slice())?;
-        let system = system_value(alloc, &self.system)?;
-        json!(in alloc; {"cells": cells, "foreign": foreign, "system": system})
-    }
-}
 
 /// A unit of its block and its offset.
 fn unit_in(alloc: Global, block: &Value, offset: &Value) -> Result<Unit, Trouble>

@@ -1,26 +1,14 @@
-//! Effects as JSON, and back.
-ghost use Rattle.f77_ast.specs.Index.{names_of};
+//! Effects out of JSON values.
 ghost use Rattle.base_rows.specs.Scopes.{scope_tree};
 ghost use Rattle.base_values.specs.Read.{effects_of};
-ghost use Rattle.base_values.specs.Written.{effects_data};
 
-use crate::scope::{SymbolNames, ValueScope};
-use base_json::{Decode, Encode, Trouble, field, has_members, list_field, list_value};
+use crate::scope::ValueScope;
+use base_json::{Decode, Trouble, field, has_members, list_field};
 use f77_ast::Variable;
 use f77_results::EffectSet;
 use fx_lists::List;
-use serde_json::{Value, json};
-use std::alloc::{AllocError as Memory, Global};
-
-impl<'a> Encode<SymbolNames<'a>> for EffectSet {
-    ghost data_of = { λ s e. effects_data (names_of s.symbols.now) e };
-
-    fn encode(&self, alloc: Global, scope: &SymbolNames<'a>) -> Result<Value, Memory> {
-        let reads = list_value(alloc, scope, self.reads.as_slice())?;
-        let writes = list_value(alloc, scope, self.writes.as_slice())?;
-        json!(in alloc; {"io": self.io, "reads": reads, "stops": self.stops, "writes": writes})
-    }
-}
+use serde_json::Value;
+use std::alloc::Global;
 
 impl<'a> Decode<ValueScope<'a>> for EffectSet {
     ghost read_as = { λ s. effects_of (scope_tree s.cells) };

@@ -1,4 +1,4 @@
-//! Results of a module as JSON values, and back.
+//! Results of a module as JSON, and back.
 #![tactic(auto)]
 
 mod at_transformers;
@@ -16,15 +16,14 @@ mod statements;
 mod stored;
 mod variables;
 mod words;
-mod write;
 
 pub use laws::{
     fits_is_small, fits_is_taken, read_fits, written_is_flat, written_is_read, written_is_whole,
 };
 pub use names::{Names, Numbers, numbers_in};
-pub use put::put_stored;
+pub use put::{put_stored, value_text};
 pub use ranges::numbers_fit;
 pub use read::stored_at;
+pub use regions::are_apart;
 pub use sizes::is_small_value;
 pub use stored::{StoredValue, kind_of};
-pub use write::{stored_value, value_text};

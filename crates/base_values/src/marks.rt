@@ -110,20 +110,11 @@ fn numbers_of(alloc: Global, variables: &[Variable]) -> Result<List<u32>, Troubl
     Ok(numbers)
 }
 
-fn conflict_at(value: &Value) -> Option<Kinds>
-    ensures { result ≡ conflict_of (view value.now) }
-{
-    match word(value) {
-        None => None,
-        Some(word) => conflict_named(word),
-    }
-}
-
 impl<'a> Decode<ValueScope<'a>> for Kinds {
     ghost read_as = { λ _. conflict_of };
 
     fn decode(_alloc: Global, _scope: &ValueScope<'a>, value: &Value) -> Result<Kinds, Trouble> {
-        match conflict_at(value) {
+        match word(value).and_then(conflict_named) {
             None => Err(Trouble::Shape),
             Some(kind) => Ok(kind),
         }
@@ -133,10 +124,7 @@ impl<'a> Decode<ValueScope<'a>> for Kinds {
 fn answer_at(value: &Value) -> Option<Private>
     ensures { result ≡ answer_of (view value.now) }
 {
-    match word(value) {
-        None => None,
-        Some(word) => answer_named(word),
-    }
+    word(value).and_then(answer_named)
 }
 
 /// What iterations carry, of a variable, the kinds of dependence and the answer on copies.
@@ -160,10 +148,7 @@ fn carried_in(
 fn short_reason(value: &Value) -> Result<Reason, Trouble>
     ensures { Gives result (option_and_then reason_named_is (as_str (view value.now))) }
 {
-    let Some(word) = word(value) else {
-        return Err(Trouble::Shape);
-    };
-    match reason_named(word) {
+    match word(value).and_then(reason_named) {
         None => Err(Trouble::Shape),
         Some(reason) => Ok(reason),
     }

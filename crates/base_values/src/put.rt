@@ -1,15 +1,14 @@
-//! Results as compact JSON, with no JSON value in between.
-ghost use Rattle.std.specs.Prelude.{◌≡◌, ◌++◌, OnOk, codes, true};
+//! Results as compact JSON, with no JSON value in between but for names and marks.
+ghost use Rattle.std.specs.Prelude.{◌≡◌, ◌++◌, IfOk, OnOk, codes, true};
 ghost use Rattle.serde_json.specs.Data.{boolean, member, no_members, string};
 ghost use Rattle.serde_json.specs.Written.{compact_text, members_text};
 ghost use Rattle.f77_ast.specs.Index.{names_of};
 ghost use Rattle.base_rows.specs.Written.{system_data};
 ghost use Rattle.base_values.specs.Words.{access_word};
-ghost use Rattle.base_values.specs.Written.{at_data, effects_data, entry_data, piece_of, region_data, regions_data, results_data, stored_data, transformer_data, unit_data, variable_data, variables_data};
+ghost use Rattle.base_values.specs.Written.{at_data, effects_data, entry_data, mark_data, piece_of, region_data, regions_data, results_data, stored_data, transformer_data, unit_data, variable_data, variables_data};
 
 use crate::StoredValue;
 use crate::scope::SymbolNames;
-use crate::write::value_text;
 use affine_forms::infeasible;
 use affine_systems::System;
 use base_json::{Encode, Put, put_flag, put_list, put_number, put_value, text_value};
@@ -17,7 +16,7 @@ use base_rows::put_system;
 use f77_ast::{Symbols, Unit, Variable};
 use f77_results::{At, EffectSet, Results};
 use fx_lists::Text;
-use region_sets::{Access, Region, RegionSet};
+use region_sets::{Access, Mark, Region, RegionSet};
 use std::alloc::{AllocError as Memory, Global};
 use transformer_algebra::Transformer;
 
@@ -157,6 +156,16 @@ impl<'a> Put<SymbolNames<'a>> for RegionSet {
     }
 }
 
+impl<'a> Put<SymbolNames<'a>> for Mark {
+    ghost data_of = { λ s m. mark_data (names_of s.symbols.now) m };
+
+    #[tactic(auto, using(crate::proofs::TakenLaws::mark_whole))]
+    fn put(&self, alloc: Global, scope: &SymbolNames<'a>, out: &mut Text) -> Result<(), Memory> {
+        let value = self.encode(alloc, scope)?;
+        put_value(alloc, &value, out)
+    }
+}
+
 impl<'a, T: Put<SymbolNames<'a>>> Put<SymbolNames<'a>> for At<T> {
     ghost data_of = { λ s a. at_data (T.data_of s) a };
 
@@ -202,7 +211,7 @@ fn put_entry(
     out.push(b'}')
 }
 
-/// Appends the compact JSON of a result of a module with these symbols, as `value_text` makes it.
+/// Appends the compact JSON of a result of a module with these symbols; null for a number of a row that does not fit 64 bits.
 pub fn put_stored(
     alloc: Global,
     symbols: &Symbols,
@@ -219,9 +228,15 @@ pub fn put_stored(
         StoredValue::Regions(results) => put_results(alloc, &scope, results, out),
         StoredValue::InRegions(results) => put_results(alloc, &scope, results, out),
         StoredValue::OutRegions(results) => put_results(alloc, &scope, results, out),
-        StoredValue::Marks(_) => {
-            let text = value_text(alloc, symbols, value)?;
-            out.append(text.as_slice())
-        }
+        StoredValue::Marks(marks) => put_list(alloc, &scope, marks.as_slice(), out),
     }
+}
+
+/// The compact JSON of a result of a module with these symbols.
+pub fn value_text(alloc: Global, symbols: &Symbols, value: &StoredValue) -> Result<Text, Memory>
+    ensures { IfOk result (λ t. t ≡ compact_text (stored_data (names_of symbols.now) value.now)) }
+{
+    let mut text = Text::new(alloc);
+    put_stored(alloc, symbols, value, &mut text)?;
+    Ok(text)
 }

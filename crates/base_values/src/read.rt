@@ -173,19 +173,6 @@ fn preconditions_at(
     Ok(StoredValue::Preconditions(read))
 }
 
-/// READ and WRITE, IN or OUT regions, by the kind of the scope.
-fn regions_at(
-    alloc: Global,
-    names: &Names<'_>,
-    scope: &ValueScope<'_>,
-    value: &Value,
-) -> Result<Results<RegionSet>, Trouble>
-    ensures { Gives result (results_of (regions_of (scope_tree scope.now.cells) scope.now.kind) names.now.numbers.now.statements (codes "summary") (view value.now)) }
-{
-    let ids = names.numbers.statements.as_slice();
-    results_at(alloc, scope, ids, "summary", value)
-}
-
 /// Marks.
 fn marks_at(
     alloc: Global,
@@ -207,7 +194,8 @@ fn read_writes_at(
 ) -> Result<StoredValue, Trouble>
     ensures { Gives result (option_map stored.Regions (results_of (regions_of (scope_tree scope.now.cells) scope.now.kind) names.now.numbers.now.statements (codes "summary") (view value.now))) }
 {
-    let read = regions_at(alloc, names, scope, value)?;
+    let ids = names.numbers.statements.as_slice();
+    let read: Results<RegionSet> = results_at(alloc, scope, ids, "summary", value)?;
     Ok(StoredValue::Regions(read))
 }
 
@@ -219,7 +207,8 @@ fn ins_at(
 ) -> Result<StoredValue, Trouble>
     ensures { Gives result (option_map stored.InRegions (results_of (regions_of (scope_tree scope.now.cells) scope.now.kind) names.now.numbers.now.statements (codes "summary") (view value.now))) }
 {
-    let read = regions_at(alloc, names, scope, value)?;
+    let ids = names.numbers.statements.as_slice();
+    let read: Results<RegionSet> = results_at(alloc, scope, ids, "summary", value)?;
     Ok(StoredValue::InRegions(read))
 }
 
@@ -231,7 +220,8 @@ fn outs_at(
 ) -> Result<StoredValue, Trouble>
     ensures { Gives result (option_map stored.OutRegions (results_of (regions_of (scope_tree scope.now.cells) scope.now.kind) names.now.numbers.now.statements (codes "summary") (view value.now))) }
 {
-    let read = regions_at(alloc, names, scope, value)?;
+    let ids = names.numbers.statements.as_slice();
+    let read: Results<RegionSet> = results_at(alloc, scope, ids, "summary", value)?;
     Ok(StoredValue::OutRegions(read))
 }
 

@@ -1,4 +1,4 @@
-//! Regions as JSON, and back.
+//! Regions out of JSON values.
 ghost use Rattle.std.specs.Prelude.{◌≡◌, ◌++◌, ◌∷◌, [], IfOk, map, codes, option_and_then};
 ghost use Rattle.serde_json.specs.View.{view};
 ghost use Rattle.pipsmake_rules.specs.Kinds.{same_kind};
@@ -8,52 +8,21 @@ ghost use Rattle.base_json.specs.Gives.{Gives};
 ghost use Rattle.base_json.specs.Shapes.{member_as, when};
 ghost use Rattle.base_rows.specs.Scopes.{scope_tree, with_phi};
 ghost use Rattle.base_rows.specs.Read.{system_of};
-ghost use Rattle.base_rows.specs.Written.{system_data};
 ghost use Rattle.base_values.specs.Read.{access_of, region_of, regions_of, region_key as region_key_is, are_apart as are_apart_is};
 ghost use Rattle.base_values.specs.Words.{access_named as access_named_is, result_with as result_with_is};
-ghost use Rattle.base_values.specs.Written.{piece_of, region_data, regions_data};
 
-use crate::scope::{SymbolNames, ValueScope};
+use crate::scope::ValueScope;
 use crate::variables::put_variable;
-use crate::words::{access_named, access_word, result_with};
-use affine_forms::infeasible;
+use crate::words::{access_named, result_with};
 use affine_systems::System;
-use base_json::{Decode, Encode, Trouble, field, has_members, list_at, list_value, word};
-use base_rows::{Scope, are_distinct, system_value};
+use base_json::{Decode, Trouble, field, has_members, list_at, word};
+use base_rows::{Scope, are_distinct};
 use f77_ast::{Symbols, Variable};
 use fx_lists::{List, Text};
 use pipsmake_rules::Kind;
 use region_sets::{Access, Region, RegionSet};
-use serde_json::{Value, json};
+use serde_json::Value;
 use std::alloc::{AllocError as Memory, Global};
-
-/// The first of some systems; the infeasible one where there is none.
-fn piece_value(alloc: Global, pieces: &[System]) -> Result<Value, Memory>
-    ensures { IfOk result (λ v. view v ≡ system_data (piece_of pieces.now)) }
-{
-    match pieces {
-        [] => system_value(alloc, &infeasible(alloc)?),
-        [piece, ..] => system_value(alloc, piece),
-    }
-}
-
-impl<'a> Encode<SymbolNames<'a>> for Region {
-    ghost data_of = { λ s r. region_data (names_of s.symbols.now) r };
-
-    fn encode(&self, alloc: Global, scope: &SymbolNames<'a>) -> Result<Value, Memory> {
-        let of = self.variable.encode(alloc, scope)?;
-        let system = piece_value(alloc, self.pieces.as_slice())?;
-        json!(in alloc; {"exact": self.exact, "kind": access_word(self.kind), "of": of, "system": system})
-    }
-}
-
-impl<'a> Encode<SymbolNames<'a>> for RegionSet {
-    ghost data_of = { λ s rs. regions_data (names_of s.symbols.now) rs };
-
-    fn encode(&self, alloc: Global, scope: &SymbolNames<'a>) -> Result<Value, Memory> {
-        list_value(alloc, scope, self.as_slice())
-    }
-}
 
 /// A kind of region that results of this kind have.
 fn access_in(kind: Kind, word: &str) -> Option<Access>
@@ -157,7 +126,7 @@ fn region_keys(alloc: Global, symbols: &Symbols, regions: &[Region]) -> Result<L
 }
 
 /// Whether no two are of one kind and variable.
-fn are_apart(alloc: Global, symbols: &Symbols, regions: &[Region]) -> Result<bool, Memory>
+pub fn are_apart(alloc: Global, symbols: &Symbols, regions: &[Region]) -> Result<bool, Memory>
     ensures { IfOk result (λ b. b ≡ are_apart_is (names_of symbols.now) regions.now) }
 {
     let keys = region_keys(alloc, symbols, regions)?;

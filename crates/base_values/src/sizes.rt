@@ -14,66 +14,33 @@ use transformer_algebra::Transformer;
 fn are_small_systems(systems: &[System]) -> bool
     ensures { result ≡ list_all is_small_system_is systems.now }
 {
-    let mut rest = systems;
-    while let [system, more @ ..] = rest {
-        if !is_small_system(system) {
-            return false;
-        }
-        rest = more;
-    }
-    true
+    systems.iter().all(|system| is_small_system(system))
 }
 
 fn are_small_regions(regions: &[Region]) -> bool
     ensures { result ≡ are_small_regions_is regions.now }
 {
-    let mut rest = regions;
-    while let [region, more @ ..] = rest {
-        if !are_small_systems(region.pieces.as_slice()) {
-            return false;
-        }
-        rest = more;
-    }
-    true
+    regions
+        .iter()
+        .all(|region| are_small_systems(region.pieces.as_slice()))
 }
 
 fn small_transformers(at: &[At<Transformer>]) -> bool
     ensures { result ≡ small_at is_small_transformer_is at.now }
 {
-    let mut rest = at;
-    while let [one, more @ ..] = rest {
-        if !is_small_system(&one.value.system) {
-            return false;
-        }
-        rest = more;
-    }
-    true
+    at.iter().all(|one| is_small_system(&one.value.system))
 }
 
 fn small_systems(at: &[At<System>]) -> bool
     ensures { result ≡ small_at is_small_system_is at.now }
 {
-    let mut rest = at;
-    while let [one, more @ ..] = rest {
-        if !is_small_system(&one.value) {
-            return false;
-        }
-        rest = more;
-    }
-    true
+    at.iter().all(|one| is_small_system(&one.value))
 }
 
 fn small_regions(at: &[At<RegionSet>]) -> bool
     ensures { result ≡ small_at are_small_regions_is at.now }
 {
-    let mut rest = at;
-    while let [one, more @ ..] = rest {
-        if !are_small_regions(one.value.as_slice()) {
-            return false;
-        }
-        rest = more;
-    }
-    true
+    at.iter().all(|one| are_small_regions(one.value.as_slice()))
 }
 
 /// Whether all numbers of the rows of a result are below 2^62 in magnitude.

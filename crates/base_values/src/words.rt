@@ -1,20 +1,9 @@
 //! The words of stored results.
 ghost use Rattle.std.specs.Prelude.{◌≡◌};
-ghost use Rattle.base_values.specs.Words.{access_word as access_word_is, access_named as access_named_is, result_with as result_with_is, conflict_word as conflict_word_is, conflict_named as conflict_named_is, answer_word as answer_word_is, answer_named as answer_named_is, reason_named as reason_named_is};
+ghost use Rattle.base_values.specs.Words.{access_named as access_named_is, result_with as result_with_is, conflict_word as conflict_word_is, conflict_named as conflict_named_is, answer_word as answer_word_is, answer_named as answer_named_is, reason_named as reason_named_is};
 
 use pipsmake_rules::Kind;
 use region_sets::{Access, Kinds, Private, Reason};
-
-pub fn access_word(access: Access) -> &'static str
-    ensures { result.now ≡ access_word_is access }
-{
-    match access {
-        Access::Read => "READ",
-        Access::Write => "WRITE",
-        Access::In => "IN",
-        Access::Out => "OUT",
-    }
-}
 
 pub fn access_named(word: &str) -> Option<Access>
     ensures { result ≡ access_named_is word.now }

@@ -3,3 +3,5 @@ pub mod StatementLaws
 pub mod RestLaws
 pub mod ModuleLaws
 pub mod BesideLaws
+pub mod AliveSteps
+pub mod AppliedSteps

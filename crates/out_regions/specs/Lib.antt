@@ -1,3 +1,4 @@
+pub mod Alive
 pub mod Used
 pub mod Leaving
 pub mod Known

@@ -22,6 +22,7 @@ use fx_lists::List;
 use in_out_regions::{push_forgetting, push_unwritten, set_at};
 use region_sets::{
     Region, RegionSet, live_regions as live, push_composed, push_region, push_system, remade,
+    same_pieces,
 };
 use std::alloc::{AllocError as Memory, Global};
 use transformer_algebra::{Transformer, apply};
@@ -44,7 +45,53 @@ fn applied(alloc: Global, t: &Transformer, r: &Region) -> Result<Region, Memory>
     remade(r, r.exact, pieces)
 }
 
-#[tactic(auto, using(region_sets::proofs::Steps::fitting))]
+/// The same, from what another region has become: its pieces serve where this region has the same as the other.
+#[tactic(auto, using(crate::proofs::AppliedSteps::applied_same))]
+fn applied_like(
+    alloc: Global,
+    t: &Transformer,
+    other: &Region,
+    made: &Region,
+    r: &Region,
+) -> Result<Region, Memory>
+    requires transformer { Fits t.now.system }
+    requires made { made.now ≡ applied_is t.now other.now }
+    requires fits { RegionFits made.now }
+    requires region { RegionFits r.now }
+    ensures defined { IfOk result (λ q. q ≡ applied_is t.now r.now) }
+    ensures fits { IfOk result RegionFits }
+{
+    if !same_pieces(&other.pieces, &r.pieces) {
+        return applied(alloc, t, r);
+    }
+    let mut pieces = List::new(alloc);
+    region_sets::push_copies(&mut pieces, made.pieces.as_slice())?;
+    remade(r, r.exact, pieces)
+}
+
+/// The same, where the regions before it have become these: as the last of them, where it has the same pieces.
+#[tactic(auto, using(crate::proofs::AppliedSteps::last_steps, region_sets::proofs::SetSteps::gather_fits))]
+fn applied_after(
+    alloc: Global,
+    t: &Transformer,
+    before: &[Region],
+    done: &[Region],
+    r: &Region,
+) -> Result<Region, Memory>
+    requires transformer { Fits t.now.system }
+    requires done { done.now ≡ all_applied_is t.now before.now }
+    requires fits { SetFits done.now }
+    requires region { RegionFits r.now }
+    ensures defined { IfOk result (λ q. q ≡ applied_is t.now r.now) }
+    ensures fits { IfOk result RegionFits }
+{
+    match before {
+        [] => applied(alloc, t, r),
+        [.., last] => applied_like(alloc, t, last, &done[before.len() - 1], r),
+    }
+}
+
+#[tactic(auto, using(region_sets::proofs::Steps::fitting, region_sets::proofs::SetSteps::gather_fits, crate::proofs::AppliedSteps::applied_more))]
 fn all_applied(alloc: Global, t: &Transformer, set: &[Region]) -> Result<RegionSet, Memory>
     requires transformer { Fits t.now.system }
     requires set { SetFits set.now }
@@ -52,10 +99,9 @@ fn all_applied(alloc: Global, t: &Transformer, set: &[Region]) -> Result<RegionS
     ensures fits { IfOk result SetFits }
 {
     let mut out = List::new(alloc);
-    let mut rest = set;
-    while let [r, more @ ..] = rest {
-        push_region(&mut out, applied(alloc, t, r)?)?;
-        rest = more;
+    for (i, r) in set.iter().enumerate() {
+        let next = applied_after(alloc, t, &set[..i], out.as_slice(), r)?;
+        push_region(&mut out, next)?;
     }
     Ok(out)
 }

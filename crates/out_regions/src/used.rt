@@ -7,6 +7,7 @@ ghost use Rattle.affine_systems.specs.Calls.{meet as meet_is};
 ghost use Rattle.region_sets.specs.Regions.{RegionFits};
 ghost use Rattle.region_sets.specs.Sets.{SetFits};
 ghost use Rattle.out_regions.specs.Used.{as_out as as_out_is, all_out, is_used_beside as is_used_beside_is, used_pieces as used_pieces_is, is_none as is_none_is, unless_empty, met_with, used_of, if_write, used as used_is};
+ghost use Rattle.out_regions.specs.Alive.{IsAliveFrom};
 
 use affine_systems::{System, meet};
 use f77_ast::{Symbols, Variable, overlaps};
@@ -14,7 +15,7 @@ use f77_results::copy_variable;
 use fx_lists::List;
 use in_out_regions::{is_write, same_variable};
 use region_sets::{
-    Access, Region, RegionSet, copy_region, hull_of, live_pieces, live_regions as live,
+    Access, Region, RegionSet, copy_region, hull_of, live_regions as live, pieces_alive,
     push_copies, push_region, push_system,
 };
 use std::alloc::{AllocError as Memory, Global};
@@ -130,14 +131,16 @@ fn push_pieces(out: &mut RegionSet, w: &Region, pieces: List<System>) -> Result<
     )
 }
 
-/// Adds what of a WRITE region lies within the hull of these systems, where there are any.
+/// Adds what of a WRITE region lies within the hull of these systems, where there are any. No piece of the regions from `since` on is refuted.
 fn push_within(
     alloc: Global,
     out: &mut RegionSet,
+    since: usize,
     w: &Region,
     later: &[System],
 ) -> Result<(), Memory>
     requires out { SetFits out.old }
+    requires alive { IsAliveFrom since out.old }
     requires region { RegionFits w.now }
     requires later { AllFit later.now }
     ensures added { OnOk result (out.new ≡ out.old ++ met_with w.now later.now) }
@@ -148,55 +151,64 @@ fn push_within(
     }
     let together = hull_of(alloc, later)?;
     let met = all_met(alloc, w.pieces.as_slice(), &together)?;
-    let pieces = live_pieces(alloc, met.as_slice())?;
+    let pieces = pieces_alive(alloc, &out.as_slice()[since..], &met)?;
     push_pieces(out, w, pieces)
 }
 
-/// Adds what is used of a WRITE region.
+/// Adds what is used of a WRITE region. No piece of the regions from `since` on is refuted; what it returns is such a place, too.
+#[tactic(auto, using(crate::proofs::AliveSteps::alive_steps))]
 fn push_used(
     alloc: Global,
     out: &mut RegionSet,
+    since: usize,
     symbols: &Symbols,
     later: &[Region],
     w: &Region,
-) -> Result<(), Memory>
+) -> Result<usize, Memory>
     requires out { SetFits out.old }
+    requires alive { IsAliveFrom since out.old }
     requires later { SetFits later.now }
     requires region { RegionFits w.now }
     ensures added { OnOk result (out.new ≡ out.old ++ used_of (map symbol_tree symbols.now) later.now w.now) }
     ensures fits { OnOk result (SetFits out.new) }
+    ensures alive { IfOk result (λ n. IsAliveFrom n out.new) }
 {
     if is_used_beside(symbols, later, &w.variable) {
-        return push_region(out, as_out(alloc, w)?);
+        push_region(out, as_out(alloc, w)?)?;
+        return Ok(out.len());
     }
     let pieces = used_pieces(alloc, &w.variable, later)?;
-    push_within(alloc, out, w, pieces.as_slice())
+    push_within(alloc, out, since, w, pieces.as_slice())?;
+    Ok(since)
 }
 
 /// The same, where it is a WRITE region.
 fn push_if_write(
     alloc: Global,
     out: &mut RegionSet,
+    since: usize,
     symbols: &Symbols,
     later: &[Region],
     w: &Region,
-) -> Result<(), Memory>
+) -> Result<usize, Memory>
     requires out { SetFits out.old }
+    requires alive { IsAliveFrom since out.old }
     requires later { SetFits later.now }
     requires region { RegionFits w.now }
     ensures added { OnOk result (out.new ≡ out.old ++ if_write (map symbol_tree symbols.now) later.now w.now) }
     ensures fits { OnOk result (SetFits out.new) }
+    ensures alive { IfOk result (λ n. IsAliveFrom n out.new) }
 {
     if is_write(w.kind) {
-        push_used(alloc, out, symbols, later, w)
+        push_used(alloc, out, since, symbols, later, w)
     } else {
-        Ok(())
+        Ok(since)
     }
 }
 
 /// What of the WRITE regions of a set is used, where `later` has what may be read later: all of a variable where one is used that shares units with
 /// it, else what lies within the hull of what is used of it. Each region is compared with all of `later`.
-#[tactic(auto, using(region_sets::proofs::Steps::fitting))]
+#[tactic(auto, using(region_sets::proofs::Steps::fitting, crate::proofs::AliveSteps::alive_steps))]
 pub fn used(
     alloc: Global,
     symbols: &Symbols,
@@ -209,9 +221,10 @@ pub fn used(
     ensures fits { IfOk result SetFits }
 {
     let mut out = List::new(alloc);
+    let mut since = 0;
     let mut rest = writes;
     while let [w, more @ ..] = rest {
-        push_if_write(alloc, &mut out, symbols, later, w)?;
+        since = push_if_write(alloc, &mut out, since, symbols, later, w)?;
         rest = more;
     }
     Ok(out)

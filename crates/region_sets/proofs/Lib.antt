@@ -9,6 +9,8 @@ pub mod LoopLaws
 pub mod PieceLaws
 pub mod SetSteps
 pub mod LiveSteps
+pub mod AliveLaws
+pub mod SameSystems
 pub mod MoveSteps
 pub mod PutSteps
 pub mod RowSteps

@@ -6,6 +6,7 @@ pub mod Subtract
 pub mod Compose
 pub mod Loops
 pub mod Sets
+pub mod Alive
 pub mod Lists
 pub mod Written
 pub mod Claims

@@ -25,7 +25,10 @@ pub use marks::{Kinds, Mark, Private, Reason, SiteOut};
 pub use naming::{has_none, named_cells};
 pub use range::Range;
 pub use region::{Access, Region, RegionSet, copy_region, push_copies, push_system, remade};
-pub use sets::{live as live_regions, live_pieces, push_region, unite_all, unite_owned};
+pub use sets::{
+    live as live_regions, live_pieces, pieces_alive, push_region, same_pieces, unite_all,
+    unite_owned,
+};
 pub use subtracting::subtract;
 pub use text::{put_variable, region_line, region_text};
 pub use uniting::{hull_of, unite};

@@ -1,11 +1,12 @@
 //! Regions that are handed on, without their refuted pieces.
-ghost use Rattle.std.specs.Prelude.{◌≡◌, ◌++◌, ◌∷◌, ◌&&◌, [], false, not, option_to_list, IfOk, IfSome, OnOk};
+ghost use Rattle.std.specs.Prelude.{◌≡◌, ◌++◌, ◌∷◌, ◌&&◌, [], true, false, not, option_to_list, IfOk, IfSome, OnOk};
 ghost use Rattle.hull_projection.specs.Minus.{AllFit};
+ghost use Rattle.region_sets.specs.Alive.{AllAlive};
 ghost use Rattle.region_sets.specs.Regions.{RegionFits, any_weak as any_weak_is};
 ghost use Rattle.region_sets.specs.Sets.{SetFits, live_pieces as live_pieces_is, live as live_is};
 
 use crate::region::any_weak;
-use crate::sets::live_pieces;
+use crate::sets::{last_has, live_pieces};
 use crate::{Region, RegionSet};
 use affine_systems::System;
 use fx_lists::List;
@@ -28,12 +29,16 @@ fn any_refuted(alloc: Global, pieces: &[System]) -> Result<bool, Memory>
     Ok(false)
 }
 
-/// The pieces that are not refuted.
-fn keep_live(alloc: Global, pieces: List<System>) -> Result<List<System>, Memory>
-    requires { AllFit pieces }
+/// The pieces that are not refuted; all of them where that is known.
+fn keep_live(alloc: Global, known: bool, pieces: List<System>) -> Result<List<System>, Memory>
+    requires known { known ≡ true → live_pieces_is pieces ≡ pieces }
+    requires pieces { AllFit pieces }
     ensures defined { IfOk result (λ ss. ss ≡ live_pieces_is pieces) }
     ensures fits { IfOk result AllFit }
 {
+    if known {
+        return Ok(pieces);
+    }
     if any_refuted(alloc, pieces.as_slice())? {
         return live_pieces(alloc, pieces.as_slice());
     }
@@ -47,10 +52,11 @@ pub fn stays_exact(exact: bool, pieces: &[System]) -> bool
     exact && !any_weak(pieces)
 }
 
-/// A region without its refuted pieces, unless all are.
+/// A region without its refuted pieces, unless all are. None is looked at where it is known that none is refuted.
 #[tactic(auto, using(crate::proofs::LiveSteps::keeping))]
-pub fn alive(alloc: Global, r: Region) -> Result<Option<Region>, Memory>
-    requires { RegionFits r }
+pub fn alive(alloc: Global, known: bool, r: Region) -> Result<Option<Region>, Memory>
+    requires known { known ≡ true → live_pieces_is r.pieces ≡ r.pieces }
+    requires region { RegionFits r }
     ensures defined { IfOk result (λ o. option_to_list o ≡ live_is (r ∷ [])) }
     ensures fits { IfOk result (λ o. IfSome o RegionFits) }
 {
@@ -60,7 +66,7 @@ pub fn alive(alloc: Global, r: Region) -> Result<Option<Region>, Memory>
         exact,
         pieces,
     } = r;
-    let pieces = keep_live(alloc, pieces)?;
+    let pieces = keep_live(alloc, known, pieces)?;
     if pieces.is_empty() {
         return Ok(None);
     }
@@ -73,12 +79,16 @@ pub fn alive(alloc: Global, r: Region) -> Result<Option<Region>, Memory>
     }))
 }
 
-/// Adds a region without its refuted pieces, unless all are.
+/// Adds a region without its refuted pieces, unless all are. Pieces that the last region has, too, are not looked at.
+#[tactic(auto, using(crate::proofs::AliveLaws::alive_steps))]
 fn push_alive(alloc: Global, out: &mut Vec<Region>, r: Region) -> Result<(), Memory>
-    requires { RegionFits r }
-    ensures { OnOk result (out.new.items ≡ out.old.items ++ live_is (r ∷ [])) }
+    requires alive { AllAlive out.old.items }
+    requires region { RegionFits r }
+    ensures added { OnOk result (out.new.items ≡ out.old.items ++ live_is (r ∷ [])) }
+    ensures alive { OnOk result (AllAlive out.new.items) }
 {
-    if let Some(r) = alive(alloc, r)? {
+    let known = last_has(out.as_slice(), &r.pieces);
+    if let Some(r) = alive(alloc, known, r)? {
         out.push(r)?;
     }
     Ok(())

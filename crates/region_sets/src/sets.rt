@@ -2,13 +2,14 @@
 ghost use Rattle.std.specs.Prelude.{◌≡◌, ◌++◌, ◌∷◌, ◌-◌, [], length, reverse, take, slice_index_or, true, if◌then◌else◌, IfOk, OnOk};
 ghost use Rattle.hull_projection.specs.Minus.{AllFit};
 ghost use Rattle.region_sets.specs.Regions.{RegionFits};
+ghost use Rattle.region_sets.specs.Alive.{AllAlive};
 ghost use Rattle.region_sets.specs.Laws.{HasUnits, IsAsSharp};
 ghost use Rattle.std.specs.declared.cmp.Ordering.TheVariants.{Less};
 ghost use Rattle.region_sets.specs.declared.region.Region.{Region as ARegion};
 ghost use Rattle.region_sets.specs.Sets.{SetFits, ComeBefore, access_number as access_number_is, region_cmp, live_pieces as live_pieces_is, with_region as with_region_is, with_live as with_live_is, with_regions, live as live_is, unite_all as unite_all_is};
 
 use crate::living::{alive, live_all};
-use crate::region::{copy_region, copy_system, push_system, remade};
+use crate::region::{copy_region, copy_system, push_copies, push_system, remade};
 use crate::{Access, Region, RegionSet, unite};
 use affine_systems::System;
 use f77_results::order;
@@ -123,7 +124,7 @@ fn with_live(alloc: Global, set: RegionSet, start: usize, r: Region) -> Result<P
     ensures fits { IfOk result (λ p. SetFits p.set) }
     ensures before { IfOk result (λ p. ComeBefore r (take p.at p.set)) }
 {
-    match alive(alloc, r)? {
+    match alive(alloc, false, r)? {
         None => Ok(Placed { set, at: start }),
         Some(r) => {
             let placed = with_region(alloc, set, start, r)?;
@@ -142,15 +143,54 @@ fn is_last_after(r: &Region, regions: &[Region]) -> bool
     }
 }
 
+/// Whether systems are the same, row by row.
+pub fn same_pieces(a: &List<System>, b: &List<System>) -> bool
+    ensures { result ≡ true → a.now ≡ b.now }
+{
+    a == b
+}
+
+/// Whether the last of some regions has these pieces, none of which is then refuted.
+pub(crate) fn last_has(before: &[Region], pieces: &List<System>) -> bool
+    requires { AllAlive before.now }
+    ensures { result ≡ true → live_pieces_is pieces.now ≡ pieces.now }
+{
+    match before {
+        [] => false,
+        [.., last] => same_pieces(&last.pieces, pieces),
+    }
+}
+
+/// Copies of the pieces that are not refuted. Those that the last of some regions has, too, are not looked at.
+pub fn pieces_alive(
+    alloc: Global,
+    before: &[Region],
+    pieces: &List<System>,
+) -> Result<List<System>, Memory>
+    requires before { AllAlive before.now }
+    requires pieces { AllFit pieces.now }
+    ensures defined { IfOk result (λ ss. ss ≡ live_pieces_is pieces.now) }
+    ensures fits { IfOk result AllFit }
+{
+    if last_has(before, pieces) {
+        let mut copies = List::new(alloc);
+        push_copies(&mut copies, pieces.as_slice())?;
+        return Ok(copies);
+    }
+    live_pieces(alloc, pieces.as_slice())
+}
+
 /// Adds a region without its refuted pieces, unless all are.
-#[tactic(auto, using(crate::proofs::SetSteps::live_loop))]
+#[tactic(auto, using(crate::proofs::SetSteps::live_loop, crate::proofs::AliveLaws::alive_steps))]
 fn push_live(alloc: Global, out: &mut RegionSet, r: &Region) -> Result<(), Memory>
     requires out { SetFits out.old }
+    requires alive { AllAlive out.old }
     requires r { RegionFits r.now }
     ensures added { OnOk result (out.new ≡ out.old ++ live_is (r.now ∷ [])) }
     ensures fits { OnOk result (SetFits out.new) }
+    ensures alive { OnOk result (AllAlive out.new) }
 {
-    let pieces = live_pieces(alloc, r.pieces.as_slice())?;
+    let pieces = pieces_alive(alloc, out.as_slice(), &r.pieces)?;
     if pieces.is_empty() {
         return Ok(());
     }

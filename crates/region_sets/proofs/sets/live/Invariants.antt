@@ -1,4 +1,5 @@
 use Rattle.std.proofs.Common.{◌≡◌, length, ◌++◌}
+use Rattle.region_sets.specs.Alive.{AllAlive}
 use Rattle.region_sets.specs.Sets.{SetFits, live}
 use Rattle.region_sets.proofs.sets.live.Given as goal
 
@@ -6,6 +7,7 @@ abbrev pub invariant-loop-rest : goal.invariant-loop-rest
 invariant-loop-rest l = record {
   same : l.out ++ live l.rest ≡ live l.fn.regions;
   fits : SetFits l.out;
+  alive : AllAlive l.out;
   each : SetFits l.rest;
 }
 

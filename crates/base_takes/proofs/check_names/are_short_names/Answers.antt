@@ -1,0 +1,9 @@
+use Rattle.std.proofs.Common.{◌≡◌, true}
+use Rattle.base_values.proofs.Options.{and_from}
+use Rattle.base_rows.specs.Scopes.{is_short_name}
+use Rattle.base_takes.proofs.check_names.are_short_names.Goals as goal
+
+pub returns : goal.returns
+returns c =
+    let first : c.is_short_name-first.result ≡ true = cc in
+    λ e. and_from (is_short_name c.args.«module».now) (is_short_name c.args.local.now) (c.is_short_name-first.ensures first) (c.is_short_name.ensures e)

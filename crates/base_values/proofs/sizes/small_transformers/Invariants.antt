@@ -1,9 +1,0 @@
-use Rattle.std.proofs.Common.{◌≡◌, length}
-use Rattle.base_values.specs.Sizes.{small_at, is_small_transformer}
-use Rattle.base_values.proofs.sizes.small_transformers.Given as goal
-
-abbrev pub invariant-loop-rest : goal.invariant-loop-rest
-invariant-loop-rest l = small_at is_small_transformer l.rest ≡ small_at is_small_transformer l.fn.at
-
-abbrev pub decreases-loop-rest : goal.decreases-loop-rest
-decreases-loop-rest l = length l.rest
