@@ -10,7 +10,8 @@ import sys
 
 TOP = os.path.dirname(os.path.dirname(os.path.abspath(__file__)))
 PAGE = os.path.join(TOP, 'docs', 'DEFINITIONS.md')
-ROW = re.compile(r'\| (`(\w+)`: (`\w+`(?:, `\w+`)*)) \| [\d,]+ \|')
+NAME = r'`\w+(?:/\w+)*`'
+ROW = re.compile(rf'\| (`(\w+)`: ({NAME}(?:, {NAME})*)) \| [\d,]+ \|')
 
 
 def path(crate, name):
@@ -26,6 +27,14 @@ def lines(files):
     return sum(len(text(*it).splitlines()) for it in files)
 
 
+def stated_in(crate, parts):
+    """The definition file that a path of a contract means: a crate may hand on crates below it, and the last one in the path has the file."""
+    while parts and os.path.isdir(os.path.join(TOP, 'crates', parts[0], 'specs')):
+        crate, parts = parts[0], parts[1:]
+    names = ['/'.join(parts[:count]) for count in range(len(parts), 0, -1)]
+    return [(crate, name) for name in names if os.path.exists(path(crate, name))][:1]
+
+
 def cited(start):
     """All definition files that a file leads to."""
     seen, left = set(), [start]
@@ -33,8 +42,8 @@ def cited(start):
         it = left.pop()
         if it not in seen:
             seen.add(it)
-            named = re.findall(r'Rattle\.(\w+)\.specs\.(\w+)', text(*it))
-            left += [other for other in named if os.path.exists(path(*other))]
+            for crate, rest in re.findall(r'Rattle\.(\w+)\.specs((?:\.\w+)+)', text(*it)):
+                left += stated_in(crate, rest.split('.')[1:])
     return seen
 
 
@@ -43,7 +52,7 @@ def with_numbers(page):
     parts, files = {}, []
 
     def row(found):
-        names = [(found[2], name) for name in re.findall(r'\w+', found[3])]
+        names = [(found[2], name) for name in re.findall(r'[\w/]+', found[3])]
         files.extend(names)
         return f'| {found[1]} | {lines(names):,} |'
 

@@ -1,41 +1,150 @@
 #!/usr/bin/env python3
-"""Tries the must-fail edits of tests/edits, which the gate leaves out for their cost: the prover must refuse each.
+"""The must-fail edits of the repository, those of the gate (crates/*/must-fail) and those that it leaves out for their cost (tests/edits).
 
-    bench/edits.py [CRATE ..]      those of these crates, or of all that have any
+    bench/edits.py                 tries each edit in a work tree of its own, and writes tests/edits/LAST
+    bench/edits.py CRATE ..        tries those of these crates, and writes nothing
+    bench/edits.py --check         looks only whether each edit can still be applied (seconds)
 
-An edit has the form of those in crates/*/must-fail (docs/CONTRIBUTING.md). For the time of the run it stands there, where `rt must-fail` finds it; each crate costs about one more of its proofs. The status is that of
-`rt must-fail`: 0 where each was refused.
+The work tree has the last commit, so what is not committed is not tried. Each crate with edits is proved there first, which takes hours where
+nothing is kept. The prover must refuse each edit; the status is 0 where it does.
 """
-import os, shutil, subprocess, sys
+import datetime
+import os
+import re
+import subprocess
+import sys
+import tempfile
+import time
+from dataclasses import dataclass, field
+from typing import Dict, List, Tuple
 
 TOP = os.path.dirname(os.path.dirname(os.path.abspath(__file__)))
-EDITS = os.path.join(TOP, 'tests', 'edits')
+EDITS = os.path.join('tests', 'edits')
+LAST = os.path.join(EDITS, 'LAST')
 
 
-def placed(crate):
-    """Copies the edits of a crate to its must-fail folder, and returns the paths that it made."""
-    folder = os.path.join(TOP, 'crates', crate, 'must-fail')
-    made = [] if os.path.isdir(folder) else [folder]
-    os.makedirs(folder, exist_ok=True)
-    for name in sorted(os.listdir(os.path.join(EDITS, crate))):
-        made.append(os.path.join(folder, name))
-        shutil.copyfile(os.path.join(EDITS, crate, name), made[-1])
-    return made
+@dataclass
+class Tried:
+    """What the prover said of edits: how many it refused, and the others, each with the reason."""
+    refused: int = 0
+    others: List[str] = field(default_factory=list)
 
 
-def main(words):
-    crates = words or sorted(os.listdir(EDITS))
-    unknown = [it for it in crates if not os.path.isdir(os.path.join(EDITS, it))]
+# ---- edits
+
+def edits_of(top: str) -> Dict[str, List[str]]:
+    """The files of the edits of each crate."""
+    found: Dict[str, List[str]] = {}
+    for crate in sorted(os.listdir(os.path.join(top, 'crates'))):
+        folders = [os.path.join(top, 'crates', crate, 'must-fail'), os.path.join(top, EDITS, crate)]
+        files = [os.path.join(folder, name) for folder in folders if os.path.isdir(folder) for name in sorted(os.listdir(folder)) if name.endswith('.edit')]
+        if files:
+            found[crate] = files
+    return found
+
+
+def changes_of(edit: str) -> List[Tuple[str, str, str]]:
+    """The changes of an edit: a file of its crate, a text of it, and what stands there instead."""
+    with open(edit, encoding='utf-8') as file:
+        lines = [line.rstrip('\n').partition(': ') for line in file if line.strip()]
+    changes, name, old = [], '', ''
+    for key, _, value in lines:
+        if key == 'file':
+            name = value
+        elif key == 'old':
+            old = value
+        elif key == 'new':
+            changes.append((name, old, value))
+    return changes
+
+
+def misfit(crate: str, edit: str) -> str:
+    """Why an edit cannot be applied, or nothing."""
+    texts: Dict[str, str] = {}
+    changes = changes_of(edit)
+    for name, old, new in changes:
+        path = os.path.join(TOP, 'crates', crate, name)
+        if not os.path.exists(path):
+            return f'there is no {name}'
+        if name not in texts:
+            with open(path, encoding='utf-8') as file:
+                texts[name] = file.read()
+        count = texts[name].count(old)
+        if count != 1:
+            return f'its old text stands {count} times in {name}'
+        texts[name] = texts[name].replace(old, new)
+    return '' if changes else 'it changes nothing'
+
+
+def check() -> int:
+    """Whether each edit can be applied."""
+    folders = [name for name in os.listdir(os.path.join(TOP, EDITS)) if os.path.isdir(os.path.join(TOP, EDITS, name))]
+    wrong = [f'{EDITS}/{name}: there is no such crate' for name in folders if not os.path.isdir(os.path.join(TOP, 'crates', name))]
+    for crate, files in edits_of(TOP).items():
+        wrong += [f'{os.path.relpath(file, TOP)}: {why}' for file in files for why in [misfit(crate, file)] if why]
+    for line in wrong:
+        print(line, file=sys.stderr)
+    return int(bool(wrong))
+
+
+# ---- trying them
+
+def gather(tree: str, crates: List[str]) -> None:
+    """Puts the edits of tests/edits where `rt must-fail` finds them."""
+    for crate in crates:
+        folder = os.path.join(tree, EDITS, crate)
+        if os.path.isdir(folder):
+            os.makedirs(os.path.join(tree, 'crates', crate, 'must-fail'), exist_ok=True)
+            for name in sorted(os.listdir(folder)):
+                os.replace(os.path.join(folder, name), os.path.join(tree, 'crates', crate, 'must-fail', name))
+
+
+def try_all(tree: str, crates: List[str]) -> Tried:
+    """Tries the edits of these crates, and passes on what the prover says."""
+    tried = Tried()
+    running = subprocess.Popen(['rt', 'must-fail', *crates], cwd=tree, stdout=subprocess.PIPE, stderr=subprocess.STDOUT, text=True, errors='replace')
+    for line in running.stdout:
+        print(line, end='', flush=True)
+        if re.search(r': refused, as it must be', line):
+            tried.refused += 1
+        elif re.search(r': (NOT REFUSED|BAD EDIT|NOT TRIED)', line):
+            tried.others.append(line.strip())
+    if running.wait() and not tried.others:
+        tried.others.append('rt must-fail failed')
+    return tried
+
+
+def git(*words: str) -> str:
+    return subprocess.run(['git', '-C', TOP, *words], stdout=subprocess.PIPE, check=True, text=True).stdout.strip()
+
+
+def record(commit: str, tried: Tried, minutes: float) -> None:
+    """Keeps what a run over all edits found."""
+    lines = [f'commit {commit}', f'date {datetime.date.today().isoformat()}', f'tried {tried.refused + len(tried.others)}', f'refused {tried.refused}', f'minutes {minutes:.0f}']
+    with open(os.path.join(TOP, LAST), 'w', encoding='utf-8') as file:
+        file.write('\n'.join(lines + tried.others) + '\n')
+
+
+def main(words: List[str]) -> int:
+    if words == ['--check']:
+        return check()
+    have = edits_of(TOP)
+    unknown = [word for word in words if word not in have]
     if unknown:
-        sys.exit(f"no edits of {' '.join(unknown)} in tests/edits")
-    made = []
-    try:
-        for crate in crates:
-            made += placed(crate)
-        return subprocess.run(['rt', 'must-fail', *crates], cwd=TOP).returncode
-    finally:
-        for path in reversed(made):
-            shutil.rmtree(path) if os.path.isdir(path) else os.remove(path)
+        print(f'no edits of {" ".join(unknown)}', file=sys.stderr)
+        return 2
+    start, commit = time.monotonic(), git('rev-parse', 'HEAD')
+    with tempfile.TemporaryDirectory(prefix='edits-') as room:
+        tree = os.path.join(room, 'tree')
+        git('worktree', 'add', '--detach', tree, commit)
+        try:
+            gather(tree, words or list(have))
+            tried = try_all(tree, words or list(have))
+        finally:
+            git('worktree', 'remove', '--force', tree)
+    if not words:
+        record(commit, tried, (time.monotonic() - start) / 60)
+    return int(bool(tried.others))
 
 
 if __name__ == '__main__':

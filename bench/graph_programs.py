@@ -153,7 +153,7 @@ def by_hand():
         many(64, 1, 99), many(65, 1, 99), many(65, 2, 99), many(65, 0, 99), many(65, 1, 7), many(64, 1, 7), many(64, 2, 99), many(64, 0, 99),
         # blocks in the order of their names, the blank one first; the largest size counts
         whole(['PROGRAM P', 'COMMON /ZZ/ I,J //K(3)', 'COMMON /A/ L'], ['SUBROUTINE S', 'COMMON /ZZ/ I(9) //K', 'COMMON /AB/ M']),
-        # what spoils a unit: an array, a LOGICAL, an EQUIVALENCE, none here, another member that reaches it
+        # what untracks a unit: an array, a LOGICAL, an EQUIVALENCE, none here, another member that reaches it
         whole(['COMMON /B/ I,J,K', 'I=1'], ['SUBROUTINE S', 'COMMON /B/ I(2),K']), whole(['COMMON /B/ I,J', 'I=1'], ['SUBROUTINE S', 'LOGICAL J', 'COMMON /B/ I,J']),
         whole(['COMMON /B/ I,J', 'I=1'], ['SUBROUTINE S', 'COMMON /B/ I,J', 'EQUIVALENCE (J,K)']), whole(['COMMON /B/ I,J', 'I=1'], ['SUBROUTINE S', 'COMMON /B/ I']),
         whole(['COMMON /B/ I,J', 'INTEGER K(2)', 'EQUIVALENCE (I,K)', 'J=1']), whole(['COMMON /B/ I,J', 'INTEGER K(2)', 'EQUIVALENCE (I,K(1))', 'J=1']),
@@ -228,10 +228,10 @@ def shared_programs():
     """A unit at the end of a block in two modules: what must be printed of both."""
     rows = [('', 'KX', '', 'KX', 1, False), ('', 'KX', '', 'LX', 1, True), ('K1,K2,K3,', 'KX(1)', 'M1,M2,M3,', 'KX', 4, True), ('K1,K2,K3,', 'KX(1)', 'M1,M2,M3,', 'LX(1)', 4, False)]
     found = []
-    for one, x, other, y, size, spoiled in rows:
+    for one, x, other, y, size, untracked in rows:
         statements = [['PROGRAM P', 'IMPLICIT LOGICAL(L)', f'COMMON /B/ {one}{x}', 'CALL S'], ['SUBROUTINE S', 'IMPLICIT LOGICAL(L)', f'COMMON /B/ {other}{y}']]
-        cells = [[n for n in names.split(',') if n] + ([last] if last == 'KX' and not spoiled else []) for names, last in ((one, x), (other, y))]
-        want = ['order S P', 'call P 1 S', f'block /B/ {size}'] + ([f'untracked /B/+{size - 1}'] if spoiled else [])
+        cells = [[n for n in names.split(',') if n] + ([last] if last == 'KX' and not untracked else []) for names, last in ((one, x), (other, y))]
+        want = ['order S P', 'call P 1 S', f'block /B/ {size}'] + ([f'untracked /B/+{size - 1}'] if untracked else [])
         found.append((whole(*statements), want + [' '.join(['cells P:'] + cells[0]), ' '.join(['cells S:'] + cells[1])]))
     return found
 

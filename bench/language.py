@@ -1,5 +1,6 @@
 #!/usr/bin/env python3
-"""Checks the examples of docs/LANGUAGE.md by the reference implementation: each refusal by its code and name, each fault by its number.
+"""Checks the examples of docs/LANGUAGE.md by the reference implementation, table by table: each refusal by its code, name and keyword, each
+text that is to be written instead, each fault by its number, and each loop by its obstacle.
 
     python3 bench/language.py
 """
@@ -9,6 +10,11 @@ import sys
 
 from reference import TOP, answer, load
 
+ACCEPTED = os.path.join(TOP, 'tests', 'accepted')
+DIRECTIVE = 'C$OMP PARALLEL DO'
+
+
+# ---- the examples
 
 def repeated(part):
     """The statements of a part, which may end with ` *N`."""
@@ -19,43 +25,115 @@ def repeated(part):
     return (inside[1:-1].split('; ') if inside.startswith('(') else [inside]) * int(count)
 
 
+def line_of(part):
+    """A statement begins in column 7, unless it is written with its blanks; `>` begins in column 1."""
+    return part[1:] if part.startswith('>') else '      ' + part
+
+
 def text_of(example):
-    """The text in fixed form; `;` separates lines, `>` begins in column 1, and what stands in `( )` before ` *N` is one part."""
+    """The text in fixed form; `;` separates lines, and what stands in `( )` before ` *N` is one part."""
     parts = re.findall(r'\s*\([A-Z][^()]*\) \*\d+|[^;]+', example.replace('<tab>', '\t'))
     lines = [line for part in parts if part.strip() for line in repeated(part.strip())]
-    return ''.join((line[1:] if line.startswith('>') else '      ' + line) + '\n' for line in lines)
+    return ''.join(line_of(line) + '\n' for line in lines)
 
 
-def is_refused(code, name, text):
+def written(text, show):
+    """The lines that are written of a text, or None where it is refused."""
+    status, out, _ = answer(['--show', show], text)
+    return out.decode('latin-1').splitlines() if status == 0 else None
+
+
+def refusal(text):
+    """The code, the name and the keyword, or nothing where the text is accepted."""
     status, out, err = answer([], text.replace('é', '\xe9'))
-    return status == 1 and not out and err.decode('latin-1').split()[3:5] == [code, name]
+    return ' '.join(err.decode('latin-1').split()[3:]) if status == 1 and not out else ''
 
 
-def faults(number, text):
-    run = load('interp').run_program(load('read').read(text), [], 5)
-    return tuple(run.outcome[:2]) == ('Fault', int(number))
+def fault(text):
+    """The number of the fault with which a run without input ends."""
+    return tuple(load('interp').run_program(load('read').read(text), [], 5).outcome[:2])
+
+
+def directives(lines):
+    return sum(line.startswith(DIRECTIVE) for line in lines)
+
+
+# ---- the rows of a table, each with the reason why it is wrong, or None
+
+def check_refusal(code, name, _, example):
+    said = refusal(text_of(span(example)))
+    return None if said.split()[:2] == [code, name] else f'is answered by {said or "a text"}'
+
+
+def check_fault(number, name, *others):
+    said = fault(text_of(span(others[-1])))
+    return None if said == ('Fault', int(number)) else f'ends with {said}'
+
+
+def check_instead(_, example, wanted, instead):
+    said = refusal(text_of(span(example)))
+    if said != wanted:
+        return f'is answered by {said or "a text"}'
+    said = refusal(text_of(span(instead)))
+    return f'what is to be written instead is answered by {said}' if said else None
+
+
+def check_written(given, wanted):
+    lines = written(text_of(span(given)), 'bare')
+    lines = [line for line in lines if not line.startswith(DIRECTIVE)]
+    return None if lines == text_of(span(wanted)).splitlines() else f'is written as {lines}'
+
+
+def check_loop(_, example, line, instead):
+    first, then = written(text_of(span(example)), 'why'), written(text_of(span(instead)), 'why')
+    if span(line) not in first:
+        return f'has not the line {line}'
+    return None if then and directives(then) > directives(first) else 'what is to be changed makes no loop parallel'
+
+
+def check_obstacle(name, line, example, change):
+    with open(os.path.join(ACCEPTED, f'{span(name)}.f'), encoding='ascii') as file:
+        stored = file.read().split('\n', 1)[1]
+    if stored != text_of(span(example)):
+        return f'is not the program of {name}'
+    return check_loop(name, example, line, change)
+
+
+CHECKS = {
+    ('Code', 'Name', 'Where', 'Example'): check_refusal,
+    ('Fault', 'Name', 'What ends the run', 'Everyday forms of it', 'Example'): check_fault,
+    ('Construct', 'For example', 'Answer', 'Write instead'): check_instead,
+    ('Input', 'Is written as'): check_written,
+    ('Reason', 'For example', 'Line', 'What helps'): check_loop,
+    ('Program', 'Line', 'Text', 'What to change'): check_obstacle,
+}
+
+
+# ---- the page
+
+def span(cell):
+    """The last part of a cell in the type of code, or the cell itself."""
+    return (re.findall(r'`([^`]*)`', cell) or [cell])[-1]
 
 
 def rows(page):
-    """Each row with an example: its first two fields and the example. An empty field is that of the row before."""
-    last = ['', '']
+    """Each row of a table that is checked: its check and its cells. An empty cell is that of the row before."""
+    check, last = None, ()
     for line in page.splitlines():
-        found = re.fullmatch(r'\| *(\d*) *\| *(\w*) *\|.*\| `([^`]*)` \|', line)
-        if found:
-            last = [new or old for new, old in zip(found.groups()[:2], last)]
-            yield (*last, found.group(3))
+        cells = tuple(cell.strip() for cell in line.strip('|').split('|')) if line.startswith('|') else None
+        if cells is None or cells in CHECKS:
+            check, last = CHECKS.get(cells), ()
+        elif check and not set(line) <= set('|-'):
+            last = tuple(new or old for new, old in zip(cells, last or cells))
+            yield check, last
 
 
 def main():
     with open(os.path.join(TOP, 'docs', 'LANGUAGE.md'), encoding='utf-8') as file:
-        page, faulty = file.read().split('## The six faults', 1)
-    wrong, count = [], 0
-    for part, holds in ((page, is_refused), (faulty, lambda number, name, text: faults(number, text))):
-        for number, name, example in rows(part):
-            count += 1
-            if not holds(number, name, text_of(example)):
-                wrong.append(f'{number} {name}: {example}')
-    print('\n'.join(wrong + [f'{count} examples, {len(wrong)} wrong']))
+        page = file.read()
+    checked = [(cells, check(*cells)) for check, cells in rows(page)]
+    wrong = [f'{" | ".join(cells)}\n    {why}' for cells, why in checked if why]
+    print('\n'.join(wrong + [f'{len(checked)} examples, {len(wrong)} wrong']))
     return bool(wrong)
 
 

@@ -9,7 +9,7 @@ set -eu
 top=$(dirname "$(dirname "$(readlink -f "$0")")")
 binary=${1:-$top/crates/pips/out/pips}
 if [ ! -x "$binary" ]; then
-  echo "profile.sh: $binary is not built: ./pips builds it" >&2
+  echo "profile.sh: $binary is not built: ./pips --build builds it" >&2
   exit 1
 fi
 tool=${PIPS_PROFILE:-}

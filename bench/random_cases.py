@@ -16,7 +16,7 @@ from out_programs import out_programs
 from pack import TESTS, status_of, write
 from programs import random_programs
 from reference import answer, load
-from region_answers import in_lines, out_lines, region_lines
+from region_answers import in_lines, out_lines, result_lines
 from region_programs import region_programs
 
 # programs of array regions of each kind
@@ -41,7 +41,7 @@ def lines_of(answer, text):
 
 def of_regions():
     """Accepted programs of array regions."""
-    for programs, answer in ((region_programs, region_lines), (in_programs, in_lines), (out_programs, out_lines)):
+    for programs, answer in ((region_programs, result_lines), (in_programs, in_lines), (out_programs, out_lines)):
         left = REGIONS
         for statements, want in programs(range(1_000)):
             text = text_of(statements)

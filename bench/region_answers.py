@@ -7,7 +7,7 @@ model, pipeline, printer, read, regions = map(load, ['model', 'pipeline', 'print
 
 def region_module_lines(view, sets):
     yield f'module {view.module.name}'
-    for before, added in printer.region_lines(view, sets):
+    for before, added in printer.result_lines(view, sets):
         yield f'{before} {added}'
     for number in sorted(sets.at):
         yield f'{number}'
@@ -16,7 +16,7 @@ def region_module_lines(view, sets):
     yield from (' ' + printer.region_text(view.symbols, r) for r in sets.summary)
 
 
-def region_lines(text):
+def result_lines(text):
     program = read.read(text)
     views, found, known = pipeline.views(program), pipeline.analyse_scalars(program), {}
     for name in program.graph.order:

@@ -24,7 +24,7 @@ use Rattle.f77_ast.specs.Values.{value}
 use Rattle.f77_ast.proofs.StepLaws.{Leads, leads_then}
 use Rattle.f77_ast.specs.declared.constant.Constant.{Constant as Known}
 use Rattle.f77_ast.specs.declared.constant.Constant.TheVariants as known
-use Rattle.f77_ast.specs.Constants.{named_worth}
+use Rattle.f77_ast.specs.Constants.{named_const_value}
 use Rattle.affine_forms.specs.declared.affine.Affine.{Affine}
 use Rattle.affine_forms.specs.declared.conditions.Condition.{Condition}
 use Rattle.affine_forms.specs.Scalars.{Scalars}
@@ -33,15 +33,11 @@ use Rattle.affine_forms.specs.Comparisons.{at_most_row, below_row, same_row}
 use Rattle.affine_forms.specs.Conditions.{condition_of, no_rows, infeasible, of_truth, constant_condition, unknown, negation, both, either, comparison, comparison_of_forms}
 use Rattle.affine_forms.specs.Claims.{AtStart, HoldsAt, Means, form_value, unit_in, numbers_of, Agrees, Says, FormsHold, ConditionsHold}
 use Rattle.affine_forms.proofs.RowLaws.{at_most_holds, below_holds, same_holds, one_holds}
-use Rattle.affine_forms.proofs.ValueLaws.{Worthy, truth_true, given_leads, value_leads}
+use Rattle.affine_forms.proofs.ValueLaws.{HasConstantValue, given_leads, value_leads}
+use Rattle.fx_lists.proofs.Numbers.{less_false, less_true}
+use Rattle.f77_ast.proofs.Shared.{truth_true}
 
-less_true : (m n : ℤ) → int_lt m n ≡ true → (m +ℤ pos 1) ≤ℤ n
-less_true m n e = grind (arith, ints)
-
-less_false : (m n : ℤ) → int_lt m n ≡ false → n ≤ℤ m
-less_false m n e = grind (arith, ints)
-
-most_true : (m n : ℤ) → int_le m n ≡ true → m ≤ℤ n
+pub most_true : (m n : ℤ) → int_le m n ≡ true → m ≤ℤ n
 most_true m n e = grind (arith, ints)
 
 most_false : (m n : ℤ) → int_le m n ≡ false → (n +ℤ pos 1) ≤ℤ m
@@ -52,7 +48,7 @@ not_is true b e = ap not e
 not_is false b e = ap not e
 
 -- the truth of what an operator gives
-truth_of : (b : Bool) (n : ℤ) → Some (truth b) ≡ Some n → is_true n ≡ b
+pub truth_of : (b : Bool) (n : ℤ) → Some (truth b) ≡ Some n → is_true n ≡ b
 truth_of b n e = let q : truth b ≡ n = cc in ap is_true (sym q) ∙ truth_true b
 
 module _ (tracked : ℕ → Bool) (unit : ℕ → ℕ) (x : ℕ → ℤ) where
@@ -156,8 +152,8 @@ module _ (w : Names) (k : Scalars) (tracked : ℕ → Bool) (at : Places) (s : S
   nothing_known : (e : ExprTree) (Q : Content → Store → List Content → Type 0) → ((c : Content) → S tracked (unit_in at) (numbers_of s) unknown (is_true c.number) → Q c s i) → Leads (value e w at) s i Q
   nothing_known e Q go = value_leads w k tracked at s i agrees e Q (λ c h. go c (says_unknown tracked (unit_in at) (numbers_of s) (is_true c.number)))
 
-  -- of a name whose value is what the name is worth
-  name_says : (v : Option Known) (n : ℤ) → Worthy (named_worth v) n → S tracked (unit_in at) (numbers_of s) (constant_condition v) (is_true n)
+  -- of a name whose value is the constant that the table gives it
+  name_says : (v : Option Known) (n : ℤ) → HasConstantValue (named_const_value v) n → S tracked (unit_in at) (numbers_of s) (constant_condition v) (is_true n)
   name_says None n h = says_unknown tracked (unit_in at) (numbers_of s) (is_true n)
   name_says (Some (known.Int m)) n h = says_unknown tracked (unit_in at) (numbers_of s) (is_true n)
   name_says (Some (known.Log b)) n h =

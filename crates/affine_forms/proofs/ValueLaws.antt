@@ -18,37 +18,34 @@ use Rattle.f77_ast.specs.Values.{fault, given, read_unit, unit_after, element_un
 use Rattle.f77_ast.proofs.StepLaws.{Leads, leads_then}
 use Rattle.f77_ast.specs.declared.constant.Constant.{Constant as Known}
 use Rattle.f77_ast.specs.declared.constant.Constant.TheVariants as known
-use Rattle.f77_ast.specs.declared.constant.Worth.{Worth}
-use Rattle.f77_ast.specs.declared.constant.Worth.TheVariants.{Is, Faults, Varies}
-use Rattle.f77_ast.specs.Constants.{number_of, is_logical, turns_logical, joins_logical, gives_logical, worth_as, unary_of, unary_worth, binary_of, binary_worth, named_worth, worth}
+use Rattle.f77_ast.specs.declared.constant.ConstantValue.{ConstantValue}
+use Rattle.f77_ast.specs.declared.constant.ConstantValue.TheVariants.{Is, Faults, Varies}
+use Rattle.f77_ast.specs.Constants.{number_of, is_logical, turns_logical, joins_logical, gives_logical, const_value_as, unary_of, unary_const_value, binary_of, binary_const_value, named_const_value, const_value}
 use Rattle.affine_forms.specs.declared.affine.Affine.{Affine}
 use Rattle.affine_forms.specs.Scalars.{Scalars}
 use Rattle.affine_forms.specs.Forms.{affine_of, cell_form, name_form, constant_or, unary_form, binary_form}
 use Rattle.affine_forms.specs.Claims.{AtStart, Means, unit_in, numbers_of, content_of, Agrees}
 use Rattle.affine_forms.proofs.FormLaws.{number_means, unary_means, binary_means}
+use Rattle.f77_ast.proofs.Shared.{truth_true}
 
 -- ---- values of constant expressions
 
--- a value is the constant that the expression is worth, where it is worth one
-abbrev pub Worthy : Worth → ℤ → Type 0
-Worthy (Is d) n = n ≡ number_of d
-Worthy Faults n = Unit {0}
-Worthy Varies n = Unit {0}
+-- a value is that of the constant expression, where it is one
+abbrev pub HasConstantValue : ConstantValue → ℤ → Type 0
+HasConstantValue (Is d) n = n ≡ number_of d
+HasConstantValue Faults n = Unit {0}
+HasConstantValue Varies n = Unit {0}
 
 pub some_is : (a b : ℤ) → Some a ≡ Some b → a ≡ b
 some_is a b e = cc
-
-pub truth_true : (b : Bool) → is_true (truth b) ≡ b
-truth_true true = refl
-truth_true false = refl
 
 -- the number of a LOGICAL value is that of its truth
 truthful : (b : Bool) (n : ℤ) → Some (truth b) ≡ Some n → truth (is_true n) ≡ n
 truthful b n e = let q : truth b ≡ n = cc in subst (λ m. truth (is_true m) ≡ m) q (ap truth (truth_true b))
 
-worth_as_worthy : (l : Bool) (n : ℤ) → (l ≡ true → truth (is_true n) ≡ n) → Worthy (worth_as l (Some n)) n
-worth_as_worthy true n h = sym (h refl)
-worth_as_worthy false n h = refl
+const_value_as_worthy : (l : Bool) (n : ℤ) → (l ≡ true → truth (is_true n) ≡ n) → HasConstantValue (const_value_as l (Some n)) n
+const_value_as_worthy true n h = sym (h refl)
+const_value_as_worthy false n h = refl
 
 unary_truthful : (o : UnaryOp) (m n : ℤ) → unary_number o m ≡ Some n → turns_logical o ≡ true → truth (is_true n) ≡ n
 unary_truthful Plus m n e l = absurd (true≢false (sym l))
@@ -72,26 +69,26 @@ binary_truthful Or m k n e l = truthful (is_true m || is_true k) n e
 binary_truthful Eqv m k n e l = truthful (same_truth (is_true m) (is_true k)) n e
 binary_truthful Neqv m k n e l = truthful (not (same_truth (is_true m) (is_true k))) n e
 
-unary_of_worthy : (o : UnaryOp) (c : Known) (m n : ℤ) → unary_number o m ≡ Some n → m ≡ number_of c → Worthy (unary_of o c) n
+unary_of_worthy : (o : UnaryOp) (c : Known) (m n : ℤ) → unary_number o m ≡ Some n → m ≡ number_of c → HasConstantValue (unary_of o c) n
 unary_of_worthy o c m n e h =
-    if_cases (λ w. Worthy w n) (same_truth (is_logical c) (turns_logical o)) (worth_as (turns_logical o) (unary_number o (number_of c))) Faults
+    if_cases (λ w. HasConstantValue w n) (same_truth (is_logical c) (turns_logical o)) (const_value_as (turns_logical o) (unary_number o (number_of c))) Faults
     (λ q. let r : unary_number o (number_of c) ≡ Some n = ap (unary_number o) (sym h) ∙ e in
-    subst (λ v. Worthy (worth_as (turns_logical o) v) n) (sym r) (worth_as_worthy (turns_logical o) n (unary_truthful o m n e)))
+    subst (λ v. HasConstantValue (const_value_as (turns_logical o) v) n) (sym r) (const_value_as_worthy (turns_logical o) n (unary_truthful o m n e)))
     (λ q. tt)
 
-unary_worthy : (o : UnaryOp) (w : Worth) (m n : ℤ) → unary_number o m ≡ Some n → Worthy w m → Worthy (unary_worth o w) n
+unary_worthy : (o : UnaryOp) (w : ConstantValue) (m n : ℤ) → unary_number o m ≡ Some n → HasConstantValue w m → HasConstantValue (unary_const_value o w) n
 unary_worthy o (Is c) m n e h = unary_of_worthy o c m n e h
 unary_worthy o Faults m n e h = tt
 unary_worthy o Varies m n e h = tt
 
-binary_of_worthy : (o : BinaryOp) (c d : Known) (m k n : ℤ) → binary_number o m k ≡ Some n → m ≡ number_of c → k ≡ number_of d → Worthy (binary_of o c d) n
+binary_of_worthy : (o : BinaryOp) (c d : Known) (m k n : ℤ) → binary_number o m k ≡ Some n → m ≡ number_of c → k ≡ number_of d → HasConstantValue (binary_of o c d) n
 binary_of_worthy o c d m k n e h i =
-    if_cases (λ w. Worthy w n) (same_truth (is_logical c) (joins_logical o) && same_truth (is_logical d) (joins_logical o)) (worth_as (gives_logical o) (binary_number o (number_of c) (number_of d))) Faults
+    if_cases (λ w. HasConstantValue w n) (same_truth (is_logical c) (joins_logical o) && same_truth (is_logical d) (joins_logical o)) (const_value_as (gives_logical o) (binary_number o (number_of c) (number_of d))) Faults
     (λ q. let r : binary_number o (number_of c) (number_of d) ≡ Some n = ap (λ v. binary_number o v (number_of d)) (sym h) ∙ (ap (binary_number o m) (sym i) ∙ e) in
-    subst (λ v. Worthy (worth_as (gives_logical o) v) n) (sym r) (worth_as_worthy (gives_logical o) n (binary_truthful o m k n e)))
+    subst (λ v. HasConstantValue (const_value_as (gives_logical o) v) n) (sym r) (const_value_as_worthy (gives_logical o) n (binary_truthful o m k n e)))
     (λ q. tt)
 
-binary_worthy : (o : BinaryOp) (w v : Worth) (m k n : ℤ) → binary_number o m k ≡ Some n → Worthy w m → Worthy v k → Worthy (binary_worth o w v) n
+binary_worthy : (o : BinaryOp) (w v : ConstantValue) (m k n : ℤ) → binary_number o m k ≡ Some n → HasConstantValue w m → HasConstantValue v k → HasConstantValue (binary_const_value o w v) n
 binary_worthy o Varies v m k n e h i = tt
 binary_worthy o Faults Varies m k n e h i = tt
 binary_worthy o Faults Faults m k n e h i = tt
@@ -110,15 +107,15 @@ module _ (w : Names) (k : Scalars) (tracked : ℕ → Bool) (at : Places) (s : S
 
   -- what a value is known to be
   abbrev pub Known_as : ExprTree → ℤ → Type 0
-  Known_as e n = Worthy (worth k.value e) n × M (affine_of k e) n
+  Known_as e n = HasConstantValue (const_value k.value e) n × M (affine_of k e) n
 
-  constant_means : (v : Worth) (f : Option Affine) (n : ℤ) → Worthy v n → M f n → M (constant_or v f) n
+  constant_means : (v : ConstantValue) (f : Option Affine) (n : ℤ) → HasConstantValue v n → M f n → M (constant_or v f) n
   constant_means (Is (known.Int m)) f n h g = number_means tracked (unit_in at) (numbers_of s) m n h
   constant_means (Is (known.Log b)) f n h g = g
   constant_means Faults f n h g = g
   constant_means Varies f n h g = g
 
-  both_known : (v : Worth) (f : Option Affine) (n : ℤ) → Worthy v n → M f n → Worthy v n × M (constant_or v f) n
+  both_known : (v : ConstantValue) (f : Option Affine) (n : ℤ) → HasConstantValue v n → M f n → HasConstantValue v n × M (constant_or v f) n
   both_known v f n h g = (h, constant_means v f n h g)
 
   pub given_leads : (t : Tag) (o : Option ℤ) (Q : Content → Store → List Content → Type 0) → ((n : ℤ) → o ≡ Some n → Q (content t n) s i) → Leads (given t o) s i Q
@@ -143,7 +140,7 @@ module _ (w : Names) (k : Scalars) (tracked : ℕ → Bool) (at : Places) (s : S
   no_function : (x : List ℕ) (c : Content) → IsRead (w x) c → w x ≡ Function → ⊥
   no_function x c r e = subst (λ (m : Meant). IsRead m c) e r
 
-  name_worthy : (x : List ℕ) (c : Content) → IsRead (w x) c → (o : Option Known) → k.value x ≡ o → Worthy (named_worth o) c.number
+  name_worthy : (x : List ℕ) (c : Content) → IsRead (w x) c → (o : Option Known) → k.value x ≡ o → HasConstantValue (named_const_value o) c.number
   name_worthy x c r None e = tt
   name_worthy x c r (Some d) e =
       let q : c ≡ content_of d = subst (λ (m : Meant). IsRead m c) (agrees.constants x d e (no_function x c r)) r in
@@ -158,7 +155,7 @@ module _ (w : Names) (k : Scalars) (tracked : ℕ → Bool) (at : Places) (s : S
       λ p st. (let h = st v a.1 in omega (arith, ints, h, n))
 
   name_known : (x : List ℕ) (c : Content) → IsRead (w x) c → Known_as (tree.name x) c.number
-  name_known x c r = both_known (named_worth (k.value x)) (name_form k x) c.number (name_worthy x c r (k.value x) refl) (cell_means x c r (k.cell x) refl)
+  name_known x c r = both_known (named_const_value (k.value x)) (name_form k x) c.number (name_worthy x c r (k.value x) refl) (cell_means x c r (k.cell x) refl)
 
   unit_leads : (u : ℕ) (o : Option ℕ) (Q : ℕ → Store → List Content → Type 0) → ((n : ℕ) → Q n s i) → Leads (unit_after u o) s i Q
   unit_leads u None Q go = tt
@@ -179,14 +176,14 @@ module _ (w : Names) (k : Scalars) (tracked : ℕ → Bool) (at : Places) (s : S
     value_leads (tree.log b) Q go = go (content Log (truth b)) (refl, tt)
     value_leads (tree.name x) Q go = name_leads (w x) Q (λ c r. go c (name_known x c r))
     value_leads (tree.element x es) Q go = leads_then (values es w at) (element_value (w x) x at) s i Q (values_leads es _ (λ ns. element_leads (w x) x ns Q (λ c. go c (tt, tt))))
-    value_leads (tree.paren e) Q go = value_leads e Q (λ c h. go c (both_known (worth k.value e) (affine_of k e) c.number h.0 h.1))
+    value_leads (tree.paren e) Q go = value_leads e Q (λ c h. go c (both_known (const_value k.value e) (affine_of k e) c.number h.0 h.1))
     value_leads (tree.unary o e) Q go =
         leads_then (value e w at) _ s i Q (value_leads e _ (λ c h. given_leads (unary_tag o) (unary_number o c.number) Q (λ n q. go (content (unary_tag o) n)
-        (both_known (unary_worth o (worth k.value e)) (unary_form o (affine_of k e)) n (unary_worthy o (worth k.value e) c.number n q h.0) (unary_means tracked (unit_in at) (numbers_of s) o (affine_of k e) c.number n q h.1)))))
+        (both_known (unary_const_value o (const_value k.value e)) (unary_form o (affine_of k e)) n (unary_worthy o (const_value k.value e) c.number n q h.0) (unary_means tracked (unit_in at) (numbers_of s) o (affine_of k e) c.number n q h.1)))))
     value_leads (tree.binary o a b) Q go =
         leads_then (value a w at) _ s i Q (value_leads a _ (λ c h. leads_then (value b w at) _ s i Q (value_leads b _ (λ d j. given_leads (binary_tag o) (binary_number o c.number d.number) Q (λ n q. go (content (binary_tag o) n)
-        (both_known (binary_worth o (worth k.value a) (worth k.value b)) (binary_form o (affine_of k a) (affine_of k b)) n
-        (binary_worthy o (worth k.value a) (worth k.value b) c.number d.number n q h.0 j.0)
+        (both_known (binary_const_value o (const_value k.value a) (const_value k.value b)) (binary_form o (affine_of k a) (affine_of k b)) n
+        (binary_worthy o (const_value k.value a) (const_value k.value b) c.number d.number n q h.0 j.0)
         (binary_means tracked (unit_in at) (numbers_of s) o (affine_of k a) (affine_of k b) c.number d.number n q h.1 j.1)))))))
     value_leads (tree.chars x) Q go = tt
 

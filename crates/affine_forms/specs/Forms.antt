@@ -14,9 +14,9 @@ use Rattle.f77_ast.specs.declared.expr.BinaryOp.TheVariants.{Add, Sub, Mul, Div,
 use Rattle.f77_ast.specs.Trees.{ExprTree}
 use Rattle.f77_ast.specs.Trees as tree
 use Rattle.f77_ast.specs.declared.constant.Constant.TheVariants.{Int, Log}
-use Rattle.f77_ast.specs.declared.constant.Worth.{Worth}
-use Rattle.f77_ast.specs.declared.constant.Worth.TheVariants.{Is, Faults, Varies}
-use Rattle.f77_ast.specs.Constants.{worth}
+use Rattle.f77_ast.specs.declared.constant.ConstantValue.{ConstantValue}
+use Rattle.f77_ast.specs.declared.constant.ConstantValue.TheVariants.{Is, Faults, Varies}
+use Rattle.f77_ast.specs.Constants.{const_value}
 use Rattle.affine_forms.specs.declared.affine.Affine.{Affine}
 use Rattle.affine_forms.specs.Scalars.{Scalars}
 
@@ -90,18 +90,18 @@ abbrev pub name_form : Scalars → List ℕ → Option Affine
 name_form k x = cell_form (k.cell x)
 
 -- the value of a constant expression whose evaluation gives an INTEGER without a fault, else the form of its parts
-abbrev pub constant_or : Worth → Option Affine → Option Affine
+abbrev pub constant_or : ConstantValue → Option Affine → Option Affine
 constant_or (Is (Int n)) f = number_form n
 constant_or (Is (Log b)) f = f
 constant_or Faults f = f
 constant_or Varies f = f
 
 abbrev pub affine_of : Scalars → ExprTree → Option Affine
-affine_of k (tree.int n) = constant_or (worth k.value (tree.int n)) None
-affine_of k (tree.log b) = constant_or (worth k.value (tree.log b)) None
-affine_of k (tree.name x) = constant_or (worth k.value (tree.name x)) (name_form k x)
-affine_of k (tree.element x es) = constant_or (worth k.value (tree.element x es)) None
-affine_of k (tree.paren e) = constant_or (worth k.value (tree.paren e)) (affine_of k e)
-affine_of k (tree.unary o e) = constant_or (worth k.value (tree.unary o e)) (unary_form o (affine_of k e))
-affine_of k (tree.binary o a b) = constant_or (worth k.value (tree.binary o a b)) (binary_form o (affine_of k a) (affine_of k b))
-affine_of k (tree.chars x) = constant_or (worth k.value (tree.chars x)) None
+affine_of k (tree.int n) = constant_or (const_value k.value (tree.int n)) None
+affine_of k (tree.log b) = constant_or (const_value k.value (tree.log b)) None
+affine_of k (tree.name x) = constant_or (const_value k.value (tree.name x)) (name_form k x)
+affine_of k (tree.element x es) = constant_or (const_value k.value (tree.element x es)) None
+affine_of k (tree.paren e) = constant_or (const_value k.value (tree.paren e)) (affine_of k e)
+affine_of k (tree.unary o e) = constant_or (const_value k.value (tree.unary o e)) (unary_form o (affine_of k e))
+affine_of k (tree.binary o a b) = constant_or (const_value k.value (tree.binary o a b)) (binary_form o (affine_of k a) (affine_of k b))
+affine_of k (tree.chars x) = constant_or (const_value k.value (tree.chars x)) None

@@ -9,7 +9,7 @@ ghost use Rattle.affine_forms.specs.Forms.{IsSmallForm, affine, number_form as n
 use crate::{Affine, cell_of};
 use affine_systems::terms::{blend, combination};
 use affine_systems::{Term, Var};
-use f77_ast::{BinaryOp, Constant, Expr, Symbols, UnaryOp, Worth, worth_of};
+use f77_ast::{BinaryOp, Constant, ConstantValue, Expr, Symbols, UnaryOp, const_value_of};
 use fx_lists::{List, Text};
 use std::alloc::{AllocError as Memory, Global};
 
@@ -33,9 +33,9 @@ fn are_small(terms: &[Term]) -> bool
     true
 }
 
-/// A form, if its numbers are small.
+/// A form, if its numbers are below 2^62 in magnitude.
 #[tactic(auto, using(crate::proofs::SmallLaws::limited_is_small))]
-fn limit(form: Affine) -> Option<Affine>
+pub fn limit(form: Affine) -> Option<Affine>
     requires { Ascends form.terms }
     ensures defined { result ≡ limited_form form }
     ensures small { IfSome result IsSmallForm }
@@ -47,9 +47,9 @@ fn limit(form: Affine) -> Option<Affine>
     }
 }
 
-/// A form and `k` times another.
+/// A form and `k` times another; None where a number reaches 2^62.
 #[tactic(auto, using(crate::proofs::SmallLaws::sums))]
-fn plus(alloc: Global, f: &Affine, k: i128, g: &Affine) -> Result<Option<Affine>, Memory>
+pub fn plus(alloc: Global, f: &Affine, k: i128, g: &Affine) -> Result<Option<Affine>, Memory>
     requires first { IsSmallForm f.now }
     requires factor { unsigned_abs k < 2 ^ 62 }
     requires second { IsSmallForm g.now }
@@ -182,7 +182,7 @@ pub fn affine_of(
     ensures defined { IfOk result (λ o. o ≡ affine_is (scalars symbols.now tracked.now) (expr_tree e.now)) }
     ensures small { IfOk result (λ o. IfSome o IsSmallForm) }
 {
-    if let Worth::Is(Constant::Int(number)) = worth_of(e, symbols) {
+    if let ConstantValue::Is(Constant::Int(number)) = const_value_of(e, symbols) {
         return Ok(number_form(alloc, number));
     }
     match e {

@@ -12,7 +12,7 @@ use Rattle.affine_systems.specs.Points.{value, only, factor_of}
 use Rattle.affine_systems.specs.Given.{FactorsBelow}
 use Rattle.affine_systems.proofs.Basics.{if_cases, int_eq-true}
 use Rattle.affine_systems.proofs.TermLaws.{var_eq-true, true-var_eq, same_parts}
-use Rattle.affine_systems.proofs.TidyLaws.{clash}
+use Rattle.fx_lists.proofs.Booleans.{clash}
 
 -- ---- the order of variables
 
@@ -126,7 +126,7 @@ before-negated : (w : Var) (ts : List Term) → IsBefore w ts → IsBefore w (ne
 before-negated w [] h = tt
 before-negated w (t ∷ ts) h = (h.0, before-negated w ts h.1)
 
-negated_zero : (z : ℤ) → int_eq z (pos 0) ≡ false → int_eq (neg_ℤ z) (pos 0) ≡ false
+pub negated_zero : (z : ℤ) → int_eq z (pos 0) ≡ false → int_eq (neg_ℤ z) (pos 0) ≡ false
 negated_zero z e = false_from_ne_true (int_eq (neg_ℤ z) (pos 0)) (λ k. clash (int_eq z (pos 0)) ((Decides-int_eq z (pos 0)).1 (let h = int_eq-true (neg_ℤ z) (pos 0) k in omega (arith, ints, h))) e)
 
 pub ascends-negated : (ts : List Term) → Ascends ts → Ascends (negated_terms ts)
@@ -138,7 +138,7 @@ ascends-negated (t ∷ ts) a = (negated_zero t.factor a.0, before-negated t.var 
 only-itself : (v : Var) → only v v ≡ pos 1
 only-itself v = rw (true-var_eq v v refl) refl
 
-only-other : (v w : Var) → var_eq v w ≡ false → only v w ≡ pos 0
+pub only-other : (v w : Var) → var_eq v w ≡ false → only v w ≡ pos 0
 only-other v w e = rw e refl
 
 pub factor_of-nil : (v : Var) → factor_of v [] ≡ pos 0

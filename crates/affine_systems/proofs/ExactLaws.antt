@@ -20,8 +20,9 @@ use Rattle.affine_systems.specs.Eliminate.{unchanged, any_has, has_unit, is_unit
 use Rattle.affine_systems.proofs.Basics.{if_cases, int_eq-true, distributes, distributes_right, mul_assoc, mul_comm, neg_mul}
 use Rattle.affine_systems.proofs.TermLaws.{var_eq-true}
 use Rattle.affine_systems.proofs.NormalLaws.{below_floor, from_floor}
-use Rattle.affine_systems.proofs.TidyLaws.{HoldsItems, clash, at_most, equally, append_holds, CutSays, cut_says, all_substituted_same, items_from_same, rows_of_same}
+use Rattle.affine_systems.proofs.TidyLaws.{HoldsItems, at_most, equally, append_holds, CutSays, cut_says, all_substituted_same, items_from_same, rows_of_same}
 use Rattle.affine_systems.proofs.ElimLaws.{tidied_back, value-combined, AllPass, keep_passes}
+use Rattle.fx_lists.proofs.Booleans.{right_of as rest, clash}
 
 back : (x y : ℤ) → (x -ℤ y) +ℤ y ≡ x
 back x y = omega (arith, ints)
@@ -175,10 +176,6 @@ positive_is (negsuc n) e = cc
 negative_is : (z : ℤ) → int_lt z (pos 0) ≡ true → (z ≡ neg_ℤ (pos (unsigned_abs z))) × (neg_ℤ z ≡ pos (unsigned_abs z)) × (0 < unsigned_abs z)
 negative_is (pos n) e = absurd (omega (arith, ints, e))
 negative_is (negsuc n) e = (refl, refl, omega arith)
-
-rest : (a b : Bool) → a ≡ false → (a || b) ≡ true → b ≡ true
-rest true b f e = cc
-rest false b f e = e
 
 unit_of : (v : Var) (low up : Item) → (has_unit v low || has_unit v up) ≡ true → (size v low ≡ 1) ⊎ (size v up ≡ 1)
 unit_of v low up e = go (has_unit v low) refl where

@@ -22,11 +22,12 @@ use Rattle.affine_systems.specs.Given.{IsSmallRow, FactorsBelow, IsGiven, IsNorm
 use Rattle.affine_systems.proofs.Basics.{if_cases, int_eq-true}
 use Rattle.affine_systems.proofs.TermLaws.{var_eq-true, true-var_eq}
 use Rattle.affine_systems.proofs.NormalLaws.{DividesAll, divisor_divides, divisor_positive, exact_quotient}
-use Rattle.affine_systems.proofs.TidyLaws.{clash}
 use Rattle.affine_systems.proofs.ElimLaws.{value-combined}
 use Rattle.affine_systems.proofs.LastLaws.{Lasts, Survives, Has, ordered_has, faced_all_has, cut_form_has, next_has, each_round, round_at_most, each_elimination}
 use Rattle.affine_systems.proofs.AscendLaws.{ascends-combined, ascends-negated, factor_of-first, factor_of-there, factor_of-before, factor_below, below_factors}
-use Rattle.affine_systems.proofs.ReducedLaws.{IsReduced, normal-reduced, kept-reduced, abs-neg}
+use Rattle.affine_systems.proofs.ReducedLaws.{IsReduced, normal-reduced, kept-reduced}
+use Rattle.fx_lists.proofs.Booleans.{clash}
+use Rattle.fx_lists.proofs.Numbers.{size_turned as abs-neg}
 
 -- ---- small numbers
 
@@ -257,15 +258,15 @@ tidy_survives q = record {
 
 -- ---- what comes out of a call
 
-not_false : (q : Bool) (r : Row) → IsTidy q r → is_false_row r ≡ false → IsNormalAs q r
+pub not_false : (q : Bool) (r : Row) → IsTidy q r → is_false_row r ≡ false → IsNormalAs q r
 not_false q r (inl h) e = (h.0, normal-reduced q r h.1)
 not_false q r (inr f) e = clash (is_false_row r) (ap is_false_row f) e
 
-none_false : (q : Bool) (is : List Item) → Has (IsTidy q) is → any_false is ≡ false → AllRows (IsNormalAs q) (rows_of is)
+pub none_false : (q : Bool) (is : List Item) → Has (IsTidy q) is → any_false is ≡ false → AllRows (IsNormalAs q) (rows_of is)
 none_false q [] h e = tt
 none_false q (i ∷ is) h e = let k = or_parts (is_false_row i.row) (any_false is) e in (not_false q i.row h.0 k.0, none_false q is h.1 k.1)
 
-collapsed_normal : (q : Bool) (is : List Item) → Has (IsTidy q) is → AreNormal q (rows_of (collapsed is))
+pub collapsed_normal : (q : Bool) (is : List Item) → Has (IsTidy q) is → AreNormal q (rows_of (collapsed is))
 collapsed_normal q is h =
     if_cases (λ (js : List Item). AreNormal q (rows_of js)) (any_false is) (false_item ∷ []) is (λ e. inl refl) (λ e. inr (none_false q is h e))
 

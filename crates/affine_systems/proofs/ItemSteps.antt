@@ -144,7 +144,7 @@ stays-end i js all k h s n = sym (s n) ∙ faced-end n i js k h
 
 pub ruleset stays_loop = (stays-passed, stays-found, stays-end)
 
-faced_all-push : (n : ℕ) (is js : List Item) (i : Item) → faced_all n (is ++ i ∷ []) js ≡ faced_all n is js ++ face_opposite (n + length is) i js ∷ []
+pub faced_all-push : (n : ℕ) (is js : List Item) (i : Item) → faced_all n (is ++ i ∷ []) js ≡ faced_all n is js ++ face_opposite (n + length is) i js ∷ []
 faced_all-push n [] js i = let e : n ≡ n + 0 = omega arith in ap (λ m. face_opposite m i js ∷ []) e
 faced_all-push n (k ∷ ks) js i =
     let e : suc n + length ks ≡ n + suc (length ks) = omega arith in

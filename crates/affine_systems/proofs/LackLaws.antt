@@ -41,28 +41,28 @@ nil_combined u c ts a us h k =
         let n : a *ℤ y ≡ a *ℤ pos 0 = ap (λ z. a *ℤ z) k in
         omega (arith, ints, m, n)
 
-nil_negated : (u : Point) (ts : List Term) → value u ts ≡ pos 0 → value u (negated_terms ts) ≡ pos 0
+pub nil_negated : (u : Point) (ts : List Term) → value u ts ≡ pos 0 → value u (negated_terms ts) ≡ pos 0
 nil_negated u ts h = value-negated u ts ∙ ap neg_ℤ h
 
 -- ---- normal rows
 
-abbrev NormalNil : Point → Normal → Type 0
+abbrev pub NormalNil : Point → Normal → Type 0
 NormalNil u (Kept r) = Nil u r
 NormalNil u Always = Unit {0}
 NormalNil u Never = Unit {0}
 NormalNil u TooBig = Unit {0}
 
-if_small_nil : (u : Point) (r s : Row) → Nil u s → NormalNil u (if_small r s)
+pub if_small_nil : (u : Point) (r s : Row) → Nil u s → NormalNil u (if_small r s)
 if_small_nil u r s h = if_cases (NormalNil u) (is_small r.bound && are_small r.terms) (Kept s) TooBig (λ e. h) (λ e. tt)
 
-divided_nil : (u : Point) (g : ℕ) (ts : List Term) → 0 < g → DividesAll g ts → value u ts ≡ pos 0 → value u (divided g ts) ≡ pos 0
+pub divided_nil : (u : Point) (g : ℕ) (ts : List Term) → 0 < g → DividesAll g ts → value u ts ≡ pos 0 → value u (divided g ts) ≡ pos 0
 divided_nil u g ts h d k =
     cancel_scale g (value u (divided g ts)) (pos 0) h (value-divided u g ts h d ∙ k ∙ zero_times g)
   where
     zero_times : (g : ℕ) → pos 0 ≡ pos g *ℤ pos 0
     zero_times g = omega (arith, ints)
 
-divided_by_nil : (u : Point) (g : ℕ) (e : Bool) (ts : List Term) (b : ℤ) → 0 < g → DividesAll g ts → value u ts ≡ pos 0 → NormalNil u (divided_by g e ts b)
+pub divided_by_nil : (u : Point) (g : ℕ) (e : Bool) (ts : List Term) (b : ℤ) → 0 < g → DividesAll g ts → value u ts ≡ pos 0 → NormalNil u (divided_by g e ts b)
 divided_by_nil u g false ts b h d k = if_small_nil u (row false (divided g ts) (int_div_euclid b (pos g))) (row false (divided g ts) (int_div_euclid b (pos g))) (divided_nil u g ts h d k)
 divided_by_nil u g true ts b h d k =
     let r = row true (divided g ts) (int_div_euclid b (pos g)) in
@@ -71,7 +71,7 @@ divided_by_nil u g true ts b h d k =
     (λ e. if_small_nil u r (turned r) (if_cases (Nil u) (last_is_negative (divided g ts)) (row true (negated_terms (divided g ts)) (neg_ℤ (int_div_euclid b (pos g)))) r (λ t. nil_negated u (divided g ts) z) (λ t. z)))
     (λ e. tt)
 
-normal_nil : (u : Point) (q : Bool) (r : Row) → Nil u r → NormalNil u (normal q r)
+pub normal_nil : (u : Point) (q : Bool) (r : Row) → Nil u r → NormalNil u (normal q r)
 normal_nil u q r h = go r.terms h where
   go : (ts : List Term) → value u ts ≡ pos 0 → NormalNil u (normal_terms q r.equal ts r.bound)
   go [] h = none r.equal

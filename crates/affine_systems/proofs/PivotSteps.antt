@@ -16,7 +16,7 @@ use Rattle.affine_systems.specs.Items.{joined, item, next_made, false_item, Cut,
 use Rattle.affine_systems.specs.Tidy.{is_unit, last_unit, unit_var, times, by_row, all_substituted, taken, pivoted}
 use Rattle.affine_systems.specs.Eliminate.{cancelling, cancel_variable, all_cancelled}
 use Rattle.affine_systems.specs.Given.{ItemsSmall, IsSmallRow}
-use Rattle.affine_systems.proofs.ItemSteps.{item_at}
+use Rattle.affine_systems.proofs.ItemSteps.{item_at, small_item_at as small_taken_out}
 use Rattle.affine_systems.proofs.FitLaws.{unit_var_has}
 
 -- ---- the pivot
@@ -185,9 +185,6 @@ small_removed [] zero h = tt
 small_removed [] (suc k) h = tt
 small_removed (i ∷ is) zero h = h.1
 small_removed (i ∷ is) (suc k) h = (h.0, small_removed is k h.1)
-
-pub small_taken_out : (is : List Item) (k : ℕ) (i : Item) → ItemsSmall is → k < length is → i ≡ get_or is k i → IsSmallRow i.row
-small_taken_out is k i h l e = subst (λ (j : Item). IsSmallRow j.row) (sym e) (item_at (λ j. IsSmallRow j.row) is k i h l)
 
 insert-first : (is : List Item) (i : Item) → insert is 0 i ≡ i ∷ is
 insert-first [] i = refl

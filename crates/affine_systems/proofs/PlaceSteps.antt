@@ -17,9 +17,10 @@ use Rattle.affine_systems.specs.Tidy.{times, are_opposite, against, face_opposit
 use Rattle.affine_systems.specs.Places.{place_of, has_var, Noted, Covers, key_after, key_of, side_of, far_side_of, Sided, may_face}
 use Rattle.affine_systems.proofs.Basics.{int_eq-true}
 use Rattle.affine_systems.proofs.TermLaws.{var_eq-true}
-use Rattle.affine_systems.proofs.TidyLaws.{clash}
 use Rattle.affine_systems.proofs.LastLaws.{append_items}
 use Rattle.affine_systems.proofs.AscendLaws.{factor_of-nil, factor_of-there}
+use Rattle.fx_lists.proofs.Numbers.{size_turned}
+use Rattle.fx_lists.proofs.Booleans.{not_true, clash}
 
 -- ---- variables of terms
 
@@ -156,10 +157,6 @@ size_of_less : (n : ℕ) → unsigned_abs (neg_ℤ (pos n)) ≡ n
 size_of_less zero = refl
 size_of_less (suc n) = refl
 
-size_turned : (z : ℤ) → unsigned_abs (neg_ℤ z) ≡ unsigned_abs z
-size_turned (pos n) = size_of_less n
-size_turned (negsuc n) = refl
-
 same_key : (n : ℕ) (t u : Term) → is_opposite t u ≡ true → key_after n t ≡ key_after n u
 unfolding key_after
 same_key n t u o =
@@ -203,10 +200,6 @@ sides_meet ts us a n o = go (last_is_negative ts) (last_is_negative us) (key_of 
   go true false m n e h = sym h
   go false true m n e h = ap (λ k. 2048 + k) (sym h)
   go false false m n e h = cc
-
-pub not_true : (b : Bool) → not b ≡ true → b ≡ false
-not_true true e = cc
-not_true false e = refl
 
 may_parts : (e b c : Bool) → e ≡ false → (not e && (b || c)) ≡ false → (b ≡ false) × (c ≡ false)
 may_parts true b c h m = clash true refl h

@@ -16,7 +16,8 @@ use Rattle.affine_systems.specs.Normal.{gcd_within, gcd, gcd_of, divisor, divide
 use Rattle.affine_systems.proofs.Basics.{if_cases}
 use Rattle.affine_systems.proofs.NormalLaws.{DividesAll, divisor_divides, divisor_positive, exact_quotient, gcd_of_divides}
 use Rattle.affine_systems.proofs.ExactLaws.{div_one}
-use Rattle.affine_systems.proofs.TidyLaws.{clash}
+use Rattle.fx_lists.proofs.Numbers.{size_turned as abs-neg}
+use Rattle.fx_lists.proofs.Booleans.{clash}
 
 -- ---- the greatest common divisor is the greatest
 
@@ -95,11 +96,6 @@ normal-reduced q r h = go r.equal r.terms h.some h.divisor_one h.small h.last wh
   go e (t ∷ ts) n d s l = ap (λ g. divided_by g e (t ∷ ts) r.bound) d ∙ one e (t ∷ ts) s l
 
 -- ---- signs turned
-
-pub abs-neg : (z : ℤ) → unsigned_abs (neg_ℤ z) ≡ unsigned_abs z
-abs-neg (pos zero) = refl
-abs-neg (pos (suc n)) = refl
-abs-neg (negsuc n) = refl
 
 is_small-neg : (z : ℤ) → is_small (neg_ℤ z) ≡ is_small z
 unfolding is_small

@@ -149,7 +149,7 @@ small_normal q (r ∷ rs) h = (tidy_small q r (inl (h.0.0, kept-reduced q r r h.
 pub fits_small : (rs : List Row) → (length rs ≤ row_limit) × AreNormal false rs → AllRows IsSmallRow rs
 fits_small rs h = ⊎_elim (λ e. subst (λ (ss : List Row). AllRows IsSmallRow ss) (sym e) (tidy_small false false_row (inr refl), tt)) (λ k. small_normal false rs k) h.1
 
-given_small : (rs : List Row) → AllRows IsSmallRow rs → AllRows IsGiven rs
+pub given_small : (rs : List Row) → AllRows IsSmallRow rs → AllRows IsGiven rs
 given_small [] h = tt
 given_small (r ∷ rs) h = (small_given r h.0, given_small rs h.1)
 

@@ -11,7 +11,7 @@ use Rattle.affine_systems.specs.Given.{IsGiven, Fits, ItemsGiven}
 use Rattle.affine_systems.proofs.ItemSteps.{popped}
 use Rattle.affine_systems.proofs.FitLaws.{tidy_fits}
 
-items_from-push : (n : ℕ) (rs : List Row) (r : Row) → items_from n (rs ++ r ∷ []) ≡ items_from n rs ++ item r no_originals (n + length rs) ∷ []
+pub items_from-push : (n : ℕ) (rs : List Row) (r : Row) → items_from n (rs ++ r ∷ []) ≡ items_from n rs ++ item r no_originals (n + length rs) ∷ []
 items_from-push n [] r = let z : n ≡ n + 0 = omega arith in ap (λ m. item r no_originals m ∷ []) z
 items_from-push n (s ∷ ss) r =
     let z : suc n + length ss ≡ n + suc (length ss) = omega arith in

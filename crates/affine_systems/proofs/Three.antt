@@ -28,7 +28,7 @@ ascends-three i j k =
     ascends-term_before (Cell 0) i b (before-term_before (Cell 0) (Cell 1) j c refl (before-term_before (Cell 0) (Cell 2) k [] refl tt))
     (ascends-term_before (Cell 1) j c (before-term_before (Cell 1) (Cell 2) k [] refl tt) (ascends-term_before (Cell 2) k [] tt tt))
 
-below-term_before : (n : ℕ) (v : Var) (f : ℤ) (ts : List Term) → unsigned_abs f < n → FactorsBelow n ts → FactorsBelow n (term_before v f ts)
+pub below-term_before : (n : ℕ) (v : Var) (f : ℤ) (ts : List Term) → unsigned_abs f < n → FactorsBelow n ts → FactorsBelow n (term_before v f ts)
 below-term_before n v f ts h k = if_cases (FactorsBelow n) (int_eq f (pos 0)) ts (term v f ∷ ts) (λ e. k) (λ e. (h, k))
 
 below-three : (n : ℕ) (i j k : ℤ) → unsigned_abs i < n → unsigned_abs j < n → unsigned_abs k < n → FactorsBelow n (three i j k)

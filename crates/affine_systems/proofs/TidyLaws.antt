@@ -19,6 +19,7 @@ use Rattle.affine_systems.proofs.Basics.{if_cases, int_eq-true, neg_mul}
 use Rattle.affine_systems.proofs.TermLaws.{value-add_terms, var_eq-true}
 use Rattle.affine_systems.proofs.OrderLaws.{same_shape-true}
 use Rattle.affine_systems.proofs.NormalLaws.{Agrees, normal_agrees}
+use Rattle.fx_lists.proofs.Booleans.{clash}
 
 abbrev pub HoldsItems : Point → List Item → Type 0
 HoldsItems p is = AllItems (λ i. Holds p i.row) is
@@ -27,9 +28,6 @@ pub not_false_row : (p : Point) → Holds p false_row → ⊥
 not_false_row p h = omega (arith, ints)
 
 -- ---- tests
-
-pub clash : {A : Type 0} (b : Bool) → b ≡ true → b ≡ false → A
-clash b e f = cc
 
 pub meets_at : (e f : Bool) (x y b c : ℤ) → e ≡ f → x ≡ y → b ≡ c → Meets e x b → Meets f y c
 meets_at e f x y b c u v w h = subst (λ (g : Bool). Meets g y c) u (subst (λ (z : ℤ). Meets e z c) v (subst (Meets e x) w h))

@@ -7,8 +7,9 @@ use Rattle.affine_systems.specs.Tidy.{row_limit, in_form, is_lossy, round, next_
 use Rattle.affine_systems.specs.Given.{IsGiven, ItemsGiven, ItemsSmall}
 use Rattle.affine_systems.proofs.LastLaws.{Has, cut_form_has, round_has, next_has}
 use Rattle.affine_systems.proofs.FitLaws.{IsTidy, tidy_small, tidy_lasts}
+use Rattle.fx_lists.proofs.Booleans.{or_assoc}
 
-tidy_all_small : (q : Bool) (is : List Item) → Has (IsTidy q) is → ItemsSmall is
+pub tidy_all_small : (q : Bool) (is : List Item) → Has (IsTidy q) is → ItemsSmall is
 tidy_all_small q [] h = tt
 tidy_all_small q (i ∷ is) h = (tidy_small q i.row h.0, tidy_all_small q is h.1)
 
@@ -22,10 +23,6 @@ small_round q is h = tidy_all_small q (round q is).items (round_has IsGiven (IsT
 pub record TurnsLeft (q : Bool) (is : List Item) (lost : Bool) (left : ℕ) (goal : Tidied) : Type 0 where
   pub given : ItemsGiven is
   pub turns : (n : ℕ) → n ≡ left → and_lost lost (tidy_turns n q is) ≡ goal
-
-or_assoc : (a b c : Bool) → (a || (b || c)) ≡ ((a || b) || c)
-or_assoc true b c = refl
-or_assoc false b c = refl
 
 limit_is : turn_limit ≡ 17592186044416
 unfolding turn_limit

@@ -4,6 +4,7 @@
 mod calls;
 mod facing;
 mod false_rows;
+pub mod items;
 mod normal;
 mod order;
 mod pivots;
@@ -18,5 +19,3 @@ mod tidying;
 pub use calls::{meet, push_row, rename, substitute, tidy};
 pub use normal::normalise;
 pub use row::{Elim, Norm, Row, Rows, System, Term, Terms, Var, Vars};
-
-pub mod items;

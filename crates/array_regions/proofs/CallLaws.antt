@@ -5,20 +5,20 @@ use Rattle.f77_ast.specs.declared.symbol.Symbol.{Symbol}
 use Rattle.f77_ast.specs.declared.variable.Unit.{Unit as BlockUnit}
 use Rattle.f77_ast.specs.Symbols.{symbol_tree, value_in}
 use Rattle.f77_ast.specs.Index.{names_of}
-use Rattle.f77_results.specs.Summaries.{SummaryTree}
+use Rattle.f77_ast.specs.Summaries.{SummaryTree}
 use Rattle.affine_forms.specs.Scalars.{cell_in}
-use Rattle.call_translation.specs.Scopes.{ScopeTree, scope_tree}
-use Rattle.region_sets.specs.declared.region.Region.{Region}
-use Rattle.region_sets.specs.Sets.{SetFits}
-use Rattle.call_equations.specs.Sides.{SidesTree, entry_cells}
+use Rattle.transformers.specs.call_translation.Scopes.{ScopeTree, scope_tree}
+use Rattle.region_translation.specs.region_sets.declared.region.Region.{Region}
+use Rattle.region_translation.specs.region_sets.Sets.{SetFits}
+use Rattle.region_translation.specs.call_equations.Sides.{SidesTree, entry_cells}
 use Rattle.array_regions.specs.Calls.{Callees, SummaryFits, CalleesFit, scope_with, sides, all_in_caller, summary_in_caller}
 
-names-same : (ss : List Symbol) → names_of ss ≡ map (λ s. s.name) (map symbol_tree ss)
+pub names-same : (ss : List Symbol) → names_of ss ≡ map (λ s. s.name) (map symbol_tree ss)
 names-same [] = refl
 names-same (s ∷ ss) = ap (λ xs. s.name ∷ xs) (names-same ss)
 
 -- a scope from the code's symbols
-scope-same : (ss : List Symbol) (flags : List Bool) → scope_tree ss flags ≡ scope_with (map symbol_tree ss) flags
+pub scope-same : (ss : List Symbol) (flags : List Bool) → scope_tree ss flags ≡ scope_with (map symbol_tree ss) flags
 scope-same ss flags =
     let f : List (List ℕ) → ScopeTree = λ ns. record { symbols = map symbol_tree ss; tracked = flags; names = ns; scalars = record { value = value_in (map symbol_tree ss); cell = cell_in ns flags } } in
     ap f (names-same ss)

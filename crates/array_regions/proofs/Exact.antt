@@ -13,7 +13,7 @@ use Rattle.affine_systems.specs.Calls.{meet}
 use Rattle.affine_systems.proofs.CallLaws.{append_all, meet_back}
 use Rattle.affine_systems.proofs.ElimLaws.{value-combined}
 use Rattle.affine_systems.proofs.TidyLaws.{tidy_back}
-use Rattle.system_renaming.specs.Renaming.{of_rows}
+use Rattle.transformers.specs.transformer_algebra.Renaming.{of_rows}
 use Rattle.f77_ast.specs.Trees.{ExprTree, ExprTrees, ArmTree, ArmTrees}
 use Rattle.f77_ast.specs.Trees as tree
 use Rattle.f77_ast.specs.Symbols.{BoundTree}
@@ -22,22 +22,20 @@ use Rattle.affine_forms.specs.Claims.{form_value}
 use Rattle.affine_forms.specs.Comparisons.{var_form, same_row}
 use Rattle.affine_forms.specs.Conditions.{condition_of}
 use Rattle.affine_forms.specs.Forms.{affine_of}
-use Rattle.call_translation.specs.Scopes.{ScopeTree}
-use Rattle.region_sets.specs.declared.region.Region.{Region}
-use Rattle.region_sets.specs.Claims.{HoldsSome}
-use Rattle.region_sets.specs.Regions.{any_weak}
-use Rattle.region_sets.proofs.BackLaws.{meet_weak}
+use Rattle.transformers.specs.call_translation.Scopes.{ScopeTree}
+use Rattle.region_translation.specs.region_sets.declared.region.Region.{Region}
+use Rattle.region_translation.specs.region_sets.Claims.{HoldsSome}
+use Rattle.region_translation.specs.region_sets.Regions.{any_weak}
+use Rattle.region_translation.proofs.RegionSets.BackLaws.{meet_weak}
 use Rattle.array_regions.specs.declared.arms.Reached.{Reached}
 use Rattle.array_regions.specs.Arms.{if_true, if_false, into_arm, past_arm, past_arms, met_pieces, under_tests, all_met, tests_reads}
 use Rattle.array_regions.specs.Reads.{reads}
 use Rattle.array_regions.specs.Rows.{dimension_rows, subscript_rows, all_affine}
 use Rattle.array_regions.specs.Laws.{IsFalseAt, OnlyWhereFalse, LaterParts, LaterPartsAreExact, IsValue, AreValues, ElementsAreExact}
+use Rattle.region_translation.proofs.RegionSets.LoopLaws.{same_back}
+use Rattle.fx_lists.proofs.Lists.{each_append}
 
 -- ---- parts of an IF
-
-each_append : {A : Type 0} (P : A → Type 0) (xs ys : List A) → AllByRecursion P xs → AllByRecursion P ys → AllByRecursion P (xs ++ ys)
-each_append P [] ys h k = k
-each_append P (x ∷ xs) ys h k = (h.0, each_append P xs ys h.1 k)
 
 module _ (m : ScopeTree) (e : ExprTree) where
   -- what is reached just so is reached only where the test is false
@@ -106,11 +104,8 @@ later_parts_are_exact m (tree.arm e body) rest w =
 
 -- ---- elements
 
-var_value : (v : Var) (p : Point) → form_value p (var_form v) ≡ p v
+pub var_value : (v : Var) (p : Point) → form_value p (var_form v) ≡ p v
 var_value v p = omega (arith, ints)
-
-same_back : (f g : Affine) (p : Point) → Holds p (same_row f g) → form_value p f ≡ form_value p g
-same_back f g p h = let v = value-combined p (pos 1) f.terms (negsuc 0) g.terms in omega (arith, ints, v, h)
 
 only_one : {A : Type 0} → A ⊎ ⊥ → A
 only_one g = ⊎_elim (λ x. x) (λ x. absurd x) g

@@ -3,13 +3,13 @@ use Rattle.std.proofs.Common.{◌≡◌, ℕ, Bool, true, List, [], ◌++◌, ap
 use Rattle.f77_ast.specs.Trees.{StmtTrees}
 use Rattle.f77_ast.specs.declared.symbol.Symbol.{Symbol}
 use Rattle.f77_ast.specs.declared.variable.Unit.{Unit as BlockUnit}
-use Rattle.f77_results.specs.declared.results.At.{At}
-use Rattle.f77_results.specs.declared.results.Results.{Results}
-use Rattle.transformer_algebra.specs.declared.transformer.Transformer.{Transformer}
-use Rattle.call_translation.specs.Scopes.{ScopeTree, scope_tree}
+use Rattle.f77_ast.specs.declared.results.At.{At}
+use Rattle.f77_ast.specs.declared.results.Results.{Results}
+use Rattle.transformers.specs.transformer_algebra.declared.transformer.Transformer.{Transformer}
+use Rattle.transformers.specs.call_translation.Scopes.{ScopeTree, scope_tree}
 use Rattle.transformers.specs.Lists.{transformer_at}
-use Rattle.region_sets.specs.declared.region.Region.{Region}
-use Rattle.call_equations.specs.Sides.{changed_cells}
+use Rattle.region_translation.specs.region_sets.declared.region.Region.{Region}
+use Rattle.region_translation.specs.call_equations.Sides.{changed_cells}
 use Rattle.array_regions.specs.Calls.{Called, Callees, call_set}
 use Rattle.array_regions.specs.Statement.{list_set, at_list}
 use Rattle.array_regions.specs.Entry.{summary_of}

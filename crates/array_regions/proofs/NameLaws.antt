@@ -6,10 +6,10 @@ use Rattle.f77_ast.specs.declared.symbol.Symbol.{Symbol}
 use Rattle.f77_ast.specs.Symbols.{SymbolTree, bound_tree, symbol_tree}
 use Rattle.f77_ast.specs.Shared.{numbered, symbol_at}
 use Rattle.tracked_cells.specs.Standing.{has_bounds}
-use Rattle.call_translation.specs.Scopes.{ScopeTree}
-use Rattle.region_sets.specs.declared.region.Access.{Access}
-use Rattle.region_sets.specs.declared.region.Region.{Region}
-use Rattle.region_sets.proofs.Steps.{set-push}
+use Rattle.transformers.specs.call_translation.Scopes.{ScopeTree}
+use Rattle.region_translation.specs.region_sets.declared.region.Access.{Access}
+use Rattle.region_translation.specs.region_sets.declared.region.Region.{Region}
+use Rattle.region_translation.proofs.RegionSets.Steps.{set-push}
 use Rattle.array_regions.specs.References.{is_constant, scalar, scalar_at, array_at, element_at}
 
 -- ---- the symbol of a number, as it is and as a tree

@@ -4,8 +4,8 @@ use Rattle.f77_ast.specs.declared.stmt.Loop.{Loop, out-Loop}
 use Rattle.f77_ast.specs.Trees.{LoopTree}
 use Rattle.f77_ast.specs.PlainStmt.{stmt_trees, loop_tree}
 use Rattle.f77_ast.proofs.PlainlyStmt.{what_calls, list_calls, loop_calls as do_calls, arm_calls as if_calls, loop_tree-out}
-use Rattle.call_translation.specs.Scopes.{ScopeTree}
-use Rattle.region_sets.specs.declared.region.Region.{Region}
+use Rattle.transformers.specs.call_translation.Scopes.{ScopeTree}
+use Rattle.region_translation.specs.region_sets.declared.region.Region.{Region}
 use Rattle.array_regions.specs.Loops.{Found, do_set}
 use Rattle.array_regions.specs.Calls.{Called}
 use Rattle.array_regions.specs.Statement.{list_set, body_set, at_list, at_loop}

@@ -7,13 +7,13 @@ use Rattle.f77_ast.specs.Plain.{expr_tree, expr_trees}
 use Rattle.f77_ast.specs.PlainStmt.{stmt_trees, loop_tree}
 use Rattle.f77_ast.proofs.Plainly.{expr_cases, expr_lists, expr_trees-drop}
 use Rattle.f77_ast.proofs.PlainlyStmt.{arm_trees-drop_at, loop_tree-out}
-use Rattle.f77_results.specs.declared.results.At.{At}
-use Rattle.call_translation.specs.Scopes.{ScopeTree}
-use Rattle.region_sets.specs.declared.region.Region.{Region}
-use Rattle.region_sets.specs.Lists.{SetsFit}
-use Rattle.region_sets.specs.Sets.{SetFits}
-use Rattle.transformer_algebra.specs.declared.transformer.Transformer.{Transformer}
-use Rattle.transformer_algebra.specs.declared.loop_parts.LoopParts.{LoopParts}
+use Rattle.f77_ast.specs.declared.results.At.{At}
+use Rattle.transformers.specs.call_translation.Scopes.{ScopeTree}
+use Rattle.region_translation.specs.region_sets.declared.region.Region.{Region}
+use Rattle.region_translation.specs.region_sets.Lists.{SetsFit}
+use Rattle.region_translation.specs.region_sets.Sets.{SetFits}
+use Rattle.transformers.specs.transformer_algebra.declared.transformer.Transformer.{Transformer}
+use Rattle.transformers.specs.transformer_algebra.declared.loop_parts.LoopParts.{LoopParts}
 use Rattle.transformers.specs.Lists.{list_at}
 use Rattle.transformers.specs.Loops.{loop_parts}
 use Rattle.array_regions.specs.Simple.{with_item, reading}

@@ -6,10 +6,10 @@ use Rattle.affine_systems.specs.Calls.{meet}
 use Rattle.f77_ast.specs.Trees.{ExprTree, ArmTree, ArmTrees}
 use Rattle.f77_ast.specs.Trees as tree
 use Rattle.affine_forms.specs.Conditions.{no_rows, condition_of}
-use Rattle.call_translation.specs.Scopes.{ScopeTree}
-use Rattle.region_sets.specs.declared.region.Region.{Region}
-use Rattle.region_sets.specs.Regions.{remade}
-use Rattle.region_sets.specs.Sets.{unite_all}
+use Rattle.transformers.specs.call_translation.Scopes.{ScopeTree}
+use Rattle.region_translation.specs.region_sets.declared.region.Region.{Region}
+use Rattle.region_translation.specs.region_sets.Regions.{remade}
+use Rattle.region_translation.specs.region_sets.Sets.{unite_all}
 use Rattle.array_regions.specs.declared.arms.Reached.{Reached}
 use Rattle.array_regions.specs.Reads.{reads}
 

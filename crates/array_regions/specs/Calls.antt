@@ -5,12 +5,12 @@ use Rattle.f77_ast.specs.Trees.{ExprTree, ExprTrees}
 use Rattle.f77_ast.specs.Trees as tree
 use Rattle.f77_ast.specs.declared.variable.Unit.{Unit as BlockUnit}
 use Rattle.f77_ast.specs.Symbols.{SymbolTree, value_in}
-use Rattle.f77_results.specs.Summaries.{SummaryTree}
+use Rattle.f77_ast.specs.Summaries.{SummaryTree}
 use Rattle.affine_forms.specs.Scalars.{cell_in}
-use Rattle.call_translation.specs.Scopes.{ScopeTree}
-use Rattle.region_sets.specs.declared.region.Region.{Region}
-use Rattle.region_sets.specs.Sets.{SetFits, unite_all}
-use Rattle.call_equations.specs.Sides.{SidesTree, entry_cells}
+use Rattle.transformers.specs.call_translation.Scopes.{ScopeTree}
+use Rattle.region_translation.specs.region_sets.declared.region.Region.{Region}
+use Rattle.region_translation.specs.region_sets.Sets.{SetFits, unite_all}
+use Rattle.region_translation.specs.call_equations.Sides.{SidesTree, entry_cells}
 use Rattle.region_translation.specs.Caller.{to_caller}
 use Rattle.array_regions.specs.Reads.{reads, inner_reads}
 

@@ -1,19 +1,15 @@
 -- What a module reads where it is entered, and what its callers see of what it accesses.
-use Rattle.std.specs.Prelude.{ℕ, suc, Bool, true, false, ◌&&◌, if◌then◌else◌, List, [], ◌∷◌, ◌++◌, map, Option, Some, None}
+use Rattle.std.specs.Prelude.{ℕ, suc, Bool, true, ◌&&◌, if◌then◌else◌, List, [], ◌∷◌, ◌++◌, map}
 use Rattle.affine_systems.specs.declared.row.System.{System}
-use Rattle.f77_ast.specs.declared.symbol.Place.{Place}
-use Rattle.f77_ast.specs.declared.symbol.Place.TheVariants.{Local, Dummy, Block, Constant}
-use Rattle.f77_ast.specs.declared.variable.Variable.{Variable}
-use Rattle.f77_ast.specs.declared.variable.Variable.TheVariants.{Own, Block as Whole, Saved}
 use Rattle.f77_ast.specs.Symbols.{BoundTree, SymbolTree}
-use Rattle.f77_ast.specs.Shared.{symbol_at}
-use Rattle.transformer_algebra.specs.Transformers.{without}
-use Rattle.call_translation.specs.Scopes.{ScopeTree}
-use Rattle.region_sets.specs.declared.region.Region.{Region}
-use Rattle.region_sets.specs.Regions.{remade}
-use Rattle.region_sets.specs.Naming.{has_none, named_cells}
-use Rattle.region_sets.specs.Sets.{unite_all}
+use Rattle.transformers.specs.transformer_algebra.Transformers.{without}
+use Rattle.transformers.specs.call_translation.Scopes.{ScopeTree}
+use Rattle.region_translation.specs.region_sets.declared.region.Region.{Region}
+use Rattle.region_translation.specs.region_sets.Regions.{remade}
+use Rattle.region_translation.specs.region_sets.Naming.{has_none, named_cells}
+use Rattle.region_translation.specs.region_sets.Sets.{unite_all}
 use Rattle.array_regions.specs.Reads.{reads, maybe_reads}
+use Rattle.call_graph.specs.Visible.{is_visible_to_callers, is_local}
 
 -- ---- the bounds of arrays (ANSI X3.9-1978 §5.1)
 
@@ -26,28 +22,6 @@ symbols_reads [] m = []
 symbols_reads (s ∷ ss) m = bounds_reads s.bounds m ++ symbols_reads ss m
 
 -- ---- what callers see
-
--- dummies, variables of blocks, and saved locals
-abbrev pub place_goes_out : Place → Bool → Bool
-place_goes_out (Local g o) saved = saved
-place_goes_out (Dummy n) saved = true
-place_goes_out (Block b o) saved = true
-place_goes_out (Constant v) saved = false
-
-abbrev pub symbol_goes_out : Option SymbolTree → Bool
-symbol_goes_out None = false
-symbol_goes_out (Some s) = place_goes_out s.place s.saved
-
-abbrev pub goes_out : List SymbolTree → Variable → Bool
-goes_out ss (Own n) = symbol_goes_out (symbol_at ss n)
-goes_out ss (Whole b) = true
-goes_out ss (Saved s x) = true
-
-abbrev pub is_local : Place → Bool
-is_local (Local g o) = true
-is_local (Dummy n) = false
-is_local (Block b o) = false
-is_local (Constant v) = false
 
 -- the first of the symbols has the number after k
 abbrev pub locals_from : ℕ → List SymbolTree → List ℕ
@@ -67,7 +41,7 @@ for_callers cs r = remade r (r.exact && names_none cs r.pieces) (map (without cs
 
 abbrev pub seen : List SymbolTree → List ℕ → List Region → List Region
 seen ss cs [] = []
-seen ss cs (r ∷ rs) = if goes_out ss r.variable then for_callers cs r ∷ seen ss cs rs else seen ss cs rs
+seen ss cs (r ∷ rs) = if is_visible_to_callers ss r.variable then for_callers cs r ∷ seen ss cs rs else seen ss cs rs
 
 -- of a module whose body has this set
 abbrev pub summary_of : ScopeTree → List Region → List Region

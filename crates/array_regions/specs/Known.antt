@@ -1,6 +1,6 @@
 -- What is known around a statement.
-use Rattle.f77_results.specs.Summaries.{summary_in}
-use Rattle.call_translation.specs.Scopes.{ScopeTree, scope_tree}
+use Rattle.f77_ast.specs.Summaries.{summary_in}
+use Rattle.transformers.specs.call_translation.Scopes.{ScopeTree, scope_tree}
 use Rattle.transformers.specs.Given.{ResultsFit}
 use Rattle.transformers.specs.Lists.{transformer_at}
 use Rattle.array_regions.specs.declared.context.RegionContext.{RegionContext}

@@ -2,17 +2,17 @@
 use Rattle.std.specs.Prelude.{ℕ, List, ◌∷◌, ◌++◌, map, false}
 use Rattle.f77_ast.specs.Trees.{LoopTree}
 use Rattle.f77_ast.specs.Trees as tree
-use Rattle.transformer_algebra.specs.declared.transformer.Transformer.{Transformer}
-use Rattle.transformer_algebra.specs.declared.loop_parts.LoopParts.{LoopParts}
-use Rattle.transformer_algebra.specs.Loops.{iteration}
-use Rattle.call_translation.specs.Scopes.{ScopeTree}
+use Rattle.transformers.specs.transformer_algebra.declared.transformer.Transformer.{Transformer}
+use Rattle.transformers.specs.transformer_algebra.declared.loop_parts.LoopParts.{LoopParts}
+use Rattle.transformers.specs.transformer_algebra.Loops.{iteration}
+use Rattle.transformers.specs.call_translation.Scopes.{ScopeTree}
 use Rattle.transformers.specs.Lists.{list_at}
 use Rattle.transformers.specs.Loops.{loop_parts}
-use Rattle.region_sets.specs.declared.range.Range.{Range}
-use Rattle.region_sets.specs.declared.region.Access.TheVariants.{Write}
-use Rattle.region_sets.specs.declared.region.Region.{Region}
-use Rattle.region_sets.specs.Loops.{over_loop}
-use Rattle.region_sets.specs.Sets.{unite_all}
+use Rattle.region_translation.specs.region_sets.declared.range.Range.{Range}
+use Rattle.region_translation.specs.region_sets.declared.region.Access.TheVariants.{Write}
+use Rattle.region_translation.specs.region_sets.declared.region.Region.{Region}
+use Rattle.region_translation.specs.region_sets.Loops.{over_loop}
+use Rattle.region_translation.specs.region_sets.Sets.{unite_all}
 use Rattle.array_regions.specs.References.{scalar}
 use Rattle.array_regions.specs.Reads.{reads, maybe_reads}
 

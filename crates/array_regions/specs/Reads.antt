@@ -2,9 +2,9 @@
 use Rattle.std.specs.Prelude.{List, [], ◌++◌, Option, Some, None}
 use Rattle.f77_ast.specs.Trees.{ExprTree, ExprTrees}
 use Rattle.f77_ast.specs.Trees as tree
-use Rattle.call_translation.specs.Scopes.{ScopeTree}
-use Rattle.region_sets.specs.declared.region.Access.TheVariants.{Read}
-use Rattle.region_sets.specs.declared.region.Region.{Region}
+use Rattle.transformers.specs.call_translation.Scopes.{ScopeTree}
+use Rattle.region_translation.specs.region_sets.declared.region.Access.TheVariants.{Read}
+use Rattle.region_translation.specs.region_sets.declared.region.Region.{Region}
 use Rattle.array_regions.specs.References.{whole, element}
 
 abbrev mutual

@@ -1,7 +1,7 @@
 -- The regions of scalars and elements that are named: of a scalar all that there is, of an element what its subscripts say.
 use Rattle.std.specs.Prelude.{ℕ, Bool, true, false, not, ◌&&◌, if◌then◌else◌, List, [], ◌∷◌, Option, Some, None}
 use Rattle.affine_systems.specs.declared.row.System.{System}
-use Rattle.system_renaming.specs.Renaming.{of_rows}
+use Rattle.transformers.specs.transformer_algebra.Renaming.{of_rows}
 use Rattle.f77_ast.specs.Trees.{ExprTree, ExprTrees}
 use Rattle.f77_ast.specs.Trees as tree
 use Rattle.f77_ast.specs.declared.symbol.Place.{Place}
@@ -11,10 +11,10 @@ use Rattle.f77_ast.specs.Symbols.{BoundTree, SymbolTree, number_from}
 use Rattle.f77_ast.specs.Shared.{symbol_at}
 use Rattle.tracked_cells.specs.Standing.{has_bounds}
 use Rattle.affine_forms.specs.Conditions.{no_rows}
-use Rattle.call_translation.specs.Scopes.{ScopeTree}
-use Rattle.region_sets.specs.declared.region.Access.{Access}
-use Rattle.region_sets.specs.declared.region.Region.{Region}
-use Rattle.region_sets.specs.Regions.{region}
+use Rattle.transformers.specs.call_translation.Scopes.{ScopeTree}
+use Rattle.region_translation.specs.region_sets.declared.region.Access.{Access}
+use Rattle.region_translation.specs.region_sets.declared.region.Region.{Region}
+use Rattle.region_translation.specs.region_sets.Regions.{region}
 use Rattle.array_regions.specs.Rows.{subscript_rows, all_affine}
 
 -- the elements of a variable of which a system holds; not exact where a row was lost

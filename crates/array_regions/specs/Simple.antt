@@ -2,14 +2,14 @@
 use Rattle.std.specs.Prelude.{List, [], ◌++◌}
 use Rattle.f77_ast.specs.Trees.{ExprTree, ExprTrees}
 use Rattle.f77_ast.specs.Trees as tree
-use Rattle.transformer_algebra.specs.declared.transformer.Transformer.{Transformer}
-use Rattle.transformer_algebra.specs.Transformers.{forgotten}
-use Rattle.call_translation.specs.Scopes.{ScopeTree}
-use Rattle.call_translation.specs.Actuals.{named_cell, one_cell}
-use Rattle.region_sets.specs.declared.region.Access.TheVariants.{Write}
-use Rattle.region_sets.specs.declared.region.Region.{Region}
-use Rattle.region_sets.specs.Lists.{all_composed}
-use Rattle.region_sets.specs.Sets.{unite_all}
+use Rattle.transformers.specs.transformer_algebra.declared.transformer.Transformer.{Transformer}
+use Rattle.transformers.specs.transformer_algebra.Transformers.{forgotten}
+use Rattle.transformers.specs.call_translation.Scopes.{ScopeTree}
+use Rattle.transformers.specs.call_translation.Actuals.{named_cell, one_cell}
+use Rattle.region_translation.specs.region_sets.declared.region.Access.TheVariants.{Write}
+use Rattle.region_translation.specs.region_sets.declared.region.Region.{Region}
+use Rattle.region_translation.specs.region_sets.Lists.{all_composed}
+use Rattle.region_translation.specs.region_sets.Sets.{unite_all}
 use Rattle.array_regions.specs.References.{named}
 use Rattle.array_regions.specs.Reads.{reads, all_reads, inner_reads}
 

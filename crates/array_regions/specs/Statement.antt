@@ -3,12 +3,12 @@
 use Rattle.std.specs.Prelude.{Bool, false, List, [], ◌∷◌, ◌++◌}
 use Rattle.f77_ast.specs.Trees.{StmtTree, WhatTree, ArmTree, ArmTrees, ElseTree, LoopTree, StmtTrees}
 use Rattle.f77_ast.specs.Trees as tree
-use Rattle.f77_results.specs.declared.results.At.{At}
-use Rattle.call_translation.specs.Scopes.{ScopeTree}
+use Rattle.f77_ast.specs.declared.results.At.{At}
+use Rattle.transformers.specs.call_translation.Scopes.{ScopeTree}
 use Rattle.transformers.specs.Statement.{at}
-use Rattle.region_sets.specs.declared.region.Region.{Region}
-use Rattle.region_sets.specs.Lists.{accesses_at, list_regions}
-use Rattle.region_sets.specs.Sets.{unite_all}
+use Rattle.region_translation.specs.region_sets.declared.region.Region.{Region}
+use Rattle.region_translation.specs.region_sets.Lists.{accesses_at, list_regions}
+use Rattle.region_translation.specs.region_sets.Sets.{unite_all}
 use Rattle.array_regions.specs.declared.arms.Reached.{Reached}
 use Rattle.array_regions.specs.Simple.{assignment, printing, reading}
 use Rattle.array_regions.specs.Arms.{always, into_arm, past_arm, past_arms, all_met, tests_reads, if_set}

@@ -4,19 +4,21 @@ ghost use Rattle.affine_systems.specs.Given.{Fits};
 ghost use Rattle.hull_projection.specs.Minus.{AllFit};
 ghost use Rattle.f77_ast.specs.Plain.{expr_tree};
 ghost use Rattle.f77_ast.specs.PlainStmt.{arm_trees};
-ghost use Rattle.call_translation.specs.Scopes.{scope_tree};
-ghost use Rattle.region_sets.specs.Regions.{RegionFits};
-ghost use Rattle.region_sets.specs.Sets.{SetFits};
+ghost use Rattle.transformers.specs.call_translation.Scopes.{scope_tree};
+ghost use Rattle.region_translation.specs.region_sets.Regions.{RegionFits};
+ghost use Rattle.region_translation.specs.region_sets.Sets.{SetFits};
 ghost use Rattle.array_regions.specs.Arms.{ReachedFits, always as always_is, if_true as if_true_is, if_false as if_false_is, met_pieces, under_tests as under_tests_is, all_met, test_reads, tests_reads, if_set as if_set_is};
 
 use crate::reads::push_reads;
 use affine_forms::{condition_of, no_rows};
 use affine_systems::{System, meet};
-use call_translation::CellScope;
 use f77_ast::{Arm, Expr};
 use fx_lists::List;
-use region_sets::{Region, RegionSet, push_region, push_system, remade, unite_all};
+use region_translation::region_sets::{
+    Region, RegionSet, push_region, push_system, remade, unite_all,
+};
 use std::alloc::{AllocError as Memory, Global};
+use transformers::call_translation::CellScope;
 
 /// How a part of an IF is reached.
 #[derive(Drop)]
@@ -75,7 +77,7 @@ pub fn if_false(
 }
 
 /// A region of a part, where that is reached so.
-#[tactic(auto, using(region_sets::proofs::Steps::fitting))]
+#[tactic(auto, using(crate::proofs::Fitting::fitting))]
 fn under_tests(alloc: Global, way: &Reached, r: &Region) -> Result<Region, Memory>
     requires way { ReachedFits way.now }
     requires region { RegionFits r.now }
@@ -92,7 +94,7 @@ fn under_tests(alloc: Global, way: &Reached, r: &Region) -> Result<Region, Memor
 }
 
 /// Appends the regions of a part, in their order, each with what holds where the part is reached; exact where the region is and `way` is.
-#[tactic(auto, using(region_sets::proofs::Steps::fitting))]
+#[tactic(auto, using(crate::proofs::Fitting::fitting))]
 pub fn push_met(
     alloc: Global,
     out: &mut RegionSet,

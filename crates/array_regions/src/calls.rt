@@ -1,27 +1,26 @@
 //! READ and WRITE of a CALL.
 ghost use Rattle.std.specs.Prelude.{◌≡◌, ◌++◌, map, IfOk, IfSome, OnOk, option_to_list};
 ghost use Rattle.f77_ast.specs.Plain.{expr_trees};
-ghost use Rattle.f77_results.specs.Summaries.{summary_in};
+ghost use Rattle.f77_ast.specs.Summaries.{summary_in};
 ghost use Rattle.f77_ast.specs.Symbols.{symbol_tree};
-ghost use Rattle.region_sets.specs.Regions.{RegionFits};
-ghost use Rattle.region_sets.specs.Sets.{SetFits};
-ghost use Rattle.call_equations.specs.Sides.{sides_tree};
+ghost use Rattle.region_translation.specs.region_sets.Regions.{RegionFits};
+ghost use Rattle.region_translation.specs.region_sets.Sets.{SetFits};
+ghost use Rattle.region_translation.specs.call_equations.Sides.{sides_tree};
 ghost use Rattle.array_regions.specs.Calls.{sides, all_in_caller, summary_in_caller};
 ghost use Rattle.array_regions.specs.Known.{scope_in, called_in, KnownFits};
 
 use crate::context::RegionContext;
 use crate::reads::push_actuals_reads;
-use call_equations::{CallSides, entry_cells};
-use call_translation::CellScope;
-use f77_ast::Expr;
-use f77_results::Summary;
+use f77_ast::{Expr, Summary};
 use fx_lists::{List, Text};
-use region_sets::{Region, RegionSet, push_region, unite_all};
+use region_translation::call_equations::{CallSides, entry_cells};
+use region_translation::region_sets::{Region, RegionSet, push_region, unite_all};
 use region_translation::to_caller;
 use std::alloc::{AllocError as Memory, Global};
+use transformers::call_translation::CellScope;
 
 /// Adds a region, where there is one.
-#[tactic(auto, using(region_sets::proofs::Steps::fitting))]
+#[tactic(auto, using(crate::proofs::Fitting::fitting))]
 pub fn push_maybe(out: &mut RegionSet, r: Option<Region>) -> Result<(), Memory>
     requires out { SetFits out.old }
     requires r { IfSome r RegionFits }
@@ -35,7 +34,7 @@ pub fn push_maybe(out: &mut RegionSet, r: Option<Region>) -> Result<(), Memory>
 }
 
 /// Adds regions of the callee in the terms of the caller; what is nothing to the caller is left out.
-#[tactic(auto, using(region_sets::proofs::Steps::fitting))]
+#[tactic(auto, using(crate::proofs::Fitting::fitting))]
 fn push_in_caller(
     alloc: Global,
     out: &mut RegionSet,

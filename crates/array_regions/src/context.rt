@@ -1,9 +1,10 @@
 //! What is known around a statement.
-use call_translation::CellScope;
-use f77_results::{Results, Summaries, View};
+use call_graph::View;
+use f77_ast::{Results, Summaries};
 use fx_lists::List;
-use region_sets::RegionSet;
-use transformer_algebra::Transformer;
+use region_translation::region_sets::RegionSet;
+use transformers::call_translation::CellScope;
+use transformers::transformer_algebra::Transformer;
 
 /// What is known around a statement: its module, the scope of that, the transformers of its statements, the cells that some of them change, and
 /// the summaries of the modules that it calls.

@@ -1,26 +1,27 @@
 //! What a module accesses where it is entered, and what its callers see.
 ghost use Rattle.std.specs.Prelude.{◌≡◌, ◌+◌, ◌++◌, map, filter, IfOk, OnOk};
 ghost use Rattle.f77_ast.specs.Symbols.{symbol_tree, bound_tree};
-ghost use Rattle.call_translation.specs.Scopes.{scope_tree};
+ghost use Rattle.transformers.specs.call_translation.Scopes.{scope_tree};
 ghost use Rattle.hull_projection.specs.Minus.{AllFit};
-ghost use Rattle.region_sets.specs.Regions.{RegionFits};
-ghost use Rattle.region_sets.specs.Sets.{SetFits};
-ghost use Rattle.array_regions.specs.Entry.{bounds_reads, symbols_reads, place_goes_out as place_goes_out_is, goes_out as goes_out_is, is_local as is_local_is, locals_from, locals as locals_is, names_none as names_none_is, for_callers as for_callers_is, seen, summary_of as summary_of_is};
+ghost use Rattle.region_translation.specs.region_sets.Regions.{RegionFits};
+ghost use Rattle.region_translation.specs.region_sets.Sets.{SetFits};
+ghost use Rattle.array_regions.specs.Entry.{bounds_reads, symbols_reads, locals_from, locals as locals_is, names_none as names_none_is, for_callers as for_callers_is, seen, summary_of as summary_of_is};
 
 use crate::reads::{push_maybe_reads, push_reads};
 use affine_systems::System;
-use call_translation::{CellScope, next_number};
-use f77_ast::{Bound, Place, Symbols, Variable};
+use call_graph::{is_local, is_visible_to_callers};
+use f77_ast::{Bound, Symbols};
 use fx_lists::List;
-use region_sets::{
-    Region, RegionSet, copy_region, has_none, named_cells, push_region, push_system, remade,
+use region_translation::region_sets::{
+    Region, RegionSet, has_none, named_cells, push_region, push_regions, push_system, remade,
     unite_all,
 };
 use std::alloc::{AllocError as Memory, Global};
-use transformer_algebra::without;
+use transformers::call_translation::{CellScope, next_number};
+use transformers::transformer_algebra::without;
 
 /// Adds what the bounds of an array read.
-#[tactic(auto, using(region_sets::proofs::Steps::fitting))]
+#[tactic(auto, using(crate::proofs::Fitting::fitting))]
 fn push_bounds_reads(
     alloc: Global,
     out: &mut RegionSet,
@@ -41,7 +42,7 @@ fn push_bounds_reads(
 }
 
 /// What the bounds of all arrays read.
-#[tactic(auto, using(region_sets::proofs::Steps::fitting))]
+#[tactic(auto, using(crate::proofs::Fitting::fitting))]
 pub fn entry_reads(alloc: Global, scope: &CellScope<'_>) -> Result<RegionSet, Memory>
     ensures defined { IfOk result (λ rs. rs ≡ symbols_reads (map symbol_tree scope.now.symbols.now) (scope_tree scope.now.symbols.now scope.now.tracked.now)) }
     ensures fits { IfOk result SetFits }
@@ -53,38 +54,6 @@ pub fn entry_reads(alloc: Global, scope: &CellScope<'_>) -> Result<RegionSet, Me
         rest = more;
     }
     Ok(out)
-}
-
-fn place_goes_out(place: &Place, saved: bool) -> bool
-    ensures { result ≡ place_goes_out_is place.now saved }
-{
-    match place {
-        Place::Local(..) => saved,
-        Place::Dummy(_) | Place::Block(..) => true,
-        Place::Constant(_) => false,
-    }
-}
-
-/// Whether callers see a variable: a dummy, one of a block, or one that is saved.
-fn goes_out(symbols: &Symbols, v: &Variable) -> bool
-    ensures { result ≡ goes_out_is (map symbol_tree symbols.now) v.now }
-{
-    match v {
-        Variable::Own(number) => match symbols.symbol(*number) {
-            None => false,
-            Some(symbol) => place_goes_out(&symbol.place, symbol.saved),
-        },
-        Variable::Block(_) | Variable::Saved(..) => true,
-    }
-}
-
-fn is_local(place: &Place) -> bool
-    ensures { result ≡ is_local_is place.now }
-{
-    match place {
-        Place::Local(..) => true,
-        Place::Dummy(_) | Place::Block(..) | Place::Constant(_) => false,
-    }
 }
 
 /// The numbers of the locals. Memory also where the module has 2^32 symbols or more.
@@ -106,7 +75,7 @@ fn locals(alloc: Global, symbols: &Symbols) -> Result<Vec<u32>, Memory>
 }
 
 /// Whether no system names one of the cells.
-#[tactic(auto, using(region_sets::proofs::Steps::fitting))]
+#[tactic(auto, using(crate::proofs::Fitting::fitting))]
 pub fn names_none(alloc: Global, cells: &[u32], pieces: &[System]) -> Result<bool, Memory>
     ensures { IfOk result (λ b. b ≡ names_none_is cells.now pieces.now) }
 {
@@ -121,7 +90,7 @@ pub fn names_none(alloc: Global, cells: &[u32], pieces: &[System]) -> Result<boo
 }
 
 /// A region whatever numbers these cells have; not exact where it names one.
-#[tactic(auto, using(region_sets::proofs::Steps::fitting))]
+#[tactic(auto, using(crate::proofs::Fitting::fitting))]
 fn for_callers(alloc: Global, cells: &[u32], r: &Region) -> Result<Region, Memory>
     requires { RegionFits r.now }
     ensures defined { IfOk result (λ q. q ≡ for_callers_is cells.now r.now) }
@@ -138,7 +107,7 @@ fn for_callers(alloc: Global, cells: &[u32], r: &Region) -> Result<Region, Memor
 }
 
 /// The regions of a set that callers see, without locals.
-#[tactic(auto, using(region_sets::proofs::Steps::fitting))]
+#[tactic(auto, using(crate::proofs::Fitting::fitting))]
 pub fn all_seen(alloc: Global, symbols: &Symbols, set: &[Region]) -> Result<RegionSet, Memory>
     requires { SetFits set.now }
     ensures defined { IfOk result (λ rs. rs ≡ seen (map symbol_tree symbols.now) (locals_is (map symbol_tree symbols.now)) set.now) }
@@ -148,7 +117,7 @@ pub fn all_seen(alloc: Global, symbols: &Symbols, set: &[Region]) -> Result<Regi
     let mut out = List::new(alloc);
     let mut rest = set;
     while let [r, more @ ..] = rest {
-        if goes_out(symbols, &r.variable) {
+        if is_visible_to_callers(symbols, &r.variable) {
             push_region(&mut out, for_callers(alloc, cells.as_slice(), r)?)?;
         }
         rest = more;
@@ -168,24 +137,8 @@ pub fn summary_of(
     ensures fits { IfOk result SetFits }
 {
     let mut all = entry_reads(alloc, scope)?;
-    push_copies(alloc, &mut all, body)?;
+    push_regions(alloc, &mut all, body)?;
     let set = unite_all(alloc, all.as_slice())?;
     let out = all_seen(alloc, scope.symbols, set.as_slice())?;
     unite_all(alloc, out.as_slice())
-}
-
-/// Appends copies of regions, in their order.
-#[tactic(auto, using(region_sets::proofs::Steps::fitting))]
-pub fn push_copies(alloc: Global, out: &mut RegionSet, set: &[Region]) -> Result<(), Memory>
-    requires out { SetFits out.old }
-    requires set { SetFits set.now }
-    ensures added { OnOk result (out.new ≡ out.old ++ set.now) }
-    ensures fits { OnOk result (SetFits out.new) }
-{
-    let mut rest = set;
-    while let [r, more @ ..] = rest {
-        push_region(out, copy_region(alloc, r)?)?;
-        rest = more;
-    }
-    Ok(())
 }

@@ -1,23 +1,24 @@
 //! READ and WRITE of a DO, from those of its body.
 ghost use Rattle.std.specs.Prelude.{◌≡◌, ◌++◌, ◌∷◌, [], map, IfOk, OnOk};
 ghost use Rattle.f77_ast.specs.PlainStmt.{loop_tree};
-ghost use Rattle.call_translation.specs.Scopes.{scope_tree};
-ghost use Rattle.transformer_algebra.specs.Loops.{LoopFits};
+ghost use Rattle.transformers.specs.call_translation.Scopes.{scope_tree};
+ghost use Rattle.transformers.specs.transformer_algebra.Loops.{LoopFits};
 ghost use Rattle.transformers.specs.Given.{ResultsFit};
 ghost use Rattle.transformers.specs.Lists.{transformer_at as transformer_at_is};
-ghost use Rattle.region_sets.specs.Loops.{RangeFits};
-ghost use Rattle.region_sets.specs.Sets.{SetFits};
+ghost use Rattle.region_translation.specs.region_sets.Loops.{RangeFits};
+ghost use Rattle.region_translation.specs.region_sets.Sets.{SetFits};
 ghost use Rattle.array_regions.specs.Loops.{range_with as range_with_is, range_of as range_of_is, loop_reads, all_over, do_set as do_set_is};
 
 use crate::reads::{push_maybe_reads, push_reads};
 use crate::references::scalar;
-use call_translation::CellScope;
-use f77_ast::Loop;
-use f77_results::At;
+use f77_ast::{At, Loop};
 use fx_lists::List;
-use region_sets::{Access, Range, Region, RegionSet, over_loop, push_region, unite_all};
+use region_translation::region_sets::{
+    Access, Range, Region, RegionSet, over_loop, push_region, unite_all,
+};
 use std::alloc::{AllocError as Memory, Global};
-use transformer_algebra::{LoopParts, Transformer, iteration};
+use transformers::call_translation::CellScope;
+use transformers::transformer_algebra::{LoopParts, Transformer, iteration};
 use transformers::{list_at, loop_parts};
 
 /// What a DO with these parts is to the regions of its body.
@@ -71,7 +72,7 @@ pub fn push_loop_reads(
 }
 
 /// Adds the regions of a body as those of the DO.
-#[tactic(auto, using(region_sets::proofs::Steps::fitting))]
+#[tactic(auto, using(crate::proofs::Fitting::fitting))]
 fn push_over(
     alloc: Global,
     out: &mut RegionSet,
@@ -94,7 +95,7 @@ fn push_over(
 
 /// The regions of a DO (ANSI X3.9-1978, §11.10) whose body has these: its initial and terminal parameters and its step are read, the DO
 /// variable is written, and the body is executed in each iteration.
-#[tactic(auto, using(region_sets::proofs::Steps::fitting))]
+#[tactic(auto, using(crate::proofs::Fitting::fitting))]
 pub fn do_set(
     alloc: Global,
     scope: &CellScope<'_>,

@@ -1,24 +1,25 @@
 //! READ and WRITE regions of a module.
 ghost use Rattle.std.specs.Prelude.{◌≡◌, IfOk};
 ghost use Rattle.f77_ast.specs.PlainStmt.{stmt_trees};
-ghost use Rattle.f77_results.specs.Summaries.{summary_in};
-ghost use Rattle.call_translation.specs.Scopes.{scope_of};
+ghost use Rattle.f77_ast.specs.Summaries.{summary_in};
+ghost use Rattle.transformers.specs.call_translation.Scopes.{scope_of};
 ghost use Rattle.transformers.specs.Given.{ResultsFit};
-ghost use Rattle.region_sets.specs.Lists.{SetsFit};
-ghost use Rattle.region_sets.specs.Sets.{SetFits};
+ghost use Rattle.region_translation.specs.region_sets.Lists.{SetsFit};
+ghost use Rattle.region_translation.specs.region_sets.Sets.{SetFits};
 ghost use Rattle.array_regions.specs.Calls.{CalleesFit};
 ghost use Rattle.array_regions.specs.Modules.{regions_with};
 
 use crate::context::RegionContext;
 use crate::entry::summary_of;
 use crate::statement::list_set;
-use call_equations::changed_cells;
-use call_translation::{CellScope, tracked_of};
-use f77_results::{Results, Summaries, View};
+use call_graph::View;
+use f77_ast::{Results, Summaries};
 use fx_lists::List;
-use region_sets::RegionSet;
+use region_translation::call_equations::changed_cells;
+use region_translation::region_sets::RegionSet;
 use std::alloc::{AllocError as Memory, Global};
-use transformer_algebra::Transformer;
+use transformers::call_translation::{CellScope, tracked_of};
+use transformers::transformer_algebra::Transformer;
 
 /// The READ and WRITE regions of each executable statement of a module, in the order of the text, each with its parts and with what it calls,
 /// from the transformers `own` and the summaries of the modules that it calls; and as summary those that callers see. What a CALL of a module

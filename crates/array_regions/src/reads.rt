@@ -2,17 +2,17 @@
 ghost use Rattle.std.specs.Prelude.{◌≡◌, ◌++◌, IfOk, OnOk};
 ghost use Rattle.f77_ast.specs.Plain.{expr_tree, expr_trees};
 ghost use Rattle.f77_ast.specs.PlainStmt.{maybe_tree};
-ghost use Rattle.call_translation.specs.Scopes.{scope_tree};
-ghost use Rattle.region_sets.specs.Sets.{SetFits};
+ghost use Rattle.transformers.specs.call_translation.Scopes.{scope_tree};
+ghost use Rattle.region_translation.specs.region_sets.Sets.{SetFits};
 ghost use Rattle.array_regions.specs.Reads.{reads, all_reads, inner_reads, maybe_reads};
 ghost use Rattle.array_regions.specs.Calls.{actual_reads, actuals_reads};
 
 use crate::references::{push_element, push_named};
-use call_translation::CellScope;
 use f77_ast::Expr;
 use fx_lists::List;
-use region_sets::{Access, RegionSet};
+use region_translation::region_sets::{Access, RegionSet};
 use std::alloc::{AllocError as Memory, Global};
+use transformers::call_translation::CellScope;
 
 /// Appends the READ regions of an expression, operands from left to right and the subscripts of an element before it. Err also where an array
 /// has more than 254 dimensions.

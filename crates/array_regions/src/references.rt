@@ -4,21 +4,21 @@ ghost use Rattle.affine_systems.specs.Given.{Fits};
 ghost use Rattle.f77_ast.specs.Plain.{expr_tree, expr_trees};
 ghost use Rattle.f77_ast.specs.Symbols.{bound_tree, symbol_tree};
 ghost use Rattle.f77_ast.specs.Shared.{symbol_at};
-ghost use Rattle.call_translation.specs.Scopes.{scope_tree};
-ghost use Rattle.region_sets.specs.Regions.{RegionFits};
-ghost use Rattle.region_sets.specs.Sets.{SetFits};
+ghost use Rattle.transformers.specs.call_translation.Scopes.{scope_tree};
+ghost use Rattle.region_translation.specs.region_sets.Regions.{RegionFits};
+ghost use Rattle.region_translation.specs.region_sets.Sets.{SetFits};
 ghost use Rattle.array_regions.specs.References.{is_constant as is_constant_is, scalar as scalar_is, scalar_at, whole, elements as elements_is, array_at, element_at, element, named};
 
 use affine_forms::no_rows;
 use affine_systems::System;
-use call_equations::{all_affine, rows_of};
-use call_translation::CellScope;
 use f77_ast::{Bound, Expr, Place, Symbols, Variable};
 use fx_lists::{List, Text};
-use region_sets::{Access, Region, RegionSet, push_region};
+use region_translation::call_equations::{all_affine, rows_of};
+use region_translation::region_sets::{Access, Region, RegionSet, push_region};
 use std::alloc::{AllocError as Memory, Global};
-use system_renaming::of_rows;
 use tracked_cells::has_bounds;
+use transformers::call_translation::CellScope;
+use transformers::transformer_algebra::of_rows;
 
 /// Whether a name stands for a constant.
 fn is_constant(place: &Place) -> bool
@@ -87,7 +87,7 @@ fn push_scalar_at(
 }
 
 /// Adds all of the variable of a name; nothing of a constant.
-#[tactic(auto, using(region_sets::proofs::Steps::fitting))]
+#[tactic(auto, using(crate::proofs::Fitting::fitting))]
 fn push_whole(
     alloc: Global,
     out: &mut RegionSet,
@@ -151,7 +151,7 @@ fn push_element_at(
 
 /// Appends the region of an element of the array with a name; nothing where the name is of no array, as that of an intrinsic function. It is
 /// exact where all subscripts are affine and no row is lost. Err also where the array has more than 254 dimensions.
-#[tactic(auto, using(region_sets::proofs::Steps::fitting))]
+#[tactic(auto, using(crate::proofs::Fitting::fitting))]
 pub fn push_element(
     alloc: Global,
     out: &mut RegionSet,

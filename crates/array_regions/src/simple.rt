@@ -2,22 +2,22 @@
 ghost use Rattle.std.specs.Prelude.{◌≡◌, ◌++◌, IfOk, OnOk};
 ghost use Rattle.affine_systems.specs.Given.{Fits};
 ghost use Rattle.f77_ast.specs.Plain.{expr_tree, expr_trees};
-ghost use Rattle.call_translation.specs.Scopes.{scope_tree};
-ghost use Rattle.region_sets.specs.Sets.{SetFits};
+ghost use Rattle.transformers.specs.call_translation.Scopes.{scope_tree};
+ghost use Rattle.region_translation.specs.region_sets.Sets.{SetFits};
 ghost use Rattle.array_regions.specs.Simple.{assignment as assignment_is, printing as printing_is, item_does as item_does_is, with_item as with_item_is, reading as reading_is};
 
 use crate::reads::{push_all_reads, push_inner_reads, push_reads};
 use crate::references::push_named;
-use call_translation::{CellScope, named_cell, push_cell};
 use f77_ast::Expr;
 use fx_lists::List;
-use region_sets::{Access, Region, RegionSet, push_composed, unite_all};
+use region_translation::region_sets::{Access, Region, RegionSet, push_composed, unite_all};
 use std::alloc::{AllocError as Memory, Global};
-use transformer_algebra::{Transformer, forgotten};
+use transformers::call_translation::{CellScope, named_cell, push_cell};
+use transformers::transformer_algebra::{Transformer, forgotten};
 
 /// The regions of an assignment (ANSI X3.9-1978, §10.1 and §10.2): the right side and the subscripts of the left one are read, the left one
 /// is written.
-#[tactic(auto, using(region_sets::proofs::Steps::fitting))]
+#[tactic(auto, using(crate::proofs::Fitting::fitting))]
 pub fn assignment(
     alloc: Global,
     scope: &CellScope<'_>,
@@ -35,7 +35,7 @@ pub fn assignment(
 }
 
 /// The READ regions of the items of a PRINT (ANSI X3.9-1978, §12.8).
-#[tactic(auto, using(region_sets::proofs::Steps::fitting))]
+#[tactic(auto, using(crate::proofs::Fitting::fitting))]
 pub fn printing(
     alloc: Global,
     scope: &CellScope<'_>,
@@ -60,7 +60,7 @@ pub fn item_does(alloc: Global, scope: &CellScope<'_>, item: &Expr) -> Result<Tr
 }
 
 /// Of the READ of an item and of those after it.
-#[tactic(auto, using(region_sets::proofs::Steps::fitting))]
+#[tactic(auto, using(crate::proofs::Fitting::fitting))]
 fn with_item(
     alloc: Global,
     scope: &CellScope<'_>,

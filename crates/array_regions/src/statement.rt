@@ -2,8 +2,8 @@
 ghost use Rattle.std.specs.Prelude.{◌≡◌, ◌++◌, ◌∷◌, [], IfOk, OnOk};
 ghost use Rattle.f77_ast.specs.PlainStmt.{stmt_tree, stmt_trees, what_tree, loop_tree, arm_trees};
 ghost use Rattle.transformers.specs.Statement.{at as at_is};
-ghost use Rattle.region_sets.specs.Lists.{SetsFit};
-ghost use Rattle.region_sets.specs.Sets.{SetFits};
+ghost use Rattle.region_translation.specs.region_sets.Lists.{SetsFit};
+ghost use Rattle.region_translation.specs.region_sets.Sets.{SetFits};
 ghost use Rattle.array_regions.specs.Arms.{ReachedFits, always as always_is, past_arms};
 ghost use Rattle.array_regions.specs.Known.{scope_in, found_in, called_in, KnownFits};
 ghost use Rattle.array_regions.specs.Statement.{what_set as what_set_is, arm_sets, body_set as body_set_is, list_set as list_set_is, at_stmt, at_parts, at_list, at_arms, at_loop};
@@ -13,15 +13,11 @@ use crate::calls::call_set;
 use crate::context::RegionContext;
 use crate::loops::do_set;
 use crate::simple::{assignment, printing, reading};
-use f77_ast::{Arm, Loop, Stmt, StmtId, What};
-use f77_results::At;
+use f77_ast::{Arm, At, Loop, Stmt, StmtId, What};
 use fx_lists::List;
-use region_sets::{RegionSet, list_regions, unite_all};
+use region_translation::region_sets::{RegionList, RegionSet, list_regions, unite_all};
 use std::alloc::{AllocError as Memory, Global};
 use std::mem;
-
-/// Sets of regions of statements, those of the parts of a statement after its own, in the order of the text.
-pub type RegionList = List<At<RegionSet>>;
 
 /// Adds the set of the statement of a number, and those of its parts after it.
 #[tactic(auto, using(crate::proofs::Steps::sets))]

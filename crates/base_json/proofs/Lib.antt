@@ -1,6 +1,6 @@
 pub mod Lists
 pub mod Parts
 pub mod Latin
-pub mod Numbers
+pub mod WrittenNumbers
 pub mod Items
 pub mod Back

@@ -57,7 +57,7 @@ pub ruleset texts = (append-nil)
 abbrev pub after : {T : Type 0} → List T → Option (List T) → Option (List T)
 after xs o = option_map (λ ys. xs ++ ys) o
 
-after_one : {T : Type 0} (xs : List T) (x : T) (o : Option (List T)) → after (xs ++ x ∷ []) o ≡ after xs (option_map (λ ys. x ∷ ys) o)
+pub after_one : {T : Type 0} (xs : List T) (x : T) (o : Option (List T)) → after (xs ++ x ∷ []) o ≡ after xs (option_map (λ ys. x ∷ ys) o)
 after_one xs x None = refl
 after_one xs x (Some ys) = ap Some (append_assoc xs (x ∷ []) ys)
 

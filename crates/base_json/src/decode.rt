@@ -6,7 +6,7 @@ ghost use Rattle.serde_json.specs.View.{view};
 ghost use Rattle.base_json.specs.Shapes.{each_as, list_as, member_as};
 ghost use Rattle.base_json.specs.Gives.{Gives};
 
-use crate::Trouble;
+use crate::DecodeError;
 use crate::shapes::{items_of, member};
 use fx_lists::List;
 use serde_json::Value;
@@ -17,7 +17,7 @@ pub trait Decode<S>: Drop {
     ghost read_as: { S → Data → Option Self };
 
     /// What the value says. Err(Shape) where it has another shape.
-    fn decode(alloc: Global, scope: &S, value: &Value) -> Result<Self, Trouble>
+    fn decode(alloc: Global, scope: &S, value: &Value) -> Result<Self, DecodeError>
         ensures { Gives result (read_as scope.now (view value.now)) };
 }
 
@@ -27,7 +27,7 @@ pub fn decode_each<S, T: Decode<S>>(
     alloc: Global,
     scope: &S,
     values: &[Value],
-) -> Result<List<T>, Trouble>
+) -> Result<List<T>, DecodeError>
     ensures { Gives result (each_as (T.read_as scope.now) (map view values.now)) }
 {
     let mut made = List::new(alloc);
@@ -39,11 +39,15 @@ pub fn decode_each<S, T: Decode<S>>(
 }
 
 /// What each item of an array says.
-pub fn list_at<S, T: Decode<S>>(alloc: Global, scope: &S, value: &Value) -> Result<List<T>, Trouble>
+pub fn list_at<S, T: Decode<S>>(
+    alloc: Global,
+    scope: &S,
+    value: &Value,
+) -> Result<List<T>, DecodeError>
     ensures { Gives result (list_as (T.read_as scope.now) (view value.now)) }
 {
     match items_of(value) {
-        None => Err(Trouble::Shape),
+        None => Err(DecodeError::Shape),
         Some(values) => decode_each(alloc, scope, values),
     }
 }
@@ -51,9 +55,9 @@ pub fn list_at<S, T: Decode<S>>(alloc: Global, scope: &S, value: &Value) -> Resu
 impl<S> Decode<S> for bool {
     ghost read_as = { λ _. as_bool };
 
-    fn decode(_alloc: Global, _scope: &S, value: &Value) -> Result<bool, Trouble> {
+    fn decode(_alloc: Global, _scope: &S, value: &Value) -> Result<bool, DecodeError> {
         match value.as_bool() {
-            None => Err(Trouble::Shape),
+            None => Err(DecodeError::Shape),
             Some(flag) => Ok(flag),
         }
     }
@@ -65,11 +69,11 @@ pub fn field<S, T: Decode<S>>(
     scope: &S,
     value: &Value,
     key: &str,
-) -> Result<T, Trouble>
+) -> Result<T, DecodeError>
     ensures { Gives result (member_as (T.read_as scope.now) key.now (view value.now)) }
 {
     match member(value, key) {
-        None => Err(Trouble::Shape),
+        None => Err(DecodeError::Shape),
         Some(found) => Decode::decode(alloc, scope, found),
     }
 }
@@ -80,11 +84,11 @@ pub fn list_field<S, T: Decode<S>>(
     scope: &S,
     value: &Value,
     key: &str,
-) -> Result<List<T>, Trouble>
+) -> Result<List<T>, DecodeError>
     ensures { Gives result (member_as (list_as (T.read_as scope.now)) key.now (view value.now)) }
 {
     match member(value, key) {
-        None => Err(Trouble::Shape),
+        None => Err(DecodeError::Shape),
         Some(found) => list_at(alloc, scope, found),
     }
 }

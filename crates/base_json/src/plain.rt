@@ -5,7 +5,7 @@ ghost use Rattle.serde_json.specs.View.{view};
 ghost use Rattle.base_json.specs.Shapes.{number_below as number_below_is, offset_of, whole_of, flag_of, text_of, is_latin, latin, when};
 ghost use Rattle.base_json.specs.Gives.{Gives};
 
-use crate::Trouble;
+use crate::DecodeError;
 use crate::shapes::word;
 use fx_lists::Text;
 use serde_json::Value;
@@ -51,14 +51,14 @@ pub fn flag_at(value: &Value) -> Option<bool>
 
 /// The text whose bytes are the numbers of the characters; Shape where one is above 255.
 #[tactic(auto, using(crate::proofs::Latin::latin_steps))]
-fn latin_bytes(alloc: Global, characters: &[char]) -> Result<Text, Trouble>
+fn latin_bytes(alloc: Global, characters: &[char]) -> Result<Text, DecodeError>
     ensures { Gives result (when (is_latin characters.now) characters.now) }
 {
     let mut bytes = Text::new(alloc);
     for character in characters {
         match u8::try_from(u32::from(*character)) {
             Ok(byte) => bytes.push(byte)?,
-            Err(_) => return Err(Trouble::Shape),
+            Err(_) => return Err(DecodeError::Shape),
         }
     }
     Ok(bytes)
@@ -72,7 +72,7 @@ fn characters_of(alloc: Global, text: &str) -> Result<Vec<char>, Memory>
 }
 
 /// The text whose bytes are the numbers of the characters; Shape where one is above 255.
-fn latin_text(alloc: Global, text: &str) -> Result<Text, Trouble>
+fn latin_text(alloc: Global, text: &str) -> Result<Text, DecodeError>
     ensures { Gives result (latin text.now) }
 {
     let characters = characters_of(alloc, text)?;
@@ -80,11 +80,11 @@ fn latin_text(alloc: Global, text: &str) -> Result<Text, Trouble>
 }
 
 /// A text out of a string: each character is the byte of its number.
-pub fn text_at(alloc: Global, value: &Value) -> Result<Text, Trouble>
+pub fn text_at(alloc: Global, value: &Value) -> Result<Text, DecodeError>
     ensures { Gives result (text_of (view value.now)) }
 {
     match word(value) {
-        None => Err(Trouble::Shape),
+        None => Err(DecodeError::Shape),
         Some(text) => latin_text(alloc, text),
     }
 }

@@ -19,7 +19,7 @@ pub fn put_number(alloc: Global, n: u64, out: &mut Text) -> Result<(), Memory>
 }
 
 /// Appends a whole number that fits 64 bits.
-#[tactic(auto, using(crate::proofs::Numbers::numbers))]
+#[tactic(auto, using(crate::proofs::WrittenNumbers::numbers))]
 fn put_integer(alloc: Global, z: i128, out: &mut Text) -> Result<(), Memory>
     ensures { OnOk result (out.new ≡ out.old ++ compact_text (number (of_integer z))) }
 {

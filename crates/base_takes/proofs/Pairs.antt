@@ -1,6 +1,6 @@
 -- The numbers of statements and what is said of them, one by one.
 use Rattle.std.proofs.Common.{◌≡◌, ℕ, ◌-◌, ◌<◌, ◌≤◌, List, [], ◌∷◌, length, map, take, drop, get_or, take_all, ap, ap₂, ◌∙◌, sym, arith}
-use Rattle.f77_results.specs.declared.results.At.{At}
+use Rattle.f77_ast.specs.declared.results.At.{At}
 
 pub at_rest : {T : Type 0} (as' : List (At T)) (ns : List ℕ) (a : At T) → 0 < length as' → 0 < length ns → a ≡ get_or as' 0 a → a.id ≡ get_or ns 0 0
     → map (λ (b : At T). b.id) (take (length as' - 1) (drop 1 as')) ≡ take (length ns - 1) (drop 1 ns) → map (λ (b : At T). b.id) as' ≡ ns

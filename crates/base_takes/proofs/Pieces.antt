@@ -1,7 +1,7 @@
 -- Names that are not empty, and lists of one system.
 use Rattle.std.proofs.Common.{◌≡◌, ℕ, ◌<◌, true, List, [], ◌∷◌, length, arith}
 use Rattle.affine_systems.specs.declared.row.System.{System}
-use Rattle.base_rows.specs.Scopes.{is_block, is_short_name, cells_alone, with_phi}
+use Rattle.base_json.specs.Scopes.{is_block, is_short_name, cells_alone, with_phi}
 use Rattle.base_values.specs.Naming.{Each, SystemFits}
 use Rattle.base_values.specs.Fits.{OnePiece}
 

@@ -2,8 +2,8 @@
 use Rattle.std.proofs.Common.{◌≡◌, true}
 use Rattle.affine_systems.specs.declared.row.Row.{Row}
 use Rattle.affine_systems.specs.declared.row.System.{System}
-use Rattle.base_rows.specs.Scopes.{ScopeTree}
-use Rattle.base_rows.specs.Read.{terms_ascend, rows_fit, is_small_system}
+use Rattle.base_json.specs.Scopes.{ScopeTree}
+use Rattle.base_json.specs.Read.{terms_ascend, rows_fit, is_small_system}
 use Rattle.base_values.specs.Naming.{Each, RowNames, SystemFits}
 use Rattle.base_values.proofs.Options.{each_map}
 use Rattle.base_values.proofs.RowsBack.{RowRead, test_ascend, rows_normal}

@@ -1,11 +1,11 @@
 //! Whether variables are those of a module.
 ghost use Rattle.std.specs.Prelude.{◌≡◌, ◌&&◌, true};
 ghost use Rattle.f77_ast.specs.Index.{names_of};
-ghost use Rattle.base_rows.specs.Scopes.{is_symbol as is_symbol_is, is_block as is_block_is, is_short_name as is_short_name_is};
+ghost use Rattle.base_json.specs.Scopes.{is_symbol as is_symbol_is, is_block as is_block_is, is_short_name as is_short_name_is};
 ghost use Rattle.base_values.specs.Naming.{VariableFits};
 
 use crate::check::Check;
-use base_rows::is_block;
+use base_json::is_block;
 use f77_ast::{Symbols, Unit, Variable};
 use pipsmake_rules::Kind;
 use std::alloc::{AllocError as Memory, Global};

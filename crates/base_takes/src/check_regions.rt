@@ -2,7 +2,7 @@
 ghost use Rattle.std.specs.Prelude.{◌≡◌, true, IfOk};
 ghost use Rattle.pipsmake_rules.specs.Kinds.{same_kind};
 ghost use Rattle.f77_ast.specs.Index.{names_of};
-ghost use Rattle.base_rows.specs.Scopes.{cells_alone, with_phi};
+ghost use Rattle.base_json.specs.Scopes.{cells_alone, with_phi};
 ghost use Rattle.base_values.specs.Naming.{SystemFits};
 ghost use Rattle.base_values.specs.Words.{result_with as result_with_is};
 ghost use Rattle.base_values.specs.Fits.{OnePiece, RegionFits, RegionsFit};

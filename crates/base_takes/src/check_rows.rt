@@ -2,14 +2,14 @@
 ghost use Rattle.std.specs.Prelude.{◌≡◌, true, nat_eq, IfOk};
 ghost use Rattle.std.specs.HashSet.{IsFromIterResult};
 ghost use Rattle.f77_ast.specs.Index.{names_of};
-ghost use Rattle.base_rows.specs.Scopes.{cells_alone, scope_tree, with_exits, with_phi};
-ghost use Rattle.base_rows.specs.Read.{terms_ascend as terms_ascend_is};
+ghost use Rattle.base_json.specs.Scopes.{cells_alone, scope_tree, with_exits, with_phi};
+ghost use Rattle.base_json.specs.Read.{terms_ascend as terms_ascend_is};
 ghost use Rattle.base_values.specs.Naming.{VarFits, RowNames, SystemFits};
 
 use crate::check::{Check, check_list};
 use crate::check_names::is_symbol;
 use affine_systems::{Row, System, Term, Var};
-use base_rows::{Scope, is_small_system, rows_fit, terms_ascend};
+use base_json::{Scope, is_small_system, rows_fit, terms_ascend};
 use f77_ast::Symbols;
 use std::alloc::{AllocError as Memory, Global};
 use std::collections::HashSet;

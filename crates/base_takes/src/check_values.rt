@@ -1,8 +1,8 @@
 //! Whether results fit a module.
 ghost use Rattle.std.specs.Prelude.{◌≡◌, true, map, IfOk};
 ghost use Rattle.f77_ast.specs.Index.{names_of};
-ghost use Rattle.f77_results.specs.declared.results.At.{At as TheAt};
-ghost use Rattle.base_rows.specs.Scopes.{cells_alone};
+ghost use Rattle.f77_ast.specs.declared.results.At.{At as TheAt};
+ghost use Rattle.base_json.specs.Scopes.{cells_alone};
 ghost use Rattle.base_values.specs.Naming.{SystemFits};
 ghost use Rattle.base_values.specs.Fits.{AllFit, EffectsFit, MarkFits, ReasonFits, ResultsFit, StoredFits, TransformerFits};
 ghost use Rattle.base_values.specs.Scopes.{names_tree};
@@ -12,11 +12,9 @@ use crate::check_names::{KindScope, variable_fits};
 use crate::check_rows::{cells_system_fits, exit_system_fits};
 use affine_systems::System;
 use base_values::{Names, StoredValue};
-use f77_ast::StmtId;
-use f77_results::{At, EffectSet, Results};
+use f77_ast::{At, EffectSet, Mark, Reason, Results, StmtId};
 use fx_lists::List;
 use pipsmake_rules::Kind;
-use region_sets::{Mark, Reason};
 use std::alloc::{AllocError as Memory, Global};
 use transformer_algebra::Transformer;
 

@@ -1,7 +1,7 @@
 //! How far a reader is in a compact text, and the plain values that it takes. What is taken is compared with the text afterwards: nothing is promised here.
 ghost use Rattle.std.specs.Prelude.{◌<◌, IfSome, length};
 
-use base_json::Trouble;
+use base_json::DecodeError;
 use fx_lists::Text;
 use std::alloc::Global;
 
@@ -77,22 +77,22 @@ impl<'t> Cursor<'t> {
     }
 
     /// Takes the next byte. Err(Shape) at the end.
-    fn byte(&mut self) -> Result<u8, Trouble> {
+    fn byte(&mut self) -> Result<u8, DecodeError> {
         let rest = self.rest;
         match rest {
             [first, more @ ..] => {
                 self.rest = more;
                 Ok(*first)
             }
-            [] => Err(Trouble::Shape),
+            [] => Err(DecodeError::Shape),
         }
     }
 
     /// Takes a word. Err(Shape) where the rest begins otherwise.
-    pub fn word(&mut self, word: &[u8]) -> Result<(), Trouble> {
+    pub fn word(&mut self, word: &[u8]) -> Result<(), DecodeError> {
         let rest = self.rest;
         match rest.strip_prefix(word) {
-            None => Err(Trouble::Shape),
+            None => Err(DecodeError::Shape),
             Some(more) => {
                 self.rest = more;
                 Ok(())
@@ -128,9 +128,9 @@ impl<'t> Cursor<'t> {
     }
 
     /// Takes a number of 64 bits. Err(Shape) where there is none.
-    pub fn number(&mut self) -> Result<u64, Trouble> {
+    pub fn number(&mut self) -> Result<u64, DecodeError> {
         let Some(first) = self.digit() else {
-            return Err(Trouble::Shape);
+            return Err(DecodeError::Shape);
         };
         let mut number = u64::from(first);
         for _ in 0..u64::MAX {
@@ -139,20 +139,20 @@ impl<'t> Cursor<'t> {
                 Some(value) => number = next_number(number, value)?,
             }
         }
-        Err(Trouble::Shape)
+        Err(DecodeError::Shape)
     }
 
     /// Takes a number of 32 bits. Err(Shape) where there is none.
-    pub fn short_number(&mut self) -> Result<u32, Trouble> {
+    pub fn short_number(&mut self) -> Result<u32, DecodeError> {
         let number = self.number()?;
         match u32::try_from(number) {
             Ok(number) => Ok(number),
-            Err(_) => Err(Trouble::Shape),
+            Err(_) => Err(DecodeError::Shape),
         }
     }
 
     /// Takes a whole number. Err(Shape) where there is none.
-    pub fn whole(&mut self) -> Result<i128, Trouble> {
+    pub fn whole(&mut self) -> Result<i128, DecodeError> {
         if self.has(b'-') {
             let number = self.number()?;
             Ok(-(number as i128))
@@ -163,7 +163,7 @@ impl<'t> Cursor<'t> {
     }
 
     /// Takes `true` or `false`. Err(Shape) where something else comes.
-    pub fn flag(&mut self) -> Result<bool, Trouble> {
+    pub fn flag(&mut self) -> Result<bool, DecodeError> {
         if self.has_word(b"true") {
             return Ok(true);
         }
@@ -172,11 +172,11 @@ impl<'t> Cursor<'t> {
     }
 
     /// Takes a name in quotes, of bytes that need no escape. Err(Shape) where there is none.
-    pub fn name(&mut self, alloc: Global) -> Result<Text, Trouble> {
+    pub fn name(&mut self, alloc: Global) -> Result<Text, DecodeError> {
         self.word(b"\"")?;
         let rest = self.rest;
         let Some(end) = place_of(rest, b'"') else {
-            return Err(Trouble::Shape);
+            return Err(DecodeError::Shape);
         };
         let name = Text::from_bytes(alloc, &rest[..end])?;
         self.rest = &rest[end + 1..];
@@ -184,7 +184,7 @@ impl<'t> Cursor<'t> {
     }
 
     /// Takes the byte that an escape or a character of two bytes stands for, behind its first byte.
-    fn long_byte(&mut self, first: u8) -> Result<u8, Trouble> {
+    fn long_byte(&mut self, first: u8) -> Result<u8, DecodeError> {
         let second = self.byte()?;
         let found = if first == b'\\' {
             escaped(second)
@@ -192,13 +192,13 @@ impl<'t> Cursor<'t> {
             latin(first, second)
         };
         match found {
-            None => Err(Trouble::Shape),
+            None => Err(DecodeError::Shape),
             Some(byte) => Ok(byte),
         }
     }
 
     /// Takes a text in quotes, each of whose characters is a byte. Err(Shape) where there is none, or one that is left to another reader.
-    pub fn text(&mut self, alloc: Global) -> Result<Text, Trouble> {
+    pub fn text(&mut self, alloc: Global) -> Result<Text, DecodeError> {
         self.word(b"\"")?;
         let mut text = Text::new(alloc);
         for _ in 0..u64::MAX {
@@ -213,17 +213,17 @@ impl<'t> Cursor<'t> {
                 text.push(byte)?;
             }
         }
-        Err(Trouble::Shape)
+        Err(DecodeError::Shape)
     }
 }
 
 /// A number with one digit more. Err(Shape) where it does not fit.
-fn next_number(number: u64, digit: u8) -> Result<u64, Trouble> {
+fn next_number(number: u64, digit: u8) -> Result<u64, DecodeError> {
     let Some(tens) = number.checked_mul(10) else {
-        return Err(Trouble::Shape);
+        return Err(DecodeError::Shape);
     };
     match tens.checked_add(u64::from(digit)) {
-        None => Err(Trouble::Shape),
+        None => Err(DecodeError::Shape),
         Some(next) => Ok(next),
     }
 }

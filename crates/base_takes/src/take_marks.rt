@@ -1,13 +1,12 @@
 //! Marks out of compact JSON.
 use crate::{Cursor, Take, take_list};
-use base_json::Trouble;
-use f77_ast::{Symbols, Variable};
+use base_json::DecodeError;
+use f77_ast::{Kinds, Mark, Private, Reason, Symbols, Variable};
 use fx_lists::List;
-use region_sets::{Kinds, Mark, Private, Reason};
 use std::alloc::Global;
 
 impl Take<Symbols> for Kinds {
-    fn take(_alloc: Global, _scope: &Symbols, from: &mut Cursor<'_>) -> Result<Kinds, Trouble> {
+    fn take(_alloc: Global, _scope: &Symbols, from: &mut Cursor<'_>) -> Result<Kinds, DecodeError> {
         if from.has_word(b"\"W-R\"") {
             return Ok(Kinds::WriteRead);
         }
@@ -20,7 +19,7 @@ impl Take<Symbols> for Kinds {
 }
 
 /// Takes the answer on copies.
-fn take_answer(from: &mut Cursor<'_>) -> Result<Private, Trouble> {
+fn take_answer(from: &mut Cursor<'_>) -> Result<Private, DecodeError> {
     if from.has_word(b"\"Yes\"") {
         return Ok(Private::Yes);
     }
@@ -39,7 +38,7 @@ fn take_private(
     alloc: Global,
     symbols: &Symbols,
     from: &mut Cursor<'_>,
-) -> Result<List<u32>, Trouble> {
+) -> Result<List<u32>, DecodeError> {
     let mut numbers = List::new(alloc);
     for _ in 0..u64::MAX {
         if !from.has(b',') {
@@ -48,11 +47,11 @@ fn take_private(
         }
         let name = from.name(alloc)?;
         let Some(number) = symbols.number(&name) else {
-            return Err(Trouble::Shape);
+            return Err(DecodeError::Shape);
         };
         numbers.push(number)?;
     }
-    Err(Trouble::Shape)
+    Err(DecodeError::Shape)
 }
 
 /// Takes what iterations carry.
@@ -60,7 +59,7 @@ fn take_carried(
     alloc: Global,
     symbols: &Symbols,
     from: &mut Cursor<'_>,
-) -> Result<Reason, Trouble> {
+) -> Result<Reason, DecodeError> {
     let variable: Variable = Take::take(alloc, symbols, from)?;
     from.word(b",")?;
     let kinds: List<Kinds> = take_list(alloc, symbols, from)?;
@@ -71,7 +70,11 @@ fn take_carried(
 }
 
 /// Takes why a loop is serial, and the bracket behind it.
-fn take_reason(alloc: Global, symbols: &Symbols, from: &mut Cursor<'_>) -> Result<Reason, Trouble> {
+fn take_reason(
+    alloc: Global,
+    symbols: &Symbols,
+    from: &mut Cursor<'_>,
+) -> Result<Reason, DecodeError> {
     if from.has_word(b"\"Jump\"]") {
         return Ok(Reason::Jump);
     }
@@ -88,7 +91,7 @@ fn take_reason(alloc: Global, symbols: &Symbols, from: &mut Cursor<'_>) -> Resul
 }
 
 impl Take<Symbols> for Mark {
-    fn take(alloc: Global, scope: &Symbols, from: &mut Cursor<'_>) -> Result<Mark, Trouble> {
+    fn take(alloc: Global, scope: &Symbols, from: &mut Cursor<'_>) -> Result<Mark, DecodeError> {
         if from.has_word(b"[\"PARALLEL\"") {
             return Ok(Mark::Parallel(take_private(alloc, scope, from)?));
         }

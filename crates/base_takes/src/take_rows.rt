@@ -1,11 +1,11 @@
 //! Rows and systems out of compact JSON.
 use crate::{Cursor, Take, take_list};
 use affine_systems::{Row, Rows, System, Term, Terms, Var};
-use base_json::Trouble;
+use base_json::DecodeError;
 use std::alloc::Global;
 
 /// Takes a variable: its letter, a comma and its number.
-fn take_var(from: &mut Cursor<'_>) -> Result<Var, Trouble> {
+fn take_var(from: &mut Cursor<'_>) -> Result<Var, DecodeError> {
     if from.has_word(b"\"c\",") {
         return Ok(Var::Cell(from.short_number()?));
     }
@@ -16,12 +16,12 @@ fn take_var(from: &mut Cursor<'_>) -> Result<Var, Trouble> {
     let number = from.short_number()?;
     match u8::try_from(number) {
         Ok(number) => Ok(Var::Phi(number)),
-        Err(_) => Err(Trouble::Shape),
+        Err(_) => Err(DecodeError::Shape),
     }
 }
 
 impl<S> Take<S> for Term {
-    fn take(_alloc: Global, _scope: &S, from: &mut Cursor<'_>) -> Result<Term, Trouble> {
+    fn take(_alloc: Global, _scope: &S, from: &mut Cursor<'_>) -> Result<Term, DecodeError> {
         from.word(b"[")?;
         let var = take_var(from)?;
         from.word(b",")?;
@@ -32,7 +32,7 @@ impl<S> Take<S> for Term {
 }
 
 /// Takes 1 for an equation, 0 for an inequality.
-fn take_equal(from: &mut Cursor<'_>) -> Result<bool, Trouble> {
+fn take_equal(from: &mut Cursor<'_>) -> Result<bool, DecodeError> {
     if from.has(b'1') {
         return Ok(true);
     }
@@ -41,7 +41,7 @@ fn take_equal(from: &mut Cursor<'_>) -> Result<bool, Trouble> {
 }
 
 impl<S> Take<S> for Row {
-    fn take(alloc: Global, scope: &S, from: &mut Cursor<'_>) -> Result<Row, Trouble> {
+    fn take(alloc: Global, scope: &S, from: &mut Cursor<'_>) -> Result<Row, DecodeError> {
         from.word(b"[")?;
         let equal = take_equal(from)?;
         from.word(b",")?;
@@ -58,7 +58,7 @@ impl<S> Take<S> for Row {
 }
 
 impl<S> Take<S> for System {
-    fn take(alloc: Global, scope: &S, from: &mut Cursor<'_>) -> Result<System, Trouble> {
+    fn take(alloc: Global, scope: &S, from: &mut Cursor<'_>) -> Result<System, DecodeError> {
         from.word(b"{\"rows\":")?;
         let rows: Rows = take_list(alloc, scope, from)?;
         from.word(b",\"weak\":")?;

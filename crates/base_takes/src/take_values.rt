@@ -1,13 +1,12 @@
 //! Results out of compact JSON.
 use crate::{Cursor, Take, take_list};
 use affine_systems::System;
-use base_json::Trouble;
+use base_json::DecodeError;
 use base_values::StoredValue;
-use f77_ast::{Symbols, Unit, Variable};
-use f77_results::{At, EffectSet, Results};
+use f77_ast::{At, EffectSet, Mark, Results, Symbols, Unit, Variable};
 use fx_lists::List;
 use pipsmake_rules::Kind;
-use region_sets::{Access, Mark, Region, RegionSet};
+use region_sets::{Access, Region, RegionSet};
 use std::alloc::{AllocError as Memory, Global};
 use transformer_algebra::Transformer;
 
@@ -15,7 +14,11 @@ use transformer_algebra::Transformer;
 const SUMMARY: &[u8] = b",\"summary\":";
 
 impl Take<Symbols> for EffectSet {
-    fn take(alloc: Global, scope: &Symbols, from: &mut Cursor<'_>) -> Result<EffectSet, Trouble> {
+    fn take(
+        alloc: Global,
+        scope: &Symbols,
+        from: &mut Cursor<'_>,
+    ) -> Result<EffectSet, DecodeError> {
         from.word(b"{\"io\":")?;
         let io = from.flag()?;
         from.word(b",\"reads\":")?;
@@ -35,7 +38,11 @@ impl Take<Symbols> for EffectSet {
 }
 
 impl Take<Symbols> for Transformer {
-    fn take(alloc: Global, scope: &Symbols, from: &mut Cursor<'_>) -> Result<Transformer, Trouble> {
+    fn take(
+        alloc: Global,
+        scope: &Symbols,
+        from: &mut Cursor<'_>,
+    ) -> Result<Transformer, DecodeError> {
         from.word(b"{\"cells\":")?;
         let cells: List<u32> = take_list(alloc, scope, from)?;
         from.word(b",\"foreign\":")?;
@@ -52,7 +59,7 @@ impl Take<Symbols> for Transformer {
 }
 
 /// Takes a kind of region.
-fn take_access(from: &mut Cursor<'_>) -> Result<Access, Trouble> {
+fn take_access(from: &mut Cursor<'_>) -> Result<Access, DecodeError> {
     if from.has_word(b"\"READ\"") {
         return Ok(Access::Read);
     }
@@ -74,7 +81,7 @@ fn one_piece(alloc: Global, piece: System) -> Result<List<System>, Memory> {
 }
 
 impl Take<Symbols> for Region {
-    fn take(alloc: Global, scope: &Symbols, from: &mut Cursor<'_>) -> Result<Region, Trouble> {
+    fn take(alloc: Global, scope: &Symbols, from: &mut Cursor<'_>) -> Result<Region, DecodeError> {
         from.word(b"{\"exact\":")?;
         let exact = from.flag()?;
         from.word(b",\"kind\":")?;
@@ -94,13 +101,17 @@ impl Take<Symbols> for Region {
 }
 
 impl Take<Symbols> for RegionSet {
-    fn take(alloc: Global, scope: &Symbols, from: &mut Cursor<'_>) -> Result<RegionSet, Trouble> {
+    fn take(
+        alloc: Global,
+        scope: &Symbols,
+        from: &mut Cursor<'_>,
+    ) -> Result<RegionSet, DecodeError> {
         take_list(alloc, scope, from)
     }
 }
 
 impl<T: Take<Symbols>> Take<Symbols> for At<T> {
-    fn take(alloc: Global, scope: &Symbols, from: &mut Cursor<'_>) -> Result<At<T>, Trouble> {
+    fn take(alloc: Global, scope: &Symbols, from: &mut Cursor<'_>) -> Result<At<T>, DecodeError> {
         from.word(b"[")?;
         let id = from.short_number()?;
         from.word(b",")?;
@@ -116,7 +127,7 @@ fn take_results<T: Take<Symbols>>(
     symbols: &Symbols,
     key: &[u8],
     from: &mut Cursor<'_>,
-) -> Result<Results<T>, Trouble> {
+) -> Result<Results<T>, DecodeError> {
     from.word(b"{\"at\":")?;
     let at: List<At<T>> = take_list(alloc, symbols, from)?;
     from.word(key)?;
@@ -130,7 +141,7 @@ fn take_regions(
     alloc: Global,
     symbols: &Symbols,
     from: &mut Cursor<'_>,
-) -> Result<Results<RegionSet>, Trouble> {
+) -> Result<Results<RegionSet>, DecodeError> {
     take_results(alloc, symbols, SUMMARY, from)
 }
 
@@ -141,7 +152,7 @@ pub fn take_stored(
     symbols: &Symbols,
     kind: Kind,
     from: &mut Cursor<'_>,
-) -> Result<StoredValue, Trouble> {
+) -> Result<StoredValue, DecodeError> {
     match kind {
         Kind::Effects => {
             let taken: Results<EffectSet> = take_results(alloc, symbols, SUMMARY, from)?;
@@ -163,7 +174,7 @@ pub fn take_stored(
             Ok(StoredValue::Marks(taken))
         }
         Kind::Parsed | Kind::Lines | Kind::Symbols | Kind::CallGraph | Kind::Printed => {
-            Err(Trouble::Shape)
+            Err(DecodeError::Shape)
         }
     }
 }

@@ -4,7 +4,7 @@ use Rattle.std.specs.Prelude.{unwrap_or, slice_get}
 use Rattle.f77_ast.specs.Symbols.{number_from}
 use Rattle.base_json.specs.Shapes.{list_as, when, text_of}
 use Rattle.base_json.specs.Written.{list_data, text_data}
-use Rattle.base_rows.specs.Distinct.{are_new}
+use Rattle.base_json.specs.Distinct.{are_new}
 use Rattle.base_values.specs.Modules.{ModuleNames}
 use Rattle.base_values.specs.Naming.{Each, AreBytes}
 use Rattle.base_values.specs.Read.{stored_of}
@@ -25,8 +25,8 @@ use Rattle.base_text.specs.Read.{base_module, module_of, stored_result, result_i
 use Rattle.base_text.specs.Written.{no_names, names_for, known_or_none, module_data, result_data, data_with, base_data}
 use Rattle.base_text.specs.Grammar.{HasBytes, ResultFits, IsBase}
 use Rattle.base_text.specs.Laws.{WrittenIsRead}
-use Rattle.base_text.proofs.NamedKinds.{named_back}
 use Rattle.base_text.proofs.KnownLaws.{known_same, found_names, found_bytes}
+use Rattle.session_texts.proofs.PipsmakeRules.Shared.{named_back}
 
 -- ---- modules
 

@@ -5,9 +5,9 @@ use Rattle.std.specs.Str.{chars}
 use Rattle.std.proofs.lemmas.Bool.Decides.{Decides-ltb}
 use Rattle.serde_json.specs.Data.{Data}
 use Rattle.serde_json.specs.Find.{as_str}
-use Rattle.pipsmake_rules.specs.declared.kind.Kind.{Kind}
+use Rattle.session_texts.specs.pipsmake_rules.declared.kind.Kind.{Kind}
 use Rattle.base_json.specs.Shapes.{has_members, member_as, list_as, when, is_latin, latin, text_of}
-use Rattle.base_rows.specs.Distinct.{are_new}
+use Rattle.base_json.specs.Distinct.{are_new}
 use Rattle.base_values.specs.Modules.{ModuleNames}
 use Rattle.base_values.specs.Naming.{Each, AreBytes}
 use Rattle.base_values.specs.Read.{stored_of}

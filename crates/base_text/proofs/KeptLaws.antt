@@ -10,12 +10,10 @@ use Rattle.base_text.specs.declared.base.StoredResult.{StoredResult}
 use Rattle.base_text.specs.Read.{base, base_of}
 use Rattle.base_text.specs.Written.{base_text, without_results, kept_base, kept}
 use Rattle.base_text.specs.Grammar.{IsBase}
+use Rattle.session_texts.proofs.ScriptLemmas.{too_few as above}
 
 at_most : (n m : ℕ) → n ≤ m → nat_le n m ≡ true
 at_most n m h = (Decides-leb n m).1 h
-
-above : (n m : ℕ) → m < n → nat_le n m ≡ false
-above n m h = false_from_ne_true (nat_le n m) (λ e. let k : n ≤ m = (Decides-leb n m).0 e in omega arith)
 
 pub whole_kept : (b : Base) (limit : ℕ) → length (base_text b) ≤ limit → kept_base b limit ≡ b
 whole_kept b limit h = if_true (nat_le (length (base_text b)) limit) b (without_results b) (at_most (length (base_text b)) limit h)

@@ -12,13 +12,9 @@ use Rattle.base_text.specs.Modules.{known, names_at, names_of, names_each, modul
 use Rattle.base_text.specs.Written.{no_names, names_or_none, known_or_none}
 use Rattle.base_text.specs.Grammar.{HasBytes}
 use Rattle.base_text.proofs.Names.{module_has_names}
+use Rattle.fx_lists.proofs.Lists.{slice_get-map as get_mapped}
 
 -- ---- lists
-
-pub get_mapped : {A B : Type 0} (f : A → B) (xs : List A) (i : ℕ) → slice_get (map f xs) i ≡ option_map f (slice_get xs i)
-get_mapped f [] i = refl
-get_mapped f (x ∷ xs) zero = refl
-get_mapped f (x ∷ xs) (suc i) = get_mapped f xs i
 
 pub each_got : {A : Type 0} (P : A → Type 0) (xs : List A) (i : ℕ) (x : A) → Each P xs → slice_get xs i ≡ Some x → P x
 each_got P [] i x h e = cc

@@ -13,19 +13,20 @@ use Rattle.f77_ast.specs.declared.symbol.Symbol.{Symbol}
 use Rattle.f77_ast.specs.Symbols.{SymbolTree, symbol_tree}
 use Rattle.f77_ast.specs.Index.{names_of as own_names}
 use Rattle.f77_meaning.specs.Modules.{symbol_names}
-use Rattle.refusal_codes.specs.declared.refusal.Refusal.{Refusal}
+use Rattle.fx_lists.specs.declared.refusal.Refusal.{Refusal}
 use Rattle.storage_layout.specs.Gives.{IsRefusal}
 use Rattle.storage_layout.specs.Symbols.{symbols_of}
-use Rattle.laws_database.specs.Texts.{modules_of, with_table, one_module, module_read}
-use Rattle.base_json.proofs.Lists.{after, drop_step}
+use Rattle.session_texts.specs.pipsmake_meaning.Texts.{modules_of, with_table, one_module, module_read}
+use Rattle.base_json.proofs.Lists.{after, drop_step, after_one}
 use Rattle.base_text.specs.declared.base.BaseModule.{BaseModule}
 use Rattle.base_values.specs.Modules.{ModuleNames}
 use Rattle.base_values.specs.declared.names.Numbers.{Numbers}
 use Rattle.base_values.specs.Modules.{loops_in}
-use Rattle.base_values.proofs.Options.{Decides-leb, and_from}
+use Rattle.base_values.proofs.Options.{Decides-leb}
 use Rattle.base_values.proofs.RowsBack.{if_true, when_true}
 use Rattle.base_text.specs.declared.modules.Table.{Table}
 use Rattle.base_text.specs.Modules.{names_read, names_if, names_of, names_each, table_names, tree_in}
+use Rattle.fx_lists.proofs.Booleans.{and_from}
 
 -- ---- one module
 
@@ -90,10 +91,6 @@ table_back x p ss n e same few st lo =
     ∙ ap (λ ls. Some (module_of (own_names ss) n.statements ls)) (sym lo))))
 
 -- ---- one module after another
-
-after_one : {T : Type 0} (xs : List T) (x : T) (o : Option (List T)) → after (xs ++ x ∷ []) o ≡ after xs (option_map (λ ys. x ∷ ys) o)
-after_one xs x None = refl
-after_one xs x (Some ys) = ap Some (append_assoc xs (x ∷ []) ys)
 
 pub names_more : (xs : List ModuleNames) (m : BaseModule) (ms : List BaseModule) (n : ModuleNames) → names_of m ≡ Some n → after (xs ++ n ∷ []) (names_each ms) ≡ after xs (names_each (m ∷ ms))
 names_more xs m ms n e =

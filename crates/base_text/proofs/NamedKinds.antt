@@ -3,24 +3,10 @@ use Rattle.std.proofs.Common.{◌≡◌, ℕ, false, List, [], ◌∷◌, Option
 use Rattle.std.specs.Prelude.{◌≢◌, bytes_eq, find, IfSome, IfNone}
 use Rattle.std.proofs.lemmas.Bool.{false_from_ne_true}
 use Rattle.std.proofs.lemmas.Slice.Eq.{bytes_eq-Decides}
-use Rattle.pipsmake_rules.specs.declared.kind.Kind.{Kind}
-use Rattle.pipsmake_rules.specs.declared.kind.Kind.TheVariants.{Parsed, Lines, Symbols, CallGraph, Effects, Transformers, Preconditions, Regions, InRegions, OutRegions, Marks, Printed}
-use Rattle.pipsmake_rules.specs.Kinds.{name_of, kinds, kind_with}
-
--- a kind has its name alone
-pub named_back : (k : Kind) → kind_with (name_of k) ≡ Some k
-named_back Parsed = refl
-named_back Lines = refl
-named_back Symbols = refl
-named_back CallGraph = refl
-named_back Effects = refl
-named_back Transformers = refl
-named_back Preconditions = refl
-named_back Regions = refl
-named_back InRegions = refl
-named_back OutRegions = refl
-named_back Marks = refl
-named_back Printed = refl
+use Rattle.session_texts.specs.pipsmake_rules.declared.kind.Kind.{Kind}
+use Rattle.session_texts.specs.pipsmake_rules.declared.kind.Kind.TheVariants.{Parsed, Lines, Symbols, CallGraph, Effects, Transformers, Preconditions, Regions, InRegions, OutRegions, Marks, Printed}
+use Rattle.session_texts.specs.pipsmake_rules.Kinds.{name_of, kinds, kind_with}
+use Rattle.session_texts.proofs.PipsmakeRules.Shared.{named_back}
 
 none_found : (x : List ℕ) → ((k : Kind) → name_of k ≢ x) → (ks : List Kind) → find (λ k. bytes_eq (name_of k) x) ks ≡ None
 none_found x h [] = refl

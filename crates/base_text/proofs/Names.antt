@@ -12,20 +12,23 @@ use Rattle.f77_parser.specs.Gives.{Refused, and_then}
 use Rattle.f77_parser.specs.Modules.{parse_of}
 use Rattle.f77_ast.specs.Symbols.{SymbolTree, number_from}
 use Rattle.f77_meaning.specs.Modules.{symbol_names}
-use Rattle.refusal_codes.specs.declared.refusal.Refusal.{Refusal}
+use Rattle.fx_lists.specs.declared.refusal.Refusal.{Refusal}
 use Rattle.storage_layout.specs.Symbols.{symbols_of}
-use Rattle.roundtrip_systems.specs.Printed.{is_name as is_word}
-use Rattle.laws_database.specs.Texts.{ReadModule, lines_or, with_table, one_module, module_read}
+use Rattle.system_text.specs.Printed.{is_name as is_word}
+use Rattle.session_texts.specs.pipsmake_meaning.Texts.{ReadModule, lines_or, with_table, one_module, module_read}
 use Rattle.laws_lines.proofs.NameWords.{names_are_words}
 use Rattle.laws_lines.proofs.TableNames.{names_are_distinct}
-use Rattle.base_rows.specs.Scopes.{is_name}
-use Rattle.base_rows.specs.Distinct.{are_new}
+use Rattle.base_json.specs.Scopes.{is_name}
+use Rattle.base_json.specs.Distinct.{are_new}
 use Rattle.base_values.specs.Modules.{ModuleNames}
 use Rattle.base_values.specs.Naming.{Each, AreNames}
-use Rattle.base_values.proofs.Options.{and_then_some, if_some, when_some, and_parts, and_from, each_all}
+use Rattle.base_values.proofs.Options.{and_then_some, if_some, when_some, each_all}
 use Rattle.base_values.proofs.RowsBack.{if_false}
 use Rattle.base_text.specs.declared.base.BaseModule.{BaseModule}
 use Rattle.base_text.specs.Modules.{names_read, names_if, names_of}
+use Rattle.fx_lists.proofs.Texts.{apart_back}
+use Rattle.fx_lists.proofs.Booleans.{and_parts, and_from}
+use Rattle.f77_meaning.proofs.SymbolNames.{few_names}
 
 -- ---- how a module is read
 
@@ -66,7 +69,7 @@ words_are (x ∷ xs) h = (sym (same_word x) ∙ h.0, words_are xs h.1)
 
 -- ---- and comes once
 
-none_more : (n : ℕ) (before : List (List ℕ)) (k j : List ℕ) → bytes_eq j k ≡ false → number_from n before j ≡ None → number_from n (before ++ k ∷ []) j ≡ None
+pub none_more : (n : ℕ) (before : List (List ℕ)) (k j : List ℕ) → bytes_eq j k ≡ false → number_from n before j ≡ None → number_from n (before ++ k ∷ []) j ≡ None
 none_more n [] k j f e = if_false (bytes_eq j k) (Some n) None f
 none_more n (y ∷ ys) k j f e = go (bytes_eq j y) e (none_more (suc n) ys k j f)
   where
@@ -74,10 +77,6 @@ none_more n (y ∷ ys) k j f e = go (bytes_eq j y) e (none_more (suc n) ys k j f
         → (if b then Some n else number_from (suc n) (ys ++ k ∷ []) j) ≡ None
     go true g ih = cc
     go false g ih = ih g
-
-apart_back : (k j : List ℕ) → bytes_eq k j ≡ false → bytes_eq j k ≡ false
-apart_back k j f =
-    false_from_ne_true (bytes_eq j k) (λ h. let same : j ≡ k = (bytes_eq-Decides j k).0 h in absurd (false≢true (sym f ∙ (bytes_eq-Decides k j).1 (sym same))))
 
 none_later : (before : List (List ℕ)) (k : List ℕ) (ks : List (List ℕ)) → AllByRecursion (λ y. bytes_eq k y ≡ false) ks → Each (λ j. number_from 1 before j ≡ None) ks
     → Each (λ j. number_from 1 (before ++ k ∷ []) j ≡ None) ks
@@ -98,13 +97,6 @@ none_before (k ∷ ks) = (refl, none_before ks)
 
 below : (n m : ℕ) → nat_lt n m ≡ true → n < m
 below n m e = (Decides-ltb n m).0 e
-
-few_names : (ss : List SymbolTree) → length ss < 2 ^ 32 → length (symbol_names ss) < 2 ^ 32
-few_names ss h = omega (arith, count ss)
-  where
-    count : (ts : List SymbolTree) → length (symbol_names ts) ≡ length ts
-    count [] = refl
-    count (t ∷ ts) = ap suc (count ts)
 
 read_names : (r : ReadModule) → ReadWell r → length r.table < 2 ^ 32 → AreNames (names_read r).names
 read_names r w few = record {

@@ -1,6 +1,6 @@
 -- A base that passes the tests is in the grammar.
 use Rattle.std.proofs.Common.{◌≡◌, ℕ, ◌-◌, ◌<◌, ◌≤◌, true, List, [], ◌∷◌, length, take, drop, get_or, take_all, Some, option_map, sym, subst, ◌∙◌, arith}
-use Rattle.base_rows.specs.Distinct.{are_new}
+use Rattle.base_json.specs.Distinct.{are_new}
 use Rattle.base_values.specs.Naming.{Each}
 use Rattle.base_values.proofs.Options.{if_some, map_some}
 use Rattle.base_text.specs.declared.base.BaseModule.{BaseModule}

@@ -5,7 +5,7 @@ use Rattle.serde_json.specs.Data.{string}
 use Rattle.serde_json.specs.Read.{read}
 use Rattle.serde_json.specs.Written.{compact_text}
 use Rattle.f77_ast.specs.Symbols.{number_from}
-use Rattle.pipsmake_rules.specs.Kinds.{name_of}
+use Rattle.session_texts.specs.pipsmake_rules.Kinds.{name_of}
 use Rattle.base_json.specs.Written.{list_data}
 use Rattle.base_json.proofs.Back.{IsBack, word_back, number_back, no_members_back, member_back, object_back, read_back}
 use Rattle.base_values.specs.declared.stored.StoredValue.{StoredValue}
@@ -24,10 +24,10 @@ use Rattle.base_text.specs.Modules.{known, names_each, module_names_in}
 use Rattle.base_text.specs.Read.{base, data_of, base_in, base_of}
 use Rattle.base_text.specs.Written.{no_names, module_data, result_data, data_with, base_data}
 use Rattle.base_text.specs.Grammar.{HasBytes, ResultFits, IsBase}
-use Rattle.base_text.proofs.Back.{written_is_read}
 use Rattle.base_text.proofs.KnownLaws.{known_same, found_names, found_bytes}
 use Rattle.base_text.proofs.Sizes.{base_within}
 use Rattle.base_text.proofs.Texts.{data_some}
+use Rattle.base_text.proofs.Back.{written_is_read}
 
 module_is_back : (m : BaseModule) → HasBytes m → IsBack (module_data m)
 module_is_back m h = object_back (member_back refl (text_is_back m.name h.0) (member_back refl (text_is_back m.text h.1) no_members_back))

@@ -1,6 +1,6 @@
 -- When a base is in the grammar.
 use Rattle.std.specs.Prelude.{◌≡◌, true, List, [], Some}
-use Rattle.base_rows.specs.Distinct.{are_new}
+use Rattle.base_json.specs.Distinct.{are_new}
 use Rattle.base_values.specs.Modules.{ModuleNames}
 use Rattle.base_values.specs.Naming.{Each, AreBytes}
 use Rattle.base_values.specs.Fits.{StoredFits}

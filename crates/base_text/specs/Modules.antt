@@ -5,9 +5,9 @@ use Rattle.f77_parser.specs.Gives.{Refused}
 use Rattle.f77_ast.specs.Symbols.{number_from}
 use Rattle.f77_ast.specs.Index.{names_of as own_names}
 use Rattle.f77_meaning.specs.Modules.{symbol_names}
-use Rattle.laws_database.specs.Texts.{ReadModule, module_read}
+use Rattle.session_texts.specs.pipsmake_meaning.Texts.{ReadModule, module_read}
 use Rattle.base_json.specs.Shapes.{when}
-use Rattle.base_rows.specs.Distinct.{are_new}
+use Rattle.base_json.specs.Distinct.{are_new}
 use Rattle.base_values.specs.Modules.{ModuleNames, module_names}
 use Rattle.base_text.specs.declared.base.BaseModule.{BaseModule}
 use Rattle.base_text.specs.declared.known.Known.{Known}

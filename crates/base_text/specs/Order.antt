@@ -1,7 +1,7 @@
 -- The order of the results of a base: by their modules, then by their kinds.
 use Rattle.std.specs.Prelude.{ℕ, Bool, true, ◌&&◌, ◌||◌, nat_lt, nat_eq, List, [], ◌∷◌, length, unwrap_or}
 use Rattle.f77_ast.specs.Symbols.{number_from}
-use Rattle.pipsmake_rules.specs.Kinds.{number_of}
+use Rattle.session_texts.specs.pipsmake_rules.Kinds.{number_of}
 use Rattle.base_values.specs.Sizes.{kind_of}
 use Rattle.base_text.specs.declared.base.StoredResult.{StoredResult}
 

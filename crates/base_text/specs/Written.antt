@@ -2,7 +2,7 @@
 use Rattle.std.specs.Prelude.{ℕ, if◌then◌else◌, nat_le, List, [], map, length, Option, unwrap_or, codes}
 use Rattle.serde_json.specs.Data.{Data, string, object, no_members, member}
 use Rattle.serde_json.specs.Written.{compact_text}
-use Rattle.pipsmake_rules.specs.Kinds.{name_of}
+use Rattle.session_texts.specs.pipsmake_rules.Kinds.{name_of}
 use Rattle.base_json.specs.Shapes.{when}
 use Rattle.base_json.specs.Written.{list_data, number_data, text_data}
 use Rattle.base_values.specs.Modules.{ModuleNames}

@@ -6,8 +6,7 @@ ghost use Rattle.base_text.specs.Written.{names_or_none, known_or_none};
 
 use crate::BaseModule;
 use crate::modules::{Table, table_of, tables_of};
-use base_json::Trouble;
-use base_rows::are_distinct;
+use base_json::{DecodeError, are_distinct};
 use base_values::Numbers;
 use f77_ast::Symbols;
 use fx_lists::{List, Text};
@@ -38,8 +37,8 @@ fn table_or_none(alloc: Global, module: &BaseModule) -> Result<Table, Memory>
 {
     match table_of(alloc, module) {
         Ok(table) => Ok(table),
-        Err(Trouble::Memory) => Err(Memory),
-        Err(Trouble::Shape) => Ok(Table {
+        Err(DecodeError::Memory) => Err(Memory),
+        Err(DecodeError::Shape) => Ok(Table {
             symbols: Symbols::new(alloc),
             numbers: Numbers {
                 statements: List::new(alloc),
@@ -61,12 +60,12 @@ fn tables_or_none(alloc: Global, modules: &[BaseModule]) -> Result<List<Table>, 
 
 impl Known {
     /// Those of a base that is read. Err(Shape) where a name comes twice, or a text is not the one module of its name.
-    pub fn read(alloc: Global, modules: &[BaseModule]) -> Result<Known, Trouble>
+    pub fn read(alloc: Global, modules: &[BaseModule]) -> Result<Known, DecodeError>
         ensures { GivesAs known_names result (known_in modules.now) }
     {
         let names = names_in(alloc, modules)?;
         if !are_distinct(alloc, names.names())? {
-            return Err(Trouble::Shape);
+            return Err(DecodeError::Shape);
         }
         let tables = tables_of(alloc, modules)?;
         Ok(Known { names, tables })

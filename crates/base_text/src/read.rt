@@ -9,7 +9,7 @@ use crate::known::Known;
 use crate::results::results_at;
 use crate::taken::base_taken;
 use crate::{Base, BaseModule, BaseRefusal, StoredResult};
-use base_json::{Trouble, has_members, list_field, member, whole_at};
+use base_json::{DecodeError, has_members, list_field, member, whole_at};
 use base_values::is_small_value;
 use fx_lists::{List, Text};
 use serde_json::Value;
@@ -44,23 +44,23 @@ fn is_another_version(value: &Value) -> bool
 }
 
 /// A base with these modules.
-fn base_with(alloc: Global, value: &Value, modules: List<BaseModule>) -> Result<Base, Trouble>
+fn base_with(alloc: Global, value: &Value, modules: List<BaseModule>) -> Result<Base, DecodeError>
     ensures { Gives result (base_with_is (view value.now) modules) }
 {
     let known = Known::read(alloc, modules.as_slice())?;
     let Some(found) = member(value, "results") else {
-        return Err(Trouble::Shape);
+        return Err(DecodeError::Shape);
     };
     let results = results_at(alloc, &known, found)?;
     Ok(Base { modules, results })
 }
 
 /// A base of version 1.
-fn base_at(alloc: Global, value: &Value) -> Result<Base, Trouble>
+fn base_at(alloc: Global, value: &Value) -> Result<Base, DecodeError>
     ensures { Gives result (base_at_is (view value.now)) }
 {
     if !(has_members(value, 3) && is_first_version(value)) {
-        return Err(Trouble::Shape);
+        return Err(DecodeError::Shape);
     }
     let modules: List<BaseModule> = list_field(alloc, &(), value, "modules")?;
     base_with(alloc, value, modules)
@@ -80,15 +80,15 @@ fn are_small(results: &[StoredResult]) -> bool
 }
 
 /// The JSON value of a text. Err(Shape) where it is no JSON.
-fn value_of(alloc: Global, text: &Text) -> Result<Value, Trouble>
+fn value_of(alloc: Global, text: &Text) -> Result<Value, DecodeError>
     ensures { GivesAs view result (data_of text.now) }
 {
     match Value::from_slice(alloc, text.as_slice()) {
         Ok(value) => Ok(value),
         Err(error) => if error.is_memory() {
-            Err(Trouble::Memory)
+            Err(DecodeError::Memory)
         } else {
-            Err(Trouble::Shape)
+            Err(DecodeError::Shape)
         },
     }
 }
@@ -115,8 +115,8 @@ fn base_decoded(alloc: Global, text: &Text) -> Result<Base, BaseRefusal>
 {
     match value_of(alloc, text) {
         Ok(value) => base_in(alloc, &value),
-        Err(Trouble::Shape) => Err(BaseRefusal::NotJson),
-        Err(Trouble::Memory) => Err(BaseRefusal::Memory),
+        Err(DecodeError::Shape) => Err(BaseRefusal::NotJson),
+        Err(DecodeError::Memory) => Err(BaseRefusal::Memory),
     }
 }
 
@@ -127,7 +127,7 @@ pub fn base_read(alloc: Global, text: &Text) -> Result<Base, BaseRefusal>
 {
     match base_taken(alloc, text) {
         Ok(base) => Ok(base),
-        Err(Trouble::Shape) => base_decoded(alloc, text),
-        Err(Trouble::Memory) => Err(BaseRefusal::Memory),
+        Err(DecodeError::Shape) => base_decoded(alloc, text),
+        Err(DecodeError::Memory) => Err(BaseRefusal::Memory),
     }
 }

@@ -3,7 +3,7 @@ ghost use Rattle.std.specs.Prelude.{◌≡◌};
 ghost use Rattle.base_text.specs.declared.refusal.BaseRefusal.TheVariants.{Memory};
 ghost use Rattle.base_text.specs.Gives.{number_of, refusal_of};
 
-use base_json::Trouble;
+use base_json::DecodeError;
 use std::alloc::{AllocError, AllocFailed};
 use thiserror::Error;
 
@@ -42,13 +42,13 @@ impl BaseRefusal {
     }
 }
 
-impl From<Trouble> for BaseRefusal {
+impl From<DecodeError> for BaseRefusal {
     ghost from_gives = { λ t e. e ≡ refusal_of t };
 
-    fn from(trouble: Trouble) -> BaseRefusal {
-        match trouble {
-            Trouble::Shape => BaseRefusal::WrongShape,
-            Trouble::Memory => BaseRefusal::Memory,
+    fn from(decode_error: DecodeError) -> BaseRefusal {
+        match decode_error {
+            DecodeError::Shape => BaseRefusal::WrongShape,
+            DecodeError::Memory => BaseRefusal::Memory,
         }
     }
 }

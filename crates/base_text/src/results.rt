@@ -11,19 +11,19 @@ use crate::known::Known;
 use crate::modules::Table;
 use crate::order::are_in_order;
 use crate::{BaseModule, StoredResult};
-use base_json::{Decode, Trouble, has_members, list_at, member, text_at, word};
+use base_json::{Decode, DecodeError, has_members, list_at, member, text_at, word};
 use base_values::{Names, StoredValue, stored_at};
 use fx_lists::{List, Text};
-use pipsmake_rules::Kind;
 use serde_json::Value;
+use session_texts::pipsmake_rules::Kind;
 use std::alloc::Global;
 
 /// The text under a key.
-fn text_under(alloc: Global, value: &Value, key: &str) -> Result<Text, Trouble>
+fn text_under(alloc: Global, value: &Value, key: &str) -> Result<Text, DecodeError>
     ensures { Gives result (member_as text_of key.now (view value.now)) }
 {
     match member(value, key) {
-        None => Err(Trouble::Shape),
+        None => Err(DecodeError::Shape),
         Some(found) => text_at(alloc, found),
     }
 }
@@ -31,9 +31,9 @@ fn text_under(alloc: Global, value: &Value, key: &str) -> Result<Text, Trouble>
 impl Decode<()> for BaseModule {
     ghost read_as = { λ _. module_of };
 
-    fn decode(alloc: Global, _scope: &(), value: &Value) -> Result<BaseModule, Trouble> {
+    fn decode(alloc: Global, _scope: &(), value: &Value) -> Result<BaseModule, DecodeError> {
         if !has_members(value, 2) {
-            return Err(Trouble::Shape);
+            return Err(DecodeError::Shape);
         }
         let name = text_under(alloc, value, "name")?;
         let text = text_under(alloc, value, "text")?;
@@ -67,7 +67,7 @@ fn value_under(
     table: &Table,
     kind: Kind,
     value: &Value,
-) -> Result<StoredValue, Trouble>
+) -> Result<StoredValue, DecodeError>
     ensures { Gives result (member_as (stored_of (table_names table.now) kind) (codes "value") (view value.now)) }
 {
     let names = Names {
@@ -75,7 +75,7 @@ fn value_under(
         numbers: &table.numbers,
     };
     match member(value, "value") {
-        None => Err(Trouble::Shape),
+        None => Err(DecodeError::Shape),
         Some(found) => stored_at(alloc, &names, kind, found),
     }
 }
@@ -87,11 +87,11 @@ fn result_in(
     kind: Kind,
     name: Text,
     value: &Value,
-) -> Result<StoredResult, Trouble>
+) -> Result<StoredResult, DecodeError>
     ensures { Gives result (result_in_is (known_names known.now) kind name (view value.now)) }
 {
     let Some(table) = known.table(&name) else {
-        return Err(Trouble::Shape);
+        return Err(DecodeError::Shape);
     };
     let value = value_under(alloc, table, kind, value)?;
     Ok(StoredResult { name, value })
@@ -100,12 +100,12 @@ fn result_in(
 impl Decode<Known> for StoredResult {
     ghost read_as = { λ k. result_of (known_names k) };
 
-    fn decode(alloc: Global, scope: &Known, value: &Value) -> Result<StoredResult, Trouble> {
+    fn decode(alloc: Global, scope: &Known, value: &Value) -> Result<StoredResult, DecodeError> {
         if !has_members(value, 3) {
-            return Err(Trouble::Shape);
+            return Err(DecodeError::Shape);
         }
         let Some(kind) = kind_under(value) else {
-            return Err(Trouble::Shape);
+            return Err(DecodeError::Shape);
         };
         let name = text_under(alloc, value, "name")?;
         result_in(alloc, scope, kind, name, value)
@@ -117,13 +117,13 @@ pub fn results_at(
     alloc: Global,
     known: &Known,
     value: &Value,
-) -> Result<List<StoredResult>, Trouble>
+) -> Result<List<StoredResult>, DecodeError>
     ensures { Gives result (results_of (known_names known.now) (view value.now)) }
 {
     let results: List<StoredResult> = list_at(alloc, known, value)?;
     if are_in_order(&known.names, results.as_slice()) {
         Ok(results)
     } else {
-        Err(Trouble::Shape)
+        Err(DecodeError::Shape)
     }
 }

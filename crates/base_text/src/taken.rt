@@ -11,15 +11,15 @@ use crate::modules::Table;
 use crate::order::are_in_order;
 use crate::write::text_with;
 use crate::{Base, BaseModule, StoredResult};
-use base_json::Trouble;
+use base_json::DecodeError;
 use base_takes::{Check, Cursor, Take, check_list, stored_fits, take_list, take_stored};
 use base_values::{Names, StoredValue};
 use fx_lists::{List, Text};
-use pipsmake_rules::Kind;
+use session_texts::pipsmake_rules::Kind;
 use std::alloc::{AllocError as Memory, Global};
 
 impl Take<()> for BaseModule {
-    fn take(alloc: Global, _scope: &(), from: &mut Cursor<'_>) -> Result<BaseModule, Trouble> {
+    fn take(alloc: Global, _scope: &(), from: &mut Cursor<'_>) -> Result<BaseModule, DecodeError> {
         from.word(b"{\"name\":")?;
         let name = from.text(alloc)?;
         from.word(b",\"text\":")?;
@@ -30,23 +30,27 @@ impl Take<()> for BaseModule {
 }
 
 /// Takes the kind of a result.
-fn take_kind(alloc: Global, from: &mut Cursor<'_>) -> Result<Kind, Trouble> {
+fn take_kind(alloc: Global, from: &mut Cursor<'_>) -> Result<Kind, DecodeError> {
     let word = from.name(alloc)?;
     match Kind::with_name(word.as_slice()) {
-        None => Err(Trouble::Shape),
+        None => Err(DecodeError::Shape),
         Some(kind) => Ok(kind),
     }
 }
 
 impl Take<Known> for StoredResult {
-    fn take(alloc: Global, scope: &Known, from: &mut Cursor<'_>) -> Result<StoredResult, Trouble> {
+    fn take(
+        alloc: Global,
+        scope: &Known,
+        from: &mut Cursor<'_>,
+    ) -> Result<StoredResult, DecodeError> {
         from.word(b"{\"kind\":")?;
         let kind = take_kind(alloc, from)?;
         from.word(b",\"name\":")?;
         let name = from.name(alloc)?;
         from.word(b",\"value\":")?;
         let Some(table) = scope.table(&name) else {
-            return Err(Trouble::Shape);
+            return Err(DecodeError::Shape);
         };
         let value = take_stored(alloc, &table.symbols, kind, from)?;
         from.word(b"}")?;
@@ -55,7 +59,7 @@ impl Take<Known> for StoredResult {
 }
 
 /// Takes the front of a base and its modules.
-fn take_modules(alloc: Global, from: &mut Cursor<'_>) -> Result<List<BaseModule>, Trouble> {
+fn take_modules(alloc: Global, from: &mut Cursor<'_>) -> Result<List<BaseModule>, DecodeError> {
     from.word(b"{\"modules\":")?;
     take_list(alloc, &(), from)
 }
@@ -65,14 +69,14 @@ fn take_results(
     alloc: Global,
     known: &Known,
     from: &mut Cursor<'_>,
-) -> Result<List<StoredResult>, Trouble> {
+) -> Result<List<StoredResult>, DecodeError> {
     from.word(b",\"pips\":1,\"results\":")?;
     let results: List<StoredResult> = take_list(alloc, known, from)?;
     from.word(b"}")?;
     if from.is_at_end() {
         Ok(results)
     } else {
-        Err(Trouble::Shape)
+        Err(DecodeError::Shape)
     }
 }
 
@@ -181,7 +185,7 @@ fn is_text_of(
 }
 
 /// The base of a compact text. Err(Shape) where it is another text, or one that is left to another reader.
-pub fn base_taken(alloc: Global, text: &Text) -> Result<Base, Trouble>
+pub fn base_taken(alloc: Global, text: &Text) -> Result<Base, DecodeError>
     ensures { IfOk result (λ b. base_of text.now ≡ Ok b) }
 {
     let mut from = Cursor::new(text.as_slice());
@@ -191,6 +195,6 @@ pub fn base_taken(alloc: Global, text: &Text) -> Result<Base, Trouble>
     if is_text_of(alloc, &known, &modules, &results, text)? {
         Ok(Base { modules, results })
     } else {
-        Err(Trouble::Shape)
+        Err(DecodeError::Shape)
     }
 }

@@ -2,7 +2,7 @@
 ghost use Rattle.std.specs.Prelude.{◌≡◌, ◌++◌, IfOk, IfSome, Ok, OnOk, codes, map, true};
 ghost use Rattle.serde_json.specs.Data.{member, no_members, string};
 ghost use Rattle.serde_json.specs.Written.{compact_text, members_text};
-ghost use Rattle.pipsmake_rules.specs.Kinds.{name_of};
+ghost use Rattle.session_texts.specs.pipsmake_rules.Kinds.{name_of};
 ghost use Rattle.base_json.specs.Written.{list_data, number_data, text_data};
 ghost use Rattle.base_values.specs.Naming.{Each};
 ghost use Rattle.base_values.specs.Ranges.{NumbersFit};
@@ -18,8 +18,8 @@ use base_json::{Put, put_list, put_number, put_value, text_value};
 use base_values::{kind_of, numbers_fit, put_stored};
 use f77_ast::Symbols;
 use fx_lists::{List, Text};
-use pipsmake_rules::Kind;
 use serde_json::json;
+use session_texts::pipsmake_rules::Kind;
 use std::alloc::{AllocError as Memory, Global};
 
 impl Put<Known> for BaseModule {

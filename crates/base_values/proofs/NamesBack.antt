@@ -17,11 +17,13 @@ use Rattle.f77_ast.specs.Symbols.{number_from}
 use Rattle.system_text.specs.SystemText.{name_at}
 use Rattle.base_json.specs.Shapes.{when, is_latin, latin, text_of}
 use Rattle.base_json.specs.Written.{text_data}
-use Rattle.base_rows.specs.Scopes.{ScopeTree, is_symbol, in_name, is_name, is_short_name, is_block, block_named, block_in, saved_named, saved_at, foreign_variable, own_or, variable_named, variable_of}
-use Rattle.base_rows.specs.Distinct.{are_new}
+use Rattle.base_json.specs.Scopes.{ScopeTree, is_symbol, in_name, is_name, is_short_name, is_block, block_named, block_in, saved_named, saved_at, foreign_variable, own_or, variable_named, variable_of}
+use Rattle.base_json.specs.Distinct.{are_new}
 use Rattle.base_values.specs.Naming.{Each, AreBytes, AreNames, VariableFits}
-use Rattle.base_values.proofs.Options.{Decides-leb, and_then_some, when_some, if_some, and_parts, and_from, each_map, each_all, all_each}
-use Rattle.base_values.proofs.RowsBack.{less, when_true, if_true, if_false, either_some, or_cases}
+use Rattle.base_values.proofs.Options.{Decides-leb, and_then_some, when_some, if_some, each_map, each_all, all_each}
+use Rattle.base_values.proofs.RowsBack.{less, when_true, if_true, if_false, either_some}
+use Rattle.fx_lists.proofs.Texts.{same_name as same_bytes}
+use Rattle.fx_lists.proofs.Booleans.{and_parts, and_from, or_cases}
 
 -- ---- texts
 
@@ -98,9 +100,6 @@ absent n [] x e h = refl
 absent n (y ∷ ys) x e h = if_false (bytes_eq x y) (Some n) (number_from (suc n) ys x) (apart x y e h.0) ∙ absent (suc n) ys x e h.1
 
 -- ---- own variables
-
-same_bytes : (x : List ℕ) → bytes_eq x x ≡ true
-same_bytes x = (bytes_eq-Decides x x).1 refl
 
 found_after : (n : ℕ) (before : List (List ℕ)) (k : List ℕ) (ks : List (List ℕ)) → number_from n before k ≡ None → number_from n (before ++ k ∷ ks) k ≡ Some (n + length before)
 found_after n [] k ks e = if_true (bytes_eq k k) (Some n) (number_from (suc n) ks k) (same_bytes k) ∙ (let z : n ≡ n + 0 = omega arith in ap Some z)

@@ -10,6 +10,7 @@ use Rattle.base_json.specs.Shapes.{list_of, each_as, list_as, when}
 use Rattle.base_json.specs.Written.{list_data}
 use Rattle.base_json.proofs.Parts.{data-items}
 use Rattle.base_values.specs.Naming.{Each}
+use Rattle.fx_lists.proofs.Booleans.{and_from, and_parts}
 
 -- ---- options
 
@@ -53,14 +54,6 @@ when_read P true x y e k = let z : x ≡ y = cc in subst P z (k refl)
 when_read P false x y e k = absurd (none_some e) where
   none_some : None ≡ Some y → ⊥
   none_some q = cc
-
-pub and_parts : (a b : Bool) → (a && b) ≡ true → (a ≡ true) × (b ≡ true)
-and_parts true b e = (refl, e)
-and_parts false b e = cc
-
-pub and_from : (a b : Bool) → a ≡ true → b ≡ true → (a && b) ≡ true
-and_from true b e f = f
-and_from false b e f = cc
 
 -- the test says whether a number is at most another
 pub Decides-leb : (a b : ℕ) → (nat_le a b ≡ true → a ≤ b) × (a ≤ b → nat_le a b ≡ true)

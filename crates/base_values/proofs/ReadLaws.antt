@@ -9,23 +9,23 @@ use Rattle.affine_systems.specs.declared.row.System.{System}
 use Rattle.f77_ast.specs.declared.variable.Unit.{Unit as BlockUnit}
 use Rattle.f77_ast.specs.declared.variable.Variable.{Variable}
 use Rattle.f77_ast.specs.declared.variable.Variable.TheVariants.{Own, Block, Saved}
-use Rattle.f77_results.specs.declared.effect_set.EffectSet.{EffectSet}
-use Rattle.f77_results.specs.declared.results.At.{At}
-use Rattle.f77_results.specs.declared.results.Results.{Results}
+use Rattle.f77_ast.specs.declared.effect_set.EffectSet.{EffectSet}
+use Rattle.f77_ast.specs.declared.results.At.{At}
+use Rattle.f77_ast.specs.declared.results.Results.{Results}
 use Rattle.pipsmake_rules.specs.declared.kind.Kind.{Kind}
 use Rattle.pipsmake_rules.specs.declared.kind.Kind.TheVariants.{Parsed, Lines, Symbols, CallGraph, Effects, Transformers, Preconditions, Regions, InRegions, OutRegions, Marks, Printed}
 use Rattle.pipsmake_rules.specs.Kinds.{same_kind}
-use Rattle.transformer_algebra.specs.declared.transformer.Transformer.{Transformer}
+use Rattle.preconditions.specs.transformer_algebra.declared.transformer.Transformer.{Transformer}
 use Rattle.region_sets.specs.declared.region.Access.{Access}
 use Rattle.region_sets.specs.declared.region.Region.{Region}
 use Rattle.region_sets.specs.Regions.{region}
-use Rattle.region_sets.specs.declared.marks.Reason.{Reason}
-use Rattle.region_sets.specs.declared.marks.Reason.TheVariants.{Jump, InputOutput, Step, Index, Carries}
-use Rattle.region_sets.specs.declared.marks.Mark.{Mark}
-use Rattle.region_sets.specs.declared.marks.Mark.TheVariants.{Parallel, Serial}
+use Rattle.f77_ast.specs.declared.marks.Reason.{Reason}
+use Rattle.f77_ast.specs.declared.marks.Reason.TheVariants.{Jump, InputOutput, Step, Index, Carries}
+use Rattle.f77_ast.specs.declared.marks.Mark.{Mark}
+use Rattle.f77_ast.specs.declared.marks.Mark.TheVariants.{Parallel, Serial}
 use Rattle.base_json.specs.Shapes.{list_of, has_members, pair_of, member_as, each_as, list_as, when, offset_of, text_of}
-use Rattle.base_rows.specs.Scopes.{ScopeTree, is_symbol, is_block, cell_of, variable_of, cells_alone, with_exits, with_phi}
-use Rattle.base_rows.specs.Read.{system_of, is_small_system}
+use Rattle.base_json.specs.Scopes.{ScopeTree, is_symbol, is_block, cell_of, variable_of, cells_alone, with_exits, with_phi}
+use Rattle.base_json.specs.Read.{system_of, is_small_system}
 use Rattle.base_values.specs.declared.stored.StoredValue.{StoredValue}
 use Rattle.base_values.specs.declared.stored.StoredValue.TheVariants as stored
 use Rattle.base_values.specs.Modules.{ModuleNames}
@@ -35,9 +35,10 @@ use Rattle.base_values.specs.Read.{effect_set, effects_of, block_unit, unit_in, 
 use Rattle.base_values.specs.Sizes.{kind_of, is_small_transformer, is_small_region, are_small_regions, all_small, is_small_value}
 use Rattle.base_values.specs.Fits.{EffectsFit, TransformerFits, OnePiece, RegionFits, RegionsFit, ReasonFits, MarkFits, AllFit, ResultsFit, StoredFits}
 use Rattle.base_values.specs.Laws.{ReadFits}
-use Rattle.base_values.proofs.Options.{and_then_some, map_some, then_read, map_read, if_read, when_read, and_parts, each_map, each_both, each_all, each_read, list_read}
+use Rattle.base_values.proofs.Options.{and_then_some, map_some, then_read, map_read, if_read, when_read, each_map, each_both, each_all, each_read, list_read}
 use Rattle.base_values.proofs.RowsBack.{either_some, cell_read, system_read}
 use Rattle.base_values.proofs.NamesBack.{variable_read}
+use Rattle.fx_lists.proofs.Booleans.{and_parts}
 
 -- ---- members
 

@@ -24,11 +24,14 @@ use Rattle.affine_systems.proofs.Basics.{int_eq-true}
 use Rattle.affine_systems.proofs.ReducedLaws.{IsReduced, normal-reduced, normal_reduced}
 use Rattle.base_json.specs.Shapes.{list_of, each_as, list_as, member_as, has_members, triple_of, when, whole_of, number_below, flag_of, offset_of}
 use Rattle.base_json.specs.Written.{list_data, number_data, whole_data}
-use Rattle.base_rows.specs.Scopes.{ScopeTree, number_of, is_symbol, cell_of, exit_of}
-use Rattle.base_rows.specs.Read.{phi_of, var_of, term_in, term_of, terms_ascend, terms_of, row_in, row_of, is_reduced, is_false_row, is_false_alone, rows_fit, rows_of, system_of, is_small_row, is_small_system}
-use Rattle.base_rows.specs.Written.{letter, term_data, flag_data, row_data, system_data}
+use Rattle.base_json.specs.Scopes.{ScopeTree, number_of, is_symbol, cell_of, exit_of}
+use Rattle.base_json.specs.Read.{phi_of, var_of, term_in, term_of, terms_ascend, terms_of, row_in, row_of, is_reduced, is_false_row, is_false_alone, rows_fit, rows_of, system_of, is_small_row, is_small_system}
+use Rattle.base_json.specs.RowsWritten.{letter, term_data, flag_data, row_data, system_data}
 use Rattle.base_values.specs.Naming.{Each, VarFits, RowNames, SystemFits}
-use Rattle.base_values.proofs.Options.{Decides-leb, and_then_some, map_some, when_some, if_some, and_parts, and_from, each_map, each_both, each_all, all_each, each_read, list_read, each_back, list_back}
+use Rattle.base_values.proofs.Options.{Decides-leb, and_then_some, map_some, when_some, if_some, each_map, each_both, each_all, all_each, each_read, list_read, each_back, list_back}
+use Rattle.affine_systems.proofs.TidyLaws.{has_no_terms-true as no_terms}
+use Rattle.system_text.proofs.Ordered.{reduced as reduced_parts}
+use Rattle.fx_lists.proofs.Booleans.{not_true, or_cases, or_there as or_right, and_parts, and_from}
 
 -- ---- numbers
 
@@ -111,10 +114,6 @@ row_back s r few h k a =
     ∙ (ap (option_and_then (λ z. option_map (λ ts. row r.equal ts z) (terms_of s (list_data (map term_data r.terms))))) (whole_back r.bound (small_is r.bound b.0))
     ∙ ap (option_map (λ ts. row r.equal ts r.bound)) (terms_back s r.terms few h b.1 a))
 
--- the parts of a row that is its own normal form
-reduced_parts : (r : Row) → IsNormal r → IsReduced false r
-reduced_parts r h = let k = normal_reduced false r h.0 in rw h.1 at k
-
 equal_last : (e l : Bool) → (e ≡ true → l ≡ false) → not (e && l) ≡ true
 equal_last true l h = ap not (h refl)
 equal_last false l h = refl
@@ -123,10 +122,6 @@ last_equal : (e l : Bool) → not (e && l) ≡ true → e ≡ true → l ≡ fal
 last_equal true true h e = cc
 last_equal true false h e = refl
 last_equal false l h e = cc
-
-pub not_true : (b : Bool) → not b ≡ true → b ≡ false
-not_true true e = cc
-not_true false e = refl
 
 pub normal_test : (r : Row) → IsNormal r → is_reduced r ≡ true
 normal_test r h =
@@ -149,10 +144,6 @@ all_rows P (r ∷ rs) h = (h.0, all_rows P rs h.1)
 pub rows_all : (P : Row → Type 0) (rs : List Row) → Each P rs → AllRows P rs
 rows_all P [] h = tt
 rows_all P (r ∷ rs) h = (h.0, rows_all P rs h.1)
-
-or_right : (a b : Bool) → b ≡ true → (a || b) ≡ true
-or_right true b e = refl
-or_right false b e = e
 
 -- what the rows of a system that calls take are
 pub record AreSound (rs : List Row) : Type 0 where
@@ -271,10 +262,6 @@ row_read s d r e =
     let m = map_some (λ ts. row b.0 ts c.0) (terms_of s a.0.1.1) r c.2 in
     subst (RowRead s) m.2 (terms_read s a.0.1.1 m.0 m.1)
 
-no_terms : (ts : List Term) → has_no_terms ts ≡ true → ts ≡ []
-no_terms [] e = refl
-no_terms (t ∷ ts) e = cc
-
 false_is : (r : Row) → is_false_row r ≡ true → r ≡ false_row
 false_is r e =
     let a = and_parts (has_no_terms r.terms) (not r.equal && int_eq r.bound (negsuc 0)) e in
@@ -285,10 +272,6 @@ false_alone : (rs : List Row) → is_false_alone rs ≡ true → rs ≡ false_ro
 false_alone [] e = cc
 false_alone (r ∷ []) e = ap (λ q. q ∷ []) (false_is r e)
 false_alone (r ∷ q ∷ qs) e = cc
-
-pub or_cases : (a b : Bool) → (a || b) ≡ true → (a ≡ true) ⊎ (b ≡ true)
-or_cases true b e = inl refl
-or_cases false b e = inr e
 
 pub rows_normal : (s : ScopeTree) (rs : List Row) → Each (RowRead s) rs → list_all is_small_row rs ≡ true → rows_fit rs ≡ true → (length rs ≤ row_limit) × AreNormal false rs
 rows_normal s rs h k e =

@@ -4,8 +4,8 @@ use mathlib.Core.Path.{fun_ext}
 use Rattle.std.specs.Prelude.{nat_eq}
 use Rattle.std.specs.List.{list_any}
 use Rattle.std.specs.HashSet.{contains_by}
-use Rattle.base_rows.specs.declared.scope.Scope.{Scope}
-use Rattle.base_rows.specs.Scopes.{ScopeTree, cells_alone, with_exits, scope_tree}
+use Rattle.base_json.specs.declared.scope.Scope.{Scope}
+use Rattle.base_json.specs.Scopes.{ScopeTree, cells_alone, with_exits, scope_tree}
 
 abbrev with_test : List (List ℕ) → Bool → (ℕ → Bool) → ScopeTree
 with_test names phi f = record { names = names; may_exit = f; phi = phi }

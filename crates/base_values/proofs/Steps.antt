@@ -5,15 +5,10 @@ use Rattle.serde_json.specs.View.{view}
 use Rattle.serde_json.specs.declared.value.Value.{Value}
 use Rattle.f77_ast.specs.declared.variable.Variable.{Variable}
 use Rattle.f77_ast.specs.declared.variable.Variable.TheVariants.{Own}
-use Rattle.f77_results.specs.declared.results.At.{At}
-use Rattle.base_json.proofs.Lists.{after, array_made}
-use Rattle.base_rows.specs.Scopes.{ScopeTree}
+use Rattle.f77_ast.specs.declared.results.At.{At}
+use Rattle.base_json.proofs.Lists.{after, array_made, after_one}
+use Rattle.base_json.specs.Scopes.{ScopeTree}
 use Rattle.base_values.specs.Read.{reason_in, with_number, numbers_of, at_one, at_each}
-
--- what is read of one more, before what the rest gives
-after_one : {T : Type 0} (xs : List T) (x : T) (o : Option (List T)) → after (xs ++ x ∷ []) o ≡ after xs (option_map (λ ys. x ∷ ys) o)
-after_one xs x None = refl
-after_one xs x (Some ys) = ap Some (append_assoc xs (x ∷ []) ys)
 
 pub own_more : (ns : List ℕ) (n : ℕ) (vs : List Variable) → after (ns ++ n ∷ []) (numbers_of vs) ≡ after ns (numbers_of (Own n ∷ vs))
 own_more ns n vs = after_one ns n (numbers_of vs)

@@ -14,27 +14,27 @@ use Rattle.affine_systems.proofs.Basics.{if_cases}
 use Rattle.hull_projection.specs.Minus.{AllFit as PiecesFit}
 use Rattle.f77_ast.specs.declared.variable.Unit.{Unit as BlockUnit}
 use Rattle.f77_ast.specs.declared.variable.Variable.{Variable}
-use Rattle.f77_results.specs.declared.effect_set.EffectSet.{EffectSet}
-use Rattle.f77_results.specs.declared.results.At.{At}
-use Rattle.f77_results.specs.declared.results.Results.{Results}
+use Rattle.f77_ast.specs.declared.effect_set.EffectSet.{EffectSet}
+use Rattle.f77_ast.specs.declared.results.At.{At}
+use Rattle.f77_ast.specs.declared.results.Results.{Results}
 use Rattle.pipsmake_rules.specs.declared.kind.Kind.{Kind}
 use Rattle.pipsmake_rules.specs.declared.kind.Kind.TheVariants.{Regions, InRegions, OutRegions}
-use Rattle.transformer_algebra.specs.declared.transformer.Transformer.{Transformer}
-use Rattle.transformers.specs.Given.{ResultsFit as TransformersFit}
+use Rattle.preconditions.specs.transformer_algebra.declared.transformer.Transformer.{Transformer}
+use Rattle.preconditions.specs.transformers.Given.{ResultsFit as TransformersFit}
 use Rattle.preconditions.specs.Statement.{EachFits}
 use Rattle.region_sets.specs.declared.region.Region.{Region}
 use Rattle.region_sets.specs.Regions.{RegionFits as PiecesOf}
 use Rattle.region_sets.specs.Sets.{SetFits}
 use Rattle.region_sets.specs.Lists.{SetsFit}
-use Rattle.region_sets.specs.declared.marks.Kinds.{Kinds}
-use Rattle.region_sets.specs.declared.marks.Reason.{Reason}
-use Rattle.region_sets.specs.declared.marks.Reason.TheVariants.{Jump, InputOutput, Step, Index, Carries}
-use Rattle.region_sets.specs.declared.marks.Mark.{Mark}
-use Rattle.region_sets.specs.declared.marks.Mark.TheVariants.{Parallel, Serial}
+use Rattle.f77_ast.specs.declared.marks.Kinds.{Kinds}
+use Rattle.f77_ast.specs.declared.marks.Reason.{Reason}
+use Rattle.f77_ast.specs.declared.marks.Reason.TheVariants.{Jump, InputOutput, Step, Index, Carries}
+use Rattle.f77_ast.specs.declared.marks.Mark.{Mark}
+use Rattle.f77_ast.specs.declared.marks.Mark.TheVariants.{Parallel, Serial}
 use Rattle.base_json.specs.Written.{list_data, number_data, whole_data}
-use Rattle.base_rows.specs.Scopes.{ScopeTree, cells_alone, with_exits, with_phi}
-use Rattle.base_rows.specs.Read.{is_small_system}
-use Rattle.base_rows.specs.Written.{term_data, flag_data, row_data, system_data}
+use Rattle.base_json.specs.Scopes.{ScopeTree, cells_alone, with_exits, with_phi}
+use Rattle.base_json.specs.Read.{is_small_system}
+use Rattle.base_json.specs.RowsWritten.{term_data, flag_data, row_data, system_data}
 use Rattle.base_values.specs.declared.stored.StoredValue.{StoredValue}
 use Rattle.base_values.specs.declared.stored.StoredValue.TheVariants as stored
 use Rattle.base_values.specs.Modules.{ModuleNames}
@@ -43,8 +43,9 @@ use Rattle.base_values.specs.Written.{variable_data, effects_data, unit_data, tr
 use Rattle.base_values.specs.Sizes.{is_small_transformer, is_small_region, are_small_regions, all_small, is_small_value}
 use Rattle.base_values.specs.Fits.{TransformerFits, OnePiece, RegionFits, RegionsFit, ResultsFit, StoredFits}
 use Rattle.base_values.specs.Laws.{FitsIsSmall, FitsIsTaken, WrittenIsWhole}
-use Rattle.base_values.proofs.Options.{and_from, each_map, all_each}
+use Rattle.base_values.proofs.Options.{each_map, all_each}
 use Rattle.base_values.proofs.RowsBack.{system_small}
+use Rattle.fx_lists.proofs.Booleans.{neither as or_false, and_from}
 
 -- ---- sizes
 
@@ -112,10 +113,6 @@ fits_is_taken m (stored.OutRegions r) h = regions_taken m OutRegions r h
 fits_is_taken m (stored.Marks ms) h = tt
 
 -- ---- whole numbers alone
-
-pub or_false : (a b : Bool) → a ≡ false → b ≡ false → (a || b) ≡ false
-or_false true b e f = cc
-or_false false b e f = f
 
 -- data without numbers that are not whole
 abbrev pub IsWhole : Data → Type 0

@@ -13,28 +13,28 @@ use Rattle.affine_systems.specs.Terms.{number as number_of}
 use Rattle.f77_ast.specs.declared.variable.Unit.{Unit as BlockUnit}
 use Rattle.f77_ast.specs.declared.variable.Variable.{Variable}
 use Rattle.f77_ast.specs.declared.variable.Variable.TheVariants.{Own, Block, Saved}
-use Rattle.f77_results.specs.declared.effect_set.EffectSet.{EffectSet}
-use Rattle.f77_results.specs.declared.results.At.{At}
-use Rattle.f77_results.specs.declared.results.Results.{Results}
+use Rattle.f77_ast.specs.declared.effect_set.EffectSet.{EffectSet}
+use Rattle.f77_ast.specs.declared.results.At.{At}
+use Rattle.f77_ast.specs.declared.results.Results.{Results}
 use Rattle.pipsmake_rules.specs.declared.kind.Kind.{Kind}
 use Rattle.pipsmake_rules.specs.declared.kind.Kind.TheVariants.{Regions, InRegions, OutRegions}
-use Rattle.transformer_algebra.specs.declared.transformer.Transformer.{Transformer}
+use Rattle.preconditions.specs.transformer_algebra.declared.transformer.Transformer.{Transformer}
 use Rattle.region_sets.specs.declared.region.Access.{Access}
 use Rattle.region_sets.specs.declared.region.Access.TheVariants.{Read, Write, In, Out}
 use Rattle.region_sets.specs.declared.region.Region.{Region}
 use Rattle.region_sets.specs.Written.{name_text}
-use Rattle.region_sets.specs.declared.marks.Kinds.{Kinds}
-use Rattle.region_sets.specs.declared.marks.Kinds.TheVariants.{WriteRead, ReadWrite, WriteWrite}
-use Rattle.region_sets.specs.declared.marks.Private.{Private}
-use Rattle.region_sets.specs.declared.marks.Private.TheVariants.{Yes, Name, Carried, Live}
-use Rattle.region_sets.specs.declared.marks.Reason.{Reason}
-use Rattle.region_sets.specs.declared.marks.Reason.TheVariants.{Jump, InputOutput, Step, Index, Carries}
-use Rattle.region_sets.specs.declared.marks.Mark.{Mark}
-use Rattle.region_sets.specs.declared.marks.Mark.TheVariants.{Parallel, Serial}
+use Rattle.f77_ast.specs.declared.marks.Kinds.{Kinds}
+use Rattle.f77_ast.specs.declared.marks.Kinds.TheVariants.{WriteRead, ReadWrite, WriteWrite}
+use Rattle.f77_ast.specs.declared.marks.Private.{Private}
+use Rattle.f77_ast.specs.declared.marks.Private.TheVariants.{Yes, Name, Carried, Live}
+use Rattle.f77_ast.specs.declared.marks.Reason.{Reason}
+use Rattle.f77_ast.specs.declared.marks.Reason.TheVariants.{Jump, InputOutput, Step, Index, Carries}
+use Rattle.f77_ast.specs.declared.marks.Mark.{Mark}
+use Rattle.f77_ast.specs.declared.marks.Mark.TheVariants.{Parallel, Serial}
 use Rattle.base_json.specs.Written.{list_data, number_data, text_data}
 use Rattle.base_json.proofs.Back.{IsBack, AreBack, string_back, word_back, number_back, whole_back, boolean_back, no_items_back, item_back, array_back, no_members_back, member_back, object_back}
-use Rattle.base_rows.specs.Scopes.{ScopeTree, is_symbol, is_block, is_short_name, cells_alone, with_exits, with_phi}
-use Rattle.base_rows.specs.Written.{letter, flag_data, term_data, row_data, system_data}
+use Rattle.base_json.specs.Scopes.{ScopeTree, is_symbol, is_block, is_short_name, cells_alone, with_exits, with_phi}
+use Rattle.base_json.specs.RowsWritten.{letter, flag_data, term_data, row_data, system_data}
 use Rattle.base_values.specs.declared.stored.StoredValue.{StoredValue}
 use Rattle.base_values.specs.declared.stored.StoredValue.TheVariants as stored
 use Rattle.base_values.specs.Modules.{ModuleNames}
@@ -43,8 +43,9 @@ use Rattle.base_values.specs.Naming.{Each, AreBytes, AreNames, VariableFits, Var
 use Rattle.base_values.specs.Written.{variable_data, variables_data, effects_data, unit_data, transformer_data, piece_of, region_data, regions_data, conflict_data, private_data, reason_data, mark_data, at_data, all_data, results_data, entry_data, stored_data}
 use Rattle.base_values.specs.Fits.{EffectsFit, TransformerFits, OnePiece, RegionFits, RegionsFit, ReasonFits, MarkFits, ResultsFit, StoredFits}
 use Rattle.base_values.specs.Ranges.{IdsFit, OffsetsFit, TransformersFit, NumbersFit}
-use Rattle.base_values.proofs.Options.{and_parts, each_map, each_both}
+use Rattle.base_values.proofs.Options.{each_map, each_both}
 use Rattle.base_values.proofs.NamesBack.{scalars_of, bytes_append, name_bytes, short_name, block_bytes, symbol_between, own_bytes}
+use Rattle.fx_lists.proofs.Booleans.{and_parts}
 
 -- ---- lists
 

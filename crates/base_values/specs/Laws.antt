@@ -3,7 +3,7 @@ use Rattle.std.specs.Prelude.{◌≡◌, ◌≤◌, ℕ, true, false, List, [], 
 use Rattle.serde_json.specs.Data.{Data, depth}
 use Rattle.serde_json.specs.Written.{has_float}
 use Rattle.affine_systems.specs.Given.{Fits}
-use Rattle.transformers.specs.Given.{ResultsFit}
+use Rattle.preconditions.specs.transformers.Given.{ResultsFit}
 use Rattle.preconditions.specs.Statement.{EachFits}
 use Rattle.region_sets.specs.Sets.{SetFits}
 use Rattle.region_sets.specs.Lists.{SetsFit}

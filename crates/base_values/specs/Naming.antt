@@ -8,8 +8,8 @@ use Rattle.affine_systems.specs.declared.row.System.{System}
 use Rattle.affine_systems.specs.Given.{Fits}
 use Rattle.f77_ast.specs.declared.variable.Variable.{Variable}
 use Rattle.f77_ast.specs.declared.variable.Variable.TheVariants.{Own, Block, Saved}
-use Rattle.base_rows.specs.Scopes.{ScopeTree, is_symbol, is_name, is_short_name, is_block}
-use Rattle.base_rows.specs.Distinct.{are_new}
+use Rattle.base_json.specs.Scopes.{ScopeTree, is_symbol, is_name, is_short_name, is_block}
+use Rattle.base_json.specs.Distinct.{are_new}
 
 abbrev pub Each : {A : Type 0} → (A → Type 0) → List A → Type 0
 Each P [] = Unit {0}

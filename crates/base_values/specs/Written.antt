@@ -5,21 +5,21 @@ use Rattle.affine_systems.specs.declared.row.System.{System}
 use Rattle.system_text.specs.SystemText.{name_at}
 use Rattle.f77_ast.specs.declared.variable.Unit.{Unit as BlockUnit}
 use Rattle.f77_ast.specs.declared.variable.Variable.{Variable}
-use Rattle.f77_results.specs.declared.effect_set.EffectSet.{EffectSet}
-use Rattle.f77_results.specs.declared.results.At.{At}
-use Rattle.f77_results.specs.declared.results.Results.{Results}
-use Rattle.transformer_algebra.specs.declared.transformer.Transformer.{Transformer}
+use Rattle.f77_ast.specs.declared.effect_set.EffectSet.{EffectSet}
+use Rattle.f77_ast.specs.declared.results.At.{At}
+use Rattle.f77_ast.specs.declared.results.Results.{Results}
+use Rattle.preconditions.specs.transformer_algebra.declared.transformer.Transformer.{Transformer}
 use Rattle.affine_forms.specs.Conditions.{infeasible}
 use Rattle.region_sets.specs.declared.region.Region.{Region}
 use Rattle.region_sets.specs.Written.{name_text}
-use Rattle.region_sets.specs.declared.marks.Kinds.{Kinds}
-use Rattle.region_sets.specs.declared.marks.Private.{Private}
-use Rattle.region_sets.specs.declared.marks.Reason.{Reason}
-use Rattle.region_sets.specs.declared.marks.Reason.TheVariants.{Jump, InputOutput, Step, Index, Carries}
-use Rattle.region_sets.specs.declared.marks.Mark.{Mark}
-use Rattle.region_sets.specs.declared.marks.Mark.TheVariants.{Parallel, Serial}
+use Rattle.f77_ast.specs.declared.marks.Kinds.{Kinds}
+use Rattle.f77_ast.specs.declared.marks.Private.{Private}
+use Rattle.f77_ast.specs.declared.marks.Reason.{Reason}
+use Rattle.f77_ast.specs.declared.marks.Reason.TheVariants.{Jump, InputOutput, Step, Index, Carries}
+use Rattle.f77_ast.specs.declared.marks.Mark.{Mark}
+use Rattle.f77_ast.specs.declared.marks.Mark.TheVariants.{Parallel, Serial}
 use Rattle.base_json.specs.Written.{list_data, number_data, text_data}
-use Rattle.base_rows.specs.Written.{system_data}
+use Rattle.base_json.specs.RowsWritten.{system_data}
 use Rattle.base_values.specs.declared.stored.StoredValue.{StoredValue}
 use Rattle.base_values.specs.declared.stored.StoredValue.TheVariants as stored
 use Rattle.base_values.specs.Words.{access_word, conflict_word, answer_word}

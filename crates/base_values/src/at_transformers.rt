@@ -4,31 +4,32 @@ ghost use Rattle.std.specs.HashSet.{IsFromIterResult};
 ghost use Rattle.serde_json.specs.View.{view};
 ghost use Rattle.base_json.specs.Gives.{Gives};
 ghost use Rattle.base_json.specs.Shapes.{member_as};
-ghost use Rattle.base_rows.specs.Scopes.{scope_tree, with_exits};
-ghost use Rattle.base_rows.specs.Read.{system_of};
+ghost use Rattle.base_json.specs.Scopes.{scope_tree, with_exits};
+ghost use Rattle.base_json.specs.Read.{system_of};
 ghost use Rattle.base_values.specs.Read.{unit_in, unit_of, transformer_of};
 
 use crate::scope::ValueScope;
 use affine_systems::System;
-use base_json::{Decode, Trouble, field, has_members, list_field, offset_at, pair, text_at};
-use base_rows::{Scope, is_block};
+use base_json::{
+    Decode, DecodeError, Scope, field, has_members, is_block, list_field, offset_at, pair, text_at,
+};
 use f77_ast::Unit;
 use fx_lists::List;
+use preconditions::transformer_algebra::Transformer;
 use serde_json::Value;
 use std::alloc::{AllocError as Memory, Global};
 use std::collections::HashSet;
-use transformer_algebra::Transformer;
 
 /// A unit of its block and its offset.
-fn unit_in(alloc: Global, block: &Value, offset: &Value) -> Result<Unit, Trouble>
+fn unit_in(alloc: Global, block: &Value, offset: &Value) -> Result<Unit, DecodeError>
     ensures { Gives result (unit_in (view block.now) (view offset.now)) }
 {
     let block = text_at(alloc, block)?;
     let Some(offset) = offset_at(offset) else {
-        return Err(Trouble::Shape);
+        return Err(DecodeError::Shape);
     };
     if !is_block(block.as_slice()) {
-        return Err(Trouble::Shape);
+        return Err(DecodeError::Shape);
     }
     Ok(Unit { block, offset })
 }
@@ -36,9 +37,9 @@ fn unit_in(alloc: Global, block: &Value, offset: &Value) -> Result<Unit, Trouble
 impl<'a> Decode<ValueScope<'a>> for Unit {
     ghost read_as = { λ _. unit_of };
 
-    fn decode(alloc: Global, _scope: &ValueScope<'a>, value: &Value) -> Result<Unit, Trouble> {
+    fn decode(alloc: Global, _scope: &ValueScope<'a>, value: &Value) -> Result<Unit, DecodeError> {
         match pair(value) {
-            None => Err(Trouble::Shape),
+            None => Err(DecodeError::Shape),
             Some((block, offset)) => unit_in(alloc, block, offset),
         }
     }
@@ -57,7 +58,7 @@ fn exit_system(
     scope: &ValueScope<'_>,
     cells: &[u32],
     value: &Value,
-) -> Result<System, Trouble>
+) -> Result<System, DecodeError>
     ensures { Gives result (member_as (system_of (with_exits cells.now (scope_tree scope.now.cells))) (codes "system") (view value.now)) }
 {
     let exits = set_of(alloc, cells)?;
@@ -76,9 +77,9 @@ impl<'a> Decode<ValueScope<'a>> for Transformer {
         alloc: Global,
         scope: &ValueScope<'a>,
         value: &Value,
-    ) -> Result<Transformer, Trouble> {
+    ) -> Result<Transformer, DecodeError> {
         if !has_members(value, 3) {
-            return Err(Trouble::Shape);
+            return Err(DecodeError::Shape);
         }
         let cells: List<u32> = list_field(alloc, &scope.cells, value, "cells")?;
         let foreign: List<Unit> = list_field(alloc, scope, value, "foreign")?;

@@ -3,10 +3,10 @@ ghost use Rattle.std.specs.Prelude.{◌≡◌, IfOk, map, option_and_then};
 ghost use Rattle.serde_json.specs.Find.{as_str};
 ghost use Rattle.serde_json.specs.View.{view};
 ghost use Rattle.f77_ast.specs.Index.{names_of};
-ghost use Rattle.region_sets.specs.declared.marks.Mark.TheVariants.{Parallel as parallel_is, Serial as serial_is};
+ghost use Rattle.f77_ast.specs.declared.marks.Mark.TheVariants.{Parallel as parallel_is, Serial as serial_is};
 ghost use Rattle.base_json.specs.Gives.{Gives};
 ghost use Rattle.base_json.specs.Shapes.{each_as};
-ghost use Rattle.base_rows.specs.Scopes.{scope_tree, variable_of};
+ghost use Rattle.base_json.specs.Scopes.{scope_tree, variable_of};
 ghost use Rattle.base_values.specs.Read.{numbers_of as numbers_of_is, conflict_of, answer_of, carried_in as carried_in_is, reason_in as reason_in_is, mark_by as mark_by_is, mark_in as mark_in_is, mark_of};
 ghost use Rattle.base_values.specs.Words.{reason_named as reason_named_is};
 ghost use Rattle.base_values.specs.Written.{conflict_data, private_data, carried_data, mark_data};
@@ -15,12 +15,11 @@ use crate::scope::{SymbolNames, ValueScope};
 use crate::variables::put_name;
 use crate::words::{answer_named, answer_word, conflict_named, conflict_word, reason_named};
 use base_json::{
-    Decode, Encode, Trouble, decode_each, items_of, list_at, list_value, text_value, word,
+    Decode, DecodeError, Encode, decode_each, items_of, list_at, list_value, text_value,
+    variable_at, word,
 };
-use base_rows::variable_at;
-use f77_ast::{Symbols, Variable};
+use f77_ast::{Kinds, Mark, Private, Reason, Symbols, Variable};
 use fx_lists::{List, Text};
-use region_sets::{Kinds, Mark, Private, Reason};
 use serde_json::{Value, json};
 use std::alloc::{AllocError as Memory, Global};
 
@@ -95,7 +94,7 @@ impl<'a> Encode<SymbolNames<'a>> for Mark {
 
 /// The numbers of own variables; Shape where one is of another module or a block.
 #[tactic(auto, using(crate::proofs::Steps::numbers))]
-fn numbers_of(alloc: Global, variables: &[Variable]) -> Result<List<u32>, Trouble>
+fn numbers_of(alloc: Global, variables: &[Variable]) -> Result<List<u32>, DecodeError>
     ensures { Gives result (numbers_of_is variables.now) }
 {
     let mut numbers = List::new(alloc);
@@ -103,7 +102,7 @@ fn numbers_of(alloc: Global, variables: &[Variable]) -> Result<List<u32>, Troubl
     while let [v, more @ ..] = rest {
         match v {
             Variable::Own(n) => numbers.push(*n)?,
-            Variable::Block(_) | Variable::Saved(..) => return Err(Trouble::Shape),
+            Variable::Block(_) | Variable::Saved(..) => return Err(DecodeError::Shape),
         }
         rest = more;
     }
@@ -113,9 +112,13 @@ fn numbers_of(alloc: Global, variables: &[Variable]) -> Result<List<u32>, Troubl
 impl<'a> Decode<ValueScope<'a>> for Kinds {
     ghost read_as = { λ _. conflict_of };
 
-    fn decode(_alloc: Global, _scope: &ValueScope<'a>, value: &Value) -> Result<Kinds, Trouble> {
+    fn decode(
+        _alloc: Global,
+        _scope: &ValueScope<'a>,
+        value: &Value,
+    ) -> Result<Kinds, DecodeError> {
         match word(value).and_then(conflict_named) {
-            None => Err(Trouble::Shape),
+            None => Err(DecodeError::Shape),
             Some(kind) => Ok(kind),
         }
     }
@@ -134,42 +137,46 @@ fn carried_in(
     v: &Value,
     kinds: &Value,
     answer: &Value,
-) -> Result<Reason, Trouble>
+) -> Result<Reason, DecodeError>
     ensures { Gives result (carried_in_is (scope_tree scope.now.cells) (view v.now) (view kinds.now) (view answer.now)) }
 {
     let variable = variable_at(alloc, &scope.cells, v)?;
     let kinds: List<Kinds> = list_at(alloc, scope, kinds)?;
     match answer_at(answer) {
-        None => Err(Trouble::Shape),
+        None => Err(DecodeError::Shape),
         Some(answer) => Ok(Reason::Carries(variable, kinds, answer)),
     }
 }
 
-fn short_reason(value: &Value) -> Result<Reason, Trouble>
+fn short_reason(value: &Value) -> Result<Reason, DecodeError>
     ensures { Gives result (option_and_then reason_named_is (as_str (view value.now))) }
 {
     match word(value).and_then(reason_named) {
-        None => Err(Trouble::Shape),
+        None => Err(DecodeError::Shape),
         Some(reason) => Ok(reason),
     }
 }
 
 /// Why a loop is serial, by what follows the word SERIAL.
 #[tactic(auto, using(crate::proofs::Steps::reasons))]
-fn reason_in(alloc: Global, scope: &ValueScope<'_>, items: &[Value]) -> Result<Reason, Trouble>
+fn reason_in(alloc: Global, scope: &ValueScope<'_>, items: &[Value]) -> Result<Reason, DecodeError>
     ensures { Gives result (reason_in_is (scope_tree scope.now.cells) (map view items.now)) }
 {
     match items {
-        [] => Err(Trouble::Shape),
+        [] => Err(DecodeError::Shape),
         [reason] => short_reason(reason),
-        [_, _] => Err(Trouble::Shape),
+        [_, _] => Err(DecodeError::Shape),
         [v, kinds, answer] => carried_in(alloc, scope, v, kinds, answer),
-        [_, _, _, _, ..] => Err(Trouble::Shape),
+        [_, _, _, _, ..] => Err(DecodeError::Shape),
     }
 }
 
 /// The private variables of a parallel loop.
-fn private_in(alloc: Global, scope: &ValueScope<'_>, items: &[Value]) -> Result<List<u32>, Trouble>
+fn private_in(
+    alloc: Global,
+    scope: &ValueScope<'_>,
+    items: &[Value],
+) -> Result<List<u32>, DecodeError>
     ensures { Gives result (option_and_then numbers_of_is (each_as (variable_of (scope_tree scope.now.cells)) (map view items.now))) }
 {
     let variables: List<Variable> = decode_each(alloc, &scope.cells, items)?;
@@ -182,7 +189,7 @@ fn mark_by(
     scope: &ValueScope<'_>,
     word: &str,
     items: &[Value],
-) -> Result<Mark, Trouble>
+) -> Result<Mark, DecodeError>
     ensures { Gives result (mark_by_is (scope_tree scope.now.cells) (map view items.now) word.now) }
 {
     if word == "PARALLEL" {
@@ -190,18 +197,18 @@ fn mark_by(
     } else if word == "SERIAL" {
         Ok(Mark::Serial(reason_in(alloc, scope, items)?))
     } else {
-        Err(Trouble::Shape)
+        Err(DecodeError::Shape)
     }
 }
 
-fn mark_in(alloc: Global, scope: &ValueScope<'_>, items: &[Value]) -> Result<Mark, Trouble>
+fn mark_in(alloc: Global, scope: &ValueScope<'_>, items: &[Value]) -> Result<Mark, DecodeError>
     ensures { Gives result (mark_in_is (scope_tree scope.now.cells) (map view items.now)) }
 {
     let [first, others @ ..] = items else {
-        return Err(Trouble::Shape);
+        return Err(DecodeError::Shape);
     };
     let Some(first) = word(first) else {
-        return Err(Trouble::Shape);
+        return Err(DecodeError::Shape);
     };
     mark_by(alloc, scope, first, others)
 }
@@ -209,9 +216,9 @@ fn mark_in(alloc: Global, scope: &ValueScope<'_>, items: &[Value]) -> Result<Mar
 impl<'a> Decode<ValueScope<'a>> for Mark {
     ghost read_as = { λ s. mark_of (scope_tree s.cells) };
 
-    fn decode(alloc: Global, scope: &ValueScope<'a>, value: &Value) -> Result<Mark, Trouble> {
+    fn decode(alloc: Global, scope: &ValueScope<'a>, value: &Value) -> Result<Mark, DecodeError> {
         match items_of(value) {
-            None => Err(Trouble::Shape),
+            None => Err(DecodeError::Shape),
             Some(items) => mark_in(alloc, scope, items),
         }
     }

@@ -3,7 +3,7 @@ ghost use Rattle.std.specs.Prelude.{◌≡◌, ◌++◌, IfOk, OnOk, codes, true
 ghost use Rattle.serde_json.specs.Data.{boolean, member, no_members, string};
 ghost use Rattle.serde_json.specs.Written.{compact_text, members_text};
 ghost use Rattle.f77_ast.specs.Index.{names_of};
-ghost use Rattle.base_rows.specs.Written.{system_data};
+ghost use Rattle.base_json.specs.RowsWritten.{system_data};
 ghost use Rattle.base_values.specs.Words.{access_word};
 ghost use Rattle.base_values.specs.Written.{at_data, effects_data, entry_data, mark_data, piece_of, region_data, regions_data, results_data, stored_data, transformer_data, unit_data, variable_data, variables_data};
 
@@ -11,14 +11,12 @@ use crate::StoredValue;
 use crate::scope::SymbolNames;
 use affine_forms::infeasible;
 use affine_systems::System;
-use base_json::{Encode, Put, put_flag, put_list, put_number, put_value, text_value};
-use base_rows::put_system;
-use f77_ast::{Symbols, Unit, Variable};
-use f77_results::{At, EffectSet, Results};
+use base_json::{Encode, Put, put_flag, put_list, put_number, put_system, put_value, text_value};
+use f77_ast::{At, EffectSet, Mark, Results, Symbols, Unit, Variable};
 use fx_lists::Text;
-use region_sets::{Access, Mark, Region, RegionSet};
+use preconditions::transformer_algebra::Transformer;
+use region_sets::{Access, Region, RegionSet};
 use std::alloc::{AllocError as Memory, Global};
-use transformer_algebra::Transformer;
 
 impl<'a> Put<SymbolNames<'a>> for Variable {
     ghost data_of = { λ s v. variable_data (names_of s.symbols.now) v };

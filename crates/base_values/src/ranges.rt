@@ -3,9 +3,8 @@ ghost use Rattle.std.specs.Prelude.{◌<◌, ◌^◌};
 ghost use Rattle.base_values.specs.Ranges.{IdsFit, OffsetsFit, TransformersFit, NumbersFit};
 
 use crate::StoredValue;
-use f77_ast::Unit;
-use f77_results::At;
-use transformer_algebra::Transformer;
+use f77_ast::{At, Unit};
+use preconditions::transformer_algebra::Transformer;
 
 /// A number of 64 bits is below 2^64.
 fn fits(n: u64)

@@ -2,8 +2,8 @@
 ghost use Rattle.std.specs.Prelude.{◌≡◌, map, option_map, codes};
 ghost use Rattle.serde_json.specs.View.{view};
 ghost use Rattle.base_json.specs.Gives.{Gives};
-ghost use Rattle.base_rows.specs.Scopes.{scope_tree};
-ghost use Rattle.base_rows.specs.Read.{system_of};
+ghost use Rattle.base_json.specs.Scopes.{scope_tree};
+ghost use Rattle.base_json.specs.Read.{system_of};
 ghost use Rattle.base_values.specs.declared.stored.StoredValue.TheVariants as stored;
 ghost use Rattle.base_values.specs.Read.{effects_of, transformer_of, regions_of, mark_of, at_in as at_in_is, at_one as at_one_is, at_each as at_each_is, at_all as at_all_is, results_of, value_of, stored_of};
 ghost use Rattle.base_values.specs.Scopes.{names_tree};
@@ -11,22 +11,22 @@ ghost use Rattle.base_values.specs.Scopes.{names_tree};
 use crate::scope::ValueScope;
 use crate::{Names, StoredValue};
 use affine_systems::System;
-use base_json::{Decode, Trouble, field, has_members, items_of, member, offset_at, pair};
-use base_rows::Scope;
-use f77_ast::StmtId;
-use f77_results::{At, EffectSet, Results};
+use base_json::{
+    Decode, DecodeError, Scope, field, has_members, items_of, member, offset_at, pair,
+};
+use f77_ast::{At, EffectSet, Mark, Results, StmtId};
 use fx_lists::List;
 use pipsmake_rules::Kind;
-use region_sets::{Mark, RegionSet};
+use preconditions::transformer_algebra::Transformer;
+use region_sets::RegionSet;
 use serde_json::Value;
 use std::alloc::Global;
 use std::collections::HashSet;
-use transformer_algebra::Transformer;
 
 impl<'a> Decode<ValueScope<'a>> for System {
     ghost read_as = { λ s. system_of (scope_tree s.cells) };
 
-    fn decode(alloc: Global, scope: &ValueScope<'a>, value: &Value) -> Result<System, Trouble> {
+    fn decode(alloc: Global, scope: &ValueScope<'a>, value: &Value) -> Result<System, DecodeError> {
         Decode::decode(alloc, &scope.cells, value)
     }
 }
@@ -38,14 +38,14 @@ fn at_in<'a, T: Decode<ValueScope<'a>>>(
     id: StmtId,
     number: &Value,
     value: &Value,
-) -> Result<At<T>, Trouble>
+) -> Result<At<T>, DecodeError>
     ensures { Gives result (at_in_is (T.read_as scope.now) id (view number.now) (view value.now)) }
 {
     let Some(number) = offset_at(number) else {
-        return Err(Trouble::Shape);
+        return Err(DecodeError::Shape);
     };
     if u64::from(id) != number {
-        return Err(Trouble::Shape);
+        return Err(DecodeError::Shape);
     }
     let value: T = Decode::decode(alloc, scope, value)?;
     Ok(At { id, value })
@@ -57,11 +57,11 @@ fn at_one<'a, T: Decode<ValueScope<'a>>>(
     scope: &ValueScope<'a>,
     id: StmtId,
     value: &Value,
-) -> Result<At<T>, Trouble>
+) -> Result<At<T>, DecodeError>
     ensures { Gives result (at_one_is (T.read_as scope.now) id (view value.now)) }
 {
     match pair(value) {
-        None => Err(Trouble::Shape),
+        None => Err(DecodeError::Shape),
         Some((number, value)) => at_in(alloc, scope, id, number, value),
     }
 }
@@ -73,7 +73,7 @@ fn at_each<'a, T: Decode<ValueScope<'a>>>(
     scope: &ValueScope<'a>,
     ids: &[StmtId],
     values: &[Value],
-) -> Result<List<At<T>>, Trouble>
+) -> Result<List<At<T>>, DecodeError>
     ensures { Gives result (at_each_is (T.read_as scope.now) ids.now (map view values.now)) }
 {
     let mut made = List::new(alloc);
@@ -81,7 +81,7 @@ fn at_each<'a, T: Decode<ValueScope<'a>>>(
     let mut values = values;
     while let [id, more @ ..] = ids {
         let [value, later @ ..] = values else {
-            return Err(Trouble::Shape);
+            return Err(DecodeError::Shape);
         };
         let one: At<T> = at_one(alloc, scope, *id, value)?;
         made.push(one)?;
@@ -91,7 +91,7 @@ fn at_each<'a, T: Decode<ValueScope<'a>>>(
     if values.is_empty() {
         Ok(made)
     } else {
-        Err(Trouble::Shape)
+        Err(DecodeError::Shape)
     }
 }
 
@@ -101,11 +101,11 @@ fn at_all<'a, T: Decode<ValueScope<'a>>>(
     scope: &ValueScope<'a>,
     ids: &[StmtId],
     value: &Value,
-) -> Result<List<At<T>>, Trouble>
+) -> Result<List<At<T>>, DecodeError>
     ensures { Gives result (at_all_is (T.read_as scope.now) ids.now (view value.now)) }
 {
     match items_of(value) {
-        None => Err(Trouble::Shape),
+        None => Err(DecodeError::Shape),
         Some(values) => at_each(alloc, scope, ids, values),
     }
 }
@@ -117,14 +117,14 @@ fn results_at<'a, T: Decode<ValueScope<'a>>>(
     ids: &[StmtId],
     key: &str,
     value: &Value,
-) -> Result<Results<T>, Trouble>
+) -> Result<Results<T>, DecodeError>
     ensures { Gives result (results_of (T.read_as scope.now) ids.now key.now (view value.now)) }
 {
     if !has_members(value, 2) {
-        return Err(Trouble::Shape);
+        return Err(DecodeError::Shape);
     }
     let Some(array) = member(value, "at") else {
-        return Err(Trouble::Shape);
+        return Err(DecodeError::Shape);
     };
     let at: List<At<T>> = at_all(alloc, scope, ids, array)?;
     let summary: T = field(alloc, scope, value, key)?;
@@ -137,7 +137,7 @@ fn effects_at(
     names: &Names<'_>,
     scope: &ValueScope<'_>,
     value: &Value,
-) -> Result<StoredValue, Trouble>
+) -> Result<StoredValue, DecodeError>
     ensures { Gives result (option_map stored.Effects (results_of (effects_of (scope_tree scope.now.cells)) names.now.numbers.now.statements (codes "summary") (view value.now))) }
 {
     let ids = names.numbers.statements.as_slice();
@@ -151,7 +151,7 @@ fn transformers_at(
     names: &Names<'_>,
     scope: &ValueScope<'_>,
     value: &Value,
-) -> Result<StoredValue, Trouble>
+) -> Result<StoredValue, DecodeError>
     ensures { Gives result (option_map stored.Transformers (results_of (transformer_of (scope_tree scope.now.cells)) names.now.numbers.now.statements (codes "summary") (view value.now))) }
 {
     let ids = names.numbers.statements.as_slice();
@@ -165,7 +165,7 @@ fn preconditions_at(
     names: &Names<'_>,
     scope: &ValueScope<'_>,
     value: &Value,
-) -> Result<StoredValue, Trouble>
+) -> Result<StoredValue, DecodeError>
     ensures { Gives result (option_map stored.Preconditions (results_of (system_of (scope_tree scope.now.cells)) names.now.numbers.now.statements (codes "entry") (view value.now))) }
 {
     let ids = names.numbers.statements.as_slice();
@@ -179,7 +179,7 @@ fn marks_at(
     names: &Names<'_>,
     scope: &ValueScope<'_>,
     value: &Value,
-) -> Result<StoredValue, Trouble>
+) -> Result<StoredValue, DecodeError>
     ensures { Gives result (option_map stored.Marks (at_all_is (mark_of (scope_tree scope.now.cells)) names.now.numbers.now.loops (view value.now))) }
 {
     let read: List<At<Mark>> = at_all(alloc, scope, names.numbers.loops.as_slice(), value)?;
@@ -191,7 +191,7 @@ fn read_writes_at(
     names: &Names<'_>,
     scope: &ValueScope<'_>,
     value: &Value,
-) -> Result<StoredValue, Trouble>
+) -> Result<StoredValue, DecodeError>
     ensures { Gives result (option_map stored.Regions (results_of (regions_of (scope_tree scope.now.cells) scope.now.kind) names.now.numbers.now.statements (codes "summary") (view value.now))) }
 {
     let ids = names.numbers.statements.as_slice();
@@ -204,7 +204,7 @@ fn ins_at(
     names: &Names<'_>,
     scope: &ValueScope<'_>,
     value: &Value,
-) -> Result<StoredValue, Trouble>
+) -> Result<StoredValue, DecodeError>
     ensures { Gives result (option_map stored.InRegions (results_of (regions_of (scope_tree scope.now.cells) scope.now.kind) names.now.numbers.now.statements (codes "summary") (view value.now))) }
 {
     let ids = names.numbers.statements.as_slice();
@@ -217,7 +217,7 @@ fn outs_at(
     names: &Names<'_>,
     scope: &ValueScope<'_>,
     value: &Value,
-) -> Result<StoredValue, Trouble>
+) -> Result<StoredValue, DecodeError>
     ensures { Gives result (option_map stored.OutRegions (results_of (regions_of (scope_tree scope.now.cells) scope.now.kind) names.now.numbers.now.statements (codes "summary") (view value.now))) }
 {
     let ids = names.numbers.statements.as_slice();
@@ -231,7 +231,7 @@ fn value_at(
     names: &Names<'_>,
     scope: &ValueScope<'_>,
     value: &Value,
-) -> Result<StoredValue, Trouble>
+) -> Result<StoredValue, DecodeError>
     ensures { Gives result (value_of names.now.numbers.now.statements names.now.numbers.now.loops (scope_tree scope.now.cells) scope.now.kind (view value.now)) }
 {
     match scope.kind {
@@ -243,7 +243,7 @@ fn value_at(
         Kind::OutRegions => outs_at(alloc, names, scope, value),
         Kind::Marks => marks_at(alloc, names, scope, value),
         Kind::Parsed | Kind::Lines | Kind::Symbols | Kind::CallGraph | Kind::Printed => {
-            Err(Trouble::Shape)
+            Err(DecodeError::Shape)
         }
     }
 }
@@ -255,7 +255,7 @@ pub fn stored_at(
     names: &Names<'_>,
     kind: Kind,
     value: &Value,
-) -> Result<StoredValue, Trouble>
+) -> Result<StoredValue, DecodeError>
     ensures { Gives result (stored_of (names_tree names.now) kind (view value.now)) }
 {
     let none: HashSet<u32> = HashSet::new(alloc);

@@ -6,8 +6,8 @@ ghost use Rattle.f77_ast.specs.Index.{names_of};
 ghost use Rattle.region_sets.specs.Written.{access_text as access_text_is};
 ghost use Rattle.base_json.specs.Gives.{Gives};
 ghost use Rattle.base_json.specs.Shapes.{member_as, when};
-ghost use Rattle.base_rows.specs.Scopes.{scope_tree, with_phi};
-ghost use Rattle.base_rows.specs.Read.{system_of};
+ghost use Rattle.base_json.specs.Scopes.{scope_tree, with_phi};
+ghost use Rattle.base_json.specs.Read.{system_of};
 ghost use Rattle.base_values.specs.Read.{access_of, region_of, regions_of, region_key as region_key_is, are_apart as are_apart_is};
 ghost use Rattle.base_values.specs.Words.{access_named as access_named_is, result_with as result_with_is};
 
@@ -15,8 +15,7 @@ use crate::scope::ValueScope;
 use crate::variables::put_variable;
 use crate::words::{access_named, result_with};
 use affine_systems::System;
-use base_json::{Decode, Trouble, field, has_members, list_at, word};
-use base_rows::{Scope, are_distinct};
+use base_json::{Decode, DecodeError, Scope, are_distinct, field, has_members, list_at, word};
 use f77_ast::{Symbols, Variable};
 use fx_lists::{List, Text};
 use pipsmake_rules::Kind;
@@ -41,19 +40,23 @@ fn access_in(kind: Kind, word: &str) -> Option<Access>
 impl<'a> Decode<ValueScope<'a>> for Access {
     ghost read_as = { λ s. access_of s.kind };
 
-    fn decode(_alloc: Global, scope: &ValueScope<'a>, value: &Value) -> Result<Access, Trouble> {
+    fn decode(
+        _alloc: Global,
+        scope: &ValueScope<'a>,
+        value: &Value,
+    ) -> Result<Access, DecodeError> {
         let Some(word) = word(value) else {
-            return Err(Trouble::Shape);
+            return Err(DecodeError::Shape);
         };
         match access_in(scope.kind, word) {
-            None => Err(Trouble::Shape),
+            None => Err(DecodeError::Shape),
             Some(access) => Ok(access),
         }
     }
 }
 
 /// The system under the key `system`, which may name subscripts.
-fn phi_system(alloc: Global, scope: &ValueScope<'_>, value: &Value) -> Result<System, Trouble>
+fn phi_system(alloc: Global, scope: &ValueScope<'_>, value: &Value) -> Result<System, DecodeError>
     ensures { Gives result (member_as (system_of (with_phi (scope_tree scope.now.cells))) (codes "system") (view value.now)) }
 {
     let scope = Scope {
@@ -76,9 +79,9 @@ fn one_piece(alloc: Global, piece: System) -> Result<List<System>, Memory>
 impl<'a> Decode<ValueScope<'a>> for Region {
     ghost read_as = { λ s. region_of (scope_tree s.cells) s.kind };
 
-    fn decode(alloc: Global, scope: &ValueScope<'a>, value: &Value) -> Result<Region, Trouble> {
+    fn decode(alloc: Global, scope: &ValueScope<'a>, value: &Value) -> Result<Region, DecodeError> {
         if !has_members(value, 4) {
-            return Err(Trouble::Shape);
+            return Err(DecodeError::Shape);
         }
         let exact: bool = field(alloc, scope, value, "exact")?;
         let kind: Access = field(alloc, scope, value, "kind")?;
@@ -136,10 +139,14 @@ pub fn are_apart(alloc: Global, symbols: &Symbols, regions: &[Region]) -> Result
 impl<'a> Decode<ValueScope<'a>> for RegionSet {
     ghost read_as = { λ s. regions_of (scope_tree s.cells) s.kind };
 
-    fn decode(alloc: Global, scope: &ValueScope<'a>, value: &Value) -> Result<RegionSet, Trouble> {
+    fn decode(
+        alloc: Global,
+        scope: &ValueScope<'a>,
+        value: &Value,
+    ) -> Result<RegionSet, DecodeError> {
         let regions: RegionSet = list_at(alloc, scope, value)?;
         if !are_apart(alloc, scope.cells.symbols, regions.as_slice())? {
-            return Err(Trouble::Shape);
+            return Err(DecodeError::Shape);
         }
         Ok(regions)
     }

@@ -1,5 +1,5 @@
 //! What may be named in one result of a module.
-use base_rows::Scope;
+use base_json::Scope;
 use f77_ast::Symbols;
 use pipsmake_rules::Kind;
 

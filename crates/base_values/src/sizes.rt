@@ -1,15 +1,15 @@
 //! The sizes of the numbers of a result.
 ghost use Rattle.std.specs.Prelude.{◌≡◌};
 ghost use Rattle.std.specs.List.{list_all};
-ghost use Rattle.base_rows.specs.Read.{is_small_system as is_small_system_is};
+ghost use Rattle.base_json.specs.Read.{is_small_system as is_small_system_is};
 ghost use Rattle.base_values.specs.Sizes.{is_small_transformer as is_small_transformer_is, is_small_region as is_small_region_is, are_small_regions as are_small_regions_is, small_at, is_small_value as is_small_value_is};
 
 use crate::StoredValue;
 use affine_systems::System;
-use base_rows::is_small_system;
-use f77_results::At;
+use base_json::is_small_system;
+use f77_ast::At;
+use preconditions::transformer_algebra::Transformer;
 use region_sets::{Region, RegionSet};
-use transformer_algebra::Transformer;
 
 fn are_small_systems(systems: &[System]) -> bool
     ensures { result ≡ list_all is_small_system_is systems.now }

@@ -3,11 +3,11 @@ ghost use Rattle.std.specs.Prelude.{◌≡◌};
 ghost use Rattle.base_values.specs.Sizes.{kind_of};
 
 use affine_systems::System;
-use f77_results::{At, EffectSet, Results};
+use f77_ast::{At, EffectSet, Mark, Results};
 use fx_lists::List;
 use pipsmake_rules::Kind;
-use region_sets::{Mark, RegionSet};
-use transformer_algebra::Transformer;
+use preconditions::transformer_algebra::Transformer;
+use region_sets::RegionSet;
 
 /// One result of one module: what it says of each executable statement (marks: of each DO), in the order of the text, and as a whole.
 #[derive(Drop)]

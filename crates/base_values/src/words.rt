@@ -2,8 +2,9 @@
 ghost use Rattle.std.specs.Prelude.{◌≡◌};
 ghost use Rattle.base_values.specs.Words.{access_named as access_named_is, result_with as result_with_is, conflict_word as conflict_word_is, conflict_named as conflict_named_is, answer_word as answer_word_is, answer_named as answer_named_is, reason_named as reason_named_is};
 
+use f77_ast::{Kinds, Private, Reason};
 use pipsmake_rules::Kind;
-use region_sets::{Access, Kinds, Private, Reason};
+use region_sets::Access;
 
 pub fn access_named(word: &str) -> Option<Access>
     ensures { result ≡ access_named_is word.now }

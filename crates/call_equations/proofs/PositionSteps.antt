@@ -9,10 +9,7 @@ use Rattle.call_equations.specs.Sides.{SidesTree}
 use Rattle.call_equations.specs.Forms.{offset}
 use Rattle.call_equations.specs.Cells.{named_form, actual_bound, dummy_bound}
 use Rattle.call_equations.specs.Positions.{size_of, before_dimensions, whole_position, dummy_position, dimension_row, row_before, aligned_rows}
-
-take_all : {A : Type 0} (xs : List A) → take (length xs) xs ≡ xs
-take_all [] = refl
-take_all (x ∷ xs) = ap (λ ys. x ∷ ys) (take_all xs)
+use Rattle.fx_lists.proofs.Lists.{take_all}
 
 -- a list by its first element and the rest
 pub first-rest : {A : Type 0} (xs : List A) (x d : A) → 1 ≤ length xs → x ≡ get_or xs 0 d → xs ≡ x ∷ take (length xs - 1) (drop 1 xs)

@@ -12,13 +12,10 @@ use Rattle.affine_forms.specs.Forms.{affine, IsSmallForm}
 use Rattle.call_translation.proofs.Steps.{given-push}
 use Rattle.call_equations.specs.Sides.{SidesTree}
 use Rattle.call_equations.specs.Positions.{element_position}
+use Rattle.affine_systems.proofs.RenameSteps.{given_append as given-append}
 
 pub number_small : (n : ℤ) → unsigned_abs n < 2 ^ 62 → IsSmallForm (affine [] n)
 number_small n h = ((tt, tt), h)
-
-pub given-append : (rs ss : List Row) → AllRows IsGiven rs → AllRows IsGiven ss → AllRows IsGiven (rs ++ ss)
-given-append [] ss h k = k
-given-append (r ∷ rs) ss h k = (h.0, given-append rs ss h.1 k)
 
 pub ruleset rows = (given-push, number_small, append_assoc, append-nil)
 

@@ -6,7 +6,7 @@ use Rattle.affine_systems.specs.declared.row.Var.TheVariants.{Cell, Exit, Phi, A
 use Rattle.affine_systems.specs.declared.row.Term.{Term}
 use Rattle.affine_systems.specs.declared.row.Row.{Row}
 use Rattle.affine_systems.specs.Terms.{has_no_terms}
-use Rattle.transformer_algebra.specs.Cells.{has}
+use Rattle.call_translation.specs.transformer_algebra.Cells.{has}
 use Rattle.affine_forms.specs.declared.affine.Affine.{Affine}
 use Rattle.affine_forms.specs.Forms.{affine, sum_of}
 use Rattle.affine_forms.specs.Comparisons.{var_form, same_row}

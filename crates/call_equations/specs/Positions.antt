@@ -7,9 +7,9 @@ use Rattle.f77_ast.specs.Trees.{ExprTree, ExprTrees}
 use Rattle.f77_ast.specs.Trees as tree
 use Rattle.f77_ast.specs.declared.constant.Constant.{Constant}
 use Rattle.f77_ast.specs.declared.constant.Constant.TheVariants.{Int, Log}
-use Rattle.f77_ast.specs.declared.constant.Worth.{Worth}
-use Rattle.f77_ast.specs.declared.constant.Worth.TheVariants.{Is, Faults, Varies}
-use Rattle.f77_ast.specs.Constants.{worth}
+use Rattle.f77_ast.specs.declared.constant.ConstantValue.{ConstantValue}
+use Rattle.f77_ast.specs.declared.constant.ConstantValue.TheVariants.{Is, Faults, Varies}
+use Rattle.f77_ast.specs.Constants.{const_value}
 use Rattle.f77_ast.specs.Symbols.{BoundTree}
 use Rattle.affine_forms.specs.declared.affine.Affine.{Affine}
 use Rattle.affine_forms.specs.Forms.{affine, affine_of, limited, sum_of}
@@ -55,7 +55,7 @@ aligned_rows c r k (a ∷ as') (d ∷ ds) = row_before (dimension_row c r k a d 
 
 -- ---- places in the order of elements
 
-abbrev pub number_in : Worth → Option ℤ
+abbrev pub number_in : ConstantValue → Option ℤ
 number_in (Is (Int n)) = Some n
 number_in (Is (Log b)) = None
 number_in Faults = None
@@ -63,7 +63,7 @@ number_in Varies = None
 
 abbrev pub high_number : (List ℕ → Option Constant) → Option ExprTree → Option ℤ
 high_number value None = None
-high_number value (Some e) = number_in (worth value e)
+high_number value (Some e) = number_in (const_value value e)
 
 abbrev pub size_between : Option ℤ → Option ℤ → Option ℤ
 size_between None h = None
@@ -72,7 +72,7 @@ size_between (Some l) (Some h) = Some ((h -ℤ l) +ℤ pos 1)
 
 -- how many subscripts a dimension with constant bounds has
 abbrev pub size_of : (List ℕ → Option Constant) → BoundTree → Option ℤ
-size_of value b = size_between (number_in (worth value b.low)) (high_number value b.high)
+size_of value b = size_between (number_in (const_value value b.low)) (high_number value b.high)
 
 -- a sum and n times another
 abbrev pub sum_with : Option Affine → Option ℤ → Option Affine → Option Affine

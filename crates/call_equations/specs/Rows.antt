@@ -6,9 +6,9 @@ use Rattle.f77_ast.specs.Trees.{ExprTree, ExprTrees}
 use Rattle.f77_ast.specs.Trees as tree
 use Rattle.f77_ast.specs.declared.constant.Constant.{Constant}
 use Rattle.f77_ast.specs.declared.constant.Constant.TheVariants.{Int, Log}
-use Rattle.f77_ast.specs.declared.constant.Worth.{Worth}
-use Rattle.f77_ast.specs.declared.constant.Worth.TheVariants.{Is, Faults, Varies}
-use Rattle.f77_ast.specs.Constants.{worth}
+use Rattle.f77_ast.specs.declared.constant.ConstantValue.{ConstantValue}
+use Rattle.f77_ast.specs.declared.constant.ConstantValue.TheVariants.{Is, Faults, Varies}
+use Rattle.f77_ast.specs.Constants.{const_value}
 use Rattle.f77_ast.specs.Symbols.{BoundTree}
 use Rattle.affine_forms.specs.declared.affine.Affine.{Affine}
 use Rattle.affine_forms.specs.Forms.{affine, affine_of}
@@ -17,7 +17,7 @@ use Rattle.call_translation.specs.Scopes.{ScopeTree}
 
 -- ---- bounds that are constant
 
-abbrev pub constant_form : Worth → Option Affine
+abbrev pub constant_form : ConstantValue → Option Affine
 constant_form (Is (Int n)) = Some (affine [] n)
 constant_form (Is (Log b)) = None
 constant_form Faults = None
@@ -34,10 +34,10 @@ high_rows (Some f) k = at_most_row (var_form (Phi k)) f ∷ []
 -- none of `*`
 abbrev pub high_form : (List ℕ → Option Constant) → Option ExprTree → Option Affine
 high_form value None = None
-high_form value (Some e) = constant_form (worth value e)
+high_form value (Some e) = constant_form (const_value value e)
 
 abbrev pub bound_rows : (List ℕ → Option Constant) → BoundTree → ℕ → List Row
-bound_rows value b k = low_rows (constant_form (worth value b.low)) k ++ high_rows (high_form value b.high) k
+bound_rows value b k = low_rows (constant_form (const_value value b.low)) k ++ high_rows (high_form value b.high) k
 
 -- ---- subscripts
 

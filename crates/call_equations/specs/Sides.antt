@@ -9,9 +9,9 @@ use Rattle.f77_ast.specs.declared.variable.Unit.{Unit as BlockUnit}
 use Rattle.f77_ast.specs.Symbols.{SymbolTree}
 use Rattle.tracked_cells.specs.Standing.{is_int_scalar}
 use Rattle.tracked_cells.specs.Tracked.{is_unit}
-use Rattle.f77_results.specs.declared.results.At.{At}
-use Rattle.transformer_algebra.specs.declared.transformer.Transformer.{Transformer}
-use Rattle.transformer_algebra.specs.Cells.{joined_cells}
+use Rattle.f77_ast.specs.declared.results.At.{At}
+use Rattle.call_translation.specs.transformer_algebra.declared.transformer.Transformer.{Transformer}
+use Rattle.call_translation.specs.transformer_algebra.Cells.{joined_cells}
 use Rattle.call_translation.specs.Scopes.{ScopeTree, scope_tree}
 use Rattle.call_equations.specs.declared.sides.CallSides.{CallSides}
 

@@ -1,65 +1,14 @@
 //! Sums of forms, with none where a number reaches 2^62.
 ghost use Rattle.std.specs.Prelude.{◌≡◌, ◌^◌, ◌<◌, [], IfOk, IfSome, unsigned_abs};
-ghost use Rattle.affine_systems.specs.Normal.{is_small as is_small_number, are_small as are_small_factors};
 ghost use Rattle.affine_systems.specs.Given.{IsGiven};
-ghost use Rattle.affine_systems.specs.Terms.{Ascends};
-ghost use Rattle.affine_forms.specs.Forms.{IsSmallForm, affine, limited as limited_form, plus as plus_form, sum_of as sum_of_is};
+ghost use Rattle.affine_forms.specs.Forms.{IsSmallForm, affine, limited as limited_form, sum_of as sum_of_is};
 ghost use Rattle.call_equations.specs.Forms.{zero as zero_is, offset as offset_is, less as less_is, is_zero as is_zero_is, equation as equation_is, is_among as is_among_is, lack as lack_is, unless_among as unless_among_is};
 
-use affine_forms::{Affine, same_row, var_form};
-use affine_systems::terms::{blend, combination};
+use affine_forms::{Affine, limit, plus, same_row, var_form};
 use affine_systems::{Row, Term, Var};
+use call_translation::transformer_algebra::has;
 use fx_lists::List;
 use std::alloc::{AllocError as Memory, Global};
-use transformer_algebra::has;
-
-#[tactic(auto, unfolding(affine_systems::specs::Normal::is_small))]
-fn is_small(z: i128) -> bool
-    ensures { result ≡ is_small_number z }
-{
-    z.unsigned_abs() < 1 << 62
-}
-
-/// Whether all factors are below 2^62 in magnitude.
-#[tactic(auto, using(affine_forms::proofs::SmallLaws::are_small_loop))]
-fn are_small(terms: &[Term]) -> bool
-    ensures { result ≡ are_small_factors terms.now }
-{
-    for t in terms {
-        if !is_small(t.factor) {
-            return false;
-        }
-    }
-    true
-}
-
-/// A form, if its numbers are small.
-#[tactic(auto, using(affine_forms::proofs::SmallLaws::limited_is_small))]
-fn limit(form: Affine) -> Option<Affine>
-    requires { Ascends form.terms }
-    ensures defined { result ≡ limited_form form }
-    ensures small { IfSome result IsSmallForm }
-{
-    if is_small(form.constant) && are_small(form.terms.as_slice()) {
-        Some(form)
-    } else {
-        None
-    }
-}
-
-/// A form and `k` times another.
-#[tactic(auto, using(affine_forms::proofs::SmallLaws::sums))]
-fn plus(alloc: Global, f: &Affine, k: i128, g: &Affine) -> Result<Option<Affine>, Memory>
-    requires first { IsSmallForm f.now }
-    requires factor { unsigned_abs k < 2 ^ 62 }
-    requires second { IsSmallForm g.now }
-    ensures defined { IfOk result (λ o. o ≡ plus_form f.now k g.now) }
-    ensures small { IfOk result (λ o. IfSome o IsSmallForm) }
-{
-    let terms = combination(alloc, 1, f.terms.as_slice(), k, g.terms.as_slice())?;
-    let constant = blend(1, f.constant, k, g.constant);
-    Ok(limit(Affine { terms, constant }))
-}
 
 /// One form and `k` times another, where there are both.
 pub fn sum_of(

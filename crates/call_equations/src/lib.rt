@@ -15,4 +15,4 @@ pub use forms::{equation, number, offset, sum_of, zero};
 pub use link::Link;
 pub use positions::{before_dimensions, size_of};
 pub use rows::{all_affine, constant_form, next_dimension, rows_of};
-pub use sides::{CallSides, changed_cells, entry_cells, is_int_scalar};
+pub use sides::{CallSides, changed_cells, entry_cells};

@@ -20,7 +20,7 @@ use crate::forms::{equation, is_zero, less, number, offset, sum_of, zero};
 use crate::rows::next_dimension;
 use affine_forms::Affine;
 use affine_systems::{Row, Var};
-use f77_ast::{Bound, Constant, Expr, Symbols, Worth, worth_of};
+use f77_ast::{Bound, Constant, ConstantValue, Expr, Symbols, const_value_of};
 use fx_lists::List;
 use std::alloc::{AllocError as Memory, Global};
 
@@ -173,13 +173,13 @@ pub fn aligned_rows(
     }
 }
 
-fn number_in(worth: Worth) -> Option<i128>
-    ensures defined { result ≡ number_in_is worth }
+fn number_in(const_value: ConstantValue) -> Option<i128>
+    ensures defined { result ≡ number_in_is const_value }
     ensures small { IfSome result (λ n. unsigned_abs n < 2 ^ 32) }
 {
-    match worth {
-        Worth::Is(Constant::Int(n)) => Some(i128::from(n)),
-        Worth::Is(Constant::Log(_)) | Worth::Faults | Worth::Varies => None,
+    match const_value {
+        ConstantValue::Is(Constant::Int(n)) => Some(i128::from(n)),
+        ConstantValue::Is(Constant::Log(_)) | ConstantValue::Faults | ConstantValue::Varies => None,
     }
 }
 
@@ -189,7 +189,7 @@ fn high_number(symbols: &Symbols, high: &Option<Expr>) -> Option<i128>
 {
     match high {
         None => None,
-        Some(e) => number_in(worth_of(e, symbols)),
+        Some(e) => number_in(const_value_of(e, symbols)),
     }
 }
 
@@ -214,7 +214,7 @@ pub fn size_of(symbols: &Symbols, b: &Bound) -> Option<i128>
     ensures small { IfSome result (λ n. unsigned_abs n < 2 ^ 62) }
 {
     size_between(
-        number_in(worth_of(&b.low, symbols)),
+        number_in(const_value_of(&b.low, symbols)),
         high_number(symbols, &b.high),
     )
 }

@@ -12,21 +12,21 @@ ghost use Rattle.call_equations.specs.Rows.{constant_form as constant_form_is, l
 use affine_forms::{Affine, affine_of, at_most_row, same_row, var_form};
 use affine_systems::{Row, Var};
 use call_translation::CellScope;
-use f77_ast::{Bound, Constant, Expr, Symbols, Worth, worth_of};
+use f77_ast::{Bound, Constant, ConstantValue, Expr, Symbols, const_value_of};
 use fx_lists::List;
 use std::alloc::{AllocError as Memory, Global};
 
 /// The form of a bound that is an INTEGER constant.
-pub fn constant_form(alloc: Global, worth: Worth) -> Option<Affine>
-    ensures defined { result ≡ constant_form_is worth }
+pub fn constant_form(alloc: Global, const_value: ConstantValue) -> Option<Affine>
+    ensures defined { result ≡ constant_form_is const_value }
     ensures fits { IfSome result IsSmallForm }
 {
-    match worth {
-        Worth::Is(Constant::Int(n)) => Some(Affine {
+    match const_value {
+        ConstantValue::Is(Constant::Int(n)) => Some(Affine {
             terms: List::new(alloc),
             constant: i128::from(n),
         }),
-        Worth::Is(Constant::Log(_)) | Worth::Faults | Worth::Varies => None,
+        ConstantValue::Is(Constant::Log(_)) | ConstantValue::Faults | ConstantValue::Varies => None,
     }
 }
 
@@ -37,7 +37,7 @@ fn high_form(alloc: Global, symbols: &Symbols, high: &Option<Expr>) -> Option<Af
 {
     match high {
         None => None,
-        Some(high) => constant_form(alloc, worth_of(high, symbols)),
+        Some(high) => constant_form(alloc, const_value_of(high, symbols)),
     }
 }
 
@@ -90,7 +90,7 @@ fn push_bounds(
     ensures added { OnOk result (out.new.items ≡ out.old.items ++ bound_rows (value_in (map symbol_tree symbols.now)) (bound_tree bound.now) k) }
     ensures fits { OnOk result (AllRows IsGiven out.new.items) }
 {
-    let low = constant_form(alloc, worth_of(&bound.low, symbols));
+    let low = constant_form(alloc, const_value_of(&bound.low, symbols));
     let high = high_form(alloc, symbols, &bound.high);
     push_low(alloc, out, &low, k)?;
     push_high(alloc, out, &high, k)

@@ -1,18 +1,14 @@
 //! A CALL with the two modules that it joins, and what is known of both.
 ghost use Rattle.std.specs.Prelude.{◌≡◌, map, IfOk};
-ghost use Rattle.std.specs.List.{list_any};
 ghost use Rattle.f77_ast.specs.Symbols.{symbol_tree};
-ghost use Rattle.tracked_cells.specs.Standing.{is_int_scalar as is_int_scalar_is};
-ghost use Rattle.tracked_cells.specs.Tracked.{is_unit};
 ghost use Rattle.call_equations.specs.Sides.{is_entry_place as is_entry_place_is, is_entry_cell as is_entry_cell_is, entry_cells as entry_cells_is, changed_cells as changed_cells_is};
 
 use call_translation::CellScope;
-use f77_ast::{Expr, Place, Scalar, Symbol, Symbols, Unit};
-use f77_results::Results;
+use call_translation::transformer_algebra::{Transformer, joined_cells};
+use f77_ast::{Expr, Place, Results, Symbol, Symbols, Unit};
 use fx_lists::{List, Text};
 use std::alloc::{AllocError as Memory, Global};
-use tracked_cells::has_bounds;
-use transformer_algebra::{Transformer, joined_cells};
+use tracked_cells::{is_int_scalar, is_untracked};
 
 /// A CALL, and the two modules as its regions are looked at with. What is of one module is made once for all its CALLs.
 #[derive(Drop)]
@@ -42,35 +38,12 @@ pub fn changed_cells(alloc: Global, own: &Results<Transformer>) -> Result<List<u
     Ok(cells)
 }
 
-/// Whether a unit is among these.
-fn is_among(untracked: &List<Unit>, block: &Text, offset: u64) -> bool
-    ensures { result ≡ list_any (is_unit block.now offset) untracked.now }
-{
-    let mut rest = untracked.as_slice();
-    while let [unit, more @ ..] = rest {
-        if *block == unit.block && offset == unit.offset {
-            return true;
-        }
-        rest = more;
-    }
-    false
-}
-
-pub fn is_int_scalar(symbol: &Symbol) -> bool
-    ensures { result ≡ is_int_scalar_is (symbol_tree symbol.now) }
-{
-    match symbol.scalar {
-        Scalar::Int => !has_bounds(symbol),
-        Scalar::Log => false,
-    }
-}
-
 fn is_entry_place(untracked: &List<Unit>, place: &Place) -> bool
     ensures { result ≡ is_entry_place_is untracked.now place.now }
 {
     match place {
         Place::Dummy(_) => true,
-        Place::Block(block, offset) => !is_among(untracked, block, *offset),
+        Place::Block(block, offset) => !is_untracked(untracked, block, *offset),
         Place::Local(..) | Place::Constant(_) => false,
     }
 }

@@ -7,6 +7,7 @@ use Rattle.f77_ast.specs.Symbols.{SymbolTree, number_from, symbol_tree}
 use Rattle.f77_ast.specs.Shared.{numbered}
 use Rattle.f77_ast.specs.Index.{names_of}
 use Rattle.call_graph.specs.Actuals.{symbol_with_name}
+use Rattle.f77_ast.proofs.ValueLaws.{one_up}
 
 -- a name without a number has no symbol
 pub named-none : (n : ℕ) (ss : List Symbol) (x : List ℕ) → number_from n (names_of ss) x ≡ None → symbol_with_name (map symbol_tree ss) x ≡ None
@@ -30,13 +31,6 @@ named-from n k (s ∷ ss) x e = go (bytes_eq x s.name) e (named-from (suc n) k s
         let rest = ih q in
         let z : k - n ≡ suc (k - suc n) = omega (arith, rest.0) in
         (omega (arith, rest.0), rest.1 ∙ ap (λ i. option_map symbol_tree (slice_get (s ∷ ss) i)) (sym z))
-
-one_up : (k : ℕ) (ss : List Symbol) → 1 ≤ k → slice_get ss (k - 1) ≡ numbered ss k
-one_up k ss h = go (nat_eq k 0) refl
-  where
-    go : (b : Bool) → nat_eq k 0 ≡ b → slice_get ss (k - 1) ≡ (if b then None else slice_get ss (k - 1))
-    go true e = absurd (omega (arith, eqb-true k 0 e))
-    go false e = refl
 
 pub named-numbered : (k : ℕ) (ss : List Symbol) (x : List ℕ) → number_from 1 (names_of ss) x ≡ Some k → option_map symbol_tree (numbered ss k) ≡ symbol_with_name (map symbol_tree ss) x
 named-numbered k ss x e =

@@ -18,7 +18,8 @@ use Rattle.call_graph.specs.Order.{holds, order_of, names_at}
 use Rattle.call_graph.specs.Links.{program_calls, callees_of, unfit, cyclic, graph_of, module_fault, acyclic_of, joined_of, named_of, link_of}
 use Rattle.call_graph.specs.Laws.{IsBottomUp, HasEach, AreModules, NeverBack}
 use Rattle.call_graph.proofs.OrderLaws.{bottom_up, whole}
-use Rattle.call_graph.proofs.LinkLaws.{length-all_places, length-map}
+use Rattle.call_graph.proofs.LinkLaws.{length-all_places}
+use Rattle.fx_lists.proofs.Lists.{map_length as length-map}
 
 -- ---- nothing was wrong
 
@@ -151,7 +152,7 @@ never_back ps names calls h e k c lt q =
 
 -- ---- modules that link
 
-length-all_calls_same : (ps : List ParsedTree) (sss : List (List SymbolTree)) → length ps ≡ length sss → length (all_calls ps sss) ≡ length ps
+pub length-all_calls_same : (ps : List ParsedTree) (sss : List (List SymbolTree)) → length ps ≡ length sss → length (all_calls ps sss) ≡ length ps
 length-all_calls_same [] sss e = refl
 length-all_calls_same (p ∷ ps) [] e = cc
 length-all_calls_same (p ∷ ps) (ss ∷ sss) e = ap suc (length-all_calls_same ps sss (omega (arith, e)))

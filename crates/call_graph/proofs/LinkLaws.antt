@@ -13,6 +13,7 @@ use Rattle.call_graph.specs.Faults.{refusal_of, or_fault, unless, IsAt, Gives}
 use Rattle.call_graph.specs.Modules.{too_many_at, too_many}
 use Rattle.call_graph.specs.Calls.{all_calls}
 use Rattle.call_graph.specs.Callees.{all_places}
+use Rattle.fx_lists.proofs.Lists.{map_length as length-map}
 
 -- the refusal of a fault that was found
 pub refused : (f : Fault) (linked : Result Graph Fault) → linked ≡ Err f → Gives (Err (refusal_of f)) linked
@@ -38,10 +39,6 @@ pub length-all_calls : (ps : List ParsedTree) (sss : List (List SymbolTree)) →
 length-all_calls [] sss = omega arith
 length-all_calls (p ∷ ps) [] = omega arith
 length-all_calls (p ∷ ps) (ss ∷ sss) = omega (arith, length-all_calls ps sss)
-
-pub length-map : {A B : Type 0} (f : A → B) (xs : List A) → length (map f xs) ≡ length xs
-length-map f [] = refl
-length-map f (x ∷ xs) = ap suc (length-map f xs)
 
 pub ruleset link_sizes = (length-all_places, length-all_calls, length-map)
 

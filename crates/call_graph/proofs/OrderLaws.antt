@@ -7,6 +7,7 @@ use Rattle.std.proofs.lemmas.Bool.Decides.{nat_tests}
 use Rattle.call_graph.specs.Recursion.{callees_at, leads, reaches}
 use Rattle.call_graph.specs.Order.{holds, ready, first_ready, with_next, order_from, order_of}
 use Rattle.call_graph.specs.Laws.{IsBottomUp, HasEach, AreModules, NeverBack}
+use Rattle.fx_lists.proofs.Booleans.{no_both}
 
 -- ---- a loop that counts up
 
@@ -208,10 +209,6 @@ leads-step (suc t) css x h c called e = go (nat_eq x h) refl e (λ z. leads-step
         (any_mono (λ z. leads t css z h) (λ z. leads (suc t) css z c) (callees_at css x) ih r)
 
 -- ---- nothing is missing
-
-no_both : (b : Bool) → b ≡ true → b ≡ false → ⊥
-no_both true e f = cc
-no_both false e f = cc
 
 -- a walk along calls to modules that are not in the order, each new, ends, and then it comes to a cycle
 module _ (css : List (List ℕ)) (done : List ℕ) (modules : AreModules css) (never : NeverBack css) (none : first_ready 0 css done ≡ None) where

@@ -5,8 +5,8 @@ use Rattle.f77_ast.specs.DeclTrees.{ModuleTree, ParsedTree}
 use Rattle.f77_ast.specs.Symbols.{SymbolTree, number_from}
 use Rattle.call_graph.specs.declared.calls.Called.{Called}
 use Rattle.call_graph.specs.declared.graph.Edge.{Edge}
-use Rattle.refusal_codes.specs.declared.code.Code.{Code}
-use Rattle.refusal_codes.specs.declared.code.Code.TheVariants.{NoSuchModule, ArgumentCount, ArgumentType}
+use Rattle.fx_lists.specs.declared.code.Code.{Code}
+use Rattle.fx_lists.specs.declared.code.Code.TheVariants.{NoSuchModule, ArgumentCount, ArgumentType}
 use Rattle.call_graph.specs.declared.refusal.Fault.{Fault}
 use Rattle.call_graph.specs.declared.refusal.Fault.TheVariants as fault
 use Rattle.call_graph.specs.Modules.{statement_line}

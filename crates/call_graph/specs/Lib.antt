@@ -10,3 +10,5 @@ pub mod Blocks
 pub mod Sizes
 pub mod Links
 pub mod Laws
+pub mod CallsIn
+pub mod Visible

@@ -7,7 +7,7 @@ use Rattle.f77_ast.specs.declared.places.Spot.{Spot}
 use Rattle.f77_ast.specs.DeclTrees.{ParsedTree}
 use Rattle.f77_ast.specs.Symbols.{number_from}
 pub use Rattle.tracked_cells.specs.Names.{names_of}
-use Rattle.refusal_codes.specs.declared.code.Code.TheVariants.{TwoMains, ModuleTwice, TooManyModules}
+use Rattle.fx_lists.specs.declared.code.Code.TheVariants.{TwoMains, ModuleTwice, TooManyModules}
 use Rattle.call_graph.specs.declared.refusal.Fault.{Fault}
 use Rattle.call_graph.specs.declared.refusal.Fault.TheVariants as fault
 

@@ -4,7 +4,7 @@ use Rattle.std.specs.List.{list_any}
 use Rattle.f77_ast.specs.DeclTrees.{ParsedTree}
 use Rattle.f77_ast.specs.Symbols.{number_from}
 use Rattle.call_graph.specs.declared.calls.Called.{Called}
-use Rattle.refusal_codes.specs.declared.code.Code.TheVariants.{Recursion}
+use Rattle.fx_lists.specs.declared.code.Code.TheVariants.{Recursion}
 use Rattle.call_graph.specs.declared.refusal.Fault.{Fault}
 use Rattle.call_graph.specs.declared.refusal.Fault.TheVariants as fault
 use Rattle.call_graph.specs.Modules.{statement_line}

@@ -11,8 +11,7 @@ use crate::modules::statement_line;
 use crate::order::holds;
 use crate::refusal::Fault;
 use f77_ast::{Module, Parsed, StmtId, Symbols};
-use fx_lists::{List, Text};
-use refusal_codes::Code;
+use fx_lists::{Code, List, Text};
 use std::alloc::{AllocError as Memory, Global};
 use tracked_cells::Names;
 

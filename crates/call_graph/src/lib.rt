@@ -12,8 +12,12 @@ mod modules;
 mod order;
 mod recursion;
 mod refusal;
+mod view;
+mod visible;
 
 pub use graph::{Block, Edge, Graph};
 pub use laws::{linked_in_order, orders_are_bottom_up, orders_are_whole};
 pub use links::link;
 pub use refusal::LinkRefusal;
+pub use view::View;
+pub use visible::{is_local, is_visible_to_callers};

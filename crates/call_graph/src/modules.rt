@@ -5,8 +5,7 @@ ghost use Rattle.call_graph.specs.Modules.{module_line, statement_line, is_state
 
 use crate::refusal::Fault;
 use f77_ast::{Parsed, Part, Spot, StmtId};
-use fx_lists::List;
-use refusal_codes::Code;
+use fx_lists::{Code, List};
 use tracked_cells::Names;
 
 /// The first line of a module.

@@ -9,8 +9,7 @@ use crate::calls::Calls;
 use crate::modules::statement_line;
 use crate::refusal::Fault;
 use f77_ast::{Parsed, StmtId};
-use fx_lists::List;
-use refusal_codes::Code;
+use fx_lists::{Code, List};
 use std::alloc::{AllocError as Memory, Global};
 use tracked_cells::Names;
 

@@ -3,7 +3,7 @@ ghost use Rattle.std.specs.Prelude.{◌≡◌};
 ghost use Rattle.call_graph.specs.Faults.{refusal_of};
 ghost use Rattle.call_graph.specs.declared.refusal.LinkRefusal.TheVariants.{Memory};
 
-use refusal_codes::Code;
+use fx_lists::Code;
 use std::alloc::{AllocError, AllocFailed};
 use thiserror::Error;
 

@@ -20,9 +20,9 @@ use Rattle.f77_ast.specs.declared.expr.BinaryOp.TheVariants.{Add, Sub, Mul, Div,
 use Rattle.f77_ast.specs.Trees.{ExprTree}
 use Rattle.f77_ast.specs.Trees as tree
 use Rattle.f77_ast.specs.declared.constant.Constant.TheVariants.{Int, Log}
-use Rattle.f77_ast.specs.declared.constant.Worth.{Worth}
-use Rattle.f77_ast.specs.declared.constant.Worth.TheVariants.{Is, Faults, Varies}
-use Rattle.f77_ast.specs.Constants.{worth}
+use Rattle.f77_ast.specs.declared.constant.ConstantValue.{ConstantValue}
+use Rattle.f77_ast.specs.declared.constant.ConstantValue.TheVariants.{Is, Faults, Varies}
+use Rattle.f77_ast.specs.Constants.{const_value}
 use Rattle.f77_ast.specs.declared.symbol.Place.{Place}
 use Rattle.f77_ast.specs.declared.symbol.Place.TheVariants.{Local, Dummy, Block, Constant}
 use Rattle.f77_ast.specs.Symbols.{SymbolTree}
@@ -100,7 +100,7 @@ binary_none Or f g a b = tt
 binary_none Eqv f g a b = tt
 binary_none Neqv f g a b = tt
 
-constant_none : (w : Worth) (f : Option Affine) → IfSome f NoExits → IfSome (constant_or w f) NoExits
+constant_none : (w : ConstantValue) (f : Option Affine) → IfSome f NoExits → IfSome (constant_or w f) NoExits
 constant_none (Is (Int n)) f h = limited_none (affine [] n) (λ m. factor_of-nil (Exit m))
 constant_none (Is (Log b)) f h = h
 constant_none Faults f h = h
@@ -115,14 +115,14 @@ cell_none None = tt
 cell_none (Some c) = λ n. factor_of-there (Exit n) (term (Cell c) (pos 1)) [] (apart n c) ∙ factor_of-nil (Exit n)
 
 pub no_exits : (k : Scalars) (e : ExprTree) → IfSome (affine_of k e) NoExits
-no_exits k (tree.int n) = constant_none (worth k.value (tree.int n)) None tt
-no_exits k (tree.log b) = constant_none (worth k.value (tree.log b)) None tt
-no_exits k (tree.name x) = constant_none (worth k.value (tree.name x)) (name_form k x) (cell_none (k.cell x))
-no_exits k (tree.element x es) = constant_none (worth k.value (tree.element x es)) None tt
-no_exits k (tree.paren e) = constant_none (worth k.value (tree.paren e)) (affine_of k e) (no_exits k e)
-no_exits k (tree.unary o e) = constant_none (worth k.value (tree.unary o e)) (unary_form o (affine_of k e)) (unary_none o (affine_of k e) (no_exits k e))
-no_exits k (tree.binary o a b) = constant_none (worth k.value (tree.binary o a b)) (binary_form o (affine_of k a) (affine_of k b)) (binary_none o (affine_of k a) (affine_of k b) (no_exits k a) (no_exits k b))
-no_exits k (tree.chars x) = constant_none (worth k.value (tree.chars x)) None tt
+no_exits k (tree.int n) = constant_none (const_value k.value (tree.int n)) None tt
+no_exits k (tree.log b) = constant_none (const_value k.value (tree.log b)) None tt
+no_exits k (tree.name x) = constant_none (const_value k.value (tree.name x)) (name_form k x) (cell_none (k.cell x))
+no_exits k (tree.element x es) = constant_none (const_value k.value (tree.element x es)) None tt
+no_exits k (tree.paren e) = constant_none (const_value k.value (tree.paren e)) (affine_of k e) (no_exits k e)
+no_exits k (tree.unary o e) = constant_none (const_value k.value (tree.unary o e)) (unary_form o (affine_of k e)) (unary_none o (affine_of k e) (no_exits k e))
+no_exits k (tree.binary o a b) = constant_none (const_value k.value (tree.binary o a b)) (binary_form o (affine_of k a) (affine_of k b)) (binary_none o (affine_of k a) (affine_of k b) (no_exits k a) (no_exits k b))
+no_exits k (tree.chars x) = constant_none (const_value k.value (tree.chars x)) None tt
 
 form_none : (m : ScopeTree) (e : Option ExprTree) → IfSome (form_in m e) NoExits
 form_none m None = tt

@@ -4,14 +4,15 @@ use Rattle.affine_systems.specs.declared.row.Var.{Var}
 use Rattle.affine_systems.specs.declared.row.Row.{Row}
 use Rattle.affine_systems.specs.Rows.{AllRows}
 use Rattle.affine_systems.specs.Given.{IsGiven}
-use Rattle.system_renaming.specs.declared.naming.Naming.{Naming}
-use Rattle.system_renaming.specs.Renaming.{naming}
+use Rattle.transformer_algebra.specs.declared.naming.Naming.{Naming}
+use Rattle.transformer_algebra.specs.Renaming.{naming}
 use Rattle.f77_ast.specs.declared.symbol.Symbol.{Symbol}
 use Rattle.f77_ast.specs.Symbols.{symbol_tree}
 use Rattle.call_translation.specs.Scopes.{ScopeTree}
 use Rattle.call_translation.specs.Variables.{auxiliary_of, auxiliaries_in}
 use Rattle.call_translation.specs.Sites.{HoldingSite}
 use Rattle.call_translation.specs.SiteEntry.{row_of, rows_from, in_callee, names_from}
+use Rattle.fx_lists.proofs.Lists.{at_place}
 
 pub ruleset lists = (append_assoc, append-nil)
 
@@ -24,11 +25,6 @@ given-push (s ∷ rs) r h f = (h.0, given-push rs r h.1 f)
 pub ruleset giving = (given-push, append_assoc, append-nil)
 
 -- ---- symbols
-
--- the rest of a list begins with the element at its place
-pub at_place : {A : Type 0} (xs : List A) (i : ℕ) (x : A) → i < length xs → x ≡ get_or xs i x → drop i xs ≡ x ∷ drop (i + 1) xs
-at_place {A} xs i x l g =
-    drop-cons xs i x l ∙ ap₂ (λ (y : A) (ys : List A). y ∷ ys) (sym g) (ap (λ n. drop n xs) (sym (add-one i)))
 
 pub rows-more : (c : HoldingSite) (n : ℕ) (out new : List Row) (ss : List Symbol) (i : ℕ) (s : Symbol) → i < length ss → s ≡ get_or ss i s → new ≡ out ++ row_of c n (symbol_tree s) → new ++ rows_from c (n + 1) (map symbol_tree (drop (i + 1) ss)) ≡ out ++ rows_from c n (map symbol_tree (drop i ss))
 rows-more c n out new ss i s l g e =

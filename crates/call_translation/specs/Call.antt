@@ -3,8 +3,8 @@ use Rattle.std.specs.Prelude.{ℕ, suc, List, [], ◌∷◌, ◌++◌, map, Opti
 use Rattle.affine_systems.specs.declared.row.Var.{Var}
 use Rattle.affine_systems.specs.declared.row.Var.TheVariants.{Cell, Exit, Phi, Aux}
 use Rattle.affine_systems.specs.declared.row.Row.{Row}
-use Rattle.system_renaming.specs.declared.naming.Naming.{Naming}
-use Rattle.system_renaming.specs.Renaming.{naming}
+use Rattle.transformer_algebra.specs.declared.naming.Naming.{Naming}
+use Rattle.transformer_algebra.specs.Renaming.{naming}
 use Rattle.f77_ast.specs.Trees.{ExprTrees}
 use Rattle.f77_ast.specs.Plain.{expr_trees}
 use Rattle.f77_ast.specs.declared.symbol.Place.{Place}
@@ -74,36 +74,36 @@ exit_or_aux n (Some x) = Exit x
 
 -- unless it is one of these
 abbrev pub unless_among : List ℕ → Option ℕ → Option ℕ
-unless_among lent None = None
-unless_among lent (Some x) = if has lent x then None else Some x
+unless_among passed_by_reference None = None
+unless_among passed_by_reference (Some x) = if has passed_by_reference x then None else Some x
 
--- the tracked cell of the caller whose exit is that of a variable of the callee, where these cells were lent to dummies before: the exit of a
--- cell that is lent to several dummies is that of the first of them
+-- the tracked cell of the caller whose exit is that of a variable of the callee, where these cells were passed to dummies before: the exit of a
+-- cell that is passed to several dummies is that of the first of them
 abbrev pub exit_of : CallTree → List ℕ → Option Place → Option ℕ
-exit_of c lent None = None
-exit_of c lent (Some (Local g o)) = None
-exit_of c lent (Some (Dummy m)) = unless_among lent (actual_cell c m)
-exit_of c lent (Some (Block b o)) = tracked_at c.caller b o
-exit_of c lent (Some (Constant n)) = None
+exit_of c passed_by_reference None = None
+exit_of c passed_by_reference (Some (Local g o)) = None
+exit_of c passed_by_reference (Some (Dummy m)) = unless_among passed_by_reference (actual_cell c m)
+exit_of c passed_by_reference (Some (Block b o)) = tracked_at c.caller b o
+exit_of c passed_by_reference (Some (Constant n)) = None
 
--- what stands for a variable of the callee, where its own auxiliary variable has the number n, and these cells were lent to dummies before
+-- what stands for a variable of the callee, where its own auxiliary variable has the number n, and these cells were passed to dummies before
 abbrev pub in_caller : CallTree → ℕ → List ℕ → Var → Var
-in_caller c n lent (Cell d) = cell_or_aux n (block_cell_at c (place_at c.symbols d))
-in_caller c n lent (Exit d) = exit_or_aux n (exit_of c lent (place_at c.symbols d))
-in_caller c n lent (Phi d) = Aux n
-in_caller c n lent (Aux d) = Aux n
+in_caller c n passed_by_reference (Cell d) = cell_or_aux n (block_cell_at c (place_at c.symbols d))
+in_caller c n passed_by_reference (Exit d) = exit_or_aux n (exit_of c passed_by_reference (place_at c.symbols d))
+in_caller c n passed_by_reference (Phi d) = Aux n
+in_caller c n passed_by_reference (Aux d) = Aux n
 
--- the cell that a variable says to be lent
-abbrev pub cell_lent_by : CallTree → Var → List ℕ
-cell_lent_by c (Cell d) = []
-cell_lent_by c (Exit d) = one_cell (dummy_cell_at c (place_at c.symbols d))
-cell_lent_by c (Phi d) = []
-cell_lent_by c (Aux d) = []
+-- the cell that a variable says to be passed
+abbrev pub cell_passed_by : CallTree → Var → List ℕ
+cell_passed_by c (Cell d) = []
+cell_passed_by c (Exit d) = one_cell (dummy_cell_at c (place_at c.symbols d))
+cell_passed_by c (Phi d) = []
+cell_passed_by c (Aux d) = []
 
 -- for variables in order, whose own auxiliary variables are numbered from n on
 abbrev pub names_from : CallTree → ℕ → List ℕ → List Var → List Naming
-names_from c n lent [] = []
-names_from c n lent (v ∷ vs) = naming v (in_caller c n lent v) ∷ names_from c (suc n) (lent ++ cell_lent_by c v) vs
+names_from c n passed_by_reference [] = []
+names_from c n passed_by_reference (v ∷ vs) = naming v (in_caller c n passed_by_reference v) ∷ names_from c (suc n) (passed_by_reference ++ cell_passed_by c v) vs
 
 abbrev pub maybe_row : Option Row → List Row
 maybe_row None = []

@@ -1,3 +1,4 @@
+pub use Rattle.transformer_algebra.specs as transformer_algebra
 pub mod Scopes
 pub mod Common
 pub mod Actuals
@@ -5,4 +6,5 @@ pub mod Variables
 pub mod Call
 pub mod Summary
 pub mod Sites
+pub mod NamedSites
 pub mod SiteEntry

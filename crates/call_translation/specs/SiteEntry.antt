@@ -7,9 +7,9 @@ use Rattle.affine_systems.specs.declared.row.System.{System}
 use Rattle.affine_systems.specs.Rows.{renamed_row}
 use Rattle.hull_projection.specs.Variables.{with_rows}
 use Rattle.hull_projection.specs.Project.{project}
-use Rattle.system_renaming.specs.declared.naming.Naming.{Naming}
-use Rattle.system_renaming.specs.Renaming.{naming, renamed_by, rename_all, push_rows}
-use Rattle.system_renaming.specs.Fresh.{above_rows}
+use Rattle.transformer_algebra.specs.declared.naming.Naming.{Naming}
+use Rattle.transformer_algebra.specs.Renaming.{naming, renamed_by, rename_all, push_rows}
+use Rattle.transformer_algebra.specs.Fresh.{above_rows}
 use Rattle.f77_ast.specs.declared.symbol.Place.{Place}
 use Rattle.f77_ast.specs.declared.symbol.Place.TheVariants.{Local, Dummy, Block, Constant}
 use Rattle.f77_ast.specs.Symbols.{SymbolTree}

@@ -6,9 +6,9 @@ use Rattle.affine_systems.specs.declared.row.System.{System}
 use Rattle.affine_systems.specs.Given.{Fits}
 use Rattle.hull_projection.specs.Variables.{with_vars, with_rows}
 use Rattle.hull_projection.specs.Project.{project}
-use Rattle.system_renaming.specs.declared.naming.Naming.{Naming}
-use Rattle.system_renaming.specs.Renaming.{rename_all, push_rows}
-use Rattle.system_renaming.specs.Fresh.{above_rows}
+use Rattle.transformer_algebra.specs.declared.naming.Naming.{Naming}
+use Rattle.transformer_algebra.specs.Renaming.{rename_all, push_rows}
+use Rattle.transformer_algebra.specs.Fresh.{above_rows}
 use Rattle.f77_ast.specs.Trees.{ExprTrees}
 use Rattle.f77_ast.specs.declared.symbol.Place.{Place}
 use Rattle.f77_ast.specs.declared.symbol.Place.TheVariants.{Local, Dummy, Block, Constant}
@@ -18,8 +18,8 @@ use Rattle.tracked_cells.specs.Scalars.{unit}
 use Rattle.transformer_algebra.specs.declared.transformer.Transformer.{Transformer}
 use Rattle.transformer_algebra.specs.Cells.{joined_cells}
 use Rattle.transformer_algebra.specs.Units.{joined_units}
-use Rattle.transformer_algebra.specs.Transformers.{transformer, unchanging}
-use Rattle.f77_results.specs.Summaries.{SummaryTree}
+use Rattle.transformer_algebra.specs.Transformers.{transformer, identity_transformer}
+use Rattle.f77_ast.specs.Summaries.{SummaryTree}
 use Rattle.call_translation.specs.Scopes.{ScopeTree}
 use Rattle.call_translation.specs.Common.{tracked_at, declares}
 use Rattle.call_translation.specs.Actuals.{one_cell}
@@ -90,7 +90,7 @@ summary_in_caller c t = transformer
 
 -- what a CALL of a module without a summary does is left out
 abbrev pub call_transformer : ScopeTree → Option (SummaryTree Transformer) → ExprTrees → Transformer
-call_transformer m None es = unchanging
+call_transformer m None es = identity_transformer
 call_transformer m (Some s) es = summary_in_caller (record { caller = m; actuals = es; symbols = s.symbols }) s.value
 
 -- ---- what is asked of a summary

@@ -2,7 +2,7 @@
 use Rattle.std.specs.Prelude.{List, [], ◌∷◌, ◌++◌}
 use Rattle.affine_systems.specs.declared.row.Var.{Var}
 use Rattle.affine_systems.specs.declared.row.Var.TheVariants.{Cell, Exit, Phi, Aux}
-use Rattle.system_renaming.specs.declared.naming.Naming.{Naming}
+use Rattle.transformer_algebra.specs.declared.naming.Naming.{Naming}
 
 -- a variable, if it is auxiliary
 abbrev pub auxiliary_of : Var → List Var

@@ -1,12 +1,12 @@
 //! What variables of a callee are to its caller: a dummy is its actual, a variable of a block the caller's variable at the same unit. A cell of the
-//! caller is lent to a dummy whose actual names it; where it is lent to several, the first of them has it.
+//! caller is passed to a dummy whose actual names it; where it is passed to several, the first of them has it.
 ghost use Rattle.std.specs.Prelude.{◌≡◌, map, IfOk, IfSome, option_copied};
 ghost use Rattle.affine_systems.specs.Given.{IsGiven};
 ghost use Rattle.f77_ast.specs.Symbols.{symbol_tree};
 ghost use Rattle.f77_ast.specs.Shared.{place_at};
 ghost use Rattle.affine_forms.specs.Forms.{IsSmallForm};
 ghost use Rattle.call_translation.specs.Actuals.{one_cell};
-ghost use Rattle.call_translation.specs.Call.{actual_cell as actual_cell_is, cell_at as cell_at_is, block_cell_at as block_cell_at_is, dummy_cell_at as dummy_cell_at_is, form_at as form_at_is, unless_among as unless_among_is, exit_of as exit_of_is, cell_or_aux as cell_or_aux_is, exit_or_aux as exit_or_aux_is, in_caller as in_caller_is, cell_lent_by as cell_lent_by_is, form_row as form_row_is, row_of as row_of_is, maybe_row, call_tree};
+ghost use Rattle.call_translation.specs.Call.{actual_cell as actual_cell_is, cell_at as cell_at_is, block_cell_at as block_cell_at_is, dummy_cell_at as dummy_cell_at_is, form_at as form_at_is, unless_among as unless_among_is, exit_of as exit_of_is, cell_or_aux as cell_or_aux_is, exit_or_aux as exit_or_aux_is, in_caller as in_caller_is, cell_passed_by as cell_passed_by_is, form_row as form_row_is, row_of as row_of_is, maybe_row, call_tree};
 
 use crate::actual::{actual_of, form_in};
 use crate::common::tracked_at;
@@ -35,13 +35,19 @@ fn place_in(symbols: &Symbols, number: u32) -> Option<&Place>
     }
 }
 
-/// The cell, unless it was lent to an earlier dummy.
-fn unless_among(lent: &[u32], cell: Option<u32>) -> Option<u32>
-    ensures { result ≡ unless_among_is lent.now cell }
+/// The cell, unless it was passed to an earlier dummy.
+fn unless_among(passed_by_reference: &[u32], cell: Option<u32>) -> Option<u32>
+    ensures { result ≡ unless_among_is passed_by_reference.now cell }
 {
     match cell {
         None => None,
-        Some(found) => { if has(lent, found) { None } else { Some(found) } }
+        Some(found) => {
+            if has(passed_by_reference, found) {
+                None
+            } else {
+                Some(found)
+            }
+        }
     }
 }
 
@@ -98,7 +104,7 @@ impl CallContext<'_> {
         }
     }
 
-    /// The tracked cell of the caller that is lent to a symbol of the callee: none, unless the symbol is a dummy.
+    /// The tracked cell of the caller that is passed to a symbol of the callee: none, unless the symbol is a dummy.
     fn dummy_cell(&self, cell: u32) -> Option<u32>
         ensures { result ≡ dummy_cell_at_is (call_tree self.now) (place_at (map symbol_tree self.now.symbols.now) cell) }
     {
@@ -139,15 +145,18 @@ impl CallContext<'_> {
         }
     }
 
-    /// The tracked cell of the caller whose exit is that of a cell of the callee; `lent`: the caller's cells that are lent to earlier dummies. A
-    /// cell that is lent to several dummies has the exit of the first of them.
-    fn exit(&self, lent: &[u32], cell: u32) -> Result<Option<u32>, Memory>
-        ensures { IfOk result (λ found. found ≡ exit_of_is (call_tree self.now) lent.now (place_at (map symbol_tree self.now.symbols.now) cell)) }
+    /// The tracked cell of the caller whose exit is that of a cell of the callee; `passed_by_reference`: the caller's cells that are passed to earlier dummies. A
+    /// cell that is passed to several dummies has the exit of the first of them.
+    fn exit(&self, passed_by_reference: &[u32], cell: u32) -> Result<Option<u32>, Memory>
+        ensures { IfOk result (λ found. found ≡ exit_of_is (call_tree self.now) passed_by_reference.now (place_at (map symbol_tree self.now.symbols.now) cell)) }
     {
         match self.place(cell) {
             None => Ok(None),
             Some(place) => match place {
-                Place::Dummy(dummy) => Ok(unless_among(lent, self.actual_cell(*dummy))),
+                Place::Dummy(dummy) => Ok(unless_among(
+                    passed_by_reference,
+                    self.actual_cell(*dummy),
+                )),
                 Place::Block(block, offset) => tracked_at(self.caller, block, *offset),
                 Place::Local(..) | Place::Constant(_) => Ok(None),
             },
@@ -155,22 +164,22 @@ impl CallContext<'_> {
     }
 
     /// The caller's variable for a variable of the callee. `Cell` of a variable of a common block and `Exit` of that or of a dummy become
-    /// those of the caller's analysed scalar at the same unit, where there is one; all others become `Aux(aux)`. `lent`: the caller's scalars
+    /// those of the caller's analysed scalar at the same unit, where there is one; all others become `Aux(aux)`. `passed_by_reference`: the caller's scalars
     /// that are actuals of earlier dummies, whose exits they keep.
-    pub fn in_caller(&self, aux: u32, lent: &[u32], v: Var) -> Result<Var, Memory>
-        ensures { IfOk result (λ w. w ≡ in_caller_is (call_tree self.now) aux lent.now v) }
+    pub fn in_caller(&self, aux: u32, passed_by_reference: &[u32], v: Var) -> Result<Var, Memory>
+        ensures { IfOk result (λ w. w ≡ in_caller_is (call_tree self.now) aux passed_by_reference.now v) }
     {
         match v {
             Var::Cell(cell) => Ok(cell_or_aux(aux, self.block_cell(cell)?)),
-            Var::Exit(cell) => Ok(exit_or_aux(aux, self.exit(lent, cell)?)),
+            Var::Exit(cell) => Ok(exit_or_aux(aux, self.exit(passed_by_reference, cell)?)),
             Var::Phi(_) | Var::Aux(_) => Ok(Var::Aux(aux)),
         }
     }
 
     /// The analysed scalar of the caller that is the actual of the dummy whose `Exit` a variable is; None for other variables and other
     /// actuals.
-    pub fn cell_lent_by(&self, v: Var) -> Option<u32>
-        ensures { one_cell result ≡ cell_lent_by_is (call_tree self.now) v }
+    pub fn cell_passed_by(&self, v: Var) -> Option<u32>
+        ensures { one_cell result ≡ cell_passed_by_is (call_tree self.now) v }
     {
         match v {
             Var::Exit(cell) => self.dummy_cell(cell),

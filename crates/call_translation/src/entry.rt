@@ -3,7 +3,7 @@ ghost use Rattle.std.specs.Prelude.{◌≡◌, ◌+◌, ◌++◌, map, IfOk, IfS
 ghost use Rattle.affine_systems.specs.Rows.{AllRows, renamed_row as renamed_row_is};
 ghost use Rattle.affine_systems.specs.Given.{IsGiven, IsSmallRow, Fits};
 ghost use Rattle.f77_ast.specs.Symbols.{symbol_tree};
-ghost use Rattle.system_renaming.specs.Renaming.{renamed_by};
+ghost use Rattle.transformer_algebra.specs.Renaming.{renamed_by};
 ghost use Rattle.call_translation.specs.Scopes.{scope_tree};
 ghost use Rattle.call_translation.specs.Sites.{site_tree};
 ghost use Rattle.call_translation.specs.SiteEntry.{dummy_form as dummy_form_is, row_of, rows_from, kept_cell as kept_cell_is, in_callee as in_callee_is, names_from, site_entry as site_entry_is};
@@ -16,22 +16,12 @@ use crate::variables::auxiliaries_in;
 use crate::{CellScope, Site, next_number};
 use affine_forms::{Affine, is_cell, no_rows, same_row, var_form};
 use affine_systems::{Row, System, Var};
-use f77_ast::{Place, Scalar, Symbol};
+use f77_ast::{Place, Symbol};
 use fx_lists::List;
 use hull_projection::{add_rows, project};
 use std::alloc::{AllocError as Memory, Global};
-use system_renaming::{Naming, fresh_over, push_rows, rename_all, renamed_row};
-use tracked_cells::has_bounds;
-
-/// Whether a symbol is an INTEGER scalar.
-fn is_int_scalar(symbol: &Symbol) -> bool
-    ensures { result ≡ is_int_scalar (symbol_tree symbol.now) }
-{
-    match symbol.scalar {
-        Scalar::Int => !has_bounds(symbol),
-        Scalar::Log => false,
-    }
-}
+use tracked_cells::is_int_scalar;
+use transformer_algebra::{Naming, fresh_over, push_rows, rename_all, renamed_row};
 
 /// The form of the actual of a dummy that is an INTEGER scalar.
 fn dummy_form(alloc: Global, site: &Site<System>, symbol: &Symbol) -> Result<Option<Affine>, Memory>

@@ -4,8 +4,8 @@ ghost use Rattle.f77_ast.specs.PlainDecl.{module_tree};
 ghost use Rattle.f77_ast.specs.Symbols.{symbol_tree};
 ghost use Rattle.tracked_cells.specs.Tracked.{tracked_of};
 
+use call_graph::View;
 use f77_ast::Symbols;
-use f77_results::View;
 use fx_lists::List;
 use std::alloc::{AllocError as Memory, Global};
 use tracked_cells::tracked_flags;

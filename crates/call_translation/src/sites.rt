@@ -6,8 +6,8 @@ ghost use Rattle.call_translation.specs.Scopes.{scope_of};
 ghost use Rattle.call_translation.specs.Sites.{caller_tree, actuals_in, sites_in};
 
 use crate::{CellScope, tracked_of};
-use f77_ast::{Expr, Stmt, Symbols, What, copy_exprs};
-use f77_results::{View, copy_symbols};
+use call_graph::View;
+use f77_ast::{Expr, Stmt, Symbols, What, copy_exprs, copy_symbols};
 use fx_lists::List;
 use std::alloc::{AllocError as Memory, Global};
 use std::rc::Rc;

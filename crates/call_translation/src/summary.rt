@@ -3,7 +3,7 @@ ghost use Rattle.std.specs.Prelude.{◌≡◌, ◌+◌, ◌<◌, ◌^◌, ◌++�
 ghost use Rattle.affine_systems.specs.Rows.{AllRows};
 ghost use Rattle.affine_systems.specs.Given.{IsGiven, Fits};
 ghost use Rattle.f77_ast.specs.Plain.{expr_trees};
-ghost use Rattle.f77_results.specs.Summaries.{summary_tree};
+ghost use Rattle.f77_ast.specs.Summaries.{summary_tree};
 ghost use Rattle.transformer_algebra.specs.Cells.{joined_cells as joined_cells_is};
 ghost use Rattle.transformer_algebra.specs.Units.{joined_units as joined_units_is};
 ghost use Rattle.call_translation.specs.Scopes.{scope_tree};
@@ -16,13 +16,14 @@ use crate::variables::auxiliaries_in;
 use crate::{CellScope, push_cell};
 use affine_forms::no_rows;
 use affine_systems::{Row, System, Var};
-use f77_ast::{Expr, Place, Unit};
-use f77_results::Summary;
+use f77_ast::{Expr, Place, Summary, Unit};
 use fx_lists::List;
 use hull_projection::{add_rows, add_var, project};
 use std::alloc::{AllocError as Memory, Global};
-use system_renaming::{Naming, fresh_over, push_rows, rename_all};
-use transformer_algebra::{Transformer, joined_cells, joined_units, unchanging};
+use transformer_algebra::{
+    Naming, Transformer, fresh_over, identity_transformer, joined_cells, joined_units, push_rows,
+    rename_all,
+};
 
 /// The variables of a summary and the exits of what it changes, in order. Each is looked up among those before it.
 fn summary_vars(alloc: Global, t: &Transformer) -> Result<Vec<Var>, Memory>
@@ -50,13 +51,13 @@ fn namings(
     ensures { IfOk result (λ ns. ns.items ≡ names_from (call_tree call.now) first [] vars.now) }
 {
     let mut names = Vec::new(alloc);
-    let mut lent = Vec::new(alloc);
+    let mut passed_by_reference = Vec::new(alloc);
     let mut number = first;
     let mut rest = vars;
     while let [v, more @ ..] = rest {
-        let to = call.in_caller(number, lent.as_slice(), *v)?;
+        let to = call.in_caller(number, passed_by_reference.as_slice(), *v)?;
         names.push(Naming { from: *v, to })?;
-        push_cell(&mut lent, call.cell_lent_by(*v))?;
+        push_cell(&mut passed_by_reference, call.cell_passed_by(*v))?;
         number += 1;
         rest = more;
     }
@@ -268,7 +269,7 @@ pub fn call_transformer(
     ensures fits { IfOk result (λ t. Fits t.system) }
 {
     match summary {
-        None => Ok(unchanging(alloc)),
+        None => Ok(identity_transformer(alloc)),
         Some(summary) => {
             let call = CallContext {
                 caller,

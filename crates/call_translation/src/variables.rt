@@ -5,7 +5,7 @@ ghost use Rattle.call_translation.specs.Variables.{auxiliary_of, auxiliaries_in 
 use affine_systems::Var;
 use fx_lists::List;
 use std::alloc::{AllocError as Memory, Global};
-use system_renaming::Naming;
+use transformer_algebra::Naming;
 
 /// Adds a variable, if it is auxiliary.
 fn add_auxiliary(out: &mut List<Var>, v: Var) -> Result<(), Memory>

@@ -1,7 +1,8 @@
 //! Stores and sinks in memory, whose calls of one number fail.
 ghost use Rattle.std.specs.Prelude.{◌<◌};
 
-use fx_base::{List, MemSink, MemStore, Text};
+use fx_base::{MemSink, MemStore};
+use fx_lists::{List, Text};
 use std::alloc::{AllocError as Memory, Global};
 
 /// The number of a call that is never made.

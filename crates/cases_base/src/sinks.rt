@@ -1,6 +1,7 @@
 //! What sending a text answers, and what sinks take: in memory, and of real streams.
 use crate::outside::{NEVER, sink};
-use fx_base::{Put, Sent, Sink, StdSink, Text, send};
+use fx_base::{Put, Sent, Sink, StdSink, send};
+use fx_lists::Text;
 use std::alloc::{AllocError as Memory, Global};
 use std::process::Abort;
 use std::test::Fail;

@@ -1,6 +1,7 @@
 //! What a store answers: of files in memory, and of real files.
 use crate::outside::{NEVER, store};
-use fx_base::{Fetched, FileStore, Kept, Role, Store, Text};
+use fx_base::{Fetched, FileStore, Kept, Role, Store};
+use fx_lists::Text;
 use std::alloc::Global;
 use std::test::Fail;
 
@@ -74,6 +75,23 @@ fn real_file_is_kept_and_fetched(rt: HostRuntime) -> Result<(), Fail> {
     std::fs::remove_file(&rt, REAL)?;
     let gone = files.fetch(alloc, Role::Base, &name, 5);
     assert!(rt; matches!(gone, Fetched::Absent), "removed");
+    Ok(())
+}
+
+const REPLACED: &str = "cases_base_replaced_file.txt";
+
+#[test]
+fn real_file_is_replaced(rt: HostRuntime) -> Result<(), Fail> {
+    let alloc = rt.alloc();
+    let name = Text::from_bytes(alloc, REPLACED.as_bytes())?;
+    let mut files = FileStore::new(&rt);
+    for bytes in ["12345", "123", "123", "678"] {
+        let text = Text::from_bytes(alloc, bytes.as_bytes())?;
+        assert_eq!(rt; files.keep(&name, &text), Kept::Done, "{bytes}");
+        let kept = files.fetch(alloc, Role::Base, &name, 5);
+        assert!(rt; is_got(&kept, bytes.as_bytes()), "{bytes}");
+    }
+    std::fs::remove_file(&rt, REPLACED)?;
     Ok(())
 }
 

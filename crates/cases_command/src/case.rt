@@ -1,5 +1,6 @@
 //! One program, run over a store and sinks in memory.
-use fx_base::{List, MemSink, MemStore, Text, Words};
+use fx_base::{MemSink, MemStore, Words};
+use fx_lists::{List, Text};
 use pips_top::run;
 use std::alloc::{AllocError as Memory, Global};
 

@@ -7,7 +7,7 @@
 
 mod case;
 
-use fx_base::Text;
+use fx_lists::Text;
 use std::io::{self, BufRead, BufReader};
 
 fn main(rt: HostRuntime) -> io::Result<()> {

@@ -1,6 +1,7 @@
 //! One run, over a store and sinks of which some calls fail.
 use crate::held::{File, number_of};
-use fx_base::{Fetched, List, MemSink, MemStore, Role, Store, Text, Words};
+use fx_base::{Fetched, MemSink, MemStore, Role, Store, Words};
+use fx_lists::{List, Text};
 use pips_top::{Status, run};
 use std::alloc::{AllocError as Memory, Global};
 

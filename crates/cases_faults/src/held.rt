@@ -1,5 +1,5 @@
 //! The files of a run, as standard input tells them.
-use fx_base::Text;
+use fx_lists::Text;
 use std::alloc::{AllocError as Memory, Global};
 
 /// A file: its name and its bytes.

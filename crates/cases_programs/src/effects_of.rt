@@ -2,10 +2,11 @@
 
 use crate::shown::text_of;
 use crate::variables::add_variable;
-use call_graph::Graph;
+use call_graph::{Graph, View};
 use effects::{cumulated_effects, proper};
-use f77_ast::{Arm, Loop, Parsed, Stmt, Symbols, What};
-use f77_results::{EffectSet, Results, Summaries, Variable, View, copy_effect};
+use f77_ast::{
+    Arm, EffectSet, Loop, Parsed, Results, Stmt, Summaries, Symbols, Variable, What, copy_effect,
+};
 use fx_lists::List;
 use std::alloc::{AllocError as Memory, Global};
 use tracked_cells::Names;

@@ -1,22 +1,19 @@
 //! Conflicts of the iterations of loops, and private variables.
 ghost use Rattle.std.specs.Prelude.{◌≡◌, All, length};
 ghost use Rattle.region_sets.specs.Lists.{SetsFit};
-ghost use Rattle.region_phases.specs.InViews.{ModuleFits};
-ghost use Rattle.loop_bodies.specs.Given.{AnalysisFits};
+ghost use Rattle.module_phases.specs.InViews.{ModuleFits};
+ghost use Rattle.dependence_test.specs.Given.{AnalysisFits};
 
 use crate::scalars::add_system;
 use crate::shown::text_of;
 use crate::variables::add_variable;
-use call_graph::Graph;
-use dependence_test::{Conflict, conflict};
-use f77_ast::{Parsed, StmtId, Symbols};
-use f77_results::{EffectSet, Results, Variable, View};
+use call_graph::{Graph, View};
+use dependence_test::{Analysis, Conflict, body_of, conflict, loop_in};
+use f77_ast::{EffectSet, Kinds, Parsed, Private, Results, StmtId, Symbols, Variable};
 use fx_lists::List;
-use loop_bodies::{Analysis, body_of, loop_in};
+use module_phases::{ModuleIns, all_ins, all_regions, analyses};
 use privatizer::may_be_private;
-use region_phases::{ModuleIns, all_ins, all_regions};
-use region_sets::{Access, Kinds, Private, RegionSet};
-use scalar_phases::analyses;
+use region_sets::{Access, RegionSet};
 use std::alloc::{AllocError as Memory, Global};
 
 /// What is answered of one variable and kinds.

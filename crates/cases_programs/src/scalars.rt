@@ -6,7 +6,7 @@ use affine_systems::{Row, System, Var};
 use call_graph::Graph;
 use f77_ast::{Parsed, Symbols, Unit};
 use fx_lists::List;
-use scalar_phases::{Analysis, analyses};
+use module_phases::{Analysis, analyses};
 use std::alloc::{AllocError as Memory, Global};
 use transformer_algebra::Transformer;
 

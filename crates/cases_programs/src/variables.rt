@@ -1,8 +1,7 @@
 //! Variables as they are printed.
 
 use crate::shown::{name_of, text_of};
-use f77_ast::Symbols;
-use f77_results::Variable;
+use f77_ast::{Symbols, Variable};
 use std::alloc::{AllocError as Memory, Global};
 
 /// A blank and the name.

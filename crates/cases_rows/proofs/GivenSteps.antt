@@ -10,6 +10,7 @@ use Rattle.transformer_algebra.specs.declared.transformer.Transformer.{Transform
 use Rattle.transformer_algebra.specs.Transformers.{AllFit}
 use Rattle.cases_rows.specs.Given.{IsGivenTerm, IsBeforeFirst, AreGiven}
 use Rattle.affine_systems.proofs.AscendLaws.{before_later}
+use Rattle.transformer_algebra.proofs.Shared.{fits-push as fit_last}
 
 pub before-none : (v : Var) (ts : List Term) → length ts ≡ 0 → IsBeforeFirst v ts
 before-none v [] e = tt
@@ -40,10 +41,6 @@ rows-more rs k r l e g f h =
     f (subst (λ n. AllRows IsGiven (drop n rs)) (sym (add-one k)) ((subst (λ (ss : List Row). AllRows IsGiven ss) (drop-cons rs k r l) h).1))
 
 -- ---- transformers read one after the other
-
-fit_last : (ts : List Transformer) (t : Transformer) → AllFit ts → Fits t.system → AllFit (ts ++ t ∷ [])
-fit_last [] t h k = (k, tt)
-fit_last (u ∷ ts) t h k = (h.0, fit_last ts t h.1 k)
 
 pub fit-more : (ts us : List Transformer) (t : Transformer) → us ≡ ts ++ t ∷ [] → AllFit ts → Fits t.system → AllFit us
 fit-more ts us t e h k = subst AllFit (sym e) (fit_last ts t h k)

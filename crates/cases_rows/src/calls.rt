@@ -1,17 +1,22 @@
 //! What each call answers.
 
 use crate::area_calls::{eliminated_case, refuted_cases};
+use crate::decode_error::DecodeError;
 use crate::form_calls::{condition_answer, form_answer};
 use crate::loop_calls::loop_answer;
 use crate::naming_calls::{all_pushed, all_renamed, fresh_case, variables_case};
 use crate::row_calls;
 use crate::text_calls::{precondition_answer, system_answer, transformer_answer};
 use crate::transformer_calls::{apply_answer, closed_answer, one_answer, then_answer};
-use crate::trouble::Trouble;
 use std::alloc::{AllocError, Global};
 
 /// The calls on forms, transformers and DO statements, and those of texts.
-fn scalar_call(alloc: Global, call: &str, words: &str, parts: &[&str]) -> Result<String, Trouble> {
+fn scalar_call(
+    alloc: Global,
+    call: &str,
+    words: &str,
+    parts: &[&str],
+) -> Result<String, DecodeError> {
     match call {
         "form" => form_answer(alloc, parts),
         "condition" => condition_answer(alloc, parts),
@@ -23,12 +28,17 @@ fn scalar_call(alloc: Global, call: &str, words: &str, parts: &[&str]) -> Result
         "text" => system_answer(alloc, words, parts),
         "precondition" => precondition_answer(alloc, words, parts),
         "transformer" => transformer_answer(alloc, words, parts),
-        _ => Err(Trouble::Malformed),
+        _ => Err(DecodeError::Malformed),
     }
 }
 
 /// The calls on a work area.
-fn area_call(alloc: Global, call: &str, words: &str, parts: &[&str]) -> Result<String, Trouble> {
+fn area_call(
+    alloc: Global,
+    call: &str,
+    words: &str,
+    parts: &[&str],
+) -> Result<String, DecodeError> {
     match call {
         "eliminate_in" => eliminated_case(alloc, words, parts),
         "refuted_in" => refuted_cases(alloc, words, parts),
@@ -37,7 +47,12 @@ fn area_call(alloc: Global, call: &str, words: &str, parts: &[&str]) -> Result<S
 }
 
 /// The calls that make systems of rows of other systems.
-fn naming_call(alloc: Global, call: &str, words: &str, parts: &[&str]) -> Result<String, Trouble> {
+fn naming_call(
+    alloc: Global,
+    call: &str,
+    words: &str,
+    parts: &[&str],
+) -> Result<String, DecodeError> {
     match call {
         "rename_all" => all_renamed(alloc, words, parts),
         "of_rows" => variables_case(alloc, parts),
@@ -47,7 +62,7 @@ fn naming_call(alloc: Global, call: &str, words: &str, parts: &[&str]) -> Result
     }
 }
 
-fn row_call(alloc: Global, call: &str, words: &str, parts: &[&str]) -> Result<String, Trouble> {
+fn row_call(alloc: Global, call: &str, words: &str, parts: &[&str]) -> Result<String, DecodeError> {
     match call {
         "normalise" => row_calls::normalise_case(alloc, parts),
         "tidy" => row_calls::tidy_case(alloc, parts),
@@ -67,7 +82,7 @@ fn row_call(alloc: Global, call: &str, words: &str, parts: &[&str]) -> Result<St
     }
 }
 
-fn call_case(alloc: Global, line: &str) -> Result<String, Trouble> {
+fn call_case(alloc: Global, line: &str) -> Result<String, DecodeError> {
     let mut parts = Vec::new(alloc);
     for part in line.split(';') {
         parts.push(part)?;
@@ -77,7 +92,7 @@ fn call_case(alloc: Global, line: &str) -> Result<String, Trouble> {
             None => row_call(alloc, head.trim(), "", parts),
             Some((call, words)) => row_call(alloc, call, words, parts),
         },
-        [] => Err(Trouble::Malformed),
+        [] => Err(DecodeError::Malformed),
     }
 }
 
@@ -85,7 +100,7 @@ fn call_case(alloc: Global, line: &str) -> Result<String, Trouble> {
 pub fn answer(alloc: Global, line: &str) -> Result<String, AllocError> {
     match call_case(alloc, line) {
         Ok(text) => Ok(text),
-        Err(Trouble::Memory) => Err(AllocError),
-        Err(Trouble::Malformed) => String::from_str(alloc, "malformed"),
+        Err(DecodeError::Memory) => Err(AllocError),
+        Err(DecodeError::Malformed) => String::from_str(alloc, "malformed"),
     }
 }

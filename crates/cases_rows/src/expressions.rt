@@ -1,5 +1,5 @@
 //! Expressions with their operators behind the operands.
-use crate::trouble::Trouble;
+use crate::decode_error::DecodeError;
 use f77_ast::{BinaryOp, Expr, UnaryOp};
 use fx_lists::{List, Text};
 use std::alloc::Global;
@@ -35,7 +35,7 @@ fn binary_of(word: &str) -> Option<BinaryOp> {
 }
 
 /// A constant, a name, or an element of one subscript, 1.
-fn leaf_of(alloc: Global, word: &str) -> Result<Expr, Trouble> {
+fn leaf_of(alloc: Global, word: &str) -> Result<Expr, DecodeError> {
     if word == ".T." || word == ".F." {
         return Ok(Expr::Log(word == ".T."));
     }
@@ -50,29 +50,29 @@ fn leaf_of(alloc: Global, word: &str) -> Result<Expr, Trouble> {
     Ok(Expr::Name(Text::from_bytes(alloc, word.as_bytes())?))
 }
 
-fn take(alloc: Global, stack: &mut Vec<Expr>, word: &str) -> Result<Expr, Trouble> {
+fn take(alloc: Global, stack: &mut Vec<Expr>, word: &str) -> Result<Expr, DecodeError> {
     if let Some(op) = binary_of(word) {
-        let right = stack.pop().ok_or(Trouble::Malformed)?;
-        let left = stack.pop().ok_or(Trouble::Malformed)?;
+        let right = stack.pop().ok_or(DecodeError::Malformed)?;
+        let left = stack.pop().ok_or(DecodeError::Malformed)?;
         return Ok(Expr::Binary(op, Box::new(alloc, left)?, Box::new(alloc, right)?));
     }
     if let Some(op) = unary_of(word) {
-        let operand = stack.pop().ok_or(Trouble::Malformed)?;
+        let operand = stack.pop().ok_or(DecodeError::Malformed)?;
         return Ok(Expr::Unary(op, Box::new(alloc, operand)?));
     }
     if word == "()" {
-        let inside = stack.pop().ok_or(Trouble::Malformed)?;
+        let inside = stack.pop().ok_or(DecodeError::Malformed)?;
         return Ok(Expr::Paren(Box::new(alloc, inside)?));
     }
     leaf_of(alloc, word)
 }
 
 /// The expression that is left at the end.
-pub fn expression_of(alloc: Global, part: &str) -> Result<Expr, Trouble> {
+pub fn expression_of(alloc: Global, part: &str) -> Result<Expr, DecodeError> {
     let mut stack = Vec::new(alloc);
     for word in part.split_whitespace() {
         let e = take(alloc, &mut stack, word)?;
         stack.push(e)?;
     }
-    stack.pop().ok_or(Trouble::Malformed)
+    stack.pop().ok_or(DecodeError::Malformed)
 }

@@ -1,13 +1,13 @@
 //! The calls on expressions.
 
+use crate::decode_error::DecodeError;
 use crate::expressions::expression_of;
 use crate::tables::table_of;
-use crate::trouble::Trouble;
 use crate::written::{affine_text, condition_text};
 use affine_forms::{affine_of, condition_of};
 use std::alloc::Global;
 
-pub fn form_answer(alloc: Global, parts: &[&str]) -> Result<String, Trouble> {
+pub fn form_answer(alloc: Global, parts: &[&str]) -> Result<String, DecodeError> {
     match parts {
         [symbols, e] => {
             let table = table_of(alloc, symbols)?;
@@ -17,11 +17,11 @@ pub fn form_answer(alloc: Global, parts: &[&str]) -> Result<String, Trouble> {
                 None => Ok(String::from_str(alloc, "none")?),
             }
         }
-        _ => Err(Trouble::Malformed),
+        _ => Err(DecodeError::Malformed),
     }
 }
 
-pub fn condition_answer(alloc: Global, parts: &[&str]) -> Result<String, Trouble> {
+pub fn condition_answer(alloc: Global, parts: &[&str]) -> Result<String, DecodeError> {
     match parts {
         [symbols, e] => {
             let table = table_of(alloc, symbols)?;
@@ -29,6 +29,6 @@ pub fn condition_answer(alloc: Global, parts: &[&str]) -> Result<String, Trouble
             let c = condition_of(alloc, &table.symbols, &table.tracked, &e)?;
             Ok(condition_text(alloc, &c)?)
         }
-        _ => Err(Trouble::Malformed),
+        _ => Err(DecodeError::Malformed),
     }
 }

@@ -3,11 +3,11 @@ ghost use Rattle.std.specs.Prelude.{IfOk};
 ghost use Rattle.affine_systems.specs.Given.{Fits};
 ghost use Rattle.transformer_algebra.specs.Loops.{LoopFits};
 
+use crate::decode_error::DecodeError;
 use crate::expressions::expression_of;
 use crate::rows::system_of;
 use crate::tables::{Table, table_of};
 use crate::transformers::transformer_of;
-use crate::trouble::Trouble;
 use crate::written::{system_text, transformer_text};
 use affine_forms::{affine_of, is_cell};
 use affine_systems::System;
@@ -17,11 +17,11 @@ use transformer_algebra::{
     loop_transformer, some_iterations, zero_iterations,
 };
 
-fn step_of(word: &str) -> Result<Option<i32>, Trouble> {
+fn step_of(word: &str) -> Result<Option<i32>, DecodeError> {
     if word == "none" {
         return Ok(None);
     }
-    Ok(Some(word.parse().map_err(|_| Trouble::Malformed)?))
+    Ok(Some(word.parse().map_err(|_| DecodeError::Malformed)?))
 }
 
 fn parts_of(
@@ -31,11 +31,11 @@ fn parts_of(
     first: &str,
     last: &str,
     body: &str,
-) -> Result<LoopParts, Trouble>
+) -> Result<LoopParts, DecodeError>
     ensures { IfOk result LoopFits }
 {
-    let (index, step) = head.trim().split_once(' ').ok_or(Trouble::Malformed)?;
-    let index = index.parse().map_err(|_| Trouble::Malformed)?;
+    let (index, step) = head.trim().split_once(' ').ok_or(DecodeError::Malformed)?;
+    let index = index.parse().map_err(|_| DecodeError::Malformed)?;
     let first = expression_of(alloc, first)?;
     let last = expression_of(alloc, last)?;
     Ok(LoopParts {
@@ -49,7 +49,7 @@ fn parts_of(
 }
 
 /// What an iteration does, what no iteration is, what some iterations do, and what the whole loop does.
-fn runs_text(alloc: Global, l: &LoopParts, t: &Transformer) -> Result<String, Trouble>
+fn runs_text(alloc: Global, l: &LoopParts, t: &Transformer) -> Result<String, DecodeError>
     requires parts { LoopFits l.now }
     requires turn { Fits t.now.system }
 {
@@ -68,7 +68,7 @@ fn known_text(
     t: &Transformer,
     before: &System,
     after: &System,
-) -> Result<String, Trouble>
+) -> Result<String, DecodeError>
     requires parts { LoopFits l.now }
     requires turn { Fits t.now.system }
     requires before { Fits before.now }
@@ -80,7 +80,7 @@ fn known_text(
     Ok(format!(in alloc; "{begun} ; {within} ; {done}")?)
 }
 
-fn loop_text(alloc: Global, l: &LoopParts, before: &str, after: &str) -> Result<String, Trouble>
+fn loop_text(alloc: Global, l: &LoopParts, before: &str, after: &str) -> Result<String, DecodeError>
     requires { LoopFits l.now }
 {
     let t = iteration(alloc, l)?;
@@ -92,13 +92,13 @@ fn loop_text(alloc: Global, l: &LoopParts, before: &str, after: &str) -> Result<
 }
 
 /// The pieces of the transformer of a DO.
-pub fn loop_answer(alloc: Global, parts: &[&str]) -> Result<String, Trouble> {
+pub fn loop_answer(alloc: Global, parts: &[&str]) -> Result<String, DecodeError> {
     match parts {
         [symbols, head, first, last, body, before, after] => {
             let table = table_of(alloc, symbols)?;
             let l = parts_of(alloc, &table, head, first, last, body)?;
             loop_text(alloc, &l, before, after)
         }
-        _ => Err(Trouble::Malformed),
+        _ => Err(DecodeError::Malformed),
     }
 }

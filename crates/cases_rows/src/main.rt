@@ -8,6 +8,7 @@
 
 mod area_calls;
 mod calls;
+mod decode_error;
 mod expressions;
 mod form_calls;
 mod given;
@@ -19,7 +20,6 @@ mod tables;
 mod text_calls;
 mod transformer_calls;
 mod transformers;
-mod trouble;
 mod written;
 
 use std::io::{self, BufRead, BufReader};

@@ -3,8 +3,8 @@ ghost use Rattle.std.specs.Prelude.{◌≡◌, IfOk};
 ghost use Rattle.affine_systems.specs.Rows.{AllRows};
 ghost use Rattle.affine_systems.specs.Given.{Fits, IsGiven, IsNormal};
 
+use crate::decode_error::DecodeError;
 use crate::given::{are_rows, fitting, is_row};
-use crate::trouble::Trouble;
 use affine_systems::{Norm, Row, Rows, System, Term, Terms, Var, Vars, normalise};
 use fx_lists::List;
 use std::alloc::{AllocError, Global};
@@ -48,9 +48,9 @@ impl Draft {
     }
 
     /// Takes a factor, a variable or a bound.
-    fn take_part(&mut self, alloc: Global, word: &str) -> Result<(), Trouble> {
+    fn parse_part(&mut self, alloc: Global, word: &str) -> Result<(), DecodeError> {
         if let Some(equal) = self.equal {
-            let bound = word.parse().map_err(|_| Trouble::Malformed)?;
+            let bound = word.parse().map_err(|_| DecodeError::Malformed)?;
             let terms = mem::replace(&mut self.terms, List::new(alloc));
             self.equal = None;
             self.rows.push(Row {
@@ -59,22 +59,22 @@ impl Draft {
                 bound,
             })?;
         } else if let Some(factor) = self.factor {
-            let var = var_of(word).ok_or(Trouble::Malformed)?;
+            let var = var_of(word).ok_or(DecodeError::Malformed)?;
             self.factor = None;
             self.terms.push(Term { var, factor })?;
         } else {
-            self.factor = Some(word.parse().map_err(|_| Trouble::Malformed)?);
+            self.factor = Some(word.parse().map_err(|_| DecodeError::Malformed)?);
         }
         Ok(())
     }
 
-    fn take(&mut self, alloc: Global, word: &str) -> Result<(), Trouble> {
+    fn take(&mut self, alloc: Global, word: &str) -> Result<(), DecodeError> {
         match word {
             "weak" => self.weak = true,
             "," => {}
             "<=" => self.equal = Some(false),
             "==" => self.equal = Some(true),
-            _ => self.take_part(alloc, word)?,
+            _ => self.parse_part(alloc, word)?,
         }
         Ok(())
     }
@@ -92,16 +92,16 @@ impl Draft {
 }
 
 /// The variables of words.
-pub fn vars_of(alloc: Global, words: &str) -> Result<Vars, Trouble> {
+pub fn vars_of(alloc: Global, words: &str) -> Result<Vars, DecodeError> {
     let mut vars = List::new(alloc);
     for word in words.split_whitespace() {
-        vars.push(var_of(word).ok_or(Trouble::Malformed)?)?;
+        vars.push(var_of(word).ok_or(DecodeError::Malformed)?)?;
     }
     Ok(vars)
 }
 
 /// A system as it stands.
-pub fn written_system(alloc: Global, part: &str) -> Result<System, Trouble> {
+pub fn written_system(alloc: Global, part: &str) -> Result<System, DecodeError> {
     let mut draft = Draft::new(alloc);
     for word in part.split_whitespace() {
         draft.take(alloc, word)?;
@@ -110,22 +110,22 @@ pub fn written_system(alloc: Global, part: &str) -> Result<System, Trouble> {
 }
 
 /// A system, tidied.
-pub fn system_of(alloc: Global, part: &str) -> Result<System, Trouble>
+pub fn system_of(alloc: Global, part: &str) -> Result<System, DecodeError>
     ensures { IfOk result Fits }
 {
     let sys = written_system(alloc, part)?;
-    fitting(alloc, &sys)?.ok_or(Trouble::Malformed)
+    fitting(alloc, &sys)?.ok_or(DecodeError::Malformed)
 }
 
 /// Rows as they stand.
-pub fn rows_of(alloc: Global, part: &str) -> Result<Vec<Row>, Trouble>
+pub fn rows_of(alloc: Global, part: &str) -> Result<Vec<Row>, DecodeError>
     ensures { IfOk result (λ rs. AllRows IsGiven rs.items) }
 {
     let System { rows, weak: _ } = written_system(alloc, part)?;
     if are_rows(rows.as_slice()) {
         Ok(rows.into_vec())
     } else {
-        Err(Trouble::Malformed)
+        Err(DecodeError::Malformed)
     }
 }
 
@@ -140,25 +140,25 @@ fn copy(alloc: Global, row: &Row) -> Result<Row, AllocError>
 }
 
 /// The first row as it stands.
-pub fn row_of(alloc: Global, part: &str) -> Result<Row, Trouble>
+pub fn row_of(alloc: Global, part: &str) -> Result<Row, DecodeError>
     ensures { IfOk result IsGiven }
 {
     let sys = written_system(alloc, part)?;
-    let row = sys.rows.get(0).ok_or(Trouble::Malformed)?;
+    let row = sys.rows.get(0).ok_or(DecodeError::Malformed)?;
     if is_row(row) {
         Ok(copy(alloc, row)?)
     } else {
-        Err(Trouble::Malformed)
+        Err(DecodeError::Malformed)
     }
 }
 
 /// The normal form of the first row.
-pub fn normal_of(alloc: Global, part: &str) -> Result<Row, Trouble>
+pub fn normal_of(alloc: Global, part: &str) -> Result<Row, DecodeError>
     ensures { IfOk result IsNormal }
 {
     let mut row = row_of(alloc, part)?;
     match normalise(&mut row) {
         Norm::Kept => Ok(row),
-        Norm::True | Norm::False | Norm::TooBig => Err(Trouble::Malformed),
+        Norm::True | Norm::False | Norm::TooBig => Err(DecodeError::Malformed),
     }
 }

@@ -1,5 +1,5 @@
 //! Tables of symbols.
-use crate::trouble::Trouble;
+use crate::decode_error::DecodeError;
 use f77_ast::{Place, Scalar, Symbol, Symbols};
 use fx_lists::{List, Text};
 use std::alloc::Global;
@@ -11,11 +11,14 @@ pub struct Table {
     pub tracked: List<bool>,
 }
 
-fn constant_of(value: &str) -> Result<(Scalar, i64), Trouble> {
+fn constant_of(value: &str) -> Result<(Scalar, i64), DecodeError> {
     match value {
         "T" => Ok((Scalar::Log, 1)),
         "F" => Ok((Scalar::Log, 0)),
-        _ => Ok((Scalar::Int, value.parse().map_err(|_| Trouble::Malformed)?)),
+        _ => Ok((
+            Scalar::Int,
+            value.parse().map_err(|_| DecodeError::Malformed)?,
+        )),
     }
 }
 
@@ -25,7 +28,7 @@ fn add(
     name: &str,
     scalar: Scalar,
     place: Place,
-) -> Result<(), Trouble> {
+) -> Result<(), DecodeError> {
     table.symbols.push(
         alloc,
         Symbol {
@@ -40,7 +43,7 @@ fn add(
     Ok(())
 }
 
-fn add_word(alloc: Global, table: &mut Table, word: &str) -> Result<(), Trouble> {
+fn add_word(alloc: Global, table: &mut Table, word: &str) -> Result<(), DecodeError> {
     if let Some((name, value)) = word.split_once('=') {
         let (scalar, number) = constant_of(value)?;
         table.tracked.push(false)?;
@@ -59,7 +62,7 @@ fn add_word(alloc: Global, table: &mut Table, word: &str) -> Result<(), Trouble>
 }
 
 /// A table of words: see the crate's head.
-pub fn table_of(alloc: Global, part: &str) -> Result<Table, Trouble> {
+pub fn table_of(alloc: Global, part: &str) -> Result<Table, DecodeError> {
     let mut table = Table {
         symbols: Symbols::new(alloc),
         tracked: List::new(alloc),

@@ -1,7 +1,7 @@
 //! One script, over a database without texts and results.
 use fx_lists::Text;
+use pipsmake_db::result_lines::Show;
 use pipsmake_db::{Db, answer_script};
-use result_lines::Show;
 use std::alloc::{AllocError as Memory, Global};
 
 /// The bytes that a script may have.

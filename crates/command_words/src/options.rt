@@ -7,7 +7,8 @@ ghost use Rattle.command_words.specs.Options.{WordsGive, TextsGive, is_true, opt
 use crate::command::matches_of_words;
 use clap::ArgMatches;
 use clap::error::ErrorKind;
-use fx_base::{Text, Words};
+use fx_base::Words;
+use fx_lists::Text;
 use std::alloc::{AllocError, Global};
 use std::str;
 

@@ -3,7 +3,8 @@ ghost use Rattle.std.specs.Prelude.{◌≡◌, ◌≤◌, ◌+◌, ◌*◌, IfOk
 ghost use Rattle.command_words.specs.Requests.{RequestedBy, show_named, shown, with_digit, number_named, count_named, is_alone, task_of, may_be_base, can_verify, input_name, request_in};
 
 use crate::options::{Options, Read, options_in_words};
-use fx_base::{Text, Words};
+use fx_base::Words;
+use fx_lists::Text;
 use std::alloc::{AllocError as Memory, Global};
 
 /// What is written beside the program.

@@ -1,8 +1,6 @@
 -- Where all systems of pairs are refuted, no two iterations meet.
-use Rattle.std.proofs.Common.{◌≡◌, ◌⊎◌, ⊎_elim, ℕ, zero, suc, ◌+◌, ◌*◌, ◌-◌, ◌<◌, List, [], ◌∷◌, ◌&&◌, ◌||◌, Bool, true, false, Option, Some, None, refl, sym, ap, ◌∙◌, subst, arith, ℤ, pos, negsuc, neg_ℤ, ◌+ℤ◌, ◌*ℤ◌, nat_eq, Ordering}
+use Rattle.std.proofs.Common.{◌≡◌, ◌⊎◌, ⊎_elim, ℕ, zero, suc, ◌+◌, ◌*◌, ◌-◌, ◌<◌, List, [], ◌∷◌, ◌&&◌, ◌||◌, Bool, true, false, Option, Some, None, refl, sym, ap, ◌∙◌, subst, arith, ℤ, pos, negsuc, neg_ℤ, ◌+ℤ◌, ◌*ℤ◌, nat_eq}
 use Rattle.std.specs.Prelude.{if◌then◌else◌}
-use Rattle.std.specs.Ordering.{match_ordering}
-use Rattle.std.specs.declared.cmp.Ordering.TheVariants.{Less, Equal, Greater}
 use Rattle.std.proofs.lemmas.Int.{ints}
 use Rattle.affine_systems.specs.declared.row.Var.TheVariants.{Phi}
 use Rattle.affine_systems.specs.declared.row.System.{System}
@@ -11,28 +9,30 @@ use Rattle.hull_projection.proofs.RefuteLaws.{refuted_none}
 use Rattle.f77_ast.specs.Trees.{LoopTree}
 use Rattle.f77_ast.specs.Symbols.{SymbolTree}
 use Rattle.f77_ast.specs.declared.variable.Variable.{Variable}
-use Rattle.f77_results.specs.Variables.{variable_cmp}
-use Rattle.transformer_algebra.specs.Cells.{has}
-use Rattle.transformer_algebra.specs.Laws.{In, here, there}
-use Rattle.transformer_algebra.specs.Claims.{Scene}
-use Rattle.transformer_algebra.proofs.CellLaws.{nat_same, clashes}
-use Rattle.transformer_algebra.proofs.TurnLaws.{kept_chain}
-use Rattle.region_sets.specs.declared.marks.Kinds.{Kinds}
-use Rattle.region_sets.specs.declared.marks.Kinds.TheVariants.{WriteRead, ReadWrite, WriteWrite}
+use Rattle.f77_ast.specs.Variables.{same_variable}
+use Rattle.preconditions.specs.transformer_algebra.Cells.{has}
+use Rattle.preconditions.specs.transformer_algebra.Laws.{In, here, there}
+use Rattle.preconditions.specs.transformer_algebra.Claims.{Scene}
+use Rattle.preconditions.proofs.TransformerAlgebra.TurnLaws.{kept_chain}
+use Rattle.f77_ast.specs.declared.marks.Kinds.{Kinds}
+use Rattle.f77_ast.specs.declared.marks.Kinds.TheVariants.{WriteRead, ReadWrite, WriteWrite}
 use Rattle.region_sets.specs.declared.range.Range.{Range}
 use Rattle.region_sets.specs.declared.region.Access.{Access}
 use Rattle.region_sets.specs.declared.region.Access.TheVariants.{Write}
 use Rattle.region_sets.specs.declared.region.Region.{Region}
 use Rattle.region_sets.specs.Naming.{in_rows}
 use Rattle.region_sets.specs.Claims.{Places, AreByOrder, LiesIn}
-use Rattle.loop_bodies.specs.Same.{same_variable}
-use Rattle.loop_bodies.specs.declared.body.LoopBody.{LoopBody}
+use Rattle.dependence_test.specs.declared.body.LoopBody.{LoopBody}
 use Rattle.dependence_test.specs.Kinds.{first_access, second_access, is_first, is_second, is_write, related, may_meet, is_written, is_pair}
 use Rattle.dependence_test.specs.Pairs.{pair_system}
 use Rattle.dependence_test.specs.Conflicts.{or_else, unless_refuted, kept_piece, kept_pieces, kept_pair, kept_if_pair, kept_beside, kept_among, kept_system, conflict_of, conflict_in}
 use Rattle.dependence_test.specs.Claims.{IsRange, Executed, IsWritten, HasOneElement, IsShared, DoNotMeet, DoNotMeetIn, IfNoConflict, IfKept}
 use Rattle.dependence_test.proofs.OrderLaws.{Between}
 use Rattle.dependence_test.proofs.PairLaws.{Same, pair_holds}
+use Rattle.region_sets.proofs.LiveLaws.{IsLive as NotRefuted}
+use Rattle.fx_lists.proofs.Numbers.{same_is as nat_same}
+use Rattle.fx_lists.proofs.Booleans.{clash as clashes}
+use Rattle.f77_ast.proofs.SameLaws.{cmp_if}
 
 -- ---- all are refuted
 
@@ -80,14 +80,6 @@ module _ (ss : List SymbolTree) (b : LoopBody) (v : Variable) (k : Kinds) where
 
 -- ---- variables
 
-same_cmp : (v w : Variable) → same_variable v w ≡ true → variable_cmp v w ≡ Equal
-same_cmp v w e = go (variable_cmp v w) e
-  where
-    go : (o : Ordering) → match_ordering o false true false ≡ true → o ≡ Equal
-    go Less q = clashes false q refl
-    go Equal q = refl
-    go Greater q = clashes false q refl
-
 -- ---- pairs
 
 first_is : (k : Kinds) (a : Access) → a ≡ first_access k → is_first k a ≡ true
@@ -100,7 +92,7 @@ second_is WriteRead a e = subst (λ (z : Access). is_second WriteRead z ≡ true
 second_is ReadWrite a e = subst (λ (z : Access). is_second ReadWrite z ≡ true) (sym e) refl
 second_is WriteWrite a e = subst (λ (z : Access). is_second WriteWrite z ≡ true) (sym e) refl
 
-write_is : (a : Access) → a ≡ Write → is_write a ≡ true
+pub write_is : (a : Access) → a ≡ Write → is_write a ≡ true
 write_is a e = subst (λ (z : Access). is_write z ≡ true) (sym e) refl
 
 module _ (ss : List SymbolTree) (v : Variable) (k : Kinds) (x y : Region) (ex : x.kind ≡ first_access k) (ey : y.kind ≡ second_access k) where
@@ -183,12 +175,12 @@ module _ (ss : List SymbolTree) (b : LoopBody) (v : Variable) (ks : Kinds) (free
     where
       alike : same_variable y.variable z.variable ≡ true → (i : ℕ) → in_rows (Phi i) lz.piece.rows ≡ true → ly.phi i ≡ lz.phi i
       alike e i named =
-          let there' : at z.variable ly.phi ≡ Some u = subst (λ (f : (ℕ → ℤ) → Option ℕ). f ly.phi ≡ Some u) (by y.variable z.variable (same_cmp y.variable z.variable e)) ly.there in
+          let there' : at z.variable ly.phi ≡ Some u = subst (λ (f : (ℕ → ℤ) → Option ℕ). f ly.phi ≡ Some u) (by y.variable z.variable (cmp_if y.variable z.variable e)) ly.there in
           one z iz ly.phi lz.phi there' lz.there lz.piece lz.is_one i named
 
   related_to : (r : Region) (w : ℕ → ℤ) (z : Region) (c : ℕ → ℤ) → LiesIn m (at z.variable) z w u → LiesIn m (at r.variable) r c u → same_variable r.variable v ≡ true → related ss z.variable v ≡ true
   related_to r w z c lz lr e =
-      let there' : at v lr.phi ≡ Some u = subst (λ (f : (ℕ → ℤ) → Option ℕ). f lr.phi ≡ Some u) (by r.variable v (same_cmp r.variable v e)) lr.there in
+      let there' : at v lr.phi ≡ Some u = subst (λ (f : (ℕ → ℤ) → Option ℕ). f lr.phi ≡ Some u) (by r.variable v (cmp_if r.variable v e)) lr.there in
       shared z.variable v lz.phi lr.phi lz.there there'
 
   pub do_not_meet : p.accesses (first_access ks) u ≡ true → q.accesses (second_access ks) u ≡ true → ((first_access ks ≡ Write) × IsWritten m at b.regions v p.begin u) ⊎ ((second_access ks ≡ Write) × IsWritten m at b.regions v q.begin u) → ⊥
@@ -220,9 +212,6 @@ loop_sound ss v ks body None = tt
 loop_sound ss v ks body (Some l) = answer_sound ss (body l) v ks
 
 -- ---- what is kept is not refuted
-
-abbrev NotRefuted : System → Type 0
-NotRefuted s = refuted s.rows ≡ false
 
 abbrev Open : Option System → Type 0
 Open o = IfKept (conflict_of o) NotRefuted

@@ -4,3 +4,5 @@ pub mod OrderLaws
 pub mod RangeLaws
 pub mod PairLaws
 pub mod ConflictLaws
+pub mod LoopBodySteps
+pub mod BodySteps

@@ -11,8 +11,9 @@ use Rattle.affine_forms.specs.Forms.{IsSmallForm}
 use Rattle.affine_forms.specs.Comparisons.{var_form, below_row}
 use Rattle.affine_forms.specs.Claims.{form_value}
 use Rattle.affine_forms.proofs.RowLaws.{at_most_holds, below_holds, same_holds}
-use Rattle.region_sets.proofs.RowSteps.{given-push}
 use Rattle.dependence_test.specs.Order.{one, steps_from, step_rows, rows_by, order_rows}
+use Rattle.fx_lists.proofs.Numbers.{is_number}
+use Rattle.preconditions.proofs.CallTranslation.Steps.{given-push}
 
 -- ---- rows that may be given
 
@@ -38,9 +39,6 @@ one_value p = omega (arith, ints)
 
 steps_value : (p : Point) (i : Var) (s : ℤ) (t : Var) → form_value p (steps_from i s t) ≡ p i +ℤ (s *ℤ p t)
 steps_value p i s t = omega (arith, ints)
-
-is_number : (a b : ℤ) → int_eq a b ≡ true → a ≡ b
-is_number a b e = grind (arith, ints)
 
 -- the later index is some steps after the earlier one
 pub record After (s n n' : ℤ) : Type 0 where

@@ -6,14 +6,14 @@ use Rattle.affine_systems.specs.declared.row.System.{System}
 use Rattle.affine_systems.specs.Points.{Point, HoldsAll}
 use Rattle.affine_systems.specs.Calls.{meet}
 use Rattle.affine_systems.proofs.CallLaws.{meet_holds}
-use Rattle.system_renaming.specs.Renaming.{renamed_by, rename_all}
-use Rattle.system_renaming.proofs.KeepLaws.{rename_all_holds, push_rows_holds}
-use Rattle.transformer_algebra.specs.Cells.{has}
-use Rattle.transformer_algebra.specs.Claims.{Scene, AtStart, HoldsAt}
+use Rattle.preconditions.specs.transformer_algebra.Renaming.{renamed_by, rename_all}
+use Rattle.preconditions.proofs.TransformerAlgebra.KeepLaws.{rename_all_holds, push_rows_holds}
+use Rattle.preconditions.specs.transformer_algebra.Cells.{has}
+use Rattle.preconditions.specs.transformer_algebra.Claims.{Scene, AtStart, HoldsAt}
 use Rattle.region_sets.specs.Naming.{in_rows}
 use Rattle.region_sets.specs.Claims.{Describes}
 use Rattle.region_sets.proofs.NameLaws.{Agree, rows_agree}
-use Rattle.loop_bodies.specs.declared.body.LoopBody.{LoopBody}
+use Rattle.dependence_test.specs.declared.body.LoopBody.{LoopBody}
 use Rattle.dependence_test.specs.Variables.{cell_namings, at_iteration, index_at, named_subscripts, subscript_namings}
 use Rattle.dependence_test.specs.Order.{order_rows}
 use Rattle.dependence_test.specs.Pairs.{after_cells, earlier, later, with_later, pair_system}

@@ -4,13 +4,14 @@ use Rattle.std.specs.Prelude.{if◌then◌else◌}
 use Rattle.affine_systems.specs.declared.row.System.{System}
 use Rattle.f77_ast.specs.Trees.{LoopTree}
 use Rattle.f77_ast.specs.Trees as tree
-use Rattle.transformer_algebra.specs.declared.loop_parts.LoopParts.{LoopParts}
-use Rattle.transformer_algebra.specs.Cells.{has, joined_cells}
-use Rattle.transformer_algebra.specs.Loops.{own_cells, iteration}
-use Rattle.transformer_algebra.proofs.CellLaws.{has-joined, left_out, right_out, right_in, nat_eq_same}
+use Rattle.preconditions.specs.transformer_algebra.declared.loop_parts.LoopParts.{LoopParts}
+use Rattle.preconditions.specs.transformer_algebra.Cells.{has, joined_cells}
+use Rattle.preconditions.specs.transformer_algebra.Loops.{own_cells, iteration}
+use Rattle.preconditions.proofs.TransformerAlgebra.CellLaws.{has-joined, left_out, right_out, right_in}
 use Rattle.region_sets.specs.declared.region.Region.{Region}
-use Rattle.loop_bodies.specs.Body.{changed_cells, with_parts, parts_of}
+use Rattle.dependence_test.specs.Body.{changed_cells, with_parts, parts_of}
 use Rattle.dependence_test.specs.Claims.{IsRange, range_with, HasRange}
+use Rattle.fx_lists.proofs.Numbers.{nat_eq_same}
 
 neither : (cs ds : List ℕ) (c : ℕ) → has cs c ≡ false → has ds c ≡ false → has (joined_cells cs ds) c ≡ false
 neither cs ds c e f = has-joined cs ds c ∙ both (has cs c) (has ds c) e f

@@ -3,21 +3,21 @@ use Rattle.std.proofs.Common.{◌≡◌, ℕ, zero, suc, ◌+◌, ◌≤◌, Lis
 use Rattle.std.specs.Prelude.{if◌then◌else◌}
 use Rattle.affine_systems.specs.declared.row.Var.{Var}
 use Rattle.affine_systems.specs.declared.row.Var.TheVariants.{Cell, Exit, Phi, Aux}
-use Rattle.affine_systems.specs.declared.row.Term.{Term}
-use Rattle.affine_systems.specs.declared.row.Row.{Row}
 use Rattle.affine_systems.specs.declared.row.System.{System}
 use Rattle.affine_systems.specs.Terms.{var_eq, var_lt}
 use Rattle.affine_systems.specs.Points.{Point}
 use Rattle.affine_systems.proofs.TermLaws.{var_eq-true, true-var_eq}
 use Rattle.hull_projection.specs.Laws.{IsOneOf}
 use Rattle.hull_projection.specs.Variables.{row_vars}
-use Rattle.hull_projection.proofs.VarLaws.{TermsIn, RowsIn, rows_covered, IsOld, old_lt}
-use Rattle.system_renaming.specs.Renaming.{renamed_by}
-use Rattle.transformer_algebra.specs.Cells.{has}
-use Rattle.transformer_algebra.proofs.CellLaws.{nat_eq_same, clashes, cell_same, tail_has}
-use Rattle.region_sets.specs.Naming.{in_terms, in_rows}
-use Rattle.region_sets.proofs.NameLaws.{phi_cell}
+use Rattle.hull_projection.proofs.VarLaws.{rows_covered, IsOld, old_lt}
+use Rattle.preconditions.specs.transformer_algebra.Renaming.{renamed_by}
+use Rattle.preconditions.specs.transformer_algebra.Cells.{has}
+use Rattle.preconditions.proofs.TransformerAlgebra.CellLaws.{cell_same, tail_has}
+use Rattle.region_sets.specs.Naming.{in_rows}
+use Rattle.region_sets.proofs.NameLaws.{phi_cell, rows_has as one_of_rows}
 use Rattle.dependence_test.specs.Variables.{cell_namings, before_subscript, subscripts, named_subscripts, subscript_namings}
+use Rattle.fx_lists.proofs.Numbers.{nat_eq_same}
+use Rattle.fx_lists.proofs.Booleans.{clash as clashes}
 
 -- ---- auxiliary variables with the values of a list
 
@@ -129,22 +129,6 @@ pub aux_stays : (a : ℕ) (ks : List ℕ) (c : ℕ) → renamed_by (subscript_na
 aux_stays a ks c = no_subscript a ks (Aux c) (no_phi (Aux c) (aux_no_phi c))
 
 -- ---- the subscripts that a system names
-
-one_of_terms : (v : Var) (xs : List Var) (ts : List Term) → TermsIn xs ts → in_terms v ts ≡ true → IsOneOf v xs
-one_of_terms v xs [] h e = clashes false e refl
-one_of_terms v xs (t ∷ ts) h e = go (var_eq v t.var) refl e (λ q. one_of_terms v xs ts h.1 q)
-  where
-    go : (b : Bool) → var_eq v t.var ≡ b → (b || in_terms v ts) ≡ true → (in_terms v ts ≡ true → IsOneOf v xs) → IsOneOf v xs
-    go true q e k = subst (λ (w : Var). IsOneOf w xs) (sym (var_eq-true v t.var q)) h.0
-    go false q e k = k e
-
-one_of_rows : (v : Var) (xs : List Var) (rs : List Row) → RowsIn xs rs → in_rows v rs ≡ true → IsOneOf v xs
-one_of_rows v xs [] h e = clashes false e refl
-one_of_rows v xs (r ∷ rs) h e = go (in_terms v r.terms) refl e (λ q. one_of_rows v xs rs h.1 q)
-  where
-    go : (b : Bool) → in_terms v r.terms ≡ b → (b || in_rows v rs) ≡ true → (in_rows v rs ≡ true → IsOneOf v xs) → IsOneOf v xs
-    go true q e k = one_of_terms v xs r.terms h.0 q
-    go false q e k = k e
 
 has_subscript : (k : ℕ) (vs : List Var) → IsOneOf (Phi k) vs → has (subscripts vs) k ≡ true
 has_subscript k [] h = absurd h

@@ -5,27 +5,27 @@ use Rattle.affine_systems.specs.declared.row.System.{System}
 use Rattle.f77_ast.specs.Trees.{LoopTree}
 use Rattle.f77_ast.specs.Symbols.{SymbolTree}
 use Rattle.f77_ast.specs.declared.variable.Variable.{Variable}
-use Rattle.f77_results.specs.declared.results.At.{At}
-use Rattle.transformer_algebra.specs.declared.transformer.Transformer.{Transformer}
-use Rattle.transformer_algebra.specs.declared.loop_parts.LoopParts.{LoopParts}
-use Rattle.transformer_algebra.specs.Cells.{has}
-use Rattle.transformer_algebra.specs.Laws.{In}
-use Rattle.transformer_algebra.specs.Loops.{iteration}
-use Rattle.transformer_algebra.specs.Claims.{Scene, HoldsAt}
-use Rattle.call_translation.specs.Scopes.{ScopeTree}
-use Rattle.region_sets.specs.declared.marks.Kinds.{Kinds}
+use Rattle.f77_ast.specs.declared.results.At.{At}
+use Rattle.preconditions.specs.transformer_algebra.declared.transformer.Transformer.{Transformer}
+use Rattle.preconditions.specs.transformer_algebra.declared.loop_parts.LoopParts.{LoopParts}
+use Rattle.preconditions.specs.transformer_algebra.Cells.{has}
+use Rattle.preconditions.specs.transformer_algebra.Laws.{In}
+use Rattle.preconditions.specs.transformer_algebra.Loops.{iteration}
+use Rattle.preconditions.specs.transformer_algebra.Claims.{Scene, HoldsAt}
+use Rattle.preconditions.specs.call_translation.Scopes.{ScopeTree}
+use Rattle.f77_ast.specs.declared.marks.Kinds.{Kinds}
 use Rattle.region_sets.specs.declared.range.Range.{Range}
 use Rattle.region_sets.specs.declared.region.Access.{Access}
 use Rattle.region_sets.specs.declared.region.Access.TheVariants.{Write}
 use Rattle.region_sets.specs.declared.region.Region.{Region}
 use Rattle.region_sets.specs.Naming.{in_rows}
 use Rattle.region_sets.specs.Claims.{Places, AreByOrder, LiesIn, LiesInSet, Iteration}
-use Rattle.loop_bodies.specs.Same.{same_variable}
-use Rattle.loop_bodies.specs.declared.body.LoopBody.{LoopBody}
-use Rattle.loop_bodies.specs.Body.{parts_of, body_of}
+use Rattle.dependence_test.specs.declared.body.LoopBody.{LoopBody}
+use Rattle.dependence_test.specs.Body.{parts_of, body_of}
 use Rattle.dependence_test.specs.declared.answer.Conflict.{Conflict}
 use Rattle.dependence_test.specs.declared.answer.Conflict.TheVariants as answer
 use Rattle.dependence_test.specs.Kinds.{first_access, second_access, related}
+use Rattle.f77_ast.specs.Variables.{same_variable}
 
 -- ---- iterations
 

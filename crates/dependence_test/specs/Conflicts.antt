@@ -5,14 +5,14 @@ use Rattle.hull_projection.specs.Refute.{refuted}
 use Rattle.f77_ast.specs.Trees.{LoopTree}
 use Rattle.f77_ast.specs.Symbols.{SymbolTree}
 use Rattle.f77_ast.specs.declared.variable.Variable.{Variable}
-use Rattle.region_sets.specs.declared.marks.Kinds.{Kinds}
+use Rattle.f77_ast.specs.declared.marks.Kinds.{Kinds}
 use Rattle.region_sets.specs.declared.region.Region.{Region}
-use Rattle.loop_bodies.specs.Same.{same_variable}
-use Rattle.loop_bodies.specs.declared.body.LoopBody.{LoopBody}
+use Rattle.dependence_test.specs.declared.body.LoopBody.{LoopBody}
 use Rattle.dependence_test.specs.declared.answer.Conflict.{Conflict}
 use Rattle.dependence_test.specs.declared.answer.Conflict.TheVariants as answer
 use Rattle.dependence_test.specs.Kinds.{is_pair}
 use Rattle.dependence_test.specs.Pairs.{pair_system}
+use Rattle.f77_ast.specs.Variables.{same_variable}
 
 -- the first, where it is there
 abbrev pub or_else : Option System → Option System → Option System

@@ -3,12 +3,12 @@ use Rattle.std.specs.Prelude.{Bool, true, false, ◌&&◌, ◌||◌, List}
 use Rattle.f77_ast.specs.Symbols.{SymbolTree}
 use Rattle.f77_ast.specs.Shared.{overlap}
 use Rattle.f77_ast.specs.declared.variable.Variable.{Variable}
-use Rattle.region_sets.specs.declared.marks.Kinds.{Kinds}
-use Rattle.region_sets.specs.declared.marks.Kinds.TheVariants.{WriteRead, ReadWrite, WriteWrite}
+use Rattle.f77_ast.specs.declared.marks.Kinds.{Kinds}
+use Rattle.f77_ast.specs.declared.marks.Kinds.TheVariants.{WriteRead, ReadWrite, WriteWrite}
 use Rattle.region_sets.specs.declared.region.Access.{Access}
 use Rattle.region_sets.specs.declared.region.Access.TheVariants.{Read, Write, In, Out}
 use Rattle.region_sets.specs.declared.region.Region.{Region}
-use Rattle.loop_bodies.specs.Same.{same_variable}
+use Rattle.f77_ast.specs.Variables.{same_variable}
 
 -- ---- accesses
 

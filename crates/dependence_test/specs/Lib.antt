@@ -4,3 +4,6 @@ pub mod Order
 pub mod Pairs
 pub mod Conflicts
 pub mod Claims
+pub mod Finding
+pub mod Body
+pub mod Given

@@ -3,8 +3,8 @@ use Rattle.std.specs.Prelude.{ℕ, ◌+◌, length, Bool, true, false}
 use Rattle.affine_systems.specs.declared.row.Var.TheVariants.{Aux}
 use Rattle.affine_systems.specs.declared.row.System.{System}
 use Rattle.affine_systems.specs.Calls.{meet}
-use Rattle.system_renaming.specs.Renaming.{push_rows}
-use Rattle.loop_bodies.specs.declared.body.LoopBody.{LoopBody}
+use Rattle.preconditions.specs.transformer_algebra.Renaming.{push_rows}
+use Rattle.dependence_test.specs.declared.body.LoopBody.{LoopBody}
 use Rattle.dependence_test.specs.declared.pairs.Apart.{Apart}
 use Rattle.dependence_test.specs.Variables.{at_iteration, index_at, named_subscripts, with_own_subscripts}
 use Rattle.dependence_test.specs.Order.{order_rows}

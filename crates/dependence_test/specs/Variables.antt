@@ -6,9 +6,9 @@ use Rattle.affine_systems.specs.declared.row.Var.TheVariants.{Cell, Exit, Phi, A
 use Rattle.affine_systems.specs.declared.row.System.{System}
 use Rattle.affine_systems.specs.Calls.{meet}
 use Rattle.hull_projection.specs.Variables.{row_vars}
-use Rattle.system_renaming.specs.declared.naming.Naming.{Naming}
-use Rattle.system_renaming.specs.Renaming.{naming, renamed_by, rename_all}
-use Rattle.loop_bodies.specs.declared.body.LoopBody.{LoopBody}
+use Rattle.preconditions.specs.transformer_algebra.declared.naming.Naming.{Naming}
+use Rattle.preconditions.specs.transformer_algebra.Renaming.{naming, renamed_by, rename_all}
+use Rattle.dependence_test.specs.declared.body.LoopBody.{LoopBody}
 
 -- ---- cells
 

@@ -8,19 +8,18 @@ ghost use Rattle.f77_ast.specs.PlainStmt.{stmt_trees, loop_tree};
 ghost use Rattle.f77_ast.specs.Symbols.{symbol_tree};
 ghost use Rattle.region_sets.specs.Regions.{RegionFits};
 ghost use Rattle.region_sets.specs.Sets.{SetFits};
-ghost use Rattle.loop_bodies.specs.Finding.{loop_in as loop_in_is};
-ghost use Rattle.loop_bodies.specs.Given.{AnalysisFits, BodyFits, known_body};
+ghost use Rattle.dependence_test.specs.Finding.{loop_in as loop_in_is};
+ghost use Rattle.dependence_test.specs.Given.{AnalysisFits, BodyFits, known_body};
 ghost use Rattle.dependence_test.specs.Conflicts.{unless_refuted as unless_refuted_is, kept_piece as kept_piece_is, kept_pieces as kept_pieces_is, kept_pair as kept_pair_is, kept_if_pair as kept_if_pair_is, kept_beside as kept_beside_is, kept_among as kept_among_is, kept_system as kept_system_is, conflict_of as conflict_of_is, conflict_in};
 ghost use Rattle.dependence_test.specs.Claims.{DoNotMeet, DoNotMeetIn, IfNoConflict, IfKept};
 
-use crate::Conflict;
 use crate::kinds::is_pair;
 use crate::pairs::pair_system;
+use crate::{Analysis, Conflict, LoopBody, body_of, loop_in};
 use affine_systems::System;
-use f77_ast::{StmtId, Symbols, Variable};
+use f77_ast::{Kinds, StmtId, Symbols, Variable, same_variable};
 use hull_projection::refuted;
-use loop_bodies::{Analysis, LoopBody, body_of, loop_in, same_variable};
-use region_sets::{Kinds, Region};
+use region_sets::Region;
 use std::alloc::{AllocError as Memory, Global};
 
 fn unless_refuted(alloc: Global, s: System) -> Result<Option<System>, Memory>

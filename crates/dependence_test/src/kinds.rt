@@ -3,9 +3,8 @@ ghost use Rattle.std.specs.Prelude.{◌≡◌, map};
 ghost use Rattle.f77_ast.specs.Symbols.{symbol_tree};
 ghost use Rattle.dependence_test.specs.Kinds.{is_read as is_read_is, is_write as is_write_is, is_first as is_first_is, is_second as is_second_is, related as related_is, may_meet as may_meet_is, is_written as is_written_is, is_pair as is_pair_is};
 
-use f77_ast::{Symbols, Variable, overlaps};
-use loop_bodies::same_variable;
-use region_sets::{Access, Kinds, Region};
+use f77_ast::{Kinds, Symbols, Variable, overlaps, same_variable};
+use region_sets::{Access, Region};
 
 fn is_read(access: Access) -> bool
     ensures { result ≡ is_read_is access }

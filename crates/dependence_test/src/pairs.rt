@@ -1,17 +1,17 @@
 //! The system of a pair of regions.
 ghost use Rattle.std.specs.Prelude.{◌≡◌, ◌≤◌, IfOk};
 ghost use Rattle.affine_systems.specs.Given.{Fits};
-ghost use Rattle.loop_bodies.specs.Given.{BodyFits};
+ghost use Rattle.dependence_test.specs.Given.{BodyFits};
 ghost use Rattle.dependence_test.specs.Pairs.{after_cells as after_cells_is, later as later_is, own_subscripts as own_subscripts_is, later_apart as later_apart_is, with_later as with_later_is, pair_system as pair_system_is};
 
+use crate::LoopBody;
 use crate::order::order_rows;
 use crate::variables::{
     at_iteration, index_at, named_subscripts, number_after, with_own_subscripts,
 };
 use affine_systems::{System, Var, meet};
-use loop_bodies::LoopBody;
+use preconditions::transformer_algebra::push_rows;
 use std::alloc::{AllocError as Memory, Global};
-use system_renaming::push_rows;
 
 /// A system of a later iteration, whose variables are not those of the earlier, and the least number above those of its auxiliary variables.
 #[derive(Drop)]

@@ -3,14 +3,14 @@ ghost use Rattle.std.specs.Prelude.{◌≡◌, ℕ, [], ◌+◌, ◌<◌, ◌≤
 ghost use Rattle.affine_systems.specs.Given.{Fits};
 ghost use Rattle.affine_systems.specs.Terms.{var_lt};
 ghost use Rattle.affine_systems.specs.declared.row.Var.TheVariants.{Aux};
-ghost use Rattle.loop_bodies.specs.Given.{BodyFits};
+ghost use Rattle.dependence_test.specs.Given.{BodyFits};
 ghost use Rattle.dependence_test.specs.Variables.{cell_namings as cell_namings_is, at_iteration as at_iteration_is, index_at as index_at_is, before_subscript, subscripts as subscripts_is, named_subscripts as named_subscripts_is, subscript_namings as subscript_namings_is, with_own_subscripts as with_own_subscripts_is};
 
+use crate::LoopBody;
 use affine_systems::{System, Var, meet};
 use hull_projection::add_rows;
-use loop_bodies::LoopBody;
+use preconditions::transformer_algebra::{Naming, rename_all, replacement};
 use std::alloc::{AllocError as Memory, Global};
-use system_renaming::{Naming, rename_all, replacement};
 
 /// A number and so many more. Memory where that is 2^32 or more.
 pub fn number_after(first: u32, count: usize) -> Result<u32, Memory>

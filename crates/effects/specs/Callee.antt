@@ -7,19 +7,19 @@ use Rattle.f77_ast.specs.Trees.{ExprTree, ExprTrees}
 use Rattle.f77_ast.specs.Trees as tree
 use Rattle.f77_ast.specs.declared.constant.Constant.{Constant}
 use Rattle.f77_ast.specs.declared.constant.Constant.TheVariants as constant
-use Rattle.f77_ast.specs.declared.constant.Worth.{Worth}
-use Rattle.f77_ast.specs.declared.constant.Worth.TheVariants.{Is, Faults, Varies}
-use Rattle.f77_ast.specs.Constants.{worth}
+use Rattle.f77_ast.specs.declared.constant.ConstantValue.{ConstantValue}
+use Rattle.f77_ast.specs.declared.constant.ConstantValue.TheVariants.{Is, Faults, Varies}
+use Rattle.f77_ast.specs.Constants.{const_value}
 use Rattle.f77_ast.specs.declared.symbol.Place.{Place}
 use Rattle.f77_ast.specs.declared.symbol.Place.TheVariants.{Local, Dummy, Block, Constant as Value}
 use Rattle.f77_ast.specs.declared.variable.Variable.{Variable}
 use Rattle.f77_ast.specs.declared.variable.Variable.TheVariants.{Own, Block as Whole, Saved}
 use Rattle.f77_ast.specs.Symbols.{BoundTree, SymbolTree, value_in}
 use Rattle.f77_ast.specs.Shared.{symbol_at}
-use Rattle.f77_results.specs.declared.effect_set.EffectSet.{EffectSet}
-use Rattle.f77_results.specs.Variables.{union}
-use Rattle.f77_results.specs.Effects.{no_effect}
-use Rattle.f77_results.specs.Summaries.{SummaryTree}
+use Rattle.f77_ast.specs.declared.effect_set.EffectSet.{EffectSet}
+use Rattle.f77_ast.specs.Variables.{union}
+use Rattle.f77_ast.specs.Effects.{no_effect}
+use Rattle.f77_ast.specs.Summaries.{SummaryTree}
 use Rattle.effects.specs.Names.{one, variable_named}
 
 -- ---- the same variable of a block in two modules
@@ -31,13 +31,13 @@ same_scalar scalar.Log scalar.Int = false
 same_scalar scalar.Log scalar.Log = true
 
 -- two constant expressions of one number
-abbrev pub is_number : ℤ → Worth → Bool
+abbrev pub is_number : ℤ → ConstantValue → Bool
 is_number m (Is (constant.Int n)) = int_eq m n
 is_number m (Is (constant.Log b)) = false
 is_number m Faults = false
 is_number m Varies = false
 
-abbrev pub same_number : Worth → Worth → Bool
+abbrev pub same_number : ConstantValue → ConstantValue → Bool
 same_number (Is (constant.Int m)) v = is_number m v
 same_number (Is (constant.Log b)) v = false
 same_number Faults v = false
@@ -46,11 +46,11 @@ same_number Varies v = false
 abbrev pub same_high : (List ℕ → Option Constant) → Option ExprTree → (List ℕ → Option Constant) → Option ExprTree → Bool
 same_high f None g high = false
 same_high f (Some a) g None = false
-same_high f (Some a) g (Some b) = same_number (worth f a) (worth g b)
+same_high f (Some a) g (Some b) = same_number (const_value f a) (const_value g b)
 
 -- the same constant bounds, each with the constants of its module
 abbrev pub same_bound : (List ℕ → Option Constant) → BoundTree → (List ℕ → Option Constant) → BoundTree → Bool
-same_bound f a g b = same_number (worth f a.low) (worth g b.low) && same_high f a.high g b.high
+same_bound f a g b = same_number (const_value f a.low) (const_value g b.low) && same_high f a.high g b.high
 
 abbrev pub same_bounds : (List ℕ → Option Constant) → List BoundTree → (List ℕ → Option Constant) → List BoundTree → Bool
 same_bounds f [] g [] = true

@@ -3,10 +3,10 @@ use Rattle.std.specs.Prelude.{ℕ, List, [], ◌∷◌, ◌++◌, Option}
 use Rattle.f77_ast.specs.Trees.{StmtTree, WhatTree, ArmTree, ArmTrees, ElseTree, LoopTree, StmtTrees}
 use Rattle.f77_ast.specs.Trees as tree
 use Rattle.f77_ast.specs.Symbols.{SymbolTree}
-use Rattle.f77_results.specs.declared.effect_set.EffectSet.{EffectSet}
-use Rattle.f77_results.specs.declared.results.At.{At}
-use Rattle.f77_results.specs.Effects.{unite}
-use Rattle.f77_results.specs.Summaries.{SummaryTree}
+use Rattle.f77_ast.specs.declared.effect_set.EffectSet.{EffectSet}
+use Rattle.f77_ast.specs.declared.results.At.{At}
+use Rattle.f77_ast.specs.Effects.{unite}
+use Rattle.f77_ast.specs.Summaries.{SummaryTree}
 use Rattle.effects.specs.Statement.{proper_of}
 use Rattle.effects.specs.Callee.{call_effect}
 

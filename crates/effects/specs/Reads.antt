@@ -4,7 +4,7 @@ use Rattle.f77_ast.specs.Trees.{ExprTree, ExprTrees}
 use Rattle.f77_ast.specs.Trees as tree
 use Rattle.f77_ast.specs.declared.variable.Variable.{Variable}
 use Rattle.f77_ast.specs.Symbols.{SymbolTree}
-use Rattle.f77_results.specs.Variables.{union}
+use Rattle.f77_ast.specs.Variables.{union}
 use Rattle.effects.specs.Names.{own, array, variable_named}
 
 abbrev mutual

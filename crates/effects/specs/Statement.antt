@@ -4,9 +4,9 @@ use Rattle.f77_ast.specs.Trees.{ExprTree, WhatTree, ArmTree, ArmTrees, LoopTree}
 use Rattle.f77_ast.specs.Trees as tree
 use Rattle.f77_ast.specs.declared.variable.Variable.{Variable}
 use Rattle.f77_ast.specs.Symbols.{SymbolTree}
-use Rattle.f77_results.specs.declared.effect_set.EffectSet.{EffectSet}
-use Rattle.f77_results.specs.Variables.{union}
-use Rattle.f77_results.specs.Effects.{no_effect}
+use Rattle.f77_ast.specs.declared.effect_set.EffectSet.{EffectSet}
+use Rattle.f77_ast.specs.Variables.{union}
+use Rattle.f77_ast.specs.Effects.{no_effect}
 use Rattle.effects.specs.Names.{own, variable_named}
 use Rattle.effects.specs.Reads.{reads, with_reads, inner_reads, with_actuals, with_items, with_named}
 

@@ -3,13 +3,14 @@ ghost use Rattle.std.specs.Prelude.{◌≡◌, ◌-◌, [], ◌∷◌, map, IfOk
 ghost use Rattle.f77_ast.specs.Plain.{expr_tree, expr_trees};
 ghost use Rattle.f77_ast.specs.Symbols.{symbol_tree};
 ghost use Rattle.f77_ast.specs.Shared.{symbol_at};
-ghost use Rattle.f77_results.specs.Summaries.{summary_tree, summary_in};
+ghost use Rattle.f77_ast.specs.Summaries.{summary_tree, summary_in};
 ghost use Rattle.effects.specs.Callee.{or_block, actual_variable, if_saved, at_place, symbol_in_caller, in_caller, all_in_caller, summary_effect, call_effect};
 
 use crate::names::variable_named;
 use crate::shapes::first_like;
-use f77_ast::{Expr, Place, Symbol, Symbols};
-use f77_results::{EffectSet, Summaries, Summary, Variable, copy_variable, union};
+use f77_ast::{
+    EffectSet, Expr, Place, Summaries, Summary, Symbol, Symbols, Variable, copy_variable, union,
+};
 use fx_lists::{List, Text};
 use std::alloc::{AllocError as Memory, Global};
 

@@ -2,13 +2,12 @@
 ghost use Rattle.std.specs.Prelude.{◌≡◌, ◌++◌, map, IfOk};
 ghost use Rattle.f77_ast.specs.PlainStmt.{stmt_tree, stmt_trees, what_tree, loop_tree, arm_trees};
 ghost use Rattle.f77_ast.specs.Symbols.{symbol_tree};
-ghost use Rattle.f77_results.specs.Summaries.{summary_in};
+ghost use Rattle.f77_ast.specs.Summaries.{summary_in};
 ghost use Rattle.effects.specs.List.{stmt_effect, with_parts, with_list, with_arms, with_loop, at_stmt, at_parts, at_list, at_arms, at_loop};
 
 use crate::callee::call_effect;
 use crate::statement::proper_of;
-use f77_ast::{Arm, Loop, Stmt, Symbols, What};
-use f77_results::{At, EffectSet, Summaries, copy_effect, unite};
+use f77_ast::{Arm, At, EffectSet, Loop, Stmt, Summaries, Symbols, What, copy_effect, unite};
 use fx_lists::List;
 use std::alloc::{AllocError as Memory, Global};
 

@@ -2,51 +2,31 @@
 ghost use Rattle.std.specs.Prelude.{◌≡◌, ◌++◌, [], map, filter, IfOk};
 ghost use Rattle.f77_ast.specs.PlainStmt.{stmt_trees};
 ghost use Rattle.f77_ast.specs.Symbols.{symbol_tree, bound_tree};
-ghost use Rattle.f77_results.specs.Summaries.{summary_in};
-ghost use Rattle.effects.specs.Modules.{place_goes_out, goes_out, with_bounds, with_symbols, summary_of, cumulated_of};
+ghost use Rattle.f77_ast.specs.Summaries.{summary_in};
+ghost use Rattle.effects.specs.Modules.{with_bounds, with_symbols, summary_of, cumulated_of};
+ghost use Rattle.call_graph.specs.Visible.{is_visible_to_callers};
 
 use crate::list::with_list;
 use crate::reads::reads;
 use crate::statement::step_reads;
-use f77_ast::{Bound, Place, Symbol, Symbols};
-use f77_results::{EffectSet, Results, Summaries, Variable, View, copy_variable, union};
+use call_graph::{View, is_visible_to_callers};
+use f77_ast::{
+    Bound, EffectSet, Results, Summaries, Symbol, Symbols, Variable, copy_variable, union,
+};
 use fx_lists::List;
 use std::alloc::{AllocError as Memory, Global};
-
-fn place_goes_out(place: &Place, saved: bool) -> bool
-    ensures { result ≡ place_goes_out place.now saved }
-{
-    match place {
-        Place::Local(..) => saved,
-        Place::Dummy(_) | Place::Block(..) => true,
-        Place::Constant(_) => false,
-    }
-}
-
-/// Whether callers see a variable: a dummy, one of a block, or one that is saved.
-fn goes_out(symbols: &Symbols, v: &Variable) -> bool
-    ensures { result ≡ goes_out (map symbol_tree symbols.now) v.now }
-{
-    match v {
-        Variable::Own(number) => match symbols.symbol(*number) {
-            None => false,
-            Some(symbol) => place_goes_out(&symbol.place, symbol.saved),
-        },
-        Variable::Block(_) | Variable::Saved(..) => true,
-    }
-}
 
 fn visible_outside(
     alloc: Global,
     symbols: &Symbols,
     variables: &List<Variable>,
 ) -> Result<List<Variable>, Memory>
-    ensures { IfOk result (λ vs. vs ≡ filter (goes_out (map symbol_tree symbols.now)) variables.now) }
+    ensures { IfOk result (λ vs. vs ≡ filter (is_visible_to_callers (map symbol_tree symbols.now)) variables.now) }
 {
     let mut kept = List::new(alloc);
     let mut rest = variables.as_slice();
     while let [v, more @ ..] = rest {
-        if goes_out(symbols, v) {
+        if is_visible_to_callers(symbols, v) {
             kept.push(copy_variable(v)?)?;
         }
         rest = more;

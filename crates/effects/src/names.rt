@@ -5,8 +5,7 @@ ghost use Rattle.f77_ast.specs.Symbols.{symbol_tree};
 ghost use Rattle.call_graph.specs.Actuals.{is_array};
 ghost use Rattle.effects.specs.Names.{symbol_of, variable_number, number_of, own, one, array, variable_named};
 
-use f77_ast::{Expr, Place, Symbol, Symbols};
-use f77_results::Variable;
+use f77_ast::{Expr, Place, Symbol, Symbols, Variable};
 use fx_lists::{List, Text};
 use std::alloc::{AllocError as Memory, Global};
 use tracked_cells::has_bounds;

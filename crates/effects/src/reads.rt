@@ -5,8 +5,7 @@ ghost use Rattle.f77_ast.specs.Symbols.{symbol_tree};
 ghost use Rattle.effects.specs.Reads.{reads, with_reads, inner_reads, actual_reads, with_actuals, with_items, with_named};
 
 use crate::names::{array, own, variable_named};
-use f77_ast::{Expr, Symbols};
-use f77_results::{Variable, union};
+use f77_ast::{Expr, Symbols, Variable, union};
 use fx_lists::List;
 use std::alloc::{AllocError as Memory, Global};
 

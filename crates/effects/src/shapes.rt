@@ -4,7 +4,9 @@ ghost use Rattle.f77_ast.specs.PlainStmt.{maybe_tree};
 ghost use Rattle.f77_ast.specs.Symbols.{symbol_tree, bound_tree, value_in};
 ghost use Rattle.effects.specs.Callee.{same_scalar, same_number, same_high, same_bound, same_bounds, is_at, is_like, first_like};
 
-use f77_ast::{Bound, Constant, Expr, Place, Scalar, Symbol, Symbols, Worth, worth_of};
+use f77_ast::{
+    Bound, Constant, ConstantValue, Expr, Place, Scalar, Symbol, Symbols, const_value_of,
+};
 use fx_lists::Text;
 use std::alloc::AllocError as Memory;
 
@@ -17,11 +19,11 @@ fn same_scalar(a: Scalar, b: Scalar) -> bool
     }
 }
 
-fn same_number(a: Worth, b: Worth) -> bool
+fn same_number(a: ConstantValue, b: ConstantValue) -> bool
     ensures { result ≡ same_number a b }
 {
     match (a, b) {
-        (Worth::Is(Constant::Int(m)), Worth::Is(Constant::Int(n))) => m == n,
+        (ConstantValue::Is(Constant::Int(m)), ConstantValue::Is(Constant::Int(n))) => m == n,
         _ => false,
     }
 }
@@ -30,7 +32,7 @@ fn same_high(own: &Symbols, a: &Option<Expr>, others: &Symbols, b: &Option<Expr>
     ensures { result ≡ same_high (value_in (map symbol_tree own.now)) (maybe_tree a.now) (value_in (map symbol_tree others.now)) (maybe_tree b.now) }
 {
     match (a, b) {
-        (Some(a), Some(b)) => same_number(worth_of(a, own), worth_of(b, others)),
+        (Some(a), Some(b)) => same_number(const_value_of(a, own), const_value_of(b, others)),
         _ => false,
     }
 }
@@ -38,7 +40,7 @@ fn same_high(own: &Symbols, a: &Option<Expr>, others: &Symbols, b: &Option<Expr>
 fn same_bound(own: &Symbols, a: &Bound, others: &Symbols, b: &Bound) -> bool
     ensures { result ≡ same_bound (value_in (map symbol_tree own.now)) (bound_tree a.now) (value_in (map symbol_tree others.now)) (bound_tree b.now) }
 {
-    same_number(worth_of(&a.low, own), worth_of(&b.low, others))
+    same_number(const_value_of(&a.low, own), const_value_of(&b.low, others))
         && same_high(own, &a.high, others, &b.high)
 }
 

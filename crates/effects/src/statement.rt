@@ -9,8 +9,8 @@ ghost use Rattle.effects.specs.Statement.{effect, ends, with_tests, step_reads, 
 
 use crate::names::{own, variable_named};
 use crate::reads::{actuals_reads, inner_reads, items_named, items_reads, reads, with_reads};
-use f77_ast::{Arm, Expr, Loop, Stmt, Symbols, What};
-use f77_results::{EffectSet, Variable, View, union};
+use call_graph::View;
+use f77_ast::{Arm, EffectSet, Expr, Loop, Stmt, Symbols, Variable, What, union};
 use fx_lists::List;
 use std::alloc::{AllocError as Memory, Global};
 

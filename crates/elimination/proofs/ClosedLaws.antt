@@ -16,11 +16,11 @@ use Rattle.affine_systems.specs.Eliminate.{unchanged, any_has, is_unit_on, keep,
 use Rattle.affine_systems.specs.Given.{IsNormalAs}
 use Rattle.affine_systems.specs.Lone.{Rises, AreApart, AllApart, row_times, IsOwn, HasOwn, IsClosed, AllWithout, IsLone}
 use Rattle.affine_systems.proofs.Basics.{if_cases, int_eq-true}
-use Rattle.affine_systems.proofs.TidyLaws.{clash}
 use Rattle.affine_systems.proofs.ReducedLaws.{kept-reduced}
 use Rattle.affine_systems.proofs.SortLaws.{item_order}
 use Rattle.affine_systems.proofs.ArrangeSteps.{lt_not_eq}
 use Rattle.affine_systems.proofs.ItemSteps.{against-stays}
+use Rattle.fx_lists.proofs.Booleans.{clash}
 
 -- ---- lists of rows
 
@@ -28,7 +28,7 @@ pub rows_weaker : (P Q : Row → Type 0) → ((r : Row) → P r → Q r) → (rs
 rows_weaker P Q f [] h = tt
 rows_weaker P Q f (r ∷ rs) h = (f r h.0, rows_weaker P Q f rs h.1)
 
-kept_rows : (P : Row → Type 0) (f : Item → Bool) (is : List Item) → AllRows P (rows_of is) → AllRows P (rows_of (keep f is))
+pub kept_rows : (P : Row → Type 0) (f : Item → Bool) (is : List Item) → AllRows P (rows_of is) → AllRows P (rows_of (keep f is))
 kept_rows P f [] h = tt
 kept_rows P f (i ∷ is) h =
     if_cases (λ (js : List Item). AllRows P (rows_of js)) (f i) (i ∷ keep f is) (keep f is) (λ e. (h.0, kept_rows P f is h.1)) (λ e. kept_rows P f is h.1)

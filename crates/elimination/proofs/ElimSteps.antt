@@ -17,6 +17,8 @@ use Rattle.affine_systems.proofs.LastLaws.{Has, CutPasses, cut_passes, keep_has,
 use Rattle.affine_systems.proofs.FitLaws.{IsTidy, tidy_small, fits_tidy, tidy_survives}
 use Rattle.affine_systems.proofs.PivotSteps.{substituted-cancelled}
 use Rattle.affine_systems.proofs.ItemSteps.{popped, item_at}
+use Rattle.affine_systems.proofs.TurnSteps.{tidy_all_small as all_small}
+use Rattle.elimination.proofs.ClosedLaws.{length-keep}
 
 pub has-lack : (v : Var) (is : List Item) (k : ℕ) (i : Item) → k < length is → i ≡ get_or is k i → occurs v i.row ≡ false → any_has v (drop k is) ≡ any_has v (drop (k + 1) is)
 has-lack v is k i h e p =
@@ -42,7 +44,7 @@ pub record IsSplit (v : Var) (left lows ups rest all : List Item) : Type 0 where
   pub without : keep (is_without v) left ++ reverse rest ≡ keep (is_without v) all
   pub small : ItemsSmall left
 
-keep-push : (f : Item → Bool) (xs : List Item) (i : Item) → keep f (xs ++ i ∷ []) ≡ keep f xs ++ (if f i then i ∷ [] else [])
+pub keep-push : (f : Item → Bool) (xs : List Item) (i : Item) → keep f (xs ++ i ∷ []) ≡ keep f xs ++ (if f i then i ∷ [] else [])
 keep-push f [] i = refl
 keep-push f (x ∷ xs) i = go (f x) (keep-push f xs i) where
   go : (b : Bool) → keep f (xs ++ i ∷ []) ≡ keep f xs ++ (if f i then i ∷ [] else []) → (if b then x ∷ keep f (xs ++ i ∷ []) else keep f (xs ++ i ∷ [])) ≡ (if b then x ∷ keep f xs else keep f xs) ++ (if f i then i ∷ [] else [])
@@ -195,12 +197,6 @@ keep_lower v [] = tt
 keep_lower v (i ∷ is) =
     if_cases (AreLower v) (is_lower v i) (i ∷ keep (is_lower v) is) (keep (is_lower v) is) (λ e. (e, keep_lower v is)) (λ e. keep_lower v is)
 
-pub length-keep : (f : Item → Bool) (is : List Item) → length (keep f is) ≤ length is
-length-keep f [] = omega arith
-length-keep f (i ∷ is) =
-    let ih = length-keep f is in
-    if_cases (λ (js : List Item). length js ≤ suc (length is)) (f i) (i ∷ keep f is) (keep f is) (λ e. omega (arith, ih)) (λ e. omega (arith, ih))
-
 pub pairs_room : (made m n : ℕ) → made + 262144 < 18446744073709551616 → m ≤ 512 → n ≤ 512 → made + m * n < 18446744073709551616
 pairs_room made m n h a b = let p : m * n ≤ 512 * 512 = mul-le-mul a b in omega (arith, p)
 
@@ -208,10 +204,6 @@ cut_parts : (P : Item → Type 0) (is : List Item) (k : ℕ) → AllItems P is �
 cut_parts P [] k h l = absurd (omega arith)
 cut_parts P (i ∷ is) zero h l = (h.0, h.1)
 cut_parts P (i ∷ is) (suc k) h l = let r = cut_parts P is k h.1 (omega arith) in (r.0, (h.0, r.1))
-
-all_small : (q : Bool) (is : List Item) → Has (IsTidy q) is → ItemsSmall is
-all_small q [] h = tt
-all_small q (i ∷ is) h = (tidy_small q i.row h.0, all_small q is h.1)
 
 pub fit_small : (q : Bool) (is : List Item) → ItemsFit q is → ItemsSmall is
 fit_small q is h = all_small q is (fits_tidy q is h)

@@ -18,12 +18,12 @@ use Rattle.affine_systems.specs.Places.{place_of, has_var, Sided, may_face}
 use Rattle.affine_systems.specs.Lone.{Rises, AreApart, AllApart, IsOwn, HasOwn, IsClosed, AllHaveTerms, AllWithout, IsLone, left_by, AllLone, has_terms}
 use Rattle.elimination.specs.Homes.{IsHome, HasHomes, row_at, Homed, OnlyAt}
 use Rattle.std.proofs.lemmas.Bool.Decides.{Decides-ltb}
-use Rattle.affine_systems.proofs.TidyLaws.{clash}
 use Rattle.affine_systems.proofs.TermLaws.{var_eq-true}
 use Rattle.affine_systems.proofs.PlaceSteps.{has_of_occurs, has_pushed, IsAt, apart}
 use Rattle.affine_systems.proofs.ArrangeSteps.{rises_first, rises_rest}
 use Rattle.affine_systems.proofs.SortLaws.{item_order}
 use Rattle.elimination.proofs.ClosedLaws.{times_rows, unit_occurs, without_kept, kept_without}
+use Rattle.fx_lists.proofs.Booleans.{clash}
 
 -- ---- rows in order
 

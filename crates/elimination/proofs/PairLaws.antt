@@ -21,13 +21,13 @@ use Rattle.affine_systems.specs.Lone.{Rises}
 use Rattle.affine_systems.specs.Forms.{put_one, Ordered, IsForm, HasForm}
 use Rattle.elimination.specs.Held.{Holds, Stands}
 use Rattle.affine_systems.proofs.Basics.{if_cases}
-use Rattle.affine_systems.proofs.TidyLaws.{clash}
 use Rattle.affine_systems.proofs.ItemSteps.{normal_items-push}
 use Rattle.std.proofs.lemmas.List.{take_more}
 use Rattle.elimination.proofs.ClosedLaws.{normal_not_false, normal_same, none_too_big, rising_sorted, rising_once}
 use Rattle.elimination.proofs.FormLaws.{ordered_more, once_more, take_put, length_put, rises_put, rises_taken, rising_items, rising_ordered, clear_put, none_false_of}
+use Rattle.fx_lists.proofs.Booleans.{or_false, or_true, clash}
 
-any_more : {X : Type 0} (p : X → Bool) (xs : List X) (x : X) → list_any p (xs ++ x ∷ []) ≡ (list_any p xs || p x)
+pub any_more : {X : Type 0} (p : X → Bool) (xs : List X) (x : X) → list_any p (xs ++ x ∷ []) ≡ (list_any p xs || p x)
 any_more p [] x = go (p x) where
   go : (b : Bool) → (b || false) ≡ (false || b)
   go true = refl
@@ -36,14 +36,6 @@ any_more p (y ∷ ys) x = ap (λ b. p y || b) (any_more p ys x) ∙ go (p y) (li
   go : (a b c : Bool) → (a || (b || c)) ≡ ((a || b) || c)
   go true b c = refl
   go false b c = refl
-
-or_false : (b : Bool) → (b || false) ≡ b
-or_false true = refl
-or_false false = refl
-
-or_true : (b : Bool) → (b || true) ≡ true
-or_true true = refl
-or_true false = refl
 
 same_holds : (ns ms : List Item) (f g : Form) → ns ≡ ms → g.items.items ≡ f.items.items → g.is_over ≡ f.is_over → Holds ns f → Holds ms g
 same_holds ns ms f g e i o h = subst (λ ks. Holds ks g) e (record { whole = h.whole; ordered = h.ordered; once = h.once; rises = h.rises; clear = h.clear; held = i ∙ h.held; over = o ∙ h.over })
@@ -214,7 +206,7 @@ length_taken zero (i ∷ is) l = refl
 length_taken (suc k) [] l = absurd (omega (arith, l))
 length_taken (suc k) (i ∷ is) l = ap suc (length_taken k is (omega (arith, l)))
 
-uppers_last : (n : ℕ) (v : Var) (low : Item) (ups : List Item) (up : Item) → with_uppers n v low (ups ++ up ∷ []) ≡ with_uppers n v low ups ++ pair (n + length ups) v low up ∷ []
+pub uppers_last : (n : ℕ) (v : Var) (low : Item) (ups : List Item) (up : Item) → with_uppers n v low (ups ++ up ∷ []) ≡ with_uppers n v low ups ++ pair (n + length ups) v low up ∷ []
 uppers_last n v low [] up = ap (λ m. pair m v low up ∷ []) (omega arith)
 uppers_last n v low (u ∷ us) up =
     ap (λ (is : List Item). pair n v low u ∷ is) (uppers_last (suc n) v low us up ∙ ap (λ m. with_uppers (suc n) v low us ++ pair m v low up ∷ []) (omega arith))
@@ -225,7 +217,7 @@ uppers_more n v low ups k d l =
     ap (with_uppers n v low) (take_more ups k d l)
     ∙ (uppers_last n v low (take k ups) (get_or ups k d) ∙ ap (λ m. with_uppers n v low (take k ups) ++ pair (n + m) v low (get_or ups k d) ∷ []) t)
 
-pairs_last : (n : ℕ) (v : Var) (lows ups : List Item) (low : Item) → pairs n v (lows ++ low ∷ []) ups ≡ pairs n v lows ups ++ with_uppers (n + length lows * length ups) v low ups
+pub pairs_last : (n : ℕ) (v : Var) (lows ups : List Item) (low : Item) → pairs n v (lows ++ low ∷ []) ups ≡ pairs n v lows ups ++ with_uppers (n + length lows * length ups) v low ups
 pairs_last n v [] ups low = append-nil (with_uppers n v low ups) ∙ ap (λ m. with_uppers m v low ups) (omega arith)
 pairs_last n v (l ∷ ls) ups low =
     let s : n + length ups + length ls * length ups ≡ n + suc (length ls) * length ups = omega arith in
@@ -238,7 +230,7 @@ pairs_more n v lows ups k d l =
     ap (λ is. pairs n v is ups) (take_more lows k d l)
     ∙ (pairs_last n v (take k lows) ups (get_or lows k d) ∙ ap (λ m. pairs n v (take k lows) ups ++ with_uppers (n + m * length ups) v (get_or lows k d) ups) t)
 
-none_taken : (is : List Item) → take 0 is ≡ []
+pub none_taken : (is : List Item) → take 0 is ≡ []
 none_taken [] = refl
 none_taken (i ∷ is) = refl
 

@@ -13,7 +13,7 @@ use Rattle.f77_ast.specs.Statements.{spot}
 use Rattle.f77_ast.specs.Programs.{program_run}
 use Rattle.f77_ast.specs.Straight.{straight_program, is_straight}
 
-abbrev i : ExprTree
+abbrev pub i : ExprTree
 i = name (codes "I")
 
 abbrev main_of : StmtTrees → ModuleTree

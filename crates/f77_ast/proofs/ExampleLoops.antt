@@ -13,18 +13,16 @@ use Rattle.f77_ast.specs.Calls.{Dummy}
 use Rattle.f77_ast.specs.Numbers.{power, quotient, remainder}
 use Rattle.f77_ast.specs.Programs.{Program, Routine, program_run}
 use Rattle.f77_ast.specs.Straight.{numbered}
+use Rattle.f77_ast.proofs.Example.{i}
 
-abbrev i : ExprTree
-i = name (codes "I")
-
-abbrev k : ExprTree
+abbrev pub k : ExprTree
 k = name (codes "K")
 
 abbrev n : ℕ → ExprTree
 n m = int (pos m)
 
 -- J(e)
-abbrev j_at : ExprTree → ExprTree
+abbrev pub j_at : ExprTree → ExprTree
 j_at e = element (codes "J") (more_exprs e no_exprs)
 
 infixr 10 ◌⨾◌

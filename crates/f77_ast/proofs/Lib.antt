@@ -11,6 +11,11 @@ pub mod PlainlyStmt
 pub mod PlainlyDecl
 pub mod StepLaws
 pub mod WalkLaws
-mod Example
-mod ExampleLoops
+pub mod Example
+pub mod ExampleLoops
 mod ExampleWalks
+mod OrderLaws
+mod UnionLaws
+pub mod MapLaws
+pub mod Shared
+pub mod SameLaws

@@ -10,6 +10,8 @@ use Rattle.std.specs.declared.hash.BuildHasherDefault.{BuildHasherDefault}
 use Rattle.f77_ast.specs.Symbols.{number_from}
 use Rattle.f77_ast.specs.declared.name_index.NameIndex.{NameIndex}
 use Rattle.f77_ast.specs.Index.{Indexes, number_in}
+use Rattle.f77_ast.proofs.MapLaws.{same_key}
+use Rattle.fx_lists.proofs.Options.{not_found}
 
 differs : (x q y : List ℕ) → bytes_eq x y ≡ false → bytes_eq x q ≡ true → bytes_eq q y ≡ false
 differs x q y n e = sym (nat_list_eq_equiv.congr x q y e) ∙ n
@@ -50,9 +52,6 @@ number_from-again n k (y ∷ ys) x q e =
 
 -- ---- the table
 
-abbrev pub same_key : Vec ℕ Global → Vec ℕ Global → Bool
-same_key k l = bytes_eq k.items l.items
-
 module _ (m n : HashMap (Vec ℕ Global) ℕ (BuildHasherDefault FoldHasher)) (k : Vec ℕ Global) (w : Option ℕ) where
   others_stay : KeepsOthers same_key (same_key k) m.entries n.entries → (q : List ℕ) → bytes_eq k.items q ≡ false → get_by (λ l. bytes_eq q l.items) n ≡ get_by (λ l. bytes_eq q l.items) m
   unfolding KeepsOthers
@@ -72,10 +71,6 @@ module _ (m n : HashMap (Vec ℕ Global) ℕ (BuildHasherDefault FoldHasher)) (k
 found : (ys : List (List ℕ)) (x : List ℕ) (o : Option ℕ) → o ≡ number_from 1 ys x → is_some o ≡ true → (q : List ℕ) → number_from 1 ys q ≡ number_from 1 (ys ++ x ∷ []) q
 found ys x (Some k) e t q = sym (number_from-again 1 k ys x q (sym e))
 found ys x None e t q = cc
-
-not_found : (o : Option ℕ) → is_some o ≡ false → o ≡ None
-not_found (Some k) t = cc
-not_found None t = refl
 
 module _ (i j : NameIndex) (names : List (List ℕ)) (k : Vec ℕ Global) (are : Indexes i names) (next : j.count ≡ i.count + 1) where
   one_more : j.count ≡ length (names ++ k.items ∷ [])

@@ -46,7 +46,7 @@ one_of ss (t ∷ others) z zero s e =
     subst (λ (r : SymbolTree). end_in z r.place (units_in ss r) ≤ reached ss z (t ∷ others)) same first
 one_of ss (t ∷ others) z (suc i) s e = let rest = one_of ss others z i s e in omega arith
 
-from_number : (ss : List SymbolTree) (n : ℕ) (s : SymbolTree) → symbol_at ss n ≡ Some s → slice_get ss (n - 1) ≡ Some s
+pub from_number : (ss : List SymbolTree) (n : ℕ) (s : SymbolTree) → symbol_at ss n ≡ Some s → slice_get ss (n - 1) ≡ Some s
 from_number ss n s e = go (nat_eq n 0) e
   where
     go : (b : Bool) → (if b then None else slice_get ss (n - 1)) ≡ Some s → slice_get ss (n - 1) ≡ Some s
@@ -84,7 +84,7 @@ last_of ss (t ∷ others) z h = go (nat_le (reached ss z others) (end_in z t.pla
         let same : reached ss z others ≡ reached ss z (t ∷ others) = omega arith in
         (suc rest.0, rest.1, rest.2, rest.3 ∙ same)
 
-to_number : (ss : List SymbolTree) (i : ℕ) (s : SymbolTree) → slice_get ss i ≡ Some s → symbol_at ss (suc i) ≡ Some s
+pub to_number : (ss : List SymbolTree) (i : ℕ) (s : SymbolTree) → slice_get ss i ≡ Some s → symbol_at ss (suc i) ≡ Some s
 to_number ss i s e =
     let low : suc i - 1 ≡ i = omega arith in
     let some : nat_eq (suc i) 0 ≡ false = ne_eqb (suc i) 0 (λ q. omega arith) in

@@ -9,6 +9,7 @@ use Rattle.std.specs.Int.RustNames.{unsigned_abs}
 use Rattle.std.specs.Prelude.{◌<ℤ◌}
 use Rattle.f77_ast.specs.Places.{as_count}
 use Rattle.f77_ast.proofs.PlainlyDecl.{decl_lists}
+use Rattle.fx_lists.proofs.Numbers.{cap_mul}
 
 pub as_count-none : (z : ℤ) → z <ℤ pos 0 → as_count z ≡ 0
 as_count-none (pos n) h = absurd (omega (arith, ints))
@@ -22,19 +23,6 @@ pub as_count-is : (n : ℕ) (y z : ℤ) → n ≡ unsigned_abs y → y ≡ z →
 as_count-is n y z h e p = h ∙ ap unsigned_abs e ∙ sym (as_count-all z p)
 
 -- ---- products, as far as they have 128 bits
-
-pub cap_mul : (c m n : ℕ) → min (min m c * n) c ≡ min (m * n) c
-cap_mul c m zero = omega arith
-cap_mul c m (suc n) =
-    elim (cases_lt c m) [
-      | inl more ↦
-          let a : c ≤ c * suc n = le-mul_of_pos_right c (omega arith) in
-          let b : m ≤ m * suc n = le-mul_of_pos_right m (omega arith) in
-          let e : min m c ≡ c = omega arith in
-          let f : min (c * suc n) c ≡ min (m * suc n) c = omega arith in
-          ap (λ x. min (x * suc n) c) e ∙ f
-      | inr less ↦ let e : min m c ≡ m = omega arith in ap (λ x. min (x * suc n) c) e
-    ]
 
 -- a factor more
 pub one_more : (c m n k : ℕ) → min (min (m * n) c * k) c ≡ min (m * (n * k)) c

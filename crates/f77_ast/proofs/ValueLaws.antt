@@ -35,7 +35,7 @@ value_in-from n k (s ∷ ss) x e = go (bytes_eq x s.name) e (value_in-from (suc 
         let z : k - n ≡ suc (k - suc n) = omega (arith, rest.0) in
         (omega (arith, rest.0), rest.1 ∙ ap (λ i. constant_maybe (slice_get (s ∷ ss) i)) (sym z))
 
-one_up : (k : ℕ) (ss : List Symbol) → 1 ≤ k → slice_get ss (k - 1) ≡ numbered ss k
+pub one_up : (k : ℕ) (ss : List Symbol) → 1 ≤ k → slice_get ss (k - 1) ≡ numbered ss k
 one_up k ss h = go (nat_eq k 0) refl
   where
     go : (b : Bool) → nat_eq k 0 ≡ b → slice_get ss (k - 1) ≡ (if b then None else slice_get ss (k - 1))

@@ -15,8 +15,8 @@ pub record Actual : Type 0 where
   pub place : Place
   pub own : Bool
 
-abbrev pub lent : Place → Actual
-lent p = record { place = p; own = false }
+abbrev pub passed_by_reference : Place → Actual
+passed_by_reference p = record { place = p; own = false }
 
 -- an expression's value is stored without an event
 abbrev pub stored : ℕ → Content → Steps Actual
@@ -24,11 +24,11 @@ stored u c = Hold u c (Done (record { place = scalar_place u c.tag; own = true }
 
 abbrev pub rest_after : Place → Option ℕ → Steps Actual
 rest_after p None = fault Bounds
-rest_after p (Some k) = Done (lent (record { first = p.first + k; extent = p.extent - k; tag = p.tag; dims = [] }))
+rest_after p (Some k) = Done (passed_by_reference (record { first = p.first + k; extent = p.extent - k; tag = p.tag; dims = [] }))
 
 abbrev pub name_actual : Meant → Places → ℕ → Steps Actual
 name_actual (Constant c) at u = stored u c
-name_actual (Variable v) at u = Done (lent (at v))
+name_actual (Variable v) at u = Done (passed_by_reference (at v))
 name_actual Function at u = fault Unset
 
 -- an element offers itself and the rest of its array

@@ -11,8 +11,8 @@ use Rattle.f77_ast.specs.Numbers.{unary_number, binary_number, binary_tag, is_tr
 use Rattle.f77_ast.specs.declared.expr.BinaryOp.TheVariants.{Add, Sub, Mul, Div, Pow, Eq, Ne, Lt, Le, Gt, Ge, And, Or, Eqv, Neqv}
 use Rattle.f77_ast.specs.declared.constant.Constant.{Constant}
 use Rattle.f77_ast.specs.declared.constant.Constant.TheVariants.{Int, Log}
-use Rattle.f77_ast.specs.declared.constant.Worth.{Worth}
-use Rattle.f77_ast.specs.declared.constant.Worth.TheVariants.{Is, Faults, Varies}
+use Rattle.f77_ast.specs.declared.constant.ConstantValue.{ConstantValue}
+use Rattle.f77_ast.specs.declared.constant.ConstantValue.TheVariants.{Is, Faults, Varies}
 
 abbrev pub is_logical : Constant → Bool
 is_logical (Int n) = false
@@ -24,10 +24,10 @@ number_of (Int n) = n
 number_of (Log b) = truth b
 
 -- a constant of the type that the number stands for, or the fault of the arithmetic
-abbrev pub worth_as : Bool → Option ℤ → Worth
-worth_as logical None = Faults
-worth_as true (Some n) = Is (Log (is_true n))
-worth_as false (Some n) = Is (Int n)
+abbrev pub const_value_as : Bool → Option ℤ → ConstantValue
+const_value_as logical None = Faults
+const_value_as true (Some n) = Is (Log (is_true n))
+const_value_as false (Some n) = Is (Int n)
 
 -- the operators on LOGICAL operands (§6.4)
 abbrev pub turns_logical : UnaryOp → Bool
@@ -62,42 +62,42 @@ abbrev pub gives_logical : BinaryOp → Bool
 gives_logical op = is_log (binary_tag op)
 
 -- of an operand of another type than the operator takes the evaluation faults
-abbrev pub unary_of : UnaryOp → Constant → Worth
+abbrev pub unary_of : UnaryOp → Constant → ConstantValue
 unary_of op c =
-    if same_truth (is_logical c) (turns_logical op) then worth_as (turns_logical op) (unary_number op (number_of c)) else Faults
+    if same_truth (is_logical c) (turns_logical op) then const_value_as (turns_logical op) (unary_number op (number_of c)) else Faults
 
-abbrev pub unary_worth : UnaryOp → Worth → Worth
-unary_worth op (Is c) = unary_of op c
-unary_worth op Faults = Faults
-unary_worth op Varies = Varies
+abbrev pub unary_const_value : UnaryOp → ConstantValue → ConstantValue
+unary_const_value op (Is c) = unary_of op c
+unary_const_value op Faults = Faults
+unary_const_value op Varies = Varies
 
-abbrev pub binary_of : BinaryOp → Constant → Constant → Worth
+abbrev pub binary_of : BinaryOp → Constant → Constant → ConstantValue
 binary_of op c d =
     if same_truth (is_logical c) (joins_logical op) && same_truth (is_logical d) (joins_logical op)
-    then worth_as (gives_logical op) (binary_number op (number_of c) (number_of d))
+    then const_value_as (gives_logical op) (binary_number op (number_of c) (number_of d))
     else Faults
 
 -- that an operand is no constant expression comes before a fault of the other
-abbrev pub binary_worth : BinaryOp → Worth → Worth → Worth
-binary_worth op Varies w = Varies
-binary_worth op Faults Varies = Varies
-binary_worth op Faults Faults = Faults
-binary_worth op Faults (Is d) = Faults
-binary_worth op (Is c) Varies = Varies
-binary_worth op (Is c) Faults = Faults
-binary_worth op (Is c) (Is d) = binary_of op c d
+abbrev pub binary_const_value : BinaryOp → ConstantValue → ConstantValue → ConstantValue
+binary_const_value op Varies w = Varies
+binary_const_value op Faults Varies = Varies
+binary_const_value op Faults Faults = Faults
+binary_const_value op Faults (Is d) = Faults
+binary_const_value op (Is c) Varies = Varies
+binary_const_value op (Is c) Faults = Faults
+binary_const_value op (Is c) (Is d) = binary_of op c d
 
-abbrev pub named_worth : Option Constant → Worth
-named_worth None = Varies
-named_worth (Some c) = Is c
+abbrev pub named_const_value : Option Constant → ConstantValue
+named_const_value None = Varies
+named_const_value (Some c) = Is c
 
--- what an expression is worth, with the values of names; elements, intrinsic functions and characters are no constant expressions
-abbrev pub worth : (List ℕ → Option Constant) → ExprTree → Worth
-worth value (tree.int n) = Is (Int n)
-worth value (tree.log b) = Is (Log b)
-worth value (tree.name x) = named_worth (value x)
-worth value (tree.element x es) = Varies
-worth value (tree.paren e) = worth value e
-worth value (tree.unary op e) = unary_worth op (worth value e)
-worth value (tree.binary op a b) = binary_worth op (worth value a) (worth value b)
-worth value (tree.chars x) = Varies
+-- the value of an expression, with the values of names; elements, intrinsic functions and characters are no constant expressions
+abbrev pub const_value : (List ℕ → Option Constant) → ExprTree → ConstantValue
+const_value value (tree.int n) = Is (Int n)
+const_value value (tree.log b) = Is (Log b)
+const_value value (tree.name x) = named_const_value (value x)
+const_value value (tree.element x es) = Varies
+const_value value (tree.paren e) = const_value value e
+const_value value (tree.unary op e) = unary_const_value op (const_value value e)
+const_value value (tree.binary op a b) = binary_const_value op (const_value value a) (const_value value b)
+const_value value (tree.chars x) = Varies

@@ -29,3 +29,6 @@ pub mod Programs
 pub mod Executions
 pub mod Claims
 pub mod Straight
+pub mod Variables
+pub mod Effects
+pub mod Summaries

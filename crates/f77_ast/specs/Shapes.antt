@@ -1,5 +1,5 @@
 -- Statements by the statements inside them, and what a walk over all statements of a list computes.
-use Rattle.std.specs.Prelude.{◌≡◌, ℕ, Option}
+use Rattle.std.specs.Prelude.{◌≡◌, ℕ, Bool, true, false, Option}
 use Rattle.f77_ast.specs.declared.stmt.What.{What}
 use Rattle.f77_ast.specs.declared.stmt.What.TheVariants.{If, LogicalIf', Do}
 use Rattle.f77_ast.specs.declared.shape.Shape.{Shape}
@@ -98,3 +98,16 @@ abbrev mutual
   pub walk_list : {R : Type 0} → Walk R → StmtTrees → R
   walk_list f tree.no_stmts = f.of_end
   walk_list f (tree.more_stmts s rest) = f.of_more (walk_stmt f s) (walk_list f rest)
+
+abbrev pub is_return : WhatTree → Bool
+is_return (tree.assign a b) = false
+is_return (tree.block_if arms other) = false
+is_return (tree.logical_if test s) = false
+is_return (tree.do_loop l) = false
+is_return (tree.call x es) = false
+is_return (tree.goto l) = false
+is_return tree.continue = false
+is_return tree.return = true
+is_return (tree.stop text) = false
+is_return (tree.print es) = false
+is_return (tree.read es) = false

@@ -14,7 +14,7 @@ pub enum Constant {
 /// The value of an expression in which only constants are known: a constant; a fault, such as an overflow, a zero divisor or an
 /// operand of the wrong type; or none, as it is no constant expression.
 #[derive(Clone, Copy, PartialEq, Eq)]
-pub enum Worth {
+pub enum ConstantValue {
     Is(Constant),
     Faults,
     Varies,

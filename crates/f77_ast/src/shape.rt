@@ -1,7 +1,7 @@
 //! A statement by the statements inside it: where a walk over all statements of a list goes down.
 ghost use Rattle.std.specs.Prelude.{◌≡◌};
 ghost use Rattle.f77_ast.specs.PlainStmt.{what_tree};
-ghost use Rattle.f77_ast.specs.Shapes.{shape_of, shape_tree, IsWithin};
+ghost use Rattle.f77_ast.specs.Shapes.{shape_of, shape_tree, IsWithin, is_return};
 
 use crate::{Arm, Expr, Loop, Stmt, What};
 use fx_lists::List;
@@ -37,5 +37,25 @@ pub fn shape_of(what: &What) -> Shape<'_>
         | What::Stop(_)
         | What::Print(_)
         | What::Read(_) => Shape::Leaf,
+    }
+}
+
+/// Whether a statement is a RETURN.
+#[tactic(auto, using(crate::proofs::PlainlyStmt::what_cases))]
+pub fn is_return(what: &What) -> bool
+    ensures { result ≡ is_return (what_tree what.now) }
+{
+    match what {
+        What::Return => true,
+        What::Assign(..)
+        | What::If(..)
+        | What::LogicalIf(..)
+        | What::Do(_)
+        | What::Call(..)
+        | What::Goto(_)
+        | What::Continue
+        | What::Stop(_)
+        | What::Print(_)
+        | What::Read(_) => false,
     }
 }

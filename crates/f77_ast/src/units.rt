@@ -4,7 +4,7 @@ ghost use Rattle.f77_ast.specs.Places.{as_count};
 ghost use Rattle.f77_ast.specs.Symbols.{bound_tree, symbol_tree, value_in};
 ghost use Rattle.f77_ast.specs.Units.{bound_units, bounds_units, in_64_bits, span_units, units_in};
 
-use crate::{Bound, Constant, Symbol, Symbols, Worth, worth_of};
+use crate::{Bound, Constant, ConstantValue, Symbol, Symbols, const_value_of};
 
 /// The numbers from one to another, none where they descend.
 fn count_between(low: i32, high: i32) -> u64
@@ -15,11 +15,12 @@ fn count_between(low: i32, high: i32) -> u64
 }
 
 /// The numbers from the lower bound to the upper one; none where one of them is no number.
-fn span_units(low: Worth, high: Worth) -> u64
+fn span_units(low: ConstantValue, high: ConstantValue) -> u64
     ensures { result ≡ span_units low high }
 {
     match (low, high) {
-        (Worth::Is(Constant::Int(low)), Worth::Is(Constant::Int(high))) => count_between(low, high),
+        (ConstantValue::Is(Constant::Int(low)), ConstantValue::Is(Constant::Int(high))) =>
+            count_between(low, high),
         _ => 0,
     }
 }
@@ -29,7 +30,10 @@ fn bound_units(symbols: &Symbols, bound: &Bound) -> u64
 {
     match &bound.high {
         None => 0,
-        Some(high) => span_units(worth_of(&bound.low, symbols), worth_of(high, symbols)),
+        Some(high) => span_units(
+            const_value_of(&bound.low, symbols),
+            const_value_of(high, symbols),
+        ),
     }
 }
 

@@ -9,6 +9,7 @@ use Rattle.f77_ast.proofs.PlainlyDecl.{decl_lists}
 use Rattle.f77_ast.specs.Symbols.{BoundTree}
 use Rattle.f77_checks.specs.Dimensions.{is_last, with_dim, is_too_big}
 use Rattle.f77_checks.specs.Sizes.{capped, capped_units, is_above}
+use Rattle.fx_lists.proofs.Numbers.{cap_mul as cap-mul}
 
 -- ---- the last bound
 
@@ -28,19 +29,6 @@ is_last-drop f xs k h =
     elim (eqb_tells k (length xs)) [ inl w ↦ past f xs k w.1 ∙ sym w.0 | inr w ↦ later f xs k (omega (arith, w.1)) ∙ sym w.0 ]
 
 -- ---- products in 64 bits
-
-cap-mul : (c m n : ℕ) → min (min m c * n) c ≡ min (m * n) c
-cap-mul c m zero = omega arith
-cap-mul c m (suc n) =
-    elim (cases_lt c m) [
-      | inl more ↦
-          let a : c ≤ c * suc n = le-mul_of_pos_right c (omega arith) in
-          let b : m ≤ m * suc n = le-mul_of_pos_right m (omega arith) in
-          let e : min m c ≡ c = omega arith in
-          let f : min (c * suc n) c ≡ min (m * suc n) c = omega arith in
-          ap (λ x. min (x * suc n) c) e ∙ f
-      | inr less ↦ let e : min m c ≡ m = omega arith in ap (λ x. min (x * suc n) c) e
-    ]
 
 pub capped_units-more : (n : ℕ) (d : Dim) (o : Option (List Dim)) → capped_units n (with_dim (Some d) o) ≡ capped_units (capped (n * dim_size d)) o
 capped_units-more n d None = refl

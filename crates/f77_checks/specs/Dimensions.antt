@@ -4,15 +4,15 @@ use Rattle.f77_ast.specs.Trees.{ExprTree}
 use Rattle.f77_ast.specs.Trees as tree
 use Rattle.f77_ast.specs.Places.{Dim, total_size}
 use Rattle.f77_ast.specs.declared.constant.Constant.TheVariants.{Int, Log}
-use Rattle.f77_ast.specs.declared.constant.Worth.{Worth}
-use Rattle.f77_ast.specs.declared.constant.Worth.TheVariants.{Is, Faults, Varies}
-use Rattle.f77_ast.specs.Constants.{worth, turns_logical, gives_logical}
+use Rattle.f77_ast.specs.declared.constant.ConstantValue.{ConstantValue}
+use Rattle.f77_ast.specs.declared.constant.ConstantValue.TheVariants.{Is, Faults, Varies}
+use Rattle.f77_ast.specs.Constants.{const_value, turns_logical, gives_logical}
 use Rattle.f77_ast.specs.Symbols.{BoundTree}
-use Rattle.refusal_codes.specs.declared.code.Code.TheVariants.{BadDimension}
-use Rattle.refusal_codes.specs.declared.refusal.Refusal.{Refusal}
+use Rattle.fx_lists.specs.declared.code.Code.TheVariants.{BadDimension}
+use Rattle.fx_lists.specs.declared.refusal.Refusal.{Refusal}
 use Rattle.f77_names.specs.declared.kinds.Kind.{Kind}
 use Rattle.f77_names.specs.declared.kinds.Kind.TheVariants as kind
-use Rattle.refusal_codes.specs.Refusals.{refuse_if}
+use Rattle.fx_lists.specs.Refusals.{refuse_if}
 use Rattle.f77_names.specs.Entries.{ShapeTree, EntryTree, find, of_entry, value_among}
 use Rattle.f77_names.specs.Tables.{NameTable, entry_kind}
 use Rattle.f77_checks.specs.Expressions.{check_expr}
@@ -40,19 +40,19 @@ is_adjustable t (tree.binary o a b) = not (gives_logical o) && (is_adjustable t 
 is_adjustable t (tree.chars x) = false
 
 -- constants are integers and do not fault; other bounds are adjustable ones of dummies
-abbrev pub is_bad_worth : NameTable → Bool → ExprTree → Worth → Bool
-is_bad_worth t dummy e (Is (Int n)) = false
-is_bad_worth t dummy e (Is (Log b)) = true
-is_bad_worth t dummy e Faults = true
-is_bad_worth t dummy e Varies = not (dummy && is_adjustable t e)
+abbrev pub is_bad_const_value : NameTable → Bool → ExprTree → ConstantValue → Bool
+is_bad_const_value t dummy e (Is (Int n)) = false
+is_bad_const_value t dummy e (Is (Log b)) = true
+is_bad_const_value t dummy e Faults = true
+is_bad_const_value t dummy e Varies = not (dummy && is_adjustable t e)
 
-abbrev pub worth_in : NameTable → ExprTree → Worth
-worth_in t e = worth (value_among t.entries) e
+abbrev pub const_value_in : NameTable → ExprTree → ConstantValue
+const_value_in t e = const_value (value_among t.entries) e
 
 abbrev pub is_bad_limit : NameTable → Bool → ExprTree → Bool
-is_bad_limit t dummy e = is_bad_worth t dummy e (worth_in t e)
+is_bad_limit t dummy e = is_bad_const_value t dummy e (const_value_in t e)
 
-abbrev pub is_below : Worth → Worth → Bool
+abbrev pub is_below : ConstantValue → ConstantValue → Bool
 is_below (Is (Int high)) (Is (Int low)) = int_lt high low
 is_below (Is (Int high)) (Is (Log b)) = false
 is_below (Is (Int high)) Faults = false
@@ -64,7 +64,7 @@ is_below Varies low = false
 -- `*` is the last bound of a dummy
 abbrev pub is_bad_high : NameTable → Bool → Bool → ExprTree → Option ExprTree → Bool
 is_bad_high t dummy last low None = not (dummy && last)
-is_bad_high t dummy last low (Some high) = is_bad_limit t dummy high || is_below (worth_in t high) (worth_in t low)
+is_bad_high t dummy last low (Some high) = is_bad_limit t dummy high || is_below (const_value_in t high) (const_value_in t low)
 
 abbrev pub is_bad_bound : NameTable → Bool → Bool → BoundTree → Bool
 is_bad_bound t dummy last b = is_bad_limit t dummy b.low || is_bad_high t dummy last b.low b.high
@@ -79,24 +79,24 @@ has_bad_bound t dummy (b ∷ bs) = is_bad_bound t dummy (is_last bs) b || has_ba
 
 -- ---- constant bounds
 
-abbrev pub dim_to : ℤ → Worth → Option Dim
+abbrev pub dim_to : ℤ → ConstantValue → Option Dim
 dim_to low (Is (Int high)) = Some (record { low = low; high = Some high })
 dim_to low (Is (Log b)) = None
 dim_to low Faults = None
 dim_to low Varies = None
 
-abbrev pub dim_from : Worth → Worth → Option Dim
+abbrev pub dim_from : ConstantValue → ConstantValue → Option Dim
 dim_from (Is (Int low)) high = dim_to low high
 dim_from (Is (Log b)) high = None
 dim_from Faults high = None
 dim_from Varies high = None
 
-abbrev pub dim_up_to : NameTable → Worth → Option ExprTree → Option Dim
+abbrev pub dim_up_to : NameTable → ConstantValue → Option ExprTree → Option Dim
 dim_up_to t low None = None
-dim_up_to t low (Some high) = dim_from low (worth_in t high)
+dim_up_to t low (Some high) = dim_from low (const_value_in t high)
 
 abbrev pub dim_of : NameTable → BoundTree → Option Dim
-dim_of t b = dim_up_to t (worth_in t b.low) b.high
+dim_of t b = dim_up_to t (const_value_in t b.low) b.high
 
 abbrev pub with_dim : Option Dim → Option (List Dim) → Option (List Dim)
 with_dim None ds = None

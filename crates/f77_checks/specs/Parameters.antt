@@ -4,15 +4,15 @@ use Rattle.f77_ast.specs.DeclTrees.{SettingTree, DeclTree}
 use Rattle.f77_ast.specs.DeclTrees as decl
 use Rattle.f77_ast.specs.declared.constant.Constant.{Constant}
 use Rattle.f77_ast.specs.declared.constant.Constant.TheVariants as constant
-use Rattle.f77_ast.specs.declared.constant.Worth.{Worth}
-use Rattle.f77_ast.specs.declared.constant.Worth.TheVariants.{Is, Faults, Varies}
-use Rattle.f77_ast.specs.Constants.{worth}
-use Rattle.refusal_codes.specs.declared.code.Code.TheVariants.{BadParameter, NotAnArray}
-use Rattle.refusal_codes.specs.declared.refusal.Refusal.{Refusal}
+use Rattle.f77_ast.specs.declared.constant.ConstantValue.{ConstantValue}
+use Rattle.f77_ast.specs.declared.constant.ConstantValue.TheVariants.{Is, Faults, Varies}
+use Rattle.f77_ast.specs.Constants.{const_value}
+use Rattle.fx_lists.specs.declared.code.Code.TheVariants.{BadParameter, NotAnArray}
+use Rattle.fx_lists.specs.declared.refusal.Refusal.{Refusal}
 use Rattle.f77_names.specs.declared.kinds.Kind.{Kind}
 use Rattle.f77_names.specs.declared.kinds.Kind.TheVariants.{Int, Log, Real}
 use Rattle.f77_names.specs.declared.lines.Sited.TheVariants.{Decl}
-use Rattle.refusal_codes.specs.Refusals.{refuse_if}
+use Rattle.fx_lists.specs.Refusals.{refuse_if}
 use Rattle.f77_names.specs.Lines.{LineTable, line_or}
 use Rattle.f77_names.specs.Entries.{changed, with_value, has_dummy, has_shape, has_value, value_among}
 use Rattle.f77_names.specs.Tables.{NameTable, kind_in}
@@ -37,17 +37,17 @@ given_typed Log x (constant.Int n) line v = is_bad_parameter line v
 given_typed Log x (constant.Log b) line v = given_value x (constant.Log b) v
 given_typed Real x c line v = v
 
-abbrev pub given_worth : List ℕ → Worth → ℕ → Valued → Valued
-given_worth x Varies line v = is_bad_parameter line v
-given_worth x Faults line v = is_bad_parameter line v
-given_worth x (Is c) line v = given_typed (kind_in v.table x) x c line v
+abbrev pub given_const_value : List ℕ → ConstantValue → ℕ → Valued → Valued
+given_const_value x Varies line v = is_bad_parameter line v
+given_const_value x Faults line v = is_bad_parameter line v
+given_const_value x (Is c) line v = given_typed (kind_in v.table x) x c line v
 
 -- an array is refused, and a dummy or a second value
 abbrev pub setting_valued : SettingTree → ℕ → Valued → Valued
 setting_valued s line v =
     let w = record v { found = refuse_if (has_shape s.name v.table.entries) line NotAnArray v.found } in
     if has_dummy s.name v.table.entries || has_value s.name v.table.entries then is_bad_parameter line w
-    else given_worth s.name (worth (value_among v.table.entries) s.value) line (record w { found = check_expr w.table s.value line w.found })
+    else given_const_value s.name (const_value (value_among v.table.entries) s.value) line (record w { found = check_expr w.table s.value line w.found })
 
 abbrev pub settings_valued : List SettingTree → ℕ → Valued → Valued
 settings_valued [] line v = v

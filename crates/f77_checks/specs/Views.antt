@@ -1,7 +1,7 @@
 -- What the code has, as definitions see it.
 use Rattle.std.specs.Prelude.{List, Option, Some, None}
 use Rattle.f77_ast.specs.Places.{Dim}
-use Rattle.refusal_codes.specs.declared.refusal.Refusal.{Refusal}
+use Rattle.fx_lists.specs.declared.refusal.Refusal.{Refusal}
 use Rattle.f77_names.specs.declared.table.NameTable.{NameTable}
 use Rattle.f77_names.specs.Views.{table_tree}
 use Rattle.f77_checks.specs.declared.sizes.Dimensions.{Dimensions}

@@ -6,16 +6,15 @@ ghost use Rattle.f77_ast.specs.PlainStmt.{maybe_tree};
 ghost use Rattle.f77_ast.specs.Symbols.{bound_tree};
 ghost use Rattle.f77_names.specs.Entries.{entry_tree, maybe_shape, shape_tree};
 ghost use Rattle.f77_names.specs.Views.{table_tree};
-ghost use Rattle.f77_checks.specs.Dimensions.{check_bounds, dim_from, dim_of, dims_in, dims_of, has_bad_bound, is_adjustable, is_bad_bound, is_bad_high, is_bad_shape, is_bad_worth, is_below, is_int_kind, may_adjust, check_maybe, check_shape, check_shapes, worth_in};
+ghost use Rattle.f77_checks.specs.Dimensions.{check_bounds, dim_from, dim_of, dims_in, dims_of, has_bad_bound, is_adjustable, is_bad_bound, is_bad_high, is_bad_shape, is_bad_const_value, is_below, is_int_kind, may_adjust, check_maybe, check_shape, check_shapes, const_value_in};
 ghost use Rattle.f77_checks.specs.Sizes.{capped_units, dim_tree, dims_tree, is_above};
 ghost use Rattle.f77_checks.specs.Views.{known_dims};
 
 use crate::expressions::check_expr;
 use crate::sizes::{Dimensions, Size, is_above};
-use f77_ast::{Bound, Constant, Expr, Worth, gives_logical, turns_logical, worth_of};
+use f77_ast::{Bound, Constant, ConstantValue, Expr, const_value_of, gives_logical, turns_logical};
 use f77_names::{Entry, Kind, NameTable, Shape};
-use fx_lists::List;
-use refusal_codes::{Code, Refusal, refuse_if};
+use fx_lists::{Code, List, Refusal, refuse_if};
 use std::alloc::{AllocError as Memory, Global};
 
 fn is_int_kind(kind: Kind) -> bool
@@ -60,29 +59,36 @@ fn is_adjustable(table: &NameTable, e: &Expr) -> bool
     }
 }
 
-fn worth_in(table: &NameTable, e: &Expr) -> Worth
-    ensures { result ≡ worth_in (table_tree table.now) (expr_tree e.now) }
+fn const_value_in(table: &NameTable, e: &Expr) -> ConstantValue
+    ensures { result ≡ const_value_in (table_tree table.now) (expr_tree e.now) }
 {
-    worth_of(e, &table.names)
+    const_value_of(e, &table.names)
 }
 
-fn is_bad_limit(table: &NameTable, dummy: bool, e: &Expr, worth: Worth) -> bool
-    ensures { result ≡ is_bad_worth (table_tree table.now) dummy (expr_tree e.now) worth }
+fn is_bad_limit(table: &NameTable, dummy: bool, e: &Expr, const_value: ConstantValue) -> bool
+    ensures { result ≡ is_bad_const_value (table_tree table.now) dummy (expr_tree e.now) const_value }
 {
-    match worth {
-        Worth::Is(Constant::Int(_)) => false,
-        Worth::Is(Constant::Log(_)) | Worth::Faults => true,
-        Worth::Varies => !(dummy && is_adjustable(table, e)),
+    match const_value {
+        ConstantValue::Is(Constant::Int(_)) => false,
+        ConstantValue::Is(Constant::Log(_)) | ConstantValue::Faults => true,
+        ConstantValue::Varies => !(dummy && is_adjustable(table, e)),
     }
 }
 
-fn is_below(high: Worth, low: Worth) -> bool
+fn is_below(high: ConstantValue, low: ConstantValue) -> bool
     ensures { result ≡ is_below high low }
 {
     match (high, low) {
-        (Worth::Is(Constant::Int(high)), Worth::Is(Constant::Int(low))) => high < low,
-        (Worth::Is(Constant::Int(_)), Worth::Is(Constant::Log(_)) | Worth::Faults | Worth::Varies)
-        | (Worth::Is(Constant::Log(_)) | Worth::Faults | Worth::Varies, _) => false,
+        (ConstantValue::Is(Constant::Int(high)), ConstantValue::Is(Constant::Int(low))) => high
+            < low,
+        (
+            ConstantValue::Is(Constant::Int(_)),
+            ConstantValue::Is(Constant::Log(_)) | ConstantValue::Faults | ConstantValue::Varies,
+        )
+        | (
+            ConstantValue::Is(Constant::Log(_)) | ConstantValue::Faults | ConstantValue::Varies,
+            _,
+        ) => false,
     }
 }
 
@@ -93,8 +99,9 @@ fn is_bad_high(table: &NameTable, dummy: bool, last: bool, low: &Expr, high: &Op
     match high {
         None => !(dummy && last),
         Some(high) => {
-            let worth = worth_in(table, high);
-            is_bad_limit(table, dummy, high, worth) || is_below(worth, worth_in(table, low))
+            let const_value = const_value_in(table, high);
+            is_bad_limit(table, dummy, high, const_value)
+                || is_below(const_value, const_value_in(table, low))
         }
     }
 }
@@ -102,8 +109,8 @@ fn is_bad_high(table: &NameTable, dummy: bool, last: bool, low: &Expr, high: &Op
 fn is_bad_bound(table: &NameTable, dummy: bool, last: bool, bound: &Bound) -> bool
     ensures { result ≡ is_bad_bound (table_tree table.now) dummy last (bound_tree bound.now) }
 {
-    let worth = worth_in(table, &bound.low);
-    is_bad_limit(table, dummy, &bound.low, worth)
+    let const_value = const_value_in(table, &bound.low);
+    is_bad_limit(table, dummy, &bound.low, const_value)
         || is_bad_high(table, dummy, last, &bound.low, &bound.high)
 }
 
@@ -120,13 +127,21 @@ fn has_bad_bound(table: &NameTable, dummy: bool, bounds: &[Bound]) -> bool
     false
 }
 
-fn size_of(low: Worth, high: Worth) -> Option<Size>
+fn size_of(low: ConstantValue, high: ConstantValue) -> Option<Size>
     ensures { option_map dim_tree result ≡ dim_from low high }
 {
     match (low, high) {
-        (Worth::Is(Constant::Int(low)), Worth::Is(Constant::Int(high))) => Some(Size { low, high }),
-        (Worth::Is(Constant::Int(_)), Worth::Is(Constant::Log(_)) | Worth::Faults | Worth::Varies)
-        | (Worth::Is(Constant::Log(_)) | Worth::Faults | Worth::Varies, _) => None,
+        (ConstantValue::Is(Constant::Int(low)), ConstantValue::Is(Constant::Int(high))) => Some(
+            Size { low, high },
+        ),
+        (
+            ConstantValue::Is(Constant::Int(_)),
+            ConstantValue::Is(Constant::Log(_)) | ConstantValue::Faults | ConstantValue::Varies,
+        )
+        | (
+            ConstantValue::Is(Constant::Log(_)) | ConstantValue::Faults | ConstantValue::Varies,
+            _,
+        ) => None,
     }
 }
 
@@ -135,7 +150,10 @@ fn bound_size(table: &NameTable, bound: &Bound) -> Option<Size>
 {
     match &bound.high {
         None => None,
-        Some(high) => size_of(worth_in(table, &bound.low), worth_in(table, high)),
+        Some(high) => size_of(
+            const_value_in(table, &bound.low),
+            const_value_in(table, high),
+        ),
     }
 }
 

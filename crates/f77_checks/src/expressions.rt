@@ -10,8 +10,7 @@ ghost use Rattle.f77_checks.specs.Expressions.{check_call, check_count, count, d
 use crate::sort::{Sort, sort_of};
 use f77_ast::{Expr, joins_logical, turns_logical};
 use f77_names::{Function, NameTable};
-use fx_lists::{List, Text};
-use refusal_codes::{Code, Refusal, refuse_if};
+use fx_lists::{Code, List, Refusal, Text, refuse_if};
 
 /// Refuses a type that is not INTEGER with `TypeMismatch`; an unknown one passes.
 pub fn wants_int(sort: Sort, line: u32, found: Option<Refusal>) -> Option<Refusal>

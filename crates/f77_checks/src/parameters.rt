@@ -9,10 +9,9 @@ ghost use Rattle.f77_checks.specs.Parameters.{decl_valued, decls_valued, given_t
 ghost use Rattle.f77_checks.specs.Views.{valued_tree};
 
 use crate::expressions::check_expr;
-use f77_ast::{Constant, Decl, Setting, Worth, worth_of};
+use f77_ast::{Constant, ConstantValue, Decl, Setting, const_value_of};
 use f77_names::{Kind, LineTable, NameTable, Names, Sited};
-use fx_lists::{List, Text};
-use refusal_codes::{Code, Refusal, refuse_if};
+use fx_lists::{Code, List, Refusal, Text, refuse_if};
 use std::alloc::AllocError as Memory;
 
 /// A dummy, or a name that has a value.
@@ -65,9 +64,14 @@ fn value_setting(
         return refuse_if(true, line, Code::BadParameter, found);
     }
     let found = check_expr(table, &setting.value, line, found);
-    match worth_of(&setting.value, &table.names) {
-        Worth::Faults | Worth::Varies => refuse_if(true, line, Code::BadParameter, found),
-        Worth::Is(value) => {
+    match const_value_of(&setting.value, &table.names) {
+        ConstantValue::Faults | ConstantValue::Varies => refuse_if(
+            true,
+            line,
+            Code::BadParameter,
+            found,
+        ),
+        ConstantValue::Is(value) => {
             let kind = table.kind_of(&setting.name);
             give_typed(table, kind, &setting.name, value, line, found)
         }

@@ -16,8 +16,7 @@ use crate::targets::{
 };
 use f77_ast::{Arm, Expr, Loop, Stmt, What};
 use f77_names::{LineTable, NameTable, Sited};
-use fx_lists::{List, Text};
-use refusal_codes::{Code, Refusal, refuse_if};
+use fx_lists::{Code, List, Refusal, Text, refuse_if};
 use std::alloc::AllocError as Memory;
 
 fn check_assignment(

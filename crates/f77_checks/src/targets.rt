@@ -13,8 +13,7 @@ use crate::expressions::{check_element, check_expr, check_name, check_subscripts
 use crate::sort::{Sort, named_sort, sort_of};
 use f77_ast::Expr;
 use f77_names::{Function, NameTable};
-use fx_lists::{List, Text};
-use refusal_codes::{Code, Refusal, refuse_if};
+use fx_lists::{Code, List, Refusal, Text, refuse_if};
 
 /// The type of a name that is written to, which is not asked of a function.
 fn unknown_or(function: Option<Function>, sort: Sort) -> Sort

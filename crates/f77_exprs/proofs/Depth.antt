@@ -7,7 +7,7 @@ use Rattle.f77_ast.specs.declared.expr.UnaryOp.{UnaryOp}
 use Rattle.f77_ast.specs.declared.expr.UnaryOp.TheVariants.{Plus, Minus, Not}
 use Rattle.f77_ast.specs.Trees.{ExprTree, log, name, element, paren, unary, binary}
 use Rattle.f77_ast.specs.Plain.{exprs_of}
-use Rattle.f77_exprs.specs.State.{State, Reader, take_word, or_done, or_else, ◌>>=◌}
+use Rattle.f77_exprs.specs.State.{State, Reader, parse_word, or_done, or_else, ◌>>=◌}
 use Rattle.f77_exprs.specs.Operators.{relations, equivalences, sums, products}
 use Rattle.f77_exprs.specs.Lexical.{name_at, number_first}
 use Rattle.f77_exprs.specs.Grammar.{Part, whole, power, Inner, more, chain, comma, more_by, items_by, items, element_at, variable_in, parenthesis, constant_at, literal, primary, exponent, factor, term, signed_terms, signed_term, arithmetic, comparison, relation, negated_relation, negation, conjunction, disjunction, equivalence, part, expression, variable}
@@ -22,8 +22,8 @@ word-within : {A : Type 0} (o : Option State) (x : A) (k : ℕ) → Taken o k �
 word-within None x k h = tt
 word-within (Some t) x k h = omega (arith, h)
 
-then_word : {A : Type 0} (b c : ℕ) (w : List ℕ) (x : A) → Same b (λ s. take_word (c ∷ w) s >>= λ t. Some (x, t)) (λ s. take_word (c ∷ w) s >>= λ t. Some (x, t))
-then_word b c w x = fixed b (λ s. take_word (c ∷ w) s >>= λ t. Some (x, t)) (λ s. word-within (take_word (c ∷ w) s) x (length s.rest) (taken c w s))
+then_word : {A : Type 0} (b c : ℕ) (w : List ℕ) (x : A) → Same b (λ s. parse_word (c ∷ w) s >>= λ t. Some (x, t)) (λ s. parse_word (c ∷ w) s >>= λ t. Some (x, t))
+then_word b c w x = fixed b (λ s. parse_word (c ∷ w) s >>= λ t. Some (x, t)) (λ s. word-within (parse_word (c ∷ w) s) x (length s.rest) (taken c w s))
 
 done : {A : Type 0} (b : ℕ) (x : A) → Same b (λ s. Some (x, s)) (λ s. Some (x, s))
 done b x = fixed b (λ s. Some (x, s)) (λ s. omega arith)
@@ -31,7 +31,7 @@ done b x = fixed b (λ s. Some (x, s)) (λ s. omega arith)
 parenthesis-same : (k : ℕ) (I J : Inner) → Parts k I J → Same k (parenthesis I) (parenthesis J)
 unfolding parenthesis
 parenthesis-same k I J x =
-    let F : ExprTree → Reader ExprTree = λ a s. take_word (41 ∷ []) s >>= λ t. Some (paren a, t) in
+    let F : ExprTree → Reader ExprTree = λ a s. parse_word (41 ∷ []) s >>= λ t. Some (paren a, t) in
     seq k (I whole) (J whole) F F (x whole) (λ a. then_word k 41 [] (paren a))
 
 more_by-same : {A : Type 0} (k : ℕ) (R S : Reader A) → Same k R S → (n : ℕ) (found : List A) → Same (k + 1) (more_by comma R n found) (more_by comma S n found)
@@ -55,14 +55,14 @@ items-same {A = A} k R S x =
 element_at-same : (k : ℕ) (I J : Inner) (n : List ℕ) → Parts k I J → Same k (element_at I n) (element_at J n)
 unfolding element_at
 element_at-same k I J n x =
-    let F : List ExprTree → Reader ExprTree = λ es s. take_word (41 ∷ []) s >>= λ t. Some (element n (exprs_of es), t) in
+    let F : List ExprTree → Reader ExprTree = λ es s. parse_word (41 ∷ []) s >>= λ t. Some (element n (exprs_of es), t) in
     seq k (items (I whole)) (items (J whole)) F F (items-same k (I whole) (J whole) (x whole)) (λ es. then_word k 41 [] (element n (exprs_of es)))
 
 variable-same : (k : ℕ) (I J : Inner) → Parts k I J → Same (k + 1) (variable_in I) (variable_in J)
 unfolding variable_in
 variable-same k I J x =
-    let F : List ℕ → Reader ExprTree = λ n s. or_done (name n) s (take_word (codes "(") s) (element_at I n) in
-    let G : List ℕ → Reader ExprTree = λ n s. or_done (name n) s (take_word (codes "(") s) (element_at J n) in
+    let F : List ℕ → Reader ExprTree = λ n s. or_done (name n) s (parse_word (codes "(") s) (element_at I n) in
+    let G : List ℕ → Reader ExprTree = λ n s. or_done (name n) s (parse_word (codes "(") s) (element_at J n) in
     seq (k + 1) name_at name_at F G (fixed (k + 1) name_at name_at-within)
     (λ n. behind k 40 [] (name n) (element_at I n) (element_at J n) (element_at-same k I J n x))
 
@@ -85,9 +85,9 @@ primary-same : (k : ℕ) (I J : Inner) → Parts k I J → Same (k + 1) (primary
 unfolding primary
 primary-same k I J x =
     let N : Inner → Reader ExprTree = λ K s. if number_first s.rest then Some (literal s) else variable_in K s in
-    let C : Inner → Reader ExprTree = λ K s. or_else (take_word (39 ∷ []) s) constant_at (N K s) in
-    let P : Inner → Reader ExprTree = λ K s. or_else (take_word (40 ∷ []) s) (parenthesis K) (C K s) in
-    let F : Inner → Reader ExprTree = λ K s. or_else (take_word (46 ∷ 70 ∷ 65 ∷ 76 ∷ 83 ∷ 69 ∷ 46 ∷ []) s) (λ t. Some (log false, t)) (P K s) in
+    let C : Inner → Reader ExprTree = λ K s. or_else (parse_word (39 ∷ []) s) constant_at (N K s) in
+    let P : Inner → Reader ExprTree = λ K s. or_else (parse_word (40 ∷ []) s) (parenthesis K) (C K s) in
+    let F : Inner → Reader ExprTree = λ K s. or_else (parse_word (46 ∷ 70 ∷ 65 ∷ 76 ∷ 83 ∷ 69 ∷ 46 ∷ []) s) (λ t. Some (log false, t)) (P K s) in
     either k 46 (84 ∷ 82 ∷ 85 ∷ 69 ∷ 46 ∷ []) (λ t. Some (log true, t)) (λ t. Some (log true, t)) (F I) (F J) (done k (log true))
     (either k 46 (70 ∷ 65 ∷ 76 ∷ 83 ∷ 69 ∷ 46 ∷ []) (λ t. Some (log false, t)) (λ t. Some (log false, t)) (P I) (P J) (done k (log false))
     (either k 40 [] (parenthesis I) (parenthesis J) (C I) (C J) (parenthesis-same k I J x)
@@ -137,7 +137,7 @@ lower k R S x = weaker k (k + 1) R S (omega arith) x
 signed_term-same : (k : ℕ) (I J : Inner) → Parts k I J → Same (k + 1) (signed_term I) (signed_term J)
 unfolding signed_term
 signed_term-same k I J x =
-    let M : Inner → Reader ExprTree = λ K s. or_else (take_word (codes "-") s) (signed_terms Minus K) (term K s) in
+    let M : Inner → Reader ExprTree = λ K s. or_else (parse_word (codes "-") s) (signed_terms Minus K) (term K s) in
     either k 43 [] (signed_terms Plus I) (signed_terms Plus J) (M I) (M J) (lower k (signed_terms Plus I) (signed_terms Plus J) (signed-same k Plus I J x))
     (either k 45 [] (signed_terms Minus I) (signed_terms Minus J) (term I) (term J) (lower k (signed_terms Minus I) (signed_terms Minus J) (signed-same k Minus I J x)) (term-same k I J x))
 

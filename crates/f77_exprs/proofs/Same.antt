@@ -4,7 +4,7 @@ use Rattle.std.specs.Prelude.{option_map, nat_eq}
 use Rattle.f77_ast.specs.declared.expr.BinaryOp.{BinaryOp}
 use Rattle.f77_ast.specs.Operators.{binary_word}
 use Rattle.f77_exprs.specs.Words.{after}
-use Rattle.f77_exprs.specs.State.{State, Reader, take_word, or_done, or_else, ◌>>=◌}
+use Rattle.f77_exprs.specs.State.{State, Reader, parse_word, or_done, or_else, ◌>>=◌}
 use Rattle.f77_exprs.specs.Operators.{one_of, or_other}
 
 abbrev pub Within : {A : Type 0} → Option (A × State) → ℕ → Type 0
@@ -63,7 +63,7 @@ taken_at w text s None h = tt
 taken_at w text s (Some r) h = h r refl
 
 -- a word that was taken shortens the rest
-pub taken : (c : ℕ) (w : List ℕ) (s : State) → Taken (take_word (c ∷ w) s) (length s.rest)
+pub taken : (c : ℕ) (w : List ℕ) (s : State) → Taken (parse_word (c ∷ w) s) (length s.rest)
 taken c w s = taken_at w s.rest s (after (c ∷ w) s.rest) (λ r e. omega (arith, after-length (c ∷ w) s.rest r e))
 
 items_at : {A : Type 0} (b : ℕ) (a : A) (s : State) (o : Option State) (F G : Reader A) → Taken o (length s.rest) → Same b F G → length s.rest < b + 1
@@ -78,10 +78,10 @@ items-within a s (Some u) F t x = within-le (F u) (length u.rest) (length s.rest
 
 -- what stands behind a word, or nothing
 pub behind : {A : Type 0} (b : ℕ) (c : ℕ) (w : List ℕ) (a : A) (F G : Reader A) → Same b F G
-    → Same (b + 1) (λ s. or_done a s (take_word (c ∷ w) s) F) (λ s. or_done a s (take_word (c ∷ w) s) G)
+    → Same (b + 1) (λ s. or_done a s (parse_word (c ∷ w) s) F) (λ s. or_done a s (parse_word (c ∷ w) s) G)
 behind b c w a F G x = record {
-  same = λ s h. items_at b a s (take_word (c ∷ w) s) F G (taken c w s) x h;
-  within = λ s. items-within a s (take_word (c ∷ w) s) F (taken c w s) x.within;
+  same = λ s h. items_at b a s (parse_word (c ∷ w) s) F G (taken c w s) x h;
+  within = λ s. items-within a s (parse_word (c ∷ w) s) F (taken c w s) x.within;
 }
 
 else_at : {A : Type 0} (b : ℕ) (s : State) (o : Option State) (F G : Reader A) (p q : Option (A × State)) → Taken o (length s.rest) → Same b F G → p ≡ q → length s.rest < b + 1
@@ -95,10 +95,10 @@ else-within s None F p t x y = y
 else-within s (Some u) F p t x y = within-le (F u) (length u.rest) (length s.rest) (x u) (omega (arith, t))
 
 pub either : {A : Type 0} (b : ℕ) (c : ℕ) (w : List ℕ) (F G P Q : Reader A) → Same b F G → Same (b + 1) P Q
-    → Same (b + 1) (λ s. or_else (take_word (c ∷ w) s) F (P s)) (λ s. or_else (take_word (c ∷ w) s) G (Q s))
+    → Same (b + 1) (λ s. or_else (parse_word (c ∷ w) s) F (P s)) (λ s. or_else (parse_word (c ∷ w) s) G (Q s))
 either b c w F G P Q x y = record {
-  same = λ s h. else_at b s (take_word (c ∷ w) s) F G (P s) (Q s) (taken c w s) x (y.same s h) h;
-  within = λ s. else-within s (take_word (c ∷ w) s) F (P s) (taken c w s) x.within (y.within s);
+  same = λ s h. else_at b s (parse_word (c ∷ w) s) F G (P s) (Q s) (taken c w s) x (y.same s h) h;
+  within = λ s. else-within s (parse_word (c ∷ w) s) F (P s) (taken c w s) x.within (y.within s);
 }
 
 word_at : (w : List ℕ) (s : State) (o : Option (List ℕ)) → ((r : List ℕ) → o ≡ Some r → length r ≤ length s.rest)
@@ -106,7 +106,7 @@ word_at : (w : List ℕ) (s : State) (o : Option (List ℕ)) → ((r : List ℕ)
 word_at w s None h t e = cc
 word_at w s (Some r) h t e = let f : r ≡ t.rest = cc in let g = h r refl in omega (arith, g, ap length f)
 
-pub word-le : (w : List ℕ) (s : State) (t : State) → take_word w s ≡ Some t → length t.rest ≤ length s.rest
+pub word-le : (w : List ℕ) (s : State) (t : State) → parse_word w s ≡ Some t → length t.rest ≤ length s.rest
 word-le w s t e = word_at w s (after w s.rest) (λ r e. omega (arith, after-length w s.rest r e)) t e
 
 left_at : {A : Type 0} (b : ℕ) (a : A) (s : State) (o : Option (BinaryOp × State)) (F G : BinaryOp → Reader A) → Within o (length s.rest) → ((op : BinaryOp) → Same b (F op) (G op)) → length s.rest < b
@@ -125,7 +125,7 @@ other-within (Some t) op p k h y = h t refl
 
 one_of-within : (ops : List BinaryOp) (s : State) → Within (one_of ops s) (length s.rest)
 one_of-within [] s = tt
-one_of-within (op ∷ ops) s = other-within (take_word (binary_word op) s) op (one_of ops s) (length s.rest) (word-le (binary_word op) s) (one_of-within ops s)
+one_of-within (op ∷ ops) s = other-within (parse_word (binary_word op) s) op (one_of ops s) (length s.rest) (word-le (binary_word op) s) (one_of-within ops s)
 
 -- what stands behind an operator, or nothing
 pub operated : {A : Type 0} (b : ℕ) (ops : List BinaryOp) (a : A) (F G : BinaryOp → Reader A) → ((op : BinaryOp) → Same b (F op) (G op))

@@ -8,7 +8,7 @@ use Rattle.f77_ast.specs.Trees.{ExprTree, int, log, name, element, paren, unary,
 use Rattle.f77_ast.specs.Plain.{exprs_of}
 use Rattle.f77_exprs.specs.declared.operators.Level.{Level}
 use Rattle.f77_exprs.specs.declared.operators.Level.TheVariants.{Equivalence, Disjunction, Conjunction, Sum, Product}
-use Rattle.f77_exprs.specs.State.{State, Reader, take_word, or_done, or_else, ◌>>=◌}
+use Rattle.f77_exprs.specs.State.{State, Reader, parse_word, or_done, or_else, ◌>>=◌}
 use Rattle.f77_exprs.specs.Lexical.{name_at, number, number_first, constant}
 use Rattle.f77_exprs.specs.Operators.{one_of, relations, equivalences, sums, products}
 
@@ -37,7 +37,7 @@ abbrev pub Between : Type 0
 Between = State → Option State
 
 abbrev pub comma : Between
-comma = take_word (codes ",")
+comma = parse_word (codes ",")
 
 -- at most n further items behind those that were found
 unfoldable pub more_by : {A : Type 0} → Between → Reader A → ℕ → List A → Reader (List A)
@@ -58,17 +58,17 @@ items = items_by comma
 unfoldable pub element_at : Inner → List ℕ → Reader ExprTree
 element_at inner n s = do
   es ← items (inner whole) s
-  t ← take_word (codes ")") es.1
+  t ← parse_word (codes ")") es.1
   Some (element n (exprs_of es.0), t)
 
 -- a name, or an element of an array or a call of a function
 unfoldable pub variable_in : Inner → Reader ExprTree
-variable_in inner s = name_at s >>= λ n. or_done (name n.0) n.1 (take_word (codes "(") n.1) (element_at inner n.0)
+variable_in inner s = name_at s >>= λ n. or_done (name n.0) n.1 (parse_word (codes "(") n.1) (element_at inner n.0)
 
 unfoldable pub parenthesis : Inner → Reader ExprTree
 parenthesis inner s = do
   e ← inner whole s
-  t ← take_word (codes ")") e.1
+  t ← parse_word (codes ")") e.1
   Some (paren e.0, t)
 
 -- a character constant behind its first apostrophe
@@ -80,10 +80,10 @@ literal s = (int (pos (number s).0), (number s).1)
 
 unfoldable pub primary : Inner → Reader ExprTree
 primary inner s =
-    or_else (take_word (codes ".TRUE.") s) (λ t. Some (log true, t))
-    (or_else (take_word (codes ".FALSE.") s) (λ t. Some (log false, t))
-    (or_else (take_word (codes "(") s) (parenthesis inner)
-    (or_else (take_word (codes "'") s) constant_at
+    or_else (parse_word (codes ".TRUE.") s) (λ t. Some (log true, t))
+    (or_else (parse_word (codes ".FALSE.") s) (λ t. Some (log false, t))
+    (or_else (parse_word (codes "(") s) (parenthesis inner)
+    (or_else (parse_word (codes "'") s) constant_at
     (if number_first s.rest then Some (literal s) else variable_in inner s))))
 
 -- ---- arithmetic
@@ -91,7 +91,7 @@ primary inner s =
 -- what follows a base
 unfoldable pub exponent : Inner → ExprTree → Reader ExprTree
 exponent inner base s =
-    or_done base s (take_word (codes "**") s) (λ t. inner power t >>= λ e. Some (binary Pow base e.0, e.1))
+    or_done base s (parse_word (codes "**") s) (λ t. inner power t >>= λ e. Some (binary Pow base e.0, e.1))
 
 -- `**` groups from the right
 unfoldable pub factor : Inner → Reader ExprTree
@@ -107,8 +107,8 @@ signed_terms op inner s = term inner s >>= λ t. Some (unary op t.0, t.1)
 -- a sign stands at the front alone
 unfoldable pub signed_term : Inner → Reader ExprTree
 signed_term inner s =
-    or_else (take_word (codes "+") s) (signed_terms Plus inner)
-    (or_else (take_word (codes "-") s) (signed_terms Minus inner) (term inner s))
+    or_else (parse_word (codes "+") s) (signed_terms Plus inner)
+    (or_else (parse_word (codes "-") s) (signed_terms Minus inner) (term inner s))
 
 unfoldable pub arithmetic : Inner → Reader ExprTree
 arithmetic inner s = signed_term inner s >>= λ l. more sums (term inner) (length l.1.rest) l.0 l.1
@@ -129,7 +129,7 @@ negated_relation inner s = relation inner s >>= λ r. Some (unary Not r.0, r.1)
 
 -- `.NOT.` once at most
 unfoldable pub negation : Inner → Reader ExprTree
-negation inner s = or_else (take_word (codes ".NOT.") s) (negated_relation inner) (relation inner s)
+negation inner s = or_else (parse_word (codes ".NOT.") s) (negated_relation inner) (relation inner s)
 
 abbrev pub conjunction : Inner → Reader ExprTree
 conjunction inner = chain (And ∷ []) (negation inner)

@@ -2,7 +2,7 @@
 use Rattle.std.specs.Prelude.{ℕ, ◌+◌, ◌-◌, ◌*◌, min, List, [], ◌∷◌, ◌++◌, length, Option, Some, None, Bool, true, false, not, ◌&&◌, ◌||◌, if◌then◌else◌, nat_lt, nat_eq, is_some, codes}
 use Rattle.std.specs.Char.{is_ascii_digit, is_ascii_uppercase}
 use Rattle.f77_exprs.specs.declared.at.Notes.{Notes}
-use Rattle.f77_exprs.specs.State.{State, start, Reader, take_word}
+use Rattle.f77_exprs.specs.State.{State, start, Reader, parse_word}
 use Rattle.f77_exprs.specs.Words.{before}
 use Rattle.f77_exprs.specs.Operators.{one_of, dotted}
 
@@ -67,7 +67,7 @@ label_at s = if digit_first s.rest then Some (integer s) else None
 
 -- an operator word with both its points stands at the front
 abbrev pub operator_first : List ℕ → Bool
-operator_first text = is_some (take_word (codes ".NOT.") (start text)) || is_some (one_of dotted (start text))
+operator_first text = is_some (parse_word (codes ".NOT.") (start text)) || is_some (one_of dotted (start text))
 
 -- what is left after a decimal point and digits: behind digits the point may not begin an operator word, and without them a digit follows it
 abbrev pub after_point : Bool → List ℕ → Option (List ℕ)

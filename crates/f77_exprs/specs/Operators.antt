@@ -3,7 +3,7 @@ use Rattle.std.specs.Prelude.{List, [], ◌∷◌, Option, Some, None}
 use Rattle.f77_ast.specs.declared.expr.BinaryOp.{BinaryOp}
 use Rattle.f77_ast.specs.declared.expr.BinaryOp.TheVariants.{Add, Sub, Mul, Div, Eq, Ne, Lt, Le, Gt, Ge, And, Or, Eqv, Neqv}
 use Rattle.f77_ast.specs.Operators.{binary_word}
-use Rattle.f77_exprs.specs.State.{State, Reader, take_word}
+use Rattle.f77_exprs.specs.State.{State, Reader, parse_word}
 
 -- this operator, or another reading where its word is not there
 abbrev pub or_other : BinaryOp → Option State → Option (BinaryOp × State) → Option (BinaryOp × State)
@@ -13,7 +13,7 @@ or_other op None other = other
 -- the first of these operators whose word stands here
 abbrev pub one_of : List BinaryOp → Reader BinaryOp
 one_of [] s = None
-one_of (op ∷ ops) s = or_other op (take_word (binary_word op) s) (one_of ops s)
+one_of (op ∷ ops) s = or_other op (parse_word (binary_word op) s) (one_of ops s)
 
 abbrev pub relations : List BinaryOp
 relations = Eq ∷ Ne ∷ Lt ∷ Le ∷ Gt ∷ Ge ∷ []

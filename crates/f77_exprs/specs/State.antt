@@ -5,8 +5,8 @@ use Rattle.f77_ast.specs.Trees.{ExprTree}
 use Rattle.f77_ast.specs.Plain.{expr_tree}
 use Rattle.f77_exprs.specs.declared.at.Notes.{Notes}
 use Rattle.f77_exprs.specs.declared.at.Cursor.{Cursor}
-use Rattle.f77_exprs.specs.declared.unread.Unread.{Unread}
-use Rattle.f77_exprs.specs.declared.unread.Unread.TheVariants.{Memory, Syntax}
+use Rattle.f77_exprs.specs.declared.parse_error.ParseError.{ParseError}
+use Rattle.f77_exprs.specs.declared.parse_error.ParseError.TheVariants.{Memory, Syntax}
 use Rattle.f77_exprs.specs.Words.{after}
 
 -- what is left of a statement, and what was met before it
@@ -32,8 +32,8 @@ abbrev pub ◌>>=◌ : {A B : Type 0} → Option A → (A → Option B) → Opti
 None >>= f = None
 
 -- what follows a word that stands here
-abbrev pub take_word : List ℕ → State → Option State
-take_word w s = option_map (λ r. record s { rest = r }) (after w s.rest)
+abbrev pub parse_word : List ℕ → State → Option State
+parse_word w s = option_map (λ r. record s { rest = r }) (after w s.rest)
 
 -- ---- the two ways to go on
 
@@ -50,19 +50,19 @@ or_else None go other = other
 -- ---- what a function returns
 
 -- no reading, unless memory ran out
-abbrev pub Fails : {Y : Type 0} → Unread → Option Y → Type 0
+abbrev pub Fails : {Y : Type 0} → ParseError → Option Y → Type 0
 Fails Memory read = Unit {0}
 Fails Syntax read = read ≡ None
 
 -- what a function returned, seen by view, is what reading gives, unless memory ran out
-abbrev pub Gives : {X Y : Type 0} → (X → Y) → Result X Unread → Option Y → Type 0
+abbrev pub Gives : {X Y : Type 0} → (X → Y) → Result X ParseError → Option Y → Type 0
 Gives view (Ok x) read = read ≡ Some (view x)
 Gives view (Err e) read = Fails e read
 
 -- the same of a value and of where its reader stopped
-abbrev pub GivesAs : {X A : Type 0} → (X → A) → Result (X × Cursor) Unread → Option (A × State) → Type 0
+abbrev pub GivesAs : {X A : Type 0} → (X → A) → Result (X × Cursor) ParseError → Option (A × State) → Type 0
 GivesAs view result read = Gives (λ x. (view x.0, state x.1)) result read
 
 -- the same of an expression
-abbrev pub GivesExpr : Result (Expr × Cursor) Unread → Option (ExprTree × State) → Type 0
+abbrev pub GivesExpr : Result (Expr × Cursor) ParseError → Option (ExprTree × State) → Type 0
 GivesExpr result read = Gives (λ x. (expr_tree x.0, state x.1)) result read

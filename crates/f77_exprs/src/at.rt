@@ -1,9 +1,9 @@
 //! How far a reader is in a stripped statement.
 ghost use Rattle.std.specs.Prelude.{◌≡◌, ◌≤◌, ℕ, length, option_map, IfOk};
 ghost use Rattle.f77_exprs.specs.Words.{after, before, slice_now};
-ghost use Rattle.f77_exprs.specs.State.{state, start, take_word, Gives};
+ghost use Rattle.f77_exprs.specs.State.{state, start, parse_word, Gives};
 
-use crate::Unread;
+use crate::ParseError;
 
 /// What the grammar takes and the profile does not, where it was met: a number with a point or an exponent, a number past
 /// 2147483647, a name of more than 31 characters.
@@ -50,8 +50,8 @@ impl<'a> Cursor<'a> {
     }
 
     /// What follows a word; None where the rest begins otherwise.
-    pub fn take_word(self, word: &[u8]) -> Option<Cursor<'a>>
-        ensures { option_map state result ≡ take_word word.now (state self.entry) }
+    pub fn parse_word(self, word: &[u8]) -> Option<Cursor<'a>>
+        ensures { option_map state result ≡ parse_word word.now (state self.entry) }
     {
         match after(word, self.rest) {
             None => None,
@@ -63,12 +63,12 @@ impl<'a> Cursor<'a> {
     }
 
     /// What follows a word; Err is `Syntax` where the rest begins otherwise.
-    pub fn need_word(self, word: &[u8]) -> Result<Cursor<'a>, Unread>
-        ensures defined { Gives state result (take_word word.now (state self.entry)) }
+    pub fn need_word(self, word: &[u8]) -> Result<Cursor<'a>, ParseError>
+        ensures defined { Gives state result (parse_word word.now (state self.entry)) }
         ensures shorter { IfOk result (λ t. length t.rest.now ≤ length self.entry.rest.now) }
     {
-        match self.take_word(word) {
-            None => Err(Unread::Syntax),
+        match self.parse_word(word) {
+            None => Err(ParseError::Syntax),
             Some(rest) => Ok(rest),
         }
     }

@@ -4,8 +4,8 @@ ghost use Rattle.f77_exprs.specs.State.{state, Gives, GivesExpr};
 ghost use Rattle.f77_exprs.specs.Lexical.{constant};
 ghost use Rattle.f77_exprs.specs.Grammar.{constant_at};
 
-use crate::unread::Reading;
-use crate::{Cursor, Unread};
+use crate::parse_error::Reading;
+use crate::{Cursor, ParseError};
 use f77_ast::Expr;
 use fx_lists::Text;
 use std::alloc::Global;
@@ -13,7 +13,7 @@ use std::alloc::Global;
 /// The text of a character constant from after its first apostrophe, two apostrophes inside being one, and what follows its last.
 /// Err is `Syntax` where the constant is not closed.
 #[tactic(auto, using(crate::proofs::ConstantLemmas::constant_steps))]
-pub fn constant(alloc: Global, text: &[u8]) -> Result<(Text, &[u8]), Unread>
+pub fn constant(alloc: Global, text: &[u8]) -> Result<(Text, &[u8]), ParseError>
     ensures { Gives (λ x. (x.0, x.1.now)) result (constant text.now) }
 {
     let mut found = Text::new(alloc);
@@ -34,7 +34,7 @@ pub fn constant(alloc: Global, text: &[u8]) -> Result<(Text, &[u8]), Unread>
         }
         found.push(*c)?;
     }
-    Err(Unread::Syntax)
+    Err(ParseError::Syntax)
 }
 
 /// A character constant as an expression, from after its first apostrophe. Err is `Syntax` where it is not closed.

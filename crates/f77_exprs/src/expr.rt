@@ -9,8 +9,8 @@ use crate::constants::constant_at;
 use crate::names::name_at;
 use crate::numbers::{literal, number_first};
 use crate::operators::{Level, RELATIONS, one_of};
-use crate::unread::Reading;
-use crate::{Cursor, Unread};
+use crate::parse_error::Reading;
+use crate::{Cursor, ParseError};
 use f77_ast::{BinaryOp, Expr, UnaryOp};
 use fx_lists::{List, Text};
 use std::alloc::Global;
@@ -39,7 +39,7 @@ fn whole(alloc: Global, depth: usize, at: Cursor<'_>) -> Reading<'_, Expr>
     ensures { GivesExpr result (part depth whole (state at.entry)) }
 {
     if depth == 0 {
-        return Err(Unread::Syntax);
+        return Err(ParseError::Syntax);
     }
     equivalence(alloc, depth - 1, at)
 }
@@ -51,7 +51,7 @@ fn power(alloc: Global, depth: usize, at: Cursor<'_>) -> Reading<'_, Expr>
     ensures { GivesExpr result (part depth power (state at.entry)) }
 {
     if depth == 0 {
-        return Err(Unread::Syntax);
+        return Err(ParseError::Syntax);
     }
     factor(alloc, depth - 1, at)
 }
@@ -135,7 +135,7 @@ fn conjunction(alloc: Global, depth: usize, at: Cursor<'_>) -> Reading<'_, Expr>
 fn negation(alloc: Global, depth: usize, at: Cursor<'_>) -> Reading<'_, Expr>
     ensures { GivesExpr result (negation (part depth) (state at.entry)) }
 {
-    match at.take_word(b".NOT.") {
+    match at.parse_word(b".NOT.") {
         None => relation(alloc, depth, at),
         Some(rest) => negated_relation(alloc, depth, rest),
     }
@@ -193,10 +193,10 @@ fn arithmetic(alloc: Global, depth: usize, at: Cursor<'_>) -> Reading<'_, Expr>
 fn signed_term(alloc: Global, depth: usize, at: Cursor<'_>) -> Reading<'_, Expr>
     ensures { GivesExpr result (signed_term (part depth) (state at.entry)) }
 {
-    if let Some(rest) = at.take_word(b"+") {
+    if let Some(rest) = at.parse_word(b"+") {
         return signed_terms(alloc, depth, UnaryOp::Plus, rest);
     }
-    if let Some(rest) = at.take_word(b"-") {
+    if let Some(rest) = at.parse_word(b"-") {
         return signed_terms(alloc, depth, UnaryOp::Minus, rest);
     }
     term(alloc, depth, at)
@@ -238,7 +238,7 @@ fn factor(alloc: Global, depth: usize, at: Cursor<'_>) -> Reading<'_, Expr>
 fn exponent<'a>(alloc: Global, depth: usize, base: Expr, at: Cursor<'a>) -> Reading<'a, Expr>
     ensures { GivesExpr result (exponent (part depth) (expr_tree base) (state at.entry)) }
 {
-    match at.take_word(b"**") {
+    match at.parse_word(b"**") {
         None => Ok((base, at)),
         Some(rest) => {
             let (raised, rest) = power(alloc, depth, rest)?;
@@ -253,16 +253,16 @@ fn exponent<'a>(alloc: Global, depth: usize, base: Expr, at: Cursor<'a>) -> Read
 fn primary(alloc: Global, depth: usize, at: Cursor<'_>) -> Reading<'_, Expr>
     ensures { GivesExpr result (primary (part depth) (state at.entry)) }
 {
-    if let Some(rest) = at.take_word(b".TRUE.") {
+    if let Some(rest) = at.parse_word(b".TRUE.") {
         return Ok((Expr::Log(true), rest));
     }
-    if let Some(rest) = at.take_word(b".FALSE.") {
+    if let Some(rest) = at.parse_word(b".FALSE.") {
         return Ok((Expr::Log(false), rest));
     }
-    if let Some(rest) = at.take_word(b"(") {
+    if let Some(rest) = at.parse_word(b"(") {
         return parenthesis(alloc, depth, rest);
     }
-    if let Some(rest) = at.take_word(b"'") {
+    if let Some(rest) = at.parse_word(b"'") {
         return constant_at(alloc, rest);
     }
     if number_first(at.rest) {
@@ -279,8 +279,8 @@ fn parenthesis(alloc: Global, depth: usize, at: Cursor<'_>) -> Reading<'_, Expr>
     ensures { GivesExpr result (parenthesis (part depth) (state at.entry)) }
 {
     let (tree, rest) = whole(alloc, depth, at)?;
-    match rest.take_word(b")") {
-        None => Err(Unread::Syntax),
+    match rest.parse_word(b")") {
+        None => Err(ParseError::Syntax),
         Some(rest) => {
             let tree = paren(alloc, tree)?;
             Ok((tree, rest))
@@ -295,7 +295,7 @@ fn variable_in(alloc: Global, depth: usize, at: Cursor<'_>) -> Reading<'_, Expr>
     ensures { GivesExpr result (variable_in (part depth) (state at.entry)) }
 {
     let (name, at) = name_at(alloc, at)?;
-    match at.take_word(b"(") {
+    match at.parse_word(b"(") {
         None => Ok((Expr::Name(name), at)),
         Some(rest) => element_at(alloc, depth, name, rest),
     }
@@ -309,8 +309,8 @@ fn element_at<'a>(alloc: Global, depth: usize, name: Text, at: Cursor<'a>) -> Re
     ensures { GivesExpr result (element_at (part depth) name (state at.entry)) }
 {
     let (subscripts, rest) = items(alloc, depth, at)?;
-    match rest.take_word(b")") {
-        None => Err(Unread::Syntax),
+    match rest.parse_word(b")") {
+        None => Err(ParseError::Syntax),
         Some(rest) => Ok((Expr::Element(name, subscripts), rest)),
     }
 }
@@ -345,7 +345,7 @@ fn more_items<'a>(
     let mut at = at;
     let mut turns = at.rest.len();
     while turns > 0 {
-        match at.take_word(b",") {
+        match at.parse_word(b",") {
             None => return Ok((found, at)),
             Some(rest) => {
                 let (item, rest) = whole(alloc, depth, rest)?;

@@ -9,7 +9,7 @@ mod laws;
 mod names;
 mod numbers;
 mod operators;
-mod unread;
+mod parse_error;
 
 pub use at::{Cursor, Notes, before};
 pub use build::unary;
@@ -18,4 +18,4 @@ pub use expr::{expression, variable};
 pub use laws::{depth_is_enough, grammar_has_no_depth};
 pub use names::name_at;
 pub use numbers::{digit_first, label_at, literal, number, number_first, skip_digits};
-pub use unread::{Reading, Unread};
+pub use parse_error::{ParseError, Reading};

@@ -4,8 +4,8 @@ ghost use Rattle.f77_exprs.specs.State.{state, GivesAs};
 ghost use Rattle.f77_exprs.specs.Lexical.{in_name, letter_first, skip_name, name_at};
 
 use crate::at::before;
-use crate::unread::Reading;
-use crate::{Cursor, Notes, Unread};
+use crate::parse_error::Reading;
+use crate::{Cursor, Notes, ParseError};
 use fx_lists::Text;
 use std::alloc::Global;
 
@@ -45,7 +45,7 @@ pub fn name_at(alloc: Global, at: Cursor<'_>) -> Reading<'_, Text>
     ensures { GivesAs (λ n. n) result (name_at (state at.entry)) }
 {
     if !letter_first(at.rest) {
-        return Err(Unread::Syntax);
+        return Err(ParseError::Syntax);
     }
     let rest = skip_name(at.rest);
     let front = before(at.rest, rest);

@@ -7,8 +7,8 @@ ghost use Rattle.f77_exprs.specs.Lexical.{digit_first, skip_digits, value, integ
 ghost use Rattle.f77_exprs.specs.Grammar.{literal};
 
 use crate::operators::{DOTTED, one_of};
-use crate::unread::Reading;
-use crate::{Cursor, Notes, Unread};
+use crate::parse_error::Reading;
+use crate::{Cursor, Notes, ParseError};
 use f77_ast::Expr;
 
 /// The largest number, one more than which counts for all that are larger.
@@ -81,7 +81,7 @@ pub fn label_at(at: Cursor<'_>) -> Reading<'_, u32>
     if digit_first(at.rest) {
         Ok(integer(at))
     } else {
-        Err(Unread::Syntax)
+        Err(ParseError::Syntax)
     }
 }
 
@@ -90,7 +90,7 @@ fn operator_first(text: &[u8]) -> bool
     ensures { result ≡ operator_first text.now }
 {
     let at = Cursor::start(text);
-    at.take_word(b".NOT.").is_some() || one_of(&DOTTED, at).is_some()
+    at.parse_word(b".NOT.").is_some() || one_of(&DOTTED, at).is_some()
 }
 
 /// What is left after a decimal point and its digits, `had` saying whether digits stand before it.

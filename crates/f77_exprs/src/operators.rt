@@ -62,7 +62,7 @@ pub fn one_of<'a>(ops: &[BinaryOp], at: Cursor<'a>) -> Option<(BinaryOp, Cursor<
     ensures { option_map (λ x. (x.0, state x.1)) result ≡ one_of ops.now (state at.entry) }
 {
     for op in ops {
-        if let Some(rest) = at.take_word(op.word()) {
+        if let Some(rest) = at.parse_word(op.word()) {
             return Some((*op, rest));
         }
     }

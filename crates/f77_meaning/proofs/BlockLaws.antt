@@ -20,13 +20,11 @@ use Rattle.f77_meaning.specs.Modules.{Known}
 use Rattle.f77_meaning.specs.Linked.{numbering}
 use Rattle.f77_meaning.specs.Laws.{IsKnown, area_of, AreasAreKnown}
 use Rattle.f77_meaning.proofs.LinkLaws.{modules_are_known}
-use Rattle.f77_meaning.proofs.ModuleLaws.{numbered_place}
+use Rattle.fx_lists.proofs.Texts.{same_name as same_bytes}
+use Rattle.f77_ast.proofs.StorageLaws.{from_number as numbered_place}
 
 abbrev has : List ℕ → List Block → Bool
 has x bs = list_any (λ b. bytes_eq x b.name) bs
-
-same_bytes : (x : List ℕ) → bytes_eq x x ≡ true
-same_bytes x = (bytes_eq-Decides x x).1 refl
 
 put_has : (x : List ℕ) (n : ℕ) (bs : List Block) → has x (block_put x n bs) ≡ true
 put_has x n [] = or_left (bytes_eq x x) false (same_bytes x)

@@ -10,13 +10,14 @@ use Rattle.f77_ast.specs.declared.symbol.Place.TheVariants as place
 use Rattle.f77_ast.specs.Symbols.{SymbolTree, value_in}
 use Rattle.f77_ast.specs.Units.{units_in, bounds_units}
 use Rattle.f77_ast.specs.Shared.{symbol_at}
-use Rattle.tracked_cells.specs.Standing.{place_has, stands_at, two_at, spoils_at, reaches as spans}
+use Rattle.tracked_cells.specs.Standing.{place_has, stands_at, two_at, untracks_at, reaches as spans}
 use Rattle.f77_meaning.specs.Areas.{Area}
 use Rattle.f77_meaning.specs.Modules.{fixed}
 use Rattle.f77_meaning.specs.Linked.{offset_in, numbering}
 use Rattle.f77_meaning.specs.Laws.{area_of, CellsAreAlone}
-use Rattle.f77_meaning.proofs.ModuleLaws.{offsets_fit, variables_occupy_their_storage, meet_at, numbered_place}
+use Rattle.f77_meaning.proofs.ModuleLaws.{offsets_fit, variables_occupy_their_storage, meet_at}
 use Rattle.f77_meaning.proofs.LinkLaws.{found_any}
+use Rattle.f77_ast.proofs.StorageLaws.{from_number as numbered_place}
 
 -- ---- two at a unit
 
@@ -59,7 +60,7 @@ stands_by m (place.Block x o) (place.Block y r) a n e f b c = let same : y ≡ x
 stands_by m (place.Block x o) (place.Constant v) a n e f b c = cc
 stands_by m (place.Constant v) q a n e f b c = cc
 
-one_each : (ss : List SymbolTree) (s : SymbolTree) → s.bounds ≡ [] → units_in ss s ≡ 1
+pub one_each : (ss : List SymbolTree) (s : SymbolTree) → s.bounds ≡ [] → units_in ss s ≡ 1
 one_each ss s e = ap (bounds_units (value_in ss)) e
 
 index_apart : (m n : ℕ) (ss : List SymbolTree) (s t : SymbolTree) → symbol_at ss m ≡ Some s → symbol_at ss n ≡ Some t → (m ≡ n → ⊥) → m - 1 ≡ n - 1 → ⊥
@@ -82,5 +83,5 @@ cells_are_alone ks g k m n s t a b names u d f apart ea eb ka kb scalar plain hs
         let ss = stands_by k.read.name s.place s.place a (units_in k.symbols s) ea ea (omega arith) (omega (arith, one)) in
         let ts = stands_by k.read.name s.place t.place a (units_in k.symbols t) ea (eb ∙ ap Some (sym same.0)) (omega (arith, at, same.1, y.from)) (omega (arith, at, same.1, y.below)) in
         let two = both_at k.symbols s.place k.symbols (m - 1) (n - 1) s t (index_apart m n k.symbols s t d.is_symbol f.is_symbol apart) (numbered_place k.symbols m s d.is_symbol) (numbered_place k.symbols n t f.is_symbol) ss ts in
-        absurd (not_two (list_any (spoils_at names k.symbols s.place) k.symbols) (two_at k.symbols s.place k.symbols) plain two)
+        absurd (not_two (list_any (untracks_at names k.symbols s.place) k.symbols) (two_at k.symbols s.place k.symbols) plain two)
     go false ht = refl

@@ -1,4 +1,4 @@
--- Claims on the executions of a small program, and that they hold: the program of bench/runs/lent_block.f.
+-- Claims on the executions of a small program, and that they hold: the program of bench/runs/passed_block.f.
 use Rattle.std.proofs.Common.{◌≡◌, ℕ, zero, suc, Bool, true, false, List, [], ◌∷◌, None, Some, refl, sym, subst, ℤ, pos, inl, inr}
 use Rattle.std.specs.Prelude.{◌⊎◌, codes, bytes_eq, nat_eq, ◌||◌, ◌&&◌, not}
 use Rattle.std.proofs.lemmas.Bool.{eqb-true, and_parts}
@@ -14,13 +14,13 @@ use Rattle.f77_meaning.specs.Claims.{PreconditionHolds, TransformerHolds, Region
 use Rattle.f77_meaning.specs.Claimed.{InConformingRuns}
 use Rattle.f77_meaning.proofs.CaseWords.{bound, symbol, main_module, subroutine, edge, block_of, graph, stmts_of}
 
-abbrev module_p : Known
+abbrev pub module_p : Known
 module_p = main_module (codes "P")
     (stmts_of (stmt 1 None (assign (element (codes "M") (exprs_of ((int (pos 1)) ∷ []))) (int (pos 5))) ∷ stmt 2 None (call (codes "S") (exprs_of ((element (codes "M") (exprs_of ((int (pos 2)) ∷ []))) ∷ []))) ∷ stmt 3 None (print (exprs_of ((element (codes "M") (exprs_of ((int (pos 2)) ∷ []))) ∷ (element (codes "M") (exprs_of ((int (pos 3)) ∷ []))) ∷ []))) ∷ []))
     (symbol (codes "M") scalar.Int (bound (int (pos 1)) (Some (int (pos 3))) ∷ []) (place.Block (codes "B") 0) false [] ∷
     [])
 
-abbrev module_s : Known
+abbrev pub module_s : Known
 module_s = subroutine (codes "S") ((codes "V") ∷ [])
     (stmts_of (stmt 1 None (assign (name (codes "K")) (int (pos 7))) ∷ stmt 2 None (assign (element (codes "V") (exprs_of ((int (pos 1)) ∷ []))) (name (codes "K"))) ∷ stmt 3 None (assign (element (codes "V") (exprs_of ((int (pos 2)) ∷ []))) (element (codes "V") (exprs_of ((int (pos 1)) ∷ [])))) ∷ []))
     (symbol (codes "V") scalar.Int (bound (int (pos 1)) (Some (int (pos 2))) ∷ []) (place.Dummy 1) false [] ∷

@@ -1,6 +1,6 @@
 -- Tracked cells in COMMON, through all modules.
 use Rattle.std.proofs.Common.{◌≡◌, ℕ, zero, suc, ◌+◌, Bool, true, false, not, List, [], ◌∷◌, Some, refl, sym, ap, ◌∙◌, subst, arith}
-use Rattle.std.specs.Prelude.{if◌then◌else◌, nat_eq, nat_le, nat_lt, bytes_eq, ◌&&◌, ◌||◌, slice_get, filter, cond, is_none}
+use Rattle.std.specs.Prelude.{if◌then◌else◌, nat_eq, nat_le, nat_lt, bytes_eq, ◌&&◌, ◌||◌, slice_get, is_none}
 use Rattle.std.specs.List.{list_any}
 use Rattle.std.specs.declared.cmp.Ordering.{Ordering}
 use Rattle.std.specs.declared.cmp.Ordering.TheVariants.{Less, Equal, Greater}
@@ -16,11 +16,14 @@ use Rattle.f77_ast.specs.declared.variable.Unit.{Unit as BlockUnit}
 use Rattle.f77_ast.specs.Symbols.{SymbolTree, number_from, value_in}
 use Rattle.f77_ast.specs.Units.{units_in, bounds_units}
 use Rattle.tracked_cells.specs.Equivalences.{equivalenced_names}
-use Rattle.tracked_cells.specs.Standing.{is_int, has_bounds, is_int_scalar, is_plain, reaches, place_has, stands_at, spoils, spoils_at, two_at}
+use Rattle.tracked_cells.specs.Standing.{is_int, has_bounds, is_int_scalar, is_plain, reaches, place_has, stands_at, untracks, untracks_at, two_at}
 use Rattle.tracked_cells.specs.Scalars.{name_cmp, unit_cmp, unit, unit_put, place_unit, with_scalar, with_scalars, all_scalars}
-use Rattle.tracked_cells.specs.Untracked.{some_spoils, equivalenced_names_of_all, begin_of, untracked_of}
+use Rattle.tracked_cells.specs.Untracked.{some_untracks, equivalenced_names_of_all, untracked_of}
 use Rattle.tracked_cells.specs.Tracked.{is_unit, is_alone, is_tracked}
 use Rattle.f77_meaning.specs.Laws.{CommonCellsAreAlone, CommonCellsAreCells}
+use Rattle.tracked_cells.proofs.TrackedLaws.{trackable, none_of, left_out}
+use Rattle.fx_lists.proofs.Booleans.{plain_from}
+use Rattle.fx_lists.proofs.Orders.{same_numbers as same_offset, then_equal}
 
 abbrev among : BlockUnit → List BlockUnit → Bool
 among u us = list_any (is_unit u.block u.offset) us
@@ -29,14 +32,6 @@ among u us = list_any (is_unit u.block u.offset) us
 
 is_itself : (u : BlockUnit) → is_unit u.block u.offset u ≡ true
 is_itself u = and_from (bytes_eq u.block u.block) (nat_eq u.offset u.offset) ((bytes_eq-Decides u.block u.block).1 refl) (eq-eqb u.offset u.offset refl)
-
-then_equal : (o p : Ordering) → ordering_then o p ≡ Equal → (o ≡ Equal) × (p ≡ Equal)
-then_equal Less p e = cc
-then_equal Equal p e = (refl, e)
-then_equal Greater p e = cc
-
-same_offset : (m n : ℕ) → nat_cmp m n ≡ Equal → m ≡ n
-same_offset m n e = grind (arith, nat_tests)
 
 equal_unit : (u v : BlockUnit) → unit_cmp u v ≡ Equal → is_unit u.block u.offset v ≡ true
 equal_unit u v e =
@@ -103,33 +98,6 @@ module _ (s : SymbolTree) (x : List ℕ) (o : ℕ) (at : s.place ≡ place.Block
 
 -- ---- what is not untracked
 
-of_unit : (f : Place → Bool) (u v : BlockUnit) → is_unit u.block u.offset v ≡ true → f (begin_of v) ≡ false → f (begin_of u) ≡ false
-of_unit f u v e h =
-    let parts = and_parts (bytes_eq u.block v.block) (nat_eq u.offset v.offset) e in
-    let b : u.block ≡ v.block = (bytes_eq-Decides u.block v.block).0 parts.0 in
-    let o : u.offset ≡ v.offset = eqb-true u.offset v.offset parts.1 in
-    subst (λ y. f (place.Block y u.offset) ≡ false) (sym b) (subst (λ k. f (place.Block v.block k) ≡ false) (sym o) h)
-
-left_out : (f : Place → Bool) (u : BlockUnit) (us : List BlockUnit) → among u us ≡ true → among u (filter (λ v. f (begin_of v)) us) ≡ false → f (begin_of u) ≡ false
-left_out f u [] e h = cc
-left_out f u (v ∷ us) e h = go (is_unit u.block u.offset v) (f (begin_of v)) refl refl e h (left_out f u us)
-  where
-    go : (b d : Bool) → is_unit u.block u.offset v ≡ b → f (begin_of v) ≡ d → (b || among u us) ≡ true → among u (cond d (v ∷ filter (λ w. f (begin_of w)) us) (filter (λ w. f (begin_of w)) us)) ≡ false → (among u us ≡ true → among u (filter (λ w. f (begin_of w)) us) ≡ false → f (begin_of u) ≡ false) → f (begin_of u) ≡ false
-    go true true is t e h ih = let z = (or_parts (is_unit u.block u.offset v) (among u (filter (λ w. f (begin_of w)) us)) h).0 in cc
-    go true false is t e h ih = of_unit f u v is t
-    go false true is t e h ih = ih e (or_parts (is_unit u.block u.offset v) (among u (filter (λ w. f (begin_of w)) us)) h).1
-    go false false is t e h ih = ih e h
-
-unspoilt : (ps : List ParsedTree) (sss : List (List SymbolTree)) (at : Place) → some_spoils (equivalenced_names_of_all ps) sss at ≡ false → (k : ℕ) (p : ParsedTree) (ss : List SymbolTree) → slice_get ps k ≡ Some p → slice_get sss k ≡ Some ss → spoils (equivalenced_names p.module_read) ss at ≡ false
-unspoilt [] sss at e k p ss a b = cc
-unspoilt (q ∷ ps) [] at e k p ss a b = cc
-unspoilt (q ∷ ps) (ts ∷ sss) at e zero p ss a b =
-    let parts = or_parts (spoils (equivalenced_names q.module_read) ts at) (some_spoils (equivalenced_names_of_all ps) sss at) e in
-    let x : q ≡ p = cc in
-    let y : ts ≡ ss = cc in
-    subst (λ (z : ParsedTree). spoils (equivalenced_names z.module_read) ss at ≡ false) x (subst (λ (z : List SymbolTree). spoils (equivalenced_names q.module_read) z at ≡ false) y parts.0)
-unspoilt (q ∷ ps) (ts ∷ sss) at e (suc k) p ss a b = unspoilt ps sss at (or_parts (spoils (equivalenced_names q.module_read) ts at) (some_spoils (equivalenced_names_of_all ps) sss at) e).1 k p ss a b
-
 -- a tracked scalar of a block is an INTEGER scalar at a unit that is not untracked
 tracked_parts : (names : List (List ℕ)) (ss : List SymbolTree) (us : List BlockUnit) (s : SymbolTree) (x : List ℕ) (o : ℕ) → s.place ≡ place.Block x o → is_tracked names ss us s ≡ true → (is_int_scalar s ≡ true) × (among (unit x o) us ≡ false)
 tracked_parts names ss us s x o at h =
@@ -139,20 +107,10 @@ tracked_parts names ss us s x o at h =
 pub common_cells_are_alone : CommonCellsAreAlone
 common_cells_are_alone ps sss k n names ss s x o has is at tracked j q ts a b =
     let p = tracked_parts names ss (untracked_of ps sss) s x o at tracked in
-    let calm = left_out (λ v. some_spoils (equivalenced_names_of_all ps) sss v) (unit x o) (all_scalars sss []) (all_have s x o at p.0 sss [] k n ss has is) p.1 in
-    unspoilt ps sss (place.Block x o) calm j q ts a b
+    let calm = left_out (λ v. some_untracks (equivalenced_names_of_all ps) sss v) (unit x o) (all_scalars sss []) (all_have s x o at p.0 sss [] k n ss has is) p.1 in
+    trackable ps sss (place.Block x o) calm j q ts a b
 
 -- ---- the cells of other modules
-
-none_of : (f : SymbolTree → Bool) (ss : List SymbolTree) → list_any f ss ≡ false → (n : ℕ) (s : SymbolTree) → slice_get ss n ≡ Some s → f s ≡ false
-none_of f [] e n s a = cc
-none_of f (t ∷ ss) e zero s a = let x : t ≡ s = cc in subst (λ (z : SymbolTree). f z ≡ false) x (or_parts (f t) (list_any f ss) e).0
-none_of f (t ∷ ss) e (suc n) s a = none_of f ss (or_parts (f t) (list_any f ss) e).1 n s a
-
-plain_from : (a b : Bool) → (a && not b) ≡ false → a ≡ true → b ≡ true
-plain_from true true e h = refl
-plain_from true false e h = cc
-plain_from false b e h = cc
 
 scalar_bounds : (s : SymbolTree) → is_int_scalar s ≡ true → s.bounds ≡ []
 scalar_bounds s h = go s.bounds refl (not-true (has_bounds s.bounds) (and_parts (is_int s.scalar) (not (has_bounds s.bounds)) h).1)
@@ -177,8 +135,8 @@ stands_there x o (place.Constant m) h = cc
 pub common_cells_are_cells : CommonCellsAreCells
 common_cells_are_cells ps sss k n names ss s x o has is at tracked j q ts a b m t e stands =
     let alone = common_cells_are_alone ps sss k n names ss s x o has is at tracked j q ts a b in
-    let none = (or_parts (list_any (spoils_at (equivalenced_names q.module_read) ts (place.Block x o)) ts) (two_at ts (place.Block x o) ts) alone).0 in
-    let plain = plain_from (stands_at ts (place.Block x o) t) (is_plain (equivalenced_names q.module_read) t) (none_of (spoils_at (equivalenced_names q.module_read) ts (place.Block x o)) ts none m t e) stands in
+    let none = (or_parts (list_any (untracks_at (equivalenced_names q.module_read) ts (place.Block x o)) ts) (two_at ts (place.Block x o) ts) alone).0 in
+    let plain = plain_from (stands_at ts (place.Block x o) t) (is_plain (equivalenced_names q.module_read) t) (none_of (untracks_at (equivalenced_names q.module_read) ts (place.Block x o)) ts none m t e) stands in
     let int = (and_parts (is_int_scalar t) (is_none (number_from 0 (equivalenced_names q.module_read) t.name)) plain).0 in
     let one : units_in ts t ≡ 1 = ap (bounds_units (value_in ts)) (scalar_bounds t int) in
     let there : t.place ≡ place.Block x o = stands_there x o t.place (sym (ap (λ z. place_has t.place z (place.Block x o)) one) ∙ stands) in

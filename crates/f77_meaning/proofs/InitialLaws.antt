@@ -16,17 +16,18 @@ use Rattle.f77_meaning.specs.Linked.{numbering, or_else, or_empty, content_of, i
 use Rattle.f77_meaning.specs.Laws.{Declared, area_of, DataFits, IsOfVariable, OthersBeginUnset, OwnUnitsBeginUnset}
 use Rattle.f77_meaning.proofs.ModuleLaws.{own_units_apart}
 use Rattle.f77_meaning.proofs.BlockLaws.{areas_are_known}
+use Rattle.f77_ast.proofs.StorageLaws.{to_number as next_symbol}
 
 -- ---- runs of values
 
-record Run (first : ℕ) (rs : List InitialRun) (u : ℕ) : Type 0 where
-  at : ℕ
-  run : InitialRun
-  is_run : slice_get rs at ≡ Some run
-  from : first + run.offset ≤ u
-  below : u < first + run.offset + run.count
+pub record Run (first : ℕ) (rs : List InitialRun) (u : ℕ) : Type 0 where
+  pub at : ℕ
+  pub run : InitialRun
+  pub is_run : slice_get rs at ≡ Some run
+  pub from : first + run.offset ≤ u
+  pub below : u < first + run.offset + run.count
 
-run_from : (first : ℕ) (rs : List InitialRun) (u : ℕ) (v : ℤ) → value_from first rs u ≡ Some v → Run first rs u
+pub run_from : (first : ℕ) (rs : List InitialRun) (u : ℕ) (v : ℤ) → value_from first rs u ≡ Some v → Run first rs u
 run_from first [] u v e = cc
 run_from first (r ∷ rs) u v e = go (nat_le (first + r.offset) u && nat_lt u (first + r.offset + r.count)) refl e (run_from first rs u v)
   where
@@ -73,9 +74,6 @@ begun_of n (k ∷ ks) u = go (begun_in n k k.symbols u) (begun_of n ks u)
     go (other b) h = other (record { at = zero; known = k; is_module = refl; begun = b })
 
 -- ---- variables
-
-next_symbol : (ss : List SymbolTree) (i : ℕ) (s : SymbolTree) → slice_get ss i ≡ Some s → symbol_at ss (suc i) ≡ Some s
-next_symbol ss i s e = let less : suc i - 1 ≡ i = omega arith in ap (λ b. if b then None else slice_get ss (suc i - 1)) (ne_eqb (suc i) 0 (λ q. absurd (omega (arith, q)))) ∙ ap (slice_get ss) less ∙ e
 
 -- a unit that a run within a variable covers is one of the variable
 within_variable : (n : Numbering) (m : List ℕ) (ss : List SymbolTree) (s : SymbolTree) (p : Place) (a : Area) (offset count u : ℕ) → area_of m p ≡ Some a → offset + count ≤ units_in ss s →

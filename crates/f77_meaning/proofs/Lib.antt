@@ -11,6 +11,7 @@ pub mod Alike
 pub mod StraightLaws
 pub mod StraightNames
 pub mod StraightProgram
-mod cases
-mod ClaimCases
+pub mod cases
+pub mod ClaimCases
 mod ParallelCase
+pub mod SymbolNames

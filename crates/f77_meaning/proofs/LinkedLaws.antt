@@ -7,8 +7,8 @@ use Rattle.f77_ast.specs.DeclTrees.{ParsedTree}
 use Rattle.f77_ast.specs.Symbols.{SymbolTree, number_from}
 use Rattle.call_graph.specs.declared.graph.Graph.{Graph}
 use Rattle.call_graph.specs.declared.calls.Called.{Called}
-use Rattle.refusal_codes.specs.declared.code.Code.{Code}
-use Rattle.refusal_codes.specs.declared.code.Code.TheVariants.{NoSuchModule, ArgumentCount, ArgumentType}
+use Rattle.fx_lists.specs.declared.code.Code.{Code}
+use Rattle.fx_lists.specs.declared.code.Code.TheVariants.{NoSuchModule, ArgumentCount, ArgumentType}
 use Rattle.call_graph.specs.declared.refusal.Fault.{Fault}
 use Rattle.call_graph.specs.Faults.{unless}
 use Rattle.tracked_cells.specs.Standing.{has_bounds}
@@ -26,7 +26,7 @@ use Rattle.f77_meaning.proofs.UnitLaws.{number_least}
 
 -- ---- links
 
-passed : {A : Type 0} (o : Option Fault) (r : Result A Fault) (g : A) → unless o r ≡ Ok g → (o ≡ None) × (r ≡ Ok g)
+pub passed : {A : Type 0} (o : Option Fault) (r : Result A Fault) (g : A) → unless o r ≡ Ok g → (o ≡ None) × (r ≡ Ok g)
 passed None r g e = (refl, e)
 passed (Some f) r g e = cc
 
@@ -36,7 +36,7 @@ joined ps sss g e = (passed (module_fault ps) (joined_of ps sss) g (passed (too_
 all_unfit : (ps : List ParsedTree) (sss : List (List SymbolTree)) (g : Graph) → link_of ps sss ≡ Ok g → unfit ps sss ≡ None
 all_unfit ps sss g e = (passed (unfit ps sss) (acyclic_of ps sss) g (joined ps sss g e)).0
 
-is_graph : (ps : List ParsedTree) (sss : List (List SymbolTree)) (g : Graph) → link_of ps sss ≡ Ok g → graph_of ps sss ≡ g
+pub is_graph : (ps : List ParsedTree) (sss : List (List SymbolTree)) (g : Graph) → link_of ps sss ≡ Ok g → graph_of ps sss ≡ g
 is_graph ps sss g e =
     let h = (passed (cyclic ps sss) (Ok (graph_of ps sss)) g (passed (unfit ps sss) (acyclic_of ps sss) g (joined ps sss g e)).1).1 in
     cc

@@ -15,6 +15,7 @@ use Rattle.f77_meaning.specs.Modules.{Known, laid_at, fixed_place, fixed_maybe, 
 use Rattle.f77_meaning.specs.Linked.{offset_in, room_of, room_for, numbering}
 use Rattle.f77_meaning.specs.Laws.{IsKnown, OffsetsFit, area_of, IsUnit, VariablesOccupyTheirStorage, NamesMeet, SharedByTable, OwnUnitsApart}
 use Rattle.f77_meaning.proofs.UnitLaws.{units_differ}
+use Rattle.f77_ast.proofs.StorageLaws.{from_number as numbered_place}
 
 -- ---- the room
 
@@ -28,13 +29,6 @@ module_fits [] i k e = cc
 module_fits (l ∷ ks) zero k e = let same : l ≡ k = cc in subst (λ x. room_of x.symbols x.symbols ≤ max (room_of l.symbols l.symbols) (room_for ks)) same (omega arith)
 module_fits (l ∷ ks) (suc i) k e = let h = module_fits ks i k e in omega (arith, h)
 
-pub numbered_place : (ss : List SymbolTree) (n : ℕ) (s : SymbolTree) → symbol_at ss n ≡ Some s → slice_get ss (n - 1) ≡ Some s
-numbered_place ss n s e = go (nat_eq n 0) e
-  where
-    go : (b : Bool) → (if b then None else slice_get ss (n - 1)) ≡ Some s → slice_get ss (n - 1) ≡ Some s
-    go true h = cc
-    go false h = h
-
 pub offsets_fit : OffsetsFit
 offsets_fit ks k n s d =
     let one = symbol_fits k.symbols k.symbols (n - 1) s (numbered_place k.symbols n s d.is_symbol) in
@@ -43,7 +37,7 @@ offsets_fit ks k n s d =
 
 -- ---- the units of a variable
 
-in_laid : (p : RunPlace) (u : ℕ) → in_place p u ≡ true → (p.first ≤ u) × (u < p.first + p.extent)
+pub in_laid : (p : RunPlace) (u : ℕ) → in_place p u ≡ true → (p.first ≤ u) × (u < p.first + p.extent)
 in_laid p u h = let q = and_parts (nat_le p.first u) (nat_lt u (p.first + p.extent)) h in (leb-true p.first u q.0, ltb-true u (p.first + p.extent) q.1)
 
 laid_unit : (g : Numbering) (a : Area) (o count u : ℕ) → unit_at g a o ≤ u → u < unit_at g a o + count → IsUnit g a o count u

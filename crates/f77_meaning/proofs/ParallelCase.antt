@@ -14,6 +14,7 @@ use Rattle.f77_ast.specs.Statements.{Scope, body_plan}
 use Rattle.f77_meaning.specs.Interleavings.{World, AllFinished, OutOfPicks, start, interleaved, outcome}
 use Rattle.f77_meaning.specs.Processes.{Marked, process, store_after}
 use Rattle.f77_meaning.proofs.CaseWords.{stmts_of}
+use Rattle.f77_ast.proofs.Example.{i}
 
 -- the units: I is 0, K is 1, A(1) is 2, A(2) is 3
 abbrev names_here : Names
@@ -27,9 +28,6 @@ places_here v = if nat_eq v 1 then scalar_place 0 Int else if nat_eq v 2 then sc
 
 abbrev scope : Scope
 scope = record { module_name = codes "P"; names = names_here; turns = 0; own_unit = λ s k. 4; callee = λ x places locked. Breaks (Faulty Unset) }
-
-abbrev i : ExprTree
-i = name (codes "I")
 
 abbrev a_of_i : ExprTree
 a_of_i = element (codes "A") (exprs_of (i ∷ []))

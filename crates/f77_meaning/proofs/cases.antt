@@ -1,4 +1,4 @@
-mod ActiveVariable
+pub mod ActiveVariable
 mod BoundsAtEntry
 mod Column
 mod CommonBelow

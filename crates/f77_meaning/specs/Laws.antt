@@ -10,7 +10,7 @@ use Rattle.f77_ast.specs.Symbols.{SymbolTree}
 use Rattle.f77_ast.specs.Units.{units_in}
 use Rattle.f77_ast.specs.Shared.{symbol_at, share}
 use Rattle.tracked_cells.specs.Equivalences.{equivalenced_names}
-use Rattle.tracked_cells.specs.Standing.{has_bounds, spoils, stands_at}
+use Rattle.tracked_cells.specs.Standing.{has_bounds, untracks, stands_at}
 use Rattle.tracked_cells.specs.Untracked.{untracked_of}
 use Rattle.tracked_cells.specs.Tracked.{is_tracked}
 use Rattle.call_graph.specs.declared.graph.Graph.{Graph}
@@ -133,7 +133,7 @@ CommonIsOfBlocks = (ks : List Known) (g : Graph) (x : List ℕ) (a : Area) (o : 
 abbrev pub CellsAreAlone : Type 0
 CellsAreAlone = (ks : List Known) (g : Graph) (k : Known) (m n : ℕ) (s t : SymbolTree) (a b : Area) (names : List (List ℕ)) (u : ℕ) → Declared ks k m s → Declared ks k n t → (m ≡ n → ⊥) →
     area_of k.read.name s.place ≡ Some a → area_of k.read.name t.place ≡ Some b → IsKnown (numbering ks g) a → IsKnown (numbering ks g) b →
-    s.bounds ≡ [] → spoils names k.symbols s.place ≡ false →
+    s.bounds ≡ [] → untracks names k.symbols s.place ≡ false →
     in_place (fixed (numbering ks g) k m) u ≡ true → in_place (fixed (numbering ks g) k n) u ≡ false
 
 -- ---- the store at the start
@@ -197,7 +197,7 @@ ActualsSuit = (as' : List Actual) (ss : List SymbolTree) → all_fit as' ss ≡ 
 abbrev pub CommonCellsAreAlone : Type 0
 CommonCellsAreAlone = (ps : List ParsedTree) (sss : List (List SymbolTree)) (k n : ℕ) (names : List (List ℕ)) (ss : List SymbolTree) (s : SymbolTree) (x : List ℕ) (o : ℕ) →
     slice_get sss k ≡ Some ss → slice_get ss n ≡ Some s → s.place ≡ place.Block x o → is_tracked names ss (untracked_of ps sss) s ≡ true →
-    (j : ℕ) (q : ParsedTree) (tt' : List SymbolTree) → slice_get ps j ≡ Some q → slice_get sss j ≡ Some tt' → spoils (equivalenced_names q.module_read) tt' (place.Block x o) ≡ false
+    (j : ℕ) (q : ParsedTree) (tt' : List SymbolTree) → slice_get ps j ≡ Some q → slice_get sss j ≡ Some tt' → untracks (equivalenced_names q.module_read) tt' (place.Block x o) ≡ false
 
 -- and a variable that stands there is a tracked cell
 abbrev pub CommonCellsAreCells : Type 0

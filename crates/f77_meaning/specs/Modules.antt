@@ -12,9 +12,9 @@ use Rattle.f77_ast.specs.Places as places
 use Rattle.f77_ast.specs.Calls.{Dummy, nowhere}
 use Rattle.f77_ast.specs.Calls as calls
 use Rattle.f77_ast.specs.declared.constant.Constant.TheVariants as constant
-use Rattle.f77_ast.specs.declared.constant.Worth.{Worth}
-use Rattle.f77_ast.specs.declared.constant.Worth.TheVariants.{Is, Faults, Varies}
-use Rattle.f77_ast.specs.Constants.{worth}
+use Rattle.f77_ast.specs.declared.constant.ConstantValue.{ConstantValue}
+use Rattle.f77_ast.specs.declared.constant.ConstantValue.TheVariants.{Is, Faults, Varies}
+use Rattle.f77_ast.specs.Constants.{const_value}
 use Rattle.f77_ast.specs.declared.symbol.Place.{Place}
 use Rattle.f77_ast.specs.declared.symbol.Place.TheVariants as place
 use Rattle.f77_ast.specs.declared.symbol.InitialRun.{InitialRun}
@@ -68,7 +68,7 @@ names ss x = meant_in ss (number_from 1 (symbol_names ss) x)
 
 -- ---- variables that are no dummies
 
-abbrev pub as_number : Worth → ℤ
+abbrev pub as_number : ConstantValue → ℤ
 as_number (Is (constant.Int n)) = n
 as_number (Is (constant.Log b)) = pos 0
 as_number Faults = pos 0
@@ -76,11 +76,11 @@ as_number Varies = pos 0
 
 abbrev pub constant_high : List SymbolTree → Option ExprTree → Option ℤ
 constant_high ss None = None
-constant_high ss (Some e) = Some (as_number (worth (value_in ss) e))
+constant_high ss (Some e) = Some (as_number (const_value (value_in ss) e))
 
 -- bounds that are constant
 abbrev pub dim_of : List SymbolTree → BoundTree → Dim
-dim_of ss b = record { low = as_number (worth (value_in ss) b.low); high = constant_high ss b.high }
+dim_of ss b = record { low = as_number (const_value (value_in ss) b.low); high = constant_high ss b.high }
 
 abbrev pub laid_at : ℕ → List SymbolTree → SymbolTree → places.Place
 laid_at first ss s = record { first = first; extent = units_in ss s; tag = tag_of s.scalar; dims = map (dim_of ss) s.bounds }

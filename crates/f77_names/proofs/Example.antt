@@ -5,10 +5,10 @@ use Rattle.f77_ast.specs.declared.places.Part.TheVariants.{Decl, Stmt}
 use Rattle.f77_ast.specs.declared.places.Spot.{Spot}
 use Rattle.f77_ast.specs.Trees.{name, int, StmtTrees, stmt, assign, no_stmts, more_stmts}
 use Rattle.f77_ast.specs.DeclTrees.{EntityTree, DeclTree, integer, logical, common, ModuleTree}
-use Rattle.refusal_codes.specs.declared.code.Code.TheVariants.{RealName, DeclaredTwice}
+use Rattle.fx_lists.specs.declared.code.Code.TheVariants.{RealName, DeclaredTwice}
 use Rattle.f77_names.specs.declared.kinds.Kind.TheVariants.{Int, Log}
 use Rattle.f77_names.specs.Lines.{lines_of}
-use Rattle.refusal_codes.specs.Refusals.{refuse_if, is_before}
+use Rattle.fx_lists.specs.Refusals.{refuse_if, is_before}
 use Rattle.f77_names.specs.Entries.{find}
 use Rattle.f77_names.specs.Functions.{function_of}
 use Rattle.f77_names.specs.Tables.{table_of, check_names, entry_kind, kind_in}
@@ -20,7 +20,7 @@ spots =
     ∷ record { part = Stmt 1; first = 5; comments = [] }
     ∷ []
 
-abbrev scalar_named : List ℕ → EntityTree
+abbrev pub scalar_named : List ℕ → EntityTree
 scalar_named x = record { name = x; bounds = [] }
 
 abbrev module_of : List DeclTree → StmtTrees → ModuleTree

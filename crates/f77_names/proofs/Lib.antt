@@ -1,4 +1,4 @@
-mod Example
+pub mod Example
 pub mod EntryLaws
 pub mod NamesLaws
 pub mod SeenLaws

@@ -8,9 +8,9 @@ use Rattle.std.proofs.Math.Seq.{drop-cons}
 use Rattle.f77_ast.specs.Symbols.{bound_tree}
 use Rattle.f77_names.specs.declared.entry.Shape.{Shape}
 use Rattle.f77_names.specs.declared.entry.Word.TheVariants.{Bounds}
-use Rattle.refusal_codes.specs.declared.code.Code.TheVariants.{DeclaredTwice}
+use Rattle.fx_lists.specs.declared.code.Code.TheVariants.{DeclaredTwice}
 use Rattle.f77_names.specs.Entries.{EntryTree, changed, has_shape, shape_tree, with_shape}
-use Rattle.refusal_codes.specs.Refusals.{refuse_if}
+use Rattle.fx_lists.specs.Refusals.{refuse_if}
 use Rattle.f77_names.specs.Words.{said_once}
 use Rattle.f77_names.specs.Declaring.{Told, bound_of, shaped}
 

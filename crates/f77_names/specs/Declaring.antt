@@ -10,11 +10,11 @@ use Rattle.f77_ast.specs.DeclTrees.{ExtentTree, EntityTree, SettingTree, CommonT
 use Rattle.f77_ast.specs.DeclTrees as decl
 use Rattle.std.specs.Prelude.{pos}
 use Rattle.f77_ast.specs.Symbols.{BoundTree}
-use Rattle.refusal_codes.specs.declared.code.Code.TheVariants.{DeclaredTwice, CommonTwice}
-use Rattle.refusal_codes.specs.declared.refusal.Refusal.{Refusal}
+use Rattle.fx_lists.specs.declared.code.Code.TheVariants.{DeclaredTwice, CommonTwice}
+use Rattle.fx_lists.specs.declared.refusal.Refusal.{Refusal}
 use Rattle.f77_names.specs.declared.functions.Function.{Function}
 use Rattle.f77_names.specs.declared.lines.Sited.TheVariants.{Decl}
-use Rattle.refusal_codes.specs.Refusals.{refuse_if}
+use Rattle.fx_lists.specs.Refusals.{refuse_if}
 use Rattle.f77_names.specs.Lines.{LineTable, line_or}
 use Rattle.f77_names.specs.Entries.{EntryTree, seen, changed, with_dummy, with_type, with_shape, with_common, as_parameter, as_saved, as_initial, has_dummy, has_type, has_shape, has_common}
 use Rattle.f77_names.specs.Appearing.{expr_seen, exprs_seen, maybe_seen}

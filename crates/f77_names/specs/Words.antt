@@ -4,8 +4,8 @@ use Rattle.f77_names.specs.declared.entry.Word.{Word}
 use Rattle.f77_names.specs.declared.entry.Word.TheVariants as word
 use Rattle.f77_names.specs.declared.declare.Mention.{Mention}
 use Rattle.f77_names.specs.declared.declare.Mention.TheVariants.{Equivalent, Initial}
-use Rattle.refusal_codes.specs.declared.code.Code.{Code}
-use Rattle.refusal_codes.specs.Refusals.{refuse_if}
+use Rattle.fx_lists.specs.declared.code.Code.{Code}
+use Rattle.fx_lists.specs.Refusals.{refuse_if}
 use Rattle.f77_names.specs.Entries.{EntryTree, shape_tree, find, changed, of_entry, with_dummy, with_type, with_shape, with_common, as_parameter, with_value, as_saved, as_initial}
 use Rattle.f77_names.specs.Declaring.{Told}
 

@@ -14,8 +14,7 @@ use crate::{Names, Shape, Sited, Word};
 use f77_ast::{
     Bound, CommonPart, DataGroup, Decl, Entity, Expr, Extent, SaveItem, Scalar, Setting, copy_expr,
 };
-use fx_lists::{List, Text};
-use refusal_codes::{Code, Refusal, refuse_if};
+use fx_lists::{Code, List, Refusal, Text, refuse_if};
 use std::alloc::{AllocError as Memory, Global};
 
 /// The names so far, and the first refusal of their declarations.

@@ -12,8 +12,7 @@ use crate::functions::Arrays;
 use crate::kinds::{Kinds, kind_of_scalar};
 use crate::{Entry, Function, Kind, LineTable, Names, Sited};
 use f77_ast::Module;
-use fx_lists::Text;
-use refusal_codes::{Code, Refusal, refuse_if};
+use fx_lists::{Code, Refusal, Text, refuse_if};
 use std::alloc::{AllocError as Memory, Global};
 
 /// The names of a module, the types of the letters, and which names are functions.

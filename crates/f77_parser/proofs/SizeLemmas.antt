@@ -3,7 +3,7 @@ use Rattle.std.proofs.Common.{◌≡◌, ℕ, ◌+◌, ◌*◌, ◌<◌, ◌≤�
 use Rattle.std.specs.Prelude.{sum_by, is_some, unwrap_or}
 use Rattle.std.proofs.lemmas.List.{length-map}
 use Rattle.std.proofs.lemmas.List.Sums.{sum_by-cons}
-use Rattle.refusal_codes.specs.declared.code.Code.{Code}
+use Rattle.fx_lists.specs.declared.code.Code.{Code}
 use Rattle.fixed_form.specs.declared.line.Line.{Line}
 use Rattle.fixed_form.specs.declared.line.Lines.{Lines}
 use Rattle.fixed_form.specs.Characters.{is_space, upper_case}
@@ -14,16 +14,13 @@ use Rattle.fixed_form.specs.Faults.{first_fault}
 use Rattle.fixed_form.specs.Reading.{Rest, label_of, before_statements, with_comment, with_initial, with_continuation, with_line, rest_from, ends_well, outcome, reading}
 use Rattle.fixed_form.proofs.CardLemmas.{length-front, length-filled}
 use Rattle.f77_parser.specs.Statements.{length_of, characters}
+use Rattle.fixed_form.proofs.LawLemmas.{length-onto_first as onto_first-short, length-lines_of as lines_of-short}
+use Rattle.fx_lists.proofs.Lists.{each_short}
 
 -- ---- one line
 
-each_short : (t u : Bool) (xs ys zs : List ℕ) (n : ℕ) → length xs ≤ n → length ys ≤ n → length zs ≤ n → length (if t then xs else if u then ys else zs) ≤ n
-each_short true u xs ys zs n h i j = h
-each_short false true xs ys zs n h i j = i
-each_short false false xs ys zs n h i j = j
-
 -- blanks are dropped, and nothing comes in their place
-stripped-short : (q : Bool) (bs : List ℕ) → length (stripped q bs) ≤ length bs
+pub stripped-short : (q : Bool) (bs : List ℕ) → length (stripped q bs) ≤ length bs
 stripped-short q [] = omega arith
 stripped-short q (b ∷ bs) =
     each_short q (is_space b) (b ∷ stripped (quoted_after_byte q b) bs) (stripped q bs) (upper_case b ∷ stripped (quoted_after_byte q b) bs) (length (b ∷ bs))
@@ -31,30 +28,30 @@ stripped-short q (b ∷ bs) =
     (omega (arith, stripped-short q bs))
     (omega (arith, stripped-short (quoted_after_byte q b) bs))
 
-columns-66 : (l : List ℕ) → length (columns (card l)) ≡ 66
+pub columns-66 : (l : List ℕ) → length (columns (card l)) ≡ 66
 columns-66 l = omega (arith, length-drop 6 (card l), length-filled (front l) (length-front l))
 
 -- ---- what some lines give
 
 -- the characters of the statements that begin in some lines, and of the columns for one that began before them
-abbrev room : Rest → ℕ
+abbrev pub room : Rest → ℕ
 room rest = sum_by length_of rest.statements + length rest.more
 
-before_statements-room : (c : List ℕ) (ss : List Line) (cs : List (List ℕ)) (rest : Rest) → rest.statements ≡ ss
+pub before_statements-room : (c : List ℕ) (ss : List Line) (cs : List (List ℕ)) (rest : Rest) → rest.statements ≡ ss
     → room (before_statements c ss cs rest) ≡ room rest
 before_statements-room c [] cs rest e = refl
 before_statements-room c (s ∷ ss) cs rest e = ap (λ (all : List Line). sum_by length_of all + length rest.more) (sym e)
 
-by_last : (t : Bool) (a b : Rest) (n : ℕ) → room a ≡ n → room b ≡ n → room (if t then a else b) ≡ n
+pub by_last : (t : Bool) (a b : Rest) (n : ℕ) → room a ≡ n → room b ≡ n → room (if t then a else b) ≡ n
 by_last true a b n h i = h
 by_last false a b n h i = i
 
-with_comment-room : (c : List ℕ) (rest : Rest) → room (with_comment c rest) ≡ room rest
+pub with_comment-room : (c : List ℕ) (rest : Rest) → room (with_comment c rest) ≡ room rest
 with_comment-room c rest =
     by_last (is_some rest.last) (record rest { inside = c ∷ rest.inside }) (before_statements c rest.statements rest.closing rest) (room rest)
     refl (before_statements-room c rest.statements rest.closing rest refl)
 
-with_initial-room : (n : ℕ) (c : List ℕ) (rest : Rest) → length (columns c) ≡ 66 → room (with_initial n c rest) ≤ 66 + room rest
+pub with_initial-room : (n : ℕ) (c : List ℕ) (rest : Rest) → length (columns c) ≡ 66 → room (with_initial n c rest) ≤ 66 + room rest
 with_initial-room n c rest h =
     let s : Line = record {
       first = n;
@@ -65,17 +62,17 @@ with_initial-room n c rest h =
     } in
     omega (arith, sum_by-cons length_of s rest.statements, stripped-short false (columns c ++ rest.more), length-append (columns c) rest.more)
 
-with_continuation-room : (n : ℕ) (c : List ℕ) (rest : Rest) → length (columns c) ≡ 66 → room (with_continuation n c rest) ≤ 66 + room rest
+pub with_continuation-room : (n : ℕ) (c : List ℕ) (rest : Rest) → length (columns c) ≡ 66 → room (with_continuation n c rest) ≤ 66 + room rest
 with_continuation-room n c rest h = omega (arith, length-append (columns c) rest.more)
 
-by_line : (t u v : Bool) (a b c d : Rest) (n : ℕ) → room a ≤ n → room b ≤ n → room c ≤ n → room d ≤ n
+pub by_line : (t u v : Bool) (a b c d : Rest) (n : ℕ) → room a ≤ n → room b ≤ n → room c ≤ n → room d ≤ n
     → room (if t then (if u then a else b) else if v then c else d) ≤ n
 by_line true true v a b c d n h i j k = h
 by_line true false v a b c d n h i j k = i
 by_line false u true a b c d n h i j k = j
 by_line false u false a b c d n h i j k = k
 
-with_line-room : (n : ℕ) (l : List ℕ) (rest : Rest) → room (with_line n l rest) ≤ 66 + room rest
+pub with_line-room : (n : ℕ) (l : List ℕ) (rest : Rest) → room (with_line n l rest) ≤ 66 + room rest
 with_line-room n l rest =
     by_line (is_comment l) (is_dropped l) (is_initial (card l))
     rest (with_comment l rest) (with_initial n (card l) rest) (with_continuation n (card l) rest) (66 + room rest)
@@ -89,25 +86,15 @@ rest_from-room n (l ∷ ls) = omega (arith, with_line-room n l (rest_from (n + 1
 
 -- ---- a text
 
-onto_first-short : (b : ℕ) (ls : List (List ℕ)) → length (onto_first b ls) ≤ length ls + 1
-onto_first-short b [] = omega arith
-onto_first-short b (l ∷ ls) = omega arith
-
 one_more : (t : Bool) (a b : List (List ℕ)) (n : ℕ) → length a ≤ n → length b ≤ n → length (if t then a else b) ≤ n
 one_more true a b n h i = h
 one_more false a b n h i = i
 
-lines_of-short : (text : List ℕ) → length (lines_of text) ≤ length text
-lines_of-short [] = omega arith
-lines_of-short (b ∷ bs) =
-    one_more _ ([] ∷ lines_of bs) (onto_first b (lines_of bs)) (length (b ∷ bs))
-    (omega (arith, lines_of-short bs)) (omega (arith, lines_of-short bs, onto_first-short b (lines_of bs)))
-
-chosen : (t : Bool) (a b : Lines) (e : ℕ × ℕ) → (let r : Result Lines (ℕ × ℕ) = if t then Ok a else Err e in r) ≡ Ok b → a ≡ b
+pub chosen : (t : Bool) (a b : Lines) (e : ℕ × ℕ) → (let r : Result Lines (ℕ × ℕ) = if t then Ok a else Err e in r) ≡ Ok b → a ≡ b
 chosen true a b e h = cc
 chosen false a b e h = cc
 
-outcome-lines : (found : Option (ℕ × Code)) (last : ℕ) (rest : Rest) (lines : Lines) → outcome found last rest ≡ Ok lines → rest.statements ≡ lines.lines
+pub outcome-lines : (found : Option (ℕ × Code)) (last : ℕ) (rest : Rest) (lines : Lines) → outcome found last rest ≡ Ok lines → rest.statements ≡ lines.lines
 outcome-lines (Some f) last rest lines h = cc
 outcome-lines None last rest lines h = ap (λ (ls : Lines). ls.lines) (chosen (ends_well rest.statements) _ lines _ h)
 

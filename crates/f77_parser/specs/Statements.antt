@@ -5,7 +5,7 @@ use Rattle.fixed_form.specs.declared.line.Lines.{Lines}
 use Rattle.f77_forms.specs.Refused.{refused_word}
 use Rattle.f77_statements.specs.declared.refusal.Cause.{Cause}
 use Rattle.f77_statements.specs.declared.refusal.Cause.TheVariants.{Syntax, OutOfProfile, RealConstant, NumberTooBig, NameTooLong}
-use Rattle.refusal_codes.specs.Refusals.{number_of}
+use Rattle.fx_lists.specs.Refusals.{number_of}
 use Rattle.f77_statements.specs.Causes.{code_of}
 use Rattle.f77_statements.specs.Phrases.{PhraseTree, phrase_tree}
 use Rattle.f77_statements.specs.Statements.{phrase_of}

@@ -13,15 +13,8 @@ use Rattle.f77_printer.specs.declared.added.Lines.{Lines}
 use Rattle.f77_printer.specs.PageText.{is_part}
 use Rattle.f77_printer.specs.AddedText.{part_of, added_text}
 use Rattle.f77_printer.specs.Lines.{lines_of, other_text, HasMore}
-use Rattle.f77_printer.proofs.TextLemmas.{next_part}
-
-same_left : (a b : Bool) → (a && b) ≡ true → a ≡ true
-same_left true b h = refl
-same_left false b h = cc
-
-same_right : (a b : Bool) → (a && b) ≡ true → b ≡ true
-same_right true b h = h
-same_right false b h = cc
+use Rattle.fx_lists.proofs.Booleans.{same_left, same_right}
+use Rattle.fx_lists.proofs.Lists.{at_place as next_part}
 
 -- parts that the test takes for one are one
 pub is_part_same : (p q : Part) → is_part p q ≡ true → p ≡ q

@@ -2,7 +2,7 @@
 use Rattle.std.proofs.Common.{◌≡◌, ℕ, ◌+◌, ◌<◌, List, ◌++◌, length, get_or, drop, ap, append_assoc, append-nil}
 use Rattle.std.specs.Prelude.{codes}
 use Rattle.f77_printer.specs.PageText.{lines_text}
-use Rattle.f77_printer.proofs.TextLemmas.{next_part}
+use Rattle.fx_lists.proofs.Lists.{at_place as next_part}
 
 pub lines_text-drop : (ls : List (List ℕ)) (i : ℕ) (l : List ℕ) → i < length ls → l ≡ get_or ls i l
     → lines_text (drop i ls) ≡ (l ++ codes "\n") ++ lines_text (drop (i + 1) ls)

@@ -18,6 +18,7 @@ use Rattle.f77_ast.proofs.PlainlyStmt.{what_cases, arm_tree-out}
 use Rattle.f77_printer.specs.ExprText.{exprs_text, expr_text}
 use Rattle.f77_printer.specs.DeclText.{others_by, joined_by, bounds_text, extent_text, block_text, entity_text, setting_text, group_text, data_value_text, common_text, commons_text, other_commons_text, data_text, data_group_text, other_groups_text, save_text, save_item_text}
 use Rattle.f77_printer.specs.StatementText.{actuals_text, first_test_text}
+use Rattle.fx_lists.proofs.Lists.{at_place as next_part}
 
 pub ruleset char_steps = (append_assoc, append-nil)
 
@@ -57,12 +58,6 @@ others_by-map f text (x ∷ xs) = ap (λ t. (codes "," ++ text (f x)) ++ t) (oth
 pub joined_by-map : {A B : Type 0} (f : A → B) (text : B → List ℕ) (xs : List A) → joined_by text (map f xs) ≡ joined_by (λ x. text (f x)) xs
 joined_by-map f text [] = refl
 joined_by-map f text (x ∷ xs) = ap (λ t. text (f x) ++ t) (others_by-map f text xs)
-
--- what is left of a list of parts
-pub next_part : {A : Type 0} (xs : List A) (i : ℕ) (x : A) → i < length xs → x ≡ get_or xs i x → drop i xs ≡ x ∷ drop (i + 1) xs
-next_part xs i x h e =
-    let d : drop i xs ≡ get_or xs i x ∷ drop (i + 1) xs = rw (add-one, drop-cons xs i x) in
-    d ∙ ap (λ y. y ∷ drop (i + 1) xs) (sym e)
 
 pub others_by-drop : {A : Type 0} (text : A → List ℕ) (xs : List A) (i : ℕ) (x : A) → i < length xs → x ≡ get_or xs i x
     → others_by text (drop i xs) ≡ (codes "," ++ text x) ++ others_by text (drop (i + 1) xs)

@@ -1,7 +1,7 @@
 -- Why a statement is refused: the lowest cause.
 use Rattle.std.specs.Prelude.{ℕ, List, [], ◌∷◌, Option, Some, None, Result, Ok, Err, if◌then◌else◌}
-use Rattle.refusal_codes.specs.declared.code.Code.{Code}
-use Rattle.refusal_codes.specs.declared.code.Code.TheVariants as codes
+use Rattle.fx_lists.specs.declared.code.Code.{Code}
+use Rattle.fx_lists.specs.declared.code.Code.TheVariants as codes
 use Rattle.f77_exprs.specs.declared.at.Notes.{Notes}
 use Rattle.f77_exprs.specs.State.{State}
 use Rattle.f77_statements.specs.declared.refusal.Cause.{Cause}

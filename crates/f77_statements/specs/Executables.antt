@@ -3,7 +3,7 @@ use Rattle.std.specs.Prelude.{ℕ, List, length, Option, Some, None, ◌&&◌, i
 use Rattle.f77_ast.specs.Trees.{WhatTree, assign, call, goto, continue, return, stop, print, read}
 use Rattle.f77_ast.specs.Plain.{exprs_of}
 use Rattle.f77_exprs.specs.Words.{before}
-use Rattle.f77_exprs.specs.State.{Reader, take_word, or_else, ◌>>=◌}
+use Rattle.f77_exprs.specs.State.{Reader, parse_word, or_else, ◌>>=◌}
 use Rattle.f77_exprs.specs.Lexical.{name_at, label_at, digit_first, skip_digits, constant}
 use Rattle.f77_exprs.specs.Grammar.{expression, variable}
 use Rattle.f77_statements.specs.Lists.{or_end, items_left, maybe_in_parentheses, maybe_after_comma}
@@ -12,14 +12,14 @@ use Rattle.f77_statements.specs.Lists.{or_end, items_left, maybe_in_parentheses,
 unfoldable pub assignment : Reader WhatTree
 assignment s = do
   v ← variable s
-  t ← take_word (codes "=") v.1
+  t ← parse_word (codes "=") v.1
   e ← expression t
   Some (assign v.0 e.0, e.1)
 
 -- CALLn[([a,..])]
 unfoldable pub call_statement : Reader WhatTree
 call_statement s = do
-  t ← take_word (codes "CALL") s
+  t ← parse_word (codes "CALL") s
   n ← name_at t
   es ← maybe_in_parentheses expression n.1
   Some (call n.0 (exprs_of es.0), es.1)
@@ -27,15 +27,15 @@ call_statement s = do
 -- GOTOl
 unfoldable pub goto_statement : Reader WhatTree
 goto_statement s = do
-  t ← take_word (codes "GOTO") s
+  t ← parse_word (codes "GOTO") s
   l ← label_at t
   Some (goto l.0, l.1)
 
 unfoldable pub continue_statement : Reader WhatTree
-continue_statement s = take_word (codes "CONTINUE") s >>= λ t. Some (continue, t)
+continue_statement s = parse_word (codes "CONTINUE") s >>= λ t. Some (continue, t)
 
 unfoldable pub return_statement : Reader WhatTree
-return_statement s = take_word (codes "RETURN") s >>= λ t. Some (return, t)
+return_statement s = parse_word (codes "RETURN") s >>= λ t. Some (return, t)
 
 -- up to five digits, as they are written
 unfoldable pub five_digits : Reader (Option (List ℕ))
@@ -50,18 +50,18 @@ message text s = constant s.rest >>= λ c. Some (Some (before text c.1), record 
 
 -- nothing, up to five digits, or a character constant
 unfoldable pub stop_text : Reader (Option (List ℕ))
-stop_text s = or_end s.rest s None (or_else (take_word (codes "'") s) (message s.rest) (five_digits s))
+stop_text s = or_end s.rest s None (or_else (parse_word (codes "'") s) (message s.rest) (five_digits s))
 
 unfoldable pub stop_statement : Reader WhatTree
 stop_statement s = do
-  t ← take_word (codes "STOP") s
+  t ← parse_word (codes "STOP") s
   m ← stop_text t
   Some (stop m.0, m.1)
 
 -- PRINT*[,list]
 unfoldable pub print_statement : Reader WhatTree
 print_statement s = do
-  t ← take_word (codes "PRINT*") s
+  t ← parse_word (codes "PRINT*") s
   es ← maybe_after_comma expression t
   Some (print (exprs_of es.0), es.1)
 
@@ -72,8 +72,8 @@ write_list s = items_left expression s >>= λ es. Some (print (exprs_of es.0), e
 -- WRITE(*,*)[list] and WRITE(6,*)[list], which are read as PRINT
 unfoldable pub write_statement : Reader WhatTree
 write_statement s =
-    or_else (take_word (codes "WRITE(*,*)") s) write_list
-    (or_else (take_word (codes "WRITE(6,*)") s) write_list None)
+    or_else (parse_word (codes "WRITE(*,*)") s) write_list
+    (or_else (parse_word (codes "WRITE(6,*)") s) write_list None)
 
 unfoldable pub read_listed : Reader WhatTree
 read_listed s = maybe_after_comma variable s >>= λ es. Some (read (exprs_of es.0), es.1)
@@ -84,6 +84,6 @@ read_left s = items_left variable s >>= λ es. Some (read (exprs_of es.0), es.1)
 -- READ*[,list], READ(*,*)[list] and READ(5,*)[list]
 unfoldable pub read_statement : Reader WhatTree
 read_statement s =
-    or_else (take_word (codes "READ*") s) read_listed
-    (or_else (take_word (codes "READ(*,*)") s) read_left
-    (or_else (take_word (codes "READ(5,*)") s) read_left None))
+    or_else (parse_word (codes "READ*") s) read_listed
+    (or_else (parse_word (codes "READ(*,*)") s) read_left
+    (or_else (parse_word (codes "READ(5,*)") s) read_left None))

@@ -1,7 +1,7 @@
 -- What a function of this crate returns, beside what the grammar gives.
 use Rattle.std.specs.Prelude.{◌≡◌, Option, Result, Ok, Err}
 use Rattle.f77_exprs.specs.declared.at.Cursor.{Cursor}
-use Rattle.f77_exprs.specs.declared.unread.Unread.{Unread}
+use Rattle.f77_exprs.specs.declared.parse_error.ParseError.{ParseError}
 use Rattle.f77_exprs.specs.State.{State, state}
 use Rattle.f77_exprs.specs.State.{Gives as Reads}
 use Rattle.f77_statements.specs.declared.phrase.Phrase.{Phrase}
@@ -18,6 +18,6 @@ Gives (Err (Because c)) read = read ≡ Err c
 Gives (Err Memory) read = Unit {0}
 
 -- what the verdict on a reading gives
-abbrev pub ForRead : Result (Phrase × Cursor) Unread → Result Phrase Refusal → Type 0
+abbrev pub ForRead : Result (Phrase × Cursor) ParseError → Result Phrase Refusal → Type 0
 ForRead found result =
     (read : Option (PhraseTree × State)) → Reads (λ x. (phrase_tree x.0, state x.1)) found read → Gives result (verdict read)

@@ -11,7 +11,7 @@ use Rattle.f77_ast.specs.declared.decl.SaveItem.{SaveItem}
 use Rattle.f77_ast.specs.declared.decl.SaveItem.TheVariants.{Name, Block}
 use Rattle.f77_ast.specs.Trees.{ExprTree, int, log, unary}
 use Rattle.f77_ast.specs.DeclTrees.{ExtentTree, EntityTree, SettingTree, CommonTree, DataValueTree, DataTree}
-use Rattle.f77_exprs.specs.State.{State, Reader, take_word, or_done, or_else, ◌>>=◌}
+use Rattle.f77_exprs.specs.State.{State, Reader, parse_word, or_done, or_else, ◌>>=◌}
 use Rattle.f77_exprs.specs.Lexical.{name_at, number, number_first}
 use Rattle.f77_exprs.specs.Grammar.{expression, variable, literal, Between, comma, more_by, items, items_by}
 use Rattle.f77_statements.specs.Lists.{ending, skip_comma}
@@ -32,34 +32,34 @@ range first l = if nat_le first l.0 then Some (record { first = first; last = l.
 
 -- a letter, or two with `-` between them
 unfoldable pub letters : Reader Letters
-letters s = letter s >>= λ a. or_done (record { first = a.0; last = a.0 }) a.1 (take_word (codes "-") a.1) (λ t. letter t >>= range a.0)
+letters s = letter s >>= λ a. or_done (record { first = a.0; last = a.0 }) a.1 (parse_word (codes "-") a.1) (λ t. letter t >>= range a.0)
 
 -- the ranges behind a type
 unfoldable pub ranges : Scalar → Reader ImplicitPart
 ranges scalar s = do
-  t ← take_word (codes "(") s
+  t ← parse_word (codes "(") s
   ls ← ending (codes ")") (items letters) t
   Some (record { scalar = scalar; ranges = ls.0 }, ls.1)
 
 -- a type and its ranges
 unfoldable pub implicit_part : Reader ImplicitPart
 implicit_part s =
-    or_else (take_word (codes "INTEGER") s) (ranges Int)
-    (or_else (take_word (codes "LOGICAL") s) (ranges Log) None)
+    or_else (parse_word (codes "INTEGER") s) (ranges Int)
+    (or_else (parse_word (codes "LOGICAL") s) (ranges Log) None)
 
 -- ---- names with bounds
 
 -- what follows a lower bound
 unfoldable pub upper : ExprTree → Reader ExtentTree
 upper low s =
-    or_else (take_word (codes "*") s) (λ t. Some (record { low = Some low; high = None }, t))
+    or_else (parse_word (codes "*") s) (λ t. Some (record { low = Some low; high = None }, t))
     (expression s >>= λ e. Some (record { low = Some low; high = Some e.0 }, e.1))
 
 -- `*`, an upper bound, or both bounds with a colon between them
 unfoldable pub extent : Reader ExtentTree
 extent s =
-    or_else (take_word (codes "*") s) (λ t. Some (record { low = None; high = None }, t))
-    (expression s >>= λ e. or_done (record { low = None; high = Some e.0 }) e.1 (take_word (codes ":") e.1) (upper e.0))
+    or_else (parse_word (codes "*") s) (λ t. Some (record { low = None; high = None }, t))
+    (expression s >>= λ e. or_done (record { low = None; high = Some e.0 }) e.1 (parse_word (codes ":") e.1) (upper e.0))
 
 -- the bounds behind the opening parenthesis
 unfoldable pub bounds : List ℕ → Reader EntityTree
@@ -67,13 +67,13 @@ bounds n s = ending (codes ")") (items extent) s >>= λ b. Some (record { name =
 
 -- a name, with bounds or without
 unfoldable pub entity : Reader EntityTree
-entity s = name_at s >>= λ n. or_done (record { name = n.0; bounds = [] }) n.1 (take_word (codes "(") n.1) (bounds n.0)
+entity s = name_at s >>= λ n. or_done (record { name = n.0; bounds = [] }) n.1 (parse_word (codes "(") n.1) (bounds n.0)
 
 -- a name with bounds
 unfoldable pub array : Reader EntityTree
 array s = do
   n ← name_at s
-  t ← take_word (codes "(") n.1
+  t ← parse_word (codes "(") n.1
   bounds n.0 t
 
 -- ---- PARAMETER, EQUIVALENCE, SAVE
@@ -82,19 +82,19 @@ array s = do
 unfoldable pub setting : Reader SettingTree
 setting s = do
   n ← name_at s
-  t ← take_word (codes "=") n.1
+  t ← parse_word (codes "=") n.1
   e ← expression t
   Some (record { name = n.0; value = e.0 }, e.1)
 
 -- two or more names or elements in parentheses
 unfoldable pub group : Reader (List ExprTree)
 group s = do
-  t ← take_word (codes "(") s
+  t ← parse_word (codes "(") s
   v ← variable t
-  u ← take_word (codes ",") v.1
+  u ← parse_word (codes ",") v.1
   w ← variable u
   vs ← more_by comma variable (length w.1.rest) (v.0 ∷ w.0 ∷ []) w.1
-  x ← take_word (codes ")") vs.1
+  x ← parse_word (codes ")") vs.1
   Some (vs.0, x)
 
 -- the name of a block behind its first slash
@@ -104,7 +104,7 @@ block_name = ending (codes "/") name_at
 -- a name, or a block between slashes
 unfoldable pub save_item : Reader SaveItem
 save_item s =
-    or_else (take_word (codes "/") s) (λ t. block_name t >>= λ b. Some (Block b.0, b.1))
+    or_else (parse_word (codes "/") s) (λ t. block_name t >>= λ b. Some (Block b.0, b.1))
     (name_at s >>= λ n. Some (Name n.0, n.1))
 
 -- ---- COMMON
@@ -115,7 +115,7 @@ unless None other = other
 
 -- a comma between two members: the one before the slash of the next block is none
 abbrev pub member_comma : Between
-member_comma s = unless (take_word (codes ",/") s) (take_word (codes ",") s)
+member_comma s = unless (parse_word (codes ",/") s) (parse_word (codes ",") s)
 
 -- the members of a block
 unfoldable pub members : List ℕ → Reader CommonTree
@@ -123,11 +123,11 @@ members b s = items_by member_comma entity s >>= λ ms. Some (record { block = b
 
 -- a block behind its first slash, and its members; the blank block has no name
 unfoldable pub block : Reader CommonTree
-block s = or_else (take_word (codes "/") s) (members []) (block_name s >>= λ b. members b.0 b.1)
+block s = or_else (parse_word (codes "/") s) (members []) (block_name s >>= λ b. members b.0 b.1)
 
 -- the blank block may begin the statement without its slashes
 unfoldable pub first_block : Reader CommonTree
-first_block s = or_else (take_word (codes "/") s) block (members [] s)
+first_block s = or_else (parse_word (codes "/") s) block (members [] s)
 
 abbrev pub or_this : Option State → Option State → Option State
 or_this (Some t) other = Some t
@@ -135,7 +135,7 @@ or_this None other = other
 
 -- the first slash of the next block, with a comma before it or none
 abbrev pub next_block : Between
-next_block s = or_this (take_word (codes ",/") s) (take_word (codes "/") s)
+next_block s = or_this (parse_word (codes ",/") s) (parse_word (codes "/") s)
 
 -- ---- DATA
 
@@ -149,10 +149,10 @@ signed_integer op s = integer s >>= λ n. Some (unary op n.0, n.1)
 -- an integer with a sign or none, or a logical constant
 unfoldable pub data_constant : Reader ExprTree
 data_constant s =
-    or_else (take_word (codes ".TRUE.") s) (λ t. Some (log true, t))
-    (or_else (take_word (codes ".FALSE.") s) (λ t. Some (log false, t))
-    (or_else (take_word (codes "+") s) (signed_integer Plus)
-    (or_else (take_word (codes "-") s) (signed_integer Minus) (integer s))))
+    or_else (parse_word (codes ".TRUE.") s) (λ t. Some (log true, t))
+    (or_else (parse_word (codes ".FALSE.") s) (λ t. Some (log false, t))
+    (or_else (parse_word (codes "+") s) (signed_integer Plus)
+    (or_else (parse_word (codes "-") s) (signed_integer Minus) (integer s))))
 
 -- a constant behind its repeat count
 unfoldable pub repeat_value : ℕ → Reader DataValueTree
@@ -160,7 +160,7 @@ repeat_value n s = data_constant s >>= λ c. Some (record { repeat = Some n; val
 
 -- a number, and a constant behind it where `*` follows
 unfoldable pub value_or_count : ℕ → Reader DataValueTree
-value_or_count n s = or_done (record { repeat = None; value = int (pos n) }) s (take_word (codes "*") s) (repeat_value n)
+value_or_count n s = or_done (record { repeat = None; value = int (pos n) }) s (parse_word (codes "*") s) (repeat_value n)
 
 -- a constant, with a repeat count before it or none
 unfoldable pub data_value : Reader DataValueTree

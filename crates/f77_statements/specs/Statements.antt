@@ -2,7 +2,7 @@
 use Rattle.std.specs.Prelude.{ℕ, List, Option, Some, None, Result, Ok, Err, if◌then◌else◌, codes}
 use Rattle.f77_ast.specs.Trees.{ExprTree, WhatTree}
 use Rattle.f77_ast.specs.DeclTrees.{DeclTree}
-use Rattle.f77_exprs.specs.State.{start, Reader, take_word, or_done, ◌>>=◌}
+use Rattle.f77_exprs.specs.State.{start, Reader, parse_word, or_done, ◌>>=◌}
 use Rattle.f77_exprs.specs.Lexical.{name_at, label_at, digit_first}
 use Rattle.f77_exprs.specs.Grammar.{expression}
 use Rattle.f77_forms.specs.declared.form.FormId.{FormId}
@@ -23,14 +23,14 @@ use Rattle.f77_statements.specs.Executables.{assignment, call_statement, goto_st
 
 unfoldable pub program_statement : Reader PhraseTree
 program_statement s = do
-  t ← take_word (codes "PROGRAM") s
+  t ← parse_word (codes "PROGRAM") s
   n ← name_at t
   Some (program n.0, n.1)
 
 -- SUBROUTINEn[([d,..])]
 unfoldable pub subroutine_statement : Reader PhraseTree
 subroutine_statement s = do
-  t ← take_word (codes "SUBROUTINE") s
+  t ← parse_word (codes "SUBROUTINE") s
   n ← name_at t
   ds ← maybe_in_parentheses name_at n.1
   Some (subroutine n.0 ds.0, ds.1)
@@ -44,16 +44,16 @@ if_test = ending (codes ")") expression
 -- IF(e)THEN
 unfoldable pub block_if_statement : Reader PhraseTree
 block_if_statement s = do
-  t ← take_word (codes "IF(") s
+  t ← parse_word (codes "IF(") s
   e ← if_test t
-  u ← take_word (codes "THEN") e.1
+  u ← parse_word (codes "THEN") e.1
   Some (block_if e.0, u)
 
 unfoldable pub else_if_statement : Reader PhraseTree
 else_if_statement s = do
-  t ← take_word (codes "ELSEIF(") s
+  t ← parse_word (codes "ELSEIF(") s
   e ← if_test t
-  u ← take_word (codes "THEN") e.1
+  u ← parse_word (codes "THEN") e.1
   Some (else_if e.0, u)
 
 -- the statements that may stand in a logical IF
@@ -89,7 +89,7 @@ what_at s = what_of (form_at s.rest) s
 -- IF(e)s
 unfoldable pub logical_if_statement : Reader PhraseTree
 logical_if_statement s = do
-  t ← take_word (codes "IF(") s
+  t ← parse_word (codes "IF(") s
   e ← if_test t
   w ← what_at e.1
   Some (logical_if e.0 w.0, w.1)
@@ -108,15 +108,15 @@ some_step s = expression s >>= λ e. Some (Some e.0, e.1)
 
 -- the step behind a comma, which need not be there
 unfoldable pub step : Reader (Option ExprTree)
-step s = or_done None s (take_word (codes ",") s) some_step
+step s = or_done None s (parse_word (codes ",") s) some_step
 
 -- the index and its values
 unfoldable pub range : Option ℕ → Reader PhraseTree
 range label s = do
   i ← name_at s
-  t ← take_word (codes "=") i.1
+  t ← parse_word (codes "=") i.1
   a ← expression t
-  u ← take_word (codes ",") a.1
+  u ← parse_word (codes ",") a.1
   b ← expression u
   c ← step b.1
   Some (do_head (record { label = label; index = i.0; first = a.0; last = b.0; step = c.0 }), c.1)
@@ -124,7 +124,7 @@ range label s = do
 -- DO[l[,]]i=e,e[,e]
 unfoldable pub do_statement : Reader PhraseTree
 do_statement s = do
-  t ← take_word (codes "DO") s
+  t ← parse_word (codes "DO") s
   l ← terminal t
   range l.0 l.1
 
@@ -132,7 +132,7 @@ do_statement s = do
 
 -- a word alone
 unfoldable pub alone : List ℕ → PhraseTree → Reader PhraseTree
-alone word p s = take_word word s >>= λ t. Some (p, t)
+alone word p s = parse_word word s >>= λ t. Some (p, t)
 
 unfoldable pub specified : Reader DeclTree → Reader PhraseTree
 specified R s = R s >>= λ d. Some (specification d.0, d.1)

@@ -94,7 +94,7 @@ fn some_step(alloc: Global, at: Cursor<'_>) -> Reading<'_, Option<Expr>>
 fn step(alloc: Global, at: Cursor<'_>) -> Reading<'_, Option<Expr>>
     ensures { GivesAs maybe_tree result (step (state at.entry)) }
 {
-    match at.take_word(b",") {
+    match at.parse_word(b",") {
         None => Ok((None, at)),
         Some(rest) => some_step(alloc, rest),
     }

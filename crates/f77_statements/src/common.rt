@@ -20,9 +20,9 @@ impl Separator for MemberComma {
     ghost between = { member_comma };
 
     fn next<'a>(at: Cursor<'a>) -> Option<Cursor<'a>> {
-        match at.take_word(b",/") {
+        match at.parse_word(b",/") {
             Some(_) => None,
-            None => at.take_word(b","),
+            None => at.parse_word(b","),
         }
     }
 }
@@ -49,7 +49,7 @@ impl Rule for Blocks {
 
     #[tactic(auto, unfolding(crate::specs::Parts::block))]
     fn read<'a>(alloc: Global, at: Cursor<'a>) -> Reading<'a, CommonPart> {
-        match at.take_word(b"/") {
+        match at.parse_word(b"/") {
             Some(rest) => members(alloc, Text::new(alloc), rest),
             None => {
                 let (name, at) = block_name(alloc, at)?;
@@ -64,7 +64,7 @@ impl Rule for Blocks {
 pub fn first_block(alloc: Global, at: Cursor<'_>) -> Reading<'_, CommonPart>
     ensures { GivesAs common_tree result (first_block (state at.entry)) }
 {
-    match at.take_word(b"/") {
+    match at.parse_word(b"/") {
         Some(rest) => Blocks::read(alloc, rest),
         None => members(alloc, Text::new(alloc), at),
     }
@@ -77,9 +77,9 @@ impl Separator for NextBlock {
     ghost between = { next_block };
 
     fn next<'a>(at: Cursor<'a>) -> Option<Cursor<'a>> {
-        match at.take_word(b",/") {
+        match at.parse_word(b",/") {
             Some(rest) => Some(rest),
-            None => at.take_word(b"/"),
+            None => at.parse_word(b"/"),
         }
     }
 }

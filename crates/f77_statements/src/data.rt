@@ -8,7 +8,7 @@ ghost use Rattle.f77_statements.specs.Parts.{integer, signed_integer, data_const
 use crate::lists::{Rule, Separator, items_before, skip_comma};
 use crate::parts::Variables;
 use f77_ast::{DataGroup, DataValue, Expr, UnaryOp};
-use f77_exprs::{Cursor, Reading, Unread, literal, number, number_first, unary};
+use f77_exprs::{Cursor, ParseError, Reading, literal, number, number_first, unary};
 use std::alloc::Global;
 
 #[tactic(auto, unfolding(crate::specs::Parts::integer))]
@@ -18,7 +18,7 @@ fn integer(at: Cursor<'_>) -> Reading<'_, Expr>
     if number_first(at.rest) {
         Ok(literal(at))
     } else {
-        Err(Unread::Syntax)
+        Err(ParseError::Syntax)
     }
 }
 
@@ -36,16 +36,16 @@ fn signed_integer(alloc: Global, op: UnaryOp, at: Cursor<'_>) -> Reading<'_, Exp
 fn data_constant(alloc: Global, at: Cursor<'_>) -> Reading<'_, Expr>
     ensures { GivesExpr result (data_constant (state at.entry)) }
 {
-    if let Some(rest) = at.take_word(b".TRUE.") {
+    if let Some(rest) = at.parse_word(b".TRUE.") {
         return Ok((Expr::Log(true), rest));
     }
-    if let Some(rest) = at.take_word(b".FALSE.") {
+    if let Some(rest) = at.parse_word(b".FALSE.") {
         return Ok((Expr::Log(false), rest));
     }
-    if let Some(rest) = at.take_word(b"+") {
+    if let Some(rest) = at.parse_word(b"+") {
         return signed_integer(alloc, UnaryOp::Plus, rest);
     }
-    if let Some(rest) = at.take_word(b"-") {
+    if let Some(rest) = at.parse_word(b"-") {
         return signed_integer(alloc, UnaryOp::Minus, rest);
     }
     integer(at)
@@ -67,7 +67,7 @@ fn value_or_count(alloc: Global, n: u32, at: Cursor<'_>) -> Reading<'_, DataValu
     requires { n < 2 ^ 31 }
     ensures { GivesAs data_value_tree result (value_or_count n (state at.entry)) }
 {
-    match at.take_word(b"*") {
+    match at.parse_word(b"*") {
         Some(rest) => repeat_value(alloc, n, rest),
         None => {
             let value = Expr::Int(n as i32);

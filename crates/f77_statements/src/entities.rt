@@ -18,7 +18,7 @@ fn upper<'a>(alloc: Global, low: Expr, at: Cursor<'a>) -> Reading<'a, Extent>
     ensures { GivesAs extent_tree result (upper (expr_tree low) (state at.entry)) }
 {
     let low = Some(low);
-    match at.take_word(b"*") {
+    match at.parse_word(b"*") {
         Some(rest) => Ok((Extent { low, high: None }, rest)),
         None => {
             let (high, rest) = expression(alloc, at)?;
@@ -42,7 +42,7 @@ impl Rule for Extents {
 
     #[tactic(auto, unfolding(crate::specs::Parts::extent))]
     fn read<'a>(alloc: Global, at: Cursor<'a>) -> Reading<'a, Extent> {
-        if let Some(rest) = at.take_word(b"*") {
+        if let Some(rest) = at.parse_word(b"*") {
             let none = Extent {
                 low: None,
                 high: None,
@@ -50,7 +50,7 @@ impl Rule for Extents {
             return Ok((none, rest));
         }
         let (first, at) = expression(alloc, at)?;
-        match at.take_word(b":") {
+        match at.parse_word(b":") {
             Some(rest) => upper(alloc, first, rest),
             None => {
                 let high = Some(first);
@@ -84,7 +84,7 @@ impl Rule for Entities {
     #[tactic(auto, unfolding(crate::specs::Parts::entity))]
     fn read<'a>(alloc: Global, at: Cursor<'a>) -> Reading<'a, Entity> {
         let (name, at) = name_at(alloc, at)?;
-        match at.take_word(b"(") {
+        match at.parse_word(b"(") {
             Some(rest) => bounds(alloc, name, rest),
             None => {
                 let bounds = List::new(alloc);

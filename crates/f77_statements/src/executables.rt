@@ -9,7 +9,7 @@ use crate::lists::{items_left, maybe_after_comma, maybe_in_parentheses};
 use crate::parts::{Expressions, Variables};
 use f77_ast::What;
 use f77_exprs::{
-    Cursor, Reading, Unread, before, constant, digit_first, expression, label_at, name_at,
+    Cursor, ParseError, Reading, before, constant, digit_first, expression, label_at, name_at,
     skip_digits, variable,
 };
 use fx_lists::Text;
@@ -71,12 +71,12 @@ fn five_digits(alloc: Global, at: Cursor<'_>) -> Reading<'_, Option<Text>>
     ensures { GivesAs (λ t. t) result (five_digits (state at.entry)) }
 {
     if !digit_first(at.rest) {
-        return Err(Unread::Syntax);
+        return Err(ParseError::Syntax);
     }
     let rest = skip_digits(at.rest);
     let digits = before(at.rest, rest);
     if digits.len() > 5 {
-        return Err(Unread::Syntax);
+        return Err(ParseError::Syntax);
     }
     let text = Text::from_bytes(alloc, digits)?;
     let notes = at.notes;
@@ -101,7 +101,7 @@ fn stop_text(alloc: Global, at: Cursor<'_>) -> Reading<'_, Option<Text>>
 {
     match at.rest {
         [] => Ok((None, at)),
-        [_, ..] => match at.take_word(b"'") {
+        [_, ..] => match at.parse_word(b"'") {
             Some(rest) => message(alloc, at.rest, rest),
             None => five_digits(alloc, at),
         },
@@ -142,13 +142,13 @@ fn write_list(alloc: Global, at: Cursor<'_>) -> Reading<'_, What>
 pub fn write_statement(alloc: Global, at: Cursor<'_>) -> Reading<'_, What>
     ensures { GivesAs what_tree result (write_statement (state at.entry)) }
 {
-    if let Some(rest) = at.take_word(b"WRITE(*,*)") {
+    if let Some(rest) = at.parse_word(b"WRITE(*,*)") {
         return write_list(alloc, rest);
     }
-    if let Some(rest) = at.take_word(b"WRITE(6,*)") {
+    if let Some(rest) = at.parse_word(b"WRITE(6,*)") {
         return write_list(alloc, rest);
     }
-    Err(Unread::Syntax)
+    Err(ParseError::Syntax)
 }
 
 #[tactic(auto, using(f77_ast::proofs::PlainlyStmt::what_cases), unfolding(crate::specs::Executables::read_listed))]
@@ -172,14 +172,14 @@ fn read_left(alloc: Global, at: Cursor<'_>) -> Reading<'_, What>
 pub fn read_statement(alloc: Global, at: Cursor<'_>) -> Reading<'_, What>
     ensures { GivesAs what_tree result (read_statement (state at.entry)) }
 {
-    if let Some(rest) = at.take_word(b"READ*") {
+    if let Some(rest) = at.parse_word(b"READ*") {
         return read_listed(alloc, rest);
     }
-    if let Some(rest) = at.take_word(b"READ(*,*)") {
+    if let Some(rest) = at.parse_word(b"READ(*,*)") {
         return read_left(alloc, rest);
     }
-    if let Some(rest) = at.take_word(b"READ(5,*)") {
+    if let Some(rest) = at.parse_word(b"READ(5,*)") {
         return read_left(alloc, rest);
     }
-    Err(Unread::Syntax)
+    Err(ParseError::Syntax)
 }

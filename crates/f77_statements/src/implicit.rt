@@ -5,7 +5,7 @@ ghost use Rattle.f77_statements.specs.Parts.{letter, letters, ranges, implicit_p
 
 use crate::lists::{Rule, items_before};
 use f77_ast::{ImplicitPart, Letters, Scalar};
-use f77_exprs::{Cursor, Reading, Unread};
+use f77_exprs::{Cursor, ParseError, Reading};
 use std::alloc::Global;
 
 #[tactic(auto, unfolding(crate::specs::Parts::letter))]
@@ -13,13 +13,13 @@ fn letter(at: Cursor<'_>) -> Reading<'_, u8>
     ensures { GivesAs (λ c. c) result (letter (state at.entry)) }
 {
     match at.rest {
-        [] => Err(Unread::Syntax),
+        [] => Err(ParseError::Syntax),
         [c, rest @ ..] => {
             if c.is_ascii_uppercase() {
                 let notes = at.notes;
                 Ok((*c, Cursor { rest, notes }))
             } else {
-                Err(Unread::Syntax)
+                Err(ParseError::Syntax)
             }
         }
     }
@@ -42,14 +42,14 @@ impl Rule for LetterRanges {
     #[tactic(auto, unfolding(crate::specs::Parts::letters))]
     fn read<'a>(_alloc: Global, at: Cursor<'a>) -> Reading<'a, Letters> {
         let (first, at) = letter(at)?;
-        match at.take_word(b"-") {
+        match at.parse_word(b"-") {
             None => Ok((Letters { first, last: first }, at)),
             Some(rest) => {
                 let (last, rest) = letter(rest)?;
                 if first <= last {
                     Ok((Letters { first, last }, rest))
                 } else {
-                    Err(Unread::Syntax)
+                    Err(ParseError::Syntax)
                 }
             }
         }
@@ -82,12 +82,12 @@ impl Rule for ImplicitParts {
 
     #[tactic(auto, unfolding(crate::specs::Parts::implicit_part))]
     fn read<'a>(alloc: Global, at: Cursor<'a>) -> Reading<'a, ImplicitPart> {
-        if let Some(rest) = at.take_word(b"INTEGER") {
+        if let Some(rest) = at.parse_word(b"INTEGER") {
             return ranges(alloc, Scalar::Int, rest);
         }
-        if let Some(rest) = at.take_word(b"LOGICAL") {
+        if let Some(rest) = at.parse_word(b"LOGICAL") {
             return ranges(alloc, Scalar::Log, rest);
         }
-        Err(Unread::Syntax)
+        Err(ParseError::Syntax)
     }
 }

@@ -1,6 +1,6 @@
 //! Lists of what a rule reads, in the order of the text. Err is `Syntax` where an item or a word that has to follow is not there.
 ghost use Rattle.std.specs.Prelude.{◌≡◌, ℕ, [], length, map, option_map, codes};
-ghost use Rattle.f77_exprs.specs.State.{state, take_word, GivesAs};
+ghost use Rattle.f77_exprs.specs.State.{state, parse_word, GivesAs};
 ghost use Rattle.f77_exprs.specs.Grammar.{more_by, items_by, items, comma};
 ghost use Rattle.f77_statements.specs.Lists.{skip_comma, ending, items_left, in_parentheses, maybe_in_parentheses, maybe_after_comma};
 
@@ -43,7 +43,7 @@ impl Separator for Comma {
     ghost between = { comma };
 
     fn next<'a>(at: Cursor<'a>) -> Option<Cursor<'a>> {
-        at.take_word(b",")
+        at.parse_word(b",")
     }
 }
 
@@ -51,7 +51,7 @@ impl Separator for Comma {
 pub fn skip_comma(at: Cursor<'_>) -> Cursor<'_>
     ensures { state result ≡ skip_comma (state at.entry) }
 {
-    match at.take_word(b",") {
+    match at.parse_word(b",") {
         None => at,
         Some(rest) => rest,
     }
@@ -135,7 +135,7 @@ pub fn items_left<'a, R: Rule>(alloc: Global, at: Cursor<'a>) -> Reading<'a, Lis
 fn in_parentheses<'a, R: Rule>(alloc: Global, at: Cursor<'a>) -> Reading<'a, List<R::Value>>
     ensures { GivesAs (map R.tree) result (in_parentheses R.rule (state at.entry)) }
 {
-    match at.take_word(b")") {
+    match at.parse_word(b")") {
         Some(rest) => Ok((List::new(alloc), rest)),
         None => items_before::<R>(alloc, b")", at),
     }
@@ -149,7 +149,7 @@ pub fn maybe_in_parentheses<'a, R: Rule>(
 ) -> Reading<'a, List<R::Value>>
     ensures { GivesAs (map R.tree) result (maybe_in_parentheses R.rule (state at.entry)) }
 {
-    match at.take_word(b"(") {
+    match at.parse_word(b"(") {
         None => Ok((List::new(alloc), at)),
         Some(rest) => in_parentheses::<R>(alloc, rest),
     }
@@ -160,7 +160,7 @@ pub fn maybe_in_parentheses<'a, R: Rule>(
 pub fn maybe_after_comma<'a, R: Rule>(alloc: Global, at: Cursor<'a>) -> Reading<'a, List<R::Value>>
     ensures { GivesAs (map R.tree) result (maybe_after_comma R.rule (state at.entry)) }
 {
-    match at.take_word(b",") {
+    match at.parse_word(b",") {
         None => Ok((List::new(alloc), at)),
         Some(rest) => items::<R>(alloc, rest),
     }

@@ -144,7 +144,7 @@ impl Rule for SaveItems {
 
     #[tactic(auto, unfolding(crate::specs::Parts::save_item))]
     fn read<'a>(alloc: Global, at: Cursor<'a>) -> Reading<'a, SaveItem> {
-        match at.take_word(b"/") {
+        match at.parse_word(b"/") {
             Some(rest) => {
                 let (name, rest) = block_name(alloc, rest)?;
                 Ok((SaveItem::Block(name), rest))

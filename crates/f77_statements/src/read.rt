@@ -21,7 +21,7 @@ use crate::specifications::{
     implicit_statement, integer_statement, logical_statement, parameter_statement, save_statement,
 };
 use f77_ast::What;
-use f77_exprs::{Cursor, Reading, Unread};
+use f77_exprs::{Cursor, ParseError, Reading};
 use f77_forms::{FormId, profile_form, refused_keyword};
 use fx_lists::Text;
 use std::alloc::Global;
@@ -58,7 +58,7 @@ fn what_by(alloc: Global, form: FormId, at: Cursor<'_>) -> Reading<'_, What>
         | FormId::EndIf
         | FormId::Do
         | FormId::EndDo
-        | FormId::End => Err(Unread::Syntax),
+        | FormId::End => Err(ParseError::Syntax),
     }
 }
 
@@ -85,7 +85,7 @@ fn what_at(alloc: Global, at: Cursor<'_>) -> Reading<'_, What>
 {
     let text = Text::from_bytes(alloc, at.rest)?;
     match form_at(&text) {
-        Err(_) => Err(Unread::Syntax),
+        Err(_) => Err(ParseError::Syntax),
         Ok(form) => what_by(alloc, form, at),
     }
 }
@@ -175,8 +175,8 @@ fn verdict(found: Reading<'_, Phrase>) -> Result<Phrase, Refusal>
 {
     match found {
         Err(e) => match e {
-            Unread::Syntax => Err(Refusal::Because(Cause::Syntax)),
-            Unread::Memory => Err(Refusal::Memory),
+            ParseError::Syntax => Err(Refusal::Because(Cause::Syntax)),
+            ParseError::Memory => Err(Refusal::Memory),
         },
         Ok((phrase, at)) => {
             if !at.rest.is_empty() {

@@ -2,7 +2,7 @@
 ghost use Rattle.std.specs.Prelude.{◌≡◌};
 
 use f77_forms::Refused;
-use refusal_codes::Code;
+use fx_lists::Code;
 
 /// Why a statement is refused, in the order in which the causes are reported.
 #[derive(Clone, Copy, Debug, PartialEq, Eq)]

@@ -30,7 +30,7 @@ pub fn implicit_statement(alloc: Global, at: Cursor<'_>) -> Reading<'_, Decl>
     ensures { GivesAs decl_tree result (implicit_statement (state at.entry)) }
 {
     let at = at.need_word(b"IMPLICIT")?;
-    match at.take_word(b"NONE") {
+    match at.parse_word(b"NONE") {
         Some(rest) => Ok((Decl::Implicit(None), rest)),
         None => implicit_parts(alloc, at),
     }

@@ -2,22 +2,22 @@
 use Rattle.std.proofs.Common.{◌≡◌, ℕ, zero, suc, ◌+◌, Bool, true, false, List, [], ◌∷◌, nat_eq, nat_le, refl, sym, ap, ap₂, ◌∙◌, arith}
 use Rattle.std.specs.Prelude.{Option, None, not, ◌||◌, ◌&&◌, if◌then◌else◌}
 use Rattle.std.proofs.lemmas.Bool.Decides.{nat_tests}
-use Rattle.refusal_codes.specs.declared.code.Code.TheVariants.{BadTerminal, LabelMissing, JumpIntoBlock}
-use Rattle.refusal_codes.specs.declared.refusal.Refusal.{Refusal}
+use Rattle.fx_lists.specs.declared.code.Code.TheVariants.{BadTerminal, LabelMissing, JumpIntoBlock}
+use Rattle.fx_lists.specs.declared.refusal.Refusal.{Refusal}
 use Rattle.f77_structure.specs.declared.mark.Mark.{Mark}
 use Rattle.f77_structure.specs.declared.open.End.TheVariants as ends
 use Rattle.f77_structure.specs.declared.open.Span.{Span}
 use Rattle.f77_structure.specs.declared.blocks.Blocks.{Blocks}
 use Rattle.f77_structure.specs.declared.blocks.Landing.{Landing}
 use Rattle.f77_structure.specs.declared.blocks.Jump.{Jump}
-use Rattle.refusal_codes.specs.Refusals.{refuse_if}
+use Rattle.fx_lists.specs.Refusals.{refuse_if}
 use Rattle.f77_structure.specs.Order.{order_of}
 use Rattle.f77_structure.specs.First.{first_fault}
 use Rattle.f77_structure.specs.Nesting.{Going, Nesting, nothing, is_bad_end, over_by, after}
 use Rattle.f77_structure.specs.Checks.{fault_if, faults_by, faults_at, stands, is_reached, jump_faults, all_jump_faults, nest_faults, first_among, fault_of}
 use Rattle.f77_structure.specs.Opens.{contains}
 use Rattle.f77_structure.specs.Terminals.{spoiled_by}
-use Rattle.f77_structure.specs.Steps.{by_role, take_statement, all_stepped, nothing_open, blocks_of}
+use Rattle.f77_structure.specs.Steps.{by_role, parse_statement, all_stepped, nothing_open, blocks_of}
 use Rattle.f77_structure.specs.Jumps.{reaches, check_jump, all_judged, block_fault}
 use Rattle.f77_structure.proofs.Stands.{among-append, among-if, among-first, first-none, Stands}
 use Rattle.f77_structure.proofs.Over.{last-marks}
@@ -72,8 +72,8 @@ record Steps (at : ℕ) (m : Mark) (b c : Blocks) (n : Nesting) : Type 0 where
   nests : Nests (at + 1) c (after m n)
   found : c.found ≡ first_among (faults_at m n.blocks) b.found
 
-step : (at : ℕ) (m : Mark) (b : Blocks) (n : Nesting) → Nests at b n → Steps at m b (take_statement at m b) n
-unfolding take_statement
+step : (at : ℕ) (m : Mark) (b : Blocks) (n : Nesting) → Nests at b n → Steps at m b (parse_statement at m b) n
+unfolding parse_statement
 step at m b n t =
     let here = record b { place = at } in
     let s = last-marks at at at m.role m.label m.line here n.blocks n.lists n.labels n.jumps t in
@@ -95,13 +95,13 @@ all-nest [] at b n t =
 all-nest (m ∷ ms) at b n t =
     let s = step at m b n t in
     let rest = nest_faults (after m n) ms in
-    all-nest ms (at + 1) (take_statement at m b) (after m n) s.nests
+    all-nest ms (at + 1) (parse_statement at m b) (after m n) s.nests
     ∙ ap (first_among rest) s.found
     ∙ sym (among-append (faults_at m n.blocks) rest b.found)
 
 -- ---- the module
 
-nothing-within : (q : ℕ) → Within (span 0 ends.Open ∷ []) q (0 ∷ [])
+pub nothing-within : (q : ℕ) → Within (span 0 ends.Open ∷ []) q (0 ∷ [])
 unfolding contains
 nothing-within q zero = let least : nat_le 0 q ≡ true = grind (arith, nat_tests) in ap (λ v. v && true) least
 nothing-within q (suc k) = let apart : nat_eq 0 (suc k) ≡ false = grind (arith, nat_tests) in sym (ap (λ v. v || false) apart)

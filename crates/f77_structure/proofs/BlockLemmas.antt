@@ -6,13 +6,11 @@ use Rattle.f77_structure.specs.declared.blocks.Blocks.{Blocks}
 use Rattle.f77_structure.specs.Lists.{first_of}
 use Rattle.f77_structure.specs.Opens.{ends_at, fits}
 use Rattle.f77_structure.specs.Blocks.{left_from, left_one, ended_by, refuse_unclosed, down_to}
+use Rattle.fx_lists.proofs.Options.{some_is as same}
 
 pub more_than_none : {A : Type 0} (xs : List A) (x : A) → first_of xs ≡ Some x → 0 < length xs
 more_than_none [] x e = cc
 more_than_none (y ∷ ys) x e = omega arith
-
-same : {A : Type 0} (x y : A) → Some x ≡ Some y → x ≡ y
-same x y e = cc
 
 pub ended_by-none : (l : ℕ) (os : List Open) (b : Blocks) → first_of os ≡ None → ended_by l os b ≡ b
 ended_by-none l [] b e = refl

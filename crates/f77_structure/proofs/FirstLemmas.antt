@@ -2,13 +2,13 @@
 use Rattle.std.proofs.Common.{◌≡◌, ℕ, ◌+◌, ◌*◌, ◌<◌, ◌≤◌, Bool, true, false, List, [], ◌∷◌, refl, sym, ap, ◌∙◌, arith}
 use Rattle.std.specs.Prelude.{Option, Some, None, not, ◌&&◌, ◌||◌, nat_eq, nat_lt, if◌then◌else◌}
 use Rattle.std.proofs.lemmas.Bool.Decides.{nat_tests}
-use Rattle.refusal_codes.specs.declared.code.Code.{Code}
-use Rattle.refusal_codes.specs.declared.code.Code.TheVariants.{NonAscii, Tab, BadLabelField, ContinuationFirst, TooManyContinuations, NoEnd, Syntax, OutOfProfile, RealConstant, NumberTooBig, NameTooLong, UnclosedDo, UnclosedIf, StrayPart, BadTerminal, LabelTwice, LabelMissing, JumpIntoBlock, TooManyStatements, TooDeep, RealName, DeclaredTwice, BadDimension, BadParameter, CommonTwice, EquivalenceClash, EquivalenceExtendsBack, InitialMismatch, SubscriptCount, TypeMismatch, AssignToConstant, NotAnArray, NoMain, TwoMains, ModuleTwice, NoSuchModule, ArgumentCount, ArgumentType, Recursion, TooManyModules}
-use Rattle.refusal_codes.specs.declared.refusal.Refusal.{Refusal}
+use Rattle.fx_lists.specs.declared.code.Code.{Code}
+use Rattle.fx_lists.specs.declared.code.Code.TheVariants.{NonAscii, Tab, BadLabelField, ContinuationFirst, TooManyContinuations, NoEnd, Syntax, OutOfProfile, RealConstant, NumberTooBig, NameTooLong, UnclosedDo, UnclosedIf, StrayPart, BadTerminal, LabelTwice, LabelMissing, JumpIntoBlock, TooManyStatements, TooDeep, RealName, DeclaredTwice, BadDimension, BadParameter, CommonTwice, EquivalenceClash, EquivalenceExtendsBack, InitialMismatch, SubscriptCount, TypeMismatch, AssignToConstant, NotAnArray, NoMain, TwoMains, ModuleTwice, NoSuchModule, ArgumentCount, ArgumentType, Recursion, TooManyModules}
+use Rattle.fx_lists.specs.declared.refusal.Refusal.{Refusal}
 use Rattle.f77_structure.specs.declared.open.Span.{Span}
 use Rattle.f77_structure.specs.declared.blocks.Landing.{Landing}
 use Rattle.f77_structure.specs.declared.blocks.Jump.{Jump}
-use Rattle.refusal_codes.specs.Refusals.{number_of, code_numbered, is_before, earliest, refuse_if}
+use Rattle.fx_lists.specs.Refusals.{number_of, code_numbered, is_before, earliest, refuse_if}
 use Rattle.f77_structure.specs.Jumps.{stands, reaches, check_jump, all_judged}
 use Rattle.f77_structure.specs.First.{first_fault}
 

@@ -2,8 +2,8 @@
 use Rattle.std.proofs.Common.{◌≡◌, ℕ, ◌+◌, ◌≤◌, Bool, true, false, List, [], ◌∷◌, ◌++◌, length, nat_le, refl, sym, ap, ap₂, ◌∙◌, subst, arith, le_refl, append-nil}
 use Rattle.std.specs.Prelude.{Option, Some, None, not, ◌||◌, if◌then◌else◌}
 use Rattle.std.proofs.lemmas.List.{length-map}
-use Rattle.refusal_codes.specs.declared.code.Code.TheVariants.{UnclosedDo, UnclosedIf, StrayPart, TooDeep}
-use Rattle.refusal_codes.specs.declared.refusal.Refusal.{Refusal}
+use Rattle.fx_lists.specs.declared.code.Code.TheVariants.{UnclosedDo, UnclosedIf, StrayPart, TooDeep}
+use Rattle.fx_lists.specs.declared.refusal.Refusal.{Refusal}
 use Rattle.f77_structure.specs.declared.mark.Action.{Action}
 use Rattle.f77_structure.specs.declared.mark.Action.TheVariants.{Goto, Return, Stop, Other}
 use Rattle.f77_structure.specs.declared.mark.Role.{Role}
@@ -16,20 +16,20 @@ use Rattle.f77_structure.specs.declared.open.Open.{Open}
 use Rattle.f77_structure.specs.declared.blocks.Blocks.{Blocks}
 use Rattle.f77_structure.specs.declared.blocks.Landing.{Landing}
 use Rattle.f77_structure.specs.Lists.{first_of}
-use Rattle.refusal_codes.specs.Refusals.{refuse_if}
+use Rattle.fx_lists.specs.Refusals.{refuse_if}
 use Rattle.f77_structure.specs.Marks.{label_by}
 use Rattle.f77_structure.specs.Kinds.{ends_at, is_if, is_else, fits}
 use Rattle.f77_structure.specs.Nesting.{Block, Going, lists_of, list_of, is_within, innermost, inside, first_divisible, is_divisible, past_label, without, next_list, divide, begin, begins, at_label, blocks_after, label_in_list, going, goings}
 use Rattle.f77_structure.specs.Checks.{fault_if, unclosed_all, too_deep, part_faults, end_faults, faults_by, first_among}
 use Rattle.f77_structure.specs.Opens.{within_if, within_do}
-use Rattle.f77_structure.specs.Blocks.{leave_innermost, left_one, left_from, ended_by, refuse_unclosed, down_to, push_block, enter_block, stray, add_landing, take_executable, keep_jump}
+use Rattle.f77_structure.specs.Blocks.{leave_innermost, left_one, left_from, ended_by, refuse_unclosed, down_to, push_block, enter_block, stray, add_landing, parse_executable, keep_jump}
 use Rattle.f77_structure.specs.Steps.{next_arm, divided_in, part, end_block, by_role}
 use Rattle.f77_structure.proofs.Stands.{among-append, among-if, within_if-is, within_do-is, Stands, wanted, other_fault, later, left-stands, down-stands, ends-stands, lands-stands, no-jump, jumps-stands, stood-stands, push-stands}
 use Rattle.f77_structure.proofs.Shown.{plain, blocks_in}
 
 -- ---- what adds no fault
 
-left-found : (os : List Open) (b : Blocks) → (left_from os b).found ≡ b.found
+pub left-found : (os : List Open) (b : Blocks) → (left_from os b).found ≡ b.found
 left-found [] b = refl
 left-found (o ∷ os) b = refl
 
@@ -45,8 +45,8 @@ pub landed-found : (label : Option ℕ) (b : Blocks) → (add_landing label b).f
 landed-found None b = refl
 landed-found (Some l) b = refl
 
-pub stood-found : (label : Option ℕ) (b : Blocks) → (take_executable label b).found ≡ b.found
-unfolding take_executable
+pub stood-found : (label : Option ℕ) (b : Blocks) → (parse_executable label b).found ≡ b.found
+unfolding parse_executable
 stood-found None b = refl
 stood-found (Some l) b = ended_by-found l b.stack (add_landing (Some l) b)
 
@@ -177,10 +177,10 @@ module _ (at line : ℕ) (b : Blocks) (os : List Block) (lists : ℕ) (labels : 
   nothing-more : (n : ℕ) (c : Blocks) (qs : List Block) (k : ℕ) → n ≤ at + 1 → Stands at n (at + 1) c qs k labels jumps → Stands at (at + 1) (at + 1) c qs k (labels ++ []) (jumps ++ [])
   nothing-more n c qs k l u = no-jump at (at + 1) (at + 1) c qs k (labels ++ []) jumps (lands-stands at None (at + 1) (at + 1) c qs k labels jumps (later at n (at + 1) (at + 1) (at + 1) c qs k labels jumps l (le_refl (at + 1)) u))
 
-  simply : (label : Option ℕ) (a : Action) → Stands at (at + 1) (at + 1) (take_executable label (keep_jump a line b)) (past_label label os) lists (labels ++ label_in_list label (list_of os)) (jumps ++ going a line (lists_of os))
+  simply : (label : Option ℕ) (a : Action) → Stands at (at + 1) (at + 1) (parse_executable label (keep_jump a line b)) (past_label label os) lists (labels ++ label_in_list label (list_of os)) (jumps ++ going a line (lists_of os))
   simply label a = stood-stands at label (keep_jump a line b) os lists labels (jumps ++ going a line (lists_of os)) (jumps-stands at a line b os lists labels jumps t)
 
-  simply-found : (label : Option ℕ) (a : Action) → (take_executable label (keep_jump a line b)).found ≡ b.found
+  simply-found : (label : Option ℕ) (a : Action) → (parse_executable label (keep_jump a line b)).found ≡ b.found
   simply-found label a = stood-found label (keep_jump a line b) ∙ jumped-found a line b
 
   enters : (kind : Kind) (label : Option ℕ)
@@ -233,11 +233,11 @@ module _ (at line : ℕ) (b : Blocks) (os : List Block) (lists : ℕ) (labels : 
       let rest = without sought.BlockIf os in
       let more = labels ++ label_in_list label (list_of rest) in
       record {
-        stands = no-jump at (at + 1) (at + 1) (take_executable label c) (past_label label rest) lists more jumps (stood-stands at label c rest lists labels jumps u);
+        stands = no-jump at (at + 1) (at + 1) (parse_executable label c) (past_label label rest) lists more jumps (stood-stands at label c rest lists labels jumps u);
         found = stood-found label c ∙ ends-found sought.BlockIf within line b os t.blocks same;
       }
   role-does EndDo label =
-      let c = take_executable label b in
+      let c = parse_executable label b in
       let rest = past_label label os in
       let more = labels ++ label_in_list label (list_of os) in
       let u = stood-stands at label b os lists labels jumps now in
@@ -248,7 +248,7 @@ module _ (at line : ℕ) (b : Blocks) (os : List Block) (lists : ℕ) (labels : 
         found = ends-found sought.PlainDo within line c rest u.blocks same ∙ ap (first_among (end_faults sought.PlainDo line rest)) (stood-found label b);
       }
   role-does End label =
-      let c = take_executable label b in
+      let c = parse_executable label b in
       let rest = past_label label os in
       let more = labels ++ label_in_list label (list_of os) in
       let u = stood-stands at label b os lists labels jumps now in

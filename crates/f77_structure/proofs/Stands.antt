@@ -1,9 +1,9 @@
 -- The blocks of the code are those of the definition, statement by statement, and so are the faults.
 use Rattle.std.proofs.Common.{◌≡◌, ℕ, ◌+◌, ◌≤◌, Bool, true, false, List, [], ◌∷◌, ◌++◌, slice_set, refl, sym, ap, ◌∙◌, subst, arith, le_refl, append-nil, length-append, length-set}
 use Rattle.std.specs.Prelude.{Option, Some, None, ◌||◌, if◌then◌else◌}
-use Rattle.refusal_codes.specs.declared.code.Code.{Code}
-use Rattle.refusal_codes.specs.declared.code.Code.TheVariants.{StrayPart}
-use Rattle.refusal_codes.specs.declared.refusal.Refusal.{Refusal}
+use Rattle.fx_lists.specs.declared.code.Code.{Code}
+use Rattle.fx_lists.specs.declared.code.Code.TheVariants.{StrayPart}
+use Rattle.fx_lists.specs.declared.refusal.Refusal.{Refusal}
 use Rattle.f77_structure.specs.declared.mark.Action.{Action}
 use Rattle.f77_structure.specs.declared.mark.Action.TheVariants.{Goto, Return, Stop, Other}
 use Rattle.f77_structure.specs.declared.open.Kind.{Kind}
@@ -14,13 +14,13 @@ use Rattle.f77_structure.specs.declared.open.End.TheVariants as ends
 use Rattle.f77_structure.specs.declared.blocks.Blocks.{Blocks}
 use Rattle.f77_structure.specs.declared.blocks.Landing.{Landing}
 use Rattle.f77_structure.specs.Lists.{first_of}
-use Rattle.refusal_codes.specs.Refusals.{refuse_if}
+use Rattle.fx_lists.specs.Refusals.{refuse_if}
 use Rattle.f77_structure.specs.First.{first_fault}
 use Rattle.f77_structure.specs.Kinds.{ends_at, is_if, fits}
 use Rattle.f77_structure.specs.Nesting.{Block, Going, lists_of, list_of, is_within, innermost, outside, past, past_label, without, begin, label_in_list, going}
 use Rattle.f77_structure.specs.Checks.{fault_if, first_among}
 use Rattle.f77_structure.specs.Opens.{within_if, within_do}
-use Rattle.f77_structure.specs.Blocks.{leave_innermost, left_one, left_from, ended_by, refuse_unclosed, down_to, push_block, stray, list_at, add_landing, take_executable, keep_jump}
+use Rattle.f77_structure.specs.Blocks.{leave_innermost, left_one, left_from, ended_by, refuse_unclosed, down_to, push_block, stray, list_at, add_landing, parse_executable, keep_jump}
 use Rattle.f77_structure.specs.Steps.{end_block}
 use Rattle.f77_structure.proofs.FirstLemmas.{refuse_if-first}
 use Rattle.f77_structure.proofs.Places.{more-last}
@@ -224,8 +224,8 @@ module _ (at : ℕ) where
       }
 
   pub stood-stands : (label : Option ℕ) (b : Blocks) (os : List Block) (lists : ℕ) (labels : List Landing) (jumps : List Going) → Stands at (at + 1) (at + 1) b os lists labels jumps
-      → Stands at (at + 1) (at + 1) (take_executable label b) (past_label label os) lists (labels ++ label_in_list label (list_of os)) jumps
-  unfolding take_executable
+      → Stands at (at + 1) (at + 1) (parse_executable label b) (past_label label os) lists (labels ++ label_in_list label (list_of os)) jumps
+  unfolding parse_executable
   stood-stands None b os lists labels jumps t = lands-stands None (at + 1) (at + 1) b os lists labels jumps t
   stood-stands (Some l) b os lists labels jumps t =
       let c = add_landing (Some l) b in

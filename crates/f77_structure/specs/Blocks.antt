@@ -1,7 +1,7 @@
 -- The blocks of a module, as its statements open and close them.
 use Rattle.std.specs.Prelude.{ℕ, true, false, not, nat_le, List, [], ◌∷◌, ◌++◌, length, slice_set, Option, Some, None, if◌then◌else◌}
-use Rattle.refusal_codes.specs.declared.code.Code.TheVariants.{UnclosedDo, UnclosedIf, StrayPart, TooDeep}
-use Rattle.refusal_codes.specs.declared.refusal.Refusal.{Refusal}
+use Rattle.fx_lists.specs.declared.code.Code.TheVariants.{UnclosedDo, UnclosedIf, StrayPart, TooDeep}
+use Rattle.fx_lists.specs.declared.refusal.Refusal.{Refusal}
 use Rattle.f77_structure.specs.declared.mark.Action.{Action}
 use Rattle.f77_structure.specs.declared.mark.Action.TheVariants.{Goto, Return, Stop, Other}
 use Rattle.f77_structure.specs.declared.open.Kind.{Kind}
@@ -10,7 +10,7 @@ use Rattle.f77_structure.specs.declared.open.Open.{Open}
 use Rattle.f77_structure.specs.declared.open.End.TheVariants as ends
 use Rattle.f77_structure.specs.declared.open.Span.{Span}
 use Rattle.f77_structure.specs.declared.blocks.Blocks.{Blocks}
-use Rattle.refusal_codes.specs.Refusals.{refuse_if}
+use Rattle.fx_lists.specs.Refusals.{refuse_if}
 use Rattle.f77_structure.specs.Lists.{first_of}
 use Rattle.f77_structure.specs.Opens.{ends_at, is_if, fits, within_if, within_do}
 
@@ -93,8 +93,8 @@ ended_at None b = b
 ended_at (Some l) b = ended_by l b.stack b
 
 -- an executable statement that opens no block ends the DOs to its label
-unfoldable pub take_executable : Option ℕ → Blocks → Blocks
-take_executable label b = ended_at label (add_landing label b)
+unfoldable pub parse_executable : Option ℕ → Blocks → Blocks
+parse_executable label b = ended_at label (add_landing label b)
 
 -- a GO TO is judged when the module was read
 abbrev pub keep_jump : Action → ℕ → Blocks → Blocks

@@ -1,16 +1,16 @@
 -- The faults of a module.
 use Rattle.std.specs.Prelude.{ℕ, Bool, true, not, ◌||◌, nat_eq, nat_le, List, [], ◌∷◌, ◌++◌, length, Option, if◌then◌else◌}
 use Rattle.std.specs.List.{list_any, list_all}
-use Rattle.refusal_codes.specs.declared.code.Code.{Code}
-use Rattle.refusal_codes.specs.declared.code.Code.TheVariants.{UnclosedDo, UnclosedIf, StrayPart, BadTerminal, LabelMissing, JumpIntoBlock, TooDeep}
-use Rattle.refusal_codes.specs.declared.refusal.Refusal.{Refusal}
+use Rattle.fx_lists.specs.declared.code.Code.{Code}
+use Rattle.fx_lists.specs.declared.code.Code.TheVariants.{UnclosedDo, UnclosedIf, StrayPart, BadTerminal, LabelMissing, JumpIntoBlock, TooDeep}
+use Rattle.fx_lists.specs.declared.refusal.Refusal.{Refusal}
 use Rattle.f77_structure.specs.declared.mark.Role.{Role}
 use Rattle.f77_structure.specs.declared.mark.Role.TheVariants.{BlockIf, ElseIf, Else, EndIf, Do, EndDo, End}
 use Rattle.f77_structure.specs.declared.mark.Mark.{Mark}
 use Rattle.f77_structure.specs.declared.open.Sought.{Sought}
 use Rattle.f77_structure.specs.declared.open.Sought.TheVariants as sought
 use Rattle.f77_structure.specs.declared.blocks.Landing.{Landing}
-use Rattle.refusal_codes.specs.Refusals.{refuse_if}
+use Rattle.fx_lists.specs.Refusals.{refuse_if}
 use Rattle.f77_structure.specs.Kinds.{is_if}
 use Rattle.f77_structure.specs.Nesting.{Block, Going, Nesting, nothing, is_within, inside, is_divisible, is_bad_end, over_by, past_label, after}
 use Rattle.f77_structure.specs.Order.{order_of}

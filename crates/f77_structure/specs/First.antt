@@ -1,7 +1,7 @@
 -- The first of two faults.
 use Rattle.std.specs.Prelude.{true, Option, Some, None}
-use Rattle.refusal_codes.specs.declared.refusal.Refusal.{Refusal}
-use Rattle.refusal_codes.specs.Refusals.{refuse_if}
+use Rattle.fx_lists.specs.declared.refusal.Refusal.{Refusal}
+use Rattle.fx_lists.specs.Refusals.{refuse_if}
 
 -- the first of two faults
 abbrev pub first_fault : Option Refusal → Option Refusal → Option Refusal

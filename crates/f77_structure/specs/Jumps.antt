@@ -1,13 +1,13 @@
 -- Where the GO TOs of a module lead (ANSI X3.9-1978 §11.1).
 use Rattle.std.specs.Prelude.{ℕ, Bool, true, false, not, ◌||◌, nat_eq, List, [], ◌∷◌, slice_get, Option, Some, None, if◌then◌else◌}
 use Rattle.std.specs.List.{list_all}
-use Rattle.refusal_codes.specs.declared.code.Code.TheVariants.{LabelMissing, JumpIntoBlock}
-use Rattle.refusal_codes.specs.declared.refusal.Refusal.{Refusal}
+use Rattle.fx_lists.specs.declared.code.Code.TheVariants.{LabelMissing, JumpIntoBlock}
+use Rattle.fx_lists.specs.declared.refusal.Refusal.{Refusal}
 use Rattle.f77_structure.specs.declared.open.Span.{Span}
 use Rattle.f77_structure.specs.declared.blocks.Blocks.{Blocks}
 use Rattle.f77_structure.specs.declared.blocks.Landing.{Landing}
 use Rattle.f77_structure.specs.declared.blocks.Jump.{Jump}
-use Rattle.refusal_codes.specs.Refusals.{refuse_if}
+use Rattle.fx_lists.specs.Refusals.{refuse_if}
 use Rattle.f77_structure.specs.Opens.{contains}
 pub use Rattle.f77_structure.specs.Checks.{stands}
 

@@ -13,7 +13,7 @@ use Rattle.f77_structure.specs.declared.blocks.Blocks.{Blocks}
 use Rattle.f77_structure.specs.Lists.{first_of}
 pub use Rattle.f77_structure.specs.Kinds.{is_else}
 use Rattle.f77_structure.specs.Opens.{within_if, within_do}
-use Rattle.f77_structure.specs.Blocks.{leave_innermost, down_to, push_block, enter_block, stray, add_landing, take_executable, keep_jump}
+use Rattle.f77_structure.specs.Blocks.{leave_innermost, down_to, push_block, enter_block, stray, add_landing, parse_executable, keep_jump}
 use Rattle.f77_structure.specs.Terminals.{spoiled_by}
 
 -- the innermost block, an IF, goes on with another list; nothing follows its ELSE but END IF
@@ -49,24 +49,24 @@ abbrev pub by_role : Role → Option ℕ → ℕ → Blocks → Blocks
 by_role Program label line b = b
 by_role Subroutine label line b = b
 by_role Specification label line b = b
-by_role (Plain a) label line b = take_executable label (keep_jump a line b)
-by_role (LogicalIf a) label line b = take_executable label (keep_jump a line b)
+by_role (Plain a) label line b = parse_executable label (keep_jump a line b)
+by_role (LogicalIf a) label line b = parse_executable label (keep_jump a line b)
 by_role BlockIf label line b = enter_block kinds.If line (add_landing label b)
 by_role ElseIf label line b = part kinds.If line b
 by_role Else label line b = part kinds.Else line b
-by_role EndIf label line b = take_executable label (ended_if line b)
+by_role EndIf label line b = parse_executable label (ended_if line b)
 by_role (Do t) label line b = enter_block (kinds.Do t) line (add_landing label b)
-by_role EndDo label line b = ended_do line (take_executable label b)
-by_role End label line b = ended_module (take_executable label b)
+by_role EndDo label line b = ended_do line (parse_executable label b)
+by_role End label line b = ended_module (parse_executable label b)
 
 -- the statement at a place
-unfoldable pub take_statement : ℕ → Mark → Blocks → Blocks
-take_statement place m b = by_role m.role m.label m.line (spoiled_by m.role m.label m.line (record b { place = place }))
+unfoldable pub parse_statement : ℕ → Mark → Blocks → Blocks
+parse_statement place m b = by_role m.role m.label m.line (spoiled_by m.role m.label m.line (record b { place = place }))
 
 -- these statements, the first at a place
 abbrev pub all_stepped : ℕ → List Mark → Blocks → Blocks
 all_stepped place [] b = b
-all_stepped place (m ∷ ms) b = all_stepped (place + 1) ms (take_statement place m b)
+all_stepped place (m ∷ ms) b = all_stepped (place + 1) ms (parse_statement place m b)
 
 -- before the first statement only the list of the module itself is there
 abbrev pub nothing_open : Blocks

@@ -1,11 +1,11 @@
 -- Labelled DOs that end at a statement that may not end one (ANSI X3.9-1978 §11.10).
 use Rattle.std.specs.Prelude.{ℕ, Bool, true, false, List, [], ◌∷◌, Option, Some, None, if◌then◌else◌}
-use Rattle.refusal_codes.specs.declared.code.Code.TheVariants.{BadTerminal}
+use Rattle.fx_lists.specs.declared.code.Code.TheVariants.{BadTerminal}
 use Rattle.f77_structure.specs.declared.mark.Role.{Role}
 use Rattle.f77_structure.specs.declared.open.Open.{Open}
 use Rattle.f77_structure.specs.declared.blocks.Blocks.{Blocks}
 use Rattle.f77_structure.specs.Lists.{first_of}
-use Rattle.refusal_codes.specs.Refusals.{refuse_if}
+use Rattle.fx_lists.specs.Refusals.{refuse_if}
 use Rattle.f77_structure.specs.Opens.{is_if, can_spoil}
 pub use Rattle.f77_structure.specs.LastStatements.{is_forbidden, is_part}
 

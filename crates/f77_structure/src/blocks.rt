@@ -2,13 +2,12 @@
 //! the module from 0, places of lists are those in `Blocks::spans`.
 ghost use Rattle.std.specs.Prelude.{◌≡◌, ◌<◌, ◌≤◌, ◌+◌, ◌-◌, ◌^◌, length, IfOk};
 ghost use Rattle.f77_structure.specs.Lists.{first_of};
-ghost use Rattle.f77_structure.specs.Blocks.{close_list, leave_innermost, ended_by, refuse_unclosed, down_to, push_block, enter_block, stray, list_at, add_landing, take_executable, keep_jump};
+ghost use Rattle.f77_structure.specs.Blocks.{close_list, leave_innermost, ended_by, refuse_unclosed, down_to, push_block, enter_block, stray, list_at, add_landing, parse_executable, keep_jump};
 
 use crate::mark::Action;
 use crate::open::{End, Kind, Open, Sought, Span, within_do, within_if};
 use crate::stack::Stack;
-use fx_lists::List;
-use refusal_codes::{Code, Refusal, refuse_if};
+use fx_lists::{Code, List, Refusal, refuse_if};
 use std::alloc::AllocError as Memory;
 
 /// How deep blocks, and parentheses, may be nested.
@@ -234,9 +233,9 @@ pub fn add_landing(blocks: Blocks, label: Option<u32>) -> Result<Blocks, Memory>
 }
 
 /// Records the label of an executable statement that opens no block, and ends the DOs whose last statement it is.
-#[tactic(auto, unfolding(crate::specs::Blocks::take_executable))]
-pub fn take_executable(blocks: Blocks, label: Option<u32>) -> Result<Blocks, Memory>
-    ensures { IfOk result (λ b. b ≡ take_executable label blocks) }
+#[tactic(auto, unfolding(crate::specs::Blocks::parse_executable))]
+pub fn parse_executable(blocks: Blocks, label: Option<u32>) -> Result<Blocks, Memory>
+    ensures { IfOk result (λ b. b ≡ parse_executable label blocks) }
 {
     let blocks = add_landing(blocks, label)?;
     match label {

@@ -10,7 +10,7 @@ use crate::jumps::all_judged;
 use crate::mark::Mark;
 use crate::order::order_fault;
 use crate::steps::blocks_of;
-use refusal_codes::Refusal;
+use fx_lists::Refusal;
 use std::alloc::{AllocError as Memory, Global};
 
 /// The first of a fault and those of the blocks and of the GO TOs.

@@ -5,7 +5,7 @@ ghost use Rattle.f77_structure.specs.Jumps.{has_place, stands, reaches, check_ju
 use crate::blocks::{Jump, Landing};
 use crate::first::may_be_first;
 use crate::open::Span;
-use refusal_codes::{Code, Refusal, refuse_if};
+use fx_lists::{Code, Refusal, refuse_if};
 
 /// Whether a list contains the statement at a place.
 fn has_place(spans: &[Span], list: usize, place: usize) -> bool

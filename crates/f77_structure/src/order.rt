@@ -1,12 +1,11 @@
 //! The order of the statements of a module, how many there are, and their labels.
 ghost use Rattle.std.specs.Prelude.{◌≡◌, ◌<◌, ◌≤◌, ◌+◌, ◌*◌, ◌^◌, length, IfOk};
-ghost use Rattle.refusal_codes.specs.Refusals.{refuse_if};
+ghost use Rattle.fx_lists.specs.Refusals.{refuse_if};
 ghost use Rattle.f77_structure.specs.Order.{is_out_of_order, is_main_after, keep_label, check_next, order_of, has_label};
 
 use crate::first::may_be_first;
 use crate::mark::{Mark, Role, label_in, returns_in, statements_in};
-use fx_lists::List;
-use refusal_codes::{Code, Refusal, refuse_if};
+use fx_lists::{Code, List, Refusal, refuse_if};
 use std::alloc::{AllocError as Memory, Global};
 
 /// How many executable statements a module may have.

@@ -1,11 +1,11 @@
 //! What one statement changes of the blocks of its module.
 ghost use Rattle.std.specs.Prelude.{◌≡◌, IfOk};
 ghost use Rattle.f77_structure.specs.Lists.{first_of};
-ghost use Rattle.f77_structure.specs.Steps.{is_else, next_arm, part, end_block, by_role, take_statement, blocks_of};
+ghost use Rattle.f77_structure.specs.Steps.{is_else, next_arm, part, end_block, by_role, parse_statement, blocks_of};
 
 use crate::blocks::{
-    Blocks, add_landing, down_to, enter_block, keep_jump, leave_innermost, push_block, stray,
-    take_executable,
+    Blocks, add_landing, down_to, enter_block, keep_jump, leave_innermost, parse_executable,
+    push_block, stray,
 };
 use crate::mark::{Mark, Role};
 use crate::open::{End, Kind, Sought, Span, within_do, within_if};
@@ -69,7 +69,7 @@ fn by_role(blocks: Blocks, mark: Mark) -> Result<Blocks, Memory>
     match mark.role {
         Role::Program | Role::Subroutine | Role::Specification => Ok(blocks),
         Role::Plain(action) | Role::LogicalIf(action) => {
-            take_executable(keep_jump(blocks, action, line)?, label)
+            parse_executable(keep_jump(blocks, action, line)?, label)
         }
         Role::BlockIf => enter_block(add_landing(blocks, label)?, Kind::If, line),
         Role::Do(end) => enter_block(add_landing(blocks, label)?, Kind::Do(end), line),
@@ -77,21 +77,26 @@ fn by_role(blocks: Blocks, mark: Mark) -> Result<Blocks, Memory>
         Role::Else => part(blocks, Kind::Else, line),
         Role::EndIf => {
             let within = within_if(blocks.stack.first());
-            take_executable(end_block(blocks, Sought::BlockIf, within, line), label)
+            parse_executable(end_block(blocks, Sought::BlockIf, within, line), label)
         }
         Role::EndDo => {
-            let blocks = take_executable(blocks, label)?;
+            let blocks = parse_executable(blocks, label)?;
             let within = within_do(blocks.stack.first());
             Ok(end_block(blocks, Sought::PlainDo, within, line))
         }
-        Role::End => Ok(down_to(take_executable(blocks, label)?, Sought::Neither)),
+        Role::End => Ok(down_to(parse_executable(blocks, label)?, Sought::Neither)),
     }
 }
 
 /// The statement at a place.
-#[tactic(auto, unfolding(crate::specs::Steps::take_statement))]
-fn take_statement(alloc: Global, blocks: Blocks, place: usize, mark: Mark) -> Result<Blocks, Memory>
-    ensures { IfOk result (λ b. b ≡ take_statement place mark blocks) }
+#[tactic(auto, unfolding(crate::specs::Steps::parse_statement))]
+fn parse_statement(
+    alloc: Global,
+    blocks: Blocks,
+    place: usize,
+    mark: Mark,
+) -> Result<Blocks, Memory>
+    ensures { IfOk result (λ b. b ≡ parse_statement place mark blocks) }
 {
     let blocks = Blocks { place, ..blocks };
     by_role(spoiled_by(alloc, blocks, mark)?, mark)
@@ -118,7 +123,7 @@ pub fn blocks_of(alloc: Global, marks: &[Mark]) -> Result<Blocks, Memory>
     let mut place = 0;
     let mut rest = marks;
     while let [mark, more @ ..] = rest {
-        blocks = take_statement(alloc, blocks, place, *mark)?;
+        blocks = parse_statement(alloc, blocks, place, *mark)?;
         place += 1;
         rest = more;
     }

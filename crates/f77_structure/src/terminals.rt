@@ -6,7 +6,7 @@ use crate::blocks::Blocks;
 use crate::mark::{Action, Mark, Role};
 use crate::open::Open;
 use crate::stack::Stack;
-use refusal_codes::{Code, refuse_if};
+use fx_lists::{Code, refuse_if};
 use std::alloc::{AllocError as Memory, Global};
 
 /// Puts blocks that were taken off, the last one first, back on the others.

@@ -1,9 +1,7 @@
 -- Lemmas on labels.
 use Rattle.std.proofs.Common.{◌≡◌, ℕ, suc, zero, ◌<◌, ◌≤◌, ◌+◌, ◌*◌, ◌^◌, arith, add-one}
 use Rattle.std.proofs.Math.Nat.{pow-succ'}
-
-pub power-more : (i : ℕ) → 10 ^ (i + 1) ≡ 10 * 10 ^ i
-power-more i = rw add-one (pow-succ' 10 i)
+use Rattle.fx_lists.proofs.Numbers.{power-more}
 
 -- a label has at most five digits
 pub power-small : (i : ℕ) → i < 5 → 10 ^ i ≤ 10000

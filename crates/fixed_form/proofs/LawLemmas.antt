@@ -6,7 +6,7 @@ use Rattle.std.proofs.lemmas.List.Elements.{All-nil, All-cons}
 use Rattle.std.proofs.lemmas.List.Kept.{AllPairs-cons}
 use Rattle.std.specs.Prelude.{unwrap_or, is_some, IfSome, IfOk, All}
 use Rattle.std.specs.List.{list_all}
-use Rattle.refusal_codes.specs.declared.code.Code.{Code}
+use Rattle.fx_lists.specs.declared.code.Code.{Code}
 use Rattle.fixed_form.specs.declared.label.LabelField.TheVariants.{Blank, Label, Bad}
 use Rattle.fixed_form.specs.declared.line.Line.{Line}
 use Rattle.fixed_form.specs.declared.line.Lines.{Lines}
@@ -25,7 +25,7 @@ abbrev pub most : ℕ → ℕ → ℕ
 most zero v = v
 most (suc k) v = most k (10 * v + 9)
 
-most-le : (k v w : ℕ) → v ≤ w → most k v ≤ most k w
+pub most-le : (k v w : ℕ) → v ≤ w → most k v ≤ most k w
 most-le zero v w h = h
 most-le (suc k) v w h = most-le k (10 * v + 9) (10 * w + 9) (omega arith)
 
@@ -40,7 +40,7 @@ other-marks : (p q : Bool) → (p && q) ≡ true → q ≡ true
 other-marks true q h = h
 other-marks false q h = cc
 
-number_from-le : (v : ℕ) (bs : List ℕ) → list_all is_label_mark bs ≡ true → number_from v bs ≤ most (length bs) v
+pub number_from-le : (v : ℕ) (bs : List ℕ) → list_all is_label_mark bs ≡ true → number_from v bs ≤ most (length bs) v
 number_from-le v [] h = omega arith
 number_from-le v (b ∷ bs) h =
     let digit = digit-le v b (first-mark (is_label_mark b) (list_all is_label_mark bs) h) in
@@ -48,7 +48,7 @@ number_from-le v (b ∷ bs) h =
     let more = most-le (length bs) _ _ digit in
     omega (arith, rest, more)
 
-most-small : (k : ℕ) → k ≤ 5 → most k 0 ≤ 99999
+pub most-small : (k : ℕ) → k ≤ 5 → most k 0 ≤ 99999
 most-small zero h = omega arith
 most-small (suc zero) h = omega arith
 most-small (suc (suc zero)) h = omega arith
@@ -146,7 +146,7 @@ rest-fine (l ∷ ls) n m h =
 
 -- Lines are no more than characters
 
-length-onto_first : (b : ℕ) (ls : List (List ℕ)) → length (onto_first b ls) ≤ length ls + 1
+pub length-onto_first : (b : ℕ) (ls : List (List ℕ)) → length (onto_first b ls) ≤ length ls + 1
 length-onto_first b [] = omega arith
 length-onto_first b (l ∷ ls) = omega arith
 
@@ -154,7 +154,7 @@ length-choice : (t : Bool) (b : ℕ) (ls : List (List ℕ)) (k : ℕ) → length
 length-choice true b ls k h = omega arith
 length-choice false b ls k h = omega (arith, length-onto_first b ls)
 
-length-lines_of : (text : List ℕ) → length (lines_of text) ≤ length text
+pub length-lines_of : (text : List ℕ) → length (lines_of text) ≤ length text
 length-lines_of [] = omega arith
 length-lines_of (b ∷ bs) = omega (arith, length-choice (nat_eq b 10) b (lines_of bs) (length bs) (length-lines_of bs))
 

@@ -6,3 +6,5 @@ pub mod Ends
 pub mod Joining
 pub mod Pass
 pub mod LawLemmas
+pub mod PieceEnds
+pub mod Joined

@@ -1,8 +1,8 @@
 -- One line more of the pass over a text.
 use Rattle.std.proofs.Common.{◌≡◌, ℕ, ◌+◌, ◌<◌, ◌≤◌, List, [], ◌∷◌, ◌++◌, length, refl, ap, sym, ◌∙◌, arith, Option, Some, None, Bool, true, false, if◌then◌else◌, Result, Err}
 use Rattle.std.specs.Prelude.{option_map}
-use Rattle.refusal_codes.specs.declared.code.Code.{Code}
-use Rattle.refusal_codes.specs.declared.code.Code.TheVariants.{NonAscii, Tab, BadLabelField}
+use Rattle.fx_lists.specs.declared.code.Code.{Code}
+use Rattle.fx_lists.specs.declared.code.Code.TheVariants.{NonAscii, Tab, BadLabelField}
 use Rattle.fixed_form.specs.declared.line.Line.{Line}
 use Rattle.fixed_form.specs.declared.line.Lines.{Lines}
 use Rattle.fixed_form.specs.declared.line.ReadRefusal.{ReadRefusal}
@@ -12,7 +12,7 @@ use Rattle.fixed_form.specs.declared.progress.Progress.{Progress}
 use Rattle.fixed_form.specs.TextLines.{text_lines, without_returns}
 use Rattle.fixed_form.specs.Cards.{is_comment, is_dropped, card, is_initial, columns}
 use Rattle.fixed_form.specs.Body.{quoted_after}
-use Rattle.refusal_codes.specs.Refusals.{number_of}
+use Rattle.fx_lists.specs.Refusals.{number_of}
 use Rattle.fixed_form.specs.Faults.{fault_of, continuation_fault, continuations_of, is_quoted, begun_behind, or_later, first_fault}
 use Rattle.fixed_form.specs.Reading.{Rest, with_comment, with_initial, with_continuation, with_line, rest_from, outcome, reading, Gives}
 use Rattle.fixed_form.specs.Steps.{first_line, after_line, begun_of, keep_comment, initial, continuing, continuation, step, line_fault, line_step, outcome_at, Takes}

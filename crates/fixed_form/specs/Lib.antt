@@ -6,3 +6,5 @@ pub mod Faults
 pub mod Reading
 pub mod Laws
 pub mod Steps
+pub mod Cuts
+pub mod Pieces

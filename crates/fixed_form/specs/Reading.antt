@@ -2,8 +2,8 @@
 use Rattle.std.specs.Prelude.{◌≡◌, ℕ, ◌+◌, List, [], ◌∷◌, ◌++◌, length, Option, Some, None, Result, Ok, Err, Bool, true, false, if◌then◌else◌, is_some, unwrap_or, bytes_eq, codes}
 use Rattle.fixed_form.specs.declared.label.LabelField.{LabelField}
 use Rattle.fixed_form.specs.declared.label.LabelField.TheVariants.{Blank, Label, Bad}
-use Rattle.refusal_codes.specs.declared.code.Code.{Code}
-use Rattle.refusal_codes.specs.declared.code.Code.TheVariants.{NoEnd}
+use Rattle.fx_lists.specs.declared.code.Code.{Code}
+use Rattle.fx_lists.specs.declared.code.Code.TheVariants.{NoEnd}
 use Rattle.fixed_form.specs.declared.line.Line.{Line}
 use Rattle.fixed_form.specs.declared.line.Lines.{Lines}
 use Rattle.fixed_form.specs.declared.line.ReadRefusal.{ReadRefusal}
@@ -11,7 +11,7 @@ use Rattle.fixed_form.specs.declared.line.ReadRefusal.TheVariants.{At, Memory}
 use Rattle.fixed_form.specs.TextLines.{text_lines}
 use Rattle.fixed_form.specs.Cards.{is_comment, is_dropped, card, columns, is_initial, label_field}
 use Rattle.fixed_form.specs.Body.{stripped}
-use Rattle.refusal_codes.specs.Refusals.{number_of}
+use Rattle.fx_lists.specs.Refusals.{number_of}
 use Rattle.fixed_form.specs.Faults.{first_fault}
 
 -- what the lines from some line on give: first what they add to a statement begun before them

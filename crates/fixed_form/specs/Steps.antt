@@ -1,7 +1,7 @@
 -- What one line changes of what was read before it: cited by private functions alone.
 use Rattle.std.specs.Prelude.{◌≡◌, ℕ, ◌+◌, List, [], ◌∷◌, ◌++◌, Option, Some, None, option_map, Result, Ok, Err, false, if◌then◌else◌, nat_eq}
-use Rattle.refusal_codes.specs.declared.code.Code.{Code}
-use Rattle.refusal_codes.specs.declared.code.Code.TheVariants.{NoEnd}
+use Rattle.fx_lists.specs.declared.code.Code.{Code}
+use Rattle.fx_lists.specs.declared.code.Code.TheVariants.{NoEnd}
 use Rattle.fixed_form.specs.declared.fault.Begun.{Begun}
 use Rattle.fixed_form.specs.declared.line.Line.{Line}
 use Rattle.fixed_form.specs.declared.line.Lines.{Lines}
@@ -12,7 +12,7 @@ use Rattle.fixed_form.specs.declared.progress.Progress.{Progress}
 use Rattle.fixed_form.specs.Characters.{line_feed}
 use Rattle.fixed_form.specs.Cards.{is_comment, is_dropped, card, columns, is_initial, label_field}
 use Rattle.fixed_form.specs.Body.{stripped, quoted_after}
-use Rattle.refusal_codes.specs.Refusals.{number_of}
+use Rattle.fx_lists.specs.Refusals.{number_of}
 use Rattle.fixed_form.specs.Faults.{fault_of}
 use Rattle.fixed_form.specs.Reading.{label_of, ends_well}
 

@@ -6,7 +6,7 @@ ghost use Rattle.fixed_form.specs.Faults.{fault_of, has_bad_field, starts_quoted
 use crate::cards::is_initial;
 use crate::label::{LabelField, label_field};
 use crate::strip::{all_allowed, all_spaces, any_tab, has_tab};
-use refusal_codes::Code;
+use fx_lists::Code;
 
 /// What is known of a statement before a continuation line of it.
 #[derive(Clone, Copy)]

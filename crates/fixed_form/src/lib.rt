@@ -2,13 +2,17 @@
 #![tactic(auto)]
 
 mod cards;
+mod cut;
 mod fault;
 mod label;
 mod line;
 mod progress;
 mod read;
+mod source;
 mod strip;
 mod text_lines;
 
 pub use line::{Line, Lines, ReadRefusal};
 pub use read::statements;
+pub use source::{Piece, pieces};
+pub use text_lines::{first_line, without_returns};

@@ -11,8 +11,7 @@ use crate::fault::fault_of;
 use crate::line::{Line, Lines, ReadRefusal};
 use crate::progress::{Progress, begun_of, finish_all, keep_comment, take_statement_line};
 use crate::text_lines::{first_line, without_returns};
-use fx_lists::{List, Text};
-use refusal_codes::Code;
+use fx_lists::{Code, List, Text};
 use std::alloc::Global;
 
 /// A line that is no comment.

@@ -39,7 +39,7 @@ FetchedBy files old new name limit Memory = Unit {0}
 -- what a keep answers, by the files before and after, where told, and by the counts of the base
 abbrev pub KeptBy : Option Files → Option Files → Tally → Tally → List ℕ → List ℕ → Kept → Type 0
 KeptBy old new before after name text Done = OthersStay old new name × IfSome new (λ held. bytes_of held name ≡ Some text)
-KeptBy old new before after name text NotKept = Rose before.faults after.faults × OthersStay old new name
+KeptBy old new before after name text NotKept = Rose before.faults after.faults × (new ≡ old)
 KeptBy old new before after name text NoMemory = new ≡ old
 
 -- a text that was read has at most this many bytes

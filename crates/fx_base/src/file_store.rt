@@ -2,22 +2,24 @@
 ghost use Rattle.std.specs.Prelude.{ℕ};
 ghost use Rattle.fx_base.specs.Store.{WithinLimit};
 
-use crate::{Fetched, Kept, Role, Store, Tallies, Text};
+use crate::replacing::replace;
+use crate::{Fetched, Kept, Role, Store, Tallies};
+use fx_lists::Text;
 use std::alloc::Global;
 use std::fs::File;
 use std::io::{ErrorKind, Read};
 use std::rt::Files;
-use std::{fs, io, str};
+use std::{io, str};
 
 /// Files of the system, through the runtime; a fetch of the name `-` reads standard input. A name that is no UTF-8
 /// can't be opened, which is a fault. Contracts see its counts alone.
 #[derive(Drop)]
-pub struct FileStore<R: Files + Input> {
+pub struct FileStore<R: Files<File = File> + Input + AllocGlobal> {
     rt: R,
     counts: Tallies,
 }
 
-impl<R: Files + Input> FileStore<R> {
+impl<R: Files<File = File> + Input + AllocGlobal> FileStore<R> {
     /// The store of the files of this runtime, with all counts 0.
     pub fn new(rt: R) -> FileStore<R> {
         FileStore {
@@ -39,6 +41,17 @@ impl<R: Files + Input> FileStore<R> {
         match File::open(&self.rt, path) {
             Ok(mut file) => read_within(alloc, &mut file, limit),
             Err(error) => failure(error),
+        }
+    }
+
+    fn replace_named(&self, name: &Text, text: &Text) -> Kept {
+        let Ok(path) = str::from_utf8(name.as_slice()) else {
+            return Kept::Failed;
+        };
+        match replace(&self.rt, path, text.as_slice()) {
+            Ok(()) => Kept::Done,
+            Err(error) if error.kind() == ErrorKind::OutOfMemory => Kept::Memory,
+            Err(_) => Kept::Failed,
         }
     }
 }
@@ -78,7 +91,7 @@ fn read_within<I: Read>(alloc: Global, input: &mut I, limit: u64) -> Fetched
     Fetched::Failed
 }
 
-impl<R: Files + Input> Store for FileStore<R> {
+impl<R: Files<File = File> + Input + AllocGlobal> Store for FileStore<R> {
     ghost use Rattle.std.specs.Prelude.{None};
     ghost use Rattle.fx_base.specs.Tallies.{tally_of};
 
@@ -98,15 +111,10 @@ impl<R: Files + Input> Store for FileStore<R> {
     }
 
     fn keep(&mut self, name: &Text, text: &Text) -> Kept {
-        let written = match str::from_utf8(name.as_slice()) {
-            Ok(path) => fs::write(&self.rt, path, text.as_slice()).is_ok(),
-            Err(_) => false,
-        };
-        if written {
-            Kept::Done
-        } else {
+        let kept = self.replace_named(name, text);
+        if kept == Kept::Failed {
             self.counts.fault_of_keep();
-            Kept::Failed
         }
+        kept
     }
 }

@@ -1,9 +1,12 @@
 //! The outside: stores of files and sinks of bytes, as contracts see them.
 #![tactic(auto)]
 
+mod comparing;
 mod file_store;
 mod mem_sink;
 mod mem_store;
+mod new_file;
+mod replacing;
 mod sending;
 mod sink;
 mod std_sink;

@@ -2,7 +2,8 @@
 ghost use Rattle.std.specs.Prelude.{◌≡◌, ◌<◌, [], Some, OnOk};
 
 use crate::tally::next_count;
-use crate::{List, Put, Sink};
+use crate::{Put, Sink};
+use fx_lists::List;
 use std::alloc::{AllocError as Memory, Global};
 
 /// A sink in memory, of which contracts see the bytes. It has a limited room, and puts with chosen numbers fail.

@@ -3,7 +3,8 @@ ghost use Rattle.std.specs.Prelude.{◌≡◌, [], ◌∷◌, Some, option_map, 
 ghost use Rattle.fx_base.specs.Files.{Files, bytes_of};
 
 use crate::tally::next_count;
-use crate::{Fetched, Kept, List, Role, Store, Tallies, Text};
+use crate::{Fetched, Kept, Role, Store, Tallies};
+use fx_lists::{List, Text};
 use std::alloc::{AllocError as Memory, Global};
 
 /// A store in memory, of which contracts see the files. Calls with chosen numbers fail.

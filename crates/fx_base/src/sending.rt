@@ -2,7 +2,8 @@
 ghost use Rattle.std.specs.Prelude.{◌≤◌};
 ghost use Rattle.fx_base.specs.Sink.{SentBy};
 
-use crate::{Put, Sink, Text};
+use crate::{Put, Sink};
+use fx_lists::Text;
 
 /// What a send did.
 #[derive(Clone, Copy, Debug, PartialEq, Eq)]

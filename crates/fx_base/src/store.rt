@@ -3,7 +3,7 @@ ghost use Rattle.std.specs.Prelude.{◌≡◌};
 ghost use Rattle.fx_base.specs.declared.store.Role.TheVariants.{Base};
 ghost use Rattle.fx_base.specs.Store.{OnlyCounts, OnlyBaseFaults, FetchedBy, KeptBy};
 
-use crate::Text;
+use fx_lists::Text;
 use std::alloc::Global;
 
 /// What a fetch found: a file's text, or why there is none.
@@ -26,7 +26,7 @@ pub enum Fetched {
 pub enum Kept {
     /// The file of the name has the text.
     Done,
-    /// It can't be written, and may have any bytes; a fault of the base. Other files have what they had.
+    /// It can't be written, and no file has changed; a fault of the base.
     Failed,
     /// There is not enough memory, and no file has changed.
     Memory,

@@ -45,7 +45,7 @@ clean_same p s = cleaned_behind_same p [] s.rows
 
 -- ---- what a cleaned system is
 
-cleaned_all : (P : Row → Type 0) (front rs : List Row) → AllRows P rs → AllRows P (cleaned_behind front rs)
+pub cleaned_all : (P : Row → Type 0) (front rs : List Row) → AllRows P rs → AllRows P (cleaned_behind front rs)
 cleaned_all P front [] h = tt
 cleaned_all P front (r ∷ rs) h =
     let after = cleaned_behind (front ++ r ∷ []) rs in

@@ -9,24 +9,17 @@ use Rattle.hull_projection.specs.Refute.{refuted, above, all_refuted, negations,
 use Rattle.hull_projection.specs.Clean.{is_spare, unless_spare, cleaned_behind, clean_rows}
 use Rattle.affine_systems.proofs.ItemSteps.{popped}
 use Rattle.affine_systems.proofs.FitLaws.{small_given}
-use Rattle.affine_systems.proofs.RenameSteps.{given_append}
+use Rattle.affine_systems.proofs.RenameSteps.{given_append, given_small}
 use Rattle.hull_projection.proofs.RefuteSteps.{above_given}
+use Rattle.fx_lists.proofs.Booleans.{and_true}
 
 pub spare-equal : (rs : List Row) (r : Row) → r.equal ≡ true → false ≡ is_spare rs r
 spare-equal rs r e = ap (λ b. not b && entails rs r) (sym e)
-
-and_true : (b : Bool) → (b && true) ≡ b
-and_true true = refl
-and_true false = refl
 
 pub spare-refuted : (rs all : List Row) (r : Row) (b : Bool) → r.equal ≡ false → all ≡ rs ++ above r ∷ [] → b ≡ refuted all → b ≡ is_spare rs r
 spare-refuted rs all r b q e f =
     f ∙ (ap refuted e ∙ (sym (and_true (refuted (rs ++ above r ∷ [])))
     ∙ ap (λ a. not a && all_refuted rs (negations (row a r.terms r.bound))) (sym q)))
-
-given_small : (rs : List Row) → AllRows IsSmallRow rs → AllRows IsGiven rs
-given_small [] h = tt
-given_small (r ∷ rs) h = (small_given r h.0, given_small rs h.1)
 
 small_push : (rs : List Row) (r : Row) → AllRows IsSmallRow rs → IsSmallRow r → AllRows IsSmallRow (rs ++ r ∷ [])
 small_push [] r h k = (k, tt)

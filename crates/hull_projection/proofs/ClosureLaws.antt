@@ -24,7 +24,7 @@ use Rattle.hull_projection.specs.Iterations.{Store, between, Joined}
 use Rattle.hull_projection.specs.Laws.{IsOneOf, ContainsIterations}
 use Rattle.affine_systems.proofs.Basics.{if_cases, distributes, distributes_right, neg_mul, mul_comm}
 use Rattle.affine_systems.proofs.TermLaws.{var_eq-true, true-var_eq, value-term_before}
-use Rattle.affine_systems.proofs.TidyLaws.{tidy_holds, is_false_row-true, clash}
+use Rattle.affine_systems.proofs.TidyLaws.{tidy_holds, is_false_row-true}
 use Rattle.affine_systems.proofs.ElimLaws.{eliminate_holds}
 use Rattle.affine_systems.proofs.ExactLaws.{value-moved, mul_neg}
 use Rattle.affine_systems.proofs.LackLaws.{Nil, RowsNil, factor-only, tidy_nil, eliminate_lacks}
@@ -33,6 +33,7 @@ use Rattle.hull_projection.proofs.CleanLaws.{clean_same}
 use Rattle.hull_projection.proofs.ProjectLaws.{in_order-from, cleaned_nil, each_nil, each_holds, project_nil}
 use Rattle.hull_projection.proofs.VarLaws.{TermsIn, RowsIn, rows_covered, terms_covered, IsOld, fresh_old}
 use Rattle.hull_projection.proofs.LiftLaws.{with_aux, aux_eq, aux_apart, old_apart, with_aux_old, moves_back, value-agrees, agree_from, agree_hold, value-zero, value-append}
+use Rattle.fx_lists.proofs.Booleans.{clash}
 
 -- ---- what one iteration changes
 
@@ -43,7 +44,7 @@ change s u (Exit n) = pos 0
 change s u (Phi n) = pos 0
 change s u (Aux n) = pos 0
 
-abbrev zero_point : Point
+abbrev pub zero_point : Point
 zero_point v = pos 0
 
 -- the point with the change of each cell at its d, on top of another

@@ -8,18 +8,7 @@ use Rattle.affine_systems.specs.Eliminate.{keep}
 use Rattle.affine_systems.specs.Given.{AreNormal, IsNormalAs, ItemsFit}
 use Rattle.hull_projection.specs.Refute.{with_originals, has_few, with_few}
 use Rattle.affine_systems.proofs.Basics.{if_cases}
-
-keep_rows : (P : Row → Type 0) (f : Item → Bool) (is : List Item) → AllRows P (rows_of is) → AllRows P (rows_of (keep f is))
-keep_rows P f [] h = tt
-keep_rows P f (i ∷ is) h =
-    let ih = keep_rows P f is h.1 in
-    if_cases (λ (js : List Item). AllRows P (rows_of js)) (f i) (i ∷ keep f is) (keep f is) (λ e. (h.0, ih)) (λ e. ih)
-
-keep_length : (f : Item → Bool) (is : List Item) → length (keep f is) ≤ length is
-keep_length f [] = omega arith
-keep_length f (i ∷ is) =
-    let ih = keep_length f is in
-    if_cases (λ (js : List Item). length js ≤ length (i ∷ is)) (f i) (i ∷ keep f is) (keep f is) (λ e. omega (arith, ih)) (λ e. omega (arith, ih))
+use Rattle.elimination.proofs.ClosedLaws.{kept_rows as keep_rows, length-keep as keep_length}
 
 keep_one : (q : Bool) (f : Item → Bool) (is : List Item) → rows_of is ≡ false_row ∷ [] → AreNormal q (rows_of (keep f is))
 keep_one q f [] e = cc
@@ -39,7 +28,7 @@ originals_rows : (n : ℕ) (is : List Item) → rows_of (with_originals n is) �
 originals_rows n [] = refl
 originals_rows n (i ∷ is) = ap (λ (rs : List Row). i.row ∷ rs) (originals_rows (suc n) is)
 
-originals_length : (n : ℕ) (is : List Item) → length (with_originals n is) ≡ length is
+pub originals_length : (n : ℕ) (is : List Item) → length (with_originals n is) ≡ length is
 originals_length n [] = refl
 originals_length n (i ∷ is) = ap suc (originals_length (suc n) is)
 

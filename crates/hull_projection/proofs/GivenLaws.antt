@@ -19,14 +19,15 @@ use Rattle.hull_projection.specs.Hull.{copy_of, share_of, scale, rest_scaled, at
 use Rattle.hull_projection.specs.Closure.{IsCell, AreCells, AreOrdered, exit_of, step_row, step_rows, same_row, cell_terms, exit_terms, iterations_var, many_iterations, iteration_rows}
 use Rattle.hull_projection.specs.Laws.{IsOneOf}
 use Rattle.affine_systems.proofs.Basics.{if_cases, int_eq-true}
-use Rattle.affine_systems.proofs.TidyLaws.{clash}
-use Rattle.affine_systems.proofs.AscendLaws.{parts_lt, before-term_before, ascends-term_before, factor_below}
+use Rattle.affine_systems.proofs.AscendLaws.{parts_lt, before-term_before, ascends-term_before, factor_below, negated_zero as neg_not_zero}
 use Rattle.affine_systems.proofs.FitLaws.{neg_small, small_given}
 use Rattle.affine_systems.proofs.RenameSteps.{given_append}
 use Rattle.hull_projection.proofs.VarLaws.{TermsIn, RowsIn, IsOld, fresh_old, aux_lt, old_lt, place_below, place_lt, ascend-with_rows, ascend-with_vars}
 use Rattle.elimination.proofs.ElimSteps.{fit_small}
 use Rattle.hull_projection.proofs.ClosureLaws.{cells_in_order}
 use Rattle.hull_projection.proofs.HullLaws.{both_covered}
+use Rattle.affine_systems.proofs.Three.{below-term_before as factors_term_before}
+use Rattle.fx_lists.proofs.Booleans.{clash}
 
 -- ---- lists of terms one after another
 
@@ -50,9 +51,6 @@ all_before_append (t ∷ ts) us vs h k = (h.0, all_before_append ts us vs h.1 k)
 pub factors_append : (n : ℕ) (ts us : List Term) → FactorsBelow n ts → FactorsBelow n us → FactorsBelow n (ts ++ us)
 factors_append n [] us h k = k
 factors_append n (t ∷ ts) us h k = (h.0, factors_append n ts us h.1 k)
-
-pub factors_term_before : (n : ℕ) (v : Var) (f : ℤ) (ts : List Term) → unsigned_abs f < n → FactorsBelow n ts → FactorsBelow n (term_before v f ts)
-factors_term_before n v f ts l h = if_cases (FactorsBelow n) (int_eq f (pos 0)) ts (term v f ∷ ts) (λ e. h) (λ e. (l, h))
 
 all_before_one : (v : Var) (f : ℤ) (ts : List Term) → AllBefore ts (term v f ∷ []) → AllBefore ts (term_before v f [])
 all_before_one v f [] h = tt
@@ -105,9 +103,6 @@ same_small z h = h
 
 same_not_zero : (z : ℤ) → int_eq z (pos 0) ≡ false → int_eq z (pos 0) ≡ false
 same_not_zero z h = h
-
-neg_not_zero : (z : ℤ) → int_eq z (pos 0) ≡ false → int_eq (neg_ℤ z) (pos 0) ≡ false
-neg_not_zero z h = false_from_ne_true (int_eq (neg_ℤ z) (pos 0)) (λ e. let k = int_eq-true (neg_ℤ z) (pos 0) e in let i : z ≡ pos 0 = omega (arith, ints, k) in clash (int_eq z (pos 0)) (ap (λ x. int_eq x (pos 0)) i) h)
 
 zero_below : unsigned_abs (pos 0) < 2 ^ 62
 zero_below = omega (arith, ints)

@@ -12,7 +12,7 @@ use Rattle.hull_projection.specs.Refute.{as_original, with_originals, left_after
 use Rattle.hull_projection.specs.Project.{shadow_after, eliminate_each}
 use Rattle.affine_systems.proofs.ItemSteps.{popped}
 
-originals-push : (n : ℕ) (is : List Item) (i : Item) → with_originals n (is ++ i ∷ []) ≡ with_originals n is ++ as_original (n + length is) i ∷ []
+pub originals-push : (n : ℕ) (is : List Item) (i : Item) → with_originals n (is ++ i ∷ []) ≡ with_originals n is ++ as_original (n + length is) i ∷ []
 originals-push n [] i = let z : n ≡ n + 0 = omega arith in ap (λ m. as_original m i ∷ []) z
 originals-push n (j ∷ js) i =
     let z : suc n + length js ≡ n + suc (length js) = omega arith in

@@ -12,10 +12,10 @@ use Rattle.affine_systems.specs.Points.{Point, value, Meets, HoldsAll, moved, on
 use Rattle.hull_projection.specs.Hull.{place_of}
 use Rattle.hull_projection.specs.Laws.{IsOneOf}
 use Rattle.affine_systems.proofs.TermLaws.{var_eq-true, true-var_eq}
-use Rattle.affine_systems.proofs.TidyLaws.{clash}
 use Rattle.affine_systems.proofs.ExactLaws.{value-moved}
 use Rattle.affine_systems.proofs.LackLaws.{RowsNil, factor-only}
 use Rattle.hull_projection.proofs.VarLaws.{TermsIn, RowsIn, IsOld, old_more}
+use Rattle.fx_lists.proofs.Booleans.{clash}
 
 abbrev pub with_aux : Point → ℕ → List ℤ → Point
 with_aux p n [] = p

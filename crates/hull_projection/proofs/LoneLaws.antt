@@ -18,6 +18,7 @@ use Rattle.affine_systems.specs.Given.{IsNormalAs, AreNormal, ItemsFit}
 use Rattle.hull_projection.specs.declared.eliminations.Left.{Left}
 use Rattle.hull_projection.specs.Refute.{has_few, with_few, left, left_after, eliminate_all}
 use Rattle.hull_projection.specs.Project.{shadow, shadow_after, eliminate_each}
+use Rattle.fx_lists.proofs.Booleans.{alone as or_false}
 
 without_again : (v : Var) (n : ℕ) (is : List Item) → AllWithout v is → AllWithout v (items_from n (rows_of is))
 without_again v n [] h = tt
@@ -34,10 +35,6 @@ kept_again v n (i ∷ is) = go (occurs v i.row) (kept_again v (suc n) is) where
   go : (b : Bool) → rows_of (keep (is_without v) (items_from (suc n) (rows_of is))) ≡ rows_of (keep (is_without v) is) → rows_of (if not b then item i.row no_originals n ∷ keep (is_without v) (items_from (suc n) (rows_of is)) else keep (is_without v) (items_from (suc n) (rows_of is))) ≡ rows_of (if not b then i ∷ keep (is_without v) is else keep (is_without v) is)
   go true h = h
   go false h = ap (λ (rs : List Row). i.row ∷ rs) h
-
-or_false : (w : Bool) → (w || false) ≡ w
-or_false true = refl
-or_false false = refl
 
 and_true : (e : Bool) → (e && true) ≡ e
 and_true true = refl

@@ -18,12 +18,12 @@ use Rattle.hull_projection.specs.Project.{shadow, shadow_after, eliminate_each, 
 use Rattle.hull_projection.specs.Laws.{IsOneOf, DiffersAt, ProjectsPoints, ExtendsPoints, LacksAll}
 use Rattle.affine_systems.proofs.Basics.{if_cases}
 use Rattle.affine_systems.proofs.TermLaws.{var_eq-true, true-var_eq}
-use Rattle.affine_systems.proofs.TidyLaws.{clash}
 use Rattle.affine_systems.proofs.ElimLaws.{eliminate_holds}
 use Rattle.affine_systems.proofs.ExactLaws.{eliminate_extends}
 use Rattle.affine_systems.proofs.LackLaws.{RowsNil, factor-only, eliminate_nil, eliminate_lacks, nil_moves}
 use Rattle.affine_systems.proofs.FitLaws.{eliminate_fits}
 use Rattle.hull_projection.proofs.CleanLaws.{clean_same, clean_fits}
+use Rattle.fx_lists.proofs.Booleans.{clash}
 
 -- ---- which variables an ordered list has
 

@@ -17,6 +17,7 @@ use Rattle.hull_projection.specs.Refute.{eliminate_all, all_left, refuted_items,
 use Rattle.affine_systems.proofs.FitLaws.{more_factors}
 use Rattle.affine_systems.proofs.AscendLaws.{ascends-negated}
 use Rattle.affine_systems.proofs.SystemSteps.{items_given_from}
+use Rattle.fx_lists.proofs.Booleans.{and_true}
 
 pub refutes_items : (is : List Item) (vs : List Var) (s t : Left) (b : Bool) → vs ≡ row_vars (rows_of is) → s ≡ all_left is → t ≡ eliminate_all false s vs → b ≡ any_false t.items → b ≡ refuted_items is
 refutes_items is vs s t b v e f g =
@@ -42,10 +43,6 @@ pub below_given : (r s : Row) → IsSmallRow r → s ≡ below r → IsGiven s
 below_given r s h e =
     let b = h.1 in
     subst IsGiven (sym e) (h.0, omega (arith, ints, b), more_factors (2 ^ 62) (2 ^ 126) r.terms (omega arith) h.2)
-
-and_true : (b : Bool) → (b && true) ≡ b
-and_true true = refl
-and_true false = refl
 
 pub not-entailed : (rs : List Row) (r s : Row) (b : Bool) → s ≡ above r → b ≡ refuted (rs ++ s ∷ []) → b ≡ false → false ≡ entails rs r
 not-entailed rs r s b e f g = go r.equal where

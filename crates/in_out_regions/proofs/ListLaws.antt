@@ -10,30 +10,31 @@ use Rattle.affine_systems.specs.Points.{Point}
 use Rattle.f77_ast.specs.Trees.{StmtTrees}
 use Rattle.f77_ast.specs.declared.variable.Variable.{Variable}
 use Rattle.f77_ast.specs.Symbols.{SymbolTree}
-use Rattle.f77_results.specs.Variables.{variable_cmp}
-use Rattle.transformer_algebra.specs.declared.transformer.Transformer.{Transformer}
-use Rattle.transformer_algebra.specs.Laws.{In, here, there}
-use Rattle.transformer_algebra.specs.Claims.{Scene, AtStart}
-use Rattle.transformer_algebra.proofs.CellLaws.{clashes}
-use Rattle.transformers.specs.Jumps.{unstructured}
-use Rattle.transformers.specs.Lists.{list_at}
-use Rattle.region_sets.specs.declared.region.Access.{Access}
-use Rattle.region_sets.specs.declared.region.Region.{Region}
-use Rattle.region_sets.specs.Regions.{any_weak, remade}
-use Rattle.region_sets.specs.Compose.{compose}
-use Rattle.region_sets.specs.Subtract.{subtract, unless_empty, left_of, all_left_exactly, all_apart}
-use Rattle.region_sets.specs.Sets.{unite_all}
-use Rattle.region_sets.specs.Lists.{all_composed, in_any_order, numbers}
-use Rattle.region_sets.specs.Claims.{HoldsSome, Elements, LiesIn, Accessed, IsSharp, Places, AreByOrder, LiesInSet, IsSharpSet}
-use Rattle.region_sets.specs.Laws.{HasAnyStep, NoneExact}
-use Rattle.region_sets.proofs.SubtractLaws.{subtract_keeps, subtract_exact}
-use Rattle.region_sets.proofs.PieceLaws.{compose_moves, compose_sharp}
-use Rattle.region_sets.proofs.SetLaws.{gathered_units, gathered_sharp}
-use Rattle.region_sets.proofs.StepLaws.{in_left, in_right, in_either, in_map, of_map, any_units, any_inexact}
-use Rattle.in_out_regions.specs.Writes.{same_variable, write_of, is_overlapped}
+use Rattle.f77_ast.specs.Variables.{variable_cmp, same_variable}
+use Rattle.array_regions.specs.transformer_algebra.declared.transformer.Transformer.{Transformer}
+use Rattle.array_regions.specs.transformer_algebra.Laws.{In, here, there}
+use Rattle.array_regions.specs.transformer_algebra.Claims.{Scene, AtStart}
+use Rattle.array_regions.specs.transformers.Jumps.{unstructured}
+use Rattle.array_regions.specs.transformers.Lists.{list_at}
+use Rattle.array_regions.specs.region_sets.declared.region.Access.{Access}
+use Rattle.array_regions.specs.region_sets.declared.region.Region.{Region}
+use Rattle.array_regions.specs.region_sets.Regions.{any_weak, remade}
+use Rattle.array_regions.specs.region_sets.Compose.{compose}
+use Rattle.array_regions.specs.region_sets.Subtract.{subtract, unless_empty, left_of, all_left_exactly, all_apart}
+use Rattle.array_regions.specs.region_sets.Sets.{unite_all}
+use Rattle.array_regions.specs.region_sets.Lists.{all_composed, in_any_order, numbers}
+use Rattle.array_regions.specs.region_sets.Claims.{HoldsSome, Elements, LiesIn, Accessed, IsSharp, Places, AreByOrder, LiesInSet, IsSharpSet}
+use Rattle.array_regions.specs.region_sets.Laws.{HasAnyStep, NoneExact}
+use Rattle.array_regions.proofs.RegionSets.SubtractLaws.{subtract_keeps, subtract_exact}
+use Rattle.array_regions.proofs.RegionSets.PieceLaws.{compose_moves, compose_sharp}
+use Rattle.array_regions.proofs.RegionSets.SetLaws.{gathered_units, gathered_sharp}
+use Rattle.array_regions.proofs.RegionSets.StepLaws.{in_left, in_right, in_either, in_map, of_map, any_units, any_inexact, at_true as if_true, at_false as if_false}
+use Rattle.in_out_regions.specs.Writes.{write_of, is_overlapped}
 use Rattle.in_out_regions.specs.Lists.{less_write, all_unwritten, unless_overlapped, all_unless_overlapped, before_rest, ins_in_order, list_in}
 use Rattle.in_out_regions.specs.ListClaims.{AreWritten, arrived, past, HasFirstSteps, IsDescribed, IsFirstOf, Executed, no_more, before_more, HasFirstStepsAlone, HasListIn, HasListInAlone}
-use Rattle.in_out_regions.proofs.WriteLaws.{cmp_to_same, same_itself, cmp_if, write_found, write_same}
+use Rattle.in_out_regions.proofs.WriteLaws.{write_found, write_same}
+use Rattle.fx_lists.proofs.Booleans.{not_true, clash as clashes}
+use Rattle.f77_ast.proofs.SameLaws.{cmp_to_same, same_itself, cmp_if}
 
 -- ---- what is left of a region
 
@@ -60,12 +61,12 @@ subtract_alike r w = go w.exact
     go false = some (r.exact && all_apart r.pieces w.pieces) r.pieces
 
 -- the one of an option is one of its list
-in_option : (o : Option Region) (q : Region) → o ≡ Some q → In q (option_to_list o)
+pub in_option : (o : Option Region) (q : Region) → o ≡ Some q → In q (option_to_list o)
 in_option None q e = cc
 in_option (Some r) q e = let same : r ≡ q = cc in subst (λ (z : Region). In z (r ∷ [])) same here
 
 -- each of the list is the one of the option
-option_in : (o : Option Region) (q : Region) → In q (option_to_list o) → o ≡ Some q
+pub option_in : (o : Option Region) (q : Region) → In q (option_to_list o) → o ≡ Some q
 option_in None q i = elim i [ ]
 option_in (Some r) q here = refl
 option_in (Some r) q (there i) = elim i [ ]
@@ -224,10 +225,6 @@ module _ (at : Places) (by_order : AreByOrder at) (v : Variable) (all : ℕ → 
       go None e q = cc
       go (Some u) e q = let same : suc u ≡ a.unit = cc in record { unit = u; there = e; is_so = subst (λ n. tagged_test all n ≡ true) (sym same) a.is_so }
 
-not_true : (b : Bool) → not b ≡ true → b ≡ false
-not_true true e = cc
-not_true false e = refl
-
 less_alike : (o : Option Region) (r : Region) → AreAlike r (less_write o r)
 less_alike None r q h = let same : r ≡ q = cc in subst (IsAlike r) same (record { variable = refl; kind = refl })
 less_alike (Some w) r q h = subtract_alike r w q h
@@ -293,14 +290,6 @@ order_sharp ss t f g (n ∷ ns) m at o x all (before_more {y = y} {first = first
     step_sharp ss m at o x y first written later all (g n) (f n) (t n) (ins_in_order ss t f g ns) j e (order_sharp ss t f g ns m at o y later a)
 
 -- ---- a list
-
-if_true : (b : Bool) (qs rs : List Region) → b ≡ true → (if b then qs else rs) ≡ qs
-if_true true qs rs e = refl
-if_true false qs rs e = clashes false e refl
-
-if_false : (b : Bool) (qs rs : List Region) → b ≡ false → (if b then qs else rs) ≡ rs
-if_false true qs rs e = clashes true refl e
-if_false false qs rs e = refl
 
 pub list_sound : (ss : List SymbolTree) (t : ℕ → Transformer) (f g : ℕ → List Region) (whole : Bool) (body : StmtTrees) → HasListIn t f g whole body (list_in ss t f g whole body)
 list_sound ss t f g whole body =

@@ -3,24 +3,22 @@ use Rattle.std.proofs.Common.{◌≡◌, ℕ, Bool, true, List, [], ◌++◌, ap
 use Rattle.f77_ast.specs.Trees.{StmtTrees}
 use Rattle.f77_ast.specs.declared.symbol.Symbol.{Symbol}
 use Rattle.f77_ast.specs.declared.variable.Unit.{Unit as BlockUnit}
-use Rattle.f77_results.specs.declared.results.At.{At}
-use Rattle.f77_results.specs.declared.results.Results.{Results}
-use Rattle.transformer_algebra.specs.declared.transformer.Transformer.{Transformer}
-use Rattle.call_translation.specs.Scopes.{ScopeTree, scope_tree}
-use Rattle.transformers.specs.Lists.{transformer_at}
-use Rattle.region_sets.specs.declared.region.Region.{Region}
-use Rattle.call_equations.specs.Sides.{changed_cells}
+use Rattle.f77_ast.specs.declared.results.At.{At}
+use Rattle.f77_ast.specs.declared.results.Results.{Results}
+use Rattle.array_regions.specs.transformer_algebra.declared.transformer.Transformer.{Transformer}
+use Rattle.array_regions.specs.call_translation.Scopes.{ScopeTree, scope_tree}
+use Rattle.array_regions.specs.transformers.Lists.{transformer_at}
+use Rattle.array_regions.specs.region_sets.declared.region.Region.{Region}
+use Rattle.array_regions.specs.call_equations.Sides.{changed_cells}
 use Rattle.array_regions.specs.Calls.{Callees}
 use Rattle.in_out_regions.specs.Known.{KnownTree}
 use Rattle.in_out_regions.specs.Calls.{call_in}
 use Rattle.in_out_regions.specs.Statement.{list_set, at_list}
 use Rattle.in_out_regions.specs.Modules.{summary_of, ins_of, ins_with}
+use Rattle.array_regions.proofs.ModuleLaws.{both}
 
 abbrev pub known_with : List BlockUnit → List (At Transformer) → List (At (List Region)) → Callees → ScopeTree → List ℕ → KnownTree
 known_with untracked own accesses cs m d = record { scope = m; does = transformer_at own; accesses = accesses; called = call_in m d untracked cs }
-
-abbrev both : List (At (List Region)) → List Region → Results (List Region)
-both found set = record { at = found; summary = set }
 
 -- with these flags and changed cells, and a slice of the set of its body
 pub module-ins : (body : StmtTrees) (ss : List Symbol) (flags tracked : List Bool) (changed : List ℕ) (untracked : List BlockUnit) (own : List (At Transformer)) (accesses : List (At (List Region))) (cs : Callees)

@@ -4,8 +4,8 @@ use Rattle.f77_ast.specs.declared.stmt.Loop.{Loop, out-Loop}
 use Rattle.f77_ast.specs.Trees.{LoopTree}
 use Rattle.f77_ast.specs.PlainStmt.{stmt_trees, loop_tree}
 use Rattle.f77_ast.proofs.PlainlyStmt.{what_calls, list_calls, loop_calls as do_calls, arm_calls as if_calls, loop_tree-out}
-use Rattle.f77_results.specs.declared.results.At.{At}
-use Rattle.region_sets.specs.declared.region.Region.{Region}
+use Rattle.f77_ast.specs.declared.results.At.{At}
+use Rattle.array_regions.specs.region_sets.declared.region.Region.{Region}
 use Rattle.array_regions.specs.Loops.{range_of}
 use Rattle.in_out_regions.specs.Known.{KnownTree}
 use Rattle.in_out_regions.specs.Loops.{do_with, do_in}

@@ -1,5 +1,5 @@
 -- Steps of the loops over statements, regions and rows, and what is handed on may be handed on.
-use Rattle.std.proofs.Common.{◌≡◌, ℕ, Bool, true, false, ◌+◌, ◌<◌, ◌&&◌, List, [], ◌∷◌, ◌++◌, length, get_or, drop, drop-cons, add-one, append_assoc, append-nil, refl, ap, sym, subst, ◌∙◌, Option, Some, None}
+use Rattle.std.proofs.Common.{◌≡◌, ℕ, Bool, true, false, ◌+◌, ◌<◌, ◌&&◌, List, [], ◌∷◌, ◌++◌, length, get_or, drop, drop-cons, add-one, append_assoc, append-nil, ap, sym, subst, ◌∙◌, Option, Some}
 use Rattle.std.specs.Prelude.{IfSome, if◌then◌else◌}
 use Rattle.f77_ast.specs.declared.expr.Expr.{Expr}
 use Rattle.f77_ast.specs.Trees.{ExprTrees}
@@ -7,20 +7,17 @@ use Rattle.f77_ast.specs.Plain.{expr_tree, expr_trees}
 use Rattle.f77_ast.proofs.Plainly.{expr_trees-drop}
 use Rattle.f77_ast.specs.declared.variable.Variable.{Variable}
 use Rattle.f77_ast.specs.Symbols.{SymbolTree}
-use Rattle.f77_results.specs.declared.results.At.{At}
-use Rattle.transformer_algebra.specs.declared.transformer.Transformer.{Transformer}
-use Rattle.transformers.specs.Lists.{value_at}
-use Rattle.call_translation.specs.Scopes.{ScopeTree}
-use Rattle.region_sets.specs.declared.region.Region.{Region}
-use Rattle.region_sets.specs.Regions.{RegionFits}
-use Rattle.region_sets.specs.Sets.{SetFits}
-use Rattle.region_sets.specs.Lists.{SetsFit, or_none}
-use Rattle.region_sets.proofs.Steps.{fits-push, set-push, and_assoc}
-use Rattle.region_sets.proofs.RowSteps.{given-push}
-use Rattle.region_sets.proofs.ListSteps.{value-fits}
+use Rattle.array_regions.specs.transformer_algebra.declared.transformer.Transformer.{Transformer}
+use Rattle.array_regions.specs.call_translation.Scopes.{ScopeTree}
+use Rattle.array_regions.specs.region_sets.declared.region.Region.{Region}
+use Rattle.array_regions.specs.region_sets.Regions.{RegionFits}
+use Rattle.array_regions.specs.region_sets.Sets.{SetFits}
+use Rattle.array_regions.proofs.RegionSets.Steps.{fits-push, set-push, and_assoc}
+use Rattle.array_regions.proofs.RegionSets.ListSteps.{set-fits}
 use Rattle.in_out_regions.specs.Writes.{is_write_of, write_of}
-use Rattle.in_out_regions.specs.Lists.{set_at, before_rest, ins_in_order}
+use Rattle.in_out_regions.specs.Lists.{before_rest, ins_in_order}
 use Rattle.in_out_regions.specs.Simple.{with_item, reading}
+use Rattle.array_regions.proofs.CallTranslation.Steps.{given-push}
 
 -- ---- sets
 
@@ -35,13 +32,6 @@ found-fits v (w ∷ ws) h = go (is_write_of v w) (found-fits v ws h.1)
 
 pub write-fits : (v : Variable) (ws : List Region) (o : Option Region) → o ≡ write_of v ws → SetFits ws → IfSome o RegionFits
 write-fits v ws o e h = subst (λ (q : Option Region). IfSome q RegionFits) (sym e) (found-fits v ws h)
-
-none-fits : (o : Option (List Region)) → ((t : List Region) → o ≡ Some t → SetFits t) → SetFits (or_none o)
-none-fits None h = tt
-none-fits (Some t) h = h t refl
-
-pub set-fits : (as' : List (At (List Region))) (n : ℕ) (rs : List Region) → rs ≡ set_at as' n → SetsFit as' → SetFits rs
-set-fits as' n rs e h = subst SetFits (sym e) (none-fits (value_at as' n) (λ t q. value-fits as' n t q h))
 
 pub ruleset regions = (set-push, fits-push, append_assoc, append-nil, and_assoc, write-fits, set-fits)
 

@@ -1,7 +1,7 @@
 -- What the code knows around lists and statements, as plain data, and what calls ask of it.
-use Rattle.f77_results.specs.Summaries.{summary_in}
-use Rattle.transformers.specs.Given.{ResultsFit}
-use Rattle.region_sets.specs.Lists.{SetsFit}
+use Rattle.f77_ast.specs.Summaries.{summary_in}
+use Rattle.array_regions.specs.transformers.Given.{ResultsFit}
+use Rattle.array_regions.specs.region_sets.Lists.{SetsFit}
 use Rattle.array_regions.specs.Known.{scope_in, found_in}
 use Rattle.array_regions.specs.Known as outer
 use Rattle.in_out_regions.specs.declared.lists.ListContext.{ListContext}

@@ -1,9 +1,9 @@
 -- IN regions: what is read before it is written. What is read where nothing is written before is so.
 use Rattle.std.specs.Prelude.{Bool, true, false, not, ◌&&◌, if◌then◌else◌, List, [], ◌∷◌, map}
-use Rattle.region_sets.specs.declared.region.Access.{Access}
-use Rattle.region_sets.specs.declared.region.Access.TheVariants.{Read, Write, In, Out}
-use Rattle.region_sets.specs.declared.region.Region.{Region}
-use Rattle.region_sets.specs.Regions.{region, any_weak}
+use Rattle.array_regions.specs.region_sets.declared.region.Access.{Access}
+use Rattle.array_regions.specs.region_sets.declared.region.Access.TheVariants.{Read, Write, In, Out}
+use Rattle.array_regions.specs.region_sets.declared.region.Region.{Region}
+use Rattle.array_regions.specs.region_sets.Regions.{region, any_weak}
 
 -- a region as one of IN
 abbrev pub as_in : Region → Region

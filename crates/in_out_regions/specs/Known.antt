@@ -1,9 +1,9 @@
 -- What is known around a statement: the scope of its module, the transformer of the statement of each number, READ and WRITE at each statement, and what a
 -- CALL first reads.
 use Rattle.std.specs.Prelude.{List}
-use Rattle.f77_results.specs.declared.results.At.{At}
-use Rattle.call_translation.specs.Scopes.{ScopeTree}
-use Rattle.region_sets.specs.declared.region.Region.{Region}
+use Rattle.f77_ast.specs.declared.results.At.{At}
+use Rattle.array_regions.specs.call_translation.Scopes.{ScopeTree}
+use Rattle.array_regions.specs.region_sets.declared.region.Region.{Region}
 use Rattle.array_regions.specs.Loops.{Found}
 use Rattle.array_regions.specs.Calls.{Called}
 

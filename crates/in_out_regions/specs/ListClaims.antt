@@ -6,17 +6,17 @@ use Rattle.affine_systems.specs.Points.{Point}
 use Rattle.f77_ast.specs.Trees.{StmtTrees}
 use Rattle.f77_ast.specs.declared.variable.Variable.{Variable}
 use Rattle.f77_ast.specs.Symbols.{SymbolTree}
-use Rattle.transformer_algebra.specs.declared.transformer.Transformer.{Transformer}
-use Rattle.transformer_algebra.specs.Claims.{Scene, AtStart, Does}
-use Rattle.transformer_algebra.specs.Laws.{In}
-use Rattle.transformers.specs.Jumps.{unstructured}
-use Rattle.transformers.specs.Lists.{list_at}
-use Rattle.region_sets.specs.declared.region.Access.{Access}
-use Rattle.region_sets.specs.declared.region.Access.TheVariants.{Write}
-use Rattle.region_sets.specs.declared.region.Region.{Region}
-use Rattle.region_sets.specs.Lists.{numbers}
-use Rattle.region_sets.specs.Claims.{HoldsSome, Accessed, IsSharp, IsSharpSet, Places, AreByOrder, LiesInSet}
-use Rattle.region_sets.specs.Laws.{HasAnyStep, NoneExact}
+use Rattle.array_regions.specs.transformer_algebra.declared.transformer.Transformer.{Transformer}
+use Rattle.array_regions.specs.transformer_algebra.Claims.{Scene, AtStart, Does}
+use Rattle.array_regions.specs.transformer_algebra.Laws.{In}
+use Rattle.array_regions.specs.transformers.Jumps.{unstructured}
+use Rattle.array_regions.specs.transformers.Lists.{list_at}
+use Rattle.array_regions.specs.region_sets.declared.region.Access.{Access}
+use Rattle.array_regions.specs.region_sets.declared.region.Access.TheVariants.{Write}
+use Rattle.array_regions.specs.region_sets.declared.region.Region.{Region}
+use Rattle.array_regions.specs.region_sets.Lists.{numbers}
+use Rattle.array_regions.specs.region_sets.Claims.{HoldsSome, Accessed, IsSharp, IsSharpSet, Places, AreByOrder, LiesInSet}
+use Rattle.array_regions.specs.region_sets.Laws.{HasAnyStep, NoneExact}
 use Rattle.in_out_regions.specs.Writes.{write_of, is_overlapped}
 
 -- each element that an exact WRITE region describes is written

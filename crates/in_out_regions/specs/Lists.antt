@@ -2,20 +2,15 @@
 use Rattle.std.specs.Prelude.{ℕ, Bool, not, ◌&&◌, if◌then◌else◌, List, [], ◌∷◌, ◌++◌, map, Option, Some, None, option_to_list}
 use Rattle.f77_ast.specs.Trees.{StmtTrees}
 use Rattle.f77_ast.specs.Symbols.{SymbolTree}
-use Rattle.f77_results.specs.declared.results.At.{At}
-use Rattle.transformer_algebra.specs.declared.transformer.Transformer.{Transformer}
-use Rattle.transformers.specs.Jumps.{unstructured}
-use Rattle.transformers.specs.Lists.{value_at, list_at}
-use Rattle.region_sets.specs.declared.region.Region.{Region}
-use Rattle.region_sets.specs.Regions.{remade}
-use Rattle.region_sets.specs.Subtract.{subtract}
-use Rattle.region_sets.specs.Sets.{unite_all}
-use Rattle.region_sets.specs.Lists.{or_none, all_composed, in_any_order, numbers}
+use Rattle.array_regions.specs.transformer_algebra.declared.transformer.Transformer.{Transformer}
+use Rattle.array_regions.specs.transformers.Jumps.{unstructured}
+use Rattle.array_regions.specs.transformers.Lists.{list_at}
+use Rattle.array_regions.specs.region_sets.declared.region.Region.{Region}
+use Rattle.array_regions.specs.region_sets.Regions.{remade}
+use Rattle.array_regions.specs.region_sets.Subtract.{subtract}
+use Rattle.array_regions.specs.region_sets.Sets.{unite_all}
+use Rattle.array_regions.specs.region_sets.Lists.{all_composed, in_any_order, numbers}
 use Rattle.in_out_regions.specs.Writes.{write_of, is_overlapped}
-
--- the set of the statement of a number
-abbrev pub set_at : List (At (List Region)) → ℕ → List Region
-set_at as' n = or_none (value_at as' n)
 
 -- ---- one statement, and what follows it
 

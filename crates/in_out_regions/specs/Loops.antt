@@ -8,7 +8,7 @@ use Rattle.affine_systems.specs.declared.row.System.{System}
 use Rattle.affine_systems.specs.Tidy.{is_unit}
 use Rattle.hull_projection.specs.declared.projection.Shadow.{Shadow}
 use Rattle.hull_projection.specs.Project.{project}
-use Rattle.system_renaming.specs.Renaming.{naming, rename_all, push_rows}
+use Rattle.array_regions.specs.transformer_algebra.Renaming.{naming, rename_all, push_rows}
 use Rattle.f77_ast.specs.Trees.{LoopTree}
 use Rattle.f77_ast.specs.declared.variable.Variable.{Variable}
 use Rattle.f77_ast.specs.declared.variable.Variable.TheVariants.{Own}
@@ -16,23 +16,24 @@ use Rattle.f77_ast.specs.Symbols.{SymbolTree}
 use Rattle.affine_forms.specs.declared.affine.Affine.{Affine}
 use Rattle.affine_forms.specs.Scalars.{is_cell}
 use Rattle.affine_forms.specs.Comparisons.{var_form}
-use Rattle.transformer_algebra.specs.Cells.{others}
-use Rattle.transformer_algebra.specs.Loops.{stays, terms_stay, within_row, beyond_row}
-use Rattle.call_translation.specs.Scopes.{ScopeTree}
-use Rattle.region_sets.specs.declared.range.Range.{Range}
-use Rattle.region_sets.specs.declared.region.Access.TheVariants.{Write}
-use Rattle.region_sets.specs.declared.region.Region.{Region}
-use Rattle.region_sets.specs.Regions.{remade, all_exact, systems}
-use Rattle.region_sets.specs.Subtract.{subtract}
-use Rattle.region_sets.specs.Loops.{over_loop}
-use Rattle.region_sets.specs.Sets.{unite_all}
+use Rattle.array_regions.specs.transformer_algebra.Cells.{others}
+use Rattle.array_regions.specs.transformer_algebra.Loops.{stays, terms_stay, within_row, beyond_row}
+use Rattle.array_regions.specs.call_translation.Scopes.{ScopeTree}
+use Rattle.array_regions.specs.region_sets.declared.range.Range.{Range}
+use Rattle.array_regions.specs.region_sets.declared.region.Access.TheVariants.{Write}
+use Rattle.array_regions.specs.region_sets.declared.region.Region.{Region}
+use Rattle.array_regions.specs.region_sets.Regions.{remade, all_exact, systems}
+use Rattle.array_regions.specs.region_sets.Subtract.{subtract}
+use Rattle.array_regions.specs.region_sets.Loops.{over_loop}
+use Rattle.array_regions.specs.region_sets.Sets.{unite_all}
 use Rattle.array_regions.specs.References.{scalar}
 use Rattle.array_regions.specs.Loops.{range_of, loop_reads}
 use Rattle.array_regions.specs.Entry.{names_none}
 use Rattle.in_out_regions.specs.Kinds.{all_in}
-use Rattle.in_out_regions.specs.Writes.{same_variable, write_of, is_touched}
+use Rattle.in_out_regions.specs.Writes.{write_of, is_touched}
 use Rattle.in_out_regions.specs.Lists.{all_unless_overlapped}
 use Rattle.in_out_regions.specs.Known.{KnownTree}
+use Rattle.f77_ast.specs.Variables.{same_variable}
 
 -- ---- the index of an iteration
 

@@ -2,14 +2,14 @@
 use Rattle.std.specs.Prelude.{true, List, ◌++◌}
 use Rattle.f77_ast.specs.Trees.{StmtTrees}
 use Rattle.f77_ast.specs.declared.variable.Unit.{Unit as BlockUnit}
-use Rattle.f77_results.specs.declared.results.At.{At}
-use Rattle.f77_results.specs.declared.results.Results.{Results}
-use Rattle.transformer_algebra.specs.declared.transformer.Transformer.{Transformer}
-use Rattle.call_translation.specs.Scopes.{ScopeTree}
-use Rattle.transformers.specs.Lists.{transformer_at}
-use Rattle.region_sets.specs.declared.region.Region.{Region}
-use Rattle.region_sets.specs.Sets.{unite_all}
-use Rattle.call_equations.specs.Sides.{changed_cells}
+use Rattle.f77_ast.specs.declared.results.At.{At}
+use Rattle.f77_ast.specs.declared.results.Results.{Results}
+use Rattle.array_regions.specs.transformer_algebra.declared.transformer.Transformer.{Transformer}
+use Rattle.array_regions.specs.call_translation.Scopes.{ScopeTree}
+use Rattle.array_regions.specs.transformers.Lists.{transformer_at}
+use Rattle.array_regions.specs.region_sets.declared.region.Region.{Region}
+use Rattle.array_regions.specs.region_sets.Sets.{unite_all}
+use Rattle.array_regions.specs.call_equations.Sides.{changed_cells}
 use Rattle.array_regions.specs.Calls.{Callees}
 use Rattle.array_regions.specs.Entry.{symbols_reads, seen, locals}
 use Rattle.in_out_regions.specs.Kinds.{all_in}

@@ -2,10 +2,10 @@
 use Rattle.std.specs.Prelude.{List, []}
 use Rattle.f77_ast.specs.Trees.{ExprTree, ExprTrees}
 use Rattle.f77_ast.specs.Trees as tree
-use Rattle.call_translation.specs.Scopes.{ScopeTree}
-use Rattle.region_sets.specs.declared.region.Access.TheVariants.{Write}
-use Rattle.region_sets.specs.declared.region.Region.{Region}
-use Rattle.region_sets.specs.Sets.{unite_all}
+use Rattle.array_regions.specs.call_translation.Scopes.{ScopeTree}
+use Rattle.array_regions.specs.region_sets.declared.region.Access.TheVariants.{Write}
+use Rattle.array_regions.specs.region_sets.declared.region.Region.{Region}
+use Rattle.array_regions.specs.region_sets.Sets.{unite_all}
 use Rattle.array_regions.specs.References.{named}
 use Rattle.array_regions.specs.Reads.{inner_reads}
 use Rattle.array_regions.specs.Simple.{item_does}

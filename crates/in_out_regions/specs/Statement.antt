@@ -2,17 +2,17 @@
 use Rattle.std.specs.Prelude.{ℕ, Bool, false, List, [], ◌∷◌, ◌++◌}
 use Rattle.f77_ast.specs.Trees.{ExprTree, StmtTree, WhatTree, ArmTree, ArmTrees, ElseTree, LoopTree, StmtTrees}
 use Rattle.f77_ast.specs.Trees as tree
-use Rattle.f77_results.specs.declared.results.At.{At}
-use Rattle.call_translation.specs.Scopes.{ScopeTree}
-use Rattle.transformers.specs.Statement.{at}
-use Rattle.region_sets.specs.declared.region.Region.{Region}
-use Rattle.region_sets.specs.Lists.{accesses_at, list_regions}
-use Rattle.region_sets.specs.Sets.{unite_all}
+use Rattle.f77_ast.specs.declared.results.At.{At}
+use Rattle.array_regions.specs.call_translation.Scopes.{ScopeTree}
+use Rattle.array_regions.specs.transformers.Statement.{at}
+use Rattle.array_regions.specs.region_sets.declared.region.Region.{Region}
+use Rattle.array_regions.specs.region_sets.Lists.{accesses_at, list_regions, set_at}
+use Rattle.array_regions.specs.region_sets.Sets.{unite_all}
 use Rattle.array_regions.specs.declared.arms.Reached.{Reached}
 use Rattle.array_regions.specs.Reads.{reads}
 use Rattle.array_regions.specs.Arms.{always, if_true, into_arm, past_arm, past_arms, all_met, tests_reads}
 use Rattle.in_out_regions.specs.Kinds.{all_in, first_reads}
-use Rattle.in_out_regions.specs.Lists.{set_at, all_unless_overlapped, list_in}
+use Rattle.in_out_regions.specs.Lists.{all_unless_overlapped, list_in}
 use Rattle.in_out_regions.specs.Known.{KnownTree}
 use Rattle.in_out_regions.specs.Simple.{reading}
 use Rattle.in_out_regions.specs.Loops.{do_in}

@@ -1,15 +1,11 @@
 -- The WRITE regions of a set: that of a variable, and whether some are of variables that share units with it.
 use Rattle.std.specs.Prelude.{Bool, false, ◌&&◌, ◌||◌, if◌then◌else◌, is_some, List, [], ◌∷◌, Option, Some, None}
-use Rattle.std.specs.Ordering.{is_eq}
 use Rattle.f77_ast.specs.declared.variable.Variable.{Variable}
 use Rattle.f77_ast.specs.Symbols.{SymbolTree}
 use Rattle.f77_ast.specs.Shared.{overlap}
-use Rattle.f77_results.specs.Variables.{variable_cmp}
-use Rattle.region_sets.specs.declared.region.Region.{Region}
+use Rattle.f77_ast.specs.Variables.{same_variable}
+use Rattle.array_regions.specs.region_sets.declared.region.Region.{Region}
 use Rattle.in_out_regions.specs.Kinds.{is_write}
-
-abbrev pub same_variable : Variable → Variable → Bool
-same_variable v w = is_eq (variable_cmp v w)
 
 abbrev pub is_write_of : Variable → Region → Bool
 is_write_of v w = is_write w.kind && same_variable v w.variable

@@ -1,19 +1,18 @@
 //! IN of a CALL.
 ghost use Rattle.std.specs.Prelude.{◌≡◌, Some, IfOk};
 ghost use Rattle.f77_ast.specs.Plain.{expr_trees};
-ghost use Rattle.f77_results.specs.Summaries.{summary_tree};
-ghost use Rattle.region_sets.specs.Sets.{SetFits};
+ghost use Rattle.f77_ast.specs.Summaries.{summary_tree};
+ghost use Rattle.array_regions.specs.region_sets.Sets.{SetFits};
 ghost use Rattle.array_regions.specs.Known.{scope_in};
 ghost use Rattle.in_out_regions.specs.Calls.{summary_in as summary_in_is};
 ghost use Rattle.in_out_regions.specs.Contexts.{known_in, KnownFits};
 
 use crate::context::InContext;
 use crate::kinds::push_in;
+use array_regions::region_sets::{RegionSet, unite_all};
 use array_regions::{RegionContext, push_actuals_reads, push_callee};
-use f77_ast::Expr;
-use f77_results::Summary;
+use f77_ast::{Expr, Summary};
 use fx_lists::{List, Text};
-use region_sets::{RegionSet, unite_all};
 use std::alloc::{AllocError as Memory, Global};
 
 /// Of a CALL of the module with a summary.

@@ -1,8 +1,8 @@
 //! What is known around a statement.
 use array_regions::RegionContext;
-use f77_results::At;
+use array_regions::region_sets::RegionSet;
+use f77_ast::At;
 use fx_lists::List;
-use region_sets::RegionSet;
 
 /// What is known around a statement: its module, with the IN regions of the modules that it calls, and the READ and WRITE regions of the module's
 /// statements.

@@ -2,19 +2,18 @@
 ghost use Rattle.std.specs.Prelude.{◌≡◌, map, IfOk, IfSome, option_copied};
 ghost use Rattle.affine_systems.specs.Given.{Fits};
 ghost use Rattle.hull_projection.specs.Minus.{AllFit};
-ghost use Rattle.region_sets.specs.Loops.{RangeFits};
-ghost use Rattle.region_sets.specs.Regions.{RegionFits};
+ghost use Rattle.array_regions.specs.region_sets.Loops.{RangeFits};
+ghost use Rattle.array_regions.specs.region_sets.Regions.{RegionFits};
 ghost use Rattle.in_out_regions.specs.Loops.{is_one_step as is_one_step_is, meets_each as meets_each_is, is_steady as is_steady_is, earlier_piece as earlier_piece_is, if_exact, earlier_of as earlier_of_is, earlier as earlier_is};
 
 use crate::loop_rows::{earlier_rows, stays};
 use affine_systems::{System, Var};
 use array_regions::names_none;
+use array_regions::region_sets::{Range, Region, push_system, remade};
+use array_regions::transformer_algebra::{Naming, others, push_rows, rename_all};
 use fx_lists::List;
 use hull_projection::{Shadow, project};
-use region_sets::{Range, Region, push_system, remade};
 use std::alloc::{AllocError as Memory, Global};
-use system_renaming::{Naming, push_rows, rename_all};
-use transformer_algebra::others;
 
 pub fn is_one_step(step: Option<i32>) -> bool
     ensures { result ≡ is_one_step_is step }

@@ -1,11 +1,11 @@
 //! IN regions of what reads before it writes.
 ghost use Rattle.std.specs.Prelude.{◌≡◌, ◌++◌, IfOk, OnOk};
-ghost use Rattle.region_sets.specs.Regions.{RegionFits, remade as remade_is};
-ghost use Rattle.region_sets.specs.Sets.{SetFits};
+ghost use Rattle.array_regions.specs.region_sets.Regions.{RegionFits};
+ghost use Rattle.array_regions.specs.region_sets.Sets.{SetFits};
 ghost use Rattle.in_out_regions.specs.Kinds.{as_in as as_in_is, all_in, is_read as is_read_is, is_write as is_write_is, first_reads as first_reads_is};
 
+use array_regions::region_sets::{Access, Region, RegionSet, push_region, with_flag};
 use fx_lists::List;
-use region_sets::{Access, Region, RegionSet, copy_region, push_region, remade};
 use std::alloc::{AllocError as Memory, Global};
 
 fn is_read(kind: Access) -> bool
@@ -27,16 +27,6 @@ pub fn is_write(kind: Access) -> bool
     }
 }
 
-/// A copy of a region that is exact where `exact` and none of its systems is over-approximated.
-pub fn with_flag(alloc: Global, r: &Region, exact: bool) -> Result<Region, Memory>
-    requires { RegionFits r.now }
-    ensures defined { IfOk result (λ q. q ≡ remade_is r.now exact r.now.pieces) }
-    ensures fits { IfOk result RegionFits }
-{
-    let copy = copy_region(alloc, r)?;
-    remade(r, exact, copy.pieces)
-}
-
 /// A copy of a region, as one of IN.
 fn as_in(alloc: Global, r: &Region) -> Result<Region, Memory>
     requires { RegionFits r.now }
@@ -53,7 +43,7 @@ fn as_in(alloc: Global, r: &Region) -> Result<Region, Memory>
 }
 
 /// Appends regions as such of IN, in their order.
-#[tactic(auto, using(region_sets::proofs::Steps::fitting))]
+#[tactic(auto, using(crate::proofs::Fitting::fitting))]
 pub fn push_in(alloc: Global, out: &mut RegionSet, set: &[Region]) -> Result<(), Memory>
     requires out { SetFits out.old }
     requires set { SetFits set.now }
@@ -69,7 +59,7 @@ pub fn push_in(alloc: Global, out: &mut RegionSet, set: &[Region]) -> Result<(),
 }
 
 /// The IN regions of a statement that reads before it writes: its READ regions.
-#[tactic(auto, using(region_sets::proofs::Steps::fitting))]
+#[tactic(auto, using(crate::proofs::Fitting::fitting))]
 pub fn first_reads(alloc: Global, set: &[Region]) -> Result<RegionSet, Memory>
     requires { SetFits set.now }
     ensures defined { IfOk result (λ qs. qs ≡ first_reads_is set.now) }

@@ -4,38 +4,27 @@ ghost use Rattle.affine_systems.specs.Given.{Fits};
 ghost use Rattle.hull_projection.specs.Minus.{AllFit};
 ghost use Rattle.f77_ast.specs.PlainStmt.{stmt_trees};
 ghost use Rattle.f77_ast.specs.Symbols.{symbol_tree};
-ghost use Rattle.transformers.specs.Given.{ResultsFit};
-ghost use Rattle.transformers.specs.Lists.{transformer_at as transformer_at_is};
-ghost use Rattle.region_sets.specs.Regions.{RegionFits};
-ghost use Rattle.region_sets.specs.Sets.{SetFits};
-ghost use Rattle.region_sets.specs.Lists.{SetsFit, forgetting as forgetting_is, all_forgetting, numbers as numbers_is, all_inexact as all_inexact_is, all_accesses as all_sets_is, in_any_order as in_any_order_is};
-ghost use Rattle.in_out_regions.specs.Lists.{set_at as set_at_is, less_write as less_write_is, all_unwritten, unless_overlapped as unless_overlapped_is, all_unless_overlapped as all_unless_overlapped_is, before_rest as before_rest_is, ins_in_order, list_in as list_in_is};
+ghost use Rattle.array_regions.specs.transformers.Given.{ResultsFit};
+ghost use Rattle.array_regions.specs.transformers.Lists.{transformer_at as transformer_at_is};
+ghost use Rattle.array_regions.specs.region_sets.Regions.{RegionFits};
+ghost use Rattle.array_regions.specs.region_sets.Sets.{SetFits};
+ghost use Rattle.array_regions.specs.region_sets.Lists.{SetsFit, set_at as set_at_is};
+ghost use Rattle.in_out_regions.specs.Lists.{less_write as less_write_is, all_unwritten, unless_overlapped as unless_overlapped_is, all_unless_overlapped as all_unless_overlapped_is, before_rest as before_rest_is, ins_in_order, list_in as list_in_is};
 ghost use Rattle.in_out_regions.specs.Contexts.{ContextFits};
 ghost use Rattle.in_out_regions.specs.ListClaims.{HasListIn, HasListInAlone};
 
-use crate::kinds::with_flag;
 use crate::writes::{is_overlapped, write_of};
-use array_regions::{push_copies, push_maybe};
-use f77_ast::{Stmt, StmtId, Symbols};
-use f77_results::{At, Results, View};
-use fx_lists::List;
-use region_sets::{
-    Region, RegionSet, copy_region, push_composed, push_region, push_system, remade, subtract,
-    unite_all, unite_owned,
+use array_regions::push_maybe;
+use array_regions::region_sets::{
+    Region, RegionSet, all_sets, copy_region, in_any_order, numbers, push_composed, push_region,
+    push_regions, set_at, subtract, unite_owned, with_flag,
 };
+use array_regions::transformer_algebra::Transformer;
+use array_regions::transformers::{is_unstructured, list_at, transformer_at};
+use call_graph::View;
+use f77_ast::{At, Results, Stmt, StmtId, Symbols};
+use fx_lists::List;
 use std::alloc::{AllocError as Memory, Global};
-use transformer_algebra::{Transformer, without};
-use transformers::{is_unstructured, list_at, transformer_at, value_at};
-
-/// The regions of the statement with a number; none where there is no result.
-pub fn set_at(at: &List<At<RegionSet>>, id: StmtId) -> &[Region]
-    ensures { result.now ≡ set_at_is at.now id }
-{
-    match value_at(at, id) {
-        None => &[],
-        Some(set) => set.as_slice(),
-    }
-}
 
 /// What is left of a region after what is written of its variable.
 fn less_write(alloc: Global, write: Option<&Region>, r: &Region) -> Result<Option<Region>, Memory>
@@ -88,7 +77,7 @@ fn unless_overlapped(
 }
 
 /// Regions, of which none is exact whose variable shares units with that of one of these WRITE regions.
-#[tactic(auto, using(region_sets::proofs::Steps::fitting))]
+#[tactic(auto, using(crate::proofs::Fitting::fitting))]
 pub fn all_unless_overlapped(
     alloc: Global,
     symbols: &Symbols,
@@ -129,7 +118,7 @@ pub fn before_rest(
     push_composed(alloc, &mut later, t, rest)?;
     let later = unite_owned(alloc, later)?;
     let mut all = List::new(alloc);
-    push_copies(alloc, &mut all, ins)?;
+    push_regions(alloc, &mut all, ins)?;
     push_unwritten(alloc, &mut all, writes, later.as_slice())?;
     let set = unite_owned(alloc, all)?;
     all_unless_overlapped(alloc, symbols, writes, set.as_slice())
@@ -163,20 +152,6 @@ fn with_rest(
     before_rest(alloc, given.symbols, ins, writes, &t, rest)
 }
 
-/// The numbers of the statements of a list.
-#[tactic(auto, using(region_sets::proofs::Steps::fitting))]
-fn numbers(alloc: Global, list: &[Stmt]) -> Result<Vec<StmtId>, Memory>
-    ensures { IfOk result (λ ns. ns.items ≡ numbers_is (stmt_trees list.now)) }
-{
-    let mut out = Vec::new(alloc);
-    let mut rest = list;
-    while let [s, more @ ..] = rest {
-        out.push(s.id)?;
-        rest = more;
-    }
-    Ok(out)
-}
-
 /// Of statements that are executed from the first to the last; from the last on.
 #[tactic(auto, using(crate::proofs::Steps::order_step))]
 fn in_order(alloc: Global, ids: &[StmtId], given: &ListContext<'_>) -> Result<RegionSet, Memory>
@@ -193,92 +168,6 @@ fn in_order(alloc: Global, ids: &[StmtId], given: &ListContext<'_>) -> Result<Re
     Ok(set)
 }
 
-/// A region for any numbers of the cells.
-#[tactic(auto, using(region_sets::proofs::Steps::fitting))]
-fn forgetting(alloc: Global, cells: &[u32], r: &Region) -> Result<Region, Memory>
-    requires { RegionFits r.now }
-    ensures defined { IfOk result (λ q. q ≡ forgetting_is cells.now r.now) }
-    ensures fits { IfOk result RegionFits }
-{
-    let mut pieces = List::new(alloc);
-    let mut rest = r.pieces.as_slice();
-    while let [piece, more @ ..] = rest {
-        push_system(&mut pieces, without(alloc, cells, piece)?)?;
-        rest = more;
-    }
-    remade(r, false, pieces)
-}
-
-/// Adds regions for any numbers of the cells.
-#[tactic(auto, using(region_sets::proofs::Steps::fitting))]
-pub fn push_forgetting(
-    alloc: Global,
-    out: &mut RegionSet,
-    cells: &[u32],
-    set: &[Region],
-) -> Result<(), Memory>
-    requires out { SetFits out.old }
-    requires set { SetFits set.now }
-    ensures added { OnOk result (out.new ≡ out.old ++ all_forgetting cells.now set.now) }
-    ensures fits { OnOk result (SetFits out.new) }
-{
-    let mut rest = set;
-    while let [r, more @ ..] = rest {
-        push_region(out, forgetting(alloc, cells, r)?)?;
-        rest = more;
-    }
-    Ok(())
-}
-
-#[tactic(auto, using(crate::proofs::Steps::regions))]
-fn all_sets(alloc: Global, ids: &[StmtId], at: &List<At<RegionSet>>) -> Result<RegionSet, Memory>
-    requires { SetsFit at.now }
-    ensures defined { IfOk result (λ qs. qs ≡ all_sets_is (set_at_is at.now) ids.now) }
-    ensures fits { IfOk result SetFits }
-{
-    let mut out = List::new(alloc);
-    let mut rest = ids;
-    while let [id, more @ ..] = rest {
-        push_copies(alloc, &mut out, set_at(at, *id))?;
-        rest = more;
-    }
-    Ok(out)
-}
-
-/// Regions that are not exact.
-#[tactic(auto, using(region_sets::proofs::Steps::fitting))]
-fn all_inexact(alloc: Global, set: &[Region]) -> Result<RegionSet, Memory>
-    requires { SetFits set.now }
-    ensures defined { IfOk result (λ qs. qs ≡ all_inexact_is set.now) }
-    ensures fits { IfOk result SetFits }
-{
-    let mut out = List::new(alloc);
-    let mut rest = set;
-    while let [r, more @ ..] = rest {
-        push_region(&mut out, with_flag(alloc, r, false)?)?;
-        rest = more;
-    }
-    Ok(out)
-}
-
-/// Of a list whose statements are executed in any order, each any number of times.
-fn in_any_order(
-    alloc: Global,
-    cells: &[u32],
-    ids: &[StmtId],
-    at: &List<At<RegionSet>>,
-) -> Result<RegionSet, Memory>
-    requires { SetsFit at.now }
-    ensures defined { IfOk result (λ qs. qs ≡ in_any_order_is cells.now (set_at_is at.now) ids.now) }
-    ensures fits { IfOk result SetFits }
-{
-    let all = all_sets(alloc, ids, at)?;
-    let mut free = List::new(alloc);
-    push_forgetting(alloc, &mut free, cells, all.as_slice())?;
-    let set = unite_all(alloc, free.as_slice())?;
-    all_inexact(alloc, set.as_slice())
-}
-
 /// Of a list, from what is known of its statements.
 pub fn of_list(
     alloc: Global,
@@ -293,7 +182,8 @@ pub fn of_list(
     let ids = numbers(alloc, list.as_slice())?;
     if is_unstructured(alloc, list, whole)? {
         let t = list_at(alloc, list, whole, given.own)?;
-        in_any_order(alloc, t.cells.as_slice(), ids.as_slice(), given.ins)
+        let all = all_sets(alloc, ids.as_slice(), given.ins)?;
+        in_any_order(alloc, t.cells.as_slice(), all.as_slice())
     } else {
         in_order(alloc, ids.as_slice(), given)
     }

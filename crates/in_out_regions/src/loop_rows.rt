@@ -4,15 +4,15 @@ ghost use Rattle.affine_systems.specs.Rows.{AllRows};
 ghost use Rattle.affine_systems.specs.Given.{IsGiven};
 ghost use Rattle.affine_systems.specs.Terms.{number as number_is};
 ghost use Rattle.affine_forms.specs.Forms.{IsSmallForm};
-ghost use Rattle.transformer_algebra.specs.Loops.{within_row as within_row_is, beyond_row as beyond_row_is, terms_stay as terms_stay_is, stays as stays_is};
-ghost use Rattle.region_sets.specs.Loops.{RangeFits};
+ghost use Rattle.array_regions.specs.transformer_algebra.Loops.{within_row as within_row_is, beyond_row as beyond_row_is, terms_stay as terms_stay_is, stays as stays_is};
+ghost use Rattle.array_regions.specs.region_sets.Loops.{RangeFits};
 ghost use Rattle.in_out_regions.specs.Loops.{after_first, before_last, index_rows as index_rows_is, earlier_from, earlier_rows as earlier_rows_is};
 
 use affine_forms::{Affine, at_most_row, below_row, var_form};
 use affine_systems::{Row, Term, Var};
-use region_sets::Range;
+use array_regions::region_sets::Range;
+use array_regions::transformer_algebra::has;
 use std::alloc::{AllocError as Memory, Global};
-use transformer_algebra::has;
 
 /// That the one is not beyond the other in the direction of the step.
 pub fn within_row(alloc: Global, step: i32, f: &Affine, g: &Affine) -> Result<Row, Memory>

@@ -3,33 +3,31 @@ ghost use Rattle.std.specs.Prelude.{◌≡◌, ◌++◌, map, IfOk, OnOk, IfSome
 ghost use Rattle.f77_ast.specs.PlainStmt.{loop_tree};
 ghost use Rattle.f77_ast.specs.Symbols.{symbol_tree};
 ghost use Rattle.hull_projection.specs.Minus.{AllFit};
-ghost use Rattle.call_translation.specs.Scopes.{scope_tree};
-ghost use Rattle.transformers.specs.Given.{ResultsFit};
-ghost use Rattle.transformers.specs.Lists.{transformer_at as transformer_at_is};
-ghost use Rattle.region_sets.specs.Loops.{RangeFits};
-ghost use Rattle.region_sets.specs.Regions.{RegionFits};
-ghost use Rattle.region_sets.specs.Sets.{SetFits};
+ghost use Rattle.array_regions.specs.call_translation.Scopes.{scope_tree};
+ghost use Rattle.array_regions.specs.transformers.Given.{ResultsFit};
+ghost use Rattle.array_regions.specs.transformers.Lists.{transformer_at as transformer_at_is};
+ghost use Rattle.array_regions.specs.region_sets.Loops.{RangeFits};
+ghost use Rattle.array_regions.specs.region_sets.Regions.{RegionFits};
+ghost use Rattle.array_regions.specs.region_sets.Sets.{SetFits};
 ghost use Rattle.array_regions.specs.Loops.{range_of as range_of_is};
 ghost use Rattle.in_out_regions.specs.Loops.{in_range as in_range_is, less_earlier as less_earlier_is, in_iteration as in_iteration_is, over_maybe, unless_index, all_iterations, do_united, do_with as do_with_is};
 
 use crate::earlier::earlier;
-use crate::kinds::{push_in, with_flag};
+use crate::kinds::push_in;
 use crate::lists::all_unless_overlapped;
 use crate::loop_rows::index_rows;
-use crate::writes::{is_touched, same_variable, write_of};
+use crate::writes::{is_touched, write_of};
 use affine_forms::is_cell;
-use array_regions::{push_copies, push_loop_reads, range_of, scalar};
-use call_translation::CellScope;
-use f77_ast::{Loop, Symbols, Variable};
-use f77_results::At;
-use fx_lists::List;
-use region_sets::{
-    Access, Range, Region, RegionSet, over_loop, push_region, push_system, remade, subtract,
-    unite_all,
+use array_regions::call_translation::CellScope;
+use array_regions::region_sets::{
+    Access, Range, Region, RegionSet, over_loop, push_region, push_regions, push_system, remade,
+    subtract, unite_all, with_flag,
 };
+use array_regions::transformer_algebra::{Transformer, push_rows};
+use array_regions::{push_loop_reads, range_of, scalar};
+use f77_ast::{At, Loop, Symbols, Variable, same_variable};
+use fx_lists::List;
 use std::alloc::{AllocError as Memory, Global};
-use system_renaming::push_rows;
-use transformer_algebra::Transformer;
 
 /// A region of the body where an iteration begins.
 #[tactic(auto, using(crate::proofs::Steps::regions))]
@@ -202,6 +200,6 @@ pub fn do_set(
     let set = united(alloc, scope, l, &range, accesses, ins)?;
     let mut writes = List::new(alloc);
     push_region(&mut writes, scalar(alloc, Access::Write, range.index)?)?;
-    push_copies(alloc, &mut writes, accesses)?;
+    push_regions(alloc, &mut writes, accesses)?;
     all_unless_overlapped(alloc, scope.symbols, writes.as_slice(), set.as_slice())
 }

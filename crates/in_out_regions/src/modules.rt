@@ -1,25 +1,26 @@
 //! IN regions of a module.
 ghost use Rattle.std.specs.Prelude.{◌≡◌, IfOk};
 ghost use Rattle.f77_ast.specs.PlainStmt.{stmt_trees};
-ghost use Rattle.call_translation.specs.Scopes.{scope_tree, scope_of};
-ghost use Rattle.f77_results.specs.Summaries.{summary_in};
+ghost use Rattle.array_regions.specs.call_translation.Scopes.{scope_tree, scope_of};
+ghost use Rattle.f77_ast.specs.Summaries.{summary_in};
 ghost use Rattle.array_regions.specs.Calls.{CalleesFit};
-ghost use Rattle.transformers.specs.Given.{ResultsFit};
-ghost use Rattle.region_sets.specs.Lists.{SetsFit};
-ghost use Rattle.region_sets.specs.Sets.{SetFits};
+ghost use Rattle.array_regions.specs.transformers.Given.{ResultsFit};
+ghost use Rattle.array_regions.specs.region_sets.Lists.{SetsFit};
+ghost use Rattle.array_regions.specs.region_sets.Sets.{SetFits};
 ghost use Rattle.in_out_regions.specs.Modules.{summary_of as summary_of_is, ins_with};
 
 use crate::context::InContext;
 use crate::kinds::push_in;
 use crate::statement::list_set;
-use array_regions::{RegionContext, all_seen, entry_reads, push_copies};
-use call_equations::changed_cells;
-use call_translation::{CellScope, tracked_of};
-use f77_results::{Results, Summaries, View};
+use array_regions::call_equations::changed_cells;
+use array_regions::call_translation::{CellScope, tracked_of};
+use array_regions::region_sets::{Region, RegionSet, push_regions, unite_all};
+use array_regions::transformer_algebra::Transformer;
+use array_regions::{RegionContext, all_seen, entry_reads};
+use call_graph::View;
+use f77_ast::{Results, Summaries};
 use fx_lists::List;
-use region_sets::{Region, RegionSet, unite_all};
 use std::alloc::{AllocError as Memory, Global};
-use transformer_algebra::Transformer;
 
 /// The IN regions of a module that its callers see, from those of its body.
 fn summary_of(alloc: Global, scope: &CellScope<'_>, body: &[Region]) -> Result<RegionSet, Memory>
@@ -30,7 +31,7 @@ fn summary_of(alloc: Global, scope: &CellScope<'_>, body: &[Region]) -> Result<R
     let read = entry_reads(alloc, scope)?;
     let mut all = List::new(alloc);
     push_in(alloc, &mut all, read.as_slice())?;
-    push_copies(alloc, &mut all, body)?;
+    push_regions(alloc, &mut all, body)?;
     let set = unite_all(alloc, all.as_slice())?;
     let out = all_seen(alloc, scope.symbols, set.as_slice())?;
     unite_all(alloc, out.as_slice())

@@ -1,17 +1,17 @@
 //! IN of a READ.
 ghost use Rattle.std.specs.Prelude.{◌≡◌, IfOk};
 ghost use Rattle.f77_ast.specs.Plain.{expr_tree, expr_trees};
-ghost use Rattle.call_translation.specs.Scopes.{scope_tree};
-ghost use Rattle.region_sets.specs.Sets.{SetFits};
+ghost use Rattle.array_regions.specs.call_translation.Scopes.{scope_tree};
+ghost use Rattle.array_regions.specs.region_sets.Sets.{SetFits};
 ghost use Rattle.in_out_regions.specs.Simple.{item_in as item_in_is, item_written as item_written_is, with_item as with_item_is, reading as reading_is};
 
 use crate::kinds::push_in;
 use crate::lists::before_rest;
+use array_regions::call_translation::CellScope;
+use array_regions::region_sets::{Access, Region, RegionSet, unite_all};
 use array_regions::{item_does, push_inner_reads, push_named};
-use call_translation::CellScope;
 use f77_ast::Expr;
 use fx_lists::List;
-use region_sets::{Access, Region, RegionSet, unite_all};
 use std::alloc::{AllocError as Memory, Global};
 
 /// What the subscripts of an item read.

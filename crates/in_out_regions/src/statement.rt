@@ -2,9 +2,9 @@
 ghost use Rattle.std.specs.Prelude.{◌≡◌, ◌++◌, ◌∷◌, [], IfOk, OnOk};
 ghost use Rattle.f77_ast.specs.Plain.{expr_tree};
 ghost use Rattle.f77_ast.specs.PlainStmt.{stmt_tree, stmt_trees, what_tree, loop_tree, arm_trees};
-ghost use Rattle.call_translation.specs.Scopes.{scope_tree};
-ghost use Rattle.region_sets.specs.Lists.{SetsFit};
-ghost use Rattle.region_sets.specs.Sets.{SetFits};
+ghost use Rattle.array_regions.specs.call_translation.Scopes.{scope_tree};
+ghost use Rattle.array_regions.specs.region_sets.Lists.{SetsFit};
+ghost use Rattle.array_regions.specs.region_sets.Sets.{SetFits};
 ghost use Rattle.array_regions.specs.Reads.{reads};
 ghost use Rattle.array_regions.specs.Arms.{ReachedFits, always as always_is, past_arms, tests_reads};
 ghost use Rattle.in_out_regions.specs.Kinds.{all_in};
@@ -14,21 +14,17 @@ ghost use Rattle.in_out_regions.specs.Statement.{list_of as list_of_is, alone as
 use crate::calls::call_in;
 use crate::context::InContext;
 use crate::kinds::{first_reads, push_in};
-use crate::lists::{ListContext, all_unless_overlapped, of_list, set_at};
+use crate::lists::{ListContext, all_unless_overlapped, of_list};
 use crate::loops::do_set;
 use crate::simple::reading;
+use array_regions::call_translation::CellScope;
+use array_regions::region_sets::{Region, RegionList, RegionSet, list_regions, set_at, unite_all};
 use array_regions::{
     Reached, always, if_false, if_true, push_met, push_reads, push_tests, put, put_all,
 };
-use call_translation::CellScope;
 use f77_ast::{Arm, Expr, Loop, Stmt, StmtId, What};
-use f77_results::At;
 use fx_lists::List;
-use region_sets::{Region, RegionSet, list_regions, unite_all};
 use std::alloc::{AllocError as Memory, Global};
-
-/// Sets of regions of statements, those of the parts of a statement after its own, in the order of the text.
-pub type RegionList = List<At<RegionSet>>;
 
 /// Of a list with these sets at its statements.
 fn list_of(

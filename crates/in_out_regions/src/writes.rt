@@ -1,23 +1,11 @@
 //! The WRITE regions of a set.
 ghost use Rattle.std.specs.Prelude.{◌≡◌, map, option_copied};
 ghost use Rattle.f77_ast.specs.Symbols.{symbol_tree};
-ghost use Rattle.in_out_regions.specs.Writes.{same_variable as same_variable_is, is_write_of as is_write_of_is, write_of as write_of_is, is_write_beside as is_write_beside_is, is_overlapped as is_overlapped_is, is_touched as is_touched_is};
+ghost use Rattle.in_out_regions.specs.Writes.{is_write_of as is_write_of_is, write_of as write_of_is, is_write_beside as is_write_beside_is, is_overlapped as is_overlapped_is, is_touched as is_touched_is};
 
 use crate::kinds::is_write;
-use f77_ast::{Symbols, Variable, overlaps};
-use f77_results::order;
-use region_sets::Region;
-use std::cmp::Ordering;
-
-/// Whether both are one variable.
-pub fn same_variable(v: &Variable, w: &Variable) -> bool
-    ensures { result ≡ same_variable_is v.now w.now }
-{
-    match order(v, w) {
-        Ordering::Equal => true,
-        Ordering::Less | Ordering::Greater => false,
-    }
-}
+use array_regions::region_sets::Region;
+use f77_ast::{Symbols, Variable, overlaps, same_variable};
 
 fn is_write_of(v: &Variable, w: &Region) -> bool
     ensures { result ≡ is_write_of_is v.now w.now }

@@ -21,22 +21,16 @@ use Rattle.tracked_cells.specs.Equivalences.{equivalenced_names}
 use Rattle.tracked_cells.specs.Standing.{is_plain}
 use Rattle.tracked_cells.specs.Tracked.{is_alone, is_tracked, tracked_of}
 use Rattle.call_graph.specs.Actuals.{symbol_with_name}
-use Rattle.laws_tables.specs.Shapes.{symbol_named}
+use Rattle.laws_programs.specs.SymbolTables.Shapes.{symbol_named}
 use Rattle.f77_meaning.specs.Modules.{tag_of, is_function, meant_by, meant_at, meant_in, symbol_names, names}
-use Rattle.laws_storage.proofs.ActualLaws.{Meaning, meaning}
+use Rattle.laws_programs.proofs.Storage.ActualLaws.{Meaning, meaning}
 use Rattle.affine_forms.specs.Scalars.{flag_of, is_cell, if_cell, cell_in}
 use Rattle.affine_forms.specs.Claims.{content_of, Agrees}
 use Rattle.laws_analyses.specs.ScalarLaws.{LogicalsAreTruths, NamesAgree}
+use Rattle.laws_programs.proofs.Fitting.{same_named}
+use Rattle.fx_lists.proofs.Lists.{slice_get-map}
 
 -- ---- constants
-
-same_named : (ss : List SymbolTree) (x : List ℕ) → symbol_named ss x ≡ symbol_with_name ss x
-same_named [] x = refl
-same_named (s ∷ ss) x = go (bytes_eq x s.name) (same_named ss x)
-  where
-    go : (b : Bool) → symbol_named ss x ≡ symbol_with_name ss x → (if b then Some s else symbol_named ss x) ≡ (if b then Some s else symbol_with_name ss x)
-    go true h = refl
-    go false h = h
 
 -- the symbol whose constant it is
 record ConstantOf (ss : List SymbolTree) (x : List ℕ) (c : Constant) : Type 0 where
@@ -70,7 +64,7 @@ meant_there t n (place.Block b o) c h l = cc
 meant_there t n (place.Constant k) c h l = meant_for t n k c h (l k refl)
 
 -- a name that stands for no function stands for what its symbol says
-unless_function : (b : Bool) (m w : Meant) → w ≡ (if b then Function else m) → (w ≡ Function → ⊥) → w ≡ m
+pub unless_function : (b : Bool) (m w : Meant) → w ≡ (if b then Function else m) → (w ≡ Function → ⊥) → w ≡ m
 unless_function true m w h f = absurd (f h)
 unless_function false m w h f = h
 
@@ -89,11 +83,6 @@ pub record Flagged (f : SymbolTree → Bool) (ss : List SymbolTree) (n : ℕ) : 
   pub is_symbol : symbol_at ss n ≡ Some symbol
   pub flag : f symbol ≡ true
 
-slice_get-map : {A B : Type 0} (f : A → B) (xs : List A) (i : ℕ) → slice_get (map f xs) i ≡ option_map f (slice_get xs i)
-slice_get-map f [] i = refl
-slice_get-map f (x ∷ xs) zero = refl
-slice_get-map f (x ∷ xs) (suc i) = slice_get-map f xs i
-
 pub flagged : (f : SymbolTree → Bool) (ss : List SymbolTree) (n : ℕ) → is_cell (map f ss) n ≡ true → Flagged f ss n
 flagged f ss n h = go (nat_eq n 0) refl h
   where
@@ -106,11 +95,11 @@ flagged f ss n h = go (nat_eq n 0) refl h
     go false z k = there (slice_get ss (n - 1)) refl z (ap flag_of (sym (slice_get-map f ss (n - 1))) ∙ k)
 
 -- a name that is taken for a cell
-record CellOf (ss : List SymbolTree) (flags : List Bool) (x : List ℕ) (n : ℕ) : Type 0 where
-  number : number_from 1 (symbol_names ss) x ≡ Some n
-  flag : is_cell flags n ≡ true
+pub record CellOf (ss : List SymbolTree) (flags : List Bool) (x : List ℕ) (n : ℕ) : Type 0 where
+  pub number : number_from 1 (symbol_names ss) x ≡ Some n
+  pub flag : is_cell flags n ≡ true
 
-cell_of : (ss : List SymbolTree) (flags : List Bool) (x : List ℕ) (n : ℕ) → cell_in (symbol_names ss) flags x ≡ Some n → CellOf ss flags x n
+pub cell_of : (ss : List SymbolTree) (flags : List Bool) (x : List ℕ) (n : ℕ) → cell_in (symbol_names ss) flags x ≡ Some n → CellOf ss flags x n
 cell_of ss flags x n h = go (number_from 1 (symbol_names ss) x) refl h
   where
     flagged_so : (m : ℕ) (b : Bool) → number_from 1 (symbol_names ss) x ≡ Some m → is_cell flags m ≡ b → (if b then Some m else None) ≡ Some n → CellOf ss flags x n

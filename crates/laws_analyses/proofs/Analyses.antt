@@ -5,31 +5,31 @@ use mathlib.Core.List.{reverse-cons}
 use Rattle.affine_systems.specs.declared.row.System.{System}
 use Rattle.f77_ast.specs.DeclTrees.{ParsedTree}
 use Rattle.f77_ast.specs.Symbols.{SymbolTree}
-use Rattle.f77_results.specs.declared.results.At.{At}
-use Rattle.f77_results.specs.declared.results.Results.{Results}
+use Rattle.f77_ast.specs.declared.results.At.{At}
+use Rattle.f77_ast.specs.declared.results.Results.{Results}
 use Rattle.call_graph.specs.declared.graph.Graph.{Graph}
 use Rattle.f77_meaning.specs.Modules.{Known, known_of}
-use Rattle.transformer_algebra.specs.Laws.{In}
-use Rattle.transformer_algebra.specs.declared.transformer.Transformer.{Transformer}
-use Rattle.call_translation.specs.Sites.{HoldingSite}
-use Rattle.transformers.specs.Given.{Callees}
-use Rattle.transformers.specs.Lists.{value_at, transformer_at}
-use Rattle.transformers.specs.Modules.{transformers_of}
+use Rattle.preconditions.specs.transformer_algebra.Laws.{In}
+use Rattle.preconditions.specs.transformer_algebra.declared.transformer.Transformer.{Transformer}
+use Rattle.preconditions.specs.call_translation.Sites.{HoldingSite}
+use Rattle.preconditions.specs.transformers.Given.{Callees}
+use Rattle.preconditions.specs.transformers.Lists.{value_at, transformer_at}
+use Rattle.preconditions.specs.transformers.Modules.{transformers_of}
 use Rattle.preconditions.specs.Entry.{main_entry, sites_entry, entry_of}
 use Rattle.preconditions.specs.Modules.{preconditions_of}
-use Rattle.laws_storage.specs.Programs.{IsLinked, IsModule, known}
-use Rattle.laws_statements.specs.CallsIn.{CallAt, Each, list_calls}
+use Rattle.laws_programs.specs.Storage.Programs.{IsLinked, IsModule, known}
+use Rattle.call_graph.specs.CallsIn.{CallAt, Each, list_calls}
 use Rattle.f77_ast.specs.StatementNumbers.{IsNumbered, list_numbers}
-use Rattle.laws_statements.specs.Results.{or_no_rows, found_in as found_of_module, pre_in}
-use Rattle.laws_statements.proofs.MainResults.{found_at}
-use Rattle.laws_statements.proofs.NumberLaws.{ids, in_order, p_list}
-use Rattle.scalar_phases.specs.Phases.{scope_of, Found, no_callees, found_in, list_sites, Analysis, caller_of, sites_of, analyses}
+use Rattle.laws_analyses.specs.Statements.Results.{or_no_rows, found_in as found_of_module, pre_in}
+use Rattle.laws_analyses.proofs.Statements.MainResults.{found_at}
+use Rattle.laws_analyses.proofs.Statements.NumberLaws.{ids, in_order, p_list}
+use Rattle.module_phases.specs.ScalarPhases.{scope_of, Found, no_callees, found_in, list_sites, Analysis, caller_of, sites_of, analyses}
 use Rattle.laws_analyses.specs.Parts.{scope_in}
 use Rattle.laws_analyses.specs.Analysed.{AreAnalysed}
 use Rattle.laws_analyses.proofs.CallLists.{each_more, each_both, each_joined, each_in}
 use Rattle.laws_analyses.proofs.UnitLaws.{module_at as place_module}
-use Rattle.laws_storage.specs.Below.{HasCall}
-use Rattle.laws_storage.proofs.CallLaws.{calls_are_listed}
+use Rattle.laws_programs.specs.Storage.Below.{HasCall}
+use Rattle.laws_programs.proofs.Storage.CallLaws.{calls_are_listed}
 use Rattle.laws_analyses.specs.Results.{summary_named, analyses_before, callees_of_all, analysed_entry, analysed_sites}
 use Rattle.laws_analyses.proofs.Orders.{NotIn, order_sorted, each_stands}
 use Rattle.laws_analyses.proofs.CallNumbers.{Stands, list_stands}

@@ -2,8 +2,8 @@
 use Rattle.std.proofs.Common.{ℕ, List, [], ◌∷◌, ◌++◌}
 use Rattle.f77_ast.specs.Trees.{ExprTrees, StmtTree, WhatTree, ArmTree, ArmTrees, ElseTree, LoopTree, StmtTrees}
 use Rattle.f77_ast.specs.Trees as tree
-use Rattle.laws_storage.specs.Calls.{EachCall, CallsOf, CallsIn, ArmCalls, OneArm, ElseCalls, LoopCalls}
-use Rattle.laws_statements.specs.CallsIn.{CallAt, Each, stmt_calls, what_calls, list_calls, arms_calls, arm_calls, else_calls, loop_calls}
+use Rattle.laws_programs.specs.Storage.Calls.{EachCall, CallsOf, CallsIn, ArmCalls, OneArm, ElseCalls, LoopCalls}
+use Rattle.call_graph.specs.CallsIn.{CallAt, Each, stmt_calls, what_calls, list_calls, arms_calls, arm_calls, else_calls, loop_calls}
 
 pub each_both : {T : Type 0} (P Q : T → Type 0) (xs : List T) → Each P xs → Each Q xs → Each (λ x. P x × Q x) xs
 each_both P Q [] h k = tt

@@ -5,10 +5,10 @@ use Rattle.std.proofs.lemmas.Slice.Eq.{bytes_eq-Decides}
 use Rattle.affine_systems.specs.declared.row.System.{System}
 use Rattle.f77_ast.specs.Trees.{StmtTree, WhatTree, ArmTree, ArmTrees, ElseTree, LoopTree, StmtTrees}
 use Rattle.f77_ast.specs.Trees as tree
-use Rattle.transformer_algebra.specs.Laws.{In, here, there}
-use Rattle.call_translation.specs.Sites.{HoldingSite}
-use Rattle.scalar_phases.specs.Phases.{Caller, site, stmt_sites, what_sites, list_sites, arms_sites, arm_sites, else_sites, loop_sites}
-use Rattle.laws_statements.specs.CallsIn.{CallAt, Each, stmt_calls, what_calls, list_calls, arms_calls, arm_calls, else_calls, loop_calls}
+use Rattle.preconditions.specs.transformer_algebra.Laws.{In, here, there}
+use Rattle.preconditions.specs.call_translation.Sites.{HoldingSite}
+use Rattle.module_phases.specs.ScalarPhases.{Caller, site, stmt_sites, what_sites, list_sites, arms_sites, arm_sites, else_sites, loop_sites}
+use Rattle.call_graph.specs.CallsIn.{CallAt, Each, stmt_calls, what_calls, list_calls, arms_calls, arm_calls, else_calls, loop_calls}
 use Rattle.laws_analyses.proofs.CallLists.{each_more, each_joined}
 
 pub in_front : {A : Type 0} (a : A) (xs ys : List A) → In a xs → In a (xs ++ ys)

@@ -19,22 +19,22 @@ use Rattle.f77_meaning.specs.Laws.{IsKnown, area_of}
 use Rattle.f77_meaning.proofs.LinkLaws.{any_found, found_any, common_is_of_blocks}
 use Rattle.f77_meaning.proofs.ModuleLaws.{offsets_fit}
 use Rattle.affine_forms.specs.Scalars.{is_cell}
-use Rattle.call_translation.specs.Common.{tracked_at, declares}
-use Rattle.laws_storage.specs.Programs.{IsLinked, IsModule, IsCell, known}
-use Rattle.laws_storage.specs.CellLaws.{units}
-use Rattle.laws_storage.proofs.ModuleLaws.{known_module, declared, area_known}
-use Rattle.laws_storage.proofs.CellLaws.{cells_are_scalars, cells_have_places, cells_stand_alone}
-use Rattle.laws_storage.proofs.LocalLaws.{next_symbol}
-use Rattle.laws_storage.specs.Activations.{is_dummy}
-use Rattle.laws_storage.proofs.LyingLaws.{Lying, lying_dummy, lying_local, lying_common, lying, cell_variable}
-use Rattle.laws_storage.proofs.FlagLaws.{flags_tell_cells, cells_have_flags}
-use Rattle.laws_storage.proofs.FoundLaws.{found_is_cell, cells_are_found, common_scalars_are_tracked_together}
-use Rattle.laws_storage.specs.Owners.{owns, owns_below}
-use Rattle.laws_storage.proofs.OwnerLaws.{variable_lies, variable_hidden}
-use Rattle.laws_calls.specs.Scenes.{IsInBlock}
-use Rattle.laws_calls.specs.Parts.{DummyOf, NoDummy}
+use Rattle.preconditions.specs.call_translation.Common.{tracked_at, declares}
+use Rattle.laws_programs.specs.Storage.Programs.{IsLinked, IsModule, IsCell, known}
+use Rattle.laws_programs.specs.Storage.CellLaws.{units}
+use Rattle.laws_programs.proofs.Storage.ModuleLaws.{known_module, declared, area_known}
+use Rattle.laws_programs.proofs.Storage.CellLaws.{cells_are_scalars, cells_have_places, cells_stand_alone}
+use Rattle.laws_programs.specs.Storage.Activations.{is_dummy}
+use Rattle.laws_programs.proofs.Storage.LyingLaws.{Lying, lying_dummy, lying_local, lying_common, lying, cell_variable}
+use Rattle.laws_programs.proofs.Storage.FlagLaws.{flags_tell_cells, cells_have_flags}
+use Rattle.laws_programs.proofs.Storage.FoundLaws.{found_is_cell, cells_are_found, common_scalars_are_tracked_together}
+use Rattle.laws_programs.specs.Storage.Owners.{owns, owns_below}
+use Rattle.laws_programs.proofs.Storage.OwnerLaws.{variable_lies, variable_hidden}
+use Rattle.laws_analyses.specs.Calls.Scenes.{IsInBlock}
+use Rattle.laws_analyses.specs.Calls.Parts.{DummyOf, NoDummy}
 use Rattle.laws_analyses.specs.Parts.{scope_in, tracks}
 use Rattle.laws_analyses.proofs.UnitLaws.{in_own, scope_is, tracked_by}
+use Rattle.f77_ast.proofs.StorageLaws.{to_number as next_symbol}
 
 -- ---- dummies
 

@@ -5,25 +5,25 @@ use Rattle.std.proofs.lemmas.List.Elements.{All-nil, All-cons}
 use Rattle.affine_systems.specs.declared.row.System.{System}
 use Rattle.f77_ast.specs.DeclTrees.{ParsedTree}
 use Rattle.f77_ast.specs.Symbols.{SymbolTree}
-use Rattle.f77_results.specs.declared.results.Results.{Results}
+use Rattle.f77_ast.specs.declared.results.Results.{Results}
 use Rattle.call_graph.specs.declared.graph.Graph.{Graph}
 use Rattle.f77_meaning.specs.Modules.{Known, known_of}
 use Rattle.f77_meaning.specs.Occurrences.{Occurrence}
 use Rattle.f77_meaning.specs.Claims.{PreconditionHolds, TransformerHolds}
 use Rattle.affine_forms.specs.Scalars.{is_cell}
-use Rattle.transformer_algebra.specs.declared.transformer.Transformer.{Transformer}
-use Rattle.transformer_algebra.specs.Cells.{has}
-use Rattle.transformers.specs.Given.{Callees}
-use Rattle.transformers.specs.Lists.{value_at, or_unchanging}
-use Rattle.transformers.specs.Modules.{transformers_of}
+use Rattle.preconditions.specs.transformer_algebra.declared.transformer.Transformer.{Transformer}
+use Rattle.preconditions.specs.transformer_algebra.Cells.{has}
+use Rattle.preconditions.specs.transformers.Given.{Callees}
+use Rattle.preconditions.specs.transformers.Lists.{value_at, or_unchanging}
+use Rattle.preconditions.specs.transformers.Modules.{transformers_of}
 use Rattle.preconditions.specs.Modules.{preconditions_of}
-use Rattle.laws_storage.specs.Programs.{IsLinked, IsModule, known}
-use Rattle.laws_statements.specs.CallsIn.{Each}
+use Rattle.laws_programs.specs.Storage.Programs.{IsLinked, IsModule, known}
+use Rattle.call_graph.specs.CallsIn.{Each}
 use Rattle.f77_ast.specs.StatementNumbers.{IsNumbered}
-use Rattle.laws_statements.specs.Results.{SystemHolds, Relates, or_no_rows, pre_in, found_in}
-use Rattle.laws_calls.specs.Parts.{Part}
-use Rattle.laws_calls.specs.ProgramLaws.{ScalarsHold, EachHolds}
-use Rattle.scalar_phases.specs.Phases.{scope_of, Analysis, analyses}
+use Rattle.laws_analyses.specs.Statements.Results.{SystemHolds, Relates, or_no_rows, pre_in, found_in}
+use Rattle.laws_analyses.specs.Calls.Parts.{Part}
+use Rattle.laws_analyses.specs.Calls.ProgramLaws.{ScalarsHold, EachHolds}
+use Rattle.module_phases.specs.ScalarPhases.{scope_of, Analysis, analyses}
 use Rattle.laws_analyses.specs.Parts.{part_of}
 use Rattle.laws_analyses.specs.Analysed.{part_named}
 use Rattle.laws_analyses.proofs.CallLists.{each_more}
@@ -33,7 +33,7 @@ use Rattle.laws_analyses.specs.Results.{callees_of_all, analysed_entry}
 use Rattle.laws_analyses.specs.Claims.{precondition_in, transformer_in, AnalysisHolds, AnalysesHold}
 use Rattle.laws_analyses.proofs.Analyses.{Located, all_located, holds_are}
 
-all_of_each : {T : Type 0} (P : T → Type 0) (xs : List T) → Each P xs → All P xs
+pub all_of_each : {T : Type 0} (P : T → Type 0) (xs : List T) → Each P xs → All P xs
 all_of_each P [] h = All-nil P
 all_of_each P (x ∷ xs) h = All-cons P x xs h.0 (all_of_each P xs h.1)
 

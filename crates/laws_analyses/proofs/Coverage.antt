@@ -6,27 +6,27 @@ use Rattle.affine_systems.specs.declared.row.System.{System}
 use Rattle.f77_ast.specs.DeclTrees.{ParsedTree}
 use Rattle.f77_ast.specs.declared.variable.Unit.{Unit as BlockUnit}
 use Rattle.f77_ast.specs.Symbols.{SymbolTree}
-use Rattle.f77_results.specs.declared.results.At.{At}
-use Rattle.f77_results.specs.declared.results.Results.{Results}
+use Rattle.f77_ast.specs.declared.results.At.{At}
+use Rattle.f77_ast.specs.declared.results.Results.{Results}
 use Rattle.call_graph.specs.declared.graph.Graph.{Graph}
 use Rattle.f77_meaning.specs.Modules.{Known, known_of}
-use Rattle.transformer_algebra.specs.declared.transformer.Transformer.{Transformer}
-use Rattle.transformers.specs.Given.{Callees}
-use Rattle.transformers.specs.Lists.{value_at}
-use Rattle.transformers.specs.Modules.{transformers_of}
+use Rattle.preconditions.specs.transformer_algebra.declared.transformer.Transformer.{Transformer}
+use Rattle.preconditions.specs.transformers.Given.{Callees}
+use Rattle.preconditions.specs.transformers.Lists.{value_at}
+use Rattle.preconditions.specs.transformers.Modules.{transformers_of}
 use Rattle.preconditions.specs.Modules.{preconditions_of}
-use Rattle.laws_storage.specs.Programs.{IsLinked, IsModule, known}
+use Rattle.laws_programs.specs.Storage.Programs.{IsLinked, IsModule, known}
 use Rattle.laws_programs.specs.Programs.{IsProgram}
 use Rattle.laws_programs.proofs.Sources.{all_built}
 use Rattle.laws_programs.proofs.Tables.{programs_are_linked}
 use Rattle.laws_programs.proofs.Whole.{numbers_go_up}
-use Rattle.laws_statements.specs.CallsIn.{Each}
-use Rattle.laws_statements.specs.Laws.{InOrder}
+use Rattle.call_graph.specs.CallsIn.{Each}
+use Rattle.laws_analyses.specs.Statements.Laws.{InOrder}
 use Rattle.f77_ast.specs.StatementNumbers.{IsNumbered, list_numbers}
-use Rattle.laws_statements.specs.Results.{found_in}
-use Rattle.laws_statements.proofs.MainResults.{found_at}
-use Rattle.laws_statements.proofs.NumberLaws.{ids, in_order, t_list, p_list}
-use Rattle.scalar_phases.specs.Phases.{scope_of, Found, Analysis, analyses}
+use Rattle.laws_analyses.specs.Statements.Results.{found_in}
+use Rattle.laws_analyses.proofs.Statements.MainResults.{found_at}
+use Rattle.laws_analyses.proofs.Statements.NumberLaws.{ids, in_order, t_list, p_list}
+use Rattle.module_phases.specs.ScalarPhases.{scope_of, Found, Analysis, analyses}
 use Rattle.laws_analyses.specs.Claims.{precondition_in, transformer_in}
 use Rattle.laws_analyses.specs.Coverage.{IsWhole, AreWhole}
 use Rattle.laws_analyses.specs.Laws.{AnalysesAreWhole}
@@ -102,7 +102,7 @@ module _ (ps : List ParsedTree) (sss : List (List SymbolTree)) (g : Graph) (l : 
   front_once ns (x ∷ fs) (suc i) (suc j) f h r e q same = ap suc (front_once (x.known.read.name ∷ ns) fs i j f h r.2 e q same)
 
   all_fronted : Fronted ps sss g l [] (reverse (in_order_found ps sss g l))
-  all_fronted = fronted ps sss g l (in_order_found ps sss g l) (found_in_order ps sss g l g.order Rattle.scalar_phases.specs.Phases.no_callees (order_sorted ps sss g l))
+  all_fronted = fronted ps sss g l (in_order_found ps sss g l) (found_in_order ps sss g l g.order Rattle.module_phases.specs.ScalarPhases.no_callees (order_sorted ps sss g l))
 
   stands_found : (j : ℕ) (a : Analysis) → slice_get (analyses (known_of ps sss) g) j ≡ Some a → slice_get (reverse (in_order_found ps sss g l)) j ≡ Some a.found
   stands_found j a e = run_at g.untracked [] (reverse (in_order_found ps sss g l)) j a (sym (ap (λ as'. slice_get as' j) (analyses_are ps sss g l)) ∙ e)

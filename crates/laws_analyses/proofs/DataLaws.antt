@@ -1,5 +1,5 @@
 -- DATA in modules that are read.
-use Rattle.laws_storage.specs.DataLaws.{DataStaysInLocals}
+use Rattle.laws_programs.specs.Storage.DataLaws.{DataStaysInLocals}
 use Rattle.laws_programs.proofs.Tables.{laid_out}
 use Rattle.laws_analyses.specs.ScalarLaws.{IntegersFit, AcceptedDataStaysInLocals}
 

@@ -6,11 +6,10 @@ use Rattle.f77_ast.specs.declared.symbol.Place.{Place}
 use Rattle.f77_ast.specs.declared.symbol.Place.TheVariants as place
 use Rattle.f77_ast.specs.Symbols.{SymbolTree}
 use Rattle.f77_ast.specs.Shared.{symbol_at, place_of, place_at}
-use Rattle.laws_tables.specs.Laws.{NoDummies, DummiesFirst}
+use Rattle.laws_programs.specs.SymbolTables.Laws.{NoDummies, DummiesFirst}
 use Rattle.f77_meaning.specs.Modules.{tag_of, bound_of, as_dummy, dummies_from}
-use Rattle.f77_meaning.proofs.ModuleLaws.{numbered_place}
-use Rattle.laws_storage.proofs.LocalLaws.{next_symbol}
-use Rattle.laws_storage.proofs.LyingLaws.{at_least_one}
+use Rattle.laws_programs.proofs.Storage.LyingLaws.{at_least_one}
+use Rattle.f77_ast.proofs.StorageLaws.{from_number as numbered_place, to_number as next_symbol}
 
 abbrev pub the_dummy : ℕ → SymbolTree → Dummy
 the_dummy n s = record { symbol = n; tag = tag_of s.scalar; bounds = map bound_of s.bounds }

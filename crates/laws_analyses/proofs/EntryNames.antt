@@ -8,12 +8,12 @@ use Rattle.f77_ast.specs.declared.symbol.Place.{Place}
 use Rattle.f77_ast.specs.declared.symbol.Place.TheVariants as place
 use Rattle.f77_ast.specs.Symbols.{SymbolTree}
 use Rattle.f77_names.specs.Entries.{EntryTree, find}
-use Rattle.storage_groups.specs.declared.seat.Home.{Home}
-use Rattle.storage_groups.specs.declared.seat.Home.TheVariants.{Block, Own}
-use Rattle.storage_groups.specs.declared.seat.Seat.{Seat}
+use Rattle.laws_programs.specs.storage_data.declared.offset_node.Home.{Home}
+use Rattle.laws_programs.specs.storage_data.declared.offset_node.Home.TheVariants.{Block, Own}
+use Rattle.laws_programs.specs.storage_data.declared.offset_node.OffsetNode.{OffsetNode}
 use Rattle.storage_layout.specs.Table.{Layout, home_place, place_in, unless_dummy, unless_value, symbol_of, symbols_from}
-use Rattle.laws_tables.specs.Shapes.{symbol_named}
-use Rattle.laws_tables.proofs.Answers.{Answered, names_in, layout_in}
+use Rattle.laws_programs.specs.SymbolTables.Shapes.{symbol_named}
+use Rattle.laws_programs.proofs.SymbolTables.Answers.{Answered, names_in, layout_in}
 
 -- ---- entries
 
@@ -41,19 +41,19 @@ no_home : (l : Layout) (o : ℤ) (h : Home) (k : ℤ) → home_place l o h ≡ p
 no_home l o (Block b) k e = cc
 no_home l o (Own n) k e = cc
 
-no_seat : (l : Layout) (s : Option Seat) (k : ℤ) → place_in l s ≡ place.Constant k → ⊥
-no_seat l None k e = cc
-no_seat l (Some s) k e = no_home l s.offset s.home k e
+no_offset_node : (l : Layout) (s : Option OffsetNode) (k : ℤ) → place_in l s ≡ place.Constant k → ⊥
+no_offset_node l None k e = cc
+no_offset_node l (Some s) k e = no_home l s.offset s.home k e
 
 pub record Valued (e : EntryTree) (k : ℤ) : Type 0 where
   pub constant : Constant
   pub value : e.value ≡ Some constant
   pub number : number_of constant ≡ k
 
-value_for : (l : Layout) (e : EntryTree) (v : Option Constant) (d : Option ℕ) (s : Option Seat) (k : ℤ) → e.value ≡ v → unless_value v (unless_dummy d (place_in l s)) ≡ place.Constant k → Valued e k
+value_for : (l : Layout) (e : EntryTree) (v : Option Constant) (d : Option ℕ) (s : Option OffsetNode) (k : ℤ) → e.value ≡ v → unless_value v (unless_dummy d (place_in l s)) ≡ place.Constant k → Valued e k
 value_for l e (Some c) d s k q h = let same : number_of c ≡ k = cc in record { constant = c; value = q; number = same }
 value_for l e None (Some n) s k q h = cc
-value_for l e None None s k q h = absurd (no_seat l s k h)
+value_for l e None None s k q h = absurd (no_offset_node l s k h)
 
 pub valued : (l : Layout) (n : ℕ) (e : EntryTree) (k : ℤ) → (symbol_of l n e).place ≡ place.Constant k → Valued e k
-valued l n e k h = value_for l e e.value e.dummy (slice_get l.seats n) k refl h
+valued l n e k h = value_for l e e.value e.dummy (slice_get l.offset_nodes n) k refl h

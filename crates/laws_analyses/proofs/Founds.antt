@@ -9,14 +9,14 @@ use Rattle.call_graph.specs.declared.graph.Graph.{Graph}
 use Rattle.call_graph.specs.Modules.{names_of}
 use Rattle.f77_meaning.specs.Modules.{Known, known_of}
 use Rattle.f77_meaning.proofs.UnitLaws.{number_least}
-use Rattle.transformers.specs.Given.{Callees}
-use Rattle.transformers.specs.Modules.{transformers_of}
-use Rattle.laws_storage.specs.Programs.{IsLinked, IsModule, known}
-use Rattle.laws_storage.proofs.ModuleLaws.{known_module, place_of_name}
-use Rattle.laws_storage.specs.Below.{HasCall}
-use Rattle.laws_storage.proofs.CallLaws.{calls_are_listed}
-use Rattle.laws_statements.specs.CallsIn.{CallAt, Each, list_calls}
-use Rattle.scalar_phases.specs.Phases.{scope_of, module_names, module_at, module_of, Found, with_callee, found_of, maybe_found, found_in}
+use Rattle.preconditions.specs.transformers.Given.{Callees}
+use Rattle.preconditions.specs.transformers.Modules.{transformers_of}
+use Rattle.laws_programs.specs.Storage.Programs.{IsLinked, IsModule, known}
+use Rattle.laws_programs.proofs.Storage.ModuleLaws.{known_module, place_of_name}
+use Rattle.laws_programs.specs.Storage.Below.{HasCall}
+use Rattle.laws_programs.proofs.Storage.CallLaws.{calls_are_listed}
+use Rattle.call_graph.specs.CallsIn.{CallAt, Each, list_calls}
+use Rattle.module_phases.specs.ScalarPhases.{scope_of, module_names, module_at, module_of, Found, with_callee, found_of, maybe_found, found_in}
 use Rattle.laws_analyses.proofs.CallLists.{each_more, each_in}
 use Rattle.laws_analyses.proofs.UnitLaws.{ModuleAt, module_at as place_module}
 use Rattle.laws_analyses.specs.Results.{callees_after}

@@ -5,12 +5,14 @@ use Rattle.std.proofs.lemmas.Bool.Decides.{nat_tests}
 use Rattle.std.proofs.lemmas.Bool.{or_from}
 use Rattle.f77_ast.specs.Trees.{StmtTrees}
 use Rattle.f77_structure.specs.declared.blocks.Landing.{Landing}
-use Rattle.roundtrip_modules.proofs.Outlines.{Going, Outline, innermost, outer, begins, leaves}
-use Rattle.roundtrip_modules.proofs.Shown as lists
-use Rattle.transformer_algebra.specs.Cells.{has, others}
-use Rattle.transformers.specs.Jumps.{labels}
+use Rattle.laws_programs.proofs.RoundtripPrograms.ModuleTexts.Outlines.{Going, Outline, innermost, outer, begins, leaves}
+use Rattle.laws_programs.proofs.RoundtripPrograms.ModuleTexts.Shown as lists
+use Rattle.preconditions.specs.transformer_algebra.Cells.{has, others}
+use Rattle.preconditions.specs.transformers.Jumps.{labels}
 use Rattle.laws_analyses.proofs.Members.{Member}
 use Rattle.laws_analyses.proofs.Steps.{Came, before, own, inner, Step, InLabels}
+use Rattle.fx_lists.proofs.Numbers.{nat_eq_same as is_same, same_is}
+use Rattle.fx_lists.proofs.Booleans.{or_split}
 
 -- a list is one of these
 abbrev pub In : ℕ → List ℕ → Type 0
@@ -27,16 +29,6 @@ pub record Inside (F : List Landing) (G : List Going) (o p : Outline) (ms : List
   pub covered : (x : Landing) → Member x F → In x.list o.within → has ms x.label ≡ false
 
 -- ---- labels that are left out
-
-same_is : (a b : ℕ) → nat_eq a b ≡ true → a ≡ b
-same_is a b h = grind (arith, nat_tests)
-
-is_same : (a : ℕ) → nat_eq a a ≡ true
-is_same a = grind (arith, nat_tests)
-
-or_split : {P : Type 0} (a b : Bool) → (a || b) ≡ true → (a ≡ true → P) → (b ≡ true → P) → P
-or_split true b h f g = f refl
-or_split false b h f g = g h
 
 -- none of those that are taken away
 pub taken_away : (ms ns : List ℕ) (l : ℕ) → has ns l ≡ true → has (others ms ns) l ≡ false

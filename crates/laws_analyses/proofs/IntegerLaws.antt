@@ -9,9 +9,9 @@ use Rattle.f77_ast.specs.declared.places.Part.TheVariants as parts
 use Rattle.f77_ast.specs.Numbers.{in_range}
 use Rattle.f77_ast.specs.declared.constant.Constant.{Constant}
 use Rattle.f77_ast.specs.declared.constant.Constant.TheVariants as constant
-use Rattle.f77_ast.specs.declared.constant.Worth.{Worth}
-use Rattle.f77_ast.specs.declared.constant.Worth.TheVariants.{Is, Faults, Varies}
-use Rattle.f77_ast.specs.Constants.{number_of, worth}
+use Rattle.f77_ast.specs.declared.constant.ConstantValue.{ConstantValue}
+use Rattle.f77_ast.specs.declared.constant.ConstantValue.TheVariants.{Is, Faults, Varies}
+use Rattle.f77_ast.specs.Constants.{number_of, const_value}
 use Rattle.f77_statements.specs.Phrases.{specification, end_module}
 use Rattle.f77_parser.specs.Modules.{parse_of}
 use Rattle.f77_ast.specs.declared.symbol.Place.TheVariants as place
@@ -22,21 +22,21 @@ use Rattle.f77_names.specs.declared.lines.Sited.TheVariants.{Decl}
 use Rattle.f77_names.specs.Lines.{LineTable, line_or}
 use Rattle.f77_names.specs.Entries.{EntryTree, find, of_entry, changed, with_value, value_among}
 use Rattle.f77_names.specs.Tables.{kind_in, entry_kind, table_of, check_names}
-use Rattle.f77_checks.specs.Parameters.{Valued, given_typed, given_worth, setting_valued, settings_valued, decl_valued, decls_valued}
-use Rattle.roundtrip_statements.specs.Formed.{Each}
-use Rattle.roundtrip_statements.specs.Declared.{IsSetting}
-use Rattle.roundtrip_statements.specs.Phrased.{IsPhrase}
-use Rattle.roundtrip_modules.specs.Cards.{card, title_cards, decl_cards, cards_in, statements_of}
+use Rattle.f77_checks.specs.Parameters.{Valued, given_typed, given_const_value, setting_valued, settings_valued, decl_valued, decls_valued}
+use Rattle.laws_programs.specs.roundtrip_programs.Statements.Formed.{Each}
+use Rattle.laws_programs.specs.roundtrip_programs.Statements.Declared.{IsSetting}
+use Rattle.laws_programs.specs.roundtrip_programs.Statements.Phrased.{IsPhrase}
+use Rattle.laws_programs.specs.roundtrip_programs.ModuleTexts.Cards.{card, title_cards, decl_cards, cards_in, statements_of}
 use Rattle.storage_layout.specs.Symbols.{symbols_of, valued}
 use Rattle.storage_layout.specs.Table.{scalar_of}
-use Rattle.laws_tables.specs.Shapes.{symbol_named}
-use Rattle.laws_tables.proofs.KeptNames.{Said, with_said, Typed, Shaped, Shared, Parameter, Saved, Initial, Nothing}
-use Rattle.laws_tables.proofs.Values.{chosen, as_chosen, is_taken, judged}
-use Rattle.laws_tables.proofs.Answers.{Answered, lines_in, names_in, layout_in, answered_by}
-use Rattle.laws_tables.proofs.FoundNames.{AllFound, Changed, find_changed, table_found}
-use Rattle.laws_storage.specs.Programs.{IsModule}
-use Rattle.laws_storage.specs.DataLaws.{ConstantsFit, AllConstantsFit}
-use Rattle.laws_storage.proofs.ParameterLaws.{OfKind, Right, names_right}
+use Rattle.laws_programs.specs.SymbolTables.Shapes.{symbol_named}
+use Rattle.laws_programs.proofs.SymbolTables.KeptNames.{Said, with_said, Typed, Shaped, Shared, Parameter, Saved, Initial, Nothing}
+use Rattle.laws_programs.proofs.SymbolTables.Values.{chosen, as_chosen, is_taken, judged}
+use Rattle.laws_programs.proofs.SymbolTables.Answers.{Answered, lines_in, names_in, layout_in, answered_by}
+use Rattle.laws_programs.proofs.SymbolTables.FoundNames.{AllFound, Changed, find_changed, table_found}
+use Rattle.laws_programs.specs.Storage.Programs.{IsModule}
+use Rattle.laws_programs.specs.Storage.DataLaws.{ConstantsFit, AllConstantsFit}
+use Rattle.laws_programs.proofs.Storage.ParameterLaws.{OfKind, Right, names_right, none_said}
 use Rattle.laws_programs.specs.Programs.{AreTables}
 use Rattle.laws_programs.proofs.Sources.{IsBuilt, all_built}
 use Rattle.laws_programs.proofs.Ordered.{AllFormed, split}
@@ -44,7 +44,7 @@ use Rattle.laws_analyses.specs.ScalarLaws.{IntegersFit}
 use Rattle.laws_analyses.proofs.EntryNames.{EntryNamed, entry_named}
 use Rattle.laws_analyses.proofs.EntryNames as names
 use Rattle.laws_analyses.proofs.LogicalLaws.{kind_of_value}
-use Rattle.laws_analyses.proofs.LiteralLaws.{Small, formed_small, Fits32, MaybeFits, WorthFits, worth_fits}
+use Rattle.laws_analyses.proofs.LiteralLaws.{Small, formed_small, Fits32, MaybeFits, ConstantValueFits, const_value_fits}
 
 -- ---- what is given to names
 
@@ -74,7 +74,7 @@ typed_fits kind.Log x (constant.Int i) line v f h = h
 typed_fits kind.Log x (constant.Log b) line v f h = value_fits x (constant.Log b) v.table.entries tt h
 typed_fits kind.Real x c line v f h = h
 
-given_fits : (x : List ℕ) (w : Worth) (line : ℕ) (v : Valued) → WorthFits w → AllFound ValueFits v.table.entries → AllFound ValueFits (given_worth x w line v).table.entries
+given_fits : (x : List ℕ) (w : ConstantValue) (line : ℕ) (v : Valued) → ConstantValueFits w → AllFound ValueFits v.table.entries → AllFound ValueFits (given_const_value x w line v).table.entries
 given_fits x Varies line v f h = h
 given_fits x Faults line v f h = h
 given_fits x (Is c) line v f h = typed_fits (kind_in v.table x) x c line v f h
@@ -82,7 +82,7 @@ given_fits x (Is c) line v f h = typed_fits (kind_in v.table x) x c line v f h
 chosen_fits : (b : Bool) (s : SettingTree) (line : ℕ) (v : Valued) → Small s.value → AllFound ValueFits v.table.entries → AllFound ValueFits (chosen b s line v).table.entries
 chosen_fits true s line v f h = h
 chosen_fits false s line v f h =
-    given_fits s.name (worth (value_among v.table.entries) s.value) line (judged s line v) (worth_fits (value_among v.table.entries) (found_fits v.table.entries h) s.value f) h
+    given_fits s.name (const_value (value_among v.table.entries) s.value) line (judged s line v) (const_value_fits (value_among v.table.entries) (found_fits v.table.entries h) s.value f) h
 
 setting_fits : (s : SettingTree) (line : ℕ) (v : Valued) → Small s.value → AllFound ValueFits v.table.entries → AllFound ValueFits (setting_valued s line v).table.entries
 setting_fits s line v f h = subst (λ (z : Valued). AllFound ValueFits z.table.entries) (sym (as_chosen s line v)) (chosen_fits (is_taken s v) s line v f h)
@@ -120,15 +120,6 @@ decls_formed m h =
     let all = (split (title_cards m ++ decl_cards 0 m.decls ++ cards_in m.body) (card parts.End None end_module ∷ []) h).0 in
     let front = (split (title_cards m ++ decl_cards 0 m.decls) (cards_in m.body) all).0 in
     (split (title_cards m) (decl_cards 0 m.decls) front).1
-
-none_said : (w : Said) (e : EntryTree) → e.value ≡ None → (with_said w e).value ≡ None
-none_said (Typed s) e h = h
-none_said (Shaped line b bs) e h = h
-none_said (Shared line) e h = h
-none_said Parameter e h = h
-none_said Saved e h = h
-none_said Initial e h = h
-none_said Nothing e h = h
 
 values_fit : (p : ParsedTree) → IsBuilt p → AllFound ValueFits (names_in p).entries
 unfolding valued

@@ -8,20 +8,21 @@ use Rattle.f77_ast.specs.Trees.{stmt, WhatTree, assign, block_if, logical_if, do
 use Rattle.f77_structure.specs.declared.mark.Action.TheVariants.{Goto}
 use Rattle.f77_structure.specs.declared.blocks.Landing.{Landing}
 use Rattle.f77_parser.specs.Roles.{action_of}
-use Rattle.roundtrip_statements.specs.Phrased.{IsWhat}
-use Rattle.roundtrip_modules.proofs.Outlines.{Going, Outline, lands, goes, begins, leaves}
-use Rattle.roundtrip_modules.proofs.TreeOutlines.{outline_by, outline_body, outline_arms, outline_else, outline_in}
-use Rattle.roundtrip_modules.proofs.Shown as lists
-use Rattle.roundtrip_modules.proofs.Reached.{AllReach}
-use Rattle.roundtrip_modules.specs.Numbered.{last_of, last_arms, last_in}
+use Rattle.laws_programs.specs.roundtrip_programs.Statements.Phrased.{IsWhat}
+use Rattle.laws_programs.proofs.RoundtripPrograms.ModuleTexts.Outlines.{Going, Outline, lands, goes, begins, leaves}
+use Rattle.laws_programs.proofs.RoundtripPrograms.ModuleTexts.TreeOutlines.{outline_by, outline_body, outline_arms, outline_else, outline_in}
+use Rattle.laws_programs.proofs.RoundtripPrograms.ModuleTexts.Shown as lists
+use Rattle.laws_programs.proofs.RoundtripPrograms.ModuleTexts.Reached.{AllReach}
+use Rattle.laws_programs.specs.roundtrip_programs.ModuleTexts.Numbered.{last_of, last_arms, last_in}
 use Rattle.laws_programs.proofs.Ordered.{BelowOrdered, LoopOrdered, ArmsOrdered, ElseOrdered, ListOrdered}
-use Rattle.transformer_algebra.specs.Cells.{has, others}
-use Rattle.transformers.specs.Jumps.{labels}
-use Rattle.laws_statements.specs.Leads.{what_leads, each_leads, arms_lead, arm_leads, else_leads, loop_leads}
+use Rattle.preconditions.specs.transformer_algebra.Cells.{has, others}
+use Rattle.preconditions.specs.transformers.Jumps.{labels}
+use Rattle.laws_analyses.specs.Statements.Leads.{what_leads, each_leads, arms_lead, arm_leads, else_leads, loop_leads}
 use Rattle.laws_analyses.proofs.Members.{Member, member_last}
 use Rattle.laws_analyses.proofs.Sizes.{one_going, goings_by, goings_body, goings_arms, goings_else, goings_in}
 use Rattle.laws_analyses.proofs.Steps.{Never, Own, InLabels, step_then, lands_step, list_step_in, list_step, what_step, body_step, arms_step, else_step}
 use Rattle.laws_analyses.proofs.Insides.{In, Inside, first_part, second_part, list_part}
+use Rattle.fx_lists.proofs.Numbers.{same_is}
 
 -- ---- a GO TO reaches a statement with its label in a list around it
 
@@ -30,9 +31,6 @@ pub record Lands (F : List Landing) (l : ℕ) (ks : List ℕ) : Type 0 where
   pub stands : Member landing F
   pub label : landing.label ≡ l
   pub within : In landing.list ks
-
-same_is : (a b : ℕ) → nat_eq a b ≡ true → a ≡ b
-same_is a b h = grind (arith, nat_tests)
 
 landed_in : (F : List Landing) (l : ℕ) (ks : List ℕ) → list_any (λ x. nat_eq x.label l) F ≡ true → list_all (λ x. not (nat_eq x.label l) || lists.has x.list ks) F ≡ true → Lands F l ks
 landed_in [] l ks h k = cc

@@ -35,3 +35,6 @@ pub mod Analyses
 pub mod Claimed
 pub mod Coverage
 pub mod Whole
+pub mod Calls
+pub mod Regions
+pub mod Statements

@@ -14,8 +14,8 @@ use Rattle.f77_names.specs.declared.kinds.Kind.TheVariants as kind
 use Rattle.f77_names.specs.Entries.{EntryTree}
 use Rattle.f77_names.specs.Tables.{entry_kind}
 use Rattle.storage_layout.specs.Table.{scalar_of, symbol_of}
-use Rattle.laws_tables.proofs.Answers.{Answered, names_in, layout_in, answered_by}
-use Rattle.laws_storage.proofs.ParameterLaws.{OfKind, Right, no_value, a_value, names_right}
+use Rattle.laws_programs.proofs.SymbolTables.Answers.{Answered, names_in, layout_in, answered_by}
+use Rattle.laws_programs.proofs.Storage.ParameterLaws.{OfKind, Right, no_value, a_value, names_right}
 use Rattle.laws_analyses.specs.ScalarLaws.{LogicalsAreTruths}
 use Rattle.laws_analyses.proofs.EntryNames.{EntryNamed, entry_named, Valued, valued}
 

@@ -5,28 +5,23 @@ use Rattle.affine_systems.specs.declared.row.System.{System}
 use Rattle.affine_systems.specs.Calls.{meet}
 use Rattle.f77_ast.specs.Trees.{StmtTree, WhatTree, ArmTree, ArmTrees, ElseTree, LoopTree, StmtTrees}
 use Rattle.f77_ast.specs.Trees as tree
-use Rattle.f77_results.specs.declared.results.At.{At}
-use Rattle.f77_results.specs.declared.results.Results.{Results}
+use Rattle.f77_ast.specs.declared.results.At.{At}
+use Rattle.f77_ast.specs.declared.results.Results.{Results}
 use Rattle.affine_forms.specs.Conditions.{no_rows, condition_of}
-use Rattle.transformer_algebra.specs.declared.transformer.Transformer.{Transformer}
-use Rattle.call_translation.specs.Scopes.{ScopeTree}
-use Rattle.transformers.specs.Given.{Callees}
-use Rattle.transformers.specs.Jumps.{is_end}
-use Rattle.transformers.specs.Lists.{list_of}
-use Rattle.transformers.specs.Loops.{loop_parts}
-use Rattle.transformers.specs.Statement.{parts_do, where_holds, if_does, choice, without_arm, without_arms, stmt_transformer, what_transformer, each_transformer, arm_transformers, arm_transformer, else_transformer, body_transformer, list_transformer, at, at_stmt, at_parts, at_list, at_arms, at_arm, at_else, at_loop}
-use Rattle.transformers.specs.Modules.{summary_of, transformers_of}
-use Rattle.laws_statements.specs.CallsIn.{CallAt, stmt_calls, what_calls, list_calls, arms_calls, arm_calls, else_calls, loop_calls}
+use Rattle.preconditions.specs.transformer_algebra.declared.transformer.Transformer.{Transformer}
+use Rattle.preconditions.specs.call_translation.Scopes.{ScopeTree}
+use Rattle.preconditions.specs.transformers.Given.{Callees}
+use Rattle.preconditions.specs.transformers.Jumps.{is_end}
+use Rattle.preconditions.specs.transformers.Lists.{list_of}
+use Rattle.preconditions.specs.transformers.Loops.{loop_parts}
+use Rattle.preconditions.specs.transformers.Statement.{parts_do, where_holds, if_does, choice, without_arm, without_arms, stmt_transformer, what_transformer, each_transformer, arm_transformers, arm_transformer, else_transformer, body_transformer, list_transformer, at, at_stmt, at_parts, at_list, at_arms, at_arm, at_else, at_loop}
+use Rattle.preconditions.specs.transformers.Modules.{summary_of, transformers_of}
+use Rattle.call_graph.specs.CallsIn.{CallAt, stmt_calls, what_calls, list_calls, arms_calls, arm_calls, else_calls, loop_calls}
+use Rattle.fx_lists.proofs.Lists.{added, joined}
 
 neither : (xs ys : List CallAt) → (xs ++ ys) ≡ [] → (xs ≡ []) × (ys ≡ [])
 neither [] ys h = (refl, h)
 neither (x ∷ xs) ys h = cc
-
-joined : {T : Type 0} (xs ys us vs : List T) → xs ≡ us → ys ≡ vs → (xs ++ ys) ≡ (us ++ vs)
-joined xs ys us vs h k = ap (λ z. z ++ ys) h ∙ ap (λ z. us ++ z) k
-
-added : {T : Type 0} (x y : T) (xs ys : List T) → x ≡ y → xs ≡ ys → (x ∷ xs) ≡ (y ∷ ys)
-added x y xs ys h k = ap (λ z. z ∷ xs) h ∙ ap (λ z. y ∷ z) k
 
 module _ (m : ScopeTree) (cs ds : Callees) where
   mutual

@@ -1,5 +1,5 @@
 -- A main program that calls no module is such as the law on its runs asks, where the program is read.
-use Rattle.std.proofs.Common.{◌≡◌, ℕ, zero, suc, ◌-◌, Bool, true, false, not, length, List, [], ◌∷◌, Option, Some, None, Result, Ok, refl, sym, ap, ◌∙◌, subst}
+use Rattle.std.proofs.Common.{◌≡◌, ℕ, zero, suc, ◌-◌, Bool, true, false, not, length, List, [], ◌∷◌, Some, None, Result, Ok, refl, sym, ap, ◌∙◌, subst}
 use Rattle.std.specs.Prelude.{if◌then◌else◌, ◌&&◌, ◌||◌, slice_get}
 use Rattle.std.proofs.lemmas.Bool.{and_parts, or_from, not-true}
 use Rattle.f77_ast.specs.Trees.{StmtTrees}
@@ -11,15 +11,14 @@ use Rattle.f77_ast.specs.declared.symbol.InitialRun.{InitialRun}
 use Rattle.f77_ast.specs.declared.variable.Unit.{Unit as BlockUnit}
 use Rattle.f77_ast.specs.Symbols.{SymbolTree}
 use Rattle.f77_ast.specs.Shared.{symbol_at}
-use Rattle.roundtrip_statements.specs.Formed.{Each}
-use Rattle.laws_tables.specs.Shapes.{BodiesAreShaped}
+use Rattle.laws_programs.specs.roundtrip_programs.Statements.Formed.{Each}
+use Rattle.laws_programs.specs.SymbolTables.Shapes.{BodiesAreShaped}
 use Rattle.tracked_cells.specs.Equivalences.{equivalenced_names}
-use Rattle.tracked_cells.specs.Standing.{is_plain, spoils}
+use Rattle.tracked_cells.specs.Standing.{is_plain, untracks}
 use Rattle.tracked_cells.specs.Untracked.{untracked_of}
 use Rattle.tracked_cells.specs.Tracked.{is_alone, is_tracked, tracked_of}
 use Rattle.call_graph.specs.declared.graph.Graph.{Graph}
-use Rattle.call_graph.specs.declared.refusal.Fault.{Fault}
-use Rattle.call_graph.specs.Faults.{or_fault, unless}
+use Rattle.call_graph.specs.Faults.{unless}
 use Rattle.call_graph.specs.Modules.{too_many, name_twice, main_twice, no_main}
 use Rattle.call_graph.specs.Links.{module_fault, joined_of, named_of, link_of}
 use Rattle.f77_meaning.specs.Areas.{Area, block, group}
@@ -28,46 +27,34 @@ use Rattle.f77_meaning.specs.Linked.{numbering, main_of, initial, program_of}
 use Rattle.f77_meaning.specs.Laws.{area_of, LinkedHaveBlocks, CommonCellsAreAlone}
 use Rattle.f77_meaning.specs.Occurrences.{Occurrence}
 use Rattle.f77_meaning.specs.Claimed.{InEveryRun}
-use Rattle.f77_meaning.proofs.ModuleLaws.{numbered_place}
-use Rattle.laws_storage.specs.Programs.{IsLinked, IsModule, IsCell, known}
-use Rattle.laws_storage.specs.CellLaws.{CellsAreScalars}
-use Rattle.laws_storage.proofs.ModuleLaws.{known_module, untracked_are}
-use Rattle.laws_storage.specs.ScopeLaws.{IsScopeOf, FlagsTellCells, DataInitialisesScalars}
-use Rattle.laws_effects.specs.Tables.{HasNoDummy, DummiesLead}
-use Rattle.laws_effects.specs.Tables as given
+use Rattle.laws_programs.specs.Storage.Programs.{IsLinked, IsModule, IsCell, known}
+use Rattle.laws_programs.specs.Storage.CellLaws.{CellsAreScalars}
+use Rattle.laws_programs.proofs.Storage.ModuleLaws.{known_module, untracked_are}
+use Rattle.laws_programs.specs.Storage.ScopeLaws.{IsScopeOf, FlagsTellCells, DataInitialisesScalars}
+use Rattle.laws_programs.specs.Effects.Tables.{HasNoDummy, DummiesLead}
+use Rattle.laws_programs.specs.Effects.Tables as given
 use Rattle.laws_programs.specs.Programs.{AreTables, IsProgram}
 use Rattle.laws_programs.specs.Laws.{ModulesAreRead, NumbersGoUp, ProgramsAreLinked}
 use Rattle.laws_programs.proofs.Sources.{IsBuilt, all_built}
 use Rattle.affine_forms.specs.Scalars.{is_cell}
-use Rattle.call_translation.specs.Scopes.{ScopeTree}
-use Rattle.transformers.specs.Lists.{transformer_at}
-use Rattle.transformers.specs.Modules.{transformers_of}
+use Rattle.preconditions.specs.call_translation.Scopes.{ScopeTree}
+use Rattle.preconditions.specs.transformers.Lists.{transformer_at}
+use Rattle.preconditions.specs.transformers.Modules.{transformers_of}
 use Rattle.preconditions.specs.Entry.{main_entry}
 use Rattle.preconditions.specs.Modules.{preconditions_of}
-use Rattle.laws_statements.specs.CallsIn.{list_calls}
-use Rattle.laws_statements.specs.Results.{ScalarsHold}
-use Rattle.laws_statements.specs.Laws.{scope_of, no_callees, is_dummy, has_dummy, FirstValue, IsAlone, IsMainAlone, MainHolds}
+use Rattle.call_graph.specs.CallsIn.{list_calls}
+use Rattle.laws_analyses.specs.Statements.Results.{ScalarsHold}
+use Rattle.laws_analyses.specs.Statements.Laws.{scope_of, no_callees, is_dummy, has_dummy, FirstValue, IsAlone, IsMainAlone, MainHolds}
 use Rattle.laws_analyses.specs.ScalarLaws.{AcceptedDataStaysInLocals, NamesAgree, MainsAreAlone, ResultsHold, ReadMainsHold}
 use Rattle.laws_analyses.proofs.ThroughoutLaws.{throughout_more}
 use Rattle.laws_analyses.proofs.MainCallees.{callees_aside}
 use Rattle.laws_programs.proofs.Numbers.{is_numbered}
 use Rattle.laws_analyses.proofs.TargetLaws.{body_lacks_none}
+use Rattle.f77_meaning.proofs.LinkedLaws.{passed}
+use Rattle.laws_programs.proofs.Effects.Once.{main_of_linked as some_main}
+use Rattle.f77_ast.proofs.StorageLaws.{from_number as numbered_place}
 
 -- ---- the main program among the modules
-
-passed : {A : Type 0} (o : Option Fault) (r : Result A Fault) (g : A) → unless o r ≡ Ok g → (o ≡ None) × (r ≡ Ok g)
-passed None r g e = (refl, e)
-passed (Some f) r g e = cc
-
-both_none : (o p : Option Fault) → or_fault o p ≡ None → (o ≡ None) × (p ≡ None)
-both_none None p e = (refl, e)
-both_none (Some f) p e = cc
-
-pub some_main : (ps : List ParsedTree) (sss : List (List SymbolTree)) (g : Graph) → link_of ps sss ≡ Ok g → no_main ps ≡ None
-some_main ps sss g e =
-    let named = (passed (too_many ps) (named_of ps sss) g e).1 in
-    let none = (passed (module_fault ps) (joined_of ps sss) g named).0 in
-    (both_none (main_twice ps) (no_main ps) (both_none (name_twice ps) (or_fault (main_twice ps) (no_main ps)) none).1).1
 
 -- a main program, by its place
 pub record MainOf (ps : List ParsedTree) (sss : List (List SymbolTree)) : Type 0 where
@@ -127,8 +114,8 @@ cell_area m names ss us (place.Dummy k) d h = cc
 cell_area m names ss us (place.Block b o) d h = (block b, refl)
 cell_area m names ss us (place.Constant v) d h = cc
 
-cell_alone : (names : List (List ℕ)) (ss : List SymbolTree) (us : List BlockUnit) (q : Place) → is_dummy q ≡ false → is_alone names ss us q ≡ true → ((b : List ℕ) (o : ℕ) → q ≡ place.Block b o → spoils names ss (place.Block b o) ≡ false) → spoils names ss q ≡ false
-cell_alone names ss us (place.Local g o) d h f = not-true (spoils names ss (place.Local g o)) h
+cell_alone : (names : List (List ℕ)) (ss : List SymbolTree) (us : List BlockUnit) (q : Place) → is_dummy q ≡ false → is_alone names ss us q ≡ true → ((b : List ℕ) (o : ℕ) → q ≡ place.Block b o → untracks names ss (place.Block b o) ≡ false) → untracks names ss q ≡ false
+cell_alone names ss us (place.Local g o) d h f = not-true (untracks names ss (place.Local g o)) h
 cell_alone names ss us (place.Dummy k) d h f = cc
 cell_alone names ss us (place.Block b o) d h f = f b o refl
 cell_alone names ss us (place.Constant v) d h f = cc

@@ -7,9 +7,9 @@ use Rattle.f77_ast.specs.Symbols.{SymbolTree}
 use Rattle.call_graph.specs.declared.graph.Graph.{Graph}
 use Rattle.f77_meaning.specs.Modules.{Known, known_of}
 use Rattle.f77_meaning.specs.Linked.{routine, named, subroutines_among, subroutines}
-use Rattle.laws_storage.specs.Programs.{IsLinked}
-use Rattle.laws_storage.proofs.ModuleLaws.{names_tell_modules}
-use Rattle.laws_statements.specs.CallsIn.{Each}
+use Rattle.laws_programs.specs.Storage.Programs.{IsLinked}
+use Rattle.laws_programs.proofs.Storage.ModuleLaws.{names_tell_modules}
+use Rattle.call_graph.specs.CallsIn.{Each}
 use Rattle.laws_analyses.specs.Analysed.{module_named}
 use Rattle.laws_analyses.proofs.UnitLaws.{module_at}
 use Rattle.laws_analyses.proofs.CallLists.{each_more, each_joined}
@@ -38,7 +38,7 @@ named_in (k ∷ ks) x = go (bytes_eq k.read.name x) (each_behind k ks (named ks 
     go true h = (record { at = zero; is_module = refl }, h)
     go false h = h
 
-among_in : (P : Known → Type 0) (xs : List Known) → Each P xs → Each P (subroutines_among xs)
+pub among_in : (P : Known → Type 0) (xs : List Known) → Each P xs → Each P (subroutines_among xs)
 among_in P [] h = tt
 among_in P (k ∷ ks) h = go k.read.main (among_in P ks h.1)
   where

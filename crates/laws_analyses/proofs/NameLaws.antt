@@ -11,7 +11,8 @@ use Rattle.f77_ast.specs.Shared.{symbol_at}
 use Rattle.tracked_cells.specs.Standing.{has_bounds}
 use Rattle.f77_meaning.specs.Modules.{is_function, meant_by, meant_at, meant_in, symbol_names, names}
 use Rattle.affine_forms.specs.Scalars.{is_cell, if_cell, cell_in}
-use Rattle.laws_statements.specs.Laws.{is_scalar_symbol, scalar_at, is_scalar}
+use Rattle.laws_analyses.specs.Statements.Laws.{is_scalar_symbol, scalar_at, is_scalar}
+use Rattle.laws_programs.proofs.Storage.ActualLaws.{no_bounds}
 
 pub name_number : (ss : List SymbolTree) (x : List ℕ) (v : ℕ) → names ss x ≡ Variable v → number_from 1 (symbol_names ss) x ≡ Some v
 name_number ss x v e = by_number (number_from 1 (symbol_names ss) x) refl e
@@ -36,10 +37,6 @@ name_number ss x v e = by_number (number_from 1 (symbol_names ss) x) refl e
 
 pub name_cell : (ss : List SymbolTree) (flags : List Bool) (x : List ℕ) (v : ℕ) → names ss x ≡ Variable v → is_cell flags v ≡ true → cell_in (symbol_names ss) flags x ≡ Some v
 name_cell ss flags x v e t = ap (if_cell flags) (name_number ss x v e) ∙ ap (λ b. if b then Some v else None) t
-
-no_bounds : (bs : List BoundTree) → has_bounds bs ≡ false → bs ≡ []
-no_bounds [] h = refl
-no_bounds (b ∷ bs) h = cc
 
 -- the symbol of a name that is that of a scalar has no bounds
 pub scalar_bounds : (ss : List SymbolTree) (x : List ℕ) (v : ℕ) (s : SymbolTree) → names ss x ≡ Variable v → is_scalar ss x ≡ true → symbol_at ss v ≡ Some s → s.bounds ≡ []

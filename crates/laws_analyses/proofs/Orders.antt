@@ -13,12 +13,13 @@ use Rattle.call_graph.specs.Links.{callees_of}
 use Rattle.call_graph.specs.Laws.{IsBottomUp}
 use Rattle.call_graph.proofs.CycleLaws.{in_order}
 use Rattle.f77_meaning.proofs.LinkedLaws.{linked_calls_fit}
-use Rattle.laws_storage.specs.Programs.{IsLinked, IsModule}
-use Rattle.laws_storage.proofs.ModuleLaws.{place_of_name}
-use Rattle.laws_storage.specs.Below.{HasCall}
-use Rattle.laws_storage.proofs.RankLaws.{split, all_hold}
-use Rattle.laws_storage.proofs.EdgeLaws.{callees_have}
-use Rattle.laws_storage.proofs.BelowLaws.{stands}
+use Rattle.laws_programs.specs.Storage.Programs.{IsLinked, IsModule}
+use Rattle.laws_programs.proofs.Storage.ModuleLaws.{place_of_name}
+use Rattle.laws_programs.specs.Storage.Below.{HasCall}
+use Rattle.laws_programs.proofs.Storage.RankLaws.{split, all_hold}
+use Rattle.laws_programs.proofs.Storage.EdgeLaws.{callees_have}
+use Rattle.laws_programs.proofs.Storage.BelowLaws.{stands}
+use Rattle.laws_programs.proofs.Effects.BottomUp.{other_name}
 
 -- no name of these
 abbrev pub NotIn : List ℕ → List (List ℕ) → Type 0
@@ -29,13 +30,6 @@ NotIn x (y ∷ ys) = (bytes_eq y x ≡ false) × NotIn x ys
 abbrev pub Sorted : List ParsedTree → List (List SymbolTree) → List (List ℕ) → Type 0
 Sorted ps sss [] = Unit {0}
 Sorted ps sss (x ∷ xs) = NotIn x xs × ((i : ℕ) (p : ParsedTree) (ss : List SymbolTree) → IsModule ps sss i p ss → p.module_read.name ≡ x → (y : List ℕ) → HasCall p ss y → NotIn y (x ∷ xs)) × Sorted ps sss xs
-
-pub other_name : (x y : List ℕ) → (x ≡ y → ⊥) → bytes_eq x y ≡ false
-other_name x y ne = go (bytes_eq x y) refl
-  where
-    go : (b : Bool) → bytes_eq x y ≡ b → b ≡ false
-    go true e = absurd (ne ((bytes_eq-Decides x y).0 e))
-    go false e = refl
 
 -- ---- places
 

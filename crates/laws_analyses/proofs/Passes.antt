@@ -5,11 +5,11 @@ use mathlib.Core.List.{reverse-cons}
 use Rattle.std.proofs.lemmas.Slice.Eq.{bytes_eq-Decides}
 use Rattle.f77_ast.specs.declared.variable.Unit.{Unit as BlockUnit}
 use Rattle.f77_meaning.specs.Modules.{Known}
-use Rattle.transformer_algebra.specs.Laws.{In}
-use Rattle.call_translation.specs.Sites.{HoldingSite}
-use Rattle.laws_storage.specs.Programs.{known}
-use Rattle.laws_statements.specs.CallsIn.{Each}
-use Rattle.scalar_phases.specs.Phases.{Found, list_sites, Analysis, caller_of, sites_of, analysis_of, analyses_from}
+use Rattle.preconditions.specs.transformer_algebra.Laws.{In}
+use Rattle.preconditions.specs.call_translation.Sites.{HoldingSite}
+use Rattle.laws_programs.specs.Storage.Programs.{known}
+use Rattle.call_graph.specs.CallsIn.{Each}
+use Rattle.module_phases.specs.ScalarPhases.{Found, list_sites, Analysis, caller_of, sites_of, analysis_of, analyses_from}
 use Rattle.laws_analyses.proofs.CallLists.{each_joined}
 use Rattle.laws_analyses.specs.Results.{summary_named, analyses_before}
 use Rattle.laws_analyses.proofs.CallSites.{in_front, in_back}

@@ -6,31 +6,31 @@ use Rattle.affine_systems.specs.declared.row.System.{System}
 use Rattle.f77_ast.specs.DeclTrees.{ParsedTree}
 use Rattle.f77_ast.specs.Programs.{Routine, Program}
 use Rattle.f77_ast.specs.Symbols.{SymbolTree}
-use Rattle.laws_tables.specs.Laws.{DummiesFirst}
-use Rattle.laws_tables.proofs.DummyLaws.{dummies_come_first}
+use Rattle.laws_programs.specs.SymbolTables.Laws.{DummiesFirst}
+use Rattle.laws_programs.proofs.SymbolTables.DummyLaws.{dummies_come_first}
 use Rattle.call_graph.specs.declared.graph.Graph.{Graph}
 use Rattle.f77_meaning.specs.Modules.{Known, known_of, dummies_from}
 use Rattle.f77_meaning.specs.Linked.{routine, named, subroutines, main_of, initial, program_of}
 use Rattle.f77_meaning.specs.Claimed.{InEveryRun}
 use Rattle.affine_forms.specs.Claims.{numbers_of}
-use Rattle.transformer_algebra.specs.Laws.{In}
-use Rattle.call_translation.specs.Sites.{HoldingSite}
-use Rattle.transformers.specs.Given.{Callees}
+use Rattle.preconditions.specs.transformer_algebra.Laws.{In}
+use Rattle.preconditions.specs.call_translation.Sites.{HoldingSite}
+use Rattle.preconditions.specs.transformers.Given.{Callees}
 use Rattle.preconditions.specs.Entry.{sites_entry}
-use Rattle.laws_storage.specs.Programs.{IsLinked, IsModule, known}
-use Rattle.laws_storage.specs.Initial.{DataLies}
-use Rattle.laws_storage.proofs.ModuleLaws.{known_module, names_tell_modules}
-use Rattle.laws_storage.proofs.FoundLaws.{data_initialises_scalars}
-use Rattle.laws_storage.specs.Calls.{AreLaidOut, CallFits, AllRead, Args, EachCall}
-use Rattle.laws_storage.specs.Below.{HasCall}
-use Rattle.laws_storage.proofs.CallLaws.{calls_fit, calls_are_listed}
-use Rattle.laws_storage.proofs.ReadLaws.{calls_are_read}
-use Rattle.laws_statements.specs.CallsIn.{CallAt, Each, list_calls}
-use Rattle.laws_statements.specs.Results.{pre_in}
-use Rattle.laws_calls.specs.Entries.{BeginsWithData}
-use Rattle.laws_calls.specs.Parts.{Blocks, Part, scene_in, Sane}
-use Rattle.laws_calls.specs.Sites.{Site, have_subscripts, lookup, CoversFrom, Covers}
-use Rattle.laws_calls.specs.ProgramLaws.{routines, Analysed, AnalysedParts, AnalysedProgram, EachHolds, ProgramHolds}
+use Rattle.laws_programs.specs.Storage.Programs.{IsLinked, IsModule, known}
+use Rattle.laws_programs.specs.Storage.Initial.{DataLies}
+use Rattle.laws_programs.proofs.Storage.ModuleLaws.{known_module, names_tell_modules}
+use Rattle.laws_programs.proofs.Storage.FoundLaws.{data_initialises_scalars}
+use Rattle.laws_programs.specs.Storage.Calls.{AreLaidOut, CallFits, AllRead, Args, EachCall}
+use Rattle.laws_programs.specs.Storage.Below.{HasCall}
+use Rattle.laws_programs.proofs.Storage.CallLaws.{calls_fit, calls_are_listed}
+use Rattle.laws_programs.proofs.Storage.ReadLaws.{calls_are_read}
+use Rattle.call_graph.specs.CallsIn.{CallAt, Each, list_calls}
+use Rattle.laws_analyses.specs.Statements.Results.{pre_in}
+use Rattle.laws_analyses.specs.Calls.Entries.{BeginsWithData}
+use Rattle.laws_analyses.specs.Calls.Parts.{Blocks, Part, scene_in, Sane}
+use Rattle.laws_analyses.specs.Calls.Sites.{Site, have_subscripts, lookup, CoversFrom, Covers}
+use Rattle.laws_analyses.specs.Calls.ProgramLaws.{routines, Analysed, AnalysedParts, AnalysedProgram, EachHolds, ProgramHolds}
 use Rattle.laws_analyses.specs.Parts.{scope_in, blocks_in, part_of}
 use Rattle.laws_analyses.specs.CallLaws.{Settled}
 use Rattle.laws_analyses.specs.Analysed.{part_named, AreAnalysed}

@@ -12,30 +12,30 @@ use Rattle.f77_ast.specs.Units.{units_in, bounds_units}
 use Rattle.f77_ast.specs.Shared.{symbol_at, place_at}
 use Rattle.tracked_cells.specs.Standing.{is_int_scalar}
 use Rattle.storage_layout.specs.Symbols.{symbols_of}
-use Rattle.laws_tables.specs.Laws.{DummiesFirst}
-use Rattle.laws_tables.proofs.DummyLaws.{dummies_come_first}
+use Rattle.laws_programs.specs.SymbolTables.Laws.{DummiesFirst}
+use Rattle.laws_programs.proofs.SymbolTables.DummyLaws.{dummies_come_first}
 use Rattle.call_graph.specs.declared.graph.Graph.{Graph}
 use Rattle.f77_meaning.specs.Areas.{block, unit_at}
 use Rattle.f77_meaning.specs.Modules.{known_of, names, bound_of, fixed, fixed_place, fixed_maybe, dummies_from}
 use Rattle.f77_meaning.specs.Linked.{is_common}
 use Rattle.affine_forms.specs.Scalars.{is_cell}
 use Rattle.affine_forms.specs.Claims.{Agrees}
-use Rattle.call_translation.specs.Common.{declares}
-use Rattle.transformers.specs.Given.{Callees}
+use Rattle.preconditions.specs.call_translation.Common.{declares}
+use Rattle.preconditions.specs.transformers.Given.{Callees}
 use Rattle.affine_systems.specs.declared.row.System.{System}
-use Rattle.laws_storage.specs.Programs.{IsLinked, IsModule, known}
-use Rattle.laws_storage.specs.CellLaws.{units}
-use Rattle.laws_storage.proofs.CellLaws.{cells_are_scalars}
-use Rattle.laws_storage.specs.Activations.{is_dummy}
-use Rattle.laws_storage.proofs.CallLaws.{dummies_are_tracked}
-use Rattle.laws_storage.proofs.LyingLaws.{variable_of, Lying, lying_dummy, lying_local, lying_common, lying}
-use Rattle.laws_storage.proofs.FlagLaws.{cells_have_flags}
-use Rattle.laws_statements.specs.Leads.{StaysIn}
-use Rattle.laws_statements.specs.Laws.{is_scalar}
-use Rattle.laws_storage.specs.Owners.{owns, owns_below}
-use Rattle.laws_storage.proofs.OwnerLaws.{owned_is_private, owned_is_in_no_block, below_is_owned, variable_lies, variable_hidden}
-use Rattle.laws_calls.specs.Scenes.{IsInBlock}
-use Rattle.laws_calls.specs.Parts.{NoDummy, Sane}
+use Rattle.laws_programs.specs.Storage.Programs.{IsLinked, IsModule, known}
+use Rattle.laws_programs.specs.Storage.CellLaws.{units}
+use Rattle.laws_programs.proofs.Storage.CellLaws.{cells_are_scalars}
+use Rattle.laws_programs.specs.Storage.Activations.{is_dummy}
+use Rattle.laws_programs.proofs.Storage.CallLaws.{dummies_are_tracked}
+use Rattle.laws_programs.proofs.Storage.LyingLaws.{variable_of, Lying, lying_dummy, lying_local, lying_common, lying}
+use Rattle.laws_programs.proofs.Storage.FlagLaws.{cells_have_flags}
+use Rattle.laws_analyses.specs.Statements.Leads.{StaysIn}
+use Rattle.laws_analyses.specs.Statements.Laws.{is_scalar}
+use Rattle.laws_programs.specs.Storage.Owners.{owns, owns_below}
+use Rattle.laws_programs.proofs.Storage.OwnerLaws.{owned_is_private, owned_is_in_no_block, below_is_owned, variable_lies, variable_hidden}
+use Rattle.laws_analyses.specs.Calls.Scenes.{IsInBlock}
+use Rattle.laws_analyses.specs.Calls.Parts.{NoDummy, Sane}
 use Rattle.laws_analyses.specs.Parts.{scope_in, tracks, blocks_in, part_of}
 use Rattle.laws_analyses.proofs.DummyLaws.{told, distinct, numbered, dummies}
 use Rattle.laws_analyses.proofs.NameLaws.{name_number, name_cell, scalar_bounds}

@@ -11,7 +11,7 @@ use Rattle.f77_ast.specs.Store as tag
 use Rattle.f77_ast.specs.Steps.{Done, ◌>>=◌}
 use Rattle.f77_ast.specs.Places.{Places, Variable, scalar_place}
 use Rattle.f77_ast.specs.Values.{value, name_value}
-use Rattle.f77_ast.specs.Calls.{Dummy, lent, stored, actual, name_actual}
+use Rattle.f77_ast.specs.Calls.{Dummy, passed_by_reference, stored, actual, name_actual}
 use Rattle.f77_ast.specs.declared.symbol.Place.TheVariants as place
 use Rattle.f77_ast.specs.Symbols.{BoundTree, SymbolTree}
 use Rattle.f77_ast.specs.Shared.{symbol_at}
@@ -19,21 +19,21 @@ use Rattle.tracked_cells.specs.Standing.{is_int, has_bounds, is_int_scalar}
 use Rattle.call_graph.specs.declared.graph.Graph.{Graph}
 use Rattle.f77_meaning.specs.Modules.{known_of, names, bound_of, dummies_from}
 use Rattle.affine_forms.specs.Scalars.{is_cell}
-use Rattle.call_translation.specs.Actuals.{actual_at}
-use Rattle.call_translation.specs.Sites.{HoldingSite}
-use Rattle.transformers.specs.Given.{Callees}
+use Rattle.preconditions.specs.call_translation.Actuals.{actual_at}
+use Rattle.preconditions.specs.call_translation.Sites.{HoldingSite}
+use Rattle.preconditions.specs.transformers.Given.{Callees}
 use Rattle.preconditions.specs.Entry.{sites_entry}
-use Rattle.transformer_algebra.specs.Laws.{In}
-use Rattle.laws_storage.specs.Programs.{IsLinked, IsModule, known}
-use Rattle.laws_storage.proofs.CellLaws.{cells_are_scalars}
-use Rattle.laws_storage.proofs.OwnUnitLaws.{own_units_differ}
-use Rattle.laws_storage.specs.Calls.{AreLaidOut, IsNamed, IsMisread, Takes, takes_scalar, takes_array, takes_element, takes_value, misread, Args, AllRead}
-use Rattle.laws_storage.specs.Below.{HasCall}
-use Rattle.laws_storage.proofs.BelowLaws.{common_is_shared}
-use Rattle.laws_statements.specs.Laws.{is_scalar}
-use Rattle.laws_storage.proofs.OwnerLaws.{expression_below, called_owns_below, called_owns_no_expression}
-use Rattle.laws_calls.specs.Parts.{summary}
-use Rattle.laws_calls.specs.Sites.{Site, have_subscripts}
+use Rattle.preconditions.specs.transformer_algebra.Laws.{In}
+use Rattle.laws_programs.specs.Storage.Programs.{IsLinked, IsModule, known}
+use Rattle.laws_programs.proofs.Storage.CellLaws.{cells_are_scalars}
+use Rattle.laws_programs.proofs.Storage.OwnUnitLaws.{own_units_differ}
+use Rattle.laws_programs.specs.Storage.Calls.{AreLaidOut, IsNamed, IsMisread, Takes, takes_scalar, takes_array, takes_element, takes_value, misread, Args, AllRead}
+use Rattle.laws_programs.specs.Storage.Below.{HasCall}
+use Rattle.laws_programs.proofs.Storage.BelowLaws.{common_is_shared}
+use Rattle.laws_analyses.specs.Statements.Laws.{is_scalar}
+use Rattle.laws_programs.proofs.Storage.OwnerLaws.{expression_below, called_owns_below, called_owns_no_expression}
+use Rattle.laws_analyses.specs.Calls.Parts.{summary}
+use Rattle.laws_analyses.specs.Calls.Sites.{Site, have_subscripts}
 use Rattle.laws_analyses.specs.Parts.{scope_in, blocks_in, part_of}
 use Rattle.laws_analyses.proofs.DummyLaws.{the_dummy, none_listed, listed}
 use Rattle.laws_analyses.proofs.NameLaws.{bounds_scalar}
@@ -68,7 +68,7 @@ arg_at ss (tree.more_exprs a es) m n (s ∷ ds) args read (suc i) d e =
 
 -- ---- variables that are actuals
 
-no_bounds_back : (bs : List BoundTree) → map bound_of bs ≡ [] → bs ≡ []
+pub no_bounds_back : (bs : List BoundTree) → map bound_of bs ≡ [] → bs ≡ []
 no_bounds_back [] e = refl
 no_bounds_back (b ∷ bs) e = cc
 
@@ -88,7 +88,7 @@ module _ (ss : List SymbolTree) (e : ExprTree) (d : SymbolTree) (y : List ℕ) (
   no_value same =
       let at : Places = λ n. scalar_place 0 tag.Int in
       let one : name_actual (names ss y) at 0 ≡ (name_value (names ss y) at >>= stored 0) = subst (λ z. actual z (names ss) at 0 ≡ (value z (names ss) at >>= stored 0)) named (same at 0) in
-      let two : Done (lent (at v)) ≡ (name_value (Variable v) at >>= stored 0) = sym (ap (λ m. name_actual m at 0) meant) ∙ one ∙ ap (λ m. name_value m at >>= stored 0) meant in
+      let two : Done (passed_by_reference (at v)) ≡ (name_value (Variable v) at >>= stored 0) = sym (ap (λ m. name_actual m at 0) meant) ∙ one ∙ ap (λ m. name_value m at >>= stored 0) meant in
       cc
 
   one_number : (x : List ℕ) (w : ℕ) (s : SymbolTree) → e ≡ tree.name x → IsNamed ss x w s → symbol_at ss v ≡ Some s

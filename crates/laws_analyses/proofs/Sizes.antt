@@ -7,18 +7,16 @@ use Rattle.f77_statements.specs.Phrases.{end_if, end_do}
 use Rattle.f77_structure.specs.declared.mark.Action.{Action}
 use Rattle.f77_structure.specs.declared.mark.Action.TheVariants.{Goto, Return, Stop, Other}
 use Rattle.f77_parser.specs.Roles.{action_of}
-use Rattle.roundtrip_modules.specs.Cards.{Card, card, cards_of, cards_by, body_cards, block_cards, part_cards, else_cards, cards_in}
-use Rattle.roundtrip_modules.specs.Numbered.{last_of, last_arms, last_in, IsNumbered, NumberedBelow, NumberedBody, NumberedBlock, NumberedArms, NumberedElse, AreNumbered}
-use Rattle.roundtrip_modules.proofs.Tally.{count_of, count-append}
+use Rattle.laws_programs.specs.roundtrip_programs.ModuleTexts.Cards.{Card, card, cards_of, cards_by, body_cards, block_cards, part_cards, else_cards, cards_in}
+use Rattle.laws_programs.specs.roundtrip_programs.ModuleTexts.Numbered.{last_of, last_arms, last_in, IsNumbered, NumberedBelow, NumberedBody, NumberedBlock, NumberedArms, NumberedElse, AreNumbered}
+use Rattle.laws_programs.proofs.RoundtripPrograms.ModuleTexts.Tally.{count_of, count-append}
+use Rattle.laws_programs.proofs.RoundtripPrograms.ModuleTexts.TreeOutlines.{acting as action_in}
 
 abbrev pub one_going : Action → ℕ
 one_going (Goto l) = 1
 one_going Return = 0
 one_going Stop = 0
 one_going Other = 0
-
-abbrev pub action_in : StmtTree → Action
-action_in (stmt id label w) = action_of w
 
 abbrev mutual
   pub goings_of : StmtTree → ℕ

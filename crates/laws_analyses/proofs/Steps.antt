@@ -7,10 +7,10 @@ use Rattle.f77_structure.specs.declared.mark.Action.{Action}
 use Rattle.f77_structure.specs.declared.mark.Action.TheVariants.{Goto, Return, Stop, Other}
 use Rattle.f77_structure.specs.declared.blocks.Landing.{Landing}
 use Rattle.f77_parser.specs.Roles.{action_of}
-use Rattle.roundtrip_modules.proofs.Outlines.{Going, Outline, innermost, outer, lands, goes, begins, leaves}
-use Rattle.roundtrip_modules.proofs.TreeOutlines.{outline_by, outline_body, outline_arms, outline_else, outline_in}
-use Rattle.transformer_algebra.specs.Cells.{has}
-use Rattle.transformers.specs.Jumps.{before_labels, labels}
+use Rattle.laws_programs.proofs.RoundtripPrograms.ModuleTexts.Outlines.{Going, Outline, innermost, outer, lands, goes, begins, leaves}
+use Rattle.laws_programs.proofs.RoundtripPrograms.ModuleTexts.TreeOutlines.{outline_by, outline_body, outline_arms, outline_else, outline_in}
+use Rattle.preconditions.specs.transformer_algebra.Cells.{has}
+use Rattle.preconditions.specs.transformers.Jumps.{before_labels, labels}
 use Rattle.laws_analyses.proofs.Members.{Member, member_more, member_split}
 use Rattle.laws_analyses.proofs.Sizes.{one_going, goings_by, goings_body, goings_arms, goings_else, goings_in}
 

@@ -7,15 +7,15 @@ use Rattle.f77_ast.specs.Trees.{ExprTree, ExprTrees, StmtTree, WhatTree, ArmTree
 use Rattle.f77_ast.specs.Trees as tree
 use Rattle.f77_ast.specs.DeclTrees.{ParsedTree, ModuleTree}
 use Rattle.f77_statements.specs.Phrases.{end_if, end_do, end_module}
-use Rattle.roundtrip_statements.specs.Formed.{Rank, Formed, number, logical, constant, scalar, indexed, enclosed, operand, raised, factor, multiplied, term, signed, added, arithmetic, compared, asserted, denied, conjunct, both, disjunct, either, side, equated, none, more}
-use Rattle.roundtrip_statements.specs.Formed as formed
-use Rattle.roundtrip_statements.specs.Phrased.{IsWhat}
-use Rattle.roundtrip_modules.specs.Cards.{Card, card, cards_of, cards_by, body_cards, block_cards, part_cards, else_cards, cards_in, title_cards, decl_cards, statements_of}
-use Rattle.roundtrip_modules.specs.Numbered.{last_of, last_arms, last_in, IsNumbered, NumberedBelow, NumberedBody, NumberedBlock, NumberedArms, NumberedElse, AreNumbered}
+use Rattle.laws_programs.specs.roundtrip_programs.Statements.Formed.{Rank, Formed, number, logical, constant, scalar, indexed, enclosed, operand, raised, factor, multiplied, term, signed, added, arithmetic, compared, asserted, denied, conjunct, both, disjunct, either, side, equated, none, more}
+use Rattle.laws_programs.specs.roundtrip_programs.Statements.Formed as formed
+use Rattle.laws_programs.specs.roundtrip_programs.Statements.Phrased.{IsWhat}
+use Rattle.laws_programs.specs.roundtrip_programs.ModuleTexts.Cards.{Card, card, cards_of, cards_by, body_cards, block_cards, part_cards, else_cards, cards_in, title_cards, decl_cards, statements_of}
+use Rattle.laws_programs.specs.roundtrip_programs.ModuleTexts.Numbered.{last_of, last_arms, last_in, IsNumbered, NumberedBelow, NumberedBody, NumberedBlock, NumberedArms, NumberedElse, AreNumbered}
 use Rattle.laws_programs.proofs.Sources.{IsBuilt}
 use Rattle.laws_programs.proofs.Ordered.{AllFormed, split}
-use Rattle.laws_storage.specs.Calls.{EachCall, CallsOf, CallsIn, ArmCalls, ElseCalls, LoopCalls}
-use Rattle.laws_calls.specs.Sites.{has_subscript, have_subscripts}
+use Rattle.laws_programs.specs.Storage.Calls.{EachCall, CallsOf, CallsIn, ArmCalls, ElseCalls, LoopCalls}
+use Rattle.laws_analyses.specs.Calls.Sites.{has_subscript, have_subscripts}
 
 formed_has : {r : Rank} {e : ExprTree} → Formed r e → has_subscript e ≡ true
 formed_has (number n h) = refl

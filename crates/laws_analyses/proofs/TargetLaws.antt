@@ -9,35 +9,21 @@ use Rattle.f77_ast.specs.DeclTrees.{ModuleTree}
 use Rattle.f77_ast.specs.Symbols.{SymbolTree, number_from}
 use Rattle.f77_ast.specs.Shared.{symbol_at}
 use Rattle.f77_statements.specs.Phrases.{end_if, end_do, end_module}
-use Rattle.roundtrip_statements.specs.Formed.{IsVariable}
-use Rattle.roundtrip_statements.specs.Phrased.{AllVariables, IsWhat}
-use Rattle.roundtrip_modules.specs.Cards.{Card, card, cards_of, cards_by, body_cards, block_cards, part_cards, else_cards, cards_in, title_cards, decl_cards, statements_of}
-use Rattle.roundtrip_modules.specs.Numbered.{last_of, last_arms, last_in, IsNumbered, NumberedBelow, NumberedBody, NumberedBlock, NumberedArms, NumberedElse, AreNumbered}
+use Rattle.laws_programs.specs.roundtrip_programs.Statements.Formed.{IsVariable}
+use Rattle.laws_programs.specs.roundtrip_programs.Statements.Phrased.{AllVariables, IsWhat}
+use Rattle.laws_programs.specs.roundtrip_programs.ModuleTexts.Cards.{Card, card, cards_of, cards_by, body_cards, block_cards, part_cards, else_cards, cards_in, title_cards, decl_cards, statements_of}
+use Rattle.laws_programs.specs.roundtrip_programs.ModuleTexts.Numbered.{last_of, last_arms, last_in, IsNumbered, NumberedBelow, NumberedBody, NumberedBlock, NumberedArms, NumberedElse, AreNumbered}
 use Rattle.tracked_cells.specs.Standing.{has_bounds}
-use Rattle.laws_tables.specs.Shapes.{symbol_named, bounds_of, StandsBare, StandsIndexed, Shaped, AllShaped, ShapedStmt, ShapedWhat, ShapedArms, ShapedElse, ShapedLoop, ShapedList}
+use Rattle.laws_programs.specs.SymbolTables.Shapes.{symbol_named, bounds_of, StandsBare, StandsIndexed, Shaped, AllShaped, ShapedStmt, ShapedWhat, ShapedArms, ShapedElse, ShapedLoop, ShapedList}
 use Rattle.f77_meaning.specs.Modules.{symbol_names}
-use Rattle.laws_storage.proofs.LocalLaws.{next_symbol}
-use Rattle.transformers.specs.Jumps.{stmt_has, parts_have, list_has, arms_have, else_has, loop_has}
+use Rattle.preconditions.specs.transformers.Jumps.{stmt_has, parts_have, list_has, arms_have, else_has, loop_has}
 use Rattle.laws_programs.proofs.Ordered.{AllFormed, split}
-use Rattle.laws_statements.specs.Targets.{is_target, are_targets, has_index, has_targets, lacks_targets}
-use Rattle.laws_statements.specs.Laws.{is_scalar_symbol, scalar_at, is_scalar}
+use Rattle.laws_analyses.specs.Statements.Targets.{is_target, are_targets, has_index, has_targets, lacks_targets}
+use Rattle.laws_analyses.specs.Statements.Laws.{is_scalar_symbol, scalar_at, is_scalar}
+use Rattle.laws_analyses.proofs.Regions.Names.{Found, missing, at_place, found}
+use Rattle.f77_ast.proofs.StorageLaws.{to_number as next_symbol}
 
 -- ---- names of scalars
-
--- the first symbol with a name, or none
-data Found (n : ℕ) (ss : List SymbolTree) (x : List ℕ) : Type 0 where
-  missing : number_from n (symbol_names ss) x ≡ None → Found n ss x
-  at_place : (i k : ℕ) (s : SymbolTree) → k ≡ n + i → number_from n (symbol_names ss) x ≡ Some k → slice_get ss i ≡ Some s → symbol_named ss x ≡ Some s → Found n ss x
-
-found : (n : ℕ) (ss : List SymbolTree) (x : List ℕ) → Found n ss x
-found n [] x = missing refl
-found n (s ∷ ss) x = go (bytes_eq x s.name) refl (found (suc n) ss x)
-  where
-    go : (b : Bool) → bytes_eq x s.name ≡ b → Found (suc n) ss x → Found n (s ∷ ss) x
-    go true q r = at_place zero n s (omega arith) (ap (λ b. if b then Some n else number_from (suc n) (symbol_names ss) x) q) refl (ap (λ b. if b then Some s else symbol_named ss x) q)
-    go false q (missing r) = missing (ap (λ b. if b then Some n else number_from (suc n) (symbol_names ss) x) q ∙ r)
-    go false q (at_place i k t same r e m) =
-        at_place (suc i) k t (omega (arith, same)) (ap (λ b. if b then Some n else number_from (suc n) (symbol_names ss) x) q ∙ r) e (ap (λ b. if b then Some s else symbol_named ss x) q ∙ m)
 
 module _ (ss : List SymbolTree) where
   abbrev Bare : List ℕ → Type 0
@@ -54,7 +40,7 @@ module _ (ss : List SymbolTree) where
     where
       go : Found 1 ss x → is_scalar ss x ≡ true
       go (missing q) = ap (scalar_at ss) q
-      go (at_place i k s same q e m) =
+      go (at_place i k s same q e m named) =
           let number : k ≡ suc i = omega (arith, same) in
           let symbol : symbol_at ss k ≡ Some s = ap (symbol_at ss) number ∙ next_symbol ss i s e in
           let flat : s.bounds ≡ [] = ap bounds_of (sym m) ∙ h in

@@ -5,7 +5,7 @@ use Rattle.f77_ast.specs.Runs.{first_of, rest_of}
 use Rattle.f77_ast.specs.Plans.{Flow, Plan, Ends, Breaks, Look, Set, Hold, Forget, Show, Take, Within}
 use Rattle.f77_ast.specs.Executions.{run_of}
 use Rattle.f77_meaning.specs.Occurrences.{Occurrence, Onward, Throughout, places_in, events_from, events_after}
-use Rattle.laws_statements.proofs.Ends.{more}
+use Rattle.laws_analyses.proofs.Statements.Ends.{more}
 
 module _ (C D : Occurrence → Type 0) (follows : (x : Occurrence) → C x → D x) where
   pub throughout_more : (t : Plan) (s : Store) (i : List Content) (onward : Onward) → Throughout C t s i onward → Throughout D t s i onward

@@ -18,18 +18,19 @@ use Rattle.f77_meaning.specs.Modules.{Known, known_of, fixed, dummies_from}
 use Rattle.f77_meaning.specs.Linked.{offset_in, room_for}
 use Rattle.f77_meaning.specs.Laws.{IsKnown, area_of}
 use Rattle.f77_meaning.proofs.UnitLaws.{units_differ}
-use Rattle.f77_meaning.proofs.ModuleLaws.{variables_occupy_their_storage, offsets_fit, numbered_place}
+use Rattle.f77_meaning.proofs.ModuleLaws.{variables_occupy_their_storage, offsets_fit}
 use Rattle.f77_meaning.proofs.LinkLaws.{any_found, found_any}
-use Rattle.call_translation.specs.Common.{tracked_at, declares}
-use Rattle.laws_storage.specs.Programs.{IsLinked, IsModule, IsCell, known}
-use Rattle.laws_storage.specs.CellLaws.{units}
-use Rattle.laws_storage.proofs.ModuleLaws.{declared, area_known}
-use Rattle.laws_storage.proofs.CellLaws.{cells_are_scalars}
-use Rattle.laws_storage.specs.Activations.{is_dummy}
-use Rattle.laws_storage.proofs.LyingLaws.{Lying, lying_dummy, lying_local, lying_common}
-use Rattle.laws_storage.specs.ScopeLaws.{IsScopeOf}
-use Rattle.laws_storage.proofs.FoundLaws.{found_is_cell}
+use Rattle.preconditions.specs.call_translation.Common.{tracked_at, declares}
+use Rattle.laws_programs.specs.Storage.Programs.{IsLinked, IsModule, IsCell, known}
+use Rattle.laws_programs.specs.Storage.CellLaws.{units}
+use Rattle.laws_programs.proofs.Storage.ModuleLaws.{declared, area_known}
+use Rattle.laws_programs.proofs.Storage.CellLaws.{cells_are_scalars}
+use Rattle.laws_programs.specs.Storage.Activations.{is_dummy}
+use Rattle.laws_programs.proofs.Storage.LyingLaws.{Lying, lying_dummy, lying_local, lying_common}
+use Rattle.laws_programs.specs.Storage.ScopeLaws.{IsScopeOf}
+use Rattle.laws_programs.proofs.Storage.FoundLaws.{found_is_cell}
 use Rattle.laws_analyses.specs.Parts.{scope_in, tracks}
+use Rattle.f77_ast.proofs.StorageLaws.{from_number as numbered_place}
 
 pub in_own : (p : RunPlace) (n : ℕ) → n < p.extent → in_place p (p.first + n) ≡ true
 in_own p n h = grind (arith, nat_tests)

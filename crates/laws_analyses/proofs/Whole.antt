@@ -4,10 +4,10 @@ use Rattle.f77_ast.specs.DeclTrees.{ParsedTree}
 use Rattle.f77_ast.specs.Programs.{program_plan}
 use Rattle.f77_ast.specs.Symbols.{SymbolTree}
 use Rattle.call_graph.specs.declared.graph.Graph.{Graph}
-use Rattle.laws_tables.proofs.ShapeLaws.{bodies_are_shaped}
+use Rattle.laws_programs.proofs.SymbolTables.ShapeLaws.{bodies_are_shaped}
 use Rattle.f77_meaning.specs.Modules.{known_of}
 use Rattle.f77_meaning.specs.Linked.{program_of}
-use Rattle.laws_storage.specs.Programs.{IsModule}
+use Rattle.laws_programs.specs.Storage.Programs.{IsModule}
 use Rattle.laws_programs.specs.Programs.{IsProgram}
 use Rattle.laws_programs.proofs.Sources.{all_built}
 use Rattle.laws_programs.proofs.Tables.{programs_are_linked}
@@ -18,8 +18,8 @@ use Rattle.laws_programs.proofs.Numbers.{is_numbered}
 use Rattle.laws_analyses.proofs.TargetLaws.{body_lacks_none}
 use Rattle.laws_analyses.proofs.ThroughoutLaws.{throughout_more}
 use Rattle.laws_analyses.specs.JumpLaws.{JumpsStayInside}
-use Rattle.laws_calls.specs.ProgramLaws.{EachHolds}
-use Rattle.scalar_phases.specs.Phases.{analyses}
+use Rattle.laws_analyses.specs.Calls.ProgramLaws.{EachHolds}
+use Rattle.module_phases.specs.ScalarPhases.{analyses}
 use Rattle.laws_analyses.specs.CallLaws.{Settled, AnalysedProgramsHold}
 use Rattle.laws_analyses.specs.Analysed.{part_named}
 use Rattle.laws_analyses.specs.Results.{callees_of_all, analysed_entry, analysed_sites}

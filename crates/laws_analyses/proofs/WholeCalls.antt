@@ -1,14 +1,15 @@
 -- The laws of whole programs that are read.
-use Rattle.laws_storage.specs.Programs.{known}
-use Rattle.laws_storage.proofs.ModuleLaws.{known_module}
+use Rattle.laws_programs.specs.Storage.Programs.{known}
+use Rattle.laws_programs.proofs.Storage.ModuleLaws.{known_module}
 use Rattle.laws_programs.proofs.Sources.{all_built}
 use Rattle.laws_programs.proofs.Whole.{modules_are_read}
 use Rattle.laws_programs.proofs.Tables.{programs_are_linked}
-use Rattle.laws_analyses.proofs.MainLaws.{some_main, main_from, built_at}
-use Rattle.laws_calls.specs.ProgramLaws.{ProgramHolds}
+use Rattle.laws_analyses.proofs.MainLaws.{main_from, built_at}
+use Rattle.laws_analyses.specs.Calls.ProgramLaws.{ProgramHolds}
 use Rattle.laws_analyses.specs.CallLaws.{AnalysedProgramsHold}
 use Rattle.laws_analyses.proofs.Subscripts.{built_have}
 use Rattle.laws_analyses.proofs.Programs.{all_hold}
+use Rattle.laws_programs.proofs.Effects.Once.{main_of_linked as some_main}
 
 pub analysed_programs_hold : ProgramHolds → AnalysedProgramsHold
 analysed_programs_hold holds ps sss g x lies settled cs sites entry analysed =

@@ -9,21 +9,21 @@ use Rattle.f77_structure.specs.declared.blocks.Landing.{Landing}
 use Rattle.f77_structure.specs.Checks.{fault_of}
 use Rattle.f77_parser.specs.Statements.{StatementTree, marks_of}
 use Rattle.f77_parser.specs.Building.{build_module}
-use Rattle.roundtrip_statements.specs.Formed.{Each}
-use Rattle.roundtrip_modules.specs.Cards.{cards_in}
-use Rattle.roundtrip_modules.specs.ModuleLaws.{IsStatement}
-use Rattle.roundtrip_modules.proofs.Tally.{count_of}
-use Rattle.roundtrip_modules.proofs.Writing.{few_stand}
-use Rattle.roundtrip_modules.proofs.Outlines.{Outline, nothing_outlined}
-use Rattle.roundtrip_modules.proofs.TreeOutlines.{outline_in}
-use Rattle.roundtrip_modules.proofs.Shown as lists
-use Rattle.roundtrip_modules.proofs.Reached.{AllReach}
-use Rattle.roundtrip_modules.proofs.JumpsAgain.{all_reach_there}
+use Rattle.laws_programs.specs.roundtrip_programs.Statements.Formed.{Each}
+use Rattle.laws_programs.specs.roundtrip_programs.ModuleTexts.Cards.{cards_in}
+use Rattle.laws_programs.specs.roundtrip_programs.ModuleTexts.ModuleLaws.{IsStatement}
+use Rattle.laws_programs.proofs.RoundtripPrograms.ModuleTexts.Tally.{count_of}
+use Rattle.laws_programs.proofs.RoundtripPrograms.ModuleTexts.Writing.{few_stand}
+use Rattle.laws_programs.proofs.RoundtripPrograms.ModuleTexts.Outlines.{Outline, nothing_outlined}
+use Rattle.laws_programs.proofs.RoundtripPrograms.ModuleTexts.TreeOutlines.{outline_in}
+use Rattle.laws_programs.proofs.RoundtripPrograms.ModuleTexts.Shown as lists
+use Rattle.laws_programs.proofs.RoundtripPrograms.ModuleTexts.Reached.{AllReach}
+use Rattle.laws_programs.proofs.RoundtripPrograms.ModuleTexts.JumpsAgain.{all_reach_there}
 use Rattle.laws_programs.proofs.Sources.{IsBuilt, is_built, all_of}
 use Rattle.laws_programs.proofs.Ordered.{ListOrdered, body_ordered}
-use Rattle.transformer_algebra.specs.Cells.{has, others}
-use Rattle.transformers.specs.Jumps.{labels}
-use Rattle.laws_statements.specs.Leads.{list_leads, StaysIn}
+use Rattle.preconditions.specs.transformer_algebra.Cells.{has, others}
+use Rattle.preconditions.specs.transformers.Jumps.{labels}
+use Rattle.laws_analyses.specs.Statements.Leads.{list_leads, StaysIn}
 use Rattle.laws_analyses.specs.JumpLaws.{JumpsStayInside}
 use Rattle.laws_analyses.proofs.Members.{Member}
 use Rattle.laws_analyses.proofs.Sizes.{goings_in, goings_few}

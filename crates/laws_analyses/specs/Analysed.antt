@@ -4,13 +4,13 @@ use Rattle.affine_systems.specs.declared.row.System.{System}
 use Rattle.call_graph.specs.declared.graph.Graph.{Graph}
 use Rattle.f77_meaning.specs.Modules.{Known}
 use Rattle.f77_meaning.specs.Linked.{no_module}
-use Rattle.transformer_algebra.specs.Laws.{In}
-use Rattle.call_translation.specs.Sites.{HoldingSite}
-use Rattle.transformers.specs.Given.{Callees}
+use Rattle.preconditions.specs.transformer_algebra.Laws.{In}
+use Rattle.preconditions.specs.call_translation.Sites.{HoldingSite}
+use Rattle.preconditions.specs.transformers.Given.{Callees}
 use Rattle.preconditions.specs.Entry.{main_entry, sites_entry}
-use Rattle.laws_statements.specs.CallsIn.{CallAt, Each, list_calls}
-use Rattle.laws_statements.specs.Results.{pre_in}
-use Rattle.laws_calls.specs.Parts.{Part, summary}
+use Rattle.call_graph.specs.CallsIn.{CallAt, Each, list_calls}
+use Rattle.laws_analyses.specs.Statements.Results.{pre_in}
+use Rattle.laws_analyses.specs.Calls.Parts.{Part, summary}
 use Rattle.laws_analyses.specs.Parts.{scope_in, part_of}
 
 -- the module of a name

@@ -8,19 +8,19 @@ use Rattle.f77_meaning.specs.Modules.{Known, known_of, names}
 use Rattle.f77_meaning.specs.Claimed.{InEveryRun}
 use Rattle.affine_forms.specs.Scalars.{is_cell}
 use Rattle.affine_forms.specs.Claims.{Agrees}
-use Rattle.call_translation.specs.Sites.{HoldingSite}
-use Rattle.transformers.specs.Given.{Callees}
-use Rattle.transformers.specs.Jumps.{list_has}
-use Rattle.laws_storage.specs.Programs.{IsLinked, IsModule, known}
-use Rattle.laws_storage.specs.Initial.{DataLies}
-use Rattle.laws_storage.specs.Calls.{AreLaidOut}
+use Rattle.preconditions.specs.call_translation.Sites.{HoldingSite}
+use Rattle.preconditions.specs.transformers.Given.{Callees}
+use Rattle.preconditions.specs.transformers.Jumps.{list_has}
+use Rattle.laws_programs.specs.Storage.Programs.{IsLinked, IsModule, known}
+use Rattle.laws_programs.specs.Storage.Initial.{DataLies}
+use Rattle.laws_programs.specs.Storage.Calls.{AreLaidOut}
 use Rattle.laws_programs.specs.Programs.{IsProgram}
-use Rattle.laws_statements.specs.Leads.{StaysIn}
-use Rattle.laws_statements.specs.Targets.{lacks_targets}
+use Rattle.laws_analyses.specs.Statements.Leads.{StaysIn}
+use Rattle.laws_analyses.specs.Statements.Targets.{lacks_targets}
 use Rattle.f77_ast.specs.StatementNumbers.{IsNumbered}
-use Rattle.laws_statements.specs.Laws.{is_scalar}
-use Rattle.laws_calls.specs.Parts.{Sane}
-use Rattle.laws_calls.specs.ProgramLaws.{EachHolds}
+use Rattle.laws_analyses.specs.Statements.Laws.{is_scalar}
+use Rattle.laws_analyses.specs.Calls.Parts.{Sane}
+use Rattle.laws_analyses.specs.Calls.ProgramLaws.{EachHolds}
 use Rattle.laws_analyses.specs.Parts.{scope_in, blocks_in, part_of}
 use Rattle.laws_analyses.specs.Analysed.{part_named, AreAnalysed}
 

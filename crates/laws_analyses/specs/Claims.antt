@@ -5,11 +5,11 @@ use Rattle.call_graph.specs.declared.graph.Graph.{Graph}
 use Rattle.f77_meaning.specs.Occurrences.{Occurrence}
 use Rattle.f77_meaning.specs.Claims.{PreconditionHolds, TransformerHolds}
 use Rattle.affine_forms.specs.Scalars.{is_cell}
-use Rattle.transformer_algebra.specs.declared.transformer.Transformer.{Transformer}
-use Rattle.transformer_algebra.specs.Cells.{has}
-use Rattle.transformers.specs.Lists.{value_at}
-use Rattle.laws_statements.specs.Results.{SystemHolds, Relates}
-use Rattle.scalar_phases.specs.Phases.{scope_of, Analysis}
+use Rattle.preconditions.specs.transformer_algebra.declared.transformer.Transformer.{Transformer}
+use Rattle.preconditions.specs.transformer_algebra.Cells.{has}
+use Rattle.preconditions.specs.transformers.Lists.{value_at}
+use Rattle.laws_analyses.specs.Statements.Results.{SystemHolds, Relates}
+use Rattle.module_phases.specs.ScalarPhases.{scope_of, Analysis}
 
 -- what was found to hold where the statement of a number begins, and, by the number 0, where the module is entered
 abbrev pub precondition_in : Analysis → ℕ → Option System

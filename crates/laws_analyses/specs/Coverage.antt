@@ -2,7 +2,7 @@
 use Rattle.std.specs.Prelude.{◌≡◌, ℕ, List, Some, IsSome, slice_get}
 use Rattle.f77_meaning.specs.Modules.{Known}
 use Rattle.f77_ast.specs.StatementNumbers.{list_numbers}
-use Rattle.scalar_phases.specs.Phases.{Analysis}
+use Rattle.module_phases.specs.ScalarPhases.{Analysis}
 use Rattle.laws_analyses.specs.Claims.{precondition_in, transformer_in}
 
 -- each statement of the module has a precondition and a transformer

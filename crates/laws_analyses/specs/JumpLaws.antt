@@ -3,7 +3,7 @@ use Rattle.std.specs.Prelude.{◌≡◌, ℕ, List, Ok, Some, slice_get}
 use Rattle.fixed_form.specs.declared.line.Lines.{Lines}
 use Rattle.f77_ast.specs.DeclTrees.{ParsedTree}
 use Rattle.f77_parser.specs.Modules.{parse_of}
-use Rattle.laws_statements.specs.Leads.{StaysIn}
+use Rattle.laws_analyses.specs.Statements.Leads.{StaysIn}
 
 -- every GO TO of a module leads to a label of a list around it
 abbrev pub JumpsStayInside : Type 0

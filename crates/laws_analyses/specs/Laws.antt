@@ -5,14 +5,14 @@ use Rattle.f77_ast.specs.Symbols.{SymbolTree}
 use Rattle.call_graph.specs.declared.graph.Graph.{Graph}
 use Rattle.f77_meaning.specs.Modules.{known_of}
 use Rattle.f77_meaning.specs.Claimed.{InEveryRun}
-use Rattle.laws_storage.specs.Programs.{IsLinked, IsModule}
-use Rattle.laws_storage.specs.Initial.{DataLies}
+use Rattle.laws_programs.specs.Storage.Programs.{IsLinked, IsModule}
+use Rattle.laws_programs.specs.Storage.Initial.{DataLies}
 use Rattle.laws_programs.specs.Programs.{IsProgram}
 use Rattle.f77_ast.specs.StatementNumbers.{IsNumbered}
-use Rattle.laws_calls.specs.ProgramLaws.{EachHolds}
+use Rattle.laws_analyses.specs.Calls.ProgramLaws.{EachHolds}
 use Rattle.laws_analyses.specs.CallLaws.{Settled}
 use Rattle.laws_analyses.specs.Analysed.{part_named, AreAnalysed}
-use Rattle.scalar_phases.specs.Phases.{analyses}
+use Rattle.module_phases.specs.ScalarPhases.{analyses}
 use Rattle.laws_analyses.specs.Claims.{AnalysesHold}
 use Rattle.laws_analyses.specs.Coverage.{AreWhole}
 use Rattle.laws_analyses.specs.Results.{callees_of_all, analysed_entry, analysed_sites}

@@ -7,3 +7,6 @@ pub mod Results
 pub mod Claims
 pub mod Coverage
 pub mod Laws
+pub mod Calls
+pub mod Regions
+pub mod Statements

@@ -8,13 +8,13 @@ use Rattle.call_graph.specs.declared.graph.Graph.{Graph}
 use Rattle.f77_meaning.specs.Areas.{block, unit_at}
 use Rattle.f77_meaning.specs.Modules.{Known}
 use Rattle.f77_meaning.specs.Linked.{numbering, routine}
-use Rattle.call_translation.specs.Scopes.{ScopeTree}
-use Rattle.call_translation.specs.Common.{tracked_at}
-use Rattle.transformers.specs.Given.{Callees}
-use Rattle.laws_statements.specs.Results.{found_in, pre_in}
-use Rattle.laws_statements.specs.Laws.{scope_of, is_scalar}
-use Rattle.laws_storage.specs.Owners.{owns, owns_below}
-use Rattle.laws_calls.specs.Parts.{Blocks, Part}
+use Rattle.preconditions.specs.call_translation.Scopes.{ScopeTree}
+use Rattle.preconditions.specs.call_translation.Common.{tracked_at}
+use Rattle.preconditions.specs.transformers.Given.{Callees}
+use Rattle.laws_analyses.specs.Statements.Results.{found_in, pre_in}
+use Rattle.laws_analyses.specs.Statements.Laws.{scope_of, is_scalar}
+use Rattle.laws_programs.specs.Storage.Owners.{owns, owns_below}
+use Rattle.laws_analyses.specs.Calls.Parts.{Blocks, Part}
 
 -- what statements of a module are looked at with
 abbrev pub scope_in : Graph → Known → ScopeTree

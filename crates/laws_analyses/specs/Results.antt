@@ -5,9 +5,9 @@ use Rattle.f77_ast.specs.declared.variable.Unit.{Unit as BlockUnit}
 use Rattle.call_graph.specs.declared.graph.Graph.{Graph}
 use Rattle.f77_meaning.specs.Modules.{Known}
 use Rattle.affine_forms.specs.Conditions.{no_rows}
-use Rattle.call_translation.specs.Sites.{HoldingSite}
-use Rattle.transformers.specs.Given.{Callees}
-use Rattle.scalar_phases.specs.Phases.{module_of, no_callees, with_callee, maybe_found, Analysis, sites_of, analyses}
+use Rattle.preconditions.specs.call_translation.Sites.{HoldingSite}
+use Rattle.preconditions.specs.transformers.Given.{Callees}
+use Rattle.module_phases.specs.ScalarPhases.{module_of, no_callees, with_callee, maybe_found, Analysis, sites_of, analyses}
 
 -- the summaries after these modules, in their order
 abbrev pub callees_after : List BlockUnit → List Known → Callees → List (List ℕ) → Callees

@@ -11,31 +11,31 @@ use Rattle.f77_ast.specs.declared.symbol.Place.TheVariants.{Constant}
 use Rattle.f77_ast.specs.declared.variable.Unit.{Unit as BlockUnit}
 use Rattle.f77_ast.specs.Symbols.{SymbolTree}
 use Rattle.storage_layout.specs.Symbols.{symbols_of}
-use Rattle.laws_tables.specs.Shapes.{symbol_named}
+use Rattle.laws_programs.specs.SymbolTables.Shapes.{symbol_named}
 use Rattle.tracked_cells.specs.Tracked.{tracked_of}
 use Rattle.call_graph.specs.declared.graph.Graph.{Graph}
-use Rattle.f77_results.specs.declared.results.Results.{Results}
+use Rattle.f77_ast.specs.declared.results.Results.{Results}
 use Rattle.f77_meaning.specs.Modules.{known_of, names}
 use Rattle.f77_meaning.specs.Linked.{main_of}
 use Rattle.f77_meaning.specs.Occurrences.{Occurrence}
 use Rattle.f77_meaning.specs.Claims.{PreconditionHolds, TransformerHolds}
 use Rattle.f77_meaning.specs.Claimed.{InEveryRun}
-use Rattle.laws_storage.specs.Initial.{DataLies}
-use Rattle.laws_storage.specs.DataLaws.{AllConstantsFit}
+use Rattle.laws_programs.specs.Storage.Initial.{DataLies}
+use Rattle.laws_programs.specs.Storage.DataLaws.{AllConstantsFit}
 use Rattle.laws_programs.specs.Programs.{AreTables, IsProgram}
 use Rattle.affine_forms.specs.Scalars.{is_cell}
 use Rattle.affine_forms.specs.Claims.{Agrees}
-use Rattle.transformer_algebra.specs.declared.transformer.Transformer.{Transformer}
-use Rattle.transformer_algebra.specs.Cells.{has}
-use Rattle.call_translation.specs.Scopes.{ScopeTree}
-use Rattle.transformers.specs.Given.{Callees}
-use Rattle.transformers.specs.Lists.{value_at, transformer_at}
-use Rattle.transformers.specs.Modules.{transformers_of}
+use Rattle.preconditions.specs.transformer_algebra.declared.transformer.Transformer.{Transformer}
+use Rattle.preconditions.specs.transformer_algebra.Cells.{has}
+use Rattle.preconditions.specs.call_translation.Scopes.{ScopeTree}
+use Rattle.preconditions.specs.transformers.Given.{Callees}
+use Rattle.preconditions.specs.transformers.Lists.{value_at, transformer_at}
+use Rattle.preconditions.specs.transformers.Modules.{transformers_of}
 use Rattle.preconditions.specs.Entry.{main_entry}
 use Rattle.preconditions.specs.Modules.{preconditions_of}
-use Rattle.laws_statements.specs.CallsIn.{list_calls}
-use Rattle.laws_statements.specs.Results.{SystemHolds, Relates, or_no_rows}
-use Rattle.laws_statements.specs.Laws.{scope_of, IsMainAlone}
+use Rattle.call_graph.specs.CallsIn.{list_calls}
+use Rattle.laws_analyses.specs.Statements.Results.{SystemHolds, Relates, or_no_rows}
+use Rattle.laws_analyses.specs.Statements.Laws.{scope_of, IsMainAlone}
 
 -- ---- constants (ANSI X3.9-1978 §8.6)
 

@@ -1,7 +1,7 @@
 //! The laws of whole programs that are read.
 ghost use Rattle.laws_analyses.specs.CallLaws.{AnalysedProgramsHold, ModulesMeetHypotheses};
 
-use laws_calls::program_holds;
+use crate::program_holds;
 
 /// A module that is read is such as the induction over modules asks.
 pub fn modules_meet_hypotheses()

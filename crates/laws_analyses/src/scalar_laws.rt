@@ -1,13 +1,12 @@
 //! The laws of programs that are read.
 ghost use Rattle.laws_analyses.specs.ScalarLaws.{LogicalsAreTruths, IntegersFit, AcceptedDataStaysInLocals, NamesAgree, MainsAreAlone, ReadMainsHold};
 
+use crate::main_holds;
 use f77_meaning::{common_cells_are_alone, linked_have_blocks};
-use laws_programs::{modules_are_read, numbers_go_up, programs_are_linked};
-use laws_statements::main_holds;
-use laws_storage::{
-    cells_are_scalars, data_initialises_scalars, data_stays_in_locals, flags_tell_cells,
+use laws_programs::{
+    bodies_are_shaped, cells_are_scalars, data_initialises_scalars, data_stays_in_locals,
+    flags_tell_cells, modules_are_read, numbers_go_up, programs_are_linked,
 };
-use laws_tables::bodies_are_shaped;
 
 /// The number of a LOGICAL constant is 0 or 1.
 pub fn logicals_are_truths()

@@ -5,20 +5,19 @@ use Rattle.call_graph.specs.declared.graph.Graph.{Graph}
 use Rattle.call_graph.specs.declared.refusal.Fault.{Fault}
 use Rattle.call_graph.specs.Links.{link_of}
 use Rattle.f77_meaning.specs.Modules.{known_of}
-use Rattle.laws_database.specs.ResultEntries.{marks_in, said_for}
-use Rattle.pipsmake_rules.specs.declared.kind.Kind.{Kind}
-use Rattle.pipsmake_rules.specs.declared.kind.Kind.TheVariants as kind
-use Rattle.pipsmake_rules.specs.declared.key.Key.{Key}
-use Rattle.pipsmake_rules.specs.Needs.{needs_of}
-use Rattle.pipsmake_rules.specs.Neighbours.{has_name}
-use Rattle.laws_database.specs.Values.{source, parsed, lines, symbols, effects, transformers, preconditions, regions, ins, outs, marks, text, result}
-use Rattle.laws_database.specs.Texts.{ModuleText, ReadModule, module_read, IsModule, AreModules, modules_in, trees_in, tables_in, names_in, links_in, known_in, graph_or_none, graph_of, text_of, SameTexts}
-use Rattle.laws_database.specs.Definitions.{module_named, results_with, results_in, graph_found, printed_with, definition}
-use Rattle.laws_database.specs.Session.{needs_in}
-use Rattle.laws_database.specs.Shelves.{Shelves, Kept, kept_value}
+use Rattle.session_texts.specs.pipsmake_meaning.ResultEntries.{results_of_modules, results_for}
+use Rattle.session_texts.specs.pipsmake_rules.declared.kind.Kind.{Kind}
+use Rattle.session_texts.specs.pipsmake_rules.declared.kind.Kind.TheVariants as kind
+use Rattle.session_texts.specs.pipsmake_rules.declared.key.Key.{Key}
+use Rattle.session_texts.specs.pipsmake_rules.Needs.{needs_of}
+use Rattle.session_texts.specs.pipsmake_rules.Neighbours.{has_name}
+use Rattle.session_texts.specs.pipsmake_meaning.Values.{source, parsed, lines, symbols, effects, transformers, preconditions, regions, ins, outs, marks, text, result}
+use Rattle.session_texts.specs.pipsmake_meaning.Texts.{ModuleText, ReadModule, module_read, IsModule, AreModules, modules_in, trees_in, tables_in, names_in, links_in, known_in, graph_or_none, graph_of, text_of, SameTexts}
+use Rattle.session_texts.specs.pipsmake_meaning.Definitions.{module_named, results_with, results_in, graph_found, printed_with, definition}
+use Rattle.session_texts.specs.pipsmake_meaning.Session.{needs_in}
+use Rattle.session_texts.specs.pipsmake_meaning.MemoCells.{MemoCells, Kept, kept_value}
 use Rattle.laws_database.specs.Stands.{text_needed, AreStamps, Valuation, needed_with, HasValue}
-use Rattle.laws_database.specs.Resting.{stored_results, printed_with_results, value_with, LinesMayChange}
-use Rattle.laws_database.specs.ResultEntries.{transformers_in, preconditions_in, regions_in, ins_in, outs_in}
+use Rattle.laws_database.specs.Unverified.{stored_results, printed_with_results, value_with, LinesMayChange}
 
 modules_same : (ts us : List ModuleText) → SameTexts ts us → modules_in ts ≡ modules_in us
 modules_same [] [] s = refl
@@ -26,13 +25,13 @@ modules_same [] (u ∷ us) s = absurd s
 modules_same (t ∷ ts) [] s = absurd s
 modules_same (t ∷ ts) (u ∷ us) s = let rest = modules_same ts us s.2 in λ i. option_to_list (module_read (s.1 i)) ++ rest i
 
-names_same : (ts us : List ModuleText) → SameTexts ts us → names_in ts ≡ names_in us
+pub names_same : (ts us : List ModuleText) → SameTexts ts us → names_in ts ≡ names_in us
 names_same [] [] s = refl
 names_same [] (u ∷ us) s = absurd s
 names_same (t ∷ ts) [] s = absurd s
 names_same (t ∷ ts) (u ∷ us) s = let rest = names_same ts us s.2 in λ i. s.0 i ∷ rest i
 
-text_same : (ts us : List ModuleText) → SameTexts ts us → (x : List ℕ) → text_of ts x ≡ text_of us x
+pub text_same : (ts us : List ModuleText) → SameTexts ts us → (x : List ℕ) → text_of ts x ≡ text_of us x
 text_same [] [] s x = refl
 text_same [] (u ∷ us) s x = absurd s
 text_same (t ∷ ts) [] s x = absurd s
@@ -70,7 +69,7 @@ module _ (ts us : List ModuleText) (s : SameTexts ts us) where
   named_same x = ap (option_and_then module_read) (text_same ts us s x)
 
   with_same : (x : List ℕ) (r : Result Graph Fault) → results_with ts r x ≡ results_with us r x
-  with_same x (Ok g) = ap (λ ks. said_for (marks_in ks g) x) known_same
+  with_same x (Ok g) = ap (λ ks. results_for (results_of_modules ks g) x) known_same
   with_same x (Err f) = refl
 
   results_same : (x : List ℕ) → results_in ts x ≡ results_in us x
@@ -82,11 +81,11 @@ module _ (ts us : List ModuleText) (s : SameTexts ts us) where
   definition_same kind.Symbols x = ap (option_map (λ m. symbols m.table)) (named_same x)
   definition_same kind.CallGraph x = ap graph_found links_same
   definition_same kind.Effects x = ap (option_map (λ f. effects f.effects)) (results_same x)
-  definition_same kind.Transformers x = ap (option_map (λ f. transformers (transformers_in f))) (results_same x)
-  definition_same kind.Preconditions x = ap (option_map (λ f. preconditions (preconditions_in f))) (results_same x)
-  definition_same kind.Regions x = ap (option_map (λ f. regions (regions_in f))) (results_same x)
-  definition_same kind.InRegions x = ap (option_map (λ f. ins (ins_in f))) (results_same x)
-  definition_same kind.OutRegions x = ap (option_map (λ f. outs (outs_in f))) (results_same x)
+  definition_same kind.Transformers x = ap (option_map (λ f. transformers f.transformers)) (results_same x)
+  definition_same kind.Preconditions x = ap (option_map (λ f. preconditions f.preconditions)) (results_same x)
+  definition_same kind.Regions x = ap (option_map (λ f. regions f.regions)) (results_same x)
+  definition_same kind.InRegions x = ap (option_map (λ f. ins f.ins)) (results_same x)
+  definition_same kind.OutRegions x = ap (option_map (λ f. outs f.outs)) (results_same x)
   definition_same kind.Marks x = ap (option_map (λ f. marks f.marks)) (results_same x)
   definition_same kind.Printed x = λ i. printed_with (named_same x i) (results_same x i)
 
@@ -122,7 +121,7 @@ module _ (ts us : List ModuleText) (s : SameTexts ts us) where
   needed_same stored k =
       λ i. text_needed_same k.kind k.name i ++ map (λ (n : Key). record { item = result n.kind; name = n.name; value = value_same stored n.kind n.name i }) (needs_same k i)
 
-  values_still : (sh : Shelves) (stored : Valuation) (k : Key) (o : Option Kept) → IfSome o (λ kept. HasValue sh ts (value_with ts stored) k kept) → IfSome o (λ kept. HasValue sh us (value_with us stored) k kept)
+  values_still : (sh : MemoCells) (stored : Valuation) (k : Key) (o : Option Kept) → IfSome o (λ kept. HasValue sh ts (value_with ts stored) k kept) → IfSome o (λ kept. HasValue sh us (value_with us stored) k kept)
   values_still sh stored k None h = tt
   values_still sh stored k (Some kept) h = record {
     value = h.value;

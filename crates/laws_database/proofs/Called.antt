@@ -6,26 +6,26 @@ use mathlib.Core.List.{reverse-cons}
 use Rattle.std.proofs.lemmas.Bool.{or_left, or_right}
 use Rattle.std.proofs.lemmas.List.Folds.{list_any-append}
 use Rattle.std.proofs.lemmas.Slice.Eq.{bytes_eq-Decides}
-use Rattle.f77_results.specs.Summaries.{SummaryTree}
-use Rattle.f77_results.specs.declared.results.Results.{Results}
+use Rattle.f77_ast.specs.Summaries.{SummaryTree}
+use Rattle.f77_ast.specs.declared.results.Results.{Results}
 use Rattle.call_graph.specs.declared.graph.Edge.{Edge}
 use Rattle.call_graph.specs.declared.graph.Graph.{Graph}
 use Rattle.f77_meaning.specs.Linked.{callees}
-use Rattle.laws_statements.specs.CallsIn.{Each}
+use Rattle.call_graph.specs.CallsIn.{Each}
 use Rattle.laws_database.specs.ResultCallees.{Summaries}
 use Rattle.laws_database.specs.ResultCallers.{calls_by, caller_names}
 use Rattle.laws_database.specs.ResultNeeds.{SameAt}
-use Rattle.region_phases.specs.Callees.{Callee, summary_of, callee_at, callees_of}
-use Rattle.pipsmake_rules.specs.declared.kind.Kind.{Kind}
-use Rattle.pipsmake_rules.specs.declared.key.Key.{Key}
-use Rattle.pipsmake_rules.specs.Keys.{key_of}
-use Rattle.pipsmake_rules.specs.Needs.{by_module}
-use Rattle.pipsmake_rules.specs.Neighbours.{has_name, name_put, callees_from, calls, callers_of}
-use Rattle.pipsmake_rules.specs.Neighbours as names
-use Rattle.pipsmake_rules.proofs.NeighbourLaws.{filter_alike}
-use Rattle.laws_database.specs.Texts.{ModuleText, ReadModule}
-use Rattle.laws_database.specs.Definitions.{module_named}
-use Rattle.laws_database.specs.Rules.{callee_with, callees_with}
+use Rattle.loop_marker.specs.module_phases.Callees.{Callee, summary_of, callee_at, callees_of}
+use Rattle.session_texts.specs.pipsmake_rules.declared.kind.Kind.{Kind}
+use Rattle.session_texts.specs.pipsmake_rules.declared.key.Key.{Key}
+use Rattle.session_texts.specs.pipsmake_rules.Keys.{key_of}
+use Rattle.session_texts.specs.pipsmake_rules.Needs.{by_module}
+use Rattle.session_texts.specs.pipsmake_rules.Neighbours.{has_name, name_put, callees_from, calls, callers_of}
+use Rattle.session_texts.specs.pipsmake_rules.Neighbours as names
+use Rattle.session_texts.proofs.PipsmakeRules.NeighbourLaws.{filter_alike}
+use Rattle.session_texts.specs.pipsmake_meaning.Texts.{ModuleText, ReadModule}
+use Rattle.session_texts.specs.pipsmake_meaning.Definitions.{module_named}
+use Rattle.session_texts.specs.pipsmake_meaning.Rules.{callee_with, callees_with}
 
 -- ---- names
 

@@ -2,20 +2,18 @@
 use Rattle.std.proofs.Common.{◌≡◌, ◌⊎◌, inl, inr, ℕ, Bool, true, false, List, [], Option, Some, None, refl, sym, ap, ◌∙◌, subst, true≢false}
 use Rattle.std.specs.Prelude.{bytes_eq, slice_get, IfSome}
 use Rattle.std.proofs.lemmas.Slice.Eq.{bytes_eq-Decides}
-use Rattle.pipsmake_rules.specs.declared.kind.Kind.{Kind}
-use Rattle.laws_database.specs.Values.{Value, source, Item, text, result}
-use Rattle.laws_database.specs.Texts.{ModuleText, AreModules, text_of}
-use Rattle.laws_database.specs.Session.{Makings}
-use Rattle.laws_database.specs.Shelves.{Shelves, Shelf, value_under, kept_value, AreDistinct, KeepsIn}
+use Rattle.session_texts.specs.pipsmake_rules.declared.kind.Kind.{Kind}
+use Rattle.session_texts.specs.pipsmake_meaning.Values.{Value, source, Item, text, result}
+use Rattle.session_texts.specs.pipsmake_meaning.Texts.{ModuleText, AreModules, text_of}
+use Rattle.session_texts.specs.pipsmake_meaning.Session.{Makings}
+use Rattle.session_texts.specs.pipsmake_meaning.MemoCells.{MemoCells, MemoCell, value_under, kept_value, AreDistinct, KeepsIn}
 use Rattle.laws_database.specs.Stands.{KeptStands, StandsFor}
 use Rattle.laws_database.specs.Laws.{TextsMayChange, TextsMayGo}
 use Rattle.laws_database.proofs.Stamps.{adds_keep, adds_distinct, Distinct, Grows}
 use Rattle.laws_database.proofs.Keeping.{kept_grow}
+use Rattle.fx_lists.proofs.Texts.{differs}
 
-pub differs : (y x : List ℕ) → bytes_eq y x ≡ false → y ≡ x → ⊥
-differs y x e p = true≢false (sym ((bytes_eq-Decides y x).1 p) ∙ e)
-
-module _ (sh new : Shelves) (x t : List ℕ) (keeps : KeepsIn sh new text x (source t) []) where
+module _ (sh new : MemoCells) (x t : List ℕ) (keeps : KeepsIn sh new text x (source t) []) where
   abbrev IsThere : Item → List ℕ → Type 0
   IsThere item y = (item ≡ text) × (y ≡ x)
 
@@ -27,7 +25,7 @@ module _ (sh new : Shelves) (x t : List ℕ) (keeps : KeepsIn sh new text x (sou
       go true e = inl (refl, (bytes_eq-Decides y x).0 e)
       go false e = inr (λ p. differs y x e p.1)
 
-  at_it : (P : Shelf → Shelf → Type 0) → P (sh text x) (new text x) → ((s : Shelf) → P s s) → (item : Item) (y : List ℕ) → P (sh item y) (new item y)
+  at_it : (P : MemoCell → MemoCell → Type 0) → P (sh text x) (new text x) → ((s : MemoCell) → P s s) → (item : Item) (y : List ℕ) → P (sh item y) (new item y)
   at_it P here other item y =
       elim (decide item y) [
         | inl e ↦ subst (λ a. P (sh a y) (new a y)) (sym e.0) (subst (λ b. P (sh text b) (new text b)) (sym e.1) here)
@@ -59,14 +57,14 @@ module _ (sh new : Shelves) (x t : List ℕ) (keeps : KeepsIn sh new text x (sou
         go true e = subst (λ z. HasText z (text_of us z)) (sym ((bytes_eq-Decides y x).0 e)) (subst (HasText x) (sym is_text) text_kept)
         go false e =
             let d = differs y x e in
-            subst (HasText y) (sym (others y d)) (subst (λ (s : Shelf). IfSome (text_of ts y) (λ u. kept_value s ≡ Some (source u))) (sym (keeps.others text y (λ p. d p.1))) (stands.texts y))
+            subst (HasText y) (sym (others y d)) (subst (λ (s : MemoCell). IfSome (text_of ts y) (λ u. kept_value s ≡ Some (source u))) (sym (keeps.others text y (λ p. d p.1))) (stands.texts y))
 
     stands_now : StandsFor new us made
     stands_now = record {
       modules = ms;
       texts = texts_now;
       distinct = distinct_now stands.distinct;
-      kept = λ k y. subst (λ (s : Shelf). KeptStands new (record { kind = k; name = y }) s.kept (made k y)) (sym (results_stay k y))
+      kept = λ k y. subst (λ (s : MemoCell). KeptStands new (record { kind = k; name = y }) s.kept (made k y)) (sym (results_stay k y))
           (kept_grow sh new grows (record { kind = k; name = y }) ((sh (result k) y).kept) (made k y) (stands.kept k y));
     }
 

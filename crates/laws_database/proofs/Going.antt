@@ -2,28 +2,29 @@
 use Rattle.std.proofs.Common.{◌≡◌, ◌⊎◌, inl, inr, ℕ, Bool, true, false, List, [], Option, Some, None, refl, sym, ap, ◌∙◌, subst, true≢false}
 use Rattle.std.specs.Prelude.{bytes_eq, slice_get, option_map, IfSome, if◌then◌else◌}
 use Rattle.std.proofs.lemmas.Slice.Eq.{bytes_eq-Decides}
-use Rattle.pipsmake_rules.specs.declared.kind.Kind.{Kind}
-use Rattle.pipsmake_rules.specs.declared.key.Key.{Key}
-use Rattle.pipsmake_rules.specs.Keys.{same_key}
-use Rattle.pipsmake_rules.proofs.KeyLaws.{same_key-true, same_key_self}
-use Rattle.laws_database.specs.Values.{Value, source, Item, text, result}
-use Rattle.laws_database.specs.Texts.{ModuleText, text_of}
-use Rattle.laws_database.specs.Definitions.{definition}
-use Rattle.laws_database.specs.Session.{Makings, made_without}
-use Rattle.laws_database.specs.Shelves.{Shelves, Shelf, Kept, value_under, kept_value, AreDistinct, KeepsIn, SeenIn, Forgets}
+use Rattle.session_texts.specs.pipsmake_rules.declared.kind.Kind.{Kind}
+use Rattle.session_texts.specs.pipsmake_rules.declared.key.Key.{Key}
+use Rattle.session_texts.specs.pipsmake_rules.Keys.{same_key}
+use Rattle.session_texts.proofs.PipsmakeRules.KeyLaws.{same_key-true, same_key_self}
+use Rattle.session_texts.specs.pipsmake_meaning.Values.{Value, source, Item, text, result}
+use Rattle.session_texts.specs.pipsmake_meaning.Texts.{ModuleText, text_of}
+use Rattle.session_texts.specs.pipsmake_meaning.Definitions.{definition}
+use Rattle.session_texts.specs.pipsmake_meaning.Session.{Makings, made_without}
+use Rattle.session_texts.specs.pipsmake_meaning.MemoCells.{MemoCells, MemoCell, Kept, value_under, kept_value, AreDistinct, KeepsIn, SeenIn, Forgets}
 use Rattle.laws_database.specs.Stands.{KeptStands, StandsFor, Valuation, HasValue, KeepsValues}
 use Rattle.laws_database.specs.Laws.{ResultsMayGo, ValuesMayBeSeen, ResultsMayBeKept, NothingStands, LoadedStands, NothingIsGiven, GivenMayBeKept, GivenMayBeSeen, GivenTextsMayStay}
 use Rattle.laws_database.proofs.Stamps.{adds_keep, adds_distinct, Distinct, Grows}
 use Rattle.laws_database.proofs.Keeping.{kept_grow, stands_later}
-use Rattle.laws_database.proofs.Changes.{differs, grows, distinct_now, results_stay, text_kept}
-use Rattle.laws_database.proofs.Resting.{value_grows, keeps_later}
+use Rattle.laws_database.proofs.Changes.{grows, distinct_now, results_stay, text_kept}
+use Rattle.laws_database.proofs.Unverified.{value_grows, keeps_later}
+use Rattle.fx_lists.proofs.Texts.{differs}
 
 abbrev key : Kind → List ℕ → Key
 key k x = record { kind = k; name = x }
 
 -- ---- results that are forgotten
 
-module _ (sh new : Shelves) (x : List ℕ) (forgets : Forgets sh new x) where
+module _ (sh new : MemoCells) (x : List ℕ) (forgets : Forgets sh new x) where
   by_name : (P : List ℕ → Type 0) → P x → ((y : List ℕ) → (y ≡ x → ⊥) → P y) → (y : List ℕ) → P y
   by_name P here other y = go (bytes_eq y x) refl
     where
@@ -32,10 +33,10 @@ module _ (sh new : Shelves) (x : List ℕ) (forgets : Forgets sh new x) where
       go false e = other y (differs y x e)
 
   values_same : (item : Item) (y : List ℕ) → (new item y).values ≡ (sh item y).values
-  values_same text = by_name (λ y. (new text y).values ≡ (sh text y).values) (ap (λ (s : Shelf). s.values) forgets.text) (λ y n. ap (λ (s : Shelf). s.values) (forgets.others text y n))
+  values_same text = by_name (λ y. (new text y).values ≡ (sh text y).values) (ap (λ (s : MemoCell). s.values) forgets.text) (λ y n. ap (λ (s : MemoCell). s.values) (forgets.others text y n))
   values_same (result k) =
-      by_name (λ y. (new (result k) y).values ≡ (sh (result k) y).values) (ap (λ (s : Shelf). s.values) (forgets.results k))
-      (λ y n. ap (λ (s : Shelf). s.values) (forgets.others (result k) y n))
+      by_name (λ y. (new (result k) y).values ≡ (sh (result k) y).values) (ap (λ (s : MemoCell). s.values) (forgets.results k))
+      (λ y n. ap (λ (s : MemoCell). s.values) (forgets.others (result k) y n))
 
   texts_same : (y : List ℕ) → new text y ≡ sh text y
   texts_same = by_name (λ y. new text y ≡ sh text y) forgets.text (λ y n. forgets.others text y n)
@@ -49,17 +50,17 @@ module _ (sh new : Shelves) (x : List ℕ) (forgets : Forgets sh new x) where
       where
         go : (b : Bool) → bytes_eq y x ≡ b → KeptStands new (key k y) ((new (result k) y).kept) (if b then None else made k y)
         go true e =
-            let none : (new (result k) x).kept ≡ None = ap (λ (s : Shelf). s.kept) (forgets.results k) in
+            let none : (new (result k) x).kept ≡ None = ap (λ (s : MemoCell). s.kept) (forgets.results k) in
             let here : (new (result k) y).kept ≡ None = subst (λ z. (new (result k) z).kept ≡ None) (sym ((bytes_eq-Decides y x).0 e)) none in
             subst (λ o. KeptStands new (key k y) o None) (sym here) tt
         go false e =
-            subst (λ (s : Shelf). KeptStands new (key k y) s.kept (made k y)) (sym (forgets.others (result k) y (differs y x e)))
+            subst (λ (s : MemoCell). KeptStands new (key k y) s.kept (made k y)) (sym (forgets.others (result k) y (differs y x e)))
             (kept_grow sh new still_there (key k y) ((sh (result k) y).kept) (made k y) (stands.kept k y))
 
 pub results_may_go : ResultsMayGo
 results_may_go sh new ts made x stands forgets = record {
   modules = stands.modules;
-  texts = λ y. subst (λ (s : Shelf). IfSome (text_of ts y) (λ t. kept_value s ≡ Some (source t))) (sym (texts_same sh new x forgets y)) (stands.texts y);
+  texts = λ y. subst (λ (s : MemoCell). IfSome (text_of ts y) (λ t. kept_value s ≡ Some (source t))) (sym (texts_same sh new x forgets y)) (stands.texts y);
   distinct = λ item y. subst AreDistinct (sym (values_same sh new x forgets item y)) (stands.distinct item y);
   kept = λ k y. kept_without sh new x forgets ts made stands k y;
 }
@@ -84,7 +85,7 @@ same_name y x = go (bytes_eq y x) refl
     go true e = inl ((bytes_eq-Decides y x).0 e)
     go false e = inr (differs y x e)
 
-module _ (sh new : Shelves) (item : Item) (x : List ℕ) (v : Value) (stamp : ℕ) (sees : SeenIn sh new item x v stamp) where
+module _ (sh new : MemoCells) (item : Item) (x : List ℕ) (v : Value) (stamp : ℕ) (sees : SeenIn sh new item x v stamp) where
   abbrev IsThere : Item → List ℕ → Type 0
   IsThere other y = (other ≡ item) × (y ≡ x)
 
@@ -96,7 +97,7 @@ module _ (sh new : Shelves) (item : Item) (x : List ℕ) (v : Value) (stamp : �
       go (inl a) (inr n) = inr (λ p. n p.1)
       go (inr n) b = inr (λ p. n p.0)
 
-  at_it : (P : Shelf → Shelf → Type 0) → P (sh item x) (new item x) → ((s : Shelf) → P s s) → (other : Item) (y : List ℕ) → P (sh other y) (new other y)
+  at_it : (P : MemoCell → MemoCell → Type 0) → P (sh item x) (new item x) → ((s : MemoCell) → P s s) → (other : Item) (y : List ℕ) → P (sh other y) (new other y)
   at_it P here same other y =
       elim (decide other y) [
         | inl e ↦ subst (λ a. P (sh a y) (new a y)) (sym e.0) (subst (λ b. P (sh item b) (new item b)) (sym e.1) here)
@@ -143,8 +144,8 @@ pub nothing_stands : NothingStands
 nothing_stands sh empty = record {
   modules = tt;
   texts = λ x. tt;
-  distinct = λ item x. subst (λ (s : Shelf). AreDistinct s.values) (sym (empty item x)) tt;
-  kept = λ k x. subst (λ (s : Shelf). KeptStands sh (key k x) s.kept None) (sym (empty (result k) x)) tt;
+  distinct = λ item x. subst (λ (s : MemoCell). AreDistinct s.values) (sym (empty item x)) tt;
+  kept = λ k x. subst (λ (s : MemoCell). KeptStands sh (key k x) s.kept None) (sym (empty (result k) x)) tt;
 }
 
 pub loaded_stands : LoadedStands
@@ -185,7 +186,7 @@ given_may_be_seen sh new ts d item x v stamp have sees = record {
       (value_grows ts d sh new (seen_grow sh new item x v stamp sees) (key k y) ((sh (result k) y).kept) (have.kept k y));
 }
 
-module _ (sh new : Shelves) (ts : List ModuleText) (d : Valuation) (x t : List ℕ) (have : KeepsValues sh ts d) (is : text_of ts x ≡ Some t) (keeps : KeepsIn sh new text x (source t) []) where
+module _ (sh new : MemoCells) (ts : List ModuleText) (d : Valuation) (x t : List ℕ) (have : KeepsValues sh ts d) (is : text_of ts x ≡ Some t) (keeps : KeepsIn sh new text x (source t) []) where
   abbrev HasText : List ℕ → Type 0
   HasText y = IfSome (text_of ts y) (λ u. kept_value (new text y) ≡ Some (source u))
 
@@ -194,13 +195,13 @@ module _ (sh new : Shelves) (ts : List ModuleText) (d : Valuation) (x t : List �
     where
       go : (b : Bool) → bytes_eq y x ≡ b → HasText y
       go true e = subst HasText (sym ((bytes_eq-Decides y x).0 e)) (subst (λ o. IfSome o (λ u. kept_value (new text x) ≡ Some (source u))) (sym is) (text_kept sh new x t keeps))
-      go false e = subst (λ (s : Shelf). IfSome (text_of ts y) (λ u. kept_value s ≡ Some (source u))) (sym (keeps.others text y (λ p. differs y x e p.1))) (have.texts y)
+      go false e = subst (λ (s : MemoCell). IfSome (text_of ts y) (λ u. kept_value s ≡ Some (source u))) (sym (keeps.others text y (λ p. differs y x e p.1))) (have.texts y)
 
 pub given_texts_may_stay : GivenTextsMayStay
 given_texts_may_stay sh new ts d x t have is keeps = record {
   modules = have.modules;
   texts = λ y. texts_again sh new ts d x t have is keeps y;
   distinct = distinct_now sh new x t keeps have.distinct;
-  kept = λ k y. subst (λ (s : Shelf). IfSome s.kept (λ kept. HasValue new ts d (key k y) kept)) (sym (results_stay sh new x t keeps k y))
+  kept = λ k y. subst (λ (s : MemoCell). IfSome s.kept (λ kept. HasValue new ts d (key k y) kept)) (sym (results_stay sh new x t keeps k y))
       (value_grows ts d sh new (grows sh new x t keeps) (key k y) ((sh (result k) y).kept) (have.kept k y));
 }

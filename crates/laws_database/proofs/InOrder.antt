@@ -8,13 +8,12 @@ use Rattle.f77_ast.specs.DeclTrees.{ParsedTree}
 use Rattle.f77_ast.specs.Symbols.{SymbolTree}
 use Rattle.call_graph.specs.declared.graph.Edge.{Edge}
 use Rattle.call_graph.specs.declared.graph.Graph.{Graph}
-use Rattle.f77_meaning.proofs.LinkedLaws.{linked_calls_fit}
-use Rattle.laws_storage.specs.Programs.{IsLinked, IsModule}
-use Rattle.laws_storage.specs.Below.{HasCall}
-use Rattle.laws_storage.proofs.ModuleLaws.{graph_is}
-use Rattle.laws_storage.proofs.EdgeLaws.{edge_call}
+use Rattle.f77_meaning.proofs.LinkedLaws.{linked_calls_fit, is_graph as graph_is}
+use Rattle.laws_programs.specs.Storage.Programs.{IsLinked, IsModule}
+use Rattle.laws_programs.specs.Storage.Below.{HasCall}
+use Rattle.laws_programs.proofs.Storage.EdgeLaws.{edge_call}
 use Rattle.laws_analyses.proofs.Orders.{NotIn, Sorted, Among, order_sorted, each_stands}
-use Rattle.pipsmake_rules.specs.Laws.{place_in, is_bottom_up}
+use Rattle.session_texts.specs.pipsmake_rules.Laws.{place_in, is_bottom_up}
 
 not_among : (x : List ℕ) (ys : List (List ℕ)) → NotIn x ys → Among x ys → ⊥
 not_among x [] n a = let e = a.1 in cc

@@ -3,35 +3,28 @@ use Rattle.std.proofs.Common.{◌≡◌, ◌⊎◌, inl, inr, ℕ, Bool, true, f
 use Rattle.std.specs.Prelude.{slice_get, option_map, IfSome, if◌then◌else◌}
 use Rattle.std.specs.List.{list_all}
 use Rattle.std.proofs.lemmas.Bool.{and_parts, or_cases}
-use Rattle.laws_statements.specs.CallsIn.{Each}
-use Rattle.pipsmake_rules.specs.declared.key.Key.{Key}
-use Rattle.pipsmake_rules.specs.Keys.{same_key, holds}
-use Rattle.pipsmake_rules.proofs.KeyLaws.{same_key-true, same_key_self, holds-last, holds-more, holds-cases}
-use Rattle.laws_database.specs.Values.{Value, source, Item, text, result}
-use Rattle.laws_database.specs.Texts.{ModuleText, AreModules, text_of}
-use Rattle.laws_database.specs.Definitions.{definition}
-use Rattle.laws_database.specs.Session.{Makings, needs_in, UpToDate, MadeOf, made_now}
-use Rattle.laws_database.specs.Shelves.{Shelves, Shelf, Stamped, Kept, value_under, kept_value, kept_of, AreDistinct, KeepsIn}
-use Rattle.laws_database.specs.Rules.{rule_value}
-use Rattle.laws_database.specs.Making.{stamps_now, IsCurrent, AllStay, Makes, Brings, BringsAll}
+use Rattle.call_graph.specs.CallsIn.{Each}
+use Rattle.session_texts.specs.pipsmake_rules.declared.key.Key.{Key}
+use Rattle.session_texts.specs.pipsmake_rules.Keys.{same_key, holds}
+use Rattle.session_texts.proofs.PipsmakeRules.KeyLaws.{same_key-true, same_key_self, holds-last, holds-more, holds-cases}
+use Rattle.session_texts.specs.pipsmake_meaning.Values.{Value, source, Item, text, result}
+use Rattle.session_texts.specs.pipsmake_meaning.Texts.{ModuleText, AreModules, text_of}
+use Rattle.session_texts.specs.pipsmake_meaning.Definitions.{definition}
+use Rattle.session_texts.specs.pipsmake_meaning.Session.{Makings, needs_in, UpToDate, MadeOf, made_now}
+use Rattle.session_texts.specs.pipsmake_meaning.MemoCells.{MemoCells, MemoCell, Stamped, Kept, value_under, kept_value, kept_of, AreDistinct, KeepsIn}
+use Rattle.session_texts.specs.pipsmake_meaning.Rules.{rule_value}
+use Rattle.session_texts.specs.pipsmake_meaning.Making.{stamps_now, IsCurrent, AllStay, Makes, Brings, BringsAll}
 use Rattle.laws_database.specs.Stands.{needed, AreStamps, WasMade, KeptStands, StandsFor}
 use Rattle.laws_database.proofs.Stamps.{adds_keep, adds_distinct, Distinct, Grows, stamps_same, needs_same, stamps_grow, IsKnown, HasText, HasTexts, stamps_are, SameNeeds, needed_same, same_needed}
+use Rattle.fx_lists.proofs.Booleans.{no_both as clash, or_neither as either}
 
 -- ---- lists of results
 
-pub either : (a b : Bool) → (a || b) ≡ false → (a ≡ false) × (b ≡ false)
-either true b e = cc
-either false b e = (refl, e)
-
-clash : (b : Bool) → b ≡ true → b ≡ false → ⊥
-clash true e f = cc
-clash false e f = cc
-
-holds_other : (ks : List Key) (k j : Key) → same_key k j ≡ false → holds (ks ++ k ∷ []) j ≡ holds ks j
+pub holds_other : (ks : List Key) (k j : Key) → same_key k j ≡ false → holds (ks ++ k ∷ []) j ≡ holds ks j
 holds_other [] k j e = ap (λ b. b || false) e
 holds_other (i ∷ is) k j e = ap (λ b. same_key i j || b) (holds_other is k j e)
 
-held : (P : Key → Type 0) (done : List Key) (n : Key) → Each P done → holds done n ≡ true → P n
+pub held : (P : Key → Type 0) (done : List Key) (n : Key) → Each P done → holds done n ≡ true → P n
 held P [] n h e = cc
 held P (d ∷ ds) n h e =
     elim (or_cases (same_key d n) (holds ds n) e) [
@@ -49,7 +42,7 @@ each_last P (d ∷ ds) k h p = (h.0, each_last P ds k h.1 p)
 
 -- ---- what stays
 
-pub kept_grow : (old new : Shelves) → Grows old new → (k : Key) (o : Option Kept) (m : Option (List ModuleText)) → KeptStands old k o m → KeptStands new k o m
+pub kept_grow : (old new : MemoCells) → Grows old new → (k : Key) (o : Option Kept) (m : Option (List ModuleText)) → KeptStands old k o m → KeptStands new k o m
 kept_grow old new g k None None s = tt
 kept_grow old new g k None (Some t) s = absurd s
 kept_grow old new g k (Some kept) None s = absurd s
@@ -61,12 +54,12 @@ kept_grow old new g k (Some kept) (Some t) s = record {
   needs = stamps_grow old new g kept.needs (needed t k) s.needs;
 }
 
-pub texts_of : (sh : Shelves) (ts : List ModuleText) → ((x : List ℕ) → IfSome (text_of ts x) (λ t. kept_value (sh text x) ≡ Some (source t))) → HasTexts sh ts
+pub texts_of : (sh : MemoCells) (ts : List ModuleText) → ((x : List ℕ) → IfSome (text_of ts x) (λ t. kept_value (sh text x) ≡ Some (source t))) → HasTexts sh ts
 texts_of sh ts h x t e = subst (λ o. IfSome o (λ u. kept_value (sh text x) ≡ Some (source u))) e (h x)
 
 -- ---- what is current
 
-module _ (ts : List ModuleText) (sh : Shelves) (made : Makings) (stands : StandsFor sh ts made) (k : Key) (has : HasText ts k.kind k.name) (known : Each (IsKnown sh ts) (needs_in ts k)) where
+module _ (ts : List ModuleText) (sh : MemoCells) (made : Makings) (stands : StandsFor sh ts made) (k : Key) (has : HasText ts k.kind k.name) (known : Each (IsKnown sh ts) (needs_in ts k)) where
   now_are : AreStamps sh (stamps_now sh ts k) (needed ts k)
   now_are = stamps_are sh ts (texts_of sh ts stands.texts) k has known
 
@@ -98,7 +91,7 @@ module _ (ts : List ModuleText) (sh : Shelves) (made : Makings) (stands : Stands
 
 -- ---- what is made
 
-module _ (sh mid : Shelves) (k : Key) (v : Value) (ss : List Stamped) (keeps : KeepsIn sh mid (result k.kind) k.name v ss) where
+module _ (sh mid : MemoCells) (k : Key) (v : Value) (ss : List Stamped) (keeps : KeepsIn sh mid (result k.kind) k.name v ss) where
   abbrev IsThere : Item → List ℕ → Type 0
   IsThere item y = (item ≡ result k.kind) × (y ≡ k.name)
 
@@ -112,7 +105,7 @@ module _ (sh mid : Shelves) (k : Key) (v : Value) (ss : List Stamped) (keeps : K
           inr (λ p. clash (same_key k k) (same_key_self k)
           ((let f : result j ≡ result k.kind = p.0 in let q : j ≡ k.kind = cc in (λ i. same_key (record { kind = sym q i; name = sym p.1 i }) k) ∙ e)))
 
-  at_it : (P : Shelf → Shelf → Type 0) → P (sh (result k.kind) k.name) (mid (result k.kind) k.name) → ((s : Shelf) → P s s) → (item : Item) (y : List ℕ) → P (sh item y) (mid item y)
+  at_it : (P : MemoCell → MemoCell → Type 0) → P (sh (result k.kind) k.name) (mid (result k.kind) k.name) → ((s : MemoCell) → P s s) → (item : Item) (y : List ℕ) → P (sh item y) (mid item y)
   at_it P here other item y =
       elim (decide item y) [
         | inl e ↦ subst (λ a. P (sh a y) (mid a y)) (sym e.0) (subst (λ b. P (sh (result k.kind) b) (mid (result k.kind) b)) (sym e.1) here)
@@ -148,7 +141,7 @@ module _ (sh mid : Shelves) (k : Key) (v : Value) (ss : List Stamped) (keeps : K
 
 -- ---- a result that is kept keeps what values stand for
 
-module _ (ts : List ModuleText) (made : Makings) (so_far : List Key) (sh mid : Shelves) (k : Key) (v : Value) (ss : List Stamped) (stands : StandsFor sh ts (made_now made ts so_far)) (is : definition ts k.kind k.name ≡ Some v)
+module _ (ts : List ModuleText) (made : Makings) (so_far : List Key) (sh mid : MemoCells) (k : Key) (v : Value) (ss : List Stamped) (stands : StandsFor sh ts (made_now made ts so_far)) (is : definition ts k.kind k.name ≡ Some v)
     (keeps : KeepsIn sh mid (result k.kind) k.name v ss) (stamps : AreStamps sh ss (needed ts k)) where
   abbrev later : List Key
   later = so_far ++ k ∷ []
@@ -167,7 +160,7 @@ module _ (ts : List ModuleText) (made : Makings) (so_far : List Key) (sh mid : S
   other_stands : (j : Key) → same_key k j ≡ false → same_key j k ≡ false → Stands j
   other_stands j e f =
       let g = grows sh mid k v ss keeps in
-      subst (λ (s : Shelf). KeptStands mid j s.kept (made_now made ts later j.kind j.name)) (sym (other_result sh mid k v ss keeps j f))
+      subst (λ (s : MemoCell). KeptStands mid j s.kept (made_now made ts later j.kind j.name)) (sym (other_result sh mid k v ss keeps j f))
       (subst (λ b. KeptStands mid j ((sh (result j.kind) j.name).kept) (if b then Some ts else made j.kind j.name)) (sym (holds_other so_far k j e))
       (kept_grow sh mid g j ((sh (result j.kind) j.name).kept) (made_now made ts so_far j.kind j.name) (stands.kept j.kind j.name)))
 
@@ -182,7 +175,7 @@ module _ (ts : List ModuleText) (made : Makings) (so_far : List Key) (sh mid : S
   pub stands_later : StandsFor mid ts (made_now made ts later)
   stands_later = record {
     modules = stands.modules;
-    texts = λ x. subst (λ (s : Shelf). IfSome (text_of ts x) (λ t. kept_value s ≡ Some (source t))) (sym (texts_now sh mid k v ss keeps x)) (stands.texts x);
+    texts = λ x. subst (λ (s : MemoCell). IfSome (text_of ts x) (λ t. kept_value s ≡ Some (source t))) (sym (texts_now sh mid k v ss keeps x)) (stands.texts x);
     distinct = distinct_now sh mid k v ss keeps stands.distinct;
     kept = λ kind x. each_stands (record { kind = kind; name = x });
   }
@@ -193,11 +186,11 @@ module _ (ts : List ModuleText) (made : Makings) (so_far : List Key) (sh mid : S
 pub record Facts (ts : List ModuleText) (Can : Key → Type 0) : Type 0 where
   pub has : (k : Key) → Can k → HasText ts k.kind k.name
   pub some : (k : Key) → Can k → (v : Value) × (definition ts k.kind k.name ≡ Some v)
-  pub rule : (sh : Shelves) (k : Key) (v : Value) → Can k → Each (IsKnown sh ts) (needs_in ts k) → definition ts k.kind k.name ≡ Some v → rule_value sh ts k ≡ Some v
+  pub rule : (sh : MemoCells) (k : Key) (v : Value) → Can k → Each (IsKnown sh ts) (needs_in ts k) → definition ts k.kind k.name ≡ Some v → rule_value sh ts k ≡ Some v
   pub same : (k : Key) → Can k → (old : List ModuleText) (v : Value) → AreModules old → definition old k.kind k.name ≡ Some v → SameNeeds old ts k → definition ts k.kind k.name ≡ Some v
 
 -- what bringing some results up to date comes to
-pub record Brought (ts : List ModuleText) (made : Makings) (walk ks so_far now : List Key) (new : Shelves) : Type 0 where
+pub record Brought (ts : List ModuleText) (made : Makings) (walk ks so_far now : List Key) (new : MemoCells) : Type 0 where
   pub are_made : MadeOf made ts ks now
   pub stands : StandsFor new ts (made_now made ts (so_far ++ now))
   pub known : Each (IsKnown new ts) walk
@@ -239,7 +232,7 @@ module _ (ts : List ModuleText) (Can : Key → Type 0) (facts : Facts ts Can) (m
 
   abbrev Goal : List Key → Type 0
   Goal ks =
-      (done so_far : List Key) (sh new : Shelves) (now : List Key) → walk ≡ done ++ ks → Each Can ks → Within so_far done → StandsFor sh ts (made_now made ts so_far) → Each (IsKnown sh ts) done → BringsAll sh ts ks now new →
+      (done so_far : List Key) (sh new : MemoCells) (now : List Key) → walk ≡ done ++ ks → Each Can ks → Within so_far done → StandsFor sh ts (made_now made ts so_far) → Each (IsKnown sh ts) done → BringsAll sh ts ks now new →
       Brought ts made walk ks so_far now new
 
   last : Goal []
@@ -247,8 +240,8 @@ module _ (ts : List ModuleText) (Can : Key → Type 0) (facts : Facts ts Can) (m
       let same : sh ≡ new = (λ i item x. sym (b.1 item x) i) in
       record {
         are_made = b.0;
-        stands = subst (λ (s : Shelves). StandsFor s ts (made_now made ts (so_far ++ now))) same (subst (λ ns. StandsFor sh ts (made_now made ts ns)) (sym (append-nil so_far) ∙ ap (λ ns. so_far ++ ns) (sym b.0)) stands);
-        known = subst (λ (s : Shelves). Each (IsKnown s ts) walk) same (subst (Each (IsKnown sh ts)) (sym (w ∙ append-nil done)) known);
+        stands = subst (λ (s : MemoCells). StandsFor s ts (made_now made ts (so_far ++ now))) same (subst (λ ns. StandsFor sh ts (made_now made ts ns)) (sym (append-nil so_far) ∙ ap (λ ns. so_far ++ ns) (sym b.0)) stands);
+        known = subst (λ (s : MemoCells). Each (IsKnown s ts) walk) same (subst (Each (IsKnown sh ts)) (sym (w ∙ append-nil done)) known);
       }
 
   module _ (k : Key) (ks : List Key) (ih : Goal ks) where
@@ -276,8 +269,8 @@ module _ (ts : List ModuleText) (Can : Key → Type 0) (facts : Facts ts Can) (m
             let same : sh ≡ b.0 = (λ i item x. sym (s item x) i) in
             let all : now ≡ b.2 = b.5 ∙ ap (λ ns. ns ++ b.2) f in
             let r = ih (done ++ k ∷ []) so_far b.0 new b.2 onward can.1 (within_more so_far done k within)
-            (subst (λ (z : Shelves). StandsFor z ts (made_now made ts so_far)) same stands)
-            (subst (λ (z : Shelves). Each (IsKnown z ts) (done ++ k ∷ [])) same (each_last (IsKnown sh ts) done k known c.1)) b.4 in
+            (subst (λ (z : MemoCells). StandsFor z ts (made_now made ts so_far)) same stands)
+            (subst (λ (z : MemoCells). Each (IsKnown z ts) (done ++ k ∷ [])) same (each_last (IsKnown sh ts) done k known c.1)) b.4 in
             record {
               are_made = inl (up_to so_far k new_so_far c.0, subst (MadeOf made ts ks) (sym all) r.are_made);
               stands = subst (λ ns. StandsFor new ts (made_now made ts (so_far ++ ns))) (sym all) r.stands;

@@ -9,7 +9,7 @@ pub mod Same
 pub mod Linked
 pub mod Whole
 pub mod Changes
-pub mod Resting
+pub mod Unverified
 pub mod Going
 pub mod Rests
 pub mod AtLines
@@ -28,5 +28,6 @@ pub mod ResultFollows
 pub mod ResultSameNeeds
 mod TextRead
 mod TextSame
-mod TextPieces
+pub mod TextPieces
 mod TextNamed
+mod Sources

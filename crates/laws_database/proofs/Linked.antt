@@ -6,33 +6,33 @@ use Rattle.std.proofs.lemmas.Slice.Eq.{bytes_eq-Decides}
 use Rattle.f77_ast.specs.DeclTrees.{ParsedTree}
 use Rattle.f77_ast.specs.Symbols.{SymbolTree, number_from}
 use Rattle.f77_parser.specs.Gives.{Refused}
-use Rattle.refusal_codes.specs.declared.refusal.Refusal.{Refusal}
+use Rattle.fx_lists.specs.declared.refusal.Refusal.{Refusal}
 use Rattle.storage_layout.specs.Symbols.{symbols_of}
 use Rattle.f77_meaning.specs.Modules.{Known, known_of}
 use Rattle.call_graph.specs.declared.graph.Graph.{Graph}
 use Rattle.call_graph.specs.Links.{link_of}
 use Rattle.call_graph.specs.Modules.{names_of}
-use Rattle.roundtrip_programs.specs.Laws.{tree_of, GraphsIgnorePlaces}
-use Rattle.laws_storage.proofs.ModuleLaws.{place_of_name}
-use Rattle.laws_statements.specs.CallsIn.{Each}
+use Rattle.laws_programs.specs.roundtrip_programs.Laws.{tree_of, GraphsIgnorePlaces}
+use Rattle.laws_programs.proofs.Storage.ModuleLaws.{place_of_name}
+use Rattle.call_graph.specs.CallsIn.{Each}
 use Rattle.laws_analyses.proofs.UnitLaws.{module_at}
 use Rattle.laws_database.proofs.ResultLists.{each_mapped}
-use Rattle.pipsmake_rules.specs.declared.kind.Kind.{Kind}
-use Rattle.pipsmake_rules.specs.declared.kind.Kind.TheVariants as kind
-use Rattle.pipsmake_rules.specs.declared.key.Key.{Key}
-use Rattle.pipsmake_rules.specs.Keys.{key_of}
-use Rattle.pipsmake_rules.specs.Needs.{by_module}
-use Rattle.pipsmake_rules.specs.Neighbours.{has_name, callees_of, callers_of}
-use Rattle.laws_database.specs.Texts.{ModuleText, ReadModule, with_table, one_module, modules_of, module_read, AreModules, modules_in, trees_in, tables_in, names_in, links_in, known_in, graph_of}
-use Rattle.laws_database.specs.Session.{needs_in, SameValue}
-use Rattle.laws_database.specs.Shelves.{Shelves}
-use Rattle.laws_database.specs.Rules.{known}
+use Rattle.session_texts.specs.pipsmake_rules.declared.kind.Kind.{Kind}
+use Rattle.session_texts.specs.pipsmake_rules.declared.kind.Kind.TheVariants as kind
+use Rattle.session_texts.specs.pipsmake_rules.declared.key.Key.{Key}
+use Rattle.session_texts.specs.pipsmake_rules.Keys.{key_of}
+use Rattle.session_texts.specs.pipsmake_rules.Needs.{by_module}
+use Rattle.session_texts.specs.pipsmake_rules.Neighbours.{has_name, callees_of, callers_of}
+use Rattle.session_texts.specs.pipsmake_meaning.Texts.{ModuleText, ReadModule, with_table, one_module, modules_of, module_read, AreModules, modules_in, trees_in, tables_in, names_in, links_in, known_in, graph_of}
+use Rattle.session_texts.specs.pipsmake_meaning.Session.{needs_in, SameValue}
+use Rattle.session_texts.specs.pipsmake_meaning.MemoCells.{MemoCells}
+use Rattle.session_texts.specs.pipsmake_meaning.Rules.{known}
 use Rattle.laws_database.proofs.Modules.{Read, read_at, trees_named}
 use Rattle.laws_database.proofs.Same.{known_same}
 
 -- ---- the table of a module
 
-abbrev with_these : ParsedTree → List SymbolTree → ReadModule
+abbrev pub with_these : ParsedTree → List SymbolTree → ReadModule
 with_these p t = record { module_is = p; table = t }
 
 one_table : (r : Result (List ParsedTree) Refused) (m : ReadModule) → one_module r ≡ Some m → symbols_of m.module_is ≡ Ok m.table
@@ -93,7 +93,7 @@ each_left : (P : Key → Type 0) (xs ys : List Key) → Each P (xs ++ ys) → Ea
 each_left P [] ys h = tt
 each_left P (x ∷ xs) ys h = (h.0, each_left P xs ys h.1)
 
-each_right : (P : Key → Type 0) (xs ys : List Key) → Each P (xs ++ ys) → Each P ys
+pub each_right : (P : Key → Type 0) (xs ys : List Key) → Each P (xs ++ ys) → Each P ys
 each_right P [] ys h = h
 each_right P (x ∷ xs) ys h = each_right P xs ys h.1
 
@@ -107,7 +107,7 @@ each_at Q (x ∷ xs) h y e =
 
 -- ---- modules in their order
 
-names_are : (ts : List ModuleText) → AreModules ts → names_of (trees_in ts) ≡ names_in ts
+pub names_are : (ts : List ModuleText) → AreModules ts → names_of (trees_in ts) ≡ names_in ts
 names_are [] ms = refl
 names_are (t ∷ ts) ms =
     ap (λ o. names_of (map (λ (m : ReadModule). m.module_is) (option_to_list o ++ modules_in ts))) ms.0.is_read ∙ (λ i. ms.0.is_named i ∷ names_are ts ms.1 i)
@@ -144,7 +144,7 @@ some_place : (i j : ℕ) → Some i ≡ Some j → i ≡ j
 some_place i j e = cc
 
 -- of two texts that link, with the same names and values
-module _ (sh : Shelves) (old ts : List ModuleText) (mo : AreModules old) (ms : AreModules ts) (g d : Graph) (lo : links_in old ≡ Ok g) (l : links_in ts ≡ Ok d) (names : names_in old ≡ names_in ts)
+module _ (sh : MemoCells) (old ts : List ModuleText) (mo : AreModules old) (ms : AreModules ts) (g d : Graph) (lo : links_in old ≡ Ok g) (l : links_in ts ≡ Ok d) (names : names_in old ≡ names_in ts)
     (same : (y : List ℕ) → has_name (names_in ts) y ≡ true → SameValue old ts (key_of kind.Parsed y) × SameValue old ts (key_of kind.Symbols y)) where
   module _ (y : List ℕ) (no : has_name (names_in old) y ≡ true) (n : has_name (names_in ts) y ≡ true) where
     both : known (read_at old mo y no).read ≡ known (read_at ts ms y n).read

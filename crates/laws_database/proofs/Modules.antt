@@ -8,22 +8,20 @@ use Rattle.f77_ast.specs.DeclTrees.{ParsedTree}
 use Rattle.call_graph.specs.declared.graph.Edge.{Edge}
 use Rattle.call_graph.specs.declared.graph.Graph.{Graph}
 use Rattle.f77_meaning.specs.Modules.{Known, known_of}
-use Rattle.loop_marker.specs.Phases.{ModuleMarks}
-use Rattle.laws_storage.specs.Programs.{IsLinked}
-use Rattle.laws_statements.specs.CallsIn.{Each}
+use Rattle.loop_marker.specs.Results.{ModuleResults}
+use Rattle.laws_programs.specs.Storage.Programs.{IsLinked}
+use Rattle.call_graph.specs.CallsIn.{Each}
 use Rattle.laws_analyses.proofs.Passes.{each_reversed}
-use Rattle.laws_database.specs.ResultEntries.{marks_in, module_in, said_for}
+use Rattle.session_texts.specs.pipsmake_meaning.ResultEntries.{results_of_modules, results_for}
 use Rattle.laws_database.proofs.ResultEntries.{modules_have_entries}
-use Rattle.pipsmake_rules.specs.Neighbours.{has_name, name_put, callees_from, callees_of, calls, callers_of}
-use Rattle.laws_database.specs.Texts.{ModuleText, ReadModule, module_read, AreModules, modules_in, trees_in, tables_in, names_in, links_in, known_in, text_of}
-use Rattle.laws_database.specs.Definitions.{module_named, results_with, results_in}
-use Rattle.laws_database.specs.Rules.{known}
+use Rattle.session_texts.specs.pipsmake_rules.Neighbours.{has_name, name_put, callees_from, callees_of, calls, callers_of}
+use Rattle.session_texts.specs.pipsmake_meaning.Texts.{ModuleText, ReadModule, module_read, AreModules, modules_in, trees_in, tables_in, names_in, links_in, known_in, text_of}
+use Rattle.session_texts.specs.pipsmake_meaning.Definitions.{module_named, results_with, results_in}
+use Rattle.session_texts.specs.pipsmake_meaning.Rules.{known}
 use Rattle.laws_database.proofs.InOrder.{Joins, joins}
+use Rattle.session_texts.proofs.Keeping.{tree_in as tree}
 
 -- ---- a module by its name
-
-abbrev tree : ReadModule → ParsedTree
-tree m = m.module_is
 
 pub record Read (ts : List ModuleText) (x : List ℕ) : Type 0 where
   pub text : List ℕ
@@ -86,15 +84,15 @@ linked ts g e = record { many = same_length (modules_in ts); links = e }
 -- ---- results of a module
 
 pub record Entry (ts : List ModuleText) (g : Graph) (x : List ℕ) (m : ReadModule) : Type 0 where
-  pub entry : ModuleMarks
-  pub said : said_for (marks_in (known_in ts) g) x ≡ Some entry
-  pub is_of : module_in entry ≡ known m
+  pub entry : ModuleResults
+  pub said : results_for (results_of_modules (known_in ts) g) x ≡ Some entry
+  pub is_of : entry.known ≡ known m
   pub result : results_in ts x ≡ Some entry
 
 pub entry_of : (ts : List ModuleText) (g : Graph) → links_in ts ≡ Ok g → (x : List ℕ) (r : Read ts x) → Entry ts g x r.read
 entry_of ts g e x r =
     let h = (modules_have_entries (trees_in ts) (tables_in ts) g (linked ts g e)).modules r.at (known r.read) r.is_known in
-    let said : said_for (marks_in (known_in ts) g) x ≡ Some h.entry = ap (said_for (marks_in (known_in ts) g)) (sym r.named) ∙ h.found in
+    let said : results_for (results_of_modules (known_in ts) g) x ≡ Some h.entry = ap (results_for (results_of_modules (known_in ts) g)) (sym r.named) ∙ h.found in
     record { entry = h.entry; said = said; is_of = h.is; result = ap (λ l. results_with ts l x) e ∙ said }
 
 -- ---- the modules that a graph names

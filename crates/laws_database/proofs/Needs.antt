@@ -3,20 +3,19 @@ use Rattle.std.proofs.Common.{◌≡◌, ℕ, true, List, [], ◌∷◌, ◌++�
 use Rattle.std.specs.Prelude.{bytes_eq, option_map}
 use Rattle.std.proofs.lemmas.Bool.{or_left, or_right}
 use Rattle.std.proofs.lemmas.Slice.Eq.{bytes_eq-Decides}
-use Rattle.laws_statements.specs.CallsIn.{Each}
+use Rattle.call_graph.specs.CallsIn.{Each}
 use Rattle.laws_analyses.proofs.CallLists.{each_more, each_joined}
-use Rattle.laws_database.specs.ResultEntries.{transformers_in, preconditions_in, regions_in, ins_in, outs_in}
 use Rattle.result_lines.specs.declared.show.Show.TheVariants.{All}
-use Rattle.pipsmake_rules.specs.declared.kind.Kind.{Kind}
-use Rattle.pipsmake_rules.specs.declared.kind.Kind.TheVariants as kind
-use Rattle.pipsmake_rules.specs.declared.key.Key.{Key}
-use Rattle.pipsmake_rules.specs.Keys.{key_of}
-use Rattle.pipsmake_rules.specs.Neighbours.{has_name, callees_of, callers_of}
-use Rattle.pipsmake_rules.specs.Needs.{keys_of, by_module}
-use Rattle.laws_database.specs.Values.{Value, parsed, lines, symbols, graph, effects, transformers, preconditions, regions, ins, outs, marks, printed}
-use Rattle.laws_database.specs.Texts.{ModuleText, AreModules, names_in, graph_or_none, graph_of}
-use Rattle.laws_database.specs.Definitions.{graph_found, text_shown, printed_with, definition}
-use Rattle.laws_database.specs.Session.{needs_in}
+use Rattle.session_texts.specs.pipsmake_rules.declared.kind.Kind.{Kind}
+use Rattle.session_texts.specs.pipsmake_rules.declared.kind.Kind.TheVariants as kind
+use Rattle.session_texts.specs.pipsmake_rules.declared.key.Key.{Key}
+use Rattle.session_texts.specs.pipsmake_rules.Keys.{key_of}
+use Rattle.session_texts.specs.pipsmake_rules.Neighbours.{has_name, callees_of, callers_of}
+use Rattle.session_texts.specs.pipsmake_rules.Needs.{keys_of, by_module}
+use Rattle.session_texts.specs.pipsmake_meaning.Values.{Value, parsed, lines, symbols, graph, effects, transformers, preconditions, regions, ins, outs, marks, printed}
+use Rattle.session_texts.specs.pipsmake_meaning.Texts.{ModuleText, AreModules, names_in, graph_or_none, graph_of}
+use Rattle.session_texts.specs.pipsmake_meaning.Definitions.{graph_found, text_shown, printed_with, definition}
+use Rattle.session_texts.specs.pipsmake_meaning.Session.{needs_in}
 use Rattle.laws_database.specs.Laws.{AreLinked, CanMake}
 use Rattle.laws_database.proofs.Stamps.{HasText}
 use Rattle.laws_database.proofs.Modules.{Read, read_at, Entry, entry_of, callees_named, callers_named}
@@ -117,11 +116,11 @@ module _ (ts : List ModuleText) (ms : AreModules ts) where
   value_for kind.Symbols x c = let r = read x c in (symbols r.read.table, ap (option_map (λ m. symbols m.table)) r.is_read)
   value_for kind.CallGraph x c = (graph c.0.0, ap graph_found c.0.1)
   value_for kind.Effects x c = let e = found x c in (effects e.entry.effects, ap (option_map (λ f. effects f.effects)) e.result)
-  value_for kind.Transformers x c = let e = found x c in (transformers (transformers_in e.entry), ap (option_map (λ f. transformers (transformers_in f))) e.result)
-  value_for kind.Preconditions x c = let e = found x c in (preconditions (preconditions_in e.entry), ap (option_map (λ f. preconditions (preconditions_in f))) e.result)
-  value_for kind.Regions x c = let e = found x c in (regions (regions_in e.entry), ap (option_map (λ f. regions (regions_in f))) e.result)
-  value_for kind.InRegions x c = let e = found x c in (ins (ins_in e.entry), ap (option_map (λ f. ins (ins_in f))) e.result)
-  value_for kind.OutRegions x c = let e = found x c in (outs (outs_in e.entry), ap (option_map (λ f. outs (outs_in f))) e.result)
+  value_for kind.Transformers x c = let e = found x c in (transformers e.entry.transformers, ap (option_map (λ f. transformers f.transformers)) e.result)
+  value_for kind.Preconditions x c = let e = found x c in (preconditions e.entry.preconditions, ap (option_map (λ f. preconditions f.preconditions)) e.result)
+  value_for kind.Regions x c = let e = found x c in (regions e.entry.regions, ap (option_map (λ f. regions f.regions)) e.result)
+  value_for kind.InRegions x c = let e = found x c in (ins e.entry.ins, ap (option_map (λ f. ins f.ins)) e.result)
+  value_for kind.OutRegions x c = let e = found x c in (outs e.entry.outs, ap (option_map (λ f. outs f.outs)) e.result)
   value_for kind.Marks x c = let e = found x c in (marks e.entry.marks, ap (option_map (λ f. marks f.marks)) e.result)
   value_for kind.Printed x c = let e = found x c in let r = read x c.1 in (printed (text_shown All r.read e.entry), (λ i. printed_with (r.is_read i) (e.result i)))
 

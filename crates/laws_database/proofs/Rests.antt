@@ -2,38 +2,38 @@
 use Rattle.std.proofs.Common.{◌≡◌, ℕ, true, List, [], ◌∷◌, ◌++◌, Option, Some, None, refl, sym, ap, ◌∙◌, subst, append_assoc}
 use Rattle.std.specs.Prelude.{option_map, option_and_then}
 use Rattle.affine_systems.specs.declared.row.System.{System}
-use Rattle.f77_results.specs.declared.results.At.{At}
-use Rattle.f77_results.specs.declared.results.Results.{Results}
-use Rattle.transformer_algebra.specs.declared.transformer.Transformer.{Transformer}
-use Rattle.region_sets.specs.declared.region.Region.{Region}
-use Rattle.region_sets.specs.declared.marks.Mark.{Mark}
-use Rattle.result_lines.specs.Lines.{ModuleResults}
-use Rattle.laws_statements.specs.CallsIn.{Each}
+use Rattle.f77_ast.specs.declared.results.At.{At}
+use Rattle.f77_ast.specs.declared.results.Results.{Results}
+use Rattle.preconditions.specs.transformer_algebra.declared.transformer.Transformer.{Transformer}
+use Rattle.in_out_regions.specs.region_sets.declared.region.Region.{Region}
+use Rattle.f77_ast.specs.declared.marks.Mark.{Mark}
+use Rattle.result_lines.specs.Lines.{PrintedResults}
+use Rattle.call_graph.specs.CallsIn.{Each}
 use Rattle.laws_analyses.proofs.CallLists.{each_more}
-use Rattle.pipsmake_rules.specs.declared.kind.Kind.{Kind}
-use Rattle.pipsmake_rules.specs.declared.kind.Kind.TheVariants as kind
-use Rattle.pipsmake_rules.specs.declared.key.Key.{Key}
-use Rattle.pipsmake_rules.specs.Neighbours.{has_name}
-use Rattle.laws_database.specs.Values.{Value, parsed, lines, symbols}
-use Rattle.laws_database.specs.Texts.{ModuleText, ReadModule, AreModules, names_in}
-use Rattle.laws_database.specs.Definitions.{module_named}
-use Rattle.laws_database.specs.Session.{needs_in}
-use Rattle.laws_database.specs.Shelves.{Shelves, kept_of}
-use Rattle.laws_database.specs.Rules.{transformers_in, preconditions_in, regions_in, ins_in, outs_in, marks_in, transformers_kept, preconditions_kept, regions_kept, ins_kept, outs_kept, marks_kept, rule_with, rule_for, results_from}
+use Rattle.session_texts.specs.pipsmake_rules.declared.kind.Kind.{Kind}
+use Rattle.session_texts.specs.pipsmake_rules.declared.kind.Kind.TheVariants as kind
+use Rattle.session_texts.specs.pipsmake_rules.declared.key.Key.{Key}
+use Rattle.session_texts.specs.pipsmake_rules.Neighbours.{has_name}
+use Rattle.session_texts.specs.pipsmake_meaning.Values.{Value, parsed, lines, symbols}
+use Rattle.session_texts.specs.pipsmake_meaning.Texts.{ModuleText, ReadModule, AreModules, names_in}
+use Rattle.session_texts.specs.pipsmake_meaning.Definitions.{module_named}
+use Rattle.session_texts.specs.pipsmake_meaning.Session.{needs_in}
+use Rattle.session_texts.specs.pipsmake_meaning.MemoCells.{MemoCells, kept_of}
+use Rattle.session_texts.specs.pipsmake_meaning.Rules.{transformers_in, preconditions_in, regions_in, ins_in, outs_in, marks_in, transformers_kept, preconditions_kept, regions_kept, ins_kept, outs_kept, marks_kept, rule_with, rule_for, results_from}
 use Rattle.laws_database.specs.Laws.{CanMake}
 use Rattle.laws_database.specs.Stands.{Valuation}
-use Rattle.laws_database.specs.Resting.{IsStored, stored_results, printed_with_results, value_with, IsWhole, RestingStays}
+use Rattle.laws_database.specs.Unverified.{IsStored, stored_results, printed_with_results, value_with, IsWhole, RestingStays}
 use Rattle.laws_database.proofs.Modules.{read_at}
 use Rattle.laws_database.proofs.Needs.{Can, has_value, has_text}
-use Rattle.laws_database.proofs.Resting.{IsKept, RestFacts, rested}
+use Rattle.laws_database.proofs.Unverified.{IsKept, RestFacts, rested}
 use Rattle.laws_database.proofs.Whole.{each_front, walk_can, in_order}
 
-same_kept : (d : Valuation) (sh : Shelves) (n : Key) → IsKept d sh n → kept_of sh n.kind n.name ≡ d n.kind n.name
+same_kept : (d : Valuation) (sh : MemoCells) (n : Key) → IsKept d sh n → kept_of sh n.kind n.name ≡ d n.kind n.name
 same_kept d sh n q = q.kept ∙ sym q.is
 
 -- a value that is made of six that are there
-made_of : (f : ModuleResults → Value) (own : Option (Results Transformer)) (holds : Option (Results System)) (found taken later : Option (Results (List Region))) (ms : Option (List (At Mark))) →
-    option_and_then (λ a. option_and_then (λ b. option_and_then (λ c. option_and_then (λ d. option_and_then (λ e. option_map (λ g. f (record { own = a; holds = b; regions = c; ins = d; outs = e; marks = g })) ms) later) taken) found) holds) own
+made_of : (f : PrintedResults → Value) (own : Option (Results Transformer)) (holds : Option (Results System)) (found taken later : Option (Results (List Region))) (ms : Option (List (At Mark))) →
+    option_and_then (λ a. option_and_then (λ b. option_and_then (λ c. option_and_then (λ d. option_and_then (λ e. option_map (λ g. f (record { transformers = a; preconditions = b; regions = c; ins = d; outs = e; marks = g })) ms) later) taken) found) holds) own
     ≡ option_map f (results_from own holds found taken later ms)
 made_of f None holds found taken later ms = refl
 made_of f (Some a) None found taken later ms = refl
@@ -44,19 +44,19 @@ made_of f (Some a) (Some b) (Some c) (Some d) (Some e) None = refl
 made_of f (Some a) (Some b) (Some c) (Some d) (Some e) (Some g) = refl
 
 module _ (ts : List ModuleText) (stored : Valuation) where
-  parsed_rule : (sh : Shelves) (x : List ℕ) (o : Option ReadModule) → rule_with sh ts kind.Parsed x o ≡ option_map (λ m. parsed m.module_is.module_read) o
+  parsed_rule : (sh : MemoCells) (x : List ℕ) (o : Option ReadModule) → rule_with sh ts kind.Parsed x o ≡ option_map (λ m. parsed m.module_is.module_read) o
   parsed_rule sh x None = refl
   parsed_rule sh x (Some m) = refl
 
-  lines_rule : (sh : Shelves) (x : List ℕ) (o : Option ReadModule) → rule_with sh ts kind.Lines x o ≡ option_map (λ m. lines m.module_is.places) o
+  lines_rule : (sh : MemoCells) (x : List ℕ) (o : Option ReadModule) → rule_with sh ts kind.Lines x o ≡ option_map (λ m. lines m.module_is.places) o
   lines_rule sh x None = refl
   lines_rule sh x (Some m) = refl
 
-  symbols_rule : (sh : Shelves) (x : List ℕ) (o : Option ReadModule) → rule_with sh ts kind.Symbols x o ≡ option_map (λ m. symbols m.table) o
+  symbols_rule : (sh : MemoCells) (x : List ℕ) (o : Option ReadModule) → rule_with sh ts kind.Symbols x o ≡ option_map (λ m. symbols m.table) o
   symbols_rule sh x None = refl
   symbols_rule sh x (Some m) = refl
 
-  printed_rule : (sh : Shelves) (x : List ℕ) → Each (IsKept (value_with ts stored) sh) (needs_in ts (record { kind = kind.Printed; name = x })) → (o : Option ReadModule) →
+  printed_rule : (sh : MemoCells) (x : List ℕ) → Each (IsKept (value_with ts stored) sh) (needs_in ts (record { kind = kind.Printed; name = x })) → (o : Option ReadModule) →
       rule_with sh ts kind.Printed x o ≡ option_and_then (λ m. option_map (printed_with_results m) (stored_results stored x)) o
   printed_rule sh x h None = refl
   printed_rule sh x h (Some m) =
@@ -70,7 +70,7 @@ module _ (ts : List ModuleText) (stored : Valuation) where
       made_of (printed_with_results m) (transformers_kept sh x) (preconditions_kept sh x) (regions_kept sh x) (ins_kept sh x) (outs_kept sh x) (marks_kept sh x)
       ∙ (λ i. option_map (printed_with_results m) (results_from (own i) (holds i) (found i) (taken i) (later i) (all i)))
 
-  rule_for_kind : (sh : Shelves) (k : Kind) (x : List ℕ) → (IsStored k → ⊥) → Each (IsKept (value_with ts stored) sh) (needs_in ts (record { kind = k; name = x })) → rule_for sh ts k x ≡ value_with ts stored k x
+  rule_for_kind : (sh : MemoCells) (k : Kind) (x : List ℕ) → (IsStored k → ⊥) → Each (IsKept (value_with ts stored) sh) (needs_in ts (record { kind = k; name = x })) → rule_for sh ts k x ≡ value_with ts stored k x
   rule_for_kind sh kind.Parsed x n h = parsed_rule sh x (module_named ts x)
   rule_for_kind sh kind.Lines x n h = lines_rule sh x (module_named ts x)
   rule_for_kind sh kind.Symbols x n h = symbols_rule sh x (module_named ts x)
@@ -116,7 +116,7 @@ module _ (ts : List ModuleText) (stored : Valuation) where
         let r = whole x c.1 in
         (printed_with_results m.read r.0, (λ i. option_and_then (λ z. option_map (printed_with_results z) (r.1 i)) (m.is_read i)))
 
-    rest_facts : RestFacts ts (value_with ts stored) (Can ts ms)
+    pub rest_facts : RestFacts ts (value_with ts stored) (Can ts ms)
     rest_facts = record {
       has = has_text ts ms;
       named = λ k c s. named_for k.kind k.name c s;

@@ -2,9 +2,9 @@
 use Rattle.std.proofs.Common.{◌≡◌, ℕ, Bool, true, false, List, [], ◌∷◌, Some, None, refl, sym, ap, ◌∙◌, subst}
 use Rattle.std.specs.Prelude.{map, bytes_eq, if◌then◌else◌}
 use Rattle.std.proofs.lemmas.Slice.Eq.{bytes_eq-Decides}
-use Rattle.f77_results.specs.Summaries.{SummaryTree}
+use Rattle.f77_ast.specs.Summaries.{SummaryTree}
 use Rattle.f77_meaning.specs.Modules.{Known}
-use Rattle.laws_statements.specs.CallsIn.{CallAt, Each, list_calls}
+use Rattle.call_graph.specs.CallsIn.{CallAt, Each, list_calls}
 use Rattle.laws_analyses.proofs.CallLists.{each_more}
 use Rattle.laws_database.specs.ResultCallees.{Summaries, SameCallees}
 use Rattle.laws_database.proofs.ResultOrders.{NoneNamed, CalleesFirst}

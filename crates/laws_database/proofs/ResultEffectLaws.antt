@@ -3,14 +3,14 @@ use Rattle.std.proofs.Common.{◌≡◌, ℕ, List, ◌∷◌, ◌++◌, refl, a
 use Rattle.f77_ast.specs.Trees.{StmtTree, WhatTree, ArmTree, ArmTrees, ElseTree, LoopTree, StmtTrees}
 use Rattle.f77_ast.specs.Trees as tree
 use Rattle.f77_ast.specs.Symbols.{SymbolTree}
-use Rattle.f77_results.specs.declared.effect_set.EffectSet.{EffectSet}
-use Rattle.f77_results.specs.Effects.{unite, no_effect}
-use Rattle.effects.specs.Statement.{proper_of}
-use Rattle.effects.specs.Callee.{call_effect}
-use Rattle.effects.specs.List.{Callees, stmt_effect, with_parts, with_list, with_arms, with_arm, with_else, with_loop, at, at_stmt, at_parts, at_list, at_arms, at_arm, at_else, at_loop}
-use Rattle.effects.specs.Modules.{summary_of, cumulated_of}
-use Rattle.laws_statements.specs.CallsIn.{CallAt, Each, stmt_calls, what_calls, list_calls, arms_calls, arm_calls, else_calls, loop_calls}
-use Rattle.laws_statements.proofs.Placing.{each_parts}
+use Rattle.f77_ast.specs.declared.effect_set.EffectSet.{EffectSet}
+use Rattle.f77_ast.specs.Effects.{unite, no_effect}
+use Rattle.in_out_regions.specs.effects.Statement.{proper_of}
+use Rattle.in_out_regions.specs.effects.Callee.{call_effect}
+use Rattle.in_out_regions.specs.effects.List.{Callees, stmt_effect, with_parts, with_list, with_arms, with_arm, with_else, with_loop, at, at_stmt, at_parts, at_list, at_arms, at_arm, at_else, at_loop}
+use Rattle.in_out_regions.specs.effects.Modules.{summary_of, cumulated_of}
+use Rattle.call_graph.specs.CallsIn.{CallAt, Each, stmt_calls, what_calls, list_calls, arms_calls, arm_calls, else_calls, loop_calls}
+use Rattle.laws_analyses.proofs.Statements.Placing.{each_parts}
 
 module _ (ss : List SymbolTree) (cs ds : Callees) where
   abbrev Same : CallAt → Type 0

@@ -19,22 +19,24 @@ use Rattle.call_graph.specs.Links.{callees_of}
 use Rattle.call_graph.proofs.CycleLaws.{in_order}
 use Rattle.f77_meaning.specs.Linked.{callees}
 use Rattle.f77_meaning.specs.Modules.{Known, known_of}
-use Rattle.scalar_phases.specs.Phases.{module_of}
-use Rattle.loop_marker.specs.Phases.{ModuleMarks}
-use Rattle.laws_storage.specs.Programs.{IsLinked, known}
-use Rattle.laws_storage.proofs.ModuleLaws.{graph_is, place_of_name}
-use Rattle.laws_statements.specs.CallsIn.{CallAt, Each, stmt_calls, what_calls, list_calls, arms_calls, arm_calls, else_calls, loop_calls}
+use Rattle.loop_marker.specs.module_phases.ScalarPhases.{module_of}
+use Rattle.loop_marker.specs.Results.{ModuleResults}
+use Rattle.laws_programs.specs.Storage.Programs.{IsLinked, known}
+use Rattle.laws_programs.proofs.Storage.ModuleLaws.{place_of_name}
+use Rattle.call_graph.specs.CallsIn.{CallAt, Each, stmt_calls, what_calls, list_calls, arms_calls, arm_calls, else_calls, loop_calls}
 use Rattle.laws_analyses.proofs.CallLists.{each_more}
 use Rattle.laws_analyses.proofs.Founds.{module_of_is, module_found}
-use Rattle.laws_analyses.proofs.Orders.{other_name}
 use Rattle.laws_analyses.proofs.Passes.{each_reversed}
 use Rattle.laws_analyses.proofs.UnitLaws.{module_at as place_module}
-use Rattle.laws_database.specs.ResultEntries.{marks_in, module_in, name_in}
+use Rattle.session_texts.specs.pipsmake_meaning.ResultEntries.{results_of_modules, name_in}
 use Rattle.laws_database.specs.ResultCallers.{calls, callers, calls_by, caller_names}
 use Rattle.laws_database.specs.ResultLaws.{IsFound, IsInGraph, AreInGraph}
-use Rattle.laws_database.proofs.ResultLists.{same_name, map_reverse}
 use Rattle.laws_database.proofs.ResultOrders.{modules_at}
 use Rattle.laws_database.proofs.ResultEntries.{through, entries, entries_are, modules_of_entries, modules_have_entries}
+use Rattle.f77_meaning.proofs.LinkedLaws.{is_graph as graph_is}
+use Rattle.laws_programs.proofs.Effects.BottomUp.{other_name}
+use Rattle.fx_lists.proofs.Texts.{same_name}
+use Rattle.fx_lists.proofs.Lists.{map_reverse}
 
 -- ---- the CALLs of a module, as links and as bodies have them
 
@@ -181,8 +183,8 @@ filter_mapped P Q h (x ∷ xs) e = ap (λ b. map h (cond b (x ∷ filter P xs) (
     go false ih = ih
 
 module _ (ps : List ParsedTree) (sss : List (List SymbolTree)) (g : Graph) (l : IsLinked ps sss g) where
-  abbrev fs : List ModuleMarks
-  fs = marks_in (known_of ps sss) g
+  abbrev fs : List ModuleResults
+  fs = results_of_modules (known_of ps sss) g
 
   one_place : (x : List ℕ) (i j : ℕ) (p q : ParsedTree) → slice_get ps i ≡ Some p → slice_get ps j ≡ Some q → p.module_read.name ≡ x → q.module_read.name ≡ x → j ≡ i
   one_place x i j p q e f n m =
@@ -201,7 +203,7 @@ module _ (ps : List ParsedTree) (sss : List (List SymbolTree)) (g : Graph) (l : 
   in_graph : Each (IsInGraph g) fs
   in_graph =
       each_more (IsFound (known_of ps sss) fs) (IsInGraph g) fs
-      (λ f r. edges_named r.at (module_in f) r.is_module)
+      (λ f r. edges_named r.at f.known r.is_module)
       (modules_have_entries ps sss g l).found
 
   module_of_name : (z : List ℕ) → Stands ps z → (k : Known) × (module_of (known_of ps sss) z ≡ Some k)
@@ -212,17 +214,17 @@ module _ (ps : List ParsedTree) (sss : List (List SymbolTree)) (g : Graph) (l : 
   order_named : map name_in fs ≡ g.order
   order_named =
       ap (map name_in) (entries_are (known_of ps sss) g)
-      ∙ through module_in (λ (k : Known). k.read.name) (entries (known_of ps sss) g) (modules_at (known_of ps sss) g.order) g.order (modules_of_entries (known_of ps sss) g)
+      ∙ through (λ (f : ModuleResults). f.known) (λ (k : Known). k.read.name) (entries (known_of ps sss) g) (modules_at (known_of ps sss) g.order) g.order (modules_of_entries (known_of ps sss) g)
       (names_kept (known_of ps sss) g.order
       (each_more (Stands ps) (λ (x : List ℕ). (k : Known) × (module_of (known_of ps sss) x ≡ Some k)) g.order module_of_name
       (subst (Each (Stands ps)) (sym (in_order ps sss g l.many l.links).0) (all_stand ps (order_of (callees_of ps sss))))))
 
   callers_named : (x : List ℕ) → map name_in (callers fs x) ≡ caller_names g x
   callers_named x =
-      filter_mapped (λ f. calls x (module_in f)) (calls_by g x) name_in (reverse fs)
-      (each_reversed (λ f. calls x (module_in f) ≡ calls_by g x (name_in f)) fs
-      (each_more (IsInGraph g) (λ f. calls x (module_in f) ≡ calls_by g x (name_in f)) fs
-      (λ f e. sym (any_mapped (λ z. bytes_eq z x) name_in_call (list_calls (module_in f).read.body)) ∙ ap (list_any (λ z. bytes_eq z x)) e) in_graph))
+      filter_mapped (λ f. calls x f.known) (calls_by g x) name_in (reverse fs)
+      (each_reversed (λ f. calls x f.known ≡ calls_by g x (name_in f)) fs
+      (each_more (IsInGraph g) (λ f. calls x f.known ≡ calls_by g x (name_in f)) fs
+      (λ f e. sym (any_mapped (λ z. bytes_eq z x) name_in_call (list_calls f.known.read.body)) ∙ ap (list_any (λ z. bytes_eq z x)) e) in_graph))
       ∙ ap (filter (calls_by g x)) (map_reverse name_in fs ∙ ap reverse order_named)
 
   pub are_in_graph : AreInGraph g fs

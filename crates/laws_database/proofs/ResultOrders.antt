@@ -6,17 +6,18 @@ use Rattle.f77_ast.specs.DeclTrees.{ParsedTree}
 use Rattle.f77_ast.specs.Symbols.{SymbolTree}
 use Rattle.call_graph.specs.declared.graph.Graph.{Graph}
 use Rattle.f77_meaning.specs.Modules.{Known, known_of}
-use Rattle.scalar_phases.specs.Phases.{module_of}
-use Rattle.laws_storage.specs.Programs.{IsLinked}
-use Rattle.laws_storage.specs.Below.{HasCall}
-use Rattle.laws_storage.proofs.CallLaws.{calls_are_listed}
-use Rattle.laws_statements.specs.CallsIn.{CallAt, Each, list_calls}
+use Rattle.loop_marker.specs.module_phases.ScalarPhases.{module_of}
+use Rattle.laws_programs.specs.Storage.Programs.{IsLinked}
+use Rattle.laws_programs.specs.Storage.Below.{HasCall}
+use Rattle.laws_programs.proofs.Storage.CallLaws.{calls_are_listed}
+use Rattle.call_graph.specs.CallsIn.{CallAt, Each, list_calls}
 use Rattle.laws_analyses.proofs.CallLists.{each_in, each_more, each_joined}
 use Rattle.laws_analyses.proofs.Founds.{ModuleOf, module_of_is}
 use Rattle.laws_analyses.proofs.Orders.{NotIn, Sorted, order_sorted}
 use Rattle.laws_analyses.proofs.Passes.{each_reversed}
 use Rattle.laws_analyses.proofs.UnitLaws.{ModuleAt, module_at as place_module}
-use Rattle.laws_database.proofs.ResultLists.{turned, each_turned}
+use Rattle.laws_database.proofs.ResultLists.{each_turned}
+use Rattle.fx_lists.proofs.Texts.{turned}
 
 -- none of these modules has the name
 abbrev pub NoneNamed : List ℕ → List Known → Type 0

@@ -2,22 +2,23 @@
 use Rattle.std.proofs.Common.{◌≡◌, ℕ, List, [], ◌∷◌, ◌++◌, Option, Some, None, refl, sym, ap, ◌∙◌, append_assoc, append-nil}
 use Rattle.std.specs.Prelude.{option_to_list}
 use Rattle.f77_ast.specs.declared.variable.Unit.{Unit as BlockUnit}
-use Rattle.f77_results.specs.declared.effect_set.EffectSet.{EffectSet}
+use Rattle.f77_ast.specs.declared.effect_set.EffectSet.{EffectSet}
 use Rattle.call_graph.specs.declared.graph.Graph.{Graph}
 use Rattle.f77_meaning.specs.Modules.{Known}
-use Rattle.transformer_algebra.specs.declared.transformer.Transformer.{Transformer}
-use Rattle.call_translation.specs.Sites.{SiteTree, HoldingSite}
-use Rattle.region_sets.specs.declared.region.Region.{Region}
-use Rattle.scalar_phases.specs.Phases.{scope_of, module_of, Found, found_of, maybe_found, Analysis, analysis_of}
-use Rattle.scalar_phases.specs.Phases as scalar
-use Rattle.region_phases.specs.Phases.{ModuleRegions, with_regions}
-use Rattle.region_phases.specs.Phases as region
-use Rattle.region_phases.specs.InPhases.{ModuleIns, with_ins}
-use Rattle.region_phases.specs.InPhases as in_out
-use Rattle.region_phases.specs.declared.sites.OutSite.{OutSite}
-use Rattle.region_phases.specs.OutPhases.{ModuleOuts, with_outs, body_of}
-use Rattle.region_phases.specs.OutPhases as out
-use Rattle.loop_marker.specs.Phases.{ModuleMarks, known_in, with_effects, with_marks}
+use Rattle.preconditions.specs.transformer_algebra.declared.transformer.Transformer.{Transformer}
+use Rattle.preconditions.specs.call_translation.Sites.{SiteTree, HoldingSite}
+use Rattle.in_out_regions.specs.region_sets.declared.region.Region.{Region}
+use Rattle.loop_marker.specs.module_phases.ScalarPhases.{scope_of, module_of, Found, found_of, maybe_found, Analysis, analysis_of}
+use Rattle.loop_marker.specs.module_phases.ScalarPhases as scalar
+use Rattle.loop_marker.specs.module_phases.RegionPhases.{ModuleRegions, with_regions}
+use Rattle.loop_marker.specs.module_phases.RegionPhases as region
+use Rattle.loop_marker.specs.module_phases.InPhases.{ModuleIns, with_ins}
+use Rattle.loop_marker.specs.module_phases.InPhases as in_out
+use Rattle.loop_marker.specs.module_phases.declared.out_site.OutSite.{OutSite}
+use Rattle.loop_marker.specs.module_phases.OutPhases.{ModuleOuts, with_outs, body_of}
+use Rattle.loop_marker.specs.module_phases.OutPhases as out
+use Rattle.loop_marker.specs.Results.{ModuleResults}
+use Rattle.loop_marker.specs.Phases.{phases_of, known_in, with_effects, with_marks}
 use Rattle.loop_marker.specs.Phases as mark
 use Rattle.laws_analyses.proofs.CalleeLaws.{same_transformers}
 use Rattle.laws_database.specs.ResultCallees.{Summaries}
@@ -128,10 +129,10 @@ outs_are g (f ∷ fs) done =
 
 -- ---- effects and marks
 
-abbrev pub with_loops : (u : List BlockUnit) → Pass ModuleOuts ModuleMarks EffectSet
+abbrev pub with_loops : (u : List BlockUnit) → Pass ModuleOuts ModuleResults EffectSet
 with_loops u = record {
   key = known_in;
-  back = λ f. f.outs;
+  back = phases_of;
   value = λ f. f.effects.summary;
   make = with_marks u;
   is_back = λ cs f. refl;

@@ -3,25 +3,25 @@ use Rattle.std.proofs.Common.{◌≡◌, ℕ, true, false, List, ◌∷◌, ◌+
 use Rattle.f77_ast.specs.Trees.{StmtTree, WhatTree, ArmTree, ArmTrees, ElseTree, LoopTree, StmtTrees}
 use Rattle.f77_ast.specs.Trees as tree
 use Rattle.f77_ast.specs.declared.variable.Unit.{Unit as BlockUnit}
-use Rattle.f77_results.specs.declared.results.At.{At}
-use Rattle.f77_results.specs.declared.results.Results.{Results}
-use Rattle.transformer_algebra.specs.declared.transformer.Transformer.{Transformer}
-use Rattle.call_translation.specs.Scopes.{ScopeTree}
-use Rattle.transformers.specs.Lists.{transformer_at}
-use Rattle.transformers.specs.Statement.{at}
-use Rattle.region_sets.specs.declared.region.Region.{Region}
-use Rattle.region_sets.specs.Lists.{accesses_at, list_regions}
-use Rattle.region_sets.specs.Sets.{unite_all}
-use Rattle.call_equations.specs.Sides.{changed_cells}
-use Rattle.array_regions.specs.declared.arms.Reached.{Reached}
-use Rattle.array_regions.specs.Arms.{always, into_arm, past_arm, past_arms, all_met, tests_reads, if_set}
-use Rattle.array_regions.specs.Loops.{Found, do_set}
-use Rattle.array_regions.specs.Calls.{Called, Callees, actuals_reads, summary_in_caller}
-use Rattle.array_regions.specs.Entry.{summary_of}
-use Rattle.array_regions.specs.Statement.{stmt_set, what_set, arm_sets, arm_set, else_set, body_set, at_stmt, at_parts, at_list, at_arms, at_arm, at_else, at_loop}
-use Rattle.array_regions.specs.Modules.{regions_of, calls_of, regions_with}
-use Rattle.laws_statements.specs.CallsIn.{CallAt, Each, stmt_calls, what_calls, list_calls, arms_calls, arm_calls, else_calls, loop_calls}
-use Rattle.laws_statements.proofs.Placing.{each_parts}
+use Rattle.f77_ast.specs.declared.results.At.{At}
+use Rattle.f77_ast.specs.declared.results.Results.{Results}
+use Rattle.preconditions.specs.transformer_algebra.declared.transformer.Transformer.{Transformer}
+use Rattle.preconditions.specs.call_translation.Scopes.{ScopeTree}
+use Rattle.preconditions.specs.transformers.Lists.{transformer_at}
+use Rattle.preconditions.specs.transformers.Statement.{at}
+use Rattle.in_out_regions.specs.region_sets.declared.region.Region.{Region}
+use Rattle.in_out_regions.specs.region_sets.Lists.{accesses_at, list_regions}
+use Rattle.in_out_regions.specs.region_sets.Sets.{unite_all}
+use Rattle.in_out_regions.specs.call_equations.Sides.{changed_cells}
+use Rattle.in_out_regions.specs.array_regions.declared.arms.Reached.{Reached}
+use Rattle.in_out_regions.specs.array_regions.Arms.{always, into_arm, past_arm, past_arms, all_met, tests_reads, if_set}
+use Rattle.in_out_regions.specs.array_regions.Loops.{Found, do_set}
+use Rattle.in_out_regions.specs.array_regions.Calls.{Called, Callees, actuals_reads, summary_in_caller}
+use Rattle.in_out_regions.specs.array_regions.Entry.{summary_of}
+use Rattle.in_out_regions.specs.array_regions.Statement.{stmt_set, what_set, arm_sets, arm_set, else_set, body_set, at_stmt, at_parts, at_list, at_arms, at_arm, at_else, at_loop}
+use Rattle.in_out_regions.specs.array_regions.Modules.{regions_of, calls_of, regions_with}
+use Rattle.call_graph.specs.CallsIn.{CallAt, Each, stmt_calls, what_calls, list_calls, arms_calls, arm_calls, else_calls, loop_calls}
+use Rattle.laws_analyses.proofs.Statements.Placing.{each_parts}
 use Rattle.laws_analyses.proofs.CallLists.{each_more}
 use Rattle.laws_database.specs.ResultCallees.{SameCallees}
 

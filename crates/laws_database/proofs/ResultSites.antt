@@ -6,12 +6,12 @@ use Rattle.std.proofs.lemmas.Bool.{or_parts}
 use Rattle.f77_ast.specs.Trees.{StmtTree, WhatTree, ArmTree, ArmTrees, ElseTree, LoopTree, StmtTrees}
 use Rattle.f77_ast.specs.Trees as tree
 use Rattle.f77_ast.specs.declared.variable.Unit.{Unit as BlockUnit}
-use Rattle.scalar_phases.specs.Phases as scalar
-use Rattle.region_phases.specs.OutPhases as out
-use Rattle.loop_marker.specs.Phases.{ModuleMarks, analysis_in}
-use Rattle.laws_statements.specs.CallsIn.{CallAt, Each, stmt_calls, what_calls, list_calls, arms_calls, arm_calls, else_calls, loop_calls}
-use Rattle.laws_statements.proofs.Placing.{each_parts}
-use Rattle.laws_database.specs.ResultEntries.{module_in}
+use Rattle.loop_marker.specs.module_phases.ScalarPhases as scalar
+use Rattle.loop_marker.specs.module_phases.OutPhases as out
+use Rattle.loop_marker.specs.Results.{ModuleResults}
+use Rattle.loop_marker.specs.Phases.{phases_of, analysis_in}
+use Rattle.call_graph.specs.CallsIn.{CallAt, Each, stmt_calls, what_calls, list_calls, arms_calls, arm_calls, else_calls, loop_calls}
+use Rattle.laws_analyses.proofs.Statements.Placing.{each_parts}
 use Rattle.laws_database.specs.ResultCallers.{calls, holding_sites, later_sites}
 use Rattle.laws_database.specs.ResultLaws.{HaveAllSites}
 
@@ -104,24 +104,24 @@ others x [] e = tt
 others x (c ∷ cs) e = let p = or_parts (bytes_eq c.callee x) (list_any (λ (d : CallAt). bytes_eq d.callee x) cs) e in (p.0, others x cs p.1)
 
 module _ (u : List BlockUnit) (x : List ℕ) where
-  abbrev kept : List ModuleMarks → List ModuleMarks
-  kept fs = filter (λ f. calls x (module_in f)) fs
+  abbrev kept : List ModuleResults → List ModuleResults
+  kept fs = filter (λ f. calls x f.known) fs
 
-  holding_kept : (fs : List ModuleMarks) → holding_sites u fs x ≡ holding_sites u (kept fs) x
+  holding_kept : (fs : List ModuleResults) → holding_sites u fs x ≡ holding_sites u (kept fs) x
   holding_kept [] = refl
-  holding_kept (f ∷ fs) = go (calls x (module_in f)) refl (holding_kept fs)
+  holding_kept (f ∷ fs) = go (calls x f.known) refl (holding_kept fs)
     where
-      go : (b : Bool) → calls x (module_in f) ≡ b → holding_sites u fs x ≡ holding_sites u (kept fs) x → (scalar.list_sites (module_in f).read.body (scalar.caller_of u (analysis_in f.outs)) x ++ holding_sites u fs x) ≡ holding_sites u (cond b (f ∷ kept fs) (kept fs)) x
-      go true e ih = ap (λ z. scalar.list_sites (module_in f).read.body (scalar.caller_of u (analysis_in f.outs)) x ++ z) ih
-      go false e ih = ap (λ z. z ++ holding_sites u fs x) (no_holding_sites x (scalar.caller_of u (analysis_in f.outs)) (module_in f).read.body (others x (list_calls (module_in f).read.body) e)) ∙ ih
+      go : (b : Bool) → calls x f.known ≡ b → holding_sites u fs x ≡ holding_sites u (kept fs) x → (scalar.list_sites f.known.read.body (scalar.caller_of u (analysis_in (phases_of f))) x ++ holding_sites u fs x) ≡ holding_sites u (cond b (f ∷ kept fs) (kept fs)) x
+      go true e ih = ap (λ z. scalar.list_sites f.known.read.body (scalar.caller_of u (analysis_in (phases_of f))) x ++ z) ih
+      go false e ih = ap (λ z. z ++ holding_sites u fs x) (no_holding_sites x (scalar.caller_of u (analysis_in (phases_of f))) f.known.read.body (others x (list_calls f.known.read.body) e)) ∙ ih
 
-  later_kept : (fs : List ModuleMarks) → later_sites u fs x ≡ later_sites u (kept fs) x
+  later_kept : (fs : List ModuleResults) → later_sites u fs x ≡ later_sites u (kept fs) x
   later_kept [] = refl
-  later_kept (f ∷ fs) = go (calls x (module_in f)) refl (later_kept fs)
+  later_kept (f ∷ fs) = go (calls x f.known) refl (later_kept fs)
     where
-      go : (b : Bool) → calls x (module_in f) ≡ b → later_sites u fs x ≡ later_sites u (kept fs) x → (out.list_sites (module_in f).read.body (out.caller_of u f.outs) x ++ later_sites u fs x) ≡ later_sites u (cond b (f ∷ kept fs) (kept fs)) x
-      go true e ih = ap (λ z. out.list_sites (module_in f).read.body (out.caller_of u f.outs) x ++ z) ih
-      go false e ih = ap (λ z. z ++ later_sites u fs x) (no_later_sites x (out.caller_of u f.outs) (module_in f).read.body (others x (list_calls (module_in f).read.body) e)) ∙ ih
+      go : (b : Bool) → calls x f.known ≡ b → later_sites u fs x ≡ later_sites u (kept fs) x → (out.list_sites f.known.read.body (out.caller_of u (phases_of f)) x ++ later_sites u fs x) ≡ later_sites u (cond b (f ∷ kept fs) (kept fs)) x
+      go true e ih = ap (λ z. out.list_sites f.known.read.body (out.caller_of u (phases_of f)) x ++ z) ih
+      go false e ih = ap (λ z. z ++ later_sites u fs x) (no_later_sites x (out.caller_of u (phases_of f)) f.known.read.body (others x (list_calls f.known.read.body) e)) ∙ ih
 
-pub all_sites : (u : List BlockUnit) (fs : List ModuleMarks) (x : List ℕ) → HaveAllSites u fs x
+pub all_sites : (u : List BlockUnit) (fs : List ModuleResults) (x : List ℕ) → HaveAllSites u fs x
 all_sites u fs x = record { holding = holding_kept u x (reverse fs); later = later_kept u x (reverse fs) }

@@ -5,32 +5,32 @@ use Rattle.affine_systems.specs.declared.row.System.{System}
 use Rattle.f77_ast.specs.declared.places.Places.{Places}
 use Rattle.f77_ast.specs.DeclTrees.{ModuleTree}
 use Rattle.f77_ast.specs.Symbols.{SymbolTree}
-use Rattle.f77_results.specs.declared.results.Results.{Results}
+use Rattle.f77_ast.specs.declared.results.Results.{Results}
 use Rattle.f77_meaning.specs.Modules.{symbol_names}
 use Rattle.f77_printer.specs.ModuleText as printer
 use Rattle.call_graph.specs.declared.graph.Graph.{Graph}
-use Rattle.transformer_algebra.specs.declared.transformer.Transformer.{Transformer}
-use Rattle.region_sets.specs.declared.region.Region.{Region}
-use Rattle.scalar_phases.specs.Phases.{scope_of}
+use Rattle.preconditions.specs.transformer_algebra.declared.transformer.Transformer.{Transformer}
+use Rattle.in_out_regions.specs.region_sets.declared.region.Region.{Region}
+use Rattle.loop_marker.specs.module_phases.ScalarPhases.{scope_of}
 use Rattle.loop_marker.specs.Known.{knowledge_of}
 use Rattle.loop_marker.specs.Marks.{marks_of}
-use Rattle.laws_statements.specs.CallsIn.{Each}
+use Rattle.call_graph.specs.CallsIn.{Each}
 use Rattle.laws_analyses.proofs.CallLists.{each_more}
 use Rattle.result_lines.specs.Lines.{lines_of}
 use Rattle.result_lines.specs.declared.show.Show.TheVariants.{All}
-use Rattle.region_phases.specs.Rules.{effects_from, transformers_from, preconditions_from, regions_from, ins_from, outs_from}
-use Rattle.pipsmake_rules.specs.declared.kind.Kind.{Kind}
-use Rattle.pipsmake_rules.specs.declared.kind.Kind.TheVariants as kind
-use Rattle.pipsmake_rules.specs.declared.key.Key.{Key}
-use Rattle.pipsmake_rules.specs.Keys.{key_of}
-use Rattle.pipsmake_rules.specs.Needs.{by_module}
-use Rattle.pipsmake_rules.specs.Neighbours.{has_name, callees_of, callers_of}
-use Rattle.laws_database.specs.Values.{Value, parsed, lines, symbols, graph, effects, transformers, preconditions, regions, ins, outs, marks, printed}
-use Rattle.laws_database.specs.Texts.{ModuleText, ReadModule, AreModules, names_in, graph_or_none, graph_of}
-use Rattle.laws_database.specs.Definitions.{module_named, graph_found}
-use Rattle.laws_database.specs.Session.{needs_in, SameValue}
-use Rattle.laws_database.specs.Shelves.{Shelves}
-use Rattle.laws_database.specs.Rules.{known, effects_kept, transformers_kept, preconditions_kept, regions_kept, ins_kept, outs_kept, marks_kept, callee_with, callees_with, holding_with, holding_callers, outs_with, later_callers, rule_of, rule_with, rule_for}
+use Rattle.loop_marker.specs.module_phases.Rules.{effects_from, transformers_from, preconditions_from, regions_from, ins_from, outs_from}
+use Rattle.session_texts.specs.pipsmake_rules.declared.kind.Kind.{Kind}
+use Rattle.session_texts.specs.pipsmake_rules.declared.kind.Kind.TheVariants as kind
+use Rattle.session_texts.specs.pipsmake_rules.declared.key.Key.{Key}
+use Rattle.session_texts.specs.pipsmake_rules.Keys.{key_of}
+use Rattle.session_texts.specs.pipsmake_rules.Needs.{by_module}
+use Rattle.session_texts.specs.pipsmake_rules.Neighbours.{has_name, callees_of, callers_of}
+use Rattle.session_texts.specs.pipsmake_meaning.Values.{Value, parsed, lines, symbols, graph, effects, transformers, preconditions, regions, ins, outs, marks, printed}
+use Rattle.session_texts.specs.pipsmake_meaning.Texts.{ModuleText, ReadModule, AreModules, names_in, graph_or_none, graph_of}
+use Rattle.session_texts.specs.pipsmake_meaning.Definitions.{module_named, graph_found}
+use Rattle.session_texts.specs.pipsmake_meaning.Session.{needs_in, SameValue}
+use Rattle.session_texts.specs.pipsmake_meaning.MemoCells.{MemoCells}
+use Rattle.session_texts.specs.pipsmake_meaning.Rules.{known, effects_kept, transformers_kept, preconditions_kept, regions_kept, ins_kept, outs_kept, marks_kept, callee_with, callees_with, holding_with, holding_callers, outs_with, later_callers, rule_of, rule_with, rule_for}
 use Rattle.laws_database.specs.Laws.{AreLinked}
 use Rattle.laws_database.proofs.Modules.{read_at}
 use Rattle.laws_database.proofs.Called.{second_of, third_of, fourth_of, skip_none}
@@ -93,15 +93,15 @@ module _ (old ts : List ModuleText) where
   same_callees kept [] h = refl
   same_callees kept (y ∷ ys) h = λ i. option_to_list (same_callee y (module_named old y) (module_named ts y) (kept y) h.0 i) ++ same_callees kept ys h.1 i
 
-  same_holders : (sh : Shelves) (ys : List (List ℕ)) → Each (λ y. Same (key_of kind.Parsed y) × Same (key_of kind.Symbols y)) ys → holding_callers sh old ys ≡ holding_callers sh ts ys
+  same_holders : (sh : MemoCells) (ys : List (List ℕ)) → Each (λ y. Same (key_of kind.Parsed y) × Same (key_of kind.Symbols y)) ys → holding_callers sh old ys ≡ holding_callers sh ts ys
   same_holders sh [] h = refl
   same_holders sh (y ∷ ys) h = λ i. option_to_list (same_holding (module_named old y) (module_named ts y) (preconditions_kept sh y) h.0.0 h.0.1 i) ++ same_holders sh ys h.1 i
 
-  same_laters : (sh : Shelves) (ys : List (List ℕ)) → Each (λ y. Same (key_of kind.Parsed y) × Same (key_of kind.Symbols y)) ys → later_callers sh old ys ≡ later_callers sh ts ys
+  same_laters : (sh : MemoCells) (ys : List (List ℕ)) → Each (λ y. Same (key_of kind.Parsed y) × Same (key_of kind.Symbols y)) ys → later_callers sh old ys ≡ later_callers sh ts ys
   same_laters sh [] h = refl
   same_laters sh (y ∷ ys) h = λ i. option_to_list (same_later (module_named old y) (module_named ts y) (transformers_kept sh y) (outs_kept sh y) h.0.0 h.0.1 i) ++ same_laters sh ys h.1 i
 
-  module _ (mo : AreModules old) (ms : AreModules ts) (sh : Shelves) (x : List ℕ) (no : has_name (names_in old) x ≡ true) (n : has_name (names_in ts) x ≡ true) where
+  module _ (mo : AreModules old) (ms : AreModules ts) (sh : MemoCells) (x : List ℕ) (no : has_name (names_in old) x ≡ true) (n : has_name (names_in ts) x ≡ true) where
     abbrev m : ReadModule
     m = (read_at old mo x no).read
 
@@ -199,5 +199,5 @@ module _ (old ts : List ModuleText) where
       printed_same h =
           let tr = tree_same h.0 in let pl = places_same h.1.0 in let kn = known_same h.0 h.1.1.0 in
           rule_same kind.Printed (λ i. option_and_then (λ own. option_and_then (λ holds. option_and_then (λ found. option_and_then (λ taken. option_and_then (λ after. option_map (λ all.
-          printed (printer.module_text (pl i) (tr i) (lines_of All (kn i) (record { own = own; holds = holds; regions = found; ins = taken; outs = after; marks = all }))))
+          printed (printer.module_text (pl i) (tr i) (lines_of All (kn i) (record { transformers = own; preconditions = holds; regions = found; ins = taken; outs = after; marks = all }))))
           (marks_kept sh x)) (outs_kept sh x)) (ins_kept sh x)) (regions_kept sh x)) (preconditions_kept sh x)) (transformers_kept sh x))

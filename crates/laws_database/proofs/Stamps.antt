@@ -1,16 +1,16 @@
 -- Stamps: places among values that are all different.
 use Rattle.std.proofs.Common.{◌≡◌, inl, inr, ℕ, zero, suc, List, [], ◌∷◌, ◌++◌, map, Option, Some, None, refl, sym, ap, ◌∙◌, subst}
 use Rattle.std.specs.Prelude.{slice_get, option_map, unwrap_or}
-use Rattle.pipsmake_rules.specs.declared.kind.Kind.{Kind}
-use Rattle.pipsmake_rules.specs.declared.kind.Kind.TheVariants as kind
-use Rattle.pipsmake_rules.specs.declared.key.Key.{Key}
-use Rattle.laws_statements.specs.CallsIn.{Each}
-use Rattle.laws_database.specs.Values.{Value, source, Item, text, result}
-use Rattle.laws_database.specs.Texts.{ModuleText, text_of}
-use Rattle.laws_database.specs.Definitions.{definition}
-use Rattle.laws_database.specs.Session.{needs_in, SameText, SameValue}
-use Rattle.laws_database.specs.Shelves.{Shelves, Shelf, Stamped, Kept, value_under, kept_value, kept_stamp, kept_of, IsNew, AreDistinct, Adds}
-use Rattle.laws_database.specs.Making.{stamp_of, text_stamps, stamps_now}
+use Rattle.session_texts.specs.pipsmake_rules.declared.kind.Kind.{Kind}
+use Rattle.session_texts.specs.pipsmake_rules.declared.kind.Kind.TheVariants as kind
+use Rattle.session_texts.specs.pipsmake_rules.declared.key.Key.{Key}
+use Rattle.call_graph.specs.CallsIn.{Each}
+use Rattle.session_texts.specs.pipsmake_meaning.Values.{Value, source, Item, text, result}
+use Rattle.session_texts.specs.pipsmake_meaning.Texts.{ModuleText, text_of}
+use Rattle.session_texts.specs.pipsmake_meaning.Definitions.{definition}
+use Rattle.session_texts.specs.pipsmake_meaning.Session.{needs_in, SameText, SameValue}
+use Rattle.session_texts.specs.pipsmake_meaning.MemoCells.{MemoCells, MemoCell, Stamped, Kept, value_under, kept_value, kept_stamp, kept_of, IsNew, AreDistinct, Adds}
+use Rattle.session_texts.specs.pipsmake_meaning.Making.{stamp_of, text_stamps, stamps_now}
 use Rattle.laws_database.specs.Stands.{Needed, text_needed, needed, AreStamps}
 
 -- ---- values that are all different
@@ -52,13 +52,13 @@ adds_distinct old new v (inr s) d = subst AreDistinct (sym s.0) (distinct_more o
 
 -- ---- stamps and needs
 
-abbrev pub Distinct : Shelves → Type 0
+abbrev pub Distinct : MemoCells → Type 0
 Distinct sh = (item : Item) (x : List ℕ) → AreDistinct (sh item x).values
 
-abbrev pub Grows : Shelves → Shelves → Type 0
+abbrev pub Grows : MemoCells → MemoCells → Type 0
 Grows old new = (item : Item) (x : List ℕ) (i : ℕ) (v : Value) → slice_get (old item x).values i ≡ Some v → slice_get (new item x).values i ≡ Some v
 
-same_place : (sh : Shelves) → Distinct sh → (a b : Item) (x y : List ℕ) (i j : ℕ) (v w : Value) → a ≡ b → x ≡ y → v ≡ w → slice_get (sh a x).values i ≡ Some v → slice_get (sh b y).values j ≡ Some w → i ≡ j
+same_place : (sh : MemoCells) → Distinct sh → (a b : Item) (x y : List ℕ) (i j : ℕ) (v w : Value) → a ≡ b → x ≡ y → v ≡ w → slice_get (sh a x).values i ≡ Some v → slice_get (sh b y).values j ≡ Some w → i ≡ j
 same_place sh d a b x y i j v w p q r e f =
     one_place (sh b y).values i j w (d b y) (sym (λ k. slice_get (sh (p k) (q k)).values i) ∙ (e ∙ ap (λ z. Some z) r)) f
 
@@ -66,7 +66,7 @@ some : (v w : Value) → Some v ≡ Some w → v ≡ w
 some v w e = cc
 
 -- values have one stamp each
-pub stamps_same : (sh : Shelves) → Distinct sh → (ss ts : List Stamped) (ns : List Needed) → AreStamps sh ss ns → AreStamps sh ts ns → ss ≡ ts
+pub stamps_same : (sh : MemoCells) → Distinct sh → (ss ts : List Stamped) (ns : List Needed) → AreStamps sh ss ns → AreStamps sh ts ns → ss ≡ ts
 stamps_same sh d [] [] [] a b = refl
 stamps_same sh d [] (t ∷ ts) [] a b = absurd b
 stamps_same sh d (s ∷ ss) ts [] a b = absurd a
@@ -81,7 +81,7 @@ stamps_same sh d (s ∷ ss) (t ∷ ts) (n ∷ ns) a b =
     λ i. record { item = item i; name = name i; stamp = stamp i } ∷ rest i
 
 -- stamps tell what they are of
-pub needs_same : (sh : Shelves) (ss : List Stamped) (ns ms : List Needed) → AreStamps sh ss ns → AreStamps sh ss ms → ns ≡ ms
+pub needs_same : (sh : MemoCells) (ss : List Stamped) (ns ms : List Needed) → AreStamps sh ss ns → AreStamps sh ss ms → ns ≡ ms
 needs_same sh [] [] [] a b = refl
 needs_same sh [] [] (m ∷ ms) a b = absurd b
 needs_same sh [] (n ∷ ns) ms a b = absurd a
@@ -94,7 +94,7 @@ needs_same sh (s ∷ ss) (n ∷ ns) (m ∷ ms) a b =
     let rest : ns ≡ ms = needs_same sh ss ns ms a.3 b.3 in
     λ i. record { item = item i; name = name i; value = value i } ∷ rest i
 
-pub stamps_grow : (old new : Shelves) → Grows old new → (ss : List Stamped) (ns : List Needed) → AreStamps old ss ns → AreStamps new ss ns
+pub stamps_grow : (old new : MemoCells) → Grows old new → (ss : List Stamped) (ns : List Needed) → AreStamps old ss ns → AreStamps new ss ns
 stamps_grow old new g [] [] a = tt
 stamps_grow old new g [] (n ∷ ns) a = absurd a
 stamps_grow old new g (s ∷ ss) [] a = absurd a
@@ -103,7 +103,7 @@ stamps_grow old new g (s ∷ ss) (n ∷ ns) a = (a.0, a.1, (a.2.0, a.2.1, g s.it
 -- ---- the stamps of what is kept now
 
 -- what is kept is what is defined
-pub record IsKnown (sh : Shelves) (ts : List ModuleText) (n : Key) : Type 0 where
+pub record IsKnown (sh : MemoCells) (ts : List ModuleText) (n : Key) : Type 0 where
   pub value : Value
   pub defined : definition ts n.kind n.name ≡ Some value
   pub kept : kept_of sh n.kind n.name ≡ Some value
@@ -114,10 +114,10 @@ HasText ts kind.Parsed x = (t : List ℕ) × (text_of ts x ≡ Some t)
 HasText ts kind.Lines x = (t : List ℕ) × (text_of ts x ≡ Some t)
 HasText ts k x = Unit {0}
 
-abbrev pub HasTexts : Shelves → List ModuleText → Type 0
+abbrev pub HasTexts : MemoCells → List ModuleText → Type 0
 HasTexts sh ts = (x t : List ℕ) → text_of ts x ≡ Some t → kept_value (sh text x) ≡ Some (source t)
 
-pub kept_stamp_at : (s : Shelf) (v : Value) → kept_value s ≡ Some v → slice_get s.values (unwrap_or (kept_stamp s) 0) ≡ Some v
+pub kept_stamp_at : (s : MemoCell) (v : Value) → kept_value s ≡ Some v → slice_get s.values (unwrap_or (kept_stamp s) 0) ≡ Some v
 kept_stamp_at s v e = go s.kept e
   where
     go : (o : Option Kept) → value_under s.values o ≡ Some v → slice_get s.values (unwrap_or (option_map (λ (k : Kept). k.stamp) o) 0) ≡ Some v
@@ -127,15 +127,15 @@ kept_stamp_at s v e = go s.kept e
 abbrev need_of : List ModuleText → Key → Needed
 need_of ts n = record { item = result n.kind; name = n.name; value = definition ts n.kind n.name }
 
-abbrev stamp_at : Shelves → Key → Stamped
+abbrev stamp_at : MemoCells → Key → Stamped
 stamp_at sh n = stamp_of sh (result n.kind) n.name
 
-results_are : (sh : Shelves) (ts : List ModuleText) (ns : List Key) → Each (IsKnown sh ts) ns → AreStamps sh (map (stamp_at sh) ns) (map (need_of ts) ns)
+results_are : (sh : MemoCells) (ts : List ModuleText) (ns : List Key) → Each (IsKnown sh ts) ns → AreStamps sh (map (stamp_at sh) ns) (map (need_of ts) ns)
 results_are sh ts [] h = tt
 results_are sh ts (n ∷ ns) h =
     (refl, refl, (h.0.value, h.0.defined, kept_stamp_at (sh (result n.kind) n.name) h.0.value h.0.kept), results_are sh ts ns h.1)
 
-module _ (sh : Shelves) (ts : List ModuleText) (texts : HasTexts sh ts) where
+module _ (sh : MemoCells) (ts : List ModuleText) (texts : HasTexts sh ts) where
   text_is : (x : List ℕ) → ((t : List ℕ) × (text_of ts x ≡ Some t)) → (v : Value) × (option_map source (text_of ts x) ≡ Some v) × (slice_get (sh text x).values (stamp_of sh text x).stamp ≡ Some v)
   text_is x h = (source h.0, ap (option_map source) h.1, kept_stamp_at (sh text x) (source h.0) (texts x h.0 h.1))
 

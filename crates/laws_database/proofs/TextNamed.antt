@@ -6,27 +6,19 @@ use Rattle.f77_ast.specs.DeclTrees.{ParsedTree}
 use Rattle.f77_ast.specs.Symbols.{number_from}
 use Rattle.call_graph.specs.declared.graph.Graph.{Graph}
 use Rattle.call_graph.specs.Modules.{names_of}
-use Rattle.loop_marker.specs.Phases.{ModuleMarks}
+use Rattle.loop_marker.specs.Results.{ModuleResults}
 use Rattle.result_lines.specs.declared.show.Show.{Show}
-use Rattle.roundtrip_statements.specs.Formed.{Each}
-use Rattle.laws_storage.proofs.ModuleLaws.{place_of_name}
-use Rattle.laws_database.specs.ResultEntries.{marks_in, said_for}
-use Rattle.laws_database.specs.Texts.{ModuleText, ReadModule, module_read, AreModules, modules_in, trees_in, tables_in, names_in, links_in, known_in, text_of}
-use Rattle.laws_database.specs.Definitions.{module_named, results_with, results_in, text_shown}
+use Rattle.laws_programs.specs.roundtrip_programs.Statements.Formed.{Each}
+use Rattle.laws_programs.proofs.Storage.ModuleLaws.{place_of_name}
+use Rattle.session_texts.specs.pipsmake_meaning.ResultEntries.{results_of_modules, results_for}
+use Rattle.session_texts.specs.pipsmake_meaning.Texts.{ModuleText, ReadModule, module_read, AreModules, modules_in, trees_in, tables_in, names_in, links_in, known_in, text_of}
+use Rattle.session_texts.specs.pipsmake_meaning.Definitions.{module_named, results_with, results_in, text_shown}
 use Rattle.laws_database.specs.ProgramTexts.{text_with, texts_with, text_named, before_text, texts_named}
 use Rattle.laws_database.specs.ProgramTextLaws.{NamesShowTheText}
-
-abbrev tree : ReadModule → ParsedTree
-tree m = m.module_is
+use Rattle.laws_database.proofs.Linked.{names_are as names-same}
+use Rattle.session_texts.proofs.Keeping.{tree_in as tree}
 
 -- ---- each text is the one of its name
-
-names-same : (ts : List ModuleText) → AreModules ts → names_of (trees_in ts) ≡ names_in ts
-names-same [] h = refl
-names-same (t ∷ ts) h =
-    ap (λ o. names_of (map tree (option_to_list o ++ modules_in ts))) h.0.is_read
-    ∙ ap (λ (x : List ℕ). x ∷ names_of (trees_in ts)) h.0.is_named
-    ∙ ap (λ (xs : List (List ℕ)). t.name ∷ xs) (names-same ts h.1)
 
 tree-at : (ts : List ModuleText) → AreModules ts → (i : ℕ) (u : ModuleText) → slice_get ts i ≡ Some u → (p : ParsedTree) × (slice_get (trees_in ts) i ≡ Some p) × (p.module_read.name ≡ u.name)
 tree-at [] h i u e = cc
@@ -81,7 +73,7 @@ each-at P (u ∷ us) f = record { first = f zero u refl; others = each-at P us (
 
 -- ---- the text of all
 
-both-by : (show : Show) (m : ReadModule) (o : Option ModuleMarks) (later : Option (List ℕ)) (text more : List ℕ) → before_text (option_map (text_shown show m) o) later ≡ Some text
+both-by : (show : Show) (m : ReadModule) (o : Option ModuleResults) (later : Option (List ℕ)) (text more : List ℕ) → before_text (option_map (text_shown show m) o) later ≡ Some text
     → ((b : List ℕ) → later ≡ Some b → more ≡ b) → text_with show m o ++ more ≡ text
 both-by show m None later text more h f = cc
 both-by show m (Some r) None text more h f = cc
@@ -93,18 +85,18 @@ module _ (show : Show) (ts : List ModuleText) (g : Graph) (l : links_in ts ≡ O
   abbrev IsOwn : ModuleText → Type 0
   IsOwn u = text_of ts u.name ≡ Some u.text
 
-  abbrev found : List ModuleMarks
-  found = marks_in (known_in ts) g
+  abbrev found : List ModuleResults
+  found = results_of_modules (known_in ts) g
 
   abbrev shown : ReadModule → Option (List ℕ)
-  shown m = option_map (text_shown show m) (said_for found m.module_is.module_read.name)
+  shown m = option_map (text_shown show m) (results_for found m.module_is.module_read.name)
 
   named-text : (u : ModuleText) (m : ReadModule) → IsOwn u → module_read u.text ≡ Some m → m.module_is.module_read.name ≡ u.name → text_named show ts u.name ≡ shown m
   named-text u m o r n =
       let read : module_named ts u.name ≡ Some m = ap (option_and_then module_read) o ∙ r in
       ap (option_and_then (λ x. option_map (text_shown show x) (results_in ts u.name))) read
       ∙ ap (λ x. option_map (text_shown show m) (results_with ts x u.name)) l
-      ∙ ap (λ x. option_map (text_shown show m) (said_for found x)) (sym n)
+      ∙ ap (λ x. option_map (text_shown show m) (results_for found x)) (sym n)
 
   all-named : (us : List ModuleText) (text : List ℕ) → AreModules us → Each IsOwn us → texts_named show ts (names_in us) ≡ Some text → texts_with show found (modules_in us) ≡ text
   all-named [] text h o e = cc
@@ -113,7 +105,7 @@ module _ (show : Show) (ts : List ModuleText) (g : Graph) (l : links_in ts ≡ O
       let later = texts_named show ts (names_in us) in
       let whole : before_text (shown m) later ≡ Some text = ap (λ x. before_text x later) (sym (named-text u m o.first h.0.is_read h.0.is_named)) ∙ e in
       ap (λ x. texts_with show found (option_to_list x ++ modules_in us)) h.0.is_read
-      ∙ both-by show m (said_for found m.module_is.module_read.name) later text (texts_with show found (modules_in us)) whole (λ b f. all-named us b h.1 o.others f)
+      ∙ both-by show m (results_for found m.module_is.module_read.name) later text (texts_with show found (modules_in us)) whole (λ b f. all-named us b h.1 o.others f)
 
 pub names_show_the_text : NamesShowTheText
 names_show_the_text show ts g text h l e = all-named show ts g l ts text h (each-at (λ u. text_of ts u.name ≡ Some u.text) ts (own-text ts g h l)) e

@@ -5,18 +5,18 @@ use Rattle.f77_ast.specs.DeclTrees.{ParsedTree}
 use Rattle.f77_ast.specs.Symbols.{SymbolTree}
 use Rattle.storage_layout.specs.Symbols.{symbols_of}
 use Rattle.call_graph.specs.Links.{link_of}
-use Rattle.module_texts.specs.declared.source.Piece.{Piece}
-use Rattle.module_texts.specs.Pieces.{pieces_of}
+use Rattle.fixed_form.specs.declared.source.Piece.{Piece}
+use Rattle.fixed_form.specs.Pieces.{pieces_of}
 use Rattle.f77_parser.specs.Gives.{and_then}
 use Rattle.f77_parser.specs.Modules.{parse_of}
-use Rattle.roundtrip_text.specs.Texts.{IsReadAs}
-use Rattle.roundtrip_programs.specs.Laws.{tree_of, TablesIgnorePlaces, GraphsIgnorePlaces}
-use Rattle.roundtrip_programs.specs.Programs.{AreTables}
-use Rattle.laws_pieces.specs.Laws.{IsPieceOf, ArePiecesOf, PiecesAreModules}
-use Rattle.laws_pieces.specs.Joined.{AreReadAlone}
-use Rattle.laws_pieces.specs.Programs.{text_in}
-use Rattle.laws_written.specs.Laws.{PiecesAreWrittenAlike, PiecesHaveTheSameTrees}
-use Rattle.laws_database.specs.Texts.{ModuleText, lines_or, with_table, one_module, module_read, IsModule, AreModules, names_in, trees_in, tables_in}
+use Rattle.laws_programs.specs.roundtrip_programs.Texts.Texts.{IsReadAs}
+use Rattle.laws_programs.specs.roundtrip_programs.Laws.{tree_of, TablesIgnorePlaces, GraphsIgnorePlaces}
+use Rattle.laws_programs.specs.roundtrip_programs.Programs.{AreTables}
+use Rattle.laws_programs.specs.roundtrip_programs.Pieces.Laws.{IsPieceOf, ArePiecesOf, PiecesAreModules}
+use Rattle.laws_programs.specs.roundtrip_programs.Pieces.Joined.{AreReadAlone}
+use Rattle.laws_programs.specs.roundtrip_programs.Pieces.Programs.{text_in}
+use Rattle.laws_programs.specs.roundtrip_programs.Written.Laws.{PiecesAreWrittenAlike, PiecesHaveTheSameTrees}
+use Rattle.session_texts.specs.pipsmake_meaning.Texts.{ModuleText, lines_or, with_table, one_module, module_read, IsModule, AreModules, names_in, trees_in, tables_in}
 use Rattle.laws_database.specs.ProgramTexts.{name_of, lines_found, program_text, texts_of}
 use Rattle.laws_database.specs.ProgramTextLaws.{PiecesAreTheProgram}
 use Rattle.laws_database.proofs.TextRead.{all-read}
@@ -24,7 +24,7 @@ use Rattle.laws_database.proofs.TextSame.{same-text}
 
 -- ---- each piece is a module
 
-read-by : (text : List ℕ) (m : ParsedTree) (table : List SymbolTree) → IsReadAs text (m ∷ []) → symbols_of m ≡ Ok table → module_read text ≡ Some (record { module_is = m; table = table })
+pub read-by : (text : List ℕ) (m : ParsedTree) (table : List SymbolTree) → IsReadAs text (m ∷ []) → symbols_of m ≡ Ok table → module_read text ≡ Some (record { module_is = m; table = table })
 read-by text m table r e =
     ap (λ x. one_module (and_then (lines_or x) parse_of)) r.lined ∙ ap one_module r.parsed ∙ ap (with_table m) e
 

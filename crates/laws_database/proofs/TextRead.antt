@@ -7,24 +7,22 @@ use Rattle.f77_ast.specs.DeclTrees.{ParsedTree}
 use Rattle.f77_parser.specs.Gives.{Refused, and_then}
 use Rattle.f77_parser.specs.Modules.{parse_of}
 use Rattle.f77_ast.specs.Symbols.{SymbolTree}
-use Rattle.refusal_codes.specs.declared.refusal.Refusal.{Refusal}
+use Rattle.fx_lists.specs.declared.refusal.Refusal.{Refusal}
 use Rattle.storage_layout.specs.Symbols.{symbols_of}
-use Rattle.roundtrip_text.specs.Texts.{IsReadAs}
-use Rattle.roundtrip_programs.specs.Programs.{AreTables}
-use Rattle.laws_pieces.specs.Joined.{AreReadAlone}
-use Rattle.laws_pieces.specs.Programs.{JoinedMakeTheProgram}
-use Rattle.laws_database.specs.Texts.{ModuleText, ReadModule, lines_or, with_table, one_module, AreModules, modules_in, trees_in, tables_in}
+use Rattle.laws_programs.specs.roundtrip_programs.Texts.Texts.{IsReadAs}
+use Rattle.laws_programs.specs.roundtrip_programs.Programs.{AreTables}
+use Rattle.laws_programs.specs.roundtrip_programs.Pieces.Joined.{AreReadAlone}
+use Rattle.laws_programs.specs.roundtrip_programs.Pieces.Programs.{JoinedMakeTheProgram}
+use Rattle.session_texts.specs.pipsmake_meaning.Texts.{ModuleText, ReadModule, lines_or, with_table, one_module, AreModules, modules_in, trees_in, tables_in}
 use Rattle.laws_database.specs.ProgramTexts.{texts_of}
 use Rattle.laws_database.specs.ProgramTextLaws.{TextsMakeTheProgram}
+use Rattle.laws_database.proofs.Linked.{with_these as read_module}
 
 -- ---- one text
 
 record IsReadWith (text : List ℕ) (m : ReadModule) : Type 0 where
   read : IsReadAs text (m.module_is ∷ [])
   tabled : symbols_of m.module_is ≡ Ok m.table
-
-abbrev read_module : ParsedTree → List SymbolTree → ReadModule
-read_module p t = record { module_is = p; table = t }
 
 table-by : (p : ParsedTree) (r : Result (List SymbolTree) Refusal) (m : ReadModule) → symbols_of p ≡ r → with_table p r ≡ Some m → (p ≡ m.module_is) × (symbols_of p ≡ Ok m.table)
 table-by p (Ok t) m e h =

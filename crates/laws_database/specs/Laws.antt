@@ -1,21 +1,21 @@
 -- What is made is what a session has to make, and what is kept then is what is defined.
 use Rattle.std.specs.Prelude.{◌≡◌, ℕ, true, List, [], ◌∷◌, ◌++◌, Some, Ok, codes}
 use Rattle.call_graph.specs.declared.graph.Graph.{Graph}
-use Rattle.pipsmake_rules.specs.declared.kind.Kind.{Kind}
-use Rattle.pipsmake_rules.specs.declared.kind.Kind.TheVariants.{Parsed, Lines, Symbols, CallGraph, Effects, Transformers, Preconditions, Regions, InRegions, OutRegions, Marks, Printed}
-use Rattle.pipsmake_rules.specs.declared.key.Key.{Key}
-use Rattle.pipsmake_rules.specs.Neighbours.{has_name}
-use Rattle.pipsmake_rules.specs.Walk.{walk_of}
-use Rattle.laws_statements.specs.CallsIn.{Each}
-use Rattle.loop_marker.specs.Phases.{ModuleMarks}
+use Rattle.session_texts.specs.pipsmake_rules.declared.kind.Kind.{Kind}
+use Rattle.session_texts.specs.pipsmake_rules.declared.kind.Kind.TheVariants.{Parsed, Lines, Symbols, CallGraph, Effects, Transformers, Preconditions, Regions, InRegions, OutRegions, Marks, Printed}
+use Rattle.session_texts.specs.pipsmake_rules.declared.key.Key.{Key}
+use Rattle.session_texts.specs.pipsmake_rules.Neighbours.{has_name}
+use Rattle.session_texts.specs.pipsmake_rules.Walk.{walk_of}
+use Rattle.call_graph.specs.CallsIn.{Each}
+use Rattle.loop_marker.specs.Results.{ModuleResults}
 use Rattle.result_lines.specs.declared.show.Show.{Show}
-use Rattle.laws_database.specs.Texts.{ModuleText, ReadModule, AreModules, names_in, links_in, graph_of, text_of}
-use Rattle.laws_database.specs.Definitions.{module_named, results_in, text_shown, definition}
-use Rattle.laws_database.specs.Session.{Makings, MadeOf, made_now, none_made, made_without}
-use Rattle.laws_database.specs.Shelves.{Shelves, Stamped, kept_of, KeepsIn, SeenIn, Forgets, AreEmpty}
-use Rattle.laws_database.specs.Values.{Value, source, Item, text, result}
-use Rattle.laws_database.specs.Rules.{rule_value, text_with}
-use Rattle.laws_database.specs.Making.{BringsAll}
+use Rattle.session_texts.specs.pipsmake_meaning.Texts.{ModuleText, ReadModule, AreModules, names_in, links_in, graph_of, text_of}
+use Rattle.session_texts.specs.pipsmake_meaning.Definitions.{module_named, results_in, text_shown, definition}
+use Rattle.session_texts.specs.pipsmake_meaning.Session.{Makings, MadeOf, made_now, none_made, made_without}
+use Rattle.session_texts.specs.pipsmake_meaning.MemoCells.{MemoCells, Stamped, kept_of, KeepsIn, SeenIn, Forgets, AreEmpty}
+use Rattle.session_texts.specs.pipsmake_meaning.Values.{Value, source, Item, text, result}
+use Rattle.session_texts.specs.pipsmake_meaning.Rules.{rule_value, text_with}
+use Rattle.session_texts.specs.pipsmake_meaning.Making.{BringsAll}
 use Rattle.laws_database.specs.Stands.{needed, AreStamps, StandsFor, made_at, Valuation, needed_with, KeepsValues, IsLoaded}
 
 abbrev pub AreLinked : List ModuleText → Type 0
@@ -39,24 +39,24 @@ CanMake ts Printed x = AreLinked ts × (has_name (names_in ts) x ≡ true)
 abbrev pub walk_in : List ModuleText → Key → List Key
 walk_in ts k = walk_of (names_in ts) (graph_of ts) k
 
-abbrev pub IsDefined : Shelves → List ModuleText → Key → Type 0
+abbrev pub IsDefined : MemoCells → List ModuleText → Key → Type 0
 IsDefined sh ts k = kept_of sh k.kind k.name ≡ definition ts k.kind k.name
 
 -- just what was missing or out of date is made, the kept values then stand for the session in which it was made, and each of them that was walked is what it is defined to be
-pub record MakesAsDefined (ts : List ModuleText) (made : Makings) (walked now : List Key) (new : Shelves) : Type 0 where
+pub record MakesAsDefined (ts : List ModuleText) (made : Makings) (walked now : List Key) (new : MemoCells) : Type 0 where
   pub are_made : MadeOf made ts walked now
   pub stands : StandsFor new ts (made_now made ts now)
   pub defined : Each (IsDefined new ts) walked
 
 abbrev pub MakingIsDefined : Type 0
 MakingIsDefined =
-    (sh new : Shelves) (ts : List ModuleText) (made : Makings) (k : Key) (now : List Key) → CanMake ts k.kind k.name → StandsFor sh ts made →
+    (sh new : MemoCells) (ts : List ModuleText) (made : Makings) (k : Key) (now : List Key) → CanMake ts k.kind k.name → StandsFor sh ts made →
     BringsAll sh ts (walk_in ts k) now new → MakesAsDefined ts made (walk_in ts k) now new
 
 -- the same where making stops within the walk, as for want of memory
 abbrev pub MakingMayStop : Type 0
 MakingMayStop =
-    (sh new : Shelves) (ts : List ModuleText) (made : Makings) (k : Key) (before after now : List Key) → CanMake ts k.kind k.name → StandsFor sh ts made → walk_in ts k ≡ before ++ after →
+    (sh new : MemoCells) (ts : List ModuleText) (made : Makings) (k : Key) (before after now : List Key) → CanMake ts k.kind k.name → StandsFor sh ts made → walk_in ts k ≡ before ++ after →
     BringsAll sh ts before now new → MakesAsDefined ts made before now new
 
 -- what can be made has a value
@@ -66,7 +66,7 @@ ResultsHaveValues = (ts : List ModuleText) (k : Key) → AreModules ts → CanMa
 -- where what comes before a result of a walk is kept as it is defined, the rule of that result makes what is defined
 abbrev pub RulesHaveValues : Type 0
 RulesHaveValues =
-    (sh : Shelves) (ts : List ModuleText) (k : Key) (before : List Key) (j : Key) (after : List Key) → AreModules ts → CanMake ts k.kind k.name → walk_in ts k ≡ before ++ j ∷ after → Each (IsDefined sh ts) before →
+    (sh : MemoCells) (ts : List ModuleText) (k : Key) (before : List Key) (j : Key) (after : List Key) → AreModules ts → CanMake ts k.kind k.name → walk_in ts k ≡ before ++ j ∷ after → Each (IsDefined sh ts) before →
     (v : Value) × (definition ts j.kind j.name ≡ Some v) × (rule_value sh ts j ≡ Some v)
 
 abbrev pub printed_key : List ℕ → Key
@@ -75,62 +75,62 @@ printed_key x = record { kind = Printed; name = x }
 -- where the printed text of a module and what it needs are kept as they are defined, the written text with what `show` adds to it is the defined one
 abbrev pub TextsAreShown : Type 0
 TextsAreShown =
-    (sh : Shelves) (ts : List ModuleText) (x : List ℕ) (show : Show) → AreModules ts → CanMake ts Printed x → Each (IsDefined sh ts) (walk_in ts (printed_key x)) →
-    (m : ReadModule) × (f : ModuleMarks) × (module_named ts x ≡ Some m) × (results_in ts x ≡ Some f) × (text_with sh m x show ≡ Some (text_shown show m f))
+    (sh : MemoCells) (ts : List ModuleText) (x : List ℕ) (show : Show) → AreModules ts → CanMake ts Printed x → Each (IsDefined sh ts) (walk_in ts (printed_key x)) →
+    (m : ReadModule) × (f : ModuleResults) × (module_named ts x ≡ Some m) × (results_in ts x ≡ Some f) × (text_with sh m x show ≡ Some (text_shown show m f))
 
 -- ---- texts that change
 
 -- a text is changed or added where it is kept as the present one: what was made stands for the new session
 abbrev pub TextsMayChange : Type 0
 TextsMayChange =
-    (sh new : Shelves) (ts us : List ModuleText) (made : Makings) (x t : List ℕ) → StandsFor sh ts made → AreModules us → text_of us x ≡ Some t → ((y : List ℕ) → (y ≡ x → ⊥) → text_of us y ≡ text_of ts y) →
+    (sh new : MemoCells) (ts us : List ModuleText) (made : Makings) (x t : List ℕ) → StandsFor sh ts made → AreModules us → text_of us x ≡ Some t → ((y : List ℕ) → (y ≡ x → ⊥) → text_of us y ≡ text_of ts y) →
     KeepsIn sh new text x (source t) [] → StandsFor new us made
 
 -- texts are taken away
 abbrev pub TextsMayGo : Type 0
-TextsMayGo = (sh : Shelves) (ts us : List ModuleText) (made : Makings) → StandsFor sh ts made → AreModules us → ((y t : List ℕ) → text_of us y ≡ Some t → text_of ts y ≡ Some t) → StandsFor sh us made
+TextsMayGo = (sh : MemoCells) (ts us : List ModuleText) (made : Makings) → StandsFor sh ts made → AreModules us → ((y t : List ℕ) → text_of us y ≡ Some t → text_of ts y ≡ Some t) → StandsFor sh us made
 
 -- ---- results that come and go
 
 -- the results of a name are forgotten: what is kept stands for the session in which they were not made
 abbrev pub ResultsMayGo : Type 0
-ResultsMayGo = (sh new : Shelves) (ts : List ModuleText) (made : Makings) (x : List ℕ) → StandsFor sh ts made → Forgets sh new x → StandsFor new ts (made_without made x)
+ResultsMayGo = (sh new : MemoCells) (ts : List ModuleText) (made : Makings) (x : List ℕ) → StandsFor sh ts made → Forgets sh new x → StandsFor new ts (made_without made x)
 
 -- a value is seen, and what is kept stays
 abbrev pub ValuesMayBeSeen : Type 0
-ValuesMayBeSeen = (sh new : Shelves) (ts : List ModuleText) (made : Makings) (item : Item) (x : List ℕ) (v : Value) (stamp : ℕ) → StandsFor sh ts made → SeenIn sh new item x v stamp → StandsFor new ts made
+ValuesMayBeSeen = (sh new : MemoCells) (ts : List ModuleText) (made : Makings) (item : Item) (x : List ℕ) (v : Value) (stamp : ℕ) → StandsFor sh ts made → SeenIn sh new item x v stamp → StandsFor new ts made
 
 -- a result is kept as it is defined, with the stamps of its needs for the present texts: it was made at them
 abbrev pub ResultsMayBeKept : Type 0
 ResultsMayBeKept =
-    (sh new : Shelves) (ts : List ModuleText) (made : Makings) (k : Key) (v : Value) (stamps : List Stamped) → StandsFor sh ts made → definition ts k.kind k.name ≡ Some v → AreStamps sh stamps (needed ts k) →
+    (sh new : MemoCells) (ts : List ModuleText) (made : Makings) (k : Key) (v : Value) (stamps : List Stamped) → StandsFor sh ts made → definition ts k.kind k.name ≡ Some v → AreStamps sh stamps (needed ts k) →
     KeepsIn sh new (result k.kind) k.name v stamps → StandsFor new ts (made_now made ts (k ∷ []))
 
 -- ---- where a session begins
 
 abbrev pub NothingStands : Type 0
-NothingStands = (sh : Shelves) → AreEmpty sh → StandsFor sh [] none_made
+NothingStands = (sh : MemoCells) → AreEmpty sh → StandsFor sh [] none_made
 
 -- stored results that are what is defined stand for the session in which they were made at the present texts
 abbrev pub LoadedStands : Type 0
-LoadedStands = (sh : Shelves) (ts : List ModuleText) → IsLoaded sh ts → StandsFor sh ts (made_at sh ts)
+LoadedStands = (sh : MemoCells) (ts : List ModuleText) → IsLoaded sh ts → StandsFor sh ts (made_at sh ts)
 
 -- ---- results that are kept with given values, as while stored ones are taken over
 
 -- texts alone are kept
 abbrev pub NothingIsGiven : Type 0
-NothingIsGiven = (sh : Shelves) (ts : List ModuleText) (d : Valuation) → StandsFor sh ts none_made → KeepsValues sh ts d
+NothingIsGiven = (sh : MemoCells) (ts : List ModuleText) (d : Valuation) → StandsFor sh ts none_made → KeepsValues sh ts d
 
 -- one result more is kept, with the stamps of the values of its needs
 abbrev pub GivenMayBeKept : Type 0
 GivenMayBeKept =
-    (sh new : Shelves) (ts : List ModuleText) (d : Valuation) (k : Key) (v : Value) (stamps : List Stamped) → KeepsValues sh ts d → d k.kind k.name ≡ Some v → AreStamps sh stamps (needed_with ts d k) →
+    (sh new : MemoCells) (ts : List ModuleText) (d : Valuation) (k : Key) (v : Value) (stamps : List Stamped) → KeepsValues sh ts d → d k.kind k.name ≡ Some v → AreStamps sh stamps (needed_with ts d k) →
     KeepsIn sh new (result k.kind) k.name v stamps → KeepsValues new ts d
 
 -- a value is seen, and what is kept stays
 abbrev pub GivenMayBeSeen : Type 0
-GivenMayBeSeen = (sh new : Shelves) (ts : List ModuleText) (d : Valuation) (item : Item) (x : List ℕ) (v : Value) (stamp : ℕ) → KeepsValues sh ts d → SeenIn sh new item x v stamp → KeepsValues new ts d
+GivenMayBeSeen = (sh new : MemoCells) (ts : List ModuleText) (d : Valuation) (item : Item) (x : List ℕ) (v : Value) (stamp : ℕ) → KeepsValues sh ts d → SeenIn sh new item x v stamp → KeepsValues new ts d
 
 -- the text of a module is kept again
 abbrev pub GivenTextsMayStay : Type 0
-GivenTextsMayStay = (sh new : Shelves) (ts : List ModuleText) (d : Valuation) (x t : List ℕ) → KeepsValues sh ts d → text_of ts x ≡ Some t → KeepsIn sh new text x (source t) [] → KeepsValues new ts d
+GivenTextsMayStay = (sh new : MemoCells) (ts : List ModuleText) (d : Valuation) (x t : List ℕ) → KeepsValues sh ts d → text_of ts x ≡ Some t → KeepsIn sh new text x (source t) [] → KeepsValues new ts d

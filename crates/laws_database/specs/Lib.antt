@@ -1,14 +1,6 @@
-pub mod Values
-pub mod Shelves
-pub mod Texts
-pub mod Definitions
-pub mod Session
-pub mod Rules
-pub mod Making
 pub mod Stands
 pub mod Laws
-pub mod Resting
-pub mod ResultEntries
+pub mod Unverified
 pub mod ResultCallees
 pub mod ResultCallers
 pub mod ResultEquations
@@ -16,3 +8,4 @@ pub mod ResultNeeds
 pub mod ResultLaws
 pub mod ProgramTexts
 pub mod ProgramTextLaws
+pub mod Sources

@@ -3,12 +3,12 @@ use Rattle.std.specs.Prelude.{◌≡◌, ℕ, List, map, Some, Ok}
 use Rattle.f77_ast.specs.DeclTrees.{ParsedTree}
 use Rattle.f77_ast.specs.Symbols.{SymbolTree}
 use Rattle.call_graph.specs.declared.graph.Graph.{Graph}
-use Rattle.module_texts.specs.Pieces.{pieces_of}
+use Rattle.fixed_form.specs.Pieces.{pieces_of}
 use Rattle.result_lines.specs.declared.show.Show.{Show}
-use Rattle.roundtrip_programs.specs.Programs.{IsProgram}
-use Rattle.laws_pieces.specs.Joined.{joined_texts}
-use Rattle.laws_pieces.specs.Programs.{text_in}
-use Rattle.laws_database.specs.Texts.{ModuleText, AreModules, names_in, tables_in, links_in}
+use Rattle.laws_programs.specs.roundtrip_programs.Programs.{IsProgram}
+use Rattle.laws_programs.specs.roundtrip_programs.Pieces.Joined.{joined_texts}
+use Rattle.laws_programs.specs.roundtrip_programs.Pieces.Programs.{text_in}
+use Rattle.session_texts.specs.pipsmake_meaning.Texts.{ModuleText, AreModules, names_in, tables_in, links_in}
 use Rattle.laws_database.specs.ProgramTexts.{name_of, program_text, texts_of, session_text, joined_modules, texts_named}
 
 -- texts of modules that link make a program when they are joined

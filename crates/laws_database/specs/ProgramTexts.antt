@@ -6,15 +6,15 @@ use Rattle.f77_printer.specs.declared.added.Added.{Added}
 use Rattle.f77_printer.specs.ModuleText as printer
 use Rattle.call_graph.specs.declared.graph.Graph.{Graph}
 use Rattle.f77_meaning.specs.Modules.{known_of}
-use Rattle.loop_marker.specs.Phases.{ModuleMarks}
+use Rattle.loop_marker.specs.Results.{ModuleResults}
 use Rattle.result_lines.specs.Lines.{lines_of}
 use Rattle.result_lines.specs.declared.show.Show.{Show}
-use Rattle.roundtrip_text.specs.Texts.{modules_text}
-use Rattle.laws_pieces.specs.Joined.{joined_from}
-use Rattle.laws_written.specs.Laws.{by_tree}
-use Rattle.laws_database.specs.ResultEntries.{marks_in, module_in, said_for}
-use Rattle.laws_database.specs.Texts.{ModuleText, ReadModule, modules_in, trees_in, known_in}
-use Rattle.laws_database.specs.Definitions.{module_named, results_of, results_in, text_shown}
+use Rattle.laws_programs.specs.roundtrip_programs.Texts.Texts.{modules_text}
+use Rattle.laws_programs.specs.roundtrip_programs.Pieces.Joined.{joined_from}
+use Rattle.laws_programs.specs.roundtrip_programs.Written.Laws.{by_tree}
+use Rattle.session_texts.specs.pipsmake_meaning.ResultEntries.{results_of_modules, results_for}
+use Rattle.session_texts.specs.pipsmake_meaning.Texts.{ModuleText, ReadModule, modules_in, trees_in, known_in}
+use Rattle.session_texts.specs.pipsmake_meaning.Definitions.{module_named, printed_of, results_in, text_shown}
 
 -- ---- a program
 
@@ -22,17 +22,17 @@ abbrev pub name_of : ParsedTree → List ℕ
 name_of m = m.module_read.name
 
 -- the lines that are added to a module: those of its results, where there are any
-abbrev pub lines_with : Show → Option ModuleMarks → List Added
+abbrev pub lines_with : Show → Option ModuleResults → List Added
 lines_with show None = []
-lines_with show (Some f) = lines_of show (module_in f) (results_of f)
+lines_with show (Some f) = lines_of show f.known (printed_of f)
 
 -- which are found by its name
-abbrev pub lines_found : Show → List ModuleMarks → ModuleTree → List Added
-lines_found show fs m = lines_with show (said_for fs m.name)
+abbrev pub lines_found : Show → List ModuleResults → ModuleTree → List Added
+lines_found show fs m = lines_with show (results_for fs m.name)
 
 -- the modules of a program one after another, each with its lines
 abbrev pub program_text : Show → List ParsedTree → List (List SymbolTree) → Graph → List ℕ
-program_text show ms tables g = modules_text (by_tree (lines_found show (marks_in (known_of ms tables) g))) ms
+program_text show ms tables g = modules_text (by_tree (lines_found show (results_of_modules (known_of ms tables) g))) ms
 
 -- ---- texts of modules
 
@@ -40,17 +40,17 @@ abbrev pub texts_of : List ModuleText → List (List ℕ)
 texts_of ts = map (λ t. t.text) ts
 
 -- a module with its results; without any nothing is added
-abbrev pub text_with : Show → ReadModule → Option ModuleMarks → List ℕ
+abbrev pub text_with : Show → ReadModule → Option ModuleResults → List ℕ
 text_with show m None = printer.module_text m.module_is.places m.module_is.module_read []
 text_with show m (Some f) = text_shown show m f
 
-abbrev pub texts_with : Show → List ModuleMarks → List ReadModule → List ℕ
+abbrev pub texts_with : Show → List ModuleResults → List ReadModule → List ℕ
 texts_with show fs [] = []
-texts_with show fs (m ∷ ms) = text_with show m (said_for fs m.module_is.module_read.name) ++ texts_with show fs ms
+texts_with show fs (m ∷ ms) = text_with show m (results_for fs m.module_is.module_read.name) ++ texts_with show fs ms
 
 -- the modules of these texts one after another, each as it is written with its results
 abbrev pub session_text : Show → List ModuleText → Graph → List ℕ
-session_text show ts g = texts_with show (marks_in (known_in ts) g) (modules_in ts)
+session_text show ts g = texts_with show (results_of_modules (known_in ts) g) (modules_in ts)
 
 -- what the joined texts are read as
 abbrev pub joined_modules : List ModuleText → List ParsedTree

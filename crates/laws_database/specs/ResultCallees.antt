@@ -1,13 +1,13 @@
 -- What results need of the modules that a module calls: of each name in a CALL the symbols and a summary.
 use Rattle.std.specs.Prelude.{◌≡◌, ℕ, List, Option, Some, None}
 use Rattle.f77_ast.specs.Trees.{StmtTrees}
-use Rattle.f77_results.specs.declared.effect_set.EffectSet.{EffectSet}
-use Rattle.f77_results.specs.Summaries.{SummaryTree}
-use Rattle.transformer_algebra.specs.declared.transformer.Transformer.{Transformer}
-use Rattle.region_sets.specs.declared.region.Region.{Region}
-use Rattle.loop_marker.specs.Phases.{ModuleMarks}
-use Rattle.laws_statements.specs.CallsIn.{CallAt, Each, list_calls}
-use Rattle.laws_database.specs.ResultEntries.{module_in, transformers_in, regions_in, ins_in, said_for}
+use Rattle.f77_ast.specs.declared.effect_set.EffectSet.{EffectSet}
+use Rattle.f77_ast.specs.Summaries.{SummaryTree}
+use Rattle.preconditions.specs.transformer_algebra.declared.transformer.Transformer.{Transformer}
+use Rattle.in_out_regions.specs.region_sets.declared.region.Region.{Region}
+use Rattle.loop_marker.specs.Results.{ModuleResults}
+use Rattle.call_graph.specs.CallsIn.{CallAt, Each, list_calls}
+use Rattle.session_texts.specs.pipsmake_meaning.ResultEntries.{results_for}
 
 -- the symbols and a summary of the module of each name
 abbrev pub Summaries : Type 0 → Type 0
@@ -18,21 +18,21 @@ abbrev pub SameCallees : {T : Type 0} → StmtTrees → Summaries T → Summarie
 SameCallees body cs ds = Each (λ (c : CallAt). cs c.callee ≡ ds c.callee) (list_calls body)
 
 -- of results of modules
-abbrev pub seen_of : {T : Type 0} → (ModuleMarks → T) → Option ModuleMarks → Option (SummaryTree T)
+abbrev pub seen_of : {T : Type 0} → (ModuleResults → T) → Option ModuleResults → Option (SummaryTree T)
 seen_of value None = None
-seen_of value (Some f) = Some (record { symbols = (module_in f).symbols; value = value f })
+seen_of value (Some f) = Some (record { symbols = f.known.symbols; value = value f })
 
-abbrev pub summaries : {T : Type 0} → (ModuleMarks → T) → List ModuleMarks → Summaries T
-summaries value fs x = seen_of value (said_for fs x)
+abbrev pub summaries : {T : Type 0} → (ModuleResults → T) → List ModuleResults → Summaries T
+summaries value fs x = seen_of value (results_for fs x)
 
-abbrev pub effect_summaries : List ModuleMarks → Summaries EffectSet
+abbrev pub effect_summaries : List ModuleResults → Summaries EffectSet
 effect_summaries fs = summaries (λ f. f.effects.summary) fs
 
-abbrev pub transformer_summaries : List ModuleMarks → Summaries Transformer
-transformer_summaries fs = summaries (λ f. (transformers_in f).summary) fs
+abbrev pub transformer_summaries : List ModuleResults → Summaries Transformer
+transformer_summaries fs = summaries (λ f. f.transformers.summary) fs
 
-abbrev pub region_summaries : List ModuleMarks → Summaries (List Region)
-region_summaries fs = summaries (λ f. (regions_in f).summary) fs
+abbrev pub region_summaries : List ModuleResults → Summaries (List Region)
+region_summaries fs = summaries (λ f. f.regions.summary) fs
 
-abbrev pub in_summaries : List ModuleMarks → Summaries (List Region)
-in_summaries fs = summaries (λ f. (ins_in f).summary) fs
+abbrev pub in_summaries : List ModuleResults → Summaries (List Region)
+in_summaries fs = summaries (λ f. f.ins.summary) fs

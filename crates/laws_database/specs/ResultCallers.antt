@@ -3,27 +3,28 @@ use Rattle.std.specs.Prelude.{ℕ, Bool, List, map, reverse, Option, option_map,
 use Rattle.std.specs.List.{list_any, filter}
 use Rattle.affine_systems.specs.declared.row.System.{System}
 use Rattle.f77_ast.specs.declared.variable.Unit.{Unit as BlockUnit}
-use Rattle.f77_results.specs.declared.results.Results.{Results}
+use Rattle.f77_ast.specs.declared.results.Results.{Results}
 use Rattle.f77_meaning.specs.Modules.{Known}
 use Rattle.f77_meaning.specs.Linked.{callees}
 use Rattle.call_graph.specs.declared.graph.Graph.{Graph}
-use Rattle.call_translation.specs.Sites.{SiteTree, HoldingSite}
-use Rattle.transformer_algebra.specs.declared.transformer.Transformer.{Transformer}
-use Rattle.region_sets.specs.declared.region.Region.{Region}
-use Rattle.scalar_phases.specs.Phases.{sites_of}
-use Rattle.region_phases.specs.declared.sites.OutSite.{OutSite}
-use Rattle.region_phases.specs.OutPhases.{sites_of as out_sites_of}
-use Rattle.loop_marker.specs.Phases.{ModuleMarks, analysis_in}
-use Rattle.laws_statements.specs.CallsIn.{CallAt, list_calls}
-use Rattle.laws_database.specs.ResultEntries.{module_in, transformers_in, preconditions_in, outs_in, said_for}
+use Rattle.preconditions.specs.call_translation.Sites.{SiteTree, HoldingSite}
+use Rattle.preconditions.specs.transformer_algebra.declared.transformer.Transformer.{Transformer}
+use Rattle.in_out_regions.specs.region_sets.declared.region.Region.{Region}
+use Rattle.loop_marker.specs.module_phases.ScalarPhases.{sites_of}
+use Rattle.loop_marker.specs.module_phases.declared.out_site.OutSite.{OutSite}
+use Rattle.loop_marker.specs.module_phases.OutPhases.{sites_of as out_sites_of}
+use Rattle.loop_marker.specs.Results.{ModuleResults}
+use Rattle.loop_marker.specs.Phases.{phases_of, analysis_in}
+use Rattle.call_graph.specs.CallsIn.{CallAt, list_calls}
+use Rattle.session_texts.specs.pipsmake_meaning.ResultEntries.{results_for}
 
 -- a CALL of a module names this one
 abbrev pub calls : List ℕ → Known → Bool
 calls x k = list_any (λ (c : CallAt). bytes_eq c.callee x) (list_calls k.read.body)
 
 -- the modules that call the one of a name, each before those that it calls
-abbrev pub callers : List ModuleMarks → List ℕ → List ModuleMarks
-callers fs x = filter (λ f. calls x (module_in f)) (reverse fs)
+abbrev pub callers : List ModuleResults → List ℕ → List ModuleResults
+callers fs x = filter (λ f. calls x f.known) (reverse fs)
 
 -- by the edges of a graph: a module calls the one of a name, and the modules that do, in that order
 abbrev pub calls_by : Graph → List ℕ → List ℕ → Bool
@@ -33,11 +34,11 @@ abbrev pub caller_names : Graph → List ℕ → List (List ℕ)
 caller_names g x = filter (calls_by g x) (reverse g.order)
 
 -- the CALLs of a name in these modules, with what holds before them, and with what may be read after them
-abbrev pub holding_sites : List BlockUnit → List ModuleMarks → List ℕ → List HoldingSite
-holding_sites untracked fs x = sites_of untracked (map (λ f. analysis_in f.outs) fs) x
+abbrev pub holding_sites : List BlockUnit → List ModuleResults → List ℕ → List HoldingSite
+holding_sites untracked fs x = sites_of untracked (map (λ f. analysis_in (phases_of f)) fs) x
 
-abbrev pub later_sites : List BlockUnit → List ModuleMarks → List ℕ → List (SiteTree OutSite)
-later_sites untracked fs x = out_sites_of untracked (map (λ f. f.outs) fs) x
+abbrev pub later_sites : List BlockUnit → List ModuleResults → List ℕ → List (SiteTree OutSite)
+later_sites untracked fs x = out_sites_of untracked (map phases_of fs) x
 
 -- of a caller
 pub record HoldingCaller : Type 0 where
@@ -49,15 +50,15 @@ pub record LaterCaller : Type 0 where
   pub own : Results Transformer
   pub outs : Results (List Region)
 
-abbrev pub holding_caller : ModuleMarks → HoldingCaller
-holding_caller f = record { known = module_in f; holds = preconditions_in f }
+abbrev pub holding_caller : ModuleResults → HoldingCaller
+holding_caller f = record { known = f.known; holds = f.preconditions }
 
-abbrev pub later_caller : ModuleMarks → LaterCaller
-later_caller f = record { known = module_in f; own = transformers_in f; outs = outs_in f }
+abbrev pub later_caller : ModuleResults → LaterCaller
+later_caller f = record { known = f.known; own = f.transformers; outs = f.outs }
 
 -- of the module of a name
-abbrev pub holding_at : List ModuleMarks → List ℕ → Option HoldingCaller
-holding_at fs y = option_map holding_caller (said_for fs y)
+abbrev pub holding_at : List ModuleResults → List ℕ → Option HoldingCaller
+holding_at fs y = option_map holding_caller (results_for fs y)
 
-abbrev pub later_at : List ModuleMarks → List ℕ → Option LaterCaller
-later_at fs y = option_map later_caller (said_for fs y)
+abbrev pub later_at : List ModuleResults → List ℕ → Option LaterCaller
+later_at fs y = option_map later_caller (results_for fs y)

@@ -1,13 +1,13 @@
 -- What it is that kept values stand for a session.
 use Rattle.std.specs.Prelude.{◌≡◌, ℕ, List, [], ◌∷◌, ◌++◌, map, slice_get, Option, Some, None, IfSome, option_map}
-use Rattle.pipsmake_rules.specs.declared.kind.Kind.{Kind}
-use Rattle.pipsmake_rules.specs.declared.kind.Kind.TheVariants as kind
-use Rattle.pipsmake_rules.specs.declared.key.Key.{Key}
-use Rattle.laws_database.specs.Texts.{ModuleText, AreModules, text_of}
-use Rattle.laws_database.specs.Definitions.{definition}
-use Rattle.laws_database.specs.Session.{Makings, needs_in}
-use Rattle.laws_database.specs.Shelves.{Shelves, Stamped, Kept, kept_value, AreDistinct}
-use Rattle.laws_database.specs.Values.{Value, source, Item, text, result}
+use Rattle.session_texts.specs.pipsmake_rules.declared.kind.Kind.{Kind}
+use Rattle.session_texts.specs.pipsmake_rules.declared.kind.Kind.TheVariants as kind
+use Rattle.session_texts.specs.pipsmake_rules.declared.key.Key.{Key}
+use Rattle.session_texts.specs.pipsmake_meaning.Texts.{ModuleText, AreModules, text_of}
+use Rattle.session_texts.specs.pipsmake_meaning.Definitions.{definition}
+use Rattle.session_texts.specs.pipsmake_meaning.Session.{Makings, needs_in}
+use Rattle.session_texts.specs.pipsmake_meaning.MemoCells.{MemoCells, Stamped, Kept, kept_value, AreDistinct}
+use Rattle.session_texts.specs.pipsmake_meaning.Values.{Value, source, Item, text, result}
 
 -- a need, and its value where it has one
 pub record Needed : Type 0 where
@@ -34,7 +34,7 @@ abbrev pub needed : List ModuleText → Key → List Needed
 needed ts k = text_needed ts k.kind k.name ++ map (λ (n : Key). record { item = result n.kind; name = n.name; value = definition ts n.kind n.name }) (needs_in ts k)
 
 -- stamps are those of these values
-abbrev pub AreStamps : Shelves → List Stamped → List Needed → Type 0
+abbrev pub AreStamps : MemoCells → List Stamped → List Needed → Type 0
 AreStamps sh [] [] = Unit {0}
 AreStamps sh [] (n ∷ ns) = ⊥
 AreStamps sh (s ∷ ss) [] = ⊥
@@ -42,20 +42,20 @@ AreStamps sh (s ∷ ss) (n ∷ ns) =
     (s.item ≡ n.item) × (s.name ≡ n.name) × ((v : Value) × (n.value ≡ Some v) × (slice_get (sh s.item s.name).values s.stamp ≡ Some v)) × AreStamps sh ss ns
 
 -- a kept result is what it was for the texts at which it was made, and its stamps are those of its needs then
-pub record WasMade (sh : Shelves) (k : Key) (kept : Kept) (old : List ModuleText) : Type 0 where
+pub record WasMade (sh : MemoCells) (k : Key) (kept : Kept) (old : List ModuleText) : Type 0 where
   pub modules : AreModules old
   pub value : Value
   pub is : definition old k.kind k.name ≡ Some value
   pub at : slice_get (sh (result k.kind) k.name).values kept.stamp ≡ Some value
   pub needs : AreStamps sh kept.needs (needed old k)
 
-abbrev pub KeptStands : Shelves → Key → Option Kept → Option (List ModuleText) → Type 0
+abbrev pub KeptStands : MemoCells → Key → Option Kept → Option (List ModuleText) → Type 0
 KeptStands sh k None None = Unit {0}
 KeptStands sh k None (Some old) = ⊥
 KeptStands sh k (Some kept) None = ⊥
 KeptStands sh k (Some kept) (Some old) = WasMade sh k kept old
 
-pub record StandsFor (sh : Shelves) (ts : List ModuleText) (made : Makings) : Type 0 where
+pub record StandsFor (sh : MemoCells) (ts : List ModuleText) (made : Makings) : Type 0 where
   pub modules : AreModules ts
   pub texts : (x : List ℕ) → IfSome (text_of ts x) (λ t. kept_value (sh text x) ≡ Some (source t))
   pub distinct : (item : Item) (x : List ℕ) → AreDistinct (sh item x).values
@@ -72,23 +72,23 @@ abbrev pub needed_with : List ModuleText → Valuation → Key → List Needed
 needed_with ts d k = text_needed ts k.kind k.name ++ map (λ (n : Key). record { item = result n.kind; name = n.name; value = d n.kind n.name }) (needs_in ts k)
 
 -- a kept result has its value, and its stamps are those of the values of its needs
-pub record HasValue (sh : Shelves) (ts : List ModuleText) (d : Valuation) (k : Key) (kept : Kept) : Type 0 where
+pub record HasValue (sh : MemoCells) (ts : List ModuleText) (d : Valuation) (k : Key) (kept : Kept) : Type 0 where
   pub value : Value
   pub is : d k.kind k.name ≡ Some value
   pub at : slice_get (sh (result k.kind) k.name).values kept.stamp ≡ Some value
   pub needs : AreStamps sh kept.needs (needed_with ts d k)
 
 -- so has each; and the present texts are kept
-pub record KeepsValues (sh : Shelves) (ts : List ModuleText) (d : Valuation) : Type 0 where
+pub record KeepsValues (sh : MemoCells) (ts : List ModuleText) (d : Valuation) : Type 0 where
   pub modules : AreModules ts
   pub texts : (x : List ℕ) → IfSome (text_of ts x) (λ t. kept_value (sh text x) ≡ Some (source t))
   pub distinct : (item : Item) (x : List ℕ) → AreDistinct (sh item x).values
   pub kept : (kind : Kind) (x : List ℕ) → IfSome ((sh (result kind) x).kept) (λ kept. HasValue sh ts d (record { kind = kind; name = x }) kept)
 
 -- each kept result is what it is for these texts
-abbrev pub IsLoaded : Shelves → List ModuleText → Type 0
+abbrev pub IsLoaded : MemoCells → List ModuleText → Type 0
 IsLoaded sh ts = KeepsValues sh ts (definition ts)
 
 -- what is kept was made at these texts, and nothing else
-abbrev pub made_at : Shelves → List ModuleText → Makings
+abbrev pub made_at : MemoCells → List ModuleText → Makings
 made_at sh ts kind x = option_map (λ (kept : Kept). ts) ((sh (result kind) x).kept)

@@ -4,11 +4,13 @@
 mod result_determined;
 mod result_equations;
 mod result_needs;
+mod source_laws;
 mod text_laws;
 
 ghost use Rattle.laws_database.specs.Laws.{MakingIsDefined, MakingMayStop, ResultsHaveValues, RulesHaveValues, TextsAreShown, TextsMayChange, TextsMayGo, ResultsMayGo, ValuesMayBeSeen, ResultsMayBeKept, NothingStands, LoadedStands, NothingIsGiven, GivenMayBeKept, GivenMayBeSeen, GivenTextsMayStay};
-ghost use Rattle.laws_database.specs.Resting.{RestingStays, LinesMayChange};
+ghost use Rattle.laws_database.specs.Unverified.{RestingStays, LinesMayChange};
 
+use laws_programs::roundtrip_programs::{graphs_ignore_places, tables_ignore_places};
 pub use result_determined::{
     effects_are_determined, ins_are_determined, marks_are_determined, outs_are_determined,
     preconditions_are_determined, regions_are_determined, transformers_are_determined,
@@ -20,7 +22,7 @@ pub use result_needs::{
     callers_have_all_sites, effects_need_callees, ins_need_callees, regions_need_callees,
     transformers_need_callees,
 };
-use roundtrip_programs::{graphs_ignore_places, tables_ignore_places};
+pub use source_laws::{accepted_is_split, linked_alike, linked_is_accepted, texts_begin_at_lines};
 pub use text_laws::{
     names_show_the_text, pieces_are_the_program, texts_are_written_alike, texts_make_the_program,
 };

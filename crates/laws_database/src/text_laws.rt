@@ -1,12 +1,11 @@
 //! Laws of the written text of programs.
 ghost use Rattle.laws_database.specs.ProgramTextLaws.{TextsMakeTheProgram, TextsAreWrittenAlike, PiecesAreTheProgram, NamesShowTheText};
 
-use laws_pieces::{joined_make_the_program, pieces_are_modules};
-use laws_written::{
-    joined_are_written_alike, joined_have_the_same_trees, pieces_are_written_alike,
-    pieces_have_the_same_trees,
+use laws_programs::roundtrip_programs::{
+    graphs_ignore_places, joined_are_written_alike, joined_have_the_same_trees,
+    joined_make_the_program, pieces_are_modules, pieces_are_written_alike,
+    pieces_have_the_same_trees, tables_ignore_places,
 };
-use roundtrip_programs::{graphs_ignore_places, tables_ignore_places};
 
 /// Texts of modules that link make a program when they are joined.
 pub fn texts_make_the_program()

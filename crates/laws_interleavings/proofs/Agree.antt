@@ -1,7 +1,9 @@
 -- A plan with marked loops agrees with its plain run.
 use Rattle.std.proofs.Common.{ℕ, inl, inr, ⊎_elim, [], Bool, true, refl, true≢false}
 use Rattle.f77_ast.specs.Store.{Store}
+use Rattle.laws_interleavings.specs.Marks.{plain_run, parallel_run}
 use Rattle.laws_interleavings.specs.Sound.{Alike, known_end}
+use Rattle.laws_interleavings.proofs.Copies.{only_copies}
 use Rattle.laws_interleavings.specs.Laws.{MarkedRunsAgree, LongSchedulesEnd}
 use Rattle.laws_interleavings.proofs.Anyhow.{run_anyhow, readable}
 use Rattle.laws_interleavings.proofs.Enough.{run_same}
@@ -22,6 +24,7 @@ agree t s i strict conforms holds ls =
       outcome = e.outcome;
       printed = e.printed;
       readable = readable t s s ls i (known_end t all_known s i) e.store;
+      lost = only_copies (plain_run t s i) (parallel_run t s ls i) (known_end t all_known s i) e.store e.forgotten;
       input = e.input;
     }))
     inr
@@ -35,5 +38,6 @@ long_enough t s i strict conforms holds ls enough =
       outcome = e.outcome;
       printed = e.printed;
       readable = readable t s s ls i (known_end t all_known s i) e.store;
+      lost = only_copies (plain_run t s i) (parallel_run t s ls i) (known_end t all_known s i) e.store e.forgotten;
       input = e.input;
     }

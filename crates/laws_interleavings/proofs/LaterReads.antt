@@ -9,22 +9,13 @@ use Rattle.f77_ast.specs.Plans.{Flow, Normal, steps_of}
 use Rattle.f77_ast.specs.Programs.{Conforms}
 use Rattle.f77_meaning.specs.Accesses.{is_read_first}
 use Rattle.f77_meaning.specs.Processes.{Marked, number_in, shared, writes}
-use Rattle.laws_interleavings.specs.Iterations.{on_store, begun, does, whole_loop}
+use Rattle.laws_interleavings.specs.Iterations.{on_store, begun, whole_loop}
 use Rattle.laws_interleavings.specs.Sound.{grow, known_at, ReadsKnown, some_wrote}
 use Rattle.laws_interleavings.specs.Strict.{Strict}
 use Rattle.laws_interleavings.proofs.Loops.{rest_of_loop, iterations_left, iteration_normal, one_trace}
 use Rattle.laws_interleavings.proofs.OwnFirst.{fault_ends}
-
-pub or_false : (a b : Bool) → (a || b) ≡ false → (a ≡ false) × (b ≡ false)
-or_false true b e = absurd (true≢false e)
-or_false false b e = (refl, e)
-
-pub not_and : (a b : Bool) → a ≡ false → (not a && b) ≡ false → b ≡ false
-not_and true b e f = absurd (true≢false e)
-not_and false b e f = f
-
-pub eq_refl : (v : ℕ) → nat_eq v v ≡ true
-eq_refl v = grind (arith, nat_tests)
+use Rattle.fx_lists.proofs.Numbers.{eq_refl, swapped}
+use Rattle.fx_lists.proofs.Booleans.{not_and, or_neither as or_false}
 
 pub differ : (u v : ℕ) → (u ≡ v → ⊥) → nat_eq u v ≡ false
 differ u v h = go (nat_eq u v) refl
@@ -32,9 +23,6 @@ differ u v h = go (nat_eq u v) refl
     go : (b : Bool) → nat_eq u v ≡ b → b ≡ false
     go true e = absurd (h (grind (arith, nat_tests)))
     go false e = refl
-
-swapped : (u v : ℕ) → nat_eq u v ≡ false → nat_eq v u ≡ false
-swapped u v e = grind (arith, nat_tests)
 
 -- ---- reads are of units with values
 
@@ -111,32 +99,36 @@ module _ (m : Marked) (s : Store) (normal : (whole_loop m s).answer ≡ Gave Nor
   abbrev pub trace_from : ℕ → ℕ → List Event
   trace_from k i = (rest_of_loop m k (number_in m.first m.step i) (begun m s i)).trace
 
-  abbrev own_trace : ℕ → List Event
+  abbrev pub own_trace : ℕ → List Event
   own_trace i = (on_store (steps_of m.body) (begun m s i)).trace
 
-  abbrev next_number : ℕ → Content
+  abbrev pub next_number : ℕ → Content
   next_number i = content Int (number_in m.first m.step (suc i))
 
   pub trace_splits : (i k : ℕ) → i + suc k ≡ m.count → trace_from (suc k) i ≡ own_trace i ++ Wrote m.index (next_number i) ∷ trace_from k (suc i)
   trace_splits i k e = one_trace m k (number_in m.first m.step i) (begun m s i) (iterations_left m s normal i (suc k) e).0
 
-  pub record LoopReads (known : ℕ → Bool) (i : ℕ) (rest : List Event) : Type 0 where
-    pub reads : (j : ℕ) → i ≤ j → j < m.count → ReadsKnown (known_at (does m s) known j) (does m s j)
-    pub later : Kept m.private (known_at (does m s) known m.count) rest
+  -- what the iterations do to units that are not among these
+  abbrev pub outside : (ℕ → Bool) → ℕ → List Event
+  outside p j = shared p (own_trace j)
 
-  pub loop_reads : (known : ℕ → Bool) (rest : List Event) → Strict (steps_of m.body) → m.private m.index ≡ true → (k i : ℕ) → i + k ≡ m.count → Kept m.private (known_at (does m s) known i) (trace_from k i ++ rest) → LoopReads known i rest
-  loop_reads known rest st pu zero i e h =
+  pub record LoopReads (p known : ℕ → Bool) (i : ℕ) (rest : List Event) : Type 0 where
+    pub reads : (j : ℕ) → i ≤ j → j < m.count → ReadsKnown (known_at (outside p) known j) (outside p j)
+    pub later : Kept p (known_at (outside p) known m.count) rest
+
+  pub loop_reads : (p known : ℕ → Bool) (rest : List Event) → Strict (steps_of m.body) → p m.index ≡ true → (k i : ℕ) → i + k ≡ m.count → Kept p (known_at (outside p) known i) (trace_from k i ++ rest) → LoopReads p known i rest
+  loop_reads p known rest st pu zero i e h =
       let q : i ≡ m.count = omega (arith, e) in
-      record { reads = λ j l lt. absurd (omega (arith, l, lt, q)); later = subst (λ n. Kept m.private (known_at (does m s) known n) rest) q h }
-  loop_reads known rest st pu (suc k) i e h =
+      record { reads = λ j l lt. absurd (omega (arith, l, lt, q)); later = subst (λ n. Kept p (known_at (outside p) known n) rest) q h }
+  loop_reads p known rest st pu (suc k) i e h =
       let tail = Wrote m.index (next_number i) ∷ (trace_from k (suc i) ++ rest) in
       let same : trace_from (suc k) i ++ rest ≡ own_trace i ++ tail = ap (λ l. l ++ rest) (trace_splits i k e) ∙ append_assoc (own_trace i) _ rest in
       let fine = iteration_normal m s normal i (omega (arith, e)) in
       let d = defined (steps_of m.body) (begun m s i) st (subst Conforms (sym fine) tt) in
-      let q = reads_known m.private (own_trace i) tail (known_at (does m s) known i) d (λ x px kx. subst (λ l. is_read_first x l ≡ false) same (h x px kx)) in
-      let ih = loop_reads known rest st pu k (suc i) (omega (arith, e)) (λ x px kx. not_and (nat_eq m.index x) _ (differ m.index x (λ z. true≢false (sym pu ∙ ap m.private z ∙ px))) (q.1 x px kx)) in
+      let q = reads_known p (own_trace i) tail (known_at (outside p) known i) d (λ x px kx. subst (λ l. is_read_first x l ≡ false) same (h x px kx)) in
+      let ih = loop_reads p known rest st pu k (suc i) (omega (arith, e)) (λ x px kx. not_and (nat_eq m.index x) _ (differ m.index x (λ z. true≢false (sym pu ∙ ap p z ∙ px))) (q.1 x px kx)) in
       record {
-        reads = λ j l lt. ⊎_elim (λ z. subst (λ n. ReadsKnown (known_at (does m s) known n) (does m s n)) (sym z.1) q.0) (λ z. ih.reads j (omega (arith, l, z.1)) lt) (eqb_tells j i);
+        reads = λ j l lt. ⊎_elim (λ z. subst (λ n. ReadsKnown (known_at (outside p) known n) (outside p n)) (sym z.1) q.0) (λ z. ih.reads j (omega (arith, l, z.1)) lt) (eqb_tells j i);
         later = ih.later;
       }
 

@@ -13,10 +13,11 @@ use Rattle.f77_meaning.specs.Interleavings.{start, interleaved}
 use Rattle.f77_meaning.specs.Processes.{Marked, number_in, own_store, shared, process}
 use Rattle.laws_interleavings.specs.Alone.{after, DoesAlone, in_order}
 use Rattle.laws_interleavings.specs.Iterations.{on_store, OwnFirst, with_unit, without_unit, begun, does, whole_loop, MayInterleave, LoopInterleaves}
-use Rattle.laws_interleavings.proofs.Stores.{put_other, put_same, put_cong}
+use Rattle.laws_interleavings.proofs.Stores.{put_other, put_cong}
 use Rattle.laws_interleavings.proofs.Picks.{as_in_order}
-use Rattle.laws_interleavings.proofs.Runs.{steps_then, after_part, broken_part, trace_part}
+use Rattle.laws_interleavings.proofs.Runs.{after_part, broken_part, trace_part}
 use Rattle.laws_interleavings.proofs.Scripts.{iteration_alone, Agree}
+use Rattle.f77_ast.proofs.Shared.{put_same, steps_then}
 
 -- the shared events alone give each unit that is not private its contents
 pub shared_after : (p : ℕ → Bool) (t : Steps Flow) (known : ℕ → Bool) (s z : Store) → OwnFirst p t known s → ((x : ℕ) → p x ≡ false → s x ≡ z x) → (x : ℕ) → p x ≡ false → store_of (on_store t s).memory x ≡ after (shared p (on_store t s).trace) z x

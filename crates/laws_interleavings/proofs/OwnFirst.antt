@@ -11,7 +11,10 @@ use Rattle.laws_interleavings.specs.Iterations.{on_store, OwnFirst, with_unit, w
 use Rattle.laws_interleavings.specs.Faults.{StepsFault}
 use Rattle.laws_interleavings.specs.Strict.{Strict, Quiet}
 use Rattle.laws_interleavings.specs.Sound.{NoTake}
-use Rattle.laws_interleavings.proofs.Stores.{put_same, put_other}
+use Rattle.laws_interleavings.proofs.Stores.{put_other}
+use Rattle.fx_lists.proofs.Numbers.{eq_refl}
+use Rattle.fx_lists.proofs.Booleans.{not_and, or_neither as or_false}
+use Rattle.f77_ast.proofs.Shared.{put_same}
 
 pub fault_ends : (t : Steps Flow) (s : Store) → StepsFault t → Conforms (on_store t s).answer → ⊥
 fault_ends (Breaks (Faulty k)) s f n = n
@@ -25,17 +28,6 @@ fault_ends (Forget u t) s f n = f
 fault_ends (Show xs t) s f n = f
 fault_ends (Take k) s f n = f
 fault_ends (Arrive a t) s f n = f
-
-or_false : (a b : Bool) → (a || b) ≡ false → (a ≡ false) × (b ≡ false)
-or_false true b e = absurd (true≢false e)
-or_false false b e = (refl, e)
-
-not_and : (a b : Bool) → a ≡ false → (not a && b) ≡ false → b ≡ false
-not_and true b e f = absurd (true≢false e)
-not_and false b e f = f
-
-eq_refl : (v : ℕ) → nat_eq v v ≡ true
-eq_refl v = grind (arith, nat_tests)
 
 eq_swap : (u v : ℕ) → nat_eq v u ≡ false → nat_eq u v ≡ false
 eq_swap u v e = grind (arith, nat_tests)

@@ -1,12 +1,14 @@
 -- The invariant of interleaved processes.
-use Rattle.std.proofs.Common.{◌≡◌, ◌≢◌, ℕ, zero, suc, ◌-◌, ◌%◌, ◌<◌, ◌≤◌, ◌⊎◌, inl, inr, ⊎_elim, List, [], ◌∷◌, ◌++◌, length, Some, Bool, true, false, refl, sym, ap, ◌∙◌, subst, arith, append_assoc, append-nil, mod-lt, true≢false}
+use Rattle.std.proofs.Common.{◌≡◌, ◌≢◌, ℕ, zero, suc, ◌+◌, ◌-◌, ◌%◌, ◌<◌, ◌≤◌, ◌⊎◌, inl, inr, ⊎_elim, List, [], ◌∷◌, ◌++◌, length, Some, Bool, true, false, refl, sym, ap, ◌∙◌, subst, arith, append_assoc, append-nil, mod-lt, true≢false}
 use Rattle.std.specs.Prelude.{slice_get, if◌then◌else◌}
 use Rattle.std.proofs.lemmas.Bool.Decides.{eqb_tells}
 use Rattle.f77_ast.specs.Store.{Content, Store, put}
 use Rattle.f77_ast.specs.Runs.{Event, Arrived, Read, Wrote, Printed, Took}
 use Rattle.f77_meaning.specs.Interleavings.{Action, ReadNext, WriteNext, Finished, Faults, Process, World, act, act_by, is_finished, unfinished, picked, interleaved, start}
 use Rattle.laws_interleavings.specs.Alone.{after, AsInOrder, DoesAlone, in_order, Reads, Writes, NoneMeet, actions}
-use Rattle.laws_interleavings.proofs.Stores.{put_same, put_other, put_cong, after_snoc, alone_at, in_order_untouched, in_order_writer, writer, alone}
+use Rattle.laws_interleavings.specs.Reductions.{picks_if, picks_left}
+use Rattle.laws_interleavings.proofs.Stores.{put_other, put_cong, after_snoc, alone_at, in_order_untouched, in_order_writer, writer, alone}
+use Rattle.f77_ast.proofs.Shared.{put_same}
 
 -- what holds of the new value and of the others holds of each
 put_each : {A B : Type 0} (P : ℕ → A → B → Type 0) (f : ℕ → A) (g : ℕ → B) (i : ℕ) (a : A) (b : B) → P i a b → ((j : ℕ) → j ≢ i → P j (f j) (g j)) → (j : ℕ) → P j (put f i a j) (put g i b j)
@@ -220,6 +222,25 @@ module _ (p : ℕ → Process) (n : ℕ) (s : Store) (t : ℕ → List Event) wh
   no_fault h z i [] f e = let a : Finished ≡ Faults = sym f ∙ e in grind arith
   no_fault h z i (Read u c ∷ r) f e = let a : ReadNext u ≡ Faults = sym f.0 ∙ e in grind arith
   no_fault h z i (Wrote u c ∷ r) f e = let a : WriteNext u c ≡ Faults = sym f.0 ∙ e in grind arith
+
+  more_left : (k : ℕ) (ks js r : List ℕ) (x y : ℕ) → x ≡ suc y → length ks ≤ y + length r → length (k ∷ ks) ≤ x + length (picks_if js (k ∷ ks) r)
+  more_left k ks [] r x y e h = omega arith
+  more_left k ks (j ∷ js) r x y e h = omega arith
+
+  used : NoneMeet n t → (ks : List ℕ) (w : World) (rest : ℕ → List Event) → Inv p n s t w rest → length ks ≤ actions rest n + length (picks_left p n ks w)
+  used apart [] w rest v = omega arith
+  used apart (k ∷ ks) w rest v =
+      ⊎_elim
+      (λ c.
+      let a = step p n s t apart w rest v c.0 c.2.0 c.2.1 in
+      let after = act_by p w (picked (unfinished p w n) k) in
+      more_left k ks (unfinished p w n) (picks_left p n ks after) (actions rest n) (actions a.0 n) a.2 (used apart ks after a.0 (subst (λ o. Inv p n s t (act_by p w o) a.0) (sym c.1) a.1)))
+      (λ e. subst (λ js. length (k ∷ ks) ≤ actions rest n + length (picks_if js (k ∷ ks) (picks_left p n ks (act_by p w (picked (unfinished p w n) k))))) (sym e) (omega arith))
+      (each_picked (Busy p w n) (unfinished p w n) k (busy p w n))
+
+  -- a pick is used up by an action alone
+  pub picks_used : ((i : ℕ) → i < n → DoesAlone (p i) [] (in_order t s i) (t i)) → NoneMeet n t → (ks : List ℕ) → length ks ≤ actions t n + length (picks_left p n ks (start s))
+  picks_used runs apart ks = used apart ks (start s) t (begin runs apart)
 
   pub as_in_order : ((i : ℕ) → i < n → DoesAlone (p i) [] (in_order t s i) (t i)) → NoneMeet n t → (ks : List ℕ) → AsInOrder p n s t ks (interleaved p n ks (start s))
   as_in_order runs apart ks = finish (picks apart ks (start s) t (begin runs apart))

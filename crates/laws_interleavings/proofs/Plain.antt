@@ -21,8 +21,10 @@ use Rattle.f77_ast.specs.Statements.{spot, label_of, statement_plan, execution, 
 use Rattle.f77_ast.specs.Programs.{Routine, Program, body_of, called, meanings, program_plan}
 use Rattle.f77_meaning.specs.Processes.{Marked}
 use Rattle.laws_interleavings.specs.Iterations.{loop_plan as loop_of}
-use Rattle.laws_interleavings.specs.Marks.{MarkedPlan, Ends, Breaks, Look, Set, Hold, Forget, Show, Take, Within, Loop, plain}
-use Rattle.laws_interleavings.specs.MarkedStatements.{unmarked, ◌▹▹◌, steps_first, when_normal, MarkedPart, stands, parts_from, go_on, one_by_one, with_jumps, marked_list, marked_iterations, written_first, MarkedScope, marked_loop, begun_if, marked_statement, marked_execution, marked_arms, marked_arm, marked_else, loop_with, marked_parts}
+use Rattle.laws_interleavings.specs.Reductions.{Reduced}
+use Rattle.laws_interleavings.specs.Accumulating.{Reduction, Directive}
+use Rattle.laws_interleavings.specs.Marks.{MarkedPlan, Ends, Breaks, Look, Set, Hold, Forget, Show, Take, Within, Loop, Reduce, plain}
+use Rattle.laws_interleavings.specs.MarkedStatements.{unmarked, ◌▹▹◌, steps_first, when_normal, MarkedPart, stands, parts_from, go_on, one_by_one, with_jumps, marked_list, marked_iterations, written_first, MarkedScope, reduced_loop, begun_if, begun_by, marked_statement, marked_execution, marked_arms, marked_arm, marked_else, loop_with, marked_parts}
 use Rattle.laws_interleavings.specs.MarkedPrograms.{Directives, forget_units, marked_scope, marked_body, marked_called, marked_meanings, marked_program}
 
 pub plain_unmarked : (t : Plan) → plain (unmarked t) ≡ t
@@ -69,6 +71,10 @@ plain_then (Show xs t) f = ap (plan.Show xs) (plain_then t f)
 plain_then (Take k) f = λ i. plan.Take (λ o. plain_then (k o) f i)
 plain_then (Within p at t k) f = λ i. plan.Within p at (plain t) (λ g. plain_then (k g) f i)
 plain_then (Loop m k) f =
+    let inner : (loop_of m ▹ λ g. plain (k g ▹▹ f)) ≡ (loop_of m ▹ λ g. (plain (k g) ▹ λ h. plain (f h))) = λ i. loop_of m ▹ λ g. plain_then (k g) f i in
+    ap (plan.Set m.index (content Int m.first)) (inner ∙ sym (then_then (loop_of m) (λ g. plain (k g)) (λ h. plain (f h))))
+plain_then (Reduce d k) f =
+    let m = d.loop in
     let inner : (loop_of m ▹ λ g. plain (k g ▹▹ f)) ≡ (loop_of m ▹ λ g. (plain (k g) ▹ λ h. plain (f h))) = λ i. loop_of m ▹ λ g. plain_then (k g) f i in
     ap (plan.Set m.index (content Int m.first)) (inner ∙ sym (then_then (loop_of m) (λ g. plain (k g)) (λ h. plain (f h))))
 
@@ -156,6 +162,11 @@ pub begins_marked : (o : Option Fault) (m : Marked) → plain (begun_if o m) ≡
 begins_marked None m = ap (plan.Set m.index (content Int m.first)) (ends_again (loop_of m))
 begins_marked (Some f) m = refl
 
+pub begins_by : (rs : List Reduction) (o : Option Fault) (d : Reduced) → plain (begun_by rs o d) ≡ first (written o d.loop.index (content Int d.loop.first)) (λ x. loop_of d.loop)
+begins_by [] o d = begins_marked o d.loop
+begins_by (r ∷ rs) None d = ap (plan.Set d.loop.index (content Int d.loop.first)) (ends_again (loop_of d.loop))
+begins_by (r ∷ rs) (Some f) d = refl
+
 -- ---- statements
 
 -- what is called does the same without marks
@@ -197,7 +208,7 @@ module _ (sc : MarkedScope) (fit : Fits sc) where
     else_same tree.no_else at locked = refl
     else_same (tree.otherwise body) at locked = list_same sc.plain.turns (marked_parts body sc at locked) (parts body sc.plain at locked) (parts_same body at locked)
 
-    loop_same : (o : Option (List (List ℕ))) (l : LoopTree) (at : Places) (locked : Locks) → plain (loop_with o l sc at locked) ≡ do_plan l sc.plain at locked
+    loop_same : (o : Option Directive) (l : LoopTree) (at : Places) (locked : Locks) → plain (loop_with o l sc at locked) ≡ do_plan l sc.plain at locked
     loop_same None (tree.loop index e1 e2 e3 body) at locked =
         first_same (range_of e1 e2 e3 sc.plain.names at) _ _
         (λ r. first_same (name_target (sc.plain.names index) at) _ _
@@ -205,10 +216,10 @@ module _ (sc : MarkedScope) (fit : Fits sc) where
         (iterations_from (iteration_count r.from r.last r.step) r.from r.step t.unit (list_plan sc.plain.turns (parts body sc.plain at (lock locked t.unit Locked))))
         (iterations_same (iteration_count r.from r.last r.step) r.from r.step t.unit (marked_list sc.plain.turns (marked_parts body sc at (lock locked t.unit Locked))) (list_plan sc.plain.turns (parts body sc.plain at (lock locked t.unit Locked)))
         (list_same sc.plain.turns (marked_parts body sc at (lock locked t.unit Locked)) (parts body sc.plain at (lock locked t.unit Locked)) (parts_same body at (lock locked t.unit Locked))))))
-    loop_same (Some xs) (tree.loop index e1 e2 e3 body) at locked =
+    loop_same (Some d) (tree.loop index e1 e2 e3 body) at locked =
         first_same (range_of e1 e2 e3 sc.plain.names at) _ _
         (λ r. first_same (name_target (sc.plain.names index) at) _ _
-        (λ t. begins_marked (locked t.unit) (marked_loop xs sc body at r t.unit (lock locked t.unit Locked))))
+        (λ t. begins_by d.reductions (locked t.unit) (reduced_loop d sc body at r t.unit (lock locked t.unit Locked))))
 
     parts_same : (ss : StmtTrees) (at : Places) (locked : Locks) → map bare (marked_parts ss sc at locked) ≡ parts ss sc.plain at locked
     parts_same tree.no_stmts at locked = refl

@@ -5,31 +5,7 @@ use Rattle.f77_ast.specs.Steps.{Break, Steps, Done, Breaks, Look, Set, Hold, For
 use Rattle.f77_ast.specs.Runs.{Memory, Whole, Event, Arrived, Read, Wrote, Printed, Took, Answer, Gave, Broke, Ran, run, after_event, look_in, on_look, set_in, forget_in, first_of, rest_of, store_of}
 use Rattle.f77_ast.specs.Plans.{Flow, Plan, steps_of, ◌▹◌}
 use Rattle.f77_ast.specs.Plans as plan
-
-pub bind_assoc : {A B C : Type 0} (t : Steps A) (f : A → Steps B) (g : B → Steps C) → ((t >>= f) >>= g) ≡ (t >>= λ a. f a >>= g)
-bind_assoc (Done a) f g = refl
-bind_assoc (Breaks b) f g = refl
-bind_assoc (Look u k) f g = λ i. Look u (λ c. bind_assoc (k c) f g i)
-bind_assoc (Set u c t) f g = ap (Set u c) (bind_assoc t f g)
-bind_assoc (Hold u c t) f g = ap (Hold u c) (bind_assoc t f g)
-bind_assoc (Forget u t) f g = ap (Forget u) (bind_assoc t f g)
-bind_assoc (Show xs t) f g = ap (Show xs) (bind_assoc t f g)
-bind_assoc (Take k) f g = λ i. Take (λ o. bind_assoc (k o) f g i)
-bind_assoc (Arrive p t) f g = ap (Arrive p) (bind_assoc t f g)
-
--- the steps of plans one after the other
-pub steps_then : (t : Plan) (f : Flow → Plan) → steps_of (t ▹ f) ≡ (steps_of t >>= λ g. steps_of (f g))
-steps_then (plan.Ends g) f = refl
-steps_then (plan.Breaks b) f = refl
-steps_then (plan.Look u k) f = λ i. Look u (λ c. steps_then (k c) f i)
-steps_then (plan.Set u c t) f = ap (Set u c) (steps_then t f)
-steps_then (plan.Hold u c t) f = ap (Hold u c) (steps_then t f)
-steps_then (plan.Forget u t) f = ap (Forget u) (steps_then t f)
-steps_then (plan.Show xs t) f = ap (Show xs) (steps_then t f)
-steps_then (plan.Take k) f = λ i. Take (λ o. steps_then (k o) f i)
-steps_then (plan.Within p at t k) f =
-    let inner : (steps_of t >>= λ g. steps_of (k g ▹ f)) ≡ (steps_of t >>= λ g. (steps_of (k g) >>= λ h. steps_of (f h))) = λ i. steps_of t >>= λ g. steps_then (k g) f i in
-    ap (Arrive p) (inner ∙ sym (bind_assoc (steps_of t) (λ g. steps_of (k g)) (λ h. steps_of (f h))))
+use Rattle.f77_ast.proofs.Shared.{bind_assoc, steps_then}
 
 -- goes on from the end of a run
 abbrev pub on_from : {A B : Type 0} → Answer A → Memory → List Content → List Event → (A → Steps B) → Ran B

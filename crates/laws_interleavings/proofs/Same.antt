@@ -1,11 +1,11 @@
 -- A loop whose iterations are interleaved from a store that is alike.
-use Rattle.std.proofs.Common.{⊎_elim, inl, inr, ◌≡◌, ℕ, zero, suc, ◌<◌, List, [], ◌∷◌, ◌++◌, not, ◌&&◌, ◌||◌, Bool, true, false, refl, sym, ap, ap₂, ◌∙◌, subst, arith, nat_eq, true≢false}
+use Rattle.std.proofs.Common.{⊎_elim, inl, inr, ◌≡◌, ◌≢◌, ℕ, zero, suc, ◌<◌, List, [], ◌∷◌, ◌++◌, not, ◌&&◌, ◌||◌, Bool, true, false, refl, sym, ap, ap₂, ◌∙◌, subst, arith, nat_eq, true≢false}
 use Rattle.std.specs.Prelude.{if◌then◌else◌}
 use Rattle.f77_ast.specs.Store.{Undefined, Content, Store, put, undefined}
 use Rattle.f77_ast.specs.Steps.{Steps, Done, Breaks, Look, Set, Hold, Forget, Show, Take, Arrive, ◌>>=◌}
 use Rattle.f77_ast.specs.Runs.{Event, Arrived, Read, Wrote, Printed, Took, Gave, Ran, Whole, Script, run, after_event, store_of}
 use Rattle.f77_ast.specs.Plans.{Flow, steps_of}
-use Rattle.f77_meaning.specs.Interleavings.{Process, World, start, interleaved, unfinished, is_finished, Finished}
+use Rattle.f77_meaning.specs.Interleavings.{Action, ReadNext, WriteNext, Finished, Faults, Process, World, start, interleaved, unfinished, is_finished, is_fault, any_fault, when_left, outcome, AllFinished}
 use Rattle.f77_meaning.specs.Processes.{Marked, answers, writes, own_store, process, store_after}
 use Rattle.laws_interleavings.specs.Alone.{after, in_order, DoesAlone, AsInOrder}
 use Rattle.laws_interleavings.specs.Iterations.{on_store, begun, does}
@@ -37,7 +37,7 @@ alike_after (Wrote u c ∷ es) known s z h = alike_after es _ (put s u c) (put z
 alike_after (Printed xs ∷ es) known s z h = alike_after es known s z h
 alike_after (Took o ∷ es) known s z h = alike_after es known s z h
 
-alike_in_order : (es : ℕ → List Event) (known : ℕ → Bool) (s z : Store) → Alike known s z → (n : ℕ) → Alike (known_at es known n) (in_order es s n) (in_order es z n)
+pub alike_in_order : (es : ℕ → List Event) (known : ℕ → Bool) (s z : Store) → Alike known s z → (n : ℕ) → Alike (known_at es known n) (in_order es s n) (in_order es z n)
 alike_in_order es known s z h zero = h
 alike_in_order es known s z h (suc n) = alike_after (es n) (known_at es known n) (in_order es s n) (in_order es z n) (alike_in_order es known s z h n)
 
@@ -46,7 +46,7 @@ pub equal_at : (c d : Content) → Same c d → (c.tag ≡ Undefined → ⊥) �
 equal_at c d same defined = ⊎_elim (λ e. e) (λ e. absurd (defined e.0)) same
 
 -- what reads only units that are known and have values is the same on a store that is alike
-alone_known : (f : Process) (es did : List Event) (known : ℕ → Bool) (s z : Store) → Alike known s z → ReadsKnown known es → DoesAlone f did s es → DoesAlone f did z es
+pub alone_known : (f : Process) (es did : List Event) (known : ℕ → Bool) (s z : Store) → Alike known s z → ReadsKnown known es → DoesAlone f did s es → DoesAlone f did z es
 alone_known f [] did known s z alike reads e = e
 alone_known f (Arrived p ∷ es) did known s z alike reads e = absurd e
 alone_known f (Read u c ∷ es) did known s z alike reads e =
@@ -57,10 +57,20 @@ alone_known f (Wrote u c ∷ es) did known s z alike reads e =
 alone_known f (Printed xs ∷ es) did known s z alike reads e = absurd e
 alone_known f (Took o ∷ es) did known s z alike reads e = absurd e
 
-none_unfinished : (p : ℕ → Process) (w : World) (n : ℕ) → ((i : ℕ) → i < n → p i (w.did i) ≡ Finished) → unfinished p w n ≡ []
+pub none_unfinished : (p : ℕ → Process) (w : World) (n : ℕ) → ((i : ℕ) → i < n → p i (w.did i) ≡ Finished) → unfinished p w n ≡ []
 none_unfinished p w zero h = refl
 none_unfinished p w (suc n) h =
     ap₂ (λ l a. l ++ (if is_finished a then [] else n ∷ [])) (none_unfinished p w n (λ i lt. h i (omega arith))) (h n (omega arith))
+
+no_fault_next : (a : Action) → a ≢ Faults → is_fault a ≡ false
+no_fault_next (ReadNext u) h = refl
+no_fault_next (WriteNext u c) h = refl
+no_fault_next Finished h = refl
+no_fault_next Faults h = absurd (h refl)
+
+pub none_faults : (p : ℕ → Process) (w : World) (n : ℕ) → ((i : ℕ) → i < n → p i (w.did i) ≢ Faults) → any_fault p w n ≡ false
+none_faults p w zero h = refl
+none_faults p w (suc n) h = ap₂ (λ a b. a || b) (none_faults p w n (λ i lt. h i (omega arith))) (no_fault_next (p n (w.did n)) (h n (omega arith)))
 
 pub printed_append : (a b : List Event) → printed_by (a ++ b) ≡ printed_by a ++ printed_by b
 printed_append [] b = refl
@@ -140,5 +150,9 @@ module _ (m : Marked) (known : ℕ → Bool) (s z : Store) where
       (λ px. as_ordered.end fin x)
       (nat_eq x m.index) (m.named x) (m.private x) (some_wrote m s m.count x) refl refl refl refl)
 
-  pub none_left : (picks : List ℕ) → ((i : ℕ) → i < m.count → process m i ((interleaved (process m) m.count picks (start z)).did i) ≡ Finished) → unfinished (process m) (interleaved (process m) m.count picks (start z)) m.count ≡ []
-  none_left picks fin = none_unfinished (process m) (interleaved (process m) m.count picks (start z)) m.count fin
+  -- no iteration faults, so how they came out is told by those that have not finished
+  pub none_faulted : (picks : List ℕ) → Alike known s z → LoopSound m known s → any_fault (process m) (interleaved (process m) m.count picks (start z)) m.count ≡ false
+  none_faulted picks alike sound = none_faults (process m) (interleaved (process m) m.count picks (start z)) m.count (loop_in_order picks alike sound).no_fault
+
+  pub all_done : (picks : List ℕ) → Alike known s z → LoopSound m known s → ((i : ℕ) → i < m.count → process m i ((interleaved (process m) m.count picks (start z)).did i) ≡ Finished) → outcome (process m) (interleaved (process m) m.count picks (start z)) m.count ≡ AllFinished
+  all_done picks alike sound fin = let w = interleaved (process m) m.count picks (start z) in ap₂ when_left (none_faulted picks alike sound) (none_unfinished (process m) w m.count fin)

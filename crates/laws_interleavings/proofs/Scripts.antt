@@ -11,6 +11,7 @@ use Rattle.f77_meaning.specs.Processes.{shared, answers, action_of, action_at_en
 use Rattle.laws_interleavings.specs.Alone.{DoesAlone}
 use Rattle.laws_interleavings.specs.Iterations.{on_store, scripted, OwnFirst, with_unit, without_unit}
 use Rattle.laws_interleavings.proofs.Stores.{put_other, put_cong}
+use Rattle.laws_interleavings.proofs.Riding.{IsGave}
 
 -- what comes at the head of these events, or the end
 abbrev head_action : List Event → Action
@@ -73,11 +74,6 @@ IsWriteHead (Read u c ∷ t) = ⊥
 IsWriteHead (Wrote u c ∷ t) = Unit {0}
 IsWriteHead (Printed xs ∷ t) = ⊥
 IsWriteHead (Took o ∷ t) = ⊥
-
--- a break is no normal end
-abbrev IsGave : Answer Flow → Type 0
-IsGave (Gave f) = Unit {0}
-IsGave (Broke b) = ⊥
 
 module _ (p : ℕ → Bool) where
   -- the next action of a run on the script of h

@@ -10,13 +10,20 @@ use Rattle.f77_ast.specs.Programs.{Conforms}
 use Rattle.f77_meaning.specs.Accesses.{is_read_first}
 use Rattle.f77_meaning.specs.Processes.{Marked}
 use Rattle.laws_interleavings.specs.Iterations.{begun, does, loop_plan, whole_loop}
-use Rattle.laws_interleavings.specs.Marks.{MarkedPlan, Ends, Breaks, Look, Set, Hold, Forget, Show, Take, Within, Loop, plain, plain_run}
+use Rattle.laws_interleavings.specs.Marks.{MarkedPlan, Ends, Breaks, Look, Set, Hold, Forget, Show, Take, Within, Loop, Reduce, plain, plain_run}
 use Rattle.laws_interleavings.specs.Sound.{some_wrote, known_at, known_after, store_left, OnGave, on_gave, Sound, known_end}
 use Rattle.laws_interleavings.specs.Strict.{IsFaultPlan, StrictPlan}
 use Rattle.laws_interleavings.specs.Holds.{later_events, LoopHolds, MarksHold}
-use Rattle.laws_interleavings.proofs.Runs.{steps_then, run_bind, on_from, stays_whole}
+use Rattle.laws_interleavings.specs.Reductions.{is_accumulator}
+use Rattle.laws_interleavings.specs.ReducedLoops.{known_reduced}
+use Rattle.laws_interleavings.proofs.ReducedReads.{reads, before, unread_after}
+use Rattle.laws_interleavings.proofs.Runs.{run_bind, on_from, stays_whole}
 use Rattle.laws_interleavings.proofs.Same.{free_part}
-use Rattle.laws_interleavings.proofs.LaterReads.{or_false, not_and, eq_refl, differ, Kept, first_after, loop_reads, loop_unwritten}
+use Rattle.laws_interleavings.proofs.LaterReads.{differ, Kept, first_after, loop_reads, loop_unwritten}
+use Rattle.laws_interleavings.proofs.Anyhow.{onward}
+use Rattle.fx_lists.proofs.Booleans.{or_neither as or_false, not_and}
+use Rattle.fx_lists.proofs.Numbers.{eq_refl}
+use Rattle.f77_ast.proofs.Shared.{steps_then}
 
 -- what is not known is not read first
 abbrev pub Unread : (ℕ → Bool) → List Event → Type 0
@@ -25,9 +32,6 @@ Unread known es = (x : ℕ) → known x ≡ false → is_read_first x es ≡ fal
 abbrev pub Left : Answer Flow → (ℕ → Bool) → List Event → Type 0
 Left (Gave f) known rest = Unread known rest
 Left (Broke b) known rest = Unit {0}
-
-abbrev onward : (Flow → MarkedPlan) → Flow → Steps Flow
-onward k f = steps_of (plain (k f))
 
 fault_in : (t : MarkedPlan) (s : Store) (i : List Content) → IsFaultPlan t → Conforms (plain_run t s i).answer → ⊥
 fault_in (Breaks (Faulty f)) s i h n = n
@@ -42,6 +46,7 @@ fault_in (Show xs t) s i h n = h
 fault_in (Take k) s i h n = h
 fault_in (Within p at t k) s i h n = h
 fault_in (Loop m k) s i h n = h
+fault_in (Reduce d k) s i h n = h
 
 first_part : (x : ℕ) (es rest : List Event) → is_read_first x (es ++ rest) ≡ false → is_read_first x (es ++ []) ≡ false
 first_part x [] rest h = refl
@@ -125,7 +130,7 @@ sound_from (Loop m k) known s i rest st nf mh h =
     let h' = subst (λ (r : Ran Flow). Unread known (r.trace ++ rest)) part h in
     let all : (x : ℕ) → known x ≡ false → nat_eq m.index x ≡ false → is_read_first x (W ++ rest') ≡ false = λ x kx ne.
     subst (λ z. is_read_first x z ≡ false) (append_assoc W (plain_run (k Normal) y i).trace rest) (not_and (nat_eq m.index x) _ ne (h' x kx)) in
-    let lr = loop_reads m s l.may.normal known rest' st.0 l.may.index_private m.count 0 (omega arith)
+    let lr = loop_reads m s l.may.normal m.private known rest' st.0 l.may.index_private m.count 0 (omega arith)
     (λ x px kx. all x kx (differ m.index x (λ z. true≢false (sym l.may.index_private ∙ ap m.private z ∙ px)))) in
     let known' = known_after m known s in
     let all' : Unread known' rest' = λ x kx. after_loop m known s rest' l all lr.later x (nat_eq x m.index) (m.named x) (m.private x) (some_wrote m s m.count x) refl refl refl refl kx in
@@ -144,4 +149,37 @@ sound_from (Loop m k) known s i rest st nf mh h =
         e.0,
       ),
       subst (λ (r : Ran Flow). Left r.answer (known_end (Loop m k) known s i) rest) (sym part) e.1,
+    )
+sound_from (Reduce d k) known s i rest st nf mh h =
+    let l = mh.0 in
+    let m = d.loop in
+    let y = store_left m s in
+    let part : plain_run (Reduce d k) s i ≡ after_event (Wrote m.index (content Int m.first)) (on_from (Gave Normal) (Whole y) i (whole_loop m s).trace (onward k)) =
+    ap (λ t. after_event (Wrote m.index (content Int m.first)) (run t (Whole (begun m s 0)) i)) (steps_then (loop_plan m) (λ f. plain (k f)))
+    ∙ ap (after_event (Wrote m.index (content Int m.first))) (free_part (steps_of (loop_plan m)) (onward k) (begun m s 0) i Normal l.takes_nothing l.may.normal) in
+    let rest' = (plain_run (k Normal) y i).trace ++ rest in
+    let W = (whole_loop m s).trace in
+    let h' = subst (λ (r : Ran Flow). Unread known (r.trace ++ rest)) part h in
+    let all : (x : ℕ) → known x ≡ false → nat_eq m.index x ≡ false → is_read_first x (W ++ rest') ≡ false = λ x kx ne.
+    subst (λ z. is_read_first x z ≡ false) (append_assoc W (plain_run (k Normal) y i).trace rest) (not_and (nat_eq m.index x) _ ne (h' x kx)) in
+    let lr = reads d s l.may known rest' all st.0 in
+    let known' = known_reduced d known s in
+    let all' : Unread known' rest' = λ x kx. unread_after d s l.may known rest' all l lr.later x (nat_eq x m.index) (m.named x) (m.private x) (some_wrote m s m.count x) (is_accumulator d.accumulators x) refl refl refl refl refl kx in
+    let e = sound_from (k Normal) known' y i rest (st.1 Normal) (subst (λ (r : Ran Flow). Conforms r.answer) part nf) mh.1 all' in (
+      (
+        record {
+          may = l.may;
+          names_private = l.names_private;
+          reads = λ j lt. lr.reads j (omega arith) lt;
+          silent = l.silent;
+          takes_nothing = l.takes_nothing;
+          own_before = l.own_before;
+          own_after = l.own_after;
+          unwritten = l.unwritten;
+          have_range = l.have_range;
+          before = before d s l.may known rest' all;
+        },
+        e.0,
+      ),
+      subst (λ (r : Ran Flow). Left r.answer (known_end (Reduce d k) known s i) rest) (sym part) e.1,
     )

@@ -6,9 +6,7 @@ use Rattle.f77_ast.specs.Store.{Store, put}
 use Rattle.f77_ast.specs.Runs.{Event, Arrived, Read, Wrote, Printed, Took}
 use Rattle.f77_meaning.specs.Interleavings.{Process}
 use Rattle.laws_interleavings.specs.Alone.{after, DoesAlone, in_order, Reads, Writes, NoneMeet}
-
-pub put_same : {A : Type 0} (f : ℕ → A) (k : ℕ) (a : A) → put f k a k ≡ a
-put_same f k a = grind (arith, nat_tests)
+use Rattle.f77_ast.proofs.Shared.{put_same}
 
 pub put_other : {A : Type 0} (f : ℕ → A) (k : ℕ) (a : A) (x : ℕ) → x ≢ k → put f k a x ≡ f x
 put_other f k a x h = grind (arith, nat_tests)

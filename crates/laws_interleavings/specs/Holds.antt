@@ -6,7 +6,8 @@ use Rattle.f77_ast.specs.Runs.{Event, Answer, Gave, Broke, first_of, rest_of, st
 use Rattle.f77_meaning.specs.Accesses.{is_read_first}
 use Rattle.f77_meaning.specs.Processes.{Marked}
 use Rattle.laws_interleavings.specs.Iterations.{whole_loop, MayInterleave}
-use Rattle.laws_interleavings.specs.Marks.{MarkedPlan, Ends, Breaks, Look, Set, Hold, Forget, Show, Take, Within, Loop, plain_run}
+use Rattle.laws_interleavings.specs.Marks.{MarkedPlan, Ends, Breaks, Look, Set, Hold, Forget, Show, Take, Within, Loop, Reduce, plain_run}
+use Rattle.laws_interleavings.specs.ReducedLoops.{ReducedHolds}
 use Rattle.laws_interleavings.specs.Sound.{some_wrote, store_left, NoTake, printed_by, is_own, OnGave}
 
 -- what the run does after a part of it
@@ -42,3 +43,4 @@ MarksHold (Within p at t k) s i rest =
     let q = plain_run t s i in
     MarksHold t s i (later_events q.answer (store_of q.memory) q.input k rest) × OnGave q.answer (store_of q.memory) (λ f y. MarksHold (k f) y q.input rest)
 MarksHold (Loop m k) s i rest = LoopHolds m s ((plain_run (k Normal) (store_left m s) i).trace ++ rest) × MarksHold (k Normal) (store_left m s) i rest
+MarksHold (Reduce d k) s i rest = ReducedHolds d s ((plain_run (k Normal) (store_left d.loop s) i).trace ++ rest) × MarksHold (k Normal) (store_left d.loop s) i rest

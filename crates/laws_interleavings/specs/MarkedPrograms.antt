@@ -1,5 +1,5 @@
 -- Programs with marked loops.
-use Rattle.std.specs.Prelude.{ℕ, List, [], ◌∷◌, Option, false, ◌||◌, nat_eq, if◌then◌else◌, bytes_eq}
+use Rattle.std.specs.Prelude.{ℕ, List, [], ◌∷◌, Option, Some, None, false, ◌||◌, nat_eq, if◌then◌else◌, bytes_eq}
 use Rattle.std.specs.List.{list_any}
 use Rattle.f77_ast.specs.Faults.{Unset}
 use Rattle.f77_ast.specs.Steps.{Faulty}
@@ -10,11 +10,20 @@ use Rattle.f77_ast.specs.Calls.{Meaning, scalars_bound, arrays_bound, lock_doubl
 use Rattle.f77_ast.specs.Statements.{spot}
 use Rattle.f77_ast.specs.Programs.{Routine, Program, scope, meanings}
 use Rattle.laws_interleavings.specs.Marks.{MarkedPlan, Ends, Breaks, Forget, Within, Parallel, parallel_run}
+use Rattle.laws_interleavings.specs.Accumulating.{Directive, private_alone}
 use Rattle.laws_interleavings.specs.MarkedStatements.{unmarked, steps_first, MarkedMeaning, MarkedScope, own_in, marked_parts, marked_list}
 
--- by the name of a module and the number of a DO, the names of its directive
+-- by the name of a module and the number of a DO, its directive
 abbrev pub Directives : Type 0
-Directives = List ℕ → ℕ → Option (List (List ℕ))
+Directives = List ℕ → ℕ → Option Directive
+
+-- directives without REDUCTION clauses, by the names of their PRIVATE clauses
+abbrev pub with_names : Option (List (List ℕ)) → Option Directive
+with_names None = None
+with_names (Some xs) = Some (private_alone xs)
+
+abbrev pub private_only : (List ℕ → ℕ → Option (List (List ℕ))) → Directives
+private_only names x n = with_names (names x n)
 
 abbrev pub forget_units : List ℕ → MarkedPlan → MarkedPlan
 forget_units [] t = t

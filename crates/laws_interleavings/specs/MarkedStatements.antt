@@ -19,7 +19,9 @@ use Rattle.f77_ast.specs.Loops.{Range, range_of, iteration_count}
 use Rattle.f77_ast.specs.Calls.{actuals, places_of, own_units, lock_own, after_call, in_place}
 use Rattle.f77_ast.specs.Statements.{Scope, spot, label_of, execution, parts}
 use Rattle.f77_meaning.specs.Processes.{Marked}
-use Rattle.laws_interleavings.specs.Marks.{MarkedPlan, Ends, Breaks, Look, Set, Hold, Forget, Show, Take, Within, Loop}
+use Rattle.laws_interleavings.specs.Reductions.{Reduced}
+use Rattle.laws_interleavings.specs.Accumulating.{Reduction, Directive, accumulators_of, summed_parts}
+use Rattle.laws_interleavings.specs.Marks.{MarkedPlan, Ends, Breaks, Look, Set, Hold, Forget, Show, Take, Within, Loop, Reduce}
 
 -- ---- plans
 
@@ -48,6 +50,7 @@ Show xs t ▹▹ f = Show xs (t ▹▹ f)
 Take k ▹▹ f = Take (λ o. k o ▹▹ f)
 Within p at t k ▹▹ f = Within p at t (λ g. k g ▹▹ f)
 Loop m k ▹▹ f = Loop m (λ g. k g ▹▹ f)
+Reduce d k ▹▹ f = Reduce d (λ g. k g ▹▹ f)
 
 -- steps, and then a plan
 abbrev pub steps_first : {A : Type 0} → Steps A → (A → MarkedPlan) → MarkedPlan
@@ -122,8 +125,8 @@ pub record MarkedMeaning : Type 0 where
 pub record MarkedScope : Type 0 where
   -- without marks
   pub plain : Scope
-  -- by the number of a DO, the names of which its directive says that each iteration has its own; none where it has no directive
-  pub marks : ℕ → Option (List (List ℕ))
+  -- by the number of a DO, its directive; none where it has none
+  pub marks : ℕ → Option Directive
   pub callee : List ℕ → MarkedMeaning
 
 -- ---- the units of an iteration's own
@@ -192,6 +195,20 @@ abbrev pub begun_if : Option Fault → Marked → MarkedPlan
 begun_if None m = Loop m (λ f. Ends f)
 begun_if (Some f) m = Breaks (Faulty f)
 
+-- the same with reduction variables
+abbrev pub reduced_loop : Directive → MarkedScope → StmtTrees → Places → Range → ℕ → Locks → Reduced
+reduced_loop d sc body at r u locked = record {
+  loop = marked_loop d.private sc body at r u locked;
+  body = list_plan sc.plain.turns (summed_parts d.reductions body sc.plain at locked);
+  accumulators = accumulators_of d.reductions sc.plain.names at;
+}
+
+-- by its REDUCTION clauses: without one it is a loop as above
+abbrev pub begun_by : List Reduction → Option Fault → Reduced → MarkedPlan
+begun_by [] o d = begun_if o d.loop
+begun_by (r ∷ rs) None d = Reduce d (λ f. Ends f)
+begun_by (r ∷ rs) (Some f) d = Breaks (Faulty f)
+
 -- ---- the statements
 
 abbrev mutual
@@ -224,13 +241,13 @@ abbrev mutual
   marked_else (tree.otherwise body) sc at locked = marked_list sc.plain.turns (marked_parts body sc at locked)
 
   -- without a directive, or with one
-  pub loop_with : Option (List (List ℕ)) → LoopTree → MarkedScope → Places → Locks → MarkedPlan
+  pub loop_with : Option Directive → LoopTree → MarkedScope → Places → Locks → MarkedPlan
   loop_with None (tree.loop index e1 e2 e3 body) sc at locked =
       marked_do (range_of e1 e2 e3 sc.plain.names at) (name_target (sc.plain.names index) at) locked
       (λ r u l. written_first (locked u) u (content Int r.from) (marked_iterations (iteration_count r.from r.last r.step) r.from r.step u (marked_list sc.plain.turns (marked_parts body sc at l))))
-  loop_with (Some xs) (tree.loop index e1 e2 e3 body) sc at locked =
+  loop_with (Some d) (tree.loop index e1 e2 e3 body) sc at locked =
       marked_do (range_of e1 e2 e3 sc.plain.names at) (name_target (sc.plain.names index) at) locked
-      (λ r u l. begun_if (locked u) (marked_loop xs sc body at r u l))
+      (λ r u l. begun_by d.reductions (locked u) (reduced_loop d sc body at r u l))
 
   pub marked_parts : StmtTrees → MarkedScope → Places → Locks → List MarkedPart
   marked_parts tree.no_stmts sc at locked = []

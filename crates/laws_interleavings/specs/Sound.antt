@@ -1,52 +1,16 @@
 -- When a run by a schedule does what the plain run does.
-use Rattle.std.specs.Prelude.{◌≡◌, ◌⊎◌, ℕ, zero, suc, ◌<◌, List, [], ◌∷◌, ◌++◌, Bool, true, false, not, ◌&&◌, ◌||◌, nat_eq, if◌then◌else◌, length, ◌≤◌}
+use Rattle.std.specs.Prelude.{◌≡◌, ◌⊎◌, ℕ, ◌+◌, ◌*◌, List, ◌++◌, Bool, true, false, ◌||◌, nat_eq, length, ◌≤◌}
+use Rattle.std.specs.List.{list_any}
 use Rattle.f77_ast.specs.Store.{Undefined, Content, Store, put, undefined}
 use Rattle.f77_ast.specs.Steps.{Shown}
-use Rattle.f77_ast.specs.Plans.{Flow, Normal, steps_of}
-use Rattle.f77_ast.specs.Runs.{Event, Arrived, Read, Wrote, Printed, Took, Answer, Gave, Broke, Ran, first_of, rest_of, store_of}
-use Rattle.f77_meaning.specs.Processes.{Marked, writes}
+use Rattle.f77_ast.specs.Plans.{Flow, Normal}
+use Rattle.f77_ast.specs.Runs.{Answer, Gave, Broke, Ran, first_of, rest_of, store_of}
+use Rattle.f77_meaning.specs.Processes.{Marked}
 use Rattle.laws_interleavings.specs.Alone.{actions}
-use Rattle.laws_interleavings.specs.Iterations.{on_store, begun, does, whole_loop, MayInterleave}
-use Rattle.laws_interleavings.specs.Marks.{MarkedPlan, Ends, Breaks, Look, Set, Hold, Forget, Show, Take, Within, Loop, plain_run, Outcome, Ended, Broken, OutOfPicks, Parallel, first_picks, other_picks}
-
--- ---- what is known: units of which both runs have the same contents
-
-abbrev pub grow : List Event → (ℕ → Bool) → ℕ → Bool
-grow [] known = known
-grow (Arrived p ∷ es) known = grow es known
-grow (Read u c ∷ es) known = grow es known
-grow (Wrote u c ∷ es) known = grow es (λ x. nat_eq x u || known x)
-grow (Printed xs ∷ es) known = grow es known
-grow (Took o ∷ es) known = grow es known
-
-abbrev pub known_at : (ℕ → List Event) → (ℕ → Bool) → ℕ → ℕ → Bool
-known_at es known zero = known
-known_at es known (suc i) = grow (es i) (known_at es known i)
-
--- each unit that is read is known, from the start or by a write, and has a value
-abbrev pub ReadsKnown : (ℕ → Bool) → List Event → Type 0
-ReadsKnown known [] = Unit {0}
-ReadsKnown known (Arrived p ∷ es) = ReadsKnown known es
-ReadsKnown known (Read u c ∷ es) = (known u ≡ true) × (c.tag ≡ Undefined → ⊥) × ReadsKnown known es
-ReadsKnown known (Wrote u c ∷ es) = ReadsKnown (λ x. nat_eq x u || known x) es
-ReadsKnown known (Printed xs ∷ es) = ReadsKnown known es
-ReadsKnown known (Took o ∷ es) = ReadsKnown known es
-
--- one of the first n iterations wrote the unit
-abbrev pub some_wrote : Marked → Store → ℕ → ℕ → Bool
-some_wrote m s zero u = false
-some_wrote m s (suc n) u = some_wrote m s n u || writes u (on_store (steps_of m.body) (begun m s n)).trace
-
--- after a marked loop: where both runs left a unit undefined they agree on it
-abbrev pub known_after : Marked → (ℕ → Bool) → Store → ℕ → Bool
-known_after m known s x =
-    if nat_eq x m.index then false
-    else if m.named x then (not (some_wrote m s m.count x) && known x)
-    else if m.private x then true
-    else known_at (does m s) known m.count x
-
-abbrev pub store_left : Marked → Store → Store
-store_left m s = store_of (whole_loop m s).memory
+use Rattle.laws_interleavings.specs.Iterations.{does}
+use Rattle.laws_interleavings.specs.ReducedLoops.{reduced_does, known_reduced, ReducedSound}
+pub use Rattle.laws_interleavings.specs.LoopRuns.{grow, known_at, ReadsKnown, some_wrote, known_after, store_left, NoTake, printed_by, is_own, LoopSound}
+use Rattle.laws_interleavings.specs.Marks.{MarkedPlan, Ends, Breaks, Look, Set, Hold, Forget, Show, Take, Within, Loop, Reduce, plain_run, Outcome, Ended, Broken, OutOfPicks, Parallel, first_picks, other_picks}
 
 -- by how a part ended
 abbrev pub on_gave : {X : Type 0} → Answer Flow → Store → X → (Flow → Store → X) → X
@@ -69,6 +33,7 @@ known_end (Show xs t) known s i = known_end t known s i
 known_end (Take k) known s i = known_end (k (first_of i)) known s (rest_of i)
 known_end (Within p at t k) known s i = let q = plain_run t s i in on_gave q.answer (store_of q.memory) (known_end t known s i) (λ f y. known_end (k f) (known_end t known s i) y q.input)
 known_end (Loop m k) known s i = known_end (k Normal) (known_after m known s) (store_left m s) i
+known_end (Reduce d k) known s i = known_end (k Normal) (known_reduced d known s) (store_left d.loop s) i
 
 -- what is left of the schedule at the end
 abbrev pub picks_end : MarkedPlan → Store → List (List ℕ) → List Content → List (List ℕ)
@@ -82,39 +47,9 @@ picks_end (Show xs t) s ls i = picks_end t s ls i
 picks_end (Take k) s ls i = picks_end (k (first_of i)) s ls (rest_of i)
 picks_end (Within p at t k) s ls i = let q = plain_run t s i in on_gave q.answer (store_of q.memory) (picks_end t s ls i) (λ f y. picks_end (k f) y (picks_end t s ls i) q.input)
 picks_end (Loop m k) s ls i = picks_end (k Normal) (store_left m s) (other_picks ls) i
+picks_end (Reduce d k) s ls i = picks_end (k Normal) (store_left d.loop s) (other_picks ls) i
 
 -- ---- the premise, on the plain run
-
-abbrev pub NoTake : List Event → Type 0
-NoTake [] = Unit {0}
-NoTake (Arrived p ∷ es) = NoTake es
-NoTake (Read u c ∷ es) = NoTake es
-NoTake (Wrote u c ∷ es) = NoTake es
-NoTake (Printed xs ∷ es) = NoTake es
-NoTake (Took o ∷ es) = ⊥
-
-abbrev pub printed_by : List Event → List (List Shown)
-printed_by [] = []
-printed_by (Arrived p ∷ es) = printed_by es
-printed_by (Read u c ∷ es) = printed_by es
-printed_by (Wrote u c ∷ es) = printed_by es
-printed_by (Printed xs ∷ es) = xs ∷ printed_by es
-printed_by (Took o ∷ es) = printed_by es
-
--- a private unit that belongs to no name of the directive: of an expression, or of a module that the body calls
-abbrev pub is_own : Marked → ℕ → Bool
-is_own m x = not (nat_eq x m.index) && (not (m.named x) && m.private x)
-
--- a marked loop that may be interleaved where it is begun with this store
-pub record LoopSound (m : Marked) (known : ℕ → Bool) (s : Store) : Type 0 where
-  pub may : MayInterleave m s
-  pub names_private : (x : ℕ) → m.named x ≡ true → m.private x ≡ true
-  pub reads : (i : ℕ) → i < m.count → ReadsKnown (known_at (does m s) known i) (does m s i)
-  pub silent : printed_by (whole_loop m s).trace ≡ []
-  pub takes_nothing : NoTake (whole_loop m s).trace
-  pub own_before : (x : ℕ) → is_own m x ≡ true → (s x).tag ≡ Undefined
-  pub own_after : (x : ℕ) → is_own m x ≡ true → (store_left m s x).tag ≡ Undefined
-  pub unwritten : (x : ℕ) → m.named x ≡ true → nat_eq x m.index ≡ false → some_wrote m s m.count x ≡ false → store_left m s x ≡ s x
 
 -- each marked loop in the plain run may be interleaved, and what it made undefined is not read before it is written
 abbrev pub Sound : MarkedPlan → (ℕ → Bool) → Store → List Content → Type 0
@@ -128,6 +63,7 @@ Sound (Show xs t) known s i = Sound t known s i
 Sound (Take k) known s i = Sound (k (first_of i)) known s (rest_of i)
 Sound (Within p at t k) known s i = let q = plain_run t s i in Sound t known s i × OnGave q.answer (store_of q.memory) (λ f y. Sound (k f) (known_end t known s i) y q.input)
 Sound (Loop m k) known s i = LoopSound m known s × Sound (k Normal) (known_after m known s) (store_left m s) i
+Sound (Reduce d k) known s i = ReducedSound d known s × Sound (k Normal) (known_reduced d known s) (store_left d.loop s) i
 
 -- ---- what then holds
 
@@ -143,10 +79,22 @@ abbrev pub outcome_of : Answer Flow → Outcome
 outcome_of (Gave f) = Ended f
 outcome_of (Broke b) = Broken b
 
-pub record SameRun (known : ℕ → Bool) (ls : List (List ℕ)) (q : Ran Flow) (r : Parallel) : Type 0 where
+-- its variable's unit, or that of a name of its directive: what a marked loop may leave without a value
+abbrev pub may_lose : Marked → ℕ → Bool
+may_lose m x = nat_eq x m.index || m.named x
+
+abbrev pub may_lose_one_of : List Marked → ℕ → Bool
+may_lose_one_of ms x = list_any (λ m. may_lose m x) ms
+
+-- what is not known after these loops was not known before, or is one of those units
+abbrev pub IsForgotten : (before after : ℕ → Bool) → List Marked → Type 0
+IsForgotten before after ms = (x : ℕ) → after x ≡ false → (before x ≡ false) ⊎ (may_lose_one_of ms x ≡ true)
+
+pub record SameRun (known after : ℕ → Bool) (ls : List (List ℕ)) (q : Ran Flow) (r : Parallel) : Type 0 where
   pub outcome : r.outcome ≡ outcome_of q.answer
   pub printed : r.printed ≡ printed_by q.trace
-  pub store : Alike known (store_of q.memory) r.store
+  pub store : Alike after (store_of q.memory) r.store
+  pub forgotten : IsForgotten known after r.loops
   pub schedule : r.schedule ≡ ls
   pub input : r.input ≡ q.input
 
@@ -163,16 +111,21 @@ pub record IsShort (q : Ran Flow) (r : Parallel) : Type 0 where
 abbrev pub IsReadable : Ran Flow → Parallel → Type 0
 IsReadable q r = (x : ℕ) → ((r.store x).tag ≡ Undefined → ⊥) → store_of q.memory x ≡ r.store x
 
+-- and a unit that has a value in the plain run alone is one of a marked loop that was run: that of the loop's variable, or of a name of its directive. So no other loses its value
+abbrev pub LosesOnlyCopies : Ran Flow → Parallel → Type 0
+LosesOnlyCopies q r = (x : ℕ) → ((store_of q.memory x).tag ≡ Undefined → ⊥) → (r.store x).tag ≡ Undefined → may_lose_one_of r.loops x ≡ true
+
 -- the two runs end alike
 pub record SameEnd (q : Ran Flow) (r : Parallel) : Type 0 where
   pub outcome : r.outcome ≡ outcome_of q.answer
   pub printed : r.printed ≡ printed_by q.trace
   pub readable : IsReadable q r
+  pub lost : LosesOnlyCopies q r
   pub input : r.input ≡ q.input
 
 -- ---- schedules that are long enough
 
--- each marked loop that is met is given as many picks as its iterations have shared reads and writes
+-- each marked loop that is met is given as many picks as its iterations have shared reads and writes, and one with reduction variables one more for each iteration and each variable
 abbrev pub Enough : MarkedPlan → Store → List (List ℕ) → List Content → Type 0
 Enough (Ends f) s ls i = Unit {0}
 Enough (Breaks b) s ls i = Unit {0}
@@ -184,3 +137,5 @@ Enough (Show xs t) s ls i = Enough t s ls i
 Enough (Take k) s ls i = Enough (k (first_of i)) s ls (rest_of i)
 Enough (Within p at t k) s ls i = let q = plain_run t s i in Enough t s ls i × OnGave q.answer (store_of q.memory) (λ f y. Enough (k f) y (picks_end t s ls i) q.input)
 Enough (Loop m k) s ls i = (actions (does m s) m.count ≤ length (first_picks ls)) × Enough (k Normal) (store_left m s) (other_picks ls) i
+Enough (Reduce d k) s ls i =
+    (actions (reduced_does d s) d.loop.count + d.loop.count * length d.accumulators ≤ length (first_picks ls)) × Enough (k Normal) (store_left d.loop s) (other_picks ls) i

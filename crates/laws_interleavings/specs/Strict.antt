@@ -3,7 +3,7 @@ use Rattle.std.specs.Prelude.{◌≡◌, ℕ, Option, Bool, true}
 use Rattle.f77_ast.specs.Store.{Undefined, Content}
 use Rattle.f77_ast.specs.Steps.{Faulty, Wants, OutOfTurns, Steps, Done, Breaks, Look, Set, Hold, Forget, Show, Take, Arrive}
 use Rattle.f77_ast.specs.Plans.{Flow, steps_of}
-use Rattle.laws_interleavings.specs.Marks.{MarkedPlan, Loop, Within}
+use Rattle.laws_interleavings.specs.Marks.{MarkedPlan, Loop, Reduce, Within}
 use Rattle.laws_interleavings.specs.Marks as marks
 use Rattle.laws_interleavings.specs.Faults.{StepsFault}
 
@@ -45,6 +45,7 @@ IsFaultPlan (marks.Show xs t) = ⊥
 IsFaultPlan (marks.Take k) = ⊥
 IsFaultPlan (Within p at t k) = ⊥
 IsFaultPlan (Loop m k) = ⊥
+IsFaultPlan (Reduce d k) = ⊥
 
 abbrev pub StrictPlan : MarkedPlan → Type 0
 StrictPlan (marks.Ends f) = Unit {0}
@@ -57,3 +58,4 @@ StrictPlan (marks.Show xs t) = StrictPlan t
 StrictPlan (marks.Take k) = (o : Option Content) → StrictPlan (k o)
 StrictPlan (Within p at t k) = StrictPlan t × ((f : Flow) → StrictPlan (k f))
 StrictPlan (Loop m k) = Strict (steps_of m.body) × ((f : Flow) → StrictPlan (k f))
+StrictPlan (Reduce d k) = Strict (steps_of d.loop.body) × ((f : Flow) → StrictPlan (k f))

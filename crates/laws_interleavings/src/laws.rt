@@ -14,8 +14,8 @@ pub fn loops_interleave()
 {}
 
 /// A plan with marked loops, where what is claimed of its marked loops holds along its plain run, which does not fault, does by any schedule what the plain run does: it
-/// ends so, prints the same, takes the same input, and each unit that has a value in the end has that of the plain run. A schedule may be too short; then what was printed is
-/// the beginning of what the plain run prints.
+/// ends so, prints the same, takes the same input, and each unit that has a value in the end has that of the plain run. Only a unit of the variable of a marked loop, or of a name of its
+/// directive, may have lost its value. A schedule may be too short; then no iteration faulted, and what was printed is the beginning of what the plain run prints.
 pub fn marked_runs_agree()
     ensures { MarkedRunsAgree }
 {}

@@ -10,39 +10,41 @@ use Rattle.affine_systems.specs.declared.row.System.{System}
 use Rattle.affine_systems.specs.Terms.{var_eq}
 use Rattle.affine_systems.specs.Rows.{AllRows}
 use Rattle.affine_systems.proofs.TermLaws.{var_eq-true, true-var_eq}
-use Rattle.affine_systems.proofs.TidyLaws.{clash}
 use Rattle.hull_projection.specs.Variables.{with_vars}
 use Rattle.hull_projection.specs.Project.{project}
 use Rattle.hull_projection.specs.Laws.{IsOneOf}
 use Rattle.hull_projection.proofs.VarLaws.{TermsIn, RowsIn, rows_covered}
-use Rattle.system_renaming.specs.declared.naming.Naming.{Naming}
-use Rattle.system_renaming.specs.Renaming.{naming, renamed_by, rename_all, push_rows}
-use Rattle.system_renaming.specs.Fresh.{above_rows}
+use Rattle.preconditions.specs.transformer_algebra.declared.naming.Naming.{Naming}
+use Rattle.preconditions.specs.transformer_algebra.Renaming.{naming, renamed_by, rename_all, push_rows}
+use Rattle.preconditions.specs.transformer_algebra.Fresh.{above_rows}
 use Rattle.f77_ast.specs.Trees.{ExprTree, ExprTrees}
 use Rattle.f77_ast.specs.Trees as tree
 use Rattle.f77_ast.specs.declared.symbol.Place.{Place}
 use Rattle.f77_ast.specs.declared.symbol.Place.TheVariants.{Local, Dummy, Block, Constant}
 use Rattle.f77_ast.specs.declared.variable.Unit.{Unit as BlockUnit}
 use Rattle.f77_ast.specs.Shared.{place_at}
-use Rattle.f77_results.specs.Summaries.{SummaryTree}
+use Rattle.f77_ast.specs.Summaries.{SummaryTree}
 use Rattle.affine_forms.specs.declared.affine.Affine.{Affine}
 use Rattle.affine_forms.specs.Scalars.{Scalars}
 use Rattle.affine_forms.specs.Comparisons.{var_form}
-use Rattle.transformer_algebra.specs.declared.transformer.Transformer.{Transformer}
-use Rattle.transformer_algebra.specs.Cells.{has, joined_cells}
-use Rattle.transformer_algebra.proofs.CellLaws.{nat_same, right_in, joined_in, clashes}
-use Rattle.call_translation.specs.Scopes.{ScopeTree}
-use Rattle.call_translation.specs.Common.{tracked_at}
-use Rattle.call_translation.specs.Actuals.{named_cell, one_cell, actual_of, form_in, cell_named}
-use Rattle.call_translation.specs.Variables.{auxiliary_of, auxiliaries_in}
-use Rattle.call_translation.specs.Call.{CallTree, actual_cell, cell_at, block_cell_at, form_at, cell_or_aux, exit_or_aux, unless_among, exit_of, in_caller, cell_lent_by, names_from, form_row, row_of, rows_from}
-use Rattle.call_translation.specs.Summary.{exits, summary_vars, call_system, unit_cells, cells_of, call_transformer}
+use Rattle.preconditions.specs.transformer_algebra.declared.transformer.Transformer.{Transformer}
+use Rattle.preconditions.specs.transformer_algebra.Cells.{has, joined_cells}
+use Rattle.preconditions.proofs.TransformerAlgebra.CellLaws.{right_in, joined_in}
+use Rattle.preconditions.specs.call_translation.Scopes.{ScopeTree}
+use Rattle.preconditions.specs.call_translation.Common.{tracked_at}
+use Rattle.preconditions.specs.call_translation.Actuals.{named_cell, one_cell, actual_of, form_in, cell_named}
+use Rattle.preconditions.specs.call_translation.Variables.{auxiliary_of, auxiliaries_in}
+use Rattle.preconditions.specs.call_translation.Call.{CallTree, actual_cell, cell_at, block_cell_at, form_at, cell_or_aux, exit_or_aux, unless_among, exit_of, in_caller, cell_passed_by, names_from, form_row, row_of, rows_from}
+use Rattle.preconditions.specs.call_translation.Summary.{exits, summary_vars, call_system, unit_cells, cells_of, call_transformer}
 use Rattle.laws_lines.specs.Variables.{EachVar, IsCellOf}
 use Rattle.laws_lines.specs.Halves.{IsHalfOf}
 use Rattle.laws_lines.proofs.RowVars.{each_more, Given}
-use Rattle.laws_lines.proofs.SystemVars.{IsNeat, AreGiven, all_more, all-append, system_more, push_rows_neat, project_neat, rename_neat}
+use Rattle.laws_lines.proofs.SystemVars.{IsNeat, AreGiven, all-append, system_more, push_rows_neat, project_neat, rename_neat}
 use Rattle.laws_lines.proofs.FormVars.{NamesCells, FormOf, affine_over, compared_given}
 use Rattle.laws_lines.proofs.RuleVars.{IsDone, none_has, only_has, head_has, cell_half, unchanging_done}
+use Rattle.fx_lists.proofs.Booleans.{clash, clash as clashes}
+use Rattle.fx_lists.proofs.Numbers.{same_is as nat_same}
+use Rattle.elimination.proofs.ClosedLaws.{rows_weaker as all_more}
 
 -- whatever number
 abbrev pub Every : ℕ → Type 0
@@ -175,15 +177,15 @@ module _ (ok : ℕ → Type 0) (c : CallTree) (a : Allows ok c.caller) (t : Tran
       go (Some x) e = inl (a.units b o x e)
   cell_stands n (Some (Constant k)) = inr refl
 
-  exit_stands : (n d : ℕ) (lent : List ℕ) → has t.cells d ≡ true → IsHalfOf ok cs (exit_or_aux n (exit_of c lent (place_at c.symbols d))) ⊎ (exit_or_aux n (exit_of c lent (place_at c.symbols d)) ≡ Aux n)
-  exit_stands n d lent h = at (place_at c.symbols d) refl
+  exit_stands : (n d : ℕ) (passed_by_reference : List ℕ) → has t.cells d ≡ true → IsHalfOf ok cs (exit_or_aux n (exit_of c passed_by_reference (place_at c.symbols d))) ⊎ (exit_or_aux n (exit_of c passed_by_reference (place_at c.symbols d)) ≡ Aux n)
+  exit_stands n d passed_by_reference h = at (place_at c.symbols d) refl
     where
       changes : (x : ℕ) → cell_at c (place_at c.symbols d) ≡ Some x → has cs x ≡ true
       changes x e = more x (cells_have c t.cells d x h e)
 
-      unless : (q : Option ℕ) → ((x : ℕ) → q ≡ Some x → has cs x ≡ true) → IsHalfOf ok cs (exit_or_aux n (unless_among lent q)) ⊎ (exit_or_aux n (unless_among lent q) ≡ Aux n)
+      unless : (q : Option ℕ) → ((x : ℕ) → q ≡ Some x → has cs x ≡ true) → IsHalfOf ok cs (exit_or_aux n (unless_among passed_by_reference q)) ⊎ (exit_or_aux n (unless_among passed_by_reference q) ≡ Aux n)
       unless None f = inr refl
-      unless (Some x) f = pick (has lent x) (f x refl)
+      unless (Some x) f = pick (has passed_by_reference x) (f x refl)
         where
           pick : (b : Bool) → has cs x ≡ true → IsHalfOf ok cs (exit_or_aux n (if b then None else Some x)) ⊎ (exit_or_aux n (if b then None else Some x) ≡ Aux n)
           pick true k = inr refl
@@ -193,18 +195,18 @@ module _ (ok : ℕ → Type 0) (c : CallTree) (a : Allows ok c.caller) (t : Tran
       plain None f = inr refl
       plain (Some x) f = inl (f x refl)
 
-      at : (p : Option Place) → place_at c.symbols d ≡ p → IsHalfOf ok cs (exit_or_aux n (exit_of c lent p)) ⊎ (exit_or_aux n (exit_of c lent p) ≡ Aux n)
+      at : (p : Option Place) → place_at c.symbols d ≡ p → IsHalfOf ok cs (exit_or_aux n (exit_of c passed_by_reference p)) ⊎ (exit_or_aux n (exit_of c passed_by_reference p) ≡ Aux n)
       at None e = inr refl
       at (Some (Local g o)) e = inr refl
       at (Some (Dummy m)) e = unless (actual_cell c m) (λ x k. changes x (ap (cell_at c) e ∙ k))
       at (Some (Block b o)) e = plain (tracked_at c.caller b o) (λ x k. changes x (ap (cell_at c) e ∙ k))
       at (Some (Constant k)) e = inr refl
 
-  in_caller_stands : (n : ℕ) (lent : List ℕ) (v : Var) → Left t.cells v → IsHalfOf ok cs (in_caller c n lent v) ⊎ (in_caller c n lent v ≡ Aux n)
-  in_caller_stands n lent (Cell d) h = cell_stands n (place_at c.symbols d)
-  in_caller_stands n lent (Exit d) h = exit_stands n d lent h
-  in_caller_stands n lent (Phi d) h = inr refl
-  in_caller_stands n lent (Aux d) h = inr refl
+  in_caller_stands : (n : ℕ) (passed_by_reference : List ℕ) (v : Var) → Left t.cells v → IsHalfOf ok cs (in_caller c n passed_by_reference v) ⊎ (in_caller c n passed_by_reference v ≡ Aux n)
+  in_caller_stands n passed_by_reference (Cell d) h = cell_stands n (place_at c.symbols d)
+  in_caller_stands n passed_by_reference (Exit d) h = exit_stands n d passed_by_reference h
+  in_caller_stands n passed_by_reference (Phi d) h = inr refl
+  in_caller_stands n passed_by_reference (Aux d) h = inr refl
 
   -- a variable of the caller, or an auxiliary one of these namings
   abbrev Said : List Naming → Var → Type 0
@@ -213,25 +215,25 @@ module _ (ok : ℕ → Type 0) (c : CallTree) (a : Allows ok c.caller) (t : Tran
   said_more : (m : Naming) (ns : List Naming) (w : Var) → Said ns w → Said (m ∷ ns) w
   said_more m ns w s = ⊎_elim (λ i. inl i) (λ i. inr (one_back w (auxiliary_of m.to) (auxiliaries_in ns) i)) s
 
-  names_said : (n : ℕ) (lent : List ℕ) (vs : List Var) (v : Var) → Left t.cells v → IsOneOf v vs → Said (names_from c n lent vs) (renamed_by (names_from c n lent vs) v)
-  names_said n lent [] v h m = absurd m
-  names_said n lent (u ∷ us) v h m = go (var_eq v u) refl (λ i. names_said (suc n) (lent ++ cell_lent_by c u) us v h i)
+  names_said : (n : ℕ) (passed_by_reference : List ℕ) (vs : List Var) (v : Var) → Left t.cells v → IsOneOf v vs → Said (names_from c n passed_by_reference vs) (renamed_by (names_from c n passed_by_reference vs) v)
+  names_said n passed_by_reference [] v h m = absurd m
+  names_said n passed_by_reference (u ∷ us) v h m = go (var_eq v u) refl (λ i. names_said (suc n) (passed_by_reference ++ cell_passed_by c u) us v h i)
     where
       ns : List Naming
-      ns = names_from c (suc n) (lent ++ cell_lent_by c u) us
+      ns = names_from c (suc n) (passed_by_reference ++ cell_passed_by c u) us
 
       new : Naming
-      new = naming u (in_caller c n lent u)
+      new = naming u (in_caller c n passed_by_reference u)
 
-      here : var_eq v u ≡ true → Said (new ∷ ns) (in_caller c n lent u)
+      here : var_eq v u ≡ true → Said (new ∷ ns) (in_caller c n passed_by_reference u)
       here e =
-          ⊎_elim (λ i. inl i) (λ i. inr (aux_front n (in_caller c n lent u) (auxiliaries_in ns) i))
-          (in_caller_stands n lent u (subst (Left t.cells) (var_eq-true v u e) h))
+          ⊎_elim (λ i. inl i) (λ i. inr (aux_front n (in_caller c n passed_by_reference u) (auxiliaries_in ns) i))
+          (in_caller_stands n passed_by_reference u (subst (Left t.cells) (var_eq-true v u e) h))
 
       rest : var_eq v u ≡ false → IsOneOf v us
       rest e = ⊎_elim (λ i. clash (var_eq v u) (true-var_eq v u i) e) (λ i. i) m
 
-      go : (b : Bool) → var_eq v u ≡ b → (IsOneOf v us → Said ns (renamed_by ns v)) → Said (new ∷ ns) (if b then in_caller c n lent u else renamed_by ns v)
+      go : (b : Bool) → var_eq v u ≡ b → (IsOneOf v us → Said ns (renamed_by ns v)) → Said (new ∷ ns) (if b then in_caller c n passed_by_reference u else renamed_by ns v)
       go true e ih = here e
       go false e ih = said_more new ns (renamed_by ns v) (ih (rest e))
 
@@ -252,22 +254,22 @@ module _ (ok : ℕ → Type 0) (c : CallTree) (a : Allows ok c.caller) (t : Tran
   form_said n rest (Some (Block b o)) = tt
   form_said n rest (Some (Constant k)) = tt
 
-  row_said : (n : ℕ) (lent : List ℕ) (ns : List Naming) (v : Var) → AreGiven (Said (naming v (in_caller c n lent v) ∷ ns)) (row_of c n v)
-  row_said n lent ns (Cell d) = form_said n (auxiliaries_in ns) (place_at c.symbols d)
-  row_said n lent ns (Exit d) = tt
-  row_said n lent ns (Phi d) = tt
-  row_said n lent ns (Aux d) = tt
+  row_said : (n : ℕ) (passed_by_reference : List ℕ) (ns : List Naming) (v : Var) → AreGiven (Said (naming v (in_caller c n passed_by_reference v) ∷ ns)) (row_of c n v)
+  row_said n passed_by_reference ns (Cell d) = form_said n (auxiliaries_in ns) (place_at c.symbols d)
+  row_said n passed_by_reference ns (Exit d) = tt
+  row_said n passed_by_reference ns (Phi d) = tt
+  row_said n passed_by_reference ns (Aux d) = tt
 
   given_more : (such other : Var → Type 0) → ((v : Var) → such v → other v) → (rs : List Row) → AreGiven such rs → AreGiven other rs
   given_more such other f rs h = all_more (Given such) (Given other) (λ r g. (g.0, each_more such other f r.terms g.1)) rs h
 
-  rows_said : (n : ℕ) (lent : List ℕ) (vs : List Var) → AreGiven (Said (names_from c n lent vs)) (rows_from c n vs)
-  rows_said n lent [] = tt
-  rows_said n lent (v ∷ vs) =
-      let ns = names_from c (suc n) (lent ++ cell_lent_by c v) vs in
-      let new = naming v (in_caller c n lent v) in
-      all-append (Given (Said (new ∷ ns))) (row_of c n v) (rows_from c (suc n) vs) (row_said n lent ns v)
-      (given_more (Said ns) (Said (new ∷ ns)) (said_more new ns) (rows_from c (suc n) vs) (rows_said (suc n) (lent ++ cell_lent_by c v) vs))
+  rows_said : (n : ℕ) (passed_by_reference : List ℕ) (vs : List Var) → AreGiven (Said (names_from c n passed_by_reference vs)) (rows_from c n vs)
+  rows_said n passed_by_reference [] = tt
+  rows_said n passed_by_reference (v ∷ vs) =
+      let ns = names_from c (suc n) (passed_by_reference ++ cell_passed_by c v) vs in
+      let new = naming v (in_caller c n passed_by_reference v) in
+      all-append (Given (Said (new ∷ ns))) (row_of c n v) (rows_from c (suc n) vs) (row_said n passed_by_reference ns v)
+      (given_more (Said ns) (Said (new ∷ ns)) (said_more new ns) (rows_from c (suc n) vs) (rows_said (suc n) (passed_by_reference ++ cell_passed_by c v) vs))
 
   pub call_neat : IsNeat (Left t.cells) t.system → IsNeat (IsHalfOf ok cs) (call_system c t)
   call_neat h =

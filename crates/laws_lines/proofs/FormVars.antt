@@ -17,9 +17,9 @@ use Rattle.f77_ast.specs.Trees.{ExprTree}
 use Rattle.f77_ast.specs.Trees as tree
 use Rattle.f77_ast.specs.declared.constant.Constant.{Constant}
 use Rattle.f77_ast.specs.declared.constant.Constant.TheVariants.{Int, Log}
-use Rattle.f77_ast.specs.declared.constant.Worth.{Worth}
-use Rattle.f77_ast.specs.declared.constant.Worth.TheVariants.{Is, Faults, Varies}
-use Rattle.f77_ast.specs.Constants.{worth}
+use Rattle.f77_ast.specs.declared.constant.ConstantValue.{ConstantValue}
+use Rattle.f77_ast.specs.declared.constant.ConstantValue.TheVariants.{Is, Faults, Varies}
+use Rattle.f77_ast.specs.Constants.{const_value}
 use Rattle.affine_forms.specs.declared.affine.Affine.{Affine}
 use Rattle.affine_forms.specs.declared.conditions.Condition.{Condition}
 use Rattle.affine_forms.specs.Scalars.{Scalars}
@@ -94,7 +94,7 @@ binary_of such Or f g h i = tt
 binary_of such Eqv f g h i = tt
 binary_of such Neqv f g h i = tt
 
-constant_form : (such : Var → Type 0) (w : Worth) (f : Option Affine) → FormOf such f → FormOf such (constant_or w f)
+constant_form : (such : Var → Type 0) (w : ConstantValue) (f : Option Affine) → FormOf such f → FormOf such (constant_or w f)
 constant_form such (Is (Int n)) f h = limited_of such (affine [] n) (tt, tt)
 constant_form such (Is (Log b)) f h = h
 constant_form such Faults f h = h
@@ -113,16 +113,16 @@ cell_of such None f = tt
 cell_of such (Some c) f = ((refl, tt, tt), (f c refl, tt))
 
 pub affine_over : (such : Var → Type 0) (k : Scalars) → NamesCells such k → (e : ExprTree) → FormOf such (affine_of k e)
-affine_over such k n (tree.int m) = constant_form such (worth k.value (tree.int m)) None tt
-affine_over such k n (tree.log b) = constant_form such (worth k.value (tree.log b)) None tt
-affine_over such k n (tree.name x) = constant_form such (worth k.value (tree.name x)) (name_form k x) (cell_of such (k.cell x) (λ c e. n x c e))
-affine_over such k n (tree.element x es) = constant_form such (worth k.value (tree.element x es)) None tt
-affine_over such k n (tree.paren e) = constant_form such (worth k.value (tree.paren e)) (affine_of k e) (affine_over such k n e)
-affine_over such k n (tree.unary o e) = constant_form such (worth k.value (tree.unary o e)) (unary_form o (affine_of k e)) (unary_of such o (affine_of k e) (affine_over such k n e))
+affine_over such k n (tree.int m) = constant_form such (const_value k.value (tree.int m)) None tt
+affine_over such k n (tree.log b) = constant_form such (const_value k.value (tree.log b)) None tt
+affine_over such k n (tree.name x) = constant_form such (const_value k.value (tree.name x)) (name_form k x) (cell_of such (k.cell x) (λ c e. n x c e))
+affine_over such k n (tree.element x es) = constant_form such (const_value k.value (tree.element x es)) None tt
+affine_over such k n (tree.paren e) = constant_form such (const_value k.value (tree.paren e)) (affine_of k e) (affine_over such k n e)
+affine_over such k n (tree.unary o e) = constant_form such (const_value k.value (tree.unary o e)) (unary_form o (affine_of k e)) (unary_of such o (affine_of k e) (affine_over such k n e))
 affine_over such k n (tree.binary o a b) =
-    constant_form such (worth k.value (tree.binary o a b)) (binary_form o (affine_of k a) (affine_of k b))
+    constant_form such (const_value k.value (tree.binary o a b)) (binary_form o (affine_of k a) (affine_of k b))
     (binary_of such o (affine_of k a) (affine_of k b) (affine_over such k n a) (affine_over such k n b))
-affine_over such k n (tree.chars x) = constant_form such (worth k.value (tree.chars x)) None tt
+affine_over such k n (tree.chars x) = constant_form such (const_value k.value (tree.chars x)) None tt
 
 -- ---- rows of two forms
 

@@ -7,9 +7,9 @@ use Rattle.hull_projection.specs.Hull.{hull}
 use Rattle.f77_ast.specs.Trees.{ExprTree, StmtTree, WhatTree, ArmTree, ArmTrees, ElseTree, LoopTree, StmtTrees}
 use Rattle.f77_ast.specs.Trees as tree
 use Rattle.affine_forms.specs.Conditions.{condition_of}
-use Rattle.call_translation.specs.Scopes.{ScopeTree}
-use Rattle.transformers.specs.Jumps.{unstructured}
-use Rattle.transformers.specs.Lists.{number_of, each_at, list_at}
+use Rattle.preconditions.specs.call_translation.Scopes.{ScopeTree}
+use Rattle.preconditions.specs.transformers.Jumps.{unstructured}
+use Rattle.preconditions.specs.transformers.Lists.{number_of, each_at, list_at}
 use Rattle.preconditions.specs.Statement.{PreconditionList, hull_from, some_holds, if_true, if_false, parts_of, each_iteration, done, throughout, past_arm, past_arms, after, after_what, after_each, after_arms, after_arm, after_else, after_loop_of, at_stmt, at_parts, at_each, at_all, at_arms, at_arm, at_else, at_loop, at_list}
 use Rattle.laws_lines.specs.Variables.{IsCellOf}
 use Rattle.laws_lines.proofs.SystemVars.{IsNeat, meet_neat}

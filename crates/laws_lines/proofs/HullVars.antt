@@ -29,7 +29,8 @@ use Rattle.hull_projection.proofs.ProjectLaws.{in_order-from}
 use Rattle.hull_projection.proofs.GivenLaws.{lifted_given, steps_given, all_same_given, turns_given, ordered_cells}
 use Rattle.laws_lines.specs.Variables.{EachVar}
 use Rattle.laws_lines.proofs.RowVars.{each_more, each-append, each-term_before, Given, Neat, neat_given, neat_more, over_lasts, over_survives}
-use Rattle.laws_lines.proofs.SystemVars.{all_more, all-append, all-map, items_have, rows_have, IsNeat, AreGiven, neat_over, given_again, system_more, tidy_neat, eliminate_without, rows_without, clean_neat, project_neat}
+use Rattle.laws_lines.proofs.SystemVars.{all-append, all-map, items_have, rows_have, IsNeat, AreGiven, neat_over, given_again, system_more, tidy_neat, eliminate_without, rows_without, clean_neat, project_neat}
+use Rattle.elimination.proofs.ClosedLaws.{rows_weaker as all_more}
 
 -- whatever it is
 abbrev pub Any : Var → Type 0

@@ -14,3 +14,8 @@ pub mod TableNames
 pub mod NameWords
 pub mod LineBack
 pub mod ProgramLines
+pub mod Ins
+pub mod Outs
+pub mod Regions
+pub mod Marks
+pub mod RegionTexts

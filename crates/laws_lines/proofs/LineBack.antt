@@ -12,7 +12,6 @@ use Rattle.affine_systems.specs.Terms.{has_no_terms}
 use Rattle.affine_systems.specs.Rows.{false_row, AllRows}
 use Rattle.affine_systems.specs.Given.{IsGiven}
 use Rattle.affine_systems.proofs.FitLaws.{IsTidy, tidy_small, small_given}
-use Rattle.affine_systems.proofs.TidyLaws.{clash}
 use Rattle.system_text.specs.SystemText.{is_never, are_never}
 use Rattle.f77_ast.specs.Trees.{StmtTree, WhatTree, ArmTree, ArmTrees, ElseTree, LoopTree, StmtTrees}
 use Rattle.f77_ast.specs.Trees as tree
@@ -20,22 +19,25 @@ use Rattle.f77_ast.specs.declared.variable.Unit.{Unit as BlockUnit}
 use Rattle.f77_printer.specs.declared.added.Added.{Added}
 use Rattle.f77_meaning.specs.Modules.{Known, symbol_names}
 use Rattle.affine_forms.specs.Scalars.{flag_of, is_cell}
-use Rattle.transformer_algebra.specs.declared.transformer.Transformer.{Transformer}
-use Rattle.transformer_algebra.specs.Cells.{has}
-use Rattle.transformers.specs.Lists.{value_at}
-use Rattle.roundtrip_systems.specs.Printed.{AreNames, IsNumber, AreNumbers, IsNamed, AreNamed, IsOfNames, IsOrdered}
-use Rattle.roundtrip_systems.proofs.LinesBack.{precondition_lines_read_back, transformer_lines_read_back}
-use Rattle.claim_lines.specs.ScalarLines.{Said, holds_lines, changes_lines, does_lines, says_changes, own_lines, stmt_lines, part_lines, list_lines, arms_lines, arm_lines, else_lines, loop_lines, entry_lines, said, scalar_lines_of}
-use Rattle.scalar_phases.specs.Phases.{Analysis, scope_of}
+use Rattle.preconditions.specs.transformer_algebra.declared.transformer.Transformer.{Transformer}
+use Rattle.preconditions.specs.transformer_algebra.Cells.{has}
+use Rattle.preconditions.specs.transformers.Lists.{value_at}
+use Rattle.system_text.specs.Printed.{AreNames, IsNumber, AreNumbers, IsNamed, AreNamed, IsOfNames, IsOrdered}
+use Rattle.system_text.proofs.LinesBack.{precondition_lines_read_back, transformer_lines_read_back}
+use Rattle.result_lines.specs.ScalarLines.{Said, holds_lines, changes_lines, does_lines, says_changes, own_lines, stmt_lines, part_lines, list_lines, arms_lines, arm_lines, else_lines, loop_lines, entry_lines, said, scalar_lines_of}
+use Rattle.loop_marker.specs.module_phases.ScalarPhases.{Analysis, scope_of}
 use Rattle.laws_lines.specs.Variables.{EachVar, IsCellOf}
 use Rattle.laws_lines.specs.Halves.{IsHalfOf}
 use Rattle.laws_lines.specs.Laws.{IsTracked}
 use Rattle.laws_lines.specs.Lines.{HoldsThere, DoesThere, MeansResult}
 use Rattle.laws_lines.specs.LineLaws.{LinesMeanResults}
 use Rattle.laws_lines.proofs.RowVars.{Neat}
-use Rattle.laws_lines.proofs.SystemVars.{IsNeat, all_more}
+use Rattle.laws_lines.proofs.SystemVars.{IsNeat}
 use Rattle.laws_lines.proofs.RuleVars.{IsDone, head_has}
 use Rattle.laws_lines.proofs.PhaseVars.{EachOf, each-append, each_all, value_is, AnalysisOk}
+use Rattle.fx_lists.proofs.Lists.{map_length, got_below}
+use Rattle.fx_lists.proofs.Booleans.{clash}
+use Rattle.elimination.proofs.ClosedLaws.{rows_weaker as all_more}
 
 -- ---- systems of tidied rows are ordered
 
@@ -59,16 +61,7 @@ neat_ordered such s h = record {
 
 -- ---- cells have names
 
-got_below : {A : Type 0} (xs : List A) (i : ℕ) (x : A) → slice_get xs i ≡ Some x → i < length xs
-got_below [] i x e = cc
-got_below (y ∷ xs) zero x e = omega arith
-got_below (y ∷ xs) (suc i) x e = let l = got_below xs i x e in omega (arith, l)
-
-map_length : {A B : Type 0} (f : A → B) (xs : List A) → length (map f xs) ≡ length xs
-map_length f [] = refl
-map_length f (x ∷ xs) = ap suc (map_length f xs)
-
-cell_number : (flags : List Bool) (n : ℕ) → is_cell flags n ≡ true → (0 < n) × (n ≤ length flags)
+pub cell_number : (flags : List Bool) (n : ℕ) → is_cell flags n ≡ true → (0 < n) × (n ≤ length flags)
 cell_number flags n h = go (nat_eq n 0) refl h
   where
     above : nat_eq n 0 ≡ false → 0 < n

@@ -6,16 +6,16 @@ use Rattle.affine_systems.specs.declared.row.Var.TheVariants.{Cell, Exit}
 use Rattle.affine_systems.specs.declared.row.Row.{Row}
 use Rattle.affine_systems.specs.declared.row.System.{System}
 use Rattle.affine_systems.proofs.Basics.{if_cases}
-use Rattle.system_renaming.specs.Renaming.{push_rows}
+use Rattle.preconditions.specs.transformer_algebra.Renaming.{push_rows}
 use Rattle.affine_forms.specs.declared.affine.Affine.{Affine}
 use Rattle.affine_forms.specs.Comparisons.{at_most_row, below_row, var_form}
 use Rattle.affine_forms.specs.Conditions.{no_rows}
-use Rattle.transformer_algebra.specs.declared.transformer.Transformer.{Transformer}
-use Rattle.transformer_algebra.specs.declared.loop_parts.LoopParts.{LoopParts}
-use Rattle.transformer_algebra.specs.Cells.{has, others}
-use Rattle.transformer_algebra.specs.Transformers.{exit_system, followed, apply, equals, iterate}
-use Rattle.transformer_algebra.specs.Loops.{own_cells, index_becomes, if_counted, stepped, start_form, next_form, start, next, goes_up, within_rows, beyond_rows, index_form, guard, unguard, inside, beyond_last, with_rows, iteration, zero_iterations, first_iterations, some_iterations, counted_by, loop_transformer, stays, if_stays, before_iterations, iteration_by, at_iteration, end_by, after_loop}
-use Rattle.transformer_algebra.proofs.CellLaws.{right_in, joined_in, clashes}
+use Rattle.preconditions.specs.transformer_algebra.declared.transformer.Transformer.{Transformer}
+use Rattle.preconditions.specs.transformer_algebra.declared.loop_parts.LoopParts.{LoopParts}
+use Rattle.preconditions.specs.transformer_algebra.Cells.{has, others}
+use Rattle.preconditions.specs.transformer_algebra.Transformers.{exit_system, followed, apply, equals, iterate}
+use Rattle.preconditions.specs.transformer_algebra.Loops.{own_cells, index_becomes, if_counted, stepped, start_form, next_form, start, next, goes_up, within_rows, beyond_rows, index_form, guard, unguard, inside, beyond_last, with_rows, iteration, zero_iterations, first_iterations, some_iterations, counted_by, loop_transformer, stays, if_stays, before_iterations, iteration_by, at_iteration, end_by, after_loop}
+use Rattle.preconditions.proofs.TransformerAlgebra.CellLaws.{right_in, joined_in}
 use Rattle.laws_lines.specs.Variables.{IsCellOf}
 use Rattle.laws_lines.specs.Halves.{IsHalfOf}
 use Rattle.laws_lines.proofs.RowVars.{each_more, Given}
@@ -23,6 +23,7 @@ use Rattle.laws_lines.proofs.SystemVars.{IsNeat, AreGiven, all-append, system_mo
 use Rattle.laws_lines.proofs.HullVars.{hull_neat}
 use Rattle.laws_lines.proofs.FormVars.{FormOf, var_of, compared_given, none_neat}
 use Rattle.laws_lines.proofs.RuleVars.{IsDone, head_has, half_more, cell_half, unchanging_done, assign_done, followed_done, without_neat, apply_neat, others_has, equals_given, iterate_done}
+use Rattle.fx_lists.proofs.Booleans.{clash as clashes}
 
 -- the parts of a DO: a tracked index is such a cell, and its forms are over such cells
 pub record IsLoopOf (ok : ℕ → Type 0) (l : LoopParts) : Type 0 where

@@ -27,31 +27,31 @@ use Rattle.f77_names.specs.Declaring.{Told, bound_of, dummy_told, dummies_told, 
 use Rattle.f77_names.specs.Tables.{no_names, table_of}
 use Rattle.f77_meaning.specs.Modules.{symbol_names}
 use Rattle.storage_layout.specs.Symbols.{symbols_of}
-use Rattle.roundtrip_statements.specs.Formed.{IsName, Each, Filled, IsVariable, Rank, Formed, number, logical, constant, scalar, indexed, enclosed, operand, raised, factor, multiplied, term, signed, added, arithmetic, compared, asserted, denied, conjunct, both, disjunct, either, side, equated, none, more}
-use Rattle.roundtrip_statements.specs.Formed as formed
-use Rattle.roundtrip_statements.specs.Declared.{MaybeExpression, IsExtent, IsEntity, IsArray, IsSetting, IsCommon, IsGroup, IsSaved, IsInitial, AreTyped, IsDecl}
-use Rattle.roundtrip_statements.specs.Phrased.{AllVariables, IsWhat, IsPhrase}
-use Rattle.roundtrip_modules.specs.Cards.{Card, card, cards_of, cards_by, block_cards, part_cards, else_cards, cards_in, title_cards, decl_cards, statements_of}
-use Rattle.roundtrip_modules.specs.Numbered.{TitleFits, last_of, last_arms, last_in, IsNumbered, NumberedBelow, NumberedBody, NumberedBlock, NumberedArms, NumberedElse, AreNumbered}
-use Rattle.roundtrip_modules.proofs.Kept.{Held, Each-append, each-map}
-use Rattle.roundtrip_systems.specs.Printed.{in_name, is_name}
-use Rattle.laws_tables.proofs.KeptNames.{Said, with_said, Typed, Shaped, Shared, Parameter, Saved, Initial, Nothing}
-use Rattle.laws_tables.proofs.Answers.{lines_in}
+use Rattle.laws_programs.specs.roundtrip_programs.Statements.Formed.{IsName, Each, Filled, IsVariable, Rank, Formed, number, logical, constant, scalar, indexed, enclosed, operand, raised, factor, multiplied, term, signed, added, arithmetic, compared, asserted, denied, conjunct, both, disjunct, either, side, equated, none, more}
+use Rattle.laws_programs.specs.roundtrip_programs.Statements.Formed as formed
+use Rattle.laws_programs.specs.roundtrip_programs.Statements.Declared.{MaybeExpression, IsExtent, IsEntity, IsArray, IsSetting, IsCommon, IsGroup, IsSaved, IsInitial, AreTyped, IsDecl}
+use Rattle.laws_programs.specs.roundtrip_programs.Statements.Phrased.{AllVariables, IsWhat, IsPhrase}
+use Rattle.laws_programs.specs.roundtrip_programs.ModuleTexts.Cards.{Card, card, cards_of, cards_by, block_cards, part_cards, else_cards, cards_in, title_cards, decl_cards, statements_of}
+use Rattle.laws_programs.specs.roundtrip_programs.ModuleTexts.Numbered.{TitleFits, last_of, last_arms, last_in, IsNumbered, NumberedBelow, NumberedBody, NumberedBlock, NumberedArms, NumberedElse, AreNumbered}
+use Rattle.laws_programs.proofs.RoundtripPrograms.ModuleTexts.Kept.{Held, Each-append, each-map}
+use Rattle.system_text.specs.Printed.{in_name, is_name}
+use Rattle.laws_programs.proofs.SymbolTables.KeptNames.{Said, with_said, Typed, Shaped, Shared, Parameter, Saved, Initial, Nothing}
+use Rattle.laws_programs.proofs.SymbolTables.Answers.{lines_in}
 use Rattle.laws_programs.specs.Programs.{AreTables}
-use Rattle.laws_programs.proofs.Sources.{AnyLabel, IsBuilt, all_built}
+use Rattle.laws_programs.proofs.Sources.{IsBuilt, all_built}
 use Rattle.laws_programs.proofs.Ordered.{AllFormed, split, title_formed}
 use Rattle.laws_lines.specs.NameLaws.{AreWords, NamesAreWords}
 use Rattle.laws_lines.proofs.SymbolNames.{names-last, names_stay, said_stay, names_of_symbols}
 use Rattle.laws_lines.proofs.PhaseVars.{EachOf, each_all}
+use Rattle.laws_programs.proofs.RoundtripPrograms.Statements.DeclBack.{each_of as each_filled, typed as typed_each}
+use Rattle.laws_programs.proofs.RoundtripPrograms.Named.{group_each}
+use Rattle.fx_lists.proofs.Booleans.{or_turned}
+use Rattle.laws_programs.proofs.RoundtripPrograms.ModuleTexts.Cards.{Any as AnyLabel}
 
 -- ---- words
 
 abbrev IsWord : List ℕ → Type 0
 IsWord x = is_name x ≡ true
-
-or_turned : (a b c : Bool) → ((a || b) || c) ≡ (a || (b || c))
-or_turned true b c = refl
-or_turned false b c = refl
 
 all_in : (x : List ℕ) → skip_name x ≡ [] → list_all in_name x ≡ true
 all_in [] e = refl
@@ -93,20 +93,8 @@ dummies_words (x ∷ xs) n line t h d =
 
 -- ---- what the grammar gives
 
-each_filled : {A : Type 0} (P : A → Type 0) (xs : List A) → Filled P xs → Each P xs
-each_filled P [] h = absurd h
-each_filled P (x ∷ xs) h = record { first = h.first; others = h.others }
-
-typed_each : (es : List EntityTree) → AreTyped es → Each IsEntity es
-typed_each [] h = absurd h
-typed_each (e ∷ es) h = record { first = h.first; others = h.others }
-
-arrays_each : (es : List EntityTree) → Filled IsArray es → Each IsEntity es
+pub arrays_each : (es : List EntityTree) → Filled IsArray es → Each IsEntity es
 arrays_each es h = each-map IsArray IsEntity es (λ e a. record { name = a.name; bounds = each_filled IsExtent e.bounds a.bounds }) (each_filled IsArray es h)
-
-group_each : (g : List ExprTree) → IsGroup g → Each IsVariable g
-group_each [] h = absurd h
-group_each (v ∷ vs) h = record { first = h.first; others = each_filled IsVariable vs h.others }
 
 module _ (fs : List Function) where
   -- ---- expressions

@@ -20,26 +20,25 @@ use Rattle.f77_ast.specs.declared.symbol.Place.TheVariants.{Dummy}
 use Rattle.f77_ast.specs.declared.variable.Unit.{Unit as BlockUnit}
 use Rattle.f77_ast.specs.Symbols.{SymbolTree, number_from}
 use Rattle.f77_ast.specs.Shared.{numbered}
-use Rattle.f77_results.specs.declared.results.At.{At}
+use Rattle.f77_ast.specs.declared.results.At.{At}
 use Rattle.tracked_cells.specs.Equivalences.{equivalenced_names}
 use Rattle.tracked_cells.specs.Standing.{is_int_scalar}
 use Rattle.tracked_cells.specs.Tracked.{is_alone, is_tracked, tracked_of}
 use Rattle.call_graph.specs.declared.graph.Graph.{Graph}
 use Rattle.f77_meaning.specs.Modules.{Known, known_of, symbol_names}
 use Rattle.storage_layout.specs.Symbols.{symbols_of}
-use Rattle.laws_tables.proofs.EquivalenceLaws.{dummies_stand_alone}
+use Rattle.laws_programs.proofs.SymbolTables.EquivalenceLaws.{dummies_stand_alone}
 use Rattle.affine_forms.specs.Scalars.{flag_of, is_cell, if_cell}
-use Rattle.transformer_algebra.specs.declared.transformer.Transformer.{Transformer}
-use Rattle.transformer_algebra.specs.Cells.{has}
-use Rattle.transformer_algebra.proofs.CellLaws.{nat_same, clashes}
-use Rattle.call_translation.specs.Common.{is_unit, tracked_from}
-use Rattle.call_translation.specs.Sites.{HoldingSite}
-use Rattle.transformers.specs.Given.{Callees}
-use Rattle.transformers.specs.Lists.{first_at, or_first, value_at, or_unchanging, transformer_at}
-use Rattle.transformers.specs.Modules.{goes_out, stays_in, hidden_vars, summary_of}
-use Rattle.transformers.specs.Statement.{list_transformer}
+use Rattle.preconditions.specs.transformer_algebra.declared.transformer.Transformer.{Transformer}
+use Rattle.preconditions.specs.transformer_algebra.Cells.{has}
+use Rattle.preconditions.specs.call_translation.Common.{is_unit, tracked_from}
+use Rattle.preconditions.specs.call_translation.Sites.{HoldingSite}
+use Rattle.preconditions.specs.transformers.Given.{Callees}
+use Rattle.preconditions.specs.transformers.Lists.{first_at, or_first, value_at, or_unchanging, transformer_at}
+use Rattle.preconditions.specs.transformers.Modules.{is_visible_to_callers, stays_in, hidden_vars, summary_of}
+use Rattle.preconditions.specs.transformers.Statement.{list_transformer}
 use Rattle.preconditions.specs.Entry.{entry_of}
-use Rattle.scalar_phases.specs.Phases.{scope_of, place_of, module_at, module_of, Found, no_callees, with_callee, found_of, maybe_found, found_in, Caller, site, stmt_sites, what_sites, list_sites, arms_sites, arm_sites, else_sites, loop_sites, Analysis, caller_of, sites_of, analysis_of, analyses_from, analyses}
+use Rattle.loop_marker.specs.module_phases.ScalarPhases.{scope_of, place_of, module_at, module_of, Found, no_callees, with_callee, found_of, maybe_found, found_in, Caller, site, stmt_sites, what_sites, list_sites, arms_sites, arm_sites, else_sites, loop_sites, Analysis, caller_of, sites_of, analysis_of, analyses_from, analyses}
 use Rattle.laws_programs.specs.Programs.{AreTables}
 use Rattle.laws_lines.specs.Variables.{IsOver, IsCellOf}
 use Rattle.laws_lines.specs.Halves.{IsHalfOf, IsTransformerOf}
@@ -50,6 +49,8 @@ use Rattle.laws_lines.proofs.CallVars.{Every, Left, SummaryOf, neat_in}
 use Rattle.laws_lines.proofs.StatementVars.{AllAt, Scope, body_list_done, at_list_done}
 use Rattle.laws_lines.proofs.HoldVars.{at_list_neat}
 use Rattle.laws_lines.proofs.SiteVars.{DummiesFrom, SitesOf, entry_neat}
+use Rattle.fx_lists.proofs.Booleans.{clash as clashes}
+use Rattle.preconditions.proofs.TransformerAlgebra.CellLaws.{has-filter as kept_has}
 
 -- ---- lists
 
@@ -108,7 +109,7 @@ value_is {T} P xs n v h e = go (numbered xs n) refl e
     go None q k = first_is P n xs v h k
     go (Some a) q k = there a q (nat_eq a.id n) k
 
-found_done : (ok : ℕ → Type 0) (xs : List (At Transformer)) → AllAt (IsDone ok) xs → (n : ℕ) → IsDone ok (transformer_at xs n)
+pub found_done : (ok : ℕ → Type 0) (xs : List (At Transformer)) → AllAt (IsDone ok) xs → (n : ℕ) → IsDone ok (transformer_at xs n)
 found_done ok xs h n = go (value_at xs n) (λ v e. value_is (IsDone ok) xs n v h e)
   where
     go : (o : Option Transformer) → ((v : Transformer) → o ≡ Some v → IsDone ok v) → IsDone ok (or_unchanging o)
@@ -116,16 +117,6 @@ found_done ok xs h n = go (value_at xs n) (λ v e. value_is (IsDone ok) xs n v h
     go (Some t) f = f t refl
 
 -- ---- the summary of a module
-
-kept_has : (f : ℕ → Bool) (cs : List ℕ) (c : ℕ) → has cs c ≡ true → f c ≡ true → has (filter f cs) c ≡ true
-kept_has f [] c h k = h
-kept_has f (d ∷ cs) c h k = go (f d) refl (nat_eq d c) refl h (λ e. kept_has f cs c e k)
-  where
-    go : (g : Bool) → f d ≡ g → (b : Bool) → nat_eq d c ≡ b → (b || has cs c) ≡ true → (has cs c ≡ true → has (filter f cs) c ≡ true) → has (if g then d ∷ filter f cs else filter f cs) c ≡ true
-    go true e true q i ih = ap (λ b. b || has (filter f cs) c) q
-    go true e false q i ih = or_right (nat_eq d c) (has (filter f cs) c) (ih i)
-    go false e true q i ih = clashes (f c) k (ap f (sym (nat_same d c q)) ∙ e)
-    go false e false q i ih = ih i
 
 kept_from : (f : ℕ → Bool) (cs : List ℕ) (c : ℕ) → has (filter f cs) c ≡ true → has cs c ≡ true
 kept_from f [] c h = h
@@ -149,17 +140,17 @@ filter_has f v (w ∷ vs) m e = go (f w) refl m (λ k. filter_has f v vs k e)
     go false q (inl s) ih = clashes (f v) e (ap f s ∙ q)
     go false q (inr k) ih = ih k
 
-seen_outside : (ss : List SymbolTree) (v : Var) (vs : List Var) → IsOneOf v vs → (IsOneOf v (filter (stays_in ss) vs) → ⊥) → goes_out ss (number v) ≡ true
-seen_outside ss v vs m n = go (goes_out ss (number v)) refl
+seen_outside : (ss : List SymbolTree) (v : Var) (vs : List Var) → IsOneOf v vs → (IsOneOf v (filter (stays_in ss) vs) → ⊥) → is_visible_to_callers ss (number v) ≡ true
+seen_outside ss v vs m n = go (is_visible_to_callers ss (number v)) refl
   where
-    go : (b : Bool) → goes_out ss (number v) ≡ b → b ≡ true
+    go : (b : Bool) → is_visible_to_callers ss (number v) ≡ b → b ≡ true
     go true e = refl
     go false e = absurd (n (filter_has (stays_in ss) v vs m (ap not e)))
 
 summary_done : (ok : ℕ → Type 0) (ss : List SymbolTree) (t : Transformer) → IsDone ok t → IsDone ok (summary_of ss t)
 summary_done ok ss t d = record {
-  cells = λ c e. d.cells c (kept_from (goes_out ss) t.cells c e);
-  system = system_more (λ w. In w × (IsOneOf w (hidden_vars ss t.system) → ⊥)) (IsHalfOf ok (filter (goes_out ss) t.cells)) stay (project t.system (hidden_vars ss t.system)).system
+  cells = λ c e. d.cells c (kept_from (is_visible_to_callers ss) t.cells c e);
+  system = system_more (λ w. In w × (IsOneOf w (hidden_vars ss t.system) → ⊥)) (IsHalfOf ok (filter (is_visible_to_callers ss) t.cells)) stay (project t.system (hidden_vars ss t.system)).system
       (project_neat In t.system (hidden_vars ss t.system) (neat_in (IsHalfOf ok t.cells) xs t.system d.system (rows_covered [] t.system.rows)));
 } where
   xs : List Var
@@ -168,15 +159,15 @@ summary_done ok ss t d = record {
   In : Var → Type 0
   In w = IsHalfOf ok t.cells w × IsOneOf w xs
 
-  stay : (v : Var) → In v × (IsOneOf v (hidden_vars ss t.system) → ⊥) → IsHalfOf ok (filter (goes_out ss) t.cells) v
+  stay : (v : Var) → In v × (IsOneOf v (hidden_vars ss t.system) → ⊥) → IsHalfOf ok (filter (is_visible_to_callers ss) t.cells) v
   stay (Cell n) p = p.0.0
-  stay (Exit n) p = kept_has (goes_out ss) t.cells n p.0.0 (seen_outside ss (Exit n) xs p.0.1 p.1)
+  stay (Exit n) p = kept_has (is_visible_to_callers ss) t.cells n p.0.0 (seen_outside ss (Exit n) xs p.0.1 p.1)
   stay (Phi n) p = absurd p.0.0
   stay (Aux n) p = absurd p.0.0
 
 -- ---- the cells of a module
 
-named_flag : (flags : List Bool) (o : Option ℕ) (c : ℕ) → if_cell flags o ≡ Some c → is_cell flags c ≡ true
+pub named_flag : (flags : List Bool) (o : Option ℕ) (c : ℕ) → if_cell flags o ≡ Some c → is_cell flags c ≡ true
 named_flag flags None c e = cc
 named_flag flags (Some n) c e = go (is_cell flags n) refl e
   where
@@ -185,12 +176,12 @@ named_flag flags (Some n) c e = go (is_cell flags n) refl e
     go false q k = cc
 
 -- the flag at a place is set
-record Flag (n : ℕ) (flags : List Bool) (c : ℕ) : Type 0 where
+pub record Flag (n : ℕ) (flags : List Bool) (c : ℕ) : Type 0 where
   pub place : ℕ
   pub is_place : c ≡ n + place
   pub is_set : slice_get flags place ≡ Some true
 
-unit_flag : (n : ℕ) (ss : List SymbolTree) (flags : List Bool) (b : List ℕ) (o c : ℕ) → tracked_from n ss flags b o ≡ Some c → Flag n flags c
+pub unit_flag : (n : ℕ) (ss : List SymbolTree) (flags : List Bool) (b : List ℕ) (o c : ℕ) → tracked_from n ss flags b o ≡ Some c → Flag n flags c
 unit_flag n [] flags b o c e = cc
 unit_flag n (s ∷ ss) [] b o c e = cc
 unit_flag n (s ∷ ss) (f ∷ fs) b o c e = go f refl (is_unit b o s.place) e (unit_flag (suc n) ss fs b o c)
@@ -203,7 +194,7 @@ unit_flag n (s ∷ ss) (f ∷ fs) b o c e = go f refl (is_unit b o s.place) e (u
     go true q false k ih = later (ih k)
     go false q u k ih = later (ih k)
 
-set_cell : (flags : List Bool) (k : ℕ) → slice_get flags k ≡ Some true → is_cell flags (suc k) ≡ true
+pub set_cell : (flags : List Bool) (k : ℕ) → slice_get flags k ≡ Some true → is_cell flags (suc k) ≡ true
 set_cell flags k e =
     let a : suc k - 1 ≡ k = omega arith in
     let z : nat_eq (suc k) 0 ≡ false = ne_eqb (suc k) 0 (λ q. absurd (omega (arith, q))) in

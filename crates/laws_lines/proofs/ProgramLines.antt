@@ -6,9 +6,9 @@ use Rattle.f77_ast.specs.declared.variable.Unit.{Unit as BlockUnit}
 use Rattle.f77_ast.specs.Symbols.{SymbolTree}
 use Rattle.call_graph.specs.declared.graph.Graph.{Graph}
 use Rattle.f77_meaning.specs.Modules.{Known, known_of, symbol_names}
-use Rattle.transformers.specs.Given.{Callees}
-use Rattle.roundtrip_systems.specs.Printed.{AreNames}
-use Rattle.scalar_phases.specs.Phases.{place_of, module_at, module_of, Found, no_callees, with_callee, found_of, maybe_found, found_in, Analysis, sites_of, analysis_of, analyses_from, analyses}
+use Rattle.preconditions.specs.transformers.Given.{Callees}
+use Rattle.system_text.specs.Printed.{AreNames}
+use Rattle.loop_marker.specs.module_phases.ScalarPhases.{place_of, module_at, module_of, Found, no_callees, with_callee, found_of, maybe_found, found_in, Analysis, sites_of, analysis_of, analyses_from, analyses}
 use Rattle.laws_programs.specs.Programs.{AreTables}
 use Rattle.laws_lines.specs.NameLaws.{AreWords}
 use Rattle.laws_lines.specs.LineLaws.{LinesMeanResults, AnalysesAreReadBack}
@@ -47,7 +47,7 @@ module _ (W : Known → Type 0) where
 
 -- ---- the names of its modules
 
-abbrev HasNames : Known → Type 0
+abbrev pub HasNames : Known → Type 0
 HasNames k = AreNames (symbol_names k.symbols)
 
 tables_named : (ps : List ParsedTree) (sss : List (List SymbolTree)) → AreTables ps sss → All AreWords sss → EachOf HasNames (known_of ps sss)

@@ -12,13 +12,13 @@ use Rattle.affine_systems.specs.Points.{value, only, factor_of}
 use Rattle.affine_systems.specs.Normal.{divisor, divided, last_is_negative, is_small, are_small, Normal, Kept, Always, Never, TooBig, without_terms, turned, turned_if_small, divided_by, start_of, normal_terms, normal}
 use Rattle.affine_systems.proofs.Basics.{if_cases}
 use Rattle.affine_systems.proofs.TermLaws.{true-var_eq}
-use Rattle.affine_systems.proofs.TidyLaws.{clash}
 use Rattle.affine_systems.proofs.AscendLaws.{var_lt-apart, var_eq-sym, ascends-combined, factor_of-there, factor_of-first}
 use Rattle.affine_systems.proofs.ReducedLaws.{kept-reduced}
 use Rattle.affine_systems.proofs.FitLaws.{IsTidy, kept-ascends, tidy_small, tidy_lasts}
 use Rattle.affine_systems.proofs.LastLaws.{Lasts, Survives}
 use Rattle.affine_systems.proofs.LackLaws.{Nil, factor-only}
 use Rattle.laws_lines.specs.Variables.{EachVar}
+use Rattle.fx_lists.proofs.Booleans.{clash}
 
 -- ---- terms
 

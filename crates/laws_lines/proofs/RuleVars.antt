@@ -11,23 +11,25 @@ use Rattle.hull_projection.specs.Closure.{exit_of}
 use Rattle.hull_projection.specs.Project.{project}
 use Rattle.hull_projection.specs.Hull.{hull}
 use Rattle.hull_projection.specs.Laws.{IsOneOf}
-use Rattle.system_renaming.specs.Renaming.{naming, renamed_by, rename_all}
-use Rattle.system_renaming.specs.Fresh.{fresh_over}
+use Rattle.preconditions.specs.transformer_algebra.Renaming.{naming, renamed_by, rename_all}
+use Rattle.preconditions.specs.transformer_algebra.Fresh.{fresh_over}
 use Rattle.affine_forms.specs.declared.affine.Affine.{Affine}
 use Rattle.affine_forms.specs.Comparisons.{var_form, same_row}
-use Rattle.transformer_algebra.specs.declared.transformer.Transformer.{Transformer}
-use Rattle.transformer_algebra.specs.Cells.{has, joined_cells, others}
-use Rattle.transformer_algebra.specs.Halves.{first_names, second_names, middle, to_cells, cell_vars}
-use Rattle.transformer_algebra.specs.Transformers.{test, unchanging, nowhere, forgotten, exit_system, assign, followed, without, apply, equals, complete, cells_from, all_cells, hull_of_arms, one_of, iterate}
-use Rattle.transformer_algebra.proofs.CellLaws.{nat_same, nat_eq_same, clashes, left_in, right_in, joined_in}
-use Rattle.transformer_algebra.proofs.HalfLaws.{to_cells_exit, to_cells_cell}
-use Rattle.transformer_algebra.proofs.GivenSteps.{are_cells}
+use Rattle.preconditions.specs.transformer_algebra.declared.transformer.Transformer.{Transformer}
+use Rattle.preconditions.specs.transformer_algebra.Cells.{has, joined_cells, others}
+use Rattle.preconditions.specs.transformer_algebra.Halves.{first_names, second_names, middle, to_cells, cell_vars}
+use Rattle.preconditions.specs.transformer_algebra.Transformers.{test, identity_transformer, nowhere, forgotten, exit_system, assign, followed, without, apply, equals, complete, cells_from, all_cells, hull_of_arms, one_of, iterate}
+use Rattle.preconditions.proofs.TransformerAlgebra.CellLaws.{left_in, right_in, joined_in}
+use Rattle.preconditions.proofs.TransformerAlgebra.HalfLaws.{to_cells_exit, to_cells_cell}
+use Rattle.preconditions.proofs.TransformerAlgebra.GivenSteps.{are_cells}
 use Rattle.laws_lines.specs.Variables.{IsCellOf}
 use Rattle.laws_lines.specs.Halves.{IsHalfOf, IsTransformerOf}
 use Rattle.laws_lines.proofs.RowVars.{each_more}
 use Rattle.laws_lines.proofs.SystemVars.{IsNeat, AreGiven, neat_over, system_more, meet_neat, push_rows_neat, of_rows_neat, project_neat, rename_neat}
 use Rattle.laws_lines.proofs.HullVars.{Any, hull_neat, closure_neat}
 use Rattle.laws_lines.proofs.FormVars.{FormOf, compared_given, none_neat, infeasible_neat}
+use Rattle.fx_lists.proofs.Numbers.{same_is as nat_same, nat_eq_same}
+use Rattle.fx_lists.proofs.Booleans.{clash as clashes}
 
 -- ---- a transformer over such cells, of tidied rows
 
@@ -69,7 +71,7 @@ head_has d ds = or_left (nat_eq d d) (has ds d) (nat_eq_same d)
 pub test_done : (ok : ℕ → Type 0) (s : System) → IsNeat (IsCellOf ok) s → IsDone ok (test s)
 test_done ok s h = record { cells = none_has ok; system = system_more (IsCellOf ok) (IsHalfOf ok []) (cell_half ok []) s h }
 
-pub unchanging_done : (ok : ℕ → Type 0) → IsDone ok unchanging
+pub unchanging_done : (ok : ℕ → Type 0) → IsDone ok identity_transformer
 unchanging_done ok = record { cells = none_has ok; system = none_neat (IsHalfOf ok []) }
 
 pub nowhere_done : (ok : ℕ → Type 0) → IsDone ok nowhere

@@ -6,14 +6,13 @@ use Rattle.affine_systems.specs.declared.row.Var.TheVariants.{Cell, Exit, Phi, A
 use Rattle.affine_systems.specs.Terms.{var_eq}
 use Rattle.affine_systems.specs.Rows.{renamed_row}
 use Rattle.affine_systems.proofs.TermLaws.{var_eq-true, true-var_eq}
-use Rattle.affine_systems.proofs.TidyLaws.{clash}
 use Rattle.hull_projection.specs.Variables.{with_rows}
 use Rattle.hull_projection.specs.Project.{project}
 use Rattle.hull_projection.specs.Laws.{IsOneOf}
 use Rattle.hull_projection.proofs.VarLaws.{rows_covered, rows_more, kept-rows}
-use Rattle.system_renaming.specs.declared.naming.Naming.{Naming}
-use Rattle.system_renaming.specs.Renaming.{naming, renamed_by, rename_all, push_rows}
-use Rattle.system_renaming.specs.Fresh.{above_rows}
+use Rattle.preconditions.specs.transformer_algebra.declared.naming.Naming.{Naming}
+use Rattle.preconditions.specs.transformer_algebra.Renaming.{naming, renamed_by, rename_all, push_rows}
+use Rattle.preconditions.specs.transformer_algebra.Fresh.{above_rows}
 use Rattle.f77_ast.specs.Trees.{ExprTree}
 use Rattle.f77_ast.specs.declared.symbol.Place.{Place}
 use Rattle.f77_ast.specs.declared.symbol.Place.TheVariants.{Local, Dummy, Block, Constant}
@@ -24,19 +23,21 @@ use Rattle.tracked_cells.specs.Standing.{is_int_scalar}
 use Rattle.affine_forms.specs.declared.affine.Affine.{Affine}
 use Rattle.affine_forms.specs.Scalars.{is_cell}
 use Rattle.affine_forms.specs.Comparisons.{var_form}
-use Rattle.call_translation.specs.Scopes.{ScopeTree}
-use Rattle.call_translation.specs.Actuals.{actual_of, form_in}
-use Rattle.call_translation.specs.Variables.{auxiliary_of, auxiliaries_in}
-use Rattle.call_translation.specs.Sites.{HoldingSite}
-use Rattle.call_translation.specs.SiteEntry.{form_at, row_for, row_of, rows_from, same_unit, kept_cell, or_aux, in_callee, names_from, site_entry}
+use Rattle.preconditions.specs.call_translation.Scopes.{ScopeTree}
+use Rattle.preconditions.specs.call_translation.Actuals.{actual_of, form_in}
+use Rattle.preconditions.specs.call_translation.Variables.{auxiliary_of, auxiliaries_in}
+use Rattle.preconditions.specs.call_translation.Sites.{HoldingSite}
+use Rattle.preconditions.specs.call_translation.SiteEntry.{form_at, row_for, row_of, rows_from, same_unit, kept_cell, or_aux, in_callee, names_from, site_entry}
 use Rattle.preconditions.specs.Entry.{begins_with, initial_row, initial_from, entry_of}
 use Rattle.laws_lines.specs.Variables.{EachVar, IsCellOf}
 use Rattle.laws_lines.proofs.RowVars.{each_more, Given}
-use Rattle.laws_lines.proofs.SystemVars.{IsNeat, AreGiven, all_more, all-append, system_more, push_rows_neat, of_rows_neat, project_neat, rename_neat, renamed_given}
+use Rattle.laws_lines.proofs.SystemVars.{IsNeat, AreGiven, all-append, system_more, push_rows_neat, of_rows_neat, project_neat, rename_neat, renamed_given}
 use Rattle.laws_lines.proofs.FormVars.{FormOf, affine_over, compared_given}
 use Rattle.laws_lines.proofs.CallVars.{Every, Allows, one_back, aux_front, rows_in, neat_in}
 use Rattle.laws_lines.proofs.StatementVars.{Scope}
 use Rattle.laws_lines.proofs.HoldVars.{AreNeat, some_neat}
+use Rattle.fx_lists.proofs.Booleans.{clash}
+use Rattle.elimination.proofs.ClosedLaws.{rows_weaker as all_more}
 
 -- INTEGER scalar dummies have such numbers, where the first of the symbols has the number n
 abbrev pub DummiesFrom : (ℕ → Type 0) → ℕ → List SymbolTree → Type 0

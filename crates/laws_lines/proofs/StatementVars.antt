@@ -5,22 +5,22 @@ use Rattle.affine_systems.specs.Calls.{meet}
 use Rattle.affine_systems.proofs.Basics.{if_cases}
 use Rattle.f77_ast.specs.Trees.{ExprTree, ExprTrees, StmtTree, WhatTree, ArmTree, ArmTrees, ElseTree, LoopTree, StmtTrees}
 use Rattle.f77_ast.specs.Trees as tree
-use Rattle.f77_results.specs.declared.results.At.{At}
+use Rattle.f77_ast.specs.declared.results.At.{At}
 use Rattle.affine_forms.specs.declared.affine.Affine.{Affine}
 use Rattle.affine_forms.specs.Scalars.{is_cell}
 use Rattle.affine_forms.specs.Forms.{affine_of}
 use Rattle.affine_forms.specs.Conditions.{no_rows, condition_of}
-use Rattle.transformer_algebra.specs.declared.transformer.Transformer.{Transformer}
-use Rattle.transformer_algebra.specs.Cells.{has}
-use Rattle.transformer_algebra.specs.Transformers.{test, unchanging, nowhere, followed}
-use Rattle.call_translation.specs.Scopes.{ScopeTree}
-use Rattle.call_translation.specs.Actuals.{named_cell, one_cell}
-use Rattle.transformers.specs.Given.{Callees}
-use Rattle.transformers.specs.Jumps.{unstructured, is_end}
-use Rattle.transformers.specs.Lists.{followed_by, in_order, in_any_order, list_of}
-use Rattle.transformers.specs.Loops.{number_in, loop_parts}
-use Rattle.transformers.specs.Simple.{becomes, named_cells}
-use Rattle.transformers.specs.Statement.{where_holds, if_does, choice, without_arm, without_arms, stmt_transformer, what_transformer, each_transformer, arm_transformers, arm_transformer, else_transformer, body_transformer, list_transformer, at_stmt, at_parts, at_list, at_arms, at_arm, at_else, at_loop}
+use Rattle.preconditions.specs.transformer_algebra.declared.transformer.Transformer.{Transformer}
+use Rattle.preconditions.specs.transformer_algebra.Cells.{has}
+use Rattle.preconditions.specs.transformer_algebra.Transformers.{test, identity_transformer, nowhere, followed}
+use Rattle.preconditions.specs.call_translation.Scopes.{ScopeTree}
+use Rattle.preconditions.specs.call_translation.Actuals.{named_cell, one_cell}
+use Rattle.preconditions.specs.transformers.Given.{Callees}
+use Rattle.preconditions.specs.transformers.Jumps.{unstructured, is_end}
+use Rattle.preconditions.specs.transformers.Lists.{followed_by, in_order, in_any_order, list_of}
+use Rattle.preconditions.specs.transformers.Loops.{number_in, loop_parts}
+use Rattle.preconditions.specs.transformers.Simple.{becomes, named_cells}
+use Rattle.preconditions.specs.transformers.Statement.{where_holds, if_does, choice, without_arm, without_arms, stmt_transformer, what_transformer, each_transformer, arm_transformers, arm_transformer, else_transformer, body_transformer, list_transformer, at_stmt, at_parts, at_list, at_arms, at_arm, at_else, at_loop}
 use Rattle.laws_lines.specs.Variables.{IsCellOf}
 use Rattle.laws_lines.specs.Halves.{IsHalfOf}
 use Rattle.laws_lines.proofs.SystemVars.{IsNeat, meet_neat}
@@ -92,9 +92,9 @@ module _ (ok : ℕ → Type 0) (m : ScopeTree) (a : Scope ok m) where
   if_done e t d =
       let yes = meet no_rows (condition_of m.scalars e).yes in
       let no = meet no_rows (condition_of m.scalars e).no in
-      one_of_done ok (where_holds yes t ∷ where_holds no unchanging ∷ []) (
+      one_of_done ok (where_holds yes t ∷ where_holds no identity_transformer ∷ []) (
         where_done yes t (meet_neat (IsCellOf ok) no_rows (condition_of m.scalars e).yes (none_neat (IsCellOf ok)) (yes_neat e)) d,
-        (where_done no unchanging (meet_neat (IsCellOf ok) no_rows (condition_of m.scalars e).no (none_neat (IsCellOf ok)) (no_neat e)) (unchanging_done ok), tt),
+        (where_done no identity_transformer (meet_neat (IsCellOf ok) no_rows (condition_of m.scalars e).no (none_neat (IsCellOf ok)) (no_neat e)) (unchanging_done ok), tt),
       )
 
   choice_done : (ts : List Transformer) (before : System) (t : Transformer) → AreDone ok ts → IsNeat (IsCellOf ok) before → IsDone ok t → IsDone ok (choice ts before t)
@@ -125,7 +125,7 @@ module _ (ok : ℕ → Type 0) (m : ScopeTree) (a : Scope ok m) where
       what_done (tree.call x es) last = call_done ok m a.allows (cs x) es (fit x)
       what_done (tree.goto l) last = nowhere_done ok
       what_done tree.continue last = unchanging_done ok
-      what_done tree.return last = if_cases (IsDone ok) last unchanging nowhere (λ e. unchanging_done ok) (λ e. nowhere_done ok)
+      what_done tree.return last = if_cases (IsDone ok) last identity_transformer nowhere (λ e. unchanging_done ok) (λ e. nowhere_done ok)
       what_done (tree.stop text) last = nowhere_done ok
       what_done (tree.print es) last = unchanging_done ok
       what_done (tree.read es) last = forgotten_done ok (named_cells m.scalars es) (read_ok es)

@@ -5,9 +5,9 @@ use Rattle.f77_ast.specs.DeclTrees.{SettingTree, DeclTree, ParsedTree}
 use Rattle.f77_ast.specs.DeclTrees as decl
 use Rattle.f77_ast.specs.declared.constant.Constant.{Constant}
 use Rattle.f77_ast.specs.declared.constant.Constant.TheVariants as constant
-use Rattle.f77_ast.specs.declared.constant.Worth.{Worth}
-use Rattle.f77_ast.specs.declared.constant.Worth.TheVariants.{Is, Faults, Varies}
-use Rattle.f77_ast.specs.Constants.{worth}
+use Rattle.f77_ast.specs.declared.constant.ConstantValue.{ConstantValue}
+use Rattle.f77_ast.specs.declared.constant.ConstantValue.TheVariants.{Is, Faults, Varies}
+use Rattle.f77_ast.specs.Constants.{const_value}
 use Rattle.f77_ast.specs.Symbols.{SymbolTree}
 use Rattle.f77_names.specs.declared.kinds.Kind.{Kind}
 use Rattle.f77_names.specs.declared.kinds.Kind.TheVariants.{Int, Log, Real}
@@ -15,13 +15,14 @@ use Rattle.f77_names.specs.declared.lines.Sited.TheVariants.{Decl}
 use Rattle.f77_names.specs.Lines.{LineTable, line_or}
 use Rattle.f77_names.specs.Entries.{EntryTree, entry_names, changed, with_value, value_among}
 use Rattle.f77_names.specs.Tables.{table_of, kind_in, check_names}
-use Rattle.f77_checks.specs.Parameters.{Valued, given_typed, given_worth, setting_valued, settings_valued, decl_valued, decls_valued}
+use Rattle.f77_checks.specs.Parameters.{Valued, given_typed, given_const_value, setting_valued, settings_valued, decl_valued, decls_valued}
 use Rattle.f77_meaning.specs.Modules.{symbol_names}
 use Rattle.storage_layout.specs.Symbols.{valued, symbols_of}
 use Rattle.storage_layout.specs.Table.{Layout, symbols_from}
-use Rattle.laws_tables.proofs.KeptNames.{Said, with_said, Typed, Shaped, Shared, Parameter, Saved, Initial, Nothing}
-use Rattle.laws_tables.proofs.Values.{chosen, as_chosen, is_taken, judged}
-use Rattle.laws_tables.proofs.Answers.{answered_by, lines_in, names_in, layout_in}
+use Rattle.laws_programs.proofs.SymbolTables.KeptNames.{Said, with_said, Typed, Shaped, Shared, Parameter, Saved, Initial, Nothing}
+use Rattle.laws_programs.proofs.SymbolTables.Values.{chosen, as_chosen, is_taken, judged}
+use Rattle.laws_programs.proofs.SymbolTables.Answers.{answered_by, lines_in, names_in, layout_in}
+use Rattle.laws_programs.proofs.Storage.ParameterLaws.{same_name}
 
 -- ---- entries
 
@@ -37,15 +38,6 @@ names_stay x f same (e ∷ es) = go (bytes_eq x e.name) (names_stay x f same es)
     go : (b : Bool) → entry_names (changed x f es) ≡ entry_names es → entry_names (if b then f e ∷ es else e ∷ changed x f es) ≡ e.name ∷ entry_names es
     go true k = ap (λ (n : List ℕ). n ∷ entry_names es) (same e)
     go false k = ap (λ (ns : List (List ℕ)). e.name ∷ ns) k
-
-same_name : (w : Said) (e : EntryTree) → (with_said w e).name ≡ e.name
-same_name (Typed s) e = refl
-same_name (Shaped line b bs) e = refl
-same_name (Shared line) e = refl
-same_name Parameter e = refl
-same_name Saved e = refl
-same_name Initial e = refl
-same_name Nothing e = refl
 
 pub said_stay : (x : List ℕ) (w : Said) (es : List EntryTree) → entry_names (changed x (with_said w) es) ≡ entry_names es
 said_stay x w es = names_stay x (with_said w) (same_name w) es
@@ -65,14 +57,14 @@ typed_stay Log x (constant.Int i) line v = refl
 typed_stay Log x (constant.Log b) line v = value_stay x (constant.Log b) v.table.entries
 typed_stay Real x c line v = refl
 
-worth_stay : (x : List ℕ) (w : Worth) (line : ℕ) (v : Valued) → names_of (given_worth x w line v) ≡ names_of v
-worth_stay x Varies line v = refl
-worth_stay x Faults line v = refl
-worth_stay x (Is c) line v = typed_stay (kind_in v.table x) x c line v
+const_value_stay : (x : List ℕ) (w : ConstantValue) (line : ℕ) (v : Valued) → names_of (given_const_value x w line v) ≡ names_of v
+const_value_stay x Varies line v = refl
+const_value_stay x Faults line v = refl
+const_value_stay x (Is c) line v = typed_stay (kind_in v.table x) x c line v
 
 chosen_stay : (b : Bool) (s : SettingTree) (line : ℕ) (v : Valued) → names_of (chosen b s line v) ≡ names_of v
 chosen_stay true s line v = refl
-chosen_stay false s line v = worth_stay s.name (worth (value_among v.table.entries) s.value) line (judged s line v)
+chosen_stay false s line v = const_value_stay s.name (const_value (value_among v.table.entries) s.value) line (judged s line v)
 
 settings_stay : (ss : List SettingTree) (line : ℕ) (v : Valued) → names_of (settings_valued ss line v) ≡ names_of v
 settings_stay [] line v = refl

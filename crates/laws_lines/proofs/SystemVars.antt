@@ -20,16 +20,14 @@ use Rattle.hull_projection.specs.Clean.{is_spare, cleaned_behind, clean}
 use Rattle.hull_projection.specs.Project.{shadow, shadow_after, eliminate_each, project}
 use Rattle.hull_projection.specs.Laws.{IsOneOf}
 use Rattle.hull_projection.proofs.ProjectLaws.{project_nil}
-use Rattle.system_renaming.specs.declared.naming.Naming.{Naming}
-use Rattle.system_renaming.specs.Renaming.{renamed_by, rename_all, of_rows, push_rows}
+use Rattle.preconditions.specs.transformer_algebra.declared.naming.Naming.{Naming}
+use Rattle.preconditions.specs.transformer_algebra.Renaming.{renamed_by, rename_all, of_rows, push_rows}
 use Rattle.laws_lines.specs.Variables.{EachVar, IsOver}
 use Rattle.laws_lines.proofs.RowVars.{each-renamed, Given, Neat, neat_given, neat_more, neat_without, over_lasts, over_survives}
+use Rattle.elimination.proofs.ClosedLaws.{rows_weaker as all_more}
+use Rattle.hull_projection.proofs.CleanLaws.{cleaned_all}
 
 -- ---- lists of rows
-
-pub all_more : (P Q : Row → Type 0) → ((r : Row) → P r → Q r) → (rs : List Row) → AllRows P rs → AllRows Q rs
-all_more P Q f [] h = tt
-all_more P Q f (r ∷ rs) h = (f r h.0, all_more P Q f rs h.1)
 
 pub all-append : (P : Row → Type 0) (rs ss : List Row) → AllRows P rs → AllRows P ss → AllRows P (rs ++ ss)
 all-append P [] ss h k = k
@@ -84,13 +82,6 @@ rows_without q such bad [] h n = tt
 rows_without q such bad (r ∷ rs) h n = (neat_without q such bad r h.0 (λ w b. (n w b).0), rows_without q such bad rs h.1 (λ w b. (n w b).1))
 
 -- ---- projection
-
-cleaned_all : (P : Row → Type 0) (front rs : List Row) → AllRows P rs → AllRows P (cleaned_behind front rs)
-cleaned_all P front [] h = tt
-cleaned_all P front (r ∷ rs) h =
-    let after = cleaned_behind (front ++ r ∷ []) rs in
-    let ih = cleaned_all P (front ++ r ∷ []) rs h.1 in
-    if_cases (AllRows P) (is_spare (front ++ after) r) after (r ∷ after) (λ e. ih) (λ e. (h.0, ih))
 
 pub clean_neat : (such : Var → Type 0) (s : System) → IsNeat such s → IsNeat such (clean s)
 clean_neat such s h = cleaned_all (Neat false such) [] s.rows h

@@ -1,8 +1,7 @@
 -- The names of a table are distinct: a name is put behind those that are there unless it is one of them, and what is said of it leaves the names.
-use Rattle.std.proofs.Common.{◌≡◌, ℕ, suc, Bool, true, false, List, [], ◌∷◌, ◌++◌, Some, refl, sym, ◌∙◌, subst}
+use Rattle.std.proofs.Common.{◌≡◌, ℕ, suc, Bool, true, false, List, [], ◌∷◌, ◌++◌, Some, refl, sym, subst}
 use Rattle.std.specs.Prelude.{if◌then◌else◌, bytes_eq, is_some}
 use Rattle.std.specs.List.{IsDistinct, AllByRecursion}
-use Rattle.std.proofs.lemmas.Slice.Eq.{bytes_eq-Decides}
 use Rattle.f77_ast.specs.DeclTrees.{ModuleTree}
 use Rattle.f77_names.specs.declared.lines.Sited.TheVariants.{Title}
 use Rattle.f77_names.specs.Lines.{LineTable, line_or}
@@ -11,10 +10,11 @@ use Rattle.f77_names.specs.Entries.{EntryTree, fresh, find, entry_names, seen, c
 use Rattle.f77_names.specs.Declaring.{Told, dummy_told, dummies_told, decls_told}
 use Rattle.f77_names.specs.Tables.{no_names, table_of}
 use Rattle.f77_meaning.specs.Modules.{symbol_names}
-use Rattle.laws_tables.proofs.KeptNames.{Said, with_said, decls_keep, stmts_keep}
-use Rattle.laws_tables.proofs.Answers.{lines_in}
+use Rattle.laws_programs.proofs.SymbolTables.KeptNames.{Said, with_said, decls_keep, stmts_keep}
+use Rattle.laws_programs.proofs.SymbolTables.Answers.{lines_in}
 use Rattle.laws_lines.specs.NameLaws.{NamesAreDistinct}
 use Rattle.laws_lines.proofs.SymbolNames.{names-last, names_stay, said_stay, names_of_symbols}
+use Rattle.fx_lists.proofs.Lists.{other_way as turned}
 
 -- ---- distinct names
 
@@ -34,13 +34,6 @@ distinct_is : (xs : List (List ℕ)) → Distinct xs → IsDistinct bytes_eq xs
 unfolding IsDistinct
 distinct_is [] h = tt
 distinct_is (x ∷ xs) h = (apart_is x xs h.0, distinct_is xs h.1)
-
-turned : (x y : List ℕ) → bytes_eq x y ≡ false → bytes_eq y x ≡ false
-turned x y h = go (bytes_eq y x) refl
-  where
-    go : (b : Bool) → bytes_eq y x ≡ b → b ≡ false
-    go true e = sym ((bytes_eq-Decides x y).1 (sym ((bytes_eq-Decides y x).0 e))) ∙ h
-    go false e = refl
 
 apart-last : (y x : List ℕ) (ys : List (List ℕ)) → Apart y ys → bytes_eq y x ≡ false → Apart y (ys ++ x ∷ [])
 apart-last y x [] h e = (e, tt)

@@ -5,11 +5,11 @@ use Rattle.f77_ast.specs.DeclTrees.{ParsedTree}
 use Rattle.f77_ast.specs.Symbols.{SymbolTree}
 use Rattle.f77_ast.specs.declared.variable.Unit.{Unit as BlockUnit}
 use Rattle.call_graph.specs.declared.graph.Graph.{Graph}
-use Rattle.f77_results.specs.declared.results.At.{At}
+use Rattle.f77_ast.specs.declared.results.At.{At}
 use Rattle.f77_meaning.specs.Modules.{Known, known_of}
 use Rattle.affine_forms.specs.Scalars.{is_cell}
-use Rattle.transformer_algebra.specs.declared.transformer.Transformer.{Transformer}
-use Rattle.scalar_phases.specs.Phases.{Analysis, scope_of, analyses}
+use Rattle.preconditions.specs.transformer_algebra.declared.transformer.Transformer.{Transformer}
+use Rattle.loop_marker.specs.module_phases.ScalarPhases.{Analysis, scope_of, analyses}
 use Rattle.laws_programs.specs.Programs.{AreTables}
 use Rattle.laws_lines.specs.Variables.{IsOver, IsCellOf}
 use Rattle.laws_lines.specs.Halves.{IsTransformerOf}

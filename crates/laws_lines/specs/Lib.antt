@@ -4,3 +4,8 @@ pub mod NameLaws
 pub mod Laws
 pub mod Lines
 pub mod LineLaws
+pub mod Ins
+pub mod Outs
+pub mod Regions
+pub mod Marks
+pub mod RegionTexts

@@ -4,8 +4,8 @@ use Rattle.f77_ast.specs.DeclTrees.{ParsedTree}
 use Rattle.f77_ast.specs.Symbols.{SymbolTree}
 use Rattle.call_graph.specs.declared.graph.Graph.{Graph}
 use Rattle.f77_meaning.specs.Modules.{known_of, symbol_names}
-use Rattle.claim_lines.specs.ScalarLines.{scalar_lines_of}
-use Rattle.scalar_phases.specs.Phases.{Analysis, analyses}
+use Rattle.result_lines.specs.ScalarLines.{scalar_lines_of}
+use Rattle.loop_marker.specs.module_phases.ScalarPhases.{Analysis, analyses}
 use Rattle.laws_programs.specs.Programs.{AreTables}
 use Rattle.laws_lines.specs.NameLaws.{AreWords}
 use Rattle.laws_lines.specs.Lines.{EachMeans}

@@ -3,10 +3,10 @@ use Rattle.std.specs.Prelude.{◌≡◌, ◌⊎◌, ℕ, List, All, Some}
 use Rattle.affine_systems.specs.declared.row.System.{System}
 use Rattle.f77_printer.specs.declared.added.Added.{Added}
 use Rattle.f77_meaning.specs.Modules.{symbol_names}
-use Rattle.transformer_algebra.specs.declared.transformer.Transformer.{Transformer}
-use Rattle.transformers.specs.Lists.{value_at}
-use Rattle.roundtrip_systems.specs.Reading.{read_precondition_line, read_transformer_line}
-use Rattle.scalar_phases.specs.Phases.{Analysis}
+use Rattle.preconditions.specs.transformer_algebra.declared.transformer.Transformer.{Transformer}
+use Rattle.preconditions.specs.transformers.Lists.{value_at}
+use Rattle.system_text.specs.Reading.{read_precondition_line, read_transformer_line}
+use Rattle.loop_marker.specs.module_phases.ScalarPhases.{Analysis}
 
 -- what was found to hold where the statement of a number begins, or, by the number 0, where the module is entered
 abbrev pub HoldsThere : Analysis → ℕ → System → Type 0

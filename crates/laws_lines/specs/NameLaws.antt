@@ -7,7 +7,7 @@ use Rattle.f77_parser.specs.Modules.{parse_of}
 use Rattle.f77_ast.specs.Symbols.{SymbolTree}
 use Rattle.f77_meaning.specs.Modules.{symbol_names}
 use Rattle.storage_layout.specs.Symbols.{symbols_of}
-use Rattle.roundtrip_systems.specs.Printed.{is_name}
+use Rattle.system_text.specs.Printed.{is_name}
 use Rattle.laws_programs.specs.Programs.{AreTables}
 
 -- in the table of a module that is not refused no two symbols have one name (ANSI X3.9-1978 §18.1)

@@ -3,7 +3,7 @@ use Rattle.std.proofs.Common.{◌≡◌, ◌⊎◌, inl, inr, ⊎_elim, ℕ, zer
 use Rattle.std.specs.Prelude.{if◌then◌else◌, slice_get, nat_le, nat_lt, bytes_eq}
 use Rattle.std.proofs.lemmas.Slice.Eq.{bytes_eq-Decides}
 use Rattle.std.specs.List.{list_any}
-use Rattle.std.proofs.lemmas.Bool.{and_from, or_left, or_right, eqb-true, le-leb, lt-ltb}
+use Rattle.std.proofs.lemmas.Bool.{and_from, or_left, or_right, le-leb, lt-ltb}
 use Rattle.std.proofs.lemmas.Bool.Decides.{nat_tests}
 use Rattle.f77_ast.specs.DeclTrees.{ParsedTree}
 use Rattle.f77_ast.specs.Calls.{Dummy, in_place}
@@ -23,58 +23,44 @@ use Rattle.f77_meaning.specs.Laws.{area_of}
 use Rattle.f77_meaning.proofs.ModuleLaws.{names_meet, has_room}
 use Rattle.laws_programs.specs.Programs.{IsProgram}
 use Rattle.laws_programs.proofs.Tables.{programs_are_linked}
-use Rattle.laws_storage.specs.Activations.{is_dummy}
-use Rattle.laws_storage.specs.Calls.{AreLaidOut}
-use Rattle.laws_storage.specs.CellLaws.{units}
-use Rattle.laws_storage.specs.DataLaws.{AllConstantsFit}
-use Rattle.laws_storage.specs.Programs.{IsLinked, IsModule, known}
-use Rattle.laws_storage.proofs.LocalLaws.{group_at, next_symbol}
-use Rattle.laws_storage.proofs.LyingLaws.{Lying, lying_dummy, lying_local, lying_common, lying, variable_of}
-use Rattle.laws_storage.proofs.ModuleLaws.{declared, area_known, own_known, names_tell_modules}
-use Rattle.laws_storage.proofs.OwnUnitLaws.{own_units_are_no_names}
-use Rattle.laws_storage.proofs.PlaceLaws.{unit_positive, unit_of_name}
-use Rattle.laws_statements.specs.CallsIn.{Each}
+use Rattle.laws_programs.specs.Storage.Activations.{is_dummy}
+use Rattle.laws_programs.specs.Storage.Calls.{AreLaidOut}
+use Rattle.laws_programs.specs.Storage.CellLaws.{units}
+use Rattle.laws_programs.specs.Storage.DataLaws.{AllConstantsFit}
+use Rattle.laws_programs.specs.Storage.Programs.{IsLinked, IsModule, known}
+use Rattle.laws_programs.proofs.Storage.LocalLaws.{group_at, in_either, within_units}
+use Rattle.laws_programs.proofs.Storage.LyingLaws.{Lying, lying_dummy, lying_local, lying_common, lying, variable_of}
+use Rattle.laws_programs.proofs.Storage.ModuleLaws.{declared, area_known, own_known, names_tell_modules}
+use Rattle.laws_programs.proofs.Storage.OwnUnitLaws.{own_units_are_no_names}
+use Rattle.laws_programs.proofs.Storage.PlaceLaws.{unit_positive, unit_of_name}
+use Rattle.call_graph.specs.CallsIn.{Each}
 use Rattle.laws_analyses.proofs.IntegerLaws.{integers_fit}
-use Rattle.laws_analyses.proofs.MainLaws.{MainOf, some_main, main_from}
+use Rattle.laws_analyses.proofs.MainLaws.{MainOf, main_from}
 use Rattle.laws_analyses.proofs.Modules.{IsIn, subs, subs_in, subs_are}
 use Rattle.laws_analyses.proofs.UnitLaws.{in_own, module_at}
 use Rattle.laws_interleavings.specs.Typed.{IsNoDummy}
-use Rattle.laws_marked_plans.specs.Cleared.{IsApartFrom, AllApart}
+use Rattle.laws_interleavings.specs.Plans.Cleared.{IsApartFrom, AllApart}
 use Rattle.laws_marks.specs.Inactive.{IsOfExpression, IsOfModule, IsOfSome}
-use Rattle.laws_marks.specs.OwnLaws.{UnitsAreApart}
 use Rattle.laws_marks.proofs.Sizes.{units_positive}
+use Rattle.f77_ast.proofs.StorageLaws.{to_number as next_symbol}
+use Rattle.laws_programs.proofs.Effects.Once.{main_of_linked as some_main}
+use Rattle.laws_marks.specs.OwnLaws.{UnitsAreApart}
 
 -- ---- units of locals that are not saved
 
-within_units : (first n u : ℕ) → list_any (λ v. nat_eq v u) (units_from first n) ≡ true → (first ≤ u) × (u < first + n)
-within_units first zero u h = cc
-within_units first (suc n) u h = go (nat_eq first u) refl h (within_units (suc first) n u)
-  where
-    go : (c : Bool) → nat_eq first u ≡ c → (c || list_any (λ v. nat_eq v u) (units_from (suc first) n)) ≡ true → (list_any (λ v. nat_eq v u) (units_from (suc first) n) ≡ true → (suc first ≤ u) × (u < suc first + n)) → (first ≤ u) × (u < first + suc n)
-    go true e k ih = let same = eqb-true first u e in (omega (arith, same), omega (arith, same))
-    go false e k ih = let z = ih k in (omega (arith, z.0), omega (arith, z.1))
-
-in_either : (f : ℕ → Bool) (xs ys : List ℕ) → list_any f (xs ++ ys) ≡ true → (list_any f xs ≡ true) ⊎ (list_any f ys ≡ true)
-in_either f [] ys h = inr h
-in_either f (x ∷ xs) ys h = go (f x) refl h (in_either f xs ys)
-  where
-    go : (c : Bool) → f x ≡ c → (c || list_any f (xs ++ ys)) ≡ true → (list_any f (xs ++ ys) ≡ true → (list_any f xs ≡ true) ⊎ (list_any f ys ≡ true)) → ((f x || list_any f xs) ≡ true) ⊎ (list_any f ys ≡ true)
-    go true e k ih = inl (or_left (f x) (list_any f xs) e)
-    go false e k ih = ⊎_elim (λ a. inl (or_right (f x) (list_any f xs) a)) (λ b. inr b) (ih k)
-
 -- a local that is not saved, with the unit
-record LostAt (n : Numbering) (m : List ℕ) (ss rest : List SymbolTree) (u : ℕ) : Type 0 where
-  at : ℕ
-  symbol : SymbolTree
-  is_symbol : slice_get rest at ≡ Some symbol
-  storage : ℕ
-  offset : ℕ
-  lies : symbol.place ≡ place.Local storage offset
-  kept : symbol.saved ≡ false
-  from : unit_at n (group m storage) offset ≤ u
-  below : u < unit_at n (group m storage) offset + units_in ss symbol
+pub record LostAt (n : Numbering) (m : List ℕ) (ss rest : List SymbolTree) (u : ℕ) : Type 0 where
+  pub at : ℕ
+  pub symbol : SymbolTree
+  pub is_symbol : slice_get rest at ≡ Some symbol
+  pub storage : ℕ
+  pub offset : ℕ
+  pub lies : symbol.place ≡ place.Local storage offset
+  pub kept : symbol.saved ≡ false
+  pub from : unit_at n (group m storage) offset ≤ u
+  pub below : u < unit_at n (group m storage) offset + units_in ss symbol
 
-lost_here : (n : Numbering) (m : List ℕ) (ss rest : List SymbolTree) (s : SymbolTree) (u : ℕ) → list_any (λ v. nat_eq v u) (lost_units n m ss s s.place) ≡ true → LostAt n m ss (s ∷ rest) u
+pub lost_here : (n : Numbering) (m : List ℕ) (ss rest : List SymbolTree) (s : SymbolTree) (u : ℕ) → list_any (λ v. nat_eq v u) (lost_units n m ss s s.place) ≡ true → LostAt n m ss (s ∷ rest) u
 lost_here n m ss rest s u h = go s.place refl h
   where
     go : (q : Place) → s.place ≡ q → list_any (λ v. nat_eq v u) (lost_units n m ss s q) ≡ true → LostAt n m ss (s ∷ rest) u
@@ -87,7 +73,7 @@ lost_here n m ss rest s u h = go s.place refl h
     go (place.Block b o) e k = cc
     go (place.Constant v) e k = cc
 
-lost_among : (n : Numbering) (m : List ℕ) (ss rest : List SymbolTree) (u : ℕ) → list_any (λ v. nat_eq v u) (all_lost n m ss rest) ≡ true → LostAt n m ss rest u
+pub lost_among : (n : Numbering) (m : List ℕ) (ss rest : List SymbolTree) (u : ℕ) → list_any (λ v. nat_eq v u) (all_lost n m ss rest) ≡ true → LostAt n m ss rest u
 lost_among n m ss [] u h = cc
 lost_among n m ss (s ∷ rest) u h =
     ⊎_elim (λ a. lost_here n m ss rest s u a)

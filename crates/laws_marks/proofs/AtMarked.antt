@@ -27,24 +27,25 @@ use Rattle.f77_meaning.specs.Modules.{Known, known_of, is_function, names, symbo
 use Rattle.f77_meaning.specs.Linked.{numbering, routine, program_of}
 use Rattle.f77_meaning.specs.Areas.{Numbering}
 use Rattle.f77_meaning.specs.Processes.{Marked}
-use Rattle.transformer_algebra.specs.Cells.{has}
-use Rattle.transformer_algebra.specs.Laws.{In, here, there}
-use Rattle.transformers.specs.Lists.{value_at}
-use Rattle.scalar_phases.specs.Phases.{scope_of}
-use Rattle.region_sets.specs.declared.marks.Mark.TheVariants.{Parallel}
-use Rattle.loop_marker.specs.Phases.{ModuleMarks, known_in, all_marks}
-use Rattle.loop_bodies.specs.Finding.{loop_in}
+use Rattle.preconditions.specs.transformer_algebra.Cells.{has}
+use Rattle.preconditions.specs.transformer_algebra.Laws.{In, here, there}
+use Rattle.preconditions.specs.transformers.Lists.{value_at}
+use Rattle.loop_marker.specs.module_phases.ScalarPhases.{scope_of}
+use Rattle.f77_ast.specs.declared.marks.Mark.TheVariants.{Parallel}
+use Rattle.loop_marker.specs.Results.{ModuleResults}
+use Rattle.loop_marker.specs.Phases.{phases_of, all_marks}
+use Rattle.loop_marker.specs.dependence_test.Finding.{loop_in}
 use Rattle.laws_programs.specs.Programs.{IsProgram}
-use Rattle.laws_statements.specs.CallsIn.{Each}
+use Rattle.call_graph.specs.CallsIn.{Each}
 use Rattle.laws_analyses.proofs.Modules.{IsIn}
 use Rattle.laws_marks.specs.ConflictClaims.{loop_with}
 use Rattle.laws_marks.specs.ConflictExecutions.{Execution}
 use Rattle.laws_marks.proofs.ConflictModules.{numbered_above}
 use Rattle.laws_marks.proofs.ConflictWhats.{no_list}
-use Rattle.laws_interleavings.specs.Holds.{LoopHolds}
-use Rattle.laws_interleavings.specs.MarkedStatements.{MarkedScope, marked_loop, own_in}
+use Rattle.laws_interleavings.specs.Holds.{LoopHolds, MarksHold}
+use Rattle.laws_interleavings.specs.MarkedStatements.{MarkedScope, marked_loop, own_in, loop_with as directed}
 use Rattle.laws_interleavings.specs.MarkedPrograms.{Directives, marked_scope, marked_meanings}
-use Rattle.laws_regions.specs.Settings.{is_stored}
+use Rattle.laws_analyses.specs.Regions.Settings.{is_stored}
 use Rattle.laws_interleavings.specs.Typed.{TagsStand}
 use Rattle.laws_marks.specs.MarkedBegins.{Begins}
 use Rattle.laws_marks.specs.MarkedFit.{HasPrivateUnits, LoopIsFit, IsDeadAfter}
@@ -79,7 +80,7 @@ each_in P (y ∷ xs) x here h = h.0
 each_in P (y ∷ xs) x (there j) h = each_in P xs x j h.1
 
 module _ (begin : LoopsBegin) (hold : LoopsHold) (copied : NamesAreCopied) (ps : List ParsedTree) (sss : List (List SymbolTree)) (g : Graph) (x : IsProgram ps sss g) (turns : ℕ) (d : Directives) where
-  abbrev fs : List ModuleMarks
+  abbrev fs : List ModuleResults
   fs = all_marks g (outs_of ps sss g)
 
   abbrev of : Known → Routine
@@ -89,8 +90,8 @@ module _ (begin : LoopsBegin) (hold : LoopsHold) (copied : NamesAreCopied) (ps :
   P = program_of (known_of ps sss) g
 
   -- of a module, by its name
-  abbrev pub PlacesOf : Execution → ModuleMarks → Type 0
-  PlacesOf e f = (known_in f.outs).read.name ≡ e.spot.module_name → ModulePlacesStand (known_of ps sss) g f e
+  abbrev pub PlacesOf : Execution → ModuleResults → Type 0
+  PlacesOf e f = f.known.read.name ≡ e.spot.module_name → ModulePlacesStand (known_of ps sss) g f e
 
   -- what is claimed of an execution, and of what the run does after it
   pub record Claimed (e : Execution) (later : List Event) : Type 0 where
@@ -101,7 +102,7 @@ module _ (begin : LoopsBegin) (hold : LoopsHold) (copied : NamesAreCopied) (ps :
     pub placed : Each (PlacesOf e) (all_marks g (outs_of ps sss g))
     pub dead : AllMarkedLoopsAreDead (known_of ps sss) g (all_marks g (outs_of ps sss g)) (occurrence_of e later)
 
-  module _ (of_marks : AreOfMarks (all_marks g (outs_of ps sss g)) d) (modules : Each (λ (f : ModuleMarks). IsIn (known_of ps sss) (known_in f.outs)) (all_marks g (outs_of ps sss g))) (numbered : (k : Known) → IsIn (known_of ps sss) k → IsNumbered k.read.body) (k : Known) (is_in : IsIn (known_of ps sss) k) (xs : List Known) (behind : Each (IsIn (known_of ps sss)) xs)
+  module _ (of_marks : AreOfMarks (all_marks g (outs_of ps sss g)) d) (modules : Each (λ (f : ModuleResults). IsIn (known_of ps sss) f.known) (all_marks g (outs_of ps sss g))) (numbered : (k : Known) → IsIn (known_of ps sss) k → IsNumbered k.read.body) (k : Known) (is_in : IsIn (known_of ps sss) k) (xs : List Known) (behind : Each (IsIn (known_of ps sss)) xs)
       (distinct : Distinct (map of (k ∷ xs))) (st : Stands (program_of (known_of ps sss) g) turns (of k) (map of xs)) where
     abbrev sc : MarkedScope
     sc = marked_scope (of k) turns d (meanings (map of xs) turns) (marked_meanings (map of xs) turns d)
@@ -110,11 +111,11 @@ module _ (begin : LoopsBegin) (hold : LoopsHold) (copied : NamesAreCopied) (ps :
     N = numbering (known_of ps sss) g
 
     -- the module of a mark
-    same_module : (f : ModuleMarks) → In f fs → (known_in f.outs).read.name ≡ k.read.name → known_in f.outs ≡ k
+    same_module : (f : ModuleResults) → In f fs → f.known.read.name ≡ k.read.name → f.known ≡ k
     same_module f i e =
-        let h = each_in (λ (z : ModuleMarks). IsIn (known_of ps sss) (known_in z.outs)) fs f i modules in
-        let at : h.at ≡ is_in.at = names_once ps sss g (linked ps sss g x) h.at is_in.at (known_in f.outs) k h.is_module is_in.is_module e in
-        let one : Some (known_in f.outs) ≡ Some k = sym h.is_module ∙ ap (slice_get (known_of ps sss)) at ∙ is_in.is_module in
+        let h = each_in (λ (z : ModuleResults). IsIn (known_of ps sss) z.known) fs f i modules in
+        let at : h.at ≡ is_in.at = names_once ps sss g (linked ps sss g x) h.at is_in.at f.known k h.is_module is_in.is_module e in
+        let one : Some f.known ≡ Some k = sym h.is_module ∙ ap (slice_get (known_of ps sss)) at ∙ is_in.is_module in
         cc
 
     -- a DO
@@ -131,7 +132,7 @@ module _ (begin : LoopsBegin) (hold : LoopsHold) (copied : NamesAreCopied) (ps :
         m = marked_loop ns sc body at r w (lock locked w Locked)
 
         abbrev K : Known
-        K = known_in q.found.outs
+        K = q.found.known
 
         same : K ≡ k
         same = same_module q.found q.is_one q.named
@@ -142,10 +143,10 @@ module _ (begin : LoopsBegin) (hold : LoopsHold) (copied : NamesAreCopied) (ps :
         same_names : names k.symbols ≡ names K.symbols
         same_names = ap (λ (z : Known). names z.symbols) (sym same)
 
-        stand : NamesStand (known_of ps sss) g (scope_of g.untracked K) (names K.symbols) (loop_with g q.found.outs.known l) l q.privates at
+        stand : NamesStand (known_of ps sss) g (scope_of g.untracked K) (names K.symbols) (loop_with g (phases_of q.found).known l) l q.privates at
         stand =
-            each_in (λ (f : ModuleMarks). (known_in f.outs).read.name ≡ k.read.name → ModuleNamesStand (known_of ps sss) g f e) fs q.found q.is_one
-            (each_of_all (λ (f : ModuleMarks). (known_in f.outs).read.name ≡ k.read.name → ModuleNamesStand (known_of ps sss) g f e) fs c.names) q.named l is_do' q.privates q.mark
+            each_in (λ (f : ModuleResults). f.known.read.name ≡ k.read.name → ModuleNamesStand (known_of ps sss) g f e) fs q.found q.is_one
+            (each_of_all (λ (f : ModuleResults). f.known.read.name ≡ k.read.name → ModuleNamesStand (known_of ps sss) g f e) fs c.names) q.named l is_do' q.privates q.mark
 
         are : AreNamesOf ns (names K.symbols) l q.privates
         are = subst (λ (zs : List (List ℕ)). AreNamesOf zs (names K.symbols) l q.privates) (sym q.names) stand.written
@@ -176,29 +177,29 @@ module _ (begin : LoopsBegin) (hold : LoopsHold) (copied : NamesAreCopied) (ps :
             go false f =
                 let name = name_at (symbol_names K.symbols) n in
                 let one : In name ns = subst (λ (zs : List (List ℕ)). In name zs) (sym q.names) (in_map (name_at (symbol_names K.symbols)) n q.privates i) in
-                name_private (known_of ps sss) g (scope_of g.untracked K) at (loop_with g q.found.outs.known l) ns sc body r w (lock locked w Locked) name n u one
+                name_private (known_of ps sss) g (scope_of g.untracked K) at (loop_with g (phases_of q.found).known l) ns sc body r w (lock locked w Locked) name n u one
                 (ap (λ (f : Names). f name) same_names ∙ name_means K.symbols n p places.distinct f) h
             go true f =
                 let local = subst (λ (y : Known). list_any (λ c. nat_eq c u) (of y).locals ≡ true) same (nameless_local ps sss g x K k_in n p f (places.sole n i) u has) in
                 let outside = subst (λ (y : Known). IsOutside u (of y)) same (nameless_outside ps sss g x K k_in n p f (places.sole n i) u has) in
                 absurd (true≢false (sym v ∙ nameless_unwritten ps sss g x turns d numbered k is_in xs behind distinct st body numbers at tags locked off ns r w u local outside t s))
 
-        known : LoopIsKnown (known_of ps sss) g (scope_of g.untracked K) at (loop_with g q.found.outs.known l) m s i
+        known : LoopIsKnown (known_of ps sss) g (scope_of g.untracked K) at (loop_with g (phases_of q.found).known l) m s i
         known =
-            each_in (λ (f : ModuleMarks). (known_in f.outs).read.name ≡ k.read.name → MarkedLoopIsKnown (known_of ps sss) g f e) fs q.found q.is_one
-            (each_of_all (λ (f : ModuleMarks). (known_in f.outs).read.name ≡ k.read.name → MarkedLoopIsKnown (known_of ps sss) g f e) fs c.known) q.named c.unbroken l is_do' q.privates q.mark ns sc body r w (lock locked w Locked) locked same_names refl private_units b
+            each_in (λ (f : ModuleResults). f.known.read.name ≡ k.read.name → MarkedLoopIsKnown (known_of ps sss) g f e) fs q.found q.is_one
+            (each_of_all (λ (f : ModuleResults). f.known.read.name ≡ k.read.name → MarkedLoopIsKnown (known_of ps sss) g f e) fs c.known) q.named c.unbroken l is_do' q.privates q.mark ns sc body r w (lock locked w Locked) locked same_names refl private_units b
 
         dead : IsDeadAfter m s later
         dead =
-            each_in (λ (f : ModuleMarks). (known_in f.outs).read.name ≡ k.read.name → MarkedLoopIsDead (known_of ps sss) g f (occurrence_of e later)) fs q.found q.is_one
-            (each_of_all (λ (f : ModuleMarks). (known_in f.outs).read.name ≡ k.read.name → MarkedLoopIsDead (known_of ps sss) g f (occurrence_of e later)) fs c.dead) q.named l is_do' q.privates q.mark ns are sc body r w (lock locked w Locked) locked i same_names refl b known.ends
+            each_in (λ (f : ModuleResults). f.known.read.name ≡ k.read.name → MarkedLoopIsDead (known_of ps sss) g f (occurrence_of e later)) fs q.found q.is_one
+            (each_of_all (λ (f : ModuleResults). f.known.read.name ≡ k.read.name → MarkedLoopIsDead (known_of ps sss) g f (occurrence_of e later)) fs c.dead) q.named l is_do' q.privates q.mark ns are sc body r w (lock locked w Locked) locked i same_names refl b known.ends
 
-        fit : LoopIsFit (known_of ps sss) g (scope_of g.untracked K) at (loop_with g q.found.outs.known l) m s i
+        fit : LoopIsFit (known_of ps sss) g (scope_of g.untracked K) at (loop_with g (phases_of q.found).known l) m s i
         fit = record {
           ends = known.ends;
           known = known.known;
           verdicts = known.verdicts;
-          names = λ u h n. copied (known_of ps sss) g (scope_of g.untracked K) (names K.symbols) (loop_with g q.found.outs.known l) l q.privates at stand ns are sc body r w (lock locked w Locked) locked s i same_names b u h n;
+          names = λ u h n. copied (known_of ps sss) g (scope_of g.untracked K) (names K.symbols) (loop_with g (phases_of q.found).known l) l q.privates at stand ns are sc body r w (lock locked w Locked) locked s i same_names b u h n;
           free = is_free (lock locked w Locked);
           own = own_in sc body;
           fine = body_fine ps sss g x turns d numbered k is_in xs behind distinct st body numbers at tags locked off ns r w;
@@ -210,15 +211,17 @@ module _ (begin : LoopsBegin) (hold : LoopsHold) (copied : NamesAreCopied) (ps :
         }
 
         holds : LoopHolds m s later
-        holds = hold ns sc body at r w (lock locked w Locked) (known_of ps sss) g (scope_of g.untracked K) at (loop_with g q.found.outs.known l) s i later fit dead
+        holds = hold ns sc body at r w (lock locked w Locked) (known_of ps sss) g (scope_of g.untracked K) at (loop_with g (phases_of q.found).known l) s i later fit dead
 
     none_some : (l : LoopTree) → None ≡ Some l → ⊥
     none_some l e = cc
 
     do_holds : (n : ℕ) (l : LoopTree) → loop_in n k.read.body ≡ Some l → has (loop_numbers l) 0 ≡ false → MarkedDoHolds (units N (of k ∷ map of xs)) Claimed sc n l
     do_holds zero l e z ns mark at locked tags off s i later c = absurd (none_some l (sym (no_list 0 k.read.body (numbered_above k.read.body (numbered k is_in))) ∙ e))
-    do_holds (suc j) (tree.loop index e1 e2 e3 body) e z ns mark at locked tags off s i later c =
-        begin ns sc index e1 e2 e3 body at locked s i later (λ r w b. holds j index e1 e2 e3 body e z ns at locked tags off s i later c (of_marks k.read.name (suc j) ns mark) r w b)
+    do_holds (suc j) (tree.loop index e1 e2 e3 body) e z dir mark at locked tags off s i later c =
+        let q = of_marks k.read.name (suc j) dir mark in
+        subst (λ rs. MarksHold (directed (Some (record { private = dir.private; reductions = rs })) (tree.loop index e1 e2 e3 body) sc at locked) s i later) (sym q.1)
+        (begin dir.private sc index e1 e2 e3 body at locked s i later (λ r w b. holds j index e1 e2 e3 body e z dir.private at locked tags off s i later c q.0 r w b))
 
     pub routine_holds : RoutineHolds turns d (units N) Claimed (of k) (map of xs)
     routine_holds = all_dos (MarkedDoHolds (units N (of k ∷ map of xs)) Claimed sc) k.read.body (numbered k is_in) do_holds

@@ -11,39 +11,38 @@ use Rattle.f77_ast.specs.Programs.{program_plan}
 use Rattle.f77_ast.specs.declared.variable.Variable.{Variable as Named}
 use Rattle.f77_ast.specs.declared.variable.Unit.{Unit as BlockUnit}
 use Rattle.f77_ast.specs.Symbols.{SymbolTree}
-use Rattle.f77_results.specs.declared.results.Results.{Results}
+use Rattle.f77_ast.specs.declared.results.Results.{Results}
 use Rattle.call_graph.specs.declared.graph.Graph.{Graph}
 use Rattle.f77_meaning.specs.Modules.{Known, known_of}
 use Rattle.f77_meaning.specs.Linked.{program_of}
-use Rattle.transformer_algebra.specs.declared.transformer.Transformer.{Transformer}
-use Rattle.call_translation.specs.Sites.{HoldingSite}
-use Rattle.transformers.specs.Given.{Callees}
-use Rattle.transformers.specs.Lists.{transformer_at}
+use Rattle.preconditions.specs.transformer_algebra.declared.transformer.Transformer.{Transformer}
+use Rattle.preconditions.specs.call_translation.Sites.{HoldingSite}
+use Rattle.preconditions.specs.transformers.Given.{Callees}
+use Rattle.preconditions.specs.transformers.Lists.{transformer_at}
 use Rattle.preconditions.specs.Modules.{preconditions_of}
-use Rattle.region_sets.specs.declared.region.Region.{Region}
-use Rattle.region_sets.specs.Lists.{accesses_at}
-use Rattle.array_regions.specs.Calls.{Callees as Summaries}
-use Rattle.array_regions.specs.Modules.{regions_with}
-use Rattle.region_phases.specs.Phases.{ModuleRegions, no_callees, regions_found, with_regions, all_regions}
-use Rattle.in_out_regions.specs.Lists.{set_at}
+use Rattle.in_out_regions.specs.region_sets.declared.region.Region.{Region}
+use Rattle.in_out_regions.specs.region_sets.Lists.{accesses_at, set_at}
+use Rattle.in_out_regions.specs.array_regions.Calls.{Callees as Summaries}
+use Rattle.in_out_regions.specs.array_regions.Modules.{regions_with}
+use Rattle.loop_marker.specs.module_phases.RegionPhases.{ModuleRegions, no_callees, regions_found, with_regions, all_regions}
 use Rattle.in_out_regions.specs.Modules.{ins_with}
-use Rattle.region_phases.specs.InPhases.{ModuleIns, with_callee, ins_found, with_ins, found_in as with_ins_of, all_ins}
-use Rattle.privatizer.specs.Uses.{ins_in}
-use Rattle.scalar_phases.specs.Phases.{scope_of, Analysis, analyses}
-use Rattle.loop_bodies.specs.Body.{body_of}
+use Rattle.loop_marker.specs.module_phases.InPhases.{ModuleIns, with_callee, ins_found, with_ins, found_in as with_ins_of, all_ins}
+use Rattle.loop_marker.specs.privatizer.Uses.{ins_in}
+use Rattle.loop_marker.specs.module_phases.ScalarPhases.{scope_of, Analysis, analyses}
+use Rattle.loop_marker.specs.dependence_test.Body.{body_of}
 use Rattle.laws_programs.specs.Programs.{IsProgram}
 use Rattle.laws_programs.proofs.Numbers.{is_numbered}
 use Rattle.laws_programs.proofs.Sources.{all_built}
 use Rattle.laws_programs.proofs.Tables.{programs_are_linked}
 use Rattle.laws_programs.proofs.Whole.{numbers_go_up, modules_are_read}
-use Rattle.laws_tables.proofs.ShapeLaws.{bodies_are_shaped}
-use Rattle.roundtrip_modules.specs.Cards.{statements_of}
-use Rattle.laws_statements.specs.CallsIn.{Each}
-use Rattle.laws_statements.specs.Results.{found_in}
-use Rattle.laws_storage.specs.Programs.{IsLinked, IsModule, known}
-use Rattle.laws_storage.proofs.ModuleLaws.{known_module}
-use Rattle.laws_calls.specs.Parts.{Blocks, Part}
-use Rattle.laws_calls.specs.ProgramLaws.{routines, AnalysedProgram, ProgramHolds}
+use Rattle.laws_programs.proofs.SymbolTables.ShapeLaws.{bodies_are_shaped}
+use Rattle.laws_programs.specs.roundtrip_programs.ModuleTexts.Cards.{statements_of}
+use Rattle.call_graph.specs.CallsIn.{Each}
+use Rattle.laws_analyses.specs.Statements.Results.{found_in}
+use Rattle.laws_programs.specs.Storage.Programs.{IsLinked, IsModule, known}
+use Rattle.laws_programs.proofs.Storage.ModuleLaws.{known_module}
+use Rattle.laws_analyses.specs.Calls.Parts.{Blocks, Part}
+use Rattle.laws_analyses.specs.Calls.ProgramLaws.{routines, AnalysedProgram, ProgramHolds}
 use Rattle.laws_analyses.specs.Parts.{scope_in, part_of}
 use Rattle.laws_analyses.specs.Analysed.{part_named}
 use Rattle.laws_analyses.specs.CallLaws.{Settled}
@@ -51,26 +50,26 @@ use Rattle.laws_analyses.specs.JumpLaws.{JumpsStayInside}
 use Rattle.laws_analyses.specs.Results.{callees_of_all, analysed_entry, analysed_sites}
 use Rattle.laws_analyses.specs.ScalarLaws.{NamesAgree, AcceptedDataStaysInLocals}
 use Rattle.laws_analyses.proofs.Analyses.{Located, all_located, holds_are}
-use Rattle.laws_analyses.proofs.CallLists.{each_more}
+use Rattle.laws_analyses.proofs.CallLists.{each_more, each_both as each_and}
 use Rattle.laws_analyses.proofs.IntegerLaws.{integers_fit}
-use Rattle.laws_analyses.proofs.MainLaws.{some_main, main_from, built_at}
+use Rattle.laws_analyses.proofs.MainLaws.{main_from, built_at}
 use Rattle.laws_analyses.proofs.Modules.{module_named_is}
 use Rattle.laws_analyses.proofs.Programs.{Ready}
 use Rattle.laws_analyses.proofs.Subscripts.{built_have}
 use Rattle.laws_analyses.proofs.TargetLaws.{body_lacks_none}
 use Rattle.laws_analyses.proofs.UnitLaws.{module_at}
 use Rattle.laws_analyses.proofs.Whole.{analyses_follow}
-use Rattle.laws_regions.specs.Accepted.{summaries_of as reads_of}
-use Rattle.laws_regions.specs.Programs.{regions_in_part}
+use Rattle.laws_analyses.specs.Regions.Accepted.{summaries_of as reads_of}
+use Rattle.laws_analyses.specs.Regions.Programs.{regions_in_part}
 use Rattle.laws_marks.specs.InPrograms.{ins_in_part}
-use Rattle.laws_regions.proofs.Carrying.{LinkLaws}
-use Rattle.laws_regions.proofs.Parts.{program, program_is}
-use Rattle.laws_regions.proofs.Summaries as regions
-use Rattle.laws_regions.proofs.ToldBlocks.{blocks_told}
-use Rattle.laws_regions.proofs.ToldSymbols.{names_told}
+use Rattle.laws_analyses.proofs.Regions.Carrying.{LinkLaws}
+use Rattle.laws_analyses.proofs.Regions.Parts.{program, program_is}
+use Rattle.laws_analyses.proofs.Regions.Summaries as regions
+use Rattle.laws_analyses.proofs.Regions.ToldBlocks.{blocks_told}
+use Rattle.laws_analyses.proofs.Regions.ToldSymbols.{names_told}
 use Rattle.laws_marks.specs.InAccepted.{summaries_of}
 use Rattle.laws_marks.specs.InTogether.{LocalsAreSavedTogether}
-use Rattle.laws_marks.proofs.InAccepted.{cards_of_held, all_laid, main_laid}
+use Rattle.laws_marks.proofs.InAccepted.{all_laid, main_laid}
 use Rattle.laws_marks.proofs.InLayouts.{may_name}
 use Rattle.laws_marks.proofs.InSummaries as ins
 use Rattle.laws_marks.proofs.InWhole.{LaidPart, LaidParts, part_first, parts_first}
@@ -81,6 +80,8 @@ use Rattle.laws_marks.specs.ConflictPrograms.{holding, PartLoopsHold, EachLoopHo
 use Rattle.laws_marks.specs.ConflictAccepted.{AllLoopsHold, ReadLoopsHold}
 use Rattle.laws_marks.proofs.ConflictEach.{plan_more}
 use Rattle.laws_marks.proofs.ConflictModules.{loops_hold}
+use Rattle.laws_programs.proofs.Effects.Once.{main_of_linked as some_main}
+use Rattle.laws_analyses.proofs.Regions.Accepted.{cards_of_held}
 
 -- ---- programs with what tables and layouts give
 
@@ -95,10 +96,6 @@ loops_of laws holds b cs sites of may main parts z pl ks g rs is rm re e =
 each_known : (u : List BlockUnit) (P : ModuleRegions → Type 0) (cs : Summaries) (fs : List ModuleRegions) → Each P fs → Each (λ (f : ModuleIns). P f.known) (with_ins_of u cs fs)
 each_known u P cs [] h = tt
 each_known u P cs (f ∷ fs) h = (h.0, each_known u P (with_callee (with_ins u cs f) cs) fs h.1)
-
-each_and : {T : Type 0} (P Q : T → Type 0) (xs : List T) → Each P xs → Each Q xs → Each (λ x. P x × Q x) xs
-each_and P Q [] h g = tt
-each_and P Q (x ∷ xs) h g = ((h.0, g.0), each_and P Q xs h.1 g.1)
 
 -- ---- what is claimed of a part is what is claimed of its module
 

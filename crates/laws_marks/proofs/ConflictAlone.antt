@@ -19,32 +19,33 @@ use Rattle.f77_ast.specs.Shared.{OneUnit, group_unit, unit_after, HasUnit, share
 use Rattle.f77_ast.proofs.SharingLaws.{sharing_is_of_units}
 use Rattle.f77_names.specs.Entries.{EntryTree}
 use Rattle.tracked_cells.specs.Equivalences.{item_names, group_names, decl_names, decls_names}
-use Rattle.storage_groups.specs.declared.seat.Home.{Home}
-use Rattle.storage_groups.specs.declared.seat.Home.TheVariants.{Block, Own}
-use Rattle.storage_groups.specs.declared.seat.Seat.{Seat}
+use Rattle.laws_programs.specs.storage_data.declared.offset_node.Home.{Home}
+use Rattle.laws_programs.specs.storage_data.declared.offset_node.Home.TheVariants.{Block, Own}
+use Rattle.laws_programs.specs.storage_data.declared.offset_node.OffsetNode.{OffsetNode}
 use Rattle.storage_layout.specs.Groups.{groups_from, index_from}
 use Rattle.storage_layout.specs.Statements.{Has, equivalences_in, equivalences, members}
 use Rattle.storage_layout.specs.Symbols.{symbols_of}
 use Rattle.storage_layout.specs.Table.{group_in, home_place, place_in, unless_dummy, unless_value}
 use Rattle.f77_meaning.specs.Modules.{symbol_names}
-use Rattle.f77_meaning.proofs.ModuleLaws.{numbered_place}
-use Rattle.laws_tables.specs.Shapes.{symbol_named}
-use Rattle.laws_tables.proofs.Answers.{Answered, names_in, layout_in, answered_by}
-use Rattle.laws_tables.proofs.EntryLaws.{entry_of}
-use Rattle.laws_storage.specs.DataLaws.{ConstantsFit}
-use Rattle.laws_layout.specs.Laws.{IsNumbered}
-use Rattle.laws_layout.specs.Layout.{LieInARow, Together, in_block, in_group, IsChain, Chained}
-use Rattle.laws_layout.proofs.CommonLaws.{common_follows_the_text}
-use Rattle.laws_layout.proofs.EndLaws.{count_shared}
-use Rattle.laws_layout.proofs.SharingLaws.{sharing_has_a_chain}
-use Rattle.laws_regions.proofs.NamesOnce.{numbered_once}
-use Rattle.laws_marks.proofs.InGrouped.{index_least, groups_have}
+use Rattle.laws_programs.specs.SymbolTables.Shapes.{symbol_named}
+use Rattle.laws_programs.proofs.SymbolTables.Answers.{Answered, names_in, layout_in, answered_by}
+use Rattle.laws_programs.proofs.SymbolTables.EntryLaws.{entry_of}
+use Rattle.laws_programs.specs.Storage.DataLaws.{ConstantsFit}
+use Rattle.laws_programs.specs.Layout.Laws.{IsNumbered}
+use Rattle.laws_programs.specs.Layout.Layout.{LieInARow, Together, in_block, in_group, IsChain, Chained}
+use Rattle.laws_programs.proofs.Layouts.CommonLaws.{common_follows_the_text}
+use Rattle.laws_programs.proofs.Layouts.EndLaws.{count_shared}
+use Rattle.laws_programs.proofs.Layouts.SharingLaws.{sharing_has_a_chain, index_least}
+use Rattle.laws_analyses.proofs.Regions.NamesOnce.{numbered_once}
+use Rattle.laws_marks.proofs.InGrouped.{groups_have}
 use Rattle.laws_marks.proofs.InValued.{parameters_have_values}
-use Rattle.privatizer.specs.Names.{is_local, is_equivalenced, is_own, is_own_symbol, may_copy}
+use Rattle.loop_marker.specs.privatizer.Names.{is_equivalenced, is_own, is_own_symbol, may_copy}
 use Rattle.laws_analyses.proofs.IntegerLaws.{integers_fit}
 use Rattle.laws_programs.proofs.Tables.{programs_are_linked}
 use Rattle.laws_marks.specs.ConflictClaims.{IsSole}
 use Rattle.laws_marks.specs.ConflictAccepted.{CopiesAreSole}
+use Rattle.f77_ast.proofs.StorageLaws.{from_number as numbered_place}
+use Rattle.call_graph.specs.Visible.{is_local}
 
 -- ---- names
 
@@ -164,10 +165,10 @@ module _ (p : ParsedTree) (ss : List SymbolTree) (laid : symbols_of p ≡ Ok ss)
   has_one (x ∷ xs) (y ∷ ys) zero e l q r = cc
   has_one (x ∷ xs) (y ∷ ys) (suc i) e l q r = (let z : suc (length xs) ≡ suc (length ys) = l in has_one xs ys i e (omega (arith, z)) q r)
 
-  grouped : (m : ℕ) (e : EntryTree) → slice_get (names_in p).entries m ≡ Some e → (v : Option Constant) → e.value ≡ v → (d : Option ℕ) → e.dummy ≡ d → (w : Option Seat) → slice_get (layout_in p).seats m ≡ w → unless_value v (unless_dummy d (place_in (layout_in p) w)) ≡ place.Local g o → 0 < g
+  grouped : (m : ℕ) (e : EntryTree) → slice_get (names_in p).entries m ≡ Some e → (v : Option Constant) → e.value ≡ v → (d : Option ℕ) → e.dummy ≡ d → (w : Option OffsetNode) → slice_get (layout_in p).offset_nodes m ≡ w → unless_value v (unless_dummy d (place_in (layout_in p) w)) ≡ place.Local g o → 0 < g
   grouped m e q (Some c) ev d ed w ew r = cc
   grouped m e q None ev (Some k) ed w ew r = cc
-  grouped m e q None ev None ed None ew r = absurd (has_one (layout_in p).seats (names_in p).entries m e (count_shared p) q ew)
+  grouped m e q None ev None ed None ew r = absurd (has_one (layout_in p).offset_nodes (names_in p).entries m e (count_shared p) q ew)
   grouped m e q None ev None ed (Some t) ew r = go t.home refl r
     where
       no_parameter : (b : Bool) → e.parameter ≡ b → e.parameter ≡ false
@@ -177,23 +178,23 @@ module _ (p : ParsedTree) (ss : List SymbolTree) (laid : symbols_of p ≡ Ok ss)
       no_more : (m : ℕ) → 0 + m ≡ m
       no_more m = omega arith
 
-      least : (k : ℕ) (x : Option ℕ) → index_from 1 (groups_from 0 (layout_in p).table.entries (layout_in p).seats []) k ≡ x → is_some x ≡ true → unwrap_or x 0 ≡ g → 0 < g
+      least : (k : ℕ) (x : Option ℕ) → index_from 1 (groups_from 0 (layout_in p).table.entries (layout_in p).offset_nodes []) k ≡ x → is_some x ≡ true → unwrap_or x 0 ≡ g → 0 < g
       least k None f h u = absurd (true≢false (sym h))
-      least k (Some y) f h u = (let low = index_least 1 (groups_from 0 (layout_in p).table.entries (layout_in p).seats []) k y f in let same : y ≡ g = u in omega (arith, low, same))
+      least k (Some y) f h u = (let low = index_least 1 (groups_from 0 (layout_in p).table.entries (layout_in p).offset_nodes []) k y f in let same : y ≡ g = u in omega (arith, low, same))
 
       go : (x : Home) → t.home ≡ x → home_place (layout_in p) t.offset x ≡ place.Local g o → 0 < g
       go (Block b) f h = cc
       go (Own k) f h =
           let group : group_in (layout_in p) k ≡ g = cc in
-          least k (index_from 1 (groups_from 0 (layout_in p).table.entries (layout_in p).seats []) k) refl
-          (groups_have 0 (layout_in p).table.entries (layout_in p).seats [] m e t k q ed (no_parameter e.parameter refl) (ap (slice_get (layout_in p).seats) (no_more m) ∙ ew) f) group
+          least k (index_from 1 (groups_from 0 (layout_in p).table.entries (layout_in p).offset_nodes []) k) refl
+          (groups_have 0 (layout_in p).table.entries (layout_in p).offset_nodes [] m e t k q ed (no_parameter e.parameter refl) (ap (slice_get (layout_in p).offset_nodes) (no_more m) ∙ ew) f) group
 
   positive : 0 < g
   positive =
       let r = entry_of (layout_in p) 0 (names_in p).entries (n - 1) s (subst (λ z. slice_get z (n - 1) ≡ Some s) a.table here) in
       let place_is = r.is_place in
       let at : n - 1 ≡ r.place = omega (arith, place_is) in
-      grouped r.place r.entry (ap (slice_get (names_in p).entries) (sym at) ∙ r.is_entry) r.entry.value refl r.entry.dummy refl (slice_get (layout_in p).seats r.place) refl (ap (λ (z : SymbolTree). z.place) (sym r.symbol) ∙ lies)
+      grouped r.place r.entry (ap (slice_get (names_in p).entries) (sym at) ∙ r.is_entry) r.entry.value refl r.entry.dummy refl (slice_get (layout_in p).offset_nodes r.place) refl (ap (λ (z : SymbolTree). z.place) (sym r.symbol) ∙ lies)
 
   -- ---- no unit in common
 

@@ -14,27 +14,28 @@ use Rattle.f77_meaning.specs.Accesses.{is_read_first}
 use Rattle.f77_meaning.specs.Areas.{is_own_unit}
 use Rattle.f77_meaning.specs.Linked.{numbering}
 use Rattle.affine_forms.specs.Claims.{numbers_of}
-use Rattle.transformer_algebra.specs.Claims.{HoldsAt}
-use Rattle.region_sets.specs.declared.marks.Private.{Private}
-use Rattle.region_sets.specs.declared.marks.Private.TheVariants.{Yes, Name, Carried, Live}
-use Rattle.region_sets.specs.declared.region.Access.TheVariants.{In as AtIn}
-use Rattle.region_sets.specs.declared.region.Region.{Region}
-use Rattle.region_sets.specs.Claims.{LiesInSet}
-use Rattle.loop_bodies.specs.Same.{same_variable}
-use Rattle.privatizer.specs.Names.{is_local, is_equivalenced, is_own_symbol, may_copy}
-use Rattle.privatizer.specs.Uses.{Uses}
-use Rattle.privatizer.specs.Private.{is_carried, is_live, private_by, private_in}
-use Rattle.privatizer.specs.Claims.{IsPrivate, IfPrivate}
-use Rattle.privatizer.proofs.PrivateLaws.{answer_sound}
-use Rattle.laws_regions.specs.Settings.{scene, elements_at}
-use Rattle.laws_regions.specs.Shown.{is_lost, is_hidden}
+use Rattle.preconditions.specs.transformer_algebra.Claims.{HoldsAt}
+use Rattle.f77_ast.specs.declared.marks.Private.{Private}
+use Rattle.f77_ast.specs.declared.marks.Private.TheVariants.{Yes, Name, Carried, Live}
+use Rattle.in_out_regions.specs.region_sets.declared.region.Access.TheVariants.{In as AtIn}
+use Rattle.in_out_regions.specs.region_sets.declared.region.Region.{Region}
+use Rattle.in_out_regions.specs.region_sets.Claims.{LiesInSet}
+use Rattle.loop_marker.specs.privatizer.Names.{is_equivalenced, is_own_symbol, may_copy}
+use Rattle.loop_marker.specs.privatizer.Uses.{Uses}
+use Rattle.loop_marker.specs.privatizer.Private.{is_carried, is_live, private_by, private_in}
+use Rattle.loop_marker.specs.privatizer.Claims.{IsPrivate, IfPrivate}
+use Rattle.loop_marker.proofs.Privatizer.PrivateLaws.{answer_sound}
+use Rattle.laws_analyses.specs.Regions.Settings.{scene, elements_at}
+use Rattle.laws_analyses.specs.Regions.Shown.{is_lost, is_hidden}
 use Rattle.laws_marks.specs.InFrames.{Frame, elements_in}
 use Rattle.laws_marks.specs.InShown.{FirstHolds, IsFree}
 use Rattle.laws_marks.specs.InUnits.{UnitsFit}
 use Rattle.laws_marks.proofs.InFirsts.{lost_known}
 use Rattle.laws_marks.proofs.InFramed.{elements_on}
 use Rattle.laws_marks.specs.ConflictIterations.{Iteration}
-use Rattle.laws_marks.proofs.ConflictMeeting.{same_own}
+use Rattle.call_graph.specs.Visible.{is_local}
+use Rattle.f77_ast.specs.Variables.{same_variable}
+use Rattle.f77_ast.proofs.SameLaws.{same_itself}
 
 -- a unit of a local that is not saved: it is none of an expression, and other variables that have it overlap the local by the tables
 pub record Sole (k : Frame) (n u : ℕ) : Type 0 where
@@ -96,7 +97,7 @@ module _ (k : Frame) (locked : Locks) (units : UnitsFit k locked) (sole : AllSol
       seen = or_from (is_own_unit (numbering k.ks k.g) u) (is_lost k.ks k.g it.did u) s.own (not_lost (is_lost k.ks k.g it.did u) refl)
 
       lone : (w : Variable) (psi : ℕ → ℤ) → elements_in k w psi ≡ Some u → same_variable w (Own n) ≡ true
-      lone w psi e = ⊎_elim (λ same. subst (λ v. same_variable v (Own n) ≡ true) (sym same) (same_own (Own n))) (λ over. absurd (alone w over)) (s.others w psi e)
+      lone w psi e = ⊎_elim (λ same. subst (λ v. same_variable v (Own n) ≡ true) (sym same) (same_itself (Own n))) (λ over. absurd (alone w over)) (s.others w psi e)
 
       not_first : is_read_first u it.did ≡ false
       not_first = go (is_read_first u it.did) refl

@@ -8,10 +8,10 @@ use Rattle.f77_ast.specs.Runs.{Event, Arrived, Read, Wrote, Printed, Took, Answe
 use Rattle.f77_ast.specs.Plans.{Flow, Plan, ◌▹◌, first, steps_of}
 use Rattle.f77_ast.specs.Plans as plan
 use Rattle.f77_ast.specs.Executions.{run_of, AtEnd, Claim}
-use Rattle.laws_statements.specs.Good.{AtEach}
-use Rattle.laws_regions.proofs.Looks.{Looked}
-use Rattle.laws_regions.proofs.Rules.{Post, Meets, Continues, On}
-use Rattle.laws_regions.proofs.Traces.{trace_assoc, trace_nil}
+use Rattle.laws_analyses.specs.Statements.Good.{AtEach}
+use Rattle.laws_analyses.proofs.Regions.Looks.{Looked}
+use Rattle.laws_analyses.proofs.Regions.Rules.{Post, Meets, Continues, On}
+use Rattle.laws_analyses.proofs.Regions.Traces.{trace_assoc, trace_nil}
 use Rattle.laws_marks.specs.ConflictIterations.{Iteration, after_part, iterations_since, iterations}
 
 -- ---- lists of iterations

@@ -18,44 +18,43 @@ use Rattle.f77_ast.specs.Executions.{run_of, AtEndOf, Claim}
 use Rattle.f77_ast.specs.Lists.{with_jumps, list_plan}
 use Rattle.f77_ast.specs.Loops.{Range, range_of, iteration_count, iterations_from}
 use Rattle.f77_ast.specs.Statements.{spot, execution, do_plan, parts}
-use Rattle.f77_results.specs.declared.results.At.{At}
+use Rattle.f77_ast.specs.declared.results.At.{At}
 use Rattle.f77_meaning.specs.Occurrences.{places_in}
 use Rattle.affine_forms.specs.Conditions.{no_rows}
 use Rattle.affine_forms.specs.Claims.{unit_in, numbers_of}
 use Rattle.affine_forms.proofs.FormLaws.{kept_is}
-use Rattle.transformer_algebra.specs.declared.loop_parts.LoopParts.{LoopParts}
-use Rattle.transformer_algebra.specs.Loops.{next, iteration, goes_up}
-use Rattle.transformer_algebra.specs.Claims.{Scene, HoldsAt, Kept, Chain, none_yet, then_iteration, Tracks, NotBeyond}
-use Rattle.transformer_algebra.proofs.CellLaws.{nat_eq_same}
-use Rattle.transformer_algebra.proofs.RuleLaws.{does_then}
-use Rattle.transformers.specs.Jumps.{list_has, is_return}
-use Rattle.transformers.specs.Lists.{list_at}
-use Rattle.transformers.specs.Loops.{loop_parts}
-use Rattle.transformers.specs.Statement.{body_transformer}
-use Rattle.region_sets.specs.declared.range.Range.{Range as Bounds}
-use Rattle.region_sets.specs.declared.region.Region.{Region}
-use Rattle.region_sets.specs.Claims.{Iteration as Numbered}
-use Rattle.array_regions.specs.Reads.{reads, maybe_reads}
-use Rattle.array_regions.specs.Loops.{range_with}
-use Rattle.array_regions.specs.Calls.{Called}
-use Rattle.loop_bodies.specs.Body.{system_at, head_of}
-use Rattle.laws_statements.specs.Good.{AtEach, Ending}
-use Rattle.laws_statements.specs.Leads.{list_leads}
-use Rattle.laws_statements.specs.Activation.{Fit, Ended}
-use Rattle.laws_statements.proofs.Basics.{put_here}
-use Rattle.laws_statements.proofs.Counts.{NotZero, count_more}
-use Rattle.laws_statements.proofs.Ends.{more}
-use Rattle.laws_statements.proofs.Loops.{also}
-use Rattle.laws_statements.proofs.Ranges.{StepIs}
-use Rattle.laws_statements.proofs.Tracks.{body_tracks}
-use Rattle.laws_regions.specs.Settings.{scene, Sound, is_plain, maybe_plain}
-use Rattle.laws_regions.specs.Shown.{Holds, Shown}
-use Rattle.laws_regions.proofs.Expressions.{Seen}
-use Rattle.laws_regions.proofs.Looks.{IfGave}
-use Rattle.laws_regions.proofs.Loops as loops
-use Rattle.laws_regions.proofs.Places.{first_place, next_place, next_after, first_after}
-use Rattle.laws_regions.proofs.Rules.{Post, Goes, OnGave, goes_with}
-use Rattle.laws_regions.proofs.Statements.{RangeIs, range_looks}
+use Rattle.preconditions.specs.transformer_algebra.declared.loop_parts.LoopParts.{LoopParts}
+use Rattle.preconditions.specs.transformer_algebra.Loops.{next, iteration, goes_up}
+use Rattle.preconditions.specs.transformer_algebra.Claims.{Scene, HoldsAt, Kept, Chain, none_yet, then_iteration, Tracks, NotBeyond}
+use Rattle.preconditions.proofs.TransformerAlgebra.RuleLaws.{does_then}
+use Rattle.preconditions.specs.transformers.Jumps.{list_has}
+use Rattle.preconditions.specs.transformers.Lists.{list_at}
+use Rattle.preconditions.specs.transformers.Loops.{loop_parts}
+use Rattle.preconditions.specs.transformers.Statement.{body_transformer}
+use Rattle.in_out_regions.specs.region_sets.declared.range.Range.{Range as Bounds}
+use Rattle.in_out_regions.specs.region_sets.declared.region.Region.{Region}
+use Rattle.in_out_regions.specs.region_sets.Claims.{Iteration as Numbered}
+use Rattle.in_out_regions.specs.array_regions.Reads.{reads, maybe_reads}
+use Rattle.in_out_regions.specs.array_regions.Loops.{range_with}
+use Rattle.in_out_regions.specs.array_regions.Calls.{Called}
+use Rattle.loop_marker.specs.dependence_test.Body.{system_at, head_of}
+use Rattle.laws_analyses.specs.Statements.Good.{AtEach, Ending}
+use Rattle.laws_analyses.specs.Statements.Leads.{list_leads}
+use Rattle.laws_analyses.specs.Statements.Activation.{Fit, Ended}
+use Rattle.laws_analyses.proofs.Statements.Basics.{put_here}
+use Rattle.laws_analyses.proofs.Statements.Counts.{NotZero, count_more}
+use Rattle.laws_analyses.proofs.Statements.Ends.{more}
+use Rattle.laws_analyses.proofs.Statements.Loops.{also}
+use Rattle.laws_analyses.proofs.Statements.Ranges.{StepIs}
+use Rattle.laws_analyses.proofs.Statements.Tracks.{body_tracks}
+use Rattle.laws_analyses.specs.Regions.Settings.{scene, Sound, is_plain, maybe_plain}
+use Rattle.laws_analyses.specs.Regions.Shown.{Holds, Shown}
+use Rattle.laws_analyses.proofs.Regions.Expressions.{Seen}
+use Rattle.laws_analyses.proofs.Regions.Looks.{IfGave}
+use Rattle.laws_analyses.proofs.Regions.Loops as loops
+use Rattle.laws_analyses.proofs.Regions.Places.{first_place, next_place, next_after, first_after}
+use Rattle.laws_analyses.proofs.Regions.Rules.{Post, Goes, OnGave, goes_with}
+use Rattle.laws_analyses.proofs.Regions.Statements.{RangeIs, range_looks}
 use Rattle.laws_marks.specs.InFrames.{Frame}
 use Rattle.laws_marks.specs.InShown.{FirstHolds, IsFree, FirstShown}
 use Rattle.laws_marks.proofs.InStanding.{StandsList, in_at, in_next}
@@ -65,6 +64,8 @@ use Rattle.laws_marks.specs.ConflictClaims.{LeavesBy}
 use Rattle.laws_marks.proofs.ConflictCuts.{AllAt, NoSets, cut_then, cut_first}
 use Rattle.laws_marks.proofs.ConflictEach.{plan_looked}
 use Rattle.laws_marks.proofs.ConflictLists.{Again, iterations_reached, AllNoSets, jumps_no_sets}
+use Rattle.fx_lists.proofs.Numbers.{nat_eq_same}
+use Rattle.f77_ast.specs.Shapes.{is_return}
 
 module _ (k : Frame) (sound : Sound k.base) (C0 D0 : Claim) (Fits : Locks → (ℕ → Bool) → Type 0) (base : (locked : Locks) (still : ℕ → Bool) → Fits locked still → Fit k.sc.names k.scalar k.at (scene k.base) locked still) (more_fits : (locked : Locks) (still : ℕ → Bool) (x : List ℕ) (v : ℕ) → k.sc.names x ≡ Variable v → k.scalar x ≡ true → Fits locked still → Fits (lock locked (k.at v).first Locked) (also still (k.at v).first)) (I : Store → Type 0) (acc : List (At (List Region))) (called : Called) where
   solid : (locked : Locks) (still : ℕ → Bool) → Fits locked still → (x : List ℕ) (v : ℕ) → k.sc.names x ≡ Variable v → k.scalar x ≡ true → 0 < (k.at v).extent

@@ -10,11 +10,11 @@ use Rattle.f77_ast.specs.Calls.{forget_all, after_call}
 use Rattle.f77_ast.specs.Executions.{run_of, AtEndOf, Claim}
 use Rattle.f77_ast.proofs.StepLaws.{Leads, at_end_true}
 use Rattle.f77_meaning.specs.Occurrences.{Occurrence, Onward, Throughout, events_from}
-use Rattle.laws_statements.specs.Good.{AtEach}
-use Rattle.laws_statements.proofs.Ends.{both, more, leads_parts}
-use Rattle.laws_regions.proofs.Looks.{Looked}
-use Rattle.laws_regions.proofs.Rules.{Post}
-use Rattle.laws_regions.proofs.Storing.{Holding}
+use Rattle.laws_analyses.specs.Statements.Good.{AtEach}
+use Rattle.laws_analyses.proofs.Statements.Ends.{both, more, leads_parts}
+use Rattle.laws_analyses.proofs.Regions.Looks.{Looked}
+use Rattle.laws_analyses.proofs.Regions.Rules.{Post}
+use Rattle.laws_analyses.proofs.Regions.Storing.{Holding}
 use Rattle.laws_marks.specs.ConflictExecutions.{Execution, AtEachExecution}
 
 module _ (C : Execution → Type 0) where

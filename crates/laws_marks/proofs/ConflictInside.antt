@@ -7,27 +7,28 @@ use Rattle.f77_ast.specs.StatementNumbers.{list_numbers}
 use Rattle.f77_ast.specs.Executions.{Claim}
 use Rattle.f77_ast.specs.Store.{Store}
 use Rattle.f77_ast.specs.Writes.{Locks}
-use Rattle.f77_results.specs.declared.results.At.{At}
+use Rattle.f77_ast.specs.declared.results.At.{At}
 use Rattle.f77_ast.specs.Symbols.{SymbolTree}
-use Rattle.transformer_algebra.specs.declared.transformer.Transformer.{Transformer}
-use Rattle.transformer_algebra.specs.Laws.{In, here, there}
-use Rattle.transformers.specs.Jumps.{unstructured}
-use Rattle.transformers.specs.Lists.{list_at}
-use Rattle.transformers.specs.Statement as transformers
-use Rattle.region_sets.specs.declared.region.Region.{Region}
-use Rattle.region_sets.specs.Sets.{unite_all}
-use Rattle.region_sets.specs.Lists.{all_inexact, all_forgetting, all_accesses, in_any_order, numbers}
-use Rattle.region_sets.proofs.StepLaws.{in_left, in_right}
-use Rattle.array_regions.specs.Calls.{Called}
+use Rattle.preconditions.specs.transformer_algebra.declared.transformer.Transformer.{Transformer}
+use Rattle.preconditions.specs.transformer_algebra.Laws.{In, here, there}
+use Rattle.preconditions.specs.transformers.Jumps.{unstructured}
+use Rattle.preconditions.specs.transformers.Lists.{list_at}
+use Rattle.preconditions.specs.transformers.Statement as transformers
+use Rattle.in_out_regions.specs.region_sets.declared.region.Region.{Region}
+use Rattle.in_out_regions.specs.region_sets.Sets.{unite_all}
+use Rattle.in_out_regions.specs.region_sets.Lists.{all_inexact, all_forgetting, all_accesses, in_any_order, numbers, set_at}
+use Rattle.in_out_regions.proofs.RegionSets.StepLaws.{in_left, in_right}
+use Rattle.in_out_regions.specs.array_regions.Calls.{Called}
 use Rattle.in_out_regions.specs.Known.{KnownTree}
-use Rattle.in_out_regions.specs.Lists.{set_at, before_rest, ins_in_order, list_in}
+use Rattle.in_out_regions.specs.Lists.{before_rest, ins_in_order, list_in}
 use Rattle.in_out_regions.specs.Statement.{what_in, at_stmt, at_parts, at_list, at_arms, at_arm, at_else, at_loop}
-use Rattle.laws_statements.specs.CallsIn.{Each}
-use Rattle.laws_regions.proofs.Standing.{Distinct}
+use Rattle.call_graph.specs.CallsIn.{Each}
+use Rattle.laws_analyses.proofs.Regions.Standing.{Distinct}
 use Rattle.laws_marks.specs.InFrames.{Frame}
 use Rattle.laws_marks.specs.InKnowns.{known_in}
 use Rattle.laws_marks.proofs.InStanding.{in_found}
-use Rattle.laws_marks.proofs.ConflictWhats.{stmt_whats, part_whats, list_whats, arms_whats, arm_whats, else_whats, loop_whats, each_join}
+use Rattle.laws_marks.proofs.ConflictWhats.{stmt_whats, part_whats, list_whats, arms_whats, arm_whats, else_whats, loop_whats}
+use Rattle.laws_analyses.proofs.CallLists.{each_joined as each_join}
 
 -- ---- the results of the body of a DO are among those of the module
 

@@ -9,7 +9,7 @@ use Rattle.f77_ast.specs.Plans.{Flow, Normal, Jump, Returned, Stopped, Plan, End
 use Rattle.f77_ast.specs.Executions.{run_of, AtEndOf}
 use Rattle.f77_ast.specs.Lists.{Part, is_label, has_label, from_label, go_on, in_order, with_jumps}
 use Rattle.f77_ast.specs.Loops.{iterations_from}
-use Rattle.laws_statements.proofs.Ends.{more}
+use Rattle.laws_analyses.proofs.Statements.Ends.{more}
 use Rattle.laws_marks.specs.ConflictExecutions.{Execution, AtEachExecution}
 use Rattle.laws_marks.proofs.ConflictCuts.{NoSets, no_sets_then}
 use Rattle.laws_marks.proofs.ConflictEach.{plan_then}

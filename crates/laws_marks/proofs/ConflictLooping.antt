@@ -15,46 +15,45 @@ use Rattle.f77_ast.specs.Executions.{Claim}
 use Rattle.f77_ast.specs.Lists.{list_plan}
 use Rattle.f77_ast.specs.StatementNumbers.{list_numbers}
 use Rattle.f77_ast.specs.Statements.{spot, do_plan, parts}
-use Rattle.f77_results.specs.declared.results.At.{At}
+use Rattle.f77_ast.specs.declared.results.At.{At}
 use Rattle.affine_forms.specs.Conditions.{no_rows}
-use Rattle.transformer_algebra.specs.declared.loop_parts.LoopParts.{LoopParts}
-use Rattle.transformer_algebra.specs.Loops.{iteration}
-use Rattle.transformers.specs.Jumps.{list_has, is_return}
-use Rattle.transformers.specs.Statement.{body_transformer}
-use Rattle.laws_statements.specs.Leads.{list_leads}
+use Rattle.preconditions.specs.transformer_algebra.declared.loop_parts.LoopParts.{LoopParts}
+use Rattle.preconditions.specs.transformer_algebra.Loops.{iteration}
+use Rattle.preconditions.specs.transformers.Jumps.{list_has}
+use Rattle.preconditions.specs.transformers.Statement.{body_transformer}
+use Rattle.laws_analyses.specs.Statements.Leads.{list_leads}
 use Rattle.affine_forms.specs.Scalars.{is_cell}
 use Rattle.affine_forms.specs.Claims.{unit_in, numbers_of}
-use Rattle.transformer_algebra.specs.Claims.{Scene, HoldsAt, Kept, Chain, none_yet, then_iteration}
-use Rattle.transformer_algebra.specs.Cells.{has}
-use Rattle.transformer_algebra.specs.Laws.{In}
-use Rattle.transformer_algebra.specs.declared.transformer.Transformer.{Transformer}
-use Rattle.transformer_algebra.proofs.CellLaws.{right_out}
-use Rattle.transformers.specs.Loops.{number_in, loop_parts}
-use Rattle.transformers.specs.Lists.{list_of as transformer_of, list_at}
-use Rattle.region_sets.specs.declared.region.Region.{Region}
-use Rattle.region_sets.specs.Lists.{accesses_at, list_regions}
-use Rattle.array_regions.specs.Loops.{range_with}
-use Rattle.array_regions.specs.Calls.{Called}
-use Rattle.region_sets.specs.declared.region.Access.TheVariants.{In as AtIn}
-use Rattle.region_sets.specs.Claims.{LiesInSet}
-use Rattle.in_out_regions.specs.Lists.{set_at}
+use Rattle.preconditions.specs.transformer_algebra.Claims.{Scene, HoldsAt, Kept, Chain, none_yet, then_iteration}
+use Rattle.preconditions.specs.transformer_algebra.Cells.{has}
+use Rattle.preconditions.specs.transformer_algebra.Laws.{In}
+use Rattle.preconditions.specs.transformer_algebra.declared.transformer.Transformer.{Transformer}
+use Rattle.preconditions.proofs.TransformerAlgebra.CellLaws.{right_out}
+use Rattle.preconditions.specs.transformers.Loops.{number_in, loop_parts}
+use Rattle.preconditions.specs.transformers.Lists.{list_of as transformer_of, list_at}
+use Rattle.in_out_regions.specs.region_sets.declared.region.Region.{Region}
+use Rattle.in_out_regions.specs.region_sets.Lists.{accesses_at, list_regions, set_at}
+use Rattle.in_out_regions.specs.array_regions.Loops.{range_with}
+use Rattle.in_out_regions.specs.array_regions.Calls.{Called}
+use Rattle.in_out_regions.specs.region_sets.declared.region.Access.TheVariants.{In as AtIn}
+use Rattle.in_out_regions.specs.region_sets.Claims.{LiesInSet}
 use Rattle.in_out_regions.specs.Statement.{list_of, at_list, at_loop}
-use Rattle.privatizer.specs.Uses.{ins_in}
-use Rattle.loop_bodies.specs.declared.body.LoopBody.{LoopBody}
-use Rattle.loop_bodies.specs.Body.{system_at, head_of, body_of}
-use Rattle.dependence_test.specs.declared.answer.Conflict.TheVariants as answer
-use Rattle.dependence_test.specs.Conflicts.{kept_system, conflict_of}
-use Rattle.dependence_test.proofs.RangeLaws.{has_range}
-use Rattle.laws_statements.specs.Good.{AtEach, Ending}
-use Rattle.laws_statements.specs.CallsIn.{list_calls}
-use Rattle.laws_statements.specs.Activation.{Fit, Ended}
-use Rattle.laws_statements.proofs.Loops.{also}
-use Rattle.laws_regions.specs.Settings.{scene, Sound, is_plain, maybe_plain, has_plain, elements_with}
-use Rattle.laws_regions.specs.Shown.{Shown}
-use Rattle.laws_regions.proofs.Moving.{list_moves}
-use Rattle.laws_regions.proofs.Rules.{Goes}
-use Rattle.laws_regions.proofs.Standing.{Distinct, found_each}
-use Rattle.laws_regions.proofs.Statements.{body_goes}
+use Rattle.loop_marker.specs.privatizer.Uses.{ins_in}
+use Rattle.loop_marker.specs.dependence_test.declared.body.LoopBody.{LoopBody}
+use Rattle.loop_marker.specs.dependence_test.Body.{system_at, head_of, body_of}
+use Rattle.loop_marker.specs.dependence_test.declared.answer.Conflict.TheVariants as answer
+use Rattle.loop_marker.specs.dependence_test.Conflicts.{kept_system, conflict_of}
+use Rattle.loop_marker.proofs.DependenceTest.RangeLaws.{has_range}
+use Rattle.laws_analyses.specs.Statements.Good.{AtEach, Ending}
+use Rattle.call_graph.specs.CallsIn.{list_calls}
+use Rattle.laws_analyses.specs.Statements.Activation.{Fit, Ended}
+use Rattle.laws_analyses.proofs.Statements.Loops.{also}
+use Rattle.laws_analyses.specs.Regions.Settings.{scene, Sound, is_plain, maybe_plain, has_plain, elements_with}
+use Rattle.laws_analyses.specs.Regions.Shown.{Shown}
+use Rattle.laws_analyses.proofs.Regions.Moving.{list_moves}
+use Rattle.laws_analyses.proofs.Regions.Rules.{Goes}
+use Rattle.laws_analyses.proofs.Regions.Standing.{Distinct, found_each}
+use Rattle.laws_analyses.proofs.Regions.Statements.{body_goes}
 use Rattle.laws_marks.specs.InFrames.{Frame, elements_in}
 use Rattle.laws_marks.specs.InKnowns.{known_in}
 use Rattle.laws_marks.specs.InShown.{FirstHolds, FirstShown}
@@ -72,6 +71,7 @@ use Rattle.laws_marks.proofs.ConflictInside.{ins_same}
 use Rattle.laws_marks.proofs.ConflictMeeting.{Known, do_not_meet}
 use Rattle.laws_marks.proofs.ConflictNarrows.{AreNarrow}
 use Rattle.laws_marks.proofs.ConflictReaching.{calls_end, turn_keeps}
+use Rattle.f77_ast.specs.Shapes.{is_return}
 
 -- a cell that an iteration does not change keeps its number over iterations
 chain_keeps : (m : Scene) (t : Transformer) (x y : ℕ → ℤ) (c : ℕ) → m.tracked c ≡ true → has t.cells c ≡ false → Chain m t x y → y (m.unit c) ≡ x (m.unit c)

@@ -1,7 +1,6 @@
 -- Where no conflict is found, none two iterations of a DO meet.
 use Rattle.std.proofs.Common.{◌≡◌, ◌⊎◌, inl, inr, ⊎_elim, ℕ, ◌<◌, List, ◌&&◌, Some, None, Bool, true, false, refl, ap, ◌∙◌, subst, ℤ}
 use Rattle.std.specs.Prelude.{not}
-use Rattle.std.specs.Ordering.{match_ordering}
 use Rattle.std.proofs.lemmas.Bool.{and_parts, and_from, or_from, or_left, or_right, not-true}
 use Rattle.f77_ast.specs.Writes.{Locks}
 use Rattle.f77_ast.specs.Runs.{Event}
@@ -11,21 +10,19 @@ use Rattle.f77_meaning.specs.Accesses.{is_written}
 use Rattle.f77_meaning.specs.Areas.{is_own_unit}
 use Rattle.f77_meaning.specs.Linked.{numbering}
 use Rattle.affine_forms.specs.Claims.{numbers_of}
-use Rattle.transformer_algebra.specs.Claims.{HoldsAt}
-use Rattle.region_sets.specs.declared.marks.Kinds.{Kinds}
-use Rattle.region_sets.specs.declared.range.Range.{Range as Bounds}
-use Rattle.region_sets.specs.declared.region.Access.{Access}
-use Rattle.region_sets.specs.declared.region.Access.TheVariants.{Write}
-use Rattle.region_sets.specs.Claims.{Iteration as Numbered}
-use Rattle.in_out_regions.proofs.WriteLaws.{same_itself, cmp_if}
-use Rattle.loop_bodies.specs.declared.body.LoopBody.{LoopBody}
-use Rattle.loop_bodies.specs.Same.{same_variable}
-use Rattle.dependence_test.specs.Kinds.{first_access, second_access}
-use Rattle.dependence_test.specs.Conflicts.{kept_system}
-use Rattle.dependence_test.specs.Claims.{IsRange, Executed, IsWritten, HasOneElement, IsShared}
-use Rattle.dependence_test.proofs.ConflictLaws.{no_meeting}
-use Rattle.laws_regions.specs.Settings.{scene, elements_with}
-use Rattle.laws_regions.specs.Shown.{accessed, is_lost, is_hidden, Holds}
+use Rattle.preconditions.specs.transformer_algebra.Claims.{HoldsAt}
+use Rattle.f77_ast.specs.declared.marks.Kinds.{Kinds}
+use Rattle.in_out_regions.specs.region_sets.declared.range.Range.{Range as Bounds}
+use Rattle.in_out_regions.specs.region_sets.declared.region.Access.{Access}
+use Rattle.in_out_regions.specs.region_sets.declared.region.Access.TheVariants.{Write}
+use Rattle.in_out_regions.specs.region_sets.Claims.{Iteration as Numbered}
+use Rattle.loop_marker.specs.dependence_test.declared.body.LoopBody.{LoopBody}
+use Rattle.loop_marker.specs.dependence_test.Kinds.{first_access, second_access}
+use Rattle.loop_marker.specs.dependence_test.Conflicts.{kept_system}
+use Rattle.loop_marker.specs.dependence_test.Claims.{IsRange, Executed, IsWritten, HasOneElement, IsShared}
+use Rattle.loop_marker.proofs.DependenceTest.ConflictLaws.{no_meeting}
+use Rattle.laws_analyses.specs.Regions.Settings.{scene, elements_with}
+use Rattle.laws_analyses.specs.Regions.Shown.{accessed, is_lost, is_hidden, Holds}
 use Rattle.laws_marks.specs.InFrames.{Frame, elements_in}
 use Rattle.laws_marks.specs.InShown.{IsFree}
 use Rattle.laws_marks.specs.InUnits.{UnitsFit}
@@ -34,10 +31,8 @@ use Rattle.laws_marks.proofs.InFramed.{by_order, lies_in, set_in}
 use Rattle.laws_marks.specs.ConflictIterations.{Iteration}
 use Rattle.laws_marks.specs.ConflictClaims.{scene_in, Meet}
 use Rattle.laws_marks.proofs.ConflictNarrows.{AreNarrow}
-
--- a variable is itself
-pub same_own : (v : Variable) → same_variable v v ≡ true
-same_own v = ap (λ o. match_ordering o false true false) (cmp_if v v (same_itself v))
+use Rattle.f77_ast.specs.Variables.{same_variable}
+use Rattle.f77_ast.proofs.SameLaws.{same_itself}
 
 -- what a write is
 write_of : (a : Access) (es : List Event) (u : ℕ) → a ≡ Write → accessed a es u ≡ true → is_written u es ≡ true
@@ -60,7 +55,7 @@ module _ (k : Frame) (locked : Locks) (units : UnitsFit k locked) (b : LoopBody)
 
     shared : IsShared k.m.symbols (elements_in k) u
     shared v w phi psi e f = ⊎_elim
-        (λ same. or_left (same_variable v w) (overlap k.m.symbols v w) (ap (same_variable v) same ∙ same_own v))
+        (λ same. or_left (same_variable v w) (overlap k.m.symbols v w) (ap (same_variable v) same ∙ same_itself v))
         (λ over. or_right (same_variable v w) (overlap k.m.symbols v w) over)
         (units.apart w v psi phi u f e free)
 

@@ -9,12 +9,12 @@ use Rattle.affine_systems.specs.Terms.{var_eq}
 use Rattle.affine_systems.specs.Rows.{AllRows}
 use Rattle.affine_systems.proofs.TermLaws.{var_eq-true}
 use Rattle.f77_ast.specs.Trees.{StmtTrees}
-use Rattle.transformer_algebra.specs.Laws.{In}
-use Rattle.region_sets.specs.declared.region.Region.{Region}
-use Rattle.region_sets.specs.Naming.{in_terms, in_rows}
-use Rattle.region_sets.specs.Lists.{accesses_at, list_regions}
-use Rattle.array_regions.specs.Statement.{at_list}
-use Rattle.laws_statements.specs.CallsIn.{list_calls}
+use Rattle.preconditions.specs.transformer_algebra.Laws.{In}
+use Rattle.in_out_regions.specs.region_sets.declared.region.Region.{Region}
+use Rattle.in_out_regions.specs.region_sets.Naming.{in_terms, in_rows}
+use Rattle.in_out_regions.specs.region_sets.Lists.{accesses_at, list_regions}
+use Rattle.in_out_regions.specs.array_regions.Statement.{at_list}
+use Rattle.call_graph.specs.CallsIn.{list_calls}
 use Rattle.laws_lines.specs.Variables.{EachVar}
 use Rattle.laws_lines.proofs.SystemVars.{neat_over}
 use Rattle.laws_lines.proofs.RuleVars.{IsDone}
@@ -23,7 +23,7 @@ use Rattle.laws_marks.specs.InFrames.{Frame, rank}
 use Rattle.laws_marks.specs.InUnits.{IsNarrow}
 use Rattle.laws_marks.proofs.InNarrow.{AnyCell, Upto, IsUpto}
 use Rattle.laws_marks.proofs.InNarrowed.{list_narrowed}
-use Rattle.laws_marks.proofs.InSets.{IsFit, CallsFit, at_fits, may_of}
+use Rattle.laws_marks.proofs.InSets.{IsFit, CallsFit, at_fits, may_of, narrow_of}
 
 named_such : (such : Var → Type 0) (v : Var) (ts : List Term) → EachVar such ts → in_terms v ts ≡ true → such v
 named_such such v [] h e = cc
@@ -40,9 +40,6 @@ rows_such such v (r ∷ rs) h e = go (in_terms v r.terms) refl e (λ k. rows_suc
     go : (b : Bool) → in_terms v r.terms ≡ b → (b || in_rows v rs) ≡ true → (in_rows v rs ≡ true → such v) → such v
     go true q k ih = named_such such v r.terms h.0 q
     go false q k ih = ih k
-
-narrow_of : (n : ℕ) (s : System) → IsUpto n s → IsNarrow n s
-narrow_of n s h i e = rows_such (Upto n) (Phi i) s.rows (neat_over (Upto n) s h) e
 
 -- READ as well as WRITE
 pub record AreNarrow (k : Frame) (rs : List Region) : Type 0 where

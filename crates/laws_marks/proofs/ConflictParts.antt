@@ -7,8 +7,8 @@ use Rattle.f77_ast.specs.Runs.{Event, Arrived, Read, Wrote, Printed, Took, Answe
 use Rattle.f77_ast.specs.Plans.{Flow, Normal, Jump, Returned, Stopped, Plan, steps_of}
 use Rattle.f77_ast.specs.Plans as plan
 use Rattle.f77_ast.specs.Executions.{run_of}
-use Rattle.laws_regions.proofs.Rules.{Continues}
-use Rattle.laws_regions.proofs.Traces.{trace_assoc, trace_nil}
+use Rattle.laws_analyses.proofs.Regions.Rules.{Continues}
+use Rattle.laws_analyses.proofs.Regions.Traces.{trace_assoc, trace_nil}
 use Rattle.laws_marks.specs.ConflictIterations.{Iteration, unless_over, after_part, iterations_since, iterations, IsPartOf, IterationsAreParts}
 use Rattle.laws_marks.proofs.ConflictCuts.{run_back}
 

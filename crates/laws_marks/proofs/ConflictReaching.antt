@@ -16,30 +16,30 @@ use Rattle.f77_ast.specs.Executions.{run_of, AtEndOf, Claim}
 use Rattle.f77_ast.specs.Lists.{list_plan}
 use Rattle.f77_ast.specs.Statements.{spot, statement_plan, execution, arms_plan, else_plan, do_plan, parts}
 use Rattle.f77_ast.proofs.StepLaws.{at_end_true, leads_true}
-use Rattle.f77_results.specs.declared.results.At.{At}
+use Rattle.f77_ast.specs.declared.results.At.{At}
 use Rattle.affine_forms.specs.Conditions.{no_rows}
 use Rattle.affine_forms.specs.Claims.{unit_in, numbers_of}
-use Rattle.transformer_algebra.specs.declared.transformer.Transformer.{Transformer}
-use Rattle.transformer_algebra.specs.Loops.{iteration}
-use Rattle.transformer_algebra.specs.Claims.{Kept}
-use Rattle.transformers.specs.Jumps.{stmt_has, is_return, is_end}
-use Rattle.transformers.specs.Lists.{list_of as transformer_of, list_at}
-use Rattle.transformers.specs.Loops.{number_in, loop_parts}
-use Rattle.transformers.specs.Statement.{parts_do, body_transformer, stmt_transformer}
-use Rattle.region_sets.specs.declared.region.Region.{Region}
-use Rattle.array_regions.specs.Reads.{reads}
-use Rattle.array_regions.specs.Calls.{Called}
-use Rattle.laws_statements.specs.Leads.{stmt_leads}
-use Rattle.laws_statements.specs.CallsIn.{CallAt, Each, stmt_calls, what_calls, list_calls, arms_calls, else_calls}
-use Rattle.laws_statements.specs.Activation.{Fit, Ended}
-use Rattle.laws_statements.proofs.Ends.{more}
-use Rattle.laws_statements.proofs.Lists.{own_of}
-use Rattle.laws_statements.proofs.Loops.{also}
-use Rattle.laws_statements.proofs.Placing.{each_parts}
-use Rattle.laws_regions.specs.Settings.{scene, Sound, is_plain, maybe_plain, tests_plain, actuals_plain, has_plain}
-use Rattle.laws_regions.proofs.Expressions.{Seen, value_looks}
-use Rattle.laws_regions.proofs.Moving.{AllEnd, stmt_moves, list_moves}
-use Rattle.laws_regions.proofs.Standing.{CallStands, call_at, found_each}
+use Rattle.preconditions.specs.transformer_algebra.declared.transformer.Transformer.{Transformer}
+use Rattle.preconditions.specs.transformer_algebra.Loops.{iteration}
+use Rattle.preconditions.specs.transformer_algebra.Claims.{Kept}
+use Rattle.preconditions.specs.transformers.Jumps.{stmt_has, is_end}
+use Rattle.preconditions.specs.transformers.Lists.{list_of as transformer_of, list_at}
+use Rattle.preconditions.specs.transformers.Loops.{number_in, loop_parts}
+use Rattle.preconditions.specs.transformers.Statement.{parts_do, body_transformer, stmt_transformer}
+use Rattle.in_out_regions.specs.region_sets.declared.region.Region.{Region}
+use Rattle.in_out_regions.specs.array_regions.Reads.{reads}
+use Rattle.in_out_regions.specs.array_regions.Calls.{Called}
+use Rattle.laws_analyses.specs.Statements.Leads.{stmt_leads}
+use Rattle.call_graph.specs.CallsIn.{CallAt, Each, stmt_calls, what_calls, list_calls, arms_calls, else_calls}
+use Rattle.laws_analyses.specs.Statements.Activation.{Fit, Ended}
+use Rattle.laws_analyses.proofs.Statements.Ends.{more}
+use Rattle.laws_analyses.proofs.Statements.Lists.{own_of}
+use Rattle.laws_analyses.proofs.Statements.Loops.{also}
+use Rattle.laws_analyses.proofs.Statements.Placing.{each_parts}
+use Rattle.laws_analyses.specs.Regions.Settings.{scene, Sound, is_plain, maybe_plain, tests_plain, actuals_plain, has_plain}
+use Rattle.laws_analyses.proofs.Regions.Expressions.{Seen, value_looks}
+use Rattle.laws_analyses.proofs.Regions.Moving.{AllEnd, stmt_moves, list_moves}
+use Rattle.laws_analyses.proofs.Regions.Standing.{CallStands, call_at, found_each}
 use Rattle.laws_marks.specs.InFrames.{Frame}
 use Rattle.laws_marks.specs.InUnits.{UnitsFit}
 use Rattle.laws_marks.proofs.InStanding.{StandsStmt, StandsParts, StandsList, StandsArms, StandsElse, InAt, in_at, in_within, in_next, in_arms, in_if}
@@ -49,6 +49,7 @@ use Rattle.laws_marks.proofs.ConflictDoing.{do_reached}
 use Rattle.laws_marks.proofs.ConflictEach.{plan_first, plan_looked}
 use Rattle.laws_marks.proofs.ConflictLists.{Stays, PartsAre, jumps_reached}
 use Rattle.laws_marks.proofs.ConflictWhats.{stmt_whats, part_whats, list_whats, arms_whats, else_whats, loop_whats}
+use Rattle.f77_ast.specs.Shapes.{is_return}
 
 module _ (k : Frame) (sound : Sound k.base) (C0 D0 : Claim) (Fits : Locks → (ℕ → Bool) → Type 0) (base : (locked : Locks) (still : ℕ → Bool) → Fits locked still → Fit k.sc.names k.scalar k.at (scene k.base) locked still) (more_fits : (locked : Locks) (still : ℕ → Bool) (x : List ℕ) (v : ℕ) → k.sc.names x ≡ Variable v → k.scalar x ≡ true → Fits locked still → Fits (lock locked (k.at v).first Locked) (also still (k.at v).first)) (I : Store → Type 0) (acc : List (At (List Region))) (called : Called) where
   solid : (locked : Locks) (still : ℕ → Bool) → Fits locked still → (x : List ℕ) (v : ℕ) → k.sc.names x ≡ Variable v → k.scalar x ≡ true → 0 < (k.at v).extent

@@ -6,13 +6,14 @@ use Rattle.f77_ast.specs.Trees.{StmtTree, WhatTree, ArmTree, ArmTrees, ElseTree,
 use Rattle.f77_ast.specs.Trees as tree
 use Rattle.f77_ast.specs.Shapes.{walk_stmt, walk_what, walk_body, walk_arms, walk_arm, walk_else, walk_list}
 use Rattle.f77_ast.specs.StatementNumbers.{stmt_numbers, part_numbers, list_numbers, arms_numbers, else_numbers, loop_numbers}
-use Rattle.f77_results.specs.declared.results.At.{At}
-use Rattle.transformer_algebra.specs.Cells.{has}
-use Rattle.transformer_algebra.proofs.CellLaws.{nat_same, nat_eq_same}
-use Rattle.transformers.specs.Statement.{at}
-use Rattle.loop_bodies.specs.Finding.{or_loop, the_loop, loop_in}
-use Rattle.laws_statements.specs.CallsIn.{Each}
-use Rattle.laws_regions.proofs.Standing.{Distinct, distinct_parts}
+use Rattle.f77_ast.specs.declared.results.At.{At}
+use Rattle.preconditions.specs.transformer_algebra.Cells.{has}
+use Rattle.preconditions.specs.transformers.Statement.{at}
+use Rattle.loop_marker.specs.dependence_test.Finding.{or_loop, the_loop, loop_in}
+use Rattle.call_graph.specs.CallsIn.{Each}
+use Rattle.laws_analyses.proofs.Regions.Standing.{Distinct, distinct_parts, has_parts as none_parts}
+use Rattle.laws_analyses.proofs.CallLists.{each_joined as each_join}
+use Rattle.fx_lists.proofs.Numbers.{same_is as nat_same, nat_eq_same}
 
 -- ---- statements
 
@@ -79,14 +80,6 @@ has_right : (ns ms : List ℕ) (n : ℕ) → has ms n ≡ true → has (ns ++ ms
 has_right [] ms n h = h
 has_right (a ∷ ns) ms n h = or_right (nat_eq a n) (has (ns ++ ms) n) (has_right ns ms n h)
 
-none_parts : (ns ms : List ℕ) (n : ℕ) → has (ns ++ ms) n ≡ false → (has ns n ≡ false) × (has ms n ≡ false)
-none_parts [] ms n h = (refl, h)
-none_parts (a ∷ ns) ms n h = (let o = or_parts (nat_eq a n) (has (ns ++ ms) n) h in let r = none_parts ns ms n o.1 in (both (nat_eq a n) (has ns n) o.0 r.0, r.1))
-  where
-    both : (b c : Bool) → b ≡ false → c ≡ false → (b || c) ≡ false
-    both true c p q = p
-    both false c p q = q
-
 neither : (o q : Option LoopTree) → o ≡ None → q ≡ None → or_loop o q ≡ None
 neither None q e f = f
 neither (Some l) q e f = e
@@ -152,10 +145,6 @@ apart_left ns ms d n h = go (has ns n) refl
     go : (b : Bool) → has ns n ≡ b → has ns n ≡ false
     go true e = absurd (true≢false (sym h ∙ apart_right ns ms d n e))
     go false e = e
-
-pub each_join : {T : Type 0} (P : T → Type 0) (xs ys : List T) → Each P xs → Each P ys → Each P (xs ++ ys)
-each_join P [] ys h g = g
-each_join P (x ∷ xs) ys h g = (h.0, each_join P xs ys h.1 g)
 
 -- F: the DO of each number
 module _ (F : ℕ → Option LoopTree) where

@@ -14,28 +14,28 @@ use Rattle.f77_meaning.specs.Occurrences.{Occurrence}
 use Rattle.f77_meaning.specs.Accesses.{is_read_first}
 use Rattle.f77_meaning.specs.Claims.{PreconditionHolds, writes}
 use Rattle.affine_forms.specs.Scalars.{is_cell}
-use Rattle.transformer_algebra.specs.Claims.{Scene, HoldsAt}
-use Rattle.call_translation.specs.Scopes.{ScopeTree}
-use Rattle.transformers.specs.Lists.{value_at}
-use Rattle.region_sets.specs.declared.marks.Private.{Private}
-use Rattle.region_sets.specs.declared.marks.Private.TheVariants.{Yes}
-use Rattle.region_sets.specs.declared.region.Access.TheVariants.{Out}
-use Rattle.region_sets.specs.Claims.{Elements, LiesInSet}
-use Rattle.in_out_regions.specs.Lists.{set_at}
-use Rattle.loop_bodies.specs.Body.{or_no_rows, system_at}
-use Rattle.loop_bodies.specs.Finding.{loop_in}
-use Rattle.loop_bodies.specs.Same.{same_variable}
-use Rattle.region_phases.specs.OutPhases.{ModuleOuts}
-use Rattle.scalar_phases.specs.Phases.{scope_of}
-use Rattle.privatizer.specs.Names.{may_copy}
-use Rattle.privatizer.specs.Uses.{Uses}
-use Rattle.privatizer.specs.Private.{is_carried, is_live, private_by, private_in}
-use Rattle.privatizer.specs.Claims.{IsPrivate, IfPrivate}
-use Rattle.privatizer.proofs.PrivateLaws.{answer_sound}
-use Rattle.laws_statements.specs.Results.{SystemHolds}
+use Rattle.preconditions.specs.transformer_algebra.Claims.{Scene, HoldsAt}
+use Rattle.preconditions.specs.call_translation.Scopes.{ScopeTree}
+use Rattle.preconditions.specs.transformers.Lists.{value_at}
+use Rattle.f77_ast.specs.declared.marks.Private.{Private}
+use Rattle.f77_ast.specs.declared.marks.Private.TheVariants.{Yes}
+use Rattle.in_out_regions.specs.region_sets.declared.region.Access.TheVariants.{Out}
+use Rattle.in_out_regions.specs.region_sets.Claims.{Elements, LiesInSet}
+use Rattle.loop_marker.specs.dependence_test.Body.{or_no_rows, system_at}
+use Rattle.loop_marker.specs.dependence_test.Finding.{loop_in}
+use Rattle.loop_marker.specs.module_phases.OutPhases.{ModuleOuts}
+use Rattle.loop_marker.specs.module_phases.ScalarPhases.{scope_of}
+use Rattle.loop_marker.specs.privatizer.Names.{may_copy}
+use Rattle.loop_marker.specs.privatizer.Uses.{Uses}
+use Rattle.loop_marker.specs.privatizer.Private.{is_carried, is_live, private_by, private_in}
+use Rattle.loop_marker.specs.privatizer.Claims.{IsPrivate, IfPrivate}
+use Rattle.loop_marker.proofs.Privatizer.PrivateLaws.{answer_sound}
+use Rattle.laws_analyses.specs.Statements.Results.{SystemHolds}
 use Rattle.laws_analyses.specs.Claims.{precondition_in, AnalysisHolds}
-use Rattle.laws_marks.proofs.ConflictMeeting.{same_own}
 use Rattle.laws_marks.specs.Dead.{IsDead, LiesInOwn, CopiesLieInOwn, uses_in, PrivatesAreDead}
+use Rattle.in_out_regions.specs.region_sets.Lists.{set_at}
+use Rattle.f77_ast.specs.Variables.{same_variable}
+use Rattle.f77_ast.proofs.SameLaws.{same_itself}
 
 -- only a variable whose name allows copies is private
 pub copy_of : (a b c : Bool) → private_by a b c ≡ Yes → a ≡ true
@@ -78,7 +78,7 @@ module _ (ks : List Known) (g : Graph) (m : ScopeTree) (t : ModuleTree) (ss : Li
           go false q h = cc
 
       itself : same_variable o.region.variable v ≡ true
-      itself = subst (λ w. same_variable w v ≡ true) (sym o.same) (same_own v)
+      itself = subst (λ w. same_variable w v ≡ true) (sym o.same) (same_itself v)
 
       contained : (z : ℕ) → nat_eq y z ≡ true → LiesInSet all_cells (at_one y) Out u.outs numbers z
       contained z e =

@@ -13,12 +13,13 @@ use Rattle.call_graph.specs.declared.graph.Graph.{Graph}
 use Rattle.f77_meaning.specs.Modules.{known_of, names}
 use Rattle.f77_meaning.specs.Linked.{program_of}
 use Rattle.f77_meaning.specs.Occurrences.{Occurrence, Throughout, places_in}
-use Rattle.region_phases.specs.OutPhases.{ModuleOuts}
-use Rattle.loop_marker.specs.Phases.{ModuleMarks, known_in, all_marks}
-use Rattle.scalar_phases.specs.Phases.{scope_of}
-use Rattle.loop_bodies.specs.Finding.{loop_in}
+use Rattle.loop_marker.specs.module_phases.OutPhases.{ModuleOuts}
+use Rattle.loop_marker.specs.Results.{ModuleResults}
+use Rattle.loop_marker.specs.Phases.{phases_of, all_marks}
+use Rattle.loop_marker.specs.module_phases.ScalarPhases.{scope_of}
+use Rattle.loop_marker.specs.dependence_test.Finding.{loop_in}
 use Rattle.laws_programs.specs.Programs.{IsProgram}
-use Rattle.laws_statements.specs.CallsIn.{Each}
+use Rattle.call_graph.specs.CallsIn.{Each}
 use Rattle.laws_analyses.proofs.CallLists.{each_more}
 use Rattle.laws_analyses.proofs.Modules.{IsIn}
 use Rattle.laws_marks.specs.ConflictAccepted.{CopiesAreSole}
@@ -30,16 +31,17 @@ use Rattle.laws_marks.specs.Dead.{MarkIsDead}
 use Rattle.laws_marks.specs.Units.{ModuleUnitsStand}
 use Rattle.laws_marks.specs.Named.{NamesStand, ModuleNamesStand, ModulePlacesStand, MarkedLoopIsDead}
 use Rattle.laws_marks.specs.DeadLaws.{outs_of, AllUnitsStand, AllMarksAreDead, AllNamesStand, AllMarkedLoopsAreDead, ReadUnitsStand, ReadMarksAreDead, ReadNamesStand}
-use Rattle.laws_marks.proofs.UnitsStanding.{all_of_each, each_of_all}
+use Rattle.laws_marks.proofs.UnitsStanding.{each_of_all}
 use Rattle.laws_marks.proofs.Loops.{loop_is_dead}
 use Rattle.laws_marks.proofs.Merging.{Joined, merged}
 use Rattle.laws_marks.proofs.Named.{names_stand, places_stand}
 use Rattle.laws_marks.proofs.Modules.{each_two, no_entry, with_their_marks, MarksStand, marks_stand}
+use Rattle.laws_analyses.proofs.Claimed.{all_of_each}
 
 module _ (ps : List ParsedTree) (sss : List (List SymbolTree)) (g : Graph) (x : IsProgram ps sss g) (copies : CopiesAreSole) where
   -- each is one of the program
-  pub modules_in : Each (λ (f : ModuleMarks). IsIn (known_of ps sss) (known_in f.outs)) (all_marks g (outs_of ps sss g))
-  modules_in = each_more (MarksStand ps sss g x copies) (λ (f : ModuleMarks). IsIn (known_of ps sss) (known_in f.outs)) (all_marks g (outs_of ps sss g)) (λ f s. s.module_stands.is_in) (marks_stand ps sss g x copies)
+  pub modules_in : Each (λ (f : ModuleResults). IsIn (known_of ps sss) f.known) (all_marks g (outs_of ps sss g))
+  modules_in = each_more (MarksStand ps sss g x copies) (λ (f : ModuleResults). IsIn (known_of ps sss) f.known) (all_marks g (outs_of ps sss g)) (λ f s. s.module_stands.is_in) (marks_stand ps sss g x copies)
 
   -- ---- names
 
@@ -47,29 +49,29 @@ module _ (ps : List ParsedTree) (sss : List (List SymbolTree)) (g : Graph) (x : 
   abbrev UnitsOf : Execution → ModuleOuts → Type 0
   UnitsOf y f = f.known.known.analysis.found.known.read.name ≡ y.spot.module_name → ModuleUnitsStand (known_of ps sss) g f.known y
 
-  abbrev NamesOf : Execution → ModuleMarks → Type 0
-  NamesOf y f = (known_in f.outs).read.name ≡ y.spot.module_name → ModuleNamesStand (known_of ps sss) g f y
+  abbrev NamesOf : Execution → ModuleResults → Type 0
+  NamesOf y f = f.known.read.name ≡ y.spot.module_name → ModuleNamesStand (known_of ps sss) g f y
 
   names_follow : (y : Execution) → AllUnitsStand (known_of ps sss) g (outs_of ps sss g) y → AllNamesStand (known_of ps sss) g (all_marks g (outs_of ps sss g)) y
   names_follow y h =
       let fs = outs_of ps sss g in
       all_of_each (NamesOf y) (all_marks g fs)
-      (each_two (MarksStand ps sss g x copies) (λ (f : ModuleMarks). UnitsOf y f.outs) (NamesOf y) one (all_marks g fs) (marks_stand ps sss g x copies) (with_their_marks g (UnitsOf y) fs (each_of_all (UnitsOf y) fs h)))
+      (each_two (MarksStand ps sss g x copies) (λ (f : ModuleResults). UnitsOf y (phases_of f)) (NamesOf y) one (all_marks g fs) (marks_stand ps sss g x copies) (with_their_marks g (UnitsOf y) fs (each_of_all (UnitsOf y) fs h)))
     where
-      one : (f : ModuleMarks) → MarksStand ps sss g x copies f → UnitsOf y f.outs → NamesOf y f
+      one : (f : ModuleResults) → MarksStand ps sss g x copies f → UnitsOf y (phases_of f) → NamesOf y f
       one f s u n l is_do ns v = names_stand (known_of ps sss) g f s.module_stands.numbered s.is s.module_stands.tables y (u n) l is_do ns v
 
   -- ---- places
 
-  abbrev pub PlacesOf : Execution → ModuleMarks → Type 0
-  PlacesOf y f = (known_in f.outs).read.name ≡ y.spot.module_name → ModulePlacesStand (known_of ps sss) g f y
+  abbrev pub PlacesOf : Execution → ModuleResults → Type 0
+  PlacesOf y f = f.known.read.name ≡ y.spot.module_name → ModulePlacesStand (known_of ps sss) g f y
 
   pub places_follow : (y : Execution) → AllUnitsStand (known_of ps sss) g (outs_of ps sss g) y → Each (PlacesOf y) (all_marks g (outs_of ps sss g))
   places_follow y h =
       let fs = outs_of ps sss g in
-      each_two (MarksStand ps sss g x copies) (λ (f : ModuleMarks). UnitsOf y f.outs) (PlacesOf y) one (all_marks g fs) (marks_stand ps sss g x copies) (with_their_marks g (UnitsOf y) fs (each_of_all (UnitsOf y) fs h))
+      each_two (MarksStand ps sss g x copies) (λ (f : ModuleResults). UnitsOf y (phases_of f)) (PlacesOf y) one (all_marks g fs) (marks_stand ps sss g x copies) (with_their_marks g (UnitsOf y) fs (each_of_all (UnitsOf y) fs h))
     where
-      one : (f : ModuleMarks) → MarksStand ps sss g x copies f → UnitsOf y f.outs → PlacesOf y f
+      one : (f : ModuleResults) → MarksStand ps sss g x copies f → UnitsOf y (phases_of f) → PlacesOf y f
       one f s u n l is_do ns v = places_stand (known_of ps sss) g f s.module_stands.numbered s.is s.module_stands.tables y (u n) l is_do ns v
 
   pub read_names_stand : ReadUnitsStand → (turns : ℕ) (input : List Content) → AtEachExecution (AllNamesStand (known_of ps sss) g (all_marks g (outs_of ps sss g))) (program_plan (program_of (known_of ps sss) g) turns) (program_of (known_of ps sss) g).initial input
@@ -79,11 +81,11 @@ module _ (ps : List ParsedTree) (sss : List (List SymbolTree)) (g : Graph) (x : 
 
   -- ---- loops
 
-  abbrev MarkOf : Occurrence → ModuleMarks → Type 0
-  MarkOf y f = (known_in f.outs).read.name ≡ y.spot.module_name → MarkIsDead (known_of ps sss) g f y
+  abbrev MarkOf : Occurrence → ModuleResults → Type 0
+  MarkOf y f = f.known.read.name ≡ y.spot.module_name → MarkIsDead (known_of ps sss) g f y
 
-  abbrev LoopOf : Occurrence → ModuleMarks → Type 0
-  LoopOf y f = (known_in f.outs).read.name ≡ y.spot.module_name → MarkedLoopIsDead (known_of ps sss) g f y
+  abbrev LoopOf : Occurrence → ModuleResults → Type 0
+  LoopOf y f = f.known.read.name ≡ y.spot.module_name → MarkedLoopIsDead (known_of ps sss) g f y
 
   module _ (begun : IterationsAreBegun) (p : Spot) (at : Places) (t : Plan) (s : Store) (i : List Content) (later : List Event) where
     abbrev done : Execution
@@ -92,14 +94,14 @@ module _ (ps : List ParsedTree) (sss : List (List SymbolTree)) (g : Graph) (x : 
     abbrev seen : Occurrence
     seen = record { spot = p; places = places_in p.statement t s i at; start = s; ran = run_of t s i; later = later }
 
-    loop_of : (f : ModuleMarks) → MarksStand ps sss g x copies f → NamesOf done f × MarkOf seen f → LoopOf seen f
+    loop_of : (f : ModuleResults) → MarksStand ps sss g x copies f → NamesOf done f × MarkOf seen f → LoopOf seen f
     loop_of f st h n = go p.statement refl
       where
         go : (j : ℕ) → p.statement ≡ j → MarkedLoopIsDead (known_of ps sss) g f (record { spot = p; places = places_in p.statement t s i at; start = s; ran = run_of t s i; later = later })
-        go zero e = λ l is_do. absurd (no_entry ps sss g x copies f.outs st.module_stands l (subst (λ k. loop_in k f.outs.known.known.analysis.found.known.read.body ≡ Some l) e is_do))
+        go zero e = λ l is_do. absurd (no_entry ps sss g x copies (phases_of f) st.module_stands l (subst (λ k. loop_in k f.known.read.body ≡ Some l) e is_do))
         go (suc j) e = λ l is_do ns v xs are sc body r u inner locked i2 same ran begins quiet.
-            loop_is_dead xs sc body (places_in p.statement t s i at) r u inner l locked s i2 begins begun quiet (known_of ps sss) g (scope_of g.untracked (known_in f.outs)) (loop_with g f.outs.known l) ns seen refl ran same are
-            (subst (λ (q : Places). NamesStand (known_of ps sss) g (scope_of g.untracked (known_in f.outs)) (names (known_in f.outs).symbols) (loop_with g f.outs.known l) l ns q) (sym (ap (λ k. places_in k t s i at) e)) (h.0 n l is_do ns v)) (h.1 n l is_do ns v)
+            loop_is_dead xs sc body (places_in p.statement t s i at) r u inner l locked s i2 begins begun quiet (known_of ps sss) g (scope_of g.untracked f.known) (loop_with g (phases_of f).known l) ns seen refl ran same are
+            (subst (λ (q : Places). NamesStand (known_of ps sss) g (scope_of g.untracked f.known) (names f.known.symbols) (loop_with g (phases_of f).known l) l ns q) (sym (ap (λ k. places_in k t s i at) e)) (h.0 n l is_do ns v)) (h.1 n l is_do ns v)
 
   loops_joined : IterationsAreBegun → Joined (AllNamesStand (known_of ps sss) g (all_marks g (outs_of ps sss g))) (AllMarksAreDead (known_of ps sss) g (all_marks g (outs_of ps sss g))) (AllMarkedLoopsAreDead (known_of ps sss) g (all_marks g (outs_of ps sss g)))
   loops_joined begun p at t s i later e h =

@@ -2,10 +2,10 @@
 use Rattle.std.proofs.Common.{ℕ, List, ◌++◌}
 use Rattle.f77_ast.specs.Trees.{StmtTree, WhatTree, ArmTree, ArmTrees, ElseTree, LoopTree, StmtTrees}
 use Rattle.f77_ast.specs.Trees as tree
-use Rattle.f77_results.specs.declared.results.At.{At}
-use Rattle.transformers.specs.Statement.{at}
-use Rattle.laws_statements.specs.CallsIn.{Each}
-use Rattle.laws_statements.proofs.Placing.{each_parts}
+use Rattle.f77_ast.specs.declared.results.At.{At}
+use Rattle.preconditions.specs.transformers.Statement.{at}
+use Rattle.call_graph.specs.CallsIn.{Each}
+use Rattle.laws_analyses.proofs.Statements.Placing.{each_parts}
 use Rattle.laws_analyses.proofs.CallLists.{each_joined}
 use Rattle.laws_marks.proofs.ConflictWhats.{stmt_whats, part_whats, list_whats, arms_whats, arm_whats, else_whats, loop_whats}
 

@@ -4,19 +4,16 @@ use Rattle.std.proofs.lemmas.Bool.{or_parts}
 use Rattle.f77_ast.specs.Trees.{StmtTree, WhatTree, ArmTree, ArmTrees, ElseTree, LoopTree, StmtTrees}
 use Rattle.f77_ast.specs.Trees as tree
 use Rattle.f77_ast.specs.StatementNumbers.{stmt_numbers, part_numbers, list_numbers, arms_numbers, else_numbers, loop_numbers, IsNumbered}
-use Rattle.f77_results.specs.declared.results.At.{At}
-use Rattle.transformer_algebra.specs.Cells.{has}
-use Rattle.loop_bodies.specs.Finding.{loop_in}
-use Rattle.laws_statements.specs.CallsIn.{Each}
-use Rattle.laws_regions.proofs.Programs.{distinct_numbers}
+use Rattle.f77_ast.specs.declared.results.At.{At}
+use Rattle.preconditions.specs.transformer_algebra.Cells.{has}
+use Rattle.loop_marker.specs.dependence_test.Finding.{loop_in}
+use Rattle.call_graph.specs.CallsIn.{Each}
+use Rattle.laws_analyses.proofs.Regions.Programs.{distinct_numbers}
 use Rattle.laws_marks.proofs.ConflictModules.{numbered_above}
 use Rattle.laws_marks.proofs.ConflictWhats.{stmt_whats, part_whats, list_whats, arms_whats, else_whats, loop_whats, as_loop, FoundAt, each_found}
 use Rattle.laws_marks.specs.Loops.{StmtDos, WhatDos, LoopDos, ArmsDos, ElseDos, ListDos}
 use Rattle.laws_marks.proofs.Entered.{none_parts}
-
-each_split : {T : Type 0} (P : T → Type 0) (xs ys : List T) → Each P (xs ++ ys) → Each P xs × Each P ys
-each_split P [] ys h = (tt, h)
-each_split P (x ∷ xs) ys h = let z = each_split P xs ys h.1 in ((h.0, z.0), z.1)
+use Rattle.laws_analyses.proofs.Statements.Placing.{each_parts as each_split}
 
 -- F: the DO of each number
 module _ (P : ℕ → LoopTree → Type 0) (F : ℕ → Option LoopTree) (shown : (n : ℕ) (l : LoopTree) → F n ≡ Some l → has (loop_numbers l) 0 ≡ false → P n l) where

@@ -9,34 +9,28 @@ use Rattle.f77_ast.specs.Symbols.{SymbolTree, number_from}
 use Rattle.call_graph.specs.declared.graph.Graph.{Graph}
 use Rattle.f77_meaning.specs.Modules.{Known, known_of}
 use Rattle.f77_meaning.proofs.UnitLaws.{number_least}
-use Rattle.effects.specs.List.{Callees}
-use Rattle.effects.specs.Modules.{cumulated_of}
-use Rattle.transformers.specs.Given.{Callees as TransformerCallees}
-use Rattle.scalar_phases.specs.Phases.{module_names, module_at, module_of, Found, no_callees as no_found, with_callee as with_found, found_of, maybe_found, found_in as founds_in, Analysis, analysis_of, analyses_from, sites_of, analyses}
-use Rattle.region_phases.specs.Phases.{all_regions}
-use Rattle.region_phases.specs.InPhases.{all_ins}
-use Rattle.region_phases.specs.OutPhases.{ModuleOuts, all_outs}
-use Rattle.loop_marker.specs.Phases.{ModuleMarks, known_in, no_callees, with_callee, with_marks, effects_found, marks_found, found_in, all_marks}
-use Rattle.laws_statements.specs.CallsIn.{Each}
-use Rattle.laws_effects.specs.Summaries.{with_name, made, with_summary, before, no_summary, bottom_up}
-use Rattle.laws_storage.specs.Programs.{IsLinked}
+use Rattle.in_out_regions.specs.effects.List.{Callees}
+use Rattle.in_out_regions.specs.effects.Modules.{cumulated_of}
+use Rattle.preconditions.specs.transformers.Given.{Callees as TransformerCallees}
+use Rattle.loop_marker.specs.module_phases.ScalarPhases.{module_names, module_at, module_of, Found, no_callees as no_found, with_callee as with_found, found_of, maybe_found, found_in as founds_in, Analysis, analysis_of, analyses_from, sites_of, analyses}
+use Rattle.loop_marker.specs.module_phases.RegionPhases.{all_regions}
+use Rattle.loop_marker.specs.module_phases.InPhases.{all_ins}
+use Rattle.loop_marker.specs.module_phases.OutPhases.{ModuleOuts, all_outs}
+use Rattle.loop_marker.specs.Results.{ModuleResults}
+use Rattle.loop_marker.specs.Phases.{phases_of, known_in, no_callees, with_callee, with_marks, marks_found, found_in, all_marks}
+use Rattle.call_graph.specs.CallsIn.{Each}
+use Rattle.laws_programs.specs.Effects.Summaries.{with_name, made, with_summary, before, no_summary, bottom_up}
+use Rattle.laws_programs.specs.Storage.Programs.{IsLinked}
 use Rattle.laws_analyses.proofs.Founds.{ModuleOf, module_of_is}
-use Rattle.laws_analyses.proofs.Orders.{NotIn, Sorted, order_sorted, other_name}
+use Rattle.laws_analyses.proofs.Orders.{NotIn, Sorted, order_sorted}
 use Rattle.laws_analyses.proofs.Passes.{next as passes_next, run as passed, run_is}
 use Rattle.laws_analyses.proofs.CallLists.{each_more}
-use Rattle.transformer_algebra.specs.Laws.{In, here, there}
+use Rattle.preconditions.specs.transformer_algebra.Laws.{In, here, there}
 use Rattle.laws_marks.proofs.OutSummaries.{next, run, outs_are}
 use Rattle.laws_marks.specs.DeadLaws.{outs_of}
-
-same_name : (x : List ℕ) → bytes_eq x x ≡ true
-same_name x = (bytes_eq-Decides x x).1 refl
-
-turned : (x y : List ℕ) → bytes_eq x y ≡ bytes_eq y x
-turned x y = go (bytes_eq x y) refl
-  where
-    go : (b : Bool) → bytes_eq x y ≡ b → bytes_eq x y ≡ bytes_eq y x
-    go true e = e ∙ sym ((bytes_eq-Decides y x).1 (sym ((bytes_eq-Decides x y).0 e)))
-    go false e = e ∙ sym (other_name y x (λ q. true≢false (sym ((bytes_eq-Decides x y).1 (sym q)) ∙ e)))
+use Rattle.fx_lists.proofs.Texts.{turned, same_name}
+use Rattle.fx_lists.proofs.Lists.{map_reverse}
+use Rattle.laws_programs.proofs.Effects.BottomUp.{other_name}
 
 -- ---- the module of a name
 
@@ -82,10 +76,6 @@ analysed a = a.found.known
 abbrev found_known : Found → Known
 found_known f = f.known
 
-map_reverse : {A B : Type 0} (f : A → B) (xs : List A) → map f (reverse xs) ≡ reverse (map f xs)
-map_reverse f [] = refl
-map_reverse f (x ∷ xs) = ap (map f) (reverse-cons x xs) ∙ (map-append f (reverse xs) (x ∷ []) ∙ (ap (λ zs. zs ++ f x ∷ []) (map_reverse f xs) ∙ sym (reverse-cons (f x) (map f xs))))
-
 run_known : (g : Graph) (done : List ModuleOuts) (as' : List Analysis) → map outs_known (run g done as') ≡ map analysed as'
 run_known g done [] = refl
 run_known g done (a ∷ as') = ap (λ zs. a.found.known ∷ zs) (run_known g (done ++ next g done as' a ∷ []) as')
@@ -125,12 +115,12 @@ module _ (ps : List ParsedTree) (sss : List (List SymbolTree)) (g : Graph) where
 -- ---- their effects
 
 -- a module with its marks, among those of these names, each with the effects of those before it
-pub record IsMade (g : Graph) (ks : List Known) (xs : List (List ℕ)) (cs : Callees) (f : ModuleMarks) : Type 0 where
+pub record IsMade (g : Graph) (ks : List Known) (xs : List (List ℕ)) (cs : Callees) (f : ModuleResults) : Type 0 where
   pub at : ℕ
-  pub is_module : slice_get ks at ≡ Some (known_in f.outs)
-  pub among : In (known_in f.outs).read.name xs
-  pub effects : f.effects ≡ cumulated_of (known_in f.outs).read.body (before ks xs cs (known_in f.outs).read.name) (known_in f.outs).symbols
-  pub marks : f.marks ≡ marks_found g.untracked f.outs f.effects
+  pub is_module : slice_get ks at ≡ Some f.known
+  pub among : In f.known.read.name xs
+  pub effects : f.effects ≡ cumulated_of f.known.read.body (before ks xs cs f.known.read.name) f.known.symbols
+  pub marks : f.marks ≡ marks_found g.untracked (phases_of f) f.effects
 
 not_in : (x y : List ℕ) (xs : List (List ℕ)) → NotIn x xs → In y xs → bytes_eq y x ≡ false
 not_in x y [] n i = elim i [ ]
@@ -141,9 +131,9 @@ module _ (ps : List ParsedTree) (sss : List (List SymbolTree)) (g : Graph) where
   abbrev modules : List Known
   modules = known_of ps sss
 
-  later : (x : List ℕ) (xs : List (List ℕ)) (cs ds : Callees) → NotIn x xs → with_summary (known_of ps sss) x cs ≡ ds → (f : ModuleMarks) → IsMade g (known_of ps sss) xs ds f → IsMade g (known_of ps sss) (x ∷ xs) cs f
+  later : (x : List ℕ) (xs : List (List ℕ)) (cs ds : Callees) → NotIn x xs → with_summary (known_of ps sss) x cs ≡ ds → (f : ModuleResults) → IsMade g (known_of ps sss) xs ds f → IsMade g (known_of ps sss) (x ∷ xs) cs f
   later x xs cs ds n same f h =
-      let k = known_in f.outs in
+      let k = f.known in
       let other : bytes_eq k.read.name x ≡ false = not_in x k.read.name xs n h.among in
       record {
         at = h.at;
@@ -168,7 +158,7 @@ module _ (ps : List ParsedTree) (sss : List (List SymbolTree)) (g : Graph) where
           go false q = refl
 
   module _ (x : List ℕ) (cs : Callees) (f : ModuleOuts) (e : module_of (known_of ps sss) x ≡ Some (known_in f)) where
-    abbrev new : ModuleMarks
+    abbrev new : ModuleResults
     new = with_marks g.untracked cs f
 
     name : (known_in f).read.name ≡ x

@@ -6,20 +6,20 @@ use Rattle.f77_ast.specs.Trees.{StmtTree, WhatTree, ArmTree, ArmTrees, ElseTree,
 use Rattle.f77_ast.specs.Trees as tree
 use Rattle.f77_ast.specs.StatementNumbers.{stmt_numbers, part_numbers, list_numbers, arms_numbers, arm_numbers, else_numbers, loop_numbers, IsNumbered}
 use Rattle.f77_ast.specs.Symbols.{SymbolTree}
-use Rattle.f77_results.specs.declared.effect_set.EffectSet.{EffectSet}
-use Rattle.f77_results.specs.declared.results.At.{At}
-use Rattle.f77_results.specs.Effects.{unite}
-use Rattle.effects.specs.Statement.{proper_of, loop_effect}
-use Rattle.effects.specs.List.{Callees, stmt_effect, with_parts, with_list, with_loop, at as result_at, at_stmt, at_parts, at_list, at_arms, at_arm, at_else, at_loop}
-use Rattle.transformers.specs.Lists.{value_at, number_of}
+use Rattle.f77_ast.specs.declared.effect_set.EffectSet.{EffectSet}
+use Rattle.f77_ast.specs.declared.results.At.{At}
+use Rattle.f77_ast.specs.Effects.{unite}
+use Rattle.in_out_regions.specs.effects.Statement.{proper_of, loop_effect}
+use Rattle.in_out_regions.specs.effects.List.{Callees, stmt_effect, with_parts, with_list, with_loop, at as result_at, at_stmt, at_parts, at_list, at_arms, at_arm, at_else, at_loop}
+use Rattle.preconditions.specs.transformers.Lists.{value_at, number_of}
 use Rattle.loop_marker.specs.Jumps.{stops, has_io, may_stop, may_have_io, body_of}
-use Rattle.laws_statements.specs.CallsIn.{Each}
-use Rattle.laws_statements.specs.Laws.{InOrder}
-use Rattle.laws_statements.proofs.MainResults.{found_at}
-use Rattle.laws_statements.proofs.NumberLaws.{ids, in_order}
-use Rattle.laws_statements.proofs.Placing.{each_parts}
+use Rattle.call_graph.specs.CallsIn.{Each}
+use Rattle.laws_analyses.specs.Statements.Laws.{InOrder}
+use Rattle.laws_analyses.proofs.Statements.MainResults.{found_at}
+use Rattle.laws_analyses.proofs.Statements.NumberLaws.{ids, in_order}
+use Rattle.laws_analyses.proofs.Statements.Placing.{each_parts}
 use Rattle.laws_analyses.proofs.CallLists.{each_joined}
-use Rattle.laws_regions.proofs.Numbering.{ids_parts}
+use Rattle.laws_analyses.proofs.Regions.Numbering.{ids_parts}
 use Rattle.laws_marks.proofs.ConflictWhats.{stmt_whats, part_whats, list_whats, arms_whats, arm_whats, else_whats, loop_whats}
 use Rattle.laws_marks.proofs.DoEffects.{DoIs, list_dos}
 

@@ -9,15 +9,15 @@ use Rattle.f77_ast.specs.declared.symbol.Place.{Place as SymbolPlace}
 use Rattle.f77_ast.specs.declared.symbol.Place.TheVariants as place
 use Rattle.f77_ast.specs.Symbols.{BoundTree, SymbolTree}
 use Rattle.f77_ast.specs.Shared.{symbol_at}
-use Rattle.array_regions.specs.References.{is_constant}
-use Rattle.privatizer.specs.Names.{is_local}
-use Rattle.region_translation.specs.Claims.{IsClosed, LastMayBeOpen}
-use Rattle.laws_regions.specs.Claims.{elements_of}
-use Rattle.laws_regions.specs.Programs.{ConstantsAre}
-use Rattle.laws_regions.specs.Settings.{is_stored}
-use Rattle.laws_regions.proofs.Outlines.{elements_are}
+use Rattle.in_out_regions.specs.array_regions.References.{is_constant}
+use Rattle.in_out_regions.specs.region_translation.Claims.{IsClosed, LastMayBeOpen}
+use Rattle.laws_analyses.specs.Regions.Claims.{elements_of}
+use Rattle.laws_analyses.specs.Regions.Programs.{ConstantsAre}
+use Rattle.laws_analyses.specs.Regions.Settings.{is_stored}
+use Rattle.laws_analyses.proofs.Regions.Outlines.{elements_are}
 use Rattle.laws_marks.proofs.OutCommonUnits.{number_there}
 use Rattle.laws_marks.specs.Units.{IsPassing}
+use Rattle.call_graph.specs.Visible.{is_local}
 
 pub record HasElement (p : Place) (u : ℕ) : Type 0 where
   pub phi : ℕ → ℤ

@@ -20,10 +20,10 @@ use Rattle.f77_ast.specs.Calls.{actuals, places_of, own_units, lock_own, forget_
 use Rattle.f77_ast.specs.Statements.{Scope, statement_plan, execution, arms_plan, arm_plan, else_plan, do_plan, parts, body_plan}
 use Rattle.f77_ast.specs.Programs.{Routine, scope, body_of, called, meanings}
 use Rattle.f77_ast.proofs.StepLaws.{Leads, leads_then, first_leads, leads_true}
-use Rattle.laws_statements.specs.Leads.{stmt_leads, what_leads, each_leads, arms_lead, arm_leads, else_leads, loop_leads, list_leads, StaysIn}
-use Rattle.laws_statements.proofs.Ends.{more, ends_then}
-use Rattle.laws_statements.proofs.Rows.{labelled}
-use Rattle.laws_marked_plans.specs.Cleared.{IsNoJump, EndsWell, AllEnd}
+use Rattle.laws_analyses.specs.Statements.Leads.{stmt_leads, what_leads, each_leads, arms_lead, arm_leads, else_leads, loop_leads, list_leads, StaysIn}
+use Rattle.laws_analyses.proofs.Statements.Ends.{more, ends_then}
+use Rattle.laws_analyses.proofs.Statements.Rows.{labelled}
+use Rattle.laws_interleavings.specs.Plans.Cleared.{IsNoJump, EndsWell, AllEnd}
 
 -- ---- ends of plans
 

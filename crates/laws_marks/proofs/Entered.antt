@@ -28,7 +28,7 @@ use Rattle.f77_ast.specs.Programs.{Routine, body_of, called, meanings}
 use Rattle.f77_meaning.specs.Accesses.{is_entered}
 use Rattle.f77_meaning.specs.Modules.{Known, all_lost}
 use Rattle.f77_meaning.specs.Areas.{Numbering}
-use Rattle.transformer_algebra.specs.Cells.{has}
+use Rattle.preconditions.specs.transformer_algebra.Cells.{has}
 use Rattle.laws_interleavings.specs.MarkedStatements.{MarkedScope, MarkedMeaning, one_of, count, own_walk, own_in}
 use Rattle.laws_interleavings.specs.MarkedPrograms.{Directives, marked_scope, marked_called, marked_meanings}
 use Rattle.laws_interleavings.proofs.Runs.{run_bind, on_from, stays_whole}

@@ -14,13 +14,13 @@ use Rattle.f77_ast.specs.Plans as plan
 use Rattle.f77_ast.specs.Executions.{AtEnd}
 use Rattle.f77_ast.specs.Lists.{is_label}
 use Rattle.f77_meaning.specs.Occurrences.{Onward, after_answer, events_after, events_from}
-use Rattle.laws_interleavings.specs.Marks.{MarkedPlan, Ends, Breaks, Look, Set, Hold, Forget, Show, Take, Within, Loop, plain, plain_run}
+use Rattle.laws_interleavings.specs.Marks.{MarkedPlan, Ends, Breaks, Look, Set, Hold, Forget, Show, Take, Within, Loop, Reduce, plain, plain_run}
 use Rattle.laws_interleavings.specs.MarkedStatements.{unmarked, ◌▹▹◌, steps_first, when_normal, MarkedPart, stands, parts_from, go_on, one_by_one, with_jumps, marked_list, marked_iterations, written_first}
 use Rattle.laws_interleavings.specs.Sound.{OnGave}
 use Rattle.laws_interleavings.specs.Holds.{later_events, MarksHold}
 use Rattle.laws_interleavings.proofs.Runs.{run_bind, on_from, stays_whole}
 use Rattle.laws_marks.specs.ConflictExecutions.{Execution}
-use Rattle.laws_marked_plans.proofs.Fine.{Yields, Any, yields_any}
+use Rattle.laws_interleavings.proofs.Plans.Fine.{Yields, Any, yields_any}
 use Rattle.laws_marks.specs.Rests.{EachWithRest}
 
 module _ (C : Execution → List Event → Type 0) where
@@ -40,6 +40,7 @@ module _ (C : Execution → List Event → Type 0) where
   Fit (Take k) = (o : Option Content) → Fit (k o)
   Fit (Within p at t k) = (Fit t ⊎ Direct p at t) × ((f : Flow) → Fit (k f))
   Fit (Loop m k) = ⊥
+  Fit (Reduce d k) = ⊥
 
   -- ---- along a run
 
@@ -80,6 +81,7 @@ module _ (C : Execution → List Event → Type 0) where
       (subst (λ (l : List Event). MarksHold t s i l) same inner, after_held k onward (λ f z j g. held (k f) (h.1 f) z j onward g) q.answer y q.input q.trace e.2) in
       subst (λ (r : Ran Flow). MarksHold (Within p at t k) s i (events_after r onward)) (sym path) both
   held (Loop m k) h s i onward e = absurd h
+  held (Reduce d k) h s i onward e = absurd h
 
   -- ---- plans
 
@@ -105,6 +107,7 @@ module _ (C : Execution → List Event → Type 0) where
   fit_then (Take k) f h n = λ o. fit_then (k o) f (h o) n
   fit_then (Within p at t k) f h n = (h.0, λ g. fit_then (k g) f (h.1 g) n)
   fit_then (Loop m k) f h n = absurd h
+  fit_then (Reduce d k) f h n = absurd h
 
   pub fit_first : {A : Type 0} (P : A → Type 0) (t : Steps A) (f : A → MarkedPlan) → Yields P t → ((a : A) → P a → Fit (f a)) → Fit (steps_first t f)
   fit_first P (steps.Done a) f y n = n a y

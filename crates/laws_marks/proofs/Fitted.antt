@@ -28,33 +28,34 @@ use Rattle.f77_meaning.specs.Linked.{numbering, routine, program_of}
 use Rattle.f77_meaning.specs.Processes.{Marked, writes}
 use Rattle.f77_meaning.proofs.ModuleLaws.{has_room}
 use Rattle.f77_meaning.proofs.UnitLaws.{temporaries_are_recognisable}
-use Rattle.transformer_algebra.specs.Cells.{has}
-use Rattle.transformer_algebra.specs.Laws.{In, here, there}
+use Rattle.preconditions.specs.transformer_algebra.Cells.{has}
+use Rattle.preconditions.specs.transformer_algebra.Laws.{In, here, there}
 use Rattle.laws_programs.specs.Programs.{IsProgram}
 use Rattle.laws_programs.proofs.Numbers.{is_numbered}
-use Rattle.laws_statements.specs.CallsIn.{Each}
+use Rattle.call_graph.specs.CallsIn.{Each}
 use Rattle.laws_analyses.proofs.Modules.{IsIn}
-use Rattle.laws_regions.specs.Shown.{is_lost, is_hidden}
+use Rattle.laws_analyses.specs.Regions.Shown.{is_lost, is_hidden}
 use Rattle.laws_marks.specs.ConflictExecutions.{Execution}
 use Rattle.laws_marks.proofs.ConflictModules.{numbered_above}
 use Rattle.laws_interleavings.specs.MarkedStatements.{MarkedScope, marked_loop, own_in, unit_of, unit_of_some}
 use Rattle.laws_interleavings.specs.MarkedPrograms.{Directives, marked_scope, marked_meanings}
 use Rattle.laws_interleavings.specs.Sound.{is_own}
 use Rattle.laws_interleavings.specs.Typed.{TagsStand, IsNoDummy, AllTagged}
-use Rattle.laws_marked_plans.specs.Fine.{IsFine, Frees}
-use Rattle.laws_marked_plans.specs.Cleared.{HasNoValue, Cleared, Off, EndsWell, MeaningCleared, AllApart, AllEnd}
-use Rattle.laws_marked_plans.proofs.Cleared.{other, off_more, lock_none, cleared_meanings, cleared_body}
-use Rattle.laws_marked_plans.proofs.Fine.{fine_body_list, fine_meanings}
-use Rattle.laws_marked_plans.proofs.Uses.{unwritten_of}
+use Rattle.laws_interleavings.specs.Plans.Fine.{IsFine, Frees}
+use Rattle.laws_interleavings.specs.Plans.Cleared.{HasNoValue, Cleared, Off, EndsWell, MeaningCleared, AllApart, AllEnd}
+use Rattle.laws_interleavings.proofs.Plans.Cleared.{other, off_more, lock_none, cleared_meanings, cleared_body}
+use Rattle.laws_interleavings.proofs.Plans.Fine.{fine_body_list, fine_meanings}
+use Rattle.laws_interleavings.proofs.Plans.Uses.{unwritten_of}
 use Rattle.laws_marks.specs.MarkedBegun.{did_in}
 use Rattle.laws_marks.specs.Inactive.{IsOfExpression, IsOfModule, IsOfSome, IsInactive, HasNone, InactiveHaveNone}
 use Rattle.laws_marks.proofs.Order.{Distinct, names_once}
 use Rattle.laws_marks.proofs.OwnIn.{own_units_are_inactive}
 use Rattle.laws_marks.proofs.Apart.{linked, units_are_apart}
 use Rattle.laws_marks.specs.Loops.{AreOff, IsOutside}
-use Rattle.laws_marks.proofs.Spared.{all, AllOutside, spared_meanings, spared_body}
+use Rattle.laws_marks.proofs.Spared.{AllOutside, spared_meanings, spared_body}
 use Rattle.laws_marks.proofs.Entered.{EntersNone, IsEntered, AreEntered, body_enters, meanings_enter, run_enters, is_lost_of, none_lost}
 use Rattle.laws_marks.proofs.Units.{IsLocalOf, units, expression_off, local_off, local_nonzero, others_outside}
+use Rattle.laws_interleavings.proofs.Plans.MarkedStrict.{all}
 
 -- ---- events
 

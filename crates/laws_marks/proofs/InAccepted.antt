@@ -7,8 +7,7 @@ use Rattle.f77_ast.specs.Programs.{program_plan}
 use Rattle.f77_ast.specs.declared.symbol.Place.TheVariants as place
 use Rattle.f77_ast.specs.Symbols.{SymbolTree}
 use Rattle.f77_ast.specs.Shared.{symbol_at}
-use Rattle.f77_results.specs.declared.results.At.{At}
-use Rattle.f77_results.specs.declared.results.Results.{Results}
+use Rattle.f77_ast.specs.declared.results.Results.{Results}
 use Rattle.call_graph.specs.declared.graph.Graph.{Graph}
 use Rattle.f77_meaning.specs.Claimed.{InEveryRun}
 use Rattle.f77_meaning.specs.Modules.{Known, known_of}
@@ -16,36 +15,35 @@ use Rattle.f77_meaning.specs.Linked.{program_of}
 use Rattle.f77_meaning.specs.Occurrences.{Occurrence}
 use Rattle.affine_systems.specs.declared.row.Var.{Var}
 use Rattle.affine_systems.specs.declared.row.Var.TheVariants.{Cell, Exit, Phi, Aux}
-use Rattle.transformer_algebra.specs.declared.transformer.Transformer.{Transformer}
-use Rattle.transformers.specs.Given.{Callees}
-use Rattle.transformers.specs.Lists.{value_at, or_unchanging, transformer_at}
-use Rattle.region_sets.specs.declared.region.Region.{Region}
-use Rattle.array_regions.specs.Calls.{Callees as Summaries}
-use Rattle.array_regions.specs.Modules.{regions_with}
-use Rattle.region_phases.specs.Phases.{with_regions, all_regions}
+use Rattle.preconditions.specs.transformer_algebra.declared.transformer.Transformer.{Transformer}
+use Rattle.preconditions.specs.transformers.Given.{Callees}
+use Rattle.preconditions.specs.transformers.Lists.{transformer_at}
+use Rattle.in_out_regions.specs.region_sets.declared.region.Region.{Region}
+use Rattle.in_out_regions.specs.array_regions.Calls.{Callees as Summaries}
+use Rattle.in_out_regions.specs.array_regions.Modules.{regions_with}
+use Rattle.loop_marker.specs.module_phases.RegionPhases.{with_regions, all_regions}
 use Rattle.in_out_regions.specs.Modules.{ins_with}
-use Rattle.region_phases.specs.InPhases.{ModuleIns, ins_found, all_ins}
-use Rattle.scalar_phases.specs.Phases.{scope_of, Analysis, analyses}
+use Rattle.loop_marker.specs.module_phases.InPhases.{ModuleIns, ins_found, all_ins}
+use Rattle.loop_marker.specs.module_phases.ScalarPhases.{scope_of, Analysis, analyses}
 use Rattle.laws_programs.specs.Programs.{AreTables, IsProgram}
 use Rattle.laws_programs.proofs.Numbers.{is_numbered}
-use Rattle.laws_programs.proofs.Sources.{AnyLabel, all_built}
+use Rattle.laws_programs.proofs.Sources.{all_built}
 use Rattle.laws_programs.proofs.Tables.{programs_are_linked}
 use Rattle.laws_programs.proofs.Whole.{numbers_go_up, modules_are_read}
-use Rattle.laws_tables.proofs.ShapeLaws.{bodies_are_shaped}
-use Rattle.roundtrip_statements.specs.Formed as formed
-use Rattle.roundtrip_statements.specs.Phrased.{IsPhrase}
-use Rattle.roundtrip_modules.specs.Cards.{Card, statements_of}
-use Rattle.roundtrip_modules.proofs.Kept.{Held}
-use Rattle.laws_effects.specs.Tables.{is_plain}
-use Rattle.laws_statements.specs.CallsIn.{CallAt, Each, list_calls}
-use Rattle.laws_storage.specs.Below.{HasCall}
-use Rattle.laws_storage.specs.Calls.{AreLaidOut}
-use Rattle.laws_storage.specs.DataLaws.{AllConstantsFit}
-use Rattle.laws_storage.specs.Programs.{IsLinked, IsModule, known}
-use Rattle.laws_storage.proofs.CallLaws.{calls_are_listed}
-use Rattle.laws_storage.proofs.ModuleLaws.{known_module}
-use Rattle.laws_calls.specs.Parts.{Blocks, Part}
-use Rattle.laws_calls.specs.Sites.{lookup}
+use Rattle.laws_programs.proofs.SymbolTables.ShapeLaws.{bodies_are_shaped}
+use Rattle.laws_programs.specs.roundtrip_programs.Statements.Phrased.{IsPhrase}
+use Rattle.laws_programs.specs.roundtrip_programs.ModuleTexts.Cards.{Card, statements_of}
+use Rattle.laws_programs.proofs.RoundtripPrograms.ModuleTexts.Kept.{Held}
+use Rattle.laws_programs.specs.Effects.Tables.{is_plain}
+use Rattle.call_graph.specs.CallsIn.{CallAt, Each, list_calls}
+use Rattle.laws_programs.specs.Storage.Below.{HasCall}
+use Rattle.laws_programs.specs.Storage.Calls.{AreLaidOut}
+use Rattle.laws_programs.specs.Storage.DataLaws.{AllConstantsFit}
+use Rattle.laws_programs.specs.Storage.Programs.{IsLinked, IsModule, known}
+use Rattle.laws_programs.proofs.Storage.CallLaws.{calls_are_listed}
+use Rattle.laws_programs.proofs.Storage.ModuleLaws.{known_module}
+use Rattle.laws_analyses.specs.Calls.Parts.{Blocks, Part}
+use Rattle.laws_analyses.specs.Calls.Sites.{lookup}
 use Rattle.laws_analyses.specs.Parts.{blocks_in, part_of}
 use Rattle.laws_analyses.specs.Analysed.{part_named, AreAnalysed}
 use Rattle.laws_analyses.specs.CallLaws.{Settled}
@@ -56,7 +54,7 @@ use Rattle.laws_analyses.proofs.Analyses.{Located, all_located, analysis_of_modu
 use Rattle.laws_analyses.proofs.CallLists.{each_in, each_more}
 use Rattle.laws_analyses.proofs.Founds.{Calls}
 use Rattle.laws_analyses.proofs.IntegerLaws.{integers_fit}
-use Rattle.laws_analyses.proofs.MainLaws.{some_main, main_from, built_at}
+use Rattle.laws_analyses.proofs.MainLaws.{main_from, built_at}
 use Rattle.laws_analyses.proofs.Modules.{IsIn, subs, subs_in, module_named_is}
 use Rattle.laws_analyses.proofs.Passes.{name_of}
 use Rattle.laws_analyses.proofs.Programs.{Ready}
@@ -67,19 +65,17 @@ use Rattle.laws_analyses.proofs.UnitLaws.{module_at}
 use Rattle.laws_analyses.proofs.Whole.{analyses_follow}
 use Rattle.laws_lines.specs.Laws.{IsTracked}
 use Rattle.laws_lines.specs.Halves.{IsHalfOf}
-use Rattle.laws_lines.proofs.PhaseVars.{EachOf, AnalysisOk, analyses_ok, value_is}
-use Rattle.laws_lines.proofs.RuleVars.{IsDone, unchanging_done}
-use Rattle.laws_lines.proofs.StatementVars.{AllAt}
+use Rattle.laws_lines.proofs.PhaseVars.{EachOf, AnalysisOk, analyses_ok, found_done}
+use Rattle.laws_lines.proofs.RuleVars.{IsDone}
 use Rattle.laws_lines.proofs.SystemVars.{system_more}
-use Rattle.laws_regions.specs.Settings.{has_colon}
-use Rattle.laws_regions.specs.Accepted.{summaries_of as reads_of}
-use Rattle.laws_regions.proofs.Accepted.{regular_part}
-use Rattle.laws_regions.proofs.Carrying.{LinkLaws}
-use Rattle.laws_regions.proofs.Parts.{found_part, program, program_is}
-use Rattle.laws_regions.proofs.Summaries.{summaries_are as reads_are}
-use Rattle.laws_regions.proofs.ToldBlocks.{blocks_told}
-use Rattle.laws_regions.proofs.ToldBodies.{AreCards}
-use Rattle.laws_regions.proofs.ToldSymbols.{names_told}
+use Rattle.laws_analyses.specs.Regions.Settings.{has_colon}
+use Rattle.laws_analyses.specs.Regions.Accepted.{summaries_of as reads_of}
+use Rattle.laws_analyses.proofs.Regions.Accepted.{regular_part, cards_of_held}
+use Rattle.laws_analyses.proofs.Regions.Carrying.{LinkLaws}
+use Rattle.laws_analyses.proofs.Regions.Parts.{found_part, program, program_is}
+use Rattle.laws_analyses.proofs.Regions.Summaries.{summaries_are as reads_are, each_back}
+use Rattle.laws_analyses.proofs.Regions.ToldBlocks.{blocks_told}
+use Rattle.laws_analyses.proofs.Regions.ToldSymbols.{names_told}
 use Rattle.laws_marks.specs.InAccepted.{summaries_of, AllInsHold, ReadInsHold}
 use Rattle.laws_marks.specs.InClaims.{InRegionsHold}
 use Rattle.laws_marks.specs.InLaid.{NamesGo}
@@ -90,10 +86,9 @@ use Rattle.laws_marks.proofs.InLayouts.{such, may_name, module_laid, call_names}
 use Rattle.laws_marks.proofs.InNarrow.{AnyCell}
 use Rattle.laws_marks.proofs.InSummaries.{Placed, called_summary, summaries_are, ins_placed}
 use Rattle.laws_marks.proofs.InWhole.{GoesIn, GoesFrom, LaidPart, LaidParts, program_ins_hold}
-
-pub cards_of_held : (cs : List Card) → formed.Each (Held AnyLabel IsPhrase) cs → AreCards cs
-cards_of_held [] h = tt
-cards_of_held (c ∷ cs) h = record { first = h.first.1; others = cards_of_held cs h.others }
+use Rattle.laws_programs.proofs.RoundtripPrograms.ModuleTexts.Cards.{Any as AnyLabel}
+use Rattle.laws_programs.proofs.Effects.Once.{main_of_linked as some_main}
+use Rattle.laws_programs.proofs.RoundtripPrograms.Body.{AreCards}
 
 -- ---- transformers over cells
 
@@ -106,20 +101,9 @@ half_any ok cs (Aux c) h = h
 any_done : (ok : ℕ → Type 0) (t : Transformer) → IsDone ok t → IsDone AnyCell t
 any_done ok t d = record { cells = λ c h. tt; system = system_more (IsHalfOf ok t.cells) (IsHalfOf AnyCell t.cells) (half_any ok t.cells) t.system d.system }
 
-found_done : (ok : ℕ → Type 0) (xs : List (At Transformer)) → AllAt (IsDone ok) xs → (n : ℕ) → IsDone ok (transformer_at xs n)
-found_done ok xs h n = go (value_at xs n) (λ v e. value_is (IsDone ok) xs n v h e)
-  where
-    go : (o : Option Transformer) → ((v : Transformer) → o ≡ Some v → IsDone ok v) → IsDone ok (or_unchanging o)
-    go None f = unchanging_done ok
-    go (Some t) f = f t refl
-
 of_back : {T : Type 0} (P : T → Type 0) (xs ys : List T) → EachOf P (xs ++ ys) → EachOf P ys
 of_back P [] ys h = h
 of_back P (x ∷ xs) ys h = of_back P xs ys h.1
-
-each_back : {T : Type 0} (P : T → Type 0) (xs ys : List T) → Each P (xs ++ ys) → Each P ys
-each_back P [] ys h = h
-each_back P (x ∷ xs) ys h = each_back P xs ys h.1
 
 none_is : (k : Part) → None ≡ Some k → ⊥
 none_is k e = cc

@@ -1,14 +1,14 @@
 -- Where a module runs, elements have units of their own.
-use Rattle.std.proofs.Common.{◌≡◌, ◌⊎◌, inl, inr, ⊎_elim, ℕ, zero, suc, ◌+◌, ◌-◌, ◌<◌, ◌≤◌, List, [], ◌∷◌, length, ◌&&◌, ◌||◌, Option, Some, None, Bool, true, false, refl, sym, ap, ◌∙◌, subst, arith, ℤ, nat_lt, nat_eq, true≢false}
+use Rattle.std.proofs.Common.{◌≡◌, ◌⊎◌, inl, inr, ⊎_elim, ℕ, zero, suc, ◌+◌, ◌-◌, ◌<◌, ◌≤◌, List, [], ◌∷◌, length, Option, Some, None, Bool, true, false, refl, sym, ap, ◌∙◌, subst, arith, ℤ, nat_lt, nat_eq, true≢false}
 use Rattle.std.specs.Prelude.{if◌then◌else◌, not, slice_get, option_map, nat_le, map, is_some}
-use Rattle.std.proofs.lemmas.Bool.{and_parts, or_left, or_right}
+use Rattle.std.proofs.lemmas.Bool.{and_parts}
 use Rattle.std.proofs.lemmas.Bool.Decides.{nat_tests}
 use Rattle.f77_ast.specs.Trees.{ExprTree}
 use Rattle.f77_ast.specs.Faults.{Fault, Shared}
 use Rattle.f77_ast.specs.Store.{Store}
 use Rattle.f77_ast.specs.Places.{Dim, Place, Places, position, within}
 use Rattle.f77_ast.specs.Writes.{Locks, first_lock}
-use Rattle.f77_ast.specs.Calls.{Dummy, Meaning, in_place, in_dummies, doubly_reached, lock_doubly}
+use Rattle.f77_ast.specs.Calls.{Dummy, Meaning, in_place, doubly_reached, lock_doubly}
 use Rattle.f77_ast.specs.declared.variable.Variable.{Variable as Named}
 use Rattle.f77_ast.specs.declared.variable.Variable.TheVariants.{Own, Block, Saved}
 use Rattle.f77_ast.specs.Symbols.{BoundTree as Bounds, SymbolTree}
@@ -21,22 +21,21 @@ use Rattle.f77_meaning.specs.Linked.{numbering}
 use Rattle.f77_meaning.specs.Modules.{Known, bound_of}
 use Rattle.affine_forms.specs.Scalars.{Scalars, is_cell}
 use Rattle.affine_forms.specs.Claims.{unit_in, numbers_of}
-use Rattle.transformer_algebra.proofs.CellLaws.{nat_same, nat_eq_same}
-use Rattle.transformers.specs.Given.{Callees}
-use Rattle.array_regions.specs.References.{is_constant}
-use Rattle.array_regions.specs.Calls.{Called}
-use Rattle.laws_calls.specs.Parts.{Blocks, Part, DummyOf, NoDummy, nth, in_bound, places_in, Sane}
-use Rattle.laws_calls.specs.Sites.{Entered}
-use Rattle.laws_calls.proofs.Bound.{AsArray, Made, bound_at, scalars_fixed, scalars_dummy}
-use Rattle.laws_calls.proofs.Enter.{find_dummy}
-use Rattle.laws_regions.specs.Claims.{listed_from, listed, elements_of}
-use Rattle.laws_regions.specs.Settings.{is_stored, elements_if, is_told, elements_at, Sound}
-use Rattle.laws_regions.specs.Entries.{IsLost}
-use Rattle.laws_regions.specs.Programs.{Regular, Joins, ConstantsAre, OpenLast as OpenBounds}
-use Rattle.laws_regions.proofs.Arrays.{HighMeans, BoundsMean}
-use Rattle.laws_regions.proofs.Bounds.{setting}
-use Rattle.laws_regions.proofs.CalledShown.{Bound}
-use Rattle.laws_regions.proofs.Entering.{Inside, inside_of}
+use Rattle.preconditions.specs.transformers.Given.{Callees}
+use Rattle.in_out_regions.specs.array_regions.References.{is_constant}
+use Rattle.in_out_regions.specs.array_regions.Calls.{Called}
+use Rattle.laws_analyses.specs.Calls.Parts.{Blocks, Part, DummyOf, NoDummy, nth, in_bound, places_in, Sane}
+use Rattle.laws_analyses.specs.Calls.Sites.{Entered}
+use Rattle.laws_analyses.proofs.Calls.Bound.{AsArray, Made, bound_at, scalars_fixed, scalars_dummy}
+use Rattle.laws_analyses.proofs.Calls.Enter.{find_dummy, doubly_two as with_other, doubly_common as with_common}
+use Rattle.laws_analyses.specs.Regions.Claims.{listed_from, listed, elements_of}
+use Rattle.laws_analyses.specs.Regions.Settings.{is_stored, elements_if, is_told, elements_at, Sound}
+use Rattle.laws_analyses.specs.Regions.Entries.{IsLost}
+use Rattle.laws_analyses.specs.Regions.Programs.{Regular, Joins, ConstantsAre, OpenLast as OpenBounds}
+use Rattle.laws_analyses.proofs.Regions.Arrays.{HighMeans, BoundsMean}
+use Rattle.laws_analyses.proofs.Regions.Bounds.{setting}
+use Rattle.laws_analyses.proofs.Regions.CalledShown.{Bound}
+use Rattle.laws_analyses.proofs.Regions.Entering.{Inside, inside_of}
 use Rattle.laws_marks.specs.InDims.{OpenLast}
 use Rattle.laws_marks.specs.InFrames.{Frame, bounds_count, rank}
 use Rattle.laws_marks.specs.InLaid.{IsFixed, fixed_place, HasUnit, Laid}
@@ -45,6 +44,10 @@ use Rattle.laws_marks.proofs.InFramed.{element_named, element_of}
 use Rattle.laws_marks.proofs.InFirsts.{not_so}
 use Rattle.laws_marks.proofs.InPositions.{position_once}
 use Rattle.laws_marks.proofs.InRunning.{frame}
+use Rattle.laws_analyses.proofs.SiteLaws.{no_bounds_back as none_bound}
+use Rattle.fx_lists.proofs.Booleans.{and_from as and_both}
+use Rattle.fx_lists.proofs.Options.{none_some_2 as none_some}
+use Rattle.fx_lists.proofs.Numbers.{same_is as nat_same, nat_eq_same}
 
 -- ---- subscripts
 
@@ -101,10 +104,6 @@ means_count k tracked first0 numbers [] (d ∷ ds) h = absurd h
 means_count k tracked first0 numbers (b ∷ bs) [] h = absurd h
 means_count k tracked first0 numbers (b ∷ bs) (d ∷ ds) h = ap suc (means_count k tracked first0 numbers bs ds h.1)
 
-none_bound : (bs : List Bounds) → map bound_of bs ≡ [] → bs ≡ []
-none_bound [] e = refl
-none_bound (c ∷ bs) e = cc
-
 -- constant bounds close each dimension
 pub open_constants : (value : List ℕ → Option Constant) (bs : List Bounds) (ds : List Dim) → ConstantsAre value bs ds → OpenLast ds
 open_constants value [] [] h = tt
@@ -129,36 +128,6 @@ open_means k tracked first0 numbers (b ∷ (c ∷ bs)) (d ∷ []) h o = tt
 open_means k tracked first0 numbers (b ∷ (c ∷ bs)) (d ∷ (f ∷ ds)) h o = (high_closed k tracked first0 numbers b.high d.high h.0.high_means o.0, open_means k tracked first0 numbers (c ∷ bs) (f ∷ ds) h.1 o.1)
 
 -- ---- dummies
-
-and_both : (a b : Bool) → a ≡ true → b ≡ true → (a && b) ≡ true
-and_both true b p q = q
-and_both false b p q = absurd (true≢false (sym p))
-
-dummies_at : (ds : List Dummy) (at : Places) (i : ℕ) (d : Dummy) (u : ℕ) → slice_get ds i ≡ Some d → in_place (at d.symbol) u ≡ true → in_dummies ds at u ≡ true
-dummies_at [] at i d u e h = cc
-dummies_at (f ∷ ds) at zero d u e h = let same : d ≡ f = cc in or_left (in_place (at f.symbol) u) (in_dummies ds at u) (ap (λ (y : Dummy). in_place (at y.symbol) u) (sym same) ∙ h)
-dummies_at (f ∷ ds) at (suc i) d u e h = or_right (in_place (at f.symbol) u) (in_dummies ds at u) (dummies_at ds at i d u e h)
-
-with_common : (ds : List Dummy) (at : Places) (common : ℕ → Bool) (i : ℕ) (d : Dummy) (u : ℕ) → slice_get ds i ≡ Some d → in_place (at d.symbol) u ≡ true → common u ≡ true → doubly_reached ds at common u ≡ true
-with_common [] at common i d u e h c = cc
-with_common (f ∷ ds) at common zero d u e h c =
-    let same : d ≡ f = cc in
-    or_left (in_place (at f.symbol) u && (in_dummies ds at u || common u)) (doubly_reached ds at common u)
-    (and_both (in_place (at f.symbol) u) (in_dummies ds at u || common u) (ap (λ (y : Dummy). in_place (at y.symbol) u) (sym same) ∙ h) (or_right (in_dummies ds at u) (common u) c))
-with_common (f ∷ ds) at common (suc i) d u e h c = or_right (in_place (at f.symbol) u && (in_dummies ds at u || common u)) (doubly_reached ds at common u) (with_common ds at common i d u e h c)
-
-with_other : (ds : List Dummy) (at : Places) (common : ℕ → Bool) (i j : ℕ) (d f : Dummy) (u : ℕ) → slice_get ds i ≡ Some d → slice_get ds j ≡ Some f → (d.symbol ≡ f.symbol → ⊥) → in_place (at d.symbol) u ≡ true → in_place (at f.symbol) u ≡ true → doubly_reached ds at common u ≡ true
-with_other [] at common i j d f u e q n h k = cc
-with_other (g ∷ ds) at common zero zero d f u e q n h k = absurd (n (let same : d ≡ f = cc in ap (λ (y : Dummy). y.symbol) same))
-with_other (g ∷ ds) at common zero (suc j) d f u e q n h k =
-    let same : d ≡ g = cc in
-    or_left (in_place (at g.symbol) u && (in_dummies ds at u || common u)) (doubly_reached ds at common u)
-    (and_both (in_place (at g.symbol) u) (in_dummies ds at u || common u) (ap (λ (y : Dummy). in_place (at y.symbol) u) (sym same) ∙ h) (or_left (in_dummies ds at u) (common u) (dummies_at ds at j f u q k)))
-with_other (g ∷ ds) at common (suc i) zero d f u e q n h k =
-    let same : f ≡ g = cc in
-    or_left (in_place (at g.symbol) u && (in_dummies ds at u || common u)) (doubly_reached ds at common u)
-    (and_both (in_place (at g.symbol) u) (in_dummies ds at u || common u) (ap (λ (y : Dummy). in_place (at y.symbol) u) (sym same) ∙ k) (or_left (in_dummies ds at u) (common u) (dummies_at ds at i d u e h)))
-with_other (g ∷ ds) at common (suc i) (suc j) d f u e q n h k = or_right (in_place (at g.symbol) u && (in_dummies ds at u || common u)) (doubly_reached ds at common u) (with_other ds at common i j d f u e q n h k)
 
 locks : (locked : Locks) (ds : List Dummy) (at : Places) (common : ℕ → Bool) (u : ℕ) → doubly_reached ds at common u ≡ true → lock_doubly locked ds at common u ≡ None → ⊥
 locks locked ds at common u h e = go (locked u) (sym (ap (λ b. if b then first_lock (locked u) Shared else locked u) h) ∙ e)
@@ -189,9 +158,6 @@ in_inside p u h =
     let low : p.first ≤ u = (let a = q.0 in grind (arith, nat_tests, a)) in
     let high : u < p.first + p.extent = (let a = q.1 in grind (arith, nat_tests, a)) in
     record { offset = u - p.first; is_there = omega (arith, low); less = omega (arith, low, high) }
-
-none_some : (u : ℕ) → None ≡ Some u → ⊥
-none_some u e = cc
 
 has_if : (c : Bool) (p : Place) (phi : ℕ → ℤ) (u : ℕ) → elements_if c p phi ≡ Some u → HasUnit p u
 has_if true p phi u e = (let r = inside_of p phi u e in record { offset = r.offset; less = r.less; is_there = r.is_there })

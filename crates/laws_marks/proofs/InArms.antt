@@ -11,29 +11,29 @@ use Rattle.f77_ast.specs.Values.{value}
 use Rattle.f77_ast.specs.Writes.{Locks}
 use Rattle.f77_ast.specs.Plans.{Flow, Normal, Plan, Ends, first}
 use Rattle.f77_ast.specs.Executions.{Claim}
-use Rattle.f77_results.specs.declared.results.At.{At}
+use Rattle.f77_ast.specs.declared.results.At.{At}
 use Rattle.affine_forms.specs.Claims.{numbers_of}
-use Rattle.transformer_algebra.specs.Claims.{HoldsAt}
-use Rattle.transformer_algebra.specs.Laws.{In, here, there}
-use Rattle.region_sets.specs.declared.region.Access.TheVariants.{In as AtIn}
-use Rattle.region_sets.specs.declared.region.Region.{Region}
-use Rattle.region_sets.specs.Sets.{unite_all}
-use Rattle.region_sets.proofs.StepLaws.{in_left, in_right, in_either, in_map, of_map}
-use Rattle.array_regions.specs.declared.arms.Reached.{Reached}
-use Rattle.array_regions.specs.Arms.{always, if_true, if_false, past_arms, under_tests, all_met, tests_reads}
-use Rattle.array_regions.specs.Reads.{reads}
+use Rattle.preconditions.specs.transformer_algebra.Claims.{HoldsAt}
+use Rattle.preconditions.specs.transformer_algebra.Laws.{In, here, there}
+use Rattle.in_out_regions.specs.region_sets.declared.region.Access.TheVariants.{In as AtIn}
+use Rattle.in_out_regions.specs.region_sets.declared.region.Region.{Region}
+use Rattle.in_out_regions.specs.region_sets.Sets.{unite_all}
+use Rattle.in_out_regions.proofs.RegionSets.StepLaws.{in_left, in_right, in_either, in_map, of_map}
+use Rattle.in_out_regions.specs.array_regions.declared.arms.Reached.{Reached}
+use Rattle.in_out_regions.specs.array_regions.Arms.{always, if_true, if_false, past_arms, under_tests, all_met, tests_reads}
+use Rattle.in_out_regions.specs.array_regions.Reads.{reads}
 use Rattle.in_out_regions.specs.Kinds.{as_in, all_in}
-use Rattle.array_regions.specs.Calls.{Called}
+use Rattle.in_out_regions.specs.array_regions.Calls.{Called}
 use Rattle.in_out_regions.specs.Known.{KnownTree}
 use Rattle.in_out_regions.specs.Statement.{list_of, arms_in, else_in, at_list}
-use Rattle.laws_regions.specs.Settings.{elements_at, scene, Sound, is_plain}
+use Rattle.laws_analyses.specs.Regions.Settings.{elements_at, scene, Sound, is_plain}
 use Rattle.laws_marks.specs.InFrames.{Frame, elements_in}
-use Rattle.laws_regions.specs.Shown.{accessed, Holds, Sharp}
-use Rattle.laws_regions.proofs.Traces.{trace_nil}
-use Rattle.laws_regions.proofs.Rules.{Goes, goes_ends, goes_more}
-use Rattle.laws_regions.proofs.Looks.{goes_first}
-use Rattle.laws_regions.proofs.Arms.{Knows, test_looks}
-use Rattle.laws_regions.proofs.Meeting.{Off, set_met, all_sharp_met, all_sharp_off, holds_true, holds_false, off_true, off_false, test_off_true, test_off_false}
+use Rattle.laws_analyses.specs.Regions.Shown.{accessed, Holds, Sharp}
+use Rattle.laws_analyses.proofs.Regions.Traces.{trace_nil}
+use Rattle.laws_analyses.proofs.Regions.Rules.{Goes, goes_ends, goes_more}
+use Rattle.laws_analyses.proofs.Regions.Looks.{goes_first}
+use Rattle.laws_analyses.proofs.Regions.Arms.{Knows, test_looks}
+use Rattle.laws_analyses.proofs.Regions.Meeting.{Off, set_met, all_sharp_met, all_sharp_off, holds_true, holds_false, off_true, off_false, test_off_true, test_off_false}
 use Rattle.laws_marks.specs.InShown.{first_read, FirstHolds, FirstSharp, FirstShown}
 use Rattle.laws_marks.specs.InUnits.{AreOf}
 use Rattle.laws_marks.specs.InKnowns.{known_in}

@@ -9,15 +9,15 @@ use Rattle.call_graph.specs.declared.graph.Graph.{Graph}
 use Rattle.f77_meaning.specs.Modules.{Known, known_of}
 use Rattle.f77_meaning.specs.Linked.{named, subroutines_among}
 use Rattle.f77_meaning.proofs.LinkedLaws.{linked_calls_fit}
-use Rattle.transformers.specs.Given.{Callees}
-use Rattle.laws_storage.specs.Below.{HasCall}
-use Rattle.laws_storage.specs.Programs.{IsLinked, IsModule, known}
-use Rattle.laws_storage.proofs.ModuleLaws.{known_module}
-use Rattle.laws_statements.specs.CallsIn.{Each}
-use Rattle.laws_calls.specs.Parts.{Part}
-use Rattle.laws_calls.specs.Sites.{lookup}
+use Rattle.preconditions.specs.transformers.Given.{Callees}
+use Rattle.laws_programs.specs.Storage.Below.{HasCall}
+use Rattle.laws_programs.specs.Storage.Programs.{IsLinked, IsModule, known}
+use Rattle.laws_programs.proofs.Storage.ModuleLaws.{known_module}
+use Rattle.call_graph.specs.CallsIn.{Each}
+use Rattle.laws_analyses.specs.Calls.Parts.{Part}
+use Rattle.laws_analyses.specs.Calls.Sites.{lookup}
 use Rattle.laws_analyses.specs.Parts.{part_of}
-use Rattle.laws_analyses.proofs.Modules.{subs}
+use Rattle.laws_analyses.proofs.Modules.{subs, among_in as among_so}
 use Rattle.laws_analyses.proofs.Orders.{Among, NotIn, Sorted, order_sorted, each_stands}
 
 -- ---- names in lists
@@ -45,14 +45,6 @@ named_so (k ∷ ks) x = go (bytes_eq k.read.name x) refl (named_so ks x)
     go : (b : Bool) → bytes_eq k.read.name x ≡ b → Each (λ z. z.read.name ≡ x) (named ks x) → Each (λ z. z.read.name ≡ x) (if b then k ∷ named ks x else named ks x)
     go true e h = ((bytes_eq-Decides k.read.name x).0 e, h)
     go false e h = h
-
-among_so : (P : Known → Type 0) (xs : List Known) → Each P xs → Each P (subroutines_among xs)
-among_so P [] h = tt
-among_so P (k ∷ ks) h = go k.read.main (among_so P ks h.1)
-  where
-    go : (b : Bool) → Each P (subroutines_among ks) → Each P (if b then subroutines_among ks else k ∷ subroutines_among ks)
-    go true i = i
-    go false i = (h.0, i)
 
 module _ (ps : List ParsedTree) (sss : List (List SymbolTree)) (g : Graph) (l : IsLinked ps sss g) (cs : Callees) (entry : Known → System) where
   abbrev ks : List Known

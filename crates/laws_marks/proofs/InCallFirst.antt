@@ -11,18 +11,18 @@ use Rattle.f77_ast.specs.Executions.{Claim}
 use Rattle.f77_ast.proofs.StepLaws.{Leads}
 use Rattle.affine_forms.specs.Scalars.{is_cell}
 use Rattle.affine_forms.specs.Claims.{unit_in}
-use Rattle.region_sets.specs.declared.region.Region.{Region}
-use Rattle.region_sets.specs.Sets.{unite_all}
-use Rattle.array_regions.specs.Calls.{actuals_reads}
+use Rattle.in_out_regions.specs.region_sets.declared.region.Region.{Region}
+use Rattle.in_out_regions.specs.region_sets.Sets.{unite_all}
+use Rattle.in_out_regions.specs.array_regions.Calls.{actuals_reads}
 use Rattle.in_out_regions.specs.Kinds.{all_in}
-use Rattle.laws_regions.specs.Settings.{Sound, actuals_plain}
-use Rattle.laws_regions.specs.Shown.{Holds, Sharp, Finally}
-use Rattle.laws_regions.proofs.Traces.{trace_nil}
-use Rattle.laws_regions.proofs.Rules.{Goes, goes_ends, goes_more, goes_then}
-use Rattle.laws_regions.proofs.Looks.{IfGave}
-use Rattle.laws_regions.proofs.Storing.{holding_with, goes_forget_all, goes_holding}
-use Rattle.laws_regions.proofs.Actuals.{AllOffer, actuals_hold}
-use Rattle.laws_regions.proofs.CallGoes.{Offered}
+use Rattle.laws_analyses.specs.Regions.Settings.{Sound, actuals_plain}
+use Rattle.laws_analyses.specs.Regions.Shown.{Holds, Sharp, Finally}
+use Rattle.laws_analyses.proofs.Regions.Traces.{trace_nil}
+use Rattle.laws_analyses.proofs.Regions.Rules.{Goes, goes_ends, goes_more, goes_then}
+use Rattle.laws_analyses.proofs.Regions.Looks.{IfGave}
+use Rattle.laws_analyses.proofs.Regions.Storing.{holding_with, goes_forget_all, goes_holding}
+use Rattle.laws_analyses.proofs.Regions.Actuals.{AllOffer, actuals_hold}
+use Rattle.laws_analyses.proofs.Regions.CallGoes.{Offered}
 use Rattle.laws_marks.specs.InFrames.{Frame}
 use Rattle.laws_marks.specs.InShown.{FirstHolds, FirstSharp, IsFree, FirstShown}
 use Rattle.laws_marks.specs.InUnits.{AreOf}

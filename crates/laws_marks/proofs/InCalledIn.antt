@@ -25,35 +25,34 @@ use Rattle.f77_meaning.specs.Linked.{numbering}
 use Rattle.f77_meaning.specs.Modules.{Known}
 use Rattle.affine_forms.specs.Scalars.{is_cell}
 use Rattle.affine_forms.specs.Claims.{unit_in, numbers_of}
-use Rattle.call_translation.specs.Sites.{HoldingSite}
-use Rattle.transformer_algebra.specs.Claims.{Scene}
-use Rattle.transformer_algebra.proofs.CellLaws.{nat_eq_same}
-use Rattle.transformers.specs.Given.{Callees}
-use Rattle.region_sets.specs.declared.region.Access.TheVariants.{In as AtIn}
-use Rattle.region_sets.specs.declared.region.Region.{Region}
-use Rattle.region_sets.specs.Sets.{unite_all}
-use Rattle.region_sets.specs.Claims.{Elements, LiesIn, LiesInSet, IsSharp, IsSharpSet}
-use Rattle.call_equations.specs.declared.link.Link.{Link}
-use Rattle.call_equations.specs.Sides.{SidesTree}
-use Rattle.call_equations.specs.Links.{link_of}
-use Rattle.region_translation.specs.Caller.{by_link, to_caller}
-use Rattle.array_regions.specs.Calls.{Called, actuals_reads, all_in_caller}
+use Rattle.preconditions.specs.call_translation.Sites.{HoldingSite}
+use Rattle.preconditions.specs.transformer_algebra.Claims.{Scene}
+use Rattle.preconditions.specs.transformers.Given.{Callees}
+use Rattle.in_out_regions.specs.region_sets.declared.region.Access.TheVariants.{In as AtIn}
+use Rattle.in_out_regions.specs.region_sets.declared.region.Region.{Region}
+use Rattle.in_out_regions.specs.region_sets.Sets.{unite_all}
+use Rattle.in_out_regions.specs.region_sets.Claims.{Elements, LiesIn, LiesInSet, IsSharp, IsSharpSet}
+use Rattle.in_out_regions.specs.call_equations.declared.link.Link.{Link}
+use Rattle.in_out_regions.specs.call_equations.Sides.{SidesTree}
+use Rattle.in_out_regions.specs.call_equations.Links.{link_of}
+use Rattle.in_out_regions.specs.region_translation.Caller.{by_link, to_caller}
+use Rattle.in_out_regions.specs.array_regions.Calls.{Called, actuals_reads, all_in_caller}
 use Rattle.in_out_regions.specs.Kinds.{all_in}
-use Rattle.laws_calls.specs.Parts.{Blocks, Part, in_bound, places_in as dummy_places, scene_in, Sane}
-use Rattle.laws_calls.specs.Sites.{Site, Entered}
-use Rattle.laws_calls.proofs.Bound.{Made}
-use Rattle.laws_calls.proofs.Enter.{Fits}
-use Rattle.laws_regions.specs.Entries.{IsLost}
-use Rattle.laws_regions.specs.Programs.{Regular}
-use Rattle.laws_regions.specs.Settings.{scene, Sound, elements_with, actuals_plain}
-use Rattle.laws_regions.specs.Shown.{is_lost, is_hidden, Finally}
-use Rattle.laws_regions.proofs.Actuals.{ActualIs, as_variable, as_element, as_value, AllAre}
-use Rattle.laws_regions.proofs.Bounds.{setting}
-use Rattle.laws_regions.proofs.CalledShown.{AtEntry}
-use Rattle.laws_regions.proofs.Calling.{Carries, Known_of, OfferedHere, solid, apart, leads, entered_there}
-use Rattle.laws_regions.proofs.Rules.{Goes}
-use Rattle.laws_regions.proofs.Sent.{in_sent, of_sent}
-use Rattle.laws_regions.proofs.Showing.{finally_more}
+use Rattle.laws_analyses.specs.Calls.Parts.{Blocks, Part, in_bound, places_in as dummy_places, scene_in, Sane}
+use Rattle.laws_analyses.specs.Calls.Sites.{Site, Entered}
+use Rattle.laws_analyses.proofs.Calls.Bound.{Made}
+use Rattle.laws_analyses.proofs.Calls.Enter.{Fits}
+use Rattle.laws_analyses.specs.Regions.Entries.{IsLost}
+use Rattle.laws_analyses.specs.Regions.Programs.{Regular}
+use Rattle.laws_analyses.specs.Regions.Settings.{scene, Sound, elements_with, actuals_plain}
+use Rattle.laws_analyses.specs.Regions.Shown.{is_lost, is_hidden, Finally}
+use Rattle.laws_analyses.proofs.Regions.Actuals.{ActualIs, as_variable, as_element, as_value, AllAre}
+use Rattle.laws_analyses.proofs.Regions.Bounds.{setting}
+use Rattle.laws_analyses.proofs.Regions.CalledShown.{AtEntry}
+use Rattle.laws_analyses.proofs.Regions.Calling.{Carries, Known_of, OfferedHere, solid, apart, leads, entered_there}
+use Rattle.laws_analyses.proofs.Regions.Rules.{Goes}
+use Rattle.laws_analyses.proofs.Regions.Sent.{in_sent, of_sent}
+use Rattle.laws_analyses.proofs.Regions.Showing.{finally_more}
 use Rattle.laws_marks.specs.InFrames.{Frame, elements_in}
 use Rattle.laws_marks.specs.InLaid.{Laid}
 use Rattle.laws_marks.specs.InShown.{first_read, IsFirst, FirstHolds, FirstSharp, IsFree, FirstShown}
@@ -63,9 +62,8 @@ use Rattle.laws_marks.proofs.InCallFirst.{call_first}
 use Rattle.laws_marks.proofs.InFramed.{lies_in, sharp_in}
 use Rattle.laws_marks.proofs.InNarrowed.{MayName, actuals_narrowed}
 use Rattle.laws_marks.proofs.InRunning.{frame}
-
-none_some : (u : ℕ) → None ≡ Some u → ⊥
-none_some u e = cc
+use Rattle.fx_lists.proofs.Options.{none_some_2 as none_some}
+use Rattle.fx_lists.proofs.Numbers.{nat_eq_same}
 
 -- ---- what the IN regions of a module show of a call of it to those that call it
 

@@ -11,30 +11,30 @@ use Rattle.f77_ast.specs.declared.variable.Variable.{Variable as Named}
 use Rattle.f77_ast.specs.declared.variable.Variable.TheVariants.{Own, Saved}
 use Rattle.f77_ast.specs.Symbols.{BoundTree, SymbolTree}
 use Rattle.f77_ast.specs.Shared.{symbol_at}
-use Rattle.f77_results.specs.Summaries.{SummaryTree}
+use Rattle.f77_ast.specs.Summaries.{SummaryTree}
 use Rattle.call_graph.specs.declared.graph.Graph.{Graph}
 use Rattle.f77_meaning.specs.Modules.{Known}
-use Rattle.transformer_algebra.specs.Transformers.{without}
-use Rattle.transformer_algebra.specs.Laws.{here, there}
-use Rattle.call_translation.specs.Scopes.{ScopeTree}
-use Rattle.transformers.specs.Given.{Callees}
-use Rattle.region_sets.specs.declared.region.Region.{Region}
-use Rattle.region_sets.specs.Sets.{unite_all}
-use Rattle.region_sets.proofs.StepLaws.{of_map}
-use Rattle.call_equations.specs.declared.link.Link.{Link}
-use Rattle.call_equations.specs.Sides.{SidesTree}
-use Rattle.region_translation.specs.Pieces.{piece_in_caller}
-use Rattle.call_equations.specs.Links.{link_of}
-use Rattle.region_translation.specs.Caller.{by_link}
-use Rattle.array_regions.specs.Reads.{reads, maybe_reads}
-use Rattle.array_regions.specs.Calls.{Callees as Summaries, actuals_reads, sides, all_in_caller, summary_in_caller, call_set}
-use Rattle.array_regions.specs.Entry.{bounds_reads, symbols_reads, goes_out, locals, names_none, for_callers, seen, summary_of, is_local}
-use Rattle.array_regions.specs.References.{is_constant}
-use Rattle.laws_calls.specs.Parts.{Blocks, Part}
+use Rattle.preconditions.specs.transformer_algebra.Transformers.{without}
+use Rattle.preconditions.specs.transformer_algebra.Laws.{here, there}
+use Rattle.preconditions.specs.call_translation.Scopes.{ScopeTree}
+use Rattle.preconditions.specs.transformers.Given.{Callees}
+use Rattle.in_out_regions.specs.region_sets.declared.region.Region.{Region}
+use Rattle.in_out_regions.specs.region_sets.Sets.{unite_all}
+use Rattle.in_out_regions.proofs.RegionSets.StepLaws.{of_map}
+use Rattle.in_out_regions.specs.call_equations.declared.link.Link.{Link}
+use Rattle.in_out_regions.specs.call_equations.Sides.{SidesTree}
+use Rattle.in_out_regions.specs.region_translation.Pieces.{piece_in_caller}
+use Rattle.in_out_regions.specs.call_equations.Links.{link_of}
+use Rattle.in_out_regions.specs.region_translation.Caller.{by_link}
+use Rattle.in_out_regions.specs.array_regions.Reads.{reads, maybe_reads}
+use Rattle.in_out_regions.specs.array_regions.Calls.{Callees as Summaries, actuals_reads, sides, all_in_caller, summary_in_caller, call_set}
+use Rattle.in_out_regions.specs.array_regions.Entry.{bounds_reads, symbols_reads, locals, names_none, for_callers, seen, summary_of}
+use Rattle.in_out_regions.specs.array_regions.References.{is_constant}
+use Rattle.laws_analyses.specs.Calls.Parts.{Blocks, Part}
 use Rattle.laws_lines.proofs.RuleVars.{without_neat}
-use Rattle.laws_regions.specs.Entries.{Enters}
-use Rattle.laws_regions.specs.Programs.{Joins, Sends}
-use Rattle.laws_regions.proofs.Sent.{of_sent}
+use Rattle.laws_analyses.specs.Regions.Entries.{Enters}
+use Rattle.laws_analyses.specs.Regions.Programs.{Joins, Sends}
+use Rattle.laws_analyses.proofs.Regions.Sent.{of_sent}
 use Rattle.laws_marks.specs.InFrames.{bounds_count, rank}
 use Rattle.laws_marks.specs.InLaid.{Laid, NamesGo}
 use Rattle.laws_marks.proofs.InApart.{constants_count}
@@ -43,6 +43,7 @@ use Rattle.laws_marks.proofs.InNarrow.{Upto, IsUpto}
 use Rattle.laws_marks.proofs.InNarrowed.{MayName, IsNarrowed, AreNarrowed, none_narrowed, both_narrowed, more_narrowed, each_narrowed, united_narrowed, reads_narrowed, maybe_narrowed, actuals_narrowed}
 use Rattle.laws_marks.proofs.InSets.{IsFit, united_fit}
 use Rattle.laws_marks.proofs.InTranslated.{piece_upto}
+use Rattle.call_graph.specs.Visible.{is_visible_to_callers, is_local}
 
 -- ---- what callers see
 
@@ -64,7 +65,7 @@ module _ (may : MayName) (m : ScopeTree) where
   seen_narrowed cs [] h = none_narrowed may m.symbols
   seen_narrowed cs (r ∷ rs) h =
       let others = seen_narrowed cs rs (λ q i. h q (there i)) in
-      if_cases (AreNarrowed may m.symbols) (goes_out m.symbols r.variable) (for_callers cs r ∷ seen m.symbols cs rs) (seen m.symbols cs rs)
+      if_cases (AreNarrowed may m.symbols) (is_visible_to_callers m.symbols r.variable) (for_callers cs r ∷ seen m.symbols cs rs) (seen m.symbols cs rs)
       (λ e. more_narrowed may m.symbols (for_callers cs r) (seen m.symbols cs rs) (callers_narrowed cs r (h r here)) others) (λ e. others)
 
   pub summary_narrowed : (rs : List Region) → AreNarrowed may m.symbols rs → AreNarrowed may m.symbols (summary_of m rs)

@@ -10,14 +10,14 @@ use Rattle.f77_meaning.specs.Claims.{AreExact, takes_in}
 use Rattle.f77_meaning.specs.Accesses.{is_read_first, is_visible}
 use Rattle.affine_forms.specs.Scalars.{is_cell}
 use Rattle.affine_forms.specs.Claims.{numbers_of}
-use Rattle.transformer_algebra.specs.Laws.{In}
-use Rattle.region_sets.specs.declared.region.Access.TheVariants as access
-use Rattle.region_sets.specs.declared.region.Region.{Region}
-use Rattle.region_sets.specs.Claims.{LiesInSet}
-use Rattle.laws_regions.specs.Claims.{regions_in, PointsAre}
-use Rattle.laws_regions.specs.Settings.{scene}
-use Rattle.laws_regions.specs.Shown.{Finally}
-use Rattle.laws_regions.proofs.Claimed.{visible_seen, lies_one, points_one, some_of, all_exact}
+use Rattle.preconditions.specs.transformer_algebra.Laws.{In}
+use Rattle.in_out_regions.specs.region_sets.declared.region.Access.TheVariants as access
+use Rattle.in_out_regions.specs.region_sets.declared.region.Region.{Region}
+use Rattle.in_out_regions.specs.region_sets.Claims.{LiesInSet}
+use Rattle.laws_analyses.specs.Regions.Claims.{regions_in, PointsAre}
+use Rattle.laws_analyses.specs.Regions.Settings.{scene}
+use Rattle.laws_analyses.specs.Regions.Shown.{Finally}
+use Rattle.laws_analyses.proofs.Regions.Claimed.{visible_seen, lies_one, points_one, some_of, all_exact}
 use Rattle.laws_marks.specs.InClaims.{is_in, InSetHolds}
 use Rattle.laws_marks.specs.InFrames.{Frame, elements_in}
 use Rattle.laws_marks.specs.InShown.{FirstHolds, FirstSharp}

@@ -12,27 +12,30 @@ use Rattle.affine_systems.proofs.CallLaws.{append_all}
 use Rattle.hull_projection.specs.declared.projection.Shadow.{Shadow}
 use Rattle.hull_projection.specs.Laws.{IsOneOf}
 use Rattle.hull_projection.proofs.ProjectLaws.{project_keeps, project_extends}
-use Rattle.system_renaming.specs.Renaming.{naming, renamed_by, rename_all, push_rows}
-use Rattle.system_renaming.proofs.KeepLaws.{rename_all_holds, push_rows_holds}
+use Rattle.preconditions.specs.transformer_algebra.Renaming.{naming, renamed_by, rename_all, push_rows}
+use Rattle.preconditions.proofs.TransformerAlgebra.KeepLaws.{rename_all_holds, push_rows_holds}
 use Rattle.affine_forms.specs.declared.affine.Affine.{Affine}
 use Rattle.affine_forms.specs.Claims.{form_value}
 use Rattle.affine_forms.specs.Comparisons.{var_form}
-use Rattle.transformer_algebra.specs.Cells.{has, others}
-use Rattle.transformer_algebra.specs.Loops.{goes_up, terms_stay, stays, within_row, beyond_row}
-use Rattle.transformer_algebra.specs.Claims.{Scene, AtStart, Means, NotBeyond}
-use Rattle.transformer_algebra.specs.Laws.{In, here, there}
-use Rattle.transformer_algebra.proofs.CellLaws.{nat_same, clashes}
-use Rattle.region_sets.specs.declared.range.Range.{Range}
-use Rattle.region_sets.specs.declared.region.Region.{Region}
-use Rattle.region_sets.specs.Regions.{remade, any_weak, all_exact, systems}
-use Rattle.region_sets.specs.Naming.{in_rows, named_cells, has_none}
-use Rattle.region_sets.specs.Claims.{HoldsSome, Elements, Accessed, LiesIn, IsSharp, InRange, Iteration, Begins}
-use Rattle.region_sets.proofs.NameLaws.{Agree, flip, rows_agree, has_named, has_others}
-use Rattle.region_sets.proofs.StepLaws.{in_map}
-use Rattle.region_sets.proofs.BackLaws.{push_weak, project_weak, rename_all_back, push_rows_back}
-use Rattle.array_regions.specs.Entry.{names_none}
+use Rattle.preconditions.specs.transformer_algebra.Cells.{has, others}
+use Rattle.preconditions.specs.transformer_algebra.Loops.{goes_up, terms_stay, stays, within_row, beyond_row}
+use Rattle.preconditions.specs.transformer_algebra.Claims.{Scene, AtStart, Means, NotBeyond}
+use Rattle.preconditions.specs.transformer_algebra.Laws.{In, here, there}
+use Rattle.in_out_regions.specs.region_sets.declared.range.Range.{Range}
+use Rattle.in_out_regions.specs.region_sets.declared.region.Region.{Region}
+use Rattle.in_out_regions.specs.region_sets.Regions.{remade, any_weak, all_exact, systems}
+use Rattle.in_out_regions.specs.region_sets.Naming.{in_rows, named_cells, has_none}
+use Rattle.in_out_regions.specs.region_sets.Claims.{HoldsSome, Elements, Accessed, LiesIn, IsSharp, InRange, Iteration, Begins}
+use Rattle.in_out_regions.proofs.RegionSets.NameLaws.{Agree, flip, rows_agree, has_named, has_others}
+use Rattle.in_out_regions.proofs.RegionSets.StepLaws.{in_map}
+use Rattle.in_out_regions.proofs.RegionSets.BackLaws.{push_weak, project_weak, rename_all_back, push_rows_back}
+use Rattle.in_out_regions.specs.array_regions.Entry.{names_none}
 use Rattle.in_out_regions.specs.Loops.{after_first, before_last, index_rows_by, index_rows, in_range, is_one_step, meets_each, is_steady, earlier_rows_by, earlier_rows, earlier_piece, if_exact, earlier_of}
-use Rattle.laws_marks.proofs.Indices.{within_so, within_back, Before, beyond_so, beyond_back, var_value, Place, unit_place, unit_before, index_is, other_is, no_cell, unchanged, form_stays}
+use Rattle.laws_marks.proofs.Indices.{Before, beyond_so, beyond_back, Place, unit_place, unit_before, index_is, other_is, no_cell, unchanged, form_stays}
+use Rattle.in_out_regions.proofs.RegionSets.LoopLaws.{exit_no_cell, phi_no_cell, aux_no_cell, in_turn, within_holds as within_so, within_back}
+use Rattle.fx_lists.proofs.Numbers.{same_is as nat_same}
+use Rattle.fx_lists.proofs.Booleans.{clash as clashes}
+use Rattle.in_out_regions.proofs.ArrayRegions.Exact.{var_value}
 
 -- ---- points of an iteration before
 
@@ -58,27 +61,11 @@ earlier_off n p (Aux (suc zero)) f = refl
 earlier_off n p (Aux (suc (suc zero))) f = absurd (f (inl refl))
 earlier_off n p (Aux (suc (suc (suc j)))) f = refl
 
--- the numbers where it begins
-abbrev pub in_turn : ℕ → ℤ → List ℕ → (ℕ → ℤ) → Point → Var → ℤ
-in_turn i n cs y p (Cell c) = if nat_eq i c then n else if has cs c then y c else p (Cell c)
-in_turn i n cs y p (Exit c) = p (Exit c)
-in_turn i n cs y p (Phi k) = p (Phi k)
-in_turn i n cs y p (Aux j) = p (Aux j)
-
 cell_no_aux : (c n : ℕ) → Cell c ≡ Aux n → ⊥
 cell_no_aux c n q = cc
 
 phi_no_aux : (c n : ℕ) → Phi c ≡ Aux n → ⊥
 phi_no_aux c n q = cc
-
-exit_no_cell : (c i : ℕ) → Exit c ≡ Cell i → ⊥
-exit_no_cell c i q = cc
-
-phi_no_cell : (c i : ℕ) → Phi c ≡ Cell i → ⊥
-phi_no_cell c i q = cc
-
-aux_no_cell : (c i : ℕ) → Aux c ≡ Cell i → ⊥
-aux_no_cell c i q = cc
 
 not_one : (v : Var) → ((n : ℕ) → v ≡ Aux n → ⊥) → IsOneOf v earlier_vars → ⊥
 not_one v f i = ⊎_elim (λ e. f 2 e) (λ r. r) i

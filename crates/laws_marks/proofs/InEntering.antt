@@ -13,34 +13,34 @@ use Rattle.f77_ast.specs.Executions.{run_of}
 use Rattle.f77_ast.specs.Calls.{BoundTree, Dummy, Meaning}
 use Rattle.f77_ast.specs.Statements.{Scope, spot, body_plan}
 use Rattle.f77_ast.specs.declared.variable.Variable.{Variable}
-use Rattle.f77_results.specs.declared.results.At.{At}
+use Rattle.f77_ast.specs.declared.results.At.{At}
 use Rattle.call_graph.specs.declared.graph.Graph.{Graph}
 use Rattle.f77_meaning.specs.Modules.{Known}
 use Rattle.f77_meaning.specs.Occurrences.{Occurrence, is_normal}
 use Rattle.f77_meaning.specs.Accesses.{is_read_first, is_visible}
 use Rattle.affine_forms.specs.Claims.{numbers_of}
-use Rattle.transformers.specs.Given.{Callees}
-use Rattle.region_sets.specs.declared.region.Access.TheVariants.{In as AtIn}
-use Rattle.region_sets.specs.declared.region.Region.{Region}
-use Rattle.region_sets.specs.Claims.{LiesInSet, IsSharpSet}
-use Rattle.region_sets.proofs.StepLaws.{in_either}
-use Rattle.array_regions.specs.Calls.{Called}
-use Rattle.array_regions.specs.Entry.{symbols_reads}
-use Rattle.array_regions.specs.Reads.{reads, maybe_reads}
+use Rattle.preconditions.specs.transformers.Given.{Callees}
+use Rattle.in_out_regions.specs.region_sets.declared.region.Access.TheVariants.{In as AtIn}
+use Rattle.in_out_regions.specs.region_sets.declared.region.Region.{Region}
+use Rattle.in_out_regions.specs.region_sets.Claims.{LiesInSet, IsSharpSet}
+use Rattle.in_out_regions.proofs.RegionSets.StepLaws.{in_either}
+use Rattle.in_out_regions.specs.array_regions.Calls.{Called}
+use Rattle.in_out_regions.specs.array_regions.Entry.{symbols_reads}
+use Rattle.in_out_regions.specs.array_regions.Reads.{reads, maybe_reads}
 use Rattle.in_out_regions.specs.Kinds.{all_in}
 use Rattle.in_out_regions.specs.Known.{KnownTree}
 use Rattle.in_out_regions.specs.Statement.{list_set}
 use Rattle.in_out_regions.specs.Modules.{summary_of}
-use Rattle.laws_calls.proofs.Bound.{Made}
-use Rattle.laws_calls.specs.Parts.{Blocks, Part, NoDummy, places_in, Sane}
-use Rattle.laws_regions.specs.Settings.{scene}
-use Rattle.laws_regions.specs.Shown.{Finally}
-use Rattle.laws_regions.specs.Entries.{bounds_reads, dummies_reads, Enters}
-use Rattle.laws_regions.specs.Programs.{Regular}
-use Rattle.laws_regions.proofs.Showing.{finally_more}
-use Rattle.laws_regions.proofs.Bounds.{KeepsScalars, Got}
-use Rattle.laws_regions.proofs.Starts.{Starts, body_starts}
-use Rattle.laws_regions.proofs.Entering.{not_visible, keeps_made, keeps_first, fixed_first, out}
+use Rattle.laws_analyses.proofs.Calls.Bound.{Made}
+use Rattle.laws_analyses.specs.Calls.Parts.{Blocks, Part, NoDummy, places_in, Sane}
+use Rattle.laws_analyses.specs.Regions.Settings.{scene}
+use Rattle.laws_analyses.specs.Regions.Shown.{Finally}
+use Rattle.laws_analyses.specs.Regions.Entries.{bounds_reads, dummies_reads, Enters}
+use Rattle.laws_analyses.specs.Regions.Programs.{Regular}
+use Rattle.laws_analyses.proofs.Regions.Showing.{finally_more}
+use Rattle.laws_analyses.proofs.Regions.Bounds.{KeepsScalars, Got}
+use Rattle.laws_analyses.proofs.Regions.Starts.{Starts, body_starts}
+use Rattle.laws_analyses.proofs.Regions.Entering.{not_visible, keeps_made, keeps_first, fixed_first, out}
 use Rattle.laws_marks.specs.InClaims.{InSetHolds}
 use Rattle.laws_marks.specs.InFrames.{Frame, elements_in}
 use Rattle.laws_marks.specs.InLaid.{Laid}

@@ -8,10 +8,10 @@ use Rattle.call_graph.specs.declared.graph.Graph.{Graph}
 use Rattle.f77_meaning.specs.Modules.{Known, all_lost}
 use Rattle.f77_meaning.specs.Linked.{numbering}
 use Rattle.f77_meaning.specs.Accesses.{is_read, is_written, is_read_first, is_entered}
-use Rattle.transformer_algebra.specs.Laws.{In, here, there}
-use Rattle.laws_regions.specs.Entries.{IsLost}
-use Rattle.laws_regions.specs.Shown.{is_lost}
-use Rattle.laws_regions.proofs.Traces.{entered_both, hidden_parts}
+use Rattle.preconditions.specs.transformer_algebra.Laws.{In, here, there}
+use Rattle.laws_analyses.specs.Regions.Entries.{IsLost}
+use Rattle.laws_analyses.specs.Regions.Shown.{is_lost}
+use Rattle.laws_analyses.proofs.Regions.Traces.{entered_both, hidden_parts}
 use Rattle.laws_marks.specs.InShown.{IsFirst}
 
 -- a test that does not hold

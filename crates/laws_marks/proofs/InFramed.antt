@@ -3,14 +3,14 @@ use Rattle.std.proofs.Common.{◌≡◌, ℕ, ℤ, List, Option, Some, None, Boo
 use Rattle.std.specs.Prelude.{if◌then◌else◌}
 use Rattle.std.specs.declared.cmp.Ordering.TheVariants.{Equal}
 use Rattle.f77_ast.specs.declared.variable.Variable.{Variable}
-use Rattle.region_sets.specs.declared.region.Access.{Access}
-use Rattle.region_sets.specs.declared.region.Region.{Region}
-use Rattle.region_sets.specs.Claims.{Elements, LiesIn, LiesInSet, IsSharp, AreByOrder}
-use Rattle.laws_regions.specs.Settings.{scene, elements_at}
-use Rattle.laws_regions.proofs.Told.{told_same}
-use Rattle.laws_regions.proofs.Written.{equal_key}
+use Rattle.in_out_regions.specs.region_sets.declared.region.Access.{Access}
+use Rattle.in_out_regions.specs.region_sets.declared.region.Region.{Region}
+use Rattle.in_out_regions.specs.region_sets.Claims.{Elements, LiesIn, LiesInSet, IsSharp, AreByOrder}
+use Rattle.laws_analyses.specs.Regions.Settings.{scene, elements_at}
+use Rattle.laws_analyses.proofs.Regions.Told.{told_same}
 use Rattle.laws_marks.specs.InFrames.{Frame, elements_in}
 use Rattle.laws_marks.specs.InUnits.{AreOf}
+use Rattle.laws_programs.proofs.Effects.Named.{equal_key}
 
 module _ (k : Frame) where
   pub elements_on : (v : Variable) → k.may_name v ≡ true → elements_at k.base v ≡ elements_in k v

@@ -6,12 +6,13 @@ use Rattle.std.specs.Ordering.{match_ordering}
 use Rattle.affine_systems.specs.declared.row.System.{System}
 use Rattle.affine_systems.specs.Points.{Point}
 use Rattle.hull_projection.specs.Refute.{refuted}
-use Rattle.transformer_algebra.specs.Laws.{In, here, there}
-use Rattle.region_sets.specs.declared.region.Region.{Region}
-use Rattle.region_sets.specs.Regions.{remade, hull_of}
-use Rattle.region_sets.specs.Sets.{region_cmp, live_pieces, with_pieces, with_region, with_live, with_regions, live, unite_all}
-use Rattle.region_sets.specs.Unite.{all_within, unite}
-use Rattle.region_sets.specs.Claims.{HoldsSome}
+use Rattle.preconditions.specs.transformer_algebra.Laws.{In, here, there}
+use Rattle.in_out_regions.specs.region_sets.declared.region.Region.{Region}
+use Rattle.in_out_regions.specs.region_sets.Regions.{remade, hull_of}
+use Rattle.in_out_regions.specs.region_sets.Sets.{region_cmp, live_pieces, with_pieces, with_region, with_live, with_regions, live, unite_all}
+use Rattle.in_out_regions.specs.region_sets.Unite.{all_within, unite}
+use Rattle.in_out_regions.specs.region_sets.Claims.{HoldsSome}
+use Rattle.in_out_regions.proofs.RegionSets.SetLaws.{live_some as live_points}
 
 -- each of a list
 abbrev pub EachOne : (Region → Type 0) → List Region → Type 0
@@ -23,14 +24,6 @@ each_none P r i = elim i [ ]
 pub each_more : (P : Region → Type 0) (r : Region) (rs : List Region) → P r → EachOne P rs → EachOne P (r ∷ rs)
 each_more P r rs h t q here = h
 each_more P r rs h t q (there i) = t q i
-
-live_points : (p : Point) (ss : List System) → HoldsSome p (live_pieces ss) → HoldsSome p ss
-live_points p [] h = h
-live_points p (s ∷ ss) h = go (refuted s.rows) h (λ k. live_points p ss k)
-  where
-    go : (b : Bool) → HoldsSome p (if b then live_pieces ss else s ∷ live_pieces ss) → (HoldsSome p (live_pieces ss) → HoldsSome p ss) → HoldsSome p (s ∷ ss)
-    go true k ih = inr (ih k)
-    go false k ih = ⊎_elim (λ l. inl l) (λ l. inr (ih l)) k
 
 -- P holds of inexact regions, and of one with fewer points where it holds of the region
 module _ (P : Region → Type 0) (inexact : (r : Region) → r.exact ≡ false → P r) (fewer : (r : Region) (ss : List System) → ((p : Point) → HoldsSome p ss → HoldsSome p r.pieces) → P r → P (remade r r.exact ss)) where

@@ -8,36 +8,19 @@ use Rattle.f77_ast.specs.declared.symbol.Place.TheVariants as place
 use Rattle.f77_ast.specs.Symbols.{SymbolTree}
 use Rattle.f77_ast.specs.Shared.{symbol_at}
 use Rattle.f77_names.specs.Entries.{EntryTree}
-use Rattle.storage_groups.specs.declared.seat.Home.{Home}
-use Rattle.storage_groups.specs.declared.seat.Home.TheVariants.{Block, Own}
-use Rattle.storage_groups.specs.declared.seat.Seat.{Seat}
-use Rattle.storage_layout.specs.Groups.{groups_from, index_from, with_group, with_home, with_seat, with_entry}
+use Rattle.laws_programs.specs.storage_data.declared.offset_node.Home.{Home}
+use Rattle.laws_programs.specs.storage_data.declared.offset_node.Home.TheVariants.{Block, Own}
+use Rattle.laws_programs.specs.storage_data.declared.offset_node.OffsetNode.{OffsetNode}
+use Rattle.storage_layout.specs.Groups.{groups_from, index_from, with_group, with_home, with_offset_node, with_entry}
 use Rattle.storage_layout.specs.Table.{Layout, group_in, home_place, place_in, unless_dummy, unless_value, is_kept, is_kept_at, is_saved, symbol_of}
-use Rattle.f77_meaning.proofs.ModuleLaws.{numbered_place}
-use Rattle.laws_tables.proofs.Answers.{Answered, names_in, layout_in, answered_by}
-use Rattle.laws_tables.proofs.EntryLaws.{entry_of}
+use Rattle.laws_programs.proofs.SymbolTables.Answers.{Answered, names_in, layout_in, answered_by}
+use Rattle.laws_programs.proofs.SymbolTables.EntryLaws.{entry_of}
 use Rattle.laws_marks.specs.InTogether.{LocalsAreSavedTogether}
 use Rattle.laws_marks.proofs.InValued.{parameters_have_values}
+use Rattle.laws_programs.proofs.Layouts.SharingLaws.{index_least, index_same}
+use Rattle.f77_ast.proofs.StorageLaws.{from_number as numbered_place}
 
 -- ---- numbers of groups
-
-pub index_least : (n : ℕ) (gs : List ℕ) (h g : ℕ) → index_from n gs h ≡ Some g → n ≤ g
-index_least n [] h g e = cc
-index_least n (x ∷ gs) h g e = go (nat_eq h x) e (λ i. index_least (n + 1) gs h g i)
-  where
-    go : (b : Bool) → (if b then Some n else index_from (n + 1) gs h) ≡ Some g → (index_from (n + 1) gs h ≡ Some g → n + 1 ≤ g) → n ≤ g
-    go true k ih = let same : n ≡ g = cc in omega (arith, same)
-    go false k ih = let low = ih k in omega (arith, low)
-
-index_same : (n : ℕ) (gs : List ℕ) (h k g : ℕ) → index_from n gs h ≡ Some g → index_from n gs k ≡ Some g → h ≡ k
-index_same n [] h k g e f = cc
-index_same n (x ∷ gs) h k g e f = go (nat_eq h x) (nat_eq k x) refl refl e f (λ i j. index_same (n + 1) gs h k g i j)
-  where
-    go : (b c : Bool) → nat_eq h x ≡ b → nat_eq k x ≡ c → (if b then Some n else index_from (n + 1) gs h) ≡ Some g → (if c then Some n else index_from (n + 1) gs k) ≡ Some g → (index_from (n + 1) gs h ≡ Some g → index_from (n + 1) gs k ≡ Some g → h ≡ k) → h ≡ k
-    go true true p q a b ih = eqb-true h x p ∙ sym (eqb-true k x q)
-    go true false p q a b ih = let same : n ≡ g = cc in let low = index_least (n + 1) gs k g b in absurd (omega (arith, same, low))
-    go false true p q a b ih = let same : n ≡ g = cc in let low = index_least (n + 1) gs h g a in absurd (omega (arith, same, low))
-    go false false p q a b ih = ih a b
 
 abbrev pub IsThere : ℕ → List ℕ → ℕ → Type 0
 IsThere n gs h = is_some (index_from n gs h) ≡ true
@@ -72,34 +55,34 @@ group_has h gs = go (is_some (index_from 1 gs h)) refl
     go true e = e
     go false e = there_last 1 gs h
 
-seat_keeps : (s : Option Seat) (k : ℕ) (gs : List ℕ) → IsThere 1 gs k → IsThere 1 (with_seat s gs) k
-seat_keeps None k gs e = e
-seat_keeps (Some s) k gs e = go s.home
+offset_node_keeps : (s : Option OffsetNode) (k : ℕ) (gs : List ℕ) → IsThere 1 gs k → IsThere 1 (with_offset_node s gs) k
+offset_node_keeps None k gs e = e
+offset_node_keeps (Some s) k gs e = go s.home
   where
     go : (x : Home) → IsThere 1 (with_home x gs) k
     go (Block b) = e
     go (Own n) = group_keeps n k gs e
 
-entry_keeps : (e : EntryTree) (s : Option Seat) (k : ℕ) (gs : List ℕ) → IsThere 1 gs k → IsThere 1 (with_entry e s gs) k
+entry_keeps : (e : EntryTree) (s : Option OffsetNode) (k : ℕ) (gs : List ℕ) → IsThere 1 gs k → IsThere 1 (with_entry e s gs) k
 entry_keeps e s k gs h = go (is_some e.dummy || e.parameter)
   where
-    go : (b : Bool) → IsThere 1 (if b then gs else with_seat s gs) k
+    go : (b : Bool) → IsThere 1 (if b then gs else with_offset_node s gs) k
     go true = h
-    go false = seat_keeps s k gs h
+    go false = offset_node_keeps s k gs h
 
-groups_keep : (n : ℕ) (es : List EntryTree) (ss : List Seat) (gs : List ℕ) (k : ℕ) → IsThere 1 gs k → IsThere 1 (groups_from n es ss gs) k
+groups_keep : (n : ℕ) (es : List EntryTree) (ss : List OffsetNode) (gs : List ℕ) (k : ℕ) → IsThere 1 gs k → IsThere 1 (groups_from n es ss gs) k
 groups_keep n [] ss gs k h = h
 groups_keep n (e ∷ es) ss gs k h = groups_keep (n + 1) es ss (with_entry e (slice_get ss n) gs) k (entry_keeps e (slice_get ss n) k gs h)
 
 -- the group of a name that is no dummy and no PARAMETER
-pub groups_have : (n : ℕ) (es : List EntryTree) (ss : List Seat) (gs : List ℕ) (i : ℕ) (e : EntryTree) (s : Seat) (k : ℕ) → slice_get es i ≡ Some e → e.dummy ≡ None → e.parameter ≡ false → slice_get ss (n + i) ≡ Some s → s.home ≡ Own k → IsThere 1 (groups_from n es ss gs) k
+pub groups_have : (n : ℕ) (es : List EntryTree) (ss : List OffsetNode) (gs : List ℕ) (i : ℕ) (e : EntryTree) (s : OffsetNode) (k : ℕ) → slice_get es i ≡ Some e → e.dummy ≡ None → e.parameter ≡ false → slice_get ss (n + i) ≡ Some s → s.home ≡ Own k → IsThere 1 (groups_from n es ss gs) k
 groups_have n [] ss gs i e s k q d p r h = cc
 groups_have n (x ∷ es) ss gs zero e s k q d p r h =
     let same : x ≡ e = cc in
     let none : n + zero ≡ n = omega arith in
-    let seat : slice_get ss n ≡ Some s = ap (slice_get ss) (sym none) ∙ r in
+    let offset_node : slice_get ss n ≡ Some s = ap (slice_get ss) (sym none) ∙ r in
     groups_keep (n + 1) es ss (with_entry x (slice_get ss n) gs) k
-    (subst (λ (z : EntryTree). IsThere 1 (with_entry z (slice_get ss n) gs) k) (sym same) (subst (λ o. IsThere 1 (with_entry e o gs) k) (sym seat)
+    (subst (λ (z : EntryTree). IsThere 1 (with_entry z (slice_get ss n) gs) k) (sym same) (subst (λ o. IsThere 1 (with_entry e o gs) k) (sym offset_node)
     (subst (λ b. IsThere 1 (if b then gs else with_home s.home gs) k) (sym (ap₂ (λ o b. is_some o || b) d p)) (subst (λ z. IsThere 1 (with_home z gs) k) (sym h) (group_has k gs)))))
 groups_have n (x ∷ es) ss gs (suc i) e s k q d p r h =
     let more : n + suc i ≡ (n + 1) + i = omega arith in
@@ -111,10 +94,10 @@ module _ (p : ParsedTree) (ss : List SymbolTree) (a : Answered p ss) where
   abbrev l : Layout
   l = layout_in p
 
-  -- a local: without a seat, or of a group
+  -- a local: without an offset node, or of a group
   data Local (s : SymbolTree) (h : ℕ) : Type 0 where
-    no_seat : h ≡ 0 → s.saved ≡ false → Local s h
-    of_group : (k : ℕ) → index_from 1 (groups_from 0 (layout_in p).table.entries (layout_in p).seats []) k ≡ Some h → s.saved ≡ is_kept (layout_in p) (Own k) → Local s h
+    no_offset_node : h ≡ 0 → s.saved ≡ false → Local s h
+    of_group : (k : ℕ) → index_from 1 (groups_from 0 (layout_in p).table.entries (layout_in p).offset_nodes []) k ≡ Some h → s.saved ≡ is_kept (layout_in p) (Own k) → Local s h
 
   module _ (n : ℕ) (e : EntryTree) (is_entry : slice_get (names_in p).entries n ≡ Some e) where
     plain : e.value ≡ None → e.parameter ≡ false
@@ -124,19 +107,19 @@ module _ (p : ParsedTree) (ss : List SymbolTree) (a : Answered p ss) where
         go true q = absurd (true≢false (sym (parameters_have_values p ss a n e is_entry q) ∙ ap is_some v))
         go false q = refl
 
-    grouped : (h o : ℕ) → (v : Option Constant) → e.value ≡ v → (d : Option ℕ) → e.dummy ≡ d → (w : Option Seat) → slice_get (layout_in p).seats n ≡ w → unless_value v (unless_dummy d (place_in (layout_in p) w)) ≡ place.Local h o → Local (symbol_of (layout_in p) n e) h
+    grouped : (h o : ℕ) → (v : Option Constant) → e.value ≡ v → (d : Option ℕ) → e.dummy ≡ d → (w : Option OffsetNode) → slice_get (layout_in p).offset_nodes n ≡ w → unless_value v (unless_dummy d (place_in (layout_in p) w)) ≡ place.Local h o → Local (symbol_of (layout_in p) n e) h
     grouped h o (Some c) ev d ed w ew q = cc
     grouped h o None ev (Some m) ed w ew q = cc
-    grouped h o None ev None ed None ew q = (let none : 0 ≡ h = cc in no_seat (sym none) (saved None ew))
+    grouped h o None ev None ed None ew q = (let none : 0 ≡ h = cc in no_offset_node (sym none) (saved None ew))
       where
-        saved : (w : Option Seat) → slice_get (layout_in p).seats n ≡ w → is_saved (layout_in p) e (slice_get (layout_in p).seats n) ≡ is_kept_at (layout_in p) w
-        saved w ew = ap₂ (λ (x : Option Constant) (y : Option ℕ). if is_some x || is_some y then false else is_kept_at (layout_in p) (slice_get (layout_in p).seats n)) ev ed ∙ ap (is_kept_at (layout_in p)) ew
+        saved : (w : Option OffsetNode) → slice_get (layout_in p).offset_nodes n ≡ w → is_saved (layout_in p) e (slice_get (layout_in p).offset_nodes n) ≡ is_kept_at (layout_in p) w
+        saved w ew = ap₂ (λ (x : Option Constant) (y : Option ℕ). if is_some x || is_some y then false else is_kept_at (layout_in p) (slice_get (layout_in p).offset_nodes n)) ev ed ∙ ap (is_kept_at (layout_in p)) ew
     grouped h o None ev None ed (Some s) ew q = go s.home refl q
       where
-        saved : is_saved (layout_in p) e (slice_get (layout_in p).seats n) ≡ is_kept (layout_in p) s.home
-        saved = ap₂ (λ (x : Option Constant) (y : Option ℕ). if is_some x || is_some y then false else is_kept_at (layout_in p) (slice_get (layout_in p).seats n)) ev ed ∙ ap (is_kept_at (layout_in p)) ew
+        saved : is_saved (layout_in p) e (slice_get (layout_in p).offset_nodes n) ≡ is_kept (layout_in p) s.home
+        saved = ap₂ (λ (x : Option Constant) (y : Option ℕ). if is_some x || is_some y then false else is_kept_at (layout_in p) (slice_get (layout_in p).offset_nodes n)) ev ed ∙ ap (is_kept_at (layout_in p)) ew
 
-        number : (k : ℕ) (w : Option ℕ) → index_from 1 (groups_from 0 (layout_in p).table.entries (layout_in p).seats []) k ≡ w → is_some w ≡ true → unwrap_or w 0 ≡ h → w ≡ Some h
+        number : (k : ℕ) (w : Option ℕ) → index_from 1 (groups_from 0 (layout_in p).table.entries (layout_in p).offset_nodes []) k ≡ w → is_some w ≡ true → unwrap_or w 0 ≡ h → w ≡ Some h
         number k None f t u = cc
         number k (Some g) f t u = ap Some u
 
@@ -144,8 +127,8 @@ module _ (p : ParsedTree) (ss : List SymbolTree) (a : Answered p ss) where
         go (Block b) f r = cc
         go (Own k) f r =
             let group : group_in (layout_in p) k ≡ h = cc in
-            let has = groups_have 0 (layout_in p).table.entries (layout_in p).seats [] n e s k is_entry ed (plain ev) (ap (slice_get (layout_in p).seats) (no_more n) ∙ ew) f in
-            of_group k (number k (index_from 1 (groups_from 0 (layout_in p).table.entries (layout_in p).seats []) k) refl has group) (saved ∙ ap (is_kept (layout_in p)) f)
+            let has = groups_have 0 (layout_in p).table.entries (layout_in p).offset_nodes [] n e s k is_entry ed (plain ev) (ap (slice_get (layout_in p).offset_nodes) (no_more n) ∙ ew) f in
+            of_group k (number k (index_from 1 (groups_from 0 (layout_in p).table.entries (layout_in p).offset_nodes []) k) refl has group) (saved ∙ ap (is_kept (layout_in p)) f)
           where
             no_more : (n : ℕ) → 0 + n ≡ n
             no_more n = omega arith
@@ -156,13 +139,13 @@ module _ (p : ParsedTree) (ss : List SymbolTree) (a : Answered p ss) where
       let here = r.is_place in
       let at : n - 1 ≡ r.place = omega (arith, here) in
       subst (λ (z : SymbolTree). Local z h) (sym r.symbol)
-      (grouped r.place r.entry (ap (slice_get (names_in p).entries) (sym at) ∙ r.is_entry) h o r.entry.value refl r.entry.dummy refl (slice_get (layout_in p).seats r.place) refl (ap (λ (z : SymbolTree). z.place) (sym r.symbol) ∙ q))
+      (grouped r.place r.entry (ap (slice_get (names_in p).entries) (sym at) ∙ r.is_entry) h o r.entry.value refl r.entry.dummy refl (slice_get (layout_in p).offset_nodes r.place) refl (ap (λ (z : SymbolTree). z.place) (sym r.symbol) ∙ q))
 
   both : (s t : SymbolTree) (h : ℕ) → Local s h → Local t h → s.saved ≡ t.saved
-  both s t h (no_seat z e) (no_seat y f) = e ∙ sym f
-  both s t h (no_seat z e) (of_group k i f) = (let low = index_least 1 (groups_from 0 (layout_in p).table.entries (layout_in p).seats []) k h i in absurd (omega (arith, z, low)))
-  both s t h (of_group k i f) (no_seat z e) = (let low = index_least 1 (groups_from 0 (layout_in p).table.entries (layout_in p).seats []) k h i in absurd (omega (arith, z, low)))
-  both s t h (of_group k i f) (of_group m j g) = f ∙ (ap (λ n. is_kept (layout_in p) (Own n)) (index_same 1 (groups_from 0 (layout_in p).table.entries (layout_in p).seats []) k m h i j) ∙ sym g)
+  both s t h (no_offset_node z e) (no_offset_node y f) = e ∙ sym f
+  both s t h (no_offset_node z e) (of_group k i f) = (let low = index_least 1 (groups_from 0 (layout_in p).table.entries (layout_in p).offset_nodes []) k h i in absurd (omega (arith, z, low)))
+  both s t h (of_group k i f) (no_offset_node z e) = (let low = index_least 1 (groups_from 0 (layout_in p).table.entries (layout_in p).offset_nodes []) k h i in absurd (omega (arith, z, low)))
+  both s t h (of_group k i f) (of_group m j g) = f ∙ (ap (λ n. is_kept (layout_in p) (Own n)) (index_same 1 (groups_from 0 (layout_in p).table.entries (layout_in p).offset_nodes []) k m h i j) ∙ sym g)
 
 pub locals_are_saved_together : LocalsAreSavedTogether
 locals_are_saved_together p ss laid m n h o q s t e f lies there =

@@ -8,26 +8,27 @@ use Rattle.affine_systems.specs.Points.{Point}
 use Rattle.f77_ast.specs.declared.variable.Variable.{Variable}
 use Rattle.f77_ast.specs.declared.variable.Variable.TheVariants.{Own}
 use Rattle.f77_ast.specs.Symbols.{SymbolTree}
-use Rattle.transformer_algebra.specs.Claims.{Scene, AtStart}
-use Rattle.transformer_algebra.specs.Laws.{In, here, there}
-use Rattle.region_sets.specs.declared.range.Range.{Range}
-use Rattle.region_sets.specs.declared.region.Access.{Access}
-use Rattle.region_sets.specs.declared.region.Access.TheVariants.{Write}
-use Rattle.region_sets.specs.declared.region.Region.{Region}
-use Rattle.region_sets.specs.Regions.{remade, any_weak}
-use Rattle.region_sets.specs.Subtract.{left_of, all_left_exactly, unless_empty, all_apart, subtract}
-use Rattle.region_sets.specs.Loops.{over_loop}
-use Rattle.region_sets.specs.Claims.{HoldsSome, Elements, Accessed, LiesIn, LiesInSet, IsSharp, Places, AreByOrder, InRange, Iteration, Begins}
-use Rattle.region_sets.proofs.StepLaws.{in_left, in_right, in_either}
-use Rattle.region_sets.proofs.PieceLaws.{loop_has, loop_sharp}
-use Rattle.region_sets.proofs.SubtractLaws.{subtract_keeps, subtract_exact}
-use Rattle.array_regions.specs.References.{scalar}
-use Rattle.in_out_regions.specs.Writes.{same_variable, write_of, is_write_beside, is_overlapped, is_touched}
+use Rattle.preconditions.specs.transformer_algebra.Claims.{Scene, AtStart}
+use Rattle.preconditions.specs.transformer_algebra.Laws.{In, here, there}
+use Rattle.in_out_regions.specs.region_sets.declared.range.Range.{Range}
+use Rattle.in_out_regions.specs.region_sets.declared.region.Access.{Access}
+use Rattle.in_out_regions.specs.region_sets.declared.region.Access.TheVariants.{Write}
+use Rattle.in_out_regions.specs.region_sets.declared.region.Region.{Region}
+use Rattle.in_out_regions.specs.region_sets.Regions.{remade, any_weak}
+use Rattle.in_out_regions.specs.region_sets.Subtract.{left_of, all_left_exactly, unless_empty, all_apart, subtract}
+use Rattle.in_out_regions.specs.region_sets.Loops.{over_loop}
+use Rattle.in_out_regions.specs.region_sets.Claims.{HoldsSome, Elements, Accessed, LiesIn, LiesInSet, IsSharp, Places, AreByOrder, InRange, Iteration, Begins}
+use Rattle.in_out_regions.proofs.RegionSets.StepLaws.{in_left, in_right, in_either}
+use Rattle.in_out_regions.proofs.RegionSets.PieceLaws.{loop_has, loop_sharp}
+use Rattle.in_out_regions.proofs.RegionSets.SubtractLaws.{subtract_keeps, subtract_exact}
+use Rattle.in_out_regions.specs.array_regions.References.{scalar}
+use Rattle.in_out_regions.specs.Writes.{write_of, is_write_beside, is_overlapped, is_touched}
 use Rattle.in_out_regions.specs.ListClaims.{AreWritten, IsWithinWrites}
 use Rattle.in_out_regions.specs.Loops.{in_range, earlier, less_earlier, in_iteration, over_maybe, unless_index, all_iterations}
 use Rattle.laws_marks.proofs.InGathering.{EachOne}
 use Rattle.laws_marks.proofs.InRests.{WriteOf, write_found, SharpUnless}
 use Rattle.laws_marks.proofs.InEarlier.{Known, known_of, begun_at, starts_at, Earlier, back_at, back_starts, earlier_has, earlier_sharp, ranged_lies, ranged_sharp}
+use Rattle.f77_ast.specs.Variables.{same_variable}
 
 -- ---- what is made of a region keeps its variable and its kind
 

@@ -1,5 +1,5 @@
 -- What the tables of a program and its layout give of the units of the variables of each module.
-use Rattle.std.proofs.Common.{◌≡◌, ◌⊎◌, inl, inr, ⊎_elim, ℕ, zero, suc, ◌+◌, ◌-◌, ◌<◌, ◌≤◌, Bool, true, false, ◌&&◌, ◌||◌, List, [], ◌∷◌, ◌++◌, length, map, Option, Some, None, refl, sym, ap, ◌∙◌, subst, arith, true≢false, ap₂, ◌*◌}
+use Rattle.std.proofs.Common.{◌≡◌, ◌⊎◌, inl, inr, ⊎_elim, ℕ, zero, suc, ◌+◌, ◌-◌, ◌<◌, ◌≤◌, Bool, true, false, ◌&&◌, List, [], ◌∷◌, ◌++◌, length, map, Option, Some, None, refl, sym, ap, ◌∙◌, subst, arith, true≢false, ap₂, ◌*◌}
 use Rattle.std.specs.Prelude.{if◌then◌else◌, not, slice_get, bytes_eq, nat_eq, nat_le, nat_lt}
 use Rattle.std.specs.List.{list_any}
 use Rattle.std.proofs.lemmas.Bool.{and_parts, and_from, or_left, or_right, not-true, eq-eqb, eqb-true, le-leb, lt-ltb}
@@ -16,51 +16,53 @@ use Rattle.f77_ast.specs.declared.variable.Variable.TheVariants.{Own, Block, Sav
 use Rattle.f77_ast.specs.Symbols.{SymbolTree, number_from, value_in}
 use Rattle.f77_ast.specs.Units.{units_in}
 use Rattle.f77_ast.specs.Shared.{symbol_at, share, share_maybe, is_in, is_symbol_in, lies_in, overlap}
-use Rattle.laws_tables.specs.Laws.{DummiesFirst}
-use Rattle.laws_tables.proofs.DummyLaws.{dummies_come_first}
+use Rattle.laws_programs.specs.SymbolTables.Laws.{DummiesFirst}
+use Rattle.laws_programs.proofs.SymbolTables.DummyLaws.{dummies_come_first}
 use Rattle.call_graph.specs.declared.graph.Graph.{Graph}
 use Rattle.call_graph.specs.declared.graph.Block.{Block as GraphBlock}
 use Rattle.f77_meaning.specs.Areas.{Area, Numbering, block, group, unit_at, is_own_unit, place_in, or_zero, area_number}
 use Rattle.f77_meaning.specs.Claims.{size_in, block_place, saved_place, fixed_by}
 use Rattle.f77_meaning.specs.Laws.{IsKnown, is_own, area_of, IsDeclaredBelow}
 use Rattle.f77_meaning.specs.Linked.{numbering, room_for, declares, reaches, is_common}
-use Rattle.f77_meaning.specs.Modules.{Known, known_of, fixed, fixed_place, dummies_from, symbol_names, fixed_maybe, units_from, lost_units, all_lost}
+use Rattle.f77_meaning.specs.Modules.{Known, known_of, fixed, fixed_place, dummies_from, symbol_names, fixed_maybe, lost_units, all_lost}
 use Rattle.f77_meaning.proofs.LinkLaws.{any_found, found_any, common_is_of_blocks}
 use Rattle.f77_meaning.proofs.LinkedLaws.{linked_have_blocks}
-use Rattle.f77_meaning.proofs.ModuleLaws.{numbered_place, offsets_fit, variables_occupy_their_storage, shared_by_table}
+use Rattle.f77_meaning.proofs.ModuleLaws.{offsets_fit, variables_occupy_their_storage, shared_by_table}
 use Rattle.f77_meaning.proofs.UnitLaws.{units_differ, temporaries_are_recognisable}
-use Rattle.transformers.specs.Given.{Callees}
-use Rattle.array_regions.specs.Entry.{is_local}
-use Rattle.array_regions.specs.References.{is_constant}
-use Rattle.laws_storage.specs.Activations.{is_dummy}
-use Rattle.laws_storage.specs.Below.{HasCall}
-use Rattle.laws_storage.specs.Calls.{AreLaidOut}
-use Rattle.laws_storage.specs.DataLaws.{AllConstantsFit}
-use Rattle.laws_storage.specs.Owners.{belongs_to}
-use Rattle.laws_storage.specs.Programs.{IsLinked, IsModule, known}
-use Rattle.laws_storage.proofs.AreaLaws.{group_owner}
-use Rattle.laws_storage.proofs.BelowLaws.{at_once, never_back, lead_on}
-use Rattle.laws_storage.proofs.LocalLaws.{next_symbol}
-use Rattle.laws_storage.proofs.LyingLaws.{Lying, lying_local, lying_common}
-use Rattle.laws_storage.proofs.ModuleLaws.{known_module, declared, area_known}
-use Rattle.laws_storage.proofs.OwnerLaws.{variable_lies, variable_hidden}
-use Rattle.transformer_algebra.specs.Laws.{In, here, there}
-use Rattle.laws_calls.specs.Parts.{Part, NoDummy}
+use Rattle.preconditions.specs.transformers.Given.{Callees}
+use Rattle.in_out_regions.specs.array_regions.References.{is_constant}
+use Rattle.laws_programs.specs.Storage.Activations.{is_dummy}
+use Rattle.laws_programs.specs.Storage.Below.{HasCall}
+use Rattle.laws_programs.specs.Storage.Calls.{AreLaidOut}
+use Rattle.laws_programs.specs.Storage.DataLaws.{AllConstantsFit}
+use Rattle.laws_programs.specs.Storage.Owners.{belongs_to}
+use Rattle.laws_programs.specs.Storage.Programs.{IsLinked, IsModule, known}
+use Rattle.laws_programs.proofs.Storage.AreaLaws.{group_owner}
+use Rattle.laws_programs.proofs.Storage.BelowLaws.{at_once, never_back, lead_on}
+use Rattle.laws_programs.proofs.Storage.LocalLaws.{in_either as some_any}
+use Rattle.laws_programs.proofs.Storage.LyingLaws.{Lying, lying_local, lying_common}
+use Rattle.laws_programs.proofs.Storage.ModuleLaws.{known_module, declared, area_known}
+use Rattle.laws_programs.proofs.Storage.OwnerLaws.{variable_lies, variable_hidden}
+use Rattle.preconditions.specs.transformer_algebra.Laws.{In, here, there}
+use Rattle.laws_analyses.specs.Calls.Parts.{Part, NoDummy}
 use Rattle.laws_analyses.specs.Analysed.{module_named}
 use Rattle.laws_analyses.specs.Parts.{part_of}
 use Rattle.laws_analyses.proofs.Modules.{module_named_is}
 use Rattle.laws_analyses.proofs.DummyLaws.{listed_dummy}
 use Rattle.laws_analyses.proofs.UnitLaws.{module_at}
-use Rattle.laws_regions.specs.Entries.{IsLost}
-use Rattle.laws_regions.specs.Settings.{has_colon, is_told}
-use Rattle.laws_effects.specs.Tables.{is_plain}
-use Rattle.laws_regions.proofs.Entered.{module_fits, module_enters}
-use Rattle.laws_regions.proofs.NamesOnce.{numbered_once}
+use Rattle.laws_analyses.specs.Regions.Entries.{IsLost}
+use Rattle.laws_analyses.specs.Regions.Settings.{has_colon, is_told}
+use Rattle.laws_programs.specs.Effects.Tables.{is_plain}
+use Rattle.laws_analyses.proofs.Regions.Entered.{module_fits, module_enters}
+use Rattle.laws_analyses.proofs.Regions.NamesOnce.{numbered_once}
 use Rattle.laws_marks.specs.InDims.{OpenLast}
 use Rattle.laws_marks.specs.InLaid.{IsFixed, fixed_place as lies_at, HasUnit, Laid, NamesGo}
 use Rattle.laws_marks.specs.InTogether.{LocalsAreSavedTogether}
 use Rattle.laws_marks.proofs.InApart.{open_constants}
 use Rattle.laws_marks.proofs.InRooms.{blocks_fit}
+use Rattle.laws_marks.proofs.Apart.{lost_here, lost_among, LostAt}
+use Rattle.f77_ast.proofs.StorageLaws.{from_number as numbered_place, to_number as next_symbol}
+use Rattle.call_graph.specs.Visible.{is_local}
 
 -- ---- lists
 
@@ -106,54 +108,6 @@ unit_in p u h =
     let low : p.first ≤ u = omega (arith, there') in
     let high : u < p.first + p.extent = omega (arith, there', less) in
     and_from (nat_le p.first u) (nat_lt u (p.first + p.extent)) (grind (arith, nat_tests, low)) (grind (arith, nat_tests, high))
-
-within_units : (first n u : ℕ) → list_any (λ v. nat_eq v u) (units_from first n) ≡ true → (first ≤ u) × (u < first + n)
-within_units first zero u h = cc
-within_units first (suc n) u h = go (nat_eq first u) refl h (within_units (suc first) n u)
-  where
-    go : (c : Bool) → nat_eq first u ≡ c → (c || list_any (λ v. nat_eq v u) (units_from (suc first) n)) ≡ true → (list_any (λ v. nat_eq v u) (units_from (suc first) n) ≡ true → (suc first ≤ u) × (u < suc first + n)) → (first ≤ u) × (u < first + suc n)
-    go true e k ih = let same = eqb-true first u e in (omega (arith, same), omega (arith, same))
-    go false e k ih = let z = ih k in (omega (arith, z.0), omega (arith, z.1))
-
--- a local that is not saved, with the unit
-record LostAt (n : Numbering) (m : List ℕ) (ss rest : List SymbolTree) (u : ℕ) : Type 0 where
-  at : ℕ
-  symbol : SymbolTree
-  is_symbol : slice_get rest at ≡ Some symbol
-  storage : ℕ
-  offset : ℕ
-  lies : symbol.place ≡ place.Local storage offset
-  kept : symbol.saved ≡ false
-  from : unit_at n (group m storage) offset ≤ u
-  below : u < unit_at n (group m storage) offset + units_in ss symbol
-
-lost_here : (n : Numbering) (m : List ℕ) (ss rest : List SymbolTree) (s : SymbolTree) (u : ℕ) → list_any (λ v. nat_eq v u) (lost_units n m ss s s.place) ≡ true → LostAt n m ss (s ∷ rest) u
-lost_here n m ss rest s u h = go s.place refl h
-  where
-    go : (q : Place) → s.place ≡ q → list_any (λ v. nat_eq v u) (lost_units n m ss s q) ≡ true → LostAt n m ss (s ∷ rest) u
-    go (place.Local h' o) e k = inner s.saved refl k
-      where
-        inner : (b : Bool) → s.saved ≡ b → list_any (λ v. nat_eq v u) (if b then [] else units_from (unit_at n (group m h') o) (units_in ss s)) ≡ true → LostAt n m ss (s ∷ rest) u
-        inner true w y = cc
-        inner false w y = let z = within_units (unit_at n (group m h') o) (units_in ss s) u y in record { at = zero; symbol = s; is_symbol = refl; storage = h'; offset = o; lies = e; kept = w; from = z.0; below = z.1 }
-    go (place.Dummy d) e k = cc
-    go (place.Block b o) e k = cc
-    go (place.Constant v) e k = cc
-
-some_any : (f : ℕ → Bool) (xs ys : List ℕ) → list_any f (xs ++ ys) ≡ true → (list_any f xs ≡ true) ⊎ (list_any f ys ≡ true)
-some_any f [] ys h = inr h
-some_any f (x ∷ xs) ys h = go (f x) refl h (some_any f xs ys)
-  where
-    go : (c : Bool) → f x ≡ c → (c || list_any f (xs ++ ys)) ≡ true → (list_any f (xs ++ ys) ≡ true → (list_any f xs ≡ true) ⊎ (list_any f ys ≡ true)) → ((f x || list_any f xs) ≡ true) ⊎ (list_any f ys ≡ true)
-    go true e k ih = inl (or_left (f x) (list_any f xs) e)
-    go false e k ih = ⊎_elim (λ a. inl (or_right (f x) (list_any f xs) a)) (λ b. inr b) (ih k)
-
-lost_among : (n : Numbering) (m : List ℕ) (ss rest : List SymbolTree) (u : ℕ) → list_any (λ v. nat_eq v u) (all_lost n m ss rest) ≡ true → LostAt n m ss rest u
-lost_among n m ss [] u h = cc
-lost_among n m ss (s ∷ rest) u h =
-    ⊎_elim (λ a. lost_here n m ss rest s u a)
-    (λ b. (let z = lost_among n m ss rest u b in record { at = suc z.at; symbol = z.symbol; is_symbol = z.is_symbol; storage = z.storage; offset = z.offset; lies = z.lies; kept = z.kept; from = z.from; below = z.below }))
-    (some_any (λ v. nat_eq v u) (lost_units n m ss s s.place) (all_lost n m ss rest) h)
 
 -- ---- names
 

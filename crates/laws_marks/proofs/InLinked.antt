@@ -11,7 +11,7 @@ use Rattle.affine_systems.proofs.Basics.{if_cases}
 use Rattle.f77_ast.specs.Trees.{ExprTree, ExprTrees}
 use Rattle.f77_ast.specs.Trees as tree
 use Rattle.f77_ast.specs.declared.constant.Constant.{Constant}
-use Rattle.f77_ast.specs.Constants.{worth}
+use Rattle.f77_ast.specs.Constants.{const_value}
 use Rattle.f77_ast.specs.declared.symbol.Place.{Place}
 use Rattle.f77_ast.specs.declared.symbol.Place.TheVariants as place
 use Rattle.f77_ast.specs.declared.variable.Variable.{Variable as Named}
@@ -19,19 +19,18 @@ use Rattle.f77_ast.specs.declared.variable.Variable.TheVariants.{Own, Block, Sav
 use Rattle.f77_ast.specs.Symbols.{BoundTree, SymbolTree, number_from, value_in}
 use Rattle.f77_ast.specs.Shared.{symbol_at}
 use Rattle.tracked_cells.specs.Standing.{has_bounds}
-use Rattle.effects.specs.Callee.{same_bound, same_bounds, same_scalar, is_at, is_like, first_like}
+use Rattle.in_out_regions.specs.effects.Callee.{same_bound, same_bounds, same_scalar, is_at, is_like, first_like}
 use Rattle.affine_forms.specs.declared.affine.Affine.{Affine}
 use Rattle.affine_forms.specs.Forms.{affine, affine_of, limited, sum_of}
 use Rattle.affine_forms.specs.Comparisons.{var_form}
-use Rattle.call_translation.specs.Actuals.{actual_of}
-use Rattle.call_equations.specs.declared.link.Link.{Link}
-use Rattle.call_equations.specs.Sides.{SidesTree}
-use Rattle.call_equations.specs.Rows.{low_rows, high_rows, high_form, constant_form, bound_rows, bounds_rows}
-use Rattle.call_equations.specs.Forms.{offset, equation, lack, unless_among}
-use Rattle.call_equations.specs.Cells.{named, named_terms, named_form, actual_bound, dummy_bound}
-use Rattle.call_equations.specs.Positions.{aligned_row, is_none_left, same_extent, dimension_row, row_before, aligned_rows, size_of, sum_with, before_dimensions, whole_position, element_position, dummy_position, block_position}
-use Rattle.call_equations.specs.Links.{same_elements, scalar_link, element_link, by_position, actual_bounds, aligned_or, whole_by_position, array_link, bounds_unless_lines, rest_link, variable_link, subscripts_link, is_constant, variable_at, element_at, variable_of, element_of, expr_link, actual_link, by_unit, block_link, like_or_block, common_link, place_link, symbol_link, link_of}
-use Rattle.laws_storage.proofs.LocalLaws.{next_symbol}
+use Rattle.preconditions.specs.call_translation.Actuals.{actual_of}
+use Rattle.in_out_regions.specs.call_equations.declared.link.Link.{Link}
+use Rattle.in_out_regions.specs.call_equations.Sides.{SidesTree}
+use Rattle.in_out_regions.specs.call_equations.Rows.{low_rows, high_rows, high_form, constant_form, bound_rows, bounds_rows}
+use Rattle.in_out_regions.specs.call_equations.Forms.{offset, equation, lack, unless_among}
+use Rattle.in_out_regions.specs.call_equations.Cells.{named, named_terms, named_form, actual_bound, dummy_bound}
+use Rattle.in_out_regions.specs.call_equations.Positions.{aligned_row, is_none_left, same_extent, dimension_row, row_before, aligned_rows, size_of, sum_with, before_dimensions, whole_position, element_position, dummy_position, block_position}
+use Rattle.in_out_regions.specs.call_equations.Links.{same_elements, scalar_link, element_link, by_position, actual_bounds, aligned_or, whole_by_position, array_link, bounds_unless_lines, rest_link, variable_link, subscripts_link, is_constant, variable_at, element_at, variable_of, element_of, expr_link, actual_link, by_unit, block_link, like_or_block, common_link, place_link, symbol_link, link_of}
 use Rattle.laws_lines.specs.Variables.{EachVar, IsCellOf}
 use Rattle.laws_lines.proofs.RowVars.{each-combined, Given}
 use Rattle.laws_lines.proofs.SystemVars.{AreGiven, all-append}
@@ -39,6 +38,7 @@ use Rattle.laws_lines.proofs.FormVars.{FormOf, affine_over, compared_given}
 use Rattle.laws_marks.specs.InFrames.{bounds_count, rank}
 use Rattle.laws_marks.proofs.InNarrow.{AnyCell, Upto}
 use Rattle.laws_marks.proofs.InNarrowed.{MayName, FormAt, form_at, constant_at, high_at, low_given, high_given, subscripts_given}
+use Rattle.f77_ast.proofs.StorageLaws.{to_number as next_symbol}
 
 -- ---- forms
 
@@ -150,11 +150,11 @@ module _ (n : ℕ) where
     bounds_given : (value : List ℕ → Option Constant) (k : ℕ) (bs : List BoundTree) → 0 < k → k + length bs ≤ suc n → AreGiven (Upto n) (bounds_rows value k bs)
     bounds_given value k [] l h = tt
     bounds_given value k (b ∷ bs) l h =
-        let low = low_rows (constant_form (worth value b.low)) k in
+        let low = low_rows (constant_form (const_value value b.low)) k in
         let high = high_rows (high_form value b.high) k in
         all-append (Given (Upto n)) (bound_rows value b k) (bounds_rows value (suc k) bs)
         (all-append (Given (Upto n)) low high
-        (low_given n (constant_form (worth value b.low)) k (l, omega (arith, h)) (constant_at n (worth value b.low))) (high_given n (high_form value b.high) k (l, omega (arith, h)) (high_at n value b.high)))
+        (low_given n (constant_form (const_value value b.low)) k (l, omega (arith, h)) (constant_at n (const_value value b.low))) (high_given n (high_form value b.high) k (l, omega (arith, h)) (high_at n value b.high)))
         (bounds_given value (suc k) bs (omega arith) (omega (arith, h)))
 
 -- ---- variables of the same bounds

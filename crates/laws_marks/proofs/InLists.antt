@@ -12,44 +12,43 @@ use Rattle.f77_ast.specs.Plans.{Flow, Normal, Jump, Returned, Stopped, Plan, End
 use Rattle.f77_ast.specs.Executions.{Claim}
 use Rattle.f77_ast.specs.Lists.{Part, is_label, has_label, from_label, go_on, in_order as plan_in_order, with_jumps, list_plan}
 use Rattle.f77_ast.specs.Statements.{statement_plan, parts}
-use Rattle.f77_results.specs.declared.results.At.{At}
+use Rattle.f77_ast.specs.declared.results.At.{At}
 use Rattle.f77_ast.specs.declared.variable.Unit.{Unit as BlockUnit}
 use Rattle.f77_meaning.specs.Accesses.{is_written}
 use Rattle.affine_forms.specs.Claims.{numbers_of}
-use Rattle.transformer_algebra.specs.Transformers.{all_cells, all_units}
-use Rattle.transformer_algebra.specs.Claims.{Kept, Does}
-use Rattle.transformer_algebra.specs.Laws.{here}
-use Rattle.transformer_algebra.proofs.CellLaws.{clashes}
-use Rattle.transformer_algebra.proofs.RuleLaws.{kept_in}
-use Rattle.transformers.specs.Jumps.{stmt_has, list_has, labels, goes_to, is_return, is_end, returns_early, early_return, unstructured}
-use Rattle.transformers.specs.Lists.{each_at, list_at}
-use Rattle.transformers.specs.Lists as transformers
-use Rattle.region_sets.specs.declared.region.Access.{Access}
-use Rattle.region_sets.specs.declared.region.Access.TheVariants.{In as AtIn}
-use Rattle.region_sets.specs.declared.region.Region.{Region}
-use Rattle.region_sets.specs.Lists.{in_any_order, numbers}
-use Rattle.region_sets.specs.Claims.{LiesInSet, IsSharp}
-use Rattle.region_sets.proofs.StepLaws.{any_units, any_inexact}
-use Rattle.array_regions.specs.Statement.{what_set}
+use Rattle.preconditions.specs.transformer_algebra.Transformers.{all_cells, all_units}
+use Rattle.preconditions.specs.transformer_algebra.Claims.{Kept, Does}
+use Rattle.preconditions.specs.transformer_algebra.Laws.{here}
+use Rattle.preconditions.proofs.TransformerAlgebra.RuleLaws.{kept_in}
+use Rattle.preconditions.specs.transformers.Jumps.{stmt_has, list_has, labels, goes_to, is_end, returns_early, early_return, unstructured}
+use Rattle.preconditions.specs.transformers.Lists.{each_at, list_at}
+use Rattle.preconditions.specs.transformers.Lists as transformers
+use Rattle.in_out_regions.specs.region_sets.declared.region.Access.{Access}
+use Rattle.in_out_regions.specs.region_sets.declared.region.Access.TheVariants.{In as AtIn}
+use Rattle.in_out_regions.specs.region_sets.declared.region.Region.{Region}
+use Rattle.in_out_regions.specs.region_sets.Lists.{in_any_order, numbers, set_at}
+use Rattle.in_out_regions.specs.region_sets.Claims.{LiesInSet, IsSharp}
+use Rattle.in_out_regions.proofs.RegionSets.StepLaws.{any_units, any_inexact}
+use Rattle.in_out_regions.specs.array_regions.Statement.{what_set}
 use Rattle.in_out_regions.specs.Kinds.{first_reads}
-use Rattle.array_regions.specs.Calls.{Called}
+use Rattle.in_out_regions.specs.array_regions.Calls.{Called}
 use Rattle.in_out_regions.specs.Known.{KnownTree}
-use Rattle.in_out_regions.specs.Lists.{set_at, before_rest, ins_in_order, list_in}
+use Rattle.in_out_regions.specs.Lists.{before_rest, ins_in_order, list_in}
 use Rattle.in_out_regions.specs.ListClaims.{AreWritten}
 use Rattle.in_out_regions.specs.Statement.{what_in, at_list}
-use Rattle.laws_statements.specs.Good.{Ending}
-use Rattle.laws_statements.specs.Leads.{stmt_leads}
-use Rattle.laws_statements.specs.Activation.{Jumps}
-use Rattle.laws_statements.proofs.LeadLaws.{leads_has}
-use Rattle.laws_statements.proofs.Rows.{labelled, returned_last}
-use Rattle.laws_regions.specs.Settings.{scene, elements_at}
+use Rattle.laws_analyses.specs.Statements.Good.{Ending}
+use Rattle.laws_analyses.specs.Statements.Leads.{stmt_leads}
+use Rattle.laws_analyses.specs.Statements.Activation.{Jumps}
+use Rattle.laws_analyses.proofs.Statements.LeadLaws.{leads_has}
+use Rattle.laws_analyses.proofs.Statements.Rows.{labelled, returned_last}
+use Rattle.laws_analyses.specs.Regions.Settings.{scene, elements_at}
 use Rattle.laws_marks.specs.InFrames.{Frame, elements_in}
-use Rattle.laws_regions.specs.Shown.{accessed, Holds, Sharp, Shown}
-use Rattle.laws_regions.proofs.Traces.{trace_assoc, trace_nil}
-use Rattle.laws_regions.proofs.Rules.{Goes, OnGave, goes_ends, goes_breaks, goes_more, goes_with, goes_then}
+use Rattle.laws_analyses.specs.Regions.Shown.{accessed, Holds, Sharp, Shown}
+use Rattle.laws_analyses.proofs.Regions.Traces.{trace_assoc, trace_nil}
+use Rattle.laws_analyses.proofs.Regions.Rules.{Goes, OnGave, goes_ends, goes_breaks, goes_more, goes_with, goes_then}
 use Rattle.laws_marks.proofs.InFramed.{by_order, sharp_in}
-use Rattle.laws_regions.proofs.Showing.{finally_more}
-use Rattle.laws_regions.proofs.Lists.{KeepsAt, Moved, Suffix}
+use Rattle.laws_analyses.proofs.Regions.Showing.{finally_more}
+use Rattle.laws_analyses.proofs.Regions.Lists.{KeepsAt, Moved, Suffix}
 use Rattle.laws_marks.specs.InShown.{first_read, FirstHolds, FirstSharp, IsFree, FirstShown}
 use Rattle.laws_marks.specs.InUnits.{UnitsFit, AreOf, SetFits}
 use Rattle.laws_marks.specs.InKnowns.{known_in}
@@ -57,6 +56,8 @@ use Rattle.laws_marks.proofs.InFirsts.{first_left, first_right, first_cases}
 use Rattle.laws_marks.proofs.InRests.{before_lies, after_lies, both_sharp}
 use Rattle.laws_marks.proofs.InWithin.{within_writes}
 use Rattle.laws_marks.proofs.InTaking.{no_writes_none, free_none, free_both, first_holds_none, first_holds_then, first_sharp_none, first_all}
+use Rattle.fx_lists.proofs.Booleans.{clash as clashes}
+use Rattle.f77_ast.specs.Shapes.{is_return}
 
 -- exact WRITE regions of a set tell what is written
 pub are_written : (k : Frame) (rs : List Region) (s : Store) (es : List Event) → AreOf k.may_name rs → Sharp k.base rs s es → AreWritten (scene k.base) (elements_in k) rs (numbers_of s) (λ u. is_written u es)

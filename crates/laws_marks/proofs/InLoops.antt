@@ -21,46 +21,48 @@ use Rattle.f77_meaning.specs.Accesses.{is_written, is_read_first}
 use Rattle.affine_forms.specs.Conditions.{no_rows}
 use Rattle.affine_forms.specs.Claims.{unit_in, numbers_of}
 use Rattle.affine_forms.proofs.FormLaws.{kept_is}
-use Rattle.transformer_algebra.specs.declared.transformer.Transformer.{Transformer}
-use Rattle.transformer_algebra.specs.declared.loop_parts.LoopParts.{LoopParts}
-use Rattle.transformer_algebra.specs.Loops.{next, iteration}
-use Rattle.transformer_algebra.specs.Claims.{Scene, Does, Kept, Chain, none_yet, then_iteration, Tracks, Means}
-use Rattle.transformer_algebra.specs.Laws.{In}
-use Rattle.transformer_algebra.proofs.CellLaws.{nat_same, nat_eq_same}
-use Rattle.transformer_algebra.proofs.RuleLaws.{does_then}
-use Rattle.region_sets.specs.declared.range.Range.{Range}
-use Rattle.region_sets.specs.declared.region.Access.TheVariants.{Write, In as AtIn}
-use Rattle.region_sets.specs.declared.region.Region.{Region}
-use Rattle.region_sets.specs.Claims.{Elements, LiesIn, LiesInSet, IsSharp, InRange, Iteration, Begins}
-use Rattle.array_regions.specs.References.{scalar}
-use Rattle.array_regions.specs.Loops.{range_with}
-use Rattle.in_out_regions.specs.Writes.{same_variable, is_write_beside, is_overlapped}
+use Rattle.preconditions.specs.transformer_algebra.declared.transformer.Transformer.{Transformer}
+use Rattle.preconditions.specs.transformer_algebra.declared.loop_parts.LoopParts.{LoopParts}
+use Rattle.preconditions.specs.transformer_algebra.Loops.{next, iteration}
+use Rattle.preconditions.specs.transformer_algebra.Claims.{Scene, Does, Kept, Chain, none_yet, then_iteration, Tracks, Means}
+use Rattle.preconditions.specs.transformer_algebra.Laws.{In}
+use Rattle.preconditions.proofs.TransformerAlgebra.RuleLaws.{does_then}
+use Rattle.in_out_regions.specs.region_sets.declared.range.Range.{Range}
+use Rattle.in_out_regions.specs.region_sets.declared.region.Access.TheVariants.{Write, In as AtIn}
+use Rattle.in_out_regions.specs.region_sets.declared.region.Region.{Region}
+use Rattle.in_out_regions.specs.region_sets.Claims.{Elements, LiesIn, LiesInSet, IsSharp, InRange, Iteration, Begins}
+use Rattle.in_out_regions.specs.array_regions.References.{scalar}
+use Rattle.in_out_regions.specs.array_regions.Loops.{range_with}
+use Rattle.in_out_regions.specs.Writes.{is_write_beside, is_overlapped}
 use Rattle.in_out_regions.specs.ListClaims.{AreWritten, IsWithinWrites}
 use Rattle.in_out_regions.specs.Loops.{in_iteration, all_iterations}
-use Rattle.laws_statements.specs.Good.{Ending}
-use Rattle.laws_statements.specs.Activation.{Fit, Still, Ended}
-use Rattle.laws_statements.proofs.Basics.{put_here}
-use Rattle.laws_statements.proofs.Loops.{also}
-use Rattle.laws_statements.proofs.Counts.{NotZero, count_more, count_none}
-use Rattle.laws_statements.proofs.Ranges.{StepIs}
-use Rattle.laws_regions.specs.Settings.{scene, Sound}
+use Rattle.laws_analyses.specs.Statements.Good.{Ending}
+use Rattle.laws_analyses.specs.Statements.Activation.{Fit, Still, Ended}
+use Rattle.laws_analyses.proofs.Statements.Basics.{put_here}
+use Rattle.laws_analyses.proofs.Statements.Loops.{also}
+use Rattle.laws_analyses.proofs.Statements.Counts.{NotZero, count_more, count_none}
+use Rattle.laws_analyses.proofs.Statements.Ranges.{StepIs}
+use Rattle.laws_analyses.specs.Regions.Settings.{scene, Sound}
 use Rattle.laws_marks.specs.InFrames.{Frame, elements_in}
-use Rattle.laws_regions.specs.Shown.{Finally, Shown}
-use Rattle.laws_regions.proofs.Rules.{Goes, OnGave, goes_more, goes_with}
+use Rattle.laws_analyses.specs.Regions.Shown.{Finally, Shown}
+use Rattle.laws_analyses.proofs.Regions.Rules.{Goes, OnGave, goes_more, goes_with}
 use Rattle.laws_marks.proofs.InFramed.{by_order, elements_on}
-use Rattle.laws_regions.proofs.Elements.{scalar_there, stored_there}
-use Rattle.laws_regions.proofs.Places.{first_place, next_place, next_after, first_after, not_past, zero_not}
-use Rattle.laws_regions.proofs.Turns.{Turn_ends, turns_go}
-use Rattle.laws_regions.proofs.Loops as base
+use Rattle.laws_analyses.proofs.Regions.Elements.{scalar_there, stored_there}
+use Rattle.laws_analyses.proofs.Regions.Places.{first_place, next_place, next_after, first_after, not_past, zero_not}
+use Rattle.laws_analyses.proofs.Regions.Turns.{Turn_ends, turns_go}
+use Rattle.laws_analyses.proofs.Regions.Loops as base
 use Rattle.laws_marks.specs.InShown.{first_read, IsFirst, FirstHolds, IsFree, FirstShown}
 use Rattle.laws_marks.specs.InUnits.{UnitsFit, SetFits}
 use Rattle.laws_marks.proofs.InFirsts.{not_so, written_left, written_right, unwritten_both, first_left, first_right, first_cases}
 use Rattle.laws_marks.proofs.InGathering.{EachOne}
-use Rattle.laws_marks.proofs.InRests.{same_order, SharpUnless}
+use Rattle.laws_marks.proofs.InRests.{SharpUnless}
 use Rattle.laws_marks.proofs.InWithin.{within_writes}
 use Rattle.laws_marks.proofs.InTaking.{free_both, free_write, first_holds_then}
 use Rattle.laws_marks.proofs.InIterations.{turn_lies, iteration_sharp, Turn, turns_sharp}
 use Rattle.laws_marks.proofs.InLists.{are_written}
+use Rattle.fx_lists.proofs.Numbers.{same_is as nat_same, nat_eq_same}
+use Rattle.f77_ast.specs.Variables.{same_variable}
+use Rattle.f77_ast.proofs.SameLaws.{cmp_if as same_order}
 
 -- what a lock more leaves free was free
 pub lock_free : (k : Frame) (locked : Locks) (u : ℕ) (f : Fault) (es : List Event) → IsFree k (lock locked u f) es → IsFree k locked es

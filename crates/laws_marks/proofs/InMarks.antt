@@ -17,7 +17,7 @@ use Rattle.f77_names.specs.Functions.{function_of}
 use Rattle.f77_names.specs.Entries.{EntryTree, seen, changed, as_parameter}
 use Rattle.f77_names.specs.Appearing.{unless_function, name_seen, expr_seen, exprs_seen, maybe_seen, stmt_seen, what_seen, arm_seen, arms_seen, else_seen, loop_seen, stmts_seen}
 use Rattle.f77_names.specs.Declaring.{Told, bound_of, typed, shaped, in_common, extent_seen, extents_seen, entity_seen, typed_entity, typed_entities, shaped_entities, members_told, blocks_told, setting_told, settings_told, mention_told, item_told, items_told, groups_told, targets_told, save_told, saves_told, decl_told, decls_told}
-use Rattle.laws_tables.proofs.KeptNames.{Said, with_said, Typed, Shaped, Shared, Parameter, Saved, Initial, Nothing}
+use Rattle.laws_programs.proofs.SymbolTables.KeptNames.{Said, with_said, Typed, Shaped, Shared, Parameter, Saved, Initial, Nothing}
 
 -- anything but that it is a PARAMETER
 abbrev pub IsMild : Said → Type 0

@@ -12,27 +12,28 @@ use Rattle.hull_projection.specs.Hull.{at_least_0, hull}
 use Rattle.hull_projection.specs.Minus.{hull_all}
 use Rattle.hull_projection.specs.Project.{project}
 use Rattle.hull_projection.specs.Laws.{IsOneOf}
-use Rattle.system_renaming.specs.Renaming.{naming, renamed_by, rename_all, push_rows}
+use Rattle.preconditions.specs.transformer_algebra.Renaming.{naming, renamed_by, rename_all, push_rows}
 use Rattle.affine_forms.specs.declared.affine.Affine.{Affine}
 use Rattle.affine_forms.specs.Comparisons.{at_most_row, same_row}
-use Rattle.transformer_algebra.specs.declared.transformer.Transformer.{Transformer}
-use Rattle.transformer_algebra.specs.Cells.{has, others}
-use Rattle.transformer_algebra.specs.Transformers.{unchanging, assign, iterate}
-use Rattle.transformer_algebra.specs.Laws.{In, here, there}
-use Rattle.transformer_algebra.specs.Loops.{within_row, goes_up, if_counted}
-use Rattle.region_sets.specs.declared.range.Range.{Range}
-use Rattle.region_sets.specs.Regions.{hull_of}
-use Rattle.region_sets.specs.Naming.{named_cells, to_exits, exit_vars}
-use Rattle.region_sets.specs.Compose.{put_exits, put_or_led, through_transformer, compose_piece}
-use Rattle.region_sets.specs.Loops.{index_form, start_of, step_rows, first_rows, last_rows, counted_rows, range_rows, first_assignment, iterations, iterations_at, at_index, loop_vars, led_to, through_loop, loop_piece}
+use Rattle.preconditions.specs.transformer_algebra.declared.transformer.Transformer.{Transformer}
+use Rattle.preconditions.specs.transformer_algebra.Cells.{has, others}
+use Rattle.preconditions.specs.transformer_algebra.Transformers.{identity_transformer, assign, iterate}
+use Rattle.preconditions.specs.transformer_algebra.Laws.{In, here, there}
+use Rattle.preconditions.specs.transformer_algebra.Loops.{within_row, goes_up, if_counted}
+use Rattle.in_out_regions.specs.region_sets.declared.range.Range.{Range}
+use Rattle.in_out_regions.specs.region_sets.Regions.{hull_of}
+use Rattle.in_out_regions.specs.region_sets.Naming.{named_cells, to_exits, exit_vars}
+use Rattle.in_out_regions.specs.region_sets.Compose.{put_exits, put_or_led, through_transformer, compose_piece}
+use Rattle.in_out_regions.specs.region_sets.Loops.{index_form, start_of, step_rows, first_rows, last_rows, counted_rows, range_rows, first_assignment, iterations, iterations_at, at_index, loop_vars, composed_with, through_loop, loop_piece}
 use Rattle.laws_lines.specs.Variables.{EachVar, IsCellOf}
 use Rattle.laws_lines.specs.Halves.{IsHalfOf}
 use Rattle.laws_lines.proofs.RowVars.{each_more, Given}
-use Rattle.laws_lines.proofs.SystemVars.{IsNeat, AreGiven, all-append, given_again, system_more, meet_neat, push_rows_neat, project_neat, rename_neat, all_more}
+use Rattle.laws_lines.proofs.SystemVars.{IsNeat, AreGiven, all-append, given_again, system_more, meet_neat, push_rows_neat, project_neat, rename_neat}
 use Rattle.laws_lines.proofs.HullVars.{hull_neat}
 use Rattle.laws_lines.proofs.FormVars.{IsFormOf, FormOf, compared_given, infeasible_neat}
 use Rattle.laws_lines.proofs.RuleVars.{IsDone, unchanging_done, assign_done, followed_done, iterate_done}
-use Rattle.laws_region_lines.proofs.PutVars.{OrExit, put_neat}
+use Rattle.laws_lines.proofs.Regions.PutVars.{OrExit, put_neat}
+use Rattle.elimination.proofs.ClosedLaws.{rows_weaker as all_more}
 
 -- whatever cells are named
 abbrev pub AnyCell : ℕ → Type 0
@@ -145,7 +146,7 @@ module _ (n : ℕ) (g : Range) (range : IsRangeOver g) where
       form None = tt
       form (Some s) = range.first
 
-      go : (b : Bool) → IsDone AnyCell (if b then assign g.index (if_counted g.step g.first) else unchanging)
+      go : (b : Bool) → IsDone AnyCell (if b then assign g.index (if_counted g.step g.first) else identity_transformer)
       go true = assign_done AnyCell g.index (if_counted g.step g.first) tt (form g.step)
       go false = unchanging_done AnyCell
 
@@ -172,7 +173,7 @@ module _ (n : ℕ) (g : Range) (range : IsRangeOver g) where
           go true = tt
           go false = i
 
-  led_s : (cs : List ℕ) (s : System) → IsUpto n s → IsUpto n (led_to cs g s)
+  led_s : (cs : List ℕ) (s : System) → IsUpto n s → IsUpto n (composed_with cs g s)
   led_s cs s h =
       let named = rename_all (to_exits cs) (at_index g.index s) in
       let within = push_rows named (range_rows g) in
@@ -184,4 +185,4 @@ module _ (n : ℕ) (g : Range) (range : IsRangeOver g) where
     where
       go : (cs : List ℕ) → IsUpto n (through_loop cs g s).system
       go [] = project_upto n (push_rows (at_index g.index s) (range_rows g)) loop_vars (push_rows_neat (Upto n) (at_index g.index s) (range_rows g) (indexed_s s h) (counted_s g.step))
-      go (c ∷ cs) = project_upto n (led_to (c ∷ cs) g s) loop_vars (led_s (c ∷ cs) s h)
+      go (c ∷ cs) = project_upto n (composed_with (c ∷ cs) g s) loop_vars (led_s (c ∷ cs) s h)

@@ -10,20 +10,20 @@ use Rattle.affine_systems.specs.Calls.{meet}
 use Rattle.affine_systems.proofs.Basics.{if_cases}
 use Rattle.hull_projection.specs.declared.projection.Shadow.{Shadow}
 use Rattle.hull_projection.specs.Refute.{refuted}
-use Rattle.system_renaming.specs.Renaming.{of_rows}
+use Rattle.preconditions.specs.transformer_algebra.Renaming.{of_rows}
 use Rattle.f77_ast.specs.Trees.{ExprTree, ExprTrees, ArmTree, ArmTrees, StmtTrees}
 use Rattle.f77_ast.specs.Trees as tree
 use Rattle.f77_ast.specs.declared.constant.Constant.{Constant}
 use Rattle.f77_ast.specs.declared.constant.Constant.TheVariants.{Int, Log}
-use Rattle.f77_ast.specs.declared.constant.Worth.{Worth}
-use Rattle.f77_ast.specs.declared.constant.Worth.TheVariants.{Is, Faults, Varies}
-use Rattle.f77_ast.specs.Constants.{worth}
+use Rattle.f77_ast.specs.declared.constant.ConstantValue.{ConstantValue}
+use Rattle.f77_ast.specs.declared.constant.ConstantValue.TheVariants.{Is, Faults, Varies}
+use Rattle.f77_ast.specs.Constants.{const_value}
 use Rattle.f77_ast.specs.declared.variable.Variable.{Variable}
 use Rattle.f77_ast.specs.declared.variable.Variable.TheVariants.{Own}
 use Rattle.f77_ast.specs.Symbols.{BoundTree, SymbolTree, number_from}
 use Rattle.f77_ast.specs.Shared.{symbol_at}
-use Rattle.f77_results.specs.declared.results.At.{At}
-use Rattle.f77_results.specs.Variables.{variable_cmp}
+use Rattle.f77_ast.specs.declared.results.At.{At}
+use Rattle.f77_ast.specs.Variables.{variable_cmp}
 use Rattle.tracked_cells.specs.Standing.{has_bounds}
 use Rattle.call_graph.specs.declared.graph.Graph.{Graph}
 use Rattle.f77_meaning.specs.Modules.{Known}
@@ -31,42 +31,42 @@ use Rattle.affine_forms.specs.declared.affine.Affine.{Affine}
 use Rattle.affine_forms.specs.Forms.{affine_of}
 use Rattle.affine_forms.specs.Comparisons.{var_form}
 use Rattle.affine_forms.specs.Conditions.{condition_of}
-use Rattle.transformer_algebra.specs.declared.transformer.Transformer.{Transformer}
-use Rattle.transformer_algebra.specs.Transformers.{without}
-use Rattle.transformer_algebra.specs.Laws.{In, here, there}
-use Rattle.call_translation.specs.Scopes.{ScopeTree}
-use Rattle.call_translation.specs.Actuals.{named_cell, one_cell}
-use Rattle.transformers.specs.Jumps.{unstructured}
-use Rattle.transformers.specs.Lists.{value_at, list_at}
-use Rattle.region_sets.specs.declared.range.Range.{Range}
-use Rattle.region_sets.specs.declared.region.Access.{Access}
-use Rattle.region_sets.specs.declared.region.Access.TheVariants.{Read, Write}
-use Rattle.region_sets.specs.declared.region.Region.{Region}
-use Rattle.region_sets.specs.Regions.{remade, systems, hull_of}
-use Rattle.region_sets.specs.Unite.{all_within, unite}
-use Rattle.region_sets.specs.Sets.{access_number, region_cmp, live_pieces, with_pieces, with_region, with_live, with_regions, live, unite_all}
-use Rattle.region_sets.specs.Compose.{compose_piece, compose}
-use Rattle.region_sets.specs.Loops.{loop_piece, over_loop}
-use Rattle.region_sets.specs.Lists.{is_access, accesses, or_none, accesses_at, all_composed, in_order, forgetting, all_forgetting, all_accesses, inexact, in_any_order, numbers, list_regions}
-use Rattle.region_sets.proofs.StepLaws.{in_either, of_map}
-use Rattle.array_regions.specs.declared.arms.Reached.{Reached}
-use Rattle.array_regions.specs.Rows.{constant_form, low_rows, high_rows, high_form, dimension_rows, subscript_rows}
-use Rattle.array_regions.specs.References.{is_constant, scalar, scalar_at, array_at, element_at, whole_of, whole, element_of, element, named}
-use Rattle.array_regions.specs.Reads.{reads, all_reads, inner_reads, maybe_reads}
-use Rattle.array_regions.specs.Calls.{actual_reads, actuals_reads}
-use Rattle.array_regions.specs.Simple.{assignment, item_does, reading}
-use Rattle.array_regions.specs.Arms.{always, if_true, if_false, into_arm, past_arm, past_arms, under_tests, all_met, arm_reads, tests_reads}
-use Rattle.array_regions.specs.Loops.{all_over}
+use Rattle.preconditions.specs.transformer_algebra.declared.transformer.Transformer.{Transformer}
+use Rattle.preconditions.specs.transformer_algebra.Transformers.{without}
+use Rattle.preconditions.specs.transformer_algebra.Laws.{In, here, there}
+use Rattle.preconditions.specs.call_translation.Scopes.{ScopeTree}
+use Rattle.preconditions.specs.call_translation.Actuals.{named_cell, one_cell}
+use Rattle.preconditions.specs.transformers.Jumps.{unstructured}
+use Rattle.preconditions.specs.transformers.Lists.{value_at, list_at}
+use Rattle.in_out_regions.specs.region_sets.declared.range.Range.{Range}
+use Rattle.in_out_regions.specs.region_sets.declared.region.Access.{Access}
+use Rattle.in_out_regions.specs.region_sets.declared.region.Access.TheVariants.{Read, Write}
+use Rattle.in_out_regions.specs.region_sets.declared.region.Region.{Region}
+use Rattle.in_out_regions.specs.region_sets.Regions.{remade, systems, hull_of}
+use Rattle.in_out_regions.specs.region_sets.Unite.{all_within, unite}
+use Rattle.in_out_regions.specs.region_sets.Sets.{access_number, region_cmp, live_pieces, with_pieces, with_region, with_live, with_regions, live, unite_all}
+use Rattle.in_out_regions.specs.region_sets.Compose.{compose_piece, compose}
+use Rattle.in_out_regions.specs.region_sets.Loops.{loop_piece, over_loop}
+use Rattle.in_out_regions.specs.region_sets.Lists.{is_access, accesses, or_none, accesses_at, all_composed, in_order, forgetting, all_forgetting, all_accesses, inexact, in_any_order, numbers, list_regions}
+use Rattle.in_out_regions.proofs.RegionSets.StepLaws.{in_either, of_map}
+use Rattle.in_out_regions.specs.array_regions.declared.arms.Reached.{Reached}
+use Rattle.in_out_regions.specs.array_regions.Rows.{constant_form, low_rows, high_rows, high_form, dimension_rows, subscript_rows}
+use Rattle.in_out_regions.specs.array_regions.References.{is_constant, scalar, scalar_at, array_at, element_at, whole_of, whole, element_of, element, named}
+use Rattle.in_out_regions.specs.array_regions.Reads.{reads, all_reads, inner_reads, maybe_reads}
+use Rattle.in_out_regions.specs.array_regions.Calls.{actual_reads, actuals_reads}
+use Rattle.in_out_regions.specs.array_regions.Simple.{assignment, item_does, reading}
+use Rattle.in_out_regions.specs.array_regions.Arms.{always, if_true, if_false, into_arm, past_arm, past_arms, under_tests, all_met, arm_reads, tests_reads}
+use Rattle.in_out_regions.specs.array_regions.Loops.{all_over}
 use Rattle.laws_lines.specs.Variables.{EachVar, IsCellOf}
 use Rattle.laws_lines.proofs.RowVars.{each_more, Given}
 use Rattle.laws_lines.proofs.SystemVars.{IsNeat, AreGiven, all-append, system_more, meet_neat, of_rows_neat}
 use Rattle.laws_lines.proofs.FormVars.{FormOf, NamesCells, affine_over, condition_over, compared_given, none_neat}
 use Rattle.laws_lines.proofs.RuleVars.{IsDone, forgotten_done, without_neat}
-use Rattle.laws_regions.specs.Settings.{is_told}
-use Rattle.laws_regions.proofs.Told.{told_same}
-use Rattle.laws_regions.proofs.Written.{equal_key}
+use Rattle.laws_analyses.specs.Regions.Settings.{is_told}
+use Rattle.laws_analyses.proofs.Regions.Told.{told_same}
 use Rattle.laws_marks.specs.InFrames.{bounds_count, rank}
 use Rattle.laws_marks.proofs.InNarrow.{AnyCell, Upto, IsUpto, cell_upto, hull_upto, compose_upto, IsRangeOver, loop_upto}
+use Rattle.laws_programs.proofs.Effects.Named.{equal_key}
 
 -- ---- regions
 
@@ -226,7 +226,7 @@ pub form_at : (n : ℕ) (o : Option Affine) → FormOf (IsCellOf AnyCell) o → 
 form_at n None h = tt
 form_at n (Some f) h = each_more (IsCellOf AnyCell) (Upto n) (cell_upto n) f.terms h.1
 
-pub constant_at : (n : ℕ) (w : Worth) → FormAt n (constant_form w)
+pub constant_at : (n : ℕ) (w : ConstantValue) → FormAt n (constant_form w)
 constant_at n (Is (Int i)) = tt
 constant_at n (Is (Log b)) = tt
 constant_at n Faults = tt
@@ -234,7 +234,7 @@ constant_at n Varies = tt
 
 pub high_at : (n : ℕ) (value : List ℕ → Option Constant) (o : Option ExprTree) → FormAt n (high_form value o)
 high_at n value None = tt
-high_at n value (Some e) = constant_at n (worth value e)
+high_at n value (Some e) = constant_at n (const_value value e)
 
 pub low_given : (n : ℕ) (o : Option Affine) (k : ℕ) → Upto n (Phi k) → FormAt n o → AreGiven (Upto n) (low_rows o k)
 low_given n None k p h = tt
@@ -247,8 +247,8 @@ high_given n (Some f) k p h = (compared_given (Upto n) false (var_form (Phi k)) 
 dimension_given : (n : ℕ) (value : List ℕ → Option Constant) (o : Option Affine) (b : BoundTree) (k : ℕ) → Upto n (Phi k) → FormAt n o → AreGiven (Upto n) (dimension_rows value o b k)
 dimension_given n value (Some f) b k p h = (compared_given (Upto n) true (var_form (Phi k)) f (f.constant -ℤ pos 0) (p, tt) h, tt)
 dimension_given n value None b k p h =
-    all-append (Given (Upto n)) (low_rows (constant_form (worth value b.low)) k) (high_rows (high_form value b.high) k)
-    (low_given n (constant_form (worth value b.low)) k p (constant_at n (worth value b.low))) (high_given n (high_form value b.high) k p (high_at n value b.high))
+    all-append (Given (Upto n)) (low_rows (constant_form (const_value value b.low)) k) (high_rows (high_form value b.high) k)
+    (low_given n (constant_form (const_value value b.low)) k p (constant_at n (const_value value b.low))) (high_given n (high_form value b.high) k p (high_at n value b.high))
 
 module _ (may : MayName) (m : ScopeTree) where
   abbrev join : (rs qs : List Region) → AreNarrowed may m.symbols rs → AreNarrowed may m.symbols qs → AreNarrowed may m.symbols (rs ++ qs)

@@ -7,6 +7,7 @@ use Rattle.std.proofs.lemmas.Bool.Decides.{nat_tests}
 use Rattle.std.proofs.Math.Nat.{mul-le-mul_left}
 use Rattle.f77_ast.specs.Places.{Dim, as_count, size_from, dim_size, at_most, dim_has, in_column, position}
 use Rattle.laws_marks.specs.InDims.{OpenLast}
+use Rattle.fx_lists.proofs.Options.{some_is}
 
 count_is : (n low : ℤ) → low ≤ℤ n → n ≡ low +ℤ pos (as_count (n -ℤ low))
 count_is n low h = go (n -ℤ low) refl
@@ -66,9 +67,6 @@ column_once d (f ∷ ds) o n m hn hm k j z e =
     let lm : as_count (m -ℤ d.low) < dim_size d = subst (λ y. as_count (m -ℤ d.low) < y) (sym size) (count_below m d.low high (low_of d m hm) (high_of d m high is hm)) in
     let r = split_once (dim_size d) (as_count (n -ℤ d.low)) (as_count (m -ℤ d.low)) k j ln lm e in
     (count_is n d.low (low_of d n hn) ∙ (ap (λ y. d.low +ℤ pos y) r.0 ∙ sym (count_is m d.low (low_of d m hm))), r.1)
-
-some_is : {A : Type 0} (x y : A) → Some x ≡ Some y → x ≡ y
-some_is x y e = cc
 
 none_left : (ds : List Dim) → ds ≡ [] → (ns : List ℤ) (k : ℕ) → position ds ns ≡ Some k → k ≡ 0
 none_left [] q [] k e = sym (some_is 0 k e)

@@ -17,8 +17,8 @@ use Rattle.f77_ast.specs.Statements.{spot, body_plan}
 use Rattle.f77_ast.specs.Programs.{Program, scope, body_of, called, meanings, program_plan}
 use Rattle.f77_ast.proofs.StepLaws.{at_end_true}
 use Rattle.f77_ast.specs.declared.variable.Variable.{Variable as Named}
-use Rattle.f77_results.specs.declared.results.At.{At}
-use Rattle.f77_results.specs.Summaries.{SummaryTree}
+use Rattle.f77_ast.specs.declared.results.At.{At}
+use Rattle.f77_ast.specs.Summaries.{SummaryTree}
 use Rattle.call_graph.specs.declared.graph.Graph.{Graph}
 use Rattle.f77_meaning.specs.Accesses.{is_written, is_entered}
 use Rattle.f77_meaning.specs.Modules.{Known, all_lost}
@@ -27,55 +27,55 @@ use Rattle.f77_meaning.specs.Claimed.{InEveryRun}
 use Rattle.f77_meaning.specs.Occurrences.{Throughout, is_normal, first_places, places_in}
 use Rattle.affine_forms.specs.Scalars.{is_cell}
 use Rattle.affine_forms.specs.Claims.{unit_in, numbers_of}
-use Rattle.call_translation.specs.Sites.{HoldingSite}
-use Rattle.transformers.specs.Given.{Callees}
-use Rattle.transformers.specs.Lists.{value_at}
-use Rattle.transformers.specs.Modules.{transformers_of}
-use Rattle.transformer_algebra.specs.Laws.{In, here, there}
-use Rattle.region_sets.specs.declared.region.Access.TheVariants.{In as AtIn}
-use Rattle.region_sets.specs.declared.region.Region.{Region}
-use Rattle.region_sets.specs.Claims.{LiesInSet, IsSharpSet}
-use Rattle.region_sets.specs.Lists.{or_none}
-use Rattle.call_equations.specs.declared.link.Link.{Link}
-use Rattle.call_equations.specs.Sides.{changed_cells}
-use Rattle.call_equations.specs.Links.{link_of}
-use Rattle.array_regions.specs.Calls.{Called, Callees as Summaries}
-use Rattle.array_regions.specs.Entry.{symbols_reads}
-use Rattle.array_regions.specs.Statement as regions
+use Rattle.preconditions.specs.call_translation.Sites.{HoldingSite}
+use Rattle.preconditions.specs.transformers.Given.{Callees}
+use Rattle.preconditions.specs.transformers.Lists.{value_at}
+use Rattle.preconditions.specs.transformers.Modules.{transformers_of}
+use Rattle.preconditions.specs.transformer_algebra.Laws.{In, here, there}
+use Rattle.in_out_regions.specs.region_sets.declared.region.Access.TheVariants.{In as AtIn}
+use Rattle.in_out_regions.specs.region_sets.declared.region.Region.{Region}
+use Rattle.in_out_regions.specs.region_sets.Claims.{LiesInSet, IsSharpSet}
+use Rattle.in_out_regions.specs.region_sets.Lists.{or_none}
+use Rattle.in_out_regions.specs.call_equations.declared.link.Link.{Link}
+use Rattle.in_out_regions.specs.call_equations.Sides.{changed_cells}
+use Rattle.in_out_regions.specs.call_equations.Links.{link_of}
+use Rattle.in_out_regions.specs.array_regions.Calls.{Called, Callees as Summaries}
+use Rattle.in_out_regions.specs.array_regions.Entry.{symbols_reads}
+use Rattle.in_out_regions.specs.array_regions.Statement as regions
 use Rattle.in_out_regions.specs.Calls.{summary_in}
 use Rattle.in_out_regions.specs.Kinds.{all_in}
 use Rattle.in_out_regions.specs.Known.{KnownTree}
 use Rattle.in_out_regions.specs.Statement as ins
-use Rattle.laws_statements.specs.Good.{said, AtEach}
-use Rattle.laws_statements.specs.CallsIn.{CallAt, Each, list_calls}
-use Rattle.laws_statements.specs.Results.{pre_in}
-use Rattle.laws_statements.proofs.Ends.{throughout}
-use Rattle.laws_statements.proofs.MainResults.{each_found_at}
-use Rattle.laws_statements.proofs.NumberLaws.{in_order}
-use Rattle.laws_calls.proofs.Enter.{Fits, begin_fits, more_fits}
-use Rattle.laws_calls.specs.Parts.{Blocks, Part, nth, in_bound, places_in as dummy_places, still_in, Sane}
-use Rattle.laws_calls.specs.ProgramLaws.{routines, Analysed, AnalysedParts, AnalysedProgram}
-use Rattle.laws_calls.specs.Sites.{CoversFrom, Covers, lookup, Entered}
-use Rattle.laws_regions.specs.Settings.{scene, Sound}
-use Rattle.laws_regions.specs.Shown.{is_lost, Holds, Finally}
-use Rattle.laws_regions.specs.Programs.{called_in, regions_in_part, EachRegionHolds, Regular, entry_scope, Joins}
-use Rattle.laws_regions.specs.Entries.{IsLost, dummies_reads, Enters}
-use Rattle.laws_regions.proofs.Rules.{Goes, goes_ends, goes_more}
-use Rattle.laws_regions.proofs.Looks.{Looked, IfGave, goes_first}
-use Rattle.laws_regions.proofs.Showing.{finally_more}
-use Rattle.laws_regions.proofs.Traces.{trace_nil, hidden_parts}
-use Rattle.laws_regions.proofs.Bounds.{setting, KeepsScalars, Got}
-use Rattle.laws_regions.proofs.Starts.{Starts, first_starts, forget_starts}
-use Rattle.laws_regions.proofs.Storing.{goes_forget_all, goes_within}
-use Rattle.laws_regions.proofs.Entering.{keeps_made, out}
-use Rattle.laws_regions.proofs.Arrays.{ArrayIs, BoundsMean}
-use Rattle.laws_regions.proofs.Dims.{BoundsFit}
-use Rattle.laws_regions.proofs.AtEntries.{bound_entry, emptied, emptied_entry, emptied_keeps}
-use Rattle.laws_regions.proofs.Steady.{Steady, steady_begin}
-use Rattle.laws_regions.proofs.Free.{FreeOk, all_free}
-use Rattle.laws_regions.proofs.CalledShown.{AtEntry, Bound, FineOk, not_lost}
-use Rattle.laws_regions.proofs.Programs as base
-use Rattle.laws_regions.proofs.Numbering.{r_list}
+use Rattle.laws_analyses.specs.Statements.Good.{said, AtEach}
+use Rattle.call_graph.specs.CallsIn.{CallAt, Each, list_calls}
+use Rattle.laws_analyses.specs.Statements.Results.{pre_in}
+use Rattle.laws_analyses.proofs.Statements.Ends.{throughout}
+use Rattle.laws_analyses.proofs.Statements.MainResults.{each_found_at}
+use Rattle.laws_analyses.proofs.Statements.NumberLaws.{in_order}
+use Rattle.laws_analyses.proofs.Calls.Enter.{Fits, begin_fits, more_fits}
+use Rattle.laws_analyses.specs.Calls.Parts.{Blocks, Part, nth, in_bound, places_in as dummy_places, still_in, Sane}
+use Rattle.laws_analyses.specs.Calls.ProgramLaws.{routines, Analysed, AnalysedParts, AnalysedProgram}
+use Rattle.laws_analyses.specs.Calls.Sites.{CoversFrom, Covers, lookup, Entered}
+use Rattle.laws_analyses.specs.Regions.Settings.{scene, Sound}
+use Rattle.laws_analyses.specs.Regions.Shown.{is_lost, Holds, Finally}
+use Rattle.laws_analyses.specs.Regions.Programs.{called_in, regions_in_part, EachRegionHolds, Regular, entry_scope, Joins}
+use Rattle.laws_analyses.specs.Regions.Entries.{IsLost, dummies_reads, Enters}
+use Rattle.laws_analyses.proofs.Regions.Rules.{Goes, goes_ends, goes_more}
+use Rattle.laws_analyses.proofs.Regions.Looks.{Looked, IfGave, goes_first}
+use Rattle.laws_analyses.proofs.Regions.Showing.{finally_more}
+use Rattle.laws_analyses.proofs.Regions.Traces.{trace_nil, hidden_parts}
+use Rattle.laws_analyses.proofs.Regions.Bounds.{setting, KeepsScalars, Got}
+use Rattle.laws_analyses.proofs.Regions.Starts.{Starts, first_starts, forget_starts}
+use Rattle.laws_analyses.proofs.Regions.Storing.{goes_forget_all, goes_within}
+use Rattle.laws_analyses.proofs.Regions.Entering.{keeps_made, out}
+use Rattle.laws_analyses.proofs.Regions.Arrays.{ArrayIs, BoundsMean}
+use Rattle.laws_analyses.proofs.Regions.Dims.{BoundsFit}
+use Rattle.laws_analyses.proofs.Regions.AtEntries.{bound_entry, emptied, emptied_entry, emptied_keeps}
+use Rattle.laws_analyses.proofs.Regions.Steady.{Steady, steady_begin}
+use Rattle.laws_analyses.proofs.Regions.Free.{FreeOk, all_free}
+use Rattle.laws_analyses.proofs.Regions.CalledShown.{AtEntry, Bound, FineOk, not_lost}
+use Rattle.laws_analyses.proofs.Regions.Programs as base
+use Rattle.laws_analyses.proofs.Regions.Numbering.{r_list}
 use Rattle.laws_lines.proofs.RuleVars.{IsDone}
 use Rattle.laws_marks.specs.InClaims.{InSetHolds, InRegionsHold}
 use Rattle.laws_marks.specs.InFrames.{Frame, elements_in}

@@ -4,9 +4,9 @@ use Rattle.f77_ast.specs.Store.{Store, put}
 use Rattle.f77_ast.specs.Steps.{Steps, Done, Look, Set, Hold, Forget, Show, Take, Arrive}
 use Rattle.f77_ast.specs.Steps as steps
 use Rattle.f77_ast.specs.Runs.{Event, Read, Answer}
-use Rattle.laws_regions.proofs.Rules.{Post}
-use Rattle.laws_regions.proofs.Looks.{Looked, looked_more}
-use Rattle.laws_regions.proofs.Storing.{Holding, holding_more}
+use Rattle.laws_analyses.proofs.Regions.Rules.{Post}
+use Rattle.laws_analyses.proofs.Regions.Looks.{Looked, looked_more}
+use Rattle.laws_analyses.proofs.Regions.Storing.{Holding, holding_more}
 use Rattle.laws_marks.proofs.InTaking.{NoWrites, no_writes_none}
 
 pub looked_quiet : {A : Type 0} (t : Steps A) (s : Store) (Q : Answer A → List Event → Type 0) → Looked t s Q → Looked t s (λ a es. Q a es × NoWrites es)

@@ -9,28 +9,29 @@ use Rattle.affine_systems.specs.declared.row.System.{System}
 use Rattle.affine_systems.specs.Points.{Point}
 use Rattle.f77_ast.specs.declared.variable.Variable.{Variable}
 use Rattle.f77_ast.specs.Symbols.{SymbolTree}
-use Rattle.f77_results.specs.Variables.{variable_cmp}
-use Rattle.transformer_algebra.specs.declared.transformer.Transformer.{Transformer}
-use Rattle.transformer_algebra.specs.Claims.{Scene, AtStart, Does}
-use Rattle.transformer_algebra.specs.Laws.{In, here, there}
-use Rattle.region_sets.specs.declared.region.Access.{Access}
-use Rattle.region_sets.specs.declared.region.Access.TheVariants.{Read, Write, In as AtIn, Out}
-use Rattle.region_sets.specs.declared.region.Region.{Region}
-use Rattle.region_sets.specs.Regions.{remade, any_weak}
-use Rattle.region_sets.specs.Subtract.{left_of, all_left_exactly, unless_empty, all_apart, subtract}
-use Rattle.region_sets.specs.Compose.{compose}
-use Rattle.region_sets.specs.Sets.{unite_all}
-use Rattle.region_sets.specs.Lists.{all_composed}
-use Rattle.region_sets.specs.Claims.{HoldsSome, Elements, Accessed, LiesIn, LiesInSet, IsSharp, IsSharpSet, Places, AreByOrder}
-use Rattle.region_sets.proofs.SetLaws.{gathered_units, gathered_sharp}
-use Rattle.region_sets.proofs.StepLaws.{in_left, in_right, in_either, in_map, of_map}
-use Rattle.region_sets.proofs.PieceLaws.{compose_moves, compose_sharp}
-use Rattle.region_sets.proofs.SubtractLaws.{subtract_keeps, subtract_exact}
+use Rattle.f77_ast.specs.Variables.{variable_cmp, same_variable}
+use Rattle.preconditions.specs.transformer_algebra.declared.transformer.Transformer.{Transformer}
+use Rattle.preconditions.specs.transformer_algebra.Claims.{Scene, AtStart, Does}
+use Rattle.preconditions.specs.transformer_algebra.Laws.{In, here, there}
+use Rattle.in_out_regions.specs.region_sets.declared.region.Access.{Access}
+use Rattle.in_out_regions.specs.region_sets.declared.region.Access.TheVariants.{Read, Write, In as AtIn, Out}
+use Rattle.in_out_regions.specs.region_sets.declared.region.Region.{Region}
+use Rattle.in_out_regions.specs.region_sets.Regions.{remade, any_weak}
+use Rattle.in_out_regions.specs.region_sets.Subtract.{left_of, all_left_exactly, unless_empty, all_apart, subtract}
+use Rattle.in_out_regions.specs.region_sets.Compose.{compose}
+use Rattle.in_out_regions.specs.region_sets.Sets.{unite_all}
+use Rattle.in_out_regions.specs.region_sets.Lists.{all_composed}
+use Rattle.in_out_regions.specs.region_sets.Claims.{HoldsSome, Elements, Accessed, LiesIn, LiesInSet, IsSharp, IsSharpSet, Places, AreByOrder}
+use Rattle.in_out_regions.proofs.RegionSets.SetLaws.{gathered_units, gathered_sharp}
+use Rattle.in_out_regions.proofs.RegionSets.StepLaws.{in_left, in_right, in_either, in_map, of_map}
+use Rattle.in_out_regions.proofs.RegionSets.PieceLaws.{compose_moves, compose_sharp}
+use Rattle.in_out_regions.proofs.RegionSets.SubtractLaws.{subtract_keeps, subtract_exact}
 use Rattle.in_out_regions.specs.Kinds.{is_write}
-use Rattle.in_out_regions.specs.Writes.{same_variable, is_write_of, write_of, is_overlapped}
+use Rattle.in_out_regions.specs.Writes.{is_write_of, write_of, is_overlapped}
 use Rattle.in_out_regions.specs.Lists.{less_write, all_unwritten, unless_overlapped, all_unless_overlapped, before_rest}
 use Rattle.in_out_regions.specs.ListClaims.{AreWritten, IsDescribed, IsWithinWrites, IsFirstOf}
 use Rattle.laws_marks.proofs.InGathering.{EachOne, gathered_so}
+use Rattle.f77_ast.proofs.SameLaws.{cmp_if as same_order}
 
 -- ---- the WRITE region of a variable
 
@@ -39,14 +40,6 @@ write_kind Read e = cc
 write_kind Write e = refl
 write_kind AtIn e = cc
 write_kind Out e = cc
-
-pub same_order : (v w : Variable) → same_variable v w ≡ true → variable_cmp v w ≡ Equal
-same_order v w e = go (variable_cmp v w) e
-  where
-    go : (o : Ordering) → is_eq o ≡ true → o ≡ Equal
-    go Less e = cc
-    go Equal e = refl
-    go Greater e = cc
 
 pub record WriteOf (v : Variable) (ws : List Region) (w : Region) : Type 0 where
   pub is_one : In w ws

@@ -13,7 +13,7 @@ use Rattle.f77_meaning.specs.Modules.{Known}
 use Rattle.f77_meaning.specs.Claims.{size_in}
 use Rattle.f77_meaning.specs.Laws.{HasBlocks}
 use Rattle.f77_meaning.specs.Linked.{offset_in, room_of, room_for}
-use Rattle.laws_regions.proofs.Sizes.{put_size, put_other_size, known_is}
+use Rattle.laws_programs.proofs.Effects.Sizes.{put_size, put_other_size, known_is}
 
 -- no block is longer
 module _ (room : ℕ) where

@@ -5,11 +5,11 @@ use Rattle.f77_ast.specs.Calls.{Meaning}
 use Rattle.f77_ast.specs.declared.variable.Variable.{Variable}
 use Rattle.call_graph.specs.declared.graph.Graph.{Graph}
 use Rattle.f77_meaning.specs.Modules.{Known}
-use Rattle.transformers.specs.Given.{Callees}
-use Rattle.array_regions.specs.Calls.{Called}
-use Rattle.laws_calls.specs.Parts.{Blocks, Part, Sane}
-use Rattle.laws_regions.specs.Programs.{Regular}
-use Rattle.laws_regions.proofs.Bounds.{setting}
+use Rattle.preconditions.specs.transformers.Given.{Callees}
+use Rattle.in_out_regions.specs.array_regions.Calls.{Called}
+use Rattle.laws_analyses.specs.Calls.Parts.{Blocks, Part, Sane}
+use Rattle.laws_analyses.specs.Regions.Programs.{Regular}
+use Rattle.laws_analyses.proofs.Regions.Bounds.{setting}
 use Rattle.laws_marks.specs.InFrames.{Frame}
 use Rattle.laws_marks.specs.InLaid.{Laid}
 

@@ -12,29 +12,28 @@ use Rattle.affine_systems.proofs.TermLaws.{var_eq-true}
 use Rattle.f77_ast.specs.Trees.{ExprTrees, StmtTree, WhatTree, ArmTree, ArmTrees, ElseTree, LoopTree, StmtTrees}
 use Rattle.f77_ast.specs.Trees as tree
 use Rattle.f77_ast.specs.Symbols.{SymbolTree}
-use Rattle.transformer_algebra.specs.declared.transformer.Transformer.{Transformer}
-use Rattle.transformer_algebra.specs.Laws.{here}
-use Rattle.call_translation.specs.Scopes.{ScopeTree}
-use Rattle.transformers.specs.Jumps.{unstructured}
-use Rattle.transformers.specs.Lists.{value_at, each_at, list_at, number_of}
-use Rattle.transformers.specs.Loops.{loop_parts}
-use Rattle.region_sets.specs.declared.region.Access.TheVariants.{Write}
-use Rattle.region_sets.specs.declared.region.Region.{Region}
-use Rattle.region_sets.specs.Naming.{in_terms, in_rows}
-use Rattle.region_sets.specs.Sets.{unite_all}
-use Rattle.region_sets.specs.Lists.{or_none, accesses_at, all_composed, in_order, all_forgetting, all_accesses, in_any_order, numbers, list_regions}
-use Rattle.array_regions.specs.declared.arms.Reached.{Reached}
-use Rattle.array_regions.specs.References.{scalar, named}
-use Rattle.array_regions.specs.Reads.{reads, all_reads, inner_reads, maybe_reads}
-use Rattle.array_regions.specs.Simple.{item_does, reading}
-use Rattle.array_regions.specs.Arms.{always, if_true, into_arm, past_arm, past_arms, all_met, tests_reads}
-use Rattle.array_regions.specs.Loops.{range_of, loop_reads, all_over, do_set}
-use Rattle.array_regions.specs.Calls.{Called}
-use Rattle.laws_statements.specs.CallsIn.{CallAt, Each, stmt_calls, what_calls, list_calls, arms_calls, arm_calls, else_calls, loop_calls}
-use Rattle.laws_statements.proofs.Placing.{each_parts}
-use Rattle.f77_results.specs.declared.results.At.{At}
-use Rattle.array_regions.specs.Statement.{stmt_set, what_set, arm_sets, arm_set, else_set, body_set, at_stmt, at_parts, at_list, at_arms, at_arm, at_else, at_loop}
-use Rattle.in_out_regions.specs.Lists.{set_at}
+use Rattle.preconditions.specs.transformer_algebra.declared.transformer.Transformer.{Transformer}
+use Rattle.preconditions.specs.transformer_algebra.Laws.{here}
+use Rattle.preconditions.specs.call_translation.Scopes.{ScopeTree}
+use Rattle.preconditions.specs.transformers.Jumps.{unstructured}
+use Rattle.preconditions.specs.transformers.Lists.{value_at, each_at, list_at, number_of}
+use Rattle.preconditions.specs.transformers.Loops.{loop_parts}
+use Rattle.in_out_regions.specs.region_sets.declared.region.Access.TheVariants.{Write}
+use Rattle.in_out_regions.specs.region_sets.declared.region.Region.{Region}
+use Rattle.in_out_regions.specs.region_sets.Naming.{in_terms, in_rows}
+use Rattle.in_out_regions.specs.region_sets.Sets.{unite_all}
+use Rattle.in_out_regions.specs.region_sets.Lists.{or_none, accesses_at, all_composed, in_order, all_forgetting, all_accesses, in_any_order, numbers, list_regions, set_at}
+use Rattle.in_out_regions.specs.array_regions.declared.arms.Reached.{Reached}
+use Rattle.in_out_regions.specs.array_regions.References.{scalar, named}
+use Rattle.in_out_regions.specs.array_regions.Reads.{reads, all_reads, inner_reads, maybe_reads}
+use Rattle.in_out_regions.specs.array_regions.Simple.{item_does, reading}
+use Rattle.in_out_regions.specs.array_regions.Arms.{always, if_true, into_arm, past_arm, past_arms, all_met, tests_reads}
+use Rattle.in_out_regions.specs.array_regions.Loops.{range_of, loop_reads, all_over, do_set}
+use Rattle.in_out_regions.specs.array_regions.Calls.{Called}
+use Rattle.call_graph.specs.CallsIn.{CallAt, Each, stmt_calls, what_calls, list_calls, arms_calls, arm_calls, else_calls, loop_calls}
+use Rattle.laws_analyses.proofs.Statements.Placing.{each_parts}
+use Rattle.f77_ast.specs.declared.results.At.{At}
+use Rattle.in_out_regions.specs.array_regions.Statement.{stmt_set, what_set, arm_sets, arm_set, else_set, body_set, at_stmt, at_parts, at_list, at_arms, at_arm, at_else, at_loop}
 use Rattle.in_out_regions.specs.Simple.{item_written}
 use Rattle.laws_lines.specs.Variables.{EachVar}
 use Rattle.laws_lines.proofs.SystemVars.{neat_over}

@@ -16,32 +16,31 @@ use Rattle.f77_ast.specs.Executions.{Claim}
 use Rattle.f77_ast.specs.Symbols.{SymbolTree}
 use Rattle.f77_meaning.specs.Accesses.{is_written, is_read_first}
 use Rattle.affine_forms.specs.Claims.{numbers_of}
-use Rattle.transformer_algebra.specs.Claims.{Does}
-use Rattle.transformer_algebra.proofs.CellLaws.{nat_eq_same}
-use Rattle.region_sets.specs.declared.region.Access.TheVariants.{Read, Write, In as AtIn}
-use Rattle.region_sets.specs.declared.region.Region.{Region}
-use Rattle.region_sets.proofs.SetLaws.{gathered_sharp}
-use Rattle.array_regions.specs.References.{named}
-use Rattle.array_regions.specs.Reads.{reads, all_reads, inner_reads}
-use Rattle.array_regions.specs.Simple.{assignment, printing, item_does}
+use Rattle.preconditions.specs.transformer_algebra.Claims.{Does}
+use Rattle.in_out_regions.specs.region_sets.declared.region.Access.TheVariants.{Read, Write, In as AtIn}
+use Rattle.in_out_regions.specs.region_sets.declared.region.Region.{Region}
+use Rattle.in_out_regions.proofs.RegionSets.SetLaws.{gathered_sharp}
+use Rattle.in_out_regions.specs.array_regions.References.{named}
+use Rattle.in_out_regions.specs.array_regions.Reads.{reads, all_reads, inner_reads}
+use Rattle.in_out_regions.specs.array_regions.Simple.{assignment, printing, item_does}
 use Rattle.in_out_regions.specs.Kinds.{all_in, first_reads}
 use Rattle.in_out_regions.specs.Simple.{item_in, item_written, with_item, reading}
 use Rattle.in_out_regions.specs.ListClaims.{AreWritten, IsWithinWrites}
-use Rattle.laws_statements.specs.Evaluations.{IsUnit}
-use Rattle.laws_statements.specs.Targets.{is_target, are_targets}
-use Rattle.laws_statements.specs.Activation.{Fit}
-use Rattle.laws_regions.specs.Settings.{scene, elements_at, Sound, is_plain, are_plain}
+use Rattle.laws_analyses.specs.Statements.Evaluations.{IsUnit}
+use Rattle.laws_analyses.specs.Statements.Targets.{is_target, are_targets}
+use Rattle.laws_analyses.specs.Statements.Activation.{Fit}
+use Rattle.laws_analyses.specs.Regions.Settings.{scene, elements_at, Sound, is_plain, are_plain}
 use Rattle.laws_marks.specs.InFrames.{Frame, elements_in}
-use Rattle.laws_regions.specs.Shown.{Shown}
-use Rattle.laws_regions.proofs.Traces.{trace_assoc, trace_nil, accessed_cases}
-use Rattle.laws_regions.proofs.Rules.{Goes, goes_ends, goes_breaks, goes_set, goes_show, goes_take, goes_more, goes_write}
-use Rattle.laws_regions.proofs.Looks.{IfGave, goes_first, goes_first_then}
-use Rattle.laws_regions.proofs.Expressions.{Seen, value_looks, all_shown_look}
-use Rattle.laws_regions.proofs.Holding.{holds_gathered}
-use Rattle.laws_regions.proofs.Told.{by_order as base_order}
+use Rattle.laws_analyses.specs.Regions.Shown.{Shown}
+use Rattle.laws_analyses.proofs.Regions.Traces.{trace_assoc, trace_nil, accessed_cases}
+use Rattle.laws_analyses.proofs.Regions.Rules.{Goes, goes_ends, goes_breaks, goes_set, goes_show, goes_take, goes_more, goes_write}
+use Rattle.laws_analyses.proofs.Regions.Looks.{IfGave, goes_first, goes_first_then}
+use Rattle.laws_analyses.proofs.Regions.Expressions.{Seen, value_looks, all_shown_look}
+use Rattle.laws_analyses.proofs.Regions.Holding.{holds_gathered}
+use Rattle.laws_analyses.proofs.Regions.Told.{by_order as base_order}
 use Rattle.laws_marks.proofs.InFramed.{by_order, sharp_in}
-use Rattle.laws_regions.proofs.Showing.{finally_more, one_write}
-use Rattle.laws_regions.proofs.Simple.{Hits, Aimed, target_looks, aimed_with, item_moves, assign_goes, print_goes}
+use Rattle.laws_analyses.proofs.Regions.Showing.{finally_more, one_write}
+use Rattle.laws_analyses.proofs.Regions.Simple.{Hits, Aimed, target_looks, aimed_with, item_moves, assign_goes, print_goes}
 use Rattle.laws_marks.specs.InShown.{first_read, FirstHolds, FirstSharp, IsFree, FirstShown}
 use Rattle.laws_marks.specs.InUnits.{UnitsFit, AreOf, SetFits}
 use Rattle.laws_marks.proofs.InFirsts.{first_left, first_right, read_is_first, first_cases}
@@ -49,6 +48,7 @@ use Rattle.laws_marks.proofs.InRests.{before_lies, after_lies, both_sharp}
 use Rattle.laws_marks.proofs.InWithin.{within_writes}
 use Rattle.laws_marks.proofs.InTaking.{NoWrites, ReadsFirst, free_none, free_both, free_write, no_writes_printed, no_writes_took, no_writes_both, first_holds_then, first_holds_gathered, first_sharp_gathered, first_of_reads, seen_first, seen_sharp, first_broke, first_idle}
 use Rattle.laws_marks.proofs.InQuiet.{looked_quiet}
+use Rattle.fx_lists.proofs.Numbers.{nat_eq_same}
 
 -- what is claimed of executions beside how they end
 pub goes_both : (C D : Claim) → (t : Plan) (s : Store) (P Q : Answer Flow → Store → List Event → Type 0) → Goes C t s P → Goes D t s Q → Goes D t s (λ a z es. P a z es × Q a z es)

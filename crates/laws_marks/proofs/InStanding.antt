@@ -10,29 +10,28 @@ use Rattle.f77_ast.specs.Plans.{Flow}
 use Rattle.f77_ast.specs.Executions.{Claim}
 use Rattle.f77_ast.specs.Statements.{spot}
 use Rattle.f77_ast.specs.StatementNumbers.{stmt_numbers, part_numbers, list_numbers, arms_numbers, arm_numbers, else_numbers, loop_numbers}
-use Rattle.f77_results.specs.declared.results.At.{At}
-use Rattle.transformer_algebra.specs.declared.transformer.Transformer.{Transformer}
-use Rattle.transformer_algebra.specs.Laws.{In, here, there}
-use Rattle.transformers.specs.Jumps.{stmt_has, parts_have, list_has, arms_have, arm_has, else_has, is_end, unstructured}
-use Rattle.transformers.specs.Lists.{list_at}
-use Rattle.transformers.specs.Statement as transformers
-use Rattle.region_sets.specs.declared.region.Region.{Region}
-use Rattle.region_sets.specs.Sets.{unite_all}
-use Rattle.region_sets.proofs.StepLaws.{in_right}
-use Rattle.region_sets.specs.Lists.{or_none, accesses, accesses_at, all_composed, in_order, all_forgetting, all_accesses, all_inexact, in_any_order, numbers, list_regions}
-use Rattle.array_regions.specs.Statement as regions
-use Rattle.array_regions.specs.Calls.{Called}
+use Rattle.f77_ast.specs.declared.results.At.{At}
+use Rattle.preconditions.specs.transformer_algebra.declared.transformer.Transformer.{Transformer}
+use Rattle.preconditions.specs.transformer_algebra.Laws.{In, here, there}
+use Rattle.preconditions.specs.transformers.Jumps.{stmt_has, parts_have, list_has, arms_have, arm_has, else_has, is_end, unstructured}
+use Rattle.preconditions.specs.transformers.Lists.{list_at}
+use Rattle.preconditions.specs.transformers.Statement as transformers
+use Rattle.in_out_regions.specs.region_sets.declared.region.Region.{Region}
+use Rattle.in_out_regions.specs.region_sets.Sets.{unite_all}
+use Rattle.in_out_regions.proofs.RegionSets.StepLaws.{in_right}
+use Rattle.in_out_regions.specs.region_sets.Lists.{or_none, accesses, accesses_at, all_composed, in_order, all_forgetting, all_accesses, all_inexact, in_any_order, numbers, list_regions, set_at}
+use Rattle.in_out_regions.specs.array_regions.Statement as regions
+use Rattle.in_out_regions.specs.array_regions.Calls.{Called}
 use Rattle.in_out_regions.specs.Known.{KnownTree}
-use Rattle.in_out_regions.specs.Lists.{set_at}
 use Rattle.in_out_regions.specs.Statement.{what_in}
 use Rattle.in_out_regions.specs.Statement as ins
-use Rattle.laws_statements.specs.CallsIn.{CallAt, Each, stmt_calls, what_calls, list_calls, arms_calls, arm_calls, else_calls}
-use Rattle.laws_statements.proofs.Placing.{each_parts}
-use Rattle.laws_statements.proofs.NumberLaws.{ids}
-use Rattle.laws_regions.specs.Settings.{actuals_plain}
-use Rattle.laws_regions.proofs.Rules.{Goes}
-use Rattle.laws_regions.proofs.Standing.{Distinct, Stands, StandsAt, stands_parts, stands_at, stands_within, bad, rough, call_at}
-use Rattle.laws_regions.proofs.Numbering.{ids_parts, r_list, value_found, accesses_found}
+use Rattle.call_graph.specs.CallsIn.{CallAt, Each, stmt_calls, what_calls, list_calls, arms_calls, arm_calls, else_calls}
+use Rattle.laws_analyses.proofs.Statements.Placing.{each_parts}
+use Rattle.laws_analyses.proofs.Statements.NumberLaws.{ids}
+use Rattle.laws_analyses.specs.Regions.Settings.{actuals_plain}
+use Rattle.laws_analyses.proofs.Regions.Rules.{Goes}
+use Rattle.laws_analyses.proofs.Regions.Standing.{Distinct, Stands, StandsAt, stands_parts, stands_at, stands_within, bad, rough, call_at}
+use Rattle.laws_analyses.proofs.Regions.Numbering.{ids_parts, r_list, value_found, accesses_found}
 use Rattle.laws_marks.specs.InFrames.{Frame}
 use Rattle.laws_marks.specs.InShown.{FirstShown}
 use Rattle.laws_marks.specs.InUnits.{UnitsFit}

@@ -17,60 +17,60 @@ use Rattle.f77_ast.specs.Lists.{in_order as plan_in_order, list_plan}
 use Rattle.f77_ast.specs.Loops.{Range, range_of, iteration_count, iterations_from}
 use Rattle.f77_ast.specs.StatementNumbers.{list_numbers}
 use Rattle.f77_ast.specs.Statements.{spot, statement_plan, execution, arms_plan, else_plan, do_plan, parts}
-use Rattle.f77_results.specs.declared.results.At.{At}
+use Rattle.f77_ast.specs.declared.results.At.{At}
 use Rattle.f77_meaning.specs.Occurrences.{places_in}
 use Rattle.affine_forms.specs.Conditions.{no_rows}
 use Rattle.affine_forms.specs.Claims.{unit_in, numbers_of}
-use Rattle.transformer_algebra.specs.declared.loop_parts.LoopParts.{LoopParts}
-use Rattle.transformer_algebra.specs.Claims.{HoldsAt, Kept, Tracks}
-use Rattle.transformer_algebra.specs.declared.transformer.Transformer.{Transformer}
-use Rattle.transformer_algebra.specs.Loops.{iteration}
-use Rattle.transformer_algebra.specs.Laws.{In, here, there}
-use Rattle.transformers.specs.Jumps.{stmt_has, list_has, is_return, is_end, unstructured}
-use Rattle.transformers.specs.Lists.{list_of as transformer_of, list_at}
-use Rattle.transformers.specs.Loops.{number_in, loop_parts}
-use Rattle.transformers.specs.Statement.{parts_do, body_transformer}
-use Rattle.transformers.specs.Statement as transformers
-use Rattle.region_sets.specs.declared.region.Access.TheVariants.{Write, In as AtIn}
-use Rattle.region_sets.specs.declared.region.Region.{Region}
-use Rattle.region_sets.specs.Sets.{unite_all}
-use Rattle.region_sets.specs.Lists.{accesses_at, list_regions}
-use Rattle.region_sets.proofs.StepLaws.{in_right, in_either}
-use Rattle.array_regions.specs.declared.arms.Reached.{Reached}
-use Rattle.array_regions.specs.Arms.{always, past_arms, if_false}
-use Rattle.array_regions.specs.References.{scalar}
-use Rattle.array_regions.specs.Reads.{reads, maybe_reads}
-use Rattle.array_regions.specs.Loops.{range_with}
-use Rattle.array_regions.specs.Statement.{what_set}
-use Rattle.array_regions.specs.Statement as regions
+use Rattle.preconditions.specs.transformer_algebra.declared.loop_parts.LoopParts.{LoopParts}
+use Rattle.preconditions.specs.transformer_algebra.Claims.{HoldsAt, Kept, Tracks}
+use Rattle.preconditions.specs.transformer_algebra.declared.transformer.Transformer.{Transformer}
+use Rattle.preconditions.specs.transformer_algebra.Loops.{iteration}
+use Rattle.preconditions.specs.transformer_algebra.Laws.{In, here, there}
+use Rattle.preconditions.specs.transformers.Jumps.{stmt_has, list_has, is_end, unstructured}
+use Rattle.preconditions.specs.transformers.Lists.{list_of as transformer_of, list_at}
+use Rattle.preconditions.specs.transformers.Loops.{number_in, loop_parts}
+use Rattle.preconditions.specs.transformers.Statement.{parts_do, body_transformer}
+use Rattle.preconditions.specs.transformers.Statement as transformers
+use Rattle.in_out_regions.specs.region_sets.declared.region.Access.TheVariants.{Write, In as AtIn}
+use Rattle.in_out_regions.specs.region_sets.declared.region.Region.{Region}
+use Rattle.in_out_regions.specs.region_sets.Sets.{unite_all}
+use Rattle.in_out_regions.specs.region_sets.Lists.{accesses_at, list_regions, set_at}
+use Rattle.in_out_regions.proofs.RegionSets.StepLaws.{in_right, in_either}
+use Rattle.in_out_regions.specs.array_regions.declared.arms.Reached.{Reached}
+use Rattle.in_out_regions.specs.array_regions.Arms.{always, past_arms, if_false}
+use Rattle.in_out_regions.specs.array_regions.References.{scalar}
+use Rattle.in_out_regions.specs.array_regions.Reads.{reads, maybe_reads}
+use Rattle.in_out_regions.specs.array_regions.Loops.{range_with}
+use Rattle.in_out_regions.specs.array_regions.Statement.{what_set}
+use Rattle.in_out_regions.specs.array_regions.Statement as regions
 use Rattle.in_out_regions.specs.Kinds.{all_in, first_reads}
-use Rattle.array_regions.specs.Calls.{Called}
+use Rattle.in_out_regions.specs.array_regions.Calls.{Called}
 use Rattle.in_out_regions.specs.Known.{KnownTree}
-use Rattle.in_out_regions.specs.Lists.{set_at, all_unless_overlapped}
+use Rattle.in_out_regions.specs.Lists.{all_unless_overlapped}
 use Rattle.in_out_regions.specs.Loops.{all_iterations, do_in}
 use Rattle.in_out_regions.specs.Statement.{list_of, stmt_in, only_in, what_in, else_in, at_stmt, at_list}
-use Rattle.laws_statements.specs.Good.{Ending}
-use Rattle.laws_statements.specs.Leads.{stmt_leads, list_leads}
-use Rattle.laws_statements.specs.CallsIn.{CallAt, Each, stmt_calls, list_calls}
-use Rattle.laws_statements.specs.Targets.{has_targets}
-use Rattle.laws_statements.specs.Activation.{Fit, Ended}
-use Rattle.laws_statements.proofs.Loops.{also}
-use Rattle.laws_statements.proofs.Lists.{own_of}
-use Rattle.laws_statements.proofs.Ranges.{StepIs}
-use Rattle.laws_statements.proofs.Tracks.{body_tracks}
-use Rattle.laws_regions.specs.Settings.{scene, Sound, is_plain, maybe_plain, tests_plain, has_plain}
+use Rattle.laws_analyses.specs.Statements.Good.{Ending}
+use Rattle.laws_analyses.specs.Statements.Leads.{stmt_leads, list_leads}
+use Rattle.call_graph.specs.CallsIn.{CallAt, Each, stmt_calls, list_calls}
+use Rattle.laws_analyses.specs.Statements.Targets.{has_targets}
+use Rattle.laws_analyses.specs.Statements.Activation.{Fit, Ended}
+use Rattle.laws_analyses.proofs.Statements.Loops.{also}
+use Rattle.laws_analyses.proofs.Statements.Lists.{own_of}
+use Rattle.laws_analyses.proofs.Statements.Ranges.{StepIs}
+use Rattle.laws_analyses.proofs.Statements.Tracks.{body_tracks}
+use Rattle.laws_analyses.specs.Regions.Settings.{scene, Sound, is_plain, maybe_plain, tests_plain, has_plain}
 use Rattle.laws_marks.specs.InFrames.{Frame, elements_in}
-use Rattle.laws_regions.specs.Shown.{Holds, Sharp, Shown}
-use Rattle.laws_regions.proofs.Traces.{trace_nil}
-use Rattle.laws_regions.proofs.Rules.{Goes, goes_ends, goes_breaks, goes_more, goes_at, goes_write}
-use Rattle.laws_regions.proofs.Looks.{IfGave, goes_first}
-use Rattle.laws_regions.proofs.Expressions.{Seen}
+use Rattle.laws_analyses.specs.Regions.Shown.{Holds, Sharp, Shown}
+use Rattle.laws_analyses.proofs.Regions.Traces.{trace_nil}
+use Rattle.laws_analyses.proofs.Regions.Rules.{Goes, goes_ends, goes_breaks, goes_more, goes_at, goes_write}
+use Rattle.laws_analyses.proofs.Regions.Looks.{IfGave, goes_first}
+use Rattle.laws_analyses.proofs.Regions.Expressions.{Seen}
 use Rattle.laws_marks.proofs.InFramed.{by_order}
-use Rattle.laws_regions.proofs.Showing.{finally_more}
-use Rattle.laws_regions.proofs.Standing.{Distinct, CallStands, found_each, stands_at}
-use Rattle.laws_regions.proofs.Moving.{AllEnd, stmt_moves, list_moves}
-use Rattle.laws_regions.proofs.Lists.{KeepsAt, Moved, Suffix, suffix_all, suffix_next}
-use Rattle.laws_regions.proofs.Statements.{RangeIs, range_looks, stmt_goes, body_goes}
+use Rattle.laws_analyses.proofs.Regions.Showing.{finally_more}
+use Rattle.laws_analyses.proofs.Regions.Standing.{Distinct, CallStands, found_each, stands_at}
+use Rattle.laws_analyses.proofs.Regions.Moving.{AllEnd, stmt_moves, list_moves}
+use Rattle.laws_analyses.proofs.Regions.Lists.{KeepsAt, Moved, Suffix, suffix_all, suffix_next}
+use Rattle.laws_analyses.proofs.Regions.Statements.{RangeIs, range_looks, stmt_goes, body_goes}
 use Rattle.laws_marks.specs.InShown.{first_read, FirstHolds, FirstSharp, FirstShown}
 use Rattle.laws_marks.specs.InUnits.{UnitsFit, AreOf, SetFits, SetsFit}
 use Rattle.laws_marks.specs.InKnowns.{known_in}
@@ -84,6 +84,7 @@ use Rattle.laws_marks.proofs.InArms.{logical_in, arms_all, arm_first, otherwise_
 use Rattle.laws_marks.proofs.InLists.{Both, Taken, ordered, row_first, Each_first, loose_first, list_first}
 use Rattle.laws_marks.proofs.InLoops.{Looped, Bodied, loop_first}
 use Rattle.laws_marks.proofs.InStanding.{StandsStmt, StandsParts, StandsList, StandsArms, StandsElse, InAt, in_at, in_within, in_next, in_arms, in_if, body_same, in_found}
+use Rattle.f77_ast.specs.Shapes.{is_return}
 
 -- more units are locked
 pub units_lock : (k : Frame) (locked : Locks) (u : ℕ) (f : Fault) → UnitsFit k locked → UnitsFit k (lock locked u f)

@@ -7,17 +7,17 @@ use Rattle.f77_ast.specs.declared.variable.Unit.{Unit as BlockUnit}
 use Rattle.f77_ast.specs.Symbols.{SymbolTree}
 use Rattle.call_graph.specs.declared.graph.Graph.{Graph}
 use Rattle.f77_meaning.specs.Modules.{known_of}
-use Rattle.scalar_phases.specs.Phases.{Analysis, analyses}
-use Rattle.array_regions.specs.Calls.{Callees as Summaries}
-use Rattle.region_phases.specs.Phases.{ModuleRegions, no_callees, with_regions, all_regions}
-use Rattle.region_phases.specs.InPhases.{ModuleIns, with_callee, ins_found, with_ins, found_in, all_ins}
-use Rattle.laws_statements.specs.CallsIn.{Each}
-use Rattle.laws_storage.specs.Programs.{IsLinked}
+use Rattle.loop_marker.specs.module_phases.ScalarPhases.{Analysis, analyses}
+use Rattle.in_out_regions.specs.array_regions.Calls.{Callees as Summaries}
+use Rattle.loop_marker.specs.module_phases.RegionPhases.{ModuleRegions, no_callees, with_regions, all_regions}
+use Rattle.loop_marker.specs.module_phases.InPhases.{ModuleIns, with_callee, ins_found, with_ins, found_in, all_ins}
+use Rattle.call_graph.specs.CallsIn.{Each}
+use Rattle.laws_programs.specs.Storage.Programs.{IsLinked}
 use Rattle.laws_analyses.proofs.CallLists.{each_joined}
 use Rattle.laws_analyses.proofs.Founds.{Calls}
 use Rattle.laws_analyses.proofs.Passes.{NoAnalysis, name_of}
-use Rattle.laws_regions.specs.Accepted.{after as reads_after, behind, summaries_of as reads_of}
-use Rattle.laws_regions.proofs.Summaries.{found_back, found_is, each_back, behind_here, is_behind, Stand, stands_at, all_stand, once, summaries_are as reads_are}
+use Rattle.laws_analyses.specs.Regions.Accepted.{after as reads_after, behind, summaries_of as reads_of}
+use Rattle.laws_analyses.proofs.Regions.Summaries.{found_back, found_is, each_back, behind_here, is_behind, Stand, stands_at, all_stand, once, summaries_are as reads_are}
 use Rattle.laws_marks.specs.InAccepted.{after, summaries_of}
 
 module _ (u : List BlockUnit) where

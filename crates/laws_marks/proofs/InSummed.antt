@@ -1,22 +1,23 @@
 -- What callers see of IN regions, on units.
 use Rattle.std.proofs.Common.{◌≡◌, ℕ, ℤ, Bool, true, false, List, ◌++◌, Some}
 use Rattle.f77_ast.specs.declared.variable.Variable.{Variable}
-use Rattle.transformer_algebra.specs.Claims.{Scene}
-use Rattle.call_translation.specs.Scopes.{ScopeTree}
-use Rattle.region_sets.specs.declared.region.Access.{Access}
-use Rattle.region_sets.specs.declared.region.Access.TheVariants.{In as AtIn}
-use Rattle.region_sets.specs.declared.region.Region.{Region}
-use Rattle.region_sets.specs.Sets.{unite_all}
-use Rattle.region_sets.specs.Claims.{Places, AreByOrder, LiesInSet, IsSharp, IsSharpSet}
-use Rattle.region_sets.proofs.SetLaws.{gathered_units, gathered_sharp}
-use Rattle.array_regions.specs.Entry.{symbols_reads, goes_out, locals, for_callers, seen}
+use Rattle.preconditions.specs.transformer_algebra.Claims.{Scene}
+use Rattle.preconditions.specs.call_translation.Scopes.{ScopeTree}
+use Rattle.in_out_regions.specs.region_sets.declared.region.Access.{Access}
+use Rattle.in_out_regions.specs.region_sets.declared.region.Access.TheVariants.{In as AtIn}
+use Rattle.in_out_regions.specs.region_sets.declared.region.Region.{Region}
+use Rattle.in_out_regions.specs.region_sets.Sets.{unite_all}
+use Rattle.in_out_regions.specs.region_sets.Claims.{Places, AreByOrder, LiesInSet, IsSharp, IsSharpSet}
+use Rattle.in_out_regions.proofs.RegionSets.SetLaws.{gathered_units, gathered_sharp}
+use Rattle.in_out_regions.specs.array_regions.Entry.{symbols_reads, locals, for_callers, seen}
 use Rattle.in_out_regions.specs.Kinds.{all_in}
 use Rattle.in_out_regions.specs.Modules.{summary_of}
-use Rattle.laws_regions.proofs.Callers.{in_seen, of_seen, callers_lie, callers_sharp}
+use Rattle.laws_analyses.proofs.Regions.Callers.{in_seen, of_seen, callers_lie, callers_sharp}
+use Rattle.call_graph.specs.Visible.{is_visible_to_callers}
 
 module _ (m : Scene) (at : Places) (by : AreByOrder at) (x : ℕ → ℤ) where
   -- a unit of a variable that callers see
-  pub summary_lies : (s : ScopeTree) (rs : List Region) (u : ℕ) → ((v : Variable) (phi : ℕ → ℤ) → at v phi ≡ Some u → goes_out s.symbols v ≡ true) → LiesInSet m at AtIn (all_in (symbols_reads s.symbols s) ++ rs) x u → LiesInSet m at AtIn (summary_of s rs) x u
+  pub summary_lies : (s : ScopeTree) (rs : List Region) (u : ℕ) → ((v : Variable) (phi : ℕ → ℤ) → at v phi ≡ Some u → is_visible_to_callers s.symbols v ≡ true) → LiesInSet m at AtIn (all_in (symbols_reads s.symbols s) ++ rs) x u → LiesInSet m at AtIn (summary_of s rs) x u
   summary_lies s rs u out l =
       let all = unite_all (all_in (symbols_reads s.symbols s) ++ rs) in
       let g = gathered_units (all_in (symbols_reads s.symbols s) ++ rs) m at by AtIn x u l in

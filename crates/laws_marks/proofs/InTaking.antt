@@ -11,27 +11,27 @@ use Rattle.f77_ast.specs.Writes.{Locks}
 use Rattle.f77_ast.specs.Plans.{Flow, Normal, Jump, Returned, Stopped}
 use Rattle.f77_meaning.specs.Accesses.{is_read, is_written, is_read_first, is_entered}
 use Rattle.affine_forms.specs.Claims.{numbers_of}
-use Rattle.transformer_algebra.specs.Laws.{In, here, there}
-use Rattle.transformer_algebra.proofs.CellLaws.{nat_same}
-use Rattle.region_sets.specs.declared.region.Access.{Access}
-use Rattle.region_sets.specs.declared.region.Access.TheVariants.{Read, Write, In as AtIn, Out}
-use Rattle.region_sets.specs.declared.region.Region.{Region}
-use Rattle.region_sets.specs.Regions.{any_weak}
-use Rattle.region_sets.specs.Sets.{unite_all}
-use Rattle.region_sets.specs.Claims.{LiesIn, IsSharp}
-use Rattle.region_sets.proofs.SetLaws.{gathered_units, gathered_sharp}
-use Rattle.region_sets.proofs.StepLaws.{in_map, of_map}
+use Rattle.preconditions.specs.transformer_algebra.Laws.{In, here, there}
+use Rattle.in_out_regions.specs.region_sets.declared.region.Access.{Access}
+use Rattle.in_out_regions.specs.region_sets.declared.region.Access.TheVariants.{Read, Write, In as AtIn, Out}
+use Rattle.in_out_regions.specs.region_sets.declared.region.Region.{Region}
+use Rattle.in_out_regions.specs.region_sets.Regions.{any_weak}
+use Rattle.in_out_regions.specs.region_sets.Sets.{unite_all}
+use Rattle.in_out_regions.specs.region_sets.Claims.{LiesIn, IsSharp}
+use Rattle.in_out_regions.proofs.RegionSets.SetLaws.{gathered_units, gathered_sharp}
+use Rattle.in_out_regions.proofs.RegionSets.StepLaws.{in_map, of_map}
 use Rattle.in_out_regions.specs.Kinds.{as_in, all_in, is_read as is_read_kind, first_reads}
-use Rattle.laws_regions.specs.Settings.{scene, elements_at}
-use Rattle.laws_regions.specs.Shown.{accessed, Holds, Sharp, Finally, Shown}
-use Rattle.laws_regions.proofs.Traces.{entered_both, hidden_parts}
-use Rattle.laws_regions.proofs.Holding.{set_left, set_right, sharp_append}
-use Rattle.laws_regions.proofs.Showing.{finally_more}
+use Rattle.laws_analyses.specs.Regions.Settings.{scene, elements_at}
+use Rattle.laws_analyses.specs.Regions.Shown.{accessed, Holds, Sharp, Finally, Shown}
+use Rattle.laws_analyses.proofs.Regions.Traces.{entered_both, hidden_parts}
+use Rattle.laws_analyses.proofs.Regions.Holding.{set_left, set_right, sharp_append}
+use Rattle.laws_analyses.proofs.Regions.Showing.{finally_more}
 use Rattle.laws_marks.specs.InFrames.{Frame, elements_in}
 use Rattle.laws_marks.specs.InShown.{first_read, FirstHolds, FirstSharp, IsFree, FirstShown}
 use Rattle.laws_marks.specs.InUnits.{AreOf}
 use Rattle.laws_marks.proofs.InFramed.{by_order, sharp_in, set_in}
 use Rattle.laws_marks.proofs.InFirsts.{written_split, unwritten_both, first_left, first_right, first_is_read, read_is_first, lost_none, lost_split, first_cases}
+use Rattle.fx_lists.proofs.Numbers.{same_is as nat_same}
 
 -- nothing is written, and no module is entered
 pub record NoWrites (es : List Event) : Type 0 where

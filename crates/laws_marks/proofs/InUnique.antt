@@ -10,17 +10,20 @@ use Rattle.std.proofs.lemmas.Bool.{and_parts}
 use Rattle.affine_systems.specs.declared.row.System.{System}
 use Rattle.f77_ast.specs.declared.variable.Variable.{Variable}
 use Rattle.f77_ast.specs.declared.variable.Variable.TheVariants.{Own, Block, Saved}
-use Rattle.f77_results.specs.Variables.{variable_text, variable_cmp}
-use Rattle.transformer_algebra.specs.Laws.{In, here, there}
-use Rattle.region_sets.specs.declared.region.Access.TheVariants.{Write}
-use Rattle.region_sets.specs.declared.region.Region.{Region}
-use Rattle.region_sets.specs.Regions.{remade, hull_of}
-use Rattle.region_sets.specs.Sets.{access_number, region_cmp, live_pieces, with_pieces, with_region, with_live, with_regions, live, unite_all}
-use Rattle.region_sets.specs.Unite.{all_within, unite}
-use Rattle.region_sets.specs.Lists.{inexact, all_inexact}
+use Rattle.f77_ast.specs.Variables.{variable_text, variable_cmp, same_variable}
+use Rattle.preconditions.specs.transformer_algebra.Laws.{In, here, there}
+use Rattle.in_out_regions.specs.region_sets.declared.region.Access.TheVariants.{Write}
+use Rattle.in_out_regions.specs.region_sets.declared.region.Region.{Region}
+use Rattle.in_out_regions.specs.region_sets.Regions.{remade, hull_of}
+use Rattle.in_out_regions.specs.region_sets.Sets.{access_number, region_cmp, live_pieces, with_pieces, with_region, with_live, with_regions, live, unite_all}
+use Rattle.in_out_regions.specs.region_sets.Unite.{all_within, unite}
+use Rattle.in_out_regions.specs.region_sets.Lists.{inexact, all_inexact}
 use Rattle.in_out_regions.specs.Kinds.{is_write}
-use Rattle.in_out_regions.specs.Writes.{same_variable, is_write_of, write_of}
-use Rattle.laws_marks.proofs.InRests.{write_kind, same_order}
+use Rattle.in_out_regions.specs.Writes.{is_write_of, write_of}
+use Rattle.laws_marks.proofs.InRests.{write_kind}
+use Rattle.in_out_regions.proofs.RegionSets.SetLaws.{with_any as maybe_of}
+use Rattle.fx_lists.proofs.Orders.{then_nothing}
+use Rattle.f77_ast.proofs.SameLaws.{cmp_if as same_order}
 
 -- ---- the order of regions
 
@@ -28,11 +31,6 @@ abbrev key : Variable → List ℕ
 key (Own n) = 0 ∷ (n ∷ [])
 key (Block b) = 1 ∷ variable_text (Block b)
 key (Saved s x) = 1 ∷ variable_text (Saved s x)
-
-then_nothing : (o : Ordering) → ordering_then o Equal ≡ o
-then_nothing Less = refl
-then_nothing Equal = refl
-then_nothing Greater = refl
 
 by_key : (v w : Variable) → slice_cmp nat_cmp (key v) (key w) ≡ variable_cmp v w
 by_key (Own m) (Own n) = then_nothing (nat_cmp m n)
@@ -61,7 +59,7 @@ reversed Greater e = cc
 
 -- ---- sets in order
 
-abbrev Ahead : Region → List Region → Type 0
+abbrev pub Ahead : Region → List Region → Type 0
 Ahead r qs = (q : Region) → In q qs → region_cmp r q ≡ Less
 
 abbrev pub Ordered : List Region → Type 0
@@ -98,11 +96,6 @@ put_ordered r (q ∷ qs) h = go (region_cmp r q) refl (put_ordered r qs h.1)
     go Less e ih = (ahead_more r q qs e (λ w i. region_total.trans r q w e (h.0 w i)), h)
     go Equal e ih = (united_of (λ w. Ahead w qs) (λ w x ss k. k) q r h.0 (λ w i. region_total.congr r q w e ∙ h.0 w i), h.1)
     go Greater e ih = (put_ahead q r qs h.0 (reversed (region_cmp q r) (sym e ∙ region_total.antisymm r q)), ih)
-
--- the pieces that are left, or none
-maybe_of : (P : List Region → Type 0) (r : Region) (ss : List System) (k : Region → List Region) (none : List Region) → P (k (remade r r.exact ss)) → P none → P (with_pieces r ss k none)
-maybe_of P r [] k none h n = n
-maybe_of P r (s ∷ ss) k none h n = h
 
 all_ordered : (rs qs : List Region) → Ordered qs → Ordered (with_regions qs rs)
 all_ordered [] qs h = h

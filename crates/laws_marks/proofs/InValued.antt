@@ -6,12 +6,12 @@ use Rattle.f77_ast.specs.DeclTrees.{SettingTree, DeclTree, ModuleTree, ParsedTre
 use Rattle.f77_ast.specs.DeclTrees as decl
 use Rattle.f77_ast.specs.declared.constant.Constant.{Constant}
 use Rattle.f77_ast.specs.declared.constant.Constant.TheVariants as constant
-use Rattle.f77_ast.specs.declared.constant.Worth.{Worth}
-use Rattle.f77_ast.specs.declared.constant.Worth.TheVariants.{Is, Faults, Varies}
-use Rattle.f77_ast.specs.Constants.{worth}
-use Rattle.refusal_codes.specs.declared.code.Code.TheVariants.{BadParameter, CommonTwice, RealName}
-use Rattle.refusal_codes.specs.declared.refusal.Refusal.{Refusal}
-use Rattle.refusal_codes.specs.Refusals.{refuse_if}
+use Rattle.f77_ast.specs.declared.constant.ConstantValue.{ConstantValue}
+use Rattle.f77_ast.specs.declared.constant.ConstantValue.TheVariants.{Is, Faults, Varies}
+use Rattle.f77_ast.specs.Constants.{const_value}
+use Rattle.fx_lists.specs.declared.code.Code.TheVariants.{BadParameter, CommonTwice, RealName}
+use Rattle.fx_lists.specs.declared.refusal.Refusal.{Refusal}
+use Rattle.fx_lists.specs.Refusals.{refuse_if}
 use Rattle.f77_ast.specs.Symbols.{SymbolTree, number_from}
 use Rattle.f77_names.specs.declared.functions.Function.{Function}
 use Rattle.f77_names.specs.declared.kinds.Kind.{Kind}
@@ -24,17 +24,18 @@ use Rattle.f77_names.specs.Entries.{EntryTree, fresh, find, entry_names, seen, c
 use Rattle.f77_names.specs.Declaring.{Told, dummy_told, dummies_told, decls_told}
 use Rattle.f77_names.specs.Tables.{NameTable, no_names, entry_kind, is_real, kind_in, in_common_too, check_entry, check_entries, told_of, table_of, check_names}
 use Rattle.f77_names.proofs.NamesLaws.{number_from-least}
-use Rattle.f77_checks.specs.Parameters.{Valued, is_bad_parameter, given_typed, given_worth, setting_valued, settings_valued, decl_valued, decls_valued}
+use Rattle.f77_checks.specs.Parameters.{Valued, is_bad_parameter, given_typed, given_const_value, setting_valued, settings_valued, decl_valued, decls_valued}
 use Rattle.storage_layout.specs.Symbols.{valued}
-use Rattle.laws_tables.proofs.Answers.{Answered, lines_in, names_in, found_none, values_none, names_none}
-use Rattle.laws_tables.proofs.DummiesTold.{found_in}
-use Rattle.laws_tables.proofs.FoundNames.{find_changed}
-use Rattle.laws_tables.proofs.KeptNames.{Said, with_said, Typed, Shaped, Shared, Parameter, Saved, Initial, Nothing}
-use Rattle.laws_tables.proofs.NameRefusals.{entries_back}
-use Rattle.laws_tables.proofs.StatementRefusals.{noted_none}
-use Rattle.laws_tables.proofs.Values.{chosen, as_chosen, is_taken, judged, shape_noted, settings_back, values_back}
-use Rattle.laws_layout.proofs.DifferLaws.{names_differ}
+use Rattle.laws_programs.proofs.SymbolTables.Answers.{Answered, lines_in, names_in, found_none, values_none, names_none}
+use Rattle.laws_programs.proofs.SymbolTables.DummiesTold.{found_in}
+use Rattle.laws_programs.proofs.SymbolTables.FoundNames.{find_changed}
+use Rattle.laws_programs.proofs.SymbolTables.KeptNames.{Said, with_said, Typed, Shaped, Shared, Parameter, Saved, Initial, Nothing}
+use Rattle.laws_programs.proofs.SymbolTables.NameRefusals.{entries_back}
+use Rattle.laws_programs.proofs.SymbolTables.Values.{chosen, as_chosen, is_taken, judged, shape_noted, settings_back, values_back}
+use Rattle.laws_programs.proofs.Layouts.DifferLaws.{names_differ}
 use Rattle.laws_marks.proofs.InMarks.{IsMild, IsSet, Sets, SomeSets, decls_keep, stmts_keep}
+use Rattle.laws_programs.proofs.Storage.ParameterLaws.{same_name, valued_kind}
+use Rattle.storage_layout.proofs.EarlyLaws.{noted_none}
 
 -- ---- names that are found
 
@@ -76,15 +77,6 @@ found_at k (d ∷ es) x j e n s = go (bytes_eq x d.name) n (λ i q. found_at (su
         ih i (ap (λ i. slice_get (d ∷ es) i) (sym one) ∙ s)
 
 -- ---- PARAMETERs are names that PARAMETER statements set
-
-same_name : (w : Said) (e : EntryTree) → (with_said w e).name ≡ e.name
-same_name (Typed s) e = refl
-same_name (Shaped line b bs) e = refl
-same_name (Shared line) e = refl
-same_name Parameter e = refl
-same_name Saved e = refl
-same_name Initial e = refl
-same_name Nothing e = refl
 
 same_mark : (w : Said) → IsMild w → (e : EntryTree) → (with_said w e).parameter ≡ e.parameter
 same_mark (Typed s) q e = refl
@@ -151,10 +143,6 @@ none_real ks (x ∷ es) o q y e h = go (bytes_eq y x.name) h (λ i. none_real ks
     go false i ih = ih i
 
 -- ---- values
-
-valued_kind : (ks : List Kind) (c : Constant) (e : EntryTree) → entry_kind ks (with_value c e) ≡ entry_kind ks e
-unfolding entry_kind
-valued_kind ks c e = refl
 
 kind_found : (t : NameTable) (x : List ℕ) (e : EntryTree) → find x t.entries ≡ Some e → kind_in t x ≡ entry_kind t.kinds e
 unfolding kind_in
@@ -223,10 +211,10 @@ module _ (ks : List Kind) where
     typed Log (constant.Log b) line v k e h = given (constant.Log b) v h
     typed Real c line v k e h = real_kept v k h
 
-    of_worth : (w : Worth) (line : ℕ) (v : Valued) → (given_worth x w line v).found ≡ None → Stand Next v → Stand R (given_worth x w line v)
-    of_worth Varies line v e h = absurd (bad line v e)
-    of_worth Faults line v e h = absurd (bad line v e)
-    of_worth (Is c) line v e h = typed (kind_in v.table x) c line v refl e h
+    of_const_value : (w : ConstantValue) (line : ℕ) (v : Valued) → (given_const_value x w line v).found ≡ None → Stand Next v → Stand R (given_const_value x w line v)
+    of_const_value Varies line v e h = absurd (bad line v e)
+    of_const_value Faults line v e h = absurd (bad line v e)
+    of_const_value (Is c) line v e h = typed (kind_in v.table x) c line v refl e h
 
   -- what was found of other statements changes no name
   judged_stand : (R : List ℕ → Type 0) (s : SettingTree) (line : ℕ) (v : Valued) → Stand R v → Stand R (judged s line v)
@@ -234,7 +222,7 @@ module _ (ks : List Kind) where
 
   chosen_stand : (R : List ℕ → Type 0) (b : Bool) (s : SettingTree) (line : ℕ) (v : Valued) → (chosen b s line v).found ≡ None → Stand (λ y. (s.name ≡ y) ⊎ R y) v → Stand R (chosen b s line v)
   chosen_stand R true s line v e h = absurd (bad R s.name line (shape_noted s line v) e)
-  chosen_stand R false s line v e h = of_worth R s.name (worth (value_among v.table.entries) s.value) line (judged s line v) e (judged_stand (λ y. (s.name ≡ y) ⊎ R y) s line v h)
+  chosen_stand R false s line v e h = of_const_value R s.name (const_value (value_among v.table.entries) s.value) line (judged s line v) e (judged_stand (λ y. (s.name ≡ y) ⊎ R y) s line v h)
 
   setting_stand : (R : List ℕ → Type 0) (s : SettingTree) (line : ℕ) (v : Valued) → (setting_valued s line v).found ≡ None → Stand (λ y. (s.name ≡ y) ⊎ R y) v → Stand R (setting_valued s line v)
   setting_stand R s line v e h = subst (Stand R) (sym (as_chosen s line v)) (chosen_stand R (is_taken s v) s line v (ap (λ (z : Valued). z.found) (sym (as_chosen s line v)) ∙ e) h)

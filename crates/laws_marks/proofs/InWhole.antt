@@ -8,23 +8,23 @@ use Rattle.call_graph.specs.declared.graph.Graph.{Graph}
 use Rattle.f77_meaning.specs.Modules.{Known}
 use Rattle.f77_meaning.specs.Linked.{program_of}
 use Rattle.f77_meaning.specs.Claimed.{InEveryRun}
-use Rattle.call_translation.specs.Sites.{HoldingSite}
-use Rattle.transformers.specs.Given.{Callees}
-use Rattle.transformers.specs.Modules.{transformers_of}
-use Rattle.region_sets.specs.declared.region.Region.{Region}
-use Rattle.call_equations.specs.Sides.{changed_cells}
-use Rattle.array_regions.specs.Calls.{Callees as Summaries}
-use Rattle.array_regions.specs.Statement.{list_set}
-use Rattle.laws_statements.specs.CallsIn.{CallAt, Each, list_calls}
-use Rattle.laws_calls.specs.Parts.{Blocks, Part, Sane}
-use Rattle.laws_calls.specs.ProgramLaws.{routines, Analysed, AnalysedParts, AnalysedProgram}
-use Rattle.laws_calls.specs.Sites.{lookup}
+use Rattle.preconditions.specs.call_translation.Sites.{HoldingSite}
+use Rattle.preconditions.specs.transformers.Given.{Callees}
+use Rattle.preconditions.specs.transformers.Modules.{transformers_of}
+use Rattle.in_out_regions.specs.region_sets.declared.region.Region.{Region}
+use Rattle.in_out_regions.specs.call_equations.Sides.{changed_cells}
+use Rattle.in_out_regions.specs.array_regions.Calls.{Callees as Summaries}
+use Rattle.in_out_regions.specs.array_regions.Statement.{list_set}
+use Rattle.call_graph.specs.CallsIn.{CallAt, Each, list_calls}
+use Rattle.laws_analyses.specs.Calls.Parts.{Blocks, Part, Sane}
+use Rattle.laws_analyses.specs.Calls.ProgramLaws.{routines, Analysed, AnalysedParts, AnalysedProgram}
+use Rattle.laws_analyses.specs.Calls.Sites.{lookup}
 use Rattle.laws_lines.proofs.RuleVars.{IsDone}
-use Rattle.laws_regions.specs.Entries.{Enters}
-use Rattle.laws_regions.specs.Programs.{called_in, regions_in_part, Joins, SendsFrom, RegularPart, RegularParts}
-use Rattle.laws_regions.proofs.Carrying.{LinkLaws}
-use Rattle.laws_regions.proofs.Programs as base
-use Rattle.laws_regions.proofs.Whole.{part_goes}
+use Rattle.laws_analyses.specs.Regions.Entries.{Enters}
+use Rattle.laws_analyses.specs.Regions.Programs.{called_in, regions_in_part, Joins, SendsFrom, RegularPart, RegularParts}
+use Rattle.laws_analyses.proofs.Regions.Carrying.{LinkLaws}
+use Rattle.laws_analyses.proofs.Regions.Programs as base
+use Rattle.laws_analyses.proofs.Regions.Whole.{part_goes}
 use Rattle.laws_marks.specs.InLaid.{Laid, NamesGo}
 use Rattle.laws_marks.specs.InPrograms.{ins_for, EachInHolds}
 use Rattle.laws_marks.proofs.InCarried.{may_in, summary_narrowed, link_named, call_fit}

@@ -16,34 +16,30 @@ use Rattle.f77_meaning.specs.Areas.{is_own_unit}
 use Rattle.f77_meaning.specs.Linked.{numbering}
 use Rattle.f77_meaning.specs.Accesses.{is_written}
 use Rattle.affine_forms.specs.Claims.{numbers_of}
-use Rattle.transformer_algebra.specs.Claims.{AtStart}
-use Rattle.transformer_algebra.specs.Laws.{In, here, there}
-use Rattle.region_sets.specs.declared.region.Access.TheVariants.{Write}
-use Rattle.region_sets.specs.declared.region.Region.{Region}
-use Rattle.region_sets.specs.Naming.{in_rows}
-use Rattle.region_sets.specs.Claims.{HoldsSome, LiesInSet}
-use Rattle.region_sets.proofs.NameLaws.{rows_agree}
+use Rattle.preconditions.specs.transformer_algebra.Claims.{AtStart}
+use Rattle.preconditions.specs.transformer_algebra.Laws.{In, here, there}
+use Rattle.in_out_regions.specs.region_sets.declared.region.Access.TheVariants.{Write}
+use Rattle.in_out_regions.specs.region_sets.declared.region.Region.{Region}
+use Rattle.in_out_regions.specs.region_sets.Naming.{in_rows}
+use Rattle.in_out_regions.specs.region_sets.Claims.{HoldsSome, LiesInSet}
+use Rattle.in_out_regions.proofs.RegionSets.NameLaws.{rows_agree}
 use Rattle.in_out_regions.specs.Kinds.{is_write}
 use Rattle.in_out_regions.specs.Writes.{write_of, is_write_beside, is_overlapped}
 use Rattle.in_out_regions.specs.ListClaims.{IsDescribed, IsWithinWrites}
-use Rattle.laws_regions.specs.Settings.{scene}
-use Rattle.laws_regions.specs.Shown.{is_lost, Holds}
+use Rattle.laws_analyses.specs.Regions.Settings.{scene}
+use Rattle.laws_analyses.specs.Regions.Shown.{is_lost, Holds}
 use Rattle.laws_marks.specs.InFrames.{Frame, elements_in}
 use Rattle.laws_marks.specs.InShown.{IsFree}
 use Rattle.laws_marks.specs.InUnits.{UnitsFit, SetFits}
 use Rattle.laws_marks.proofs.InFramed.{set_in}
 use Rattle.laws_marks.proofs.InFirsts.{not_so, lost_known}
+use Rattle.laws_analyses.proofs.Regions.ClaimLaws.{some_piece as some_point}
 
 -- a WRITE region of a variable that shares units with another
 pub overlapped_by : (ss : List SymbolTree) (ws : List Region) (v : Variable) (w : Region) → In w ws → w.kind ≡ Write → overlap ss w.variable v ≡ true → is_overlapped ss ws v ≡ true
 overlapped_by ss [] v w i k o = elim i [ ]
 overlapped_by ss (u ∷ ws) v w here k o = or_left (is_write_beside ss v u) (is_overlapped ss ws v) (ap (λ b. b && overlap ss u.variable v) (ap is_write k) ∙ o)
 overlapped_by ss (u ∷ ws) v w (there i) k o = or_right (is_write_beside ss v u) (is_overlapped ss ws v) (overlapped_by ss ws v w i k o)
-
-pub some_point : (p : Point) (s : System) (ss : List System) → In s ss → HoldsAll p s.rows → HoldsSome p ss
-some_point p s [] i h = elim i [ ]
-some_point p s (u ∷ ss) here h = inl h
-some_point p s (u ∷ ss) (there i) h = inr (some_point p s ss i h)
 
 -- with other subscripts
 abbrev pub resubscripted : Point → (ℕ → ℤ) → Var → ℤ

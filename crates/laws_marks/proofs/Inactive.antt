@@ -13,7 +13,7 @@ use Rattle.f77_ast.specs.Symbols.{SymbolTree}
 use Rattle.call_graph.specs.declared.graph.Graph.{Graph}
 use Rattle.f77_meaning.specs.Modules.{known_of}
 use Rattle.f77_meaning.specs.Linked.{program_of}
-use Rattle.laws_statements.proofs.Ends.{more}
+use Rattle.laws_analyses.proofs.Statements.Ends.{more}
 use Rattle.laws_programs.specs.Programs.{IsProgram}
 use Rattle.laws_analyses.specs.JumpLaws.{JumpsStayInside}
 use Rattle.laws_analyses.specs.ScalarLaws.{AcceptedDataStaysInLocals}

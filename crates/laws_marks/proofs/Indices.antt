@@ -12,42 +12,26 @@ use Rattle.affine_systems.specs.Points.{Point, Holds, value}
 use Rattle.affine_systems.specs.Tidy.{is_unit}
 use Rattle.affine_systems.proofs.TermLaws.{var_eq-true, true-var_eq}
 use Rattle.affine_systems.proofs.ElimLaws.{value-combined}
-use Rattle.system_renaming.specs.Renaming.{naming, renamed_by}
+use Rattle.preconditions.specs.transformer_algebra.Renaming.{naming, renamed_by}
 use Rattle.affine_forms.specs.declared.affine.Affine.{Affine}
 use Rattle.affine_forms.specs.Claims.{form_value}
 use Rattle.affine_forms.specs.Comparisons.{var_form, at_most_row, below_row}
 use Rattle.affine_forms.proofs.RowLaws.{at_most_holds, below_holds}
-use Rattle.transformer_algebra.specs.Cells.{has}
-use Rattle.transformer_algebra.specs.Loops.{goes_up, terms_stay, within_row, beyond_row}
-use Rattle.transformer_algebra.specs.Claims.{Scene, AtStart, Means, NotBeyond}
-use Rattle.transformer_algebra.proofs.CellLaws.{nat_same, nat_eq_same, clashes}
-use Rattle.transformer_algebra.proofs.TurnLaws.{kept_chain}
-use Rattle.region_sets.specs.declared.range.Range.{Range}
-use Rattle.region_sets.specs.Naming.{in_terms}
-use Rattle.region_sets.specs.Claims.{Iteration, Begins}
-use Rattle.region_sets.proofs.NameLaws.{terms_agree}
+use Rattle.preconditions.specs.transformer_algebra.Cells.{has}
+use Rattle.preconditions.specs.transformer_algebra.Loops.{goes_up, terms_stay, within_row, beyond_row}
+use Rattle.preconditions.specs.transformer_algebra.Claims.{Scene, AtStart, Means, NotBeyond}
+use Rattle.preconditions.proofs.TransformerAlgebra.TurnLaws.{kept_chain}
+use Rattle.in_out_regions.specs.region_sets.declared.range.Range.{Range}
+use Rattle.in_out_regions.specs.region_sets.Naming.{in_terms}
+use Rattle.in_out_regions.specs.region_sets.Claims.{Iteration, Begins}
+use Rattle.in_out_regions.proofs.RegionSets.NameLaws.{terms_agree}
+use Rattle.in_out_regions.proofs.RegionSets.LoopLaws.{within_holds as within_so, at_most_back, within_back, offset, Offset}
+use Rattle.in_out_regions.proofs.ArrayRegions.Exact.{var_value}
+use Rattle.laws_analyses.proofs.Regions.Conditions.{below_back}
+use Rattle.fx_lists.proofs.Numbers.{same_is as nat_same, nat_eq_same}
+use Rattle.fx_lists.proofs.Booleans.{clash as clashes}
 
 -- ---- rows
-
-pub within_so : (s : ℤ) (f g : Affine) (p : Point) → NotBeyond (goes_up s) (form_value p f) (form_value p g) → Holds p (within_row s f g)
-within_so s f g p h = go (goes_up s) h
-  where
-    go : (b : Bool) → NotBeyond b (form_value p f) (form_value p g) → Holds p (if b then at_most_row f g else at_most_row g f)
-    go true k = at_most_holds f g p k
-    go false k = at_most_holds g f p k
-
-at_most_back : (f g : Affine) (p : Point) → Holds p (at_most_row f g) → form_value p f ≤ℤ form_value p g
-at_most_back f g p h = let v = value-combined p (pos 1) f.terms (negsuc 0) g.terms in omega (arith, ints, v, h)
-
-below_back : (f g : Affine) (p : Point) → Holds p (below_row f g) → (form_value p f +ℤ pos 1) ≤ℤ form_value p g
-below_back f g p h = let v = value-combined p (pos 1) f.terms (negsuc 0) g.terms in omega (arith, ints, v, h)
-
-pub within_back : (s : ℤ) (f g : Affine) (p : Point) → Holds p (within_row s f g) → NotBeyond (goes_up s) (form_value p f) (form_value p g)
-within_back s f g p h = go (goes_up s) h
-  where
-    go : (b : Bool) → Holds p (if b then at_most_row f g else at_most_row g f) → NotBeyond b (form_value p f) (form_value p g)
-    go true k = at_most_back f g p k
-    go false k = at_most_back g f p k
 
 -- strictly before, in the direction of the step
 abbrev pub Before : Bool → ℤ → ℤ → Type 0
@@ -69,21 +53,7 @@ beyond_back s f g p h = go (goes_up s) h
     go true k = below_back g f p k
     go false k = below_back f g p k
 
-pub var_value : (v : Var) (p : Point) → form_value p (var_form v) ≡ p v
-var_value v p = omega (arith, ints)
-
 -- ---- steps of 1 or -1
-
-record Offset (a n : ℤ) : Type 0 where
-  by : ℕ
-  is_it : n ≡ a +ℤ pos by
-
-offset : (a n : ℤ) → a ≤ℤ n → Offset a n
-offset a n h = go (n -ℤ a) refl
-  where
-    go : (z : ℤ) → n -ℤ a ≡ z → Offset a n
-    go (pos k) e = record { by = k; is_it = omega (arith, ints) }
-    go (negsuc k) e = absurd (omega (arith, ints))
 
 -- a number from the first to one before the k-th is one of those before it
 pub record Place (a s m : ℤ) (k : ℕ) : Type 0 where

@@ -13,10 +13,10 @@ use Rattle.f77_ast.specs.Symbols.{SymbolTree}
 use Rattle.f77_ast.specs.Units.{units_in}
 use Rattle.f77_ast.specs.Shared.{symbol_at}
 use Rattle.f77_names.specs.Entries.{EntryTree}
-use Rattle.storage_groups.specs.declared.seat.Home.{Home}
-use Rattle.storage_groups.specs.declared.seat.Home.TheVariants.{Block, Own}
-use Rattle.storage_groups.specs.declared.seat.Seat.{Seat}
-use Rattle.storage_data.specs.Runs.{runs_of}
+use Rattle.laws_programs.specs.storage_data.declared.offset_node.Home.{Home}
+use Rattle.laws_programs.specs.storage_data.declared.offset_node.Home.TheVariants.{Block, Own}
+use Rattle.laws_programs.specs.storage_data.declared.offset_node.OffsetNode.{OffsetNode}
+use Rattle.laws_programs.specs.storage_data.Runs.{runs_of}
 use Rattle.storage_layout.specs.Groups.{is_own, sits_in, keeps, some_keeps}
 use Rattle.storage_layout.specs.Symbols.{symbols_of}
 use Rattle.storage_layout.specs.Table.{home_place, place_in, unless_dummy, unless_value, is_kept, is_kept_at, is_saved, symbol_of}
@@ -27,23 +27,22 @@ use Rattle.f77_meaning.specs.Linked.{or_else, or_empty, content_of, initial_in, 
 use Rattle.f77_meaning.specs.Laws.{area_of}
 use Rattle.f77_meaning.proofs.InitialLaws.{own_units_begin_unset}
 use Rattle.f77_meaning.proofs.LinkedLaws.{linked_have_blocks}
-use Rattle.f77_meaning.proofs.ModuleLaws.{numbered_place}
-use Rattle.laws_tables.proofs.Answers.{Answered, names_in, layout_in, answered_by}
-use Rattle.laws_tables.proofs.EntryLaws.{entry_of}
-use Rattle.laws_layout.proofs.EndLaws.{count_shared}
+use Rattle.laws_programs.proofs.SymbolTables.Answers.{Answered, names_in, layout_in, answered_by}
+use Rattle.laws_programs.proofs.SymbolTables.EntryLaws.{entry_of}
+use Rattle.laws_programs.proofs.Layouts.EndLaws.{count_shared}
 use Rattle.laws_programs.specs.Programs.{IsProgram}
-use Rattle.laws_storage.specs.CellLaws.{units}
-use Rattle.laws_storage.specs.Initial.{DataLies}
-use Rattle.laws_storage.specs.Programs.{IsModule, known}
-use Rattle.laws_storage.proofs.BeginLaws.{data_lies_in_variables}
-use Rattle.laws_storage.proofs.LocalLaws.{next_symbol}
-use Rattle.laws_storage.proofs.ModuleLaws.{own_known}
+use Rattle.laws_programs.specs.Storage.CellLaws.{units}
+use Rattle.laws_programs.specs.Storage.Initial.{DataLies}
+use Rattle.laws_programs.specs.Storage.Programs.{IsModule, known}
+use Rattle.laws_programs.proofs.Storage.BeginLaws.{data_lies_in_variables}
+use Rattle.laws_programs.proofs.Storage.ModuleLaws.{own_known}
 use Rattle.laws_analyses.specs.ScalarLaws.{AcceptedDataStaysInLocals}
 use Rattle.laws_analyses.proofs.UnitLaws.{module_at}
 use Rattle.laws_marks.proofs.InGrouped.{locals_are_saved_together}
-use Rattle.laws_marked_plans.specs.Cleared.{HasNoValue}
+use Rattle.laws_interleavings.specs.Plans.Cleared.{HasNoValue}
 use Rattle.laws_marks.specs.OwnLaws.{UnitsBeginUnset}
 use Rattle.laws_marks.proofs.Apart.{OwnOf, LostOf, lost_of, same_group, one_module, linked, laid, Owned, of_local, of_expression, OwnerOf, owner}
+use Rattle.f77_ast.proofs.StorageLaws.{from_number as numbered_place, to_number as next_symbol}
 
 -- ---- a variable with DATA is saved
 
@@ -53,13 +52,13 @@ there_too (x ∷ xs) [] n a e h = absurd (omega (arith, e))
 there_too (x ∷ xs) (y ∷ ys) zero a e h = (y, refl)
 there_too (x ∷ xs) (y ∷ ys) (suc n) a e h = there_too xs ys n a (omega (arith, e)) h
 
-some_keeps_at : (h n : ℕ) (es : List EntryTree) (ss : List Seat) (i : ℕ) (e : EntryTree) (s : Seat) → slice_get es i ≡ Some e → slice_get ss (n + i) ≡ Some s → keeps h e (Some s) ≡ true → some_keeps h n es ss ≡ true
+some_keeps_at : (h n : ℕ) (es : List EntryTree) (ss : List OffsetNode) (i : ℕ) (e : EntryTree) (s : OffsetNode) → slice_get es i ≡ Some e → slice_get ss (n + i) ≡ Some s → keeps h e (Some s) ≡ true → some_keeps h n es ss ≡ true
 some_keeps_at h n [] ss i e s q r k = cc
 some_keeps_at h n (x ∷ es) ss zero e s q r k =
     let same : x ≡ e = cc in
     let none : n + zero ≡ n = omega arith in
-    let seat : slice_get ss n ≡ Some s = ap (slice_get ss) (sym none) ∙ r in
-    or_left (keeps h x (slice_get ss n)) (some_keeps h (n + 1) es ss) (ap₂ (keeps h) same seat ∙ k)
+    let offset_node : slice_get ss n ≡ Some s = ap (slice_get ss) (sym none) ∙ r in
+    or_left (keeps h x (slice_get ss n)) (some_keeps h (n + 1) es ss) (ap₂ (keeps h) same offset_node ∙ k)
 some_keeps_at h n (x ∷ es) ss (suc i) e s q r k =
     let more : n + suc i ≡ (n + 1) + i = omega arith in
     or_right (keeps h x (slice_get ss n)) (some_keeps h (n + 1) es ss) (some_keeps_at h (n + 1) es ss i e s q (ap (slice_get ss) (sym more) ∙ r) k)
@@ -74,13 +73,13 @@ module _ (p : ParsedTree) (ss : List SymbolTree) (table : symbols_of p ≡ Ok ss
 
   entry_saved : (n : ℕ) (e : EntryTree) → slice_get (names_in p).entries n ≡ Some e → (h o : ℕ) → (symbol_of (layout_in p) n e).place ≡ place.Local h o → (j : ℕ) (r : InitialRun) → slice_get (symbol_of (layout_in p) n e).initial j ≡ Some r → (symbol_of (layout_in p) n e).saved ≡ true
   entry_saved n e is h o lies j r some =
-      let seat = there_too (names_in p).entries (layout_in p).seats n e (sym (count_shared p)) is in
-      by e.value refl e.dummy refl seat.0 seat.1 (ap (λ z. unless_value e.value (unless_dummy e.dummy (place_in (layout_in p) z))) (sym seat.1) ∙ lies)
+      let offset_node = there_too (names_in p).entries (layout_in p).offset_nodes n e (sym (count_shared p)) is in
+      by e.value refl e.dummy refl offset_node.0 offset_node.1 (ap (λ z. unless_value e.value (unless_dummy e.dummy (place_in (layout_in p) z))) (sym offset_node.1) ∙ lies)
     where
       initial_so : e.initial ≡ true
       initial_so = with_data e.initial n j r some
 
-      by : (v : Option Constant) → e.value ≡ v → (d : Option ℕ) → e.dummy ≡ d → (s : Seat) → slice_get (layout_in p).seats n ≡ Some s → unless_value e.value (unless_dummy e.dummy (place_in (layout_in p) (Some s))) ≡ place.Local h o → (symbol_of (layout_in p) n e).saved ≡ true
+      by : (v : Option Constant) → e.value ≡ v → (d : Option ℕ) → e.dummy ≡ d → (s : OffsetNode) → slice_get (layout_in p).offset_nodes n ≡ Some s → unless_value e.value (unless_dummy e.dummy (place_in (layout_in p) (Some s))) ≡ place.Local h o → (symbol_of (layout_in p) n e).saved ≡ true
       by (Some c) ev d ed s es q = (let z = ap (λ w. unless_value w (unless_dummy e.dummy (place_in (layout_in p) (Some s)))) (sym ev) ∙ q in cc)
       by None ev (Some m) ed s es q = (let z = ap₂ (λ w y. unless_value w (unless_dummy y (place_in (layout_in p) (Some s)))) (sym ev) (sym ed) ∙ q in cc)
       by None ev None ed s es q = go s.home refl (ap₂ (λ w y. unless_value w (unless_dummy y (place_in (layout_in p) (Some s)))) (sym ev) (sym ed) ∙ q)
@@ -88,15 +87,15 @@ module _ (p : ParsedTree) (ss : List SymbolTree) (table : symbols_of p ≡ Ok ss
           nothing : (n : ℕ) → 0 + n ≡ n
           nothing n = omega arith
 
-          kept : is_saved (layout_in p) e (slice_get (layout_in p).seats n) ≡ is_kept (layout_in p) s.home
-          kept = ap₂ (λ (x : Option Constant) (y : Option ℕ). if is_some x || is_some y then false else is_kept_at (layout_in p) (slice_get (layout_in p).seats n)) ev ed ∙ ap (is_kept_at (layout_in p)) es
+          kept : is_saved (layout_in p) e (slice_get (layout_in p).offset_nodes n) ≡ is_kept (layout_in p) s.home
+          kept = ap₂ (λ (x : Option Constant) (y : Option ℕ). if is_some x || is_some y then false else is_kept_at (layout_in p) (slice_get (layout_in p).offset_nodes n)) ev ed ∙ ap (is_kept_at (layout_in p)) es
 
           go : (x : Home) → s.home ≡ x → home_place (layout_in p) s.offset x ≡ place.Local h o → (symbol_of (layout_in p) n e).saved ≡ true
           go (Block b) f z = cc
           go (Own k) f z =
               let sits : sits_in k (Some s) ≡ true = ap (is_own k) f ∙ eq-eqb k k refl in
               let here : keeps k e (Some s) ≡ true = and_from (e.saved || e.initial) (sits_in k (Some s)) (or_right e.saved e.initial initial_so) sits in
-              kept ∙ (ap (is_kept (layout_in p)) f ∙ or_right (layout_in p).save_all (some_keeps k 0 (layout_in p).table.entries (layout_in p).seats) (some_keeps_at k 0 (names_in p).entries (layout_in p).seats n e s is (ap (slice_get (layout_in p).seats) (nothing n) ∙ es) here))
+              kept ∙ (ap (is_kept (layout_in p)) f ∙ or_right (layout_in p).save_all (some_keeps k 0 (layout_in p).table.entries (layout_in p).offset_nodes) (some_keeps_at k 0 (names_in p).entries (layout_in p).offset_nodes n e s is (ap (slice_get (layout_in p).offset_nodes) (nothing n) ∙ es) here))
 
   data_saved : (v : ℕ) (s : SymbolTree) (h o : ℕ) → symbol_at ss v ≡ Some s → s.place ≡ place.Local h o → (j : ℕ) (r : InitialRun) → slice_get s.initial j ≡ Some r → s.saved ≡ true
   data_saved v s h o e lies j r some =

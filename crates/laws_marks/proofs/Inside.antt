@@ -7,25 +7,25 @@ use Rattle.f77_structure.specs.Checks.{fault_of}
 use Rattle.f77_structure.specs.declared.blocks.Landing.{Landing}
 use Rattle.f77_parser.specs.Statements.{StatementTree, marks_of}
 use Rattle.f77_parser.specs.Building.{build_module}
-use Rattle.f77_results.specs.declared.results.At.{At}
-use Rattle.roundtrip_statements.specs.Phrased.{IsWhat}
-use Rattle.roundtrip_statements.specs.Formed.{Each as EachOf}
-use Rattle.roundtrip_modules.specs.Cards.{cards_in}
-use Rattle.roundtrip_modules.specs.ModuleLaws.{IsStatement}
-use Rattle.roundtrip_modules.specs.Numbered.{last_of, last_arms, last_in, NumberedBelow, NumberedBody, NumberedBlock, NumberedArms, NumberedElse, AreNumbered}
-use Rattle.roundtrip_modules.proofs.JumpsAgain.{all_reach_there}
-use Rattle.roundtrip_modules.proofs.Outlines.{Going, Outline, lands, begins, leaves, nothing_outlined}
-use Rattle.roundtrip_modules.proofs.Reached.{AllReach}
-use Rattle.roundtrip_modules.proofs.Tally.{count_of}
-use Rattle.roundtrip_modules.proofs.TreeOutlines.{outline_by, outline_body, outline_arms, outline_else, outline_in}
-use Rattle.roundtrip_modules.proofs.Writing.{few_stand}
-use Rattle.transformer_algebra.specs.Cells.{has}
-use Rattle.transformers.specs.Statement.{at}
-use Rattle.out_regions.specs.Leaving.{loop_labels}
+use Rattle.f77_ast.specs.declared.results.At.{At}
+use Rattle.laws_programs.specs.roundtrip_programs.Statements.Phrased.{IsWhat}
+use Rattle.laws_programs.specs.roundtrip_programs.Statements.Formed.{Each as EachOf}
+use Rattle.laws_programs.specs.roundtrip_programs.ModuleTexts.Cards.{cards_in}
+use Rattle.laws_programs.specs.roundtrip_programs.ModuleTexts.ModuleLaws.{IsStatement}
+use Rattle.laws_programs.specs.roundtrip_programs.ModuleTexts.Numbered.{last_of, last_arms, last_in, NumberedBelow, NumberedBody, NumberedBlock, NumberedArms, NumberedElse, AreNumbered}
+use Rattle.laws_programs.proofs.RoundtripPrograms.ModuleTexts.JumpsAgain.{all_reach_there}
+use Rattle.laws_programs.proofs.RoundtripPrograms.ModuleTexts.Outlines.{Going, Outline, lands, begins, leaves, nothing_outlined}
+use Rattle.laws_programs.proofs.RoundtripPrograms.ModuleTexts.Reached.{AllReach}
+use Rattle.laws_programs.proofs.RoundtripPrograms.ModuleTexts.Tally.{count_of}
+use Rattle.laws_programs.proofs.RoundtripPrograms.ModuleTexts.TreeOutlines.{outline_by, outline_body, outline_arms, outline_else, outline_in}
+use Rattle.laws_programs.proofs.RoundtripPrograms.ModuleTexts.Writing.{few_stand}
+use Rattle.preconditions.specs.transformer_algebra.Cells.{has}
+use Rattle.preconditions.specs.transformers.Statement.{at}
+use Rattle.loop_marker.specs.out_regions.Leaving.{loop_labels}
 use Rattle.laws_programs.proofs.Ordered.{BelowOrdered, LoopOrdered, ArmsOrdered, ElseOrdered, ListOrdered, body_ordered}
 use Rattle.laws_programs.proofs.Sources.{is_built}
-use Rattle.laws_statements.specs.CallsIn.{Each}
-use Rattle.laws_statements.specs.Leads.{loop_leads}
+use Rattle.call_graph.specs.CallsIn.{Each}
+use Rattle.laws_analyses.specs.Statements.Leads.{loop_leads}
 use Rattle.laws_analyses.proofs.CallLists.{each_joined}
 use Rattle.laws_analyses.proofs.Insides.{Inside, first_part, second_part, list_part}
 use Rattle.laws_analyses.proofs.Members.{Member}

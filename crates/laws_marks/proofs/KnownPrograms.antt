@@ -17,47 +17,48 @@ use Rattle.f77_ast.specs.Statements.{do_plan}
 use Rattle.f77_ast.specs.Programs.{program_plan}
 use Rattle.f77_ast.specs.Symbols.{SymbolTree}
 use Rattle.f77_ast.specs.declared.variable.Variable.TheVariants.{Own}
-use Rattle.f77_results.specs.declared.effect_set.EffectSet.{EffectSet}
-use Rattle.f77_results.specs.declared.results.At.{At}
-use Rattle.f77_results.specs.declared.results.Results.{Results}
+use Rattle.f77_ast.specs.declared.effect_set.EffectSet.{EffectSet}
+use Rattle.f77_ast.specs.declared.results.At.{At}
+use Rattle.f77_ast.specs.declared.results.Results.{Results}
 use Rattle.call_graph.specs.declared.graph.Graph.{Graph}
-use Rattle.effects.specs.List.{Callees, at_list}
-use Rattle.effects.specs.Modules.{cumulated_of}
+use Rattle.in_out_regions.specs.effects.List.{Callees, at_list}
+use Rattle.in_out_regions.specs.effects.Modules.{cumulated_of}
 use Rattle.f77_meaning.specs.Modules.{Known, known_of, names, symbol_names}
 use Rattle.f77_meaning.specs.Linked.{program_of}
 use Rattle.f77_meaning.specs.Occurrences.{Occurrence}
 use Rattle.affine_forms.specs.Claims.{unit_in}
-use Rattle.transformer_algebra.specs.Laws.{In}
-use Rattle.transformers.specs.Lists.{value_at}
-use Rattle.region_sets.specs.declared.marks.Mark.{Mark}
-use Rattle.region_sets.specs.declared.marks.Mark.TheVariants.{Parallel}
-use Rattle.scalar_phases.specs.Phases.{scope_of, analyses}
-use Rattle.region_phases.specs.Phases.{all_regions}
-use Rattle.region_phases.specs.InPhases.{ModuleIns, all_ins}
-use Rattle.region_phases.specs.OutPhases.{ModuleOuts, with_outs, sites_of, name_of, outs_from, all_outs}
-use Rattle.loop_marker.specs.Phases.{ModuleMarks, known_in, no_callees, with_callee, with_marks, found_in, all_marks}
-use Rattle.loop_bodies.specs.Finding.{loop_in}
+use Rattle.preconditions.specs.transformer_algebra.Laws.{In}
+use Rattle.preconditions.specs.transformers.Lists.{value_at}
+use Rattle.f77_ast.specs.declared.marks.Mark.{Mark}
+use Rattle.f77_ast.specs.declared.marks.Mark.TheVariants.{Parallel}
+use Rattle.loop_marker.specs.module_phases.ScalarPhases.{scope_of, analyses}
+use Rattle.loop_marker.specs.module_phases.RegionPhases.{all_regions}
+use Rattle.loop_marker.specs.module_phases.InPhases.{ModuleIns, all_ins}
+use Rattle.loop_marker.specs.module_phases.OutPhases.{ModuleOuts, with_outs, sites_of, name_of, outs_from, all_outs}
+use Rattle.loop_marker.specs.Results.{ModuleResults}
+use Rattle.loop_marker.specs.Phases.{phases_of, no_callees, with_callee, with_marks, found_in, all_marks}
+use Rattle.loop_marker.specs.dependence_test.Finding.{loop_in}
 use Rattle.loop_marker.specs.Known.{knowledge_of}
 use Rattle.loop_marker.specs.Marks.{Knowledge, mark_of}
 use Rattle.loop_marker.specs.Jumps.{body_of}
-use Rattle.out_regions.specs.Leaving.{leaves}
-use Rattle.privatizer.specs.Names.{may_copy}
-use Rattle.laws_effects.specs.Claims.{EffectsHold, GivesEffect}
-use Rattle.laws_effects.specs.Laws.{AllHold}
-use Rattle.laws_effects.specs.Summaries.{before, no_summary, bottom_up}
-use Rattle.laws_storage.specs.Programs.{IsModule}
+use Rattle.loop_marker.specs.out_regions.Leaving.{leaves}
+use Rattle.loop_marker.specs.privatizer.Names.{may_copy}
+use Rattle.laws_programs.specs.Effects.Claims.{EffectsHold, GivesEffect}
+use Rattle.laws_programs.specs.Effects.Laws.{AllHold}
+use Rattle.laws_programs.specs.Effects.Summaries.{before, no_summary, bottom_up}
+use Rattle.laws_programs.specs.Storage.Programs.{IsModule}
 use Rattle.laws_programs.specs.Laws.{AllAreOfPrograms}
 use Rattle.laws_programs.specs.Programs.{IsProgram}
 use Rattle.laws_programs.proofs.Numbers.{is_numbered}
 use Rattle.laws_programs.proofs.Sources.{all_of}
 use Rattle.laws_programs.proofs.Tables.{programs_are_linked}
 use Rattle.laws_programs.proofs.Whole.{numbers_go_up}
-use Rattle.laws_statements.specs.CallsIn.{Each}
-use Rattle.roundtrip_statements.specs.Formed.{Each as EachOf}
+use Rattle.call_graph.specs.CallsIn.{Each}
+use Rattle.laws_programs.specs.roundtrip_programs.Statements.Formed.{Each as EachOf}
 use Rattle.laws_analyses.proofs.CallLists.{each_more, each_joined}
 use Rattle.laws_analyses.proofs.UnitLaws.{module_at}
-use Rattle.laws_regions.proofs.Programs.{distinct_numbers}
-use Rattle.laws_regions.specs.Settings.{elements_with}
+use Rattle.laws_analyses.proofs.Regions.Programs.{distinct_numbers}
+use Rattle.laws_analyses.specs.Regions.Settings.{elements_with}
 use Rattle.laws_marks.specs.ConflictAccepted.{AllLoopsHold, ReadLoopsHold}
 use Rattle.laws_marks.specs.ConflictClaims.{LoopIs, LoopsHold, body_list, loop_with}
 use Rattle.laws_marks.specs.ConflictExecutions.{Execution, InEachExecution}
@@ -72,7 +73,7 @@ use Rattle.laws_marks.proofs.MarkedEnding.{ends_quietly, loop_is_quiet}
 use Rattle.laws_marks.specs.Dead.{index_name}
 use Rattle.laws_marks.specs.Units.{UnitsStand, ModuleUnitsStand, index_in}
 use Rattle.laws_marks.specs.DeadLaws.{outs_of, AllUnitsStand, ReadUnitsStand}
-use Rattle.laws_marks.proofs.UnitsStanding.{all_of_each, each_of_all}
+use Rattle.laws_marks.proofs.UnitsStanding.{each_of_all}
 use Rattle.laws_marks.proofs.Marks.{list_marks, FoundAt, found_at}
 use Rattle.laws_marks.proofs.Own.{passing}
 use Rattle.laws_marks.specs.Verdicts.{IsCleared, SaysParallel}
@@ -85,16 +86,11 @@ use Rattle.laws_marks.proofs.Quiet.{is_quiet}
 use Rattle.laws_marks.proofs.KnownRuns.{occurrence_of, at_each}
 use Rattle.laws_marks.proofs.EffectTables.{IsMade, marks_made}
 use Rattle.laws_marks.proofs.Verdicts.{says_parallel}
+use Rattle.laws_analyses.proofs.Passes.{each_reversed as each_reverse}
+use Rattle.laws_marks.proofs.Modules.{each_two}
+use Rattle.laws_analyses.proofs.Claimed.{all_of_each}
 
 -- ---- lists
-
-each_reverse : {T : Type 0} (P : T → Type 0) (xs : List T) → Each P xs → Each P (reverse xs)
-each_reverse P [] h = tt
-each_reverse P (x ∷ xs) h = subst (Each P) (sym (reverse-cons x xs)) (each_joined P (reverse xs) (x ∷ []) (each_reverse P xs h.1) (h.0, tt))
-
-each_two : {T : Type 0} (P Q R : T → Type 0) → ((x : T) → P x → Q x → R x) → (xs : List T) → Each P xs → Each Q xs → Each R xs
-each_two P Q R f [] p q = tt
-each_two P Q R f (x ∷ xs) p q = (f x p.0 q.0, each_two P Q R f xs p.1 q.1)
 
 each_back : {A B : Type 0} (f : A → B) (P : B → Type 0) (xs : List A) → Each P (map f xs) → Each (λ x. P (f x)) xs
 each_back f P [] h = tt
@@ -103,53 +99,53 @@ each_back f P (x ∷ xs) h = (h.0, each_back f P xs h.1)
 -- ---- the mark of a DO, found by its number
 
 -- what is known of a module where its marks are made
-abbrev knowledge : Graph → ModuleMarks → Knowledge
+abbrev knowledge : Graph → ModuleResults → Knowledge
 knowledge g f =
-    let k = f.outs.known.known.analysis.found.known in
-    let a = f.outs.known.known.analysis in
-    knowledge_of k.read k.symbols (symbol_names k.symbols) (scope_of g.untracked k) f.effects.at a.found.own.at a.holds.at f.outs.known.known.regions.at f.outs.known.ins.at f.outs.outs.at
+    let k = f.known in
+    let a = (phases_of f).known.known.analysis in
+    knowledge_of k.read k.symbols (symbol_names k.symbols) (scope_of g.untracked k) f.effects.at a.found.own.at a.holds.at f.regions.at f.ins.at f.outs.at
 
 -- of a DO that is parallel with these variables
-record IsFound (g : Graph) (f : ModuleMarks) (n : ℕ) (l : LoopTree) (ns : List ℕ) : Type 0 where
+record IsFound (g : Graph) (f : ModuleResults) (n : ℕ) (l : LoopTree) (ns : List ℕ) : Type 0 where
   says : SaysParallel (knowledge g f) n l ns
   calm : IsCalm f.effects.at n
   beyond : LeadsBeyond n l
 
-module _ (ks : List Known) (g : Graph) (xs : List (List ℕ)) (f : ModuleMarks) (made : IsMade g ks xs no_callees f) (numbered : IsNumbered (known_in f.outs).read.body) (all_beyond : AllLeadBeyond (known_in f.outs).read.body) where
+module _ (ks : List Known) (g : Graph) (xs : List (List ℕ)) (f : ModuleResults) (made : IsMade g ks xs no_callees f) (numbered : IsNumbered f.known.read.body) (all_beyond : AllLeadBeyond f.known.read.body) where
   record MarkOf (a : At Mark) : Type 0 where
     label : Option ℕ
     loop : LoopTree
-    found : loop_in a.id (known_in f.outs).read.body ≡ Some loop
+    found : loop_in a.id f.known.read.body ≡ Some loop
     value : a.value ≡ mark_of (knowledge g f) a.id label loop
     calm : DoIsCalm f.effects.at a.id loop
     beyond : LeadsBeyond a.id loop
 
   abbrev Told : At WhatTree → Type 0
-  Told a = (loop_in a.id (known_in f.outs).read.body ≡ as_loop a.value) × DoIs (DoIsCalm f.effects.at) a × DoIs LeadsBeyond a
+  Told a = (loop_in a.id f.known.read.body ≡ as_loop a.value) × DoIs (DoIsCalm f.effects.at) a × DoIs LeadsBeyond a
 
-  all_calm : Each (DoIs (DoIsCalm f.effects.at)) (list_whats (known_in f.outs).read.body)
+  all_calm : Each (DoIs (DoIsCalm f.effects.at)) (list_whats f.known.read.body)
   all_calm =
-      subst (λ (r : Results EffectSet). Each (DoIs (DoIsCalm r.at)) (list_whats (known_in f.outs).read.body)) (sym made.effects)
-      (dos_calm (before ks xs no_callees (known_in f.outs).read.name) (known_in f.outs).symbols (known_in f.outs).read.body numbered)
+      subst (λ (r : Results EffectSet). Each (DoIs (DoIsCalm r.at)) (list_whats f.known.read.body)) (sym made.effects)
+      (dos_calm (before ks xs no_callees f.known.read.name) f.known.symbols f.known.read.body numbered)
 
-  all_told : Each Told (list_whats (known_in f.outs).read.body)
+  all_told : Each Told (list_whats f.known.read.body)
   all_told =
-      let body = (known_in f.outs).read.body in
+      let body = f.known.read.body in
       each_two (λ a. loop_in a.id body ≡ as_loop a.value) (λ a. DoIs (DoIsCalm f.effects.at) a × DoIs LeadsBeyond a) Told (λ a p q. (p, q.0, q.1)) (list_whats body) (each_found body (distinct_numbers body numbered))
       (each_two (DoIs (DoIsCalm f.effects.at)) (DoIs LeadsBeyond) (λ a. DoIs (DoIsCalm f.effects.at) a × DoIs LeadsBeyond a) (λ a p q. (p, q)) (list_whats body) all_calm all_beyond)
 
   each_mark : Each MarkOf f.marks
   each_mark =
       subst (Each MarkOf) (sym made.marks)
-      (list_marks (mark_of (knowledge g f)) Told MarkOf (λ n label l p. record { label = label; loop = l; found = p.0; value = refl; calm = p.1; beyond = p.2 }) (known_in f.outs).read.body all_told)
+      (list_marks (mark_of (knowledge g f)) Told MarkOf (λ n label l p. record { label = label; loop = l; found = p.0; value = refl; calm = p.1; beyond = p.2 }) f.known.read.body all_told)
 
-  is_found : (n : ℕ) (l : LoopTree) → loop_in n (known_in f.outs).read.body ≡ Some l → (ns : List ℕ) → value_at f.marks n ≡ Some (Parallel ns) → IsFound g f n l ns
+  is_found : (n : ℕ) (l : LoopTree) → loop_in n f.known.read.body ≡ Some l → (ns : List ℕ) → value_at f.marks n ≡ Some (Parallel ns) → IsFound g f n l ns
   is_found n l is_do ns v =
       let q = found_at MarkOf n (Parallel ns) f.marks each_mark v in
       let o = q.is_so in
       let says : SaysParallel (knowledge g f) q.item.id o.loop ns = says_parallel (knowledge g f) q.item.id o.label o.loop ns (sym o.value ∙ q.value) in
       let here : IsFound g f q.item.id o.loop ns = record { says = says; calm = o.calm says.no_stop says.no_io; beyond = o.beyond } in
-      let same : Some o.loop ≡ Some l = sym o.found ∙ (ap (λ i. loop_in i (known_in f.outs).read.body) q.number ∙ is_do) in
+      let same : Some o.loop ≡ Some l = sym o.found ∙ (ap (λ i. loop_in i f.known.read.body) q.number ∙ is_do) in
       let one : o.loop ≡ l = cc in
       subst (λ z. IsFound g f n z ns) one (subst (λ i. IsFound g f i o.loop ns) q.number here)
 
@@ -158,7 +154,7 @@ module _ (ks : List Known) (g : Graph) (xs : List (List ℕ)) (f : ModuleMarks) 
 same_bodies : (l : LoopTree) → body_of l ≡ body_list l
 same_bodies (tree.loop index first last step body) = refl
 
-index_same : (g : Graph) (f : ModuleMarks) (l : LoopTree) → ((knowledge g f).body l).index ≡ index_in (scope_of g.untracked (known_in f.outs)) l
+index_same : (g : Graph) (f : ModuleResults) (l : LoopTree) → ((knowledge g f).body l).index ≡ index_in (scope_of g.untracked f.known) l
 index_same g f (tree.loop index first last step body) = refl
 
 record GaveSome (a : Answer Flow) : Type 0 where
@@ -169,40 +165,40 @@ gave_some : (a : Answer Flow) → Finishes a → GaveSome a
 gave_some (Gave f) h = record { flow = f; gave = refl }
 gave_some (Broke b) h = absurd h
 
-module _ (ks : List Known) (g : Graph) (f : ModuleMarks) (x : Execution) (later : List Event) (ended : Finishes (run_of x.does x.start x.input).answer) (loops : LoopsHold ks g f.outs.known x) (units : ModuleUnitsStand ks g f.outs.known x)
-    (l : LoopTree) (is_do : loop_in x.spot.statement (known_in f.outs).read.body ≡ Some l) (ns : List ℕ) (found : IsFound g f x.spot.statement l ns) (holds : EffectsHold ks g found.calm.effect (occurrence_of x later))
-    (sc : MarkedScope) (locked : Locks) (same : sc.plain.names ≡ names (known_in f.outs).symbols) (does : x.does ≡ do_plan l sc.plain x.places locked) where
-  known : LoopIs ks g (scope_of g.untracked (known_in f.outs)) x.places (loop_with g f.outs.known l) x.start (iterations (do_plan l sc.plain x.places locked) x.start x.input)
-  known = subst (λ (t : Plan). LoopIs ks g (scope_of g.untracked (known_in f.outs)) x.places (loop_with g f.outs.known l) x.start (iterations t x.start x.input)) does (loops l is_do)
+module _ (ks : List Known) (g : Graph) (f : ModuleResults) (x : Execution) (later : List Event) (ended : Finishes (run_of x.does x.start x.input).answer) (loops : LoopsHold ks g (phases_of f).known x) (units : ModuleUnitsStand ks g (phases_of f).known x)
+    (l : LoopTree) (is_do : loop_in x.spot.statement f.known.read.body ≡ Some l) (ns : List ℕ) (found : IsFound g f x.spot.statement l ns) (holds : EffectsHold ks g found.calm.effect (occurrence_of x later))
+    (sc : MarkedScope) (locked : Locks) (same : sc.plain.names ≡ names f.known.symbols) (does : x.does ≡ do_plan l sc.plain x.places locked) where
+  known : LoopIs ks g (scope_of g.untracked f.known) x.places (loop_with g (phases_of f).known l) x.start (iterations (do_plan l sc.plain x.places locked) x.start x.input)
+  known = subst (λ (t : Plan). LoopIs ks g (scope_of g.untracked f.known) x.places (loop_with g (phases_of f).known l) x.start (iterations t x.start x.input)) does (loops l is_do)
 
   quiet : IsQuietDo sc.plain l x.places locked x.start x.input
   quiet =
       let some = gave_some (run_of x.does x.start x.input).answer ended in
       let run : run_of x.does x.start x.input ≡ run_of (do_plan l sc.plain x.places locked) x.start x.input = ap (λ (t : Plan). run_of t x.start x.input) does in
-      is_quiet ks g (scope_of g.untracked (known_in f.outs)) (loop_with g f.outs.known l) sc.plain x.places locked x.start x.input x.spot.statement found.beyond (ap (leaves false) (sym (same_bodies l)) ∙ found.says.stays)
+      is_quiet ks g (scope_of g.untracked f.known) (loop_with g (phases_of f).known l) sc.plain x.places locked x.start x.input x.spot.statement found.beyond (ap (leaves false) (sym (same_bodies l)) ∙ found.says.stays)
       found.calm.effect found.calm.stops found.calm.io some.flow (sym (ap (λ (r : Ran Flow). r.answer) run) ∙ some.gave) (occurrence_of x later) run holds known
 
   -- the one element of the variable of the DO
-  scalar : (v : ℕ) → sc.plain.names (index_name l) ≡ Variable v → (phi : ℕ → ℤ) → elements_with ks g (known_in f.outs).symbols x.places (Own (loop_with g f.outs.known l).body.index) phi ≡ Some (unit_in x.places v)
+  scalar : (v : ℕ) → sc.plain.names (index_name l) ≡ Variable v → (phi : ℕ → ℤ) → elements_with ks g f.known.symbols x.places (Own (loop_with g (phases_of f).known l).body.index) phi ≡ Some (unit_in x.places v)
   scalar v e phi =
-      let k = known_in f.outs in
+      let k = f.known in
       let stand = units l is_do in
       let named : names k.symbols (index_name l) ≡ Variable v = sym (ap (λ w. w (index_name l)) same) ∙ e in
       let number : ((knowledge g f).body l).index ≡ v = index_same g f l ∙ stand.number v named in
       let may : may_copy k.read k.symbols (Own v) ≡ true = subst (λ i. may_copy k.read k.symbols (Own i) ≡ true) number found.says.index in
       ap (λ i. elements_with ks g k.symbols x.places (Own i) phi) number ∙ stand.index v named (passing k.read k.symbols v may) phi
 
-  loop_known : (xs : List (List ℕ)) (body : StmtTrees) (r : Range) (u : ℕ) (inner : Locks) → ((n : ℕ) → In n ns → HasPrivateUnits ks g (scope_of g.untracked (known_in f.outs)) x.places (marked_loop xs sc body x.places r u inner) x.start (Own n)) →
+  loop_known : (xs : List (List ℕ)) (body : StmtTrees) (r : Range) (u : ℕ) (inner : Locks) → ((n : ℕ) → In n ns → HasPrivateUnits ks g (scope_of g.untracked f.known) x.places (marked_loop xs sc body x.places r u inner) x.start (Own n)) →
       Begins sc.plain (index_name l) l x.places locked (marked_loop xs sc body x.places r u inner) x.start x.input →
-      LoopIsKnown ks g (scope_of g.untracked (known_in f.outs)) x.places (loop_with g f.outs.known l) (marked_loop xs sc body x.places r u inner) x.start x.input
+      LoopIsKnown ks g (scope_of g.untracked f.known) x.places (loop_with g (phases_of f).known l) (marked_loop xs sc body x.places r u inner) x.start x.input
   loop_known xs body r u inner own b =
       let m = marked_loop xs sc body x.places r u inner in
-      let d = loop_with g f.outs.known l in
-      let one : (phi : ℕ → ℤ) → elements_with ks g (known_in f.outs).symbols x.places (Own d.body.index) phi ≡ Some u = λ phi. scalar b.symbol b.is_symbol phi ∙ ap Some (sym b.unit) in
+      let d = loop_with g (phases_of f).known l in
+      let one : (phi : ℕ → ℤ) → elements_with ks g f.known.symbols x.places (Own d.body.index) phi ≡ Some u = λ phi. scalar b.symbol b.is_symbol phi ∙ ap Some (sym b.unit) in
       record {
         ends = ends_quietly m x.start x.input (loop_is_quiet sc.plain (index_name l) l x.places locked m x.start x.input b quiet);
-        known = subst (λ (zs : List Iteration). LoopIs ks g (scope_of g.untracked (known_in f.outs)) x.places d x.start zs) b.cut known;
-        verdicts = λ q i w. verdict ks g (scope_of g.untracked (known_in f.outs)) x.places d xs sc body r u inner x.start one (known_in f.outs).read ns own q.variable (found.says.verdicts q i w);
+        known = subst (λ (zs : List Iteration). LoopIs ks g (scope_of g.untracked f.known) x.places d x.start zs) b.cut known;
+        verdicts = λ q i w. verdict ks g (scope_of g.untracked f.known) x.places d xs sc body r u inner x.start one f.known.read ns own q.variable (found.says.verdicts q i w);
       }
 
 -- ---- programs
@@ -211,10 +207,10 @@ module _ (ps : List ParsedTree) (sss : List (List SymbolTree)) (g : Graph) (x : 
   abbrev ks : List Known
   ks = known_of ps sss
 
-  record Stands (f : ModuleMarks) : Type 0 where
+  record Stands (f : ModuleResults) : Type 0 where
     made : IsMade g (known_of ps sss) g.order no_callees f
-    numbered : IsNumbered (known_in f.outs).read.body
-    beyond : AllLeadBeyond (known_in f.outs).read.body
+    numbered : IsNumbered f.known.read.body
+    beyond : AllLeadBeyond f.known.read.body
 
   abbrev BodyLeads : ParsedTree → Type 0
   BodyLeads p = AllLeadBeyond p.module_read.body
@@ -227,9 +223,9 @@ module _ (ps : List ParsedTree) (sss : List (List SymbolTree)) (g : Graph) (x : 
   stands : Each Stands (all_marks g (outs_of ps sss g))
   stands = each_more (IsMade g (known_of ps sss) g.order no_callees) Stands (all_marks g (outs_of ps sss g)) one (marks_made ps sss g (programs_are_linked ps sss g x).0)
     where
-      one : (f : ModuleMarks) → IsMade g (known_of ps sss) g.order no_callees f → Stands f
+      one : (f : ModuleResults) → IsMade g (known_of ps sss) g.order no_callees f → Stands f
       one f h =
-          let m = module_at ps sss h.at (known_in f.outs) h.is_module in
+          let m = module_at ps sss h.at f.known h.is_module in
           record {
             made = h;
             numbered = subst (λ (k : Known). IsNumbered k.read.body) m.same (is_numbered m.parsed.module_read.body (numbers_go_up x.lines ps x.parsed h.at m.parsed m.is_module.parsed));
@@ -244,17 +240,17 @@ module _ (ps : List ParsedTree) (sss : List (List SymbolTree)) (g : Graph) (x : 
       ins (done ++ with_outs g (sites_of g.untracked done (name_of f)) f ∷ []) fs
       ∙ (ap (λ zs. zs ++ fs) (map-append (λ (h : ModuleOuts). h.known) done (with_outs g (sites_of g.untracked done (name_of f)) f ∷ [])) ∙ append_assoc (map (λ (h : ModuleOuts). h.known) done) (f ∷ []) fs)
 
-  marks_from : (P : ModuleOuts → Type 0) (cs : Callees) (fs : List ModuleOuts) → Each P fs → Each (λ (f : ModuleMarks). P f.outs) (found_in g.untracked cs fs)
+  marks_from : (P : ModuleOuts → Type 0) (cs : Callees) (fs : List ModuleOuts) → Each P fs → Each (λ (f : ModuleResults). P (phases_of f)) (found_in g.untracked cs fs)
   marks_from P cs [] h = tt
   marks_from P cs (f ∷ fs) h = (h.0, marks_from P (with_callee (with_marks g.untracked cs f) cs) fs h.1)
 
-  marks_of_outs : (P : ModuleOuts → Type 0) → Each P (outs_of ps sss g) → Each (λ (f : ModuleMarks). P f.outs) (all_marks g (outs_of ps sss g))
+  marks_of_outs : (P : ModuleOuts → Type 0) → Each P (outs_of ps sss g) → Each (λ (f : ModuleResults). P (phases_of f)) (all_marks g (outs_of ps sss g))
   marks_of_outs P h = marks_from P no_callees (reverse (outs_of ps sss g)) (each_reverse P (outs_of ps sss g) h)
 
   abbrev the_ins : List ModuleIns
   the_ins = all_ins g (all_regions g (analyses (known_of ps sss) g))
 
-  marks_of_ins : (P : ModuleIns → Type 0) → Each P (all_ins g (all_regions g (analyses (known_of ps sss) g))) → Each (λ (f : ModuleMarks). P f.outs.known) (all_marks g (outs_of ps sss g))
+  marks_of_ins : (P : ModuleIns → Type 0) → Each P (all_ins g (all_regions g (analyses (known_of ps sss) g))) → Each (λ (f : ModuleResults). P (phases_of f).known) (all_marks g (outs_of ps sss g))
   marks_of_ins P h =
       let fs = all_ins g (all_regions g (analyses (known_of ps sss) g)) in
       marks_of_outs (λ (f : ModuleOuts). P f.known)
@@ -269,17 +265,17 @@ module _ (ps : List ParsedTree) (sss : List (List SymbolTree)) (g : Graph) (x : 
     abbrev UnitsOf : ModuleOuts → Type 0
     UnitsOf f = f.known.known.analysis.found.known.read.name ≡ y.spot.module_name → ModuleUnitsStand (known_of ps sss) g f.known y
 
-    abbrev KnownOf : ModuleMarks → Type 0
-    KnownOf f = (known_in f.outs).read.name ≡ y.spot.module_name → MarkedLoopIsKnown (known_of ps sss) g f y
+    abbrev KnownOf : ModuleResults → Type 0
+    KnownOf f = f.known.read.name ≡ y.spot.module_name → MarkedLoopIsKnown (known_of ps sss) g f y
 
-    given_effect : (f : ModuleMarks) → Stands f → (known_in f.outs).read.name ≡ y.spot.module_name → (n : ℕ) → y.spot.statement ≡ n → (e : EffectSet) → GivenAt f.effects.at n e → EffectsHold (known_of ps sss) g e (occurrence_of y later)
+    given_effect : (f : ModuleResults) → Stands f → f.known.read.name ≡ y.spot.module_name → (n : ℕ) → y.spot.statement ≡ n → (e : EffectSet) → GivenAt f.effects.at n e → EffectsHold (known_of ps sss) g e (occurrence_of y later)
     given_effect f st q zero s e h = absurd (let above = h.above in omega (arith, above))
     given_effect f st q (suc n) s e h =
-        effects st.made.at (known_in f.outs) e st.made.is_module q
-        (subst (λ i. GivesEffect (cumulated_of (known_in f.outs).read.body (bottom_up (known_of ps sss) g (known_in f.outs).read.name) (known_in f.outs).symbols) i e) (sym s)
+        effects st.made.at f.known e st.made.is_module q
+        (subst (λ i. GivesEffect (cumulated_of f.known.read.body (bottom_up (known_of ps sss) g f.known.read.name) f.known.symbols) i e) (sym s)
         (h.place, ap (λ (r : Results EffectSet). slice_get r.at h.place) (sym st.made.effects) ∙ h.given))
 
-    one : (f : ModuleMarks) → Stands f → LoopsOf f.outs.known × UnitsOf f.outs → KnownOf f
+    one : (f : ModuleResults) → Stands f → LoopsOf (phases_of f).known × UnitsOf (phases_of f) → KnownOf f
     one f st h q ended l is_do ns v xs sc body r u inner locked same does own begins =
         let found = is_found (known_of ps sss) g g.order f st.made st.numbered st.beyond y.spot.statement l is_do ns v in
         loop_known (known_of ps sss) g f y later ended (h.0 q) (h.1 q) l is_do ns found (given_effect f st q y.spot.statement refl found.calm.effect found.calm.at) sc locked same does xs body r u inner own begins
@@ -288,8 +284,8 @@ module _ (ps : List ParsedTree) (sss : List (List SymbolTree)) (g : Graph) (x : 
     all_known =
         let fs = all_marks g (outs_of ps sss g) in
         all_of_each KnownOf fs
-        (each_two Stands (λ (f : ModuleMarks). LoopsOf f.outs.known × UnitsOf f.outs) KnownOf one fs stands
-        (each_two (λ (f : ModuleMarks). LoopsOf f.outs.known) (λ (f : ModuleMarks). UnitsOf f.outs) (λ (f : ModuleMarks). LoopsOf f.outs.known × UnitsOf f.outs) (λ f a b. (a, b)) fs
+        (each_two Stands (λ (f : ModuleResults). LoopsOf (phases_of f).known × UnitsOf (phases_of f)) KnownOf one fs stands
+        (each_two (λ (f : ModuleResults). LoopsOf (phases_of f).known) (λ (f : ModuleResults). UnitsOf (phases_of f)) (λ (f : ModuleResults). LoopsOf (phases_of f).known × UnitsOf (phases_of f)) (λ f a b. (a, b)) fs
         (marks_of_ins LoopsOf (each_of_all LoopsOf (all_ins g (all_regions g (analyses (known_of ps sss) g))) loops))
         (marks_of_outs UnitsOf (each_of_all UnitsOf (outs_of ps sss g) units))))
 

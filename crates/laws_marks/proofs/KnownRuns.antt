@@ -7,7 +7,7 @@ use Rattle.f77_ast.specs.Places.{Places}
 use Rattle.f77_ast.specs.Plans.{Plan, Ends, Breaks, Look, Set, Hold, Forget, Show, Take, Within}
 use Rattle.f77_ast.specs.Executions.{run_of}
 use Rattle.f77_meaning.specs.Occurrences.{Occurrence, Onward, places_in, events_from, events_after, Throughout}
-use Rattle.laws_statements.proofs.Ends.{both}
+use Rattle.laws_analyses.proofs.Statements.Ends.{both}
 use Rattle.laws_marks.specs.ConflictExecutions.{Execution, AtEachExecution}
 
 -- an execution, as what the run does

@@ -18,11 +18,11 @@ use Rattle.f77_meaning.specs.Occurrences.{Occurrence}
 use Rattle.f77_meaning.specs.Accesses.{is_written, is_read_first}
 use Rattle.f77_meaning.specs.Processes.{Marked, writes}
 use Rattle.affine_forms.specs.Claims.{unit_in}
-use Rattle.call_translation.specs.Scopes.{ScopeTree}
+use Rattle.preconditions.specs.call_translation.Scopes.{ScopeTree}
 use Rattle.laws_interleavings.specs.Iterations.{on_store, begun, loop_plan}
 use Rattle.laws_interleavings.specs.MarkedStatements.{MarkedScope, unit_of_some, marked_loop}
 use Rattle.laws_interleavings.specs.Sound.{some_wrote}
-use Rattle.laws_regions.specs.Settings.{elements_with}
+use Rattle.laws_analyses.specs.Regions.Settings.{elements_with}
 use Rattle.laws_marks.proofs.InFirsts.{written_left, written_right}
 use Rattle.laws_marks.specs.ConflictClaims.{KnownLoop}
 use Rattle.laws_marks.proofs.ConflictParts.{iterations_are_parts}

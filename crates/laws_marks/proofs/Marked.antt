@@ -3,33 +3,34 @@ use Rattle.std.proofs.Common.{◌≡◌, ℕ, List, Option, Some, refl, sym, ap,
 use Rattle.f77_ast.specs.Trees.{LoopTree}
 use Rattle.f77_ast.specs.Trees as tree
 use Rattle.f77_ast.specs.StatementNumbers.{IsNumbered}
-use Rattle.f77_results.specs.declared.results.At.{At}
+use Rattle.f77_ast.specs.declared.results.At.{At}
 use Rattle.call_graph.specs.declared.graph.Graph.{Graph}
 use Rattle.f77_meaning.specs.Modules.{Known, symbol_names}
-use Rattle.transformers.specs.Lists.{value_at}
-use Rattle.region_sets.specs.declared.marks.Mark.{Mark}
-use Rattle.region_sets.specs.declared.marks.Mark.TheVariants.{Parallel}
-use Rattle.loop_marker.specs.Phases.{ModuleMarks, marks_found}
-use Rattle.scalar_phases.specs.Phases.{scope_of}
-use Rattle.loop_bodies.specs.Finding.{loop_in}
+use Rattle.preconditions.specs.transformers.Lists.{value_at}
+use Rattle.f77_ast.specs.declared.marks.Mark.{Mark}
+use Rattle.f77_ast.specs.declared.marks.Mark.TheVariants.{Parallel}
+use Rattle.loop_marker.specs.Results.{ModuleResults}
+use Rattle.loop_marker.specs.Phases.{phases_of, marks_found}
+use Rattle.loop_marker.specs.module_phases.ScalarPhases.{scope_of}
+use Rattle.loop_marker.specs.dependence_test.Finding.{loop_in}
 use Rattle.loop_marker.specs.Known.{knowledge_of}
 use Rattle.loop_marker.specs.Marks.{Knowledge, mark_of}
-use Rattle.laws_statements.specs.CallsIn.{Each}
-use Rattle.laws_regions.proofs.Programs.{distinct_numbers}
+use Rattle.call_graph.specs.CallsIn.{Each}
+use Rattle.laws_analyses.proofs.Regions.Programs.{distinct_numbers}
 use Rattle.laws_marks.proofs.ConflictWhats.{as_loop, each_found}
 use Rattle.laws_marks.specs.Units.{index_in}
 use Rattle.laws_marks.proofs.Marks.{Says, mark_says, list_marks, found_at}
 
 -- what is known of a module where its marks are made
-abbrev pub knowledge : Graph → ModuleMarks → Knowledge
+abbrev pub knowledge : Graph → ModuleResults → Knowledge
 knowledge g f =
-    let k = f.outs.known.known.analysis.found.known in
-    let a = f.outs.known.known.analysis in
-    knowledge_of k.read k.symbols (symbol_names k.symbols) (scope_of g.untracked k) f.effects.at a.found.own.at a.holds.at f.outs.known.known.regions.at f.outs.known.ins.at f.outs.outs.at
+    let k = f.known in
+    let a = (phases_of f).known.known.analysis in
+    knowledge_of k.read k.symbols (symbol_names k.symbols) (scope_of g.untracked k) f.effects.at a.found.own.at a.holds.at f.regions.at f.ins.at f.outs.at
 
-module _ (g : Graph) (f : ModuleMarks) (numbered : IsNumbered f.outs.known.known.analysis.found.known.read.body) (is : f.marks ≡ marks_found g.untracked f.outs f.effects) where
+module _ (g : Graph) (f : ModuleResults) (numbered : IsNumbered f.known.read.body) (is : f.marks ≡ marks_found g.untracked (phases_of f) f.effects) where
   abbrev k : Known
-  k = f.outs.known.known.analysis.found.known
+  k = f.known
 
   -- the mark of a DO that is found by its number
   record MarkOf (a : At Mark) : Type 0 where
@@ -43,10 +44,10 @@ module _ (g : Graph) (f : ModuleMarks) (numbered : IsNumbered f.outs.known.known
       subst (Each MarkOf) (sym is)
       (list_marks (mark_of (knowledge g f)) (λ a. loop_in a.id k.read.body ≡ as_loop a.value) MarkOf (λ n label l p. record { label = label; loop = l; found = p; value = refl }) k.read.body (each_found k.read.body (distinct_numbers k.read.body numbered)))
 
-  pub index_same : (l : LoopTree) → ((knowledge g f).body l).index ≡ index_in (scope_of g.untracked f.outs.known.known.analysis.found.known) l
+  pub index_same : (l : LoopTree) → ((knowledge g f).body l).index ≡ index_in (scope_of g.untracked f.known) l
   index_same (tree.loop index first last step body) = refl
 
-  pub says : (n : ℕ) (l : LoopTree) → loop_in n f.outs.known.known.analysis.found.known.read.body ≡ Some l → (ns : List ℕ) → value_at f.marks n ≡ Some (Parallel ns) → Says (knowledge g f) n l ns
+  pub says : (n : ℕ) (l : LoopTree) → loop_in n f.known.read.body ≡ Some l → (ns : List ℕ) → value_at f.marks n ≡ Some (Parallel ns) → Says (knowledge g f) n l ns
   says n l is_do ns v =
       let q = found_at MarkOf n (Parallel ns) f.marks each_mark v in
       let o = q.is_so in

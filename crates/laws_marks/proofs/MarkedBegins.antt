@@ -20,6 +20,7 @@ use Rattle.f77_ast.specs.Statements.{body_plan, do_plan}
 use Rattle.f77_meaning.specs.Processes.{Marked}
 use Rattle.laws_interleavings.specs.Marks.{MarkedPlan}
 use Rattle.laws_interleavings.specs.Holds.{LoopHolds, MarksHold}
+use Rattle.laws_interleavings.specs.Accumulating.{private_alone}
 use Rattle.laws_interleavings.specs.MarkedStatements.{MarkedScope, steps_first, marked_loop, begun_if, loop_with}
 use Rattle.laws_marks.specs.ConflictIterations.{iterations}
 use Rattle.laws_marks.specs.MarkedBegins.{behind, Begins}
@@ -154,7 +155,7 @@ module _ (xs : List (List ℕ)) (sc : MarkedScope) (variable : List ℕ) (e1 e2 
     for_variable (Variable v) n c q = unless_locked v (at v).first refl n (locked (at v).first) refl c q
     for_variable Function n c q = tt
 
-  pub loops_begin : ((r : Range) (u : ℕ) → Begins sc.plain variable l at locked (marked r u) s i → LoopHolds (marked r u) s later) → MarksHold (loop_with (Some xs) l sc at locked) s i later
+  pub loops_begin : ((r : Range) (u : ℕ) → Begins sc.plain variable l at locked (marked r u) s i → LoopHolds (marked r u) s later) → MarksHold (loop_with (Some (private_alone xs)) l sc at locked) s i later
   loops_begin next =
       marks_first (range_of e1 e2 e3 sc.plain.names at) (λ r. first (name_target (sc.plain.names variable) at) (λ t. first (write locked t.unit (content Int r.from)) (λ o. looped r t.unit)))
       (λ r. steps_first (name_target (sc.plain.names variable) at) (λ t. begun_if (locked t.unit) (marked r t.unit))) s i later (range_of_looks e1 e2 e3 sc.plain.names at)

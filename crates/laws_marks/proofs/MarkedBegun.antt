@@ -19,7 +19,7 @@ use Rattle.f77_ast.specs.Statements.{Scope, parts, body_plan}
 use Rattle.f77_meaning.specs.Processes.{Marked, number_in}
 use Rattle.laws_interleavings.specs.Iterations.{on_store, begun, whole_loop}
 use Rattle.laws_interleavings.specs.Sound.{NoTake}
-use Rattle.laws_interleavings.proofs.Runs.{steps_then, run_bind, on_from, stays_whole, after_part as part_answer}
+use Rattle.laws_interleavings.proofs.Runs.{run_bind, on_from, stays_whole, after_part as part_answer}
 use Rattle.laws_interleavings.proofs.Loops.{IsNormalAnswer, kept_same, rest_of_loop, iterations_left, iteration_normal}
 use Rattle.laws_interleavings.proofs.Same.{free_run}
 use Rattle.laws_interleavings.proofs.LaterReads.{trace_from, trace_splits}
@@ -27,6 +27,7 @@ use Rattle.laws_marks.specs.ConflictIterations.{Iteration, after_part, iteration
 use Rattle.laws_marks.proofs.ConflictCuts.{NoSets}
 use Rattle.laws_marks.proofs.ConflictLists.{AllNoSets, jumps_no_sets}
 use Rattle.laws_marks.specs.MarkedBegun.{iterations_of, did_in, iteration_at, AreBegun}
+use Rattle.f77_ast.proofs.Shared.{steps_then}
 
 -- ---- bodies
 
@@ -40,13 +41,13 @@ body_no_sets ss sc at locked = jumps_no_sets sc.turns (parts ss sc at locked) (e
 
 -- ---- what takes no input
 
-pub take_part : (es fs : List Event) → NoTake (es ++ fs) → NoTake es × NoTake fs
-take_part [] fs h = (tt, h)
-take_part (Arrived p ∷ es) fs h = take_part es fs h
-take_part (Read u c ∷ es) fs h = take_part es fs h
-take_part (Wrote u c ∷ es) fs h = take_part es fs h
-take_part (Printed xs ∷ es) fs h = take_part es fs h
-take_part (Took o ∷ es) fs h = absurd h
+pub parse_part : (es fs : List Event) → NoTake (es ++ fs) → NoTake es × NoTake fs
+parse_part [] fs h = (tt, h)
+parse_part (Arrived p ∷ es) fs h = parse_part es fs h
+parse_part (Read u c ∷ es) fs h = parse_part es fs h
+parse_part (Wrote u c ∷ es) fs h = parse_part es fs h
+parse_part (Printed xs ∷ es) fs h = parse_part es fs h
+parse_part (Took o ∷ es) fs h = absurd h
 
 -- ---- a body, and what comes after it
 
@@ -142,7 +143,7 @@ module _ (m : Marked) (s : Store) (normal : (whole_loop m s).answer ≡ Gave Nor
   pub iteration_takes : (k a j : ℕ) → a + k ≡ m.count → a ≤ j → j < m.count → NoTake (trace_from m s normal k a) → NoTake (did_in m s j)
   iteration_takes zero a j e l lt h = absurd (omega (arith, e, l, lt))
   iteration_takes (suc k) a j e l lt h =
-      let q = take_part (did_in m s a) (Wrote m.index (content Int (number (suc a))) ∷ trace_from m s normal k (suc a)) (subst NoTake (trace_splits m s normal a k e) h) in
+      let q = parse_part (did_in m s a) (Wrote m.index (content Int (number (suc a))) ∷ trace_from m s normal k (suc a)) (subst NoTake (trace_splits m s normal a k e) h) in
       ⊎_elim
       (λ z. subst (λ n. NoTake (did_in m s n)) (sym z.1) q.0)
       (λ z. iteration_takes k (suc a) j (omega (arith, e)) (omega (arith, l, z.1)) lt q.1)
@@ -155,7 +156,7 @@ module _ (m : Marked) (s : Store) (normal : (whole_loop m s).answer ≡ Gave Nor
         let y = begun m s a in
         let r = on_store (steps_of m.body) y in
         let z = store_of r.memory in
-        let parts = take_part r.trace (Wrote m.index (content Int (number (suc a))) ∷ trace_from m s normal k (suc a)) (subst NoTake (trace_splits m s normal a k e) h) in
+        let parts = parse_part r.trace (Wrote m.index (content Int (number (suc a))) ∷ trace_from m s normal k (suc a)) (subst NoTake (trace_splits m s normal a k e) h) in
         let next : (Flow → Plan) = λ f. on_normal f (next_plan k a (kept (number a +ℤ m.step))) in
         since_then y next m.body plain [] y i
         ∙ ap (λ (q : Ran Flow). following y next q.trace q.answer (store_of q.memory) q.input) (free_run (steps_of m.body) y i parts.0)

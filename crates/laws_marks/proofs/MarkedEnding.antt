@@ -23,7 +23,7 @@ use Rattle.laws_marks.proofs.ConflictParts.{iterations_are_parts}
 use Rattle.laws_marks.specs.MarkedEnding.{EndsQuietly, loop_run, StaysIn, IsQuietRun, IsQuietDo}
 use Rattle.laws_marks.specs.MarkedBegun.{iterations_of}
 use Rattle.laws_marks.specs.MarkedBegins.{Begins}
-use Rattle.laws_marks.proofs.MarkedBegun.{take_part}
+use Rattle.laws_marks.proofs.MarkedBegun.{parse_part}
 
 -- ---- without input
 
@@ -136,5 +136,5 @@ module _ (sc : Scope) (variable : List ℕ) (l : LoopTree) (at : Places) (locked
     ends = sym (ap (λ (q : Ran Flow). q.answer) b.run) ∙ h.ends;
     stays = stays_in;
     silent = last_none (printed_by b.looks) (printed_by behind_looks) (sym (printed_append b.looks behind_looks) ∙ sym (ap (λ (q : Ran Flow). printed_by q.trace) b.run) ∙ h.silent);
-    takes_nothing = (take_part b.looks behind_looks (subst (λ (q : Ran Flow). NoTake q.trace) b.run h.takes_nothing)).1;
+    takes_nothing = (parse_part b.looks behind_looks (subst (λ (q : Ran Flow). NoTake q.trace) b.run h.takes_nothing)).1;
   }

@@ -15,18 +15,17 @@ use Rattle.f77_meaning.specs.Modules.{Known}
 use Rattle.f77_meaning.specs.Accesses.{is_written, is_read_first}
 use Rattle.f77_meaning.specs.Processes.{Marked, number_in}
 use Rattle.affine_forms.specs.Claims.{numbers_of}
-use Rattle.call_translation.specs.Scopes.{ScopeTree}
-use Rattle.region_sets.specs.declared.marks.Kinds.{Kinds}
-use Rattle.region_sets.specs.declared.marks.Kinds.TheVariants.{WriteRead, ReadWrite, WriteWrite}
-use Rattle.region_sets.specs.declared.region.Access.TheVariants.{Write}
-use Rattle.region_sets.specs.declared.region.Region.{Region}
-use Rattle.region_sets.specs.Claims.{LiesInSet}
-use Rattle.dependence_test.specs.Kinds.{first_access, second_access}
-use Rattle.dependence_test.specs.Claims.{IsWritten}
-use Rattle.laws_regions.specs.Settings.{elements_with}
-use Rattle.laws_regions.specs.Shown.{accessed, is_hidden}
+use Rattle.preconditions.specs.call_translation.Scopes.{ScopeTree}
+use Rattle.f77_ast.specs.declared.marks.Kinds.{Kinds}
+use Rattle.f77_ast.specs.declared.marks.Kinds.TheVariants.{WriteRead, ReadWrite, WriteWrite}
+use Rattle.in_out_regions.specs.region_sets.declared.region.Access.TheVariants.{Write}
+use Rattle.in_out_regions.specs.region_sets.declared.region.Region.{Region}
+use Rattle.in_out_regions.specs.region_sets.Claims.{LiesInSet}
+use Rattle.loop_marker.specs.dependence_test.Kinds.{first_access, second_access}
+use Rattle.loop_marker.specs.dependence_test.Claims.{IsWritten}
+use Rattle.laws_analyses.specs.Regions.Settings.{elements_with}
+use Rattle.laws_analyses.specs.Regions.Shown.{accessed, is_hidden}
 use Rattle.laws_marks.specs.ConflictClaims.{scene_in, KnownLoop}
-use Rattle.laws_marks.proofs.ConflictMeeting.{same_own}
 use Rattle.laws_interleavings.specs.Alone.{NoneMeet}
 use Rattle.laws_interleavings.specs.Iterations.{on_store, begun, does, MayInterleave}
 use Rattle.laws_interleavings.specs.Sound.{NoTake, some_wrote, store_left, is_own}
@@ -37,13 +36,16 @@ use Rattle.laws_interleavings.proofs.Loops.{iterations_left, iteration_normal}
 use Rattle.laws_interleavings.proofs.Traces.{write_shared}
 use Rattle.laws_interleavings.proofs.OwnFirst.{own_first}
 use Rattle.laws_interleavings.proofs.LaterReads.{some_false}
-use Rattle.laws_marked_plans.specs.Uses.{FineUses}
-use Rattle.laws_marked_plans.specs.Cleared.{HasNoValue, Ending}
-use Rattle.laws_marked_plans.proofs.Uses.{serve}
+use Rattle.laws_interleavings.specs.Plans.Uses.{FineUses}
+use Rattle.laws_interleavings.specs.Plans.Cleared.{HasNoValue, Ending}
+use Rattle.laws_interleavings.proofs.Plans.Uses.{serve}
 use Rattle.laws_marks.specs.MarkedBegun.{iterations_of, did_in, iteration_at, AreBegun}
 use Rattle.laws_marks.specs.MarkedFit.{LoopIsFit, IsDeadAfter}
 use Rattle.laws_marks.proofs.MarkedBegun.{body_no_sets, iteration_takes, are_begun}
-use Rattle.laws_marks.proofs.MarkedShared.{or_here, or_there, eq_same, shared_read, shared_write, written_writes, quiet_more, stays}
+use Rattle.laws_marks.proofs.MarkedShared.{or_here, eq_same, shared_read, shared_write, written_writes, quiet_more, stays}
+use Rattle.fx_lists.proofs.Numbers.{apart_of}
+use Rattle.fx_lists.proofs.Booleans.{or_there}
+use Rattle.f77_ast.proofs.SameLaws.{same_itself}
 
 -- ---- own units
 
@@ -63,9 +65,6 @@ no_name false false c e = refl
 
 owned_so : (a b c : Bool) → a ≡ false → b ≡ false → c ≡ true → (not a && (not b && c)) ≡ true
 owned_so a b c ea eb ec = rw ea (rw eb (rw ec refl))
-
-apart_of : (u v : ℕ) → nat_eq v u ≡ false → v ≡ u → ⊥
-apart_of u v e q = grind (arith, nat_tests)
 
 module _ (ks : List Known) (g : Graph) (k : ScopeTree) (at : Places) (d : KnownLoop) (m : Marked) (s : Store) (i : List Content) (index : m.private m.index ≡ true) (named : (u : ℕ) → m.named u ≡ true → m.private u ≡ true) (begun_so : AreBegun m s (iterations_of m s i)) (h : LoopIsFit ks g k at d m s i) where
   uses : FineUses h.free h.own m.body
@@ -123,7 +122,7 @@ module _ (ks : List Known) (g : Graph) (k : ScopeTree) (at : Places) (d : KnownL
       r = lies.region
 
       there : Written a u r
-      there = record { region = r; is_one = lies.is_one; kind = lies.kind; variable = same_own r.variable; lies = lies.lies }
+      there = record { region = r; is_one = lies.is_one; kind = lies.kind; variable = same_itself r.variable; lies = lies.lies }
 
   apart : NoneMeet m.count (does m s)
   apart = record {

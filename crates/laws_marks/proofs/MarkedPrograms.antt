@@ -18,33 +18,35 @@ use Rattle.f77_meaning.specs.Occurrences.{Occurrence, Throughout, places_in}
 use Rattle.f77_meaning.specs.Accesses.{is_read_first}
 use Rattle.f77_meaning.specs.Claims.{writes}
 use Rattle.affine_forms.specs.Claims.{unit_in}
-use Rattle.transformers.specs.Lists.{value_at}
-use Rattle.region_sets.specs.declared.marks.Mark.TheVariants.{Parallel}
-use Rattle.in_out_regions.specs.Lists.{set_at}
-use Rattle.region_phases.specs.OutPhases.{ModuleOuts}
-use Rattle.loop_marker.specs.Phases.{ModuleMarks, known_in, all_marks}
-use Rattle.scalar_phases.specs.Phases.{scope_of}
-use Rattle.loop_bodies.specs.Finding.{loop_in}
+use Rattle.preconditions.specs.transformers.Lists.{value_at}
+use Rattle.f77_ast.specs.declared.marks.Mark.TheVariants.{Parallel}
+use Rattle.loop_marker.specs.module_phases.OutPhases.{ModuleOuts}
+use Rattle.loop_marker.specs.Results.{ModuleResults}
+use Rattle.loop_marker.specs.Phases.{phases_of, all_marks}
+use Rattle.loop_marker.specs.module_phases.ScalarPhases.{scope_of}
+use Rattle.loop_marker.specs.dependence_test.Finding.{loop_in}
 use Rattle.loop_marker.specs.Variables.{is_of_some}
-use Rattle.privatizer.specs.Names.{may_copy}
-use Rattle.privatizer.specs.Uses.{Uses}
-use Rattle.privatizer.specs.Private.{private_in}
-use Rattle.region_sets.specs.declared.marks.Private.TheVariants.{Yes}
-use Rattle.laws_regions.specs.Settings.{elements_with}
+use Rattle.loop_marker.specs.privatizer.Names.{may_copy}
+use Rattle.loop_marker.specs.privatizer.Uses.{Uses}
+use Rattle.loop_marker.specs.privatizer.Private.{private_in}
+use Rattle.f77_ast.specs.declared.marks.Private.TheVariants.{Yes}
+use Rattle.laws_analyses.specs.Regions.Settings.{elements_with}
 use Rattle.laws_programs.specs.Programs.{IsProgram}
-use Rattle.laws_statements.specs.CallsIn.{Each}
+use Rattle.call_graph.specs.CallsIn.{Each}
 use Rattle.laws_marks.specs.ConflictAccepted.{CopiesAreSole}
 use Rattle.laws_marks.specs.ConflictExecutions.{Execution}
 use Rattle.laws_marks.specs.Dead.{uses_in, CopiesLieInOwn, PrivatesAreDead, MarkedIsDead, MarkIsDead, index_name}
 use Rattle.laws_marks.specs.Units.{ModuleUnitsStand}
 use Rattle.laws_marks.specs.DeadLaws.{outs_of, AllUnitsStand, AllCopiesLieInOwn, AllPrivatesAreDead, AllMarksAreDead, ReadUnitsStand, ReadCopiesLieInOwn, ReadPrivatesAreDead}
-use Rattle.laws_marks.proofs.UnitsStanding.{all_of_each, each_of_all}
+use Rattle.laws_marks.proofs.UnitsStanding.{each_of_all}
 use Rattle.laws_marks.proofs.Dead.{dead_if}
 use Rattle.laws_marks.proofs.Marked.{knowledge, index_same, says}
 use Rattle.laws_marks.proofs.Marks.{Says, none_of_it}
 use Rattle.laws_marks.proofs.Merging.{Joined, merged, throughout_both}
 use Rattle.laws_marks.proofs.Own.{passing}
 use Rattle.laws_marks.proofs.Modules.{each_two, no_entry, with_their_marks, MarksStand, marks_stand}
+use Rattle.laws_analyses.proofs.Claimed.{all_of_each}
+use Rattle.in_out_regions.specs.region_sets.Lists.{set_at}
 
 module _ (ps : List ParsedTree) (sss : List (List SymbolTree)) (g : Graph) (x : IsProgram ps sss g) (copies : CopiesAreSole) where
   module _ (p : Spot) (at : Places) (t : Plan) (s : Store) (i : List Content) (later : List Event) where
@@ -54,11 +56,11 @@ module _ (ps : List ParsedTree) (sss : List (List SymbolTree)) (g : Graph) (x : 
     abbrev seen : Occurrence
     seen = record { spot = p; places = places_in p.statement t s i at; start = s; ran = run_of t s i; later = later }
 
-    module _ (j : ℕ) (number : p.statement ≡ suc j) (f : ModuleMarks) (st : MarksStand ps sss g x copies f) (e : ModuleUnitsStand (known_of ps sss) g f.outs.known done) (own : CopiesLieInOwn (known_of ps sss) g f.outs seen) (private : PrivatesAreDead (known_of ps sss) g f.outs seen) where
+    module _ (j : ℕ) (number : p.statement ≡ suc j) (f : ModuleResults) (st : MarksStand ps sss g x copies f) (e : ModuleUnitsStand (known_of ps sss) g (phases_of f).known done) (own : CopiesLieInOwn (known_of ps sss) g (phases_of f) seen) (private : PrivatesAreDead (known_of ps sss) g (phases_of f) seen) where
       abbrev k : Known
-      k = f.outs.known.known.analysis.found.known
+      k = f.known
 
-      module _ (l : LoopTree) (is_do : loop_in p.statement f.outs.known.known.analysis.found.known.read.body ≡ Some l) (ns : List ℕ) (v : value_at f.marks p.statement ≡ Some (Parallel ns)) where
+      module _ (l : LoopTree) (is_do : loop_in p.statement f.known.read.body ≡ Some l) (ns : List ℕ) (v : value_at f.marks p.statement ≡ Some (Parallel ns)) where
         mark : Says (knowledge g f) p.statement l ns
         mark = says g f st.module_stands.numbered st.is p.statement l is_do ns v
 
@@ -70,12 +72,12 @@ module _ (ps : List ParsedTree) (sss : List (List SymbolTree)) (g : Graph) (x : 
             let stand = e l is_do in
             let same : ((knowledge g f).body l).index ≡ c = index_same g f st.module_stands.numbered st.is l ∙ stand.number c n in
             let may : may_copy k.read k.symbols (Own c) ≡ true = subst (λ i. may_copy k.read k.symbols (Own i) ≡ true) same mark.index in
-            dead_if (known_of ps sss) g f.outs seen j number own l is_do (Own c) may
-            (λ y o. none_of_it (Own c) (set_at f.outs.outs.at p.statement) (subst (λ i. is_of_some (Own i) (set_at f.outs.outs.at p.statement) ≡ false) same mark.unused) o.region o.is_one o.same)
+            dead_if (known_of ps sss) g (phases_of f) seen j number own l is_do (Own c) may
+            (λ y o. none_of_it (Own c) (set_at f.outs.at p.statement) (subst (λ i. is_of_some (Own i) (set_at f.outs.at p.statement) ≡ false) same mark.unused) o.region o.is_one o.same)
             (λ i. pos 0) (unit_in (places_in p.statement t s i at) c)
             (subst (λ (q : Places). elements_with (known_of ps sss) g k.symbols q (Own c) (λ i. pos 0) ≡ Some (unit_in q c)) same_places (stand.index c n (passing k.read k.symbols c may) (λ i. pos 0))) wr
 
-        uses_same : (knowledge g f).uses p.statement l ≡ uses_in f.outs p.statement l
+        uses_same : (knowledge g f).uses p.statement l ≡ uses_in (phases_of f) p.statement l
         uses_same = refl
 
         pub marked_dead : MarkedIsDead (known_of ps sss) g (scope_of g.untracked k) l ns seen
@@ -94,8 +96,8 @@ module _ (ps : List ParsedTree) (sss : List (List SymbolTree)) (g : Graph) (x : 
     abbrev PrivatesOf : ModuleOuts → Type 0
     PrivatesOf f = f.known.known.analysis.found.known.read.name ≡ p.module_name → PrivatesAreDead (known_of ps sss) g f seen
 
-    abbrev MarkOf : ModuleMarks → Type 0
-    MarkOf f = (known_in f.outs).read.name ≡ p.module_name → MarkIsDead (known_of ps sss) g f seen
+    abbrev MarkOf : ModuleResults → Type 0
+    MarkOf f = f.known.read.name ≡ p.module_name → MarkIsDead (known_of ps sss) g f seen
 
     record Claims (f : ModuleOuts) : Type 0 where
       units : UnitsOf f
@@ -106,16 +108,16 @@ module _ (ps : List ParsedTree) (sss : List (List SymbolTree)) (g : Graph) (x : 
     claims [] e a b = tt
     claims (f ∷ fs) e a b = (record { units = e.0; copied = a.0; private = b.0 }, claims fs e.1 a.1 b.1)
 
-    mark_of : (f : ModuleMarks) → MarksStand ps sss g x copies f → Claims f.outs → MarkOf f
+    mark_of : (f : ModuleResults) → MarksStand ps sss g x copies f → Claims (phases_of f) → MarkOf f
     mark_of f st c q = go p.statement refl
       where
         go : (n : ℕ) → p.statement ≡ n → MarkIsDead (known_of ps sss) g f seen
-        go zero e = λ l is_do. absurd (no_entry ps sss g x copies f.outs st.module_stands l (subst (λ n. loop_in n f.outs.known.known.analysis.found.known.read.body ≡ Some l) e is_do))
+        go zero e = λ l is_do. absurd (no_entry ps sss g x copies (phases_of f) st.module_stands l (subst (λ n. loop_in n f.known.read.body ≡ Some l) e is_do))
         go (suc j) e = λ l is_do ns v. marked_dead j e f st (c.units q) (c.copied q) (c.private q) l is_do ns v
 
     marks_each : Each UnitsOf (outs_of ps sss g) → Each CopiesOf (outs_of ps sss g) → Each PrivatesOf (outs_of ps sss g) → Each MarkOf (all_marks g (outs_of ps sss g))
     marks_each e a b =
-        each_two (MarksStand ps sss g x copies) (λ (f : ModuleMarks). Claims f.outs) MarkOf mark_of (all_marks g (outs_of ps sss g)) (marks_stand ps sss g x copies)
+        each_two (MarksStand ps sss g x copies) (λ (f : ModuleResults). Claims (phases_of f)) MarkOf mark_of (all_marks g (outs_of ps sss g)) (marks_stand ps sss g x copies)
         (with_their_marks g Claims (outs_of ps sss g) (claims (outs_of ps sss g) e a b))
 
   -- two claims of an execution in a run

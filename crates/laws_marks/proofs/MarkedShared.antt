@@ -13,16 +13,13 @@ use Rattle.laws_interleavings.specs.Iterations.{on_store}
 use Rattle.laws_interleavings.specs.Strict.{Quiet}
 use Rattle.laws_interleavings.specs.Sound.{NoTake}
 use Rattle.laws_interleavings.proofs.Stores.{put_other}
-use Rattle.laws_interleavings.proofs.LaterReads.{or_false}
+use Rattle.fx_lists.proofs.Numbers.{apart_of}
+use Rattle.fx_lists.proofs.Booleans.{or_there, or_neither as or_false}
 
 -- ---- Booleans
 
 pub or_here : (a b : Bool) → a ≡ true → (a || b) ≡ true
 or_here a b e = rw e refl
-
-pub or_there : (a b : Bool) → b ≡ true → (a || b) ≡ true
-or_there true b e = refl
-or_there false b e = e
 
 pub eq_same : (u v : ℕ) → u ≡ v → nat_eq v u ≡ true
 eq_same u v e = grind (arith, nat_tests)
@@ -85,9 +82,6 @@ quiet_more p q m (Forget u t) h = (m u h.0, quiet_more p q m t h.1)
 quiet_more p q m (Show xs t) h = quiet_more p q m t h
 quiet_more p q m (Take k) h = λ o. quiet_more p q m (k o) (h o)
 quiet_more p q m (Arrive a t) h = quiet_more p q m t h
-
-apart_of : (u v : ℕ) → nat_eq v u ≡ false → v ≡ u → ⊥
-apart_of u v e q = grind (arith, nat_tests)
 
 -- what no event writes, and does not change without one, stays
 pub stays : (own : ℕ → Bool) (t : Steps Flow) (s : Store) (x : ℕ) → Quiet own t → NoTake (on_store t s).trace → own x ≡ false → writes x (on_store t s).trace ≡ false → store_of (on_store t s).memory x ≡ s x

@@ -8,45 +8,44 @@ use Rattle.f77_ast.specs.Shapes.{walk_stmt, walk_what, walk_body, walk_arms, wal
 use Rattle.f77_ast.specs.declared.variable.Variable.{Variable as Named}
 use Rattle.f77_ast.specs.declared.variable.Variable.TheVariants.{Own, Block, Saved}
 use Rattle.f77_ast.specs.Shared.{numbered}
-use Rattle.f77_results.specs.declared.results.At.{At}
-use Rattle.transformer_algebra.specs.Laws.{In, here, there}
-use Rattle.transformers.specs.Lists.{first_at, or_first, value_at}
-use Rattle.transformers.specs.Statement.{at}
-use Rattle.region_sets.specs.declared.marks.Kinds.{Kinds}
-use Rattle.region_sets.specs.declared.marks.Mark.{Mark}
-use Rattle.region_sets.specs.declared.marks.Mark.TheVariants.{Parallel, Serial}
-use Rattle.region_sets.specs.declared.marks.Private.{Private}
-use Rattle.region_sets.specs.declared.marks.Private.TheVariants.{Yes, Name, Carried, Live}
-use Rattle.region_sets.specs.declared.marks.Reason.{Reason}
-use Rattle.region_sets.specs.declared.region.Region.{Region}
-use Rattle.loop_bodies.specs.declared.body.LoopBody.{LoopBody}
-use Rattle.loop_bodies.specs.Same.{same_variable}
-use Rattle.privatizer.specs.Names.{may_copy}
-use Rattle.privatizer.specs.Private.{private_in}
-use Rattle.privatizer.specs.Uses.{Uses}
+use Rattle.f77_ast.specs.declared.results.At.{At}
+use Rattle.preconditions.specs.transformer_algebra.Laws.{In, here, there}
+use Rattle.preconditions.specs.transformers.Lists.{first_at, or_first, value_at}
+use Rattle.preconditions.specs.transformers.Statement.{at}
+use Rattle.f77_ast.specs.declared.marks.Kinds.{Kinds}
+use Rattle.f77_ast.specs.declared.marks.Mark.{Mark}
+use Rattle.f77_ast.specs.declared.marks.Mark.TheVariants.{Parallel, Serial}
+use Rattle.f77_ast.specs.declared.marks.Private.{Private}
+use Rattle.f77_ast.specs.declared.marks.Private.TheVariants.{Yes, Name, Carried, Live}
+use Rattle.f77_ast.specs.declared.marks.Reason.{Reason}
+use Rattle.in_out_regions.specs.region_sets.declared.region.Region.{Region}
+use Rattle.loop_marker.specs.dependence_test.declared.body.LoopBody.{LoopBody}
+use Rattle.loop_marker.specs.privatizer.Names.{may_copy}
+use Rattle.loop_marker.specs.privatizer.Private.{private_in}
+use Rattle.loop_marker.specs.privatizer.Uses.{Uses}
 use Rattle.loop_marker.specs.declared.verdict.Verdict.{Verdict}
 use Rattle.loop_marker.specs.declared.verdict.Verdict.TheVariants.{Free, Copied, Bad}
 use Rattle.loop_marker.specs.Jumps.{may_jump, may_have_io, body_of}
 use Rattle.loop_marker.specs.Marks.{Knowledge, is_in_bounds, index_is_bad, kinds_of, unless_named, copy_answer, with_own, by_kinds, verdict_of, by_verdict, marked, by_variables, has_step, by_index, by_step, by_io, mark_of, the_marks}
 use Rattle.loop_marker.specs.Variables.{indexes_in, written_in, is_of_some}
-use Rattle.f77_results.specs.Variables.{union}
-use Rattle.laws_statements.specs.CallsIn.{Each}
-use Rattle.laws_statements.proofs.Placing.{each_parts}
+use Rattle.f77_ast.specs.Variables.{union, same_variable}
+use Rattle.call_graph.specs.CallsIn.{Each}
+use Rattle.laws_analyses.proofs.Statements.Placing.{each_parts}
 use Rattle.laws_analyses.proofs.CallLists.{each_joined}
-use Rattle.laws_marks.proofs.ConflictMeeting.{same_own}
 use Rattle.laws_marks.proofs.ConflictWhats.{stmt_whats, part_whats, list_whats, arms_whats, else_whats, loop_whats}
 use Rattle.laws_marks.proofs.Outs.{in_both}
+use Rattle.f77_ast.proofs.SameLaws.{same_itself}
 
 -- ---- verdicts
 
-copied_yes : (ks : List Kinds) (p : Private) → by_kinds ks p ≡ Copied → p ≡ Yes
+pub copied_yes : (ks : List Kinds) (p : Private) → by_kinds ks p ≡ Copied → p ≡ Yes
 copied_yes [] p e = cc
 copied_yes (k ∷ ks) Yes e = refl
 copied_yes (k ∷ ks) Name e = cc
 copied_yes (k ∷ ks) Carried e = cc
 copied_yes (k ∷ ks) Live e = cc
 
-unnamed_yes : (named : Bool) (p : Private) → unless_named named p ≡ Yes → p ≡ Yes
+pub unnamed_yes : (named : Bool) (p : Private) → unless_named named p ≡ Yes → p ≡ Yes
 unnamed_yes named Yes e = refl
 unnamed_yes named Name e = cc
 unnamed_yes named Carried e = cc
@@ -85,14 +84,14 @@ pub record Says (k : Knowledge) (n : ℕ) (l : LoopTree) (ns : List ℕ) : Type 
   pub unused : is_of_some (Own (k.body l).index) (k.uses n l).outs ≡ false
   pub names : (m : ℕ) → In m ns → private_in k.tree k.symbols (k.uses n l) (Own m) ≡ Yes
 
-serial_no : (r : Reason) (ns : List ℕ) → Serial r ≡ Parallel ns → ⊥
+pub serial_no : (r : Reason) (ns : List ℕ) → Serial r ≡ Parallel ns → ⊥
 serial_no r ns e = cc
 
-unless : (c : Bool) (r : Reason) (m : Mark) (ns : List ℕ) → (if c then Serial r else m) ≡ Parallel ns → (c ≡ false) × (m ≡ Parallel ns)
+pub unless : (c : Bool) (r : Reason) (m : Mark) (ns : List ℕ) → (if c then Serial r else m) ≡ Parallel ns → (c ≡ false) × (m ≡ Parallel ns)
 unless true r m ns e = absurd (serial_no r ns e)
 unless false r m ns e = (refl, e)
 
-only_if : (c : Bool) (r : Reason) (m : Mark) (ns : List ℕ) → (if c then m else Serial r) ≡ Parallel ns → m ≡ Parallel ns
+pub only_if : (c : Bool) (r : Reason) (m : Mark) (ns : List ℕ) → (if c then m else Serial r) ≡ Parallel ns → m ≡ Parallel ns
 only_if true r m ns e = e
 only_if false r m ns e = absurd (serial_no r ns e)
 
@@ -118,7 +117,7 @@ mark_says k n label l ns e =
 -- a variable of which no region is
 pub none_of_it : (v : Named) (rs : List Region) → is_of_some v rs ≡ false → (r : Region) → In r rs → r.variable ≡ v → ⊥
 none_of_it v [] e r i same = elim i [ ]
-none_of_it v (q ∷ rs) e r here same = true≢false (sym (subst (λ w. same_variable v w ≡ true) (sym same) (same_own v)) ∙ (or_parts (same_variable v q.variable) (is_of_some v rs) e).0)
+none_of_it v (q ∷ rs) e r here same = true≢false (sym (subst (λ w. same_variable v w ≡ true) (sym same) (same_itself v)) ∙ (or_parts (same_variable v q.variable) (is_of_some v rs) e).0)
 none_of_it v (q ∷ rs) e r (there i) same = none_of_it v rs (or_parts (same_variable v q.variable) (is_of_some v rs) e).1 r i same
 
 -- ---- the marks of a module

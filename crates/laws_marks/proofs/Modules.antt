@@ -9,25 +9,25 @@ use Rattle.f77_ast.specs.Symbols.{SymbolTree}
 use Rattle.call_graph.specs.declared.graph.Graph.{Graph}
 use Rattle.f77_meaning.specs.Modules.{Known, known_of}
 use Rattle.f77_meaning.specs.Occurrences.{Occurrence}
-use Rattle.call_translation.specs.Sites.{SiteTree}
-use Rattle.transformers.specs.Lists.{value_at, transformer_at}
-use Rattle.region_sets.specs.declared.region.Region.{Region}
-use Rattle.in_out_regions.specs.Lists.{set_at}
-use Rattle.region_phases.specs.InPhases.{ModuleIns}
-use Rattle.out_regions.specs.Known.{KnownTree}
-use Rattle.out_regions.specs.Statement.{body_out, at_list}
-use Rattle.region_phases.specs.declared.sites.OutSite.{OutSite}
-use Rattle.region_phases.specs.OutPhases.{ModuleOuts, used_after, outs_found, sites_of}
-use Rattle.effects.specs.List.{Callees as EffectCallees}
-use Rattle.loop_marker.specs.Phases.{ModuleMarks, no_callees, with_callee, with_marks, marks_found, found_in, all_marks}
-use Rattle.scalar_phases.specs.Phases.{Analysis, analyses, scope_of}
-use Rattle.loop_bodies.specs.Finding.{loop_in}
+use Rattle.preconditions.specs.call_translation.Sites.{SiteTree}
+use Rattle.preconditions.specs.transformers.Lists.{value_at, transformer_at}
+use Rattle.in_out_regions.specs.region_sets.declared.region.Region.{Region}
+use Rattle.loop_marker.specs.module_phases.InPhases.{ModuleIns}
+use Rattle.loop_marker.specs.out_regions.Known.{KnownTree}
+use Rattle.loop_marker.specs.out_regions.Statement.{body_out, at_list}
+use Rattle.loop_marker.specs.module_phases.declared.out_site.OutSite.{OutSite}
+use Rattle.loop_marker.specs.module_phases.OutPhases.{ModuleOuts, used_after, outs_found, sites_of}
+use Rattle.in_out_regions.specs.effects.List.{Callees as EffectCallees}
+use Rattle.loop_marker.specs.Results.{ModuleResults}
+use Rattle.loop_marker.specs.Phases.{phases_of, no_callees, with_callee, with_marks, marks_found, found_in, all_marks}
+use Rattle.loop_marker.specs.module_phases.ScalarPhases.{Analysis, analyses, scope_of}
+use Rattle.loop_marker.specs.dependence_test.Finding.{loop_in}
 use Rattle.laws_programs.specs.Programs.{IsProgram}
 use Rattle.laws_programs.proofs.Numbers.{is_numbered}
 use Rattle.laws_programs.proofs.Tables.{programs_are_linked}
 use Rattle.laws_programs.proofs.Whole.{numbers_go_up}
-use Rattle.laws_statements.specs.CallsIn.{Each}
-use Rattle.laws_storage.specs.Programs.{IsLinked, known}
+use Rattle.call_graph.specs.CallsIn.{Each}
+use Rattle.laws_programs.specs.Storage.Programs.{IsLinked, known}
 use Rattle.laws_analyses.specs.Claims.{AnalysisHolds, AnalysesHold}
 use Rattle.laws_analyses.proofs.Analyses.{Located, all_located}
 use Rattle.laws_analyses.proofs.CallLists.{each_more, each_joined}
@@ -43,12 +43,10 @@ use Rattle.laws_marks.proofs.Marks.{found_at}
 use Rattle.laws_marks.proofs.Outs.{AreWritten, IsWrittenAt, list_written}
 use Rattle.laws_marks.proofs.Own.{TablesTell}
 use Rattle.laws_marks.proofs.PrivateTables.{tables_tell}
+use Rattle.laws_analyses.proofs.Passes.{each_reversed as each_reverse}
+use Rattle.in_out_regions.specs.region_sets.Lists.{set_at}
 
 -- ---- lists
-
-each_reverse : {T : Type 0} (P : T → Type 0) (xs : List T) → Each P xs → Each P (reverse xs)
-each_reverse P [] h = tt
-each_reverse P (x ∷ xs) h = subst (Each P) (sym (reverse-cons x xs)) (each_joined P (reverse xs) (x ∷ []) (each_reverse P xs h.1) (h.0, tt))
 
 -- two claims of each, and what follows
 pub each_two : {T : Type 0} (P Q R : T → Type 0) → ((x : T) → P x → Q x → R x) → (xs : List T) → Each P xs → Each Q xs → Each R xs
@@ -56,11 +54,11 @@ each_two P Q R f [] p q = tt
 each_two P Q R f (x ∷ xs) p q = (f x p.0 q.0, each_two P Q R f xs p.1 q.1)
 
 -- what is claimed of modules with their OUT regions is claimed of them with their marks
-marked_from : (g : Graph) (P : ModuleOuts → Type 0) (cs : EffectCallees) (fs : List ModuleOuts) → Each P fs → Each (λ (f : ModuleMarks). P f.outs) (found_in g.untracked cs fs)
+marked_from : (g : Graph) (P : ModuleOuts → Type 0) (cs : EffectCallees) (fs : List ModuleOuts) → Each P fs → Each (λ (f : ModuleResults). P (phases_of f)) (found_in g.untracked cs fs)
 marked_from g P cs [] h = tt
 marked_from g P cs (f ∷ fs) h = (h.0, marked_from g P (with_callee (with_marks g.untracked cs f) cs) fs h.1)
 
-pub with_their_marks : (g : Graph) (P : ModuleOuts → Type 0) (fs : List ModuleOuts) → Each P fs → Each (λ (f : ModuleMarks). P f.outs) (all_marks g fs)
+pub with_their_marks : (g : Graph) (P : ModuleOuts → Type 0) (fs : List ModuleOuts) → Each P fs → Each (λ (f : ModuleResults). P (phases_of f)) (all_marks g fs)
 with_their_marks g P fs h = marked_from g P no_callees (reverse fs) (each_reverse P fs h)
 
 -- ---- OUT regions of a statement
@@ -120,9 +118,9 @@ module _ (ps : List ParsedTree) (sss : List (List SymbolTree)) (g : Graph) (x : 
   -- ---- modules with their marks
 
   -- what is known of one
-  pub record MarksStand (f : ModuleMarks) : Type 0 where
-    pub module_stands : Stands f.outs
-    pub is : f.marks ≡ marks_found g.untracked f.outs f.effects
+  pub record MarksStand (f : ModuleResults) : Type 0 where
+    pub module_stands : Stands (phases_of f)
+    pub is : f.marks ≡ marks_found g.untracked (phases_of f) f.effects
 
   marks_from : (cs : EffectCallees) (fs : List ModuleOuts) → Each Stands fs → Each MarksStand (found_in g.untracked cs fs)
   marks_from cs [] h = tt

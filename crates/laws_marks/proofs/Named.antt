@@ -12,27 +12,27 @@ use Rattle.call_graph.specs.declared.graph.Graph.{Graph}
 use Rattle.f77_meaning.specs.Modules.{Known, names, fixed, dummies_from}
 use Rattle.f77_meaning.specs.Linked.{numbering}
 use Rattle.affine_forms.specs.Claims.{unit_in}
-use Rattle.transformer_algebra.specs.declared.transformer.Transformer.{Transformer}
-use Rattle.transformer_algebra.specs.Laws.{In, here, there}
-use Rattle.call_translation.specs.Scopes.{ScopeTree}
-use Rattle.transformers.specs.Lists.{value_at, transformer_at}
-use Rattle.f77_results.specs.declared.results.At.{At}
-use Rattle.region_sets.specs.declared.marks.Mark.TheVariants.{Parallel}
-use Rattle.region_sets.specs.declared.marks.Private.TheVariants.{Yes}
-use Rattle.region_sets.specs.declared.region.Region.{Region}
-use Rattle.region_sets.specs.Lists.{accesses_at}
-use Rattle.loop_marker.specs.Phases.{ModuleMarks, marks_found}
-use Rattle.scalar_phases.specs.Phases.{scope_of}
-use Rattle.in_out_regions.specs.Lists.{set_at}
-use Rattle.loop_bodies.specs.Body.{body_of, system_at}
-use Rattle.loop_bodies.specs.Finding.{loop_in}
-use Rattle.privatizer.specs.Names.{may_copy}
-use Rattle.privatizer.specs.Uses.{head_in, ins_in}
-use Rattle.privatizer.specs.Private.{is_carried, is_live, private_in}
+use Rattle.preconditions.specs.transformer_algebra.declared.transformer.Transformer.{Transformer}
+use Rattle.preconditions.specs.transformer_algebra.Laws.{In, here, there}
+use Rattle.preconditions.specs.call_translation.Scopes.{ScopeTree}
+use Rattle.preconditions.specs.transformers.Lists.{value_at, transformer_at}
+use Rattle.f77_ast.specs.declared.results.At.{At}
+use Rattle.f77_ast.specs.declared.marks.Mark.TheVariants.{Parallel}
+use Rattle.f77_ast.specs.declared.marks.Private.TheVariants.{Yes}
+use Rattle.in_out_regions.specs.region_sets.declared.region.Region.{Region}
+use Rattle.in_out_regions.specs.region_sets.Lists.{accesses_at, set_at}
+use Rattle.loop_marker.specs.Results.{ModuleResults}
+use Rattle.loop_marker.specs.Phases.{phases_of, marks_found}
+use Rattle.loop_marker.specs.module_phases.ScalarPhases.{scope_of}
+use Rattle.loop_marker.specs.dependence_test.Body.{body_of, system_at}
+use Rattle.loop_marker.specs.dependence_test.Finding.{loop_in}
+use Rattle.loop_marker.specs.privatizer.Names.{may_copy}
+use Rattle.loop_marker.specs.privatizer.Uses.{head_in, ins_in}
+use Rattle.loop_marker.specs.privatizer.Private.{is_carried, is_live, private_in}
 use Rattle.laws_interleavings.specs.MarkedStatements.{unit_of, unit_of_some}
-use Rattle.laws_calls.specs.Parts.{NoDummy}
-use Rattle.laws_regions.specs.Claims.{elements_of}
-use Rattle.laws_regions.specs.Settings.{elements_if, elements_with}
+use Rattle.laws_analyses.specs.Calls.Parts.{NoDummy}
+use Rattle.laws_analyses.specs.Regions.Claims.{elements_of}
+use Rattle.laws_analyses.specs.Regions.Settings.{elements_if, elements_with}
 use Rattle.laws_marks.specs.ConflictExecutions.{Execution}
 use Rattle.laws_marks.specs.ConflictClaims.{loop_with}
 use Rattle.laws_interleavings.specs.Typed.{IsNoDummy}
@@ -46,6 +46,7 @@ use Rattle.laws_marks.proofs.Marked.{knowledge, index_same, says}
 use Rattle.laws_marks.proofs.Marks.{Says}
 use Rattle.laws_marks.proofs.Own.{TablesTell, passing}
 use Rattle.laws_marks.proofs.Written.{written_names}
+use Rattle.fx_lists.proofs.Options.{some_same}
 
 -- ---- dummies
 
@@ -88,20 +89,17 @@ some_name w at (y ∷ ys) u h = go (unit_of (w y) at u) refl h (λ q. some_name 
 head_same : (ps : List (At System)) (m : ScopeTree) (t : ℕ → Transformer) (rs : ℕ → List Region) (l : LoopTree) → head_in ps l ≡ (body_of l m t ps rs).head
 head_same ps m t rs (tree.loop index first last step body) = refl
 
-some_same : (a b : ℕ) → Some a ≡ Some b → a ≡ b
-some_same a b e = cc
-
 -- ---- a DO
 
-module _ (ks : List Known) (g : Graph) (f : ModuleMarks) (numbered : IsNumbered f.outs.known.known.analysis.found.known.read.body) (is : f.marks ≡ marks_found g.untracked f.outs f.effects) (tell : TablesTell ks g f.outs.known.known.analysis.found.known) (x : Execution) (e : ModuleUnitsStand ks g f.outs.known x)
-    (l : LoopTree) (is_do : loop_in x.spot.statement f.outs.known.known.analysis.found.known.read.body ≡ Some l) (ns : List ℕ) (v : value_at f.marks x.spot.statement ≡ Some (Parallel ns)) where
+module _ (ks : List Known) (g : Graph) (f : ModuleResults) (numbered : IsNumbered f.known.read.body) (is : f.marks ≡ marks_found g.untracked (phases_of f) f.effects) (tell : TablesTell ks g f.known) (x : Execution) (e : ModuleUnitsStand ks g (phases_of f).known x)
+    (l : LoopTree) (is_do : loop_in x.spot.statement f.known.read.body ≡ Some l) (ns : List ℕ) (v : value_at f.marks x.spot.statement ≡ Some (Parallel ns)) where
   abbrev k : Known
-  k = f.outs.known.known.analysis.found.known
+  k = f.known
 
   abbrev m : ScopeTree
-  m = scope_of g.untracked f.outs.known.known.analysis.found.known
+  m = scope_of g.untracked f.known
 
-  stand : UnitsStand ks g (names k.symbols) (fixed (numbering ks g) k) (dummies_from 1 k.symbols) m (set_at f.outs.known.known.regions.at x.spot.statement) l x
+  stand : UnitsStand ks g (names k.symbols) (fixed (numbering ks g) k) (dummies_from 1 k.symbols) m (set_at f.regions.at x.spot.statement) l x
   stand = e l is_do
 
   mark : Says (knowledge g f) x.spot.statement l ns
@@ -132,19 +130,19 @@ module _ (ks : List Known) (g : Graph) (f : ModuleMarks) (numbered : IsNumbered 
           let r = element n pass u p in
           record { symbol = n; is_symbol = same; unit = some_same (unit_in x.places n) u (sym (stand.index n same pass r.0) ∙ r.1) }
 
-  copied : (u : ℕ) → IsOfOne ks g k.symbols x.places ns u → IsCopied ks g m x.places (loop_with g f.outs.known l) u
+  copied : (u : ℕ) → IsOfOne ks g k.symbols x.places ns u → IsCopied ks g m x.places (loop_with g (phases_of f).known l) u
   copied u o = record {
     variable = Own o.number;
     unit = record { phi = o.phi; there = o.there };
     tree = k.read;
-    before = system_at f.outs.known.known.analysis.holds.at x.spot.statement;
-    outs = set_at f.outs.outs.at x.spot.statement;
-    copied = subst (λ (s : System). private_in k.read k.symbols (record { head = s; ins = ins_in k.symbols (transformer_at f.outs.known.known.analysis.found.own.at) (set_at f.outs.known.known.regions.at) (set_at f.outs.known.ins.at) l; before = system_at f.outs.known.known.analysis.holds.at x.spot.statement; outs = set_at f.outs.outs.at x.spot.statement }) (Own o.number) ≡ Yes)
-        (head_same f.outs.known.known.analysis.holds.at m (transformer_at f.outs.known.known.analysis.found.own.at) (accesses_at f.outs.known.known.regions.at) l) (mark.names o.number o.is_one);
+    before = system_at f.preconditions.at x.spot.statement;
+    outs = set_at f.outs.at x.spot.statement;
+    copied = subst (λ (s : System). private_in k.read k.symbols (record { head = s; ins = ins_in k.symbols (transformer_at f.transformers.at) (set_at f.regions.at) (set_at f.ins.at) l; before = system_at f.preconditions.at x.spot.statement; outs = set_at f.outs.at x.spot.statement }) (Own o.number) ≡ Yes)
+        (head_same f.preconditions.at m (transformer_at f.transformers.at) (accesses_at f.regions.at) l) (mark.names o.number o.is_one);
     sole = tell.sole (Own o.number) (may o.number o.is_one);
   }
 
-  pub names_stand : NamesStand ks g m (names k.symbols) (loop_with g f.outs.known l) l ns x.places
+  pub names_stand : NamesStand ks g m (names k.symbols) (loop_with g (phases_of f).known l) l ns x.places
   names_stand = record { written = written_names k.symbols l ns tell.distinct (λ n i. passing k.read k.symbols n (may n i)); units = units; copied = copied }
 
   -- the variables of its directive, and that of the DO, lie at their own places

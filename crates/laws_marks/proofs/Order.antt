@@ -9,14 +9,17 @@ use Rattle.call_graph.specs.declared.graph.Graph.{Graph}
 use Rattle.f77_meaning.specs.Modules.{Known, known_of}
 use Rattle.f77_meaning.specs.Linked.{routine, named, subroutines_among, subroutines, main_of}
 use Rattle.laws_programs.specs.Programs.{IsProgram}
-use Rattle.laws_storage.specs.Programs.{IsLinked, known}
-use Rattle.laws_storage.proofs.ModuleLaws.{known_module, names_tell_modules}
-use Rattle.laws_analyses.proofs.MainLaws.{MainOf, some_main, main_from}
-use Rattle.laws_analyses.proofs.Orders.{NotIn, Sorted, order_sorted, other_name}
+use Rattle.laws_programs.specs.Storage.Programs.{IsLinked, known}
+use Rattle.laws_programs.proofs.Storage.ModuleLaws.{known_module, names_tell_modules}
+use Rattle.laws_analyses.proofs.MainLaws.{MainOf, main_from}
+use Rattle.laws_analyses.proofs.Orders.{NotIn, Sorted, order_sorted}
 use Rattle.laws_analyses.proofs.UnitLaws.{module_at}
 use Rattle.laws_marks.specs.Inactive.{IsOfSome, IsInactive}
 use Rattle.laws_marks.proofs.Apart.{linked}
 use Rattle.laws_marks.proofs.Spots.{AllNamed}
+use Rattle.laws_programs.proofs.Effects.Once.{NamesOnce, main_of_linked as some_main, fewer}
+use Rattle.fx_lists.proofs.Texts.{same_name as same_bytes}
+use Rattle.laws_programs.proofs.Effects.BottomUp.{other_name}
 
 -- ---- names in a list
 
@@ -29,9 +32,6 @@ Named (r ∷ rs) y = (bytes_eq y r.name ≡ true) ⊎ Named rs y
 abbrev pub Distinct : List Routine → Type 0
 Distinct [] = Unit {0}
 Distinct (r ∷ rs) = ((y : List ℕ) → Named rs y → bytes_eq y r.name ≡ false) × Distinct rs
-
-same_bytes : (x : List ℕ) → bytes_eq x x ≡ true
-same_bytes x = (bytes_eq-Decides x x).1 refl
 
 pub all_named : (B : List ℕ → Type 0) (rs : List Routine) → ((y : List ℕ) → Named rs y → B y) → AllNamed B rs
 all_named B [] h = tt
@@ -59,10 +59,6 @@ some_of (r ∷ rs) y u h = ⊎_elim (λ a. ⊎_elim (λ e. inl (inr e)) (λ s. i
 
 -- ---- modules of a name
 
--- names stand once
-abbrev pub NamesOnce : List Known → Type 0
-NamesOnce ks = (i j : ℕ) (k l : Known) → slice_get ks i ≡ Some k → slice_get ks j ≡ Some l → k.read.name ≡ l.read.name → i ≡ j
-
 pub names_once : (ps : List ParsedTree) (sss : List (List SymbolTree)) (g : Graph) → IsLinked ps sss g → NamesOnce (known_of ps sss)
 names_once ps sss g l i j k m e h n =
     let r = module_at ps sss i k e in
@@ -79,9 +75,6 @@ record FoundAt (ks : List Known) (y : List ℕ) : Type 0 where
 
 found_later : (k : Known) (ks : List Known) (y : List ℕ) → FoundAt ks y → FoundAt (k ∷ ks) y
 found_later k ks y f = record { at = suc f.at; item = f.item; is_item = f.is_item; is_named = f.is_named; is_sub = f.is_sub }
-
-fewer : (k : Known) (ks : List Known) → NamesOnce (k ∷ ks) → NamesOnce ks
-fewer k ks once i j a b p q n = (let z = once (suc i) (suc j) a b p q n in omega (arith, z))
 
 module _ (all : List Known) (g : Graph) (x : List ℕ) where
   abbrev routines : List Known → List Routine

@@ -14,7 +14,7 @@ use Rattle.f77_ast.specs.declared.symbol.Place.TheVariants as place
 use Rattle.f77_ast.specs.declared.variable.Variable.TheVariants.{Saved}
 use Rattle.f77_ast.specs.Symbols.{SymbolTree, number_from}
 use Rattle.f77_ast.specs.Shared.{symbol_at}
-use Rattle.f77_results.specs.declared.results.Results.{Results}
+use Rattle.f77_ast.specs.declared.results.Results.{Results}
 use Rattle.tracked_cells.specs.Standing.{is_int_scalar}
 use Rattle.call_graph.specs.declared.graph.Graph.{Graph}
 use Rattle.f77_meaning.specs.Modules.{Known, known_of, symbol_names}
@@ -23,40 +23,39 @@ use Rattle.f77_meaning.specs.Occurrences.{Occurrence}
 use Rattle.f77_meaning.proofs.LinkLaws.{any_found}
 use Rattle.f77_meaning.proofs.LinkedLaws.{linked_calls_fit}
 use Rattle.affine_forms.specs.Scalars.{is_cell}
-use Rattle.transformer_algebra.specs.declared.transformer.Transformer.{Transformer}
-use Rattle.transformer_algebra.specs.Laws.{In}
-use Rattle.call_translation.specs.Sites.{SiteTree}
-use Rattle.transformers.specs.Given.{Callees}
-use Rattle.region_sets.specs.declared.region.Region.{Region}
-use Rattle.call_equations.specs.Sides.{entry_cells, changed_cells}
-use Rattle.array_regions.specs.Calls.{Callees as Summaries, scope_with}
-use Rattle.array_regions.specs.Modules.{regions_with}
-use Rattle.region_phases.specs.Phases.{with_regions, all_regions}
-use Rattle.in_out_regions.specs.Lists.{set_at}
+use Rattle.preconditions.specs.transformer_algebra.declared.transformer.Transformer.{Transformer}
+use Rattle.preconditions.specs.transformer_algebra.Laws.{In}
+use Rattle.preconditions.specs.call_translation.Sites.{SiteTree}
+use Rattle.preconditions.specs.transformers.Given.{Callees}
+use Rattle.in_out_regions.specs.region_sets.declared.region.Region.{Region}
+use Rattle.in_out_regions.specs.call_equations.Sides.{entry_cells, changed_cells}
+use Rattle.in_out_regions.specs.array_regions.Calls.{Callees as Summaries, scope_with}
+use Rattle.in_out_regions.specs.array_regions.Modules.{regions_with}
+use Rattle.loop_marker.specs.module_phases.RegionPhases.{with_regions, all_regions}
 use Rattle.in_out_regions.specs.Modules.{ins_with}
-use Rattle.region_phases.specs.InPhases.{with_ins, all_ins}
-use Rattle.out_regions.specs.Used.{all_out}
-use Rattle.out_regions.specs.Modules.{outs_with}
-use Rattle.callee_regions.specs.Values.{is_dummy_place, is_scalar_dummy}
-use Rattle.callee_regions.specs.Units.{size_in}
-use Rattle.callee_regions.specs.Callee.{to_callee}
-use Rattle.region_phases.specs.declared.sites.OutSite.{OutSite}
-use Rattle.region_phases.specs.OutPhases.{ModuleOuts, Caller, call_site, list_sites, handed_down, used_after, outs_found, caller_of, sites_of, all_outs}
-use Rattle.scalar_phases.specs.Phases.{scope_of, Analysis, analyses}
+use Rattle.loop_marker.specs.module_phases.InPhases.{with_ins, all_ins}
+use Rattle.loop_marker.specs.out_regions.Used.{all_out}
+use Rattle.loop_marker.specs.out_regions.Modules.{outs_with}
+use Rattle.in_out_regions.specs.region_translation.Values.{is_dummy_place, is_scalar_dummy}
+use Rattle.in_out_regions.specs.region_translation.Units.{size_in}
+use Rattle.in_out_regions.specs.region_translation.Callee.{to_callee}
+use Rattle.loop_marker.specs.module_phases.declared.out_site.OutSite.{OutSite}
+use Rattle.loop_marker.specs.module_phases.OutPhases.{ModuleOuts, Caller, call_site, list_sites, handed_down, used_after, outs_found, caller_of, sites_of, all_outs}
+use Rattle.loop_marker.specs.module_phases.ScalarPhases.{scope_of, Analysis, analyses}
 use Rattle.laws_programs.specs.Programs.{IsProgram}
 use Rattle.laws_programs.proofs.Tables.{programs_are_linked}
 use Rattle.laws_programs.proofs.Whole.{modules_are_read}
 use Rattle.laws_programs.proofs.Sources.{all_built}
-use Rattle.roundtrip_modules.specs.Cards.{statements_of}
-use Rattle.laws_statements.specs.CallsIn.{CallAt, Each, list_calls}
-use Rattle.laws_storage.specs.Below.{HasCall}
-use Rattle.laws_storage.specs.Calls.{AreLaidOut}
-use Rattle.laws_storage.specs.Programs.{IsLinked, IsModule, known}
-use Rattle.laws_storage.proofs.CallLaws.{calls_are_listed, dummies_are_tracked}
-use Rattle.laws_storage.proofs.FlagLaws.{cells_have_flags}
-use Rattle.laws_storage.proofs.ModuleLaws.{known_module}
-use Rattle.laws_calls.specs.Parts.{Blocks, Part}
-use Rattle.laws_calls.specs.Sites.{lookup}
+use Rattle.laws_programs.specs.roundtrip_programs.ModuleTexts.Cards.{statements_of}
+use Rattle.call_graph.specs.CallsIn.{CallAt, Each, list_calls}
+use Rattle.laws_programs.specs.Storage.Below.{HasCall}
+use Rattle.laws_programs.specs.Storage.Calls.{AreLaidOut}
+use Rattle.laws_programs.specs.Storage.Programs.{IsLinked, IsModule, known}
+use Rattle.laws_programs.proofs.Storage.CallLaws.{calls_are_listed, dummies_are_tracked}
+use Rattle.laws_programs.proofs.Storage.FlagLaws.{cells_have_flags}
+use Rattle.laws_programs.proofs.Storage.ModuleLaws.{known_module}
+use Rattle.laws_analyses.specs.Calls.Parts.{Blocks, Part}
+use Rattle.laws_analyses.specs.Calls.Sites.{lookup}
 use Rattle.laws_analyses.specs.Parts.{blocks_in, part_of}
 use Rattle.laws_analyses.specs.Analysed.{module_named, part_named, AreAnalysed}
 use Rattle.laws_analyses.specs.JumpLaws.{JumpsStayInside}
@@ -66,25 +65,25 @@ use Rattle.laws_analyses.proofs.Analyses.{Located, all_located, analysis_of_modu
 use Rattle.laws_analyses.proofs.CallLists.{each_in, each_more}
 use Rattle.laws_analyses.proofs.Founds.{Calls}
 use Rattle.laws_analyses.proofs.IntegerLaws.{integers_fit}
-use Rattle.laws_analyses.proofs.MainLaws.{some_main, main_from, built_at}
+use Rattle.laws_analyses.proofs.MainLaws.{main_from, built_at}
 use Rattle.laws_analyses.proofs.Modules.{IsIn, subs, subs_in, module_named_is}
 use Rattle.laws_analyses.proofs.Passes.{name_of}
 use Rattle.laws_analyses.proofs.Programs.{Ready}
 use Rattle.laws_analyses.proofs.ThroughoutLaws.{throughout_more}
 use Rattle.laws_analyses.proofs.UnitLaws.{module_at, scope_is}
 use Rattle.laws_analyses.proofs.Whole.{analyses_follow}
-use Rattle.laws_regions.specs.Accepted.{after as reads_after, summaries_of as reads_of}
-use Rattle.laws_regions.specs.Settings.{is_told}
-use Rattle.laws_regions.proofs.Carrying.{LinkLaws}
-use Rattle.laws_regions.proofs.NamesOnce.{numbered_once}
-use Rattle.laws_regions.proofs.Parts.{found_part, program, program_is}
-use Rattle.laws_regions.proofs.Sending.{laid_in}
-use Rattle.laws_regions.proofs.Summaries.{is_behind, each_back, once, summaries_are as reads_are}
-use Rattle.laws_regions.proofs.ToldBlocks.{blocks_told}
-use Rattle.laws_regions.proofs.ToldSymbols.{names_told}
+use Rattle.laws_analyses.specs.Regions.Accepted.{after as reads_after, summaries_of as reads_of}
+use Rattle.laws_analyses.specs.Regions.Settings.{is_told}
+use Rattle.laws_analyses.proofs.Regions.Carrying.{LinkLaws}
+use Rattle.laws_analyses.proofs.Regions.NamesOnce.{numbered_once}
+use Rattle.laws_analyses.proofs.Regions.Parts.{found_part, program, program_is}
+use Rattle.laws_analyses.proofs.Regions.Sending.{laid_in}
+use Rattle.laws_analyses.proofs.Regions.Summaries.{is_behind, each_back, once, summaries_are as reads_are}
+use Rattle.laws_analyses.proofs.Regions.ToldBlocks.{blocks_told}
+use Rattle.laws_analyses.proofs.Regions.ToldSymbols.{names_told}
 use Rattle.laws_marks.specs.InAccepted.{after, summaries_of}
 use Rattle.laws_marks.specs.InTogether.{LocalsAreSavedTogether}
-use Rattle.laws_marks.proofs.InAccepted.{cards_of_held, settled, ready, main_laid, all_laid}
+use Rattle.laws_marks.proofs.InAccepted.{settled, ready, main_laid, all_laid}
 use Rattle.laws_marks.proofs.InLayouts.{leads, kept_named, such, may_name}
 use Rattle.laws_marks.proofs.InSummaries.{summaries_are}
 use Rattle.laws_marks.specs.OutAccepted.{used_run, used_for, AllOutsHold, ReadOutsHold}
@@ -93,10 +92,10 @@ use Rattle.laws_marks.specs.OutPrograms.{outs_in_part, EachOutHolds, DownPart}
 use Rattle.laws_marks.proofs.OutReading.{read_part}
 use Rattle.laws_marks.proofs.OutSummaries.{calls_sited, in_handed, front_outs, outs_at, stands_before, sites_in, used_at_place, Placed, outs_placed}
 use Rattle.laws_marks.proofs.OutWhole.{Tells, TellsFrom, OutOf, OutsOf, program_outs_hold}
-
-all_each : {T : Type 0} (P : T → Type 0) (xs : List T) → Each P xs → All P xs
-all_each P [] e = All-nil P
-all_each P (y ∷ xs) e = All-cons P y xs e.0 (all_each P xs e.1)
+use Rattle.laws_analyses.proofs.Claimed.{all_of_each as all_each}
+use Rattle.laws_programs.proofs.Effects.Once.{main_of_linked as some_main}
+use Rattle.laws_analyses.proofs.Regions.Accepted.{cards_of_held}
+use Rattle.in_out_regions.specs.region_sets.Lists.{set_at}
 
 -- what holds of each at its own name
 each_at : (P : List ℕ → CallAt → Type 0) (cs : List CallAt) → ((x : List ℕ) → Each (P x) cs) → Each (λ a. P a.callee a) cs

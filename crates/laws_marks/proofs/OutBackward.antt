@@ -14,7 +14,7 @@ use Rattle.f77_ast.specs.Trees.{ExprTree, ExprTrees}
 use Rattle.f77_ast.specs.Store.{Store}
 use Rattle.f77_ast.specs.Places.{Variable, Place, Places, total_size}
 use Rattle.f77_ast.specs.Calls.{Actual, Meaning, places_of}
-use Rattle.f77_ast.specs.declared.constant.Constant.{Constant as Worthy}
+use Rattle.f77_ast.specs.declared.constant.Constant.{Constant as HasConstantValue}
 use Rattle.f77_ast.specs.declared.symbol.Place.{Place as SymbolPlace}
 use Rattle.f77_ast.specs.declared.symbol.Place.TheVariants as place
 use Rattle.f77_ast.specs.declared.variable.Variable.{Variable as Named}
@@ -24,7 +24,7 @@ use Rattle.f77_ast.specs.Shared.{symbol_at}
 use Rattle.f77_ast.specs.Units.{units_in}
 use Rattle.call_graph.specs.declared.graph.Graph.{Graph}
 use Rattle.call_graph.specs.declared.graph.Block.{Block as GraphBlock}
-use Rattle.effects.specs.Callee.{first_like}
+use Rattle.in_out_regions.specs.effects.Callee.{first_like}
 use Rattle.f77_meaning.specs.Claims.{block_place, saved_place}
 use Rattle.f77_meaning.specs.Claims as meaning
 use Rattle.f77_meaning.specs.Modules.{Known}
@@ -32,55 +32,56 @@ use Rattle.affine_forms.specs.Scalars.{is_cell}
 use Rattle.affine_forms.specs.Claims.{unit_in, numbers_of}
 use Rattle.affine_forms.specs.Comparisons.{var_form}
 use Rattle.affine_forms.specs.declared.affine.Affine.{Affine}
-use Rattle.transformer_algebra.specs.Claims.{Scene}
-use Rattle.transformer_algebra.specs.Laws.{In, here}
-use Rattle.call_translation.specs.Actuals.{actual_of}
-use Rattle.call_translation.specs.Sites.{HoldingSite}
-use Rattle.transformers.specs.Given.{Callees}
-use Rattle.transformers.specs.Modules.{transformers_of}
-use Rattle.region_sets.specs.Naming.{in_terms, in_rows}
-use Rattle.region_sets.specs.Claims.{Elements}
-use Rattle.region_sets.proofs.StepLaws.{in_left, in_right}
-use Rattle.call_equations.specs.declared.link.Link.{Link}
-use Rattle.call_equations.specs.Sides.{SidesTree, changed_cells}
-use Rattle.call_equations.specs.Forms.{equation}
-use Rattle.call_equations.specs.Links.{same_elements, actual_link, by_unit, block_link, like_or_block, if_saved, place_link, symbol_link, link_of}
-use Rattle.region_translation.specs.Claims as translation
-use Rattle.array_regions.specs.Calls.{Callees as Summaries, sides}
-use Rattle.array_regions.specs.Entry.{is_local}
-use Rattle.array_regions.specs.References.{is_constant}
-use Rattle.in_out_regions.proofs.WriteLaws.{same_itself}
-use Rattle.callee_regions.specs.declared.links.CalleeLink.{CalleeLink}
-use Rattle.callee_regions.specs.declared.units.Units.{Units}
-use Rattle.callee_regions.specs.Names.{turned_rows}
-use Rattle.callee_regions.specs.Units.{units_of, unit_place, are_covered, size_in}
-use Rattle.callee_regions.specs.Links.{link, same_link, by_row, same_variable, is_number, rank_of, dummy_links, common_link, common_links, all_units, block_links, block_rest, own_common, own_links, saved_as, saved_variable, callee_links, subscripts_of}
-use Rattle.callee_regions.specs.Claims.{HasUnit, LinkHolds}
-use Rattle.callee_regions.specs.Laws.{AreTold}
-use Rattle.callee_regions.proofs.LinkLaws.{same_link_holds}
+use Rattle.preconditions.specs.transformer_algebra.Claims.{Scene}
+use Rattle.preconditions.specs.transformer_algebra.Laws.{In, here}
+use Rattle.preconditions.specs.call_translation.Actuals.{actual_of}
+use Rattle.preconditions.specs.call_translation.Sites.{HoldingSite}
+use Rattle.preconditions.specs.transformers.Given.{Callees}
+use Rattle.preconditions.specs.transformers.Modules.{transformers_of}
+use Rattle.in_out_regions.specs.region_sets.Naming.{in_terms, in_rows}
+use Rattle.in_out_regions.specs.region_sets.Claims.{Elements}
+use Rattle.in_out_regions.proofs.RegionSets.StepLaws.{in_left, in_right}
+use Rattle.in_out_regions.specs.call_equations.declared.link.Link.{Link}
+use Rattle.in_out_regions.specs.call_equations.Sides.{SidesTree, changed_cells}
+use Rattle.in_out_regions.specs.call_equations.Forms.{equation}
+use Rattle.in_out_regions.specs.call_equations.Links.{same_elements, actual_link, block_link, like_or_block, if_saved, place_link, symbol_link, link_of}
+use Rattle.in_out_regions.specs.region_translation.Claims as translation
+use Rattle.in_out_regions.specs.array_regions.Calls.{Callees as Summaries, sides}
+use Rattle.in_out_regions.specs.array_regions.References.{is_constant}
+use Rattle.in_out_regions.specs.region_translation.declared.links.CalleeLink.{CalleeLink}
+use Rattle.in_out_regions.specs.region_translation.declared.units.Units.{Units}
+use Rattle.in_out_regions.specs.region_translation.Names.{turned_rows}
+use Rattle.in_out_regions.specs.region_translation.Units.{units_of, unit_place, are_covered, size_in}
+use Rattle.in_out_regions.specs.region_translation.Links.{link, same_link, by_row, is_number, rank_of, dummy_links, common_link, common_links, all_units, block_links, block_rest, own_common, own_links, saved_as, saved_variable, callee_links, subscripts_of}
+use Rattle.in_out_regions.specs.region_translation.CalleeClaims.{HasUnit, LinkHolds}
+use Rattle.in_out_regions.specs.region_translation.CalleeLaws.{AreTold}
+use Rattle.in_out_regions.proofs.RegionTranslation.CalleeLinkLaws.{same_link_holds}
 use Rattle.laws_lines.specs.Variables.{EachVar}
 use Rattle.laws_lines.proofs.SystemVars.{AreGiven}
-use Rattle.laws_storage.proofs.LocalLaws.{next_symbol}
-use Rattle.laws_calls.specs.Bindings.{Binds, Begins}
-use Rattle.laws_calls.specs.Parts.{Blocks, Part, places_in as dummy_places, scene_in, Sane}
-use Rattle.laws_calls.specs.Sites.{Site}
-use Rattle.laws_calls.proofs.Bound.{scalars_fixed}
-use Rattle.laws_regions.specs.Claims.{elements_of}
-use Rattle.laws_regions.specs.Entries.{Enters}
-use Rattle.laws_regions.specs.Programs.{called_in, Regular, ConstantsAre, Joins, Sends}
-use Rattle.laws_regions.specs.Settings.{Sound, elements_if, elements_with, is_stored, is_told}
-use Rattle.laws_regions.proofs.Actuals.{AllAre}
-use Rattle.laws_regions.proofs.Alike.{like_found}
-use Rattle.laws_regions.proofs.Bounds.{setting}
-use Rattle.laws_regions.proofs.CalledShown.{AtEntry, Bound}
-use Rattle.laws_regions.proofs.Carrying.{LinkLaws, stored_inner, stored_outer}
-use Rattle.laws_regions.proofs.Outlines.{elements_are, element_inside, constants_so, constants_close, last_of}
-use Rattle.laws_regions.proofs.Steady.{Steady}
+use Rattle.laws_analyses.specs.Calls.Bindings.{Binds, Begins}
+use Rattle.laws_analyses.specs.Calls.Parts.{Blocks, Part, places_in as dummy_places, scene_in, Sane}
+use Rattle.laws_analyses.specs.Calls.Sites.{Site}
+use Rattle.laws_analyses.proofs.Calls.Bound.{scalars_fixed}
+use Rattle.laws_analyses.specs.Regions.Claims.{elements_of}
+use Rattle.laws_analyses.specs.Regions.Entries.{Enters}
+use Rattle.laws_analyses.specs.Regions.Programs.{called_in, Regular, ConstantsAre, Joins, Sends}
+use Rattle.laws_analyses.specs.Regions.Settings.{Sound, elements_if, elements_with, is_stored, is_told}
+use Rattle.laws_analyses.proofs.Regions.Actuals.{AllAre}
+use Rattle.laws_analyses.proofs.Regions.Bounds.{setting}
+use Rattle.laws_analyses.proofs.Regions.CalledShown.{AtEntry, Bound}
+use Rattle.laws_analyses.proofs.Regions.Carrying.{LinkLaws, stored_inner, stored_outer, unit_variable}
+use Rattle.laws_analyses.proofs.Regions.Outlines.{elements_are, element_inside, constants_so, constants_close, last_of}
+use Rattle.laws_analyses.proofs.Regions.Steady.{Steady}
 use Rattle.laws_marks.proofs.InNarrow.{Upto}
 use Rattle.laws_marks.specs.OutPrograms.{DownPart}
 use Rattle.laws_marks.proofs.OutDummyLinks.{is_within, dummy_back_holds}
 use Rattle.laws_marks.proofs.OutCommonUnits.{number_there, common_link_holds}
 use Rattle.laws_marks.proofs.OutCalleeLinks.{stands, IsOfCaller, actual_is, dummy_linked, common_linked, meets_at, covered_one, units_there}
+use Rattle.f77_ast.proofs.StorageLaws.{to_number as next_symbol}
+use Rattle.laws_programs.proofs.Effects.Like.{like_found}
+use Rattle.call_graph.specs.Visible.{is_local}
+use Rattle.f77_ast.specs.Variables.{same_variable}
+use Rattle.f77_ast.proofs.SameLaws.{same_itself}
 
 -- ---- what rows name
 
@@ -112,15 +113,11 @@ sizes_are : (bs : List GraphBlock) (y : List ℕ) → size_in bs y ≡ meaning.s
 sizes_are [] y = refl
 sizes_are (b ∷ bs) y = ap (λ n. if bytes_eq b.name y then b.size else n) (sizes_are bs y)
 
-unit_variable : (y : List ℕ) (r : ℕ) (o : Option Row) → (by_unit y r o).variable ≡ Block y
-unit_variable y r None = refl
-unit_variable y r (Some e) = refl
-
 -- equations between places are such between elements
 back_elements : (m e : Scene) (q : ℕ) (x y : ℕ → ℤ) (l : CalleeLink) (f f' i i' : Elements) → ((phi : ℕ → ℤ) → f phi ≡ f' phi) → ((phi : ℕ → ℤ) → i phi ≡ i' phi) → LinkHolds m e q x y f' i' l → LinkHolds m e q x y f i l
 back_elements m e q x y l f f' i i' p r w = subst (λ (v : Elements). LinkHolds m e q x y v i l) (λ j phi. sym (p phi) j) (subst (λ (v : Elements). LinkHolds m e q x y f' v l) (λ j phi. sym (r phi) j) w)
 
--- as in laws_regions/proofs/Carrying. may_name: the variables that the regions of what is called may name
+-- as in laws_analyses/proofs/Regions/Carrying. may_name: the variables that the regions of what is called may name
 module _ (ks : List Known) (g : Graph) (b : Blocks) (cs : Callees) (sites : List ℕ → List HoldingSite) (rs : List ℕ → Summaries) (turns : ℕ) (laws : LinkLaws) (h : Part) (sane : Sane b h) (reg : Regular h) (jh : Joins ks g h) (k : Part) (sane_k : Sane b k) (enters : Enters ks g k) (jk : Joins ks g k) (x : List ℕ) (es : ExprTrees) (P : System) (site : Site b cs sites h k x es P) (sends : Sends b ks g cs rs h k x)
     (callee : List ℕ → Meaning) (psm : List Place) (began : Store) (at : Places) (bound : Bound g b h sane psm began at) (sound : Sound (setting ks g (called_in g cs (rs h.routine.name) h) b cs h sane reg turns callee psm at)) (n0 : ℕ) (z : Store) (steady : Steady (setting ks g (called_in g cs (rs h.routine.name) h) b cs h sane reg turns callee psm at) (changed_cells (transformers_of h.routine.body h.scope cs).at) began z) (xs : List Actual) (s : Store) (atk : Places)
     (binds : Binds (record { caller = h.scope; actuals = es; symbols = k.scope.symbols }) (scene_in b h psm at) (scene_in b k (places_of xs) (dummy_places k (places_of xs)))) (begins : Begins (record { caller = h.scope; actuals = es; symbols = k.scope.symbols }) (scene_in b h psm at) (scene_in b k (places_of xs) (dummy_places k (places_of xs))) (numbers_of z) (numbers_of s))
@@ -214,7 +211,7 @@ module _ (ks : List Known) (g : Graph) (b : Blocks) (cs : Callees) (sites : List
       constants : ConstantsAre c.callee.scalars.value t.bounds (atk n).dims
       constants =
           let w = jk.fixed n t q stored (sends.common n t y f q lies) in
-          subst (λ (v : List ℕ → Option Worthy). ConstantsAre v t.bounds (atk n).dims) jk.value (subst (λ (p : Place). ConstantsAre k.scope.scalars.value t.bounds p.dims) (sym there_is) w.constants)
+          subst (λ (v : List ℕ → Option HasConstantValue). ConstantsAre v t.bounds (atk n).dims) jk.value (subst (λ (p : Place). ConstantsAre k.scope.scalars.value t.bounds p.dims) (sym there_is) w.constants)
 
       first : (atk n).first ≡ (block_place ks g y).first + f
       first = ap (λ (p : Place). p.first) there_is ∙ (sends.block n t y f q lies).first

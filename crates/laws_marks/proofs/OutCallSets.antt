@@ -2,21 +2,20 @@
 use Rattle.std.proofs.Common.{◌≡◌, ℕ, List, Some, ap}
 use Rattle.f77_ast.specs.Trees.{ExprTrees, StmtTree, WhatTree, ArmTree, ArmTrees, ElseTree, LoopTree, StmtTrees}
 use Rattle.f77_ast.specs.Trees as tree
-use Rattle.f77_results.specs.declared.results.At.{At}
-use Rattle.transformers.specs.Lists.{value_at}
-use Rattle.transformers.specs.Statement.{at}
-use Rattle.region_sets.specs.declared.region.Region.{Region}
-use Rattle.region_sets.specs.Lists.{or_none}
-use Rattle.call_translation.specs.Scopes.{ScopeTree}
-use Rattle.array_regions.specs.Calls.{Called}
-use Rattle.array_regions.specs.Loops.{Found}
-use Rattle.array_regions.specs.Statement.{what_set, at_stmt, at_parts, at_list, at_arms, at_arm, at_else, at_loop}
-use Rattle.in_out_regions.specs.Lists.{set_at}
-use Rattle.laws_statements.specs.CallsIn.{CallAt, Each, stmt_calls, what_calls, list_calls, arms_calls, arm_calls, else_calls, loop_calls}
-use Rattle.laws_statements.specs.Laws.{InOrder}
-use Rattle.laws_statements.proofs.MainResults.{each_found_at}
+use Rattle.f77_ast.specs.declared.results.At.{At}
+use Rattle.preconditions.specs.transformers.Lists.{value_at}
+use Rattle.preconditions.specs.transformers.Statement.{at}
+use Rattle.in_out_regions.specs.region_sets.declared.region.Region.{Region}
+use Rattle.in_out_regions.specs.region_sets.Lists.{or_none, set_at}
+use Rattle.preconditions.specs.call_translation.Scopes.{ScopeTree}
+use Rattle.in_out_regions.specs.array_regions.Calls.{Called}
+use Rattle.in_out_regions.specs.array_regions.Loops.{Found}
+use Rattle.in_out_regions.specs.array_regions.Statement.{what_set, at_stmt, at_parts, at_list, at_arms, at_arm, at_else, at_loop}
+use Rattle.call_graph.specs.CallsIn.{CallAt, Each, stmt_calls, what_calls, list_calls, arms_calls, arm_calls, else_calls, loop_calls}
+use Rattle.laws_analyses.specs.Statements.Laws.{InOrder}
+use Rattle.laws_analyses.proofs.Statements.MainResults.{each_found_at}
 use Rattle.laws_analyses.proofs.CallLists.{each_joined}
-use Rattle.laws_statements.proofs.Placing.{each_parts}
+use Rattle.laws_analyses.proofs.Statements.Placing.{each_parts}
 
 module _ (m : ScopeTree) (t : Found) (c : Called) (P : At (List Region) → Type 0) (Q : CallAt → Type 0) (f : (n : ℕ) (x : List ℕ) (es : ExprTrees) → P (at n (c x es)) → Q (record { number = n; callee = x; actuals = es })) where
   mutual

@@ -14,15 +14,16 @@ use Rattle.f77_ast.specs.Shared.{symbol_at}
 use Rattle.tracked_cells.specs.Standing.{has_bounds}
 use Rattle.affine_systems.specs.declared.row.Row.{Row}
 use Rattle.affine_forms.specs.declared.affine.Affine.{Affine}
-use Rattle.transformer_algebra.specs.Laws.{In, here, there}
-use Rattle.region_sets.proofs.StepLaws.{in_left, in_right, in_either}
-use Rattle.call_equations.specs.declared.link.Link.{Link}
-use Rattle.call_equations.specs.Sides.{SidesTree}
-use Rattle.call_equations.specs.Links.{by_position, aligned_or, variable_link, subscripts_link, is_constant, variable_at, element_at, variable_of, element_of, expr_link, link_of}
-use Rattle.callee_regions.specs.declared.units.Units.{Units}
-use Rattle.callee_regions.specs.Names.{turned_rows}
-use Rattle.callee_regions.specs.Units.{end_of, meet, units_of, reach_by, reach, reach_each, are_covered}
-use Rattle.callee_regions.specs.Links.{link, same_variable, if_actual, dummy_link, dummy_links, common_link, in_block, common_links, place_units, all_units}
+use Rattle.preconditions.specs.transformer_algebra.Laws.{In, here, there}
+use Rattle.in_out_regions.proofs.RegionSets.StepLaws.{in_left, in_right, in_either}
+use Rattle.in_out_regions.specs.call_equations.declared.link.Link.{Link}
+use Rattle.in_out_regions.specs.call_equations.Sides.{SidesTree}
+use Rattle.in_out_regions.specs.call_equations.Links.{by_position, aligned_or, variable_link, subscripts_link, is_constant, variable_at, element_at, variable_of, element_of, expr_link, link_of}
+use Rattle.in_out_regions.specs.region_translation.declared.units.Units.{Units}
+use Rattle.in_out_regions.specs.region_translation.Names.{turned_rows}
+use Rattle.in_out_regions.specs.region_translation.Units.{end_of, meet, units_of, reach_by, reach, reach_each, are_covered}
+use Rattle.in_out_regions.specs.region_translation.Links.{link, if_actual, dummy_link, dummy_links, common_link, in_block, common_links, place_units, all_units}
+use Rattle.f77_ast.specs.Variables.{same_variable}
 
 -- ---- symbols by their numbers
 

@@ -8,11 +8,11 @@ use Rattle.f77_ast.specs.Plans.{Flow}
 use Rattle.f77_meaning.specs.Occurrences.{Occurrence}
 use Rattle.f77_meaning.specs.Accesses.{is_written, is_read_first, is_visible}
 use Rattle.affine_forms.specs.Claims.{numbers_of}
-use Rattle.region_sets.specs.declared.region.Access.TheVariants.{Out}
-use Rattle.region_sets.specs.declared.region.Region.{Region}
-use Rattle.region_sets.specs.Claims.{LiesInSet}
-use Rattle.laws_regions.specs.Settings.{scene}
-use Rattle.laws_regions.proofs.Claimed.{visible_seen, lies_one, some_of}
+use Rattle.in_out_regions.specs.region_sets.declared.region.Access.TheVariants.{Out}
+use Rattle.in_out_regions.specs.region_sets.declared.region.Region.{Region}
+use Rattle.in_out_regions.specs.region_sets.Claims.{LiesInSet}
+use Rattle.laws_analyses.specs.Regions.Settings.{scene}
+use Rattle.laws_analyses.proofs.Regions.Claimed.{visible_seen, lies_one, some_of}
 use Rattle.laws_marks.specs.InFrames.{Frame, elements_in}
 use Rattle.laws_marks.proofs.InFramed.{lies_back}
 use Rattle.laws_marks.specs.OutClaims.{is_out, OutSetHolds}

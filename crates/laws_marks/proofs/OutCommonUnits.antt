@@ -1,65 +1,42 @@
 -- The equation between the units of a block and the elements of a variable in it holds of both (ANSI X3.9-1978 §5.2.4, §8.3).
-use Rattle.std.proofs.Common.{◌≡◌, ℕ, suc, ◌+◌, ◌*◌, ◌<◌, List, [], ◌∷◌, Option, Some, None, false, refl, sym, ap, ap₂, ◌∙◌, subst, arith, ℤ, pos, negsuc, ◌+ℤ◌, ◌-ℤ◌, ◌*ℤ◌, true≢false}
+use Rattle.std.proofs.Common.{◌≡◌, ℕ, suc, ◌+◌, ◌*◌, ◌<◌, List, [], ◌∷◌, Option, Some, None, false, refl, sym, ap, ap₂, ◌∙◌, subst, arith, ℤ, pos, ◌+ℤ◌, ◌-ℤ◌, ◌*ℤ◌, true≢false}
 use Rattle.std.proofs.lemmas.Int.{ints}
 use Rattle.affine_systems.specs.declared.row.Row.{Row}
 use Rattle.affine_systems.specs.declared.row.Var.TheVariants.{Phi, Aux}
 use Rattle.affine_systems.specs.Points.{Point, HoldsAll}
-use Rattle.f77_ast.specs.Places.{Dim, Place, as_count, size_from, dim_size, total_size}
+use Rattle.f77_ast.specs.Places.{Dim, Place, size_from, dim_size, total_size}
 use Rattle.f77_ast.specs.declared.constant.Constant.{Constant}
 use Rattle.f77_ast.specs.declared.constant.Constant.TheVariants.{Int, Log}
-use Rattle.f77_ast.specs.declared.constant.Worth.{Worth}
-use Rattle.f77_ast.specs.declared.constant.Worth.TheVariants.{Is, Faults, Varies}
-use Rattle.f77_ast.specs.Constants.{worth}
+use Rattle.f77_ast.specs.declared.constant.ConstantValue.{ConstantValue}
+use Rattle.f77_ast.specs.declared.constant.ConstantValue.TheVariants.{Is, Faults, Varies}
+use Rattle.f77_ast.specs.Constants.{const_value}
 use Rattle.f77_ast.specs.declared.variable.Variable.{Variable}
 use Rattle.f77_ast.specs.Symbols.{BoundTree}
 use Rattle.affine_forms.specs.declared.affine.Affine.{Affine}
 use Rattle.affine_forms.specs.Forms.{affine, limited}
 use Rattle.affine_forms.specs.Claims.{form_value}
 use Rattle.affine_forms.specs.Comparisons.{var_form}
-use Rattle.transformer_algebra.specs.Claims.{Scene}
-use Rattle.region_sets.specs.Claims.{HasSubscripts}
-use Rattle.call_equations.specs.Rows.{constant_form}
-use Rattle.call_equations.specs.Forms.{zero as zero_form, offset, equation}
-use Rattle.call_equations.specs.Positions.{number_in, high_number, size_between, size_of, sum_with}
-use Rattle.region_translation.specs.Claims.{elements_of, ConstantsFit, EachDim, LastMayBeOpen}
-use Rattle.region_translation.proofs.PutLaws.{some_is, none_some}
-use Rattle.region_translation.proofs.FormLaws.{equation_is, sum_value, offset_value, number_value, var_value}
-use Rattle.region_translation.proofs.ArrayLaws.{lin, Filled, Within, placed, located, within_total, filled_of, digits, digits_are}
-use Rattle.region_translation.proofs.ElementLaws.{element_of, spot_is}
-use Rattle.callee_regions.specs.Links.{by_row}
-use Rattle.callee_regions.specs.Units.{element_place, unit_place}
-use Rattle.callee_regions.specs.Claims.{MatchesBoth, HasOuter, HasUnit, LinkHolds}
-
--- ---- sizes
-
-count_is : (w : ℤ) → 0 < as_count w → pos (as_count w) ≡ w
-count_is (pos n) h = refl
-count_is (negsuc n) h = absurd (omega (arith, h))
-
-size_is : (value : List ℕ → Option Constant) (b : BoundTree) (d : Dim) (n : ℤ) → ConstantsFit value b d → size_of value b ≡ Some n → 0 < dim_size d → n ≡ pos (dim_size d)
-size_is value b d n f e h = go (number_in (worth value b.low)) refl (high_number value b.high) refl e
-  where
-    go : (l : Option ℤ) → number_in (worth value b.low) ≡ l → (u : Option ℤ) → high_number value b.high ≡ u → size_between l u ≡ Some n → n ≡ pos (dim_size d)
-    go None g u k q = none_some n q
-    go (Some l) g None k q = none_some n q
-    go (Some l) g (Some u) k q =
-        let s : dim_size d ≡ as_count ((u -ℤ l) +ℤ pos 1) = ap₂ (λ (a : ℤ) (o : Option ℤ). size_from a o) (f.low l g) (f.high u k) in
-        sym (some_is ((u -ℤ l) +ℤ pos 1) n q) ∙ (sym (count_is ((u -ℤ l) +ℤ pos 1) (subst (λ j. 0 < j) s h)) ∙ ap pos (sym s))
-
-times_0 : (n : ℕ) → pos n *ℤ pos 0 ≡ pos 0
-times_0 n = let z : pos n *ℤ pos 0 ≡ pos (n * 0) = refl in let y : n * 0 ≡ 0 = omega arith in z ∙ ap pos y
-
-last_sum : (a b : ℤ) (n : ℕ) → a ≡ b → a ≡ b +ℤ (pos n *ℤ pos 0)
-last_sum a b n e = e ∙ (plus b ∙ ap (λ z. b +ℤ z) (sym (times_0 n)))
-  where
-    plus : (b : ℤ) → b ≡ b +ℤ pos 0
-    plus b = omega (arith, ints)
+use Rattle.preconditions.specs.transformer_algebra.Claims.{Scene}
+use Rattle.in_out_regions.specs.region_sets.Claims.{HasSubscripts}
+use Rattle.in_out_regions.specs.call_equations.Rows.{constant_form}
+use Rattle.in_out_regions.specs.call_equations.Forms.{zero as zero_form, offset, equation}
+use Rattle.in_out_regions.specs.call_equations.Positions.{number_in, high_number, size_between, size_of, sum_with}
+use Rattle.in_out_regions.specs.region_translation.Claims.{elements_of, ConstantsFit, EachDim, LastMayBeOpen}
+use Rattle.in_out_regions.proofs.RegionTranslation.FormLaws.{equation_is, sum_value, offset_value, number_value, var_value}
+use Rattle.in_out_regions.proofs.RegionTranslation.ArrayLaws.{lin, Filled, Within, placed, located, within_total, filled_of, digits, digits_are}
+use Rattle.in_out_regions.proofs.RegionTranslation.ElementLaws.{element_of, spot_is}
+use Rattle.in_out_regions.specs.region_translation.Links.{by_row}
+use Rattle.in_out_regions.specs.region_translation.Units.{element_place, unit_place}
+use Rattle.in_out_regions.specs.region_translation.CalleeClaims.{MatchesBoth, HasOuter, HasUnit, LinkHolds}
+use Rattle.in_out_regions.proofs.RegionTranslation.PositionLaws.{size_is, last_sum}
+use Rattle.fx_lists.proofs.Numbers.{times_0}
+use Rattle.fx_lists.proofs.Options.{some_is, none_some}
 
 -- ---- the place of an element, by constant bounds
 
 module _ (value : List ℕ → Option Constant) (q : Point) where
-  constant_value : (b : BoundTree) (d : Dim) (f : Affine) → ConstantsFit value b d → constant_form (worth value b.low) ≡ Some f → form_value q f ≡ d.low
-  constant_value b d f fit e = go (worth value b.low) refl e
+  constant_value : (b : BoundTree) (d : Dim) (f : Affine) → ConstantsFit value b d → constant_form (const_value value b.low) ≡ Some f → form_value q f ≡ d.low
+  constant_value b d f fit e = go (const_value value b.low) refl e
     where
       number : (n : ℤ) → form_value q (affine [] n) ≡ n
       number n = one n
@@ -67,14 +44,14 @@ module _ (value : List ℕ → Option Constant) (q : Point) where
           one : (n : ℤ) → pos 0 +ℤ n ≡ n
           one n = omega (arith, ints)
 
-      go : (w : Worth) → worth value b.low ≡ w → constant_form w ≡ Some f → form_value q f ≡ d.low
+      go : (w : ConstantValue) → const_value value b.low ≡ w → constant_form w ≡ Some f → form_value q f ≡ d.low
       go (Is (Int n)) g i = ap (form_value q) (sym (some_is (affine [] n) f i)) ∙ (number n ∙ sym (fit.low n (ap number_in g)))
       go (Is (Log v)) g i = none_some f i
       go Faults g i = none_some f i
       go Varies g i = none_some f i
 
-  low_value : (k : ℕ) (b : BoundTree) (d : Dim) (h : Affine) → ConstantsFit value b d → offset (Phi k) (constant_form (worth value b.low)) ≡ Some h → form_value q h ≡ q (Phi k) -ℤ d.low
-  low_value k b d h fit g = (let o = offset_value q (Phi k) (constant_form (worth value b.low)) h g in o.total ∙ ap (λ z. q (Phi k) -ℤ z) (constant_value b d o.base fit o.is_base))
+  low_value : (k : ℕ) (b : BoundTree) (d : Dim) (h : Affine) → ConstantsFit value b d → offset (Phi k) (constant_form (const_value value b.low)) ≡ Some h → form_value q h ≡ q (Phi k) -ℤ d.low
+  low_value k b d h fit g = (let o = offset_value q (Phi k) (constant_form (const_value value b.low)) h g in o.total ∙ ap (λ z. q (Phi k) -ℤ z) (constant_value b d o.base fit o.is_base))
 
   zero_value : (h : Affine) → Some zero_form ≡ Some h → form_value q h ≡ pos 0
   zero_value h e = sym (ap (form_value q) (some_is zero_form h e))
@@ -88,11 +65,11 @@ module _ (value : List ℕ → Option Constant) (q : Point) where
   place_value k (b ∷ (b2 ∷ bs)) (d ∷ []) h s l g = absurd s.1
   place_value k (b ∷ (b2 ∷ bs)) (d ∷ (d2 ∷ ds)) h s l g = go (size_of value b) refl g (λ z i. place_value (suc k) (b2 ∷ bs) (d2 ∷ ds) z s.1 l.1 i)
     where
-      go : (w : Option ℤ) → size_of value b ≡ w → sum_with (offset (Phi k) (constant_form (worth value b.low))) w (element_place value false (suc k) (b2 ∷ bs)) ≡ Some h →
+      go : (w : Option ℤ) → size_of value b ≡ w → sum_with (offset (Phi k) (constant_form (const_value value b.low))) w (element_place value false (suc k) (b2 ∷ bs)) ≡ Some h →
           ((z : Affine) → element_place value false (suc k) (b2 ∷ bs) ≡ Some z → form_value q z ≡ lin (d2 ∷ ds) (suc k) (λ j. q (Phi j))) → form_value q h ≡ lin (d ∷ (d2 ∷ ds)) k (λ j. q (Phi j))
       go None i j ih = none_some h j
       go (Some n) i j ih =
-          let t = sum_value q (offset (Phi k) (constant_form (worth value b.low))) n (element_place value false (suc k) (b2 ∷ bs)) h j in
+          let t = sum_value q (offset (Phi k) (constant_form (const_value value b.low))) n (element_place value false (suc k) (b2 ∷ bs)) h j in
           t.total ∙ ap₂ (λ a z. a +ℤ z) (low_value k b d t.first s.0 t.is_first)
           (ap₂ (λ a z. a *ℤ z) (size_is value b d n s.0 i l.0) (ih t.second t.is_second))
 

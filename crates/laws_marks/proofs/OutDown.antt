@@ -12,61 +12,57 @@ use Rattle.f77_ast.specs.declared.variable.Variable.{Variable as Named}
 use Rattle.f77_ast.specs.declared.variable.Variable.TheVariants.{Own}
 use Rattle.f77_ast.specs.Symbols.{SymbolTree}
 use Rattle.f77_ast.specs.Shared.{symbol_at}
-use Rattle.f77_results.specs.Summaries.{SummaryTree}
+use Rattle.f77_ast.specs.Summaries.{SummaryTree}
 use Rattle.call_graph.specs.declared.graph.Graph.{Graph}
 use Rattle.f77_meaning.specs.Areas.{is_own_unit}
 use Rattle.f77_meaning.specs.Linked.{numbering}
 use Rattle.f77_meaning.specs.Modules.{Known}
 use Rattle.affine_forms.specs.Scalars.{is_cell}
 use Rattle.affine_forms.specs.Claims.{unit_in, numbers_of}
-use Rattle.transformer_algebra.specs.Claims.{Scene}
-use Rattle.transformer_algebra.specs.Laws.{In}
-use Rattle.call_translation.specs.Sites.{HoldingSite}
-use Rattle.transformers.specs.Given.{Callees}
-use Rattle.transformers.specs.Modules.{transformers_of}
-use Rattle.region_sets.specs.declared.region.Access.{Access}
-use Rattle.region_sets.specs.declared.region.Access.TheVariants.{Write, Out}
-use Rattle.region_sets.specs.declared.region.Region.{Region}
-use Rattle.region_sets.specs.Sets.{unite_all}
-use Rattle.region_sets.specs.Claims.{Elements, Places as AllElements, AreByOrder, LiesIn, LiesInSet}
-use Rattle.region_sets.proofs.SetLaws.{gathered_units}
-use Rattle.region_sets.proofs.StepLaws.{in_right}
-use Rattle.call_equations.specs.declared.link.Link.{Link}
-use Rattle.call_equations.specs.Sides.{SidesTree, changed_cells}
-use Rattle.call_equations.specs.Links.{link_of}
-use Rattle.region_translation.specs.Caller.{by_link, to_caller}
-use Rattle.region_translation.specs.Claims.{FormsMean}
-use Rattle.region_translation.specs.Claims as translation
-use Rattle.region_translation.proofs.RegionLaws.{units_sent}
-use Rattle.array_regions.specs.Calls.{Callees as Summaries, sides, actuals_reads, all_in_caller, summary_in_caller}
-use Rattle.in_out_regions.specs.Lists.{set_at}
-use Rattle.in_out_regions.specs.Writes.{same_variable}
-use Rattle.in_out_regions.proofs.WriteLaws.{cmp_to_same, cmp_if, same_itself}
-use Rattle.out_regions.specs.Lists.{writes}
-use Rattle.out_regions.specs.Used.{all_out}
-use Rattle.callee_regions.specs.Units.{size_in}
-use Rattle.callee_regions.specs.Callee.{to_callee}
-use Rattle.callee_regions.specs.Links.{subscripts_of}
-use Rattle.callee_regions.specs.Claims.{HasUnit, LinkHolds}
-use Rattle.callee_regions.specs.Laws.{AreTold}
-use Rattle.callee_regions.proofs.RegionLaws.{units_sent as units_handed}
+use Rattle.preconditions.specs.transformer_algebra.Claims.{Scene}
+use Rattle.preconditions.specs.transformer_algebra.Laws.{In}
+use Rattle.preconditions.specs.call_translation.Sites.{HoldingSite}
+use Rattle.preconditions.specs.transformers.Given.{Callees}
+use Rattle.preconditions.specs.transformers.Modules.{transformers_of}
+use Rattle.in_out_regions.specs.region_sets.declared.region.Access.{Access}
+use Rattle.in_out_regions.specs.region_sets.declared.region.Access.TheVariants.{Write, Out}
+use Rattle.in_out_regions.specs.region_sets.declared.region.Region.{Region}
+use Rattle.in_out_regions.specs.region_sets.Sets.{unite_all}
+use Rattle.in_out_regions.specs.region_sets.Claims.{Elements, Places as AllElements, AreByOrder, LiesIn, LiesInSet}
+use Rattle.in_out_regions.proofs.RegionSets.SetLaws.{gathered_units}
+use Rattle.in_out_regions.proofs.RegionSets.StepLaws.{in_right}
+use Rattle.in_out_regions.specs.call_equations.declared.link.Link.{Link}
+use Rattle.in_out_regions.specs.call_equations.Sides.{SidesTree, changed_cells}
+use Rattle.in_out_regions.specs.call_equations.Links.{link_of}
+use Rattle.in_out_regions.specs.region_translation.Caller.{by_link, to_caller}
+use Rattle.in_out_regions.specs.region_translation.Claims.{FormsMean}
+use Rattle.in_out_regions.specs.region_translation.Claims as translation
+use Rattle.in_out_regions.proofs.RegionTranslation.RegionLaws.{units_sent}
+use Rattle.in_out_regions.specs.array_regions.Calls.{Callees as Summaries, sides, actuals_reads, all_in_caller, summary_in_caller}
+use Rattle.loop_marker.specs.out_regions.Lists.{writes}
+use Rattle.loop_marker.specs.out_regions.Used.{all_out}
+use Rattle.in_out_regions.specs.region_translation.Units.{size_in}
+use Rattle.in_out_regions.specs.region_translation.Callee.{to_callee}
+use Rattle.in_out_regions.specs.region_translation.Links.{subscripts_of}
+use Rattle.in_out_regions.specs.region_translation.CalleeClaims.{HasUnit, LinkHolds}
+use Rattle.in_out_regions.specs.region_translation.CalleeLaws.{AreTold}
+use Rattle.in_out_regions.proofs.RegionTranslation.CalleeRegionLaws.{units_sent as units_handed}
 use Rattle.laws_lines.proofs.SystemVars.{AreGiven}
-use Rattle.laws_statements.specs.Good.{said}
-use Rattle.laws_calls.specs.Bindings.{Binds, Begins}
-use Rattle.laws_calls.specs.Parts.{Blocks, Part, places_in as dummy_places, scene_in, Sane}
-use Rattle.laws_calls.specs.Sites.{Site}
-use Rattle.laws_calls.proofs.Enter.{Fits}
-use Rattle.laws_regions.specs.Entries.{IsLost, Enters}
-use Rattle.laws_regions.specs.Programs.{regions_in_part, called_in, EachRegionHolds, Regular, Joins, Sends}
-use Rattle.laws_regions.specs.Settings.{scene, Sound, elements_with}
-use Rattle.laws_regions.proofs.Bounds.{setting}
-use Rattle.laws_regions.proofs.CalledShown.{AtEntry, Bound}
-use Rattle.laws_regions.proofs.Calling.{OfferedHere, solid, apart, begins_there, binds_there}
-use Rattle.laws_regions.proofs.Carrying.{LinkLaws, Way, joined, hidden, way, forms}
-use Rattle.laws_regions.proofs.Sent.{in_sent}
-use Rattle.laws_regions.proofs.Steady.{Steady}
-use Rattle.laws_regions.proofs.Told.{told_same}
-use Rattle.laws_regions.proofs.Written.{equal_key}
+use Rattle.laws_analyses.specs.Statements.Good.{said}
+use Rattle.laws_analyses.specs.Calls.Bindings.{Binds, Begins}
+use Rattle.laws_analyses.specs.Calls.Parts.{Blocks, Part, places_in as dummy_places, scene_in, Sane}
+use Rattle.laws_analyses.specs.Calls.Sites.{Site}
+use Rattle.laws_analyses.proofs.Calls.Enter.{Fits}
+use Rattle.laws_analyses.specs.Regions.Entries.{IsLost, Enters}
+use Rattle.laws_analyses.specs.Regions.Programs.{regions_in_part, called_in, EachRegionHolds, Regular, Joins, Sends}
+use Rattle.laws_analyses.specs.Regions.Settings.{scene, Sound, elements_with}
+use Rattle.laws_analyses.proofs.Regions.Bounds.{setting}
+use Rattle.laws_analyses.proofs.Regions.CalledShown.{AtEntry, Bound}
+use Rattle.laws_analyses.proofs.Regions.Calling.{OfferedHere, solid, apart, begins_there, binds_there}
+use Rattle.laws_analyses.proofs.Regions.Carrying.{LinkLaws, Way, joined, hidden, way, forms}
+use Rattle.laws_analyses.proofs.Regions.Sent.{in_sent}
+use Rattle.laws_analyses.proofs.Regions.Steady.{Steady}
+use Rattle.laws_analyses.proofs.Regions.Told.{told_same}
 use Rattle.laws_marks.specs.InFrames.{Frame, elements_in, bounds_count, rank}
 use Rattle.laws_marks.specs.InLaid.{Laid}
 use Rattle.laws_marks.specs.InUnits.{UnitsFit}
@@ -83,6 +79,10 @@ use Rattle.laws_marks.proofs.OutBackward.{IsBack, back_of}
 use Rattle.laws_marks.proofs.OutMoves.{out_lies}
 use Rattle.laws_marks.proofs.OutPrograms.{HandsDownAt}
 use Rattle.laws_marks.proofs.OutUsed.{write_in}
+use Rattle.in_out_regions.specs.region_sets.Lists.{set_at}
+use Rattle.f77_ast.specs.Variables.{same_variable}
+use Rattle.f77_ast.proofs.SameLaws.{cmp_to_same, cmp_if, same_itself}
+use Rattle.laws_programs.proofs.Effects.Named.{equal_key}
 
 -- ---- one of a set, by its variable
 

@@ -1,35 +1,32 @@
 -- The equations of a dummy hold the other way round where they hold from the callee to the caller, also where they name variables of other moments.
-use Rattle.std.proofs.Common.{◌≡◌, ℕ, suc, ◌+◌, ◌-◌, ◌<◌, ◌≤◌, List, [], ◌∷◌, ◌&&◌, ◌||◌, Bool, true, false, refl, sym, ap, ◌∙◌, subst, arith, ℤ, nat_lt, Some}
+use Rattle.std.proofs.Common.{◌≡◌, ℕ, suc, ◌+◌, ◌-◌, ◌<◌, ◌≤◌, ◌&&◌, Bool, true, false, refl, sym, ap, ◌∙◌, subst, arith, ℤ, nat_lt, Some}
 use Rattle.std.specs.Prelude.{if◌then◌else◌, nat_le}
 use Rattle.std.proofs.lemmas.Bool.{and_parts}
 use Rattle.std.proofs.lemmas.Bool.Decides.{nat_tests}
 use Rattle.affine_systems.specs.declared.row.Var.{Var}
 use Rattle.affine_systems.specs.declared.row.Var.TheVariants.{Cell, Exit, Phi, Aux}
-use Rattle.affine_systems.specs.declared.row.Term.{Term}
 use Rattle.affine_systems.specs.declared.row.Row.{Row}
-use Rattle.affine_systems.specs.Terms.{var_eq}
 use Rattle.affine_systems.specs.Points.{Point, Meets, Holds, HoldsAll}
 use Rattle.affine_systems.specs.Normal.{Normal, Kept, Always, Never, TooBig, normal}
 use Rattle.affine_systems.proofs.NormalLaws.{Agrees, normal_agrees}
 use Rattle.affine_systems.proofs.CallLaws.{append_all, value-renamed}
-use Rattle.affine_systems.proofs.TermLaws.{var_eq-true}
-use Rattle.system_renaming.specs.Renaming.{renamed_by}
 use Rattle.f77_ast.specs.declared.variable.Variable.{Variable}
-use Rattle.transformer_algebra.specs.Claims.{Scene}
-use Rattle.transformer_algebra.proofs.CellLaws.{clashes}
-use Rattle.region_sets.specs.Naming.{in_terms, in_rows}
-use Rattle.region_sets.specs.Claims.{Elements, HasSubscripts}
-use Rattle.region_sets.proofs.NameLaws.{terms_agree, rows_agree}
-use Rattle.call_equations.specs.declared.link.Link.{Link}
-use Rattle.call_equations.specs.Cells.{cell_name}
-use Rattle.region_translation.specs.Pieces.{standing, is_own}
-use Rattle.region_translation.specs.Claims.{Matches, HasInner}
-use Rattle.region_translation.specs.Claims as outward
-use Rattle.region_translation.proofs.NamingLaws.{behind, back_again}
-use Rattle.callee_regions.specs.Names.{turned_name, turned_names, turned_row, turned_normal, turned_rows}
-use Rattle.callee_regions.specs.Links.{link}
-use Rattle.callee_regions.specs.Claims.{MatchesBoth, HasOuter, HasUnit, LinkHolds}
-use Rattle.callee_regions.specs.Laws.{AreTold}
+use Rattle.preconditions.specs.transformer_algebra.Claims.{Scene}
+use Rattle.in_out_regions.specs.region_sets.Naming.{in_rows}
+use Rattle.in_out_regions.specs.region_sets.Claims.{Elements, HasSubscripts}
+use Rattle.in_out_regions.proofs.RegionSets.NameLaws.{terms_agree, rows_agree}
+use Rattle.in_out_regions.specs.call_equations.declared.link.Link.{Link}
+use Rattle.in_out_regions.specs.call_equations.Cells.{cell_name}
+use Rattle.in_out_regions.specs.region_translation.Pieces.{standing, is_own}
+use Rattle.in_out_regions.specs.region_translation.Claims.{Matches, HasInner}
+use Rattle.in_out_regions.specs.region_translation.Claims as outward
+use Rattle.in_out_regions.proofs.RegionTranslation.NamingLaws.{behind, back_again}
+use Rattle.in_out_regions.specs.region_translation.Names.{turned_name, turned_row, turned_normal, turned_rows}
+use Rattle.in_out_regions.specs.region_translation.Links.{link}
+use Rattle.in_out_regions.specs.region_translation.CalleeClaims.{MatchesBoth, HasOuter, HasUnit, LinkHolds}
+use Rattle.in_out_regions.specs.region_translation.CalleeLaws.{AreTold}
+use Rattle.in_out_regions.proofs.RegionTranslation.CalleeLinkLaws.{turned_row_holds, turned_rows_hold}
+use Rattle.fx_lists.proofs.Booleans.{clash as clashes}
 
 -- a subscript of the caller's variable is one of the first q
 abbrev pub is_within : ℕ → Var → Bool
@@ -37,32 +34,6 @@ is_within q (Cell n) = true
 is_within q (Exit n) = true
 is_within q (Phi k) = nat_lt 0 k && nat_le k q
 is_within q (Aux n) = true
-
--- ---- rows by other names
-
-names_are : (r q : ℕ) (v : Var) (ts : List Term) → in_terms v ts ≡ true → renamed_by (turned_names r q ts) v ≡ turned_name r q v
-names_are r q v [] e = clashes false e refl
-names_are r q v (t ∷ ts) e = go (var_eq v t.var) refl e (λ i. names_are r q v ts i)
-  where
-    go : (b : Bool) → var_eq v t.var ≡ b → (b || in_terms v ts) ≡ true → (in_terms v ts ≡ true → renamed_by (turned_names r q ts) v ≡ turned_name r q v) → (if b then turned_name r q t.var else renamed_by (turned_names r q ts) v) ≡ turned_name r q v
-    go true k i ih = ap (turned_name r q) (sym (var_eq-true v t.var k))
-    go false k i ih = ih i
-
-turned_row_holds : (r q : ℕ) (p : Point) (a : Row) → Holds (λ v. p (turned_name r q v)) a → Holds p (turned_row r q a)
-turned_row_holds r q p a h =
-    let f = renamed_by (turned_names r q a.terms) in
-    let same = value-renamed p f a.terms ∙ terms_agree a.terms (λ v. p (f v)) (λ v. p (turned_name r q v)) (λ v i. ap p (names_are r q v a.terms i)) in
-    subst (λ (z : ℤ). Meets a.equal z a.bound) (sym same) h
-
-turned_rows_hold : (r q : ℕ) (p : Point) (rs : List Row) → HoldsAll (λ v. p (turned_name r q v)) rs → HoldsAll p (turned_rows r q rs)
-turned_rows_hold r q p [] h = tt
-turned_rows_hold r q p (a ∷ rs) h = (append_all p (turned_normal r q (normal false a)) (turned_rows r q rs)).0 (go (normal false a) (normal_agrees (λ v. p (turned_name r q v)) false a), turned_rows_hold r q p rs h.1)
-  where
-    go : (n : Normal) → Agrees (λ v. p (turned_name r q v)) (Holds (λ v. p (turned_name r q v)) a) n → HoldsAll p (turned_normal r q n)
-    go (Kept b) g = (turned_row_holds r q p b (g.0 h.0), tt)
-    go Always g = tt
-    go Never g = absurd (g h.0)
-    go TooBig g = tt
 
 -- ---- a dummy
 

@@ -24,37 +24,37 @@ use Rattle.f77_meaning.specs.Modules.{Known}
 use Rattle.f77_meaning.specs.Occurrences.{Occurrence, events_after, first_places}
 use Rattle.affine_forms.specs.Scalars.{is_cell}
 use Rattle.affine_forms.specs.Claims.{unit_in, numbers_of}
-use Rattle.call_translation.specs.Scopes.{ScopeTree}
-use Rattle.call_translation.specs.Sites.{HoldingSite}
-use Rattle.transformer_algebra.specs.Claims.{Scene}
-use Rattle.transformers.specs.Given.{Callees}
-use Rattle.region_sets.specs.declared.region.Access.TheVariants.{Write, Out}
-use Rattle.region_sets.specs.declared.region.Region.{Region}
-use Rattle.region_sets.specs.Sets.{unite_all}
-use Rattle.region_sets.specs.Lists.{accesses_at, list_regions}
-use Rattle.region_sets.specs.Claims.{Places as Elements, AreByOrder, LiesInSet}
-use Rattle.region_sets.proofs.SetLaws.{gathered_units}
-use Rattle.array_regions.specs.Calls.{Callees as Summaries}
-use Rattle.array_regions.specs.Entry.{symbols_reads, goes_out, locals, for_callers, seen}
-use Rattle.out_regions.specs.Modules.{summary_of}
-use Rattle.laws_calls.specs.Parts.{Blocks, Part, places_in as dummy_places, scene_in, Sane}
-use Rattle.laws_calls.specs.ProgramLaws.{Analysed}
-use Rattle.laws_calls.specs.Sites.{lookup, Entered}
-use Rattle.laws_regions.specs.Settings.{scene}
-use Rattle.laws_regions.specs.Shown.{is_lost, is_hidden}
-use Rattle.laws_regions.specs.Entries.{IsLost, Enters}
-use Rattle.laws_regions.specs.Programs.{regions_in_part, called_in, entry_scope, Regular, Joins}
-use Rattle.laws_regions.proofs.Arrays.{AllArrays}
-use Rattle.laws_regions.proofs.AtEntries.{bound_entry}
-use Rattle.laws_regions.proofs.Callers.{in_seen, callers_lie, summary_lies}
-use Rattle.laws_regions.proofs.CalledShown.{AtEntry, Bound}
-use Rattle.laws_regions.proofs.Claimed.{visible_seen}
-use Rattle.laws_regions.proofs.Entering.{fixed_first, out, not_visible}
-use Rattle.laws_regions.proofs.Free.{FreeOk}
-use Rattle.laws_regions.proofs.Looks.{Looked, IfGave}
-use Rattle.laws_regions.proofs.Starts.{Starts, first_starts, forget_starts, body_starts}
-use Rattle.laws_regions.proofs.Traces.{hidden_parts}
-use Rattle.laws_regions.proofs.Programs as base
+use Rattle.preconditions.specs.call_translation.Scopes.{ScopeTree}
+use Rattle.preconditions.specs.call_translation.Sites.{HoldingSite}
+use Rattle.preconditions.specs.transformer_algebra.Claims.{Scene}
+use Rattle.preconditions.specs.transformers.Given.{Callees}
+use Rattle.in_out_regions.specs.region_sets.declared.region.Access.TheVariants.{Write, Out}
+use Rattle.in_out_regions.specs.region_sets.declared.region.Region.{Region}
+use Rattle.in_out_regions.specs.region_sets.Sets.{unite_all}
+use Rattle.in_out_regions.specs.region_sets.Lists.{accesses_at, list_regions}
+use Rattle.in_out_regions.specs.region_sets.Claims.{Places as Elements, AreByOrder, LiesInSet}
+use Rattle.in_out_regions.proofs.RegionSets.SetLaws.{gathered_units}
+use Rattle.in_out_regions.specs.array_regions.Calls.{Callees as Summaries}
+use Rattle.in_out_regions.specs.array_regions.Entry.{symbols_reads, locals, for_callers, seen}
+use Rattle.loop_marker.specs.out_regions.Modules.{summary_of}
+use Rattle.laws_analyses.specs.Calls.Parts.{Blocks, Part, places_in as dummy_places, scene_in, Sane}
+use Rattle.laws_analyses.specs.Calls.ProgramLaws.{Analysed}
+use Rattle.laws_analyses.specs.Calls.Sites.{lookup, Entered}
+use Rattle.laws_analyses.specs.Regions.Settings.{scene}
+use Rattle.laws_analyses.specs.Regions.Shown.{is_lost, is_hidden}
+use Rattle.laws_analyses.specs.Regions.Entries.{IsLost, Enters}
+use Rattle.laws_analyses.specs.Regions.Programs.{regions_in_part, called_in, entry_scope, Regular, Joins}
+use Rattle.laws_analyses.proofs.Regions.Arrays.{AllArrays}
+use Rattle.laws_analyses.proofs.Regions.AtEntries.{bound_entry}
+use Rattle.laws_analyses.proofs.Regions.Callers.{in_seen, callers_lie, summary_lies}
+use Rattle.laws_analyses.proofs.Regions.CalledShown.{AtEntry, Bound}
+use Rattle.laws_analyses.proofs.Regions.Claimed.{visible_seen}
+use Rattle.laws_analyses.proofs.Regions.Entering.{fixed_first, out, not_visible}
+use Rattle.laws_analyses.proofs.Regions.Free.{FreeOk}
+use Rattle.laws_analyses.proofs.Regions.Looks.{Looked, IfGave}
+use Rattle.laws_analyses.proofs.Regions.Starts.{Starts, first_starts, forget_starts, body_starts}
+use Rattle.laws_analyses.proofs.Regions.Traces.{hidden_parts}
+use Rattle.laws_analyses.proofs.Regions.Programs as base
 use Rattle.laws_marks.specs.InFrames.{Frame, elements_in}
 use Rattle.laws_marks.specs.InShown.{IsFree}
 use Rattle.laws_marks.proofs.InApart.{OffersLocked, units_fit}
@@ -79,9 +79,10 @@ use Rattle.laws_marks.proofs.OutNeeds.{nothing_later, is_element, unhidden, touc
 use Rattle.laws_marks.proofs.OutRuns.{events_join}
 use Rattle.laws_marks.proofs.OutStrictParts.{MeaningStrict, strict_after_call, arrays_tagged, scalars_tagged}
 use Rattle.laws_marks.proofs.OutWriteSets.{list_fits}
+use Rattle.call_graph.specs.Visible.{is_visible_to_callers}
 
 -- a unit of a variable that callers see, in what callers see
-out_summary_lies : (m : Scene) (at : Elements) (by : AreByOrder at) (x : ℕ → ℤ) (s : ScopeTree) (rs : List Region) (u : ℕ) → ((v : Named) (phi : ℕ → ℤ) → at v phi ≡ Some u → goes_out s.symbols v ≡ true) → LiesInSet m at Out rs x u → LiesInSet m at Out (summary_of s rs) x u
+out_summary_lies : (m : Scene) (at : Elements) (by : AreByOrder at) (x : ℕ → ℤ) (s : ScopeTree) (rs : List Region) (u : ℕ) → ((v : Named) (phi : ℕ → ℤ) → at v phi ≡ Some u → is_visible_to_callers s.symbols v ≡ true) → LiesInSet m at Out rs x u → LiesInSet m at Out (summary_of s rs) x u
 out_summary_lies m at by x s rs u out l =
     let g = gathered_units rs m at by Out x u l in
     gathered_units (seen s.symbols (locals s.symbols) (unite_all rs)) m at by Out x u

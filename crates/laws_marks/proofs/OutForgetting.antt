@@ -12,12 +12,13 @@ use Rattle.call_graph.specs.declared.graph.Graph.{Graph}
 use Rattle.f77_meaning.specs.Accesses.{is_read_first}
 use Rattle.f77_meaning.specs.Modules.{Known, all_lost}
 use Rattle.f77_meaning.specs.Linked.{numbering}
-use Rattle.transformer_algebra.specs.Laws.{In, here, there}
-use Rattle.transformer_algebra.proofs.CellLaws.{nat_eq_same}
-use Rattle.laws_regions.specs.Entries.{IsLost}
+use Rattle.preconditions.specs.transformer_algebra.Laws.{In, here, there}
+use Rattle.laws_analyses.specs.Regions.Entries.{IsLost}
 use Rattle.laws_marks.specs.OutPrograms.{is_some_lost}
 use Rattle.laws_marks.specs.OutRests.{IsStrict, Follows}
 use Rattle.laws_marks.proofs.OutStrictness.{unread}
+use Rattle.laws_analyses.proofs.Regions.CalledShown.{any_in}
+use Rattle.fx_lists.proofs.Numbers.{nat_eq_same}
 
 put_here : (s : Store) (u : ℕ) → (put s u (undefined (s u)) u).tag ≡ Undefined
 put_here s u = ap (λ b. (if b then undefined (s u) else s u).tag) (nat_eq_same u)
@@ -57,12 +58,6 @@ quiet_after us Normal s i = quiet_forget us s i
 quiet_after us Returned s i = quiet_forget us s i
 quiet_after us Stopped s i = refl
 quiet_after us (Jump l) s i = refl
-
--- a unit that a module loses
-any_in : (f : Known → Bool) (ks : List Known) (q : Known) → In q ks → f q ≡ true → list_any f ks ≡ true
-any_in f [] q i h = elim i [ ]
-any_in f (k ∷ ks) q here h = or_left (f k) (list_any f ks) h
-any_in f (k ∷ ks) q (there i) h = or_right (f k) (list_any f ks) (any_in f ks q i h)
 
 pub some_lost : (ks : List Known) (g : Graph) (m : List ℕ) (u : ℕ) → IsLost ks g m u → is_some_lost ks g u ≡ true
 some_lost ks g m u l = any_in (λ k. list_any (λ v. nat_eq v u) (all_lost (numbering ks g) k.read.name k.symbols k.symbols)) ks l.known l.is_one l.lost

@@ -13,13 +13,14 @@ use Rattle.f77_ast.specs.Executions.{run_of, AtEnd}
 use Rattle.f77_ast.specs.Programs.{Conforms}
 use Rattle.f77_meaning.specs.Occurrences.{Occurrence, after_answer, events_after, places_in, Throughout}
 use Rattle.affine_forms.specs.Claims.{numbers_of}
-use Rattle.laws_regions.proofs.Rules.{Post, Meets, plan_then}
-use Rattle.laws_regions.proofs.Looks.{Looked}
-use Rattle.laws_regions.proofs.Starts.{forgotten_same}
-use Rattle.laws_regions.proofs.Storing.{Holding}
+use Rattle.laws_analyses.proofs.Regions.Rules.{Post, Meets}
+use Rattle.laws_analyses.proofs.Regions.Looks.{Looked}
+use Rattle.laws_analyses.proofs.Regions.Starts.{forgotten_same}
+use Rattle.laws_analyses.proofs.Regions.Storing.{Holding}
 use Rattle.laws_marks.specs.OutRests.{onward_by, IsStrict, Follows}
 use Rattle.laws_marks.proofs.OutRuns.{on_from, then_run, run_after, plan_after, then_assoc, events_join, onward_join, throughout_then}
 use Rattle.laws_marks.proofs.OutStrictParts.{follows_then}
+use Rattle.f77_ast.proofs.Shared.{steps_then as plan_then}
 
 -- what is needed of these events later
 abbrev pub Need : Type 1

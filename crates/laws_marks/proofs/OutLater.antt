@@ -7,29 +7,31 @@ use Rattle.affine_systems.specs.declared.row.System.{System}
 use Rattle.affine_systems.specs.Points.{Point, HoldsAll}
 use Rattle.affine_systems.specs.Tidy.{is_unit}
 use Rattle.hull_projection.proofs.ProjectLaws.{project_keeps}
-use Rattle.system_renaming.specs.Renaming.{naming, renamed_by, rename_all, push_rows}
-use Rattle.system_renaming.proofs.KeepLaws.{rename_all_holds, push_rows_holds}
+use Rattle.preconditions.specs.transformer_algebra.Renaming.{naming, renamed_by, rename_all, push_rows}
+use Rattle.preconditions.proofs.TransformerAlgebra.KeepLaws.{rename_all_holds, push_rows_holds}
 use Rattle.affine_forms.specs.declared.affine.Affine.{Affine}
 use Rattle.affine_forms.specs.Claims.{form_value}
 use Rattle.affine_forms.specs.Comparisons.{var_form}
-use Rattle.transformer_algebra.specs.Cells.{others}
-use Rattle.transformer_algebra.specs.Halves.{cell_vars}
-use Rattle.transformer_algebra.specs.Loops.{goes_up, stays}
-use Rattle.transformer_algebra.specs.Transformers.{without}
-use Rattle.transformer_algebra.specs.Claims.{Scene, AtStart, Means, NotBeyond, Kept}
-use Rattle.transformer_algebra.proofs.TurnLaws.{kept_chain}
-use Rattle.transformer_algebra.proofs.RuleLaws.{old_point, old_off, at_old}
-use Rattle.region_sets.specs.declared.range.Range.{Range}
-use Rattle.region_sets.specs.declared.region.Access.{Access}
-use Rattle.region_sets.specs.declared.region.Region.{Region}
-use Rattle.region_sets.specs.Naming.{named_cells, has_none}
-use Rattle.region_sets.specs.Claims.{Describes, Places, LiesInSet, Iteration, Begins}
-use Rattle.region_sets.proofs.NameLaws.{rows_agree}
-use Rattle.region_sets.proofs.StepLaws.{in_map}
+use Rattle.preconditions.specs.transformer_algebra.Cells.{others}
+use Rattle.preconditions.specs.transformer_algebra.Halves.{cell_vars}
+use Rattle.preconditions.specs.transformer_algebra.Loops.{goes_up, stays}
+use Rattle.preconditions.specs.transformer_algebra.Transformers.{without}
+use Rattle.preconditions.specs.transformer_algebra.Claims.{Scene, AtStart, Means, NotBeyond, Kept}
+use Rattle.preconditions.proofs.TransformerAlgebra.TurnLaws.{kept_chain}
+use Rattle.preconditions.proofs.TransformerAlgebra.RuleLaws.{old_point, old_off, at_old}
+use Rattle.in_out_regions.specs.region_sets.declared.range.Range.{Range}
+use Rattle.in_out_regions.specs.region_sets.declared.region.Access.{Access}
+use Rattle.in_out_regions.specs.region_sets.declared.region.Region.{Region}
+use Rattle.in_out_regions.specs.region_sets.Naming.{named_cells, has_none}
+use Rattle.in_out_regions.specs.region_sets.Claims.{Describes, Places, LiesInSet, Iteration, Begins}
+use Rattle.in_out_regions.proofs.RegionSets.NameLaws.{rows_agree}
+use Rattle.in_out_regions.proofs.RegionSets.StepLaws.{in_map}
 use Rattle.in_out_regions.specs.Loops.{is_one_step}
-use Rattle.out_regions.specs.Later.{later_from, later_rows_by, later_rows, is_steady, later_index, later_piece, later, all_later}
-use Rattle.laws_marks.proofs.Indices.{within_so, Before, beyond_so, var_value, unit_before, unchanged, form_stays}
+use Rattle.loop_marker.specs.out_regions.Later.{later_from, later_rows_by, later_rows, is_steady, later_index, later_piece, later, all_later}
+use Rattle.laws_marks.proofs.Indices.{Before, beyond_so, unit_before, unchanged, form_stays}
 use Rattle.laws_marks.proofs.InEarlier.{with_earlier, earlier_vars, earlier_off, begun_at, starts_at, named_alike}
+use Rattle.in_out_regions.proofs.RegionSets.LoopLaws.{within_holds as within_so}
+use Rattle.in_out_regions.proofs.ArrayRegions.Exact.{var_value}
 
 module _ (m : Scene) (g : Range) (x : ℕ → ℤ) (a b : ℤ) (bg : Begins m g x a b) (tracked : Bool) (is_tracked : m.tracked g.index ≡ tracked) where
   -- one iteration, and a later one

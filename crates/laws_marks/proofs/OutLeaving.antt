@@ -4,16 +4,14 @@ use Rattle.std.specs.Prelude.{not, if◌then◌else◌}
 use Rattle.std.proofs.lemmas.Bool.{or_left, or_right}
 use Rattle.f77_ast.specs.Trees.{StmtTree, WhatTree, ArmTree, ArmTrees, ElseTree, LoopTree, StmtTrees}
 use Rattle.f77_ast.specs.Trees as tree
-use Rattle.transformer_algebra.specs.Cells.{has}
-use Rattle.transformer_algebra.proofs.CellLaws.{nat_same}
-use Rattle.transformers.specs.Jumps.{stmt_has, parts_have, list_has, arms_have, arm_has, else_has, loop_has, goes_to, is_return, returns_early, goes_beyond}
-use Rattle.out_regions.specs.Leaving.{stmt_labels, list_labels, returns, leaves, stmt_leaves}
-use Rattle.laws_statements.specs.Leads.{stmt_leads, each_leads}
-use Rattle.laws_statements.proofs.LeadLaws.{leads_has, list_goes}
-
-either : (a b c d : Bool) → (a ≡ true → c ≡ true) → (b ≡ true → d ≡ true) → (a || b) ≡ true → (c || d) ≡ true
-either true b c d f g h = or_left c d (f refl)
-either false b c d f g h = or_right c d (g h)
+use Rattle.preconditions.specs.transformer_algebra.Cells.{has}
+use Rattle.preconditions.specs.transformers.Jumps.{stmt_has, parts_have, list_has, arms_have, arm_has, else_has, loop_has, goes_to, returns_early, goes_beyond}
+use Rattle.loop_marker.specs.out_regions.Leaving.{stmt_labels, list_labels, returns, leaves, stmt_leaves}
+use Rattle.laws_analyses.specs.Statements.Leads.{stmt_leads, each_leads}
+use Rattle.laws_analyses.proofs.Statements.LeadLaws.{leads_has, list_goes}
+use Rattle.fx_lists.proofs.Booleans.{or_map as either}
+use Rattle.fx_lists.proofs.Numbers.{same_is as nat_same}
+use Rattle.f77_ast.specs.Shapes.{is_return}
 
 module _ (f g : WhatTree → Bool) (more : (w : WhatTree) → f w ≡ true → g w ≡ true) where
   mutual

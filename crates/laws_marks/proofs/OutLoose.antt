@@ -10,27 +10,26 @@ use Rattle.f77_ast.specs.Plans.{Flow, Normal, Jump, Returned, Stopped, Plan, End
 use Rattle.f77_ast.specs.Executions.{run_of, Claim}
 use Rattle.f77_ast.specs.Lists.{Part, is_label, has_label, from_label, go_on, in_order as plan_in_order, with_jumps, list_plan}
 use Rattle.f77_ast.specs.Statements.{parts}
-use Rattle.f77_results.specs.declared.results.At.{At}
+use Rattle.f77_ast.specs.declared.results.At.{At}
 use Rattle.f77_ast.specs.declared.variable.Unit.{Unit as BlockUnit}
 use Rattle.f77_meaning.specs.Occurrences.{Occurrence}
 use Rattle.affine_forms.specs.Claims.{numbers_of}
-use Rattle.transformer_algebra.specs.Transformers.{all_cells, all_units}
-use Rattle.transformer_algebra.specs.Claims.{Kept}
-use Rattle.transformer_algebra.specs.Laws.{In}
-use Rattle.transformer_algebra.proofs.RuleLaws.{kept_in}
-use Rattle.transformers.specs.Jumps.{stmt_has, is_return}
-use Rattle.transformers.specs.Lists.{each_at, number_of}
-use Rattle.region_sets.specs.declared.region.Access.TheVariants.{In as AtIn, Out}
-use Rattle.region_sets.specs.declared.region.Region.{Region}
-use Rattle.region_sets.specs.Lists.{numbers, all_accesses, all_forgetting}
-use Rattle.region_sets.specs.Claims.{LiesInSet}
-use Rattle.in_out_regions.specs.Lists.{set_at}
-use Rattle.out_regions.specs.Used.{all_out}
-use Rattle.laws_statements.specs.Leads.{stmt_leads}
-use Rattle.laws_regions.specs.Settings.{scene}
-use Rattle.laws_regions.proofs.Traces.{trace_assoc, trace_nil}
-use Rattle.laws_regions.proofs.Rules.{Goes, OnGave, goes_ends, goes_breaks, goes_more, goes_then}
-use Rattle.laws_regions.proofs.Lists.{KeepsAt, Moved}
+use Rattle.preconditions.specs.transformer_algebra.Transformers.{all_cells, all_units}
+use Rattle.preconditions.specs.transformer_algebra.Claims.{Kept}
+use Rattle.preconditions.specs.transformer_algebra.Laws.{In}
+use Rattle.preconditions.proofs.TransformerAlgebra.RuleLaws.{kept_in}
+use Rattle.preconditions.specs.transformers.Jumps.{stmt_has}
+use Rattle.preconditions.specs.transformers.Lists.{each_at, number_of}
+use Rattle.in_out_regions.specs.region_sets.declared.region.Access.TheVariants.{In as AtIn, Out}
+use Rattle.in_out_regions.specs.region_sets.declared.region.Region.{Region}
+use Rattle.in_out_regions.specs.region_sets.Lists.{numbers, all_accesses, all_forgetting, set_at}
+use Rattle.in_out_regions.specs.region_sets.Claims.{LiesInSet}
+use Rattle.loop_marker.specs.out_regions.Used.{all_out}
+use Rattle.laws_analyses.specs.Statements.Leads.{stmt_leads}
+use Rattle.laws_analyses.specs.Regions.Settings.{scene}
+use Rattle.laws_analyses.proofs.Regions.Traces.{trace_assoc, trace_nil}
+use Rattle.laws_analyses.proofs.Regions.Rules.{Goes, OnGave, goes_ends, goes_breaks, goes_more, goes_then}
+use Rattle.laws_analyses.proofs.Regions.Lists.{KeepsAt, Moved}
 use Rattle.laws_marks.specs.InFrames.{Frame, elements_in}
 use Rattle.laws_marks.specs.InShown.{IsFirst, IsFree}
 use Rattle.laws_marks.specs.InUnits.{UnitsFit, SetFits}
@@ -43,6 +42,7 @@ use Rattle.laws_marks.proofs.OutHands.{Need, IsLater, Hands, hands_ends, hands_b
 use Rattle.laws_marks.proofs.OutMoves.{out_lies, lies_left, lies_right, forgotten_lies, accesses_lie}
 use Rattle.laws_marks.proofs.OutNeeds.{need_cases, needs_none, needs_right, first_seen}
 use Rattle.laws_marks.proofs.OutRest.{StmtRan}
+use Rattle.f77_ast.specs.Shapes.{is_return}
 
 module _ (k : Frame) (D : Claim) (O : Occurrence → Type 0) (lost : ℕ → Bool) (I : Store → Type 0) (acc ins : List (At (List Region))) (fits : (n : ℕ) → SetFits k (set_at acc n)) (locked : Locks) (still : ℕ → Bool) (units : UnitsFit k locked) (all : StmtTrees) (whole : Bool) where
   abbrev pub cells : List ℕ

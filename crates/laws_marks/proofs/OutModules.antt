@@ -13,46 +13,45 @@ use Rattle.f77_ast.specs.Calls.{Meaning, lock_doubly}
 use Rattle.f77_ast.specs.Statements.{spot, body_plan}
 use Rattle.f77_ast.specs.Programs.{scope}
 use Rattle.f77_ast.specs.declared.variable.Variable.{Variable as Named}
-use Rattle.f77_results.specs.declared.results.At.{At}
+use Rattle.f77_ast.specs.declared.results.At.{At}
 use Rattle.call_graph.specs.declared.graph.Graph.{Graph}
 use Rattle.f77_meaning.specs.Modules.{Known}
 use Rattle.f77_meaning.specs.Occurrences.{Occurrence}
-use Rattle.call_translation.specs.Sites.{HoldingSite}
-use Rattle.transformers.specs.Given.{Callees}
+use Rattle.preconditions.specs.call_translation.Sites.{HoldingSite}
+use Rattle.preconditions.specs.transformers.Given.{Callees}
 use Rattle.affine_forms.specs.Conditions.{no_rows}
-use Rattle.transformer_algebra.specs.declared.transformer.Transformer.{Transformer}
-use Rattle.transformer_algebra.proofs.CellLaws.{nat_eq_same}
-use Rattle.transformers.specs.Jumps.{list_has, is_return}
-use Rattle.transformers.specs.Lists.{value_at}
-use Rattle.transformers.specs.Modules.{transformers_of}
-use Rattle.region_sets.specs.declared.region.Region.{Region}
-use Rattle.region_sets.specs.Lists.{or_none, accesses_at, list_regions}
-use Rattle.call_equations.specs.Sides.{changed_cells}
-use Rattle.array_regions.specs.Calls.{Called, Callees as Summaries}
+use Rattle.preconditions.specs.transformer_algebra.declared.transformer.Transformer.{Transformer}
+use Rattle.preconditions.specs.transformers.Jumps.{list_has}
+use Rattle.preconditions.specs.transformers.Lists.{value_at}
+use Rattle.preconditions.specs.transformers.Modules.{transformers_of}
+use Rattle.in_out_regions.specs.region_sets.declared.region.Region.{Region}
+use Rattle.in_out_regions.specs.region_sets.Lists.{or_none, accesses_at, list_regions}
+use Rattle.in_out_regions.specs.call_equations.Sides.{changed_cells}
+use Rattle.in_out_regions.specs.array_regions.Calls.{Called, Callees as Summaries}
 use Rattle.in_out_regions.specs.Known.{KnownTree}
 use Rattle.in_out_regions.specs.Statement as ins
-use Rattle.out_regions.specs.Known as outs
-use Rattle.out_regions.specs.Statement.{body_out, at_list}
-use Rattle.laws_statements.specs.CallsIn.{Each, list_calls}
-use Rattle.laws_statements.specs.Activation.{Ended}
-use Rattle.laws_statements.specs.Leads.{list_leads}
-use Rattle.laws_statements.proofs.MainResults.{each_found_at}
-use Rattle.laws_statements.proofs.NumberLaws.{in_order}
-use Rattle.laws_calls.proofs.Enter.{Fits, begin_fits, more_fits}
-use Rattle.laws_calls.specs.Parts.{Blocks, Part, still_in, Sane}
-use Rattle.laws_calls.specs.ProgramLaws.{Analysed}
-use Rattle.laws_calls.specs.Sites.{lookup, Entered}
-use Rattle.laws_regions.specs.Settings.{scene}
-use Rattle.laws_regions.specs.Shown.{Holds}
-use Rattle.laws_regions.specs.Programs.{regions_in_part, called_in, Regular, Joins}
-use Rattle.laws_regions.specs.Entries.{Enters}
-use Rattle.laws_regions.proofs.Looks.{Looked, IfGave}
-use Rattle.laws_regions.proofs.Steady.{steady_begin}
-use Rattle.laws_regions.proofs.Free.{FreeOk}
-use Rattle.laws_regions.proofs.CalledShown.{Bound}
-use Rattle.laws_regions.proofs.Moving.{list_moves}
-use Rattle.laws_regions.proofs.Statements.{body_goes}
-use Rattle.laws_regions.proofs.Programs as base
+use Rattle.loop_marker.specs.out_regions.Known as outs
+use Rattle.loop_marker.specs.out_regions.Statement.{body_out, at_list}
+use Rattle.call_graph.specs.CallsIn.{Each, list_calls}
+use Rattle.laws_analyses.specs.Statements.Activation.{Ended}
+use Rattle.laws_analyses.specs.Statements.Leads.{list_leads}
+use Rattle.laws_analyses.proofs.Statements.MainResults.{each_found_at}
+use Rattle.laws_analyses.proofs.Statements.NumberLaws.{in_order}
+use Rattle.laws_analyses.proofs.Calls.Enter.{Fits, begin_fits, more_fits}
+use Rattle.laws_analyses.specs.Calls.Parts.{Blocks, Part, still_in, Sane}
+use Rattle.laws_analyses.specs.Calls.ProgramLaws.{Analysed}
+use Rattle.laws_analyses.specs.Calls.Sites.{lookup, Entered}
+use Rattle.laws_analyses.specs.Regions.Settings.{scene}
+use Rattle.laws_analyses.specs.Regions.Shown.{Holds}
+use Rattle.laws_analyses.specs.Regions.Programs.{regions_in_part, called_in, Regular, Joins}
+use Rattle.laws_analyses.specs.Regions.Entries.{Enters}
+use Rattle.laws_analyses.proofs.Regions.Looks.{Looked, IfGave}
+use Rattle.laws_analyses.proofs.Regions.Steady.{steady_begin}
+use Rattle.laws_analyses.proofs.Regions.Free.{FreeOk}
+use Rattle.laws_analyses.proofs.Regions.CalledShown.{Bound}
+use Rattle.laws_analyses.proofs.Regions.Moving.{list_moves}
+use Rattle.laws_analyses.proofs.Regions.Statements.{body_goes}
+use Rattle.laws_analyses.proofs.Regions.Programs as base
 use Rattle.laws_marks.specs.InFrames.{Frame}
 use Rattle.laws_marks.specs.InPrograms.{ins_called, ins_in_part}
 use Rattle.laws_marks.specs.InShown.{IsFree}
@@ -70,8 +69,11 @@ use Rattle.laws_marks.proofs.OutHands.{Hands, hands_knowing}
 use Rattle.laws_marks.proofs.OutNumbers.{o_list}
 use Rattle.laws_marks.proofs.OutStanding.{FoundI, OwesOut, CallOut}
 use Rattle.laws_marks.proofs.OutStatements.{body_hands, used_needs}
-use Rattle.laws_marks.proofs.OutStrictParts.{MeaningStrict, Yields}
+use Rattle.laws_marks.proofs.OutStrictParts.{MeaningStrict}
 use Rattle.laws_marks.proofs.OutWriteSets.{rest_narrow, list_fits}
+use Rattle.fx_lists.proofs.Numbers.{nat_eq_same}
+use Rattle.laws_interleavings.proofs.Plans.Fine.{Yields}
+use Rattle.f77_ast.specs.Shapes.{is_return}
 
 -- with what is known of what it gives
 pub looked_yields : {A : Type 0} (t : Steps A) (s : Store) (Q : Answer A → List Event → Type 0) (P : A → Type 0) → Looked t s Q → Yields P t → Looked t s (λ a es. Q a es × IfGave a P)

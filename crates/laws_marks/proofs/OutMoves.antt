@@ -15,43 +15,31 @@ use Rattle.hull_projection.proofs.RefuteLaws.{refuted_none}
 use Rattle.hull_projection.proofs.HullLaws.{hull_holds}
 use Rattle.hull_projection.proofs.ProjectLaws.{project_keeps}
 use Rattle.f77_ast.specs.declared.variable.Unit.{Unit as BlockUnit}
-use Rattle.system_renaming.specs.Renaming.{renamed_by}
-use Rattle.system_renaming.proofs.KeepLaws.{rename_all_holds}
-use Rattle.transformer_algebra.specs.declared.transformer.Transformer.{Transformer}
-use Rattle.transformer_algebra.specs.Halves.{to_cells, cell_vars}
-use Rattle.transformer_algebra.specs.Transformers.{without, apply}
-use Rattle.transformer_algebra.specs.Laws.{In, here, there}
-use Rattle.transformer_algebra.specs.Claims.{Scene, AtStart, AtEnd, Kept, Does}
-use Rattle.transformer_algebra.proofs.HalfLaws.{to_cells_exit, to_cells_cell}
-use Rattle.transformer_algebra.proofs.RuleLaws.{old_point, old_off, at_old}
-use Rattle.region_sets.specs.declared.region.Access.{Access}
-use Rattle.region_sets.specs.declared.region.Access.TheVariants.{Out}
-use Rattle.region_sets.specs.declared.region.Region.{Region}
-use Rattle.region_sets.specs.Regions.{remade, hull_of}
-use Rattle.region_sets.specs.Compose.{compose}
-use Rattle.region_sets.specs.Sets.{live_pieces, with_pieces, live}
-use Rattle.region_sets.specs.Lists.{all_composed, forgetting, all_forgetting, all_accesses}
-use Rattle.region_sets.specs.Claims.{Describes, LiesIn, LiesInSet, Places}
-use Rattle.region_sets.proofs.StepLaws.{in_left, in_right, in_map}
-use Rattle.region_sets.proofs.PieceLaws.{compose_moves}
-use Rattle.out_regions.specs.Used.{as_out, all_out}
-use Rattle.out_regions.specs.Lists.{applied, all_applied}
+use Rattle.preconditions.specs.transformer_algebra.Renaming.{renamed_by}
+use Rattle.preconditions.proofs.TransformerAlgebra.KeepLaws.{rename_all_holds}
+use Rattle.preconditions.specs.transformer_algebra.declared.transformer.Transformer.{Transformer}
+use Rattle.preconditions.specs.transformer_algebra.Halves.{to_cells, cell_vars}
+use Rattle.preconditions.specs.transformer_algebra.Transformers.{without, apply}
+use Rattle.preconditions.specs.transformer_algebra.Laws.{In, here, there}
+use Rattle.preconditions.specs.transformer_algebra.Claims.{Scene, AtStart, AtEnd, Kept, Does}
+use Rattle.preconditions.proofs.TransformerAlgebra.HalfLaws.{to_cells_exit, to_cells_cell}
+use Rattle.preconditions.proofs.TransformerAlgebra.RuleLaws.{old_point, old_off, at_old}
+use Rattle.in_out_regions.specs.region_sets.declared.region.Access.{Access}
+use Rattle.in_out_regions.specs.region_sets.declared.region.Access.TheVariants.{Out}
+use Rattle.in_out_regions.specs.region_sets.declared.region.Region.{Region}
+use Rattle.in_out_regions.specs.region_sets.Regions.{remade, hull_of}
+use Rattle.in_out_regions.specs.region_sets.Compose.{compose}
+use Rattle.in_out_regions.specs.region_sets.Sets.{live_pieces, with_pieces, live}
+use Rattle.in_out_regions.specs.region_sets.Lists.{all_composed, forgetting, all_forgetting, all_accesses}
+use Rattle.in_out_regions.specs.region_sets.Claims.{Describes, LiesIn, LiesInSet, Places}
+use Rattle.in_out_regions.proofs.RegionSets.StepLaws.{in_left, in_right, in_map}
+use Rattle.in_out_regions.proofs.RegionSets.PieceLaws.{compose_moves}
+use Rattle.loop_marker.specs.out_regions.Used.{as_out, all_out}
+use Rattle.loop_marker.specs.out_regions.Lists.{applied, all_applied}
+use Rattle.in_out_regions.proofs.RegionSets.SetLaws.{not_refuted as described_lives}
+use Rattle.in_out_regions.proofs.RegionSets.UniteLaws.{hulled_first as first_hulled, hulled_rest as rest_hulled, hull_has as in_hull}
 
 -- ---- hulls, and systems that are not refuted
-
-first_hulled : (p : Point) (s : System) (ss : List System) → HoldsAll p s.rows → HoldsAll p (hull_all s ss).rows
-first_hulled p s [] h = h
-first_hulled p s (u ∷ ss) h = first_hulled p (hull s u) ss (hull_holds s u p (inl h))
-
-rest_hulled : (p : Point) (q s : System) (ss : List System) → In q ss → HoldsAll p q.rows → HoldsAll p (hull_all s ss).rows
-rest_hulled p q s [] i h = elim i [ ]
-rest_hulled p q s (u ∷ ss) here h = first_hulled p (hull s q) ss (hull_holds s q p (inr h))
-rest_hulled p q s (u ∷ ss) (there i) h = rest_hulled p q (hull s u) ss i h
-
-pub in_hull : (p : Point) (q : System) (ss : List System) → In q ss → HoldsAll p q.rows → HoldsAll p (hull_of ss).rows
-in_hull p q [] i h = elim i [ ]
-in_hull p q (s ∷ ss) here h = first_hulled p q ss h
-in_hull p q (s ∷ ss) (there i) h = rest_hulled p q s ss i h
 
 -- a point with these numbers and subscripts
 abbrev point_at : Scene → (ℕ → ℤ) → (ℕ → ℤ) → Var → ℤ
@@ -59,13 +47,6 @@ point_at m x phi (Cell c) = x (m.unit c)
 point_at m x phi (Exit c) = pos 0
 point_at m x phi (Phi i) = phi i
 point_at m x phi (Aux n) = pos 0
-
-described_lives : (m : Scene) (s : System) (x phi : ℕ → ℤ) → Describes m s x phi → refuted s.rows ≡ false
-described_lives m s x phi d = go (refuted s.rows) refl
-  where
-    go : (b : Bool) → refuted s.rows ≡ b → b ≡ false
-    go true e = absurd (refuted_none (point_at m x phi) s.rows e (d (point_at m x phi) (λ c t. refl) (λ i. refl)))
-    go false e = refl
 
 pub in_live : (m : Scene) (s : System) (ss : List System) (x phi : ℕ → ℤ) → Describes m s x phi → In s ss → In s (live_pieces ss)
 in_live m s [] x phi d i = elim i [ ]

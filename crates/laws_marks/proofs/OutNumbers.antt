@@ -4,13 +4,13 @@ use Rattle.std.specs.Prelude.{if◌then◌else◌}
 use Rattle.f77_ast.specs.Trees.{StmtTree, WhatTree, ArmTree, ArmTrees, ElseTree, LoopTree, StmtTrees}
 use Rattle.f77_ast.specs.Trees as tree
 use Rattle.f77_ast.specs.StatementNumbers.{part_numbers, list_numbers, arms_numbers, arm_numbers, else_numbers}
-use Rattle.transformers.specs.Jumps.{unstructured}
-use Rattle.region_sets.specs.declared.region.Region.{Region}
-use Rattle.out_regions.specs.Known.{KnownTree}
-use Rattle.out_regions.specs.Lists.{rest_of, first_out, rest_out, may_leave, used_around, any_out}
-use Rattle.out_regions.specs.Statement.{body_out, only_out, loop_out, at_parts, at_arms, at_arm, at_else, at_any, at_used, at_rest, at_first, at_list}
-use Rattle.laws_statements.proofs.NumberLaws.{ids}
-use Rattle.laws_regions.proofs.Numbering.{ids_parts}
+use Rattle.preconditions.specs.transformers.Jumps.{unstructured}
+use Rattle.in_out_regions.specs.region_sets.declared.region.Region.{Region}
+use Rattle.loop_marker.specs.out_regions.Known.{KnownTree}
+use Rattle.loop_marker.specs.out_regions.Lists.{rest_of, first_out, rest_out, may_leave, used_around, any_out}
+use Rattle.loop_marker.specs.out_regions.Statement.{body_out, only_out, loop_out, at_parts, at_arms, at_arm, at_else, at_any, at_used, at_rest, at_first, at_list}
+use Rattle.laws_analyses.proofs.Statements.NumberLaws.{ids}
+use Rattle.laws_analyses.proofs.Regions.Numbering.{ids_parts}
 
 module _ (t : KnownTree) where
   mutual

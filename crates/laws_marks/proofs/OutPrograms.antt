@@ -14,7 +14,7 @@ use Rattle.f77_ast.specs.Calls.{Actual, Meaning, actuals, places_of, own_units, 
 use Rattle.f77_ast.specs.Statements.{spot}
 use Rattle.f77_ast.specs.Programs.{Program, Conforms, body_of, called, no_module, meanings, program_plan}
 use Rattle.f77_ast.specs.declared.variable.Variable.{Variable as Named}
-use Rattle.f77_results.specs.declared.results.At.{At}
+use Rattle.f77_ast.specs.declared.results.At.{At}
 use Rattle.call_graph.specs.declared.graph.Graph.{Graph}
 use Rattle.f77_meaning.specs.Areas.{is_own_unit}
 use Rattle.f77_meaning.specs.Claimed.{InConformingRuns}
@@ -23,37 +23,36 @@ use Rattle.f77_meaning.specs.Modules.{Known}
 use Rattle.f77_meaning.specs.Occurrences.{Occurrence, after_answer, Throughout}
 use Rattle.affine_forms.specs.Scalars.{is_cell}
 use Rattle.affine_forms.specs.Claims.{unit_in, numbers_of}
-use Rattle.call_translation.specs.Sites.{HoldingSite}
-use Rattle.transformers.specs.Given.{Callees}
-use Rattle.transformers.specs.Modules.{transformers_of}
-use Rattle.transformer_algebra.specs.Laws.{In}
-use Rattle.region_sets.specs.declared.region.Access.TheVariants.{Write, Out}
-use Rattle.region_sets.specs.declared.region.Region.{Region}
-use Rattle.region_sets.specs.Claims.{LiesIn, LiesInSet}
-use Rattle.call_equations.specs.Sides.{changed_cells}
-use Rattle.array_regions.specs.Calls.{Callees as Summaries}
-use Rattle.in_out_regions.specs.Lists.{set_at}
-use Rattle.out_regions.specs.Lists.{writes}
-use Rattle.laws_statements.specs.CallsIn.{CallAt, Each, list_calls}
-use Rattle.laws_statements.specs.Good.{said}
-use Rattle.laws_statements.specs.Results.{pre_in}
-use Rattle.laws_calls.proofs.Enter.{Fits}
-use Rattle.laws_calls.specs.Parts.{Blocks, Part, places_in as dummy_places, scene_in, Sane}
-use Rattle.laws_calls.specs.ProgramLaws.{routines, Analysed, AnalysedParts, AnalysedProgram}
-use Rattle.laws_calls.specs.Sites.{Site, CoversFrom, Covers, lookup, Entered}
-use Rattle.laws_regions.specs.Settings.{scene, Sound, actuals_plain}
-use Rattle.laws_regions.specs.Entries.{IsLost}
-use Rattle.laws_regions.specs.Shown.{is_lost}
-use Rattle.laws_regions.specs.Programs.{regions_in_part, called_in, EachRegionHolds, Regular}
-use Rattle.laws_regions.proofs.Actuals.{AllOffer, actuals_hold}
-use Rattle.laws_regions.proofs.Bounds.{setting}
-use Rattle.laws_regions.proofs.CalledShown.{AtEntry, Bound, FineOk}
-use Rattle.laws_regions.proofs.Calling.{Known_of, OfferedHere, solid, apart, leads, entered_there}
-use Rattle.laws_regions.proofs.Free.{FreeOk, all_free}
-use Rattle.laws_regions.proofs.Looks.{IfGave}
-use Rattle.laws_regions.proofs.Programs as base
-use Rattle.laws_regions.proofs.Steady.{Steady}
-use Rattle.laws_regions.proofs.Storing.{holding_with}
+use Rattle.preconditions.specs.call_translation.Sites.{HoldingSite}
+use Rattle.preconditions.specs.transformers.Given.{Callees}
+use Rattle.preconditions.specs.transformers.Modules.{transformers_of}
+use Rattle.preconditions.specs.transformer_algebra.Laws.{In}
+use Rattle.in_out_regions.specs.region_sets.declared.region.Access.TheVariants.{Write, Out}
+use Rattle.in_out_regions.specs.region_sets.declared.region.Region.{Region}
+use Rattle.in_out_regions.specs.region_sets.Claims.{LiesIn, LiesInSet}
+use Rattle.in_out_regions.specs.call_equations.Sides.{changed_cells}
+use Rattle.in_out_regions.specs.array_regions.Calls.{Callees as Summaries}
+use Rattle.loop_marker.specs.out_regions.Lists.{writes}
+use Rattle.call_graph.specs.CallsIn.{CallAt, Each, list_calls}
+use Rattle.laws_analyses.specs.Statements.Good.{said}
+use Rattle.laws_analyses.specs.Statements.Results.{pre_in}
+use Rattle.laws_analyses.proofs.Calls.Enter.{Fits}
+use Rattle.laws_analyses.specs.Calls.Parts.{Blocks, Part, places_in as dummy_places, scene_in, Sane}
+use Rattle.laws_analyses.specs.Calls.ProgramLaws.{routines, Analysed, AnalysedParts, AnalysedProgram}
+use Rattle.laws_analyses.specs.Calls.Sites.{Site, CoversFrom, Covers, lookup, Entered}
+use Rattle.laws_analyses.specs.Regions.Settings.{scene, Sound, actuals_plain}
+use Rattle.laws_analyses.specs.Regions.Entries.{IsLost}
+use Rattle.laws_analyses.specs.Regions.Shown.{is_lost}
+use Rattle.laws_analyses.specs.Regions.Programs.{regions_in_part, called_in, EachRegionHolds, Regular}
+use Rattle.laws_analyses.proofs.Regions.Actuals.{AllOffer, actuals_hold}
+use Rattle.laws_analyses.proofs.Regions.Bounds.{setting}
+use Rattle.laws_analyses.proofs.Regions.CalledShown.{AtEntry, Bound, FineOk}
+use Rattle.laws_analyses.proofs.Regions.Calling.{Known_of, OfferedHere, solid, apart, leads, entered_there}
+use Rattle.laws_analyses.proofs.Regions.Free.{FreeOk, all_free}
+use Rattle.laws_analyses.proofs.Regions.Looks.{IfGave}
+use Rattle.laws_analyses.proofs.Regions.Programs as base
+use Rattle.laws_analyses.proofs.Regions.Steady.{Steady}
+use Rattle.laws_analyses.proofs.Regions.Storing.{holding_with}
 use Rattle.laws_marks.specs.InFrames.{Frame, elements_in}
 use Rattle.laws_marks.specs.InPrograms.{ins_called, ins_in_part, EachInHolds}
 use Rattle.laws_marks.specs.InUnits.{UnitsFit}
@@ -72,6 +71,7 @@ use Rattle.laws_marks.proofs.OutModules as handed
 use Rattle.laws_marks.proofs.OutNeeds.{nothing_later}
 use Rattle.laws_marks.proofs.OutStanding.{CallOut}
 use Rattle.laws_marks.proofs.OutStrictParts.{MeaningStrict, AllKept, strict_meanings, strict_after_call}
+use Rattle.in_out_regions.specs.region_sets.Lists.{set_at}
 
 -- what ends a call has no executions
 ended : (O : Occurrence → Type 0) (lost : ℕ → Bool) (us : List ℕ) (f : Flow) (y : Store) (N : Need) → Hands O lost (after_call us f) y N

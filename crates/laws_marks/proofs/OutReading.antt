@@ -10,15 +10,15 @@ use Rattle.f77_ast.specs.Symbols.{SymbolTree}
 use Rattle.call_graph.specs.declared.graph.Graph.{Graph}
 use Rattle.f77_meaning.specs.Modules.{known_of}
 use Rattle.affine_systems.specs.declared.row.System.{System}
-use Rattle.transformers.specs.Given.{Callees}
-use Rattle.roundtrip_statements.specs.Formed.{Each}
-use Rattle.roundtrip_modules.specs.Cards.{cards_in}
-use Rattle.roundtrip_modules.specs.ModuleLaws.{IsStatement}
-use Rattle.roundtrip_modules.proofs.JumpsAgain.{all_reach_there}
-use Rattle.roundtrip_modules.proofs.Tally.{count_of}
-use Rattle.roundtrip_modules.proofs.Writing.{few_stand}
+use Rattle.preconditions.specs.transformers.Given.{Callees}
+use Rattle.laws_programs.specs.roundtrip_programs.Statements.Formed.{Each}
+use Rattle.laws_programs.specs.roundtrip_programs.ModuleTexts.Cards.{cards_in}
+use Rattle.laws_programs.specs.roundtrip_programs.ModuleTexts.ModuleLaws.{IsStatement}
+use Rattle.laws_programs.proofs.RoundtripPrograms.ModuleTexts.JumpsAgain.{all_reach_there}
+use Rattle.laws_programs.proofs.RoundtripPrograms.ModuleTexts.Tally.{count_of}
+use Rattle.laws_programs.proofs.RoundtripPrograms.ModuleTexts.Writing.{few_stand}
 use Rattle.laws_programs.specs.Programs.{IsProgram}
-use Rattle.laws_storage.specs.Programs.{IsLinked, IsModule, known}
+use Rattle.laws_programs.specs.Storage.Programs.{IsLinked, IsModule, known}
 use Rattle.laws_programs.proofs.Ordered.{body_ordered}
 use Rattle.laws_programs.proofs.Sources.{is_built, all_of}
 use Rattle.laws_analyses.specs.Parts.{part_of}

@@ -12,32 +12,31 @@ use Rattle.f77_ast.specs.Plans.{Flow, Normal, Jump, Returned, Stopped, Plan, End
 use Rattle.f77_ast.specs.Executions.{Claim}
 use Rattle.f77_ast.specs.Lists.{Part, has_label, go_on, in_order as plan_in_order}
 use Rattle.f77_ast.specs.Statements.{statement_plan, parts}
-use Rattle.f77_results.specs.declared.results.At.{At}
+use Rattle.f77_ast.specs.declared.results.At.{At}
 use Rattle.f77_meaning.specs.Accesses.{is_written}
 use Rattle.affine_forms.specs.Claims.{numbers_of}
-use Rattle.transformer_algebra.specs.Claims.{Does}
-use Rattle.transformer_algebra.proofs.CellLaws.{nat_eq_same, clashes}
-use Rattle.transformers.specs.Jumps.{stmt_has, list_has, labels, goes_to, is_return, is_end, returns_early, early_return, unstructured}
-use Rattle.transformers.specs.Lists.{number_of}
-use Rattle.region_sets.specs.declared.region.Access.TheVariants.{Write, In as AtIn}
-use Rattle.region_sets.specs.declared.region.Region.{Region}
-use Rattle.region_sets.specs.Sets.{unite_all}
-use Rattle.region_sets.specs.Lists.{all_composed, in_order, numbers}
-use Rattle.region_sets.specs.Claims.{LiesInSet, IsSharp, IsSharpSet}
-use Rattle.region_sets.proofs.SetLaws.{gathered_units, gathered_sharp}
-use Rattle.in_out_regions.specs.Lists.{set_at, ins_in_order}
-use Rattle.out_regions.specs.Lists.{writes}
-use Rattle.laws_statements.specs.Leads.{stmt_leads, each_leads}
-use Rattle.laws_statements.specs.Activation.{Jumps}
-use Rattle.laws_statements.proofs.LeadLaws.{leads_has}
-use Rattle.laws_statements.proofs.Rows.{labelled, returned_last}
-use Rattle.laws_regions.specs.Settings.{scene}
-use Rattle.laws_regions.specs.Shown.{accessed, Touches, Holds, Sharp, Finally, Shown}
-use Rattle.laws_regions.proofs.Traces.{accessed_left, accessed_right, accessed_none, touches_cases, trace_nil}
-use Rattle.laws_regions.proofs.Rules.{Goes, OnGave, goes_ends, goes_more, goes_then}
-use Rattle.laws_regions.proofs.Holding.{set_left, set_right, set_moved, sharp_append, sharp_more, sharp_moved}
-use Rattle.laws_regions.proofs.Showing.{finally_more}
-use Rattle.laws_regions.proofs.Lists.{KeepsAt, Moved, Suffix, suffix_next}
+use Rattle.preconditions.specs.transformer_algebra.Claims.{Does}
+use Rattle.preconditions.specs.transformers.Jumps.{stmt_has, list_has, labels, goes_to, is_end, returns_early, early_return, unstructured}
+use Rattle.preconditions.specs.transformers.Lists.{number_of}
+use Rattle.in_out_regions.specs.region_sets.declared.region.Access.TheVariants.{Write, In as AtIn}
+use Rattle.in_out_regions.specs.region_sets.declared.region.Region.{Region}
+use Rattle.in_out_regions.specs.region_sets.Sets.{unite_all}
+use Rattle.in_out_regions.specs.region_sets.Lists.{all_composed, in_order, numbers, set_at}
+use Rattle.in_out_regions.specs.region_sets.Claims.{LiesInSet, IsSharp, IsSharpSet}
+use Rattle.in_out_regions.proofs.RegionSets.SetLaws.{gathered_units, gathered_sharp}
+use Rattle.in_out_regions.specs.Lists.{ins_in_order}
+use Rattle.loop_marker.specs.out_regions.Lists.{writes}
+use Rattle.laws_analyses.specs.Statements.Leads.{stmt_leads, each_leads}
+use Rattle.laws_analyses.specs.Statements.Activation.{Jumps}
+use Rattle.laws_analyses.proofs.Statements.LeadLaws.{leads_has}
+use Rattle.laws_analyses.proofs.Statements.Rows.{labelled, returned_last}
+use Rattle.laws_analyses.specs.Regions.Settings.{scene}
+use Rattle.laws_analyses.specs.Regions.Shown.{accessed, Touches, Holds, Sharp, Finally, Shown}
+use Rattle.laws_analyses.proofs.Regions.Traces.{accessed_left, accessed_right, accessed_none, touches_cases, trace_nil}
+use Rattle.laws_analyses.proofs.Regions.Rules.{Goes, OnGave, goes_ends, goes_more, goes_then}
+use Rattle.laws_analyses.proofs.Regions.Holding.{set_left, set_right, set_moved, sharp_append, sharp_more, sharp_moved}
+use Rattle.laws_analyses.proofs.Regions.Showing.{finally_more}
+use Rattle.laws_analyses.proofs.Regions.Lists.{KeepsAt, Moved, Suffix, suffix_next}
 use Rattle.laws_marks.specs.InFrames.{Frame, elements_in}
 use Rattle.laws_marks.specs.InShown.{FirstHolds, IsFree, FirstShown}
 use Rattle.laws_marks.specs.InUnits.{SetFits}
@@ -47,6 +46,9 @@ use Rattle.laws_marks.proofs.InRests.{before_lies, after_lies}
 use Rattle.laws_marks.proofs.InLists.{are_written}
 use Rattle.laws_marks.proofs.InTaking.{no_writes_none, free_none, free_both, first_holds_none}
 use Rattle.laws_marks.proofs.OutUsed.{write_in, of_writes}
+use Rattle.fx_lists.proofs.Numbers.{nat_eq_same}
+use Rattle.fx_lists.proofs.Booleans.{clash as clashes}
+use Rattle.f77_ast.specs.Shapes.{is_return}
 
 -- ---- what is written
 

@@ -18,15 +18,15 @@ use Rattle.f77_meaning.specs.Modules.{Known, known_of, tag_of, meant_by, is_func
 use Rattle.f77_meaning.specs.Linked.{numbering, routine}
 use Rattle.f77_meaning.proofs.ModuleLaws.{has_room}
 use Rattle.f77_meaning.proofs.UnitLaws.{temporaries_are_recognisable}
-use Rattle.laws_storage.specs.Programs.{IsLinked, IsModule, known}
-use Rattle.laws_regions.specs.Entries.{IsLost}
+use Rattle.laws_programs.specs.Storage.Programs.{IsLinked, IsModule, known}
+use Rattle.laws_analyses.specs.Regions.Entries.{IsLost}
 use Rattle.laws_marks.proofs.InFirsts.{not_so}
 use Rattle.laws_marks.proofs.InLayouts.{in_at, lost_of, no_own, one_named}
-use Rattle.transformer_algebra.specs.Laws.{In, here, there}
-use Rattle.transformer_algebra.proofs.CellLaws.{nat_same}
+use Rattle.preconditions.specs.transformer_algebra.Laws.{In, here, there}
 use Rattle.laws_marks.specs.OutPrograms.{is_some_lost}
 use Rattle.laws_interleavings.specs.Typed.{HasTag, DummiesTagged, IsNoDummy, IsTagged}
 use Rattle.laws_marks.proofs.OutCalleeLinks.{stands}
+use Rattle.fx_lists.proofs.Numbers.{same_is as nat_same}
 
 scalar_tag : (t : Scalar) → HasTag (tag_of t)
 scalar_tag scalar.Int = refl

@@ -14,36 +14,35 @@ use Rattle.f77_ast.specs.Plans.{Flow, Normal, Jump, Returned, Stopped, Plan, End
 use Rattle.f77_ast.specs.Executions.{run_of, Claim}
 use Rattle.f77_ast.specs.Lists.{Part, has_label, go_on, in_order as plan_in_order}
 use Rattle.f77_ast.specs.Statements.{statement_plan, parts}
-use Rattle.f77_results.specs.declared.results.At.{At}
+use Rattle.f77_ast.specs.declared.results.At.{At}
 use Rattle.f77_meaning.specs.Accesses.{is_written, is_read_first}
 use Rattle.f77_meaning.specs.Occurrences.{Occurrence}
 use Rattle.affine_forms.specs.Claims.{numbers_of}
-use Rattle.transformer_algebra.specs.Cells.{has}
-use Rattle.transformer_algebra.specs.Claims.{Scene, Does}
-use Rattle.transformer_algebra.specs.Laws.{In, here, there}
-use Rattle.transformer_algebra.proofs.CellLaws.{nat_eq_same}
-use Rattle.transformers.specs.Jumps.{is_return, is_end, unstructured}
-use Rattle.transformers.specs.Lists.{number_of}
-use Rattle.region_sets.specs.declared.region.Access.{Access}
-use Rattle.region_sets.specs.declared.region.Access.TheVariants.{Write, In as AtIn, Out}
-use Rattle.region_sets.specs.declared.region.Region.{Region}
-use Rattle.region_sets.specs.Regions.{remade, any_weak}
-use Rattle.region_sets.specs.Sets.{live_pieces, with_pieces, live}
-use Rattle.region_sets.specs.Lists.{all_composed, numbers}
-use Rattle.region_sets.specs.Claims.{HoldsSome, LiesInSet, IsSharp, IsSharpSet, Places}
-use Rattle.in_out_regions.specs.Lists.{set_at, all_unwritten}
+use Rattle.preconditions.specs.transformer_algebra.Cells.{has}
+use Rattle.preconditions.specs.transformer_algebra.Claims.{Scene, Does}
+use Rattle.preconditions.specs.transformer_algebra.Laws.{In, here, there}
+use Rattle.preconditions.specs.transformers.Jumps.{is_end, unstructured}
+use Rattle.preconditions.specs.transformers.Lists.{number_of}
+use Rattle.in_out_regions.specs.region_sets.declared.region.Access.{Access}
+use Rattle.in_out_regions.specs.region_sets.declared.region.Access.TheVariants.{Write, In as AtIn, Out}
+use Rattle.in_out_regions.specs.region_sets.declared.region.Region.{Region}
+use Rattle.in_out_regions.specs.region_sets.Regions.{remade, any_weak}
+use Rattle.in_out_regions.specs.region_sets.Sets.{live_pieces, with_pieces, live}
+use Rattle.in_out_regions.specs.region_sets.Lists.{all_composed, numbers, set_at}
+use Rattle.in_out_regions.specs.region_sets.Claims.{HoldsSome, LiesInSet, IsSharp, IsSharpSet, Places}
+use Rattle.in_out_regions.specs.Lists.{all_unwritten}
 use Rattle.in_out_regions.specs.ListClaims.{AreWritten}
-use Rattle.out_regions.specs.declared.rest.Rest.{Rest}
-use Rattle.out_regions.specs.Known.{KnownTree}
-use Rattle.out_regions.specs.Leaving.{stmt_labels, list_labels, leaves, stmt_leaves}
-use Rattle.out_regions.specs.Used.{all_out}
-use Rattle.out_regions.specs.Lists.{rest_of, left_over, used_behind, rest_out, may_leave, all_applied}
-use Rattle.laws_statements.specs.Leads.{stmt_leads, each_leads}
-use Rattle.laws_regions.specs.Settings.{scene, elements_at}
-use Rattle.laws_regions.specs.Shown.{accessed, Finally}
-use Rattle.laws_regions.proofs.Holding.{sharp_moved}
-use Rattle.laws_regions.proofs.Rules.{Goes}
-use Rattle.laws_regions.proofs.Lists.{KeepsAt, Suffix, suffix_next}
+use Rattle.loop_marker.specs.out_regions.declared.rest.Rest.{Rest}
+use Rattle.loop_marker.specs.out_regions.Known.{KnownTree}
+use Rattle.loop_marker.specs.out_regions.Leaving.{stmt_labels, list_labels, leaves, stmt_leaves}
+use Rattle.loop_marker.specs.out_regions.Used.{all_out}
+use Rattle.loop_marker.specs.out_regions.Lists.{rest_of, left_over, used_behind, rest_out, may_leave, all_applied}
+use Rattle.laws_analyses.specs.Statements.Leads.{stmt_leads, each_leads}
+use Rattle.laws_analyses.specs.Regions.Settings.{scene, elements_at}
+use Rattle.laws_analyses.specs.Regions.Shown.{accessed, Finally}
+use Rattle.laws_analyses.proofs.Regions.Holding.{sharp_moved}
+use Rattle.laws_analyses.proofs.Regions.Rules.{Goes}
+use Rattle.laws_analyses.proofs.Regions.Lists.{KeepsAt, Suffix, suffix_next}
 use Rattle.laws_marks.specs.InFrames.{Frame, elements_in, rank}
 use Rattle.laws_marks.specs.InUnits.{UnitsFit, IsNarrow, SetFits}
 use Rattle.laws_marks.proofs.InFramed.{by_order}
@@ -58,16 +57,11 @@ use Rattle.laws_marks.proofs.OutUsed.{used_set}
 use Rattle.laws_marks.proofs.OutNeeds.{nothing_later, need_cases, needs_none, needs_right, unhidden, first_seen}
 use Rattle.laws_marks.proofs.OutLeaving.{stmt_jumps, list_jumps, list_returns, stmt_returns}
 use Rattle.laws_marks.proofs.OutRest.{all_writes, LeadsSo, StmtRan, EachRan, RestRan, no_label, last_return, rest_ran}
+use Rattle.in_out_regions.proofs.RegionSets.SetLaws.{live_some}
+use Rattle.fx_lists.proofs.Numbers.{nat_eq_same}
+use Rattle.f77_ast.specs.Shapes.{is_return}
 
 -- ---- regions that are not refuted say no more
-
-live_some : (p : Point) (ss : List System) → HoldsSome p (live_pieces ss) → HoldsSome p ss
-live_some p [] h = h
-live_some p (s ∷ ss) h = go (refuted s.rows) h (live_some p ss)
-  where
-    go : (b : Bool) → HoldsSome p (if b then live_pieces ss else s ∷ live_pieces ss) → (HoldsSome p (live_pieces ss) → HoldsSome p ss) → HoldsSome p (s ∷ ss)
-    go true i f = inr (f i)
-    go false i f = ⊎_elim (λ j. inl j) (λ j. inr (f j)) i
 
 sharp_live : (m : Scene) (at : Places) (x : ℕ → ℤ) (c : Access → ℕ → Bool) (rs : List Region) → IsSharpSet m at rs x c → IsSharpSet m at (live rs) x c
 sharp_live m at x c [] h r i = elim i [ ]

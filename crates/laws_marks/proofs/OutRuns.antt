@@ -7,8 +7,8 @@ use Rattle.f77_ast.specs.Runs.{Event, Arrived, Read, Wrote, Printed, Took, Memor
 use Rattle.f77_ast.specs.Plans.{Flow, Plan, Ends, Breaks, Look, Set, Hold, Forget, Show, Take, Within, ◌▹◌, first, steps_of}
 use Rattle.f77_ast.specs.Executions.{run_of, AtEnd, AtEndOf}
 use Rattle.f77_meaning.specs.Occurrences.{Occurrence, Onward, after_answer, events_after, events_from, places_in, Throughout}
-use Rattle.laws_regions.proofs.Rules.{plan_then}
 use Rattle.laws_marks.specs.OutRests.{onward_by}
+use Rattle.f77_ast.proofs.Shared.{steps_then as plan_then}
 
 -- ---- one after another
 

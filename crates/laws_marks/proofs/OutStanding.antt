@@ -10,30 +10,30 @@ use Rattle.f77_ast.specs.Plans.{Flow}
 use Rattle.f77_ast.specs.Executions.{Claim}
 use Rattle.f77_ast.specs.Statements.{spot}
 use Rattle.f77_ast.specs.StatementNumbers.{list_numbers}
-use Rattle.f77_results.specs.declared.results.At.{At}
+use Rattle.f77_ast.specs.declared.results.At.{At}
 use Rattle.f77_ast.specs.Symbols.{SymbolTree}
 use Rattle.f77_meaning.specs.Occurrences.{Occurrence}
-use Rattle.transformer_algebra.specs.declared.transformer.Transformer.{Transformer}
-use Rattle.transformer_algebra.specs.Laws.{In, here, there}
-use Rattle.transformers.specs.Jumps.{unstructured}
-use Rattle.transformers.specs.Lists.{list_at}
-use Rattle.transformers.specs.Statement as transformers
-use Rattle.region_sets.specs.declared.region.Region.{Region}
-use Rattle.region_sets.specs.Lists.{all_forgetting, all_inexact, in_any_order, numbers}
-use Rattle.region_sets.specs.Sets.{unite_all}
-use Rattle.region_sets.proofs.StepLaws.{in_right}
-use Rattle.array_regions.specs.Calls.{Called}
+use Rattle.preconditions.specs.transformer_algebra.declared.transformer.Transformer.{Transformer}
+use Rattle.preconditions.specs.transformer_algebra.Laws.{In, here, there}
+use Rattle.preconditions.specs.transformers.Jumps.{unstructured}
+use Rattle.preconditions.specs.transformers.Lists.{list_at}
+use Rattle.preconditions.specs.transformers.Statement as transformers
+use Rattle.in_out_regions.specs.region_sets.declared.region.Region.{Region}
+use Rattle.in_out_regions.specs.region_sets.Lists.{all_forgetting, all_inexact, in_any_order, numbers, set_at}
+use Rattle.in_out_regions.specs.region_sets.Sets.{unite_all}
+use Rattle.in_out_regions.proofs.RegionSets.StepLaws.{in_right}
+use Rattle.in_out_regions.specs.array_regions.Calls.{Called}
 use Rattle.in_out_regions.specs.Known.{KnownTree}
-use Rattle.in_out_regions.specs.Lists.{set_at, before_rest, ins_in_order, list_in}
+use Rattle.in_out_regions.specs.Lists.{before_rest, ins_in_order, list_in}
 use Rattle.in_out_regions.specs.Statement.{what_in}
 use Rattle.in_out_regions.specs.Statement as ins
-use Rattle.out_regions.specs.Known as outs
-use Rattle.out_regions.specs.Used.{used}
-use Rattle.out_regions.specs.Lists.{writes}
-use Rattle.laws_statements.specs.CallsIn.{CallAt, Each, stmt_calls, what_calls, list_calls, arms_calls, arm_calls, else_calls}
-use Rattle.laws_statements.proofs.Placing.{each_parts}
-use Rattle.laws_regions.specs.Settings.{actuals_plain}
-use Rattle.laws_regions.proofs.Standing.{Distinct, call_at}
+use Rattle.loop_marker.specs.out_regions.Known as outs
+use Rattle.loop_marker.specs.out_regions.Used.{used}
+use Rattle.loop_marker.specs.out_regions.Lists.{writes}
+use Rattle.call_graph.specs.CallsIn.{CallAt, Each, stmt_calls, what_calls, list_calls, arms_calls, arm_calls, else_calls}
+use Rattle.laws_analyses.proofs.Statements.Placing.{each_parts}
+use Rattle.laws_analyses.specs.Regions.Settings.{actuals_plain}
+use Rattle.laws_analyses.proofs.Regions.Standing.{Distinct, call_at}
 use Rattle.laws_marks.specs.InFrames.{Frame}
 use Rattle.laws_marks.specs.InUnits.{UnitsFit}
 use Rattle.laws_marks.specs.InKnowns.{known_in}

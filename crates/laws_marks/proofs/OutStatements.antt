@@ -17,57 +17,56 @@ use Rattle.f77_ast.specs.Executions.{run_of, Claim}
 use Rattle.f77_ast.specs.Lists.{from_label, with_jumps, list_plan}
 use Rattle.f77_ast.specs.Loops.{Range, range_of, iteration_count, iterations_from}
 use Rattle.f77_ast.specs.Statements.{spot, statement_plan, execution, arms_plan, else_plan, do_plan, parts}
-use Rattle.f77_results.specs.declared.results.At.{At}
+use Rattle.f77_ast.specs.declared.results.At.{At}
 use Rattle.f77_meaning.specs.Occurrences.{Occurrence, Onward, places_in, Throughout}
 use Rattle.affine_systems.specs.declared.row.System.{System}
 use Rattle.affine_forms.specs.Conditions.{no_rows}
 use Rattle.affine_forms.specs.Claims.{unit_in, numbers_of}
-use Rattle.transformer_algebra.specs.declared.loop_parts.LoopParts.{LoopParts}
-use Rattle.transformer_algebra.specs.Loops.{iteration}
-use Rattle.transformer_algebra.specs.Claims.{Kept, Tracks}
-use Rattle.transformer_algebra.specs.Laws.{In, here, there}
-use Rattle.transformer_algebra.specs.Transformers.{all_cells}
-use Rattle.transformers.specs.Jumps.{stmt_has, list_has, is_return, is_end, unstructured}
-use Rattle.transformers.specs.Lists.{number_of, each_at, list_at, list_of as transformer_of}
-use Rattle.transformers.specs.Lists as transformers
-use Rattle.transformers.specs.Loops.{number_in, loop_parts}
-use Rattle.transformers.specs.Statement.{body_transformer}
-use Rattle.region_sets.specs.declared.region.Access.TheVariants.{Write, Out}
-use Rattle.region_sets.specs.declared.region.Region.{Region}
-use Rattle.region_sets.specs.Lists.{numbers, list_regions, accesses_at, all_accesses, all_forgetting}
-use Rattle.region_sets.specs.Claims.{LiesInSet}
-use Rattle.array_regions.specs.Reads.{reads, maybe_reads}
-use Rattle.array_regions.specs.Loops.{range_with}
-use Rattle.array_regions.specs.Statement.{what_set}
-use Rattle.array_regions.specs.Statement as regions
-use Rattle.array_regions.specs.Calls.{Called}
+use Rattle.preconditions.specs.transformer_algebra.declared.loop_parts.LoopParts.{LoopParts}
+use Rattle.preconditions.specs.transformer_algebra.Loops.{iteration}
+use Rattle.preconditions.specs.transformer_algebra.Claims.{Kept, Tracks}
+use Rattle.preconditions.specs.transformer_algebra.Laws.{In, here, there}
+use Rattle.preconditions.specs.transformer_algebra.Transformers.{all_cells}
+use Rattle.preconditions.specs.transformers.Jumps.{stmt_has, list_has, is_end, unstructured}
+use Rattle.preconditions.specs.transformers.Lists.{number_of, each_at, list_at, list_of as transformer_of}
+use Rattle.preconditions.specs.transformers.Lists as transformers
+use Rattle.preconditions.specs.transformers.Loops.{number_in, loop_parts}
+use Rattle.preconditions.specs.transformers.Statement.{body_transformer}
+use Rattle.in_out_regions.specs.region_sets.declared.region.Access.TheVariants.{Write, Out}
+use Rattle.in_out_regions.specs.region_sets.declared.region.Region.{Region}
+use Rattle.in_out_regions.specs.region_sets.Lists.{numbers, list_regions, accesses_at, all_accesses, all_forgetting, set_at}
+use Rattle.in_out_regions.specs.region_sets.Claims.{LiesInSet}
+use Rattle.in_out_regions.specs.array_regions.Reads.{reads, maybe_reads}
+use Rattle.in_out_regions.specs.array_regions.Loops.{range_with}
+use Rattle.in_out_regions.specs.array_regions.Statement.{what_set}
+use Rattle.in_out_regions.specs.array_regions.Statement as regions
+use Rattle.in_out_regions.specs.array_regions.Calls.{Called}
 use Rattle.in_out_regions.specs.Known.{KnownTree}
-use Rattle.in_out_regions.specs.Lists.{set_at}
 use Rattle.in_out_regions.specs.Statement.{what_in, list_of}
 use Rattle.in_out_regions.specs.Statement as ins
-use Rattle.out_regions.specs.Known as outs
-use Rattle.out_regions.specs.Used.{all_out, used}
-use Rattle.out_regions.specs.Later.{all_later}
-use Rattle.out_regions.specs.Lists.{writes, rest_of, rest_out, first_out, used_behind, may_leave, used_around, any_out}
-use Rattle.out_regions.specs.Statement.{body_out, only_out, at_parts, at_arms, at_arm, at_else, at_stmt, at_any, at_used, at_rest, at_first}
-use Rattle.laws_statements.specs.Good.{Ending}
-use Rattle.laws_statements.specs.Leads.{stmt_leads, list_leads}
-use Rattle.laws_statements.specs.CallsIn.{Each, list_calls}
-use Rattle.laws_statements.specs.Activation.{Fit, Ended}
-use Rattle.laws_statements.proofs.Loops.{also}
-use Rattle.laws_statements.proofs.Lists.{own_of}
-use Rattle.laws_statements.proofs.Placing.{each_parts}
-use Rattle.laws_statements.proofs.Ranges.{StepIs}
-use Rattle.laws_statements.proofs.Tracks.{body_tracks}
-use Rattle.laws_regions.specs.Settings.{scene, Sound, is_plain, maybe_plain, tests_plain}
-use Rattle.laws_regions.specs.Shown.{Holds, Shown}
-use Rattle.laws_regions.proofs.Rules.{Goes, OnGave, goes_more, goes_with}
-use Rattle.laws_regions.proofs.Looks.{IfGave}
-use Rattle.laws_regions.proofs.Expressions.{Seen, value_looks}
-use Rattle.laws_regions.proofs.Standing.{found_each}
-use Rattle.laws_regions.proofs.Moving.{list_moves}
-use Rattle.laws_regions.proofs.Lists.{Moved, Suffix, suffix_all, suffix_next}
-use Rattle.laws_regions.proofs.Statements.{RangeIs, range_looks, what_goes, body_goes}
+use Rattle.loop_marker.specs.out_regions.Known as outs
+use Rattle.loop_marker.specs.out_regions.Used.{all_out, used}
+use Rattle.loop_marker.specs.out_regions.Later.{all_later}
+use Rattle.loop_marker.specs.out_regions.Lists.{writes, rest_of, rest_out, first_out, used_behind, may_leave, used_around, any_out}
+use Rattle.loop_marker.specs.out_regions.Statement.{body_out, only_out, at_parts, at_arms, at_arm, at_else, at_stmt, at_any, at_used, at_rest, at_first}
+use Rattle.laws_analyses.specs.Statements.Good.{Ending}
+use Rattle.laws_analyses.specs.Statements.Leads.{stmt_leads, list_leads}
+use Rattle.call_graph.specs.CallsIn.{Each, list_calls}
+use Rattle.laws_analyses.specs.Statements.Activation.{Fit, Ended}
+use Rattle.laws_analyses.proofs.Statements.Loops.{also}
+use Rattle.laws_analyses.proofs.Statements.Lists.{own_of}
+use Rattle.laws_analyses.proofs.Statements.Placing.{each_parts}
+use Rattle.laws_analyses.proofs.Statements.Ranges.{StepIs}
+use Rattle.laws_analyses.proofs.Statements.Tracks.{body_tracks}
+use Rattle.laws_analyses.specs.Regions.Settings.{scene, Sound, is_plain, maybe_plain, tests_plain}
+use Rattle.laws_analyses.specs.Regions.Shown.{Holds, Shown}
+use Rattle.laws_analyses.proofs.Regions.Rules.{Goes, OnGave, goes_more, goes_with}
+use Rattle.laws_analyses.proofs.Regions.Looks.{IfGave}
+use Rattle.laws_analyses.proofs.Regions.Expressions.{Seen, value_looks}
+use Rattle.laws_analyses.proofs.Regions.Standing.{found_each}
+use Rattle.laws_analyses.proofs.Regions.Moving.{list_moves}
+use Rattle.laws_analyses.proofs.Regions.Lists.{Moved, Suffix, suffix_all, suffix_next}
+use Rattle.laws_analyses.proofs.Regions.Statements.{RangeIs, range_looks, what_goes, body_goes}
 use Rattle.laws_marks.specs.InFrames.{Frame, elements_in, rank}
 use Rattle.laws_marks.specs.InShown.{IsFree, FirstShown}
 use Rattle.laws_marks.specs.InUnits.{UnitsFit, IsNarrow, SetFits, SetsFit}
@@ -90,6 +89,7 @@ use Rattle.laws_marks.proofs.OutRows.{EachHands, row_hands}
 use Rattle.laws_marks.proofs.OutLoose.{AllHands, After, stmt_after, any_hands, around_first, around_list}
 use Rattle.laws_marks.proofs.OutTurns.{first_turn, turns_hand}
 use Rattle.laws_marks.proofs.OutStanding.{OwesOut, OutStmt, OutParts, OutList, OutArms, OutElse, out_next, out_arms, out_if, out_within, ins_same}
+use Rattle.f77_ast.specs.Shapes.{is_return}
 
 -- one of them
 found_in : {T : Type 0} (P : T → Type 0) (xs : List T) → Each P xs → (x : T) → In x xs → P x

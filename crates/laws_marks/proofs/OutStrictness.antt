@@ -9,11 +9,11 @@ use Rattle.f77_ast.specs.Plans.{Flow, Plan, Ends, Breaks, Look, Set, Hold, Forge
 use Rattle.f77_ast.specs.Executions.{run_of, AtEnd}
 use Rattle.f77_ast.specs.Programs.{Conforms}
 use Rattle.f77_meaning.specs.Accesses.{is_written, is_read_first}
-use Rattle.transformer_algebra.proofs.CellLaws.{nat_same}
 use Rattle.laws_marks.proofs.InFirsts.{not_so, first_split, written_left, written_right}
 use Rattle.laws_interleavings.specs.Faults.{IsFault}
 use Rattle.laws_marks.specs.OutRests.{IsStrict}
 use Rattle.laws_marks.proofs.OutRuns.{on_from, run_after}
+use Rattle.fx_lists.proofs.Numbers.{same_is as nat_same}
 
 flip : (v u : ℕ) → nat_eq v u ≡ false → nat_eq u v ≡ false
 flip v u h = grind (arith, nat_tests)

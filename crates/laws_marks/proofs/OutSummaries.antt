@@ -7,25 +7,25 @@ use Rattle.f77_ast.specs.Trees.{ExprTrees, StmtTree, WhatTree, ArmTree, ArmTrees
 use Rattle.f77_ast.specs.Trees as tree
 use Rattle.f77_ast.specs.declared.variable.Unit.{Unit as BlockUnit}
 use Rattle.call_graph.specs.declared.graph.Graph.{Graph}
-use Rattle.call_translation.specs.Scopes.{ScopeTree}
-use Rattle.call_translation.specs.Sites.{SiteTree}
-use Rattle.scalar_phases.specs.Phases.{Analysis}
-use Rattle.transformer_algebra.specs.Laws.{In, here, there}
-use Rattle.region_sets.specs.declared.region.Region.{Region}
-use Rattle.region_sets.proofs.StepLaws.{in_left, in_right}
-use Rattle.array_regions.specs.Calls.{Callees as Summaries}
-use Rattle.region_phases.specs.Phases.{ModuleRegions, no_callees, with_regions, all_regions}
-use Rattle.region_phases.specs.InPhases.{ModuleIns, with_callee, with_ins, found_in, all_ins}
-use Rattle.out_regions.specs.Used.{all_out}
-use Rattle.callee_regions.specs.Callee.{to_callee}
-use Rattle.call_equations.specs.Sides.{SidesTree}
-use Rattle.region_phases.specs.declared.sites.OutSite.{OutSite}
-use Rattle.region_phases.specs.OutPhases.{ModuleOuts, Caller, call_site, stmt_sites, what_sites, list_sites, arms_sites, arm_sites, else_sites, loop_sites, sides_at, handed_each, handed_by, handed_down, used_after, with_outs, caller_of, body_of, sites_of, outs_from, all_outs}
-use Rattle.laws_statements.specs.CallsIn.{CallAt, Each, stmt_calls, what_calls, list_calls, arms_calls, arm_calls, else_calls, loop_calls}
+use Rattle.preconditions.specs.call_translation.Scopes.{ScopeTree}
+use Rattle.preconditions.specs.call_translation.Sites.{SiteTree}
+use Rattle.loop_marker.specs.module_phases.ScalarPhases.{Analysis}
+use Rattle.preconditions.specs.transformer_algebra.Laws.{In, here, there}
+use Rattle.in_out_regions.specs.region_sets.declared.region.Region.{Region}
+use Rattle.in_out_regions.proofs.RegionSets.StepLaws.{in_left, in_right}
+use Rattle.in_out_regions.specs.array_regions.Calls.{Callees as Summaries}
+use Rattle.loop_marker.specs.module_phases.RegionPhases.{ModuleRegions, no_callees, with_regions, all_regions}
+use Rattle.loop_marker.specs.module_phases.InPhases.{ModuleIns, with_callee, with_ins, found_in, all_ins}
+use Rattle.loop_marker.specs.out_regions.Used.{all_out}
+use Rattle.in_out_regions.specs.region_translation.Callee.{to_callee}
+use Rattle.in_out_regions.specs.call_equations.Sides.{SidesTree}
+use Rattle.loop_marker.specs.module_phases.declared.out_site.OutSite.{OutSite}
+use Rattle.loop_marker.specs.module_phases.OutPhases.{ModuleOuts, Caller, call_site, stmt_sites, what_sites, list_sites, arms_sites, arm_sites, else_sites, loop_sites, sides_at, handed_each, handed_by, handed_down, used_after, with_outs, caller_of, body_of, sites_of, outs_from, all_outs}
+use Rattle.call_graph.specs.CallsIn.{CallAt, Each, stmt_calls, what_calls, list_calls, arms_calls, arm_calls, else_calls, loop_calls}
 use Rattle.laws_analyses.proofs.CallLists.{each_joined}
 use Rattle.laws_analyses.proofs.Passes.{NoAnalysis, name_of}
-use Rattle.laws_regions.specs.Accepted.{after as reads_after}
-use Rattle.laws_regions.proofs.Summaries.{found_back, found_is}
+use Rattle.laws_analyses.specs.Regions.Accepted.{after as reads_after}
+use Rattle.laws_analyses.proofs.Regions.Summaries.{found_back, found_is}
 use Rattle.laws_marks.specs.InAccepted.{after}
 use Rattle.laws_marks.specs.OutAccepted.{used_run}
 

@@ -19,32 +19,31 @@ use Rattle.f77_meaning.specs.Occurrences.{Occurrence}
 use Rattle.affine_forms.specs.Conditions.{no_rows}
 use Rattle.affine_forms.specs.Claims.{unit_in, numbers_of}
 use Rattle.affine_forms.proofs.FormLaws.{kept_is}
-use Rattle.transformer_algebra.specs.declared.transformer.Transformer.{Transformer}
-use Rattle.transformer_algebra.specs.declared.loop_parts.LoopParts.{LoopParts}
-use Rattle.transformer_algebra.specs.Loops.{next, iteration}
-use Rattle.transformer_algebra.specs.Claims.{Scene, Does, Kept, Chain, none_yet, then_iteration, Tracks, Means}
-use Rattle.transformer_algebra.proofs.CellLaws.{nat_eq_same}
-use Rattle.transformer_algebra.proofs.TurnLaws.{kept_chain}
-use Rattle.transformer_algebra.proofs.RuleLaws.{does_then}
-use Rattle.region_sets.specs.declared.range.Range.{Range}
-use Rattle.region_sets.specs.declared.region.Access.TheVariants.{In as AtIn, Out}
-use Rattle.region_sets.specs.declared.region.Region.{Region}
-use Rattle.region_sets.specs.Lists.{all_forgetting}
-use Rattle.region_sets.specs.Claims.{LiesInSet, Iteration, Begins}
-use Rattle.array_regions.specs.Loops.{range_with}
-use Rattle.out_regions.specs.Used.{all_out}
-use Rattle.out_regions.specs.Later.{all_later}
-use Rattle.laws_statements.specs.Good.{Ending}
-use Rattle.laws_statements.specs.Activation.{Fit, Still, Ended}
-use Rattle.laws_statements.proofs.Basics.{put_here}
-use Rattle.laws_statements.proofs.Loops.{also}
-use Rattle.laws_statements.proofs.Counts.{NotZero, count_more}
-use Rattle.laws_statements.proofs.Ranges.{StepIs}
-use Rattle.laws_regions.specs.Settings.{scene, Sound}
-use Rattle.laws_regions.proofs.Rules.{Goes, OnGave, goes_more, goes_with}
-use Rattle.laws_regions.proofs.Places.{first_place, next_place, next_after, first_after}
-use Rattle.laws_regions.proofs.Turns.{Turn_ends, turns_go}
-use Rattle.laws_regions.proofs.Loops as base
+use Rattle.preconditions.specs.transformer_algebra.declared.transformer.Transformer.{Transformer}
+use Rattle.preconditions.specs.transformer_algebra.declared.loop_parts.LoopParts.{LoopParts}
+use Rattle.preconditions.specs.transformer_algebra.Loops.{next, iteration}
+use Rattle.preconditions.specs.transformer_algebra.Claims.{Scene, Does, Kept, Chain, none_yet, then_iteration, Tracks, Means}
+use Rattle.preconditions.proofs.TransformerAlgebra.TurnLaws.{kept_chain}
+use Rattle.preconditions.proofs.TransformerAlgebra.RuleLaws.{does_then}
+use Rattle.in_out_regions.specs.region_sets.declared.range.Range.{Range}
+use Rattle.in_out_regions.specs.region_sets.declared.region.Access.TheVariants.{In as AtIn, Out}
+use Rattle.in_out_regions.specs.region_sets.declared.region.Region.{Region}
+use Rattle.in_out_regions.specs.region_sets.Lists.{all_forgetting}
+use Rattle.in_out_regions.specs.region_sets.Claims.{LiesInSet, Iteration, Begins}
+use Rattle.in_out_regions.specs.array_regions.Loops.{range_with}
+use Rattle.loop_marker.specs.out_regions.Used.{all_out}
+use Rattle.loop_marker.specs.out_regions.Later.{all_later}
+use Rattle.laws_analyses.specs.Statements.Good.{Ending}
+use Rattle.laws_analyses.specs.Statements.Activation.{Fit, Still, Ended}
+use Rattle.laws_analyses.proofs.Statements.Basics.{put_here}
+use Rattle.laws_analyses.proofs.Statements.Loops.{also}
+use Rattle.laws_analyses.proofs.Statements.Counts.{NotZero, count_more}
+use Rattle.laws_analyses.proofs.Statements.Ranges.{StepIs}
+use Rattle.laws_analyses.specs.Regions.Settings.{scene, Sound}
+use Rattle.laws_analyses.proofs.Regions.Rules.{Goes, OnGave, goes_more, goes_with}
+use Rattle.laws_analyses.proofs.Regions.Places.{first_place, next_place, next_after, first_after}
+use Rattle.laws_analyses.proofs.Regions.Turns.{Turn_ends, turns_go}
+use Rattle.laws_analyses.proofs.Regions.Loops as base
 use Rattle.laws_marks.specs.InFrames.{Frame, elements_in}
 use Rattle.laws_marks.specs.InShown.{IsFirst, IsFree, FirstShown}
 use Rattle.laws_marks.specs.InUnits.{UnitsFit}
@@ -59,6 +58,7 @@ use Rattle.laws_marks.proofs.OutHands.{Need, IsLater, Hands, hands_ends, hands_b
 use Rattle.laws_marks.proofs.OutMoves.{out_lies, lies_left, lies_right, forgotten_lies}
 use Rattle.laws_marks.proofs.OutLater.{later_lies}
 use Rattle.laws_marks.proofs.OutNeeds.{nothing_later, need_cases, needs_none, needs_right, first_seen}
+use Rattle.fx_lists.proofs.Numbers.{nat_eq_same}
 
 module _ (k : Frame) (sound : Sound k.base) (D : Claim) (O : Occurrence → Type 0) (lost : ℕ → Bool) (locked : Locks) (still : ℕ → Bool) (fit : Fit k.sc.names k.scalar k.at (scene k.base) locked still) (units : UnitsFit k locked) (index : List ℕ) (lp : LoopParts) (named : k.sc.names index ≡ Variable lp.index) (bare : k.scalar index ≡ true) (known : (scene k.base).tracked lp.index ≡ lp.tracked) (trs : Tracks (scene k.base) lp.body.cells) (ws is : List Region) (body : Plan) (goes : List ℕ → Bool) (ret : Bool) (x : Store) (a b c : ℤ) (I : Store → Type 0) (free : locked (unit_in k.at lp.index) ≡ None) where
   abbrev e : Scene

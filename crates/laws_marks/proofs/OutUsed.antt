@@ -15,27 +15,28 @@ use Rattle.f77_ast.specs.declared.variable.Variable.{Variable}
 use Rattle.f77_ast.specs.Symbols.{SymbolTree}
 use Rattle.f77_ast.specs.Shared.{overlap}
 use Rattle.affine_forms.specs.Claims.{numbers_of}
-use Rattle.transformer_algebra.specs.Laws.{In, here, there}
-use Rattle.region_sets.specs.declared.region.Access.TheVariants.{Write, Out}
-use Rattle.region_sets.specs.declared.region.Region.{Region}
-use Rattle.region_sets.specs.Regions.{region, hull_of}
-use Rattle.region_sets.specs.Sets.{live_pieces}
-use Rattle.region_sets.specs.Naming.{in_rows}
-use Rattle.region_sets.specs.Claims.{HasSubscripts, Describes, LiesIn, LiesInSet}
-use Rattle.region_sets.proofs.NameLaws.{rows_agree}
-use Rattle.region_sets.proofs.StepLaws.{in_left, in_right, in_map}
+use Rattle.preconditions.specs.transformer_algebra.Laws.{In, here, there}
+use Rattle.in_out_regions.specs.region_sets.declared.region.Access.TheVariants.{Write, Out}
+use Rattle.in_out_regions.specs.region_sets.declared.region.Region.{Region}
+use Rattle.in_out_regions.specs.region_sets.Regions.{region, hull_of}
+use Rattle.in_out_regions.specs.region_sets.Sets.{live_pieces}
+use Rattle.in_out_regions.specs.region_sets.Naming.{in_rows}
+use Rattle.in_out_regions.specs.region_sets.Claims.{HasSubscripts, Describes, LiesIn, LiesInSet}
+use Rattle.in_out_regions.proofs.RegionSets.NameLaws.{rows_agree}
+use Rattle.in_out_regions.proofs.RegionSets.StepLaws.{in_left, in_right, in_map}
 use Rattle.in_out_regions.specs.Kinds.{is_write}
-use Rattle.in_out_regions.specs.Writes.{same_variable}
-use Rattle.out_regions.specs.Used.{as_out, is_used_beside, used_pieces, unless_empty, met_with, used_of, if_write, used}
-use Rattle.out_regions.specs.Lists.{writes}
-use Rattle.laws_regions.specs.Settings.{scene}
+use Rattle.loop_marker.specs.out_regions.Used.{as_out, is_used_beside, used_pieces, unless_empty, met_with, used_of, if_write, used}
+use Rattle.loop_marker.specs.out_regions.Lists.{writes}
+use Rattle.laws_analyses.specs.Regions.Settings.{scene}
 use Rattle.laws_marks.specs.InFrames.{Frame, elements_in, rank}
 use Rattle.laws_marks.specs.InUnits.{UnitsFit, IsNarrow}
 use Rattle.laws_marks.proofs.InRests.{write_kind}
 use Rattle.laws_marks.proofs.InUnique.{itself}
 use Rattle.laws_marks.proofs.InWithin.{resubscripted}
 use Rattle.laws_marks.specs.OutShown.{LiesAs}
-use Rattle.laws_marks.proofs.OutMoves.{in_hull, in_live}
+use Rattle.laws_marks.proofs.OutMoves.{in_live}
+use Rattle.in_out_regions.proofs.RegionSets.UniteLaws.{hull_has as in_hull}
+use Rattle.f77_ast.specs.Variables.{same_variable}
 
 -- ---- lists of regions
 

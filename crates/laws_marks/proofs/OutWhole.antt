@@ -8,28 +8,27 @@ use Rattle.call_graph.specs.declared.graph.Graph.{Graph}
 use Rattle.f77_meaning.specs.Modules.{Known}
 use Rattle.f77_meaning.specs.Linked.{program_of}
 use Rattle.f77_meaning.specs.Claimed.{InConformingRuns}
-use Rattle.transformer_algebra.specs.Laws.{In}
-use Rattle.call_translation.specs.Sites.{HoldingSite}
-use Rattle.transformers.specs.Given.{Callees}
-use Rattle.transformers.specs.Modules.{transformers_of}
-use Rattle.region_sets.specs.declared.region.Region.{Region}
-use Rattle.call_equations.specs.Sides.{changed_cells}
-use Rattle.array_regions.specs.Calls.{Callees as Summaries, sides}
-use Rattle.array_regions.specs.Statement.{at_list}
-use Rattle.in_out_regions.specs.Lists.{set_at}
-use Rattle.out_regions.specs.Used.{all_out}
-use Rattle.callee_regions.specs.Units.{size_in}
-use Rattle.callee_regions.specs.Callee.{to_callee}
-use Rattle.laws_statements.specs.CallsIn.{CallAt, Each, list_calls}
-use Rattle.laws_statements.specs.Results.{pre_in}
-use Rattle.laws_statements.proofs.NumberLaws.{in_order}
-use Rattle.laws_calls.specs.Parts.{Blocks, Part, Sane}
-use Rattle.laws_calls.specs.ProgramLaws.{routines, Analysed, AnalysedParts, AnalysedProgram}
-use Rattle.laws_calls.specs.Sites.{CoversFrom, Covers, lookup}
-use Rattle.laws_regions.specs.Programs.{regions_in_part, called_in, SendsFrom}
-use Rattle.laws_regions.proofs.Carrying.{LinkLaws}
-use Rattle.laws_regions.proofs.Numbering.{r_list}
-use Rattle.laws_regions.proofs.Programs as base
+use Rattle.preconditions.specs.transformer_algebra.Laws.{In}
+use Rattle.preconditions.specs.call_translation.Sites.{HoldingSite}
+use Rattle.preconditions.specs.transformers.Given.{Callees}
+use Rattle.preconditions.specs.transformers.Modules.{transformers_of}
+use Rattle.in_out_regions.specs.region_sets.declared.region.Region.{Region}
+use Rattle.in_out_regions.specs.call_equations.Sides.{changed_cells}
+use Rattle.in_out_regions.specs.array_regions.Calls.{Callees as Summaries, sides}
+use Rattle.in_out_regions.specs.array_regions.Statement.{at_list}
+use Rattle.loop_marker.specs.out_regions.Used.{all_out}
+use Rattle.in_out_regions.specs.region_translation.Units.{size_in}
+use Rattle.in_out_regions.specs.region_translation.Callee.{to_callee}
+use Rattle.call_graph.specs.CallsIn.{CallAt, Each, list_calls}
+use Rattle.laws_analyses.specs.Statements.Results.{pre_in}
+use Rattle.laws_analyses.proofs.Statements.NumberLaws.{in_order}
+use Rattle.laws_analyses.specs.Calls.Parts.{Blocks, Part, Sane}
+use Rattle.laws_analyses.specs.Calls.ProgramLaws.{routines, Analysed, AnalysedParts, AnalysedProgram}
+use Rattle.laws_analyses.specs.Calls.Sites.{CoversFrom, Covers, lookup}
+use Rattle.laws_analyses.specs.Regions.Programs.{regions_in_part, called_in, SendsFrom}
+use Rattle.laws_analyses.proofs.Regions.Carrying.{LinkLaws}
+use Rattle.laws_analyses.proofs.Regions.Numbering.{r_list}
+use Rattle.laws_analyses.proofs.Regions.Programs as base
 use Rattle.laws_marks.proofs.InCarried.{narrow}
 use Rattle.laws_marks.proofs.InPrograms.{PartFirst, PartsFirst}
 use Rattle.laws_marks.proofs.InWhole.{GoesFrom, LaidPart, LaidParts, callee_is, part_first, parts_first}
@@ -37,6 +36,7 @@ use Rattle.laws_marks.specs.OutPrograms.{outs_in_part, EachOutHolds, OutPart, Do
 use Rattle.laws_marks.proofs.OutCallSets.{call_sets}
 use Rattle.laws_marks.proofs.OutDown.{hands_down}
 use Rattle.laws_marks.proofs.OutPrograms.{HandsDownFrom, PartOut, PartsOut, handed_outs_hold}
+use Rattle.in_out_regions.specs.region_sets.Lists.{set_at}
 
 -- ---- what tables and the phase give
 

@@ -2,18 +2,17 @@
 use Rattle.std.proofs.Common.{◌≡◌, ℕ, Bool, List, [], ◌∷◌, ◌++◌, Option, Some, None, refl}
 use Rattle.affine_systems.specs.declared.row.System.{System}
 use Rattle.f77_ast.specs.Trees.{StmtTrees}
-use Rattle.f77_results.specs.declared.results.At.{At}
-use Rattle.transformer_algebra.specs.Laws.{In}
-use Rattle.transformers.specs.Lists.{value_at}
-use Rattle.region_sets.specs.declared.region.Region.{Region}
-use Rattle.region_sets.specs.Lists.{or_none, all_composed, in_order, accesses_at, list_regions}
-use Rattle.array_regions.specs.Statement.{at_list}
-use Rattle.in_out_regions.specs.Lists.{set_at}
-use Rattle.out_regions.specs.Lists.{writes}
+use Rattle.f77_ast.specs.declared.results.At.{At}
+use Rattle.preconditions.specs.transformer_algebra.Laws.{In}
+use Rattle.preconditions.specs.transformers.Lists.{value_at}
+use Rattle.in_out_regions.specs.region_sets.declared.region.Region.{Region}
+use Rattle.in_out_regions.specs.region_sets.Lists.{or_none, all_composed, in_order, accesses_at, list_regions, set_at}
+use Rattle.in_out_regions.specs.array_regions.Statement.{at_list}
+use Rattle.loop_marker.specs.out_regions.Lists.{writes}
 use Rattle.laws_lines.proofs.RuleVars.{IsDone}
 use Rattle.laws_lines.proofs.PhaseVars.{value_is}
 use Rattle.laws_lines.proofs.StatementVars.{AllAt}
-use Rattle.laws_statements.specs.CallsIn.{list_calls}
+use Rattle.call_graph.specs.CallsIn.{list_calls}
 use Rattle.laws_marks.specs.InFrames.{Frame, rank}
 use Rattle.laws_marks.specs.InUnits.{IsNarrow, SetFits}
 use Rattle.laws_marks.proofs.InNarrow.{AnyCell}

@@ -6,21 +6,21 @@ use Rattle.affine_systems.specs.Calls.{meet}
 use Rattle.f77_ast.specs.Trees.{WhatTree, ArmTrees, ElseTree, StmtTrees}
 use Rattle.f77_ast.specs.Trees as tree
 use Rattle.f77_ast.specs.Symbols.{SymbolTree}
-use Rattle.f77_results.specs.declared.results.At.{At}
-use Rattle.transformer_algebra.specs.Laws.{In, here, there}
-use Rattle.transformers.specs.Jumps.{unstructured}
-use Rattle.region_sets.specs.declared.region.Access.TheVariants.{Out}
-use Rattle.region_sets.specs.declared.region.Region.{Region}
-use Rattle.region_sets.specs.Regions.{hull_of}
-use Rattle.region_sets.specs.Sets.{live_pieces}
+use Rattle.f77_ast.specs.declared.results.At.{At}
+use Rattle.preconditions.specs.transformer_algebra.Laws.{In, here, there}
+use Rattle.preconditions.specs.transformers.Jumps.{unstructured}
+use Rattle.in_out_regions.specs.region_sets.declared.region.Access.TheVariants.{Out}
+use Rattle.in_out_regions.specs.region_sets.declared.region.Region.{Region}
+use Rattle.in_out_regions.specs.region_sets.Regions.{hull_of}
+use Rattle.in_out_regions.specs.region_sets.Sets.{live_pieces}
 use Rattle.in_out_regions.specs.Kinds.{is_write}
-use Rattle.in_out_regions.specs.Lists.{set_at}
-use Rattle.out_regions.specs.Known.{KnownTree}
-use Rattle.out_regions.specs.Lists.{writes, used_behind, rest_of, first_out, rest_out, may_leave, used_around, any_out}
-use Rattle.out_regions.specs.Statement.{body_out, only_out, loop_out, at_parts, at_arms, at_arm, at_else, at_any, at_used, at_rest, at_first, at_list}
-use Rattle.out_regions.specs.Used.{all_out, is_used_beside, used_pieces, unless_empty, met_with, used_of, if_write, used}
-use Rattle.laws_statements.specs.CallsIn.{Each}
+use Rattle.loop_marker.specs.out_regions.Known.{KnownTree}
+use Rattle.loop_marker.specs.out_regions.Lists.{writes, used_behind, rest_of, first_out, rest_out, may_leave, used_around, any_out}
+use Rattle.loop_marker.specs.out_regions.Statement.{body_out, only_out, loop_out, at_parts, at_arms, at_arm, at_else, at_any, at_used, at_rest, at_first, at_list}
+use Rattle.loop_marker.specs.out_regions.Used.{all_out, is_used_beside, used_pieces, unless_empty, met_with, used_of, if_write, used}
+use Rattle.call_graph.specs.CallsIn.{Each}
 use Rattle.laws_analyses.proofs.CallLists.{each_joined}
+use Rattle.in_out_regions.specs.region_sets.Lists.{set_at}
 
 -- an OUT region, and a region of its variable among these
 pub record Written (ws : List Region) (r : Region) : Type 0 where

@@ -8,29 +8,26 @@ use Rattle.f77_structure.specs.declared.mark.Action.{Action}
 use Rattle.f77_structure.specs.declared.mark.Action.TheVariants.{Goto, Return, Stop, Other}
 use Rattle.f77_structure.specs.declared.blocks.Landing.{Landing}
 use Rattle.f77_parser.specs.Roles.{action_of}
-use Rattle.roundtrip_statements.specs.Phrased.{IsWhat}
-use Rattle.roundtrip_modules.proofs.Outlines.{Going, Outline, innermost, lands, goes, begins, leaves, nothing_outlined}
-use Rattle.roundtrip_modules.proofs.TreeOutlines.{outline_by, outline_body, outline_arms, outline_else, outline_in}
-use Rattle.roundtrip_modules.proofs.Shown as lists
-use Rattle.roundtrip_modules.proofs.Reached.{AllReach}
-use Rattle.roundtrip_modules.specs.Numbered.{last_of, last_arms, last_in, NumberedBelow, NumberedBody, NumberedBlock, NumberedArms, NumberedElse, AreNumbered}
+use Rattle.laws_programs.specs.roundtrip_programs.Statements.Phrased.{IsWhat}
+use Rattle.laws_programs.proofs.RoundtripPrograms.ModuleTexts.Outlines.{Going, Outline, innermost, lands, goes, begins, leaves, nothing_outlined}
+use Rattle.laws_programs.proofs.RoundtripPrograms.ModuleTexts.TreeOutlines.{outline_by, outline_body, outline_arms, outline_else, outline_in}
+use Rattle.laws_programs.proofs.RoundtripPrograms.ModuleTexts.Shown as lists
+use Rattle.laws_programs.proofs.RoundtripPrograms.ModuleTexts.Reached.{AllReach}
+use Rattle.laws_programs.specs.roundtrip_programs.ModuleTexts.Numbered.{last_of, last_arms, last_in, NumberedBelow, NumberedBody, NumberedBlock, NumberedArms, NumberedElse, AreNumbered}
 use Rattle.laws_programs.proofs.Ordered.{BelowOrdered, LoopOrdered, ArmsOrdered, ElseOrdered, ListOrdered}
-use Rattle.transformer_algebra.specs.Cells.{has, others}
-use Rattle.transformer_algebra.proofs.CellLaws.{nat_same, nat_eq_same}
-use Rattle.transformers.specs.Jumps.{before_labels, labels, goes_to, list_has, early_return, unstructured}
-use Rattle.out_regions.specs.Leaving.{what_labels, list_labels, arms_labels, else_labels, loop_labels}
-use Rattle.laws_statements.specs.Leads.{what_leads, each_leads, arms_lead, arm_leads, else_leads, loop_leads}
-use Rattle.laws_statements.proofs.LeadLaws.{list_goes}
+use Rattle.preconditions.specs.transformer_algebra.Cells.{has, others}
+use Rattle.preconditions.specs.transformers.Jumps.{before_labels, labels, goes_to, list_has, early_return, unstructured}
+use Rattle.loop_marker.specs.out_regions.Leaving.{what_labels, list_labels, arms_labels, else_labels, loop_labels}
+use Rattle.laws_analyses.specs.Statements.Leads.{what_leads, each_leads, arms_lead, arm_leads, else_leads, loop_leads}
+use Rattle.laws_analyses.proofs.Statements.LeadLaws.{list_goes}
 use Rattle.laws_analyses.proofs.Members.{Member, member_more, member_last}
 use Rattle.laws_analyses.proofs.Sizes.{one_going, goings_by, goings_body, goings_arms, goings_else, goings_in}
 use Rattle.laws_analyses.proofs.Steps.{Never, Own, InLabels, Came, before, own, inner, Step, step_then, lands_step, list_step_in, list_step, what_step, body_step, arms_step, else_step}
 use Rattle.laws_analyses.proofs.Insides.{In, Inside, taken_away, not_there, first_part, second_part, list_part}
 use Rattle.laws_marks.proofs.InFirsts.{not_so}
 use Rattle.laws_marks.specs.OutLabels.{EachOutward, IsOutward, PartsOutward, StmtsOutward, ArmsOutward, ElseOutward, LoopOutward}
-
-or_split : {P : Type 0} (a b : Bool) → (a || b) ≡ true → (a ≡ true → P) → (b ≡ true → P) → P
-or_split true b h f g = f refl
-or_split false b h f g = g h
+use Rattle.fx_lists.proofs.Booleans.{or_split}
+use Rattle.fx_lists.proofs.Numbers.{same_is as nat_same, nat_eq_same}
 
 only : (l m : ℕ) → has (l ∷ []) m ≡ true → l ≡ m
 only l m h = or_split (nat_eq l m) false h (λ e. nat_same l m e) (λ e. absurd (true≢false (sym e)))

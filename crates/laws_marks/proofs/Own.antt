@@ -25,21 +25,20 @@ use Rattle.f77_meaning.specs.Occurrences.{Occurrence}
 use Rattle.f77_meaning.specs.Accesses.{is_entry_of, is_entered, is_passing, is_visible}
 use Rattle.f77_meaning.specs.Claims.{LiesIn, LiesInSome, OfElement, ElementIs, place_of, gives_out}
 use Rattle.affine_forms.specs.Scalars.{is_cell}
-use Rattle.transformer_algebra.specs.Laws.{In, here, there}
-use Rattle.transformers.specs.Lists.{value_at}
-use Rattle.call_translation.specs.Scopes.{ScopeTree}
-use Rattle.region_sets.specs.declared.region.Region.{Region}
-use Rattle.region_sets.specs.Lists.{or_none}
-use Rattle.in_out_regions.specs.Lists.{set_at}
-use Rattle.region_phases.specs.OutPhases.{ModuleOuts}
-use Rattle.scalar_phases.specs.Phases.{scope_of}
-use Rattle.loop_bodies.specs.Finding.{loop_in}
-use Rattle.privatizer.specs.Names.{is_local, is_equivalenced, is_own_symbol, may_copy}
-use Rattle.laws_calls.specs.Parts.{NoDummy}
-use Rattle.laws_regions.specs.Claims.{elements_of, as_region, before_if, regions_in, listed}
-use Rattle.laws_regions.specs.Settings.{is_stored, elements_if, is_told, elements_with}
-use Rattle.laws_regions.specs.Shown.{is_lost, is_hidden}
-use Rattle.laws_regions.proofs.Entering.{inside_of}
+use Rattle.preconditions.specs.transformer_algebra.Laws.{In, here, there}
+use Rattle.preconditions.specs.transformers.Lists.{value_at}
+use Rattle.preconditions.specs.call_translation.Scopes.{ScopeTree}
+use Rattle.in_out_regions.specs.region_sets.declared.region.Region.{Region}
+use Rattle.in_out_regions.specs.region_sets.Lists.{or_none, set_at}
+use Rattle.loop_marker.specs.module_phases.OutPhases.{ModuleOuts}
+use Rattle.loop_marker.specs.module_phases.ScalarPhases.{scope_of}
+use Rattle.loop_marker.specs.dependence_test.Finding.{loop_in}
+use Rattle.loop_marker.specs.privatizer.Names.{is_equivalenced, is_own_symbol, may_copy}
+use Rattle.laws_analyses.specs.Calls.Parts.{NoDummy}
+use Rattle.laws_analyses.specs.Regions.Claims.{elements_of, as_region, before_if, regions_in, listed}
+use Rattle.laws_analyses.specs.Regions.Settings.{is_stored, elements_if, is_told, elements_with}
+use Rattle.laws_analyses.specs.Regions.Shown.{is_lost, is_hidden}
+use Rattle.laws_analyses.proofs.Regions.Entering.{inside_of}
 use Rattle.laws_marks.specs.ConflictExecutions.{Execution}
 use Rattle.laws_marks.specs.ConflictClaims.{IsSole}
 use Rattle.laws_marks.specs.OutClaims.{is_out, OutRegionsHold, OutSetHolds}
@@ -47,6 +46,7 @@ use Rattle.laws_marks.specs.Dead.{LiesInOwn, CopiesLieInOwn}
 use Rattle.laws_marks.specs.Units.{IsPassing, UnitsStand, ModuleUnitsStand}
 use Rattle.laws_marks.proofs.Elements.{HasElement}
 use Rattle.laws_marks.proofs.Outs.{AreWritten}
+use Rattle.call_graph.specs.Visible.{is_local}
 
 -- ---- names that allow copies
 

@@ -11,10 +11,7 @@ use Rattle.laws_interleavings.specs.MarkedStatements.{MarkedScope, MarkedMeaning
 use Rattle.laws_interleavings.specs.MarkedPrograms.{Directives, marked_scope, marked_called, marked_meanings}
 use Rattle.laws_marks.specs.Inactive.{IsOfExpression, IsOfModule, IsOfSome}
 use Rattle.laws_marks.specs.OwnLaws.{OwnUnitsAreInactive}
-
-one_or_other : (a b : Bool) → (a || b) ≡ true → (a ≡ true) ⊎ (b ≡ true)
-one_or_other true b h = inl refl
-one_or_other false b h = inr h
+use Rattle.fx_lists.proofs.Booleans.{or_cases as one_or_other}
 
 one_in : (f : ℕ → ℕ) (n u : ℕ) → one_of f n u ≡ true → (k : ℕ) × (f k ≡ u)
 one_in f zero u h = absurd (true≢false (sym h))

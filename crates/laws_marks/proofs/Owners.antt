@@ -13,15 +13,16 @@ use Rattle.f77_meaning.specs.Modules.{Known, known_of, fixed}
 use Rattle.f77_meaning.specs.Linked.{routine, subroutines, main_of}
 use Rattle.f77_meaning.specs.Laws.{area_of}
 use Rattle.laws_programs.specs.Programs.{IsProgram}
-use Rattle.laws_storage.specs.CellLaws.{units}
-use Rattle.laws_storage.specs.Programs.{IsModule, known}
-use Rattle.laws_storage.proofs.OwnUnitLaws.{own_units_are_no_names, own_units_differ}
-use Rattle.laws_statements.specs.CallsIn.{Each}
-use Rattle.laws_analyses.proofs.MainLaws.{MainOf, some_main, main_from}
+use Rattle.laws_programs.specs.Storage.CellLaws.{units}
+use Rattle.laws_programs.specs.Storage.Programs.{IsModule, known}
+use Rattle.laws_programs.proofs.Storage.OwnUnitLaws.{own_units_are_no_names, own_units_differ}
+use Rattle.call_graph.specs.CallsIn.{Each}
+use Rattle.laws_analyses.proofs.MainLaws.{MainOf, main_from}
 use Rattle.laws_analyses.proofs.Modules.{IsIn, subs, subs_in, subs_are}
 use Rattle.laws_analyses.proofs.UnitLaws.{module_at}
 use Rattle.laws_marks.specs.Inactive.{IsOfExpression, IsOfModule}
 use Rattle.laws_marks.proofs.Apart.{FixedOff, linked, OwnOf, own_off, LostOf, lost_of, lost_in, lost_off, same_group, Owned, of_local, of_expression, owned, OwnerOf}
+use Rattle.laws_programs.proofs.Effects.Once.{main_of_linked as some_main}
 
 -- what a module has to do with a unit whose owner has the name
 pub record Told (u : ℕ) (name : List ℕ) (r : Routine) : Type 0 where

@@ -16,19 +16,17 @@ use Rattle.f77_ast.specs.declared.variable.Variable.TheVariants.{Own}
 use Rattle.call_graph.specs.declared.graph.Graph.{Graph}
 use Rattle.f77_meaning.specs.Modules.{Known}
 use Rattle.f77_meaning.specs.Processes.{Marked}
-use Rattle.transformer_algebra.specs.Laws.{In, here, there}
-use Rattle.transformer_algebra.proofs.CellLaws.{nat_eq_same}
-use Rattle.call_translation.specs.Scopes.{ScopeTree}
-use Rattle.dependence_test.specs.Conflicts.{conflict_of}
+use Rattle.preconditions.specs.transformer_algebra.Laws.{In, here, there}
+use Rattle.preconditions.specs.call_translation.Scopes.{ScopeTree}
+use Rattle.loop_marker.specs.dependence_test.Conflicts.{conflict_of}
 use Rattle.laws_interleavings.specs.MarkedStatements.{MarkedScope, own_in, unit_of, unit_of_some, marked_loop}
-use Rattle.laws_regions.specs.Settings.{is_stored, elements_if, elements_with}
+use Rattle.laws_analyses.specs.Regions.Settings.{is_stored, elements_if, elements_with}
 use Rattle.laws_marks.specs.ConflictClaims.{KnownLoop}
 use Rattle.laws_marks.specs.MarkedFit.{IsUnitOf, IsFree, HasPrivateUnits}
 use Rattle.laws_marks.proofs.Own.{in_its_place}
 use Rattle.laws_marks.specs.Verdicts.{IsCleared}
-
-some_same : (a b : ℕ) → Some a ≡ Some b → a ≡ b
-some_same a b e = cc
+use Rattle.fx_lists.proofs.Options.{some_same}
+use Rattle.fx_lists.proofs.Numbers.{nat_eq_same}
 
 -- ---- names
 

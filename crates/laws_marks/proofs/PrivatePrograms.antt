@@ -12,11 +12,11 @@ use Rattle.call_graph.specs.declared.graph.Graph.{Graph}
 use Rattle.f77_meaning.specs.Modules.{known_of}
 use Rattle.f77_meaning.specs.Linked.{program_of}
 use Rattle.f77_meaning.specs.Occurrences.{Occurrence, Throughout, places_in}
-use Rattle.region_phases.specs.OutPhases.{ModuleOuts}
-use Rattle.scalar_phases.specs.Phases.{scope_of, analyses}
-use Rattle.loop_bodies.specs.Finding.{loop_in}
+use Rattle.loop_marker.specs.module_phases.OutPhases.{ModuleOuts}
+use Rattle.loop_marker.specs.module_phases.ScalarPhases.{scope_of, analyses}
+use Rattle.loop_marker.specs.dependence_test.Finding.{loop_in}
 use Rattle.laws_programs.specs.Programs.{IsProgram}
-use Rattle.laws_statements.specs.CallsIn.{Each}
+use Rattle.call_graph.specs.CallsIn.{Each}
 use Rattle.laws_analyses.specs.Claims.{AnalysisHolds, AnalysesHold}
 use Rattle.laws_analyses.specs.Laws.{ReadAnalysesHold}
 use Rattle.laws_marks.specs.ConflictAccepted.{CopiesAreSole}
@@ -26,11 +26,12 @@ use Rattle.laws_marks.specs.OutClaims.{OutRegionsHold}
 use Rattle.laws_marks.specs.Dead.{CopiesLieInOwn, PrivatesAreDead}
 use Rattle.laws_marks.specs.Units.{ModuleUnitsStand}
 use Rattle.laws_marks.specs.DeadLaws.{outs_of, AllUnitsStand, AllCopiesLieInOwn, AllPrivatesAreDead, ReadUnitsStand, ReadCopiesLieInOwn}
-use Rattle.laws_marks.proofs.UnitsStanding.{all_of_each, each_of_all}
+use Rattle.laws_marks.proofs.UnitsStanding.{each_of_all}
 use Rattle.laws_marks.proofs.Dead.{privates_dead}
 use Rattle.laws_marks.proofs.Merging.{Joined, merged, throughout_both}
 use Rattle.laws_marks.proofs.Own.{copies_lie}
 use Rattle.laws_marks.proofs.Modules.{Stands, stands, no_entry}
+use Rattle.laws_analyses.proofs.Claimed.{all_of_each}
 
 module _ (ps : List ParsedTree) (sss : List (List SymbolTree)) (g : Graph) (x : IsProgram ps sss g) (copies : CopiesAreSole) where
   -- ---- OUT regions of the variable itself

@@ -12,28 +12,28 @@ use Rattle.call_graph.specs.declared.graph.Graph.{Graph}
 use Rattle.f77_meaning.specs.Modules.{known_of, fixed, fixed_place, fixed_maybe, dummies_from}
 use Rattle.f77_meaning.specs.Linked.{numbering}
 use Rattle.f77_meaning.specs.Laws.{area_of}
-use Rattle.transformers.specs.Given.{Callees}
-use Rattle.array_regions.specs.References.{is_constant}
-use Rattle.privatizer.specs.Names.{is_local}
-use Rattle.laws_tables.proofs.DummyLaws.{dummies_come_first}
+use Rattle.preconditions.specs.transformers.Given.{Callees}
+use Rattle.in_out_regions.specs.array_regions.References.{is_constant}
+use Rattle.laws_programs.proofs.SymbolTables.DummyLaws.{dummies_come_first}
 use Rattle.laws_programs.specs.Programs.{IsProgram}
-use Rattle.laws_storage.specs.Programs.{IsLinked, IsModule, known}
-use Rattle.laws_storage.specs.Calls.{AreLaidOut}
-use Rattle.laws_storage.specs.DataLaws.{AllConstantsFit}
-use Rattle.laws_storage.proofs.PlaceLaws.{missing_has_none, unit_of_name}
-use Rattle.laws_calls.specs.Parts.{NoDummy}
+use Rattle.laws_programs.specs.Storage.Programs.{IsLinked, IsModule, known}
+use Rattle.laws_programs.specs.Storage.Calls.{AreLaidOut}
+use Rattle.laws_programs.specs.Storage.DataLaws.{AllConstantsFit}
+use Rattle.laws_programs.proofs.Storage.PlaceLaws.{missing_has_none, unit_of_name}
+use Rattle.laws_analyses.specs.Calls.Parts.{NoDummy}
 use Rattle.laws_analyses.proofs.DummyLaws.{told}
 use Rattle.laws_analyses.proofs.IntegerLaws.{integers_fit}
 use Rattle.laws_analyses.specs.Parts.{part_of}
 use Rattle.laws_analyses.specs.Results.{callees_of_all, analysed_entry}
 use Rattle.laws_lines.proofs.TableNames.{names_are_distinct}
-use Rattle.laws_regions.specs.Settings.{is_stored}
-use Rattle.laws_regions.specs.Programs.{FixedFits}
-use Rattle.laws_regions.proofs.Entered.{module_fits}
+use Rattle.laws_analyses.specs.Regions.Settings.{is_stored}
+use Rattle.laws_analyses.specs.Regions.Programs.{FixedFits}
+use Rattle.laws_analyses.proofs.Regions.Entered.{module_fits}
 use Rattle.laws_marks.specs.ConflictAccepted.{CopiesAreSole}
 use Rattle.laws_marks.specs.Units.{IsPassing}
 use Rattle.laws_marks.proofs.Elements.{in_place_element}
 use Rattle.laws_marks.proofs.Own.{TablesTell}
+use Rattle.call_graph.specs.Visible.{is_local}
 
 module _ (ps : List ParsedTree) (sss : List (List SymbolTree)) (g : Graph) (x : IsProgram ps sss g) (copies : CopiesAreSole) where
   fit : AllConstantsFit ps sss

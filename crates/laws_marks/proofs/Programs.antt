@@ -13,14 +13,15 @@ use Rattle.call_graph.specs.declared.graph.Graph.{Graph}
 use Rattle.f77_meaning.specs.Areas.{Numbering}
 use Rattle.f77_meaning.specs.Modules.{Known, known_of}
 use Rattle.f77_meaning.specs.Linked.{numbering, routine, main_of, subroutines, program_of}
-use Rattle.loop_marker.specs.Phases.{ModuleMarks, known_in, all_marks}
+use Rattle.loop_marker.specs.Results.{ModuleResults}
+use Rattle.loop_marker.specs.Phases.{all_marks}
 use Rattle.laws_programs.specs.Programs.{IsProgram}
 use Rattle.laws_programs.proofs.Numbers.{is_numbered}
 use Rattle.laws_programs.proofs.Whole.{numbers_go_up}
-use Rattle.laws_storage.specs.Programs.{known}
-use Rattle.laws_storage.proofs.ModuleLaws.{known_module}
-use Rattle.laws_statements.specs.CallsIn.{Each}
-use Rattle.laws_analyses.proofs.MainLaws.{MainOf, some_main, main_from}
+use Rattle.laws_programs.specs.Storage.Programs.{known}
+use Rattle.laws_programs.proofs.Storage.ModuleLaws.{known_module}
+use Rattle.call_graph.specs.CallsIn.{Each}
+use Rattle.laws_analyses.proofs.MainLaws.{MainOf, main_from}
 use Rattle.laws_analyses.proofs.Modules.{IsIn, subs, subs_in, subs_are}
 use Rattle.laws_analyses.proofs.UnitLaws.{module_at}
 use Rattle.laws_marks.specs.ConflictExecutions.{Execution}
@@ -30,8 +31,8 @@ use Rattle.laws_interleavings.specs.Holds.{MarksHold}
 use Rattle.laws_interleavings.specs.Sound.{SameEnd, IsShort, Enough}
 use Rattle.laws_interleavings.specs.MarkedPrograms.{Directives, marked_program, marked_run}
 use Rattle.laws_interleavings.specs.Typed.{AllTagged}
-use Rattle.laws_marked_plans.specs.Cleared.{AllApart, AllEnd}
-use Rattle.laws_marked_plans.specs.Uses.{MarkedProgramsAreStrict}
+use Rattle.laws_interleavings.specs.Plans.Cleared.{AllApart, AllEnd}
+use Rattle.laws_interleavings.specs.Plans.Uses.{MarkedProgramsAreStrict}
 use Rattle.laws_marks.specs.MarkedLaws.{LoopsBegin, LoopsHold}
 use Rattle.laws_marks.specs.Inactive.{IsOfSome, IsInactive, InactiveHaveNone}
 use Rattle.laws_marks.specs.OwnLaws.{VariablesHaveTypes, CallsEnd, InactiveUnitsHaveNone}
@@ -49,6 +50,7 @@ use Rattle.laws_marks.proofs.Units.{units, more_units, all_outside}
 use Rattle.laws_marks.proofs.Fitted.{Stands}
 use Rattle.laws_marks.proofs.AtMarked.{Claimed, PlacesOf, routine_holds}
 use Rattle.laws_marks.proofs.Runs.{in_runs}
+use Rattle.laws_programs.proofs.Effects.Once.{main_of_linked as some_main}
 
 -- ---- runs that end
 
@@ -93,7 +95,7 @@ rest_of_suffix p turns r rs d s = record {
 -- ---- programs
 
 module _ (begin : LoopsBegin) (hold : LoopsHold) (copied : NamesAreCopied) (types : VariablesHaveTypes) (calls : CallsEnd) (cleared : InactiveUnitsHaveNone) (stand : ReadNamesStand) (dead : ReadMarkedLoopsAreDead) (knowns : ReadMarkedLoopsAreKnown)
-    (ps : List ParsedTree) (sss : List (List SymbolTree)) (g : Graph) (x : IsProgram ps sss g) (turns : ℕ) (d : Directives) (of_marks : AreOfMarks (all_marks g (outs_of ps sss g)) d) (modules : Each (λ (f : ModuleMarks). IsIn (known_of ps sss) (known_in f.outs)) (all_marks g (outs_of ps sss g))) where
+    (ps : List ParsedTree) (sss : List (List SymbolTree)) (g : Graph) (x : IsProgram ps sss g) (turns : ℕ) (d : Directives) (of_marks : AreOfMarks (all_marks g (outs_of ps sss g)) d) (modules : Each (λ (f : ModuleResults). IsIn (known_of ps sss) f.known) (all_marks g (outs_of ps sss g))) where
   abbrev ks : List Known
   ks = known_of ps sss
 

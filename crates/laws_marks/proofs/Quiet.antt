@@ -10,18 +10,17 @@ use Rattle.f77_ast.specs.Writes.{Locks}
 use Rattle.f77_ast.specs.Runs.{Event, Arrived, Read, Wrote, Printed, Took, Answer, Gave, Broke, Ran}
 use Rattle.f77_ast.specs.Plans.{Flow, Stopped}
 use Rattle.f77_ast.specs.Statements.{Scope, do_plan}
-use Rattle.f77_results.specs.declared.effect_set.EffectSet.{EffectSet}
+use Rattle.f77_ast.specs.declared.effect_set.EffectSet.{EffectSet}
 use Rattle.call_graph.specs.declared.graph.Graph.{Graph}
 use Rattle.f77_meaning.specs.Modules.{Known}
 use Rattle.f77_meaning.specs.Occurrences.{Occurrence}
-use Rattle.transformer_algebra.specs.Cells.{has, others}
-use Rattle.transformer_algebra.proofs.CellLaws.{nat_eq_same}
-use Rattle.call_translation.specs.Scopes.{ScopeTree}
-use Rattle.transformers.specs.Jumps.{list_has, is_return, label_of, before_labels, labels}
-use Rattle.out_regions.specs.Leaving.{stmt_labels, what_labels, list_labels, leaves}
-use Rattle.laws_effects.specs.Claims.{has_io, is_stopped, EffectsHold}
-use Rattle.laws_statements.specs.Leads.{each_leads, list_leads}
-use Rattle.laws_statements.specs.Activation.{Jumps}
+use Rattle.preconditions.specs.transformer_algebra.Cells.{has, others}
+use Rattle.preconditions.specs.call_translation.Scopes.{ScopeTree}
+use Rattle.preconditions.specs.transformers.Jumps.{list_has, label_of, before_labels, labels}
+use Rattle.loop_marker.specs.out_regions.Leaving.{stmt_labels, what_labels, list_labels, leaves}
+use Rattle.laws_programs.specs.Effects.Claims.{has_io, is_stopped, EffectsHold}
+use Rattle.laws_analyses.specs.Statements.Leads.{each_leads, list_leads}
+use Rattle.laws_analyses.specs.Statements.Activation.{Jumps}
 use Rattle.laws_interleavings.specs.Sound.{NoTake, printed_by}
 use Rattle.laws_marks.specs.ConflictIterations.{Iteration, iterations}
 use Rattle.laws_marks.specs.ConflictClaims.{LeavesBy, body_list, KnownLoop, LoopIs}
@@ -29,6 +28,8 @@ use Rattle.laws_marks.proofs.InFirsts.{not_so}
 use Rattle.laws_marks.proofs.OutLeaving.{list_jumps, list_returns}
 use Rattle.laws_marks.specs.MarkedEnding.{do_run, IsQuietDo}
 use Rattle.laws_marks.proofs.Inside.{LeadsBeyond}
+use Rattle.fx_lists.proofs.Numbers.{nat_eq_same}
+use Rattle.f77_ast.specs.Shapes.{is_return}
 
 -- ---- events without input and output
 

@@ -10,11 +10,11 @@ use Rattle.f77_ast.specs.Calls.{scalars_bound, forget_all, after_call}
 use Rattle.f77_ast.specs.Statements.{spot}
 use Rattle.f77_ast.specs.Programs.{Routine, Program, body_of, called, meanings, program_plan}
 use Rattle.f77_ast.proofs.StepLaws.{leads_true}
-use Rattle.laws_statements.proofs.Ends.{more}
+use Rattle.laws_analyses.proofs.Statements.Ends.{more}
 use Rattle.laws_interleavings.specs.Typed.{IsTagged, AllTagged}
-use Rattle.laws_marked_plans.specs.Cleared.{HasNoValue, Cleared, OffPlaces, EndsWell, MeaningCleared, AllApart, AllEnd}
-use Rattle.laws_marked_plans.proofs.Fine.{scalars_tagged}
-use Rattle.laws_marked_plans.proofs.Cleared.{other, forgotten, scalars_off, cleared_forget_all, cleared_module, cleared_meanings}
+use Rattle.laws_interleavings.specs.Plans.Cleared.{HasNoValue, Cleared, OffPlaces, EndsWell, MeaningCleared, AllApart, AllEnd}
+use Rattle.laws_interleavings.proofs.Plans.Fine.{scalars_tagged}
+use Rattle.laws_interleavings.proofs.Plans.Cleared.{other, forgotten, scalars_off, cleared_forget_all, cleared_module, cleared_meanings}
 use Rattle.laws_marks.specs.ConflictExecutions.{Execution, AtEachExecution}
 use Rattle.laws_marks.proofs.ConflictEach.{plan_after}
 use Rattle.laws_marks.proofs.Apart.{FixedOff}

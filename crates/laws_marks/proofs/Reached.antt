@@ -16,43 +16,42 @@ use Rattle.f77_ast.specs.Statements.{spot, execution, body_plan, do_plan}
 use Rattle.f77_ast.specs.Programs.{Program, scope, body_of, called, meanings, program_plan}
 use Rattle.f77_ast.proofs.StepLaws.{at_end_more, at_end_true}
 use Rattle.f77_ast.specs.declared.variable.Variable.{Variable as Named}
-use Rattle.f77_results.specs.declared.results.At.{At}
+use Rattle.f77_ast.specs.declared.results.At.{At}
 use Rattle.call_graph.specs.declared.graph.Graph.{Graph}
 use Rattle.f77_meaning.specs.Modules.{Known}
 use Rattle.f77_meaning.specs.Linked.{program_of}
 use Rattle.affine_forms.specs.Scalars.{is_cell}
 use Rattle.affine_forms.specs.Claims.{unit_in}
-use Rattle.call_translation.specs.Sites.{HoldingSite}
-use Rattle.transformers.specs.Given.{Callees}
-use Rattle.transformers.specs.Modules.{transformers_of}
-use Rattle.region_sets.specs.declared.region.Region.{Region}
-use Rattle.in_out_regions.specs.Lists.{set_at}
-use Rattle.call_equations.specs.Sides.{changed_cells}
-use Rattle.array_regions.specs.Calls.{Called, Callees as Summaries}
-use Rattle.loop_bodies.specs.Finding.{loop_in}
-use Rattle.laws_statements.specs.Good.{said}
-use Rattle.laws_statements.specs.CallsIn.{CallAt, Each, list_calls}
-use Rattle.laws_statements.specs.Activation.{Fit}
-use Rattle.laws_statements.specs.Results.{pre_in}
-use Rattle.laws_statements.proofs.Loops.{also}
-use Rattle.laws_calls.proofs.Enter.{Fits, begin_fits, more_fits}
-use Rattle.laws_calls.specs.Parts.{Blocks, Part, NoDummy, places_in as dummy_places, still_in, Sane}
-use Rattle.laws_calls.specs.ProgramLaws.{routines, Analysed, AnalysedParts, AnalysedProgram}
-use Rattle.laws_calls.specs.Sites.{CoversFrom, Covers, lookup, Entered}
-use Rattle.laws_calls.proofs.Bound.{scalars_fixed}
-use Rattle.laws_regions.specs.Settings.{scene, Sound}
-use Rattle.laws_regions.specs.Entries.{dummies_reads}
-use Rattle.laws_regions.specs.Programs.{called_in, regions_in_part, EachRegionHolds}
-use Rattle.laws_regions.proofs.Actuals.{AllOffer, actuals_hold}
-use Rattle.laws_regions.proofs.Bounds.{setting, Got}
-use Rattle.laws_regions.proofs.CalledShown.{Bound, FineOk}
-use Rattle.laws_regions.proofs.Calling.{Known_of, solid, apart, leads, entered_there}
-use Rattle.laws_regions.proofs.Free.{FreeOk, all_free}
-use Rattle.laws_regions.proofs.Looks.{IfGave}
-use Rattle.laws_regions.proofs.Programs as base
-use Rattle.laws_regions.proofs.Programs.{distinct_numbers}
-use Rattle.laws_regions.proofs.Steady.{Steady, steady_begin}
-use Rattle.laws_regions.proofs.Storing.{holding_with}
+use Rattle.preconditions.specs.call_translation.Sites.{HoldingSite}
+use Rattle.preconditions.specs.transformers.Given.{Callees}
+use Rattle.preconditions.specs.transformers.Modules.{transformers_of}
+use Rattle.in_out_regions.specs.region_sets.declared.region.Region.{Region}
+use Rattle.in_out_regions.specs.call_equations.Sides.{changed_cells}
+use Rattle.in_out_regions.specs.array_regions.Calls.{Called, Callees as Summaries}
+use Rattle.loop_marker.specs.dependence_test.Finding.{loop_in}
+use Rattle.laws_analyses.specs.Statements.Good.{said}
+use Rattle.call_graph.specs.CallsIn.{CallAt, Each, list_calls}
+use Rattle.laws_analyses.specs.Statements.Activation.{Fit}
+use Rattle.laws_analyses.specs.Statements.Results.{pre_in}
+use Rattle.laws_analyses.proofs.Statements.Loops.{also}
+use Rattle.laws_analyses.proofs.Calls.Enter.{Fits, begin_fits, more_fits}
+use Rattle.laws_analyses.specs.Calls.Parts.{Blocks, Part, NoDummy, places_in as dummy_places, still_in, Sane}
+use Rattle.laws_analyses.specs.Calls.ProgramLaws.{routines, Analysed, AnalysedParts, AnalysedProgram}
+use Rattle.laws_analyses.specs.Calls.Sites.{CoversFrom, Covers, lookup, Entered}
+use Rattle.laws_analyses.proofs.Calls.Bound.{scalars_fixed}
+use Rattle.laws_analyses.specs.Regions.Settings.{scene, Sound}
+use Rattle.laws_analyses.specs.Regions.Entries.{dummies_reads}
+use Rattle.laws_analyses.specs.Regions.Programs.{called_in, regions_in_part, EachRegionHolds}
+use Rattle.laws_analyses.proofs.Regions.Actuals.{AllOffer, actuals_hold}
+use Rattle.laws_analyses.proofs.Regions.Bounds.{setting, Got}
+use Rattle.laws_analyses.proofs.Regions.CalledShown.{Bound, FineOk}
+use Rattle.laws_analyses.proofs.Regions.Calling.{Known_of, solid, apart, leads, entered_there}
+use Rattle.laws_analyses.proofs.Regions.Free.{FreeOk, all_free}
+use Rattle.laws_analyses.proofs.Regions.Looks.{IfGave}
+use Rattle.laws_analyses.proofs.Regions.Programs as base
+use Rattle.laws_analyses.proofs.Regions.Programs.{distinct_numbers}
+use Rattle.laws_analyses.proofs.Regions.Steady.{Steady, steady_begin}
+use Rattle.laws_analyses.proofs.Regions.Storing.{holding_with}
 use Rattle.laws_marks.specs.InFrames.{Frame}
 use Rattle.laws_marks.specs.InPrograms.{ins_called, ins_in_part, EachInHolds}
 use Rattle.laws_marks.specs.InUnits.{UnitsFit, SetsFit}
@@ -69,6 +68,7 @@ use Rattle.laws_marks.proofs.ConflictReaching.{Owed, CallReaches, list_reached}
 use Rattle.laws_marks.proofs.ConflictWhats.{list_whats, as_loop, no_list, each_found}
 use Rattle.laws_marks.specs.Units.{UnitsStand, PartUnitsStand, EachUnitsStand}
 use Rattle.laws_marks.proofs.Standing.{units_stand}
+use Rattle.in_out_regions.specs.region_sets.Lists.{set_at}
 
 module _ (ks : List Known) (g : Graph) (b : Blocks) (cs : Callees) (sites : List ℕ → List HoldingSite) (rs is : List ℕ → Summaries) (of : List ℕ → Part) (may_name : Part → Named → Bool) (turns : ℕ) where
   abbrev C0 : Claim

@@ -21,15 +21,16 @@ use Rattle.f77_ast.specs.Programs.{Routine, meanings}
 use Rattle.f77_ast.proofs.StepLaws.{at_end_more}
 use Rattle.f77_meaning.specs.Occurrences.{events_after}
 use Rattle.laws_interleavings.specs.Marks.{MarkedPlan, Ends, plain, plain_run}
-use Rattle.laws_interleavings.specs.MarkedStatements.{unmarked, marked_list, MarkedScope, marked_loop, begun_if, marked_statement, marked_execution, marked_arms, marked_arm, marked_else, loop_with, marked_parts}
+use Rattle.laws_interleavings.specs.MarkedStatements.{unmarked, marked_list, MarkedScope, reduced_loop, marked_statement, marked_execution, marked_arms, marked_arm, marked_else, loop_with, marked_parts}
+use Rattle.laws_interleavings.specs.Accumulating.{Directive}
 use Rattle.laws_interleavings.specs.MarkedPrograms.{Directives, forget_units, marked_scope, marked_body, marked_called, marked_meanings, marked_program}
 use Rattle.laws_interleavings.specs.Holds.{LoopHolds, MarksHold}
-use Rattle.laws_interleavings.proofs.Plain.{first_same, begins_marked, program_same}
+use Rattle.laws_interleavings.proofs.Plain.{first_same, begins_by, program_same}
 use Rattle.laws_marks.specs.ConflictExecutions.{Execution}
 use Rattle.laws_interleavings.specs.Typed.{TagsStand, IsTagged, AllTagged, IsNoDummy}
-use Rattle.laws_marked_plans.specs.Cleared.{OffPlaces, Off}
-use Rattle.laws_marked_plans.proofs.Fine.{Yields, scalars_tagged, arrays_tagged}
-use Rattle.laws_marked_plans.proofs.Cleared.{ActualsOff, off_more, own_none, lock_none, doubly_none, held_locked, actuals_off, places_off, scalars_off, arrays_off}
+use Rattle.laws_interleavings.specs.Plans.Cleared.{OffPlaces, Off}
+use Rattle.laws_interleavings.proofs.Plans.Fine.{Yields, scalars_tagged, arrays_tagged}
+use Rattle.laws_interleavings.proofs.Plans.Cleared.{ActualsOff, off_more, own_none, lock_none, doubly_none, held_locked, actuals_off, places_off, scalars_off, arrays_off}
 use Rattle.laws_marks.specs.Rests.{EachWithRest}
 use Rattle.laws_marks.specs.RunLaws.{MarksHoldInRuns}
 use Rattle.laws_marks.specs.Loops.{StmtDos, WhatDos, LoopDos, ArmsDos, ArmDos, ElseDos, ListDos, AreOff, MarkedDoHolds, IsOutside, AreOutside, RoutineHolds, RoutinesHold}
@@ -80,10 +81,10 @@ module _ (units : ℕ → Type 0) (C : Execution → List Event → Type 0) wher
     forgets : (us : List ℕ) (f : Flow) → Fit C (unmarked (after_call us f))
     forgets us f = fit_unmarked C (after_call us f)
 
-    same_do : (xs : List (List ℕ)) (l : LoopTree) (locked : Locks) → plain (loop_with (Some xs) l sc at locked) ≡ do_plan l sc.plain at locked
-    same_do xs (tree.loop index e1 e2 e3 body) locked =
+    same_do : (e : Directive) (l : LoopTree) (locked : Locks) → plain (loop_with (Some e) l sc at locked) ≡ do_plan l sc.plain at locked
+    same_do e (tree.loop index e1 e2 e3 body) locked =
         first_same (range_of e1 e2 e3 sc.plain.names at) _ _
-        (λ r. first_same (name_target (sc.plain.names index) at) _ _ (λ t. begins_marked (locked t.unit) (marked_loop xs sc body at r t.unit (lock locked t.unit Locked))))
+        (λ r. first_same (name_target (sc.plain.names index) at) _ _ (λ t. begins_by e.reductions (locked t.unit) (reduced_loop e sc body at r t.unit (lock locked t.unit Locked))))
 
     mutual
       fit_stmt : (s : StmtTree) → StmtDos P s → (locked : Locks) → Offs locked → Fit C (marked_statement s sc at locked)
@@ -120,15 +121,15 @@ module _ (units : ℕ → Type 0) (C : Execution → List Event → Type 0) wher
       fit_else tree.no_else d locked off = tt
       fit_else (tree.otherwise body) d locked off = fit_list C sc.plain.turns (marked_parts body sc at locked) (fit_parts body d locked off)
 
-      fit_do : (n : ℕ) (l : LoopTree) → P n l × LoopDos P l → (o : Option (List (List ℕ))) → sc.marks n ≡ o → (locked : Locks) → Offs locked → Fit C (loop_with o l sc at locked) ⊎ Direct C (spot sc.plain.module_name n) at (loop_with o l sc at locked)
+      fit_do : (n : ℕ) (l : LoopTree) → P n l × LoopDos P l → (o : Option Directive) → sc.marks n ≡ o → (locked : Locks) → Offs locked → Fit C (loop_with o l sc at locked) ⊎ Direct C (spot sc.plain.module_name n) at (loop_with o l sc at locked)
       fit_do n (tree.loop index e1 e2 e3 body) d None e locked off =
           inl (fit_after C (range_of e1 e2 e3 sc.plain.names at) _
           (λ r. fit_after C (name_target (sc.plain.names index) at) _
           (λ t. fit_begins C (locked t.unit) t.unit (content Int r.from) _
           (fit_iterations C (iteration_count r.from r.last r.step) r.from r.step t.unit (marked_list sc.plain.turns (marked_parts body sc at (lock locked t.unit Locked)))
           (fit_list C sc.plain.turns (marked_parts body sc at (lock locked t.unit Locked)) (fit_parts body d.1 (lock locked t.unit Locked) (off_locked locked t.unit sc.plain.names at off)))))))
-      fit_do n l d (Some xs) e locked off =
-          inr (λ s i later c. d.0 xs e at locked ok off s i later (subst (λ (t : Plan). C (record { spot = spot sc.plain.module_name n; places = at; does = t; start = s; input = i }) later) (same_do xs l locked) c))
+      fit_do n l d (Some x) e locked off =
+          inr (λ s i later c. d.0 x e at locked ok off s i later (subst (λ (t : Plan). C (record { spot = spot sc.plain.module_name n; places = at; does = t; start = s; input = i }) later) (same_do x l locked) c))
 
       fit_parts : (ss : StmtTrees) → ListDos P ss → (locked : Locks) → Offs locked → PartsFit C (marked_parts ss sc at locked)
       fit_parts tree.no_stmts d locked off = tt

@@ -9,8 +9,8 @@ use Rattle.f77_ast.specs.DeclTrees.{ParsedTree}
 use Rattle.f77_ast.specs.Places.{Dim, as_count, dim_size, total_size}
 use Rattle.f77_ast.specs.declared.constant.Constant.{Constant}
 use Rattle.f77_ast.specs.declared.constant.Constant.TheVariants as constant
-use Rattle.f77_ast.specs.declared.constant.Worth.{Worth}
-use Rattle.f77_ast.specs.declared.constant.Worth.TheVariants.{Is, Faults, Varies}
+use Rattle.f77_ast.specs.declared.constant.ConstantValue.{ConstantValue}
+use Rattle.f77_ast.specs.declared.constant.ConstantValue.TheVariants.{Is, Faults, Varies}
 use Rattle.f77_ast.specs.declared.symbol.Place.{Place}
 use Rattle.f77_ast.specs.declared.symbol.Place.TheVariants as place
 use Rattle.f77_ast.specs.Symbols.{BoundTree, SymbolTree}
@@ -18,19 +18,17 @@ use Rattle.f77_ast.specs.Units.{units_in}
 use Rattle.f77_ast.specs.Shared.{symbol_at}
 use Rattle.f77_names.specs.Entries.{ShapeTree, EntryTree}
 use Rattle.f77_names.specs.Tables.{NameTable}
-use Rattle.f77_checks.specs.Dimensions.{worth_in, is_bad_limit, is_below, is_bad_high, is_bad_bound, is_last, has_bad_bound, dim_from, dim_up_to, dims_of, is_too_big, is_bad_shape, entry_dims}
+use Rattle.f77_checks.specs.Dimensions.{const_value_in, is_bad_limit, is_below, is_bad_high, is_bad_bound, is_last, has_bad_bound, dim_from, dim_up_to, dims_of, is_too_big, is_bad_shape, entry_dims}
 use Rattle.storage_layout.specs.Symbols.{symbols_of}
 use Rattle.storage_layout.specs.Table.{unless_dummy, unless_value, place_in, symbol_of}
-use Rattle.f77_meaning.proofs.ModuleLaws.{numbered_place}
-use Rattle.laws_tables.proofs.Answers.{Answered, names_in, layout_in, answered_by, found_none}
-use Rattle.laws_tables.proofs.EntryLaws.{entry_of}
-use Rattle.laws_storage.specs.DataLaws.{ConstantsFit}
-use Rattle.laws_storage.proofs.UnitLaws.{parts_of, units_are}
-use Rattle.laws_layout.proofs.SizeLaws.{entry_known}
-use Rattle.laws_layout.proofs.CommonLaws.{shapes_at}
-
-less_false : (m n : ℤ) → int_lt m n ≡ false → n ≤ℤ m
-less_false m n e = grind (arith, ints)
+use Rattle.laws_programs.proofs.SymbolTables.Answers.{Answered, names_in, layout_in, answered_by, found_none}
+use Rattle.laws_programs.proofs.SymbolTables.EntryLaws.{entry_of}
+use Rattle.laws_programs.specs.Storage.DataLaws.{ConstantsFit}
+use Rattle.laws_programs.proofs.Storage.UnitLaws.{parts_of, units_are}
+use Rattle.laws_programs.proofs.Layouts.SizeLaws.{entry_known}
+use Rattle.laws_programs.proofs.Layouts.CommonLaws.{shapes_at}
+use Rattle.fx_lists.proofs.Numbers.{less_false}
+use Rattle.f77_ast.proofs.StorageLaws.{from_number as numbered_place}
 
 count_positive : (z : ℤ) → pos 1 ≤ℤ z → 0 < as_count z
 count_positive (pos n) h = omega (arith, ints, h)
@@ -39,7 +37,7 @@ count_positive (negsuc n) h = absurd (omega (arith, ints, h))
 span_positive : (low high : ℤ) → low ≤ℤ high → 0 < as_count ((high -ℤ low) +ℤ pos 1)
 span_positive low high h = count_positive ((high -ℤ low) +ℤ pos 1) (omega (arith, ints, h))
 
-from_positive : (w v : Worth) (d : Dim) → is_below v w ≡ false → dim_from w v ≡ Some d → 0 < dim_size d
+from_positive : (w v : ConstantValue) (d : Dim) → is_below v w ≡ false → dim_from w v ≡ Some d → 0 < dim_size d
 from_positive (Is (constant.Int low)) (Is (constant.Int high)) d h e =
     let same : record { low = low; high = Some high } ≡ d = cc in
     subst (λ (z : Dim). 0 < dim_size z) same (span_positive low high (less_false high low h))
@@ -50,9 +48,9 @@ from_positive (Is (constant.Log b)) v d h e = cc
 from_positive Faults v d h e = cc
 from_positive Varies v d h e = cc
 
-high_positive : (t : NameTable) (dummy last : Bool) (low : ExprTree) (o : Option ExprTree) (d : Dim) → is_bad_high t dummy last low o ≡ false → dim_up_to t (worth_in t low) o ≡ Some d → 0 < dim_size d
+high_positive : (t : NameTable) (dummy last : Bool) (low : ExprTree) (o : Option ExprTree) (d : Dim) → is_bad_high t dummy last low o ≡ false → dim_up_to t (const_value_in t low) o ≡ Some d → 0 < dim_size d
 high_positive t dummy last low None d h e = cc
-high_positive t dummy last low (Some high) d h e = from_positive (worth_in t low) (worth_in t high) d (or_parts (is_bad_limit t dummy high) (is_below (worth_in t high) (worth_in t low)) h).1 e
+high_positive t dummy last low (Some high) d h e = from_positive (const_value_in t low) (const_value_in t high) d (or_parts (is_bad_limit t dummy high) (is_below (const_value_in t high) (const_value_in t low)) h).1 e
 
 dims_positive : (t : NameTable) (dummy : Bool) (bs : List BoundTree) (ds : List Dim) → has_bad_bound t dummy bs ≡ false → dims_of t bs ≡ Some ds → 0 < total_size ds
 dims_positive t dummy [] ds h e = (let same : [] ≡ ds = cc in subst (λ (z : List Dim). 0 < total_size z) same (omega arith))
@@ -98,4 +96,4 @@ module _ (p : ParsedTree) (ss : List SymbolTree) (laid : symbols_of p ≡ Ok ss)
       let same = ap (λ (z : SymbolTree). z.place) (sym r.symbol) in
       subst (λ (z : SymbolTree). 0 < units_in ss z) (sym r.symbol)
       (entry_positive r.place r.entry (ap (slice_get (names_in p).entries) (sym at) ∙ r.is_entry)
-      (no_number r.entry.value r.entry.dummy (place_in (layout_in p) (slice_get (layout_in p).seats r.place)) (λ c q. f c (sym same ∙ q)) (λ k q. g k (sym same ∙ q))))
+      (no_number r.entry.value r.entry.dummy (place_in (layout_in p) (slice_get (layout_in p).offset_nodes r.place)) (λ c q. f c (sym same ∙ q)) (λ k q. g k (sym same ∙ q))))

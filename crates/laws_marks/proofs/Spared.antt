@@ -18,14 +18,12 @@ use Rattle.f77_ast.specs.Calls.{Actual, actuals, places_of, own_units, lock_own,
 use Rattle.f77_ast.specs.Statements.{Scope, statement_plan, execution, arms_plan, arm_plan, else_plan, do_plan, parts, body_plan}
 use Rattle.f77_ast.specs.Programs.{Routine, scope, body_of, called, meanings}
 use Rattle.laws_interleavings.specs.Typed.{TagsStand, IsTagged, AllTagged}
-use Rattle.laws_marked_plans.specs.Fine.{AreFine, IsFine}
-use Rattle.laws_marked_plans.specs.Cleared.{OffPlaces, Off}
-use Rattle.laws_marked_plans.proofs.Fine.{Yields, fine_then, fine_first, fine_first_so, fine_value, fine_range_of, fine_name_target, fine_all_shown, fine_actuals, fine_arrays, arrays_tagged, scalars_tagged, PartsFine, fine_jumps, fine_iterations, Owned, fine_forget, fine_after_call}
-use Rattle.laws_marked_plans.proofs.Cleared.{Aims, other, ActualsOff, off_more, own_none, lock_none, doubly_none, held_locked, actuals_off, places_off, scalars_off, arrays_off, assigned_off, items_off, name_aims}
+use Rattle.laws_interleavings.specs.Plans.Fine.{AreFine, IsFine}
+use Rattle.laws_interleavings.specs.Plans.Cleared.{OffPlaces, Off}
+use Rattle.laws_interleavings.proofs.Plans.Fine.{Yields, fine_then, fine_first, fine_first_so, fine_value, fine_range_of, fine_name_target, fine_all_shown, fine_actuals, fine_arrays, arrays_tagged, scalars_tagged, PartsFine, fine_jumps, fine_iterations, Owned, fine_forget, fine_after_call}
+use Rattle.laws_interleavings.proofs.Plans.Cleared.{Aims, other, ActualsOff, off_more, own_none, lock_none, doubly_none, held_locked, actuals_off, places_off, scalars_off, arrays_off, assigned_off, items_off, name_aims}
 use Rattle.laws_marks.specs.Loops.{IsOutside}
-
-abbrev pub all : ℕ → Bool
-all u = true
+use Rattle.laws_interleavings.proofs.Plans.MarkedStrict.{all}
 
 owned : (us : List ℕ) → Owned all all us
 owned [] = tt

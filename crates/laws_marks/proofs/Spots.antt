@@ -21,7 +21,7 @@ use Rattle.f77_ast.specs.Calls.{actuals, places_of, own_units, lock_own, forget_
 use Rattle.f77_ast.specs.Statements.{Scope, statement_plan, execution, arms_plan, arm_plan, else_plan, do_plan, parts, body_plan}
 use Rattle.f77_ast.specs.Programs.{Routine, Program, scope, body_of, called, meanings, program_plan}
 use Rattle.f77_ast.proofs.StepLaws.{leads_true}
-use Rattle.laws_statements.proofs.Ends.{more}
+use Rattle.laws_analyses.proofs.Statements.Ends.{more}
 use Rattle.laws_marks.specs.ConflictExecutions.{Execution, AtEachExecution}
 
 module _ (B : List ℕ → Type 0) where

@@ -15,21 +15,20 @@ use Rattle.f77_ast.specs.declared.constant.Constant.{Constant}
 use Rattle.f77_ast.specs.declared.variable.Variable.TheVariants.{Own}
 use Rattle.f77_ast.specs.Symbols.{BoundTree}
 use Rattle.f77_ast.specs.Shared.{symbol_at, overlap}
-use Rattle.f77_results.specs.declared.results.At.{At}
+use Rattle.f77_ast.specs.declared.results.At.{At}
 use Rattle.tracked_cells.specs.Standing.{has_bounds}
 use Rattle.f77_meaning.specs.Areas.{is_own_unit}
 use Rattle.f77_meaning.specs.Linked.{numbering}
 use Rattle.affine_forms.specs.Claims.{unit_in}
-use Rattle.transformer_algebra.specs.Laws.{In}
-use Rattle.region_sets.specs.declared.region.Region.{Region}
-use Rattle.array_regions.specs.Calls.{Called}
-use Rattle.in_out_regions.specs.Lists.{set_at}
-use Rattle.laws_statements.specs.Activation.{Fit}
-use Rattle.laws_statements.proofs.Loops.{also}
-use Rattle.laws_calls.specs.Parts.{NoDummy}
-use Rattle.laws_regions.specs.Claims.{listed, elements_of}
-use Rattle.laws_regions.specs.Settings.{scene, Sound, DimsFit, is_stored, elements_if, elements_at, is_plain, maybe_plain, has_plain}
-use Rattle.laws_regions.specs.Shown.{is_lost, is_hidden}
+use Rattle.preconditions.specs.transformer_algebra.Laws.{In}
+use Rattle.in_out_regions.specs.region_sets.declared.region.Region.{Region}
+use Rattle.in_out_regions.specs.array_regions.Calls.{Called}
+use Rattle.laws_analyses.specs.Statements.Activation.{Fit}
+use Rattle.laws_analyses.proofs.Statements.Loops.{also}
+use Rattle.laws_analyses.specs.Calls.Parts.{NoDummy}
+use Rattle.laws_analyses.specs.Regions.Claims.{listed, elements_of}
+use Rattle.laws_analyses.specs.Regions.Settings.{scene, Sound, DimsFit, is_stored, elements_if, elements_at, is_plain, maybe_plain, has_plain}
+use Rattle.laws_analyses.specs.Regions.Shown.{is_lost, is_hidden}
 use Rattle.laws_marks.specs.InFrames.{Frame, elements_in}
 use Rattle.laws_marks.specs.InShown.{IsFree}
 use Rattle.laws_marks.specs.InUnits.{UnitsFit, SetsFit}
@@ -41,6 +40,8 @@ use Rattle.laws_marks.specs.ConflictExecutions.{Execution}
 use Rattle.laws_marks.proofs.ConflictCopies.{AllSole}
 use Rattle.laws_marks.specs.Units.{IsPassing, UnitsStand}
 use Rattle.laws_marks.proofs.Elements.{passing_stored}
+use Rattle.laws_analyses.proofs.Regions.Elements.{scalar_there as scalar_element}
+use Rattle.in_out_regions.specs.region_sets.Lists.{set_at}
 
 -- ---- scalars
 
@@ -48,15 +49,6 @@ no_dims : (value : List ℕ → Option Constant) (bs : List BoundTree) (ds : Lis
 no_dims value [] [] h f = refl
 no_dims value [] (d ∷ ds) h f = absurd f
 no_dims value (b ∷ bs) ds h f = cc
-
--- the element of a scalar is its one unit
-scalar_element : (p : Place) (phi : ℕ → ℤ) → p.dims ≡ [] → 0 < p.extent → elements_of p phi ≡ Some p.first
-scalar_element p phi e less =
-    ap (λ (ds : List Dim). option_map (λ k. p.first + k) (within p (position ds (listed (length ds) phi)))) e
-    ∙ (ap (λ b. option_map (λ k. p.first + k) (if b then Some 0 else None)) (lt-ltb 0 p.extent less) ∙ ap Some (none_more p.first))
-  where
-    none_more : (n : ℕ) → n + 0 ≡ n
-    none_more n = omega arith
 
 module _ (k : Frame) (sound : Sound k.base) (C0 D0 : Claim) (Fits : Locks → (ℕ → Bool) → Type 0) (base : (locked : Locks) (still : ℕ → Bool) → Fits locked still → Fit k.sc.names k.scalar k.at (scene k.base) locked still) (more_fits : (locked : Locks) (still : ℕ → Bool) (x : List ℕ) (v : ℕ) → k.sc.names x ≡ Variable v → k.scalar x ≡ true → Fits locked still → Fits (lock locked (k.at v).first Locked) (also still (k.at v).first)) (I : Store → Type 0) (acc : List (At (List Region))) (called : Called) (sets : SetsFit k acc) (sole : AllSole k)
     (index : List ℕ) (e1 e2 : ExprTree) (e3 : Option ExprTree) (body : StmtTrees) (n : ℕ) (last : Bool) (locked : Locks) (still : ℕ → Bool) (fit : Fits locked still) (units : UnitsFit k locked) (st : InAt C0 D0 k Fits I acc called n (tree.do_loop (tree.loop index e1 e2 e3 body)) last) (pa : StandsParts C0 D0 k Fits I acc called (tree.do_loop (tree.loop index e1 e2 e3 body)) n) (z : Store) (iz : I z) (i : List Content) where

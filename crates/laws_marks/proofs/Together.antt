@@ -9,7 +9,7 @@ use Rattle.f77_meaning.specs.Occurrences.{Onward, events_after, events_from, Thr
 use Rattle.laws_marks.specs.ConflictExecutions.{Execution, AtEachExecution}
 use Rattle.laws_marks.specs.Rests.{Both, EachWithRest, ClaimsStandTogether}
 
-both_ends : (a : Answer Flow) (s : Store) (i : List Content) (P Q R : Flow → Store → List Content → Type 0) → ((f : Flow) (z : Store) (j : List Content) → P f z j → Q f z j → R f z j) → AtEnd a s i P → AtEnd a s i Q → AtEnd a s i R
+pub both_ends : (a : Answer Flow) (s : Store) (i : List Content) (P Q R : Flow → Store → List Content → Type 0) → ((f : Flow) (z : Store) (j : List Content) → P f z j → Q f z j → R f z j) → AtEnd a s i P → AtEnd a s i Q → AtEnd a s i R
 both_ends (Gave f) s i P Q R m h g = m f s i h g
 both_ends (Broke b) s i P Q R m h g = tt
 

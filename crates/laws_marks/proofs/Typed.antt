@@ -8,24 +8,25 @@ use Rattle.f77_ast.specs.Symbols.{SymbolTree}
 use Rattle.call_graph.specs.declared.graph.Graph.{Graph}
 use Rattle.f77_meaning.specs.Modules.{Known, known_of, dummies_from}
 use Rattle.f77_meaning.specs.Linked.{routine, subroutines, main_of}
-use Rattle.laws_tables.specs.Laws.{DummiesFirst}
-use Rattle.laws_tables.proofs.DummyLaws.{dummies_come_first}
+use Rattle.laws_programs.specs.SymbolTables.Laws.{DummiesFirst}
+use Rattle.laws_programs.proofs.SymbolTables.DummyLaws.{dummies_come_first}
 use Rattle.laws_programs.specs.Programs.{IsProgram}
 use Rattle.laws_programs.proofs.Tables.{programs_are_linked}
 use Rattle.laws_programs.proofs.Whole.{modules_are_read}
-use Rattle.laws_storage.specs.Programs.{known}
-use Rattle.laws_storage.proofs.ModuleLaws.{known_module}
-use Rattle.laws_statements.specs.CallsIn.{Each}
-use Rattle.laws_statements.specs.Leads.{StaysIn}
+use Rattle.laws_programs.specs.Storage.Programs.{known}
+use Rattle.laws_programs.proofs.Storage.ModuleLaws.{known_module}
+use Rattle.call_graph.specs.CallsIn.{Each}
+use Rattle.laws_analyses.specs.Statements.Leads.{StaysIn}
 use Rattle.laws_analyses.specs.JumpLaws.{JumpsStayInside}
 use Rattle.laws_analyses.proofs.DummyLaws.{none_listed}
-use Rattle.laws_analyses.proofs.MainLaws.{MainOf, some_main, main_from}
+use Rattle.laws_analyses.proofs.MainLaws.{MainOf, main_from}
 use Rattle.laws_analyses.proofs.Modules.{IsIn, subs, subs_in, subs_are}
 use Rattle.laws_analyses.proofs.UnitLaws.{module_at}
 use Rattle.laws_marks.proofs.OutRoutines.{routine_tagged}
 use Rattle.laws_interleavings.specs.Typed.{AllTagged}
 use Rattle.laws_marks.specs.OwnLaws.{VariablesHaveTypes, CallsEnd}
 use Rattle.laws_marks.proofs.Ends.{AllStay, all_end}
+use Rattle.laws_programs.proofs.Effects.Once.{main_of_linked as some_main}
 
 -- ---- types
 

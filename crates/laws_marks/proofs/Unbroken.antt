@@ -11,6 +11,7 @@ use Rattle.laws_interleavings.proofs.Runs.{run_bind, on_from, stays_whole}
 use Rattle.laws_marks.specs.ConflictExecutions.{Execution}
 use Rattle.laws_marks.specs.Known.{Finishes}
 use Rattle.laws_marks.specs.Rests.{EachWithRest}
+use Rattle.laws_marks.proofs.Together.{both_ends}
 
 -- of an execution
 abbrev pub IsUnbroken : Execution → List Event → Type 0
@@ -44,10 +45,6 @@ unbroken (Within p at t k) s i onward h =
     )
 
 -- ---- claims together
-
-both_ends : (a : Answer Flow) (s : Store) (i : List Content) (P Q R : Flow → Store → List Content → Type 0) → ((f : Flow) (z : Store) (j : List Content) → P f z j → Q f z j → R f z j) → AtEnd a s i P → AtEnd a s i Q → AtEnd a s i R
-both_ends (Gave f) s i P Q R m h g = m f s i h g
-both_ends (Broke b) s i P Q R m h g = tt
 
 pub each_both : (C D : Execution → List Event → Type 0) (t : Plan) (s : Store) (i : List Content) (onward : Onward) → EachWithRest C t s i onward → EachWithRest D t s i onward → EachWithRest (λ x later. C x later × D x later) t s i onward
 each_both C D (Ends f) s i onward h g = tt

@@ -20,22 +20,23 @@ use Rattle.f77_meaning.specs.Areas.{Area, group, Numbering, unit_at, is_own_unit
 use Rattle.f77_meaning.specs.Modules.{Known, known_of, is_function, meant_by, meant_at, meant_in, names, fixed_place, fixed_maybe, fixed, units_from, lost_units, all_lost}
 use Rattle.f77_meaning.specs.Linked.{numbering, routine}
 use Rattle.f77_meaning.specs.Laws.{is_own, area_of, IsKnown}
-use Rattle.f77_meaning.proofs.ModuleLaws.{numbered_place, offsets_fit, variables_occupy_their_storage, shared_by_table}
+use Rattle.f77_meaning.proofs.ModuleLaws.{offsets_fit, variables_occupy_their_storage, shared_by_table}
 use Rattle.f77_meaning.proofs.UnitLaws.{temporaries_are_recognisable}
 use Rattle.laws_programs.specs.Programs.{IsProgram}
-use Rattle.laws_storage.specs.Programs.{IsModule, known}
-use Rattle.laws_storage.proofs.ModuleLaws.{declared, area_known}
-use Rattle.laws_statements.specs.CallsIn.{Each}
+use Rattle.laws_programs.specs.Storage.Programs.{IsModule, known}
+use Rattle.laws_programs.proofs.Storage.ModuleLaws.{declared, area_known}
+use Rattle.call_graph.specs.CallsIn.{Each}
 use Rattle.laws_analyses.proofs.Modules.{IsIn}
 use Rattle.laws_analyses.proofs.NameLaws.{name_number}
 use Rattle.laws_analyses.proofs.UnitLaws.{ModuleAt, module_at}
-use Rattle.privatizer.specs.Names.{is_local}
 use Rattle.laws_marks.specs.ConflictClaims.{IsSole}
 use Rattle.laws_marks.proofs.Apart.{linked, off_from, lost_of, lost_in, lost_some, lost_off}
 use Rattle.laws_marks.proofs.Order.{Named, Distinct}
 use Rattle.laws_marks.specs.Units.{IsPassing}
 use Rattle.laws_marks.specs.Loops.{IsOutside, AreOutside}
 use Rattle.laws_marks.proofs.Spared.{AllOutside}
+use Rattle.f77_ast.proofs.StorageLaws.{from_number as numbered_place}
+use Rattle.call_graph.specs.Visible.{is_local}
 
 -- ---- units by the modules at hand
 

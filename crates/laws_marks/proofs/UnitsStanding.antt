@@ -5,24 +5,23 @@ use Rattle.f77_ast.specs.DeclTrees.{ParsedTree}
 use Rattle.f77_ast.specs.Programs.{program_plan}
 use Rattle.f77_ast.specs.StatementNumbers.{IsNumbered}
 use Rattle.f77_ast.specs.Symbols.{SymbolTree}
-use Rattle.f77_results.specs.declared.results.Results.{Results}
+use Rattle.f77_ast.specs.declared.results.Results.{Results}
 use Rattle.call_graph.specs.declared.graph.Graph.{Graph}
 use Rattle.f77_meaning.specs.Modules.{Known, known_of, names, fixed, dummies_from}
 use Rattle.f77_meaning.specs.Linked.{numbering, program_of}
-use Rattle.region_sets.specs.declared.region.Region.{Region}
-use Rattle.array_regions.specs.Calls.{Callees as Summaries}
-use Rattle.region_phases.specs.Phases.{regions_found}
-use Rattle.in_out_regions.specs.Lists.{set_at}
-use Rattle.region_phases.specs.OutPhases.{ModuleOuts}
-use Rattle.scalar_phases.specs.Phases.{scope_of, Analysis, analyses}
+use Rattle.in_out_regions.specs.region_sets.declared.region.Region.{Region}
+use Rattle.in_out_regions.specs.array_regions.Calls.{Callees as Summaries}
+use Rattle.loop_marker.specs.module_phases.RegionPhases.{regions_found}
+use Rattle.loop_marker.specs.module_phases.OutPhases.{ModuleOuts}
+use Rattle.loop_marker.specs.module_phases.ScalarPhases.{scope_of, Analysis, analyses}
 use Rattle.laws_programs.proofs.Sources.{all_built}
 use Rattle.laws_programs.proofs.Tables.{programs_are_linked}
 use Rattle.laws_programs.proofs.Whole.{modules_are_read}
-use Rattle.roundtrip_modules.specs.Cards.{statements_of}
-use Rattle.laws_statements.specs.CallsIn.{Each}
-use Rattle.laws_storage.specs.Programs.{IsLinked, IsModule, known}
-use Rattle.laws_storage.proofs.ModuleLaws.{known_module}
-use Rattle.laws_calls.specs.Parts.{Part}
+use Rattle.laws_programs.specs.roundtrip_programs.ModuleTexts.Cards.{statements_of}
+use Rattle.call_graph.specs.CallsIn.{Each}
+use Rattle.laws_programs.specs.Storage.Programs.{IsLinked, IsModule, known}
+use Rattle.laws_programs.proofs.Storage.ModuleLaws.{known_module}
+use Rattle.laws_analyses.specs.Calls.Parts.{Part}
 use Rattle.laws_analyses.specs.Parts.{part_of}
 use Rattle.laws_analyses.specs.Analysed.{part_named}
 use Rattle.laws_analyses.specs.JumpLaws.{JumpsStayInside}
@@ -31,19 +30,19 @@ use Rattle.laws_analyses.specs.ScalarLaws.{NamesAgree, AcceptedDataStaysInLocals
 use Rattle.laws_analyses.proofs.Analyses.{Located, all_located}
 use Rattle.laws_analyses.proofs.CallLists.{each_more}
 use Rattle.laws_analyses.proofs.IntegerLaws.{integers_fit}
-use Rattle.laws_analyses.proofs.MainLaws.{some_main, main_from, built_at}
+use Rattle.laws_analyses.proofs.MainLaws.{main_from, built_at}
 use Rattle.laws_analyses.proofs.Modules.{module_named_is}
 use Rattle.laws_analyses.proofs.Whole.{analyses_follow}
-use Rattle.laws_regions.specs.Accepted.{after, summaries_of as reads_of}
-use Rattle.laws_regions.specs.Programs.{regions_in_part}
-use Rattle.laws_regions.proofs.Carrying.{LinkLaws}
-use Rattle.laws_regions.proofs.Parts.{program, program_is}
-use Rattle.laws_regions.proofs.Summaries as regions
-use Rattle.laws_regions.proofs.ToldBlocks.{blocks_told}
-use Rattle.laws_regions.proofs.ToldSymbols.{names_told}
+use Rattle.laws_analyses.specs.Regions.Accepted.{after, summaries_of as reads_of}
+use Rattle.laws_analyses.specs.Regions.Programs.{regions_in_part}
+use Rattle.laws_analyses.proofs.Regions.Carrying.{LinkLaws}
+use Rattle.laws_analyses.proofs.Regions.Parts.{program, program_is}
+use Rattle.laws_analyses.proofs.Regions.Summaries as regions
+use Rattle.laws_analyses.proofs.Regions.ToldBlocks.{blocks_told}
+use Rattle.laws_analyses.proofs.Regions.ToldSymbols.{names_told}
 use Rattle.laws_marks.specs.InAccepted.{summaries_of}
 use Rattle.laws_marks.specs.InTogether.{LocalsAreSavedTogether}
-use Rattle.laws_marks.proofs.InAccepted.{cards_of_held, settled, ready, all_laid, main_laid}
+use Rattle.laws_marks.proofs.InAccepted.{settled, ready, all_laid, main_laid}
 use Rattle.laws_marks.proofs.InLayouts.{may_name}
 use Rattle.laws_marks.proofs.InWhole.{part_first, parts_first}
 use Rattle.laws_marks.specs.ConflictExecutions.{Execution}
@@ -53,13 +52,12 @@ use Rattle.laws_marks.proofs.OutSummaries.{outs_at, Placed, outs_placed}
 use Rattle.laws_marks.specs.Units.{UnitsStand, PartUnitsStand, EachUnitsStand, ModuleUnitsStand}
 use Rattle.laws_marks.specs.DeadLaws.{outs_of, AllUnitsStand, ReadUnitsStand}
 use Rattle.laws_marks.proofs.Reached.{units_hold}
+use Rattle.laws_analyses.proofs.Claimed.{all_of_each}
+use Rattle.laws_programs.proofs.Effects.Once.{main_of_linked as some_main}
+use Rattle.laws_analyses.proofs.Regions.Accepted.{cards_of_held}
+use Rattle.in_out_regions.specs.region_sets.Lists.{set_at}
 
 -- ---- lists
-
-pub all_of_each : {T : Type 0} (P : T → Type 0) (xs : List T) → Each P xs → All P xs
-all_of_each P [] e k d lt = absurd (omega (arith, lt))
-all_of_each P (y ∷ xs) e zero d lt = e.0
-all_of_each P (y ∷ xs) e (suc k) d lt = all_of_each P xs e.1 k d (omega (arith, lt))
 
 pub each_of_all : {T : Type 0} (P : T → Type 0) (xs : List T) → All P xs → Each P xs
 each_of_all P [] h = tt

@@ -3,7 +3,7 @@ use Rattle.std.proofs.Common.{◌≡◌, ◌⊎◌, inl, inr, ℕ, ◌<◌, ◌|
 use Rattle.std.specs.Prelude.{if◌then◌else◌, not, is_some}
 use Rattle.std.specs.declared.cmp.Ordering.{Ordering}
 use Rattle.std.specs.declared.cmp.Ordering.TheVariants.{Less, Equal, Greater}
-use Rattle.std.specs.Ordering.{nat_cmp, match_ordering, MatchOrdering}
+use Rattle.std.specs.Ordering.{nat_cmp, is_eq, match_ordering, MatchOrdering}
 use Rattle.std.specs.Cmp.{ranks}
 use Rattle.std.proofs.lemmas.Bool.{or_parts, not-false}
 use Rattle.affine_systems.specs.declared.row.System.{System}
@@ -13,44 +13,38 @@ use Rattle.f77_ast.specs.Shapes.{walk_stmt, walk_what, walk_body, walk_arms, wal
 use Rattle.f77_ast.specs.Symbols.{SymbolTree, number_from}
 use Rattle.f77_ast.specs.declared.variable.Variable.{Variable as Named}
 use Rattle.f77_ast.specs.declared.variable.Variable.TheVariants.{Own, Block, Saved}
-use Rattle.f77_results.specs.Variables.{variable_cmp, merged, union}
-use Rattle.transformer_algebra.specs.Laws.{In, here, there}
-use Rattle.region_sets.specs.declared.marks.Kinds.{Kinds}
-use Rattle.region_sets.specs.declared.marks.Kinds.TheVariants.{WriteRead, ReadWrite, WriteWrite}
-use Rattle.region_sets.specs.declared.marks.Mark.{Mark}
-use Rattle.region_sets.specs.declared.marks.Mark.TheVariants.{Parallel, Serial}
-use Rattle.region_sets.specs.declared.marks.Private.{Private}
-use Rattle.region_sets.specs.declared.marks.Private.TheVariants.{Yes, Name, Carried, Live}
-use Rattle.region_sets.specs.declared.marks.Reason.{Reason}
-use Rattle.region_sets.specs.declared.region.Access.{Access}
-use Rattle.region_sets.specs.declared.region.Access.TheVariants.{Write}
-use Rattle.region_sets.specs.declared.region.Region.{Region}
-use Rattle.region_sets.proofs.StepLaws.{in_left, in_right}
-use Rattle.loop_bodies.specs.declared.body.LoopBody.{LoopBody}
-use Rattle.loop_bodies.specs.Same.{same_variable}
-use Rattle.dependence_test.specs.Conflicts.{kept_system}
-use Rattle.privatizer.specs.Names.{may_copy}
-use Rattle.privatizer.specs.Private.{is_carried, is_live, private_by, private_in}
-use Rattle.privatizer.specs.Uses.{Uses}
-use Rattle.out_regions.specs.Leaving.{leaves}
+use Rattle.f77_ast.specs.Variables.{variable_cmp, merged, union, same_variable}
+use Rattle.preconditions.specs.transformer_algebra.Laws.{In, here, there}
+use Rattle.f77_ast.specs.declared.marks.Kinds.{Kinds}
+use Rattle.f77_ast.specs.declared.marks.Kinds.TheVariants.{WriteRead, ReadWrite, WriteWrite}
+use Rattle.f77_ast.specs.declared.marks.Mark.{Mark}
+use Rattle.f77_ast.specs.declared.marks.Mark.TheVariants.{Parallel, Serial}
+use Rattle.f77_ast.specs.declared.marks.Private.{Private}
+use Rattle.f77_ast.specs.declared.marks.Private.TheVariants.{Yes, Name, Carried, Live}
+use Rattle.f77_ast.specs.declared.marks.Reason.{Reason}
+use Rattle.in_out_regions.specs.region_sets.declared.region.Access.{Access}
+use Rattle.in_out_regions.specs.region_sets.declared.region.Access.TheVariants.{Write}
+use Rattle.in_out_regions.specs.region_sets.declared.region.Region.{Region}
+use Rattle.in_out_regions.proofs.RegionSets.StepLaws.{in_left, in_right}
+use Rattle.loop_marker.specs.dependence_test.declared.body.LoopBody.{LoopBody}
+use Rattle.loop_marker.specs.dependence_test.Conflicts.{kept_system}
+use Rattle.loop_marker.specs.privatizer.Names.{may_copy}
+use Rattle.loop_marker.specs.privatizer.Private.{is_carried, is_live, private_by, private_in}
+use Rattle.loop_marker.specs.privatizer.Uses.{Uses}
+use Rattle.loop_marker.specs.out_regions.Leaving.{leaves}
 use Rattle.loop_marker.specs.declared.verdict.Verdict.{Verdict}
 use Rattle.loop_marker.specs.declared.verdict.Verdict.TheVariants.{Free, Copied, Bad}
 use Rattle.loop_marker.specs.Jumps.{is_jumped_to, may_stop, may_jump, may_have_io, body_of}
 use Rattle.loop_marker.specs.Marks.{Knowledge, is_in_bounds, index_is_bad, with_kind, keeps, kept_kinds, or_of_index, kinds_of, unless_named, copy_answer, with_own, by_answer, by_kinds, verdict_of, by_verdict, marked, by_variables, has_step, by_index, by_step, by_io, mark_of}
 use Rattle.loop_marker.specs.Variables.{own_variable, index_of, the_indexes, in_order_with, indexes_in, is_write, written_in, is_among, is_of_some}
-use Rattle.laws_statements.specs.CallsIn.{Each}
+use Rattle.call_graph.specs.CallsIn.{Each}
 use Rattle.laws_analyses.proofs.CallLists.{each_joined}
 use Rattle.laws_marks.specs.Verdicts.{IsOneOf, IsCleared, SaysParallel}
+use Rattle.laws_marks.proofs.Dead.{copy_of as yes_copy}
+use Rattle.laws_marks.proofs.Marks.{copied_yes, unnamed_yes, serial_no, unless, only_if}
+use Rattle.fx_lists.proofs.Orders.{at_equal, same_numbers}
 
 -- ---- variables
-
-at_equal : (A B C : Type 0) (o : Ordering) → MatchOrdering o A B C → o ≡ Equal → B
-at_equal A B C Less m e = cc
-at_equal A B C Equal m e = m
-at_equal A B C Greater m e = cc
-
-same_numbers : (m n : ℕ) → nat_cmp m n ≡ Equal → m ≡ n
-same_numbers m n e = at_equal (m < n) (m ≡ n) (n < m) (nat_cmp m n) (ranks m n) e
 
 -- what is no other than a symbol is that symbol
 own_first : (n : ℕ) (v : Named) → variable_cmp (Own n) v ≡ Equal → v ≡ Own n
@@ -66,7 +60,7 @@ own_second n (Saved s x) e = cc
 same_own : (n : ℕ) (v : Named) → same_variable v (Own n) ≡ true → v ≡ Own n
 same_own n v e = own_second n v (go (variable_cmp v (Own n)) e)
   where
-    go : (o : Ordering) → match_ordering o false true false ≡ true → o ≡ Equal
+    go : (o : Ordering) → is_eq o ≡ true → o ≡ Equal
     go Less q = cc
     go Equal q = refl
     go Greater q = cc
@@ -180,25 +174,12 @@ in_written (q ∷ rs) r (there i) e = go (is_write q.kind) (in_written rs r i e)
 
 -- ---- verdicts
 
-copied_yes : (ks : List Kinds) (p : Private) → by_kinds ks p ≡ Copied → p ≡ Yes
-copied_yes [] p e = cc
-copied_yes (k ∷ ks) Yes e = refl
-copied_yes (k ∷ ks) Name e = cc
-copied_yes (k ∷ ks) Carried e = cc
-copied_yes (k ∷ ks) Live e = cc
-
 free_none : (ks : List Kinds) (p : Private) → by_kinds ks p ≡ Free → ks ≡ []
 free_none [] p e = refl
 free_none (k ∷ ks) Yes e = cc
 free_none (k ∷ ks) Name e = cc
 free_none (k ∷ ks) Carried e = cc
 free_none (k ∷ ks) Live e = cc
-
-unnamed_yes : (named : Bool) (p : Private) → unless_named named p ≡ Yes → p ≡ Yes
-unnamed_yes named Yes e = refl
-unnamed_yes named Name e = cc
-unnamed_yes named Carried e = cc
-unnamed_yes named Live e = cc
 
 none_of_index : (inner : Bool) (ks : List Kinds) → or_of_index inner ks ≡ [] → ks ≡ []
 none_of_index inner [] e = refl
@@ -228,11 +209,6 @@ none_kept ss b v e kinds = go kinds
     go WriteRead = none_some (kept_system ss b v WriteRead) first.0
     go ReadWrite = none_some (kept_system ss b v ReadWrite) second.0
     go WriteWrite = none_some (kept_system ss b v WriteWrite) third
-
--- what is copied has a name that allows it
-yes_copy : (a b c : Bool) → private_by a b c ≡ Yes → a ≡ true
-yes_copy true b c e = refl
-yes_copy false b c e = cc
 
 module _ (k : Knowledge) (b : LoopBody) (u : Uses) (l : LoopTree) (inner : List Named) where
   copied_private : (v : Named) → verdict_of k b u l inner v ≡ Copied → private_in k.tree k.symbols u v ≡ Yes
@@ -264,9 +240,6 @@ abbrev OwnIn : List ℕ → Named → Type 0
 OwnIn ms (Own n) = In n ms
 OwnIn ms (Block b) = Unit {0}
 OwnIn ms (Saved s x) = Unit {0}
-
-serial_no : (r : Reason) (ns : List ℕ) → Serial r ≡ Parallel ns → ⊥
-serial_no r ns e = cc
 
 parallel_same : (ns ms : List ℕ) → Parallel ns ≡ Parallel ms → ns ≡ ms
 parallel_same ns ms e = cc
@@ -308,14 +281,6 @@ one_of : (k : Knowledge) (u : Uses) (ns : List ℕ) (v : Named) → private_in k
 one_of k u ns (Own n) s i = record { number = n; is = refl; one = i; may = yes_copy (may_copy k.tree k.symbols (Own n)) (is_carried u (Own n)) (is_live u (Own n)) s }
 one_of k u ns (Block b) s i = cc
 one_of k u ns (Saved t x) s i = cc
-
-unless : (c : Bool) (r : Reason) (m : Mark) (ns : List ℕ) → (if c then Serial r else m) ≡ Parallel ns → (c ≡ false) × (m ≡ Parallel ns)
-unless true r m ns e = absurd (serial_no r ns e)
-unless false r m ns e = (refl, e)
-
-only_if : (c : Bool) (r : Reason) (m : Mark) (ns : List ℕ) → (if c then m else Serial r) ≡ Parallel ns → m ≡ Parallel ns
-only_if true r m ns e = e
-only_if false r m ns e = absurd (serial_no r ns e)
 
 pub says_parallel : (k : Knowledge) (n : ℕ) (label : Option ℕ) (l : LoopTree) (ns : List ℕ) → mark_of k n label l ≡ Parallel ns → SaysParallel k n l ns
 says_parallel k n label l ns e =

@@ -19,12 +19,12 @@ use Rattle.f77_ast.specs.Calls.{Actual, Meaning, actuals, places_of, own_units, 
 use Rattle.f77_ast.specs.Statements.{Scope, spot, statement_plan, execution, arms_plan, arm_plan, else_plan, do_plan, parts, body_plan}
 use Rattle.f77_ast.specs.Programs.{Routine, scope, body_of, called, meanings}
 use Rattle.f77_ast.proofs.StepLaws.{at_end_more, leads_true}
-use Rattle.laws_statements.proofs.Ends.{more}
+use Rattle.laws_analyses.proofs.Statements.Ends.{more}
 use Rattle.laws_interleavings.specs.Typed.{TagsStand, IsTagged}
-use Rattle.laws_marked_plans.specs.Fine.{AreFine}
-use Rattle.laws_marked_plans.specs.Cleared.{HasNoValue, Ending, Cleared, OffPlaces, Off, EndsWell, MeaningCleared}
-use Rattle.laws_marked_plans.proofs.Fine.{Yields, yields_any, Any, fine_value, fine_range_of, fine_name_target, fine_all_shown, fine_actuals, fine_arrays, arrays_tagged, scalars_tagged}
-use Rattle.laws_marked_plans.proofs.Cleared.{other, is_other, put_off, keeps, Aims, name_aims, off_more, lock_none, own_none, doubly_none, held_locked, ActualsOff, actuals_off, places_off, assigned_off, items_off, cleared_what, cleared_stmt, cleared_body, scalars_off, arrays_off, yields_both}
+use Rattle.laws_interleavings.specs.Plans.Fine.{AreFine}
+use Rattle.laws_interleavings.specs.Plans.Cleared.{HasNoValue, Ending, Cleared, OffPlaces, Off, EndsWell, MeaningCleared}
+use Rattle.laws_interleavings.proofs.Plans.Fine.{Yields, yields_any, Any, fine_value, fine_range_of, fine_name_target, fine_all_shown, fine_actuals, fine_arrays, arrays_tagged, scalars_tagged}
+use Rattle.laws_interleavings.proofs.Plans.Cleared.{other, is_other, put_off, keeps, Aims, name_aims, off_more, lock_none, own_none, doubly_none, held_locked, ActualsOff, actuals_off, places_off, assigned_off, items_off, cleared_what, cleared_stmt, cleared_body, scalars_off, arrays_off, yields_both}
 use Rattle.laws_marks.specs.ConflictExecutions.{Execution, AtEachExecution}
 use Rattle.laws_marks.proofs.ConflictEach.{plan_first, plan_called}
 use Rattle.laws_marks.proofs.ConflictLists.{Stays, Again, PartsAre, jumps_reached, iterations_reached}

@@ -1,5 +1,5 @@
 -- The names of the symbols of a table stand for these.
-use Rattle.std.proofs.Common.{◌≡◌, inl, ℕ, zero, suc, ◌+◌, ◌-◌, Bool, true, false, List, [], ◌∷◌, Some, arith, refl, sym, ap, ◌∙◌, subst}
+use Rattle.std.proofs.Common.{◌≡◌, inl, ℕ, zero, suc, ◌+◌, ◌-◌, true, false, List, [], ◌∷◌, Some, arith, refl, sym, ap, ◌∙◌, subst}
 use Rattle.std.specs.Prelude.{if◌then◌else◌, map, bytes_eq, slice_get, slice_index_or}
 use Rattle.std.specs.List.{IsDistinct, AllByRecursion}
 use Rattle.std.proofs.lemmas.Slice.Eq.{bytes_eq-Decides}
@@ -11,19 +11,14 @@ use Rattle.f77_ast.specs.Symbols.{SymbolTree, number_from}
 use Rattle.f77_ast.specs.Shared.{symbol_at}
 use Rattle.f77_ast.specs.Places.{Variable, Function}
 use Rattle.f77_meaning.specs.Modules.{is_function, meant_by, meant_at, meant_in, names, symbol_names}
-use Rattle.f77_meaning.proofs.ModuleLaws.{numbered_place}
-use Rattle.transformer_algebra.specs.Laws.{In, here, there}
-use Rattle.privatizer.specs.Names.{is_local}
+use Rattle.preconditions.specs.transformer_algebra.Laws.{In, here, there}
 use Rattle.laws_analyses.proofs.NameLaws.{name_number}
 use Rattle.laws_marks.specs.Units.{IsPassing}
 use Rattle.laws_marks.specs.Named.{AreNamesOf}
-
-turned : (x y : List ℕ) → bytes_eq x y ≡ false → bytes_eq y x ≡ false
-turned x y h = go (bytes_eq y x) refl
-  where
-    go : (b : Bool) → bytes_eq y x ≡ b → b ≡ false
-    go true e = sym ((bytes_eq-Decides x y).1 (sym ((bytes_eq-Decides y x).0 e))) ∙ h
-    go false e = refl
+use Rattle.fx_lists.proofs.Options.{some_same as same_number}
+use Rattle.f77_ast.proofs.StorageLaws.{from_number as numbered_place}
+use Rattle.call_graph.specs.Visible.{is_local}
+use Rattle.fx_lists.proofs.Lists.{other_way as turned}
 
 differs_there : (x : List ℕ) (ss : List SymbolTree) (k : ℕ) (s : SymbolTree) → slice_get ss k ≡ Some s → AllByRecursion (λ y. bytes_eq x y ≡ false) (symbol_names ss) → bytes_eq (slice_index_or (symbol_names ss) k []) x ≡ false
 differs_there x [] k s e h = cc
@@ -74,9 +69,6 @@ mapped_one : (f : ℕ → List ℕ) (ns : List ℕ) (y : List ℕ) → In y (map
 mapped_one f [] y i = elim i [ ]
 mapped_one f (n ∷ ns) y here = record { number = n; is_one = here; is = refl }
 mapped_one f (n ∷ ns) y (there i) = (let q = mapped_one f ns y i in record { number = q.number; is_one = there q.is_one; is = q.is })
-
-same_number : (a b : ℕ) → Some a ≡ Some b → a ≡ b
-same_number a b e = cc
 
 pub written_names : (ss : List SymbolTree) (l : LoopTree) (ns : List ℕ) → IsDistinct bytes_eq (symbol_names ss) → ((n : ℕ) → In n ns → IsPassing ss n) → AreNamesOf (map (name_at (symbol_names ss)) ns) (names ss) l ns
 written_names ss l ns d pass y i v e =

@@ -5,12 +5,12 @@ use Rattle.f77_ast.specs.Symbols.{SymbolTree}
 use Rattle.f77_ast.specs.declared.variable.Variable.{Variable}
 use Rattle.call_graph.specs.declared.graph.Graph.{Graph}
 use Rattle.f77_meaning.specs.Modules.{Known, known_of}
-use Rattle.region_phases.specs.Phases.{all_regions}
-use Rattle.region_phases.specs.InPhases.{ModuleIns, all_ins}
-use Rattle.scalar_phases.specs.Phases.{analyses}
+use Rattle.loop_marker.specs.module_phases.RegionPhases.{all_regions}
+use Rattle.loop_marker.specs.module_phases.InPhases.{ModuleIns, all_ins}
+use Rattle.loop_marker.specs.module_phases.ScalarPhases.{analyses}
 use Rattle.laws_programs.specs.Programs.{IsProgram}
-use Rattle.laws_storage.specs.Programs.{IsModule}
-use Rattle.privatizer.specs.Names.{may_copy}
+use Rattle.laws_programs.specs.Storage.Programs.{IsModule}
+use Rattle.loop_marker.specs.privatizer.Names.{may_copy}
 use Rattle.laws_marks.specs.ConflictExecutions.{Execution, InEachExecution}
 use Rattle.laws_marks.specs.ConflictClaims.{LoopsHold, IsSole}
 

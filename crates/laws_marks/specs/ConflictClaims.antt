@@ -16,37 +16,37 @@ use Rattle.f77_meaning.specs.Modules.{Known}
 use Rattle.f77_meaning.specs.Accesses.{is_read_first}
 use Rattle.affine_forms.specs.Scalars.{is_cell}
 use Rattle.affine_forms.specs.Claims.{unit_in, numbers_of}
-use Rattle.transformer_algebra.specs.Cells.{has}
-use Rattle.transformer_algebra.specs.Claims.{Scene, HoldsAt}
-use Rattle.call_translation.specs.Scopes.{ScopeTree}
-use Rattle.transformers.specs.Jumps.{list_has, is_return}
-use Rattle.transformers.specs.Lists.{transformer_at}
-use Rattle.region_sets.specs.declared.marks.Kinds.{Kinds}
-use Rattle.region_sets.specs.declared.region.Access.{Access}
-use Rattle.region_sets.specs.declared.region.Access.TheVariants.{Write, In as AtIn}
-use Rattle.region_sets.specs.declared.region.Region.{Region}
-use Rattle.region_sets.specs.Claims.{LiesInSet}
-use Rattle.region_sets.specs.Lists.{accesses_at}
-use Rattle.in_out_regions.specs.Lists.{set_at}
-use Rattle.region_phases.specs.InPhases.{ModuleIns}
-use Rattle.scalar_phases.specs.Phases.{scope_of}
-use Rattle.loop_bodies.specs.declared.body.LoopBody.{LoopBody}
-use Rattle.loop_bodies.specs.Body.{body_of}
-use Rattle.loop_bodies.specs.Finding.{loop_in}
-use Rattle.dependence_test.specs.declared.answer.Conflict.TheVariants as answer
-use Rattle.dependence_test.specs.Kinds.{first_access, second_access}
-use Rattle.dependence_test.specs.Conflicts.{kept_system, conflict_of}
-use Rattle.dependence_test.specs.Claims.{IsWritten}
-use Rattle.region_sets.specs.declared.marks.Private.TheVariants.{Yes}
-use Rattle.privatizer.specs.Uses.{ins_in}
-use Rattle.privatizer.specs.Private.{private_in}
-use Rattle.laws_statements.specs.Leads.{list_leads}
-use Rattle.laws_statements.specs.Activation.{Jumps}
-use Rattle.laws_regions.specs.Settings.{elements_with}
-use Rattle.laws_regions.specs.Shown.{accessed, Touches}
+use Rattle.preconditions.specs.transformer_algebra.Cells.{has}
+use Rattle.preconditions.specs.transformer_algebra.Claims.{Scene, HoldsAt}
+use Rattle.preconditions.specs.call_translation.Scopes.{ScopeTree}
+use Rattle.preconditions.specs.transformers.Jumps.{list_has}
+use Rattle.preconditions.specs.transformers.Lists.{transformer_at}
+use Rattle.f77_ast.specs.declared.marks.Kinds.{Kinds}
+use Rattle.in_out_regions.specs.region_sets.declared.region.Access.{Access}
+use Rattle.in_out_regions.specs.region_sets.declared.region.Access.TheVariants.{Write, In as AtIn}
+use Rattle.in_out_regions.specs.region_sets.declared.region.Region.{Region}
+use Rattle.in_out_regions.specs.region_sets.Claims.{LiesInSet}
+use Rattle.in_out_regions.specs.region_sets.Lists.{accesses_at, set_at}
+use Rattle.loop_marker.specs.module_phases.InPhases.{ModuleIns}
+use Rattle.loop_marker.specs.module_phases.ScalarPhases.{scope_of}
+use Rattle.loop_marker.specs.dependence_test.declared.body.LoopBody.{LoopBody}
+use Rattle.loop_marker.specs.dependence_test.Body.{body_of}
+use Rattle.loop_marker.specs.dependence_test.Finding.{loop_in}
+use Rattle.loop_marker.specs.dependence_test.declared.answer.Conflict.TheVariants as answer
+use Rattle.loop_marker.specs.dependence_test.Kinds.{first_access, second_access}
+use Rattle.loop_marker.specs.dependence_test.Conflicts.{kept_system, conflict_of}
+use Rattle.loop_marker.specs.dependence_test.Claims.{IsWritten}
+use Rattle.f77_ast.specs.declared.marks.Private.TheVariants.{Yes}
+use Rattle.loop_marker.specs.privatizer.Uses.{ins_in}
+use Rattle.loop_marker.specs.privatizer.Private.{private_in}
+use Rattle.laws_analyses.specs.Statements.Leads.{list_leads}
+use Rattle.laws_analyses.specs.Statements.Activation.{Jumps}
+use Rattle.laws_analyses.specs.Regions.Settings.{elements_with}
+use Rattle.laws_analyses.specs.Regions.Shown.{accessed, Touches}
 use Rattle.laws_marks.specs.InShown.{IsFirst}
 use Rattle.laws_marks.specs.ConflictExecutions.{Execution}
 use Rattle.laws_marks.specs.ConflictIterations.{Iteration, iterations}
+use Rattle.f77_ast.specs.Shapes.{is_return}
 
 -- ---- units
 

@@ -2,20 +2,19 @@
 use Rattle.std.specs.Prelude.{◌≡◌, ℕ, List, Some}
 use Rattle.affine_systems.specs.declared.row.System.{System}
 use Rattle.f77_ast.specs.Trees.{LoopTree}
-use Rattle.f77_results.specs.declared.results.At.{At}
+use Rattle.f77_ast.specs.declared.results.At.{At}
 use Rattle.call_graph.specs.declared.graph.Graph.{Graph}
 use Rattle.f77_meaning.specs.Modules.{Known}
-use Rattle.transformers.specs.Given.{Callees}
+use Rattle.preconditions.specs.transformers.Given.{Callees}
 use Rattle.preconditions.specs.Modules.{preconditions_of}
-use Rattle.region_sets.specs.Lists.{accesses_at}
-use Rattle.array_regions.specs.Calls.{Callees as Summaries}
-use Rattle.in_out_regions.specs.Lists.{set_at}
-use Rattle.loop_bodies.specs.Body.{body_of}
-use Rattle.loop_bodies.specs.Finding.{loop_in}
-use Rattle.privatizer.specs.Uses.{ins_in}
-use Rattle.laws_statements.specs.Results.{found_in}
-use Rattle.laws_calls.specs.Parts.{Part}
-use Rattle.laws_regions.specs.Programs.{regions_in_part}
+use Rattle.in_out_regions.specs.region_sets.Lists.{accesses_at, set_at}
+use Rattle.in_out_regions.specs.array_regions.Calls.{Callees as Summaries}
+use Rattle.loop_marker.specs.dependence_test.Body.{body_of}
+use Rattle.loop_marker.specs.dependence_test.Finding.{loop_in}
+use Rattle.loop_marker.specs.privatizer.Uses.{ins_in}
+use Rattle.laws_analyses.specs.Statements.Results.{found_in}
+use Rattle.laws_analyses.specs.Calls.Parts.{Part}
+use Rattle.laws_analyses.specs.Regions.Programs.{regions_in_part}
 use Rattle.laws_marks.specs.InPrograms.{ins_in_part}
 use Rattle.laws_marks.specs.ConflictExecutions.{Execution}
 use Rattle.laws_marks.specs.ConflictIterations.{iterations}

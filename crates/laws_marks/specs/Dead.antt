@@ -13,23 +13,23 @@ use Rattle.f77_meaning.specs.Claims.{LiesIn, writes, gives_out}
 use Rattle.f77_meaning.specs.Occurrences.{Occurrence}
 use Rattle.affine_forms.specs.Scalars.{is_cell}
 use Rattle.affine_forms.specs.Claims.{unit_in}
-use Rattle.transformer_algebra.specs.Laws.{In}
-use Rattle.call_translation.specs.Scopes.{ScopeTree}
-use Rattle.transformers.specs.Lists.{value_at}
-use Rattle.region_sets.specs.declared.marks.Mark.TheVariants.{Parallel}
-use Rattle.region_sets.specs.declared.marks.Private.TheVariants.{Yes}
-use Rattle.region_sets.specs.declared.region.Access.TheVariants.{Out}
-use Rattle.region_sets.specs.declared.region.Region.{Region}
-use Rattle.in_out_regions.specs.Lists.{set_at}
-use Rattle.region_phases.specs.OutPhases.{ModuleOuts}
-use Rattle.loop_marker.specs.Phases.{ModuleMarks, known_in}
-use Rattle.scalar_phases.specs.Phases.{scope_of}
-use Rattle.loop_bodies.specs.Finding.{loop_in}
-use Rattle.privatizer.specs.Names.{may_copy}
-use Rattle.privatizer.specs.Uses.{Uses, uses_from}
-use Rattle.privatizer.specs.Private.{private_in}
-use Rattle.laws_regions.specs.Claims.{as_region}
-use Rattle.laws_regions.specs.Settings.{elements_with}
+use Rattle.preconditions.specs.transformer_algebra.Laws.{In}
+use Rattle.preconditions.specs.call_translation.Scopes.{ScopeTree}
+use Rattle.preconditions.specs.transformers.Lists.{value_at}
+use Rattle.f77_ast.specs.declared.marks.Mark.TheVariants.{Parallel}
+use Rattle.f77_ast.specs.declared.marks.Private.TheVariants.{Yes}
+use Rattle.in_out_regions.specs.region_sets.declared.region.Access.TheVariants.{Out}
+use Rattle.in_out_regions.specs.region_sets.declared.region.Region.{Region}
+use Rattle.loop_marker.specs.module_phases.OutPhases.{ModuleOuts}
+use Rattle.loop_marker.specs.Results.{ModuleResults}
+use Rattle.loop_marker.specs.module_phases.ScalarPhases.{scope_of}
+use Rattle.loop_marker.specs.dependence_test.Finding.{loop_in}
+use Rattle.loop_marker.specs.privatizer.Names.{may_copy}
+use Rattle.loop_marker.specs.privatizer.Uses.{Uses, uses_from}
+use Rattle.loop_marker.specs.privatizer.Private.{private_in}
+use Rattle.laws_analyses.specs.Regions.Claims.{as_region}
+use Rattle.laws_analyses.specs.Regions.Settings.{elements_with}
+use Rattle.in_out_regions.specs.region_sets.Lists.{set_at}
 
 -- no unit of the variable that the execution writes is read by the rest of the run before it is written there
 abbrev pub IsDead : List Known → Graph → List SymbolTree → Named → Occurrence → Type 0
@@ -78,8 +78,8 @@ pub record MarkedIsDead (ks : List Known) (g : Graph) (m : ScopeTree) (l : LoopT
   pub index : (v : ℕ) → names m.symbols (index_name l) ≡ Variable v → writes x (unit_in x.places v) ≡ true → is_read_first (unit_in x.places v) x.later ≡ false
   pub names : (n : ℕ) → In n ns → IsDead ks g m.symbols (Own n) x
 
-abbrev pub MarkIsDead : List Known → Graph → ModuleMarks → Occurrence → Type 0
+abbrev pub MarkIsDead : List Known → Graph → ModuleResults → Occurrence → Type 0
 MarkIsDead ks g f x =
-    let k = known_in f.outs in
+    let k = f.known in
     (l : LoopTree) → loop_in x.spot.statement k.read.body ≡ Some l →
     (ns : List ℕ) → value_at f.marks x.spot.statement ≡ Some (Parallel ns) → MarkedIsDead ks g (scope_of g.untracked k) l ns x

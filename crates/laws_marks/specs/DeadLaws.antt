@@ -6,11 +6,12 @@ use Rattle.call_graph.specs.declared.graph.Graph.{Graph}
 use Rattle.f77_meaning.specs.Modules.{Known, known_of}
 use Rattle.f77_meaning.specs.Occurrences.{Occurrence}
 use Rattle.f77_meaning.specs.Claimed.{InConformingRuns}
-use Rattle.scalar_phases.specs.Phases.{analyses}
-use Rattle.region_phases.specs.Phases.{all_regions}
-use Rattle.region_phases.specs.InPhases.{all_ins}
-use Rattle.region_phases.specs.OutPhases.{ModuleOuts, all_outs}
-use Rattle.loop_marker.specs.Phases.{ModuleMarks, known_in, all_marks}
+use Rattle.loop_marker.specs.module_phases.ScalarPhases.{analyses}
+use Rattle.loop_marker.specs.module_phases.RegionPhases.{all_regions}
+use Rattle.loop_marker.specs.module_phases.InPhases.{all_ins}
+use Rattle.loop_marker.specs.module_phases.OutPhases.{ModuleOuts, all_outs}
+use Rattle.loop_marker.specs.Results.{ModuleResults}
+use Rattle.loop_marker.specs.Phases.{all_marks}
 use Rattle.laws_programs.specs.Programs.{IsProgram}
 use Rattle.laws_marks.specs.ConflictExecutions.{Execution, InEachExecution}
 use Rattle.laws_marks.specs.Dead.{CopiesLieInOwn, PrivatesAreDead, MarkIsDead}
@@ -32,14 +33,14 @@ AllCopiesLieInOwn ks g fs x = All (λ f. f.known.known.analysis.found.known.read
 abbrev pub AllPrivatesAreDead : List Known → Graph → List ModuleOuts → Occurrence → Type 0
 AllPrivatesAreDead ks g fs x = All (λ f. f.known.known.analysis.found.known.read.name ≡ x.spot.module_name → PrivatesAreDead ks g f x) fs
 
-abbrev pub AllMarksAreDead : List Known → Graph → List ModuleMarks → Occurrence → Type 0
-AllMarksAreDead ks g fs x = All (λ f. (known_in f.outs).read.name ≡ x.spot.module_name → MarkIsDead ks g f x) fs
+abbrev pub AllMarksAreDead : List Known → Graph → List ModuleResults → Occurrence → Type 0
+AllMarksAreDead ks g fs x = All (λ f. f.known.read.name ≡ x.spot.module_name → MarkIsDead ks g f x) fs
 
-abbrev pub AllNamesStand : List Known → Graph → List ModuleMarks → Execution → Type 0
-AllNamesStand ks g fs x = All (λ f. (known_in f.outs).read.name ≡ x.spot.module_name → ModuleNamesStand ks g f x) fs
+abbrev pub AllNamesStand : List Known → Graph → List ModuleResults → Execution → Type 0
+AllNamesStand ks g fs x = All (λ f. f.known.read.name ≡ x.spot.module_name → ModuleNamesStand ks g f x) fs
 
-abbrev pub AllMarkedLoopsAreDead : List Known → Graph → List ModuleMarks → Occurrence → Type 0
-AllMarkedLoopsAreDead ks g fs x = All (λ f. (known_in f.outs).read.name ≡ x.spot.module_name → MarkedLoopIsDead ks g f x) fs
+abbrev pub AllMarkedLoopsAreDead : List Known → Graph → List ModuleResults → Occurrence → Type 0
+AllMarkedLoopsAreDead ks g fs x = All (λ f. f.known.read.name ≡ x.spot.module_name → MarkedLoopIsDead ks g f x) fs
 
 -- ---- in every run of a program that is read
 

@@ -7,12 +7,12 @@ use Rattle.call_graph.specs.declared.graph.Graph.{Graph}
 use Rattle.f77_meaning.specs.Modules.{Known, known_of}
 use Rattle.f77_meaning.specs.Occurrences.{Occurrence}
 use Rattle.f77_meaning.specs.Claimed.{InEveryRun}
-use Rattle.array_regions.specs.Calls.{Callees}
-use Rattle.scalar_phases.specs.Phases.{scope_of, Analysis, analyses}
-use Rattle.region_phases.specs.Phases.{no_callees, with_regions, all_regions}
-use Rattle.region_phases.specs.InPhases.{ModuleIns, with_callee, with_ins, all_ins}
+use Rattle.in_out_regions.specs.array_regions.Calls.{Callees}
+use Rattle.loop_marker.specs.module_phases.ScalarPhases.{scope_of, Analysis, analyses}
+use Rattle.loop_marker.specs.module_phases.RegionPhases.{no_callees, with_regions, all_regions}
+use Rattle.loop_marker.specs.module_phases.InPhases.{ModuleIns, with_callee, with_ins, all_ins}
 use Rattle.laws_programs.specs.Programs.{IsProgram}
-use Rattle.laws_regions.specs.Accepted.{after as reads_after, behind}
+use Rattle.laws_analyses.specs.Regions.Accepted.{after as reads_after, behind}
 use Rattle.laws_marks.specs.InClaims.{InRegionsHold}
 
 -- ---- summaries of the modules of a program, callers before callees

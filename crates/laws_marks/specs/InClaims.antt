@@ -1,16 +1,16 @@
 -- What the IN regions of a module claim of its executions, as f77_meaning states claims on regions.
 use Rattle.std.specs.Prelude.{Bool, true, false, List, MatchOption}
-use Rattle.f77_results.specs.declared.results.Results.{Results}
+use Rattle.f77_ast.specs.declared.results.Results.{Results}
 use Rattle.call_graph.specs.declared.graph.Graph.{Graph}
 use Rattle.f77_meaning.specs.Modules.{Known}
 use Rattle.f77_meaning.specs.Occurrences.{Occurrence}
 use Rattle.f77_meaning.specs.Claims.{InHolds, takes_in}
 use Rattle.affine_forms.specs.Scalars.{is_cell}
-use Rattle.call_translation.specs.Scopes.{ScopeTree}
-use Rattle.region_sets.specs.declared.region.Access.{Access}
-use Rattle.region_sets.specs.declared.region.Access.TheVariants.{Read, Write, In, Out}
-use Rattle.region_sets.specs.declared.region.Region.{Region}
-use Rattle.laws_regions.specs.Claims.{regions_in, AllPointsAre, set_in}
+use Rattle.preconditions.specs.call_translation.Scopes.{ScopeTree}
+use Rattle.in_out_regions.specs.region_sets.declared.region.Access.{Access}
+use Rattle.in_out_regions.specs.region_sets.declared.region.Access.TheVariants.{Read, Write, In, Out}
+use Rattle.in_out_regions.specs.region_sets.declared.region.Region.{Region}
+use Rattle.laws_analyses.specs.Regions.Claims.{regions_in, AllPointsAre, set_in}
 
 abbrev pub is_in : Access → Bool
 is_in Read = false

@@ -7,8 +7,8 @@ use Rattle.f77_ast.specs.Shared.{symbol_at}
 use Rattle.call_graph.specs.declared.graph.Graph.{Graph}
 use Rattle.f77_meaning.specs.Modules.{Known}
 use Rattle.f77_meaning.specs.Claims.{block_place, saved_place}
-use Rattle.region_sets.specs.Claims.{Elements}
-use Rattle.laws_regions.specs.Settings.{Setting, is_told, elements_at}
+use Rattle.in_out_regions.specs.region_sets.Claims.{Elements}
+use Rattle.laws_analyses.specs.Regions.Settings.{Setting, is_told, elements_at}
 
 -- all variables of the module itself; of others such of which what is written tells which they are
 pub record Frame : Type 0 where

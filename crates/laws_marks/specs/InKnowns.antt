@@ -1,8 +1,8 @@
 -- What the IN regions of a module that runs are made from.
 use Rattle.std.specs.Prelude.{List}
-use Rattle.f77_results.specs.declared.results.At.{At}
-use Rattle.region_sets.specs.declared.region.Region.{Region}
-use Rattle.array_regions.specs.Calls.{Called}
+use Rattle.f77_ast.specs.declared.results.At.{At}
+use Rattle.in_out_regions.specs.region_sets.declared.region.Region.{Region}
+use Rattle.in_out_regions.specs.array_regions.Calls.{Called}
 use Rattle.in_out_regions.specs.Known.{KnownTree}
 use Rattle.laws_marks.specs.InFrames.{Frame}
 

@@ -11,12 +11,12 @@ use Rattle.f77_meaning.specs.Areas.{is_own_unit}
 use Rattle.f77_meaning.specs.Claims.{block_place, saved_place}
 use Rattle.f77_meaning.specs.Linked.{numbering}
 use Rattle.f77_meaning.specs.Modules.{Known}
-use Rattle.array_regions.specs.Entry.{is_local}
-use Rattle.array_regions.specs.References.{is_constant}
-use Rattle.laws_calls.specs.Parts.{Part, NoDummy}
-use Rattle.laws_regions.specs.Settings.{is_told}
-use Rattle.laws_regions.specs.Entries.{IsLost}
+use Rattle.in_out_regions.specs.array_regions.References.{is_constant}
+use Rattle.laws_analyses.specs.Calls.Parts.{Part, NoDummy}
+use Rattle.laws_analyses.specs.Regions.Settings.{is_told}
+use Rattle.laws_analyses.specs.Regions.Entries.{IsLost}
 use Rattle.laws_marks.specs.InDims.{OpenLast}
+use Rattle.call_graph.specs.Visible.{is_local}
 
 -- ---- variables that are no dummies
 

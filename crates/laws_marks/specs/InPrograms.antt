@@ -1,20 +1,20 @@
 -- What is claimed of the runs of a program: the IN regions of its modules.
 use Rattle.std.specs.Prelude.{◌≡◌, ℕ, Bool, List, [], ◌∷◌, Option, Some, None}
 use Rattle.f77_ast.specs.declared.variable.Variable.{Variable}
-use Rattle.f77_results.specs.declared.results.Results.{Results}
-use Rattle.f77_results.specs.Summaries.{SummaryTree}
+use Rattle.f77_ast.specs.declared.results.Results.{Results}
+use Rattle.f77_ast.specs.Summaries.{SummaryTree}
 use Rattle.call_graph.specs.declared.graph.Graph.{Graph}
 use Rattle.f77_meaning.specs.Modules.{Known}
 use Rattle.f77_meaning.specs.Occurrences.{Occurrence}
-use Rattle.transformers.specs.Given.{Callees}
-use Rattle.transformers.specs.Modules.{transformers_of}
-use Rattle.region_sets.specs.declared.region.Region.{Region}
-use Rattle.call_equations.specs.Sides.{changed_cells}
-use Rattle.array_regions.specs.Calls.{Called, Callees as Summaries}
+use Rattle.preconditions.specs.transformers.Given.{Callees}
+use Rattle.preconditions.specs.transformers.Modules.{transformers_of}
+use Rattle.in_out_regions.specs.region_sets.declared.region.Region.{Region}
+use Rattle.in_out_regions.specs.call_equations.Sides.{changed_cells}
+use Rattle.in_out_regions.specs.array_regions.Calls.{Called, Callees as Summaries}
 use Rattle.in_out_regions.specs.Calls.{call_in}
 use Rattle.in_out_regions.specs.Modules.{ins_of}
-use Rattle.laws_calls.specs.Parts.{Part}
-use Rattle.laws_regions.specs.Programs.{regions_in_part}
+use Rattle.laws_analyses.specs.Calls.Parts.{Part}
+use Rattle.laws_analyses.specs.Regions.Programs.{regions_in_part}
 use Rattle.laws_marks.specs.InClaims.{InRegionsHold}
 
 -- what the CALLs of a module read first: is has the IN regions of what it calls, as its callers see them

@@ -8,11 +8,11 @@ use Rattle.call_graph.specs.declared.graph.Graph.{Graph}
 use Rattle.f77_meaning.specs.Modules.{Known}
 use Rattle.f77_meaning.specs.Accesses.{is_written, is_read_first}
 use Rattle.affine_forms.specs.Claims.{numbers_of}
-use Rattle.region_sets.specs.declared.region.Access.TheVariants.{In}
-use Rattle.region_sets.specs.declared.region.Region.{Region}
-use Rattle.region_sets.specs.Claims.{LiesInSet, IsSharpSet}
-use Rattle.laws_regions.specs.Settings.{scene}
-use Rattle.laws_regions.specs.Shown.{is_lost, is_hidden, Finally}
+use Rattle.in_out_regions.specs.region_sets.declared.region.Access.TheVariants.{In}
+use Rattle.in_out_regions.specs.region_sets.declared.region.Region.{Region}
+use Rattle.in_out_regions.specs.region_sets.Claims.{LiesInSet, IsSharpSet}
+use Rattle.laws_analyses.specs.Regions.Settings.{scene}
+use Rattle.laws_analyses.specs.Regions.Shown.{is_lost, is_hidden, Finally}
 use Rattle.laws_marks.specs.InFrames.{Frame, elements_in}
 
 abbrev pub first_read : List Event → ℕ → Bool

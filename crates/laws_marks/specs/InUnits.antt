@@ -8,19 +8,18 @@ use Rattle.f77_ast.specs.Calls.{in_place}
 use Rattle.f77_ast.specs.Writes.{Locks}
 use Rattle.f77_ast.specs.declared.variable.Variable.{Variable as Named}
 use Rattle.f77_ast.specs.Shared.{overlap}
-use Rattle.f77_results.specs.declared.results.At.{At}
+use Rattle.f77_ast.specs.declared.results.At.{At}
 use Rattle.f77_meaning.specs.Areas.{is_own_unit}
 use Rattle.f77_meaning.specs.Linked.{numbering}
-use Rattle.transformer_algebra.specs.Laws.{In}
-use Rattle.region_sets.specs.declared.region.Access.TheVariants.{Write}
-use Rattle.region_sets.specs.declared.region.Region.{Region}
-use Rattle.region_sets.specs.Naming.{in_rows}
-use Rattle.region_sets.specs.Lists.{accesses_at, list_regions}
-use Rattle.array_regions.specs.Reads.{reads, inner_reads}
+use Rattle.preconditions.specs.transformer_algebra.Laws.{In}
+use Rattle.in_out_regions.specs.region_sets.declared.region.Access.TheVariants.{Write}
+use Rattle.in_out_regions.specs.region_sets.declared.region.Region.{Region}
+use Rattle.in_out_regions.specs.region_sets.Naming.{in_rows}
+use Rattle.in_out_regions.specs.region_sets.Lists.{accesses_at, list_regions, set_at}
+use Rattle.in_out_regions.specs.array_regions.Reads.{reads, inner_reads}
 use Rattle.in_out_regions.specs.Writes.{write_of}
-use Rattle.in_out_regions.specs.Lists.{set_at}
 use Rattle.in_out_regions.specs.Simple.{item_written}
-use Rattle.laws_regions.specs.Entries.{IsLost}
+use Rattle.laws_analyses.specs.Regions.Entries.{IsLost}
 use Rattle.laws_marks.specs.InFrames.{Frame, elements_in, rank}
 
 -- elements have units of their own: those of one variable, and those of variables of which the tables do not say that they overlap, but where a unit is

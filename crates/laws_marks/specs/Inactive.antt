@@ -3,7 +3,7 @@ use Rattle.std.specs.Prelude.{◌≡◌, ◌⊎◌, ℕ, true, false, nat_eq, Li
 use Rattle.std.specs.List.{list_any}
 use Rattle.f77_ast.specs.Executions.{run_of, AtEndOf}
 use Rattle.f77_ast.specs.Programs.{Routine, Program}
-use Rattle.laws_marked_plans.specs.Cleared.{HasNoValue, Ending}
+use Rattle.laws_interleavings.specs.Plans.Cleared.{HasNoValue, Ending}
 use Rattle.laws_marks.specs.ConflictExecutions.{Execution}
 
 -- the unit of an expression that is an actual in the module

@@ -15,16 +15,17 @@ use Rattle.f77_ast.specs.Symbols.{SymbolTree}
 use Rattle.call_graph.specs.declared.graph.Graph.{Graph}
 use Rattle.f77_meaning.specs.Modules.{Known, known_of, names}
 use Rattle.f77_meaning.specs.Processes.{Marked}
-use Rattle.transformer_algebra.specs.Laws.{In}
-use Rattle.call_translation.specs.Scopes.{ScopeTree}
-use Rattle.transformers.specs.Lists.{value_at}
-use Rattle.region_sets.specs.declared.marks.Mark.TheVariants.{Parallel}
-use Rattle.region_sets.specs.declared.region.Access.TheVariants.{Write}
-use Rattle.region_sets.specs.declared.region.Region.{Region}
-use Rattle.scalar_phases.specs.Phases.{scope_of}
-use Rattle.loop_bodies.specs.Finding.{loop_in}
+use Rattle.preconditions.specs.transformer_algebra.Laws.{In}
+use Rattle.preconditions.specs.call_translation.Scopes.{ScopeTree}
+use Rattle.preconditions.specs.transformers.Lists.{value_at}
+use Rattle.f77_ast.specs.declared.marks.Mark.TheVariants.{Parallel}
+use Rattle.in_out_regions.specs.region_sets.declared.region.Access.TheVariants.{Write}
+use Rattle.in_out_regions.specs.region_sets.declared.region.Region.{Region}
+use Rattle.loop_marker.specs.module_phases.ScalarPhases.{scope_of}
+use Rattle.loop_marker.specs.dependence_test.Finding.{loop_in}
 use Rattle.loop_marker.specs.Marks.{Knowledge, mark_of}
-use Rattle.loop_marker.specs.Phases.{ModuleMarks, known_in, all_marks}
+use Rattle.loop_marker.specs.Results.{ModuleResults}
+use Rattle.loop_marker.specs.Phases.{phases_of, all_marks}
 use Rattle.laws_programs.specs.Programs.{IsProgram}
 use Rattle.laws_marks.specs.ConflictExecutions.{Execution, InEachExecution}
 use Rattle.laws_marks.specs.ConflictClaims.{KnownLoop, LoopIs, loop_with}
@@ -51,20 +52,20 @@ pub record LoopIsKnown (ks : List Known) (g : Graph) (k : ScopeTree) (at : Place
 
 -- of an execution of whatever statement of the module that came to an end, where it is a DO that is marked so: each loop to which it comes, where what an iteration writes of the variables of the
 -- mark is private in the loop
-abbrev pub MarkedLoopIsKnown : List Known → Graph → ModuleMarks → Execution → Type 0
+abbrev pub MarkedLoopIsKnown : List Known → Graph → ModuleResults → Execution → Type 0
 MarkedLoopIsKnown ks g f x =
-    let k = known_in f.outs in
+    let k = f.known in
     Finishes (run_of x.does x.start x.input).answer →
     (l : LoopTree) → loop_in x.spot.statement k.read.body ≡ Some l →
     (ns : List ℕ) → value_at f.marks x.spot.statement ≡ Some (Parallel ns) →
     (xs : List (List ℕ)) (sc : MarkedScope) (body : StmtTrees) (r : Range) (u : ℕ) (inner locked : Locks) → sc.plain.names ≡ names k.symbols → x.does ≡ do_plan l sc.plain x.places locked →
     let m = marked_loop xs sc body x.places r u inner in
     ((n : ℕ) → In n ns → HasPrivateUnits ks g (scope_of g.untracked k) x.places m x.start (Own n)) → Begins sc.plain (index_name l) l x.places locked m x.start x.input →
-    LoopIsKnown ks g (scope_of g.untracked k) x.places (loop_with g f.outs.known l) m x.start x.input
+    LoopIsKnown ks g (scope_of g.untracked k) x.places (loop_with g (phases_of f).known l) m x.start x.input
 
 -- of an execution in whatever module
-abbrev pub AllMarkedLoopsAreKnown : List Known → Graph → List ModuleMarks → Execution → Type 0
-AllMarkedLoopsAreKnown ks g fs x = All (λ f. (known_in f.outs).read.name ≡ x.spot.module_name → MarkedLoopIsKnown ks g f x) fs
+abbrev pub AllMarkedLoopsAreKnown : List Known → Graph → List ModuleResults → Execution → Type 0
+AllMarkedLoopsAreKnown ks g fs x = All (λ f. f.known.read.name ≡ x.spot.module_name → MarkedLoopIsKnown ks g f x) fs
 
 -- ---- laws
 

@@ -10,11 +10,12 @@ use Rattle.f77_ast.specs.Calls.{in_place}
 use Rattle.f77_ast.specs.Statements.{spot, do_plan}
 use Rattle.f77_ast.specs.Programs.{Routine, meanings}
 use Rattle.laws_interleavings.specs.MarkedStatements.{MarkedScope, loop_with}
+use Rattle.laws_interleavings.specs.Accumulating.{Directive}
 use Rattle.laws_interleavings.specs.MarkedPrograms.{Directives, marked_scope, marked_meanings}
 use Rattle.laws_interleavings.specs.Holds.{MarksHold}
 use Rattle.laws_marks.specs.ConflictExecutions.{Execution}
 use Rattle.laws_interleavings.specs.Typed.{TagsStand, IsNoDummy}
-use Rattle.laws_marked_plans.specs.Cleared.{Off}
+use Rattle.laws_interleavings.specs.Plans.Cleared.{Off}
 
 -- ---- the DOs of a list, with their numbers
 
@@ -62,8 +63,8 @@ AreOff units locked w at = (u : ℕ) → units u → Off u locked w at
 -- wherever its module's variables lie, and whatever is locked: where the claim holds of the execution and of what the run does after it, what is claimed of a marked loop holds
 abbrev pub MarkedDoHolds : (ℕ → Type 0) → (Execution → List Event → Type 0) → MarkedScope → ℕ → LoopTree → Type 0
 MarkedDoHolds units C sc n l =
-    (xs : List (List ℕ)) → sc.marks n ≡ Some xs → (at : Places) (locked : Locks) → TagsStand sc.plain.names at → AreOff units locked sc.plain.names at → (s : Store) (i : List Content) (later : List Event) →
-    C (record { spot = spot sc.plain.module_name n; places = at; does = do_plan l sc.plain at locked; start = s; input = i }) later → MarksHold (loop_with (Some xs) l sc at locked) s i later
+    (e : Directive) → sc.marks n ≡ Some e → (at : Places) (locked : Locks) → TagsStand sc.plain.names at → AreOff units locked sc.plain.names at → (s : Store) (i : List Content) (later : List Event) →
+    C (record { spot = spot sc.plain.module_name n; places = at; does = do_plan l sc.plain at locked; start = s; input = i }) later → MarksHold (loop_with (Some e) l sc at locked) s i later
 
 -- ---- modules
 

@@ -11,12 +11,13 @@ use Rattle.f77_ast.specs.Statements.{Scope, do_plan}
 use Rattle.f77_meaning.specs.Processes.{Marked}
 use Rattle.laws_interleavings.specs.Iterations.{begun, loop_plan, whole_loop}
 use Rattle.laws_interleavings.specs.Sound.{NoTake, printed_by}
-use Rattle.transformers.specs.Jumps.{list_has, is_return}
-use Rattle.laws_statements.specs.Leads.{list_leads}
-use Rattle.laws_statements.specs.Activation.{Jumps}
+use Rattle.preconditions.specs.transformers.Jumps.{list_has}
+use Rattle.laws_analyses.specs.Statements.Leads.{list_leads}
+use Rattle.laws_analyses.specs.Statements.Activation.{Jumps}
 use Rattle.laws_marks.specs.ConflictIterations.{Iteration, iterations}
 use Rattle.laws_marks.specs.ConflictClaims.{LeavesBy, body_list}
 use Rattle.laws_marks.specs.MarkedBegun.{iterations_of}
+use Rattle.f77_ast.specs.Shapes.{is_return}
 
 -- it ends normally, prints nothing and takes no input
 pub record EndsQuietly (m : Marked) (s : Store) : Type 0 where

@@ -10,21 +10,21 @@ use Rattle.call_graph.specs.declared.graph.Graph.{Graph}
 use Rattle.f77_meaning.specs.Modules.{Known}
 use Rattle.f77_meaning.specs.Accesses.{is_written, is_read_first}
 use Rattle.f77_meaning.specs.Processes.{Marked}
-use Rattle.transformer_algebra.specs.Laws.{In}
-use Rattle.call_translation.specs.Scopes.{ScopeTree}
-use Rattle.region_sets.specs.declared.marks.Kinds.{Kinds}
-use Rattle.region_sets.specs.declared.marks.Private.TheVariants.{Yes}
-use Rattle.region_sets.specs.declared.region.Access.TheVariants.{Write}
-use Rattle.region_sets.specs.declared.region.Region.{Region}
-use Rattle.dependence_test.specs.declared.answer.Conflict.TheVariants as answer
-use Rattle.dependence_test.specs.Conflicts.{kept_system, conflict_of}
-use Rattle.privatizer.specs.Private.{private_in}
-use Rattle.laws_regions.specs.Settings.{elements_with}
-use Rattle.laws_regions.specs.Shown.{is_hidden}
+use Rattle.preconditions.specs.transformer_algebra.Laws.{In}
+use Rattle.preconditions.specs.call_translation.Scopes.{ScopeTree}
+use Rattle.f77_ast.specs.declared.marks.Kinds.{Kinds}
+use Rattle.f77_ast.specs.declared.marks.Private.TheVariants.{Yes}
+use Rattle.in_out_regions.specs.region_sets.declared.region.Access.TheVariants.{Write}
+use Rattle.in_out_regions.specs.region_sets.declared.region.Region.{Region}
+use Rattle.loop_marker.specs.dependence_test.declared.answer.Conflict.TheVariants as answer
+use Rattle.loop_marker.specs.dependence_test.Conflicts.{kept_system, conflict_of}
+use Rattle.loop_marker.specs.privatizer.Private.{private_in}
+use Rattle.laws_analyses.specs.Regions.Settings.{elements_with}
+use Rattle.laws_analyses.specs.Regions.Shown.{is_hidden}
 use Rattle.laws_marks.specs.ConflictClaims.{KnownLoop, IsSole, LoopIs}
 use Rattle.laws_interleavings.specs.Sound.{some_wrote, is_own}
-use Rattle.laws_marked_plans.specs.Fine.{IsFine}
-use Rattle.laws_marked_plans.specs.Cleared.{HasNoValue, Cleared}
+use Rattle.laws_interleavings.specs.Plans.Fine.{IsFine}
+use Rattle.laws_interleavings.specs.Plans.Cleared.{HasNoValue, Cleared}
 use Rattle.laws_marks.specs.MarkedBegun.{iterations_of, did_in}
 use Rattle.laws_marks.specs.MarkedEnding.{EndsQuietly}
 

@@ -12,11 +12,12 @@ use Rattle.f77_ast.specs.Runs.{Event, Gave}
 use Rattle.call_graph.specs.declared.graph.Graph.{Graph}
 use Rattle.f77_meaning.specs.Modules.{Known}
 use Rattle.f77_meaning.specs.Processes.{Marked}
-use Rattle.call_translation.specs.Scopes.{ScopeTree}
+use Rattle.preconditions.specs.call_translation.Scopes.{ScopeTree}
 use Rattle.laws_marks.specs.ConflictClaims.{KnownLoop}
 use Rattle.laws_interleavings.specs.Iterations.{whole_loop, MayInterleave}
 use Rattle.laws_interleavings.specs.Sound.{NoTake}
 use Rattle.laws_interleavings.specs.Holds.{LoopHolds, MarksHold}
+use Rattle.laws_interleavings.specs.Accumulating.{private_alone}
 use Rattle.laws_interleavings.specs.MarkedStatements.{MarkedScope, marked_loop, loop_with}
 use Rattle.laws_marks.specs.MarkedBegun.{iterations_of, AreBegun}
 use Rattle.laws_marks.specs.MarkedEnding.{EndsQuietly, IsQuietRun, IsQuietDo}
@@ -43,7 +44,7 @@ DosAreQuiet = (sc : Scope) (variable : List ℕ) (l : LoopTree) (at : Places) (l
 abbrev pub LoopsBegin : Type 0
 LoopsBegin = (xs : List (List ℕ)) (sc : MarkedScope) (variable : List ℕ) (e1 e2 : ExprTree) (e3 : Option ExprTree) (body : StmtTrees) (at : Places) (locked : Locks) (s : Store) (i : List Content) (later : List Event) →
     ((r : Range) (u : ℕ) → let m = marked_loop xs sc body at r u (lock locked u Locked) in Begins sc.plain variable (loop variable e1 e2 e3 body) at locked m s i → LoopHolds m s later) →
-    MarksHold (loop_with (Some xs) (loop variable e1 e2 e3 body) sc at locked) s i later
+    MarksHold (loop_with (Some (private_alone xs)) (loop variable e1 e2 e3 body) sc at locked) s i later
 
 -- a loop that is fit may be interleaved
 abbrev pub LoopsMayInterleave : Type 0

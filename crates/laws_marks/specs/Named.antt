@@ -16,15 +16,16 @@ use Rattle.f77_meaning.specs.Modules.{Known, names, symbol_names, fixed, dummies
 use Rattle.f77_meaning.specs.Linked.{numbering}
 use Rattle.f77_meaning.specs.Occurrences.{Occurrence}
 use Rattle.affine_forms.specs.Claims.{unit_in}
-use Rattle.transformer_algebra.specs.Laws.{In}
-use Rattle.call_translation.specs.Scopes.{ScopeTree}
-use Rattle.transformers.specs.Lists.{value_at}
-use Rattle.region_sets.specs.declared.marks.Mark.TheVariants.{Parallel}
-use Rattle.loop_marker.specs.Phases.{ModuleMarks, known_in}
-use Rattle.scalar_phases.specs.Phases.{scope_of}
-use Rattle.loop_bodies.specs.Finding.{loop_in}
+use Rattle.preconditions.specs.transformer_algebra.Laws.{In}
+use Rattle.preconditions.specs.call_translation.Scopes.{ScopeTree}
+use Rattle.preconditions.specs.transformers.Lists.{value_at}
+use Rattle.f77_ast.specs.declared.marks.Mark.TheVariants.{Parallel}
+use Rattle.loop_marker.specs.Results.{ModuleResults}
+use Rattle.loop_marker.specs.Phases.{phases_of}
+use Rattle.loop_marker.specs.module_phases.ScalarPhases.{scope_of}
+use Rattle.loop_marker.specs.dependence_test.Finding.{loop_in}
 use Rattle.laws_interleavings.specs.MarkedStatements.{MarkedScope, unit_of_some, marked_loop}
-use Rattle.laws_regions.specs.Settings.{elements_with}
+use Rattle.laws_analyses.specs.Regions.Settings.{elements_with}
 use Rattle.laws_marks.specs.ConflictExecutions.{Execution}
 use Rattle.laws_marks.specs.ConflictClaims.{KnownLoop, loop_with, IsSole}
 use Rattle.laws_interleavings.specs.Typed.{IsNoDummy}
@@ -61,11 +62,11 @@ pub record NamesStand (ks : List Known) (g : Graph) (k : ScopeTree) (w : Names) 
   pub copied : (u : ℕ) → IsOfOne ks g k.symbols at ns u → IsCopied ks g k at d u
 
 -- of an execution of whatever statement of the module, where it is a DO that is marked so
-abbrev pub ModuleNamesStand : List Known → Graph → ModuleMarks → Execution → Type 0
+abbrev pub ModuleNamesStand : List Known → Graph → ModuleResults → Execution → Type 0
 ModuleNamesStand ks g f x =
-    let k = known_in f.outs in
+    let k = f.known in
     (l : LoopTree) → loop_in x.spot.statement k.read.body ≡ Some l →
-    (ns : List ℕ) → value_at f.marks x.spot.statement ≡ Some (Parallel ns) → NamesStand ks g (scope_of g.untracked k) (names k.symbols) (loop_with g f.outs.known l) l ns x.places
+    (ns : List ℕ) → value_at f.marks x.spot.statement ≡ Some (Parallel ns) → NamesStand ks g (scope_of g.untracked k) (names k.symbols) (loop_with g (phases_of f).known l) l ns x.places
 
 -- of such a DO in a module: these variables are locals that are not saved, which no other overlaps by the tables; they, and the variable of the DO, are no dummies, and lie at their own places
 pub record PlacesStand (ks : List Known) (g : Graph) (k : Known) (l : LoopTree) (ns : List ℕ) (at : Places) : Type 0 where
@@ -74,15 +75,15 @@ pub record PlacesStand (ks : List Known) (g : Graph) (k : Known) (l : LoopTree) 
   pub distinct : IsDistinct bytes_eq (symbol_names k.symbols)
   pub placed : (v : ℕ) → In v ns ⊎ (names k.symbols (index_name l) ≡ Variable v) → IsNoDummy (dummies_from 1 k.symbols) v × (at v ≡ fixed (numbering ks g) k v)
 
-abbrev pub ModulePlacesStand : List Known → Graph → ModuleMarks → Execution → Type 0
+abbrev pub ModulePlacesStand : List Known → Graph → ModuleResults → Execution → Type 0
 ModulePlacesStand ks g f x =
-    (l : LoopTree) → loop_in x.spot.statement (known_in f.outs).read.body ≡ Some l → (ns : List ℕ) → value_at f.marks x.spot.statement ≡ Some (Parallel ns) → PlacesStand ks g (known_in f.outs) l ns x.places
+    (l : LoopTree) → loop_in x.spot.statement f.known.read.body ≡ Some l → (ns : List ℕ) → value_at f.marks x.spot.statement ≡ Some (Parallel ns) → PlacesStand ks g f.known l ns x.places
 
 -- of each loop to which it comes, with the names of its directive, where that ends quietly: what comes later reads neither its variable, nor what some iteration wrote of these names, before it is
 -- written again
-abbrev pub MarkedLoopIsDead : List Known → Graph → ModuleMarks → Occurrence → Type 0
+abbrev pub MarkedLoopIsDead : List Known → Graph → ModuleResults → Occurrence → Type 0
 MarkedLoopIsDead ks g f x =
-    let k = known_in f.outs in
+    let k = f.known in
     (l : LoopTree) → loop_in x.spot.statement k.read.body ≡ Some l →
     (ns : List ℕ) → value_at f.marks x.spot.statement ≡ Some (Parallel ns) →
     (xs : List (List ℕ)) → AreNamesOf xs (names k.symbols) l ns →

@@ -6,13 +6,13 @@ use Rattle.call_graph.specs.declared.graph.Graph.{Graph}
 use Rattle.f77_meaning.specs.Modules.{Known, known_of}
 use Rattle.f77_meaning.specs.Occurrences.{Occurrence}
 use Rattle.f77_meaning.specs.Claimed.{InConformingRuns}
-use Rattle.scalar_phases.specs.Phases.{scope_of, Analysis, analyses}
-use Rattle.region_sets.specs.declared.region.Region.{Region}
-use Rattle.region_phases.specs.Phases.{with_regions, all_regions}
-use Rattle.region_phases.specs.InPhases.{with_ins, all_ins}
-use Rattle.region_phases.specs.OutPhases.{ModuleOuts, sites_of, used_after, with_outs, all_outs}
+use Rattle.loop_marker.specs.module_phases.ScalarPhases.{scope_of, Analysis, analyses}
+use Rattle.in_out_regions.specs.region_sets.declared.region.Region.{Region}
+use Rattle.loop_marker.specs.module_phases.RegionPhases.{with_regions, all_regions}
+use Rattle.loop_marker.specs.module_phases.InPhases.{with_ins, all_ins}
+use Rattle.loop_marker.specs.module_phases.OutPhases.{ModuleOuts, sites_of, used_after, with_outs, all_outs}
 use Rattle.laws_programs.specs.Programs.{IsProgram}
-use Rattle.laws_regions.specs.Accepted.{after as reads_after}
+use Rattle.laws_analyses.specs.Regions.Accepted.{after as reads_after}
 use Rattle.laws_marks.specs.InAccepted.{after}
 use Rattle.laws_marks.specs.OutClaims.{OutRegionsHold}
 

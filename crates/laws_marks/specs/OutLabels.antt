@@ -3,10 +3,10 @@
 use Rattle.std.specs.Prelude.{◌≡◌, ℕ, Bool, true, false, [], ◌∷◌}
 use Rattle.f77_ast.specs.Trees.{StmtTree, WhatTree, ArmTree, ArmTrees, ElseTree, LoopTree, StmtTrees}
 use Rattle.f77_ast.specs.Trees as tree
-use Rattle.transformer_algebra.specs.Cells.{has}
-use Rattle.transformers.specs.Jumps.{unstructured}
-use Rattle.out_regions.specs.Leaving.{stmt_labels, list_labels}
-use Rattle.laws_statements.specs.Leads.{stmt_leads, each_leads}
+use Rattle.preconditions.specs.transformer_algebra.Cells.{has}
+use Rattle.preconditions.specs.transformers.Jumps.{unstructured}
+use Rattle.loop_marker.specs.out_regions.Leaving.{stmt_labels, list_labels}
+use Rattle.laws_analyses.specs.Statements.Leads.{stmt_leads, each_leads}
 
 -- of each statement of a list, and of what is behind it
 abbrev pub EachOutward : StmtTrees → Type 0

@@ -7,22 +7,22 @@ use Rattle.f77_ast.specs.declared.variable.Variable.TheVariants.{Saved}
 use Rattle.f77_ast.specs.Symbols.{SymbolTree, number_from}
 use Rattle.f77_ast.specs.Shared.{symbol_at}
 use Rattle.f77_ast.specs.Units.{units_in}
-use Rattle.f77_results.specs.declared.results.Results.{Results}
+use Rattle.f77_ast.specs.declared.results.Results.{Results}
 use Rattle.call_graph.specs.declared.graph.Graph.{Graph}
 use Rattle.f77_meaning.specs.Modules.{Known, all_lost}
 use Rattle.f77_meaning.specs.Linked.{numbering}
 use Rattle.f77_meaning.specs.Occurrences.{Occurrence}
 use Rattle.affine_forms.specs.Scalars.{is_cell}
-use Rattle.transformers.specs.Given.{Callees}
-use Rattle.transformer_algebra.specs.Laws.{In}
-use Rattle.region_sets.specs.declared.region.Region.{Region}
-use Rattle.array_regions.specs.Calls.{Callees as Summaries}
-use Rattle.callee_regions.specs.Values.{is_scalar_dummy}
-use Rattle.out_regions.specs.Known.{KnownTree}
-use Rattle.out_regions.specs.Modules.{outs_of}
-use Rattle.laws_calls.specs.Parts.{Part}
-use Rattle.laws_regions.specs.Entries.{IsLost}
-use Rattle.laws_regions.specs.Programs.{regions_in_part}
+use Rattle.preconditions.specs.transformers.Given.{Callees}
+use Rattle.preconditions.specs.transformer_algebra.Laws.{In}
+use Rattle.in_out_regions.specs.region_sets.declared.region.Region.{Region}
+use Rattle.in_out_regions.specs.array_regions.Calls.{Callees as Summaries}
+use Rattle.in_out_regions.specs.region_translation.Values.{is_scalar_dummy}
+use Rattle.loop_marker.specs.out_regions.Known.{KnownTree}
+use Rattle.loop_marker.specs.out_regions.Modules.{outs_of}
+use Rattle.laws_analyses.specs.Calls.Parts.{Part}
+use Rattle.laws_analyses.specs.Regions.Entries.{IsLost}
+use Rattle.laws_analyses.specs.Regions.Programs.{regions_in_part}
 use Rattle.laws_marks.specs.InPrograms.{ins_in_part}
 use Rattle.laws_marks.specs.OutClaims.{OutRegionsHold}
 use Rattle.laws_interleavings.specs.Typed.{IsTagged}

@@ -5,12 +5,12 @@ use Rattle.f77_ast.specs.Runs.{Event}
 use Rattle.f77_ast.specs.declared.variable.Variable.{Variable}
 use Rattle.f77_meaning.specs.Accesses.{is_written, is_read_first}
 use Rattle.affine_forms.specs.Claims.{numbers_of}
-use Rattle.transformer_algebra.specs.Laws.{In}
-use Rattle.region_sets.specs.declared.region.Access.TheVariants.{Write, Out}
-use Rattle.region_sets.specs.declared.region.Region.{Region}
-use Rattle.region_sets.specs.Claims.{LiesIn, LiesInSet}
-use Rattle.laws_regions.specs.Settings.{scene}
-use Rattle.laws_regions.specs.Shown.{is_hidden}
+use Rattle.preconditions.specs.transformer_algebra.Laws.{In}
+use Rattle.in_out_regions.specs.region_sets.declared.region.Access.TheVariants.{Write, Out}
+use Rattle.in_out_regions.specs.region_sets.declared.region.Region.{Region}
+use Rattle.in_out_regions.specs.region_sets.Claims.{LiesIn, LiesInSet}
+use Rattle.laws_analyses.specs.Regions.Settings.{scene}
+use Rattle.laws_analyses.specs.Regions.Shown.{is_hidden}
 use Rattle.laws_marks.specs.InFrames.{Frame, elements_in}
 
 -- a unit is written, and what comes later reads it before it writes it

@@ -11,7 +11,7 @@ use Rattle.laws_programs.specs.Programs.{IsProgram}
 use Rattle.laws_interleavings.specs.MarkedStatements.{own_in}
 use Rattle.laws_interleavings.specs.MarkedPrograms.{Directives, marked_scope, marked_meanings}
 use Rattle.laws_interleavings.specs.Typed.{IsTagged, AllTagged}
-use Rattle.laws_marked_plans.specs.Cleared.{HasNoValue, AllApart, AllEnd}
+use Rattle.laws_interleavings.specs.Plans.Cleared.{HasNoValue, AllApart, AllEnd}
 use Rattle.laws_marks.specs.ConflictExecutions.{InEachExecution}
 use Rattle.laws_marks.specs.Inactive.{IsOfExpression, IsOfSome, InactiveHaveNone}
 

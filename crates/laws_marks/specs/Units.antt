@@ -12,23 +12,23 @@ use Rattle.call_graph.specs.declared.graph.Graph.{Graph}
 use Rattle.f77_meaning.specs.Modules.{Known, names, fixed, dummies_from}
 use Rattle.f77_meaning.specs.Linked.{numbering}
 use Rattle.affine_forms.specs.Claims.{unit_in}
-use Rattle.transformer_algebra.specs.Laws.{In}
-use Rattle.call_translation.specs.Scopes.{ScopeTree}
-use Rattle.transformers.specs.Given.{Callees}
-use Rattle.transformers.specs.Loops.{number_in}
-use Rattle.region_sets.specs.declared.region.Region.{Region}
-use Rattle.array_regions.specs.Calls.{Callees as Summaries}
-use Rattle.in_out_regions.specs.Lists.{set_at}
-use Rattle.region_phases.specs.InPhases.{ModuleIns}
-use Rattle.scalar_phases.specs.Phases.{scope_of}
-use Rattle.loop_bodies.specs.Finding.{loop_in}
-use Rattle.privatizer.specs.Names.{is_local}
-use Rattle.laws_calls.specs.Parts.{Part, NoDummy}
-use Rattle.laws_regions.specs.Settings.{is_told, elements_with}
-use Rattle.laws_regions.specs.Shown.{is_hidden}
-use Rattle.laws_regions.specs.Programs.{regions_in_part}
+use Rattle.preconditions.specs.transformer_algebra.Laws.{In}
+use Rattle.preconditions.specs.call_translation.Scopes.{ScopeTree}
+use Rattle.preconditions.specs.transformers.Given.{Callees}
+use Rattle.preconditions.specs.transformers.Loops.{number_in}
+use Rattle.in_out_regions.specs.region_sets.declared.region.Region.{Region}
+use Rattle.in_out_regions.specs.array_regions.Calls.{Callees as Summaries}
+use Rattle.loop_marker.specs.module_phases.InPhases.{ModuleIns}
+use Rattle.loop_marker.specs.module_phases.ScalarPhases.{scope_of}
+use Rattle.loop_marker.specs.dependence_test.Finding.{loop_in}
+use Rattle.laws_analyses.specs.Calls.Parts.{Part, NoDummy}
+use Rattle.laws_analyses.specs.Regions.Settings.{is_told, elements_with}
+use Rattle.laws_analyses.specs.Regions.Shown.{is_hidden}
+use Rattle.laws_analyses.specs.Regions.Programs.{regions_in_part}
 use Rattle.laws_marks.specs.ConflictExecutions.{Execution}
 use Rattle.laws_marks.specs.Dead.{index_name}
+use Rattle.in_out_regions.specs.region_sets.Lists.{set_at}
+use Rattle.call_graph.specs.Visible.{is_local}
 
 -- a local that is not saved
 pub record IsPassing (ss : List SymbolTree) (n : ℕ) : Type 0 where

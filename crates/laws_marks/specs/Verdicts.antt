@@ -5,14 +5,14 @@ use Rattle.f77_ast.specs.DeclTrees.{ModuleTree}
 use Rattle.f77_ast.specs.Symbols.{SymbolTree}
 use Rattle.f77_ast.specs.declared.variable.Variable.{Variable}
 use Rattle.f77_ast.specs.declared.variable.Variable.TheVariants.{Own}
-use Rattle.transformer_algebra.specs.Laws.{In}
-use Rattle.region_sets.specs.declared.marks.Kinds.{Kinds}
-use Rattle.region_sets.specs.declared.region.Access.TheVariants.{Write}
-use Rattle.region_sets.specs.declared.region.Region.{Region}
-use Rattle.loop_bodies.specs.declared.body.LoopBody.{LoopBody}
-use Rattle.dependence_test.specs.Conflicts.{kept_system}
-use Rattle.privatizer.specs.Names.{may_copy}
-use Rattle.out_regions.specs.Leaving.{leaves}
+use Rattle.preconditions.specs.transformer_algebra.Laws.{In}
+use Rattle.f77_ast.specs.declared.marks.Kinds.{Kinds}
+use Rattle.in_out_regions.specs.region_sets.declared.region.Access.TheVariants.{Write}
+use Rattle.in_out_regions.specs.region_sets.declared.region.Region.{Region}
+use Rattle.loop_marker.specs.dependence_test.declared.body.LoopBody.{LoopBody}
+use Rattle.loop_marker.specs.dependence_test.Conflicts.{kept_system}
+use Rattle.loop_marker.specs.privatizer.Names.{may_copy}
+use Rattle.loop_marker.specs.out_regions.Leaving.{leaves}
 use Rattle.loop_marker.specs.Jumps.{may_stop, may_have_io, body_of}
 use Rattle.loop_marker.specs.Marks.{Knowledge}
 

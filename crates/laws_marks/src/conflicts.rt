@@ -2,9 +2,8 @@
 ghost use Rattle.laws_marks.specs.ConflictAccepted.{CopiesAreSole, ReadLoopsHold};
 ghost use Rattle.laws_marks.specs.ConflictIterations.{IterationsAreParts};
 
-use laws_analyses::{accepted_data_stays_in_locals, jumps_stay_inside, names_agree};
-use laws_calls::program_holds;
-use region_translation::links_hold;
+use in_out_regions::region_translation::links_hold;
+use laws_analyses::{accepted_data_stays_in_locals, jumps_stay_inside, names_agree, program_holds};
 
 /// In every run of a program that is read, up to its first fault, and for each execution of a DO: where an iteration begins, what is known of it holds, and cells that
 /// the body does not change have the numbers that they had where the DO began; what an iteration reads, or writes, lies in the READ, or WRITE, regions of the body, and

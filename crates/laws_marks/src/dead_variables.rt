@@ -3,10 +3,10 @@ ghost use Rattle.laws_marks.specs.DeadLaws.{ReadCopiesLieInOwn, ReadMarkedLoopsA
 ghost use Rattle.laws_marks.specs.Named.{NamesAreCopied};
 
 use crate::{iterations_are_begun, read_outs_hold};
+use in_out_regions::region_translation::links_hold;
 use laws_analyses::{
     accepted_data_stays_in_locals, jumps_stay_inside, names_agree, read_analyses_hold,
 };
-use region_translation::links_hold;
 
 /// In every run of a program that is read, up to its first fault, and at each execution of a DO: a unit of a local, not saved, is visible, and another variable that has
 /// it, of which the DO accesses something, overlaps the local by the tables.

@@ -7,8 +7,9 @@ use crate::dead_variables::{
 use crate::inactive_units::{calls_end, inactive_units_have_none, variables_have_types};
 use crate::known_loops::marked_loops_are_known;
 use crate::{loops_begin, loops_hold};
-use laws_interleavings::{long_schedules_end, marked_runs_agree, marks_are_forgotten};
-use laws_marked_plans::marked_programs_are_strict;
+use laws_interleavings::{
+    long_schedules_end, marked_programs_are_strict, marked_runs_agree, marks_are_forgotten,
+};
 
 /// Of every program that is read, with directives of which each is a mark that was found: in each run that comes to its end without a fault, at each execution of a marked
 /// DO, the iterations of its loop may be interleaved, each with private units of its own, and the rest of the run reads nothing that the loop loses before it writes it.
@@ -28,7 +29,8 @@ pub fn read_marks_hold()
 }
 
 /// So each such run, its marked loops interleaved by whatever schedule, ends as the plain one does: it never faults, prints the same, takes the same input, and each unit that
-/// has a value in the end has that of the plain run. A schedule may be too short; then what was printed is the beginning of what the plain run prints.
+/// has a value in the end has that of the plain run; only a unit of the variable of a marked DO, or of a PRIVATE name, may have lost its value. A schedule may be too short; then no
+/// iteration faulted, and what was printed is the beginning of what the plain run prints.
 pub fn read_runs_do_as_plain()
     ensures { ReadRunsAsPlain }
 {

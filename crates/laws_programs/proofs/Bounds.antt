@@ -8,27 +8,28 @@ use Rattle.f77_ast.specs.Trees.{ExprTree, ExprTrees}
 use Rattle.f77_ast.specs.Trees as tree
 use Rattle.f77_ast.specs.DeclTrees.{ParsedTree}
 use Rattle.f77_ast.specs.declared.constant.Constant.{Constant}
-use Rattle.f77_ast.specs.declared.constant.Worth.{Worth}
-use Rattle.f77_ast.specs.declared.constant.Worth.TheVariants.{Is, Faults, Varies}
-use Rattle.f77_ast.specs.Constants.{turns_logical, gives_logical, unary_worth, binary_worth, worth}
+use Rattle.f77_ast.specs.declared.constant.ConstantValue.{ConstantValue}
+use Rattle.f77_ast.specs.declared.constant.ConstantValue.TheVariants.{Is, Faults, Varies}
+use Rattle.f77_ast.specs.Constants.{turns_logical, gives_logical, unary_const_value, binary_const_value, const_value}
 use Rattle.f77_ast.specs.Symbols.{BoundTree, SymbolTree}
-use Rattle.refusal_codes.specs.declared.code.Code.TheVariants.{BadDimension}
-use Rattle.refusal_codes.specs.declared.refusal.Refusal.{Refusal}
+use Rattle.fx_lists.specs.declared.code.Code.TheVariants.{BadDimension}
+use Rattle.fx_lists.specs.declared.refusal.Refusal.{Refusal}
 use Rattle.f77_names.specs.Entries.{ShapeTree, EntryTree, find, of_entry, has_shape, value_among}
 use Rattle.f77_names.specs.Tables.{NameTable}
 use Rattle.f77_checks.specs.Expressions.{check_expr}
-use Rattle.f77_checks.specs.Dimensions.{is_adjustable, is_bad_worth, worth_in, is_bad_limit, is_below, is_bad_high, is_bad_bound, is_last, has_bad_bound, dims_of, is_too_big, is_bad_shape, check_maybe, check_bounds, check_shape, check_shapes}
+use Rattle.f77_checks.specs.Dimensions.{is_adjustable, is_bad_const_value, const_value_in, is_bad_limit, is_below, is_bad_high, is_bad_bound, is_last, has_bad_bound, dims_of, is_too_big, is_bad_shape, check_maybe, check_bounds, check_shape, check_shapes}
 use Rattle.tracked_cells.specs.Standing.{has_bounds}
 use Rattle.storage_layout.specs.Symbols.{valued, checked}
 use Rattle.storage_layout.specs.Table.{Layout, bounds_in, symbol_of, symbols_from, symbols_in}
 use Rattle.call_graph.specs.Actuals.{symbol_with_name, is_array}
-use Rattle.laws_tables.specs.Shapes.{Shaped}
-use Rattle.laws_tables.proofs.StatementRefusals.{noted_none, expr_back, stmts_back}
-use Rattle.laws_tables.proofs.NameRefusals.{shapes_back}
-use Rattle.laws_tables.proofs.JudgedShapes.{expr_shaped}
-use Rattle.laws_tables.proofs.Answers.{Answered, lines_in, layout_in, found_none}
-use Rattle.laws_effects.specs.Trees.{StandsBare}
-use Rattle.laws_effects.specs.Tables.{IsBound, IsHigh, AreBounds, AllBounds}
+use Rattle.laws_programs.specs.SymbolTables.Shapes.{Shaped}
+use Rattle.laws_programs.proofs.SymbolTables.StatementRefusals.{expr_back, stmts_back}
+use Rattle.laws_programs.proofs.SymbolTables.NameRefusals.{shapes_back}
+use Rattle.laws_programs.proofs.SymbolTables.JudgedShapes.{expr_shaped}
+use Rattle.laws_programs.proofs.SymbolTables.Answers.{Answered, lines_in, layout_in, found_none}
+use Rattle.laws_programs.specs.Effects.Trees.{StandsBare}
+use Rattle.laws_programs.specs.Effects.Tables.{IsBound, IsHigh, AreBounds, AllBounds}
+use Rattle.storage_layout.proofs.EarlyLaws.{noted_none}
 
 -- ---- no array element
 
@@ -42,17 +43,17 @@ IsFlat (tree.unary o e) = IsFlat e
 IsFlat (tree.binary o a b) = IsFlat a × IsFlat b
 IsFlat (tree.chars x) = Unit {0}
 
-abbrev varies : Worth → Bool
+abbrev pub varies : ConstantValue → Bool
 varies (Is c) = false
 varies Faults = false
 varies Varies = true
 
-unary_steady : (o : UnaryOp) (w : Worth) → varies (unary_worth o w) ≡ false → varies w ≡ false
+unary_steady : (o : UnaryOp) (w : ConstantValue) → varies (unary_const_value o w) ≡ false → varies w ≡ false
 unary_steady o (Is c) h = refl
 unary_steady o Faults h = refl
 unary_steady o Varies h = h
 
-binary_steady : (o : BinaryOp) (v w : Worth) → varies (binary_worth o v w) ≡ false → (varies v ≡ false) × (varies w ≡ false)
+binary_steady : (o : BinaryOp) (v w : ConstantValue) → varies (binary_const_value o v w) ≡ false → (varies v ≡ false) × (varies w ≡ false)
 binary_steady o Varies w h = let z : true ≡ false = h in cc
 binary_steady o Faults Varies h = (refl, h)
 binary_steady o Faults Faults h = (refl, refl)
@@ -61,14 +62,14 @@ binary_steady o (Is c) Varies h = (refl, h)
 binary_steady o (Is c) Faults h = (refl, refl)
 binary_steady o (Is c) (Is d) h = (refl, refl)
 
-flat_steady : (v : List ℕ → Option Constant) (e : ExprTree) → varies (worth v e) ≡ false → IsFlat e
+flat_steady : (v : List ℕ → Option Constant) (e : ExprTree) → varies (const_value v e) ≡ false → IsFlat e
 flat_steady v (tree.int n) h = tt
 flat_steady v (tree.log b) h = tt
 flat_steady v (tree.name x) h = tt
 flat_steady v (tree.element x es) h = let z : true ≡ false = h in cc
 flat_steady v (tree.paren e) h = flat_steady v e h
-flat_steady v (tree.unary o e) h = flat_steady v e (unary_steady o (worth v e) h)
-flat_steady v (tree.binary o a b) h = let r = binary_steady o (worth v a) (worth v b) h in (flat_steady v a r.0, flat_steady v b r.1)
+flat_steady v (tree.unary o e) h = flat_steady v e (unary_steady o (const_value v e) h)
+flat_steady v (tree.binary o a b) h = let r = binary_steady o (const_value v a) (const_value v b) h in (flat_steady v a r.0, flat_steady v b r.1)
 flat_steady v (tree.chars x) h = tt
 
 flat_adjustable : (t : NameTable) (e : ExprTree) → is_adjustable t e ≡ true → IsFlat e
@@ -84,20 +85,20 @@ flat_adjustable t (tree.binary o a b) h =
 flat_adjustable t (tree.chars x) h = tt
 
 flat_limit : (t : NameTable) (dummy : Bool) (e : ExprTree) → is_bad_limit t dummy e ≡ false → IsFlat e
-flat_limit t dummy e h = go (worth_in t e) refl h
+flat_limit t dummy e h = go (const_value_in t e) refl h
   where
-    go : (w : Worth) → worth_in t e ≡ w → is_bad_worth t dummy e w ≡ false → IsFlat e
+    go : (w : ConstantValue) → const_value_in t e ≡ w → is_bad_const_value t dummy e w ≡ false → IsFlat e
     go (Is c) q k = flat_steady (value_among t.entries) e (ap varies q)
     go Faults q k = flat_steady (value_among t.entries) e (ap varies q)
     go Varies q k = flat_adjustable t e (and_parts dummy (is_adjustable t e) (not-false (dummy && is_adjustable t e) k)).1
 
 -- ---- refusals
 
-maybe_back : (t : NameTable) (x : Option ExprTree) (line : ℕ) (o : Option Refusal) → check_maybe t x line o ≡ None → o ≡ None
+pub maybe_back : (t : NameTable) (x : Option ExprTree) (line : ℕ) (o : Option Refusal) → check_maybe t x line o ≡ None → o ≡ None
 maybe_back t None line o e = e
 maybe_back t (Some x) line o e = expr_back t x line o e
 
-bounds_back : (t : NameTable) (bs : List BoundTree) (line : ℕ) (o : Option Refusal) → check_bounds t bs line o ≡ None → o ≡ None
+pub bounds_back : (t : NameTable) (bs : List BoundTree) (line : ℕ) (o : Option Refusal) → check_bounds t bs line o ≡ None → o ≡ None
 bounds_back t [] line o e = e
 bounds_back t (b ∷ bs) line o e = expr_back t b.low line o (maybe_back t b.high line (check_expr t b.low line o) (bounds_back t bs line (check_maybe t b.high line (check_expr t b.low line o)) e))
 
@@ -125,7 +126,7 @@ module _ (t : NameTable) (ss : List SymbolTree) (bare : (x : List ℕ) → has_s
 
   high : (dummy last : Bool) (low : ExprTree) (e : Option ExprTree) (line : ℕ) (o : Option Refusal) → check_maybe t e line o ≡ None → is_bad_high t dummy last low e ≡ false → IsHigh e ss
   high dummy last low None line o j h = tt
-  high dummy last low (Some e) line o j h = limit dummy e line o j (or_parts (is_bad_limit t dummy e) (is_below (worth_in t e) (worth_in t low)) h).0
+  high dummy last low (Some e) line o j h = limit dummy e line o j (or_parts (is_bad_limit t dummy e) (is_below (const_value_in t e) (const_value_in t low)) h).0
 
   bounds_hold : (dummy : Bool) (bs : List BoundTree) (line : ℕ) (o : Option Refusal) → check_bounds t bs line o ≡ None → has_bad_bound t dummy bs ≡ false → AreBounds bs ss
   bounds_hold dummy [] line o j h = tt
@@ -154,7 +155,7 @@ module _ (t : NameTable) (ss : List SymbolTree) (bare : (x : List ℕ) → has_s
 
 -- ---- tables
 
-no_bounds : (s : Option ShapeTree) → is_some s ≡ false → has_bounds (bounds_in s) ≡ false
+pub no_bounds : (s : Option ShapeTree) → is_some s ≡ false → has_bounds (bounds_in s) ≡ false
 no_bounds None h = refl
 no_bounds (Some s) h = cc
 

@@ -3,8 +3,8 @@ use Rattle.std.proofs.Common.{◌≡◌, ℕ, zero, suc, false, List, [], ◌∷
 use Rattle.f77_ast.specs.declared.symbol.Place.{Place}
 use Rattle.f77_ast.specs.declared.symbol.Place.TheVariants as place
 use Rattle.f77_ast.specs.Symbols.{SymbolTree}
-use Rattle.laws_tables.specs.Laws.{NoDummies, DummiesFirst}
-use Rattle.laws_effects.specs.Tables.{is_dummy, HasNoDummy, DummiesLead}
+use Rattle.laws_programs.specs.SymbolTables.Laws.{NoDummies, DummiesFirst}
+use Rattle.laws_programs.specs.Effects.Tables.{is_dummy, HasNoDummy, DummiesLead}
 
 no_dummy : (q : Place) → ((k : ℕ) → q ≡ place.Dummy k → ⊥) → is_dummy q ≡ false
 no_dummy (place.Local g o) h = refl

@@ -11,18 +11,18 @@ use Rattle.f77_ast.specs.Symbols.{BoundTree, SymbolTree}
 use Rattle.tracked_cells.specs.Standing.{has_bounds}
 use Rattle.call_graph.specs.Actuals.{symbol_with_name, is_array}
 use Rattle.f77_meaning.specs.Modules.{is_function, meant_by, names}
-use Rattle.laws_tables.specs.Shapes.{symbol_named, has_any, bounds_of, Shaped, AllShaped, ShapedActual, ShapedActuals, ShapedStep, ShapedStmt, ShapedWhat, ShapedArms, ShapedElse, ShapedLoop, ShapedList}
-use Rattle.laws_tables.specs.Shapes as laid
-use Rattle.laws_storage.proofs.ActualLaws.{meaning, no_meaning}
-use Rattle.roundtrip_statements.specs.Phrased.{IsWhat}
-use Rattle.roundtrip_modules.specs.Numbered.{last_of, last_arms, last_in}
-use Rattle.laws_effects.specs.Trees.{StandsBare, StandsIndexed, IsShaped, AreShaped, IsActual, AreActuals, OfMaybe, StmtFits, WhatFits, ListFits, ArmsFit, ElseFits, LoopFits}
-use Rattle.laws_effects.specs.Tables.{anything}
+use Rattle.laws_programs.specs.SymbolTables.Shapes.{symbol_named, has_any, bounds_of, Shaped, AllShaped, ShapedActual, ShapedActuals, ShapedStep, ShapedStmt, ShapedWhat, ShapedArms, ShapedElse, ShapedLoop, ShapedList}
+use Rattle.laws_programs.specs.SymbolTables.Shapes as laid
+use Rattle.laws_programs.proofs.Storage.ActualLaws.{meaning, no_meaning}
+use Rattle.roundtrip_programs.specs.Statements.Phrased.{IsWhat}
+use Rattle.roundtrip_programs.specs.ModuleTexts.Numbered.{last_of, last_arms, last_in}
+use Rattle.laws_programs.specs.Effects.Trees.{StandsBare, StandsIndexed, IsShaped, AreShaped, IsActual, AreActuals, OfMaybe, StmtFits, WhatFits, ListFits, ArmsFit, ElseFits, LoopFits}
+use Rattle.laws_programs.specs.Effects.Tables.{anything}
 use Rattle.laws_programs.proofs.Ordered.{StmtOrdered, BelowOrdered, LoopOrdered, ArmsOrdered, ElseOrdered, ListOrdered}
 
 -- ---- names
 
-same_named : (ss : List SymbolTree) (x : List ℕ) → symbol_named ss x ≡ symbol_with_name ss x
+pub same_named : (ss : List SymbolTree) (x : List ℕ) → symbol_named ss x ≡ symbol_with_name ss x
 same_named [] x = refl
 same_named (s ∷ ss) x = go (bytes_eq x s.name) (same_named ss x)
   where
@@ -30,7 +30,7 @@ same_named (s ∷ ss) x = go (bytes_eq x s.name) (same_named ss x)
     go true h = refl
     go false h = h
 
-name_of : (ss : List SymbolTree) (x : List ℕ) (s : SymbolTree) → symbol_with_name ss x ≡ Some s → x ≡ s.name
+pub name_of : (ss : List SymbolTree) (x : List ℕ) (s : SymbolTree) → symbol_with_name ss x ≡ Some s → x ≡ s.name
 name_of [] x s e = cc
 name_of (y ∷ ss) x s e = go (bytes_eq x y.name) refl e (name_of ss x s)
   where
@@ -38,7 +38,7 @@ name_of (y ∷ ss) x s e = go (bytes_eq x y.name) refl e (name_of ss x s)
     go true t h ih = let same : y ≡ s = cc in (bytes_eq-Decides x y.name).0 t ∙ ap (λ z. z.name) same
     go false t h ih = ih h
 
-any_array : (o : Option SymbolTree) → has_any (bounds_of o) → is_array o ≡ true
+pub any_array : (o : Option SymbolTree) → has_any (bounds_of o) → is_array o ≡ true
 any_array None h = absurd h
 any_array (Some s) h = go s.bounds h
   where
@@ -51,7 +51,7 @@ no_array None h = refl
 no_array (Some s) h = ap has_bounds h
 
 -- what has the name of a function and no bounds is one
-function_named : (ss : List SymbolTree) (x : List ℕ) → bounds_of (symbol_with_name ss x) ≡ [] → is_some (intrinsic_named x) ≡ true → names ss x ≡ Function
+pub function_named : (ss : List SymbolTree) (x : List ℕ) → bounds_of (symbol_with_name ss x) ≡ [] → is_some (intrinsic_named x) ≡ true → names ss x ≡ Function
 function_named ss x b i = go (symbol_with_name ss x) refl b
   where
     go : (o : Option SymbolTree) → symbol_with_name ss x ≡ o → bounds_of o ≡ [] → names ss x ≡ Function

@@ -5,26 +5,26 @@ use Rattle.std.specs.List.{list_any}
 use Rattle.std.proofs.lemmas.Bool.{and_from, or_from, not_from_false, eqb-true}
 use Rattle.f77_ast.specs.DeclTrees.{ModuleTree}
 use Rattle.f77_exprs.specs.Lexical.{in_name, skip_name}
-use Rattle.roundtrip_statements.specs.Formed.{Each}
-use Rattle.roundtrip_statements.specs.Phrased.{IsPhrase}
+use Rattle.roundtrip_programs.specs.Statements.Formed.{Each}
+use Rattle.roundtrip_programs.specs.Statements.Phrased.{IsPhrase}
 use Rattle.f77_statements.specs.Phrases.{program, subroutine}
 use Rattle.f77_ast.specs.declared.places.Part.TheVariants as parts
 use Rattle.std.specs.Prelude.{None}
-use Rattle.roundtrip_modules.specs.Cards.{card, title_cards}
-use Rattle.roundtrip_modules.specs.Numbered.{TitleFits}
-use Rattle.roundtrip_modules.proofs.Kept.{Held}
-use Rattle.laws_effects.specs.Tables.{is_plain}
-use Rattle.laws_programs.proofs.Sources.{AnyLabel}
+use Rattle.roundtrip_programs.specs.ModuleTexts.Cards.{card, title_cards}
+use Rattle.roundtrip_programs.specs.ModuleTexts.Numbered.{TitleFits}
+use Rattle.roundtrip_programs.proofs.ModuleTexts.Kept.{Held}
+use Rattle.laws_programs.specs.Effects.Tables.{is_plain}
+use Rattle.roundtrip_programs.proofs.ModuleTexts.Cards.{Any as AnyLabel}
 
 -- what is no character of a name is none of a character of a name
-is_other : (k c : ℕ) → in_name k ≡ false → in_name c ≡ true → nat_eq c k ≡ false
+pub is_other : (k c : ℕ) → in_name k ≡ false → in_name c ≡ true → nat_eq c k ≡ false
 is_other k c h i = go (nat_eq c k) refl
   where
     go : (b : Bool) → nat_eq c k ≡ b → nat_eq c k ≡ false
     go true e = let z : true ≡ false = sym i ∙ ap in_name (eqb-true c k e) ∙ h in cc
     go false e = e
 
-has_none : (k : ℕ) → in_name k ≡ false → (x : List ℕ) → skip_name x ≡ [] → list_any (λ c. nat_eq c k) x ≡ false
+pub has_none : (k : ℕ) → in_name k ≡ false → (x : List ℕ) → skip_name x ≡ [] → list_any (λ c. nat_eq c k) x ≡ false
 has_none k h [] e = refl
 has_none k h (c ∷ cs) e = go (in_name c) refl e (has_none k h cs)
   where

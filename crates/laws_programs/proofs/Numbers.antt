@@ -2,8 +2,8 @@
 use Rattle.std.proofs.Common.{◌≡◌, ℕ, zero, suc, ◌+◌, List, [], ◌∷◌, ◌++◌, Some, refl, sym, subst, arith}
 use Rattle.std.specs.Prelude.{slice_get}
 use Rattle.f77_ast.specs.Trees.{StmtTree, stmt, WhatTree, assign, block_if, logical_if, do_loop, call, goto, continue, return, stop, print, read, arm, ArmTrees, no_arms, more_arms, ElseTree, no_else, otherwise, LoopTree, loop, StmtTrees, no_stmts, more_stmts}
-use Rattle.roundtrip_statements.specs.Phrased.{IsWhat}
-use Rattle.roundtrip_modules.specs.Numbered.{last_of, last_by, last_body, last_arms, last_else, last_in}
+use Rattle.roundtrip_programs.specs.Statements.Phrased.{IsWhat}
+use Rattle.roundtrip_programs.specs.ModuleTexts.Numbered.{last_of, last_by, last_body, last_arms, last_else, last_in}
 use Rattle.f77_ast.specs.StatementNumbers.{stmt_numbers, part_numbers, list_numbers, arms_numbers, else_numbers, loop_numbers, StandOnce, IsNumbered}
 use Rattle.laws_programs.specs.Programs.{GoUp}
 use Rattle.laws_programs.proofs.Ordered.{StmtOrdered, BelowOrdered, LoopOrdered, ArmsOrdered, ElseOrdered, ListOrdered}

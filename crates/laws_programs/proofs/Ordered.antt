@@ -5,12 +5,12 @@ use Rattle.f77_ast.specs.declared.places.Part.TheVariants as parts
 use Rattle.f77_ast.specs.Trees.{StmtTree, stmt, WhatTree, assign, block_if, logical_if, do_loop, call, goto, continue, return, stop, print, read, arm, ArmTrees, no_arms, more_arms, ElseTree, no_else, otherwise, LoopTree, loop, StmtTrees, no_stmts, more_stmts}
 use Rattle.f77_ast.specs.DeclTrees.{ModuleTree}
 use Rattle.f77_statements.specs.Phrases.{end_if, end_do, end_module}
-use Rattle.roundtrip_statements.specs.Formed.{Each}
-use Rattle.roundtrip_statements.specs.Phrased.{IsWhat, IsPhrase}
-use Rattle.roundtrip_modules.specs.Cards.{Card, card, cards_of, cards_by, body_cards, block_cards, part_cards, else_cards, cards_in, title_cards, decl_cards, statements_of}
-use Rattle.roundtrip_modules.specs.Numbered.{last_of, last_arms, last_in, IsNumbered, NumberedBelow, NumberedBody, NumberedBlock, NumberedArms, NumberedElse, AreNumbered}
-use Rattle.roundtrip_modules.proofs.Kept.{Held}
-use Rattle.laws_programs.proofs.Sources.{AnyLabel}
+use Rattle.roundtrip_programs.specs.Statements.Formed.{Each}
+use Rattle.roundtrip_programs.specs.Statements.Phrased.{IsWhat, IsPhrase}
+use Rattle.roundtrip_programs.specs.ModuleTexts.Cards.{Card, card, cards_of, cards_by, body_cards, block_cards, part_cards, else_cards, cards_in, title_cards, decl_cards, statements_of}
+use Rattle.roundtrip_programs.specs.ModuleTexts.Numbered.{last_of, last_arms, last_in, IsNumbered, NumberedBelow, NumberedBody, NumberedBlock, NumberedArms, NumberedElse, AreNumbered}
+use Rattle.roundtrip_programs.proofs.ModuleTexts.Kept.{Held}
+use Rattle.roundtrip_programs.proofs.ModuleTexts.Cards.{Any as AnyLabel}
 
 abbrev pub InnerOrdered : ℕ → StmtTree → Type 0
 InnerOrdered n (stmt id label w) = (id ≡ n + 1) × IsWhat w

@@ -1,7 +1,7 @@
 -- The effects of programs that are read hold in every run, by the laws of effects.
 use Rattle.f77_meaning.specs.Modules.{known_of}
-use Rattle.laws_effects.specs.Laws.{EffectsAreOfRuns, AllEffectsHold}
-use Rattle.laws_effects.specs.Summaries.{bottom_up, SummariesAreMade}
+use Rattle.laws_programs.specs.Effects.Laws.{EffectsAreOfRuns, AllEffectsHold}
+use Rattle.laws_programs.specs.Effects.Summaries.{bottom_up, SummariesAreMade}
 use Rattle.laws_programs.specs.Laws.{EffectsAreOfPrograms, AllAreOfPrograms}
 use Rattle.laws_programs.proofs.Tables.{as_many}
 use Rattle.laws_programs.proofs.Whole.{modules_are_read, numbers_stand_once}

@@ -7,7 +7,7 @@ use Rattle.f77_ast.specs.DeclTrees.{ParsedTree}
 use Rattle.f77_statements.specs.declared.refusal.Cause.{Cause}
 use Rattle.f77_statements.specs.Phrases.{PhraseTree, program, subroutine, specification, simple, logical_if, block_if, else_if, else_part, end_if, do_head, end_do, end_module}
 use Rattle.f77_statements.specs.Statements.{phrase_of}
-use Rattle.refusal_codes.specs.declared.refusal.Refusal.{Refusal}
+use Rattle.fx_lists.specs.declared.refusal.Refusal.{Refusal}
 use Rattle.f77_structure.specs.Checks.{fault_of}
 use Rattle.f77_structure.specs.Depth.{is_deep}
 use Rattle.f77_structure.specs.Lists.{is_none_of}
@@ -15,20 +15,19 @@ use Rattle.f77_parser.specs.Gives.{Refused, and_then}
 use Rattle.f77_parser.specs.Statements.{StatementTree, read_as, all_read, marks_of}
 use Rattle.f77_parser.specs.Building.{build_module}
 use Rattle.f77_parser.specs.Modules.{ends_module, closing_at, unless_faulty, modules_from, parse_of}
-use Rattle.roundtrip_statements.specs.Formed.{Each}
-use Rattle.roundtrip_statements.specs.Phrased.{IsPhrase}
-use Rattle.roundtrip_statements.specs.Written.{as_written}
-use Rattle.roundtrip_statements.proofs.Phrases.{statements_read_back}
-use Rattle.roundtrip_modules.specs.Cards.{statements_of}
-use Rattle.roundtrip_modules.specs.Numbered.{IsWell}
-use Rattle.roundtrip_modules.specs.ModuleLaws.{IsStatement}
-use Rattle.roundtrip_modules.proofs.Kept.{Each-append, Kind, Stated, Held, all_held, each-map}
-use Rattle.roundtrip_modules.proofs.Well.{built_well}
+use Rattle.roundtrip_programs.specs.Statements.Formed.{Each}
+use Rattle.roundtrip_programs.specs.Statements.Phrased.{IsPhrase}
+use Rattle.roundtrip_programs.specs.Statements.Written.{as_written}
+use Rattle.roundtrip_programs.proofs.Statements.Phrases.{statements_read_back}
+use Rattle.roundtrip_programs.specs.ModuleTexts.Cards.{statements_of}
+use Rattle.roundtrip_programs.specs.ModuleTexts.Numbered.{IsWell}
+use Rattle.roundtrip_programs.specs.ModuleTexts.ModuleLaws.{IsStatement}
+use Rattle.roundtrip_programs.proofs.ModuleTexts.Kept.{Each-append, Kind, Stated, Held, all_held, each-map}
+use Rattle.roundtrip_programs.proofs.ModuleTexts.Well.{built_well}
+use Rattle.roundtrip_programs.proofs.Written.Read.{formed-by as statement-formed, all-formed, only-end as ends-module}
+use Rattle.roundtrip_programs.proofs.ModuleTexts.Cards.{Any as AnyLabel}
 
 -- ---- what is built
-
-abbrev pub AnyLabel : Option ℕ → Type 0
-AnyLabel l = Unit {0}
 
 -- a module that is numbered in the order of the text, and each statement of which the grammar gives
 pub record IsBuilt (p : ParsedTree) : Type 0 where
@@ -70,33 +69,7 @@ is_built closing begun s e i f = record {
 
 -- ---- statements
 
-statement-formed : (l : Line) (r : Result PhraseTree Cause) (f : StatementTree → Result (List StatementTree) Refused) (ss : List StatementTree) → phrase_of l.body ≡ r
-    → and_then (read_as l r) f ≡ Ok ss → ((s : StatementTree) → IsStatement s → f s ≡ Ok ss → Each IsStatement ss) → Each IsStatement ss
-statement-formed l (Ok p) f ss e h g =
-    g (record { first = l.first; label = l.label; deep = is_deep l.body; comments = l.comments; phrase = p }) (statements_read_back.formed l.body p e) h
-statement-formed l (Err c) f ss e h g = cc
-
-all-formed : (ls : List Line) (done ss : List StatementTree) → Each IsStatement done → all_read done ls ≡ Ok ss → Each IsStatement ss
-all-formed [] done ss d h = let same : done ≡ ss = cc in subst (Each IsStatement) same d
-all-formed (l ∷ ls) done ss d h =
-    statement-formed l (phrase_of l.body) (λ s. all_read (done ++ s ∷ []) ls) ss refl h
-    (λ s p e. all-formed ls (done ++ s ∷ []) ss (Each-append IsStatement done (s ∷ []) d (record { first = p; others = tt })) e)
-
 -- ---- modules
-
-ends-module : (p : PhraseTree) → ends_module p ≡ true → p ≡ end_module
-ends-module (program n) h = cc
-ends-module (subroutine n ds) h = cc
-ends-module (specification d) h = cc
-ends-module (simple w) h = cc
-ends-module (logical_if e w) h = cc
-ends-module (block_if e) h = cc
-ends-module (else_if e) h = cc
-ends-module else_part h = cc
-ends-module end_if h = cc
-ends-module (do_head d) h = cc
-ends-module end_do h = cc
-ends-module end_module h = refl
 
 -- of a module that goes up to its END, of statements that the grammar gives, without a fault
 abbrev pub OfBuilt : (ParsedTree → Type 0) → Type 0

@@ -3,15 +3,15 @@ use Rattle.std.proofs.Common.{◌≡◌, ℕ, zero, suc, List, [], ◌∷◌, le
 use Rattle.std.specs.Prelude.{slice_get}
 use Rattle.f77_ast.specs.DeclTrees.{ParsedTree}
 use Rattle.f77_ast.specs.Symbols.{SymbolTree}
-use Rattle.roundtrip_statements.specs.Formed.{Each}
+use Rattle.roundtrip_programs.specs.Statements.Formed.{Each}
 use Rattle.storage_layout.specs.Symbols.{symbols_of}
-use Rattle.laws_tables.proofs.Answers.{answered_by}
-use Rattle.laws_tables.proofs.DummyLaws.{dummies_come_first}
-use Rattle.laws_tables.proofs.ShapeLaws.{bodies_are_shaped}
+use Rattle.laws_programs.proofs.SymbolTables.Answers.{answered_by}
+use Rattle.laws_programs.proofs.SymbolTables.DummyLaws.{dummies_come_first}
+use Rattle.laws_programs.proofs.SymbolTables.ShapeLaws.{bodies_are_shaped}
 use Rattle.f77_meaning.specs.Modules.{Known, known_of}
 use Rattle.f77_ast.specs.StatementNumbers.{list_numbers}
-use Rattle.laws_effects.specs.Tables.{IsRead}
-use Rattle.laws_effects.specs.Laws.{AreRead, AreNumberedOnce}
+use Rattle.laws_programs.specs.Effects.Tables.{IsRead}
+use Rattle.laws_programs.specs.Effects.Laws.{AreRead, AreNumberedOnce}
 use Rattle.laws_programs.specs.Programs.{AreTables, GoUp}
 use Rattle.laws_programs.specs.Laws.{ModulesAreRead, NumbersGoUp, NumbersStandOnce}
 use Rattle.laws_programs.proofs.Sources.{IsBuilt, all_built}

@@ -7,12 +7,12 @@ use Rattle.f77_ast.specs.Symbols.{SymbolTree}
 use Rattle.call_graph.specs.declared.graph.Graph.{Graph}
 use Rattle.f77_meaning.specs.Modules.{known_of}
 use Rattle.f77_meaning.specs.Claimed.{InEveryRun}
-use Rattle.laws_storage.specs.Programs.{IsLinked}
-use Rattle.laws_storage.specs.Calls.{AreLaidOut}
+use Rattle.laws_programs.specs.Storage.Programs.{IsLinked}
+use Rattle.laws_programs.specs.Storage.Calls.{AreLaidOut}
 use Rattle.f77_ast.specs.StatementNumbers.{list_numbers}
-use Rattle.laws_effects.specs.Claims.{IsOfModule}
-use Rattle.laws_effects.specs.Laws.{AreRead, AreNumberedOnce, AllHold}
-use Rattle.laws_effects.specs.Summaries.{bottom_up}
+use Rattle.laws_programs.specs.Effects.Claims.{IsOfModule}
+use Rattle.laws_programs.specs.Effects.Laws.{AreRead, AreNumberedOnce, AllHold}
+use Rattle.laws_programs.specs.Effects.Summaries.{bottom_up}
 use Rattle.laws_programs.specs.Programs.{AreTables, IsProgram, GoUp}
 
 -- modules that are read, with their tables, are such as laws on runs ask

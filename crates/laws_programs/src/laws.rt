@@ -1,7 +1,7 @@
 //! The laws of programs that are read.
 ghost use Rattle.laws_programs.specs.Laws.{AllAreOfPrograms, EffectsAreOfPrograms, ModulesAreRead, NumbersGoUp, NumbersStandOnce, ProgramsAreLinked};
 
-use laws_effects::{all_effects_hold, effects_are_of_runs, summaries_are_made};
+use crate::{all_effects_hold, effects_are_of_runs, summaries_are_made};
 
 /// Of modules that are read, with their tables: the dummies come first in the table, a main program has none, bounds name scalars
 /// alone, arrays stand in statements as they may, statements are numbered from 1, and names have no `:` and no `/`.

@@ -6,14 +6,14 @@ use Rattle.affine_systems.specs.declared.row.Var.TheVariants.{Cell, Exit, Phi, A
 use Rattle.affine_systems.specs.declared.row.Row.{Row}
 use Rattle.affine_systems.specs.declared.row.System.{System}
 use Rattle.affine_systems.specs.Given.{Fits}
-use Rattle.affine_systems.specs.Calls.{meet, substitute}
+use Rattle.affine_systems.specs.Calls.{meet}
 use Rattle.affine_systems.specs.Tidy.{tidy}
 use Rattle.affine_systems.proofs.Basics.{if_cases}
 use Rattle.hull_projection.specs.declared.projection.Shadow.{Shadow}
 use Rattle.hull_projection.specs.Project.{shadow, project}
 use Rattle.hull_projection.specs.Variables.{row_vars}
 use Rattle.hull_projection.proofs.ProjectLaws.{project_fits}
-use Rattle.system_renaming.specs.Renaming.{rename_all}
+use Rattle.preconditions.specs.transformer_algebra.Renaming.{rename_all}
 use Rattle.f77_ast.specs.Trees.{ExprTree, ExprTrees, StmtTree, WhatTree, ArmTree, ArmTrees, ElseTree, LoopTree, StmtTrees}
 use Rattle.f77_ast.specs.Trees as tree
 use Rattle.f77_ast.specs.declared.variable.Variable.{Variable}
@@ -21,59 +21,51 @@ use Rattle.f77_ast.specs.declared.variable.Unit.{Unit as BlockUnit}
 use Rattle.f77_ast.specs.Symbols.{BoundTree, SymbolTree, number_from}
 use Rattle.f77_ast.specs.Shared.{symbol_at}
 use Rattle.tracked_cells.specs.Standing.{has_bounds}
-use Rattle.f77_results.specs.declared.results.At.{At}
-use Rattle.f77_results.specs.Summaries.{SummaryTree}
+use Rattle.f77_ast.specs.declared.results.At.{At}
+use Rattle.f77_ast.specs.Summaries.{SummaryTree}
 use Rattle.affine_forms.specs.Conditions.{no_rows, condition_of}
-use Rattle.transformer_algebra.specs.declared.transformer.Transformer.{Transformer}
-use Rattle.transformer_algebra.specs.Transformers.{without}
-use Rattle.call_translation.specs.Scopes.{ScopeTree}
-use Rattle.transformers.specs.Lists.{value_at, transformer_at}
-use Rattle.region_sets.specs.declared.region.Access.{Access}
-use Rattle.region_sets.specs.declared.region.Access.TheVariants.{Read, Write}
-use Rattle.region_sets.specs.declared.region.Region.{Region}
-use Rattle.region_sets.specs.Regions.{region}
-use Rattle.region_sets.specs.Lists.{is_access, accesses, or_none, accesses_at, all_composed, list_regions}
-use Rattle.region_sets.specs.Sets.{unite_all}
-use Rattle.region_sets.specs.Loops.{over_loop}
-use Rattle.region_sets.specs.Naming.{in_terms}
-use Rattle.region_sets.specs.Compose.{normal_form}
-use Rattle.call_equations.specs.declared.link.Link.{Link}
-use Rattle.call_equations.specs.Sides.{SidesTree, changed_cells}
-use Rattle.call_equations.specs.Rows.{subscript_rows}
-use Rattle.call_equations.specs.Links.{link_of}
-use Rattle.region_translation.specs.Pieces.{names_of, are_own, linked, put_in, put_in_all, cell_row, if_row, with_var, with_forms, formless, subscripts, without_all, linked_piece, piece_in_caller}
-use Rattle.region_translation.specs.Caller.{by_link, to_caller}
-use Rattle.array_regions.specs.declared.arms.Reached.{Reached}
-use Rattle.array_regions.specs.References.{is_constant, scalar, scalar_at, array_at, element_at, whole_of, whole, element_of, element, named}
-use Rattle.array_regions.specs.Reads.{reads, all_reads, inner_reads, maybe_reads}
-use Rattle.array_regions.specs.Simple.{item_does, reading}
-use Rattle.array_regions.specs.Arms.{always, if_true, into_arm, past_arm, past_arms, under_tests, all_met, arm_reads, tests_reads}
-use Rattle.array_regions.specs.Loops.{Found, range_of, loop_reads, all_over, do_set}
-use Rattle.array_regions.specs.Calls.{Called, Callees, actual_reads, actuals_reads, sides, all_in_caller, summary_in_caller}
-use Rattle.array_regions.specs.Statement.{stmt_set, what_set, arm_sets, arm_set, else_set, body_set, at_stmt, at_parts, at_list, at_arms, at_arm, at_else, at_loop, list_set}
-use Rattle.array_regions.specs.Entry.{bounds_reads, symbols_reads, goes_out, locals, for_callers, seen, summary_of}
-use Rattle.array_regions.specs.Modules.{calls_of, regions_with}
-use Rattle.base_rows.specs.Scopes.{is_short_name}
+use Rattle.preconditions.specs.transformer_algebra.declared.transformer.Transformer.{Transformer}
+use Rattle.preconditions.specs.transformer_algebra.Transformers.{without}
+use Rattle.preconditions.specs.call_translation.Scopes.{ScopeTree}
+use Rattle.preconditions.specs.transformers.Lists.{value_at, transformer_at}
+use Rattle.in_out_regions.specs.region_sets.declared.region.Access.{Access}
+use Rattle.in_out_regions.specs.region_sets.declared.region.Access.TheVariants.{Read, Write}
+use Rattle.in_out_regions.specs.region_sets.declared.region.Region.{Region}
+use Rattle.in_out_regions.specs.region_sets.Regions.{region}
+use Rattle.in_out_regions.specs.region_sets.Lists.{is_access, accesses, or_none, accesses_at, all_composed, list_regions}
+use Rattle.in_out_regions.specs.region_sets.Sets.{unite_all}
+use Rattle.in_out_regions.specs.region_sets.Loops.{over_loop}
+use Rattle.in_out_regions.specs.call_equations.declared.link.Link.{Link}
+use Rattle.in_out_regions.specs.call_equations.Sides.{SidesTree, changed_cells}
+use Rattle.in_out_regions.specs.call_equations.Rows.{subscript_rows}
+use Rattle.in_out_regions.specs.call_equations.Links.{link_of}
+use Rattle.in_out_regions.specs.region_translation.Pieces.{names_of, are_own, linked, cell_row, if_row, with_var, with_forms, formless, subscripts, without_all, linked_piece, piece_in_caller}
+use Rattle.in_out_regions.specs.region_translation.Caller.{by_link, to_caller}
+use Rattle.in_out_regions.specs.array_regions.declared.arms.Reached.{Reached}
+use Rattle.in_out_regions.specs.array_regions.References.{is_constant, scalar, scalar_at, array_at, element_at, whole_of, whole, element_of, element, named}
+use Rattle.in_out_regions.specs.array_regions.Reads.{reads, all_reads, inner_reads, maybe_reads}
+use Rattle.in_out_regions.specs.array_regions.Simple.{item_does, reading}
+use Rattle.in_out_regions.specs.array_regions.Arms.{always, if_true, into_arm, past_arm, past_arms, under_tests, all_met, arm_reads, tests_reads}
+use Rattle.in_out_regions.specs.array_regions.Loops.{Found, range_of, loop_reads, all_over, do_set}
+use Rattle.in_out_regions.specs.array_regions.Calls.{Called, Callees, actual_reads, actuals_reads, sides, all_in_caller, summary_in_caller}
+use Rattle.in_out_regions.specs.array_regions.Statement.{stmt_set, what_set, arm_sets, arm_set, else_set, body_set, at_stmt, at_parts, at_list, at_arms, at_arm, at_else, at_loop, list_set}
+use Rattle.in_out_regions.specs.array_regions.Entry.{bounds_reads, symbols_reads, locals, for_callers, seen, summary_of}
+use Rattle.in_out_regions.specs.array_regions.Modules.{calls_of, regions_with}
+use Rattle.base_json.specs.Scopes.{is_short_name}
 use Rattle.base_values.specs.Naming.{Each}
-use Rattle.laws_stored.proofs.Lists.{each-append, at_found, set_found}
+use Rattle.laws_stored.proofs.Lists.{at_found, set_found, each-append}
 use Rattle.laws_stored.proofs.Symbols.{SymbolsNamed}
-use Rattle.laws_stored.proofs.Tidied.{IsAscending, AreAscending, tidy_fit, fit_ascending, meet_fit, push_fit, of_rows_fit, rename_fit}
+use Rattle.laws_stored.proofs.Tidied.{AreAscending, tidy_fit, fit_ascending, meet_fit, push_fit, of_rows_fit, rename_fit}
 use Rattle.laws_stored.proofs.RulesFit.{none_fit, condition_fits, without_fits}
-use Rattle.laws_stored.proofs.RegionRules.{MaybeAscends, replaced_ascends, before_ascends, mapped_fit, IsSuch, AreSuch, both_such, all_such, piece_such, all_composed_such, looped_such, united_such, list_such}
+use Rattle.laws_stored.proofs.RegionRules.{all_put_ascend, mapped_fit, IsSuch, AreSuch, both_such, all_such, piece_such, all_composed_such, looped_such, united_such, list_such}
 use Rattle.laws_stored.proofs.Links.{IsCalled, subscripts_ascend, MaybeLink, link_ok}
+use Rattle.call_graph.specs.Visible.{is_visible_to_callers}
 
 -- ---- a system of the callee as one of the caller
 
-put_ascends : (n : ℕ) (e r : Row) → IsAscending r → MaybeAscends (put_in n e r)
-put_ascends n e r h = if_cases MaybeAscends (in_terms (Aux n) r.terms) (normal_form (substitute r (Aux n) e)) (Some r) (λ q. replaced_ascends r (Aux n) e) (λ q. h)
-
-all_put_ascend : (n : ℕ) (e : Row) (rs : List Row) → AreAscending rs → AreAscending (put_in_all n e rs)
-all_put_ascend n e [] h = tt
-all_put_ascend n e (r ∷ rs) h = before_ascends (put_in n e r) (put_in_all n e rs) (put_ascends n e r h.0) (all_put_ascend n e rs h.1)
-
 row_ascends : (n : ℕ) (o : Option Row) (s : System) → AreAscending s.rows → AreAscending (if_row n o s).rows
 row_ascends n None s h = h
-row_ascends n (Some e) s h = all_put_ascend n e s.rows h
+row_ascends n (Some e) s h = all_put_ascend (Aux n) e s.rows h
 
 var_ascends : (c : SidesTree) (r : ℕ) (v : Var) (s : System) → AreAscending s.rows → AreAscending (with_var c r v s).rows
 var_ascends c r (Cell n) s h = h
@@ -143,7 +135,7 @@ pub seen_such : (V : Variable → Type 0) (K : Access → Type 0) (ss : List Sym
 seen_such V K ss cs [] h = tt
 seen_such V K ss cs (r ∷ rs) h =
     let others = seen_such V K ss cs rs h.1 in
-    if_cases (AreSuch V K) (goes_out ss r.variable) (for_callers cs r ∷ seen ss cs rs) (seen ss cs rs) (λ e. ((h.0.0, h.0.1, mapped_fit (without cs) (without_fits cs) r.pieces h.0.2), others)) (λ e. others)
+    if_cases (AreSuch V K) (is_visible_to_callers ss r.variable) (for_callers cs r ∷ seen ss cs rs) (seen ss cs rs) (λ e. ((h.0.0, h.0.1, mapped_fit (without cs) (without_fits cs) r.pieces h.0.2), others)) (λ e. others)
 
 -- a test that is reached
 pub always_fits : Fits always.system

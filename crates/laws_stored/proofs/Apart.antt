@@ -9,21 +9,22 @@ use Rattle.std.proofs.lemmas.Cmp.{nat_cmp_total, tied_itself}
 use Rattle.f77_ast.specs.declared.variable.Variable.{Variable}
 use Rattle.f77_ast.specs.declared.variable.Variable.TheVariants.{Own, Block, Saved}
 use Rattle.f77_ast.specs.Symbols.{number_from}
-use Rattle.f77_results.specs.Variables.{variable_cmp}
-use Rattle.transformer_algebra.specs.Laws.{In, here, there}
-use Rattle.region_sets.specs.declared.region.Access.{Access}
-use Rattle.region_sets.specs.declared.region.Access.TheVariants as access
-use Rattle.region_sets.specs.declared.region.Region.{Region}
-use Rattle.region_sets.specs.Sets.{access_number, region_cmp}
-use Rattle.region_sets.specs.Written.{access_text, name_text}
+use Rattle.f77_ast.specs.Variables.{variable_cmp}
+use Rattle.preconditions.specs.transformer_algebra.Laws.{In, here, there}
+use Rattle.in_out_regions.specs.region_sets.declared.region.Access.{Access}
+use Rattle.in_out_regions.specs.region_sets.declared.region.Access.TheVariants as access
+use Rattle.in_out_regions.specs.region_sets.declared.region.Region.{Region}
+use Rattle.in_out_regions.specs.region_sets.Sets.{access_number, region_cmp}
+use Rattle.in_out_regions.specs.region_sets.Written.{access_text, name_text}
 use Rattle.base_json.specs.Written.{text_data}
-use Rattle.base_rows.specs.Distinct.{are_new}
-use Rattle.base_rows.specs.Scopes.{cells_alone, variable_of}
+use Rattle.base_json.specs.Distinct.{are_new}
+use Rattle.base_json.specs.Scopes.{cells_alone, variable_of}
 use Rattle.base_values.specs.Naming.{Each, AreNames, VariableFits}
 use Rattle.base_values.specs.Read.{region_key, are_apart}
 use Rattle.base_values.proofs.NamesBack.{own_read_back, block_read_back, saved_read_back}
 use Rattle.laws_marks.proofs.InUnique.{Ordered, itself}
-use Rattle.laws_stored.proofs.Lists.{each-append, each_more}
+use Rattle.base_values.proofs.Options.{each_map as each_more}
+use Rattle.laws_stored.proofs.Lists.{each-append}
 
 -- ---- what is written of a variable
 

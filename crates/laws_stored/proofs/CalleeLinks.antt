@@ -11,7 +11,7 @@ use Rattle.affine_systems.proofs.AscendLaws.{ascends-renamed}
 use Rattle.hull_projection.specs.Minus.{AllFit}
 use Rattle.hull_projection.specs.Variables.{row_vars}
 use Rattle.hull_projection.proofs.ProjectLaws.{project_fits}
-use Rattle.system_renaming.specs.Renaming.{renamed_by, push_rows}
+use Rattle.preconditions.specs.transformer_algebra.Renaming.{renamed_by, push_rows}
 use Rattle.f77_ast.specs.declared.symbol.Place.{Place}
 use Rattle.f77_ast.specs.declared.symbol.Place.TheVariants.{Local, Dummy, Block as Lies, Constant}
 use Rattle.f77_ast.specs.declared.variable.Variable.{Variable}
@@ -24,35 +24,36 @@ use Rattle.f77_meaning.specs.Modules.{Known}
 use Rattle.affine_forms.specs.declared.affine.Affine.{Affine}
 use Rattle.affine_forms.specs.Comparisons.{var_form}
 use Rattle.affine_forms.specs.Conditions.{no_rows}
-use Rattle.call_translation.specs.Scopes.{ScopeTree}
-use Rattle.call_translation.specs.Sites.{SiteTree}
-use Rattle.call_translation.specs.Actuals.{actual_of, form_in}
-use Rattle.region_sets.specs.declared.region.Region.{Region}
-use Rattle.call_equations.specs.declared.link.Link.{Link}
-use Rattle.call_equations.specs.Sides.{SidesTree, entry_cells}
-use Rattle.array_regions.specs.Calls.{scope_with}
-use Rattle.call_equations.specs.Forms.{equation}
-use Rattle.call_equations.specs.Cells.{named_form}
-use Rattle.call_equations.specs.Links.{link_of}
-use Rattle.region_translation.specs.Pieces.{are_own, names_of}
-use Rattle.callee_regions.specs.declared.links.CalleeLink.{CalleeLink}
-use Rattle.callee_regions.specs.declared.units.Units.{Units}
-use Rattle.callee_regions.specs.Names.{turned_names, turned_normal, turned_rows}
-use Rattle.callee_regions.specs.Units.{unit_place, meet, units_of, are_covered, size_in}
-use Rattle.callee_regions.specs.Values.{with_cells, place_row, symbol_row, value_rows_from, value_rows, going_away}
-use Rattle.callee_regions.specs.Pieces.{with_names, joined, without_caller, piece_in_callee}
-use Rattle.callee_regions.specs.Links.{link, same_link, by_row, same_variable, if_actual, dummy_link, dummy_links, is_like, common_link, in_block, common_links, all_units, block_rest, block_links, own_common, own_links, subscripts_of, callee_links}
-use Rattle.callee_regions.specs.Callee.{by_link, to_callee}
-use Rattle.out_regions.specs.Used.{all_out}
-use Rattle.region_phases.specs.declared.sites.OutSite.{OutSite}
-use Rattle.region_phases.specs.OutPhases.{sides_at, handed_each, handed_by, handed_down, used_at, used_after}
+use Rattle.preconditions.specs.call_translation.Scopes.{ScopeTree}
+use Rattle.preconditions.specs.call_translation.Sites.{SiteTree}
+use Rattle.preconditions.specs.call_translation.Actuals.{actual_of, form_in}
+use Rattle.in_out_regions.specs.region_sets.declared.region.Region.{Region}
+use Rattle.in_out_regions.specs.call_equations.declared.link.Link.{Link}
+use Rattle.in_out_regions.specs.call_equations.Sides.{SidesTree, entry_cells}
+use Rattle.in_out_regions.specs.array_regions.Calls.{scope_with}
+use Rattle.in_out_regions.specs.call_equations.Forms.{equation}
+use Rattle.in_out_regions.specs.call_equations.Cells.{named_form}
+use Rattle.in_out_regions.specs.call_equations.Links.{link_of}
+use Rattle.in_out_regions.specs.region_translation.Pieces.{are_own, names_of}
+use Rattle.in_out_regions.specs.region_translation.declared.links.CalleeLink.{CalleeLink}
+use Rattle.in_out_regions.specs.region_translation.declared.units.Units.{Units}
+use Rattle.in_out_regions.specs.region_translation.Names.{turned_names, turned_normal, turned_rows}
+use Rattle.in_out_regions.specs.region_translation.Units.{unit_place, meet, units_of, are_covered, size_in}
+use Rattle.in_out_regions.specs.region_translation.Values.{with_cells, place_row, symbol_row, value_rows_from, value_rows, going_away}
+use Rattle.in_out_regions.specs.region_translation.CalleePieces.{with_names, joined, without_caller, piece_in_callee}
+use Rattle.in_out_regions.specs.region_translation.Links.{link, same_link, by_row, if_actual, dummy_link, dummy_links, is_like, common_link, in_block, common_links, all_units, block_rest, block_links, own_common, own_links, subscripts_of, callee_links}
+use Rattle.in_out_regions.specs.region_translation.Callee.{by_link, to_callee}
+use Rattle.loop_marker.specs.out_regions.Used.{all_out}
+use Rattle.loop_marker.specs.module_phases.declared.out_site.OutSite.{OutSite}
+use Rattle.loop_marker.specs.module_phases.OutPhases.{sides_at, handed_each, handed_by, handed_down, used_at, used_after}
 use Rattle.base_values.specs.Naming.{Each}
-use Rattle.laws_stored.proofs.Lists.{each-append}
 use Rattle.laws_stored.proofs.Tidied.{AreAscending, ascending-append, push_fit, rename_fit}
 use Rattle.laws_stored.proofs.RulesFit.{none_fit}
 use Rattle.laws_stored.proofs.RegionRules.{MaybeAscends, united_such, both_such}
 use Rattle.laws_stored.proofs.Links.{equation_ascends}
 use Rattle.laws_stored.proofs.Outs.{AnyVariable, AnyKind, T, all_out_such}
+use Rattle.f77_ast.specs.Variables.{same_variable}
+use Rattle.laws_stored.proofs.Lists.{each-append}
 
 -- ---- rows
 

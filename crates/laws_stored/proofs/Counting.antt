@@ -22,17 +22,17 @@ use Rattle.f77_parser.specs.Building.{build_module}
 use Rattle.f77_parser.specs.Modules.{ends_module, closing_at, unless_faulty, modules_from, parse_of}
 use Rattle.f77_ast.specs.Symbols.{SymbolTree}
 use Rattle.f77_meaning.specs.Modules.{symbol_names}
-use Rattle.refusal_codes.specs.declared.refusal.Refusal.{Refusal}
+use Rattle.fx_lists.specs.declared.refusal.Refusal.{Refusal}
 use Rattle.storage_layout.specs.Symbols.{symbols_of}
-use Rattle.roundtrip_statements.specs.Formed.{Each}
-use Rattle.roundtrip_statements.specs.Phrased.{IsPhrase}
-use Rattle.roundtrip_statements.specs.Written.{as_written}
-use Rattle.roundtrip_statements.proofs.Phrases.{statements_read_back}
-use Rattle.roundtrip_modules.specs.Cards.{statements_of}
-use Rattle.roundtrip_modules.proofs.Kept.{Kind, Stated, all_held, Each-append, each-map}
-use Rattle.laws_programs.proofs.Sources.{AnyLabel, IsBuilt}
+use Rattle.laws_programs.specs.roundtrip_programs.Statements.Formed.{Each}
+use Rattle.laws_programs.specs.roundtrip_programs.Statements.Phrased.{IsPhrase}
+use Rattle.laws_programs.specs.roundtrip_programs.Statements.Written.{as_written}
+use Rattle.laws_programs.proofs.RoundtripPrograms.Statements.Phrases.{statements_read_back}
+use Rattle.laws_programs.specs.roundtrip_programs.ModuleTexts.Cards.{statements_of}
+use Rattle.laws_programs.proofs.RoundtripPrograms.ModuleTexts.Kept.{Kind, Stated, all_held, Each-append, each-map}
+use Rattle.laws_programs.proofs.Sources.{IsBuilt}
 use Rattle.laws_lines.proofs.TableNames.{names_are_distinct}
-use Rattle.base_rows.specs.Scopes.{in_name, is_name}
+use Rattle.base_json.specs.Scopes.{in_name, is_name}
 use Rattle.session_texts.proofs.Sizes.{characters-few}
 use Rattle.laws_stored.specs.Laws.{ShortTextsAreCounted}
 use Rattle.laws_stored.proofs.Symbols.{names_long}
@@ -41,6 +41,7 @@ use Rattle.laws_stored.proofs.NamesIn.{dark, size, size-append, all_names, phras
 use Rattle.laws_stored.proofs.KnownNames.{IsNaming, AreNaming, symbols_in}
 use Rattle.laws_stored.proofs.Texts.{IsReadAs}
 use Rattle.laws_stored.proofs.Texts as texts
+use Rattle.laws_programs.proofs.RoundtripPrograms.ModuleTexts.Cards.{Any as AnyLabel}
 
 -- ---- lists without a name twice
 

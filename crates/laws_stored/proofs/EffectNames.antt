@@ -13,23 +13,25 @@ use Rattle.f77_ast.specs.declared.variable.Variable.{Variable}
 use Rattle.f77_ast.specs.declared.variable.Variable.TheVariants.{Own, Block, Saved}
 use Rattle.f77_ast.specs.Symbols.{BoundTree, SymbolTree}
 use Rattle.f77_ast.specs.Shared.{symbol_at}
-use Rattle.f77_results.specs.declared.effect_set.EffectSet.{EffectSet}
-use Rattle.f77_results.specs.declared.results.At.{At}
-use Rattle.f77_results.specs.Variables.{variable_cmp, merged, union}
-use Rattle.f77_results.specs.Effects.{no_effect, unite}
-use Rattle.f77_results.specs.Summaries.{SummaryTree}
+use Rattle.f77_ast.specs.declared.effect_set.EffectSet.{EffectSet}
+use Rattle.f77_ast.specs.declared.results.At.{At}
+use Rattle.f77_ast.specs.Variables.{variable_cmp, merged, union}
+use Rattle.f77_ast.specs.Effects.{no_effect, unite}
+use Rattle.f77_ast.specs.Summaries.{SummaryTree}
 use Rattle.call_graph.specs.Actuals.{symbol_with_name, is_array}
-use Rattle.effects.specs.Names.{number_at, variable_number, number_of, one, own, array, variable_named}
-use Rattle.effects.specs.Reads.{reads, with_reads, inner_reads, actual_reads, with_actuals, with_items, with_named}
-use Rattle.effects.specs.Statement.{with_tests, step_reads, loop_effect, proper_of}
-use Rattle.effects.specs.Callee.{is_like, first_like, or_block, actual_variable, if_saved, at_place, symbol_in_caller, in_caller, all_in_caller, call_effect}
-use Rattle.effects.specs.List.{Callees, stmt_effect, with_parts, with_list, with_arms, with_arm, with_else, with_loop, at_stmt, at_parts, at_list, at_arms, at_arm, at_else, at_loop}
-use Rattle.effects.specs.Modules.{goes_out, with_bounds, with_symbols, summary_of, cumulated_of}
+use Rattle.in_out_regions.specs.effects.Names.{number_at, variable_number, number_of, one, own, array, variable_named}
+use Rattle.in_out_regions.specs.effects.Reads.{reads, with_reads, inner_reads, actual_reads, with_actuals, with_items, with_named}
+use Rattle.in_out_regions.specs.effects.Statement.{with_tests, step_reads, loop_effect, proper_of}
+use Rattle.in_out_regions.specs.effects.Callee.{is_like, first_like, or_block, actual_variable, if_saved, at_place, symbol_in_caller, in_caller, all_in_caller, call_effect}
+use Rattle.in_out_regions.specs.effects.List.{Callees, stmt_effect, with_parts, with_list, with_arms, with_arm, with_else, with_loop, at_stmt, at_parts, at_list, at_arms, at_arm, at_else, at_loop}
+use Rattle.in_out_regions.specs.effects.Modules.{with_bounds, with_symbols, summary_of, cumulated_of}
 use Rattle.f77_meaning.specs.Modules.{symbol_names}
-use Rattle.base_rows.specs.Scopes.{is_short_name, is_block}
+use Rattle.base_json.specs.Scopes.{is_short_name, is_block}
 use Rattle.base_values.specs.Naming.{Each, VariableFits}
-use Rattle.laws_stored.proofs.Lists.{each-append, each_kept}
+use Rattle.laws_stored.proofs.Lists.{each_kept, each-append}
 use Rattle.laws_stored.proofs.Symbols.{PlaceNamed, SymbolNamed, SymbolsNamed, named_at, symbol_between}
+use Rattle.laws_lines.proofs.Regions.LinkVars.{first_between as like_between}
+use Rattle.call_graph.specs.Visible.{is_visible_to_callers}
 
 -- ---- lists of variables
 
@@ -62,18 +64,6 @@ number_between n (s ∷ ss) x k e = go (bytes_eq x s.name) e (number_between (su
 
     go : (b : Bool) → (if b then variable_number n s else number_of (suc n) ss x) ≡ Some k → (number_of (suc n) ss x ≡ Some k → (suc n ≤ k) × (k < suc n + length ss)) → (n ≤ k) × (k < n + suc (length ss))
     go true q ih = here s.place q
-    go false q ih =
-        let r = ih q in
-        let least = r.0 in
-        let most = r.1 in
-        (omega (arith, least), omega (arith, most))
-
-like_between : (n : ℕ) (ts : List SymbolTree) (b : List ℕ) (o : ℕ) (cs : List SymbolTree) (s : SymbolTree) (ss : List SymbolTree) (k : ℕ) → first_like n ts b o cs s ss ≡ Some k → (n ≤ k) × (k < n + length ts)
-like_between n [] b o cs s ss k e = cc
-like_between n (t ∷ ts) b o cs s ss k e = go (is_like b o cs s ss t) e (like_between (suc n) ts b o cs s ss k)
-  where
-    go : (g : Bool) → (if g then Some n else first_like (suc n) ts b o cs s ss) ≡ Some k → (first_like (suc n) ts b o cs s ss ≡ Some k → (suc n ≤ k) × (k < suc n + length ts)) → (n ≤ k) × (k < n + suc (length ts))
-    go true q ih = let same : n ≡ k = cc in (omega (arith, same), omega (arith, same))
     go false q ih =
         let r = ih q in
         let least = r.0 in
@@ -348,8 +338,8 @@ module _ (ss : List SymbolTree) where
 
     summary_named : (e : EffectSet) → E e → E (summary_of e ss)
     summary_named e h = (
-      each_kept N (goes_out ss) (union e.reads (with_symbols ss ss [])) (join e.reads (with_symbols ss ss []) h.0 (symbols_named ss [] tt)),
-      each_kept N (goes_out ss) e.writes h.1,
+      each_kept N (is_visible_to_callers ss) (union e.reads (with_symbols ss ss [])) (join e.reads (with_symbols ss ss []) h.0 (symbols_named ss [] tt)),
+      each_kept N (is_visible_to_callers ss) e.writes h.1,
     )
 
     pub effects_named : (body : StmtTrees) → Each A (cumulated_of body cs ss).at × E (cumulated_of body cs ss).summary

@@ -4,27 +4,28 @@ use Rattle.f77_ast.specs.DeclTrees.{ParsedTree}
 use Rattle.f77_ast.specs.StatementNumbers.{list_numbers}
 use Rattle.f77_ast.specs.declared.variable.Unit.{Unit as BlockUnit}
 use Rattle.f77_ast.specs.Symbols.{SymbolTree}
-use Rattle.f77_results.specs.declared.results.At.{At}
+use Rattle.f77_ast.specs.declared.results.At.{At}
 use Rattle.call_graph.specs.declared.graph.Graph.{Graph}
 use Rattle.f77_meaning.specs.Modules.{Known, known_of, symbol_names}
-use Rattle.scalar_phases.specs.Phases.{Analysis, scope_of, analyses}
-use Rattle.pipsmake_rules.specs.declared.kind.Kind.TheVariants.{Regions, InRegions, OutRegions}
-use Rattle.pipsmake_rules.specs.Kinds.{same_kind}
-use Rattle.region_sets.specs.declared.region.Access.{Access}
-use Rattle.region_sets.specs.declared.region.Access.TheVariants as access
-use Rattle.region_phases.specs.Phases.{ModuleRegions, all_regions}
-use Rattle.region_phases.specs.InPhases.{ModuleIns, all_ins}
-use Rattle.region_phases.specs.OutPhases.{ModuleOuts, used_after, all_outs}
-use Rattle.loop_marker.specs.Phases.{ModuleMarks, analysis_in, known_in, all_marks}
+use Rattle.loop_marker.specs.module_phases.ScalarPhases.{Analysis, scope_of, analyses}
+use Rattle.session_texts.specs.pipsmake_rules.declared.kind.Kind.TheVariants.{Regions, InRegions, OutRegions}
+use Rattle.session_texts.specs.pipsmake_rules.Kinds.{same_kind}
+use Rattle.in_out_regions.specs.region_sets.declared.region.Access.{Access}
+use Rattle.in_out_regions.specs.region_sets.declared.region.Access.TheVariants as access
+use Rattle.loop_marker.specs.module_phases.RegionPhases.{ModuleRegions, all_regions}
+use Rattle.loop_marker.specs.module_phases.InPhases.{ModuleIns, all_ins}
+use Rattle.loop_marker.specs.module_phases.OutPhases.{ModuleOuts, used_after, all_outs}
+use Rattle.loop_marker.specs.Results.{ModuleResults}
+use Rattle.loop_marker.specs.Phases.{phases_of, analysis_in, known_in, all_marks}
 use Rattle.loop_marker.specs.Phases as marks
 use Rattle.laws_programs.specs.Programs.{AreTables}
 use Rattle.laws_lines.specs.Laws.{AnalysisIsOver}
 use Rattle.laws_lines.proofs.PhaseVars.{EachOf, analyses_are_over_cells}
-use Rattle.laws_region_lines.specs.Laws.{SetsAreOver, RegionsAreOver}
-use Rattle.laws_region_lines.proofs.ProgramRegions.{Any, any_named, ModuleFine, modules_fine, regions_of, regions_are_over_places}
-use Rattle.laws_in_lines.proofs.InPrograms.{InsFine, ins_fine, ins_with, ins_are_over_places}
-use Rattle.laws_out_lines.proofs.OutPrograms.{outs_with, outs_are_over_places}
-use Rattle.laws_database.specs.ResultEntries.{marks_in, module_in, transformers_in, preconditions_in, regions_in, ins_in, outs_in, name_in}
+use Rattle.laws_lines.specs.Regions.Laws.{SetsAreOver, RegionsAreOver}
+use Rattle.laws_lines.proofs.Regions.ProgramRegions.{Any, any_named, ModuleFine, modules_fine, regions_of, regions_are_over_places}
+use Rattle.laws_lines.proofs.Ins.InPrograms.{InsFine, ins_fine, ins_with, ins_are_over_places}
+use Rattle.laws_lines.proofs.Outs.OutPrograms.{outs_with, outs_are_over_places}
+use Rattle.session_texts.specs.pipsmake_meaning.ResultEntries.{results_of_modules, name_in}
 use Rattle.laws_database.specs.ResultCallees.{region_summaries, in_summaries}
 use Rattle.laws_database.specs.ResultCallers.{callers, later_sites}
 use Rattle.laws_database.specs.ResultEquations.{FollowsFrom}
@@ -54,10 +55,10 @@ record InsTold (untracked : List BlockUnit) (f : ModuleIns) : Type 0 where
   in_fine : InsFine Any untracked f
 
 -- by all of them
-pub record EntryTold (untracked : List BlockUnit) (f : ModuleMarks) : Type 0 where
-  ins : InsTold untracked f.outs.known
-  outs : OutsGood f.outs
-  out_places : SetsAreOver untracked (module_in f) f.outs.outs
+pub record EntryTold (untracked : List BlockUnit) (f : ModuleResults) : Type 0 where
+  ins : InsTold untracked (phases_of f).known
+  outs : OutsGood (phases_of f)
+  out_places : SetsAreOver untracked f.known f.outs
   effects : EffectsGood f
   marks : MarksAre untracked f
 
@@ -129,17 +130,17 @@ module _ (ps : List ParsedTree) (sss : List (List SymbolTree)) (g : Graph) (tabl
       (of_both OutsGood OutOver os (all_outs_good g is (of_more (InsTold g.untracked) (λ (f : ModuleIns). InsGood f × FittingSets f.known) (λ f h. (h.good, h.fitting)) is ins_told))
       (of_all OutOver os (outs_are_over_places ps sss g tables)))
 
-  abbrev EntryParts : ModuleMarks → Type 0
-  EntryParts f = OutParts f.outs × (EffectsGood f × MarksAre g.untracked f)
+  abbrev EntryParts : ModuleResults → Type 0
+  EntryParts f = OutParts (phases_of f) × (EffectsGood f × MarksAre g.untracked f)
 
-  entry_told : (f : ModuleMarks) → EntryParts f → EntryTold g.untracked f
+  entry_told : (f : ModuleResults) → EntryParts f → EntryTold g.untracked f
   entry_told f h = record { ins = h.0.0; outs = h.0.1.0; out_places = h.0.1.1; effects = h.1.0; marks = h.1.1 }
 
-  pub entries_told : EachOf (EntryTold g.untracked) (marks_in ks g)
+  pub entries_told : EachOf (EntryTold g.untracked) (results_of_modules ks g)
   entries_told =
       let es = all_marks g os in
       of_more EntryParts (EntryTold g.untracked) entry_told es
-      (of_both (λ (f : ModuleMarks). OutParts f.outs) (λ f. EffectsGood f × MarksAre g.untracked f) es (marks_with OutParts g os out_parts)
+      (of_both (λ (f : ModuleResults). OutParts (phases_of f)) (λ f. EffectsGood f × MarksAre g.untracked f) es (marks_with OutParts g os out_parts)
       (of_both EffectsGood (MarksAre g.untracked) es
       (all_effects_good g os (of_more OutParts (λ (f : ModuleOuts). ModuleNamed (known_in f)) (λ f h. h.0.good.known.analysis.found.named) os out_parts)) (all_marks_are g os)))
 
@@ -161,50 +162,50 @@ out_right a h = ap (λ k. same_kind (result_with k) OutRegions) h
 abbrev pub names_of : Known → ModuleNames
 names_of k = module_names (symbol_names k.symbols) k.read.body
 
-pub record EntryFits (f : ModuleMarks) : Type 0 where
-  pub effects : StoredFits (names_of (module_in f)) (stored.Effects f.effects)
-  pub transformers : StoredFits (names_of (module_in f)) (stored.Transformers (transformers_in f))
-  pub preconditions : StoredFits (names_of (module_in f)) (stored.Preconditions (preconditions_in f))
-  pub regions : StoredFits (names_of (module_in f)) (stored.Regions (regions_in f))
-  pub ins : StoredFits (names_of (module_in f)) (stored.InRegions (ins_in f))
-  pub outs : StoredFits (names_of (module_in f)) (stored.OutRegions (outs_in f))
-  pub marks : StoredFits (names_of (module_in f)) (stored.Marks f.marks)
+pub record EntryFits (f : ModuleResults) : Type 0 where
+  pub effects : StoredFits (names_of f.known) (stored.Effects f.effects)
+  pub transformers : StoredFits (names_of f.known) (stored.Transformers f.transformers)
+  pub preconditions : StoredFits (names_of f.known) (stored.Preconditions f.preconditions)
+  pub regions : StoredFits (names_of f.known) (stored.Regions f.regions)
+  pub ins : StoredFits (names_of f.known) (stored.InRegions f.ins)
+  pub outs : StoredFits (names_of f.known) (stored.OutRegions f.outs)
+  pub marks : StoredFits (names_of f.known) (stored.Marks f.marks)
 
-module _ (g : Graph) (all : List ModuleMarks) (f : ModuleMarks) (follows : FollowsFrom g all f) (h : EntryTold g.untracked f) (are : AreNames (symbol_names (module_in f).symbols)) where
+module _ (g : Graph) (all : List ModuleResults) (f : ModuleResults) (follows : FollowsFrom g all f) (h : EntryTold g.untracked f) (are : AreNames (symbol_names f.known.symbols)) where
   abbrev k : Known
-  k = module_in f
+  k = f.known
 
   abbrev ns : List ℕ
-  ns = list_numbers (module_in f).read.body
+  ns = list_numbers f.known.read.body
 
-  found : FoundGood (analysis_in f.outs).found
+  found : FoundGood (analysis_in (phases_of f)).found
   found = h.ins.good.known.analysis.found
 
-  regions_are_ordered : SetsOrdered (regions_in f)
-  regions_are_ordered = subst SetsOrdered (sym follows.regions) (regions_ordered k.read.body (scope_of g.untracked k) g.untracked (transformers_in f).at (region_summaries all))
+  regions_are_ordered : SetsOrdered f.regions
+  regions_are_ordered = subst SetsOrdered (sym follows.regions) (regions_ordered k.read.body (scope_of g.untracked k) g.untracked f.transformers.at (region_summaries all))
 
-  ins_are_ordered : SetsOrdered (ins_in f)
-  ins_are_ordered = subst SetsOrdered (sym follows.ins) (ins_ordered k.read.body (scope_of g.untracked k) g.untracked (transformers_in f).at (regions_in f).at (in_summaries all) regions_are_ordered.0)
+  ins_are_ordered : SetsOrdered f.ins
+  ins_are_ordered = subst SetsOrdered (sym follows.ins) (ins_ordered k.read.body (scope_of g.untracked k) g.untracked f.transformers.at f.regions.at (in_summaries all) regions_are_ordered.0)
 
-  outs_are_ordered : SetsOrdered (outs_in f)
+  outs_are_ordered : SetsOrdered f.outs
   outs_are_ordered =
       subst SetsOrdered (sym follows.outs)
-      (outs_ordered k.read.body (scope_of g.untracked k) (transformers_in f).at (regions_in f).at (ins_in f).at (used_after g k (later_sites g.untracked (callers all (name_in f)) (name_in f))) regions_are_ordered.0)
+      (outs_ordered k.read.body (scope_of g.untracked k) f.transformers.at f.regions.at f.ins.at (used_after g k (later_sites g.untracked (callers all (name_in f)) (name_in f))) regions_are_ordered.0)
 
   pub entry_fits : EntryFits f
   entry_fits = record {
     effects = ((ids_are f.effects.at ∙ h.effects.numbers, h.effects.at), h.effects.summary);
     transformers = (
-      (ids_are (transformers_in f).at ∙ found.numbers, each_transformer g.untracked k are (transformers_in f).at found.fits found.foreign (of_each _ (transformers_in f).at h.ins.over.own)),
-      one_transformer g.untracked k are (transformers_in f).summary found.summary_fits found.summary_foreign h.ins.over.summary,
+      (ids_are f.transformers.at ∙ found.numbers, each_transformer g.untracked k are f.transformers.at found.fits found.foreign (of_each _ f.transformers.at h.ins.over.own)),
+      one_transformer g.untracked k are f.transformers.summary found.summary_fits found.summary_foreign h.ins.over.summary,
     );
     preconditions = (
-      (ids_are (preconditions_in f).at ∙ h.ins.good.known.analysis.numbers, each_system g.untracked k are (preconditions_in f).at h.ins.good.known.analysis.fits (of_each _ (preconditions_in f).at h.ins.over.at)),
-      one_system g.untracked k are (preconditions_in f).summary h.ins.good.known.analysis.entry_fits h.ins.over.entry,
+      (ids_are f.preconditions.at ∙ h.ins.good.known.analysis.numbers, each_system g.untracked k are f.preconditions.at h.ins.good.known.analysis.fits (of_each _ f.preconditions.at h.ins.over.at)),
+      one_system g.untracked k are f.preconditions.summary h.ins.good.known.analysis.entry_fits h.ins.over.entry,
     );
-    regions = sets_fit g.untracked k are IsAccess Regions access_right ns (regions_in f) h.ins.good.known.numbers h.ins.fitting h.ins.places regions_are_ordered;
-    ins = sets_fit g.untracked k are IsIn InRegions in_right ns (ins_in f) h.ins.good.numbers (named_sets IsIn g.untracked k (ins_in f) h.ins.good.sets h.ins.in_fine) h.ins.in_places ins_are_ordered;
-    outs = sets_fit g.untracked k are IsOut OutRegions out_right ns (outs_in f) h.outs.numbers h.outs.sets h.out_places outs_are_ordered;
+    regions = sets_fit g.untracked k are IsAccess Regions access_right ns f.regions h.ins.good.known.numbers h.ins.fitting h.ins.places regions_are_ordered;
+    ins = sets_fit g.untracked k are IsIn InRegions in_right ns f.ins h.ins.good.numbers (named_sets IsIn g.untracked k f.ins h.ins.good.sets h.ins.in_fine) h.ins.in_places ins_are_ordered;
+    outs = sets_fit g.untracked k are IsOut OutRegions out_right ns f.outs h.outs.numbers h.outs.sets h.out_places outs_are_ordered;
     marks = subst (λ (ms : List (At _)). StoredFits (names_of k) (stored.Marks ms)) (sym h.marks.are)
-        (ids_are (marks.marks_found g.untracked f.outs f.effects) ∙ marks_numbers g.untracked f.outs f.effects, marks_fit g.untracked f.outs f.effects found.fits h.ins.fitting.0);
+        (ids_are (marks.marks_found g.untracked (phases_of f) f.effects) ∙ marks_numbers g.untracked (phases_of f) f.effects, marks_fit g.untracked (phases_of f) f.effects found.fits h.ins.fitting.0);
   }

@@ -1,6 +1,6 @@
 -- What results are made of, and over, fits the module: as it is stored.
-use Rattle.std.proofs.Common.{◌≡◌, ℕ, zero, suc, ◌-◌, ◌<◌, ◌≤◌, ◌^◌, arith, Bool, true, false, inl, inr, List, [], ◌∷◌, length, map, Option, Some, None, nat_eq, refl, sym, ap, ◌∙◌, subst}
-use Rattle.std.specs.Prelude.{All, if◌then◌else◌, slice_get, nat_lt, nat_le}
+use Rattle.std.proofs.Common.{◌≡◌, ℕ, zero, suc, ◌-◌, ◌<◌, ◌^◌, arith, true, inl, inr, List, [], ◌∷◌, length, map, nat_eq, refl, sym, ap, ◌∙◌, subst}
+use Rattle.std.specs.Prelude.{All, nat_lt, nat_le}
 use Rattle.std.specs.List.{AllByRecursion, list_any}
 use Rattle.std.proofs.lemmas.Bool.{and_parts, or_left, or_right, or_cases, leb-true}
 use Rattle.std.proofs.lemmas.Bool.Decides.{nat_tests}
@@ -15,30 +15,29 @@ use Rattle.hull_projection.specs.Minus.{AllFit}
 use Rattle.f77_ast.specs.declared.variable.Unit.{Unit as BlockUnit}
 use Rattle.f77_ast.specs.declared.variable.Variable.{Variable}
 use Rattle.f77_ast.specs.declared.variable.Variable.TheVariants.{Own, Block, Saved}
-use Rattle.f77_results.specs.declared.results.At.{At}
-use Rattle.f77_results.specs.declared.results.Results.{Results}
+use Rattle.f77_ast.specs.declared.results.At.{At}
+use Rattle.f77_ast.specs.declared.results.Results.{Results}
 use Rattle.f77_meaning.specs.Modules.{Known, symbol_names}
-use Rattle.affine_forms.specs.Scalars.{flag_of, is_cell}
-use Rattle.transformer_algebra.specs.declared.transformer.Transformer.{Transformer}
-use Rattle.transformer_algebra.specs.Cells.{has}
-use Rattle.transformer_algebra.proofs.CellLaws.{nat_same}
-use Rattle.scalar_phases.specs.Phases.{scope_of}
-use Rattle.pipsmake_rules.specs.declared.kind.Kind.{Kind}
-use Rattle.pipsmake_rules.specs.Kinds.{same_kind}
-use Rattle.region_sets.specs.declared.region.Access.{Access}
-use Rattle.region_sets.specs.declared.region.Region.{Region}
-use Rattle.laws_statements.proofs.NumberLaws.{ids}
+use Rattle.affine_forms.specs.Scalars.{is_cell}
+use Rattle.preconditions.specs.transformer_algebra.declared.transformer.Transformer.{Transformer}
+use Rattle.preconditions.specs.transformer_algebra.Cells.{has}
+use Rattle.loop_marker.specs.module_phases.ScalarPhases.{scope_of}
+use Rattle.session_texts.specs.pipsmake_rules.declared.kind.Kind.{Kind}
+use Rattle.session_texts.specs.pipsmake_rules.Kinds.{same_kind}
+use Rattle.in_out_regions.specs.region_sets.declared.region.Access.{Access}
+use Rattle.in_out_regions.specs.region_sets.declared.region.Region.{Region}
+use Rattle.laws_analyses.proofs.Statements.NumberLaws.{ids}
 use Rattle.laws_marks.proofs.InUnique.{Ordered}
 use Rattle.laws_lines.specs.Variables.{EachVar, IsOver, IsCellOf}
 use Rattle.laws_lines.specs.Halves.{IsHalfOf, IsTransformerOf}
 use Rattle.laws_lines.specs.Laws.{IsTracked}
 use Rattle.laws_lines.proofs.StatementVars.{AllAt}
 use Rattle.laws_lines.proofs.PhaseVars.{EachOf}
-use Rattle.laws_region_lines.specs.Places.{IsPlaceOf, IsOne}
-use Rattle.laws_region_lines.specs.Laws.{AreOverPlaces, SetsAreOver}
-use Rattle.laws_region_lines.proofs.RegionVars.{AreFine}
-use Rattle.laws_region_lines.proofs.ProgramRegions.{Any, IsNamedHere, SetsFine}
-use Rattle.base_rows.specs.Scopes.{ScopeTree, is_symbol, cells_alone, with_exits, with_phi}
+use Rattle.laws_lines.specs.Regions.Places.{IsPlaceOf, IsOne}
+use Rattle.laws_lines.specs.Regions.Laws.{AreOverPlaces, SetsAreOver}
+use Rattle.laws_lines.proofs.Regions.RegionVars.{AreFine}
+use Rattle.laws_lines.proofs.Regions.ProgramRegions.{Any, IsNamedHere, SetsFine}
+use Rattle.base_json.specs.Scopes.{ScopeTree, is_symbol, cells_alone, with_exits, with_phi}
 use Rattle.base_values.specs.Naming.{Each, AreNames, VariableFits, VarFits, RowNames, SystemFits}
 use Rattle.base_values.specs.Words.{result_with}
 use Rattle.base_values.specs.Fits.{TransformerFits, OnePiece, RegionFits, RegionsFit, ResultsFit}
@@ -49,6 +48,9 @@ use Rattle.laws_stored.proofs.Links.{IsCalled}
 use Rattle.laws_stored.proofs.Order.{SetsOrdered}
 use Rattle.laws_stored.proofs.Apart.{ordered_apart}
 use Rattle.laws_stored.proofs.Phases.{of_all, SetsSuch}
+use Rattle.laws_lines.proofs.LineBack.{cell_number}
+use Rattle.fx_lists.proofs.Lists.{map_length}
+use Rattle.fx_lists.proofs.Numbers.{same_is as nat_same}
 
 -- ---- lists
 
@@ -64,29 +66,6 @@ ids_are [] = refl
 ids_are (x ∷ xs) = ap (λ l. x.id ∷ l) (ids_are xs)
 
 -- ---- numbers of cells
-
-got_below : {A : Type 0} (xs : List A) (i : ℕ) (x : A) → slice_get xs i ≡ Some x → i < length xs
-got_below [] i x e = cc
-got_below (y ∷ xs) zero x e = omega arith
-got_below (y ∷ xs) (suc i) x e = let l = got_below xs i x e in omega (arith, l)
-
-map_length : {A B : Type 0} (f : A → B) (xs : List A) → length (map f xs) ≡ length xs
-map_length f [] = refl
-map_length f (x ∷ xs) = ap suc (map_length f xs)
-
-cell_number : (flags : List Bool) (n : ℕ) → is_cell flags n ≡ true → (0 < n) × (n ≤ length flags)
-cell_number flags n h = go (nat_eq n 0) refl h
-  where
-    above : nat_eq n 0 ≡ false → 0 < n
-    above e = grind (arith, nat_tests)
-
-    there : 0 < n → (o : Option Bool) → slice_get flags (n - 1) ≡ o → flag_of o ≡ true → (0 < n) × (n ≤ length flags)
-    there l None q k = cc
-    there l (Some b) q k = let i = got_below flags (n - 1) b q in (l, omega (arith, l, i))
-
-    go : (b : Bool) → nat_eq n 0 ≡ b → flag_of (if b then None else slice_get flags (n - 1)) ≡ true → (0 < n) × (n ≤ length flags)
-    go true e k = cc
-    go false e k = there (above e) (slice_get flags (n - 1)) refl k
 
 pub tracked_symbol : (untracked : List BlockUnit) (k : Known) (n : ℕ) → IsTracked untracked k n → is_symbol (symbol_names k.symbols) n ≡ true
 tracked_symbol untracked k n h =

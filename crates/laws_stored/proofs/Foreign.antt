@@ -10,33 +10,33 @@ use Rattle.f77_ast.specs.declared.symbol.Place.TheVariants.{Local, Dummy, Block,
 use Rattle.f77_ast.specs.declared.variable.Unit.{Unit as BlockUnit}
 use Rattle.f77_ast.specs.Symbols.{SymbolTree}
 use Rattle.f77_ast.specs.Shared.{symbol_at, place_of, place_at}
-use Rattle.f77_results.specs.declared.results.At.{At}
-use Rattle.f77_results.specs.Summaries.{SummaryTree}
+use Rattle.f77_ast.specs.declared.results.At.{At}
+use Rattle.f77_ast.specs.Summaries.{SummaryTree}
 use Rattle.affine_forms.specs.declared.affine.Affine.{Affine}
 use Rattle.affine_forms.specs.Forms.{affine_of}
 use Rattle.affine_forms.specs.Conditions.{no_rows, condition_of}
-use Rattle.transformer_algebra.specs.declared.transformer.Transformer.{Transformer}
+use Rattle.preconditions.specs.transformer_algebra.declared.transformer.Transformer.{Transformer}
 use Rattle.std.specs.declared.cmp.Ordering.{Ordering}
 use Rattle.std.specs.declared.cmp.Ordering.TheVariants.{Less, Equal, Greater}
 use Rattle.std.specs.Ordering.{match_ordering}
-use Rattle.transformer_algebra.specs.Units.{unit_cmp, with_unit, with_units, joined_units}
-use Rattle.transformer_algebra.specs.Transformers.{test, unchanging, nowhere, followed, units_from, one_of}
-use Rattle.transformer_algebra.specs.Loops.{next}
-use Rattle.call_translation.specs.Scopes.{ScopeTree}
-use Rattle.call_translation.specs.Actuals.{named_cell}
-use Rattle.call_translation.specs.Common.{declares}
-use Rattle.call_translation.specs.Call.{CallTree}
-use Rattle.call_translation.specs.Summary.{if_hidden, hidden_units, unit_of, units_of, call_transformer}
-use Rattle.transformers.specs.Given.{Callees}
-use Rattle.transformers.specs.Jumps.{unstructured, is_end}
-use Rattle.transformers.specs.Lists.{followed_by, in_order, in_any_order, list_of}
-use Rattle.transformers.specs.Loops.{loop_parts}
-use Rattle.transformers.specs.Simple.{becomes}
-use Rattle.transformers.specs.Statement.{where_holds, without_arm, without_arms, stmt_transformer, what_transformer, each_transformer, arm_transformers, arm_transformer, else_transformer, body_transformer, list_transformer, at_stmt, at_parts, at_list, at_arms, at_arm, at_else, at_loop}
-use Rattle.base_rows.specs.Scopes.{is_block}
+use Rattle.preconditions.specs.transformer_algebra.Units.{unit_cmp, with_unit, with_units, joined_units}
+use Rattle.preconditions.specs.transformer_algebra.Transformers.{test, identity_transformer, nowhere, followed, units_from, one_of}
+use Rattle.preconditions.specs.transformer_algebra.Loops.{next}
+use Rattle.preconditions.specs.call_translation.Scopes.{ScopeTree}
+use Rattle.preconditions.specs.call_translation.Actuals.{named_cell}
+use Rattle.preconditions.specs.call_translation.Common.{declares}
+use Rattle.preconditions.specs.call_translation.Call.{CallTree}
+use Rattle.preconditions.specs.call_translation.Summary.{if_hidden, hidden_units, unit_of, units_of, call_transformer}
+use Rattle.preconditions.specs.transformers.Given.{Callees}
+use Rattle.preconditions.specs.transformers.Jumps.{unstructured, is_end}
+use Rattle.preconditions.specs.transformers.Lists.{followed_by, in_order, in_any_order, list_of}
+use Rattle.preconditions.specs.transformers.Loops.{loop_parts}
+use Rattle.preconditions.specs.transformers.Simple.{becomes}
+use Rattle.preconditions.specs.transformers.Statement.{where_holds, without_arm, without_arms, stmt_transformer, what_transformer, each_transformer, arm_transformers, arm_transformer, else_transformer, body_transformer, list_transformer, at_stmt, at_parts, at_list, at_arms, at_arm, at_else, at_loop}
+use Rattle.base_json.specs.Scopes.{is_block}
 use Rattle.base_values.specs.Naming.{Each}
-use Rattle.laws_stored.proofs.Lists.{each-append}
 use Rattle.laws_stored.proofs.Symbols.{PlaceNamed, SymbolsNamed, named_at}
+use Rattle.laws_stored.proofs.Lists.{each-append}
 
 abbrev pub UnitNamed : BlockUnit → Type 0
 UnitNamed u = is_block u.block ≡ true
@@ -156,12 +156,12 @@ module _ (m : ScopeTree) (cs : Callees) (named : CalleesForeign cs) where
         let yes = meet no_rows (condition_of m.scalars e).yes in
         let no = meet no_rows (condition_of m.scalars e).no in
         let t = stmt_transformer s m cs false in
-        one_named (where_holds yes t ∷ where_holds no unchanging ∷ []) (followed_named (test yes) t tt (stmt_named s false), (followed_named (test no) unchanging tt tt, tt))
+        one_named (where_holds yes t ∷ where_holds no identity_transformer ∷ []) (followed_named (test yes) t tt (stmt_named s false), (followed_named (test no) identity_transformer tt tt, tt))
     what_named (tree.do_loop l) last = loop_named l
     what_named (tree.call x es) last = called_named m (cs x) es (named x)
     what_named (tree.goto l) last = tt
     what_named tree.continue last = tt
-    what_named tree.return last = if_cases IsForeign last unchanging nowhere (λ e. tt) (λ e. tt)
+    what_named tree.return last = if_cases IsForeign last identity_transformer nowhere (λ e. tt) (λ e. tt)
     what_named (tree.stop text) last = tt
     what_named (tree.print es) last = tt
     what_named (tree.read es) last = tt

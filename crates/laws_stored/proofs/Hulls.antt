@@ -14,7 +14,7 @@ use Rattle.affine_systems.specs.Eliminate.{eliminate_item, eliminate}
 use Rattle.affine_systems.specs.Given.{IsSmallRow, Fits, ItemsFit, ItemsSmall}
 use Rattle.affine_systems.specs.Calls.{meet, push_row}
 use Rattle.affine_systems.proofs.Basics.{if_cases}
-use Rattle.affine_systems.proofs.AscendLaws.{ascends-negated}
+use Rattle.affine_systems.proofs.AscendLaws.{ascends-negated, ascends-negated as negated_ascending}
 use Rattle.affine_systems.proofs.FitLaws.{eliminate_fits, eliminated_fits, items_fit, rows_of-items_from}
 use Rattle.elimination.proofs.ElimSteps.{fit_small}
 use Rattle.hull_projection.specs.declared.eliminations.Left.{Left}
@@ -90,9 +90,6 @@ closure_fit cs t o h =
     (eliminate_fits (tidy many) k (tidy_fit many (given_ascending rows (turns_given n ds s.rows rows ordered (fit_small_rows s changes) refl)))))
 
 -- ---- differences
-
-negated_ascending : (ts : List Term) → Ascends ts → Ascends (negated_terms ts)
-negated_ascending ts h = ascends-negated ts h
 
 negations_ascending : (r : Row) → IsAscending r → AreAscending (negations r)
 negations_ascending r h = if_cases AreAscending r.equal (above r ∷ below r ∷ []) (above r ∷ []) (λ e. (negated_ascending r.terms h, (h, tt))) (λ e. (negated_ascending r.terms h, tt))

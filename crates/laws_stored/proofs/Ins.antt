@@ -8,44 +8,44 @@ use Rattle.affine_systems.proofs.Basics.{if_cases}
 use Rattle.hull_projection.specs.declared.parts.Minus.{Minus}
 use Rattle.hull_projection.specs.Minus.{AllFit, difference}
 use Rattle.hull_projection.proofs.ProjectLaws.{project_fits}
-use Rattle.system_renaming.specs.Renaming.{naming, rename_all, push_rows}
+use Rattle.preconditions.specs.transformer_algebra.Renaming.{naming, rename_all, push_rows}
 use Rattle.f77_ast.specs.Trees.{ExprTree, ExprTrees, StmtTree, WhatTree, ArmTree, ArmTrees, ElseTree, LoopTree, StmtTrees}
 use Rattle.f77_ast.specs.Trees as tree
 use Rattle.f77_ast.specs.declared.variable.Variable.{Variable}
 use Rattle.f77_ast.specs.declared.variable.Variable.TheVariants.{Own}
 use Rattle.f77_ast.specs.declared.variable.Unit.{Unit as BlockUnit}
 use Rattle.f77_ast.specs.Symbols.{SymbolTree}
-use Rattle.f77_results.specs.declared.results.At.{At}
-use Rattle.f77_results.specs.Summaries.{SummaryTree}
+use Rattle.f77_ast.specs.declared.results.At.{At}
+use Rattle.f77_ast.specs.Summaries.{SummaryTree}
 use Rattle.affine_forms.specs.declared.affine.Affine.{Affine}
 use Rattle.affine_forms.specs.Scalars.{is_cell}
 use Rattle.affine_forms.specs.Comparisons.{var_form, at_most_row, below_row}
 use Rattle.affine_forms.specs.Conditions.{no_rows, condition_of}
-use Rattle.transformer_algebra.specs.declared.transformer.Transformer.{Transformer}
-use Rattle.transformer_algebra.specs.Loops.{goes_up, within_row, beyond_row, terms_stay}
-use Rattle.call_translation.specs.Scopes.{ScopeTree}
-use Rattle.transformers.specs.Jumps.{unstructured}
-use Rattle.transformers.specs.Lists.{transformer_at, list_at}
-use Rattle.region_sets.specs.declared.range.Range.{Range}
-use Rattle.region_sets.specs.declared.region.Access.{Access}
-use Rattle.region_sets.specs.declared.region.Access.TheVariants.{Write, In}
-use Rattle.region_sets.specs.declared.region.Region.{Region}
-use Rattle.region_sets.specs.Regions.{remade, all_exact, systems}
-use Rattle.region_sets.specs.Subtract.{less_from, less_one, less_each, less_all, before_left, left_of, all_left_exactly, unless_empty, all_apart, subtract}
-use Rattle.region_sets.specs.Sets.{unite_all}
-use Rattle.region_sets.specs.Lists.{is_access, all_composed, in_any_order, numbers}
-use Rattle.call_equations.specs.Sides.{changed_cells}
-use Rattle.array_regions.specs.declared.arms.Reached.{Reached}
-use Rattle.array_regions.specs.References.{scalar, named}
-use Rattle.array_regions.specs.Reads.{reads, inner_reads}
-use Rattle.array_regions.specs.Simple.{item_does}
-use Rattle.array_regions.specs.Arms.{always, if_true, into_arm, past_arm, past_arms, all_met, tests_reads}
-use Rattle.array_regions.specs.Loops.{range_of, loop_reads}
-use Rattle.array_regions.specs.Calls.{Callees, actuals_reads, sides, all_in_caller}
-use Rattle.array_regions.specs.Entry.{symbols_reads, locals, seen}
+use Rattle.preconditions.specs.transformer_algebra.declared.transformer.Transformer.{Transformer}
+use Rattle.preconditions.specs.transformer_algebra.Loops.{goes_up, within_row, beyond_row, terms_stay}
+use Rattle.preconditions.specs.call_translation.Scopes.{ScopeTree}
+use Rattle.preconditions.specs.transformers.Jumps.{unstructured}
+use Rattle.preconditions.specs.transformers.Lists.{transformer_at, list_at}
+use Rattle.in_out_regions.specs.region_sets.declared.range.Range.{Range}
+use Rattle.in_out_regions.specs.region_sets.declared.region.Access.{Access}
+use Rattle.in_out_regions.specs.region_sets.declared.region.Access.TheVariants.{Write, In}
+use Rattle.in_out_regions.specs.region_sets.declared.region.Region.{Region}
+use Rattle.in_out_regions.specs.region_sets.Regions.{remade, all_exact, systems}
+use Rattle.in_out_regions.specs.region_sets.Subtract.{less_from, less_one, less_each, less_all, before_left, left_of, all_left_exactly, unless_empty, all_apart, subtract}
+use Rattle.in_out_regions.specs.region_sets.Sets.{unite_all}
+use Rattle.in_out_regions.specs.region_sets.Lists.{is_access, all_composed, in_any_order, numbers, set_at}
+use Rattle.in_out_regions.specs.call_equations.Sides.{changed_cells}
+use Rattle.in_out_regions.specs.array_regions.declared.arms.Reached.{Reached}
+use Rattle.in_out_regions.specs.array_regions.References.{scalar, named}
+use Rattle.in_out_regions.specs.array_regions.Reads.{reads, inner_reads}
+use Rattle.in_out_regions.specs.array_regions.Simple.{item_does}
+use Rattle.in_out_regions.specs.array_regions.Arms.{always, if_true, into_arm, past_arm, past_arms, all_met, tests_reads}
+use Rattle.in_out_regions.specs.array_regions.Loops.{range_of, loop_reads}
+use Rattle.in_out_regions.specs.array_regions.Calls.{Callees, actuals_reads, sides, all_in_caller}
+use Rattle.in_out_regions.specs.array_regions.Entry.{symbols_reads, locals, seen}
 use Rattle.in_out_regions.specs.Kinds.{as_in, all_in, is_read, first_reads}
-use Rattle.in_out_regions.specs.Writes.{same_variable, is_write_of, write_of}
-use Rattle.in_out_regions.specs.Lists.{set_at, less_write, all_unwritten, unless_overlapped, all_unless_overlapped, before_rest, ins_in_order, list_in}
+use Rattle.in_out_regions.specs.Writes.{is_write_of, write_of}
+use Rattle.in_out_regions.specs.Lists.{less_write, all_unwritten, unless_overlapped, all_unless_overlapped, before_rest, ins_in_order, list_in}
 use Rattle.in_out_regions.specs.Known.{KnownTree}
 use Rattle.in_out_regions.specs.Calls.{summary_in, call_in}
 use Rattle.in_out_regions.specs.Simple.{item_in, item_written, reading}
@@ -53,13 +53,14 @@ use Rattle.in_out_regions.specs.Loops.{after_first, before_last, index_rows_by, 
 use Rattle.in_out_regions.specs.Statement.{list_of, body_accesses, do_of, only_in, what_in, arms_in, arm_in, else_in, at_stmt, at_parts, at_list, at_arms, at_arm, at_else, at_loop, list_set}
 use Rattle.in_out_regions.specs.Modules.{summary_of, ins_with}
 use Rattle.base_values.specs.Naming.{Each}
-use Rattle.laws_stored.proofs.Lists.{each-append, set_found}
+use Rattle.laws_stored.proofs.Lists.{set_found, each-append}
 use Rattle.laws_stored.proofs.Tidied.{IsAscending, AreAscending, ascending-append, meet_fit, push_fit, rename_fit}
 use Rattle.laws_stored.proofs.Hulls.{LeftFits, minus_fit}
 use Rattle.laws_stored.proofs.RulesFit.{none_fit, condition_fits, at_most_ascending, below_ascending}
 use Rattle.laws_stored.proofs.RegionRules.{mapped_fit, IsSuch, AreSuch, both_such, all_such, all_composed_such, looped_such, united_such, any_such}
 use Rattle.laws_stored.proofs.Links.{IsCalled}
 use Rattle.laws_stored.proofs.Access.{caller_such, MaybeSuch, CalleesSuch, met_such, seen_such, always_fits, into_fits, past_fits, all_past_fit, A, reads_such, inner_such, named_such, actuals_such, loop_reads_such, symbols_such, tests_such, OwnFits, own_fits}
+use Rattle.f77_ast.specs.Variables.{same_variable}
 
 abbrev pub IsIn : Access → Type 0
 IsIn k = k ≡ In
@@ -162,10 +163,10 @@ module _ (ss : List SymbolTree) (t : ℕ → Transformer) (fit : (n : ℕ) → F
 
 -- ---- DO
 
-within_ascends : (s : ℤ) (f g : Affine) → IsAscending (within_row s f g)
+pub within_ascends : (s : ℤ) (f g : Affine) → IsAscending (within_row s f g)
 within_ascends s f g = if_cases IsAscending (goes_up s) (at_most_row f g) (at_most_row g f) (λ e. at_most_ascending f g) (λ e. at_most_ascending g f)
 
-beyond_ascends : (s : ℤ) (f g : Affine) → IsAscending (beyond_row s f g)
+pub beyond_ascends : (s : ℤ) (f g : Affine) → IsAscending (beyond_row s f g)
 beyond_ascends s f g = if_cases IsAscending (goes_up s) (below_row g f) (below_row f g) (λ e. below_ascending g f) (λ e. below_ascending f g)
 
 after_ascend : (s : ℤ) (cs : List ℕ) (i : ℕ) (f : Option Affine) → AreAscending (after_first s cs i f)

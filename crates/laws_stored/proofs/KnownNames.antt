@@ -22,16 +22,17 @@ use Rattle.f77_names.specs.Declaring.{Told, bound_of, dummy_told, dummies_told, 
 use Rattle.f77_names.specs.Tables.{no_names, table_of}
 use Rattle.f77_meaning.specs.Modules.{symbol_names}
 use Rattle.storage_layout.specs.Symbols.{symbols_of}
-use Rattle.roundtrip_statements.specs.Formed.{Each}
-use Rattle.roundtrip_statements.specs.Phrased.{IsWhat, IsPhrase}
-use Rattle.roundtrip_modules.specs.Cards.{Card, card, cards_of, cards_by, block_cards, part_cards, else_cards, cards_in, title_cards, decl_cards, statements_of}
-use Rattle.roundtrip_modules.specs.Numbered.{TitleFits, last_of, last_arms, last_in, IsNumbered, NumberedBelow, NumberedBody, NumberedBlock, NumberedArms, NumberedElse, AreNumbered}
-use Rattle.roundtrip_modules.proofs.Kept.{Held, Each-append}
-use Rattle.laws_tables.proofs.KeptNames.{Said, with_said, Typed, Shaped, Shared, Parameter, Saved, Initial, Nothing}
-use Rattle.laws_tables.proofs.Answers.{lines_in}
-use Rattle.laws_programs.proofs.Sources.{AnyLabel, IsBuilt}
+use Rattle.laws_programs.specs.roundtrip_programs.Statements.Formed.{Each}
+use Rattle.laws_programs.specs.roundtrip_programs.Statements.Phrased.{IsWhat, IsPhrase}
+use Rattle.laws_programs.specs.roundtrip_programs.ModuleTexts.Cards.{Card, card, cards_of, cards_by, block_cards, part_cards, else_cards, cards_in, title_cards, decl_cards, statements_of}
+use Rattle.laws_programs.specs.roundtrip_programs.ModuleTexts.Numbered.{TitleFits, last_of, last_arms, last_in, IsNumbered, NumberedBelow, NumberedBody, NumberedBlock, NumberedArms, NumberedElse, AreNumbered}
+use Rattle.laws_programs.proofs.RoundtripPrograms.ModuleTexts.Kept.{Held, Each-append}
+use Rattle.laws_programs.proofs.SymbolTables.KeptNames.{Said, with_said, Typed, Shaped, Shared, Parameter, Saved, Initial, Nothing}
+use Rattle.laws_programs.proofs.SymbolTables.Answers.{lines_in}
+use Rattle.laws_programs.proofs.Sources.{IsBuilt}
 use Rattle.laws_lines.proofs.SymbolNames.{names-last, names_stay, said_stay, names_of_symbols}
 use Rattle.laws_stored.proofs.NamesIn.{expr_names, exprs_names, maybe_names, all_names, what_names, extent_names, entity_names, setting_names, common_names, group_names, data_names, save_names, decl_names, phrase_names}
+use Rattle.laws_programs.proofs.RoundtripPrograms.ModuleTexts.Cards.{Any as AnyLabel}
 
 module _ (Name : List ℕ → Type 0) where
   abbrev Names : List (List ℕ) → Type 0

@@ -8,7 +8,7 @@ use Rattle.affine_systems.proofs.Basics.{if_cases}
 use Rattle.f77_ast.specs.Trees.{ExprTree, ExprTrees}
 use Rattle.f77_ast.specs.Trees as tree
 use Rattle.f77_ast.specs.declared.constant.Constant.{Constant}
-use Rattle.f77_ast.specs.Constants.{worth}
+use Rattle.f77_ast.specs.Constants.{const_value}
 use Rattle.f77_ast.specs.declared.symbol.Place.{Place}
 use Rattle.f77_ast.specs.declared.symbol.Place.TheVariants.{Local, Dummy, Block as Lies, Constant as Value}
 use Rattle.f77_ast.specs.declared.variable.Variable.{Variable}
@@ -19,17 +19,17 @@ use Rattle.tracked_cells.specs.Standing.{has_bounds}
 use Rattle.affine_forms.specs.declared.affine.Affine.{Affine}
 use Rattle.affine_forms.specs.Forms.{affine_of}
 use Rattle.affine_forms.specs.Comparisons.{var_form}
-use Rattle.effects.specs.Callee.{first_like}
-use Rattle.call_translation.specs.Scopes.{ScopeTree}
-use Rattle.call_translation.specs.Actuals.{actual_of}
-use Rattle.call_equations.specs.declared.link.Link.{Link}
-use Rattle.call_equations.specs.Sides.{SidesTree}
-use Rattle.call_equations.specs.Forms.{offset, equation}
-use Rattle.call_equations.specs.Cells.{named_form, actual_bound, dummy_bound}
-use Rattle.call_equations.specs.Rows.{constant_form, low_rows, high_rows, high_form, bound_rows, dimension_rows, subscript_rows, bounds_rows}
-use Rattle.call_equations.specs.Positions.{aligned_row, is_none_left, same_extent, dimension_row, row_before, aligned_rows, whole_position, element_position, dummy_position, block_position}
-use Rattle.call_equations.specs.Links.{same_elements, by_position, actual_bounds, whole_by_position, aligned_or, bounds_unless_lines, variable_link, subscripts_link, is_constant, variable_at, element_at, variable_of, element_of, expr_link, actual_link, by_unit, like_or_block, common_link, place_link, symbol_link, link_of}
-use Rattle.base_rows.specs.Scopes.{is_short_name, is_block}
+use Rattle.in_out_regions.specs.effects.Callee.{first_like}
+use Rattle.preconditions.specs.call_translation.Scopes.{ScopeTree}
+use Rattle.preconditions.specs.call_translation.Actuals.{actual_of}
+use Rattle.in_out_regions.specs.call_equations.declared.link.Link.{Link}
+use Rattle.in_out_regions.specs.call_equations.Sides.{SidesTree}
+use Rattle.in_out_regions.specs.call_equations.Forms.{offset, equation}
+use Rattle.in_out_regions.specs.call_equations.Cells.{named_form, actual_bound, dummy_bound}
+use Rattle.in_out_regions.specs.call_equations.Rows.{constant_form, low_rows, high_rows, high_form, bound_rows, dimension_rows, subscript_rows, bounds_rows}
+use Rattle.in_out_regions.specs.call_equations.Positions.{aligned_row, is_none_left, same_extent, dimension_row, row_before, aligned_rows, whole_position, element_position, dummy_position, block_position}
+use Rattle.in_out_regions.specs.call_equations.Links.{same_elements, by_position, actual_bounds, whole_by_position, aligned_or, bounds_unless_lines, variable_link, subscripts_link, is_constant, variable_at, element_at, variable_of, element_of, expr_link, actual_link, by_unit, like_or_block, common_link, place_link, symbol_link, link_of}
+use Rattle.base_json.specs.Scopes.{is_short_name, is_block}
 use Rattle.laws_stored.proofs.Symbols.{PlaceNamed, SymbolNamed, SymbolsNamed, named_at}
 use Rattle.laws_stored.proofs.Tidied.{AreAscending, ascending-append}
 use Rattle.laws_stored.proofs.RulesFit.{at_most_ascending, same_ascending}
@@ -52,7 +52,7 @@ high_ascend None k = tt
 high_ascend (Some f) k = (at_most_ascending (var_form (Phi k)) f, tt)
 
 bound_ascend : (value : List ℕ → Option Constant) (b : BoundTree) (k : ℕ) → AreAscending (bound_rows value b k)
-bound_ascend value b k = ascending-append (low_rows (constant_form (worth value b.low)) k) (high_rows (high_form value b.high) k) (low_ascend (constant_form (worth value b.low)) k) (high_ascend (high_form value b.high) k)
+bound_ascend value b k = ascending-append (low_rows (constant_form (const_value value b.low)) k) (high_rows (high_form value b.high) k) (low_ascend (constant_form (const_value value b.low)) k) (high_ascend (high_form value b.high) k)
 
 dimension_ascend : (value : List ℕ → Option Constant) (o : Option Affine) (b : BoundTree) (k : ℕ) → AreAscending (dimension_rows value o b k)
 dimension_ascend value (Some f) b k = (same_ascending (var_form (Phi k)) f, tt)

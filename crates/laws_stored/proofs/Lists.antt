@@ -2,21 +2,18 @@
 use Rattle.std.proofs.Common.{◌≡◌, ℕ, zero, suc, ◌-◌, Bool, true, false, List, [], ◌∷◌, ◌++◌, map, Option, Some, None, nat_eq, refl, subst}
 use Rattle.std.specs.Prelude.{filter, if◌then◌else◌, slice_get}
 use Rattle.f77_ast.specs.Shared.{numbered}
-use Rattle.f77_results.specs.declared.results.At.{At}
-use Rattle.transformer_algebra.specs.declared.transformer.Transformer.{Transformer}
-use Rattle.transformer_algebra.specs.Transformers.{unchanging}
-use Rattle.transformers.specs.Lists.{first_at, or_first, value_at, or_unchanging, transformer_at}
-use Rattle.region_sets.specs.declared.region.Region.{Region}
-use Rattle.region_sets.specs.Lists.{or_none}
+use Rattle.f77_ast.specs.declared.results.At.{At}
+use Rattle.preconditions.specs.transformer_algebra.declared.transformer.Transformer.{Transformer}
+use Rattle.preconditions.specs.transformer_algebra.Transformers.{identity_transformer}
+use Rattle.preconditions.specs.transformers.Lists.{first_at, or_first, value_at, or_unchanging, transformer_at}
+use Rattle.in_out_regions.specs.region_sets.declared.region.Region.{Region}
+use Rattle.in_out_regions.specs.region_sets.Lists.{or_none}
 use Rattle.base_values.specs.Naming.{Each}
+use Rattle.base_values.proofs.Options.{each_map as each_more}
 
 pub each-append : {A : Type 0} (P : A → Type 0) (xs ys : List A) → Each P xs → Each P ys → Each P (xs ++ ys)
 each-append P [] ys h k = k
 each-append P (x ∷ xs) ys h k = (h.0, each-append P xs ys h.1 k)
-
-pub each_more : {A : Type 0} (P Q : A → Type 0) → ((x : A) → P x → Q x) → (xs : List A) → Each P xs → Each Q xs
-each_more P Q f [] h = tt
-each_more P Q f (x ∷ xs) h = (f x h.0, each_more P Q f xs h.1)
 
 pub each_both : {A : Type 0} (P Q : A → Type 0) (xs : List A) → Each P xs → Each Q xs → Each (λ x. P x × Q x) xs
 each_both P Q [] h k = tt
@@ -68,7 +65,7 @@ value_is {T} P xs n v h e = go (numbered xs n) refl e
     go (Some a) q k = there a q (nat_eq a.id n) k
 
 -- none says nothing
-pub at_found : (P : Transformer → Type 0) → P unchanging → (xs : List (At Transformer)) → Each (λ (a : At Transformer). P a.value) xs → (n : ℕ) → P (transformer_at xs n)
+pub at_found : (P : Transformer → Type 0) → P identity_transformer → (xs : List (At Transformer)) → Each (λ (a : At Transformer). P a.value) xs → (n : ℕ) → P (transformer_at xs n)
 at_found P u xs h n = go (value_at xs n) (λ v e. value_is P xs n v h e)
   where
     go : (o : Option Transformer) → ((v : Transformer) → o ≡ Some v → P v) → P (or_unchanging o)

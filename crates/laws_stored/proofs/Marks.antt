@@ -10,41 +10,40 @@ use Rattle.f77_ast.specs.declared.variable.Unit.{Unit as BlockUnit}
 use Rattle.f77_ast.specs.declared.variable.Variable.{Variable}
 use Rattle.f77_ast.specs.declared.variable.Variable.TheVariants.{Own, Block, Saved}
 use Rattle.f77_meaning.specs.Modules.{Known, symbol_names}
-use Rattle.f77_results.specs.Variables.{union}
-use Rattle.f77_results.specs.declared.effect_set.EffectSet.{EffectSet}
-use Rattle.f77_results.specs.declared.results.At.{At}
-use Rattle.f77_results.specs.declared.results.Results.{Results}
-use Rattle.transformer_algebra.specs.declared.transformer.Transformer.{Transformer}
-use Rattle.transformers.specs.Lists.{value_at, transformer_at}
-use Rattle.scalar_phases.specs.Phases.{scope_of}
-use Rattle.region_sets.specs.declared.region.Access.{Access}
-use Rattle.region_sets.specs.declared.region.Region.{Region}
-use Rattle.region_sets.specs.declared.marks.Mark.{Mark}
-use Rattle.region_sets.specs.declared.marks.Mark.TheVariants.{Serial}
-use Rattle.region_sets.specs.declared.marks.Reason.TheVariants.{Jump, InputOutput, Step, Index}
-use Rattle.region_sets.specs.Lists.{is_access, accesses, or_none, accesses_at, list_regions}
-use Rattle.privatizer.specs.Uses.{Uses}
+use Rattle.f77_ast.specs.Variables.{union}
+use Rattle.f77_ast.specs.declared.effect_set.EffectSet.{EffectSet}
+use Rattle.f77_ast.specs.declared.results.At.{At}
+use Rattle.f77_ast.specs.declared.results.Results.{Results}
+use Rattle.preconditions.specs.transformer_algebra.declared.transformer.Transformer.{Transformer}
+use Rattle.preconditions.specs.transformers.Lists.{value_at, transformer_at}
+use Rattle.loop_marker.specs.module_phases.ScalarPhases.{scope_of}
+use Rattle.in_out_regions.specs.region_sets.declared.region.Access.{Access}
+use Rattle.in_out_regions.specs.region_sets.declared.region.Region.{Region}
+use Rattle.f77_ast.specs.declared.marks.Mark.{Mark}
+use Rattle.f77_ast.specs.declared.marks.Mark.TheVariants.{Serial}
+use Rattle.f77_ast.specs.declared.marks.Reason.TheVariants.{Jump, InputOutput, Step, Index}
+use Rattle.in_out_regions.specs.region_sets.Lists.{is_access, accesses, or_none, accesses_at, list_regions}
+use Rattle.loop_marker.specs.privatizer.Uses.{Uses}
 use Rattle.loop_marker.specs.declared.verdict.Verdict.{Verdict}
 use Rattle.loop_marker.specs.declared.verdict.Verdict.TheVariants.{Free, Copied, Bad}
 use Rattle.loop_marker.specs.Jumps.{may_jump, may_have_io, body_of}
 use Rattle.loop_marker.specs.Variables.{own_variable, index_of, the_indexes, in_order_with, indexes_in, is_write, written_in}
 use Rattle.loop_marker.specs.Marks.{Knowledge, index_is_bad, with_own, verdict_of, by_verdict, marked, by_variables, has_step, by_index, by_step, by_io, mark_of, the_marks, marks_of}
 use Rattle.loop_marker.specs.Known.{knowledge_of}
-use Rattle.region_phases.specs.OutPhases.{ModuleOuts}
+use Rattle.loop_marker.specs.module_phases.OutPhases.{ModuleOuts}
 use Rattle.loop_marker.specs.Phases.{analysis_in, known_in, marks_found}
-use Rattle.laws_statements.proofs.NumberLaws.{ids}
-use Rattle.laws_regions.proofs.Numbering.{ids_parts}
-use Rattle.laws_region_lines.proofs.AccessVars.{named_number}
-use Rattle.base_rows.specs.Scopes.{is_symbol}
+use Rattle.laws_analyses.proofs.Statements.NumberLaws.{ids}
+use Rattle.laws_analyses.proofs.Regions.Numbering.{ids_parts}
+use Rattle.laws_lines.proofs.Regions.AccessVars.{named_number}
+use Rattle.base_json.specs.Scopes.{is_symbol}
 use Rattle.base_values.specs.Modules.{the_loops, loops_in}
 use Rattle.base_values.specs.Naming.{Each, VariableFits}
 use Rattle.base_values.specs.Fits.{MarkFits}
-use Rattle.laws_stored.proofs.Lists.{each-append, set_found}
+use Rattle.laws_stored.proofs.Lists.{set_found, each-append}
 use Rattle.laws_stored.proofs.Symbols.{between}
 use Rattle.laws_stored.proofs.EffectNames.{union_each}
-use Rattle.laws_stored.proofs.TransformersFit.{AllFit}
 use Rattle.laws_stored.proofs.RegionRules.{AreSuch, list_such}
-use Rattle.laws_stored.proofs.Access.{IsAccess, own_fits}
+use Rattle.laws_stored.proofs.Access.{IsAccess, own_fits, OwnFits as AllFit}
 
 -- ---- what holds of each part that a walk puts together
 

@@ -16,8 +16,8 @@ use Rattle.f77_printer.specs.Layout.{stripped}
 use Rattle.f77_printer.specs.StatementText.{actuals_text, step_text, what_text}
 use Rattle.f77_printer.specs.DeclText.{others_by, joined_by, low_text, high_text, extent_text, bounds_text, entity_text, setting_text, settings_text, block_text, common_text, other_commons_text, commons_text, group_text, save_item_text, save_text, data_value_text, data_group_text, other_groups_text, data_text, decl_text}
 use Rattle.f77_printer.specs.ModuleText.{dummies_text}
-use Rattle.roundtrip_statements.specs.Written.{phrase_text}
-use Rattle.roundtrip_statements.proofs.Fits.{statements_fit}
+use Rattle.laws_programs.specs.roundtrip_programs.Statements.Written.{phrase_text}
+use Rattle.laws_programs.proofs.RoundtripPrograms.Statements.Fits.{statements_fit}
 
 -- ---- names
 

@@ -9,50 +9,48 @@ use Rattle.f77_ast.specs.Trees.{ExprTree, ExprTrees, StmtTree, WhatTree, ArmTree
 use Rattle.f77_ast.specs.Trees as tree
 use Rattle.f77_ast.specs.declared.variable.Unit.{Unit as BlockUnit}
 use Rattle.f77_ast.specs.Symbols.{SymbolTree}
-use Rattle.f77_results.specs.declared.results.At.{At}
-use Rattle.f77_results.specs.declared.results.Results.{Results}
-use Rattle.f77_results.specs.Summaries.{SummaryTree}
-use Rattle.transformer_algebra.specs.declared.transformer.Transformer.{Transformer}
-use Rattle.transformer_algebra.specs.Laws.{In, here, there}
-use Rattle.call_translation.specs.Scopes.{ScopeTree}
-use Rattle.transformers.specs.Jumps.{unstructured}
-use Rattle.transformers.specs.Lists.{transformer_at, list_at, number_of}
-use Rattle.region_sets.specs.declared.region.Access.{Access}
-use Rattle.region_sets.specs.declared.region.Access.TheVariants as access
-use Rattle.region_sets.specs.declared.region.Region.{Region}
-use Rattle.region_sets.specs.Regions.{region, hull_of}
-use Rattle.region_sets.specs.Sets.{region_cmp, live_pieces, unite_all}
-use Rattle.region_sets.specs.Lists.{accesses_at, all_composed, all_accesses, all_forgetting, in_order, in_any_order, numbers, list_regions}
-use Rattle.call_equations.specs.Sides.{changed_cells}
+use Rattle.f77_ast.specs.declared.results.At.{At}
+use Rattle.f77_ast.specs.declared.results.Results.{Results}
+use Rattle.f77_ast.specs.Summaries.{SummaryTree}
+use Rattle.preconditions.specs.transformer_algebra.declared.transformer.Transformer.{Transformer}
+use Rattle.preconditions.specs.transformer_algebra.Laws.{In, here, there}
+use Rattle.preconditions.specs.call_translation.Scopes.{ScopeTree}
+use Rattle.preconditions.specs.transformers.Jumps.{unstructured}
+use Rattle.preconditions.specs.transformers.Lists.{transformer_at, list_at, number_of}
+use Rattle.in_out_regions.specs.region_sets.declared.region.Access.{Access}
+use Rattle.in_out_regions.specs.region_sets.declared.region.Access.TheVariants as access
+use Rattle.in_out_regions.specs.region_sets.declared.region.Region.{Region}
+use Rattle.in_out_regions.specs.region_sets.Regions.{region, hull_of}
+use Rattle.in_out_regions.specs.region_sets.Sets.{region_cmp, live_pieces, unite_all}
+use Rattle.in_out_regions.specs.region_sets.Lists.{accesses_at, all_composed, all_accesses, all_forgetting, in_order, in_any_order, numbers, list_regions, set_at}
+use Rattle.in_out_regions.specs.call_equations.Sides.{changed_cells}
 use Rattle.affine_forms.specs.Scalars.{is_cell}
-use Rattle.array_regions.specs.References.{scalar, named}
-use Rattle.array_regions.specs.Reads.{reads, all_reads, inner_reads}
-use Rattle.array_regions.specs.Arms.{always, if_true, past_arms, all_met, tests_reads}
-use Rattle.array_regions.specs.Entry.{symbols_reads, locals, seen}
-use Rattle.array_regions.specs.Simple.{item_does, reading}
-use Rattle.array_regions.specs.Loops.{Found, range_of, loop_reads, all_over}
-use Rattle.array_regions.specs.Calls.{Called, Callees, actuals_reads, sides, all_in_caller, summary_in_caller}
-use Rattle.array_regions.specs.Statement as accesses
-use Rattle.array_regions.specs.Modules.{calls_of, regions_with}
+use Rattle.in_out_regions.specs.array_regions.References.{scalar, named}
+use Rattle.in_out_regions.specs.array_regions.Reads.{reads, all_reads, inner_reads}
+use Rattle.in_out_regions.specs.array_regions.Arms.{always, if_true, past_arms, all_met, tests_reads}
+use Rattle.in_out_regions.specs.array_regions.Entry.{symbols_reads, locals, seen}
+use Rattle.in_out_regions.specs.array_regions.Simple.{item_does, reading}
+use Rattle.in_out_regions.specs.array_regions.Loops.{Found, range_of, loop_reads, all_over}
+use Rattle.in_out_regions.specs.array_regions.Calls.{Called, Callees, actuals_reads, sides, all_in_caller, summary_in_caller}
+use Rattle.in_out_regions.specs.array_regions.Statement as accesses
+use Rattle.in_out_regions.specs.array_regions.Modules.{calls_of, regions_with}
 use Rattle.in_out_regions.specs.Kinds.{as_in, all_in, is_read, is_write, first_reads}
-use Rattle.in_out_regions.specs.Lists.{set_at, all_unwritten, unless_overlapped, all_unless_overlapped}
+use Rattle.in_out_regions.specs.Lists.{all_unwritten, unless_overlapped, all_unless_overlapped}
 use Rattle.in_out_regions.specs.Known as known
 use Rattle.in_out_regions.specs.Calls.{summary_in, call_in}
 use Rattle.in_out_regions.specs.Simple as simple
 use Rattle.in_out_regions.specs.Loops.{all_iterations}
 use Rattle.in_out_regions.specs.Statement as firsts
 use Rattle.in_out_regions.specs.Modules.{ins_with}
-use Rattle.out_regions.specs.Known.{KnownTree}
-use Rattle.out_regions.specs.Used.{as_out, all_out, is_used_beside, used_pieces, is_none, unless_empty, met_with, used_of, if_write, used}
-use Rattle.out_regions.specs.Lists.{writes, writes_at, rest_of, used_behind, first_out, rest_out, may_leave, used_around, any_out}
-use Rattle.out_regions.specs.Statement.{body_out, loop_out, only_out, at_parts, at_arms, at_arm, at_else, at_loop, at_only, at_any, at_used, at_rest, at_first, at_list}
-use Rattle.out_regions.specs.Modules.{outs_with}
+use Rattle.loop_marker.specs.out_regions.Known.{KnownTree}
+use Rattle.loop_marker.specs.out_regions.Used.{as_out, all_out, is_used_beside, used_pieces, is_none, unless_empty, met_with, used_of, if_write, used}
+use Rattle.loop_marker.specs.out_regions.Lists.{writes, writes_at, rest_of, used_behind, first_out, rest_out, may_leave, used_around, any_out}
+use Rattle.loop_marker.specs.out_regions.Statement.{body_out, loop_out, only_out, at_parts, at_arms, at_arm, at_else, at_loop, at_only, at_any, at_used, at_rest, at_first, at_list}
+use Rattle.loop_marker.specs.out_regions.Modules.{outs_with}
 use Rattle.base_values.specs.Naming.{Each}
-use Rattle.laws_marks.proofs.InUnique.{Ordered, gathered_ordered, inexact_ordered}
-use Rattle.laws_stored.proofs.Lists.{each-append, set_found}
-
-abbrev Ahead : Region → List Region → Type 0
-Ahead r qs = (q : Region) → In q qs → region_cmp r q ≡ Less
+use Rattle.laws_marks.proofs.InUnique.{Ordered, gathered_ordered, inexact_ordered, Ahead}
+use Rattle.laws_stored.proofs.Lists.{set_found, each-append}
+use Rattle.laws_marks.proofs.InSets.{list_ordered}
 
 -- ---- sets with other systems
 
@@ -129,12 +127,6 @@ writes_ordered (r ∷ rs) h = go (is_write r.kind) (writes_ordered rs h.1)
 order_ordered : (t : ℕ → Transformer) (f : ℕ → List Region) (ns : List ℕ) → Ordered (in_order t f ns)
 order_ordered t f [] = tt
 order_ordered t f (n ∷ ns) = gathered_ordered (f n ++ all_composed (t n) (in_order t f ns))
-
-list_ordered : (t : ℕ → Transformer) (f : ℕ → List Region) (whole : Bool) (body : StmtTrees) → Ordered (list_regions t f whole body)
-list_ordered t f whole body =
-    let cs = (list_at t whole body).cells in
-    if_cases Ordered (unstructured whole body) (in_any_order cs f (numbers body)) (in_order t f (numbers body))
-    (λ e. inexact_ordered (unite_all (all_forgetting cs (all_accesses f (numbers body)))) (gathered_ordered (all_forgetting cs (all_accesses f (numbers body))))) (λ e. order_ordered t f (numbers body))
 
 -- ---- what is used of WRITE regions
 

@@ -7,47 +7,48 @@ use Rattle.affine_systems.specs.Calls.{meet}
 use Rattle.affine_systems.proofs.Basics.{if_cases}
 use Rattle.hull_projection.specs.Minus.{AllFit}
 use Rattle.hull_projection.proofs.ProjectLaws.{project_fits}
-use Rattle.system_renaming.specs.Renaming.{naming, rename_all, push_rows}
+use Rattle.preconditions.specs.transformer_algebra.Renaming.{naming, rename_all, push_rows}
 use Rattle.f77_ast.specs.Trees.{ExprTree, StmtTree, WhatTree, ArmTree, ArmTrees, ElseTree, LoopTree, StmtTrees}
 use Rattle.f77_ast.specs.Trees as tree
 use Rattle.f77_ast.specs.declared.variable.Variable.{Variable}
 use Rattle.f77_ast.specs.Symbols.{SymbolTree}
-use Rattle.f77_results.specs.declared.results.At.{At}
+use Rattle.f77_ast.specs.declared.results.At.{At}
 use Rattle.affine_forms.specs.declared.affine.Affine.{Affine}
 use Rattle.affine_forms.specs.Scalars.{is_cell}
 use Rattle.affine_forms.specs.Comparisons.{var_form, at_most_row, below_row}
-use Rattle.transformer_algebra.specs.declared.transformer.Transformer.{Transformer}
-use Rattle.transformer_algebra.specs.Transformers.{without, apply}
-use Rattle.transformer_algebra.specs.Loops.{goes_up, within_row, beyond_row}
-use Rattle.call_translation.specs.Scopes.{ScopeTree}
-use Rattle.transformers.specs.Jumps.{unstructured}
-use Rattle.transformers.specs.Lists.{transformer_at, list_at, number_of}
-use Rattle.region_sets.specs.declared.range.Range.{Range}
-use Rattle.region_sets.specs.declared.region.Access.{Access}
-use Rattle.region_sets.specs.declared.region.Access.TheVariants.{Out}
-use Rattle.region_sets.specs.declared.region.Region.{Region}
-use Rattle.region_sets.specs.Regions.{region, hull_of}
-use Rattle.region_sets.specs.Sets.{live_pieces, live, unite_all}
-use Rattle.region_sets.specs.Lists.{is_access, accesses, accesses_at, all_composed, all_forgetting, all_accesses, numbers, list_regions}
-use Rattle.array_regions.specs.Loops.{range_of}
-use Rattle.array_regions.specs.Entry.{locals, seen}
+use Rattle.preconditions.specs.transformer_algebra.declared.transformer.Transformer.{Transformer}
+use Rattle.preconditions.specs.transformer_algebra.Transformers.{without, apply}
+use Rattle.preconditions.specs.transformer_algebra.Loops.{goes_up, within_row, beyond_row}
+use Rattle.preconditions.specs.call_translation.Scopes.{ScopeTree}
+use Rattle.preconditions.specs.transformers.Jumps.{unstructured}
+use Rattle.preconditions.specs.transformers.Lists.{transformer_at, list_at, number_of}
+use Rattle.in_out_regions.specs.region_sets.declared.range.Range.{Range}
+use Rattle.in_out_regions.specs.region_sets.declared.region.Access.{Access}
+use Rattle.in_out_regions.specs.region_sets.declared.region.Access.TheVariants.{Out}
+use Rattle.in_out_regions.specs.region_sets.declared.region.Region.{Region}
+use Rattle.in_out_regions.specs.region_sets.Regions.{region, hull_of}
+use Rattle.in_out_regions.specs.region_sets.Sets.{live_pieces, live, unite_all}
+use Rattle.in_out_regions.specs.region_sets.Lists.{is_access, accesses, accesses_at, all_composed, all_forgetting, all_accesses, numbers, list_regions, set_at}
+use Rattle.in_out_regions.specs.array_regions.Loops.{range_of}
+use Rattle.in_out_regions.specs.array_regions.Entry.{locals, seen}
 use Rattle.in_out_regions.specs.Kinds.{is_write}
-use Rattle.in_out_regions.specs.Writes.{same_variable}
-use Rattle.in_out_regions.specs.Lists.{set_at, all_unwritten}
-use Rattle.out_regions.specs.Known.{KnownTree}
-use Rattle.out_regions.specs.Used.{as_out, all_out, is_used_beside, used_pieces, is_none, unless_empty, met_with, used_of, if_write, used}
-use Rattle.out_regions.specs.Lists.{writes, writes_at, rest_in, rest_writes, applied, all_applied, rest_of, left_over, used_behind, first_out, rest_out, may_leave, used_around, any_out}
-use Rattle.out_regions.specs.Later.{later_rows_by, later_rows, is_steady, later_index, later_piece, later, all_later}
-use Rattle.out_regions.specs.Statement.{body_writes, body_out, body_in, used_after, loop_out, only_out, at_parts, at_arms, at_arm, at_else, at_loop, at_only, at_any, at_used, at_rest, at_first, at_list}
-use Rattle.out_regions.specs.Modules.{summary_of, outs_with}
+use Rattle.in_out_regions.specs.Lists.{all_unwritten}
+use Rattle.loop_marker.specs.out_regions.Known.{KnownTree}
+use Rattle.loop_marker.specs.out_regions.Used.{as_out, all_out, is_used_beside, used_pieces, is_none, unless_empty, met_with, used_of, if_write, used}
+use Rattle.loop_marker.specs.out_regions.Lists.{writes, writes_at, rest_in, rest_writes, applied, all_applied, rest_of, left_over, used_behind, first_out, rest_out, may_leave, used_around, any_out}
+use Rattle.loop_marker.specs.out_regions.Later.{later_rows_by, later_rows, is_steady, later_index, later_piece, later, all_later}
+use Rattle.loop_marker.specs.out_regions.Statement.{body_writes, body_out, body_in, used_after, loop_out, only_out, at_parts, at_arms, at_arm, at_else, at_loop, at_only, at_any, at_used, at_rest, at_first, at_list}
+use Rattle.loop_marker.specs.out_regions.Modules.{summary_of, outs_with}
 use Rattle.base_values.specs.Naming.{Each}
-use Rattle.laws_stored.proofs.Lists.{each-append, set_found}
+use Rattle.laws_stored.proofs.Lists.{set_found, each-append}
 use Rattle.laws_stored.proofs.Tidied.{IsAscending, AreAscending, meet_fit, push_fit, rename_fit}
 use Rattle.laws_stored.proofs.RulesFit.{without_fits, apply_fits, at_most_ascending, below_ascending}
-use Rattle.laws_stored.proofs.RegionRules.{mapped_fit, hull_of_fits, live_fit, IsSuch, AreSuch, both_such, all_such, all_composed_such, forgetting_such, live_such, united_such, order_such, accesses_such, list_such}
+use Rattle.laws_stored.proofs.RegionRules.{mapped_fit, hull_of_fits, IsSuch, AreSuch, both_such, all_such, all_composed_such, forgetting_such, live_such, united_such, order_such, accesses_such, list_such}
 use Rattle.laws_stored.proofs.Links.{IsCalled}
 use Rattle.laws_stored.proofs.Access.{IsAccess, seen_such, OwnFits, own_fits}
-use Rattle.laws_stored.proofs.Ins.{SystemsFit, IsIn, I, unwritten_such, order_in_such, list_in_such}
+use Rattle.laws_stored.proofs.Ins.{SystemsFit, IsIn, I, unwritten_such, order_in_such, list_in_such, within_ascends, beyond_ascends}
+use Rattle.in_out_regions.proofs.RegionSets.LiveSteps.{live_pieces_fit as live_fit}
+use Rattle.f77_ast.specs.Variables.{same_variable}
 
 abbrev pub IsOut : Access → Type 0
 IsOut k = k ≡ Out
@@ -126,12 +127,6 @@ module _ (V : Variable → Type 0) where
   kinds (r ∷ rs) h = ((h.0.0, tt, h.0.2), kinds rs h.1)
 
 -- ---- later iterations
-
-within_ascends : (s : ℤ) (f g : Affine) → IsAscending (within_row s f g)
-within_ascends s f g = if_cases IsAscending (goes_up s) (at_most_row f g) (at_most_row g f) (λ e. at_most_ascending f g) (λ e. at_most_ascending g f)
-
-beyond_ascends : (s : ℤ) (f g : Affine) → IsAscending (beyond_row s f g)
-beyond_ascends s f g = if_cases IsAscending (goes_up s) (below_row g f) (below_row f g) (λ e. below_ascending g f) (λ e. below_ascending f g)
 
 later_ascend : (o : Option ℤ) (i : ℕ) (l : Option Affine) → AreAscending (later_rows_by o i l)
 later_ascend None i l = tt

@@ -9,52 +9,54 @@ use Rattle.f77_ast.specs.Trees as tree
 use Rattle.f77_ast.specs.StatementNumbers.{stmt_numbers, part_numbers, list_numbers, arms_numbers, arm_numbers, else_numbers, loop_numbers}
 use Rattle.f77_ast.specs.declared.variable.Unit.{Unit as BlockUnit}
 use Rattle.f77_ast.specs.Symbols.{SymbolTree}
-use Rattle.f77_results.specs.declared.effect_set.EffectSet.{EffectSet}
-use Rattle.f77_results.specs.declared.results.At.{At}
-use Rattle.f77_results.specs.declared.results.Results.{Results}
+use Rattle.f77_ast.specs.declared.effect_set.EffectSet.{EffectSet}
+use Rattle.f77_ast.specs.declared.results.At.{At}
+use Rattle.f77_ast.specs.declared.results.Results.{Results}
 use Rattle.call_graph.specs.declared.graph.Graph.{Graph}
 use Rattle.f77_meaning.specs.Modules.{Known, symbol_names}
-use Rattle.effects.specs.List as effect_lists
-use Rattle.transformer_algebra.specs.declared.transformer.Transformer.{Transformer}
-use Rattle.call_translation.specs.Sites.{HoldingSite, SiteTree}
-use Rattle.transformers.specs.Given as given
-use Rattle.transformers.specs.Lists.{transformer_at}
+use Rattle.in_out_regions.specs.effects.List as effect_lists
+use Rattle.preconditions.specs.transformer_algebra.declared.transformer.Transformer.{Transformer}
+use Rattle.preconditions.specs.call_translation.Sites.{HoldingSite, SiteTree}
+use Rattle.preconditions.specs.transformers.Given as given
+use Rattle.preconditions.specs.transformers.Lists.{transformer_at}
 use Rattle.preconditions.specs.Entry.{entry_of}
-use Rattle.scalar_phases.specs.Phases.{scope_of, place_of, module_at, module_of, Found, found_of, maybe_found, Analysis, sites_of, analysis_of, analyses_from, analyses}
-use Rattle.scalar_phases.specs.Phases as scalars
-use Rattle.region_sets.specs.declared.region.Region.{Region}
-use Rattle.region_phases.specs.Phases.{ModuleRegions, with_regions, all_regions}
-use Rattle.region_phases.specs.Phases as regions
-use Rattle.array_regions.specs.Calls.{Callees}
-use Rattle.array_regions.specs.Modules.{calls_of}
-use Rattle.region_phases.specs.InPhases.{ModuleIns, with_ins, all_ins}
-use Rattle.region_phases.specs.InPhases as ins
+use Rattle.loop_marker.specs.module_phases.ScalarPhases.{scope_of, place_of, module_at, module_of, Found, found_of, maybe_found, Analysis, sites_of, analysis_of, analyses_from, analyses}
+use Rattle.loop_marker.specs.module_phases.ScalarPhases as scalars
+use Rattle.in_out_regions.specs.region_sets.declared.region.Region.{Region}
+use Rattle.loop_marker.specs.module_phases.RegionPhases.{ModuleRegions, with_regions, all_regions}
+use Rattle.loop_marker.specs.module_phases.RegionPhases as regions
+use Rattle.in_out_regions.specs.array_regions.Calls.{Callees}
+use Rattle.in_out_regions.specs.array_regions.Modules.{calls_of}
+use Rattle.loop_marker.specs.module_phases.InPhases.{ModuleIns, with_ins, all_ins}
+use Rattle.loop_marker.specs.module_phases.InPhases as ins
 use Rattle.in_out_regions.specs.Modules.{known_of as in_known}
-use Rattle.region_phases.specs.declared.sites.OutSite.{OutSite}
-use Rattle.region_phases.specs.OutPhases.{ModuleOuts, used_after, with_outs, name_of, outs_from, all_outs}
-use Rattle.region_phases.specs.OutPhases as outs
-use Rattle.out_regions.specs.Known.{KnownTree}
-use Rattle.out_regions.specs.Statement.{body_out}
-use Rattle.loop_marker.specs.Phases.{ModuleMarks, known_in, with_marks, all_marks}
+use Rattle.loop_marker.specs.module_phases.declared.out_site.OutSite.{OutSite}
+use Rattle.loop_marker.specs.module_phases.OutPhases.{ModuleOuts, used_after, with_outs, name_of, outs_from, all_outs}
+use Rattle.loop_marker.specs.module_phases.OutPhases as outs
+use Rattle.loop_marker.specs.out_regions.Known.{KnownTree}
+use Rattle.loop_marker.specs.out_regions.Statement.{body_out}
+use Rattle.loop_marker.specs.Results.{ModuleResults}
+use Rattle.loop_marker.specs.Phases.{phases_of, known_in, with_marks, all_marks}
 use Rattle.loop_marker.specs.Phases as marks
-use Rattle.laws_statements.proofs.NumberLaws.{ids, t_list, p_list}
-use Rattle.laws_regions.proofs.Numbering.{r_list, ids_parts}
+use Rattle.laws_analyses.proofs.Statements.NumberLaws.{ids, t_list, p_list}
+use Rattle.laws_analyses.proofs.Regions.Numbering.{r_list, ids_parts}
 use Rattle.laws_marks.proofs.InStanding.{i_list}
 use Rattle.laws_marks.proofs.OutNumbers.{o_list}
 use Rattle.laws_lines.proofs.PhaseVars.{EachOf, each-append as of-append, each_reverse, got_each}
-use Rattle.base_rows.specs.Scopes.{is_short_name}
+use Rattle.base_json.specs.Scopes.{is_short_name}
 use Rattle.base_values.specs.Naming.{Each, VariableFits}
 use Rattle.laws_stored.proofs.Symbols.{ModuleNamed}
-use Rattle.laws_stored.proofs.TransformersFit.{AllFit, at_list_fits, summary_fits}
+use Rattle.laws_stored.proofs.TransformersFit.{at_list_fits, summary_fits}
 use Rattle.laws_stored.proofs.PreconditionsFit.{entry_fits}
 use Rattle.laws_stored.proofs.PreconditionsFit as preconditions
 use Rattle.laws_stored.proofs.Foreign.{IsForeign, CalleesForeign, MaybeForeign, at_list_named, summary_named}
 use Rattle.laws_stored.proofs.EffectNames.{EffectNamed, CalleesNamed, MaybeNamed, effects_named}
 use Rattle.laws_stored.proofs.RegionRules.{AreSuch}
-use Rattle.laws_stored.proofs.Access.{IsAccess, A, CalleesSuch, MaybeSuch, regions_such}
+use Rattle.laws_stored.proofs.Access.{IsAccess, A, CalleesSuch, MaybeSuch, regions_such, OwnFits as AllFit}
 use Rattle.laws_stored.proofs.Ins.{IsIn, I, ins_such}
 use Rattle.laws_stored.proofs.Outs.{IsOut, outs_such}
 use Rattle.laws_stored.proofs.CalleeLinks.{used_after_such}
+use Rattle.fx_lists.proofs.Texts.{same_name_2 as same_name}
 
 -- ---- lists
 
@@ -73,9 +75,6 @@ of_more P Q f (x ∷ xs) h = (f x h.0, of_more P Q f xs h.1)
 pub each_of : {X : Type 0} (P : X → Type 0) (xs : List X) → Each P xs → EachOf P xs
 each_of P [] h = tt
 each_of P (x ∷ xs) h = (h.0, each_of P xs h.1)
-
-same_name : (x y : List ℕ) → bytes_eq x y ≡ true → x ≡ y
-same_name x y e = (bytes_eq-Decides x y).0 e
 
 -- ---- what statements do
 
@@ -293,10 +292,10 @@ module _ (cs : effect_lists.Callees) (ss : List SymbolTree) where
     e_loop : (l : LoopTree) → ids (effect_lists.at_loop l cs ss) ≡ loop_numbers l
     e_loop (tree.loop index first last step body) = e_list body
 
-pub record EffectsGood (f : ModuleMarks) : Type 0 where
-  pub at : Each (λ (a : At EffectSet). EffectNamed (symbol_names (known_in f.outs).symbols) a.value) f.effects.at
-  pub summary : EffectNamed (symbol_names (known_in f.outs).symbols) f.effects.summary
-  pub numbers : ids f.effects.at ≡ list_numbers (known_in f.outs).read.body
+pub record EffectsGood (f : ModuleResults) : Type 0 where
+  pub at : Each (λ (a : At EffectSet). EffectNamed (symbol_names f.known.symbols) a.value) f.effects.at
+  pub summary : EffectNamed (symbol_names f.known.symbols) f.effects.summary
+  pub numbers : ids f.effects.at ≡ list_numbers f.known.read.body
 
 effects_good : (untracked : List BlockUnit) (cs : effect_lists.Callees) (f : ModuleOuts) → CalleesNamed cs → EffectsGood (with_marks untracked cs f)
 effects_good untracked cs f c =
@@ -304,13 +303,13 @@ effects_good untracked cs f c =
     let e = effects_named k.symbols cs c k.read.body in
     record { at = e.0; summary = e.1; numbers = e_list cs k.symbols k.read.body }
 
-more_effects : (f : ModuleMarks) (cs : effect_lists.Callees) → ModuleNamed (known_in f.outs) → EffectsGood f → CalleesNamed cs → CalleesNamed (marks.with_callee f cs)
+more_effects : (f : ModuleResults) (cs : effect_lists.Callees) → ModuleNamed f.known → EffectsGood f → CalleesNamed cs → CalleesNamed (marks.with_callee f cs)
 more_effects f cs n h c x = go (bytes_eq name x) refl
   where
     name : List ℕ
-    name = (known_in f.outs).read.name
+    name = f.known.read.name
 
-    go : (b : Bool) → bytes_eq name x ≡ b → MaybeNamed x (if b then Some (record { symbols = (known_in f.outs).symbols; value = f.effects.summary }) else cs x)
+    go : (b : Bool) → bytes_eq name x ≡ b → MaybeNamed x (if b then Some (record { symbols = f.known.symbols; value = f.effects.summary }) else cs x)
     go true e = record { name = subst (λ (y : List ℕ). is_short_name y ≡ true) (same_name name x e) n.0; symbols = n.1; value = h.summary }
     go false e = c x
 
@@ -327,16 +326,16 @@ all_effects_good g fs h = found_effects g.untracked marks.no_callees (reverse fs
 -- ---- up to the marks
 
 module _ (W : ModuleOuts → Type 0) where
-  found_with : (untracked : List BlockUnit) (cs : effect_lists.Callees) (fs : List ModuleOuts) → EachOf W fs → EachOf (λ (f : ModuleMarks). W f.outs) (marks.found_in untracked cs fs)
+  found_with : (untracked : List BlockUnit) (cs : effect_lists.Callees) (fs : List ModuleOuts) → EachOf W fs → EachOf (λ (f : ModuleResults). W (phases_of f)) (marks.found_in untracked cs fs)
   found_with untracked cs [] h = tt
   found_with untracked cs (f ∷ fs) h = (h.0, found_with untracked (marks.with_callee (with_marks untracked cs f) cs) fs h.1)
 
-  pub marks_with : (g : Graph) (fs : List ModuleOuts) → EachOf W fs → EachOf (λ (f : ModuleMarks). W f.outs) (all_marks g fs)
+  pub marks_with : (g : Graph) (fs : List ModuleOuts) → EachOf W fs → EachOf (λ (f : ModuleResults). W (phases_of f)) (all_marks g fs)
   marks_with g fs h = found_with g.untracked marks.no_callees (reverse fs) (each_reverse W fs h)
 
 -- the marks of each follow from its other results
-pub record MarksAre (untracked : List BlockUnit) (f : ModuleMarks) : Type 0 where
-  pub are : f.marks ≡ marks.marks_found untracked f.outs f.effects
+pub record MarksAre (untracked : List BlockUnit) (f : ModuleResults) : Type 0 where
+  pub are : f.marks ≡ marks.marks_found untracked (phases_of f) f.effects
 
 marks_are : (untracked : List BlockUnit) (cs : effect_lists.Callees) (fs : List ModuleOuts) → EachOf (MarksAre untracked) (marks.found_in untracked cs fs)
 marks_are untracked cs [] = tt

@@ -10,33 +10,33 @@ use Rattle.hull_projection.specs.Hull.{hull}
 use Rattle.hull_projection.specs.Variables.{with_rows}
 use Rattle.hull_projection.proofs.CleanLaws.{clean_fits}
 use Rattle.hull_projection.proofs.ProjectLaws.{project_fits}
-use Rattle.system_renaming.specs.Renaming.{renamed_by, rename_all, push_rows}
-use Rattle.system_renaming.specs.Fresh.{above_rows}
+use Rattle.preconditions.specs.transformer_algebra.Renaming.{renamed_by, rename_all, push_rows}
+use Rattle.preconditions.specs.transformer_algebra.Fresh.{above_rows}
 use Rattle.affine_systems.specs.Rows.{renamed_row}
 use Rattle.f77_ast.specs.Trees.{ExprTree, StmtTree, WhatTree, ArmTree, ArmTrees, ElseTree, LoopTree, StmtTrees}
 use Rattle.f77_ast.specs.Trees as tree
 use Rattle.f77_ast.specs.declared.symbol.InitialRun.{InitialRun}
 use Rattle.f77_ast.specs.Symbols.{SymbolTree}
-use Rattle.f77_results.specs.declared.results.At.{At}
+use Rattle.f77_ast.specs.declared.results.At.{At}
 use Rattle.affine_forms.specs.Scalars.{is_cell}
 use Rattle.affine_forms.specs.Conditions.{condition_of}
-use Rattle.transformer_algebra.specs.declared.transformer.Transformer.{Transformer}
-use Rattle.transformer_algebra.specs.declared.loop_parts.LoopParts.{LoopParts}
-use Rattle.transformer_algebra.specs.Transformers.{apply, iterate}
-use Rattle.transformer_algebra.specs.Loops.{start, next, stays, if_stays, unguard, inside, beyond_last, index_form, iteration, before_iterations, iteration_by, at_iteration, end_by, after_loop}
-use Rattle.call_translation.specs.Scopes.{ScopeTree}
-use Rattle.call_translation.specs.Variables.{auxiliaries_in}
-use Rattle.call_translation.specs.Sites.{HoldingSite}
-use Rattle.call_translation.specs.SiteEntry.{rows_from, names_from, site_entry}
-use Rattle.transformers.specs.Jumps.{unstructured}
-use Rattle.transformers.specs.Lists.{list_at}
+use Rattle.preconditions.specs.transformer_algebra.declared.transformer.Transformer.{Transformer}
+use Rattle.preconditions.specs.transformer_algebra.declared.loop_parts.LoopParts.{LoopParts}
+use Rattle.preconditions.specs.transformer_algebra.Transformers.{apply, iterate}
+use Rattle.preconditions.specs.transformer_algebra.Loops.{start, next, stays, if_stays, unguard, inside, beyond_last, index_form, iteration, before_iterations, iteration_by, at_iteration, end_by, after_loop}
+use Rattle.preconditions.specs.call_translation.Scopes.{ScopeTree}
+use Rattle.preconditions.specs.call_translation.Variables.{auxiliaries_in}
+use Rattle.preconditions.specs.call_translation.Sites.{HoldingSite}
+use Rattle.preconditions.specs.call_translation.SiteEntry.{rows_from, names_from, site_entry}
+use Rattle.preconditions.specs.transformers.Jumps.{unstructured}
+use Rattle.preconditions.specs.transformers.Lists.{list_at}
 use Rattle.preconditions.specs.Statement.{PreconditionList, hull_from, some_holds, if_true, if_false, parts_of, each_iteration, done, throughout, past_arm, past_arms, after, after_what, after_each, after_arms, after_arm, after_else, after_loop_of, at_stmt, at_parts, at_each, at_all, at_arms, at_arm, at_else, at_loop, at_list}
 use Rattle.preconditions.specs.Entry.{begins_with, initial_row, initial_from, entry_of}
 use Rattle.base_values.specs.Naming.{Each}
-use Rattle.laws_stored.proofs.Lists.{each-append}
 use Rattle.laws_stored.proofs.Tidied.{AreAscending, ascending-append, push_fit, of_rows_fit, meet_fit, rename_fit, renamed_rows}
 use Rattle.laws_stored.proofs.Hulls.{hull_fit}
 use Rattle.laws_stored.proofs.RulesFit.{condition_fits, infeasible_fit, apply_fits, without_fits, within_ascending, beyond_ascending}
+use Rattle.laws_stored.proofs.Lists.{each-append}
 
 -- ---- hulls of several
 

@@ -23,33 +23,35 @@ use Rattle.hull_projection.specs.Project.{shadow, project}
 use Rattle.hull_projection.specs.Refute.{refuted}
 use Rattle.hull_projection.proofs.GivenLaws.{at_least_0_given}
 use Rattle.hull_projection.proofs.ProjectLaws.{project_fits}
-use Rattle.system_renaming.specs.Renaming.{naming, rename_all, push_rows}
+use Rattle.preconditions.specs.transformer_algebra.Renaming.{naming, rename_all, push_rows}
 use Rattle.f77_ast.specs.Trees.{StmtTrees}
 use Rattle.f77_ast.specs.declared.variable.Variable.{Variable}
 use Rattle.affine_forms.specs.declared.affine.Affine.{Affine}
 use Rattle.affine_forms.specs.Comparisons.{same_row, at_most_row}
-use Rattle.transformer_algebra.specs.declared.transformer.Transformer.{Transformer}
-use Rattle.transformer_algebra.specs.Cells.{others}
-use Rattle.transformer_algebra.specs.Transformers.{without}
-use Rattle.transformer_algebra.specs.Loops.{goes_up, within_row}
-use Rattle.transformers.specs.Jumps.{unstructured}
-use Rattle.transformers.specs.Lists.{list_at}
-use Rattle.region_sets.specs.declared.range.Range.{Range}
-use Rattle.region_sets.specs.declared.region.Access.{Access}
-use Rattle.region_sets.specs.declared.region.Region.{Region}
-use Rattle.region_sets.specs.Regions.{remade, systems, each_piece, hull_of}
-use Rattle.region_sets.specs.Naming.{in_terms, has_none, named_cells, to_exits, exit_vars}
-use Rattle.region_sets.specs.Compose.{exit_row, settled_by, normal_form, put_in, before_rows, put_in_all, put_exit, on_row, put_exits, led_to, put_or_led, compose_piece, compose}
-use Rattle.region_sets.specs.Unite.{all_within, unite}
-use Rattle.region_sets.specs.Sets.{region_cmp, live_pieces, with_pieces, with_region, with_live, with_regions, live, unite_all}
-use Rattle.region_sets.specs.Loops.{index_form, step_rows, first_rows, last_rows, counted_rows, range_rows, iterations, iterations_at, at_index, loop_vars, through_loop, loop_piece, over_loop}
-use Rattle.region_sets.specs.Loops as loops
-use Rattle.region_sets.specs.Lists.{all_composed, in_order, forgetting, all_forgetting, all_accesses, inexact, all_inexact, in_any_order, numbers, list_regions}
+use Rattle.preconditions.specs.transformer_algebra.declared.transformer.Transformer.{Transformer}
+use Rattle.preconditions.specs.transformer_algebra.Cells.{others}
+use Rattle.preconditions.specs.transformer_algebra.Transformers.{without}
+use Rattle.preconditions.specs.transformer_algebra.Loops.{goes_up, within_row}
+use Rattle.preconditions.specs.transformers.Jumps.{unstructured}
+use Rattle.preconditions.specs.transformers.Lists.{list_at}
+use Rattle.in_out_regions.specs.region_sets.declared.range.Range.{Range}
+use Rattle.in_out_regions.specs.region_sets.declared.region.Access.{Access}
+use Rattle.in_out_regions.specs.region_sets.declared.region.Region.{Region}
+use Rattle.in_out_regions.specs.region_sets.Regions.{remade, systems, each_piece, hull_of}
+use Rattle.in_out_regions.specs.region_sets.Naming.{in_terms, has_none, named_cells, to_exits, exit_vars}
+use Rattle.in_out_regions.specs.region_sets.Compose.{exit_row, on_row, put_exits, composed_with, put_or_led, compose_piece, compose}
+use Rattle.in_out_regions.specs.region_sets.Unite.{all_within, unite}
+use Rattle.in_out_regions.specs.region_sets.Sets.{region_cmp, live_pieces, with_pieces, with_region, with_live, with_regions, live, unite_all}
+use Rattle.in_out_regions.specs.region_sets.Loops.{index_form, step_rows, first_rows, last_rows, counted_rows, range_rows, iterations, iterations_at, at_index, loop_vars, through_loop, loop_piece, over_loop}
+use Rattle.in_out_regions.specs.region_sets.Loops as loops
+use Rattle.in_out_regions.specs.region_sets.Lists.{all_composed, in_order, forgetting, all_forgetting, all_accesses, inexact, all_inexact, in_any_order, numbers, list_regions}
 use Rattle.base_values.specs.Naming.{Each}
-use Rattle.laws_stored.proofs.Lists.{each-append}
 use Rattle.laws_stored.proofs.Tidied.{IsAscending, AreAscending, ascending-append, tidy_fit, fit_ascending, meet_fit, push_fit, rename_fit}
 use Rattle.laws_stored.proofs.Hulls.{hulls_fit}
 use Rattle.laws_stored.proofs.RulesFit.{at_most_ascending, same_ascending, infeasible_fit, without_fits}
+use Rattle.in_out_regions.proofs.RegionSets.LiveSteps.{live_pieces_fit as live_fit}
+use Rattle.in_out_regions.specs.region_sets.Putting.{settled_by, normal_form, put_in, before_rows, put_in_all, put_row}
+use Rattle.laws_stored.proofs.Lists.{each-append}
 
 -- ---- rows that are put in
 
@@ -99,12 +101,12 @@ pub before_ascends : (o : Option Row) (rs : List Row) → MaybeAscends o → Are
 before_ascends None rs h k = k
 before_ascends (Some r) rs h k = (h, k)
 
-put_ascends : (c : ℕ) (e r : Row) → IsAscending r → MaybeAscends (put_in c e r)
-put_ascends c e r h = if_cases MaybeAscends (in_terms (Exit c) r.terms) (normal_form (substitute r (Exit c) e)) (Some r) (λ q. replaced_ascends r (Exit c) e) (λ q. h)
+put_ascends : (v : Var) (e r : Row) → IsAscending r → MaybeAscends (put_in v e r)
+put_ascends v e r h = if_cases MaybeAscends (in_terms v r.terms) (normal_form (substitute r v e)) (Some r) (λ q. replaced_ascends r v e) (λ q. h)
 
-all_put_ascend : (c : ℕ) (e : Row) (rs : List Row) → AreAscending rs → AreAscending (put_in_all c e rs)
-all_put_ascend c e [] h = tt
-all_put_ascend c e (r ∷ rs) h = before_ascends (put_in c e r) (put_in_all c e rs) (put_ascends c e r h.0) (all_put_ascend c e rs h.1)
+pub all_put_ascend : (v : Var) (e : Row) (rs : List Row) → AreAscending rs → AreAscending (put_in_all v e rs)
+all_put_ascend v e [] h = tt
+all_put_ascend v e (r ∷ rs) h = before_ascends (put_in v e r) (put_in_all v e rs) (put_ascends v e r h.0) (all_put_ascend v e rs h.1)
 
 abbrev SystemAscends : Option System → Type 0
 SystemAscends None = Unit {0}
@@ -112,15 +114,15 @@ SystemAscends (Some s) = AreAscending s.rows
 
 exits_ascend : (cs : List ℕ) (es : List Row) (s : System) → AreAscending s.rows → SystemAscends (put_exits cs es s)
 exits_ascend [] es s h = h
-exits_ascend (c ∷ cs) es s h = go (exit_row c es) (λ e. exits_ascend cs es (put_exit c e s) (all_put_ascend c e s.rows h))
+exits_ascend (c ∷ cs) es s h = go (exit_row c es) (λ e. exits_ascend cs es (put_row (Exit c) e s) (all_put_ascend (Exit c) e s.rows h))
   where
-    go : (o : Option Row) → ((e : Row) → SystemAscends (put_exits cs es (put_exit c e s))) → SystemAscends (on_row o (λ e. put_exits cs es (put_exit c e s)))
+    go : (o : Option Row) → ((e : Row) → SystemAscends (put_exits cs es (put_row (Exit c) e s))) → SystemAscends (on_row o (λ e. put_exits cs es (put_row (Exit c) e s)))
     go None f = tt
     go (Some e) f = f e
 
 -- ---- from after a statement to before it
 
-led_fits : (cs : List ℕ) (t : Transformer) (s : System) → Fits t.system → Fits (led_to cs t s)
+led_fits : (cs : List ℕ) (t : Transformer) (s : System) → Fits t.system → Fits (composed_with cs t s)
 led_fits cs t s h = project_fits (meet (rename_all (to_exits cs) s) t.system) (exit_vars t.cells) (meet_fit (rename_all (to_exits cs) s) t.system (rename_fit (to_exits cs) s) h)
 
 put_or_fits : (o : Option System) (cs : List ℕ) (t : Transformer) (s : System) → SystemAscends o → Fits t.system → Fits (put_or_led o cs t s).system
@@ -163,9 +165,9 @@ loop_piece_fits g s =
     let away = rename_all (to_exits cs) here in
     let way = push_fit away (range_rows g) (rename_fit (to_exits cs) here) rows in
     let led = project_fits (meet (push_rows away (range_rows g)) (iterations_at g)) (exit_vars (iterations g).cells) (meet_fit (push_rows away (range_rows g)) (iterations_at g) way (rename_fit (naming (Exit g.index) (Aux 0) ∷ []) (iterations g).system)) in
-    if_cases (λ (x : Shadow). Fits x.system) (has_none cs) (loops.counted g (project (push_rows here (range_rows g)) loop_vars)) (shadow (project (loops.led_to cs g s) loop_vars).system false)
+    if_cases (λ (x : Shadow). Fits x.system) (has_none cs) (loops.counted g (project (push_rows here (range_rows g)) loop_vars)) (shadow (project (loops.composed_with cs g s) loop_vars).system false)
     (λ e. project_fits (push_rows here (range_rows g)) loop_vars (push_fit here (range_rows g) (rename_fit (naming (Cell g.index) (Aux 0) ∷ []) s) rows))
-    (λ e. project_fits (loops.led_to cs g s) loop_vars led)
+    (λ e. project_fits (loops.composed_with cs g s) loop_vars led)
 
 -- ---- regions
 
@@ -184,10 +186,6 @@ pieces_fit f g (s ∷ ss) h = (g s h.0, pieces_fit f g ss h.1)
 pub hull_of_fits : (ss : List System) → AllFit ss → Fits (hull_of ss)
 hull_of_fits [] h = infeasible_fit
 hull_of_fits (s ∷ ss) h = hulls_fit s ss h.0 h.1
-
-pub live_fit : (ss : List System) → AllFit ss → AllFit (live_pieces ss)
-live_fit [] h = tt
-live_fit (s ∷ ss) h = let ih = live_fit ss h.1 in if_cases AllFit (refuted s.rows) (live_pieces ss) (s ∷ live_pieces ss) (λ e. ih) (λ e. (h.0, ih))
 
 module _ (V : Variable → Type 0) (K : Access → Type 0) where
   -- of such a variable and such a kind

@@ -8,8 +8,8 @@ use Rattle.affine_systems.proofs.Basics.{if_cases}
 use Rattle.affine_systems.proofs.AscendLaws.{ascends-combined}
 use Rattle.hull_projection.specs.Hull.{hull}
 use Rattle.hull_projection.proofs.ProjectLaws.{project_fits}
-use Rattle.system_renaming.specs.Renaming.{rename_all, push_rows}
-use Rattle.system_renaming.specs.Fresh.{fresh_over, above_rows}
+use Rattle.preconditions.specs.transformer_algebra.Renaming.{rename_all, push_rows}
+use Rattle.preconditions.specs.transformer_algebra.Fresh.{fresh_over, above_rows}
 use Rattle.f77_ast.specs.Trees.{ExprTree, ExprTrees}
 use Rattle.f77_ast.specs.Trees as tree
 use Rattle.f77_ast.specs.declared.constant.Constant.{Constant}
@@ -18,24 +18,24 @@ use Rattle.f77_ast.specs.declared.expr.UnaryOp.{UnaryOp}
 use Rattle.f77_ast.specs.declared.expr.UnaryOp.TheVariants.{Plus, Minus, Not}
 use Rattle.f77_ast.specs.declared.expr.BinaryOp.{BinaryOp}
 use Rattle.f77_ast.specs.declared.expr.BinaryOp.TheVariants.{Add, Sub, Mul, Div, Pow, Eq, Ne, Lt, Le, Gt, Ge, And, Or, Eqv, Neqv}
-use Rattle.f77_results.specs.Summaries.{SummaryTree}
+use Rattle.f77_ast.specs.Summaries.{SummaryTree}
 use Rattle.affine_forms.specs.declared.affine.Affine.{Affine}
 use Rattle.affine_forms.specs.declared.conditions.Condition.{Condition}
 use Rattle.affine_forms.specs.Scalars.{Scalars}
 use Rattle.affine_forms.specs.Forms.{affine_of}
 use Rattle.affine_forms.specs.Comparisons.{var_form, at_most_row, below_row, same_row, one_row}
 use Rattle.affine_forms.specs.Conditions.{no_rows, infeasible, of_truth, constant_condition, comparison, comparison_of_forms, unary_condition, binary_condition, condition_of}
-use Rattle.transformer_algebra.specs.declared.transformer.Transformer.{Transformer}
-use Rattle.transformer_algebra.specs.declared.loop_parts.LoopParts.{LoopParts}
-use Rattle.transformer_algebra.specs.Cells.{others}
-use Rattle.transformer_algebra.specs.Halves.{first_names, second_names, middle, to_cells, cell_vars}
-use Rattle.transformer_algebra.specs.Transformers.{exit_system, followed, without, apply, equals, complete, all_cells, hull_of_arms, one_of, iterate}
-use Rattle.transformer_algebra.specs.Loops.{index_becomes, index_form, goes_up, within_rows, beyond_rows, start, start_form, unguard, beyond_last, zero_iterations, first_iterations, some_iterations, counted_by, loop_transformer}
-use Rattle.transformer_algebra.proofs.GivenSteps.{are_cells}
-use Rattle.call_translation.specs.Scopes.{ScopeTree}
-use Rattle.call_translation.specs.Call.{CallTree, form_row, form_at, row_of, rows_from, names_from}
-use Rattle.call_translation.specs.Variables.{auxiliaries_in}
-use Rattle.call_translation.specs.Summary.{summary_vars, call_system, call_transformer}
+use Rattle.preconditions.specs.transformer_algebra.declared.transformer.Transformer.{Transformer}
+use Rattle.preconditions.specs.transformer_algebra.declared.loop_parts.LoopParts.{LoopParts}
+use Rattle.preconditions.specs.transformer_algebra.Cells.{others}
+use Rattle.preconditions.specs.transformer_algebra.Halves.{first_names, second_names, middle, to_cells, cell_vars}
+use Rattle.preconditions.specs.transformer_algebra.Transformers.{exit_system, followed, without, apply, equals, complete, all_cells, hull_of_arms, one_of, iterate}
+use Rattle.preconditions.specs.transformer_algebra.Loops.{index_becomes, index_form, goes_up, within_rows, beyond_rows, start, start_form, unguard, beyond_last, zero_iterations, first_iterations, some_iterations, counted_by, loop_transformer}
+use Rattle.preconditions.proofs.TransformerAlgebra.GivenSteps.{are_cells}
+use Rattle.preconditions.specs.call_translation.Scopes.{ScopeTree}
+use Rattle.preconditions.specs.call_translation.Call.{CallTree, form_row, form_at, row_of, rows_from, names_from}
+use Rattle.preconditions.specs.call_translation.Variables.{auxiliaries_in}
+use Rattle.preconditions.specs.call_translation.Summary.{summary_vars, call_system, call_transformer}
 use Rattle.f77_ast.specs.Shared.{place_at}
 use Rattle.affine_systems.specs.declared.row.Var.{Var}
 use Rattle.affine_systems.specs.declared.row.Var.TheVariants.{Cell, Exit, Phi, Aux}

@@ -17,25 +17,26 @@ use Rattle.f77_statements.specs.Phrases as phrases
 use Rattle.f77_ast.specs.Symbols.{SymbolTree}
 use Rattle.f77_meaning.specs.Modules.{symbol_names}
 use Rattle.storage_layout.specs.Symbols.{symbols_of}
-use Rattle.roundtrip_statements.specs.Formed.{IsName, Each, Filled, IsVariable, Rank, Formed, number, logical, constant, scalar, indexed, enclosed, operand, raised, factor, multiplied, term, signed, added, arithmetic, compared, asserted, denied, conjunct, both, disjunct, either, side, equated, none, more}
-use Rattle.roundtrip_statements.specs.Formed as formed
-use Rattle.roundtrip_statements.specs.Declared.{MaybeExpression, IsExtent, IsEntity, IsArray, IsSetting, IsCommon, IsGroup, IsSaved, IsInitial, AreTyped, IsDecl}
-use Rattle.roundtrip_statements.specs.Phrased.{AllVariables, IsWhat, IsPhrase}
-use Rattle.roundtrip_modules.specs.Cards.{statements_of}
-use Rattle.roundtrip_modules.proofs.Kept.{Held, Each-append, each-map}
-use Rattle.base_rows.specs.Scopes.{in_name, is_name, is_short_name}
-use Rattle.laws_programs.proofs.Sources.{AnyLabel, IsBuilt}
+use Rattle.laws_programs.specs.roundtrip_programs.Statements.Formed.{IsName, Each, Filled, IsVariable, Rank, Formed, number, logical, constant, scalar, indexed, enclosed, operand, raised, factor, multiplied, term, signed, added, arithmetic, compared, asserted, denied, conjunct, both, disjunct, either, side, equated, none, more}
+use Rattle.laws_programs.specs.roundtrip_programs.Statements.Formed as formed
+use Rattle.laws_programs.specs.roundtrip_programs.Statements.Declared.{MaybeExpression, IsExtent, IsEntity, IsArray, IsSetting, IsCommon, IsGroup, IsSaved, IsInitial, AreTyped, IsDecl}
+use Rattle.laws_programs.specs.roundtrip_programs.Statements.Phrased.{AllVariables, IsWhat, IsPhrase}
+use Rattle.laws_programs.specs.roundtrip_programs.ModuleTexts.Cards.{statements_of}
+use Rattle.laws_programs.proofs.RoundtripPrograms.ModuleTexts.Kept.{Held, Each-append, each-map}
+use Rattle.base_json.specs.Scopes.{in_name, is_name, is_short_name}
+use Rattle.laws_programs.proofs.Sources.{IsBuilt}
 use Rattle.laws_stored.proofs.NamesIn.{expr_names, exprs_names, maybe_names, all_names, what_names, extent_names, entity_names, setting_names, common_names, group_names, data_names, save_names, decl_names, phrase_names}
 use Rattle.laws_stored.proofs.KnownNames.{IsNaming, symbols_in}
+use Rattle.laws_programs.proofs.RoundtripPrograms.Statements.DeclBack.{each_of as each_filled, typed as typed_each}
+use Rattle.laws_programs.proofs.RoundtripPrograms.Named.{group_each}
+use Rattle.laws_lines.proofs.NameWords.{arrays_each}
+use Rattle.fx_lists.proofs.Booleans.{or_turned}
+use Rattle.laws_programs.proofs.RoundtripPrograms.ModuleTexts.Cards.{Any as AnyLabel}
 
 -- ---- words
 
 abbrev pub IsWord : List ℕ → Type 0
 IsWord x = is_short_name x ≡ true
-
-or_turned : (a b c : Bool) → ((a || b) || c) ≡ (a || (b || c))
-or_turned true b c = refl
-or_turned false b c = refl
 
 all_in : (x : List ℕ) → skip_name x ≡ [] → list_all in_name x ≡ true
 all_in [] e = refl
@@ -54,21 +55,6 @@ pub word : (x : List ℕ) → IsName x → IsWord x
 word x n = and_from (is_name x) (nat_le (length x) 31) (full_word x n) (le-leb (length x) 31 n.short)
 
 -- ---- what the grammar gives
-
-each_filled : {A : Type 0} (P : A → Type 0) (xs : List A) → Filled P xs → Each P xs
-each_filled P [] h = absurd h
-each_filled P (x ∷ xs) h = record { first = h.first; others = h.others }
-
-typed_each : (es : List EntityTree) → AreTyped es → Each IsEntity es
-typed_each [] h = absurd h
-typed_each (e ∷ es) h = record { first = h.first; others = h.others }
-
-arrays_each : (es : List EntityTree) → Filled IsArray es → Each IsEntity es
-arrays_each es h = each-map IsArray IsEntity es (λ e a. record { name = a.name; bounds = each_filled IsExtent e.bounds a.bounds }) (each_filled IsArray es h)
-
-group_each : (g : List ExprTree) → IsGroup g → Each IsVariable g
-group_each [] h = absurd h
-group_each (v ∷ vs) h = record { first = h.first; others = each_filled IsVariable vs h.others }
 
 -- ---- expressions
 

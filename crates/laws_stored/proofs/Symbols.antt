@@ -7,7 +7,7 @@ use Rattle.f77_ast.specs.declared.symbol.Place.TheVariants.{Local, Dummy, Block,
 use Rattle.f77_ast.specs.Symbols.{SymbolTree}
 use Rattle.f77_ast.specs.Shared.{symbol_at}
 use Rattle.f77_meaning.specs.Modules.{Known, symbol_names}
-use Rattle.base_rows.specs.Scopes.{is_symbol, is_short_name, is_block}
+use Rattle.base_json.specs.Scopes.{is_symbol, is_short_name, is_block}
 use Rattle.base_values.specs.Naming.{Each}
 
 -- the block of a symbol has such a name

@@ -12,31 +12,24 @@ use Rattle.f77_ast.specs.Symbols.{SymbolTree}
 use Rattle.f77_meaning.specs.Modules.{known_of, symbol_names}
 use Rattle.storage_layout.specs.Statements.{Has, commons_in, commons, members_in}
 use Rattle.storage_layout.specs.Symbols.{symbols_of}
-use Rattle.roundtrip_statements.specs.Formed.{Each as All, Filled}
-use Rattle.roundtrip_statements.specs.Phrased.{IsPhrase}
-use Rattle.roundtrip_statements.specs.Declared.{IsBlock, IsCommon, IsDecl}
-use Rattle.roundtrip_modules.specs.Cards.{Card, card, cards_in, title_cards, decl_cards, statements_of}
-use Rattle.roundtrip_modules.specs.Numbered.{TitleFits}
-use Rattle.roundtrip_modules.proofs.Kept.{Held, Each-append, each-map}
-use Rattle.roundtrip_programs.proofs.Body.{AreCards}
-use Rattle.laws_layout.specs.Laws.{BlocksHaveAChain}
+use Rattle.laws_programs.specs.roundtrip_programs.Statements.Formed.{Each as All, Filled}
+use Rattle.laws_programs.specs.roundtrip_programs.Statements.Phrased.{IsPhrase}
+use Rattle.laws_programs.specs.roundtrip_programs.Statements.Declared.{IsBlock, IsCommon, IsDecl}
+use Rattle.laws_programs.specs.roundtrip_programs.ModuleTexts.Cards.{Card, card, cards_in, title_cards, decl_cards, statements_of}
+use Rattle.laws_programs.specs.roundtrip_programs.ModuleTexts.Numbered.{TitleFits}
+use Rattle.laws_programs.proofs.RoundtripPrograms.ModuleTexts.Kept.{Held, Each-append, each-map}
+use Rattle.laws_programs.proofs.RoundtripPrograms.Body.{AreCards, left_of, right_of}
+use Rattle.laws_programs.specs.Layout.Laws.{BlocksHaveAChain}
 use Rattle.laws_programs.specs.Programs.{AreTables}
-use Rattle.laws_programs.proofs.Sources.{AnyLabel, IsBuilt}
-use Rattle.base_rows.specs.Scopes.{is_block}
+use Rattle.laws_programs.proofs.Sources.{IsBuilt}
+use Rattle.base_json.specs.Scopes.{is_block}
 use Rattle.base_values.specs.Naming.{Each}
 use Rattle.laws_stored.proofs.ShortNames.{IsWord, word, symbols_words}
 use Rattle.laws_stored.proofs.Symbols.{PlaceNamed, SymbolsNamed, ModuleNamed}
-
-left_of : (xs ys : List Card) → AreCards (xs ++ ys) → AreCards xs
-left_of [] ys h = tt
-left_of (x ∷ xs) ys h = record { first = h.first; others = left_of xs ys h.others }
-
-right_of : (xs ys : List Card) → AreCards (xs ++ ys) → AreCards ys
-right_of [] ys h = h
-right_of (x ∷ xs) ys h = right_of xs ys h.others
+use Rattle.laws_programs.proofs.RoundtripPrograms.ModuleTexts.Cards.{Any as AnyLabel}
 
 -- what stands before the statements
-heads : (m : ModuleTree) → AreCards (statements_of m) → AreCards (title_cards m ++ decl_cards 0 m.decls)
+pub heads : (m : ModuleTree) → AreCards (statements_of m) → AreCards (title_cards m ++ decl_cards 0 m.decls)
 unfolding statements_of
 heads m k = left_of (title_cards m ++ decl_cards 0 m.decls) (cards_in m.body) (left_of (title_cards m ++ decl_cards 0 m.decls ++ cards_in m.body) (card parts.End None end_module ∷ []) k)
 
@@ -59,11 +52,11 @@ title_named p b =
 
 -- ---- blocks
 
-filled : (cs : List CommonTree) → Filled IsCommon cs → All IsCommon cs
+pub filled : (cs : List CommonTree) → Filled IsCommon cs → All IsCommon cs
 filled [] h = absurd h
 filled (c ∷ cs) h = record { first = h.first; others = h.others }
 
-in_decl : (d : DeclTree) → IsDecl d → All IsCommon (commons_in d)
+pub in_decl : (d : DeclTree) → IsDecl d → All IsCommon (commons_in d)
 in_decl (decl.common cs) h = filled cs h
 in_decl (decl.implicit ps) h = tt
 in_decl (decl.integer es) h = tt
@@ -74,7 +67,7 @@ in_decl (decl.equivalence gs) h = tt
 in_decl (decl.save is) h = tt
 in_decl (decl.initial gs) h = tt
 
-commons_formed : (place : ℕ) (ds : List DeclTree) → AreCards (decl_cards place ds) → All IsCommon (commons ds)
+pub commons_formed : (place : ℕ) (ds : List DeclTree) → AreCards (decl_cards place ds) → All IsCommon (commons ds)
 commons_formed place [] h = tt
 commons_formed place (d ∷ ds) h = Each-append IsCommon (commons_in d) (commons ds) (in_decl d h.first) (commons_formed (place + 1) ds h.others)
 

@@ -7,12 +7,12 @@ use Rattle.f77_ast.specs.DeclTrees.{ParsedTree}
 use Rattle.f77_parser.specs.Gives.{Refused, and_then}
 use Rattle.f77_parser.specs.Modules.{parse_of}
 use Rattle.f77_ast.specs.Symbols.{SymbolTree}
-use Rattle.refusal_codes.specs.declared.refusal.Refusal.{Refusal}
+use Rattle.fx_lists.specs.declared.refusal.Refusal.{Refusal}
 use Rattle.storage_layout.specs.Symbols.{symbols_of}
-use Rattle.roundtrip_statements.specs.Formed.{Each as All}
+use Rattle.laws_programs.specs.roundtrip_programs.Statements.Formed.{Each as All}
 use Rattle.laws_programs.specs.Programs.{AreTables}
 use Rattle.laws_programs.proofs.Sources.{IsBuilt, all_built}
-use Rattle.laws_database.specs.Texts.{ModuleText, ReadModule, module_read, lines_or, with_table, one_module, AreModules, modules_in, trees_in, tables_in}
+use Rattle.session_texts.specs.pipsmake_meaning.Texts.{ModuleText, ReadModule, module_read, lines_or, with_table, one_module, AreModules, modules_in, trees_in, tables_in}
 
 -- ---- one text
 

@@ -1,6 +1,5 @@
 -- Systems that end in a tidy fit, whatever the sizes of the rows are, where their terms ascend.
-use Rattle.std.proofs.Common.{◌≡◌, ℕ, suc, Bool, false, ◌||◌, List, [], ◌∷◌, ◌++◌, map, take, pos, neg_ℤ, ◌*ℤ◌, refl, ap, inl, inr, ⊎_elim, subst, sym}
-use Rattle.std.proofs.lemmas.Bool.{or_parts}
+use Rattle.std.proofs.Common.{◌≡◌, ℕ, suc, Bool, false, ◌||◌, List, [], ◌∷◌, ◌++◌, map, take, pos, neg_ℤ, ◌*ℤ◌, refl, inl, inr, ⊎_elim, subst, sym}
 use Rattle.affine_systems.specs.declared.row.Var.{Var}
 use Rattle.affine_systems.specs.declared.row.Row.{Row}
 use Rattle.affine_systems.specs.declared.row.System.{System}
@@ -8,18 +7,17 @@ use Rattle.affine_systems.specs.declared.items.Item.{Item}
 use Rattle.affine_systems.specs.Terms.{Ascends}
 use Rattle.affine_systems.specs.Rows.{system, false_row, AllRows, renamed_row}
 use Rattle.affine_systems.specs.Points.{factor_of}
-use Rattle.affine_systems.specs.Items.{next_made, items_from, rows_of, false_item, is_false_row, any_false, collapsed}
+use Rattle.affine_systems.specs.Items.{next_made, items_from}
 use Rattle.affine_systems.specs.Tidy.{sorted, one_each, row_limit, faced_all, in_form, round, turn_limit, tidy_items, tidy}
-use Rattle.affine_systems.specs.Given.{IsGiven, IsNormalAs, AreNormal, Fits, ItemsFit}
+use Rattle.affine_systems.specs.Given.{IsGiven, IsNormalAs, Fits, ItemsFit}
 use Rattle.affine_systems.specs.Calls.{meet, push_row}
-use Rattle.affine_systems.proofs.Basics.{if_cases}
 use Rattle.affine_systems.proofs.AscendLaws.{ascends-combined, ascends-renamed}
-use Rattle.affine_systems.proofs.TidyLaws.{clash}
-use Rattle.affine_systems.proofs.ReducedLaws.{normal-reduced, kept-reduced}
+use Rattle.affine_systems.proofs.ReducedLaws.{kept-reduced}
 use Rattle.affine_systems.proofs.LastLaws.{Lasts, Has, ordered_has, faced_all_has, cut_form_has, next_has, each_round, round_at_most}
-use Rattle.affine_systems.proofs.FitLaws.{IsTidy, tidy_small, tidy_lasts, kept-ascends, system_fits}
-use Rattle.system_renaming.specs.declared.naming.Naming.{Naming}
-use Rattle.system_renaming.specs.Renaming.{renamed_by, rename_all, of_rows, push_rows}
+use Rattle.affine_systems.proofs.FitLaws.{IsTidy, tidy_small, tidy_lasts, kept-ascends, system_fits, collapsed_normal}
+use Rattle.preconditions.specs.transformer_algebra.declared.naming.Naming.{Naming}
+use Rattle.preconditions.specs.transformer_algebra.Renaming.{renamed_by, rename_all, of_rows, push_rows}
+use Rattle.elimination.proofs.ClosedLaws.{rows_weaker as all_more}
 
 -- ---- rows
 
@@ -28,10 +26,6 @@ IsAscending r = Ascends r.terms
 
 abbrev pub AreAscending : List Row → Type 0
 AreAscending rs = AllRows IsAscending rs
-
-pub all_more : (P Q : Row → Type 0) → ((r : Row) → P r → Q r) → (rs : List Row) → AllRows P rs → AllRows Q rs
-all_more P Q f [] h = tt
-all_more P Q f (r ∷ rs) h = (f r h.0, all_more P Q f rs h.1)
 
 pub ascending-append : (rs ss : List Row) → AreAscending rs → AreAscending ss → AreAscending (rs ++ ss)
 ascending-append [] ss h k = k
@@ -50,17 +44,6 @@ ascending_lasts q = record {
   again = λ r h. (tidy_small q r h).0;
   of_pivot = λ r e v u h k. ascends-combined (pos 1) r.terms (neg_ℤ (factor_of v r.terms *ℤ factor_of v e.terms)) e.terms;
 }
-
-not_false : (q : Bool) (r : Row) → IsTidy q r → is_false_row r ≡ false → IsNormalAs q r
-not_false q r (inl h) e = (h.0, normal-reduced q r h.1)
-not_false q r (inr f) e = clash (is_false_row r) (ap is_false_row f) e
-
-none_false : (q : Bool) (is : List Item) → Has (IsTidy q) is → any_false is ≡ false → AllRows (IsNormalAs q) (rows_of is)
-none_false q [] h e = tt
-none_false q (i ∷ is) h e = let k = or_parts (is_false_row i.row) (any_false is) e in (not_false q i.row h.0 k.0, none_false q is h.1 k.1)
-
-collapsed_normal : (q : Bool) (is : List Item) → Has (IsTidy q) is → AreNormal q (rows_of (collapsed is))
-collapsed_normal q is h = if_cases (λ (js : List Item). AreNormal q (rows_of js)) (any_false is) (false_item ∷ []) is (λ e. inl refl) (λ e. inr (none_false q is h e))
 
 round_fits : (q : Bool) (is : List Item) → Has IsAscending is → ItemsFit q (round q is).items
 round_fits q is h =

@@ -7,25 +7,26 @@ use Rattle.affine_systems.proofs.Basics.{if_cases}
 use Rattle.hull_projection.proofs.ProjectLaws.{project_fits}
 use Rattle.f77_ast.specs.Trees.{StmtTree, WhatTree, ArmTree, ArmTrees, ElseTree, LoopTree, StmtTrees}
 use Rattle.f77_ast.specs.Trees as tree
-use Rattle.f77_results.specs.declared.results.At.{At}
+use Rattle.f77_ast.specs.declared.results.At.{At}
 use Rattle.affine_forms.specs.declared.affine.Affine.{Affine}
 use Rattle.affine_forms.specs.Forms.{affine_of}
 use Rattle.affine_forms.specs.Conditions.{no_rows, condition_of}
-use Rattle.transformer_algebra.specs.declared.transformer.Transformer.{Transformer}
-use Rattle.transformer_algebra.specs.Transformers.{test, unchanging, nowhere, followed}
-use Rattle.transformer_algebra.specs.Loops.{iteration}
-use Rattle.call_translation.specs.Scopes.{ScopeTree}
-use Rattle.call_translation.specs.Actuals.{named_cell}
-use Rattle.transformers.specs.Given.{Callees}
-use Rattle.transformers.specs.Jumps.{unstructured, is_end}
-use Rattle.transformers.specs.Lists.{followed_by, in_order, in_any_order, list_of}
-use Rattle.transformers.specs.Loops.{loop_parts}
-use Rattle.transformers.specs.Simple.{becomes}
-use Rattle.transformers.specs.Statement.{where_holds, without_arm, without_arms, stmt_transformer, what_transformer, each_transformer, arm_transformers, else_transformer, body_transformer, list_transformer, at_stmt, at_parts, at_list, at_arms, at_arm, at_else, at_loop}
-use Rattle.transformers.specs.Modules.{hidden_vars, summary_of}
+use Rattle.preconditions.specs.transformer_algebra.declared.transformer.Transformer.{Transformer}
+use Rattle.preconditions.specs.transformer_algebra.Transformers.{test, identity_transformer, nowhere, followed}
+use Rattle.preconditions.specs.transformer_algebra.Loops.{iteration}
+use Rattle.preconditions.specs.call_translation.Scopes.{ScopeTree}
+use Rattle.preconditions.specs.call_translation.Actuals.{named_cell}
+use Rattle.preconditions.specs.transformers.Given.{Callees}
+use Rattle.preconditions.specs.transformers.Jumps.{unstructured, is_end}
+use Rattle.preconditions.specs.transformers.Lists.{followed_by, in_order, in_any_order, list_of}
+use Rattle.preconditions.specs.transformers.Loops.{loop_parts}
+use Rattle.preconditions.specs.transformers.Simple.{becomes}
+use Rattle.preconditions.specs.transformers.Statement.{where_holds, without_arm, without_arms, stmt_transformer, what_transformer, each_transformer, arm_transformers, else_transformer, body_transformer, list_transformer, at_stmt, at_parts, at_list, at_arms, at_arm, at_else, at_loop}
+use Rattle.preconditions.specs.transformers.Modules.{hidden_vars, summary_of}
 use Rattle.base_values.specs.Naming.{Each}
-use Rattle.laws_stored.proofs.Lists.{each-append}
 use Rattle.laws_stored.proofs.RulesFit.{none_fit, infeasible_fit, exit_fits, followed_fits, AreFit, one_of_fits, loop_fits, called_fits}
+use Rattle.laws_stored.proofs.Access.{OwnFits as AllFit}
+use Rattle.laws_stored.proofs.Lists.{each-append}
 
 -- ---- lists
 
@@ -66,12 +67,12 @@ module _ (m : ScopeTree) (cs : Callees) where
       let yes = meet no_rows (condition_of m.scalars e).yes in
       let no = meet no_rows (condition_of m.scalars e).no in
       let t = stmt_transformer s m cs false in
-      one_of_fits (where_holds yes t ∷ where_holds no unchanging ∷ []) (followed_fits (test yes) t, (followed_fits (test no) unchanging, tt))
+      one_of_fits (where_holds yes t ∷ where_holds no identity_transformer ∷ []) (followed_fits (test yes) t, (followed_fits (test no) identity_transformer, tt))
   what_fits (tree.do_loop l) last = let parts = loop_parts m l (body_transformer l m cs) in loop_fits parts (iteration parts)
   what_fits (tree.call x es) last = called_fits m (cs x) es
   what_fits (tree.goto l) last = infeasible_fit
   what_fits tree.continue last = none_fit
-  what_fits tree.return last = if_cases (λ (t : Transformer). Fits t.system) last unchanging nowhere (λ e. none_fit) (λ e. infeasible_fit)
+  what_fits tree.return last = if_cases (λ (t : Transformer). Fits t.system) last identity_transformer nowhere (λ e. none_fit) (λ e. infeasible_fit)
   what_fits (tree.stop text) last = infeasible_fit
   what_fits (tree.print es) last = none_fit
   what_fits (tree.read es) last = none_fit
@@ -86,9 +87,6 @@ module _ (m : ScopeTree) (cs : Callees) where
       project_fits t.system (hidden_vars m.symbols t.system) (list_fits true body (each_transformer body m cs true) (each_fits body true))
 
 -- ---- at each statement
-
-abbrev pub AllFit : List (At Transformer) → Type 0
-AllFit as' = Each (λ (a : At Transformer). Fits a.value.system) as'
 
 module _ (m : ScopeTree) (cs : Callees) where
   abbrev F : At Transformer → Type 0

@@ -1,34 +1,28 @@
 -- The names of a table are names as results are stored with them: each is one, and none comes twice.
-use Rattle.std.proofs.Common.{◌≡◌, ℕ, suc, ◌<◌, ◌^◌, Bool, true, false, List, [], ◌∷◌, ◌++◌, length, None, Some, Ok, refl, sym, ap, ◌∙◌}
+use Rattle.std.proofs.Common.{◌≡◌, ℕ, suc, ◌<◌, ◌^◌, true, false, List, [], ◌∷◌, ◌++◌, length, None, Some, Ok, refl, ap, ◌∙◌}
 use Rattle.std.specs.Prelude.{if◌then◌else◌, is_none, bytes_eq, nat_le}
 use Rattle.std.specs.List.{IsDistinct, AllByRecursion}
 use Rattle.std.proofs.lemmas.Bool.{and_from, and_parts}
-use Rattle.std.proofs.lemmas.Slice.Eq.{bytes_eq-Decides}
 use Rattle.f77_ast.specs.DeclTrees.{ParsedTree}
 use Rattle.f77_ast.specs.Symbols.{SymbolTree, number_from}
 use Rattle.f77_meaning.specs.Modules.{symbol_names}
 use Rattle.storage_layout.specs.Symbols.{symbols_of}
-use Rattle.roundtrip_statements.specs.Formed.{Each as All}
+use Rattle.laws_programs.specs.roundtrip_programs.Statements.Formed.{Each as All}
 use Rattle.laws_programs.proofs.Sources.{IsBuilt}
 use Rattle.laws_lines.proofs.TableNames.{names_are_distinct}
-use Rattle.base_rows.specs.Scopes.{is_name}
-use Rattle.base_rows.specs.Distinct.{are_new}
+use Rattle.base_json.specs.Scopes.{is_name}
+use Rattle.base_json.specs.Distinct.{are_new}
 use Rattle.base_values.specs.Naming.{Each, AreNames}
-use Rattle.laws_stored.proofs.Lists.{each-append, each_more}
 use Rattle.laws_stored.proofs.ShortNames.{IsWord, symbols_words}
+use Rattle.base_values.proofs.Options.{each_map as each_more}
+use Rattle.laws_stored.proofs.Lists.{each-append}
+use Rattle.fx_lists.proofs.Lists.{other_way as turned}
 
 words_are : (xs : List (List ℕ)) → All IsWord xs → Each (λ x. is_name x ≡ true) xs
 words_are [] h = tt
 words_are (x ∷ xs) h = ((and_parts (is_name x) (nat_le (length x) 31) h.first).0, words_are xs h.others)
 
 -- ---- none comes twice
-
-turned : (x y : List ℕ) → bytes_eq x y ≡ false → bytes_eq y x ≡ false
-turned x y h = go (bytes_eq y x) refl
-  where
-    go : (b : Bool) → bytes_eq y x ≡ b → b ≡ false
-    go true e = sym ((bytes_eq-Decides x y).1 (sym ((bytes_eq-Decides y x).0 e))) ∙ h
-    go false e = refl
 
 -- one that is before these is none of them
 abbrev IsOther : List (List ℕ) → List ℕ → Type 0

@@ -1,15 +1,15 @@
 -- Each result of a program fits the module that it belongs to, and so its written value is read again.
 use Rattle.std.specs.Prelude.{◌≡◌, ℕ, ◌<◌, ◌≤◌, ◌^◌, true, List, length, Some}
-use Rattle.pipsmake_rules.specs.declared.kind.Kind.{Kind}
+use Rattle.session_texts.specs.pipsmake_rules.declared.kind.Kind.{Kind}
 use Rattle.base_values.specs.declared.stored.StoredValue.{StoredValue}
 use Rattle.base_values.specs.Naming.{AreNames}
 use Rattle.base_values.specs.Read.{stored_of}
 use Rattle.base_values.specs.Written.{stored_data}
 use Rattle.base_values.specs.Sizes.{kind_of, is_small_value}
 use Rattle.base_values.specs.Fits.{StoredFits}
-use Rattle.laws_database.specs.Texts.{ModuleText, ReadModule, module_read, AreModules}
-use Rattle.laws_database.specs.Values.{Value}
-use Rattle.laws_database.specs.Definitions.{module_named, definition}
+use Rattle.session_texts.specs.pipsmake_meaning.Texts.{ModuleText, ReadModule, module_read, AreModules}
+use Rattle.session_texts.specs.pipsmake_meaning.Values.{Value}
+use Rattle.session_texts.specs.pipsmake_meaning.Definitions.{module_named, definition}
 use Rattle.laws_stored.specs.Stored.{is_stored, as_stored, names_in}
 
 -- its symbols have numbers below 2^32

@@ -1,13 +1,13 @@
 -- Which values of a program are stored, and what the results of a module may name.
 use Rattle.std.specs.Prelude.{Bool, true, false, Option, Some, None}
 use Rattle.f77_meaning.specs.Modules.{symbol_names}
-use Rattle.pipsmake_rules.specs.declared.kind.Kind.{Kind}
-use Rattle.pipsmake_rules.specs.declared.kind.Kind.TheVariants.{Parsed, Lines, Symbols, CallGraph, Effects, Transformers, Preconditions, Regions, InRegions, OutRegions, Marks, Printed}
+use Rattle.session_texts.specs.pipsmake_rules.declared.kind.Kind.{Kind}
+use Rattle.session_texts.specs.pipsmake_rules.declared.kind.Kind.TheVariants.{Parsed, Lines, Symbols, CallGraph, Effects, Transformers, Preconditions, Regions, InRegions, OutRegions, Marks, Printed}
 use Rattle.base_values.specs.declared.stored.StoredValue.{StoredValue}
 use Rattle.base_values.specs.declared.stored.StoredValue.TheVariants as stored
 use Rattle.base_values.specs.Modules.{ModuleNames, module_names}
-use Rattle.laws_database.specs.Texts.{ReadModule}
-use Rattle.laws_database.specs.Values.{Value, source, parsed, lines, symbols, graph, effects, transformers, preconditions, regions, ins, outs, marks, printed}
+use Rattle.session_texts.specs.pipsmake_meaning.Texts.{ReadModule}
+use Rattle.session_texts.specs.pipsmake_meaning.Values.{Value, source, parsed, lines, symbols, graph, effects, transformers, preconditions, regions, ins, outs, marks, printed}
 
 -- the kinds whose results are stored
 abbrev pub is_stored : Kind → Bool

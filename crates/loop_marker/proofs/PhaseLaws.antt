@@ -8,31 +8,25 @@ use Rattle.f77_ast.specs.Symbols.{symbol_tree}
 use Rattle.f77_ast.specs.Index.{names_of}
 use Rattle.f77_meaning.specs.Modules.{symbol_names}
 use Rattle.effects.specs.List.{Callees}
-use Rattle.region_phases.specs.OutPhases.{ModuleOuts}
-use Rattle.loop_marker.specs.Phases.{ModuleMarks, no_callees, with_callee, with_marks, found_in}
+use Rattle.module_phases.specs.OutPhases.{ModuleOuts}
+use Rattle.loop_marker.specs.Results.{ModuleResults}
+use Rattle.loop_marker.specs.Phases.{no_callees, with_callee, with_marks, found_in}
+use Rattle.fx_lists.proofs.Numbers.{same_function}
+use Rattle.f77_meaning.proofs.SymbolNames.{names-same as names_same}
 
 pub ruleset one_more = (map-append, append_assoc, append-nil)
-
--- names of symbols, as code and as definitions have them
-pub names_same : (ss : List Symbol) → names_of ss ≡ symbol_names (map symbol_tree ss)
-names_same [] = refl
-names_same (s ∷ ss) = ap (λ xs. s.name ∷ xs) (names_same ss)
-
--- functions with the same values are the same
-same_function : {A B : Type 0} (f g : A → B) → ((x : A) → f x ≡ g x) → f ≡ g
-same_function f g h = λ i. λ x. h x i
 
 -- before any module
 pub found-none : (untracked : List BlockUnit) (cs : Callees) (fs : List ModuleOuts) → ((x : List ℕ) → cs x ≡ None) → found_in untracked cs fs ≡ found_in untracked no_callees fs
 found-none untracked cs fs h = ap (λ (c : Callees). found_in untracked c fs) (same_function cs no_callees h)
 
 -- after one more
-pub found-more : (untracked : List BlockUnit) (cs new : Callees) (out next : List ModuleMarks) (f : ModuleOuts) (fs : List ModuleOuts) →
+pub found-more : (untracked : List BlockUnit) (cs new : Callees) (out next : List ModuleResults) (f : ModuleOuts) (fs : List ModuleOuts) →
     next ≡ out ++ with_marks untracked cs f ∷ [] → ((x : List ℕ) → new x ≡ with_callee (with_marks untracked cs f) cs x) →
     next ++ found_in untracked new fs ≡ out ++ found_in untracked cs (f ∷ fs)
 found-more untracked cs new out next f fs e h =
-    let n : ModuleMarks = with_marks untracked cs f in
-    ap₂ (λ (ns : List ModuleMarks) (c : Callees). ns ++ found_in untracked c fs) e (same_function new (with_callee n cs) h)
+    let n : ModuleResults = with_marks untracked cs f in
+    ap₂ (λ (ns : List ModuleResults) (c : Callees). ns ++ found_in untracked c fs) e (same_function new (with_callee n cs) h)
     ∙ append_assoc out (n ∷ []) (found_in untracked (with_callee n cs) fs)
 
 pub ruleset module_steps = (found-none, All-pop, append-nil)

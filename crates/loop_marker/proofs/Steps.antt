@@ -9,8 +9,8 @@ use Rattle.f77_ast.proofs.PlainlyStmt.{loop_calls, loop_tree-out, stmt_trees-dro
 use Rattle.f77_ast.proofs.WalkLaws.{shape_calls}
 use Rattle.f77_ast.specs.Symbols.{number_from}
 use Rattle.f77_ast.specs.declared.variable.Variable.{Variable}
-use Rattle.f77_results.specs.declared.results.At.{At}
-use Rattle.region_sets.specs.declared.marks.Mark.{Mark}
+use Rattle.f77_ast.specs.declared.results.At.{At}
+use Rattle.f77_ast.specs.declared.marks.Mark.{Mark}
 use Rattle.loop_marker.specs.Variables.{own_variable, index_of}
 use Rattle.loop_marker.specs.Marks.{the_marks}
 

@@ -2,8 +2,8 @@
 use Rattle.std.specs.Prelude.{ℕ, Bool, true, false, ◌||◌, List, [], ◌∷◌, Option, Some, None}
 use Rattle.f77_ast.specs.Trees.{StmtTrees, LoopTree}
 use Rattle.f77_ast.specs.Trees as tree
-use Rattle.f77_results.specs.declared.effect_set.EffectSet.{EffectSet}
-use Rattle.f77_results.specs.declared.results.At.{At}
+use Rattle.f77_ast.specs.declared.effect_set.EffectSet.{EffectSet}
+use Rattle.f77_ast.specs.declared.results.At.{At}
 use Rattle.transformers.specs.Jumps.{list_has, goes_to}
 use Rattle.transformers.specs.Lists.{value_at, number_of}
 use Rattle.out_regions.specs.Leaving.{leaves}

@@ -5,15 +5,15 @@ use Rattle.f77_ast.specs.DeclTrees.{ModuleTree}
 use Rattle.f77_ast.specs.PlainDecl.{module_tree}
 use Rattle.f77_ast.specs.Symbols.{SymbolTree, symbol_tree}
 use Rattle.f77_ast.specs.Index.{names_of}
-use Rattle.f77_results.specs.declared.effect_set.EffectSet.{EffectSet}
-use Rattle.f77_results.specs.declared.results.At.{At}
-use Rattle.transformer_algebra.specs.declared.transformer.Transformer.{Transformer}
-use Rattle.call_translation.specs.Scopes.{ScopeTree, scope_of}
+use Rattle.f77_ast.specs.declared.effect_set.EffectSet.{EffectSet}
+use Rattle.f77_ast.specs.declared.results.At.{At}
+use Rattle.transformers.specs.transformer_algebra.declared.transformer.Transformer.{Transformer}
+use Rattle.transformers.specs.call_translation.Scopes.{ScopeTree, scope_of}
 use Rattle.transformers.specs.Lists.{transformer_at}
 use Rattle.region_sets.specs.declared.region.Region.{Region}
 use Rattle.region_sets.specs.Lists.{accesses_at}
-use Rattle.loop_bodies.specs.declared.analysis.Analysis.{Analysis}
-use Rattle.loop_bodies.specs.Body.{body_of}
+use Rattle.dependence_test.specs.declared.analysis.Analysis.{Analysis}
+use Rattle.dependence_test.specs.Body.{body_of}
 use Rattle.privatizer.specs.Uses.{uses_from}
 use Rattle.loop_marker.specs.Marks.{Knowledge}
 

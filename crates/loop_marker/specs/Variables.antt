@@ -7,11 +7,10 @@ use Rattle.f77_ast.specs.Shapes.{Walk, walk_list}
 use Rattle.f77_ast.specs.Symbols.{number_from}
 use Rattle.f77_ast.specs.declared.variable.Variable.{Variable}
 use Rattle.f77_ast.specs.declared.variable.Variable.TheVariants.{Own}
-use Rattle.f77_results.specs.Variables.{union}
+use Rattle.f77_ast.specs.Variables.{union, same_variable}
 use Rattle.region_sets.specs.declared.region.Access.{Access}
 use Rattle.region_sets.specs.declared.region.Access.TheVariants.{Read, Write, In, Out}
 use Rattle.region_sets.specs.declared.region.Region.{Region}
-use Rattle.loop_bodies.specs.Same.{same_variable}
 
 abbrev pub own_variable : Option ℕ → List Variable
 own_variable None = []

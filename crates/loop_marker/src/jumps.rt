@@ -4,8 +4,7 @@ ghost use Rattle.f77_ast.specs.PlainStmt.{stmt_trees, loop_tree};
 ghost use Rattle.transformers.specs.Lists.{value_at as value_at_is};
 ghost use Rattle.loop_marker.specs.Jumps.{is_jumped_to as is_jumped_to_is, stops as stops_is, has_io as has_io_is, may_stop as may_stop_is, may_have_io as may_have_io_is, may_jump as may_jump_is, body_of};
 
-use f77_ast::{Loop, Stmt, StmtId};
-use f77_results::{At, EffectSet};
+use f77_ast::{At, EffectSet, Loop, Stmt, StmtId};
 use fx_lists::List;
 use out_regions::leaves;
 use std::alloc::{AllocError as Memory, Global};

@@ -8,5 +8,11 @@ mod phases;
 mod variables;
 mod verdict;
 
+pub use dependence_test;
 pub use loops::marks;
-pub use phases::{ModuleMarks, all_marks};
+pub use module_phases;
+pub use out_regions;
+pub use phases::{ModuleResults, all_marks};
+pub use privatizer;
+pub use region_sets;
+pub use transformers::transformer_algebra;

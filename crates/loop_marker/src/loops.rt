@@ -2,7 +2,7 @@
 ghost use Rattle.std.specs.Prelude.{◌≡◌, [], ◌++◌, map, IfOk, OnOk};
 ghost use Rattle.f77_ast.specs.PlainStmt.{stmt_tree, stmt_trees, loop_tree, arm_trees};
 ghost use Rattle.f77_ast.specs.Shapes.{walk_stmt, walk_list, walk_arms};
-ghost use Rattle.loop_bodies.specs.Given.{AnalysisFits, BodyFits};
+ghost use Rattle.dependence_test.specs.Given.{AnalysisFits, BodyFits};
 ghost use Rattle.privatizer.specs.Views.{UsesFit, uses_tree};
 ghost use Rattle.f77_ast.specs.Index.{names_of};
 ghost use Rattle.loop_marker.specs.Jumps.{body_of as loop_body_is};
@@ -14,12 +14,13 @@ use crate::jumps::{may_have_io, may_jump};
 use crate::names::is_in_bounds;
 use crate::variables::{indexes_in, is_of_some, written_in};
 use crate::verdict::{Looked, Verdict, verdict_of};
-use f77_ast::{Arm, Loop, Shape, Stmt, StmtId, Symbols, shape_of};
-use f77_results::{At, Variable, copy_variable, union};
+use dependence_test::{Analysis, body_of};
+use f77_ast::{
+    Arm, At, Loop, Mark, Reason, Shape, Stmt, StmtId, Symbols, Variable, copy_variable, shape_of,
+    union,
+};
 use fx_lists::List;
-use loop_bodies::{Analysis, body_of};
 use privatizer::{may_copy, uses_of};
-use region_sets::{Mark, Reason};
 use std::alloc::{AllocError as Memory, Global};
 
 /// Whether iterations may not have their own variable of the DO, or it is needed afterwards.

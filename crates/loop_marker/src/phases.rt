@@ -1,26 +1,65 @@
-//! Marks of modules, callees before callers.
+//! The results of modules: after the phases before, effects and marks, callees before callers.
 ghost use Rattle.std.specs.Prelude.{◌≡◌, ◌++◌, ◌∷◌, [], ℕ, List, All, map, reverse, IfOk};
-ghost use Rattle.f77_results.specs.Summaries.{summary_in};
-ghost use Rattle.region_phases.specs.OutViews.{outs_tree, ModuleFits};
-ghost use Rattle.loop_marker.specs.Phases.{known_in, with_callee, effects_found, marks_found, with_effects, with_marks, all_marks as all_marks_is};
-ghost use Rattle.loop_marker.specs.Views.{marks_tree};
+ghost use Rattle.f77_ast.specs.Summaries.{summary_in};
+ghost use Rattle.module_phases.specs.OutViews.{outs_tree, ModuleFits};
+ghost use Rattle.loop_marker.specs.Phases.{known_in, with_callee, effects_found, marks_found, module_results, with_marks, all_marks as all_marks_is};
+ghost use Rattle.loop_marker.specs.Views.{results_tree};
 
 use crate::marks;
-use call_graph::Graph;
+use affine_systems::System;
+use call_graph::{Graph, View};
+use dependence_test::Analysis;
 use effects::cumulated_effects;
-use f77_results::{At, EffectSet, Results, Summaries, View, copy_effect};
+use f77_ast::{At, EffectSet, Mark, Module, Results, Summaries, Symbols, copy_effect};
 use fx_lists::List;
-use loop_bodies::Analysis;
-use region_phases::ModuleOuts;
-use region_sets::Mark;
+use module_phases::{Analysis as Scalars, Found, ModuleIns, ModuleOuts, ModuleRegions};
+use region_sets::RegionSet;
 use std::alloc::{AllocError as Memory, Global};
+use transformers::transformer_algebra::Transformer;
 
-/// The analyses and regions of a module, the effects of its statements and as its callers see them, and the marks of its loops.
+/// A module with its symbols and its results: those of its statements, and as their summaries what callers see or, of preconditions, what holds at its
+/// entry. `regions` are READ and WRITE.
 #[derive(Drop)]
-pub struct ModuleMarks<'a> {
-    pub outs: ModuleOuts<'a>,
+pub struct ModuleResults<'a> {
+    pub module: &'a Module,
+    pub symbols: &'a Symbols,
     pub effects: Results<EffectSet>,
+    pub transformers: Results<Transformer>,
+    pub preconditions: Results<System>,
+    pub regions: Results<RegionSet>,
+    pub ins: Results<RegionSet>,
+    pub outs: Results<RegionSet>,
     pub marks: List<At<Mark>>,
+}
+
+/// The results of the phases before, with these effects and marks.
+fn results_of<'a>(
+    found: ModuleOuts<'a>,
+    effects: Results<EffectSet>,
+    marks: List<At<Mark>>,
+) -> ModuleResults<'a>
+    ensures { results_tree result ≡ module_results (outs_tree found.entry) effects marks }
+{
+    let ModuleOuts { known, outs } = found;
+    let ModuleIns { known, ins } = known;
+    let ModuleRegions { analysis, regions } = known;
+    let Scalars { found, holds } = analysis;
+    let Found {
+        module,
+        symbols,
+        own,
+    } = found;
+    ModuleResults {
+        module,
+        symbols,
+        effects,
+        transformers: own,
+        preconditions: holds,
+        regions,
+        ins,
+        outs,
+        marks,
+    }
 }
 
 /// The marks of the loops of a module.
@@ -77,7 +116,7 @@ fn add_summary(
     effects: &Results<EffectSet>,
     callees: &mut Summaries<EffectSet>,
 ) -> Result<(), Memory>
-    ensures { IfOk result (λ _. (x : List ℕ) → summary_in callees.new x ≡ with_callee (record { outs = outs_tree outs.now; effects = effects.now; marks = [] }) (summary_in callees.old) x) }
+    ensures { IfOk result (λ _. (x : List ℕ) → summary_in callees.new x ≡ with_callee (module_results (outs_tree outs.now) effects.now []) (summary_in callees.old) x) }
 {
     let summary = copy_effect(alloc, &effects.summary)?;
     let found = &outs.known.known.analysis.found;
@@ -91,33 +130,29 @@ fn add_module<'a>(
     graph: &Graph,
     outs: ModuleOuts<'a>,
     callees: &mut Summaries<EffectSet>,
-    all: &mut Vec<ModuleMarks<'a>>,
+    all: &mut Vec<ModuleResults<'a>>,
 ) -> Result<(), Memory>
     requires { ModuleFits outs }
-    ensures added { IfOk result (λ _. map marks_tree all.new.items ≡ map marks_tree all.old.items ++ with_marks graph.now.untracked (summary_in callees.old) (outs_tree outs.entry) ∷ []) }
+    ensures added { IfOk result (λ _. map results_tree all.new.items ≡ map results_tree all.old.items ++ with_marks graph.now.untracked (summary_in callees.old) (outs_tree outs.entry) ∷ []) }
     ensures callees { IfOk result (λ _. (x : List ℕ) → summary_in callees.new x ≡ with_callee (with_marks graph.now.untracked (summary_in callees.old) (outs_tree outs.entry)) (summary_in callees.old) x) }
 {
     let effects = effects_of(alloc, graph, &outs, callees)?;
     let marks = marks_with(alloc, graph, &outs, &effects)?;
     add_summary(alloc, &outs, &effects, callees)?;
-    all.push(ModuleMarks {
-        outs,
-        effects,
-        marks,
-    })?;
+    all.push(results_of(outs, effects, marks))?;
     Ok(())
 }
 
-/// The marks of the loops of the modules of a program, from their OUT regions, in which callers come before the modules that they call; the result has the opposite order. A module is
-/// looked up by its name in constant time.
+/// The results of the modules of a program, from their OUT regions, in which callers come before the modules that they call; the result has the opposite
+/// order. A module is looked up by its name in constant time.
 #[tactic(auto, using(crate::proofs::PhaseLaws::module_steps))]
 pub fn all_marks<'a>(
     alloc: Global,
     graph: &Graph,
     mut left: Vec<ModuleOuts<'a>>,
-) -> Result<Vec<ModuleMarks<'a>>, Memory>
+) -> Result<Vec<ModuleResults<'a>>, Memory>
     requires { All ModuleFits left.items }
-    ensures { IfOk result (λ all. map marks_tree all.items ≡ all_marks_is graph.now (map outs_tree left.entry.items)) }
+    ensures { IfOk result (λ all. map results_tree all.items ≡ all_marks_is graph.now (map outs_tree left.entry.items)) }
 {
     let mut callees = Summaries::new(alloc);
     let mut all = Vec::new(alloc);

@@ -5,10 +5,10 @@ ghost use Rattle.f77_ast.specs.Shapes.{walk_stmt, walk_list, walk_arms};
 ghost use Rattle.f77_ast.specs.Index.{names_of};
 ghost use Rattle.loop_marker.specs.Variables.{own_variable as own_variable_is, index_of as index_of_is, the_indexes, in_order_with, indexes_in as indexes_in_is, is_write as is_write_is, written_in as written_in_is, is_among as is_among_is, is_of_some as is_of_some_is};
 
-use f77_ast::{Arm, Loop, Shape, Stmt, Symbols, shape_of};
-use f77_results::{Variable, copy_variable, union};
+use f77_ast::{
+    Arm, Loop, Shape, Stmt, Symbols, Variable, copy_variable, same_variable, shape_of, union,
+};
 use fx_lists::List;
-use loop_bodies::same_variable;
 use region_sets::{Access, Region};
 use std::alloc::{AllocError as Memory, Global};
 

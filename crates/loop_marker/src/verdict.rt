@@ -2,20 +2,17 @@
 ghost use Rattle.std.specs.Prelude.{◌≡◌, ◌++◌, [], map, IfOk, OnOk};
 ghost use Rattle.f77_ast.specs.PlainStmt.{loop_tree};
 ghost use Rattle.f77_ast.specs.Symbols.{symbol_tree};
-ghost use Rattle.loop_bodies.specs.Given.{AnalysisFits, BodyFits};
+ghost use Rattle.dependence_test.specs.Given.{AnalysisFits, BodyFits};
 ghost use Rattle.privatizer.specs.Views.{UsesFit, uses_tree};
 ghost use Rattle.loop_marker.specs.Known.{known_module};
 ghost use Rattle.loop_marker.specs.Marks.{keeps as keeps_is, kept_kinds as kept_kinds_is, kinds_of as kinds_of_is, unless_named as unless_named_is, copy_answer as copy_answer_is, by_kinds as by_kinds_is, by_answer as by_answer_is, verdict_of as verdict_of_is, with_kind, or_of_index as or_of_index_is};
 
 use crate::names::is_in_bounds;
 use crate::variables::is_among;
-use dependence_test::{Conflict, conflict_of};
-use f77_ast::{Loop, Symbols};
-use f77_results::Variable;
+use dependence_test::{Analysis, Conflict, LoopBody, conflict_of};
+use f77_ast::{Kinds, Loop, Private, Symbols, Variable, same_variable};
 use fx_lists::List;
-use loop_bodies::{Analysis, LoopBody, same_variable};
 use privatizer::{Uses, private_of};
-use region_sets::{Kinds, Private};
 use std::alloc::{AllocError as Memory, Global};
 
 /// What is known of a DO, and of those in its body.

@@ -5,11 +5,11 @@ use Rattle.std.proofs.Math.Seq.{drop-length}
 use Rattle.affine_systems.specs.declared.row.System.{System}
 use Rattle.affine_systems.specs.Calls.{meet}
 use Rattle.affine_systems.proofs.Basics.{if_cases}
-use Rattle.region_sets.specs.declared.region.Region.{Region}
-use Rattle.region_sets.specs.Regions.{hull_of}
-use Rattle.region_sets.specs.Sets.{live_pieces}
-use Rattle.region_sets.specs.Alive.{AllAlive}
-use Rattle.region_sets.proofs.AliveLaws.{live_twice, alive_append}
+use Rattle.in_out_regions.specs.region_sets.declared.region.Region.{Region}
+use Rattle.in_out_regions.specs.region_sets.Regions.{hull_of}
+use Rattle.in_out_regions.specs.region_sets.Sets.{live_pieces}
+use Rattle.in_out_regions.specs.region_sets.Alive.{AllAlive}
+use Rattle.in_out_regions.proofs.RegionSets.AliveLaws.{live_twice, alive_append}
 use Rattle.out_regions.specs.Alive.{IsAliveFrom}
 use Rattle.out_regions.specs.Used.{is_none, unless_empty, met_with}
 

@@ -5,21 +5,22 @@ use Rattle.affine_systems.specs.declared.row.System.{System}
 use Rattle.f77_ast.specs.declared.variable.Variable.{Variable}
 use Rattle.f77_ast.specs.Symbols.{SymbolTree}
 use Rattle.f77_ast.specs.Shared.{overlap}
-use Rattle.transformer_algebra.specs.declared.transformer.Transformer.{Transformer}
-use Rattle.region_sets.specs.declared.region.Region.{Region}
-use Rattle.region_sets.specs.Compose.{compose}
-use Rattle.region_sets.specs.Regions.{remade}
-use Rattle.region_sets.specs.Sets.{live, live_pieces, with_pieces}
-use Rattle.region_sets.specs.Subtract.{unless_empty, left_of, all_left_exactly, all_apart}
-use Rattle.region_sets.specs.Lists.{all_composed}
+use Rattle.in_out_regions.specs.transformer_algebra.declared.transformer.Transformer.{Transformer}
+use Rattle.in_out_regions.specs.region_sets.declared.region.Region.{Region}
+use Rattle.in_out_regions.specs.region_sets.Compose.{compose}
+use Rattle.in_out_regions.specs.region_sets.Regions.{remade}
+use Rattle.in_out_regions.specs.region_sets.Sets.{live, live_pieces, with_pieces}
+use Rattle.in_out_regions.specs.region_sets.Subtract.{unless_empty, left_of, all_left_exactly, all_apart}
+use Rattle.in_out_regions.specs.region_sets.Lists.{all_composed}
 use Rattle.in_out_regions.specs.Kinds.{is_write}
-use Rattle.in_out_regions.specs.Writes.{same_variable, write_of}
+use Rattle.in_out_regions.specs.Writes.{write_of}
 use Rattle.in_out_regions.specs.Lists.{less_write, all_unwritten}
 use Rattle.out_regions.specs.declared.rest.Rest.{Rest}
 use Rattle.out_regions.specs.Known.{KnownTree}
 use Rattle.out_regions.specs.Used.{as_out, all_out, is_used_beside, used_pieces, met_with, used_of, if_write, used}
 use Rattle.out_regions.specs.Lists.{writes_at, left_over, first_out}
 use Rattle.out_regions.specs.Beside.{is_met, kept, beside}
+use Rattle.f77_ast.specs.Variables.{same_variable}
 
 -- ---- what keeps the variables of regions may come before or after
 

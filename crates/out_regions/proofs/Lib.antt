@@ -5,3 +5,4 @@ pub mod ModuleLaws
 pub mod BesideLaws
 pub mod AliveSteps
 pub mod AppliedSteps
+pub mod Fitting

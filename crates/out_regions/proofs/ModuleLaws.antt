@@ -2,21 +2,19 @@
 use Rattle.std.proofs.Common.{◌≡◌, Bool, true, List, [], ◌++◌, ap, ◌∙◌}
 use Rattle.f77_ast.specs.Trees.{StmtTrees}
 use Rattle.f77_ast.specs.declared.symbol.Symbol.{Symbol}
-use Rattle.f77_results.specs.declared.results.At.{At}
-use Rattle.f77_results.specs.declared.results.Results.{Results}
-use Rattle.transformer_algebra.specs.declared.transformer.Transformer.{Transformer}
-use Rattle.call_translation.specs.Scopes.{ScopeTree, scope_tree}
-use Rattle.transformers.specs.Lists.{transformer_at}
-use Rattle.region_sets.specs.declared.region.Region.{Region}
+use Rattle.f77_ast.specs.declared.results.At.{At}
+use Rattle.f77_ast.specs.declared.results.Results.{Results}
+use Rattle.in_out_regions.specs.transformer_algebra.declared.transformer.Transformer.{Transformer}
+use Rattle.in_out_regions.specs.call_translation.Scopes.{ScopeTree, scope_tree}
+use Rattle.in_out_regions.specs.transformers.Lists.{transformer_at}
+use Rattle.in_out_regions.specs.region_sets.declared.region.Region.{Region}
 use Rattle.out_regions.specs.Known.{KnownTree}
 use Rattle.out_regions.specs.Statement.{body_out, at_list}
 use Rattle.out_regions.specs.Modules.{summary_of, outs_from, outs_of, outs_with}
+use Rattle.in_out_regions.proofs.ArrayRegions.ModuleLaws.{both}
 
 abbrev pub known_with : List (At Transformer) → List (At (List Region)) → List (At (List Region)) → ScopeTree → KnownTree
 known_with own accesses ins m = record { scope = m; does = transformer_at own; accesses = accesses; ins = ins }
-
-abbrev both : List (At (List Region)) → List Region → Results (List Region)
-both found set = record { at = found; summary = set }
 
 -- with these flags, and slices of OUT of its body
 pub module-outs : (body : StmtTrees) (ss : List Symbol) (flags tracked : List Bool) (own : List (At Transformer)) (accesses ins : List (At (List Region))) (us out given seen : List Region) (old found : List (At (List Region))) (summary : List Region) →

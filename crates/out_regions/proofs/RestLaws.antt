@@ -7,11 +7,11 @@ use Rattle.f77_ast.specs.Trees.{StmtTrees}
 use Rattle.f77_ast.specs.Trees as tree
 use Rattle.f77_ast.specs.PlainStmt.{stmt_tree, stmt_trees}
 use Rattle.f77_ast.proofs.PlainlyStmt.{list_calls, stmt_trees-drop}
-use Rattle.f77_results.specs.declared.results.At.{At}
-use Rattle.region_sets.specs.declared.region.Region.{Region}
-use Rattle.region_sets.specs.Sets.{unite_all}
-use Rattle.region_sets.specs.Lists.{all_composed}
-use Rattle.in_out_regions.specs.Lists.{set_at, before_rest}
+use Rattle.f77_ast.specs.declared.results.At.{At}
+use Rattle.in_out_regions.specs.region_sets.declared.region.Region.{Region}
+use Rattle.in_out_regions.specs.region_sets.Sets.{unite_all}
+use Rattle.in_out_regions.specs.region_sets.Lists.{all_composed, set_at}
+use Rattle.in_out_regions.specs.Lists.{before_rest}
 use Rattle.out_regions.specs.declared.rest.Rest.{Rest}
 use Rattle.out_regions.specs.Known.{KnownTree}
 use Rattle.out_regions.specs.Contexts.{RestFits}

@@ -1,7 +1,7 @@
 -- From which place on no region of a list has a refuted piece.
 use Rattle.std.specs.Prelude.{ℕ, ◌≤◌, List, length, drop}
-use Rattle.region_sets.specs.declared.region.Region.{Region}
-use Rattle.region_sets.specs.Alive.{AllAlive}
+use Rattle.in_out_regions.specs.region_sets.declared.region.Region.{Region}
+use Rattle.in_out_regions.specs.region_sets.Alive.{AllAlive}
 
 pub record IsAliveFrom (n : ℕ) (rs : List Region) : Type 0 where
   pub within : n ≤ length rs

@@ -3,8 +3,8 @@ use Rattle.std.specs.Prelude.{Bool, false, ◌||◌, if◌then◌else◌, List, 
 use Rattle.f77_ast.specs.declared.variable.Variable.{Variable}
 use Rattle.f77_ast.specs.Symbols.{SymbolTree}
 use Rattle.f77_ast.specs.Shared.{overlap}
-use Rattle.region_sets.specs.declared.region.Region.{Region}
-use Rattle.in_out_regions.specs.Writes.{same_variable}
+use Rattle.in_out_regions.specs.region_sets.declared.region.Region.{Region}
+use Rattle.f77_ast.specs.Variables.{same_variable}
 
 -- one of some regions has this variable, or one that shares units with it
 abbrev pub is_met : List SymbolTree → List Region → Variable → Bool

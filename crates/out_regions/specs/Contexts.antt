@@ -1,9 +1,9 @@
 -- What the code knows around a statement, as plain data, and what calls ask of it.
-use Rattle.call_translation.specs.Scopes.{scope_tree}
-use Rattle.transformers.specs.Given.{ResultsFit}
-use Rattle.transformers.specs.Lists.{transformer_at}
-use Rattle.region_sets.specs.Lists.{SetsFit}
-use Rattle.region_sets.specs.Sets.{SetFits}
+use Rattle.in_out_regions.specs.call_translation.Scopes.{scope_tree}
+use Rattle.in_out_regions.specs.transformers.Given.{ResultsFit}
+use Rattle.in_out_regions.specs.transformers.Lists.{transformer_at}
+use Rattle.in_out_regions.specs.region_sets.Lists.{SetsFit}
+use Rattle.in_out_regions.specs.region_sets.Sets.{SetFits}
 use Rattle.out_regions.specs.declared.context.OutContext.{OutContext}
 use Rattle.out_regions.specs.declared.rest.Rest.{Rest}
 use Rattle.out_regions.specs.Known.{KnownTree}

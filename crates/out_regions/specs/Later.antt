@@ -4,16 +4,16 @@ use Rattle.affine_systems.specs.declared.row.Var.TheVariants.{Cell, Aux}
 use Rattle.affine_systems.specs.declared.row.Row.{Row}
 use Rattle.affine_systems.specs.declared.row.System.{System}
 use Rattle.hull_projection.specs.Project.{project}
-use Rattle.system_renaming.specs.Renaming.{naming, rename_all, push_rows}
+use Rattle.in_out_regions.specs.transformer_algebra.Renaming.{naming, rename_all, push_rows}
 use Rattle.affine_forms.specs.declared.affine.Affine.{Affine}
 use Rattle.affine_forms.specs.Comparisons.{var_form}
-use Rattle.transformer_algebra.specs.Cells.{others}
-use Rattle.transformer_algebra.specs.Loops.{stays, within_row, beyond_row}
-use Rattle.transformer_algebra.specs.Transformers.{without}
-use Rattle.region_sets.specs.declared.range.Range.{Range}
-use Rattle.region_sets.specs.declared.region.Region.{Region}
-use Rattle.region_sets.specs.Regions.{remade}
-use Rattle.region_sets.specs.Naming.{named_cells, has_none}
+use Rattle.in_out_regions.specs.transformer_algebra.Cells.{others}
+use Rattle.in_out_regions.specs.transformer_algebra.Loops.{stays, within_row, beyond_row}
+use Rattle.in_out_regions.specs.transformer_algebra.Transformers.{without}
+use Rattle.in_out_regions.specs.region_sets.declared.range.Range.{Range}
+use Rattle.in_out_regions.specs.region_sets.declared.region.Region.{Region}
+use Rattle.in_out_regions.specs.region_sets.Regions.{remade}
+use Rattle.in_out_regions.specs.region_sets.Naming.{named_cells, has_none}
 use Rattle.in_out_regions.specs.Loops.{is_one_step}
 
 -- index + 1 <= Aux(2) and Aux(2) <= last upwards; the other way round downwards

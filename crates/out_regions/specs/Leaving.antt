@@ -2,7 +2,8 @@
 use Rattle.std.specs.Prelude.{ℕ, Bool, true, ◌||◌, List, [], ◌++◌, if◌then◌else◌}
 use Rattle.f77_ast.specs.Trees.{StmtTree, WhatTree, ArmTree, ArmTrees, ElseTree, LoopTree, StmtTrees}
 use Rattle.f77_ast.specs.Trees as tree
-use Rattle.transformers.specs.Jumps.{list_has, stmt_has, goes_beyond, is_return, returns_early, early_return, before_labels}
+use Rattle.in_out_regions.specs.transformers.Jumps.{list_has, stmt_has, goes_beyond, returns_early, early_return, before_labels}
+use Rattle.f77_ast.specs.Shapes.{is_return}
 
 abbrev mutual
   -- the labels of a statement and its parts

@@ -2,15 +2,15 @@
 use Rattle.std.specs.Prelude.{ℕ, Bool, ◌||◌, if◌then◌else◌, List, [], ◌∷◌, ◌++◌, map}
 use Rattle.f77_ast.specs.Trees.{StmtTree, StmtTrees}
 use Rattle.f77_ast.specs.Trees as tree
-use Rattle.transformer_algebra.specs.declared.transformer.Transformer.{Transformer}
-use Rattle.transformer_algebra.specs.Transformers.{apply}
-use Rattle.transformers.specs.Lists.{list_at}
-use Rattle.region_sets.specs.declared.region.Region.{Region}
-use Rattle.region_sets.specs.Regions.{remade}
-use Rattle.region_sets.specs.Sets.{live, unite_all}
-use Rattle.region_sets.specs.Lists.{numbers, in_order, all_composed, all_accesses, all_forgetting}
+use Rattle.in_out_regions.specs.transformer_algebra.declared.transformer.Transformer.{Transformer}
+use Rattle.in_out_regions.specs.transformer_algebra.Transformers.{apply}
+use Rattle.in_out_regions.specs.transformers.Lists.{list_at}
+use Rattle.in_out_regions.specs.region_sets.declared.region.Region.{Region}
+use Rattle.in_out_regions.specs.region_sets.Regions.{remade}
+use Rattle.in_out_regions.specs.region_sets.Sets.{live, unite_all}
+use Rattle.in_out_regions.specs.region_sets.Lists.{numbers, in_order, all_composed, all_accesses, all_forgetting, set_at}
 use Rattle.in_out_regions.specs.Kinds.{is_write}
-use Rattle.in_out_regions.specs.Lists.{set_at, all_unwritten, before_rest, ins_in_order}
+use Rattle.in_out_regions.specs.Lists.{all_unwritten, before_rest, ins_in_order}
 use Rattle.out_regions.specs.Known.{KnownTree}
 use Rattle.out_regions.specs.Used.{all_out, used}
 use Rattle.out_regions.specs.declared.rest.Rest.{Rest}

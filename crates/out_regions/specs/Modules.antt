@@ -1,14 +1,14 @@
 -- OUT of a module: at each statement, and as its callers see it.
 use Rattle.std.specs.Prelude.{true, List}
 use Rattle.f77_ast.specs.Trees.{StmtTrees}
-use Rattle.f77_results.specs.declared.results.At.{At}
-use Rattle.f77_results.specs.declared.results.Results.{Results}
-use Rattle.transformer_algebra.specs.declared.transformer.Transformer.{Transformer}
-use Rattle.call_translation.specs.Scopes.{ScopeTree}
-use Rattle.transformers.specs.Lists.{transformer_at}
-use Rattle.region_sets.specs.declared.region.Region.{Region}
-use Rattle.region_sets.specs.Sets.{unite_all}
-use Rattle.array_regions.specs.Entry.{seen, locals}
+use Rattle.f77_ast.specs.declared.results.At.{At}
+use Rattle.f77_ast.specs.declared.results.Results.{Results}
+use Rattle.in_out_regions.specs.transformer_algebra.declared.transformer.Transformer.{Transformer}
+use Rattle.in_out_regions.specs.call_translation.Scopes.{ScopeTree}
+use Rattle.in_out_regions.specs.transformers.Lists.{transformer_at}
+use Rattle.in_out_regions.specs.region_sets.declared.region.Region.{Region}
+use Rattle.in_out_regions.specs.region_sets.Sets.{unite_all}
+use Rattle.in_out_regions.specs.array_regions.Entry.{seen, locals}
 use Rattle.out_regions.specs.Known.{KnownTree}
 use Rattle.out_regions.specs.Statement.{body_out, at_list}
 

@@ -2,16 +2,16 @@
 use Rattle.std.specs.Prelude.{ℕ, Bool, false, List, [], ◌∷◌, ◌++◌, if◌then◌else◌}
 use Rattle.f77_ast.specs.Trees.{StmtTree, WhatTree, ArmTree, ArmTrees, ElseTree, LoopTree, StmtTrees}
 use Rattle.f77_ast.specs.Trees as tree
-use Rattle.f77_results.specs.declared.results.At.{At}
+use Rattle.f77_ast.specs.declared.results.At.{At}
 use Rattle.affine_forms.specs.Scalars.{is_cell}
-use Rattle.transformers.specs.Jumps.{unstructured}
-use Rattle.transformers.specs.Lists.{number_of}
-use Rattle.transformers.specs.Statement.{at}
-use Rattle.region_sets.specs.declared.range.Range.{Range}
-use Rattle.region_sets.specs.declared.region.Region.{Region}
-use Rattle.region_sets.specs.Lists.{accesses_at, list_regions, all_forgetting}
-use Rattle.array_regions.specs.Loops.{range_of}
-use Rattle.in_out_regions.specs.Lists.{set_at, list_in}
+use Rattle.in_out_regions.specs.transformers.Jumps.{unstructured}
+use Rattle.in_out_regions.specs.transformers.Lists.{number_of}
+use Rattle.in_out_regions.specs.transformers.Statement.{at}
+use Rattle.in_out_regions.specs.region_sets.declared.range.Range.{Range}
+use Rattle.in_out_regions.specs.region_sets.declared.region.Region.{Region}
+use Rattle.in_out_regions.specs.region_sets.Lists.{accesses_at, list_regions, all_forgetting, set_at}
+use Rattle.in_out_regions.specs.array_regions.Loops.{range_of}
+use Rattle.in_out_regions.specs.Lists.{list_in}
 use Rattle.out_regions.specs.Known.{KnownTree}
 use Rattle.out_regions.specs.Used.{all_out, used}
 use Rattle.out_regions.specs.declared.rest.Rest.{Rest}

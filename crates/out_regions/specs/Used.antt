@@ -6,12 +6,12 @@ use Rattle.affine_systems.specs.Calls.{meet}
 use Rattle.f77_ast.specs.declared.variable.Variable.{Variable}
 use Rattle.f77_ast.specs.Symbols.{SymbolTree}
 use Rattle.f77_ast.specs.Shared.{overlap}
-use Rattle.region_sets.specs.declared.region.Access.TheVariants.{Out}
-use Rattle.region_sets.specs.declared.region.Region.{Region}
-use Rattle.region_sets.specs.Regions.{region, hull_of}
-use Rattle.region_sets.specs.Sets.{live, live_pieces}
+use Rattle.in_out_regions.specs.region_sets.declared.region.Access.TheVariants.{Out}
+use Rattle.in_out_regions.specs.region_sets.declared.region.Region.{Region}
+use Rattle.in_out_regions.specs.region_sets.Regions.{region, hull_of}
+use Rattle.in_out_regions.specs.region_sets.Sets.{live, live_pieces}
 use Rattle.in_out_regions.specs.Kinds.{is_write}
-use Rattle.in_out_regions.specs.Writes.{same_variable}
+use Rattle.f77_ast.specs.Variables.{same_variable}
 
 abbrev pub as_out : Region → Region
 as_out r = region r.variable Out false r.pieces

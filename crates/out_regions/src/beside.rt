@@ -1,13 +1,12 @@
 //! What of regions may matter to some WRITE regions.
 ghost use Rattle.std.specs.Prelude.{◌≡◌, map, IfOk};
 ghost use Rattle.f77_ast.specs.Symbols.{symbol_tree};
-ghost use Rattle.region_sets.specs.Sets.{SetFits};
+ghost use Rattle.in_out_regions.specs.region_sets.Sets.{SetFits};
 ghost use Rattle.out_regions.specs.Beside.{is_met as is_met_is, beside as beside_is};
 
-use f77_ast::{Symbols, Variable, overlaps};
+use f77_ast::{Symbols, Variable, overlaps, same_variable};
 use fx_lists::List;
-use in_out_regions::same_variable;
-use region_sets::{Region, RegionSet, copy_region, push_region};
+use in_out_regions::region_sets::{Region, RegionSet, copy_region, push_region};
 use std::alloc::{AllocError as Memory, Global};
 
 /// Whether one of some regions has this variable, or one that shares units with it.
@@ -25,7 +24,7 @@ fn is_met(symbols: &Symbols, writes: &[Region], v: &Variable) -> bool
 }
 
 /// Copies of the regions that may matter to these WRITE regions.
-#[tactic(auto, using(region_sets::proofs::Steps::fitting))]
+#[tactic(auto, using(crate::proofs::Fitting::fitting))]
 pub fn beside(
     alloc: Global,
     symbols: &Symbols,

@@ -1,9 +1,10 @@
 //! What is known in a module.
-use call_translation::CellScope;
-use f77_results::{At, Results, View};
+use call_graph::View;
+use f77_ast::{At, Results};
 use fx_lists::List;
-use region_sets::RegionSet;
-use transformer_algebra::Transformer;
+use in_out_regions::call_translation::CellScope;
+use in_out_regions::region_sets::RegionSet;
+use in_out_regions::transformer_algebra::Transformer;
 
 /// A module, the transformers of its statements, and READ, WRITE and IN at each.
 #[derive(Drop)]

@@ -4,22 +4,21 @@ ghost use Rattle.affine_systems.specs.Given.{Fits, IsGiven};
 ghost use Rattle.affine_systems.specs.Rows.{AllRows};
 ghost use Rattle.affine_forms.specs.Forms.{IsSmallForm};
 ghost use Rattle.hull_projection.specs.Minus.{AllFit};
-ghost use Rattle.region_sets.specs.Loops.{RangeFits};
-ghost use Rattle.region_sets.specs.Regions.{RegionFits};
-ghost use Rattle.region_sets.specs.Sets.{SetFits};
+ghost use Rattle.in_out_regions.specs.region_sets.Loops.{RangeFits};
+ghost use Rattle.in_out_regions.specs.region_sets.Regions.{RegionFits};
+ghost use Rattle.in_out_regions.specs.region_sets.Sets.{SetFits};
 ghost use Rattle.out_regions.specs.Later.{later_from as later_from_is, later_rows as later_rows_is, is_steady as is_steady_is, later_index as later_index_is, later_piece as later_piece_is, later as later_is, all_later as all_later_is};
 
 use affine_forms::{Affine, var_form};
 use affine_systems::{Row, System, Var};
 use fx_lists::List;
 use hull_projection::project;
-use in_out_regions::{beyond_row, is_one_step, stays, within_row};
-use region_sets::{
+use in_out_regions::region_sets::{
     Range, Region, RegionSet, has_none, named_cells, push_region, push_system, remade,
 };
+use in_out_regions::transformer_algebra::{Naming, others, push_rows, rename_all, without};
+use in_out_regions::{beyond_row, is_one_step, stays, within_row};
 use std::alloc::{AllocError as Memory, Global};
-use system_renaming::{Naming, push_rows, rename_all};
-use transformer_algebra::{others, without};
 
 /// That an iteration, whose index is `Aux(2)`, is later and one of the DO.
 #[tactic(auto, using(crate::proofs::Steps::rows))]
@@ -98,7 +97,7 @@ fn later_piece(alloc: Global, tracked: bool, g: &Range, s: &System) -> Result<Sy
 }
 
 /// A region of the body, as what some later iteration may access.
-#[tactic(auto, using(region_sets::proofs::Steps::fitting))]
+#[tactic(auto, using(crate::proofs::Fitting::fitting))]
 fn later(alloc: Global, tracked: bool, g: &Range, r: &Region) -> Result<Region, Memory>
     requires range { RangeFits g.now }
     requires region { RegionFits r.now }
@@ -115,7 +114,7 @@ fn later(alloc: Global, tracked: bool, g: &Range, r: &Region) -> Result<Region, 
 }
 
 /// IN of the body, as what iterations after one may read, for the cells where that one begins. `tracked`: the index is an analysed scalar.
-#[tactic(auto, using(region_sets::proofs::Steps::fitting))]
+#[tactic(auto, using(crate::proofs::Fitting::fitting))]
 pub fn all_later(
     alloc: Global,
     tracked: bool,

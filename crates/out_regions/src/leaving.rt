@@ -1,13 +1,14 @@
 //! Lists that may be left before their end.
 ghost use Rattle.std.specs.Prelude.{◌≡◌, ◌++◌, true, if◌then◌else◌, IfOk, OnOk};
 ghost use Rattle.f77_ast.specs.PlainStmt.{stmt_tree, stmt_trees, what_tree, arm_trees, loop_tree};
-ghost use Rattle.transformers.specs.Jumps.{is_return as is_return_is, stmt_has as stmt_has_is, returns_early as returns_early_is};
+ghost use Rattle.in_out_regions.specs.transformers.Jumps.{stmt_has as stmt_has_is, returns_early as returns_early_is};
 ghost use Rattle.out_regions.specs.Leaving.{stmt_labels, what_labels, list_labels, arms_labels, loop_labels, returns as returns_is, leaves as leaves_is, stmt_leaves as stmt_leaves_is};
+ghost use Rattle.f77_ast.specs.Shapes.{is_return as is_return_is};
 
 use f77_ast::{Arm, Loop, Stmt, What};
 use fx_lists::List;
+use in_out_regions::transformers::{Sought, any_has, early_return, returns_early, stmt_has};
 use std::alloc::{AllocError as Memory, Global};
-use transformers::{Sought, any_has, early_return, returns_early, stmt_has};
 
 /// Whether a RETURN may end the list.
 fn returns(whole: bool, list: &[Stmt]) -> bool
@@ -93,7 +94,7 @@ fn push_arm_labels(out: &mut Vec<u32>, arms: &List<Arm>) -> Result<(), Memory>
 }
 
 /// The labels of these statements and of their parts.
-#[tactic(auto, using(region_sets::proofs::Steps::fitting))]
+#[tactic(auto, using(crate::proofs::Fitting::fitting))]
 fn labels_in(alloc: Global, list: &[Stmt]) -> Result<Vec<u32>, Memory>
     ensures { IfOk result (λ ls. ls.items ≡ list_labels (stmt_trees list.now)) }
 {

@@ -2,10 +2,9 @@
 ghost use Rattle.std.specs.Prelude.{◌≡◌, ◌++◌, IfOk, OnOk};
 ghost use Rattle.affine_systems.specs.Given.{Fits};
 ghost use Rattle.f77_ast.specs.PlainStmt.{stmt_tree};
-ghost use Rattle.region_sets.specs.Regions.{RegionFits};
-ghost use Rattle.region_sets.specs.Sets.{SetFits};
-ghost use Rattle.region_sets.specs.Lists.{SetsFit, all_composed, all_accesses, all_forgetting};
-ghost use Rattle.in_out_regions.specs.Lists.{set_at as set_at_is};
+ghost use Rattle.in_out_regions.specs.region_sets.Regions.{RegionFits};
+ghost use Rattle.in_out_regions.specs.region_sets.Sets.{SetFits};
+ghost use Rattle.in_out_regions.specs.region_sets.Lists.{all_composed, all_accesses, all_forgetting, set_at as set_at_is};
 ghost use Rattle.out_regions.specs.Used.{all_out};
 ghost use Rattle.out_regions.specs.Contexts.{known_in, KnownFits, RestFits};
 ghost use Rattle.out_regions.specs.Lists.{applied as applied_is, all_applied as all_applied_is, left_over as left_over_is, first_out as first_out_is, rest_out as rest_out_is, may_leave as may_leave_is, any_out as any_out_is};
@@ -15,21 +14,19 @@ use crate::context::OutContext;
 use crate::leaving::stmt_leaves;
 use crate::rest::{Rest, writes_at};
 use crate::used::{push_out, used};
-use array_regions::push_copies;
 use f77_ast::{Stmt, StmtId};
-use f77_results::At;
 use fx_lists::List;
-use in_out_regions::{push_forgetting, push_unwritten, set_at};
-use region_sets::{
-    Region, RegionSet, live_regions as live, push_composed, push_region, push_system, remade,
-    same_pieces,
+use in_out_regions::push_unwritten;
+use in_out_regions::region_sets::{
+    Region, RegionSet, all_sets, live_regions as live, push_composed, push_forgetting, push_region,
+    push_regions, push_system, remade, same_pieces,
 };
+use in_out_regions::transformer_algebra::{Transformer, apply};
+use in_out_regions::transformers::transformer_at;
 use std::alloc::{AllocError as Memory, Global};
-use transformer_algebra::{Transformer, apply};
-use transformers::transformer_at;
 
 /// A region after what a transformer describes, from one before it.
-#[tactic(auto, using(region_sets::proofs::Steps::fitting))]
+#[tactic(auto, using(crate::proofs::Fitting::fitting))]
 fn applied(alloc: Global, t: &Transformer, r: &Region) -> Result<Region, Memory>
     requires transformer { Fits t.now.system }
     requires region { RegionFits r.now }
@@ -65,12 +62,12 @@ fn applied_like(
         return applied(alloc, t, r);
     }
     let mut pieces = List::new(alloc);
-    region_sets::push_copies(&mut pieces, made.pieces.as_slice())?;
+    in_out_regions::region_sets::push_copies(&mut pieces, made.pieces.as_slice())?;
     remade(r, r.exact, pieces)
 }
 
 /// The same, where the regions before it have become these: as the last of them, where it has the same pieces.
-#[tactic(auto, using(crate::proofs::AppliedSteps::last_steps, region_sets::proofs::SetSteps::gather_fits))]
+#[tactic(auto, using(crate::proofs::AppliedSteps::last_steps, crate::proofs::Fitting::gather_fits))]
 fn applied_after(
     alloc: Global,
     t: &Transformer,
@@ -91,7 +88,7 @@ fn applied_after(
     }
 }
 
-#[tactic(auto, using(region_sets::proofs::Steps::fitting, region_sets::proofs::SetSteps::gather_fits, crate::proofs::AppliedSteps::applied_more))]
+#[tactic(auto, using(crate::proofs::Fitting::fitting, crate::proofs::Fitting::gather_fits, crate::proofs::AppliedSteps::applied_more))]
 fn all_applied(alloc: Global, t: &Transformer, set: &[Region]) -> Result<RegionSet, Memory>
     requires transformer { Fits t.now.system }
     requires set { SetFits set.now }
@@ -120,7 +117,7 @@ fn left_over(
 {
     let mut left = List::new(alloc);
     if leaving {
-        push_copies(alloc, &mut left, out)?;
+        push_regions(alloc, &mut left, out)?;
         return Ok(left);
     }
     let certain = live(alloc, writes)?;
@@ -259,22 +256,6 @@ pub fn push_forgotten(
     let mut free = List::new(alloc);
     push_forgetting(alloc, &mut free, cells, set)?;
     push_out(alloc, later, free.as_slice())
-}
-
-/// The sets of these statements, one after another.
-#[tactic(auto, using(in_out_regions::proofs::Steps::regions))]
-fn all_sets(alloc: Global, ids: &[StmtId], at: &List<At<RegionSet>>) -> Result<RegionSet, Memory>
-    requires { SetsFit at.now }
-    ensures defined { IfOk result (λ rs. rs ≡ all_accesses (set_at_is at.now) ids.now) }
-    ensures fits { IfOk result SetFits }
-{
-    let mut out = List::new(alloc);
-    let mut rest = ids;
-    while let [id, more @ ..] = rest {
-        push_copies(alloc, &mut out, set_at(at, *id))?;
-        rest = more;
-    }
-    Ok(out)
 }
 
 /// What may be read behind any statement of a list that changes these cells and whose statements, with these numbers, come in any order.

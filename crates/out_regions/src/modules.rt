@@ -1,21 +1,22 @@
 //! OUT regions of a module.
 ghost use Rattle.std.specs.Prelude.{◌≡◌, IfOk};
 ghost use Rattle.f77_ast.specs.PlainStmt.{stmt_trees};
-ghost use Rattle.call_translation.specs.Scopes.{scope_tree, scope_of};
-ghost use Rattle.transformers.specs.Given.{ResultsFit};
-ghost use Rattle.region_sets.specs.Lists.{SetsFit};
-ghost use Rattle.region_sets.specs.Sets.{SetFits};
+ghost use Rattle.in_out_regions.specs.call_translation.Scopes.{scope_tree, scope_of};
+ghost use Rattle.in_out_regions.specs.transformers.Given.{ResultsFit};
+ghost use Rattle.in_out_regions.specs.region_sets.Lists.{SetsFit};
+ghost use Rattle.in_out_regions.specs.region_sets.Sets.{SetFits};
 ghost use Rattle.out_regions.specs.Modules.{summary_of as summary_of_is, outs_with};
 
 use crate::context::OutContext;
 use crate::statement::{body_out, put_list};
-use array_regions::all_seen;
-use call_translation::{CellScope, tracked_of};
-use f77_results::{Results, View};
+use call_graph::View;
+use f77_ast::Results;
 use fx_lists::List;
-use region_sets::{Region, RegionSet, unite_all};
+use in_out_regions::array_regions::all_seen;
+use in_out_regions::call_translation::{CellScope, tracked_of};
+use in_out_regions::region_sets::{Region, RegionSet, unite_all};
+use in_out_regions::transformer_algebra::Transformer;
 use std::alloc::{AllocError as Memory, Global};
-use transformer_algebra::Transformer;
 
 /// OUT that the callers of a module see.
 fn summary_of(alloc: Global, scope: &CellScope<'_>, out: &[Region]) -> Result<RegionSet, Memory>

@@ -3,9 +3,9 @@ ghost use Rattle.std.specs.Prelude.{◌≡◌, ◌++◌, Bool, All, reverse, IfO
 ghost use Rattle.affine_systems.specs.Given.{Fits};
 ghost use Rattle.f77_ast.specs.PlainStmt.{stmt_trees};
 ghost use Rattle.f77_ast.specs.Trees as tree;
-ghost use Rattle.region_sets.specs.Sets.{SetFits, unite_all as unite_all_is};
-ghost use Rattle.region_sets.specs.Lists.{all_composed};
-ghost use Rattle.in_out_regions.specs.Lists.{set_at as set_at_is, before_rest as before_rest_is};
+ghost use Rattle.in_out_regions.specs.region_sets.Sets.{SetFits, unite_all as unite_all_is};
+ghost use Rattle.in_out_regions.specs.region_sets.Lists.{all_composed, set_at as set_at_is};
+ghost use Rattle.in_out_regions.specs.Lists.{before_rest as before_rest_is};
 ghost use Rattle.out_regions.specs.Known.{KnownTree};
 ghost use Rattle.out_regions.specs.Contexts.{known_in, KnownFits, RestFits};
 ghost use Rattle.out_regions.specs.Lists.{writes as writes_is, writes_at as writes_at_is, rest_of, rest_before, rests_behind};
@@ -14,14 +14,16 @@ use crate::context::OutContext;
 use crate::leaving::leaves;
 use f77_ast::{Stmt, StmtId};
 use fx_lists::List;
-use in_out_regions::{before_rest, is_write, set_at};
-use region_sets::{Region, RegionSet, copy_region, push_composed, push_region, unite_owned};
+use in_out_regions::region_sets::{
+    Region, RegionSet, copy_region, push_composed, push_region, set_at, unite_owned,
+};
+use in_out_regions::transformer_algebra::Transformer;
+use in_out_regions::transformers::transformer_at;
+use in_out_regions::{before_rest, is_write};
 use std::alloc::{AllocError as Memory, Global};
-use transformer_algebra::Transformer;
-use transformers::transformer_at;
 
 /// The WRITE regions of a set.
-#[tactic(auto, using(region_sets::proofs::Steps::fitting))]
+#[tactic(auto, using(crate::proofs::Fitting::fitting))]
 pub fn writes(alloc: Global, set: &[Region]) -> Result<RegionSet, Memory>
     requires { SetFits set.now }
     ensures defined { IfOk result (λ rs. rs ≡ writes_is set.now) }

@@ -1,9 +1,9 @@
 //! OUT at each statement, from OUT of what it is a part of.
 ghost use Rattle.std.specs.Prelude.{◌≡◌, ◌++◌, false, IfOk, OnOk};
 ghost use Rattle.f77_ast.specs.PlainStmt.{stmt_tree, stmt_trees, what_tree, loop_tree, arm_trees};
-ghost use Rattle.region_sets.specs.Lists.{SetsFit, numbers as numbers_is};
-ghost use Rattle.region_sets.specs.Loops.{RangeFits};
-ghost use Rattle.region_sets.specs.Sets.{SetFits};
+ghost use Rattle.in_out_regions.specs.region_sets.Lists.{SetsFit};
+ghost use Rattle.in_out_regions.specs.region_sets.Loops.{RangeFits};
+ghost use Rattle.in_out_regions.specs.region_sets.Sets.{SetFits};
 ghost use Rattle.out_regions.specs.Contexts.{known_in, KnownFits, RestFits};
 ghost use Rattle.out_regions.specs.Lists.{used_around as used_around_is};
 ghost use Rattle.out_regions.specs.Statement.{body_writes as body_writes_is, body_out as body_out_is, body_in as body_in_is, used_after as used_after_is, loop_out as loop_out_is, only_out as only_out_is, at_stmt, at_parts, at_arms, at_only, at_loop, at_list, at_any, at_rest, at_first};
@@ -14,17 +14,16 @@ use crate::lists::{any_out, first_out, may_leave, push_forgotten, rest_out, used
 use crate::rest::{Rest, all_rests, writes};
 use crate::used::{push_out, used};
 use affine_forms::is_cell;
-use array_regions::{push_copies, put, range_of};
+use call_graph::View;
 use f77_ast::{Arm, Loop, Stmt, StmtId, What};
-use f77_results::{At, View};
 use fx_lists::List;
+use in_out_regions::array_regions::{put, range_of};
 use in_out_regions::list_in;
-use region_sets::{Range, Region, RegionSet, list_regions};
+use in_out_regions::region_sets::{
+    Range, Region, RegionList, RegionSet, list_regions, numbers, push_regions,
+};
+use in_out_regions::transformers::{is_unstructured, list_at};
 use std::alloc::{AllocError as Memory, Global};
-use transformers::{is_unstructured, list_at};
-
-/// Sets of regions of statements, those of the parts of a statement after its own, in the order of the text.
-pub type RegionList = List<At<RegionSet>>;
 
 /// The WRITE regions of a list.
 fn body_writes(
@@ -300,19 +299,6 @@ pub fn put_list(
     }
 }
 
-#[tactic(auto, using(region_sets::proofs::Steps::fitting))]
-fn numbers(alloc: Global, list: &[Stmt]) -> Result<Vec<StmtId>, Memory>
-    ensures { IfOk result (λ ns. ns.items ≡ numbers_is (stmt_trees list.now)) }
-{
-    let mut ids = Vec::new(alloc);
-    let mut rest = list;
-    while let [s, more @ ..] = rest {
-        ids.push(s.id)?;
-        rest = more;
-    }
-    Ok(ids)
-}
-
 /// What may be read behind each statement of a list whose statements come in any order.
 fn around(
     alloc: Global,
@@ -396,7 +382,7 @@ fn put_rest(
 {
     let mut rests = all_rests(alloc, known, whole, list.as_slice())?;
     let mut current = List::new(alloc);
-    push_copies(alloc, &mut current, out)?;
+    push_regions(alloc, &mut current, out)?;
     for s in list.as_slice() {
         match rests.pop() {
             None => return Err(Memory),

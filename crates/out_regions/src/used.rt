@@ -4,17 +4,16 @@ ghost use Rattle.hull_projection.specs.Minus.{AllFit};
 ghost use Rattle.f77_ast.specs.Symbols.{symbol_tree};
 ghost use Rattle.affine_systems.specs.Given.{Fits};
 ghost use Rattle.affine_systems.specs.Calls.{meet as meet_is};
-ghost use Rattle.region_sets.specs.Regions.{RegionFits};
-ghost use Rattle.region_sets.specs.Sets.{SetFits};
+ghost use Rattle.in_out_regions.specs.region_sets.Regions.{RegionFits};
+ghost use Rattle.in_out_regions.specs.region_sets.Sets.{SetFits};
 ghost use Rattle.out_regions.specs.Used.{as_out as as_out_is, all_out, is_used_beside as is_used_beside_is, used_pieces as used_pieces_is, is_none as is_none_is, unless_empty, met_with, used_of, if_write, used as used_is};
 ghost use Rattle.out_regions.specs.Alive.{IsAliveFrom};
 
 use affine_systems::{System, meet};
-use f77_ast::{Symbols, Variable, overlaps};
-use f77_results::copy_variable;
+use f77_ast::{Symbols, Variable, copy_variable, overlaps, same_variable};
 use fx_lists::List;
-use in_out_regions::{is_write, same_variable};
-use region_sets::{
+use in_out_regions::is_write;
+use in_out_regions::region_sets::{
     Access, Region, RegionSet, copy_region, hull_of, live_regions as live, pieces_alive,
     push_copies, push_region, push_system,
 };
@@ -36,7 +35,7 @@ fn as_out(alloc: Global, r: &Region) -> Result<Region, Memory>
 }
 
 /// Appends regions as such of OUT, without those that are refuted.
-#[tactic(auto, using(region_sets::proofs::Steps::fitting))]
+#[tactic(auto, using(crate::proofs::Fitting::fitting))]
 pub fn push_out(alloc: Global, out: &mut RegionSet, set: &[Region]) -> Result<(), Memory>
     requires out { SetFits out.old }
     requires set { SetFits set.now }
@@ -67,7 +66,7 @@ fn is_used_beside(symbols: &Symbols, later: &[Region], v: &Variable) -> bool
 }
 
 /// The systems of what is used of a variable.
-#[tactic(auto, using(region_sets::proofs::Steps::fitting))]
+#[tactic(auto, using(crate::proofs::Fitting::fitting))]
 fn used_pieces(alloc: Global, v: &Variable, later: &[Region]) -> Result<List<System>, Memory>
     requires { SetFits later.now }
     ensures defined { IfOk result (λ ss. ss ≡ used_pieces_is v.now later.now) }
@@ -85,7 +84,7 @@ fn used_pieces(alloc: Global, v: &Variable, later: &[Region]) -> Result<List<Sys
 }
 
 /// Each system with another.
-#[tactic(auto, using(region_sets::proofs::Steps::fitting))]
+#[tactic(auto, using(crate::proofs::Fitting::fitting))]
 fn all_met(alloc: Global, pieces: &[System], all: &System) -> Result<List<System>, Memory>
     requires pieces { AllFit pieces.now }
     requires all { Fits all.now }
@@ -208,7 +207,7 @@ fn push_if_write(
 
 /// What of the WRITE regions of a set is used, where `later` has what may be read later: all of a variable where one is used that shares units with
 /// it, else what lies within the hull of what is used of it. Each region is compared with all of `later`.
-#[tactic(auto, using(region_sets::proofs::Steps::fitting, crate::proofs::AliveSteps::alive_steps))]
+#[tactic(auto, using(crate::proofs::Fitting::fitting, crate::proofs::AliveSteps::alive_steps))]
 pub fn used(
     alloc: Global,
     symbols: &Symbols,

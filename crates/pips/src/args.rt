@@ -1,5 +1,6 @@
 //! The words after the program's name, as bytes, since a word need not be text.
-use fx_base::{List, Text, Words};
+use fx_base::Words;
+use fx_lists::{List, Text};
 use std::alloc::{AllocError as Memory, Global};
 use std::env::FillError;
 use std::rt::Env;

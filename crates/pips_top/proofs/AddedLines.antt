@@ -9,34 +9,35 @@ use Rattle.f77_ast.specs.DeclTrees.{ParsedTree}
 use Rattle.f77_printer.specs.declared.added.Added.{Added}
 use Rattle.call_graph.specs.declared.graph.Graph.{Graph}
 use Rattle.f77_meaning.specs.Modules.{Known, known_of, symbol_names}
-use Rattle.transformer_algebra.specs.declared.transformer.Transformer.{Transformer}
-use Rattle.scalar_phases.specs.Phases.{Analysis, analyses}
-use Rattle.region_phases.specs.Phases.{ModuleRegions, all_regions}
-use Rattle.region_phases.specs.InPhases.{ModuleIns, all_ins}
-use Rattle.region_phases.specs.OutPhases.{ModuleOuts, all_outs}
-use Rattle.loop_marker.specs.Phases.{ModuleMarks, analysis_in, known_in, all_marks}
-use Rattle.claim_lines.specs.ScalarLines.{Said, before, holds_lines, changes_lines, does_lines, says_changes, own_lines, stmt_lines, part_lines, list_lines, arms_lines, arm_lines, else_lines, loop_lines, entry_lines, said}
+use Rattle.in_out_regions.specs.transformer_algebra.declared.transformer.Transformer.{Transformer}
+use Rattle.pipsmake_base.specs.module_phases.ScalarPhases.{Analysis, analyses}
+use Rattle.pipsmake_base.specs.module_phases.RegionPhases.{ModuleRegions, all_regions}
+use Rattle.pipsmake_base.specs.module_phases.InPhases.{ModuleIns, all_ins}
+use Rattle.pipsmake_base.specs.module_phases.OutPhases.{ModuleOuts, all_outs}
+use Rattle.pipsmake_base.specs.loop_marker.Results.{ModuleResults}
+use Rattle.pipsmake_base.specs.loop_marker.Phases.{phases_of, analysis_in, all_marks}
+use Rattle.pipsmake_base.specs.result_lines.ScalarLines.{Said, before, holds_lines, changes_lines, does_lines, says_changes, own_lines, stmt_lines, part_lines, list_lines, arms_lines, arm_lines, else_lines, loop_lines, entry_lines, said}
 use Rattle.system_text.specs.SystemText.{precondition_line, transformer_line}
-use Rattle.roundtrip_statements.specs.Formed.{Each}
-use Rattle.roundtrip_modules.proofs.Kept.{Each-append}
-use Rattle.roundtrip_text.specs.Texts.{IsPassedOver}
-use Rattle.roundtrip_text.specs.Laws.{AllPassedOver}
-use Rattle.roundtrip_programs.specs.Lines.{IsShown, AreShown, IsClaimLine, LinesArePassedOver}
+use Rattle.laws_programs.specs.roundtrip_programs.Statements.Formed.{Each}
+use Rattle.laws_programs.proofs.RoundtripPrograms.ModuleTexts.Kept.{Each-append}
+use Rattle.laws_programs.specs.roundtrip_programs.Texts.Texts.{IsPassedOver}
+use Rattle.laws_programs.specs.roundtrip_programs.Texts.Laws.{AllPassedOver}
+use Rattle.laws_programs.specs.roundtrip_programs.Lines.{IsShown, AreShown, IsClaimLine, LinesArePassedOver}
 use Rattle.laws_programs.specs.Programs.{AreTables}
 use Rattle.laws_lines.proofs.PhaseVars.{got_each}
-use Rattle.laws_region_lines.specs.Names.{IsNamed, AreNamed}
-use Rattle.laws_region_lines.specs.LineLaws.{RegionLinesPass, AllRegionLinesPass}
-use Rattle.laws_in_lines.specs.Laws.{InLinesPass, AllInLinesPass}
-use Rattle.laws_out_lines.specs.Laws.{OutLinesPass, AllOutLinesPass}
-use Rattle.roundtrip_marks.specs.Laws.{MarkLinesArePassedOver}
-use Rattle.laws_region_lines.proofs.ProgramRegions.{ModuleFine, ModuleTold, each_named, regions_with, all_told, modules_fine}
-use Rattle.laws_region_lines.proofs.LinesPass.{names_shown}
-use Rattle.laws_database.specs.ResultEntries.{said_for}
-use Rattle.laws_database.specs.ProgramTexts.{lines_with}
-use Rattle.pips_top.specs.Shown.{said_of, lines_for}
+use Rattle.laws_lines.specs.Regions.Names.{IsNamed, AreNamed}
+use Rattle.laws_lines.specs.Regions.LineLaws.{RegionLinesPass, AllRegionLinesPass}
+use Rattle.laws_lines.specs.Ins.Laws.{InLinesPass, AllInLinesPass}
+use Rattle.laws_lines.specs.Outs.Laws.{OutLinesPass, AllOutLinesPass}
+use Rattle.laws_lines.specs.Marks.Laws.{MarkLinesArePassedOver}
+use Rattle.laws_lines.proofs.Regions.ProgramRegions.{ModuleFine, ModuleTold, each_named, regions_with, all_told, modules_fine}
+use Rattle.laws_lines.proofs.Regions.LinesPass.{names_shown}
+use Rattle.pipsmake_base.specs.pipsmake_meaning.ResultEntries.{results_for}
+use Rattle.pipsmake_base.specs.laws_database.ProgramTexts.{lines_with}
+use Rattle.pips_top.specs.Shown.{results_of_program, lines_for}
 use Rattle.pips_top.specs.Program.{ProgramTree}
-use Rattle.result_lines.specs.declared.show.Show.{Show}
-use Rattle.result_lines.specs.declared.show.Show.TheVariants.{All, Bare, Why}
+use Rattle.pipsmake_base.specs.result_lines.declared.show.Show.{Show}
+use Rattle.pipsmake_base.specs.result_lines.declared.show.Show.TheVariants.{All, Bare, Why}
 use Rattle.pips_top.proofs.LinesFound.{region_lines_found, scalar_lines_found, claims_found, mark_lines_found, lines_in}
 use Rattle.pips_top.proofs.Programs.{each_at}
 use Rattle.pips_top.proofs.MarkNames.{MarksNamed, found_named, all_shown}
@@ -118,20 +119,20 @@ module _ (law : LinesArePassedOver) (k : Said) (shown : AreShown k.names) where
 -- ---- what is said of a module
 
 -- its symbols have such names, which its marks name, and the lines of its regions and marks are passed over
-pub record IsSaid (f : ModuleMarks) : Type 0 where
-  pub names : AreShown (symbol_names (known_in f.outs).symbols)
-  pub regions : RegionLinesPass f.outs.known.known
-  pub ins : InLinesPass f.outs.known
-  pub outs : OutLinesPass f.outs
-  pub named : MarksNamed IsShown (symbol_names (known_in f.outs).symbols) f.marks
+pub record IsSaid (f : ModuleResults) : Type 0 where
+  pub names : AreShown (symbol_names f.known.symbols)
+  pub regions : RegionLinesPass (phases_of f).known.known
+  pub ins : InLinesPass (phases_of f).known
+  pub outs : OutLinesPass (phases_of f)
+  pub named : MarksNamed IsShown (symbol_names f.known.symbols) f.marks
   pub marks : (why : Bool) → AllByRecursion IsPassedOver (mark_lines_found why f)
 
-from_places : (fs : List ModuleMarks) → ((j : ℕ) (f : ModuleMarks) → slice_get fs j ≡ Some f → IsSaid f) → Each IsSaid fs
+from_places : (fs : List ModuleResults) → ((j : ℕ) (f : ModuleResults) → slice_get fs j ≡ Some f → IsSaid f) → Each IsSaid fs
 from_places [] h = tt
 from_places (f ∷ fs) h = record { first = h zero f refl; others = from_places fs (λ j x e. h (suc j) x e) }
 
 -- so it is of all that is said of a program
-pub all_said : AllRegionLinesPass → AllInLinesPass → AllOutLinesPass → MarkLinesArePassedOver → (p : ProgramTree) → AreTables p.modules p.tables → AreNamed IsShown (known_of p.modules p.tables) → Each IsSaid (said_of p)
+pub all_said : AllRegionLinesPass → AllInLinesPass → AllOutLinesPass → MarkLinesArePassedOver → (p : ProgramTree) → AreTables p.modules p.tables → AreNamed IsShown (known_of p.modules p.tables) → Each IsSaid (results_of_program p)
 all_said law on_ins on_outs on_marks p t n = from_places (all_marks g os) each
   where
     g : Graph
@@ -152,24 +153,24 @@ all_said law on_ins on_outs on_marks p t n = from_places (all_marks g os) each
     os : List ModuleOuts
     os = all_outs g is
 
-    each : (j : ℕ) (f : ModuleMarks) → slice_get (all_marks g os) j ≡ Some f → IsSaid f
+    each : (j : ℕ) (f : ModuleResults) → slice_get (all_marks g os) j ≡ Some f → IsSaid f
     each j f e =
         let out = outs_at g os j f e in
-        let here = ins_at g is out.0 f.outs out.1 in
-        let at = regions_at g fs here.0 f.outs.known here.1 in
-        let there = said_at g as' here.0 f.outs.known here.1 in
-        let named = got_each (λ (r : ModuleRegions). IsNamed IsShown r.analysis.found.known) fs here.0 f.outs.known.known (regions_with (IsNamed IsShown) ks g (each_named IsShown ks n)) at in
-        let told = got_each (ModuleTold IsShown g.untracked) as' there.0 (analysis_in f.outs) (all_told IsShown p.modules p.tables g t n) there.1 in
-        let fine = got_each (ModuleFine IsShown g.untracked) fs here.0 f.outs.known.known (modules_fine IsShown p.modules p.tables g t n) at in
-        let names = names_shown (known_in f.outs).symbols named.1 in
-        let marks = subst (MarksNamed IsShown (symbol_names (known_in f.outs).symbols)) (sym (marks_are g os j f e)) (found_named IsShown g.untracked f.outs f.effects told fine) in
+        let here = ins_at g is out.0 (phases_of f) out.1 in
+        let at = regions_at g fs here.0 (phases_of f).known here.1 in
+        let there = said_at g as' here.0 (phases_of f).known here.1 in
+        let named = got_each (λ (r : ModuleRegions). IsNamed IsShown r.analysis.found.known) fs here.0 (phases_of f).known.known (regions_with (IsNamed IsShown) ks g (each_named IsShown ks n)) at in
+        let told = got_each (ModuleTold IsShown g.untracked) as' there.0 (analysis_in (phases_of f)) (all_told IsShown p.modules p.tables g t n) there.1 in
+        let fine = got_each (ModuleFine IsShown g.untracked) fs here.0 (phases_of f).known.known (modules_fine IsShown p.modules p.tables g t n) at in
+        let names = names_shown f.known.symbols named.1 in
+        let marks = subst (MarksNamed IsShown (symbol_names f.known.symbols)) (sym (marks_are g os j f e)) (found_named IsShown g.untracked (phases_of f) f.effects told fine) in
         record {
           names = names;
-          regions = each_at RegionLinesPass fs (law p.modules p.tables g t n) here.0 f.outs.known.known at;
-          ins = each_at InLinesPass is (on_ins p.modules p.tables g t n) here.0 f.outs.known here.1;
-          outs = each_at OutLinesPass os (on_outs p.modules p.tables g t n) out.0 f.outs out.1;
+          regions = each_at RegionLinesPass fs (law p.modules p.tables g t n) here.0 (phases_of f).known.known at;
+          ins = each_at InLinesPass is (on_ins p.modules p.tables g t n) here.0 (phases_of f).known here.1;
+          outs = each_at OutLinesPass os (on_outs p.modules p.tables g t n) out.0 (phases_of f) out.1;
           named = marks;
-          marks = λ why. on_marks (symbol_names (known_in f.outs).symbols) why f.marks names (all_shown (symbol_names (known_in f.outs).symbols) f.marks marks);
+          marks = λ why. on_marks (symbol_names f.known.symbols) why f.marks names (all_shown (symbol_names f.known.symbols) f.marks marks);
         }
 
 each_passed : (xs : List Added) → AllByRecursion IsPassedOver xs → AreOver xs
@@ -187,33 +188,33 @@ module _ (law : LinesArePassedOver) where
       join (entry_lines k.read.main names a.holds.summary own.summary) (list_lines k.read.body (said names own.at a.holds.at))
       (entry-over law names h k.read.main a.holds.summary own.summary) (list-over law (said names own.at a.holds.at) h k.read.body)
 
-  claims-over : (f : ModuleMarks) → IsSaid f → AreOver (claims_found f.outs)
+  claims-over : (f : ModuleResults) → IsSaid f → AreOver (claims_found (phases_of f))
   claims-over f h =
-      let k = known_in f.outs in
-      let scalars = scalar_lines_found (analysis_in f.outs) in
-      let regions = region_lines_found k f.outs.known.known.regions in
-      let ins = region_lines_found k f.outs.known.ins in
-      let outs = region_lines_found k f.outs.outs in
-      join scalars (regions ++ (ins ++ outs)) (scalars-over (analysis_in f.outs) h.names)
+      let k = f.known in
+      let scalars = scalar_lines_found (analysis_in (phases_of f)) in
+      let regions = region_lines_found k f.regions in
+      let ins = region_lines_found k f.ins in
+      let outs = region_lines_found k f.outs in
+      join scalars (regions ++ (ins ++ outs)) (scalars-over (analysis_in (phases_of f)) h.names)
       (join regions (ins ++ outs) (each_passed regions h.regions) (join ins outs (each_passed ins h.ins) (each_passed outs h.outs)))
 
-  marks-over : (why : Bool) (f : ModuleMarks) → IsSaid f → AreOver (mark_lines_found why f)
+  marks-over : (why : Bool) (f : ModuleResults) → IsSaid f → AreOver (mark_lines_found why f)
   marks-over why f h = each_passed (mark_lines_found why f) (h.marks why)
 
-  module-over : (show : Show) (f : ModuleMarks) → IsSaid f → AreOver (lines_in show f)
-  module-over All f h = join (claims_found f.outs) (mark_lines_found true f) (claims-over f h) (marks-over true f h)
+  module-over : (show : Show) (f : ModuleResults) → IsSaid f → AreOver (lines_in show f)
+  module-over All f h = join (claims_found (phases_of f)) (mark_lines_found true f) (claims-over f h) (marks-over true f h)
   module-over Bare f h = marks-over false f h
   module-over Why f h = marks-over true f h
 
   module _ (show : Show) where
-    choice-over : (b : Bool) (o p : Option ModuleMarks) → AreOver (lines_with show o) → AreOver (lines_with show p) → AreOver (lines_with show (if b then o else p))
+    choice-over : (b : Bool) (o p : Option ModuleResults) → AreOver (lines_with show o) → AreOver (lines_with show p) → AreOver (lines_with show (if b then o else p))
     choice-over true o p h e = h
     choice-over false o p h e = e
 
-    lines-over : (all : List ModuleMarks) (x : List ℕ) → Each IsSaid all → AreOver (lines_for show all x)
+    lines-over : (all : List ModuleResults) (x : List ℕ) → Each IsSaid all → AreOver (lines_for show all x)
     lines-over [] x h = tt
-    lines-over (f ∷ fs) x h = choice-over (bytes_eq (known_in f.outs).read.name x) (Some f) (said_for fs x) (module-over show f h.first) (lines-over fs x h.others)
+    lines-over (f ∷ fs) x h = choice-over (bytes_eq f.known.read.name x) (Some f) (results_for fs x) (module-over show f h.first) (lines-over fs x h.others)
 
-    pub all_over : (all : List ModuleMarks) → Each IsSaid all → (ms : List ParsedTree) → AllPassedOver (λ m. lines_for show all m.module_read.name) ms
+    pub all_over : (all : List ModuleResults) → Each IsSaid all → (ms : List ParsedTree) → AllPassedOver (λ m. lines_for show all m.module_read.name) ms
     all_over all h [] = tt
     all_over all h (m ∷ ms) = record { first = lines-over all m.module_read.name h; others = all_over all h ms }

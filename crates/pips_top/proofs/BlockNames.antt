@@ -17,55 +17,26 @@ use Rattle.f77_ast.specs.Symbols.{SymbolTree}
 use Rattle.f77_meaning.specs.Modules.{known_of, symbol_names}
 use Rattle.storage_layout.specs.Statements.{Has, commons_in, commons, members_in}
 use Rattle.storage_layout.specs.Symbols.{symbols_of}
-use Rattle.roundtrip_statements.specs.Formed.{IsName, Each, Filled}
-use Rattle.roundtrip_statements.specs.Phrased.{IsPhrase}
-use Rattle.roundtrip_statements.specs.Declared.{IsBlock, IsCommon, IsDecl}
-use Rattle.roundtrip_modules.specs.Cards.{Card, card, cards_in, title_cards, decl_cards, statements_of}
-use Rattle.roundtrip_modules.specs.Numbered.{TitleFits, IsWell}
-use Rattle.roundtrip_modules.proofs.Kept.{Held, Each-append, each-map}
-use Rattle.roundtrip_programs.specs.Lines.{IsShown, AreShown}
-use Rattle.roundtrip_programs.specs.Programs.{IsFormed, NamesAreShown}
-use Rattle.roundtrip_programs.proofs.Names.{name_shown}
-use Rattle.roundtrip_programs.proofs.Body.{AreCards}
-use Rattle.roundtrip_systems.specs.Printed.{in_name, is_name}
-use Rattle.roundtrip_regions.specs.Printed.{IsPlain}
-use Rattle.laws_layout.specs.Laws.{BlocksHaveAChain}
+use Rattle.laws_programs.specs.roundtrip_programs.Statements.Formed.{IsName, Each, Filled}
+use Rattle.laws_programs.specs.roundtrip_programs.Statements.Phrased.{IsPhrase}
+use Rattle.laws_programs.specs.roundtrip_programs.Statements.Declared.{IsBlock, IsCommon, IsDecl}
+use Rattle.laws_programs.specs.roundtrip_programs.ModuleTexts.Cards.{Card, card, cards_in, title_cards, decl_cards, statements_of}
+use Rattle.laws_programs.specs.roundtrip_programs.ModuleTexts.Numbered.{TitleFits, IsWell}
+use Rattle.laws_programs.proofs.RoundtripPrograms.ModuleTexts.Kept.{Held, Each-append, each-map}
+use Rattle.laws_programs.specs.roundtrip_programs.Lines.{IsShown, AreShown}
+use Rattle.laws_programs.specs.roundtrip_programs.Programs.{IsFormed, NamesAreShown}
+use Rattle.laws_programs.proofs.RoundtripPrograms.Names.{name_shown}
+use Rattle.laws_programs.proofs.RoundtripPrograms.Body.{AreCards, left_of, right_of}
+use Rattle.system_text.specs.Printed.{in_name, is_name}
+use Rattle.laws_lines.specs.RegionTexts.Printed.{IsPlain}
+use Rattle.laws_programs.specs.Layout.Laws.{BlocksHaveAChain}
 use Rattle.laws_lines.specs.NameLaws.{AreWords}
 use Rattle.laws_programs.specs.Programs.{AreTables}
-use Rattle.laws_programs.proofs.Sources.{AnyLabel, IsBuilt}
-use Rattle.laws_region_lines.specs.Names.{PlaceNamed, SymbolNamed, AreNamed}
-
-pub left_of : (xs ys : List Card) → AreCards (xs ++ ys) → AreCards xs
-left_of [] ys h = tt
-left_of (x ∷ xs) ys h = record { first = h.first; others = left_of xs ys h.others }
-
-pub right_of : (xs ys : List Card) → AreCards (xs ++ ys) → AreCards ys
-right_of [] ys h = h
-right_of (x ∷ xs) ys h = right_of xs ys h.others
-
--- what stands before the statements
-heads : (m : ModuleTree) → AreCards (statements_of m) → AreCards (title_cards m ++ decl_cards 0 m.decls)
-unfolding statements_of
-heads m k = left_of (title_cards m ++ decl_cards 0 m.decls) (cards_in m.body) (left_of (title_cards m ++ decl_cards 0 m.decls ++ cards_in m.body) (card parts.End None end_module ∷ []) k)
-
-filled : (cs : List CommonTree) → Filled IsCommon cs → Each IsCommon cs
-filled [] h = absurd h
-filled (c ∷ cs) h = record { first = h.first; others = h.others }
-
-in_decl : (d : DeclTree) → IsDecl d → Each IsCommon (commons_in d)
-in_decl (decl.common cs) h = filled cs h
-in_decl (decl.implicit ps) h = tt
-in_decl (decl.integer es) h = tt
-in_decl (decl.logical es) h = tt
-in_decl (decl.dimension es) h = tt
-in_decl (decl.parameter ss) h = tt
-in_decl (decl.equivalence gs) h = tt
-in_decl (decl.save is) h = tt
-in_decl (decl.initial gs) h = tt
-
-commons_formed : (place : ℕ) (ds : List DeclTree) → AreCards (decl_cards place ds) → Each IsCommon (commons ds)
-commons_formed place [] h = tt
-commons_formed place (d ∷ ds) h = Each-append IsCommon (commons_in d) (commons ds) (in_decl d h.first) (commons_formed (place + 1) ds h.others)
+use Rattle.laws_programs.proofs.Sources.{IsBuilt}
+use Rattle.laws_lines.specs.Regions.Names.{PlaceNamed, SymbolNamed, AreNamed}
+use Rattle.pipsmake_base.proofs.LawsStored.TableNames.{heads, filled, in_decl, commons_formed}
+use Rattle.fx_lists.proofs.Booleans.{or_turned}
+use Rattle.laws_programs.proofs.RoundtripPrograms.ModuleTexts.Cards.{Any as AnyLabel}
 
 pub formed : (m : ParsedTree) → IsBuilt m → IsFormed m
 formed m b = each-map (Held AnyLabel IsPhrase) (λ (c : Card). IsPhrase c.phrase) (statements_of m.module_read) (λ c h. h.1) b.formed
@@ -138,10 +109,6 @@ tables_shown law (m ∷ ms) (t ∷ ts) b h = (each_shown (symbol_names t) (law m
 
 pub modules_shown : NamesAreShown → BlocksHaveAChain → (ms : List ParsedTree) (ts : List (List SymbolTree)) → Each IsBuilt ms → AreTables ms ts → AreNamed IsShown (known_of ms ts)
 modules_shown names law ms ts b h = modules_named IsShown name_shown refl refl law ms ts b h (tables_shown names ms ts b h)
-
-or_turned : (a b c : Bool) → ((a || b) || c) ≡ (a || (b || c))
-or_turned true b c = refl
-or_turned false b c = refl
 
 all_in : (x : List ℕ) → skip_name x ≡ [] → IsPlain x
 all_in [] e = refl

@@ -5,22 +5,22 @@ use Rattle.affine_systems.specs.declared.row.System.{System}
 use Rattle.f77_ast.specs.Trees.{StmtTree, WhatTree, ArmTree, ArmTrees, ElseTree, LoopTree, StmtTrees}
 use Rattle.f77_ast.specs.Trees as tree
 use Rattle.f77_printer.specs.declared.added.Added.{Added}
-use Rattle.f77_results.specs.declared.results.At.{At}
-use Rattle.f77_results.specs.declared.results.Results.{Results}
+use Rattle.f77_ast.specs.declared.results.At.{At}
+use Rattle.f77_ast.specs.declared.results.Results.{Results}
 use Rattle.f77_meaning.specs.Modules.{Known, symbol_names}
-use Rattle.transformer_algebra.specs.declared.transformer.Transformer.{Transformer}
-use Rattle.transformers.specs.Lists.{value_at}
-use Rattle.scalar_phases.specs.Phases.{Analysis}
-use Rattle.claim_lines.specs.ScalarLines.{Said, holds_lines, changes_lines, does_lines, says_changes, entry_lines, said}
-use Rattle.claim_lines.specs.ScalarLines as scalar
-use Rattle.region_sets.specs.declared.region.Region.{Region}
-use Rattle.region_lines.specs.RegionLines.{set_lines, found_lines}
-use Rattle.region_lines.specs.RegionLines as region
-use Rattle.region_phases.specs.OutPhases.{ModuleOuts}
-use Rattle.loop_marker.specs.Phases.{analysis_in, known_in}
-use Rattle.roundtrip_statements.specs.Formed.{Each}
-use Rattle.roundtrip_modules.proofs.Kept.{Each-append}
-use Rattle.roundtrip_marks.specs.Directives.{is_sentinel}
+use Rattle.in_out_regions.specs.transformer_algebra.declared.transformer.Transformer.{Transformer}
+use Rattle.in_out_regions.specs.transformers.Lists.{value_at}
+use Rattle.pipsmake_base.specs.module_phases.ScalarPhases.{Analysis}
+use Rattle.pipsmake_base.specs.result_lines.ScalarLines.{Said, holds_lines, changes_lines, does_lines, says_changes, entry_lines, said}
+use Rattle.pipsmake_base.specs.result_lines.ScalarLines as scalar
+use Rattle.in_out_regions.specs.region_sets.declared.region.Region.{Region}
+use Rattle.pipsmake_base.specs.result_lines.RegionLines.{set_lines, found_lines}
+use Rattle.pipsmake_base.specs.result_lines.RegionLines as region
+use Rattle.pipsmake_base.specs.module_phases.OutPhases.{ModuleOuts}
+use Rattle.pipsmake_base.specs.loop_marker.Phases.{analysis_in, known_in}
+use Rattle.laws_programs.specs.roundtrip_programs.Statements.Formed.{Each}
+use Rattle.laws_programs.proofs.RoundtripPrograms.ModuleTexts.Kept.{Each-append}
+use Rattle.laws_lines.specs.Marks.Directives.{is_sentinel}
 use Rattle.pips_top.proofs.LinesFound.{scalar_lines_found, region_lines_found, claims_found}
 
 abbrev IsPlain : Added → Type 0

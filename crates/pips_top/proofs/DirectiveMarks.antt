@@ -4,28 +4,30 @@ use Rattle.std.specs.Prelude.{if◌then◌else◌, slice_get}
 use Rattle.std.proofs.lemmas.Bool.{eqb-true, ne_eqb}
 use Rattle.f77_ast.specs.DeclTrees.{ModuleTree}
 use Rattle.f77_meaning.specs.Modules.{known_of, symbol_names}
-use Rattle.f77_results.specs.declared.results.At.{At}
+use Rattle.f77_ast.specs.declared.results.At.{At}
 use Rattle.system_text.specs.SystemText.{name_at}
-use Rattle.transformer_algebra.specs.Laws.{In, here, there}
-use Rattle.transformers.specs.Lists.{first_at, or_first, value_at}
-use Rattle.scalar_phases.specs.Phases.{analyses}
-use Rattle.region_phases.specs.Phases.{all_regions}
-use Rattle.region_phases.specs.InPhases.{all_ins}
-use Rattle.region_phases.specs.OutPhases.{all_outs}
-use Rattle.region_sets.specs.declared.marks.Mark.{Mark}
-use Rattle.region_sets.specs.declared.marks.Mark.TheVariants.{Parallel}
-use Rattle.loop_marker.specs.Phases.{ModuleMarks, known_in}
-use Rattle.roundtrip_statements.specs.Formed.{Each}
-use Rattle.roundtrip_modules.specs.Cards.{cards_in}
-use Rattle.roundtrip_modules.specs.Numbered.{last_in, AreNumbered}
-use Rattle.roundtrip_programs.proofs.Body.{AreCards}
-use Rattle.roundtrip_marks.specs.MarkedLoops.{name_in, directives_found}
-use Rattle.roundtrip_marks.proofs.MarkNumbers.{Rise, loops_rise}
-use Rattle.roundtrip_marks.proofs.ByNumber.{directive_is_found}
+use Rattle.in_out_regions.specs.transformer_algebra.Laws.{In, here, there}
+use Rattle.in_out_regions.specs.transformers.Lists.{first_at, or_first, value_at}
+use Rattle.pipsmake_base.specs.module_phases.ScalarPhases.{analyses}
+use Rattle.pipsmake_base.specs.module_phases.RegionPhases.{all_regions}
+use Rattle.pipsmake_base.specs.module_phases.InPhases.{all_ins}
+use Rattle.pipsmake_base.specs.module_phases.OutPhases.{all_outs}
+use Rattle.f77_ast.specs.declared.marks.Mark.{Mark}
+use Rattle.f77_ast.specs.declared.marks.Mark.TheVariants.{Parallel}
+use Rattle.pipsmake_base.specs.loop_marker.Results.{ModuleResults}
+use Rattle.pipsmake_base.specs.loop_marker.Phases.{phases_of}
+use Rattle.laws_programs.specs.roundtrip_programs.Statements.Formed.{Each}
+use Rattle.laws_programs.specs.roundtrip_programs.ModuleTexts.Cards.{cards_in}
+use Rattle.laws_programs.specs.roundtrip_programs.ModuleTexts.Numbered.{last_in, AreNumbered}
+use Rattle.laws_programs.proofs.RoundtripPrograms.Body.{AreCards}
+use Rattle.laws_lines.specs.Marks.Marked.{loops_in}
+use Rattle.laws_lines.specs.Marks.MarkedLoops.{name_in, directives_found}
+use Rattle.laws_lines.proofs.Marks.MarkNumbers.{Rise, loops_rise}
+use Rattle.laws_lines.proofs.Marks.ByNumber.{directive_is_found}
 use Rattle.laws_programs.proofs.Sources.{IsBuilt}
 use Rattle.laws_analyses.specs.Coverage.{AreWhole}
 use Rattle.pips_top.specs.Program.{ProgramTree}
-use Rattle.pips_top.specs.Shown.{said_of}
+use Rattle.pips_top.specs.Shown.{results_of_program}
 use Rattle.pips_top.proofs.BlockNames.{formed}
 use Rattle.pips_top.proofs.Said.{marks_are}
 use Rattle.pips_top.proofs.ModulesSaid.{known_back}
@@ -50,7 +52,7 @@ first_there (x ∷ ms) (suc k) a b m h e =
     let it : nat_eq x.id m.id ≡ false = ne_eqb x.id m.id (λ q. omega (arith, l, q)) in
     ap (λ t. if t then Some x.value else first_at m.id ms) it ∙ first_there ms k x.id b m h.1 e
 
-value_there : (ms : List (At Mark)) (k a b : ℕ) (m : At Mark) → Rise a b (numbers ms) → slice_get ms k ≡ Some m → value_at ms m.id ≡ Some m.value
+pub value_there : (ms : List (At Mark)) (k a b : ℕ) (m : At Mark) → Rise a b (numbers ms) → slice_get ms k ≡ Some m → value_at ms m.id ≡ Some m.value
 value_there ms k a b m h e = at (nat_eq m.id 0) refl
   where
     first : first_at m.id ms ≡ Some m.value
@@ -76,33 +78,45 @@ in_list (y ∷ xs) zero x e = let same : y ≡ x = cc in subst (λ z. In x (z �
 in_list (y ∷ xs) (suc j) x e = there (in_list xs j x e)
 
 -- the DO with this number in the module of this name is parallel, with these names of its private variables
-abbrev pub IsFoundMark : List ModuleMarks → List ℕ → ℕ → List (List ℕ) → Type 0
+abbrev pub IsFoundMark : List ModuleResults → List ℕ → ℕ → List (List ℕ) → Type 0
 IsFoundMark fs x n xs =
-    (f : ModuleMarks) × In f fs × (name_in f ≡ x) × ((ns : List ℕ) × (value_at f.marks n ≡ Some (Parallel ns)) × (xs ≡ map (name_at (symbol_names (known_in f.outs).symbols)) ns))
+    (f : ModuleResults) × In f fs × (name_in f ≡ x) × ((ns : List ℕ) × (value_at f.marks n ≡ Some (Parallel ns)) × (xs ≡ map (name_at (symbol_names f.known.symbols)) ns))
 
-marks_rise : (p : ProgramTree) → AreWhole (known_of p.modules p.tables) (analyses (known_of p.modules p.tables) p.graph) → Each IsBuilt p.modules → (j : ℕ) (f : ModuleMarks) → slice_get (said_of p) j ≡ Some f
-    → Rise 0 (last_in 0 (known_in f.outs).read.body) (numbers f.marks)
-marks_rise p whole built j f e =
-    let body = (known_in f.outs).read.body in
+-- its marks are those of its DO statements
+record AreLoops (f : ModuleResults) : Type 0 where
+  count : numbers f.marks ≡ loops_in f.known.read.body
+  rise : Rise 0 (last_in 0 f.known.read.body) (numbers f.marks)
+
+marks_loops : (p : ProgramTree) → AreWhole (known_of p.modules p.tables) (analyses (known_of p.modules p.tables) p.graph) → Each IsBuilt p.modules → (j : ℕ) (f : ModuleResults) → slice_get (results_of_program p) j ≡ Some f → AreLoops f
+marks_loops p whole built j f e =
+    let body = f.known.read.body in
     let k = known_back p whole j f e in
-    let m = module_there p.modules p.tables k.0 (known_in f.outs) k.1 in
+    let m = module_there p.modules p.tables k.0 f.known k.1 in
     let b = got IsBuilt p.modules k.0 m.0 built m.1 in
     let n = subst (λ (t : ModuleTree). AreNumbered 0 t.body) m.2 b.well.body in
     let c = subst (λ (t : ModuleTree). AreCards (cards_in t.body)) m.2 (body_cards m.0.module_read (formed m.0 b)) in
     let outs = all_outs p.graph (all_ins p.graph (all_regions p.graph (analyses (known_of p.modules p.tables) p.graph))) in
-    let count = ap numbers (marks_are p.graph outs j f e) ∙ found_numbers p.graph.untracked f.outs f.effects n c in
-    subst (Rise 0 (last_in 0 body)) (sym count) (loops_rise body n)
+    let count = ap numbers (marks_are p.graph outs j f e) ∙ found_numbers p.graph.untracked (phases_of f) f.effects n c in
+    record { count = count; rise = subst (Rise 0 (last_in 0 body)) (sym count) (loops_rise body n) }
+
+pub marks_count : (p : ProgramTree) → AreWhole (known_of p.modules p.tables) (analyses (known_of p.modules p.tables) p.graph) → Each IsBuilt p.modules → (j : ℕ) (f : ModuleResults) → slice_get (results_of_program p) j ≡ Some f
+    → numbers f.marks ≡ loops_in f.known.read.body
+marks_count p whole built j f e = (marks_loops p whole built j f e).count
+
+pub marks_rise : (p : ProgramTree) → AreWhole (known_of p.modules p.tables) (analyses (known_of p.modules p.tables) p.graph) → Each IsBuilt p.modules → (j : ℕ) (f : ModuleResults) → slice_get (results_of_program p) j ≡ Some f
+    → Rise 0 (last_in 0 f.known.read.body) (numbers f.marks)
+marks_rise p whole built j f e = (marks_loops p whole built j f e).rise
 
 -- of the directives of a program that was read
 pub directive_marks : (p : ProgramTree) → AreWhole (known_of p.modules p.tables) (analyses (known_of p.modules p.tables) p.graph) → Each IsBuilt p.modules → (x : List ℕ) (n : ℕ) (xs : List (List ℕ))
-    → directives_found (said_of p) x n ≡ Some xs → IsFoundMark (said_of p) x n xs
+    → directives_found (results_of_program p) x n ≡ Some xs → IsFoundMark (results_of_program p) x n xs
 directive_marks p whole built x n xs e =
-    let d = directive_is_found (said_of p) x n xs e in
+    let d = directive_is_found (results_of_program p) x n xs e in
     let f = d.found in
     let a = d.among in
     let rise = marks_rise p whole built d.place f d.there in (
       f,
-      in_list (said_of p) d.place f d.there,
+      in_list (results_of_program p) d.place f d.there,
       d.name,
-      (a.private, value_there f.marks a.place 0 (last_in 0 (known_in f.outs).read.body) (record { id = n; value = Parallel a.private }) rise a.mark, a.named),
+      (a.private, value_there f.marks a.place 0 (last_in 0 f.known.read.body) (record { id = n; value = Parallel a.private }) rise a.mark, a.named),
     )

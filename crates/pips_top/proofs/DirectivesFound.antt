@@ -6,16 +6,16 @@ use Rattle.std.proofs.lemmas.Slice.Eq.{bytes_eq-Decides}
 use Rattle.f77_ast.specs.DeclTrees.{ModuleTree, ParsedTree}
 use Rattle.f77_ast.specs.Symbols.{SymbolTree}
 use Rattle.f77_meaning.specs.Modules.{Known, known_of}
-use Rattle.f77_results.specs.declared.results.At.{At}
-use Rattle.scalar_phases.specs.Phases.{analyses}
-use Rattle.loop_marker.specs.Phases.{ModuleMarks, known_in}
-use Rattle.roundtrip_text.specs.Texts.{module_of}
-use Rattle.roundtrip_marks.specs.MarkedLoops.{names_at, directives_of, parallel_loops, directives_found}
+use Rattle.f77_ast.specs.declared.results.At.{At}
+use Rattle.pipsmake_base.specs.module_phases.ScalarPhases.{analyses}
+use Rattle.pipsmake_base.specs.loop_marker.Results.{ModuleResults}
+use Rattle.laws_programs.specs.roundtrip_programs.Texts.Texts.{module_of}
+use Rattle.laws_lines.specs.Marks.MarkedLoops.{names_at, directives_of, parallel_loops, directives_found}
 use Rattle.laws_analyses.specs.Coverage.{AreWhole}
 use Rattle.pips_top.specs.MarkedText.{loops_of, loops_found}
 use Rattle.pips_top.specs.Program.{ProgramTree}
-use Rattle.laws_database.specs.ResultEntries.{said_for}
-use Rattle.pips_top.specs.Shown.{said_of}
+use Rattle.pipsmake_base.specs.pipsmake_meaning.ResultEntries.{results_for}
+use Rattle.pips_top.specs.Shown.{results_of_program}
 use Rattle.pips_top.proofs.Said.{name_of}
 use Rattle.pips_top.proofs.ModulesSaid.{known_back}
 
@@ -37,12 +37,12 @@ same_directives (q ∷ qs) (p ∷ ps) (ms ∷ mss) x n e =
 
 -- ---- those of the module of a name
 
-found_by_name : (fs : List ModuleMarks) (x : List ℕ) (n : ℕ) → directives_found fs x n ≡ names_at (loops_of (said_for fs x)) n
+found_by_name : (fs : List ModuleResults) (x : List ℕ) (n : ℕ) → directives_found fs x n ≡ names_at (loops_of (results_for fs x)) n
 found_by_name [] x n = refl
 found_by_name (f ∷ fs) x n = go (bytes_eq (name_of f) x) (found_by_name fs x n)
   where
-    go : (b : Bool) → directives_found fs x n ≡ names_at (loops_of (said_for fs x)) n
-        → (if b then names_at (parallel_loops f) n else directives_found fs x n) ≡ names_at (loops_of (if b then Some f else said_for fs x)) n
+    go : (b : Bool) → directives_found fs x n ≡ names_at (loops_of (results_for fs x)) n
+        → (if b then names_at (parallel_loops f) n else directives_found fs x n) ≡ names_at (loops_of (if b then Some f else results_for fs x)) n
     go true ih = refl
     go false ih = ih
 
@@ -50,12 +50,12 @@ found_by_name (f ∷ fs) x n = go (bytes_eq (name_of f) x) (found_by_name fs x n
 abbrev Named : List ParsedTree → List ℕ → Type 0
 Named ms x = (i : ℕ) × (m : ParsedTree) × (slice_get ms i ≡ Some m) × (m.module_read.name ≡ x)
 
-module _ (all : List ModuleMarks) (x : List ℕ) (n : ℕ) where
+module _ (all : List ModuleResults) (x : List ℕ) (n : ℕ) where
   abbrev own : ParsedTree → Loops
-  own m = loops_of (said_for all m.module_read.name)
+  own m = loops_of (results_for all m.module_read.name)
 
   abbrev Answer : Option (List (List ℕ))
-  Answer = names_at (loops_of (said_for all x)) n
+  Answer = names_at (loops_of (results_for all x)) n
 
   next : (m : ParsedTree) (ms : List ParsedTree) → bytes_eq m.module_read.name x ≡ false → (Answer ≡ None) ⊎ Named (m ∷ ms) x → (Answer ≡ None) ⊎ Named ms x
   next m ms q (inl e) = inl e
@@ -73,16 +73,16 @@ module _ (all : List ModuleMarks) (x : List ℕ) (n : ℕ) where
     where
       go : (b : Bool) → bytes_eq m.module_read.name x ≡ b → ((Answer ≡ None) ⊎ Named ms x → directives_of ms (map own ms) x n ≡ Answer)
           → (if b then names_at (own m) n else directives_of ms (map own ms) x n) ≡ Answer
-      go true q ih = ap (λ y. names_at (loops_of (said_for all y)) n) ((bytes_eq-Decides m.module_read.name x).0 q)
+      go true q ih = ap (λ y. names_at (loops_of (results_for all y)) n) ((bytes_eq-Decides m.module_read.name x).0 q)
       go false q ih = ih (next m ms q h)
 
 -- ---- each module that is looked up is one of the program
 
-said_there : (all : List ModuleMarks) (x : List ℕ) (f : ModuleMarks) → said_for all x ≡ Some f → (j : ℕ) × (slice_get all j ≡ Some f) × (name_of f ≡ x)
+said_there : (all : List ModuleResults) (x : List ℕ) (f : ModuleResults) → results_for all x ≡ Some f → (j : ℕ) × (slice_get all j ≡ Some f) × (name_of f ≡ x)
 said_there [] x f e = cc
 said_there (y ∷ all) x f e = go (bytes_eq (name_of y) x) refl e (said_there all x f)
   where
-    go : (b : Bool) → bytes_eq (name_of y) x ≡ b → (if b then Some y else said_for all x) ≡ Some f → (said_for all x ≡ Some f → (j : ℕ) × (slice_get all j ≡ Some f) × (name_of f ≡ x))
+    go : (b : Bool) → bytes_eq (name_of y) x ≡ b → (if b then Some y else results_for all x) ≡ Some f → (results_for all x ≡ Some f → (j : ℕ) × (slice_get all j ≡ Some f) × (name_of f ≡ x))
         → (j : ℕ) × (slice_get (y ∷ all) j ≡ Some f) × (name_of f ≡ x)
     go true q k ih =
         let same : y ≡ f = cc in
@@ -95,19 +95,19 @@ module_there (m ∷ ms) [] i k e = cc
 module_there (m ∷ ms) (t ∷ ts) zero k e = let same : record { read = m.module_read; symbols = t } ≡ k = cc in (m, refl, ap (λ (y : Known). y.read) same)
 module_there (m ∷ ms) (t ∷ ts) (suc i) k e = module_there ms ts i k e
 
-named_or_none : (p : ProgramTree) → AreWhole (known_of p.modules p.tables) (analyses (known_of p.modules p.tables) p.graph) → (x : List ℕ) (n : ℕ) (o : Option ModuleMarks) → said_for (said_of p) x ≡ o
-    → (names_at (loops_of (said_for (said_of p) x)) n ≡ None) ⊎ Named p.modules x
+named_or_none : (p : ProgramTree) → AreWhole (known_of p.modules p.tables) (analyses (known_of p.modules p.tables) p.graph) → (x : List ℕ) (n : ℕ) (o : Option ModuleResults) → results_for (results_of_program p) x ≡ o
+    → (names_at (loops_of (results_for (results_of_program p) x)) n ≡ None) ⊎ Named p.modules x
 named_or_none p whole x n None e = inl (ap (λ o. names_at (loops_of o) n) e)
 named_or_none p whole x n (Some f) e =
-    let s = said_there (said_of p) x f e in
+    let s = said_there (results_of_program p) x f e in
     let k = known_back p whole s.0 f s.1 in
-    let m = module_there p.modules p.tables k.0 (known_in f.outs) k.1 in
+    let m = module_there p.modules p.tables k.0 f.known k.1 in
     inr (k.0, m.0, m.1, ap (λ (t : ModuleTree). t.name) m.2 ∙ s.2)
 
 pub directives_are : (p q : ProgramTree) → AreWhole (known_of p.modules p.tables) (analyses (known_of p.modules p.tables) p.graph) → map module_of q.modules ≡ map module_of p.modules
-    → directives_of q.modules (loops_found p) ≡ directives_found (said_of p)
+    → directives_of q.modules (loops_found p) ≡ directives_found (results_of_program p)
 directives_are p q whole same =
     fun_ext (λ x. fun_ext (λ n.
     same_directives q.modules p.modules (loops_found p) x n same
-    ∙ by_name (said_of p) x n p.modules (named_or_none p whole x n (said_for (said_of p) x) refl)
-    ∙ sym (found_by_name (said_of p) x n)))
+    ∙ by_name (results_of_program p) x n p.modules (named_or_none p whole x n (results_for (results_of_program p) x) refl)
+    ∙ sym (found_by_name (results_of_program p) x n)))

@@ -3,10 +3,10 @@ use Rattle.std.proofs.Common.{◌≡◌, ℕ, ◌≤◌, ◌<◌, inl, inr, Bool
 use Rattle.std.specs.Prelude.{IfSome}
 use Rattle.std.proofs.lemmas.Grind.{common_steps}
 use Rattle.fx_base.specs.Files.{Files, bytes_of}
-use Rattle.base_text.specs.declared.base.Base.{Base}
-use Rattle.base_text.specs.declared.refusal.BaseRefusal.{BaseRefusal}
-use Rattle.base_text.specs.Gives.{number_of}
-use Rattle.base_text.specs.Read.{base_of}
+use Rattle.pipsmake_base.specs.base_text.declared.base.Base.{Base}
+use Rattle.pipsmake_base.specs.base_text.declared.refusal.BaseRefusal.{BaseRefusal}
+use Rattle.pipsmake_base.specs.base_text.Gives.{number_of}
+use Rattle.pipsmake_base.specs.base_text.Read.{base_of}
 use Rattle.pipsmake_base.specs.Bases.{empty_base}
 use Rattle.pips_top.specs.Answer.{Ending, EndsGot, EndsKept, EndsOpened, EndsMade, got_as, opened_as, read_or}
 use Rattle.pips_top.specs.Based.{base_limit, OpensBy}

@@ -1,36 +1,27 @@
 -- Where the written texts of all modules were made, all stored results of these modules are fresh.
-use Rattle.std.proofs.Common.{◌≡◌, ℕ, Bool, true, false, ◌||◌, List, [], ◌∷◌, ◌++◌, map, codes, Result, Ok, Err, refl, sym, ap, ap₂, ◌∙◌, subst}
+use Rattle.std.proofs.Common.{◌≡◌, ℕ, Bool, true, false, ◌||◌, List, [], ◌∷◌, ◌++◌, map, codes, refl, sym, ap, ap₂, ◌∙◌, subst}
 use Rattle.std.specs.Prelude.{if◌then◌else◌}
 use Rattle.std.specs.List.{list_all}
-use Rattle.std.proofs.lemmas.Bool.{and_parts, or_left, or_right}
+use Rattle.std.proofs.lemmas.Bool.{and_parts}
 use Rattle.call_graph.specs.declared.graph.Graph.{Graph}
-use Rattle.call_graph.specs.declared.refusal.Fault.{Fault}
-use Rattle.pipsmake_rules.specs.declared.kind.Kind.{Kind}
-use Rattle.pipsmake_rules.specs.declared.kind.Kind.TheVariants as kind
-use Rattle.pipsmake_rules.specs.declared.key.Key.{Key}
-use Rattle.pipsmake_rules.specs.Keys.{same_key, holds}
-use Rattle.pipsmake_rules.specs.Laws.{is_bottom_up}
-use Rattle.pipsmake_rules.specs.Needs.{needs_of}
-use Rattle.pipsmake_rules.proofs.KeyLaws.{same_key-true, same_key_self, holds-last, holds-more}
-use Rattle.pipsmake_rules.proofs.WalkLaws.{complete}
-use Rattle.laws_database.specs.Texts.{ModuleText, names_in, trees_in, tables_in, links_in, graph_of, graph_or_none}
-use Rattle.laws_database.specs.Laws.{walk_in}
-use Rattle.laws_database.proofs.InOrder.{bottom_up}
-use Rattle.laws_database.proofs.Modules.{linked}
-use Rattle.pipsmake_db.specs.Answers.{MakesIn, MakesPrinted}
-use Rattle.pipsmake_db.specs.Calls.{key}
-use Rattle.pipsmake_db.specs.Fresh.{key_put, keys_put}
-use Rattle.pipsmake_db.specs.State.{State}
+use Rattle.pipsmake_base.specs.pipsmake_rules.declared.kind.Kind.{Kind}
+use Rattle.pipsmake_base.specs.pipsmake_rules.declared.kind.Kind.TheVariants as kind
+use Rattle.pipsmake_base.specs.pipsmake_rules.declared.key.Key.{Key}
+use Rattle.pipsmake_base.specs.pipsmake_rules.Keys.{same_key, holds}
+use Rattle.pipsmake_base.specs.pipsmake_rules.Needs.{needs_of}
+use Rattle.pipsmake_base.proofs.PipsmakeRules.KeyLaws.{same_key-true}
+use Rattle.pipsmake_base.proofs.PipsmakeRules.WalkLaws.{complete}
+use Rattle.pipsmake_base.specs.pipsmake_meaning.Texts.{ModuleText, names_in, graph_of}
+use Rattle.pipsmake_base.specs.laws_database.Laws.{walk_in}
+use Rattle.pipsmake_base.specs.pipsmake_db.Calls.{key}
+use Rattle.pipsmake_base.specs.pipsmake_db.Fresh.{keys_put}
+use Rattle.pipsmake_base.specs.pipsmake_db.Outlines.{Outline, after_asked, after_printed}
 use Rattle.pipsmake_base.specs.Saving.{stored_kinds, fresh_keys, stored_keys}
 use Rattle.pips_top.specs.Based.{all_keys}
+use Rattle.pipsmake_base.proofs.LawsDatabase.Whole.{graph_in_order}
+use Rattle.pipsmake_base.proofs.PipsmakeDb.UpToDate.{puts_keep, puts_hold as puts_have}
 
 -- ---- results in lists
-
-first_there : (k : Key) (ks : List Key) → holds (k ∷ ks) k ≡ true
-first_there k ks = or_left (same_key k k) (holds ks k) (same_key_self k)
-
-later_there : (j k : Key) (ks : List Key) → holds ks k ≡ true → holds (j ∷ ks) k ≡ true
-later_there j k ks e = or_right (same_key j k) (holds ks k) e
 
 there_before : (ks more : List Key) (k : Key) → holds ks k ≡ true → holds (ks ++ more) k ≡ true
 there_before [] more k e = cc
@@ -55,13 +46,6 @@ placed (j ∷ js) k e = go (same_key j k) refl e (placed js k)
     go false s f later = let p = later f in record { before = j ∷ p.before; after = p.after; is = ap (λ is. j ∷ is) p.is }
 
 -- ---- the walk of a written text
-
-graph_in_order : (ts : List ModuleText) → is_bottom_up (graph_of ts) ≡ true
-graph_in_order ts = go (links_in ts) refl
-  where
-    go : (r : Result Graph Fault) → links_in ts ≡ r → is_bottom_up (graph_or_none r) ≡ true
-    go (Ok g) e = bottom_up (trees_in ts) (tables_in ts) g (linked ts g e)
-    go (Err f) e = refl
 
 -- results of these kinds of a module are in a list
 abbrev AllThere : List Key → List ℕ → List Kind → Type 0
@@ -117,57 +101,27 @@ module _ (ts : List ModuleText) (x : List ℕ) where
 
 -- ---- what is fresh
 
-put_keeps : (j k : Key) (ks : List Key) → holds ks k ≡ true → holds (key_put j ks) k ≡ true
-put_keeps j k ks e = go (holds ks j)
-  where
-    go : (b : Bool) → holds (if b then ks else ks ++ j ∷ []) k ≡ true
-    go true = e
-    go false = holds-more ks j k e
-
-put_has : (j : Key) (ks : List Key) → holds (key_put j ks) j ≡ true
-put_has j ks = go (holds ks j) refl
-  where
-    go : (b : Bool) → holds ks j ≡ b → holds (if b then ks else ks ++ j ∷ []) j ≡ true
-    go true e = e
-    go false e = holds-last ks j
-
-puts_keep : (js ks : List Key) (k : Key) → holds ks k ≡ true → holds (keys_put ks js) k ≡ true
-puts_keep [] ks k e = e
-puts_keep (j ∷ js) ks k e = puts_keep js (key_put j ks) k (put_keeps j k ks e)
-
-puts_have : (js ks : List Key) (k : Key) → holds js k ≡ true → holds (keys_put ks js) k ≡ true
-puts_have [] ks k e = cc
-puts_have (j ∷ js) ks k e = go (same_key j k) refl e (puts_have js (key_put j ks) k)
-  where
-    go : (b : Bool) → same_key j k ≡ b → (b || holds js k) ≡ true → (holds js k ≡ true → holds (keys_put (key_put j ks) js) k ≡ true) → holds (keys_put (key_put j ks) js) k ≡ true
-    go true s f later = puts_keep js (key_put j ks) k (subst (λ i. holds (key_put j ks) i ≡ true) (same_key-true j k s) (put_has j ks))
-    go false s f later = later f
-
 -- all results of stored kinds of these modules
 abbrev AllFresh : List Key → List (List ℕ) → Type 0
 AllFresh ks [] = Unit {0}
 AllFresh ks (x ∷ xs) = AllThere ks x stored_kinds × AllFresh ks xs
 
-one_fresh : (s t : State) (x : List ℕ) (now : List Key) → MakesIn s (key kind.Printed x) now t → AllThere t.fresh x stored_kinds
-one_fresh s t x now m =
-    let all = kept_there (walk_in s.texts (key kind.Printed x)) (keys_put s.fresh (walk_in s.texts (key kind.Printed x))) x stored_kinds (puts_have (walk_in s.texts (key kind.Printed x)) s.fresh) (walk_has s.texts x) in
-    subst (λ (u : State). AllThere u.fresh x stored_kinds) (sym m.1) all
+one_fresh : (o : Outline) (x : List ℕ) → AllThere (after_asked o (key kind.Printed x)).fresh x stored_kinds
+one_fresh o x = kept_there (walk_in o.texts (key kind.Printed x)) (keys_put o.fresh (walk_in o.texts (key kind.Printed x))) x stored_kinds (puts_have (walk_in o.texts (key kind.Printed x)) o.fresh) (walk_has o.texts x)
 
-one_keeps : (s t : State) (x : List ℕ) (now : List Key) → MakesIn s (key kind.Printed x) now t → (k : Key) → holds s.fresh k ≡ true → holds t.fresh k ≡ true
-one_keeps s t x now m k e = subst (λ (u : State). holds u.fresh k ≡ true) (sym m.1) (puts_keep (walk_in s.texts (key kind.Printed x)) s.fresh k e)
+all_keep : (o : Outline) (xs : List (List ℕ)) (k : Key) → holds o.fresh k ≡ true → holds (after_printed o xs).fresh k ≡ true
+all_keep o [] k e = e
+all_keep o (x ∷ xs) k e = all_keep (after_asked o (key kind.Printed x)) xs k (puts_keep (walk_in o.texts (key kind.Printed x)) o.fresh k e)
 
-all_keep : (s t : State) (xs : List (List ℕ)) (now : List Key) → MakesPrinted s xs now t → (k : Key) → holds s.fresh k ≡ true → holds t.fresh k ≡ true
-all_keep s t [] now m k e = subst (λ (u : State). holds u.fresh k ≡ true) (sym m.1) e
-all_keep s t (x ∷ xs) now m k e = all_keep m.2 t xs m.1 m.4 k (one_keeps s m.2 x m.0 m.3 k e)
+printed_fresh : (o : Outline) (xs : List (List ℕ)) → AllFresh (after_printed o xs).fresh xs
+printed_fresh o [] = tt
+printed_fresh o (x ∷ xs) =
+    let next : Outline = after_asked o (key kind.Printed x) in
+    (kept_there next.fresh (after_printed next xs).fresh x stored_kinds (all_keep next xs) (one_fresh o x), printed_fresh next xs)
 
-printed_fresh : (s t : State) (xs : List (List ℕ)) (now : List Key) → MakesPrinted s xs now t → AllFresh t.fresh xs
-printed_fresh s t [] now m = tt
-printed_fresh s t (x ∷ xs) now m =
-    (kept_there m.2.fresh t.fresh x stored_kinds (all_keep m.2 t xs m.1 m.4) (one_fresh s m.2 x m.0 m.3), printed_fresh m.2 t xs m.1 m.4)
-
-same_texts : (s t : State) (xs : List (List ℕ)) (now : List Key) → MakesPrinted s xs now t → t.texts ≡ s.texts
-same_texts s t [] now m = ap (λ (u : State). u.texts) m.1
-same_texts s t (x ∷ xs) now m = same_texts m.2 t xs m.1 m.4 ∙ ap (λ (u : State). u.texts) m.3.1
+same_texts : (o : Outline) (xs : List (List ℕ)) → (after_printed o xs).texts ≡ o.texts
+same_texts o [] = refl
+same_texts o (x ∷ xs) = same_texts (after_asked o (key kind.Printed x)) xs
 
 -- ---- what is stored of them
 
@@ -180,7 +134,7 @@ all_stored : (fresh : List Key) (xs : List (List ℕ)) → AllFresh fresh xs →
 all_stored fresh [] h = refl
 all_stored fresh (x ∷ xs) h = ap₂ (λ (own more : List Key). own ++ more) (kinds_stored fresh x stored_kinds h.0) (all_stored fresh xs h.1)
 
-pub printed_all : (s t : State) (now : List Key) → MakesPrinted s (names_in s.texts) now t → stored_keys t.fresh (names_in t.texts) ≡ all_keys (names_in t.texts)
-printed_all s t now m =
-    let e : t.texts ≡ s.texts = same_texts s t (names_in s.texts) now m in
-    subst (λ ts. stored_keys t.fresh (names_in ts) ≡ all_keys (names_in ts)) (sym e) (all_stored t.fresh (names_in s.texts) (printed_fresh s t (names_in s.texts) now m))
+pub outline_all : (o : Outline) → stored_keys (after_printed o (names_in o.texts)).fresh (names_in (after_printed o (names_in o.texts)).texts) ≡ all_keys (names_in (after_printed o (names_in o.texts)).texts)
+outline_all o =
+    let p : Outline = after_printed o (names_in o.texts) in
+    subst (λ ts. stored_keys p.fresh (names_in ts) ≡ all_keys (names_in ts)) (sym (same_texts o (names_in o.texts))) (all_stored p.fresh (names_in o.texts) (printed_fresh o (names_in o.texts)))

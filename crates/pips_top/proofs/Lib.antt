@@ -3,6 +3,8 @@ pub mod LinkLaws
 pub mod Said
 pub mod LinesFound
 pub mod Programs
+pub mod Entries
+pub mod EntryClaims
 pub mod BlockNames
 pub mod MarkNames
 pub mod ClaimsPlain
@@ -10,11 +12,13 @@ pub mod ModulesSaid
 pub mod Marking
 pub mod DirectivesFound
 pub mod DirectiveMarks
+pub mod Covering
 pub mod MarkedBack
 pub mod Interleaved
 pub mod AddedLines
 pub mod ReadBack
 pub mod LinesMeant
+pub mod ClaimsBack
 pub mod SampleSize
 pub mod Sessions
 pub mod Endings
@@ -24,4 +28,8 @@ pub mod FreshKeys
 pub mod ReadAlike
 pub mod PrintedOver
 pub mod OverBase
-pub mod SymbolLaws
+mod ExampleReading
+mod Runs
+mod Claiming
+mod Schedules
+pub mod Parts

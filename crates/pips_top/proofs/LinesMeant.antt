@@ -1,39 +1,42 @@
 -- The lines that are added to a module are those of its analysis, and each is read as what that has there.
-use Rattle.std.proofs.Common.{refl, sym, subst}
+use Rattle.std.proofs.Common.{◌≡◌, ℕ, Some, refl, sym, subst}
+use Rattle.std.specs.Prelude.{slice_get}
 use Rattle.f77_meaning.specs.Modules.{known_of, symbol_names}
-use Rattle.scalar_phases.specs.Phases.{analyses}
-use Rattle.region_phases.specs.Phases.{ModuleRegions, all_regions}
-use Rattle.region_phases.specs.InPhases.{all_ins}
-use Rattle.region_phases.specs.OutPhases.{all_outs}
-use Rattle.loop_marker.specs.Phases.{ModuleMarks, analysis_in, known_in, all_marks}
+use Rattle.pipsmake_base.specs.module_phases.ScalarPhases.{analyses}
+use Rattle.pipsmake_base.specs.module_phases.RegionPhases.{ModuleRegions, all_regions}
+use Rattle.pipsmake_base.specs.module_phases.InPhases.{all_ins}
+use Rattle.pipsmake_base.specs.module_phases.OutPhases.{all_outs}
+use Rattle.pipsmake_base.specs.loop_marker.Results.{ModuleResults}
+use Rattle.pipsmake_base.specs.loop_marker.Phases.{phases_of, analysis_in, all_marks}
 use Rattle.laws_analyses.specs.Laws.{AnalysesAreWhole}
-use Rattle.laws_layout.specs.Laws.{BlocksHaveAChain}
+use Rattle.laws_programs.specs.Layout.Laws.{BlocksHaveAChain}
 use Rattle.laws_programs.proofs.Sources.{all_built}
 use Rattle.laws_lines.specs.LineLaws.{LinesMeanResults, AnalysesAreReadBack}
 use Rattle.laws_lines.specs.NameLaws.{NamesAreWords}
-use Rattle.laws_region_lines.specs.LineLaws.{RegionLinesMean, RegionLinesMeanRegions}
-use Rattle.laws_in_lines.specs.Laws.{InLinesMean, InLinesMeanRegions}
-use Rattle.laws_out_lines.specs.Laws.{OutLinesMean, OutLinesMeanRegions}
+use Rattle.laws_lines.specs.Regions.LineLaws.{RegionLinesMean, RegionLinesMeanRegions}
+use Rattle.laws_lines.specs.Ins.Laws.{InLinesMean, InLinesMeanRegions}
+use Rattle.laws_lines.specs.Outs.Laws.{OutLinesMean, OutLinesMeanRegions}
 use Rattle.laws_lines.proofs.PhaseVars.{got_each}
-use Rattle.laws_region_lines.proofs.LinesMean.{HasNames, tables_named}
-use Rattle.laws_region_lines.proofs.ProgramRegions.{ModuleFine, ModuleTold, regions_with, all_told, modules_fine}
-use Rattle.roundtrip_regions.specs.Printed.{IsPlain}
-use Rattle.roundtrip_marks.specs.Laws.{DirectivesReadBack, ObstaclesAreNoDirectives}
+use Rattle.laws_lines.proofs.Regions.LinesMean.{tables_named}
+use Rattle.laws_lines.proofs.Regions.ProgramRegions.{ModuleFine, ModuleTold, regions_with, all_told, modules_fine}
+use Rattle.laws_lines.specs.RegionTexts.Printed.{IsPlain}
+use Rattle.laws_lines.specs.Marks.Laws.{DirectivesReadBack, ObstaclesAreNoDirectives}
 use Rattle.pips_top.specs.Claimed.{AreRead}
-use Rattle.laws_database.specs.ProgramTexts.{lines_with}
+use Rattle.pipsmake_base.specs.laws_database.ProgramTexts.{lines_with}
 use Rattle.pips_top.specs.Laws.{ReadLinesMean}
 use Rattle.pips_top.specs.MarksRead.{AreMarksRead}
-use Rattle.result_lines.specs.declared.show.Show.{Show}
+use Rattle.pipsmake_base.specs.result_lines.declared.show.Show.{Show}
 use Rattle.pips_top.proofs.BlockNames.{modules_plain}
 use Rattle.pips_top.proofs.LinesFound.{lines_in}
 use Rattle.pips_top.proofs.Programs.{is_program, each_at}
 use Rattle.pips_top.proofs.MarkNames.{MarksNamed, found_named, marks_read}
 use Rattle.pips_top.proofs.ModulesSaid.{Once, own_found}
 use Rattle.pips_top.proofs.Said.{regions_at, said_at, ins_at, outs_at, marks_are, said_once}
+use Rattle.laws_lines.proofs.ProgramLines.{HasNames}
 
 -- the lines of a module
-lines_read : (show : Show) (f : ModuleMarks) → LinesMeanResults (analysis_in f.outs) → RegionLinesMean f.outs.known.known → InLinesMean f.outs.known → OutLinesMean f.outs
-    → AreMarksRead (symbol_names (known_in f.outs).symbols) f.marks → AreRead show f (lines_in show f)
+lines_read : (show : Show) (f : ModuleResults) → LinesMeanResults (analysis_in (phases_of f)) → RegionLinesMean (phases_of f).known.known → InLinesMean (phases_of f).known → OutLinesMean (phases_of f)
+    → AreMarksRead (symbol_names f.known.symbols) f.marks → AreRead show f (lines_in show f)
 lines_read show f on_scalars on_regions on_ins on_outs on_marks = record { parts = refl; scalars = on_scalars; regions = on_regions; ins = on_ins; outs = on_outs; marks = on_marks }
 
 pub lines_from : AnalysesAreWhole → AnalysesAreReadBack → NamesAreWords → BlocksHaveAChain → RegionLinesMeanRegions → InLinesMeanRegions → OutLinesMeanRegions → DirectivesReadBack → ObstaclesAreNoDirectives → ReadLinesMean
@@ -53,14 +56,14 @@ lines_from whole back words blocks on_regions on_ins on_outs directives obstacle
     let out_means = on_outs p.modules p.tables p.graph i.tables named plain in
     λ j f there_is. subst (λ o. AreRead show f (lines_with show o)) (sym (own_found all once j f there_is))
     (let out = outs_at p.graph outs j f there_is in
-    let here = ins_at p.graph ins out.0 f.outs out.1 in
-    let at = said_at p.graph found here.0 f.outs.known here.1 in
-    let there = regions_at p.graph regions here.0 f.outs.known here.1 in
+    let here = ins_at p.graph ins out.0 (phases_of f) out.1 in
+    let at = said_at p.graph found here.0 (phases_of f).known here.1 in
+    let there = regions_at p.graph regions here.0 (phases_of f).known here.1 in
     let u = p.graph.untracked in
-    let names = symbol_names (known_in f.outs).symbols in
-    let told = got_each (ModuleTold IsPlain u) found at.0 (analysis_in f.outs) (all_told IsPlain p.modules p.tables p.graph i.tables plain) at.1 in
-    let fine = got_each (ModuleFine IsPlain u) regions here.0 f.outs.known.known (modules_fine IsPlain p.modules p.tables p.graph i.tables plain) there in
-    let are = got_each (λ (r : ModuleRegions). HasNames r.analysis.found.known) regions here.0 f.outs.known.known (regions_with HasNames (known_of p.modules p.tables) p.graph (tables_named p.modules p.tables i.tables named)) there in
-    let marks = subst (MarksNamed IsPlain names) (sym (marks_are p.graph outs j f there_is)) (found_named IsPlain u f.outs f.effects told fine) in
-    lines_read show f (each_at LinesMeanResults found read at.0 (analysis_in f.outs) at.1) (each_at RegionLinesMean regions means here.0 f.outs.known.known there)
-    (each_at InLinesMean ins in_means here.0 f.outs.known here.1) (each_at OutLinesMean outs out_means out.0 f.outs out.1) (marks_read directives obstacles IsPlain names are f.marks marks))
+    let names = symbol_names f.known.symbols in
+    let told = got_each (ModuleTold IsPlain u) found at.0 (analysis_in (phases_of f)) (all_told IsPlain p.modules p.tables p.graph i.tables plain) at.1 in
+    let fine = got_each (ModuleFine IsPlain u) regions here.0 (phases_of f).known.known (modules_fine IsPlain p.modules p.tables p.graph i.tables plain) there in
+    let are = got_each (λ (r : ModuleRegions). HasNames r.analysis.found.known) regions here.0 (phases_of f).known.known (regions_with HasNames (known_of p.modules p.tables) p.graph (tables_named p.modules p.tables i.tables named)) there in
+    let marks = subst (MarksNamed IsPlain names) (sym (marks_are p.graph outs j f there_is)) (found_named IsPlain u (phases_of f) f.effects told fine) in
+    lines_read show f (each_at LinesMeanResults found read at.0 (analysis_in (phases_of f)) at.1) (each_at RegionLinesMean regions means here.0 (phases_of f).known.known there)
+    (each_at InLinesMean ins in_means here.0 (phases_of f).known here.1) (each_at OutLinesMean outs out_means out.0 (phases_of f) out.1) (marks_read directives obstacles IsPlain names are f.marks marks))

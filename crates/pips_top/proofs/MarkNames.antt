@@ -12,40 +12,40 @@ use Rattle.f77_ast.specs.declared.variable.Unit.{Unit as BlockUnit}
 use Rattle.f77_ast.specs.declared.variable.Variable.{Variable}
 use Rattle.f77_ast.specs.declared.variable.Variable.TheVariants.{Own, Block, Saved}
 use Rattle.f77_meaning.specs.Modules.{Known, symbol_names}
-use Rattle.f77_results.specs.Variables.{variable_cmp, merged, union}
-use Rattle.f77_results.specs.declared.effect_set.EffectSet.{EffectSet}
-use Rattle.f77_results.specs.declared.results.At.{At}
-use Rattle.f77_results.specs.declared.results.Results.{Results}
-use Rattle.transformer_algebra.specs.declared.transformer.Transformer.{Transformer}
-use Rattle.transformers.specs.Lists.{transformer_at}
-use Rattle.scalar_phases.specs.Phases.{Analysis, scope_of}
-use Rattle.region_sets.specs.declared.region.Region.{Region}
-use Rattle.region_sets.specs.declared.marks.Reason.{Reason}
-use Rattle.region_sets.specs.declared.marks.Reason.TheVariants.{Jump, InputOutput, Step, Index, Carries}
-use Rattle.region_sets.specs.declared.marks.Mark.{Mark}
-use Rattle.region_sets.specs.declared.marks.Mark.TheVariants.{Parallel, Serial}
-use Rattle.region_sets.specs.Lists.{accesses_at, list_regions}
-use Rattle.privatizer.specs.Uses.{Uses}
-use Rattle.loop_marker.specs.declared.verdict.Verdict.{Verdict}
-use Rattle.loop_marker.specs.declared.verdict.Verdict.TheVariants.{Free, Copied, Bad}
-use Rattle.loop_marker.specs.Jumps.{may_jump, may_have_io, body_of}
-use Rattle.loop_marker.specs.Variables.{own_variable, index_of, the_indexes, in_order_with, indexes_in, is_write, written_in}
-use Rattle.loop_marker.specs.Marks.{Knowledge, index_is_bad, with_own, verdict_of, by_verdict, marked, by_variables, has_step, by_index, by_step, by_io, mark_of, the_marks, marks_of}
-use Rattle.loop_marker.specs.Known.{knowledge_of}
-use Rattle.region_phases.specs.OutPhases.{ModuleOuts}
-use Rattle.loop_marker.specs.Phases.{analysis_in, known_in, marks_found}
+use Rattle.f77_ast.specs.Variables.{variable_cmp, merged, union}
+use Rattle.f77_ast.specs.declared.effect_set.EffectSet.{EffectSet}
+use Rattle.f77_ast.specs.declared.results.At.{At}
+use Rattle.f77_ast.specs.declared.results.Results.{Results}
+use Rattle.in_out_regions.specs.transformer_algebra.declared.transformer.Transformer.{Transformer}
+use Rattle.in_out_regions.specs.transformers.Lists.{transformer_at}
+use Rattle.pipsmake_base.specs.module_phases.ScalarPhases.{Analysis, scope_of}
+use Rattle.in_out_regions.specs.region_sets.declared.region.Region.{Region}
+use Rattle.f77_ast.specs.declared.marks.Reason.{Reason}
+use Rattle.f77_ast.specs.declared.marks.Reason.TheVariants.{Jump, InputOutput, Step, Index, Carries}
+use Rattle.f77_ast.specs.declared.marks.Mark.{Mark}
+use Rattle.f77_ast.specs.declared.marks.Mark.TheVariants.{Parallel, Serial}
+use Rattle.in_out_regions.specs.region_sets.Lists.{accesses_at, list_regions}
+use Rattle.pipsmake_base.specs.privatizer.Uses.{Uses}
+use Rattle.pipsmake_base.specs.loop_marker.declared.verdict.Verdict.{Verdict}
+use Rattle.pipsmake_base.specs.loop_marker.declared.verdict.Verdict.TheVariants.{Free, Copied, Bad}
+use Rattle.pipsmake_base.specs.loop_marker.Jumps.{may_jump, may_have_io, body_of}
+use Rattle.pipsmake_base.specs.loop_marker.Variables.{own_variable, index_of, the_indexes, in_order_with, indexes_in, is_write, written_in}
+use Rattle.pipsmake_base.specs.loop_marker.Marks.{Knowledge, index_is_bad, with_own, verdict_of, by_verdict, marked, by_variables, has_step, by_index, by_step, by_io, mark_of, the_marks, marks_of}
+use Rattle.pipsmake_base.specs.loop_marker.Known.{knowledge_of}
+use Rattle.pipsmake_base.specs.module_phases.OutPhases.{ModuleOuts}
+use Rattle.pipsmake_base.specs.loop_marker.Phases.{analysis_in, known_in, marks_found}
 use Rattle.laws_lines.specs.Laws.{IsTracked}
 use Rattle.laws_lines.proofs.PhaseVars.{value_is}
-use Rattle.laws_region_lines.proofs.AccessVars.{IsNamedBy, named_number}
-use Rattle.laws_region_lines.proofs.RegionVars.{AreFine, at_fine, list_fine}
-use Rattle.laws_region_lines.proofs.ProgramRegions.{found_done, IsNamedHere, ModuleFine, ModuleTold}
-use Rattle.roundtrip_statements.specs.Formed.{Each}
-use Rattle.roundtrip_modules.proofs.Kept.{Each-append}
-use Rattle.roundtrip_programs.specs.Lines.{IsShown}
-use Rattle.roundtrip_regions.specs.Laws.{IsShownVariable}
-use Rattle.roundtrip_systems.specs.Printed.{IsNumber, AreNumbers, AreNames}
-use Rattle.roundtrip_marks.specs.Lines.{IsShownMark, AreShownMarks}
-use Rattle.roundtrip_marks.specs.Laws.{DirectivesReadBack, ObstaclesAreNoDirectives}
+use Rattle.laws_lines.proofs.Regions.AccessVars.{IsNamedBy, named_number}
+use Rattle.laws_lines.proofs.Regions.RegionVars.{AreFine, at_fine, list_fine}
+use Rattle.laws_lines.proofs.Regions.ProgramRegions.{found_done, IsNamedHere, ModuleFine, ModuleTold}
+use Rattle.laws_programs.specs.roundtrip_programs.Statements.Formed.{Each}
+use Rattle.laws_programs.proofs.RoundtripPrograms.ModuleTexts.Kept.{Each-append}
+use Rattle.laws_programs.specs.roundtrip_programs.Lines.{IsShown}
+use Rattle.laws_lines.specs.RegionTexts.Laws.{IsShownVariable}
+use Rattle.system_text.specs.Printed.{IsNumber, AreNumbers, AreNames}
+use Rattle.laws_lines.specs.Marks.Lines.{IsShownMark, AreShownMarks}
+use Rattle.laws_lines.specs.Marks.Laws.{DirectivesReadBack, ObstaclesAreNoDirectives}
 use Rattle.pips_top.specs.MarksRead.{IsMarkRead, AreMarksRead}
 
 -- ---- what holds of each part that a walk puts together

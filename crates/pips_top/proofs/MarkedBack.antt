@@ -3,32 +3,32 @@ use Rattle.std.proofs.Common.{◌≡◌, ℕ, List, map, Option, Some, None, ref
 use Rattle.std.proofs.Math.Path.{fun_ext}
 use Rattle.f77_ast.specs.DeclTrees.{ParsedTree}
 use Rattle.f77_printer.specs.declared.added.Added.{Added}
-use Rattle.f77_results.specs.declared.results.At.{At}
-use Rattle.loop_marker.specs.Phases.{ModuleMarks}
-use Rattle.roundtrip_text.specs.Texts as back
-use Rattle.roundtrip_text.specs.Laws.{AllPassedOver}
-use Rattle.roundtrip_programs.specs.Lines.{LinesArePassedOver}
-use Rattle.roundtrip_programs.specs.Programs.{NamesAreShown}
-use Rattle.roundtrip_marks.specs.Marked.{ReadMarked}
-use Rattle.roundtrip_marks.specs.MarkedLoops.{parallel_in}
-use Rattle.roundtrip_marks.specs.Laws.{MarkLinesArePassedOver}
-use Rattle.roundtrip_marks.specs.WholeLaws.{with_marks, MarksReadBack}
-use Rattle.roundtrip_marks.proofs.Unique.{one_reading}
-use Rattle.laws_layout.specs.Laws.{BlocksHaveAChain}
+use Rattle.f77_ast.specs.declared.results.At.{At}
+use Rattle.pipsmake_base.specs.loop_marker.Results.{ModuleResults}
+use Rattle.laws_programs.specs.roundtrip_programs.Texts.Texts as back
+use Rattle.laws_programs.specs.roundtrip_programs.Texts.Laws.{AllPassedOver}
+use Rattle.laws_programs.specs.roundtrip_programs.Lines.{LinesArePassedOver}
+use Rattle.laws_programs.specs.roundtrip_programs.Programs.{NamesAreShown}
+use Rattle.laws_lines.specs.Marks.Marked.{ReadMarked}
+use Rattle.laws_lines.specs.Marks.MarkedLoops.{parallel_in}
+use Rattle.laws_lines.specs.Marks.Laws.{MarkLinesArePassedOver}
+use Rattle.laws_lines.specs.Marks.WholeLaws.{with_marks, MarksReadBack}
+use Rattle.laws_lines.proofs.Marks.Unique.{one_reading}
+use Rattle.laws_programs.specs.Layout.Laws.{BlocksHaveAChain}
 use Rattle.laws_programs.proofs.Sources.{all_built}
 use Rattle.laws_analyses.specs.Laws.{AnalysesAreWhole}
 use Rattle.laws_lines.specs.NameLaws.{NamesAreWords}
-use Rattle.laws_region_lines.specs.LineLaws.{AllRegionLinesPass}
-use Rattle.laws_region_lines.proofs.LinesMean.{tables_named}
-use Rattle.laws_in_lines.specs.Laws.{AllInLinesPass}
-use Rattle.laws_out_lines.specs.Laws.{AllOutLinesPass}
+use Rattle.laws_lines.specs.Regions.LineLaws.{AllRegionLinesPass}
+use Rattle.laws_lines.proofs.Regions.LinesMean.{tables_named}
+use Rattle.laws_lines.specs.Ins.Laws.{AllInLinesPass}
+use Rattle.laws_lines.specs.Outs.Laws.{AllOutLinesPass}
 use Rattle.pips_top.specs.Laws.{ReadWrittenBack, ReadMarkedBack}
 use Rattle.pips_top.specs.MarkedText.{loops_of, loops_found}
 use Rattle.pips_top.specs.Program.{ProgramTree}
-use Rattle.laws_database.specs.ResultEntries.{said_for}
-use Rattle.pips_top.specs.Shown.{said_of, lines_for}
+use Rattle.pipsmake_base.specs.pipsmake_meaning.ResultEntries.{results_for}
+use Rattle.pips_top.specs.Shown.{results_of_program, lines_for}
 use Rattle.pips_top.specs.Written.{written}
-use Rattle.result_lines.specs.declared.show.Show.{Show}
+use Rattle.pipsmake_base.specs.result_lines.declared.show.Show.{Show}
 use Rattle.pips_top.proofs.Programs.{is_program}
 use Rattle.pips_top.proofs.BlockNames.{modules_shown}
 use Rattle.pips_top.proofs.AddedLines.{all_said, all_over}
@@ -36,16 +36,16 @@ use Rattle.pips_top.proofs.ReadBack.{is_read, text_same}
 use Rattle.pips_top.proofs.Marking.{names_of, marks_of, shows_why, others_of, lines_parts, all_marked}
 use Rattle.pips_top.proofs.DirectivesFound.{directives_are}
 
-loops_parts : (o : Option ModuleMarks) → parallel_in (names_of o) (marks_of o) ≡ loops_of o
+loops_parts : (o : Option ModuleResults) → parallel_in (names_of o) (marks_of o) ≡ loops_of o
 loops_parts None = refl
 loops_parts (Some f) = refl
 
 module _ (show : Show) (p : ProgramTree) where
-  abbrev found : ParsedTree → Option ModuleMarks
-  found m = said_for (said_of p) m.module_read.name
+  abbrev found : ParsedTree → Option ModuleResults
+  found m = results_for (results_of_program p) m.module_read.name
 
   abbrev added : ParsedTree → List Added
-  added m = lines_for show (said_of p) m.module_read.name
+  added m = lines_for show (results_of_program p) m.module_read.name
 
   abbrev parts : ParsedTree → List Added
   parts = with_marks (λ m. names_of (found m)) (shows_why show) (λ m. marks_of (found m)) (λ m. others_of show (found m))
@@ -57,7 +57,7 @@ module _ (show : Show) (p : ProgramTree) where
   parts_over h = subst (λ (a : ParsedTree → List Added). AllPassedOver a p.modules) added_same h
 
   parts_text : back.modules_text parts p.modules ≡ written show p
-  parts_text = sym (text_same show (said_of p) p.modules ∙ ap (λ (a : ParsedTree → List Added). back.modules_text a p.modules) added_same)
+  parts_text = sym (text_same show (results_of_program p) p.modules ∙ ap (λ (a : ParsedTree → List Added). back.modules_text a p.modules) added_same)
 
   parts_loops : map (λ (m : ParsedTree). parallel_in (names_of (found m)) (marks_of (found m))) p.modules ≡ loops_found p
   parts_loops = ap (λ (h : ParsedTree → List (At (List (List ℕ)))). map h p.modules) (fun_ext (λ m. loops_parts (found m)))
@@ -71,7 +71,7 @@ marked_from law whole words lines on_regions on_ins on_outs on_marks names block
     let are = tables_named p.modules p.tables i.tables (words i.lines p.modules p.tables i.parsed i.tables) in
     let m =
     law bytes p.modules (λ m. names_of (found show p m)) (shows_why show) (λ m. marks_of (found show p m)) (λ m. others_of show (found show p m)) (is_read bytes p e).read
-    (parts_over show p (all_over lines show (said_of p) said p.modules)) (all_marked p show all i.tables built are said) in
+    (parts_over show p (all_over lines show (results_of_program p) said p.modules)) (all_marked p show all i.tables built are said) in
     let b = back show bytes p e in
     let q = b.0 in
     let text = subst (λ t. ReadMarked t m.again (map (λ (n : ParsedTree). parallel_in (names_of (found show p n)) (marks_of (found show p n))) p.modules)) (parts_text show p) m.read in

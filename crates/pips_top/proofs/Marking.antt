@@ -8,55 +8,56 @@ use Rattle.f77_printer.specs.declared.added.Added.{Added}
 use Rattle.f77_ast.specs.Symbols.{SymbolTree}
 use Rattle.f77_ast.specs.declared.variable.Unit.{Unit as BlockUnit}
 use Rattle.f77_meaning.specs.Modules.{Known, known_of, symbol_names}
-use Rattle.f77_results.specs.declared.effect_set.EffectSet.{EffectSet}
-use Rattle.f77_results.specs.declared.results.At.{At}
-use Rattle.f77_results.specs.declared.results.Results.{Results}
-use Rattle.scalar_phases.specs.Phases.{analyses, scope_of}
-use Rattle.region_phases.specs.Phases.{all_regions}
-use Rattle.region_phases.specs.InPhases.{all_ins}
-use Rattle.region_phases.specs.OutPhases.{ModuleOuts, all_outs}
-use Rattle.region_sets.specs.declared.marks.Mark.{Mark}
-use Rattle.region_sets.specs.declared.marks.Mark.TheVariants.{Parallel, Serial}
-use Rattle.loop_marker.specs.Known.{knowledge_of}
-use Rattle.loop_marker.specs.Marks.{mark_of}
-use Rattle.mark_lines.specs.MarkLines.{mark_lines_of}
-use Rattle.loop_marker.specs.Phases.{ModuleMarks, analysis_in, known_in, marks_found}
-use Rattle.roundtrip_statements.specs.Formed.{Each}
-use Rattle.roundtrip_modules.specs.Cards.{card, title_cards, decl_cards, cards_in, statements_of}
-use Rattle.roundtrip_modules.specs.Numbered.{AreNumbered}
-use Rattle.roundtrip_programs.specs.Lines.{IsShown, AreShown}
-use Rattle.roundtrip_programs.proofs.Body.{AreCards}
-use Rattle.roundtrip_systems.specs.Printed.{AreNames}
-use Rattle.roundtrip_marks.specs.Marked.{loops_in}
-use Rattle.roundtrip_marks.specs.Lines.{IsNumberedMark, AreNumberedMarks}
-use Rattle.roundtrip_marks.specs.WholeLaws.{IsMarking, IsMarked}
-use Rattle.roundtrip_marks.proofs.MarkNumbers.{marks_numbers}
+use Rattle.f77_ast.specs.declared.effect_set.EffectSet.{EffectSet}
+use Rattle.f77_ast.specs.declared.results.At.{At}
+use Rattle.f77_ast.specs.declared.results.Results.{Results}
+use Rattle.pipsmake_base.specs.module_phases.ScalarPhases.{analyses, scope_of}
+use Rattle.pipsmake_base.specs.module_phases.RegionPhases.{all_regions}
+use Rattle.pipsmake_base.specs.module_phases.InPhases.{all_ins}
+use Rattle.pipsmake_base.specs.module_phases.OutPhases.{ModuleOuts, all_outs}
+use Rattle.f77_ast.specs.declared.marks.Mark.{Mark}
+use Rattle.f77_ast.specs.declared.marks.Mark.TheVariants.{Parallel, Serial}
+use Rattle.pipsmake_base.specs.loop_marker.Known.{knowledge_of}
+use Rattle.pipsmake_base.specs.loop_marker.Marks.{mark_of}
+use Rattle.pipsmake_base.specs.result_lines.MarkLines.{mark_lines_of}
+use Rattle.pipsmake_base.specs.loop_marker.Results.{ModuleResults}
+use Rattle.pipsmake_base.specs.loop_marker.Phases.{phases_of, analysis_in, known_in, marks_found}
+use Rattle.laws_programs.specs.roundtrip_programs.Statements.Formed.{Each}
+use Rattle.laws_programs.specs.roundtrip_programs.ModuleTexts.Cards.{card, title_cards, decl_cards, cards_in, statements_of}
+use Rattle.laws_programs.specs.roundtrip_programs.ModuleTexts.Numbered.{AreNumbered}
+use Rattle.laws_programs.specs.roundtrip_programs.Lines.{IsShown, AreShown}
+use Rattle.laws_programs.proofs.RoundtripPrograms.Body.{AreCards, left_of, right_of}
+use Rattle.system_text.specs.Printed.{AreNames}
+use Rattle.laws_lines.specs.Marks.Marked.{loops_in}
+use Rattle.laws_lines.specs.Marks.Lines.{IsNumberedMark, AreNumberedMarks}
+use Rattle.laws_lines.specs.Marks.WholeLaws.{IsMarking, IsMarked}
+use Rattle.laws_lines.proofs.Marks.MarkNumbers.{marks_numbers}
 use Rattle.laws_programs.proofs.Sources.{IsBuilt}
 use Rattle.laws_programs.specs.Programs.{AreTables}
 use Rattle.laws_analyses.specs.Coverage.{AreWhole}
 use Rattle.laws_lines.proofs.PhaseVars.{EachOf, got_each}
-use Rattle.laws_region_lines.proofs.LinesMean.{HasNames}
 use Rattle.pips_top.specs.Program.{ProgramTree}
-use Rattle.laws_database.specs.ResultEntries.{said_for}
-use Rattle.laws_database.specs.ProgramTexts.{lines_with}
-use Rattle.pips_top.specs.Shown.{said_of}
-use Rattle.result_lines.specs.declared.show.Show.{Show}
-use Rattle.result_lines.specs.declared.show.Show.TheVariants.{All, Bare, Why}
+use Rattle.pipsmake_base.specs.pipsmake_meaning.ResultEntries.{results_for}
+use Rattle.pipsmake_base.specs.laws_database.ProgramTexts.{lines_with}
+use Rattle.pips_top.specs.Shown.{results_of_program}
+use Rattle.pipsmake_base.specs.result_lines.declared.show.Show.{Show}
+use Rattle.pipsmake_base.specs.result_lines.declared.show.Show.TheVariants.{All, Bare, Why}
 use Rattle.pips_top.proofs.LinesFound.{claims_found}
-use Rattle.pips_top.proofs.BlockNames.{left_of, right_of, formed}
+use Rattle.pips_top.proofs.BlockNames.{formed}
 use Rattle.pips_top.proofs.MarkNames.{MarkNamed, MarksNamed}
 use Rattle.pips_top.proofs.ClaimsPlain.{ArePlain, claims_plain}
 use Rattle.pips_top.proofs.Said.{marks_are}
 use Rattle.pips_top.proofs.ModulesSaid.{IsOwn, each_own, known_there}
 use Rattle.pips_top.proofs.AddedLines.{IsSaid}
+use Rattle.laws_lines.proofs.ProgramLines.{HasNames}
 
 -- ---- the lines that are added to a module: those of its marks behind others
 
-abbrev pub names_of : Option ModuleMarks → List (List ℕ)
+abbrev pub names_of : Option ModuleResults → List (List ℕ)
 names_of None = []
-names_of (Some f) = symbol_names (known_in f.outs).symbols
+names_of (Some f) = symbol_names f.known.symbols
 
-abbrev pub marks_of : Option ModuleMarks → List (At Mark)
+abbrev pub marks_of : Option ModuleResults → List (At Mark)
 marks_of None = []
 marks_of (Some f) = f.marks
 
@@ -65,13 +66,13 @@ shows_why All = true
 shows_why Bare = false
 shows_why Why = true
 
-abbrev pub others_of : Show → Option ModuleMarks → List Added
+abbrev pub others_of : Show → Option ModuleResults → List Added
 others_of show None = []
-others_of All (Some f) = claims_found f.outs
+others_of All (Some f) = claims_found (phases_of f)
 others_of Bare (Some f) = []
 others_of Why (Some f) = []
 
-pub lines_parts : (show : Show) (o : Option ModuleMarks) → lines_with show o ≡ others_of show o ++ mark_lines_of (names_of o) (shows_why show) (marks_of o)
+pub lines_parts : (show : Show) (o : Option ModuleResults) → lines_with show o ≡ others_of show o ++ mark_lines_of (names_of o) (shows_why show) (marks_of o)
 lines_parts All None = refl
 lines_parts Bare None = refl
 lines_parts Why None = refl
@@ -79,11 +80,11 @@ lines_parts All (Some f) = refl
 lines_parts Bare (Some f) = refl
 lines_parts Why (Some f) = refl
 
-others_plain : (show : Show) (o : Option ModuleMarks) → ArePlain (others_of show o)
+others_plain : (show : Show) (o : Option ModuleResults) → ArePlain (others_of show o)
 others_plain All None = tt
 others_plain Bare None = tt
 others_plain Why None = tt
-others_plain All (Some f) = claims_plain f.outs
+others_plain All (Some f) = claims_plain (phases_of f)
 others_plain Bare (Some f) = tt
 others_plain Why (Some f) = tt
 
@@ -112,7 +113,7 @@ numbered names [] h = tt
 numbered names (m ∷ ms) h = (numbered_mark names m.value h.first, numbered names ms h.others)
 
 -- of a module with this tree
-record IsGood (show : Show) (m : ModuleTree) (o : Option ModuleMarks) : Type 0 where
+record IsGood (show : Show) (m : ModuleTree) (o : Option ModuleResults) : Type 0 where
   named : AreNames (names_of o)
   shown : AreShown (names_of o)
   marking : IsMarking (names_of o) m.body (marks_of o)
@@ -127,7 +128,7 @@ each_from P [] h = tt
 each_from P (x ∷ xs) h = record { first = h zero x refl; others = each_from P xs (λ j y e. h (suc j) y e) }
 
 module _ (p : ProgramTree) (show : Show) (whole : AreWhole (known_of p.modules p.tables) (analyses (known_of p.modules p.tables) p.graph)) (tables : AreTables p.modules p.tables)
-    (built : Each IsBuilt p.modules) (are : EachOf HasNames (known_of p.modules p.tables)) (said : Each IsSaid (said_of p)) where
+    (built : Each IsBuilt p.modules) (are : EachOf HasNames (known_of p.modules p.tables)) (said : Each IsSaid (results_of_program p)) where
   abbrev ks : List Known
   ks = known_of p.modules p.tables
 
@@ -135,16 +136,16 @@ module _ (p : ProgramTree) (show : Show) (whole : AreWhole (known_of p.modules p
   outs = all_outs p.graph (all_ins p.graph (all_regions p.graph (analyses ks p.graph)))
 
   good_at : (i : ℕ) (m : ParsedTree) (ss : List SymbolTree) → slice_get p.modules i ≡ Some m → slice_get ks i ≡ Some (record { read = m.module_read; symbols = ss })
-      → IsOwn p (record { read = m.module_read; symbols = ss }) → IsGood show m.module_read (said_for (said_of p) m.module_read.name)
+      → IsOwn p (record { read = m.module_read; symbols = ss }) → IsGood show m.module_read (results_for (results_of_program p) m.module_read.name)
   good_at i m ss e k own =
       let this : Known = record { read = m.module_read; symbols = ss } in
       let f = own.found in
       let b = got IsBuilt p.modules i m built e in
-      let names = symbol_names (known_in f.outs).symbols in
-      let is = got IsSaid (said_of p) own.place f said own.there in
-      let read : m.module_read ≡ (known_in f.outs).read = ap (λ (x : Known). x.read) (sym own.known) in
+      let names = symbol_names f.known.symbols in
+      let is = got IsSaid (results_of_program p) own.place f said own.there in
+      let read : m.module_read ≡ f.known.read = ap (λ (x : Known). x.read) (sym own.known) in
       let found = marks_are p.graph outs own.place f own.there in
-      let count = found_numbers p.graph.untracked f.outs f.effects (subst (λ (t : ModuleTree). AreNumbered 0 t.body) read b.well.body) (subst (λ (t : ModuleTree). AreCards (cards_in t.body)) read (body_cards m.module_read (formed m b))) in
+      let count = found_numbers p.graph.untracked (phases_of f) f.effects (subst (λ (t : ModuleTree). AreNumbered 0 t.body) read b.well.body) (subst (λ (t : ModuleTree). AreCards (cards_in t.body)) read (body_cards m.module_read (formed m b))) in
       let here : IsGood show m.module_read (Some f) = record {
         named = subst HasNames (sym own.known) (got_each HasNames ks i this are k);
         shown = is.names;
@@ -153,19 +154,19 @@ module _ (p : ProgramTree) (show : Show) (whole : AreWhole (known_of p.modules p
       subst (IsGood show m.module_read) (sym own.own) here
 
   abbrev pub names : ParsedTree → List (List ℕ)
-  names m = names_of (said_for (said_of p) m.module_read.name)
+  names m = names_of (results_for (results_of_program p) m.module_read.name)
 
   abbrev pub marks : ParsedTree → List (At Mark)
-  marks m = marks_of (said_for (said_of p) m.module_read.name)
+  marks m = marks_of (results_for (results_of_program p) m.module_read.name)
 
   abbrev pub others : ParsedTree → List Added
-  others m = others_of show (said_for (said_of p) m.module_read.name)
+  others m = others_of show (results_for (results_of_program p) m.module_read.name)
 
   marked_at : (i : ℕ) (m : ParsedTree) → slice_get p.modules i ≡ Some m → IsMarked names marks others m
   marked_at i m e =
       let t = known_there p.modules p.tables i m tables e in
       let g = good_at i m t.0 e t.1 (each_own p whole i (record { read = m.module_read; symbols = t.0 }) t.1) in
-      record { named = g.named; shown = g.shown; marking = g.marking; plain = others_plain show (said_for (said_of p) m.module_read.name) }
+      record { named = g.named; shown = g.shown; marking = g.marking; plain = others_plain show (results_for (results_of_program p) m.module_read.name) }
 
   pub all_marked : Each (IsMarked names marks others) p.modules
   all_marked = each_from (IsMarked names marks others) p.modules marked_at

@@ -8,20 +8,21 @@ use Rattle.f77_ast.specs.Symbols.{SymbolTree}
 use Rattle.f77_ast.specs.declared.variable.Unit.{Unit as BlockUnit}
 use Rattle.call_graph.specs.declared.graph.Graph.{Graph}
 use Rattle.f77_meaning.specs.Modules.{Known, known_of}
-use Rattle.effects.specs.List as effects
-use Rattle.array_regions.specs.Calls.{Callees}
-use Rattle.scalar_phases.specs.Phases.{Analysis, analyses}
-use Rattle.region_phases.specs.Phases.{ModuleRegions, no_callees, with_callee, with_regions, found_in, all_regions}
-use Rattle.region_phases.specs.InPhases.{ModuleIns, all_ins}
-use Rattle.region_phases.specs.InPhases as ins
-use Rattle.region_phases.specs.OutPhases.{ModuleOuts, all_outs}
-use Rattle.loop_marker.specs.Phases.{ModuleMarks, analysis_in, known_in, all_marks}
-use Rattle.loop_marker.specs.Phases as marks
+use Rattle.in_out_regions.specs.effects.List as effects
+use Rattle.in_out_regions.specs.array_regions.Calls.{Callees}
+use Rattle.pipsmake_base.specs.module_phases.ScalarPhases.{Analysis, analyses}
+use Rattle.pipsmake_base.specs.module_phases.RegionPhases.{ModuleRegions, no_callees, with_callee, with_regions, found_in, all_regions}
+use Rattle.pipsmake_base.specs.module_phases.InPhases.{ModuleIns, all_ins}
+use Rattle.pipsmake_base.specs.module_phases.InPhases as ins
+use Rattle.pipsmake_base.specs.module_phases.OutPhases.{ModuleOuts, all_outs}
+use Rattle.pipsmake_base.specs.loop_marker.Results.{ModuleResults}
+use Rattle.pipsmake_base.specs.loop_marker.Phases.{phases_of, analysis_in, all_marks}
+use Rattle.pipsmake_base.specs.loop_marker.Phases as marks
 use Rattle.laws_programs.specs.Programs.{AreTables}
 use Rattle.laws_analyses.specs.Coverage.{AreWhole}
 use Rattle.pips_top.specs.Program.{ProgramTree}
-use Rattle.laws_database.specs.ResultEntries.{said_for}
-use Rattle.pips_top.specs.Shown.{said_of}
+use Rattle.pipsmake_base.specs.pipsmake_meaning.ResultEntries.{results_for}
+use Rattle.pips_top.specs.Shown.{results_of_program}
 use Rattle.pips_top.proofs.Said.{name_of, back, known_from, said_at, ins_at, outs_at, said_once}
 
 -- ---- one that has this one
@@ -54,13 +55,13 @@ ins_all : (u : List BlockUnit) (cs : Callees) (fs : List ModuleRegions) → map 
 ins_all u cs [] = refl
 ins_all u cs (r ∷ fs) = ap (λ xs. r ∷ xs) (ins_all u (ins.with_callee (ins.with_ins u cs r) cs) fs)
 
-marks_all : (u : List BlockUnit) (cs : effects.Callees) (fs : List ModuleOuts) → map (λ (f : ModuleMarks). f.outs) (marks.found_in u cs fs) ≡ fs
+marks_all : (u : List BlockUnit) (cs : effects.Callees) (fs : List ModuleOuts) → map phases_of (marks.found_in u cs fs) ≡ fs
 marks_all u cs [] = refl
 marks_all u cs (x ∷ fs) = ap (λ xs. x ∷ xs) (marks_all u (marks.with_callee (marks.with_marks u cs x) cs) fs)
 
 -- an analysis has its marks
 abbrev Marked : Graph → List Analysis → Analysis → Type 0
-Marked g as' a = (j : ℕ) × (f : ModuleMarks) × (slice_get (all_marks g (all_outs g (all_ins g (all_regions g as')))) j ≡ Some f) × (analysis_in f.outs ≡ a)
+Marked g as' a = (j : ℕ) × (f : ModuleResults) × (slice_get (all_marks g (all_outs g (all_ins g (all_regions g as')))) j ≡ Some f) × (analysis_in (phases_of f) ≡ a)
 
 marked : (g : Graph) (as' : List Analysis) (j : ℕ) (a : Analysis) → slice_get as' j ≡ Some a → Marked g as' a
 marked g as' j a e =
@@ -70,48 +71,48 @@ marked g as' j a e =
     let r = from_all (λ (f : ModuleRegions). f.analysis) rs (reverse as') a (regions_all g.untracked no_callees (reverse as')) (reversed as' a (j, e)) in
     let i = from_all (λ (f : ModuleIns). f.known) is rs r.1 (ins_all g.untracked no_callees rs) (r.0, r.2) in
     let o = from_all (λ (f : ModuleOuts). f.known) os (reverse is) i.1 (known_from g [] (reverse is)) (reversed is i.1 (i.0, i.2)) in
-    let m = from_all (λ (f : ModuleMarks). f.outs) (all_marks g os) (reverse os) o.1 (marks_all g.untracked marks.no_callees (reverse os)) (reversed os o.1 (o.0, o.2)) in
+    let m = from_all phases_of (all_marks g os) (reverse os) o.1 (marks_all g.untracked marks.no_callees (reverse os)) (reversed os o.1 (o.0, o.2)) in
     (m.0, m.1, m.2, ap analysis_in m.3 ∙ ap (λ (x : ModuleIns). x.known.analysis) o.3 ∙ ap (λ (x : ModuleRegions). x.analysis) i.3 ∙ r.3)
 
 -- ---- modules
 
 -- no name has two
-abbrev pub Once : List ModuleMarks → Type 0
-Once all = (i j : ℕ) (a b : ModuleMarks) → slice_get all i ≡ Some a → slice_get all j ≡ Some b → name_of a ≡ name_of b → i ≡ j
+abbrev pub Once : List ModuleResults → Type 0
+Once all = (i j : ℕ) (a b : ModuleResults) → slice_get all i ≡ Some a → slice_get all j ≡ Some b → name_of a ≡ name_of b → i ≡ j
 
 -- so each is that of its name
-pub own_found : (all : List ModuleMarks) → Once all → (j : ℕ) (a : ModuleMarks) → slice_get all j ≡ Some a → said_for all (name_of a) ≡ Some a
+pub own_found : (all : List ModuleResults) → Once all → (j : ℕ) (a : ModuleResults) → slice_get all j ≡ Some a → results_for all (name_of a) ≡ Some a
 own_found [] once j a e = cc
 own_found (b ∷ all) once zero a e =
     let same : b ≡ a = cc in
     let it : bytes_eq (name_of b) (name_of a) ≡ true = (bytes_eq-Decides (name_of b) (name_of a)).1 (ap name_of same) in
-    ap (λ t. if t then Some b else said_for all (name_of a)) it ∙ ap Some same
+    ap (λ t. if t then Some b else results_for all (name_of a)) it ∙ ap Some same
 own_found (b ∷ all) once (suc j) a e = go (bytes_eq (name_of b) (name_of a)) refl (own_found all (λ i k c d f g h. omega (arith, once (suc i) (suc k) c d f g h)) j a e)
   where
-    go : (t : Bool) → bytes_eq (name_of b) (name_of a) ≡ t → said_for all (name_of a) ≡ Some a → (if t then Some b else said_for all (name_of a)) ≡ Some a
+    go : (t : Bool) → bytes_eq (name_of b) (name_of a) ≡ t → results_for all (name_of a) ≡ Some a → (if t then Some b else results_for all (name_of a)) ≡ Some a
     go true q ih = absurd (omega (arith, once zero (suc j) b a refl e ((bytes_eq-Decides (name_of b) (name_of a)).0 q)))
     go false q ih = ih
 
 -- the marks of a module, which are looked up by its name
 pub record IsOwn (p : ProgramTree) (k : Known) : Type 0 where
   pub place : ℕ
-  pub found : ModuleMarks
-  pub there : slice_get (said_of p) place ≡ Some found
-  pub known : known_in found.outs ≡ k
-  pub own : said_for (said_of p) k.read.name ≡ Some found
+  pub found : ModuleResults
+  pub there : slice_get (results_of_program p) place ≡ Some found
+  pub known : found.known ≡ k
+  pub own : results_for (results_of_program p) k.read.name ≡ Some found
 
 pub each_own : (p : ProgramTree) → AreWhole (known_of p.modules p.tables) (analyses (known_of p.modules p.tables) p.graph) → (i : ℕ) (k : Known) → slice_get (known_of p.modules p.tables) i ≡ Some k → IsOwn p k
 each_own p whole i k e =
     let as' = analyses (known_of p.modules p.tables) p.graph in
     let a = whole.each i k e in
     let m = marked p.graph as' a.0 a.1 a.2 in
-    let known : known_in m.1.outs ≡ k = ap (λ (x : Analysis). x.found.known) m.3 ∙ a.3 in
+    let known : m.1.known ≡ k = ap (λ (x : Analysis). x.found.known) m.3 ∙ a.3 in
     record {
       place = m.0;
       found = m.1;
       there = m.2;
       known = known;
-      own = subst (λ (x : Known). said_for (said_of p) x.read.name ≡ Some m.1) known (own_found (said_of p) (λ j l b c f g h. said_once p.graph as' whole.once j l b c f g h) m.0 m.1 m.2);
+      own = subst (λ (x : Known). results_for (results_of_program p) x.read.name ≡ Some m.1) known (own_found (results_of_program p) (λ j l b c f g h. said_once p.graph as' whole.once j l b c f g h) m.0 m.1 m.2);
     }
 
 -- a module with its table
@@ -123,13 +124,13 @@ known_there (x ∷ ms) (t ∷ ts) zero m h e = let same : x ≡ m = cc in (t, ap
 known_there (x ∷ ms) (t ∷ ts) (suc i) m h e = known_there ms ts i m h.1 e
 
 -- each that is said is of a module
-pub known_back : (p : ProgramTree) → AreWhole (known_of p.modules p.tables) (analyses (known_of p.modules p.tables) p.graph) → (j : ℕ) (f : ModuleMarks) → slice_get (said_of p) j ≡ Some f
-    → (i : ℕ) × (slice_get (known_of p.modules p.tables) i ≡ Some (known_in f.outs))
+pub known_back : (p : ProgramTree) → AreWhole (known_of p.modules p.tables) (analyses (known_of p.modules p.tables) p.graph) → (j : ℕ) (f : ModuleResults) → slice_get (results_of_program p) j ≡ Some f
+    → (i : ℕ) × (slice_get (known_of p.modules p.tables) i ≡ Some f.known)
 known_back p whole j f e =
     let as' = analyses (known_of p.modules p.tables) p.graph in
     let rs = all_regions p.graph as' in
     let is = all_ins p.graph rs in
     let out = outs_at p.graph (all_outs p.graph is) j f e in
-    let here = ins_at p.graph is out.0 f.outs out.1 in
-    let at = said_at p.graph as' here.0 f.outs.known here.1 in
-    whole.modules at.0 (analysis_in f.outs) at.1
+    let here = ins_at p.graph is out.0 (phases_of f) out.1 in
+    let at = said_at p.graph as' here.0 (phases_of f).known here.1 in
+    whole.modules at.0 (analysis_in (phases_of f)) at.1

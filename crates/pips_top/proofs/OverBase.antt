@@ -9,21 +9,23 @@ use Rattle.fx_base.specs.declared.store.Role.{Role}
 use Rattle.fx_base.specs.declared.store.Role.TheVariants.{Base as BaseRole}
 use Rattle.fx_base.specs.declared.store.Fetched.TheVariants as fetched
 use Rattle.command_words.specs.Options.{Accepts}
-use Rattle.base_text.specs.declared.base.Base.{Base}
-use Rattle.base_text.specs.Grammar.{IsBase}
-use Rattle.base_text.specs.Written.{base_text, without_results, kept_base}
-use Rattle.laws_database.specs.Texts.{names_in}
-use Rattle.result_lines.specs.declared.show.Show.{Show}
-use Rattle.session_lines.specs.Commands.{commands_of}
-use Rattle.pipsmake_db.specs.declared.db.Db.{Db}
-use Rattle.pipsmake_db.specs.AnswerSteps.{AnswersWhole, AnswersWholeFrom}
-use Rattle.pipsmake_db.specs.AnswerTexts.{texts_at_end}
-use Rattle.pipsmake_db.specs.State.{State, IsIn}
+use Rattle.pipsmake_base.specs.base_text.declared.base.Base.{Base}
+use Rattle.pipsmake_base.specs.base_text.Grammar.{IsBase}
+use Rattle.pipsmake_base.specs.base_text.Written.{base_text, without_results, kept_base}
+use Rattle.pipsmake_base.specs.pipsmake_meaning.Texts.{ModuleText, names_in, SameTexts}
+use Rattle.pipsmake_base.specs.result_lines.declared.show.Show.{Show}
+use Rattle.pipsmake_base.specs.session_texts.Commands.{commands_of}
+use Rattle.pipsmake_base.specs.pipsmake_db.declared.db.Db.{Db}
+use Rattle.pipsmake_base.specs.pipsmake_db.AnswerSteps.{AnswersWhole, AnswersWholeFrom}
+use Rattle.pipsmake_base.specs.pipsmake_db.AnswerTexts.{texts_at_end}
+use Rattle.pipsmake_base.specs.pipsmake_db.Outlines.{Outline, outline_of, OutlinesScript}
+use Rattle.pipsmake_base.specs.pipsmake_db.State.{State, texts_of, IsIn}
 use Rattle.pipsmake_base.specs.Bases.{BasesAreModules}
 use Rattle.pipsmake_base.specs.Current.{FreshIsCurrent, LoadedIsCurrent, AnswersStayCurrent}
 use Rattle.pipsmake_base.specs.Saved.{keys_in, loaded_state, IsSaved}
 use Rattle.pipsmake_base.specs.Saving.{module_of, stored_keys, saved_base}
-use Rattle.pips_top.specs.Based.{base_limit, IsVerified, IsBaseOf, GoesOn, AnswersOver, WritesOver, all_keys}
+use Rattle.pipsmake_base.specs.Whole.{values_in}
+use Rattle.pips_top.specs.Based.{base_limit, IsVerified, IsBaseOf, GoesOn, outline_in, AnswersOver, WritesOver, all_keys}
 use Rattle.pips_top.specs.Jobs.{job_in, input_in, opening_in}
 use Rattle.pips_top.specs.Laws.{ReadSoundly, AnsweredSoundly}
 use Rattle.pips_top.specs.Made.{made}
@@ -120,13 +122,14 @@ module _ (job : Job) (input : List ℕ) (o : Opening) (is : IsOver job input o) 
 -- ---- what is kept
 
 -- a base that is saved of a database is left by it
-pub left_by : (d : Db) (left : Base) → left ≡ saved_base d → ((s : State) → IsIn d s → FreshIsCurrent s → IsSaved left) → ((s : State) → IsIn d s → FreshIsCurrent s → keys_in left ≡ stored_keys s.fresh (names_in s.texts))
-    → ((s : State) → IsIn d s → FreshIsCurrent s → IsBase left) → IsLeftBy d left
+pub left_by : (d : Db) (left : Base) → left ≡ saved_base d → ((s : State) → IsIn d s → FreshIsCurrent s → IsSaved left) → keys_in left ≡ stored_keys d.fresh (names_in (texts_of d))
+    → IsBase left → IsLeftBy d left
 left_by d left e saved keys grammar = record {
   modules = ap (λ (b : Base). b.modules) e;
+  keys = keys;
   of_state = λ s is current. record {
     modules = ap (λ (b : Base). b.modules) e ∙ ap (map module_of) is.texts;
-    keys = keys s is current;
+    keys = keys ∙ (λ i. stored_keys (is.fresh i) (names_in (is.texts i)));
     saved = saved s is current;
   };
   grammar = grammar;
@@ -137,25 +140,21 @@ kept_with old new name d text left by (Writing written) h = absurd h
 kept_with old new name d text left by (Stopping status line) h = (left, by, h)
 kept_with old new name d text left by NoMemory h = h
 
--- what is true of a base that is left, where the one that was opened holds only results of its own texts
-pub record IsGood (left : Base) : Type 0 where
-  pub grammar : IsBase left
-  pub saved : IsSaved left
-
 module _ (job : Job) (input : List ℕ) (o : Opening) (is : IsOver job input o) (old mid new : Stored) (same : mid.files ≡ old.files) (rises : (r : Role) → NoneFalls (old.counts r) (mid.counts r)) where
-  keeps : (text : List ℕ) (left : Base) (w : WorksOver old new job text left) → (IsSaved w.opened → IsGood left) → KeepsAs mid new o.name left → Keeps old new job o text
-  keeps text left w good k = record {
+  keeps : (text : List ℕ) (left : Base) (w : WorksOver old new job text left) → IsBase left → (IsSaved w.opened → IsSaved left) → KeepsAs mid new o.name left → Keeps old new job o text
+  keeps text left w grammar good k = record {
     left = left;
     works = w;
     bytes = k.bytes;
     is = k.is;
     kept = (subst (λ (f : Option Files). OthersStay f new.files o.name) same k.kept.0, k.kept.1);
-    again = λ saved. record { found = kept_base left base_limit; is = k.reads (good saved).grammar; saved = kept_saved left base_limit (good saved).saved };
+    reads = k.reads grammar;
+    again = λ saved. record { found = kept_base left base_limit; is = k.reads grammar; saved = kept_saved left base_limit (good saved) };
   }
 
   not_kept : (text : List ℕ) (left : Base) → WorksOver old new job text left → (status : Status) (line : List ℕ) → NotKeptFor mid new o.name left status line → StopsFor old new status line job
   not_kept text left w TooLong line (none, told_line, untouched) = (inr (inr (text, left, w, at_some (opening_in job) o _ is.opening_is (none, told_line))), untouched ∙ same)
-  not_kept text left w BaseFault line (bytes, kept, (rose, others), told_line) =
+  not_kept text left w BaseFault line (bytes, kept, (rose, untouched), told_line) =
       inr (
         text,
         left,
@@ -165,7 +164,7 @@ module _ (job : Job) (input : List ℕ) (o : Opening) (is : IsOver job input o) 
           kept,
           (
             rose_before (old.counts BaseRole).faults (mid.counts BaseRole).faults (new.counts BaseRole).faults (rises BaseRole).faults rose,
-            subst (λ (f : Option Files). OthersStay f new.files o.name) same others,
+            untouched ∙ same,
           ),
           told_line,
         ),
@@ -202,15 +201,16 @@ module _ (old mid new : Stored) (o : Opening) (d e : Db) (left : Base) (only : O
       leaves = by.of_state f.next f.is_in (script_current saved);
     }
 
-    pub script_good : IsSaved from.opened → IsGood left
-    script_good saved = let f = script_end saved in record {
-      grammar = by.grammar f.next f.is_in (script_current saved);
-      saved = (by.of_state f.next f.is_in (script_current saved)).saved;
-    }
+    pub script_good : IsSaved from.opened → IsSaved left
+    script_good saved = let f = script_end saved in (by.of_state f.next f.is_in (script_current saved)).saved
 
     pub script_leaves : AnswersOver show from.opened script text left
     script_leaves = record {
       texts = by.modules ∙ ap (map module_of) (a.texts ∙ ap (λ ts. texts_at_end ts (commands_of script)) from.texts);
+      outline = outline_of e;
+      outlines = (let same : outline_of d ≡ outline_in from.opened = (λ i. record { texts = from.texts i; fresh = from.fresh i }) in subst (λ (o : Outline). OutlinesScript o script text (outline_of e)) same a.anyway);
+      ends = by.modules;
+      keys = by.keys;
       goes_on = script_goes_on;
     }
 
@@ -225,8 +225,8 @@ module _ (old mid new : Stored) (o : Opening) (d e : Db) (left : Base) (only : O
     program_base : (saved : IsSaved from.opened) → IsBaseOf (program_end saved).next left
     program_base saved = let f = program_end saved in by.of_state f.next f.is_in f.current
 
-    pub program_good : IsSaved from.opened → IsGood left
-    program_good saved = let f = program_end saved in record { grammar = by.grammar f.next f.is_in f.current; saved = (program_base saved).saved }
+    pub program_good : IsSaved from.opened → IsSaved left
+    program_good saved = (program_base saved).saved
 
     pub program_leaves : WritesOver show from.opened bytes text left
     program_leaves = record {
@@ -237,7 +237,8 @@ module _ (old mid new : Stored) (o : Opening) (d e : Db) (left : Base) (only : O
       split = p.split;
       modules = by.modules ∙ ap (map module_of) p.texts;
       is = λ saved. (program_end saved).is;
-      keys = λ saved. let f = program_end saved in (program_base saved).keys ∙ f.all ∙ ap (λ ts. all_keys (names_in ts)) (sym f.is_in.texts ∙ p.texts);
+      shows = λ complete same. p.rests (values_in from.opened) (from.rests complete) (subst (λ (ts : List ModuleText). SameTexts ts p.sources) (sym from.texts) same);
+      keys = by.keys ∙ p.all ∙ ap (λ ts. all_keys (names_in ts)) p.texts;
       saved = λ saved. (program_base saved).saved;
     }
 
@@ -253,7 +254,7 @@ module _ (old mid new : Stored) (same : mid.files ≡ old.files) (rises : (r : R
   script_reply loaded stays modules sound script text got a (Writing written) (is, (left, by, k)) =
       let w = script_works old mid new o d e left only from by show input loaded stays modules sound script text got a in
       let good = script_good old mid new o d e left only from by show input loaded stays modules sound script text got a in
-      subst (λ t. Keeps old new (jobs.AnswerOver show input o) o t) (sym is) (keeps (jobs.AnswerOver show input o) input o (answers_over show input o) old mid new same rises text left w good k)
+      subst (λ t. Keeps old new (jobs.AnswerOver show input o) o t) (sym is) (keeps (jobs.AnswerOver show input o) input o (answers_over show input o) old mid new same rises text left w by.grammar good k)
   script_reply loaded stays modules sound script text got a (Stopping status line) (left, by, h) =
       let w = script_works old mid new o d e left only from by show input loaded stays modules sound script text got a in
       not_kept (jobs.AnswerOver show input o) input o (answers_over show input o) old mid new same rises text left w status line h
@@ -264,7 +265,7 @@ module _ (old mid new : Stored) (same : mid.files ≡ old.files) (rises : (r : R
   program_reply sound bytes text got p (Writing written) (is, (left, by, k)) =
       let w = program_works old mid new o d e left only from by show input sound bytes text got p in
       let good = program_good old mid new o d e left only from by show input sound bytes text got p in
-      subst (λ t. Keeps old new (jobs.WriteOver show input o) o t) (sym is) (keeps (jobs.WriteOver show input o) input o (writes_over show input o) old mid new same rises text left w good k)
+      subst (λ t. Keeps old new (jobs.WriteOver show input o) o t) (sym is) (keeps (jobs.WriteOver show input o) input o (writes_over show input o) old mid new same rises text left w by.grammar good k)
   program_reply sound bytes text got p (Stopping status line) (left, by, h) =
       let w = program_works old mid new o d e left only from by show input sound bytes text got p in
       not_kept (jobs.WriteOver show input o) input o (writes_over show input o) old mid new same rises text left w status line h

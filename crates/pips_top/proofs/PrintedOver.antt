@@ -3,37 +3,30 @@ use Rattle.std.proofs.Common.{◌≡◌, ℕ, List, Option, Some, None, Result, 
 use Rattle.f77_parser.specs.Gives.{Refused}
 use Rattle.call_graph.specs.declared.graph.Graph.{Graph}
 use Rattle.call_graph.specs.declared.refusal.Fault.{Fault}
-use Rattle.result_lines.specs.declared.show.Show.{Show}
-use Rattle.laws_database.specs.Texts.{ModuleText, names_in, links_in}
-use Rattle.laws_database.specs.Making.{AllStay}
-use Rattle.laws_database.specs.ProgramTexts.{texts_named}
-use Rattle.laws_database.specs.Shelves.{Shelves}
-use Rattle.laws_database.specs.Stands.{StandsFor}
-use Rattle.session_texts.specs.Sources.{source_modules}
-use Rattle.laws_plain_run.specs.Laws.{AcceptedIsSplit, IsSplit}
-use Rattle.laws_plain_run.specs.Whole.{LinkedIsAccepted, SomeProgram}
-use Rattle.pipsmake_db.specs.declared.db.Db.{Db}
-use Rattle.pipsmake_db.specs.declared.print.Prints.{Prints}
-use Rattle.pipsmake_db.specs.AnswerSteps.{PrintsAll}
-use Rattle.pipsmake_db.specs.Calls.{Stays, ReplacesAll}
-use Rattle.pipsmake_db.specs.Refusals.{refused_links, link_refusal}
-use Rattle.pipsmake_db.specs.State.{State, after_all, texts_of, shelves_in, IsIn}
+use Rattle.pipsmake_base.specs.result_lines.declared.show.Show.{Show}
+use Rattle.pipsmake_base.specs.pipsmake_meaning.Texts.{ModuleText, names_in, SameTexts, links_in}
+use Rattle.pipsmake_base.specs.laws_database.ProgramTexts.{texts_named}
+use Rattle.pipsmake_base.specs.laws_database.Stands.{Valuation}
+use Rattle.pipsmake_base.specs.session_texts.Sources.{source_modules}
+use Rattle.pipsmake_base.specs.laws_database.Sources.Laws.{AcceptedIsSplit, IsSplit}
+use Rattle.pipsmake_base.specs.laws_database.Sources.Whole.{LinkedIsAccepted, SomeProgram}
+use Rattle.pipsmake_base.specs.pipsmake_db.declared.db.Db.{Db}
+use Rattle.pipsmake_base.specs.pipsmake_db.declared.print.Prints.{Prints}
+use Rattle.pipsmake_base.specs.pipsmake_db.AnswerSteps.{PrintsAll}
+use Rattle.pipsmake_base.specs.pipsmake_db.Calls.{Stays, Rests, ReplacesAll}
+use Rattle.pipsmake_base.specs.pipsmake_db.Outlines.{Outline, outline_of}
+use Rattle.pipsmake_base.specs.pipsmake_db.Shown.{texts_from}
+use Rattle.pipsmake_base.specs.pipsmake_db.Refusals.{refused_links, link_refusal}
+use Rattle.pipsmake_base.specs.pipsmake_db.State.{State, after_all, texts_of, IsIn}
 use Rattle.pipsmake_base.specs.Current.{PrintingStaysCurrent}
+use Rattle.pipsmake_base.specs.Saving.{stored_keys}
+use Rattle.pips_top.specs.Based.{all_keys}
 use Rattle.pips_top.specs.Program.{ProgramTree}
 use Rattle.pips_top.specs.Replies.{PrintsFrom, PrintsOver}
 use Rattle.pips_top.specs.Written.{written}
-use Rattle.pips_top.proofs.FreshKeys.{printed_all}
+use Rattle.pips_top.proofs.FreshKeys.{outline_all}
 use Rattle.pips_top.proofs.ReadBack.{reading_is}
-
-shelves_stay : (d e : Db) → AllStay (shelves_in d) (shelves_in e) → shelves_in e ≡ shelves_in d
-shelves_stay d e h = λ i item x. h item x i
-
-stays_in : (d e : Db) (s : State) → Stays d e → IsIn d s → IsIn e s
-stays_in d e s h is = record {
-  texts = h.texts ∙ is.texts;
-  stands = subst (λ (sh : Shelves). StandsFor sh s.texts s.made) (sym (shelves_stay d e h.kept)) is.stands;
-  fresh = h.fresh ∙ is.fresh;
-}
+use Rattle.pipsmake_base.proofs.PipsmakeDb.CommandLemmas.{stays_in, stays_resting}
 
 record AreLinkedBy (ts : List ModuleText) : Type 0 where
   pub graph : Graph
@@ -77,9 +70,17 @@ module _ (split : AcceptedIsSplit) (accepted : LinkedIsAccepted) (current : Prin
         next = p.next;
         is_in = p.is_in;
         current = current start p.next (names_in sources) p.now p.makes tt;
-        all = printed_all start p.next p.now p.makes;
         is = same_text (texts_named show sources (names_in sources)) prints.text (written show program) p.text shown;
       }
+
+  shown_from : (stored : Valuation) → Rests d stored → SameTexts (texts_of d) sources → texts_from sources stored show (names_in sources) ≡ Some prints.text
+  shown_from stored rests same =
+      let mid_rests : Rests mid stored = replaced.rests (subst (SameTexts (texts_of d)) (sym replaced.texts) same) stored rests in
+      let p = all.rests stored (stays_resting mid between stored stay mid_rests) in
+      subst (λ ts. texts_from ts stored show (names_in ts) ≡ Some prints.text) (all.texts ∙ stay.texts ∙ replaced.texts) p.text
+
+  all_fresh : stored_keys e.fresh (names_in (texts_of e)) ≡ all_keys (names_in (texts_of e))
+  all_fresh = subst (λ (o : Outline). stored_keys o.fresh (names_in o.texts) ≡ all_keys (names_in o.texts)) (sym all.anyway.outline) (outline_all (outline_of between))
 
   pub printed_over : PrintsOver show bytes prints.text d e
   printed_over = record {
@@ -88,5 +89,7 @@ module _ (split : AcceptedIsSplit) (accepted : LinkedIsAccepted) (current : Prin
     sources = sources;
     split = replaced.read;
     texts = all.texts ∙ stay.texts ∙ replaced.texts;
+    all = all_fresh;
+    rests = shown_from;
     from = printed_from;
   }

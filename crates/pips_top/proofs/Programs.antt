@@ -7,40 +7,14 @@ use Rattle.f77_ast.specs.DeclTrees.{ParsedTree}
 use Rattle.f77_parser.specs.Gives.{Refused, and_then}
 use Rattle.f77_parser.specs.Modules.{parse_of}
 use Rattle.f77_ast.specs.Symbols.{SymbolTree}
-use Rattle.refusal_codes.specs.declared.refusal.Refusal.{Refusal}
-use Rattle.storage_layout.specs.Symbols.{symbols_of}
 use Rattle.call_graph.specs.declared.graph.Graph.{Graph}
 use Rattle.call_graph.specs.declared.refusal.Fault.{Fault}
 use Rattle.call_graph.specs.Links.{link_of}
-use Rattle.laws_programs.specs.Programs.{AreTables, IsProgram}
-use Rattle.laws_analyses.specs.Laws.{AnalysesAreWhole, ReadAnalysesHold}
-use Rattle.laws_regions.specs.Accepted.{ReadRegionsHold}
-use Rattle.laws_marks.specs.InAccepted.{ReadInsHold}
-use Rattle.laws_marks.specs.OutAccepted.{ReadOutsHold}
-use Rattle.laws_region_lines.specs.Laws.{RegionsAreOverPlaces}
-use Rattle.laws_in_lines.specs.Laws.{InsAreOverPlaces}
-use Rattle.laws_out_lines.specs.Laws.{OutsAreOverPlaces}
-use Rattle.pips_top.specs.Laws.{ReadAllSaid, ReadClaimsHold}
+use Rattle.laws_programs.specs.Programs.{IsProgram}
 use Rattle.pips_top.specs.Program.{ProgramTree}
-use Rattle.pips_top.specs.Reading.{lines_or, table_or, tables_of, graph_or, linked_by, program_of, reading}
-
--- ---- tables
-
-abbrev Front : Result (List SymbolTree) Refusal → Result (List (List SymbolTree)) Refused → List (List SymbolTree) → Type 0
-Front r others ts = (t : List SymbolTree) × (rest : List (List SymbolTree)) × (r ≡ Ok t) × (others ≡ Ok rest) × (t ∷ rest ≡ ts)
-
-front : (r : Result (List SymbolTree) Refusal) (others : Result (List (List SymbolTree)) Refused) (ts : List (List SymbolTree))
-    → and_then (table_or r) (λ t. and_then others (λ rest. Ok (t ∷ rest))) ≡ Ok ts → Front r others ts
-front (Ok t) (Ok rest) ts e = (t, rest, refl, refl, cc)
-front (Ok t) (Err r) ts e = cc
-front (Err r) others ts e = cc
-
-pub all_tables : (ms : List ParsedTree) (ts : List (List SymbolTree)) → tables_of ms ≡ Ok ts → AreTables ms ts
-all_tables [] [] e = tt
-all_tables [] (t ∷ ts) e = cc
-all_tables (m ∷ ms) ts e =
-    let f = front (symbols_of m) (tables_of ms) ts e in
-    subst (λ z. AreTables (m ∷ ms) z) f.4 (f.2, all_tables ms f.1 f.3)
+use Rattle.pips_top.specs.Reading.{lines_or, graph_or, linked_by, program_of, reading}
+use Rattle.pipsmake_base.specs.session_texts.Sources.{tables_of}
+use Rattle.pipsmake_base.proofs.SessionTexts.SourceTexts.{all_tables}
 
 -- ---- links
 
@@ -94,19 +68,3 @@ pub each_at : {A : Type 0} (P : A → Type 0) (xs : List A) → Every P xs → (
 each_at P [] h j a e = cc
 each_at P (x ∷ xs) h zero a e = let same : x ≡ a = cc in subst P same (h zero x (omega arith))
 each_at P (x ∷ xs) h (suc j) a e = each_at P xs (λ k d l. h (suc k) d (omega (arith, l))) j a e
-
-pub claims_from : ReadAnalysesHold → ReadRegionsHold → ReadInsHold → ReadOutsHold → RegionsAreOverPlaces → InsAreOverPlaces → OutsAreOverPlaces → ReadClaimsHold
-claims_from law on_regions on_ins on_outs over ins_over outs_over bytes p e =
-    let i = is_program bytes p e in
-    record {
-      scalars = law p.modules p.tables p.graph i;
-      regions = on_regions p.modules p.tables p.graph i;
-      ins = on_ins p.modules p.tables p.graph i;
-      outs = on_outs p.modules p.tables p.graph i;
-      places = over p.modules p.tables p.graph i.tables;
-      in_places = ins_over p.modules p.tables p.graph i.tables;
-      out_places = outs_over p.modules p.tables p.graph i.tables;
-    }
-
-pub all_said_from : AnalysesAreWhole → ReadAllSaid
-all_said_from law bytes p e = law p.modules p.tables p.graph (is_program bytes p e)

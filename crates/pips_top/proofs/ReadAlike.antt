@@ -4,9 +4,9 @@ use Rattle.std.specs.Prelude.{slice_get, IfOk}
 use Rattle.std.specs.declared.alloc.AllocError.{AllocError}
 use Rattle.fixed_form.specs.declared.line.Lines.{Lines}
 use Rattle.fixed_form.specs.Reading as lines
-use Rattle.refusal_codes.specs.declared.code.Code.{Code}
-use Rattle.refusal_codes.specs.declared.refusal.Refusal.{Refusal}
-use Rattle.refusal_codes.specs.Refusals.{number_of}
+use Rattle.fx_lists.specs.declared.code.Code.{Code}
+use Rattle.fx_lists.specs.declared.refusal.Refusal.{Refusal}
+use Rattle.fx_lists.specs.Refusals.{number_of}
 use Rattle.f77_ast.specs.DeclTrees.{ParsedTree}
 use Rattle.f77_parser.specs.Gives.{Refused, and_then}
 use Rattle.f77_parser.specs.Modules.{parse_of}
@@ -16,20 +16,20 @@ use Rattle.call_graph.specs.declared.graph.Graph.{Graph}
 use Rattle.call_graph.specs.declared.refusal.Fault.{Fault}
 use Rattle.call_graph.specs.declared.refusal.Fault.TheVariants.{NoMain, At}
 use Rattle.call_graph.specs.Links.{link_of}
-use Rattle.result_lines.specs.declared.show.Show.{Show}
-use Rattle.laws_database.specs.Texts as database
-use Rattle.laws_database.specs.Texts.{ModuleText, links_in}
-use Rattle.session_texts.specs.Sources as session
-use Rattle.session_texts.specs.Sources.{refused, refusal_for, source_modules}
-use Rattle.laws_plain_run.specs.Whole as whole
-use Rattle.laws_plain_run.specs.Whole.{LinkedAlike, linked_or, linked_modules, whole_links, lines_before, in_source, linked_texts, source_links}
-use Rattle.pipsmake_db.specs.declared.db.Db.{Db}
-use Rattle.pipsmake_db.specs.declared.refusal.DbRefusal.{DbRefusal}
-use Rattle.pipsmake_db.specs.declared.refusal.DbRefusal.TheVariants as db
-use Rattle.pipsmake_db.specs.Refusals.{IsRefused, refused_text, text_refusal, fault_in, refused_links, link_refusal}
+use Rattle.pipsmake_base.specs.result_lines.declared.show.Show.{Show}
+use Rattle.pipsmake_base.specs.pipsmake_meaning.Texts as database
+use Rattle.pipsmake_base.specs.pipsmake_meaning.Texts.{ModuleText, links_in}
+use Rattle.pipsmake_base.specs.session_texts.Sources as session
+use Rattle.pipsmake_base.specs.session_texts.Sources.{refused, refusal_for, source_modules, table_or, tables_of}
+use Rattle.pipsmake_base.specs.laws_database.Sources.Whole as whole
+use Rattle.pipsmake_base.specs.laws_database.Sources.Whole.{LinkedAlike, linked_or, linked_modules, whole_links, lines_before, in_source, linked_texts, source_links}
+use Rattle.pipsmake_base.specs.pipsmake_db.declared.db.Db.{Db}
+use Rattle.pipsmake_base.specs.pipsmake_db.declared.refusal.DbRefusal.{DbRefusal}
+use Rattle.pipsmake_base.specs.pipsmake_db.declared.refusal.DbRefusal.TheVariants as db
+use Rattle.pipsmake_base.specs.pipsmake_db.Refusals.{IsRefused, refused_text, text_refusal, fault_in, refused_links, link_refusal}
 use Rattle.pips_top.specs.Made.{made, made_of}
 use Rattle.pips_top.specs.Program.{ProgramTree}
-use Rattle.pips_top.specs.Reading.{lines_or, table_or, tables_of, graph_or, linked_by, program_of, reading}
+use Rattle.pips_top.specs.Reading.{lines_or, graph_or, linked_by, program_of, reading}
 use Rattle.pips_top.specs.Replies.{PrintsWhole, RefusedBy}
 use Rattle.pips_top.specs.declared.make.Made.{Made}
 use Rattle.pips_top.specs.declared.make.Made.TheVariants.{Refuses}

@@ -8,35 +8,38 @@ use Rattle.f77_ast.specs.Symbols.{SymbolTree}
 use Rattle.call_graph.specs.declared.graph.Graph.{Graph}
 use Rattle.call_graph.specs.Links.{link_of}
 use Rattle.f77_meaning.specs.Modules.{Known, known_of}
-use Rattle.scalar_phases.specs.Phases.{analyses}
-use Rattle.region_phases.specs.Phases.{all_regions}
-use Rattle.region_phases.specs.InPhases.{all_ins}
-use Rattle.region_phases.specs.OutPhases.{all_outs}
-use Rattle.loop_marker.specs.Phases.{ModuleMarks, all_marks}
+use Rattle.pipsmake_base.specs.module_phases.ScalarPhases.{analyses}
+use Rattle.pipsmake_base.specs.module_phases.RegionPhases.{all_regions}
+use Rattle.pipsmake_base.specs.module_phases.InPhases.{all_ins}
+use Rattle.pipsmake_base.specs.module_phases.OutPhases.{all_outs}
+use Rattle.pipsmake_base.specs.loop_marker.Results.{ModuleResults}
+use Rattle.pipsmake_base.specs.loop_marker.Phases.{all_marks}
 use Rattle.laws_programs.specs.Programs as laws
 use Rattle.laws_programs.proofs.Sources.{all_built}
-use Rattle.laws_region_lines.specs.LineLaws.{AllRegionLinesPass}
-use Rattle.laws_in_lines.specs.Laws.{AllInLinesPass}
-use Rattle.laws_out_lines.specs.Laws.{AllOutLinesPass}
-use Rattle.roundtrip_marks.specs.Laws.{MarkLinesArePassedOver}
-use Rattle.roundtrip_marks.specs.WholeLaws.{TextsAreWrittenAgain}
-use Rattle.laws_layout.specs.Laws.{BlocksHaveAChain}
-use Rattle.roundtrip_text.specs.Texts as back
-use Rattle.roundtrip_text.specs.Laws.{AllPassedOver}
-use Rattle.roundtrip_programs.specs.Lines.{LinesArePassedOver}
-use Rattle.roundtrip_programs.specs.Programs.{AreTables, IsProgram, ProgramsReadBack, NamesAreShown}
-use Rattle.result_lines.specs.declared.show.Show.{Show}
-use Rattle.laws_written.specs.Laws.{by_tree}
-use Rattle.laws_database.specs.ProgramTexts.{lines_found}
-use Rattle.pips_top.specs.Shown.{said_of, lines_for}
+use Rattle.laws_lines.specs.Regions.LineLaws.{AllRegionLinesPass}
+use Rattle.laws_lines.specs.Ins.Laws.{AllInLinesPass}
+use Rattle.laws_lines.specs.Outs.Laws.{AllOutLinesPass}
+use Rattle.laws_lines.specs.Marks.Laws.{MarkLinesArePassedOver}
+use Rattle.laws_lines.specs.Marks.WholeLaws.{TextsAreWrittenAgain}
+use Rattle.laws_programs.specs.Layout.Laws.{BlocksHaveAChain}
+use Rattle.laws_programs.specs.roundtrip_programs.Texts.Texts as back
+use Rattle.laws_programs.specs.roundtrip_programs.Texts.Laws.{AllPassedOver}
+use Rattle.laws_programs.specs.roundtrip_programs.Lines.{LinesArePassedOver}
+use Rattle.laws_programs.specs.roundtrip_programs.Programs.{AreTables, IsProgram, ProgramsReadBack, NamesAreShown}
+use Rattle.pipsmake_base.specs.result_lines.declared.show.Show.{Show}
+use Rattle.laws_programs.specs.roundtrip_programs.Written.Laws.{by_tree}
+use Rattle.pipsmake_base.specs.laws_database.ProgramTexts.{lines_found}
+use Rattle.pips_top.specs.Shown.{results_of_program, lines_for}
 use Rattle.pips_top.specs.Laws.{ReadWrittenBack}
 use Rattle.pips_top.specs.Program.{ProgramTree}
 use Rattle.pips_top.specs.ReadBack.{SameProgram}
-use Rattle.pips_top.specs.Reading.{lines_or, table_or, tables_of, graph_or, linked_by, program_of, reading}
+use Rattle.pips_top.specs.Reading.{lines_or, graph_or, linked_by, program_of, reading}
 use Rattle.pips_top.specs.Written.{written}
 use Rattle.pips_top.proofs.AddedLines.{all_said, all_over}
 use Rattle.pips_top.proofs.BlockNames.{modules_shown}
-use Rattle.pips_top.proofs.Programs.{Linked, all_tables, linked_from, parsed_from, is_program}
+use Rattle.pips_top.proofs.Programs.{Linked, linked_from, parsed_from, is_program}
+use Rattle.pipsmake_base.specs.session_texts.Sources.{table_or, tables_of}
+use Rattle.pipsmake_base.proofs.SessionTexts.SourceTexts.{all_tables}
 
 -- ---- what was read
 
@@ -58,10 +61,10 @@ is_read text p e =
 
 -- ---- what is written
 
-abbrev pub texts_shown : Show → List ModuleMarks → List ParsedTree → List ℕ
+abbrev pub texts_shown : Show → List ModuleResults → List ParsedTree → List ℕ
 texts_shown show all ms = back.modules_text (by_tree (lines_found show all)) ms
 
-pub text_same : (show : Show) (all : List ModuleMarks) (ms : List ParsedTree) → texts_shown show all ms ≡ back.modules_text (λ m. lines_for show all m.module_read.name) ms
+pub text_same : (show : Show) (all : List ModuleResults) (ms : List ParsedTree) → texts_shown show all ms ≡ back.modules_text (λ m. lines_for show all m.module_read.name) ms
 text_same show all [] = refl
 text_same show all (m ∷ ms) = ap (λ rest. back.text_of (by_tree (lines_found show all)) m ++ rest) (text_same show all ms)
 
@@ -96,17 +99,17 @@ known_same (q ∷ qs) (p ∷ ps) (t ∷ ts) e =
     let others : map back.module_of qs ≡ map back.module_of ps = cc in
     ap₂ (λ (m : ModuleTree) (ks : List Known). record { read = m; symbols = t } ∷ ks) first (known_same qs ps ts others)
 
-abbrev said_with : List Known → Graph → List ModuleMarks
+abbrev said_with : List Known → Graph → List ModuleResults
 said_with ks g = all_marks g (all_outs g (all_ins g (all_regions g (analyses ks g))))
 
-pub said_same : (p q : ProgramTree) → SameProgram p q → said_of q ≡ said_of p
+pub said_same : (p q : ProgramTree) → SameProgram p q → results_of_program q ≡ results_of_program p
 said_same p q same =
     ap₂ said_with (ap (known_of q.modules) same.tables ∙ known_same q.modules p.modules p.tables same.modules) same.graph
 
 written_twice : TextsAreWrittenAgain → (show : Show) (bytes : List ℕ) (p q : ProgramTree) → reading bytes ≡ Ok p → reading (written show p) ≡ Ok q → SameProgram p q
-    → AllPassedOver (λ m. lines_for show (said_of p) m.module_read.name) p.modules → written show q ≡ written show p
+    → AllPassedOver (λ m. lines_for show (results_of_program p) m.module_read.name) p.modules → written show q ≡ written show p
 written_twice law show bytes p q e f same over =
-    let all = said_of p in
+    let all = results_of_program p in
     let added : ParsedTree → List Added = λ m. lines_for show all m.module_read.name in
     let text = text_same show all p.modules in
     let again = subst (λ t. back.IsReadAs t q.modules) text (is_read (written show p) q f).read in
@@ -120,7 +123,7 @@ back_from programs texts lines on_regions on_ins on_outs on_marks names blocks s
     let is = is_read bytes p e in
     let i = is_program bytes p e in
     let shown = modules_shown names blocks p.modules p.tables (all_built i.lines p.modules i.parsed) i.tables in
-    let all = said_of p in
+    let all = results_of_program p in
     let over = all_over lines show all (all_said on_regions on_ins on_outs on_marks p i.tables shown) p.modules in
     let b = programs bytes p.modules p.tables p.graph (λ m. lines_for show all m.module_read.name) is over in
     let q : ProgramTree = record { modules = b.again; tables = p.tables; graph = p.graph } in

@@ -5,19 +5,20 @@ use Rattle.std.proofs.lemmas.List.{get_or-reverse, length-reverse}
 use Rattle.std.proofs.lemmas.Option.{slice_get_within, get_or_from_slice_get, slice_get-get_or}
 use Rattle.call_graph.specs.declared.graph.Graph.{Graph}
 use Rattle.f77_ast.specs.declared.variable.Unit.{Unit as BlockUnit}
-use Rattle.scalar_phases.specs.Phases.{Analysis}
-use Rattle.array_regions.specs.Calls.{Callees}
-use Rattle.region_phases.specs.Phases.{ModuleRegions, no_callees, with_callee, with_regions, found_in, all_regions}
-use Rattle.region_phases.specs.InPhases.{ModuleIns, all_ins}
-use Rattle.region_phases.specs.InPhases as ins
-use Rattle.region_phases.specs.OutPhases.{ModuleOuts, with_outs, sites_of, outs_from, all_outs}
-use Rattle.region_phases.specs.OutPhases as outs
-use Rattle.effects.specs.List as effects
-use Rattle.loop_marker.specs.Phases.{ModuleMarks, known_in, marks_found, all_marks}
-use Rattle.loop_marker.specs.Phases as marks
+use Rattle.pipsmake_base.specs.module_phases.ScalarPhases.{Analysis}
+use Rattle.in_out_regions.specs.array_regions.Calls.{Callees}
+use Rattle.pipsmake_base.specs.module_phases.RegionPhases.{ModuleRegions, no_callees, with_callee, with_regions, found_in, all_regions}
+use Rattle.pipsmake_base.specs.module_phases.InPhases.{ModuleIns, all_ins}
+use Rattle.pipsmake_base.specs.module_phases.InPhases as ins
+use Rattle.pipsmake_base.specs.module_phases.OutPhases.{ModuleOuts, with_outs, sites_of, outs_from, all_outs}
+use Rattle.pipsmake_base.specs.module_phases.OutPhases as outs
+use Rattle.in_out_regions.specs.effects.List as effects
+use Rattle.pipsmake_base.specs.loop_marker.Results.{ModuleResults}
+use Rattle.pipsmake_base.specs.loop_marker.Phases.{phases_of, known_in, marks_found, all_marks}
+use Rattle.pipsmake_base.specs.loop_marker.Phases as marks
 
-abbrev pub name_of : ModuleMarks → List ℕ
-name_of f = (known_in f.outs).read.name
+abbrev pub name_of : ModuleResults → List ℕ
+name_of f = f.known.read.name
 
 -- each has its analysis
 in_order : (u : List BlockUnit) (cs : Callees) (as' : List Analysis) (j : ℕ) (f : ModuleRegions) → slice_get (found_in u cs as') j ≡ Some f → slice_get as' j ≡ Some f.analysis
@@ -98,11 +99,11 @@ outs_once g as' once i j a b e f h =
 -- ---- with the marks of their loops, in the first order again
 
 -- each has its OUT regions, and its marks are those found by some effects
-record Marked (untracked : List BlockUnit) (fs : List ModuleOuts) (j : ℕ) (f : ModuleMarks) : Type 0 where
-  outs : slice_get fs j ≡ Some f.outs
-  marks : f.marks ≡ marks_found untracked f.outs f.effects
+record Marked (untracked : List BlockUnit) (fs : List ModuleOuts) (j : ℕ) (f : ModuleResults) : Type 0 where
+  outs : slice_get fs j ≡ Some (phases_of f)
+  marks : f.marks ≡ marks_found untracked (phases_of f) f.effects
 
-marked_order : (u : List BlockUnit) (cs : effects.Callees) (fs : List ModuleOuts) (j : ℕ) (f : ModuleMarks) → slice_get (marks.found_in u cs fs) j ≡ Some f → Marked u fs j f
+marked_order : (u : List BlockUnit) (cs : effects.Callees) (fs : List ModuleOuts) (j : ℕ) (f : ModuleResults) → slice_get (marks.found_in u cs fs) j ≡ Some f → Marked u fs j f
 marked_order u cs [] j f e = cc
 marked_order u cs (x ∷ fs) zero f e =
     let same : marks.with_marks u cs x ≡ f = cc in
@@ -112,25 +113,25 @@ marked_order u cs (x ∷ fs) (suc j) f e =
     let m = marked_order u (marks.with_callee (marks.with_marks u cs x) cs) fs j f e in
     record { outs = m.outs; marks = m.marks }
 
-marked_at : (g : Graph) (fs : List ModuleOuts) (j : ℕ) (f : ModuleMarks) → slice_get (all_marks g fs) j ≡ Some f → Marked g.untracked (reverse fs) j f
+marked_at : (g : Graph) (fs : List ModuleOuts) (j : ℕ) (f : ModuleResults) → slice_get (all_marks g fs) j ≡ Some f → Marked g.untracked (reverse fs) j f
 marked_at g fs j f e = marked_order g.untracked marks.no_callees (reverse fs) j f e
 
-pub marks_are : (g : Graph) (fs : List ModuleOuts) (j : ℕ) (f : ModuleMarks) → slice_get (all_marks g fs) j ≡ Some f → f.marks ≡ marks_found g.untracked f.outs f.effects
+pub marks_are : (g : Graph) (fs : List ModuleOuts) (j : ℕ) (f : ModuleResults) → slice_get (all_marks g fs) j ≡ Some f → f.marks ≡ marks_found g.untracked (phases_of f) f.effects
 marks_are g fs j f e = (marked_at g fs j f e).marks
 
-outs_back : (g : Graph) (fs : List ModuleOuts) (j : ℕ) (f : ModuleMarks) → slice_get (all_marks g fs) j ≡ Some f → (j < length fs) × (slice_get fs (length fs - 1 - j) ≡ Some f.outs)
-outs_back g fs j f e = back fs j f.outs (marked_at g fs j f e).outs
+outs_back : (g : Graph) (fs : List ModuleOuts) (j : ℕ) (f : ModuleResults) → slice_get (all_marks g fs) j ≡ Some f → (j < length fs) × (slice_get fs (length fs - 1 - j) ≡ Some (phases_of f))
+outs_back g fs j f e = back fs j (phases_of f) (marked_at g fs j f e).outs
 
-pub outs_at : (g : Graph) (fs : List ModuleOuts) (j : ℕ) (f : ModuleMarks) → slice_get (all_marks g fs) j ≡ Some f → (i : ℕ) × (slice_get fs i ≡ Some f.outs)
+pub outs_at : (g : Graph) (fs : List ModuleOuts) (j : ℕ) (f : ModuleResults) → slice_get (all_marks g fs) j ≡ Some f → (i : ℕ) × (slice_get fs i ≡ Some (phases_of f))
 outs_at g fs j f e = (length fs - 1 - j, (outs_back g fs j f e).1)
 
 -- and where no name has two analyses it has no two
 pub said_once : (g : Graph) (as' : List Analysis) → ((i j : ℕ) (a b : Analysis) → slice_get as' i ≡ Some a → slice_get as' j ≡ Some b → a.found.known.read.name ≡ b.found.known.read.name → i ≡ j)
-    → (i j : ℕ) (a b : ModuleMarks) → slice_get (all_marks g (all_outs g (all_ins g (all_regions g as')))) i ≡ Some a → slice_get (all_marks g (all_outs g (all_ins g (all_regions g as')))) j ≡ Some b
+    → (i j : ℕ) (a b : ModuleResults) → slice_get (all_marks g (all_outs g (all_ins g (all_regions g as')))) i ≡ Some a → slice_get (all_marks g (all_outs g (all_ins g (all_regions g as')))) j ≡ Some b
     → name_of a ≡ name_of b → i ≡ j
 said_once g as' once i j a b e f h =
     let fs = all_outs g (all_ins g (all_regions g as')) in
     let p = outs_back g fs i a e in
     let q = outs_back g fs j b f in
-    let same = outs_once g as' once (length fs - 1 - i) (length fs - 1 - j) a.outs b.outs p.1 q.1 h in
+    let same = outs_once g as' once (length fs - 1 - i) (length fs - 1 - j) (phases_of a) (phases_of b) p.1 q.1 h in
     omega (arith, p.0, q.0, same)

@@ -2,7 +2,7 @@
 use Rattle.std.proofs.Common.{ℕ, zero, suc, ◌*◌, ◌≤◌, ◌<◌, Bool, true, false, List, ◌++◌, length, codes, decimal, arith, length-append}
 use Rattle.std.specs.Prelude.{◌%◌, nat_eq, if◌then◌else◌}
 use Rattle.std.proofs.lemmas.Fmt.{length-decimal-le_succ}
-use Rattle.sample_program.specs.Sample.{sum_part, recurrence_part, stride_part, call_part, part, parts_to, beginning, ending, sample_program}
+use Rattle.pips_top.specs.Sample.{sum_part, recurrence_part, stride_part, call_part, part, parts_to, beginning, ending, sample_program}
 
 numbered : (a b : List ℕ) (k : ℕ) → k < 256 → length a ≤ 100 → length b ≤ 100 → length (a ++ (decimal k ++ b)) ≤ 500
 numbered a b k small h e =

@@ -1,28 +1,29 @@
 -- What is written of a program that was read, and what a session prints, is sound.
 use Rattle.std.proofs.Common.{◌≡◌, ℕ, List, Option, Some, None, Ok, subst}
-use Rattle.session_lines.specs.declared.command.Command.{Command}
-use Rattle.laws_pieces.specs.Joined.{joined_texts}
-use Rattle.laws_database.specs.Texts.{tables_in}
-use Rattle.laws_database.specs.ProgramTexts.{texts_of, joined_modules}
-use Rattle.result_lines.specs.declared.show.Show.{Show}
-use Rattle.pipsmake_db.specs.declared.refusal.DbRefusal.{DbRefusal}
-use Rattle.pipsmake_db.specs.AnswerLaws as database
-use Rattle.pipsmake_db.specs.AnswerLaws.{EachPrintIsTheProgram}
-use Rattle.pipsmake_db.specs.Refusals.{link_refusal}
-use Rattle.pipsmake_db.specs.Scripts.{AnswersAll}
-use Rattle.pipsmake_db.specs.State.{State}
-use Rattle.pips_top.specs.Laws.{ReadClaimsHold, ReadAllSaid, ReadLinesMean, ReadWrittenBack, ReadMarkedBack, ReadRunsInterleaved, ReadSoundly, AnsweredSoundly}
+use Rattle.pipsmake_base.specs.session_texts.declared.command.Command.{Command}
+use Rattle.laws_programs.specs.roundtrip_programs.Pieces.Joined.{joined_texts}
+use Rattle.pipsmake_base.specs.pipsmake_meaning.Texts.{tables_in}
+use Rattle.pipsmake_base.specs.laws_database.ProgramTexts.{texts_of, joined_modules}
+use Rattle.pipsmake_base.specs.result_lines.declared.show.Show.{Show}
+use Rattle.pipsmake_base.specs.pipsmake_db.declared.refusal.DbRefusal.{DbRefusal}
+use Rattle.pipsmake_base.specs.pipsmake_db.AnswerLaws as database
+use Rattle.pipsmake_base.specs.pipsmake_db.AnswerLaws.{EachPrintIsTheProgram}
+use Rattle.pipsmake_base.specs.pipsmake_db.Refusals.{link_refusal}
+use Rattle.pipsmake_base.specs.pipsmake_db.Scripts.{AnswersAll}
+use Rattle.pipsmake_base.specs.pipsmake_db.State.{State}
+use Rattle.pips_top.specs.Laws.{ReadClaimsHold, ReadAllSaid, ReadLinesMean, ReadWrittenBack, ReadClaimsBack, ReadMarkedBack, ReadRunsInterleaved, ReadSoundly, AnsweredSoundly}
 use Rattle.pips_top.specs.Program.{ProgramTree}
 use Rattle.pips_top.specs.Reading.{reading}
 use Rattle.pips_top.specs.Sound.{PrintBy}
 use Rattle.pips_top.proofs.ReadBack.{reading_is}
 
-pub soundly_from : ReadClaimsHold → ReadAllSaid → ReadLinesMean → ReadWrittenBack → ReadMarkedBack → ReadRunsInterleaved → ReadSoundly
-soundly_from holds all lines back marked interleaved show bytes p e = record {
+pub soundly_from : ReadClaimsHold → ReadAllSaid → ReadLinesMean → ReadWrittenBack → ReadClaimsBack → ReadMarkedBack → ReadRunsInterleaved → ReadSoundly
+soundly_from holds all lines back claimed marked interleaved show bytes p e = record {
   claims = holds bytes p e;
   whole = all bytes p e;
   lines = lines show bytes p e;
   back = back show bytes p e;
+  claimed = claimed show bytes p e;
   marked = marked show bytes p e;
   interleaved = interleaved show bytes p e (marked show bytes p e);
 }

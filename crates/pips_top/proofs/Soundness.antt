@@ -7,11 +7,11 @@ use Rattle.fx_base.specs.Sink.{appended}
 use Rattle.fx_base.specs.declared.store.Role.TheVariants.{Base as BaseRole}
 use Rattle.fx_base.specs.declared.store.Fetched.TheVariants as fetched
 use Rattle.f77_parser.specs.Gives.{Refused}
-use Rattle.result_lines.specs.declared.show.Show.{Show}
-use Rattle.sample_program.specs.Sample.{sample_program}
-use Rattle.pipsmake_db.specs.State.{first_state}
-use Rattle.base_text.specs.declared.base.Base.{Base}
-use Rattle.base_text.specs.Written.{kept as kept_text}
+use Rattle.pipsmake_base.specs.result_lines.declared.show.Show.{Show}
+use Rattle.pips_top.specs.Sample.{sample_program}
+use Rattle.pipsmake_base.specs.pipsmake_db.State.{first_state}
+use Rattle.pipsmake_base.specs.base_text.declared.base.Base.{Base}
+use Rattle.pipsmake_base.specs.base_text.Written.{kept as kept_text}
 use Rattle.pips_top.specs.Answer.{EndsAs, EndsFor, EndsJob, EndsMade, EndsAnswered, EndsAnsweredOver, EndsWrittenOver, EndsOver, LeavesFiles, got_as, opened_as}
 use Rattle.pips_top.specs.Based.{base_limit, WritesOver}
 use Rattle.pips_top.specs.Counts.{counts_text}

@@ -7,17 +7,17 @@ use Rattle.fx_base.specs.Sink.{appended}
 use Rattle.fx_base.specs.declared.store.Role.TheVariants.{Input, Base as BaseRole}
 use Rattle.fx_base.specs.declared.store.Fetched.TheVariants as fetched
 use Rattle.command_words.specs.Options.{Accepts}
-use Rattle.base_text.specs.declared.base.Base.{Base}
-use Rattle.base_text.specs.declared.base.StoredResult.{StoredResult}
-use Rattle.base_text.specs.declared.base.BaseModule.{BaseModule}
-use Rattle.base_text.specs.Written.{base_text, kept as kept_text}
-use Rattle.base_values.specs.Naming.{Each}
-use Rattle.laws_database.specs.Texts.{ModuleText}
-use Rattle.session_lines.specs.Commands.{commands_of}
-use Rattle.session_texts.specs.Sources.{source_modules}
-use Rattle.pipsmake_db.specs.AnswerTexts.{texts_at_end}
+use Rattle.pipsmake_base.specs.base_text.declared.base.Base.{Base}
+use Rattle.pipsmake_base.specs.base_text.declared.base.StoredResult.{StoredResult}
+use Rattle.pipsmake_base.specs.base_text.declared.base.BaseModule.{BaseModule}
+use Rattle.pipsmake_base.specs.base_text.Written.{base_text, kept as kept_text}
+use Rattle.pipsmake_base.specs.base_values.Naming.{Each}
+use Rattle.pipsmake_base.specs.pipsmake_meaning.Texts.{ModuleText}
+use Rattle.pipsmake_base.specs.session_texts.Commands.{commands_of}
+use Rattle.pipsmake_base.specs.session_texts.Sources.{source_modules}
+use Rattle.pipsmake_base.specs.pipsmake_db.AnswerTexts.{texts_at_end}
 use Rattle.pipsmake_base.specs.Saving.{module_of}
-use Rattle.pipsmake_rules.specs.declared.key.Key.{Key}
+use Rattle.pipsmake_base.specs.pipsmake_rules.declared.key.Key.{Key}
 use Rattle.pipsmake_base.specs.Saved.{texts_in, IsDefinedAt, FirstStale, IsSaved}
 use Rattle.pips_top.specs.Answer.{Ending, EndsGot, EndsOpened, EndsAs, EndsFor, EndsJob, EndsMade, EndsAnswered, EndsAnsweredOver, EndsWrittenOver, EndsOver, EndsKept, AreAccepted, IsAccepted, got_as, opened_as}
 use Rattle.pips_top.specs.Based.{base_limit, IsVerified}

@@ -2,19 +2,19 @@
 use Rattle.std.specs.Prelude.{◌≡◌, ◌≤◌, ◌⊎◌, ℕ, Bool, true, List, [], length, map, nat_lt, Option, Some, None, unwrap_or, IsSomeAnd, Result, Ok, Err, if◌then◌else◌}
 use Rattle.fx_base.specs.Files.{Files, bytes_of, OthersStay}
 use Rattle.fx_base.specs.Sink.{appended}
-use Rattle.result_lines.specs.declared.show.Show.{Show}
-use Rattle.sample_program.specs.Sample.{sample_program}
-use Rattle.session_lines.specs.Commands.{commands_of}
-use Rattle.base_text.specs.declared.base.Base.{Base}
-use Rattle.base_text.specs.declared.refusal.BaseRefusal.{BaseRefusal}
-use Rattle.base_text.specs.Gives.{number_of}
-use Rattle.base_text.specs.Read.{base_of}
-use Rattle.base_text.specs.Written.{base_text, kept as kept_text}
-use Rattle.laws_database.specs.Texts.{ModuleText}
-use Rattle.session_texts.specs.Sources.{source_modules}
-use Rattle.pipsmake_db.specs.AnswerTexts.{texts_at_end}
-use Rattle.pipsmake_db.specs.State.{State, first_state}
-use Rattle.pipsmake_db.specs.Scripts.{AnswersScript}
+use Rattle.pipsmake_base.specs.result_lines.declared.show.Show.{Show}
+use Rattle.pips_top.specs.Sample.{sample_program}
+use Rattle.pipsmake_base.specs.session_texts.Commands.{commands_of}
+use Rattle.pipsmake_base.specs.base_text.declared.base.Base.{Base}
+use Rattle.pipsmake_base.specs.base_text.declared.refusal.BaseRefusal.{BaseRefusal}
+use Rattle.pipsmake_base.specs.base_text.Gives.{number_of}
+use Rattle.pipsmake_base.specs.base_text.Read.{base_of}
+use Rattle.pipsmake_base.specs.base_text.Written.{base_text, kept as kept_text}
+use Rattle.pipsmake_base.specs.pipsmake_meaning.Texts.{ModuleText}
+use Rattle.pipsmake_base.specs.session_texts.Sources.{source_modules}
+use Rattle.pipsmake_base.specs.pipsmake_db.AnswerTexts.{texts_at_end}
+use Rattle.pipsmake_base.specs.pipsmake_db.State.{State, first_state}
+use Rattle.pipsmake_base.specs.pipsmake_db.Scripts.{AnswersScript}
 use Rattle.pipsmake_base.specs.Bases.{empty_base}
 use Rattle.pipsmake_base.specs.Saved.{texts_in, IsSaved}
 use Rattle.pipsmake_base.specs.Saving.{module_of}

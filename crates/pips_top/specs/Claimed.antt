@@ -1,59 +1,77 @@
--- What is claimed of every run of a program by what is found of its modules, and what each line is read as.
+-- What is claimed of every run of a program by what is said of its modules, and what each line is read as.
 use Rattle.std.specs.Prelude.{All as EachOf, ◌≡◌, ℕ, List, Some, slice_get}
 use Rattle.f77_printer.specs.declared.added.Added.{Added}
 use Rattle.call_graph.specs.declared.graph.Graph.{Graph}
 use Rattle.f77_meaning.specs.Modules.{Known, known_of, symbol_names}
+use Rattle.f77_meaning.specs.Occurrences.{Occurrence}
 use Rattle.f77_meaning.specs.Claimed.{InEveryRun, InConformingRuns}
-use Rattle.scalar_phases.specs.Phases.{Analysis, analyses}
-use Rattle.region_phases.specs.Phases.{all_regions}
-use Rattle.region_phases.specs.InPhases.{all_ins}
-use Rattle.region_phases.specs.OutPhases.{all_outs}
-use Rattle.loop_marker.specs.Phases.{ModuleMarks, analysis_in, known_in}
-use Rattle.result_lines.specs.Lines.{scalar_lines_of, region_lines_of, lines_of}
-use Rattle.laws_database.specs.ResultEntries.{module_in, name_in, transformers_in, preconditions_in, regions_in, ins_in, outs_in}
-use Rattle.laws_database.specs.Definitions.{results_of}
-use Rattle.laws_analyses.specs.Claims.{AnalysesHold}
-use Rattle.laws_analyses.specs.Coverage.{AreWhole}
+use Rattle.pipsmake_base.specs.module_phases.ScalarPhases.{scope_of}
+use Rattle.pipsmake_base.specs.loop_marker.Results.{ModuleResults}
+use Rattle.pipsmake_base.specs.pipsmake_meaning.Definitions.{printed_of}
+use Rattle.pipsmake_base.specs.result_lines.Lines.{scalar_lines_of, region_lines_of, lines_of}
+use Rattle.laws_analyses.specs.Claims.{AnalysisHolds}
 use Rattle.laws_lines.specs.Lines.{EachMeans}
-use Rattle.laws_regions.specs.Accepted.{AllRegionsHold}
-use Rattle.laws_marks.specs.InAccepted.{AllInsHold}
-use Rattle.laws_marks.specs.OutAccepted.{AllOutsHold}
-use Rattle.laws_region_lines.specs.Laws.{SetsAreOver, RegionsAreOver}
-use Rattle.laws_region_lines.specs.Lines.{AreRegionLines}
+use Rattle.laws_analyses.specs.Regions.Claims.{RegionsHold}
+use Rattle.laws_marks.specs.InClaims.{InRegionsHold}
+use Rattle.laws_marks.specs.OutClaims.{OutRegionsHold}
+use Rattle.laws_lines.specs.Regions.Laws.{SetsAreOver}
+use Rattle.laws_lines.specs.Regions.Lines.{AreRegionLines}
+use Rattle.pips_top.specs.Covered.{AreCovered}
 use Rattle.pips_top.specs.MarksRead.{AreMarksRead}
 use Rattle.pips_top.specs.Program.{ProgramTree}
-use Rattle.pips_top.specs.Shown.{said_of, lines_for}
-use Rattle.result_lines.specs.declared.show.Show.{Show}
+use Rattle.pips_top.specs.Said.{scalars_said}
+use Rattle.pips_top.specs.Shown.{results_of_program, lines_for}
+use Rattle.pipsmake_base.specs.result_lines.declared.show.Show.{Show}
 
--- in every run, up to its end or its first fault, hold the preconditions and transformers, the READ and WRITE regions, and the IN regions
-pub record AllHold (ks : List Known) (g : Graph) (as' : List Analysis) : Type 0 where
-  pub scalars : InEveryRun ks g (AnalysesHold g as')
-  pub regions : InEveryRun ks g (AllRegionsHold ks g (all_regions g as'))
-  pub ins : InEveryRun ks g (AllInsHold ks g (all_ins g (all_regions g as')))
+-- ---- claims
+
+-- of an execution of a statement of the module, or of its entry: its precondition and its transformer, its READ and WRITE regions, and its IN regions
+pub record SaidHolds (ks : List Known) (g : Graph) (f : ModuleResults) (x : Occurrence) : Type 0 where
+  pub scalars : AnalysisHolds g (scalars_said f) x
+  pub regions : RegionsHold ks g (scope_of g.untracked f.known) f.regions x
+  pub ins : InRegionsHold ks g (scope_of g.untracked f.known) f.ins x
+
+-- of an execution in whatever module
+abbrev pub AllSaidHolds : List Known → Graph → List ModuleResults → Occurrence → Type 0
+AllSaidHolds ks g fs x = EachOf (λ f. f.known.read.name ≡ x.spot.module_name → SaidHolds ks g f x) fs
+
+-- and its OUT regions
+abbrev pub AllOutsHold : List Known → Graph → List ModuleResults → Occurrence → Type 0
+AllOutsHold ks g fs x = EachOf (λ f. f.known.read.name ≡ x.spot.module_name → OutRegionsHold ks g (scope_of g.untracked f.known) f.outs x) fs
+
+-- a region has one system, on the subscripts and on analysed scalars where the statement begins; it names no other variable
+pub record PlacesAreOver (g : Graph) (f : ModuleResults) : Type 0 where
+  pub regions : SetsAreOver g.untracked f.known f.regions
+  pub ins : SetsAreOver g.untracked f.known f.ins
+  pub outs : SetsAreOver g.untracked f.known f.outs
+
+pub record AllHold (ks : List Known) (g : Graph) (fs : List ModuleResults) : Type 0 where
+  -- up to the end of the run or its first fault
+  pub runs : InEveryRun ks g (AllSaidHolds ks g fs)
   -- where no fault ends the run
-  pub outs : InConformingRuns ks g (AllOutsHold ks g (all_outs g (all_ins g (all_regions g as'))))
-  -- a region has one system, on the subscripts and on analysed scalars where the statement begins; it names no other variable
-  pub places : EachOf (RegionsAreOver g.untracked) (all_regions g as')
-  pub in_places : EachOf (λ f. SetsAreOver g.untracked f.known.analysis.found.known f.ins) (all_ins g (all_regions g as'))
-  pub out_places : EachOf (λ f. SetsAreOver g.untracked (known_in f) f.outs) (all_outs g (all_ins g (all_regions g as')))
+  pub outs : InConformingRuns ks g (AllOutsHold ks g fs)
+  pub places : EachOf (PlacesAreOver g) fs
 
 -- what is said is true
 abbrev pub ClaimsHold : ProgramTree → Type 0
-ClaimsHold p = AllHold (known_of p.modules p.tables) p.graph (analyses (known_of p.modules p.tables) p.graph)
+ClaimsHold p = AllHold (known_of p.modules p.tables) p.graph (results_of_program p)
 
--- and nothing is left out: each module has one analysis, each of its statements a precondition and a transformer
+-- and nothing is left out
 abbrev pub SaysAll : ProgramTree → Type 0
-SaysAll p = AreWhole (known_of p.modules p.tables) (analyses (known_of p.modules p.tables) p.graph)
+SaysAll p = AreCovered (known_of p.modules p.tables) (results_of_program p)
 
--- lines are those of a module; each claim is read, by the names of the symbols, as just what was found there: a precondition, a transformer or, where no symbol is named PHI1 to PHI7, a region; each directive as the names of its private variables
-pub record AreRead (show : Show) (f : ModuleMarks) (lines : List Added) : Type 0 where
-  pub parts : lines ≡ lines_of show (module_in f) (results_of f)
-  pub scalars : EachMeans (analysis_in f.outs) (scalar_lines_of (module_in f) (transformers_in f) (preconditions_in f))
-  pub regions : AreRegionLines (symbol_names (module_in f).symbols) (regions_in f) (region_lines_of (module_in f) (regions_in f))
-  pub ins : AreRegionLines (symbol_names (module_in f).symbols) (ins_in f) (region_lines_of (module_in f) (ins_in f))
-  pub outs : AreRegionLines (symbol_names (module_in f).symbols) (outs_in f) (region_lines_of (module_in f) (outs_in f))
-  pub marks : AreMarksRead (symbol_names (module_in f).symbols) f.marks
+-- ---- lines
+
+-- lines are those of a module; each claim is read, by the names of the symbols, as just what was found there: a precondition, a transformer or, where no symbol is named PHI1 to PHI7, a region,
+-- with one line for each region of a DO or a CALL and of the entry; each directive as the names of its private variables
+pub record AreRead (show : Show) (f : ModuleResults) (lines : List Added) : Type 0 where
+  pub parts : lines ≡ lines_of show f.known (printed_of f)
+  pub scalars : EachMeans (scalars_said f) (scalar_lines_of f.known f.transformers f.preconditions)
+  pub regions : AreRegionLines f.known f.regions (region_lines_of f.known f.regions)
+  pub ins : AreRegionLines f.known f.ins (region_lines_of f.known f.ins)
+  pub outs : AreRegionLines f.known f.outs (region_lines_of f.known f.outs)
+  pub marks : AreMarksRead (symbol_names f.known.symbols) f.marks
 
 -- and each line that is added to a module is one of these
 abbrev pub LinesMean : Show → ProgramTree → Type 0
-LinesMean show p = (j : ℕ) (f : ModuleMarks) → slice_get (said_of p) j ≡ Some f → AreRead show f (lines_for show (said_of p) (name_in f))
+LinesMean show p = (j : ℕ) (f : ModuleResults) → slice_get (results_of_program p) j ≡ Some f → AreRead show f (lines_for show (results_of_program p) f.known.read.name)

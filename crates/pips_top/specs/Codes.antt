@@ -1,7 +1,7 @@
 -- The names of the numbers of codes.
 use Rattle.std.specs.Prelude.{ℕ, List, [], Option, Some, None}
-use Rattle.refusal_codes.specs.declared.code.Code.{Code}
-use Rattle.refusal_codes.specs.Refusals.{name_of, code_numbered}
+use Rattle.fx_lists.specs.declared.code.Code.{Code}
+use Rattle.fx_lists.specs.Refusals.{name_of, code_numbered}
 
 -- the name of a code, or nothing
 abbrev pub name_or_nothing : Option Code → List ℕ

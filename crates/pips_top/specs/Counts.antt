@@ -2,16 +2,15 @@
 use Rattle.std.specs.Prelude.{ℕ, ◌+◌, Bool, true, false, List, ◌++◌, length, fold, count_by, nat_eq, codes, decimal}
 use Rattle.std.specs.List.{ends_with}
 use Rattle.f77_printer.specs.declared.added.Added.{Added}
-use Rattle.f77_results.specs.declared.results.At.{At}
-use Rattle.loop_marker.specs.Phases.{ModuleMarks}
-use Rattle.region_sets.specs.declared.marks.Mark.{Mark}
-use Rattle.region_sets.specs.declared.marks.Mark.TheVariants.{Parallel, Serial}
-use Rattle.result_lines.specs.Lines.{lines_of}
-use Rattle.result_lines.specs.declared.show.Show.TheVariants.{All}
-use Rattle.laws_database.specs.ResultEntries.{module_in, preconditions_in}
-use Rattle.laws_database.specs.Definitions.{results_of}
+use Rattle.f77_ast.specs.declared.results.At.{At}
+use Rattle.pipsmake_base.specs.loop_marker.Results.{ModuleResults}
+use Rattle.f77_ast.specs.declared.marks.Mark.{Mark}
+use Rattle.f77_ast.specs.declared.marks.Mark.TheVariants.{Parallel, Serial}
+use Rattle.pipsmake_base.specs.result_lines.Lines.{lines_of}
+use Rattle.pipsmake_base.specs.result_lines.declared.show.Show.TheVariants.{All}
+use Rattle.pipsmake_base.specs.pipsmake_meaning.Definitions.{printed_of}
 use Rattle.pips_top.specs.Program.{ProgramTree}
-use Rattle.pips_top.specs.Shown.{said_of}
+use Rattle.pips_top.specs.Shown.{results_of_program}
 use Rattle.pips_top.specs.declared.counts.Counts.{Counts}
 
 abbrev pub is_parallel : Mark → Bool
@@ -26,18 +25,18 @@ abbrev pub weak_among : List Added → ℕ
 weak_among lines = count_by (λ (a : Added). ends_with nat_eq a.line (codes " WEAK")) lines
 
 -- with a module more: its statements, each of which has a precondition, its loops, those that are parallel, and the weak ones of all lines that show its results
-abbrev pub with_module : Counts → ModuleMarks → Counts
+abbrev pub with_module : Counts → ModuleResults → Counts
 with_module c f = record {
-  statements = c.statements + length (preconditions_in f).at;
+  statements = c.statements + length f.preconditions.at;
   loops = c.loops + length f.marks;
   parallel = c.parallel + parallel_among f.marks;
-  weak = c.weak + weak_among (lines_of All (module_in f) (results_of f));
+  weak = c.weak + weak_among (lines_of All f.known (printed_of f));
 }
 
 abbrev pub no_counts : Counts
 no_counts = record { statements = 0; loops = 0; parallel = 0; weak = 0 }
 
-abbrev pub counts_of : List ModuleMarks → Counts
+abbrev pub counts_of : List ModuleResults → Counts
 counts_of fs = fold with_module no_counts fs
 
 -- a name, a number, and the end of the line
@@ -51,4 +50,4 @@ counts_lines modules c =
 
 -- the five lines
 abbrev pub counts_text : ProgramTree → List ℕ
-counts_text p = counts_lines (length p.modules) (counts_of (said_of p))
+counts_text p = counts_lines (length p.modules) (counts_of (results_of_program p))

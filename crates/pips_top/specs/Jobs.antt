@@ -8,8 +8,8 @@ use Rattle.command_words.specs.declared.request.Show.{Show as Requested}
 use Rattle.command_words.specs.declared.request.Show.TheVariants as requested
 use Rattle.command_words.specs.declared.request.Task.{Task}
 use Rattle.command_words.specs.declared.request.Task.TheVariants as task
-use Rattle.result_lines.specs.declared.show.Show.{Show}
-use Rattle.result_lines.specs.declared.show.Show.TheVariants.{All, Bare, Why}
+use Rattle.pipsmake_base.specs.result_lines.declared.show.Show.{Show}
+use Rattle.pipsmake_base.specs.result_lines.declared.show.Show.TheVariants.{All, Bare, Why}
 use Rattle.pips_top.specs.declared.job.Job.{Job}
 use Rattle.pips_top.specs.declared.job.Job.TheVariants.{Write, Answer, Count, WriteOver, AnswerOver}
 use Rattle.pips_top.specs.declared.job.Opening.{Opening}

@@ -1,14 +1,15 @@
 -- What is said of programs that are read.
 use Rattle.std.specs.Prelude.{◌≡◌, ℕ, List, Ok}
+use Rattle.pips_top.specs.ClaimsRead.{ReadsClaims}
 use Rattle.pips_top.specs.Claimed.{ClaimsHold, SaysAll, LinesMean}
 use Rattle.pips_top.specs.MarkedText.{ReadsMarked, RunsInterleaved}
 use Rattle.pips_top.specs.Program.{ProgramTree}
 use Rattle.pips_top.specs.ReadBack.{ReadsBack}
 use Rattle.pips_top.specs.Reading.{reading}
-use Rattle.result_lines.specs.declared.show.Show.{Show}
-use Rattle.laws_database.specs.Texts.{AreModules}
-use Rattle.pipsmake_db.specs.State.{State}
-use Rattle.pipsmake_db.specs.Scripts.{AnswersScript}
+use Rattle.pipsmake_base.specs.result_lines.declared.show.Show.{Show}
+use Rattle.pipsmake_base.specs.pipsmake_meaning.Texts.{AreModules}
+use Rattle.pipsmake_base.specs.pipsmake_db.State.{State}
+use Rattle.pipsmake_base.specs.pipsmake_db.Scripts.{AnswersScript}
 use Rattle.pips_top.specs.Sound.{IsSound, PrintsSoundly}
 
 -- what is said of a program that was read is true of every run
@@ -26,6 +27,10 @@ ReadLinesMean = (show : Show) (bytes : List ℕ) (p : ProgramTree) → reading b
 -- what is written of a program that was read is read again as the same program, and written as the same text
 abbrev pub ReadWrittenBack : Type 0
 ReadWrittenBack = (show : Show) (bytes : List ℕ) (p : ProgramTree) → reading bytes ≡ Ok p → ReadsBack show p
+
+-- and, with its claims, as that program with just the claims that are said of it
+abbrev pub ReadClaimsBack : Type 0
+ReadClaimsBack = (show : Show) (bytes : List ℕ) (p : ProgramTree) → reading bytes ≡ Ok p → ReadsClaims show p
 
 -- and, with its directives, as that program with its parallel loops marked
 abbrev pub ReadMarkedBack : Type 0

@@ -2,10 +2,13 @@ pub mod Program
 pub mod Reading
 pub mod Shown
 pub mod MarksRead
+pub mod Said
+pub mod Covered
 pub mod Claimed
 pub mod Written
 pub mod ReadBack
 pub mod MarkedText
+pub mod ClaimsRead
 pub mod Sound
 pub mod Laws
 pub mod Counts
@@ -17,3 +20,6 @@ pub mod Status
 pub mod Answer
 pub mod Run
 pub mod Replies
+pub mod Small
+pub mod ExampleLaws
+pub mod Sample

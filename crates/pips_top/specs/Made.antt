@@ -1,8 +1,8 @@
 -- What becomes of a text: it is refused, or there is a text to be written.
 use Rattle.std.specs.Prelude.{ℕ, List, Result, Ok, Err}
 use Rattle.f77_parser.specs.Gives.{Refused}
-use Rattle.result_lines.specs.declared.show.Show.{Show}
-use Rattle.sample_program.specs.Sample.{sample_program}
+use Rattle.pipsmake_base.specs.result_lines.declared.show.Show.{Show}
+use Rattle.pips_top.specs.Sample.{sample_program}
 use Rattle.pips_top.specs.Counts.{counts_text}
 use Rattle.pips_top.specs.Program.{ProgramTree}
 use Rattle.pips_top.specs.Reading.{reading}

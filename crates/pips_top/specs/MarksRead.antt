@@ -1,12 +1,12 @@
 -- What the lines of marks are read as.
 use Rattle.std.specs.Prelude.{◌≡◌, ℕ, false, List, map, Some}
 use Rattle.std.specs.List.{AllByRecursion}
-use Rattle.f77_results.specs.declared.results.At.{At}
+use Rattle.f77_ast.specs.declared.results.At.{At}
 use Rattle.system_text.specs.SystemText.{name_at}
-use Rattle.region_sets.specs.declared.marks.Mark.{Mark}
-use Rattle.region_sets.specs.declared.marks.Mark.TheVariants.{Parallel, Serial}
-use Rattle.mark_lines.specs.MarkText.{obstacle_line, directive_text, directive_lines}
-use Rattle.roundtrip_marks.specs.Directives.{is_sentinel, read_lines}
+use Rattle.f77_ast.specs.declared.marks.Mark.{Mark}
+use Rattle.f77_ast.specs.declared.marks.Mark.TheVariants.{Parallel, Serial}
+use Rattle.pipsmake_base.specs.result_lines.MarkText.{obstacle_line, directive_text, directive_lines}
+use Rattle.laws_lines.specs.Marks.Directives.{is_sentinel, read_lines}
 
 -- the lines of a directive as the names of its private variables; that of an obstacle is no line for compilers
 abbrev pub IsMarkRead : List (List ℕ) → Mark → Type 0

@@ -4,7 +4,7 @@ use Rattle.f77_ast.specs.DeclTrees.{ParsedTree}
 use Rattle.pips_top.specs.Program.{ProgramTree}
 use Rattle.pips_top.specs.Reading.{reading}
 use Rattle.pips_top.specs.Written.{written}
-use Rattle.result_lines.specs.declared.show.Show.{Show}
+use Rattle.pipsmake_base.specs.result_lines.declared.show.Show.{Show}
 
 -- the same modules, whatever the lines at which their statements stand, with the same tables and the same graph
 pub record SameProgram (p q : ProgramTree) : Type 0 where

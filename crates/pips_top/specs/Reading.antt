@@ -1,5 +1,5 @@
 -- What reading a text gives: its program, or its first refusal.
-use Rattle.std.specs.Prelude.{ℕ, List, [], ◌∷◌, Result, Ok, Err}
+use Rattle.std.specs.Prelude.{ℕ, List, [], Result, Ok, Err}
 use Rattle.fixed_form.specs.declared.line.Lines.{Lines}
 use Rattle.fixed_form.specs.Reading as lines
 use Rattle.f77_ast.specs.DeclTrees.{ParsedTree}
@@ -8,9 +8,7 @@ use Rattle.f77_parser.specs.Modules.{parse_of}
 use Rattle.f77_parser.specs.declared.refusal.ParseRefusal.{ParseRefusal}
 use Rattle.f77_parser.specs.declared.refusal.ParseRefusal.TheVariants as parse
 use Rattle.f77_ast.specs.Symbols.{SymbolTree}
-use Rattle.refusal_codes.specs.declared.refusal.Refusal.{Refusal}
-use Rattle.refusal_codes.specs.Refusals.{number_of}
-use Rattle.storage_layout.specs.Symbols.{symbols_of}
+use Rattle.fx_lists.specs.Refusals.{number_of}
 use Rattle.call_graph.specs.declared.graph.Graph.{Graph}
 use Rattle.call_graph.specs.declared.refusal.Fault.{Fault}
 use Rattle.call_graph.specs.declared.refusal.Fault.TheVariants.{NoMain, At}
@@ -18,6 +16,7 @@ use Rattle.call_graph.specs.declared.refusal.LinkRefusal.{LinkRefusal}
 use Rattle.call_graph.specs.declared.refusal.LinkRefusal.TheVariants as unlinked
 use Rattle.call_graph.specs.Links.{link_of}
 use Rattle.pips_top.specs.Program.{ProgramTree}
+use Rattle.pipsmake_base.specs.session_texts.Sources.{tables_of}
 
 -- refused at a line of the text; only what is outside the profile has a keyword
 abbrev pub refused_at : ℕ → ℕ → Refused
@@ -27,16 +26,6 @@ refused_at line code = record { line = line; code = code; keyword = [] }
 abbrev pub lines_or : Result Lines (ℕ × ℕ) → Result Lines Refused
 lines_or (Ok read) = Ok read
 lines_or (Err at) = Err (refused_at at.0 at.1)
-
--- a table of symbols, with the line and the code of a refusal
-abbrev pub table_or : Result (List SymbolTree) Refusal → Result (List SymbolTree) Refused
-table_or (Ok table) = Ok table
-table_or (Err r) = Err (refused_at r.line (number_of r.code))
-
--- the table of symbols of each module, or the first refusal: modules in the order of the text
-abbrev pub tables_of : List ParsedTree → Result (List (List SymbolTree)) Refused
-tables_of [] = Ok []
-tables_of (m ∷ ms) = and_then (table_or (symbols_of m)) (λ t. and_then (tables_of ms) (λ ts. Ok (t ∷ ts)))
 
 -- the line, which is one of the text in whichever module it stands, and the code of what is wrong with links; the want of a main program is refused at line 1
 abbrev pub refused_for : Fault → Refused

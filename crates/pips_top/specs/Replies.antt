@@ -5,23 +5,27 @@ use Rattle.fx_base.specs.Store.{KeptBy}
 use Rattle.fx_base.specs.declared.store.Fetched.TheVariants as fetched
 use Rattle.fx_base.specs.declared.store.Kept.TheVariants as kept
 use Rattle.fx_base.specs.declared.store.Role.TheVariants.{Base as BaseRole}
-use Rattle.result_lines.specs.declared.show.Show.{Show}
-use Rattle.base_text.specs.declared.base.Base.{Base}
-use Rattle.base_text.specs.declared.refusal.BaseRefusal.{BaseRefusal}
-use Rattle.base_text.specs.Gives.{number_of}
-use Rattle.base_text.specs.Read.{base_of}
-use Rattle.base_text.specs.Written.{kept_base, kept as kept_text}
-use Rattle.pipsmake_rules.specs.declared.key.Key.{Key}
-use Rattle.pipsmake_db.specs.declared.db.Db.{Db}
-use Rattle.pipsmake_db.specs.declared.refusal.DbRefusal.{DbRefusal}
-use Rattle.pipsmake_db.specs.declared.refusal.DbRefusal.TheVariants as db
-use Rattle.pipsmake_db.specs.State.{State, first_state, IsIn, texts_of}
-use Rattle.pipsmake_db.specs.Scripts.{AnswersScript}
+use Rattle.pipsmake_base.specs.result_lines.declared.show.Show.{Show}
+use Rattle.pipsmake_base.specs.base_text.declared.base.Base.{Base}
+use Rattle.pipsmake_base.specs.base_text.declared.refusal.BaseRefusal.{BaseRefusal}
+use Rattle.pipsmake_base.specs.base_text.Gives.{number_of}
+use Rattle.pipsmake_base.specs.base_text.Read.{base_of}
+use Rattle.pipsmake_base.specs.base_text.Written.{kept_base, kept as kept_text}
+use Rattle.pipsmake_base.specs.pipsmake_rules.declared.key.Key.{Key}
+use Rattle.pipsmake_base.specs.pipsmake_db.declared.db.Db.{Db}
+use Rattle.pipsmake_base.specs.pipsmake_db.declared.refusal.DbRefusal.{DbRefusal}
+use Rattle.pipsmake_base.specs.pipsmake_db.declared.refusal.DbRefusal.TheVariants as db
+use Rattle.pipsmake_base.specs.laws_database.Stands.{Valuation}
+use Rattle.pipsmake_base.specs.pipsmake_db.Calls.{Rests}
+use Rattle.pipsmake_base.specs.pipsmake_db.Shown.{texts_from}
+use Rattle.pipsmake_base.specs.pipsmake_db.State.{State, first_state, IsIn, texts_of}
+use Rattle.pipsmake_base.specs.pipsmake_db.Scripts.{AnswersScript}
 use Rattle.pipsmake_base.specs.Current.{FreshIsCurrent}
-use Rattle.base_text.specs.Grammar.{IsBase}
-use Rattle.pipsmake_base.specs.Saved.{texts_in, loaded_state, IsSaved, FirstStale}
-use Rattle.laws_database.specs.Texts.{ModuleText, names_in}
-use Rattle.session_texts.specs.Sources.{source_modules}
+use Rattle.pipsmake_base.specs.base_text.Grammar.{IsBase}
+use Rattle.pipsmake_base.specs.Saved.{texts_in, keys_in, loaded_state, IsSaved, FirstStale}
+use Rattle.pipsmake_base.specs.Whole.{values_in, IsCompleteBase}
+use Rattle.pipsmake_base.specs.pipsmake_meaning.Texts.{ModuleText, names_in, SameTexts}
+use Rattle.pipsmake_base.specs.session_texts.Sources.{source_modules}
 use Rattle.pipsmake_base.specs.Saving.{module_of, stored_keys}
 use Rattle.pips_top.specs.Based.{base_limit, IsVerified, IsBaseOf, all_keys}
 use Rattle.pips_top.specs.Jobs.{HasJob}
@@ -140,6 +144,8 @@ pub record GoesOnFrom (old new : Stored) (o : Opening) (d : Db) : Type 0 where
   pub verified : IsVerified o.verify opened
   pub grammar : IsBase opened
   pub texts : texts_of d ≡ texts_in opened
+  pub fresh : d.fresh ≡ keys_in opened
+  pub rests : IsCompleteBase opened → Rests d (values_in opened)
   pub stands : IsSaved opened → IsIn d (loaded_state opened)
 
 -- the bytes of an INPUT and a database that goes on from a base; or what is replied where one is not got
@@ -174,11 +180,12 @@ KeptOr old new name left (Some (Writing text)) = ⊥
 KeptOr old new name left (Some (Stopping status line)) = NotKeptFor old new name left status line
 KeptOr old new name left (Some NoMemory) = Untouched old new
 
--- what a database leaves: its texts, and from each of its states in which fresh results are up to date the base of that state, in the grammar
+-- what a database leaves: its texts, in the grammar, and from each of its states in which fresh results are up to date the base of that state
 pub record IsLeftBy (d : Db) (left : Base) : Type 0 where
   pub modules : left.modules ≡ map module_of (texts_of d)
+  pub keys : keys_in left ≡ stored_keys d.fresh (names_in (texts_of d))
   pub of_state : (s : State) → IsIn d s → FreshIsCurrent s → IsBaseOf s left
-  pub grammar : (s : State) → IsIn d s → FreshIsCurrent s → IsBase left
+  pub grammar : IsBase left
 
 -- it is kept, and then the text is to be written; or what is replied where it is not
 abbrev pub KeptWith : Stored → Stored → List ℕ → Db → List ℕ → Reply → Type 0
@@ -193,16 +200,17 @@ pub record PrintsFrom (show : Show) (program : ProgramTree) (text : List ℕ) (e
   pub next : State
   pub is_in : IsIn e next
   pub current : FreshIsCurrent next
-  pub all : stored_keys next.fresh (names_in next.texts) ≡ all_keys (names_in next.texts)
   pub is : text ≡ written show program
 
--- the program of a text takes the place of the texts of a database, and is printed from each state of that
+-- the program of a text takes the place of the texts of a database, and is printed from each state of that; where the texts are the same, with the stored results on which it rests
 pub record PrintsOver (show : Show) (bytes text : List ℕ) (d e : Db) : Type 0 where
   pub program : ProgramTree
   pub as_program : reading bytes ≡ Ok program
   pub sources : List ModuleText
   pub split : source_modules bytes ≡ Ok sources
   pub texts : texts_of e ≡ sources
+  pub all : stored_keys e.fresh (names_in (texts_of e)) ≡ all_keys (names_in (texts_of e))
+  pub rests : (stored : Valuation) → Rests d stored → SameTexts (texts_of d) sources → texts_from sources stored show (names_in sources) ≡ Some text
   pub from : (s : State) → IsIn d s → PrintsFrom show program text e
 
 -- or it is refused, as a whole

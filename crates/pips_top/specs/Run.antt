@@ -11,16 +11,16 @@ use Rattle.fx_base.specs.declared.store.Fetched.{Fetched}
 use Rattle.fx_base.specs.declared.store.Fetched.TheVariants as fetched
 use Rattle.fx_base.specs.declared.store.Kept.TheVariants as kept
 use Rattle.command_words.specs.Options.{Accepts}
-use Rattle.result_lines.specs.declared.show.Show.{Show}
-use Rattle.sample_program.specs.Sample.{sample_program}
-use Rattle.pipsmake_rules.specs.declared.key.Key.{Key}
-use Rattle.base_text.specs.declared.base.Base.{Base as BaseFile}
-use Rattle.base_text.specs.declared.refusal.BaseRefusal.{BaseRefusal}
-use Rattle.base_text.specs.Gives.{number_of}
-use Rattle.base_text.specs.Read.{base_of}
-use Rattle.base_text.specs.Written.{kept as kept_text}
-use Rattle.pipsmake_db.specs.State.{State, first_state}
-use Rattle.pipsmake_db.specs.Scripts.{AnswersScript}
+use Rattle.pipsmake_base.specs.result_lines.declared.show.Show.{Show}
+use Rattle.pips_top.specs.Sample.{sample_program}
+use Rattle.pipsmake_base.specs.pipsmake_rules.declared.key.Key.{Key}
+use Rattle.pipsmake_base.specs.base_text.declared.base.Base.{Base as BaseFile}
+use Rattle.pipsmake_base.specs.base_text.declared.refusal.BaseRefusal.{BaseRefusal}
+use Rattle.pipsmake_base.specs.base_text.Gives.{number_of}
+use Rattle.pipsmake_base.specs.base_text.Read.{base_of}
+use Rattle.pipsmake_base.specs.base_text.Written.{kept_base, kept as kept_text}
+use Rattle.pipsmake_base.specs.pipsmake_db.State.{State, first_state}
+use Rattle.pipsmake_base.specs.pipsmake_db.Scripts.{AnswersScript}
 use Rattle.pipsmake_base.specs.Saved.{texts_in, IsSaved, FirstStale}
 use Rattle.pips_top.specs.Jobs.{job_in, input_in, opening_in, HasJob, AreRefused}
 use Rattle.pips_top.specs.Made.{made, counted, input_limit}
@@ -131,7 +131,7 @@ abbrev pub LacksRoom : Stored → Stored → List ℕ → Job → Type 0
 LacksRoom old new line job =
     (text : List ℕ) × (left : BaseFile) × WorksOver old new job text left × IsSomeAnd (opening_in job) (λ (o : Opening). (kept_text left base_limit ≡ None) × (line ≡ naming (codes "pips: too long ") o.name))
 
--- it cannot be kept
+-- it cannot be kept, and no file has changed
 abbrev pub IsNotKept : Stored → Stored → List ℕ → Job → Type 0
 IsNotKept old new line job =
     (text : List ℕ) × (left : BaseFile) × WorksOver old new job text left × IsSomeAnd (opening_in job) (λ (o : Opening). (bytes : List ℕ) × (kept_text left base_limit ≡ Some bytes)
@@ -141,7 +141,7 @@ IsNotKept old new line job =
 abbrev pub Untouched : Stored → Stored → Type 0
 Untouched old new = new.files ≡ old.files
 
--- the job ends with this status before it writes, and with this line; no file has changed, but that a base that cannot be kept may hold anything
+-- the job ends with this status before it writes, and with this line; no file has changed, also where the base cannot be kept
 abbrev pub StopsFor : Stored → Stored → Status → List ℕ → Job → Type 0
 StopsFor old new Done line job = ⊥
 StopsFor old new (Refused at code) line job = IsRefused old new at code line job × Untouched old new
@@ -200,6 +200,8 @@ pub record Keeps (old new : Stored) (job : Job) (opening : Opening) (text : List
   pub bytes : List ℕ
   pub is : kept_text left base_limit ≡ Some bytes
   pub kept : KeptBy old.files new.files (old.counts Base) (new.counts Base) opening.name bytes kept.Done
+  -- whatever base was opened, this is what the next run reads
+  pub reads : base_of bytes ≡ Ok (kept_base left base_limit)
   -- if the base that was opened holds only results of its own texts, then so does the one that the next run opens
   pub again : IsSaved works.opened → ReadsSaved bytes
 

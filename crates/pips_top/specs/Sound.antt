@@ -1,19 +1,20 @@
 -- What is true of each program that is written, alone or in a session.
 use Rattle.std.specs.Prelude.{◌≡◌, ℕ, List, ◌∷◌, ◌++◌, Option, Some, None, Ok}
-use Rattle.pipsmake_rules.specs.declared.key.Key.{Key}
-use Rattle.session_lines.specs.declared.command.Command.{Command}
-use Rattle.session_lines.specs.declared.command.Command.TheVariants.{Print}
-use Rattle.session_lines.specs.Answers.{made_lines, text_with_count}
-use Rattle.session_lines.specs.Commands.{commands_of}
-use Rattle.result_lines.specs.declared.show.Show.{Show}
-use Rattle.laws_pieces.specs.Joined.{joined_texts}
-use Rattle.laws_database.specs.Texts.{ModuleText}
-use Rattle.laws_database.specs.ProgramTexts.{texts_of}
-use Rattle.pipsmake_db.specs.declared.refusal.DbRefusal.{DbRefusal}
-use Rattle.pipsmake_db.specs.Refusals.{link_refusal}
-use Rattle.pipsmake_db.specs.State.{State}
-use Rattle.pipsmake_db.specs.Answers.{refusal_line}
-use Rattle.pipsmake_db.specs.Scripts.{AnswersAll}
+use Rattle.pipsmake_base.specs.pipsmake_rules.declared.key.Key.{Key}
+use Rattle.pipsmake_base.specs.session_texts.declared.command.Command.{Command}
+use Rattle.pipsmake_base.specs.session_texts.declared.command.Command.TheVariants.{Print}
+use Rattle.pipsmake_base.specs.session_texts.Answers.{made_lines, text_with_count}
+use Rattle.pipsmake_base.specs.session_texts.Commands.{commands_of}
+use Rattle.pipsmake_base.specs.result_lines.declared.show.Show.{Show}
+use Rattle.laws_programs.specs.roundtrip_programs.Pieces.Joined.{joined_texts}
+use Rattle.pipsmake_base.specs.pipsmake_meaning.Texts.{ModuleText}
+use Rattle.pipsmake_base.specs.laws_database.ProgramTexts.{texts_of}
+use Rattle.pipsmake_base.specs.pipsmake_db.declared.refusal.DbRefusal.{DbRefusal}
+use Rattle.pipsmake_base.specs.pipsmake_db.Refusals.{link_refusal}
+use Rattle.pipsmake_base.specs.pipsmake_db.State.{State}
+use Rattle.pipsmake_base.specs.pipsmake_db.Answers.{refusal_line}
+use Rattle.pipsmake_base.specs.pipsmake_db.Scripts.{AnswersAll}
+use Rattle.pips_top.specs.ClaimsRead.{ReadsClaims}
 use Rattle.pips_top.specs.Claimed.{ClaimsHold, SaysAll, LinesMean}
 use Rattle.pips_top.specs.MarkedText.{ReadsMarked, RunsInterleaved}
 use Rattle.pips_top.specs.Program.{ProgramTree}
@@ -22,12 +23,14 @@ use Rattle.pips_top.specs.Reading.{reading}
 use Rattle.pips_top.specs.Written.{written}
 
 -- what is written of a program with what is said of it: this is true of every run and leaves nothing out, each line is read as just what is said, the text is read again as the same program,
+-- with just these claims in its bytes, each before its part,
 -- and with its directives as that program with just the parallel loops marked that were found, which does as the program does, these loops interleaved anyhow
 pub record IsSound (show : Show) (p : ProgramTree) : Type 0 where
   pub claims : ClaimsHold p
   pub whole : SaysAll p
   pub lines : LinesMean show p
   pub back : ReadsBack show p
+  pub claimed : ReadsClaims show p
   pub marked : ReadsMarked show p
   pub interleaved : RunsInterleaved show p marked
 

@@ -1,9 +1,9 @@
 -- The exit number of each status, and the lines on err.
 use Rattle.std.specs.Prelude.{ℕ, List, [], ◌∷◌, ◌++◌, codes, decimal}
-use Rattle.pipsmake_rules.specs.declared.key.Key.{Key}
-use Rattle.pipsmake_rules.specs.Kinds.{name_of}
-use Rattle.base_text.specs.declared.refusal.BaseRefusal.{BaseRefusal}
-use Rattle.base_text.specs.declared.refusal.BaseRefusal.TheVariants.{NotJson, WrongShape, WrongVersion, NumberTooBig, Memory as NoRoom}
+use Rattle.pipsmake_base.specs.pipsmake_rules.declared.key.Key.{Key}
+use Rattle.pipsmake_base.specs.pipsmake_rules.Kinds.{name_of}
+use Rattle.pipsmake_base.specs.base_text.declared.refusal.BaseRefusal.{BaseRefusal}
+use Rattle.pipsmake_base.specs.base_text.declared.refusal.BaseRefusal.TheVariants.{NotJson, WrongShape, WrongVersion, NumberTooBig, Memory as NoRoom}
 use Rattle.pips_top.specs.Codes.{code_name}
 use Rattle.pips_top.specs.declared.status.Status.{Status}
 use Rattle.pips_top.specs.declared.status.Status.TheVariants.{Done, Refused, Usage, NoInput, TooLong, ReadFault, WriteFault, BadBase, StaleBase, BaseFault, Memory}

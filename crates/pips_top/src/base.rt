@@ -1,6 +1,6 @@
 //! The base of a run: opened before the work, kept after it.
 ghost use Rattle.std.specs.Prelude.{◌≡◌, IfOk};
-ghost use Rattle.base_text.specs.Grammar.{IsBase};
+ghost use Rattle.pipsmake_base.specs.base_text.Grammar.{IsBase};
 ghost use Rattle.fx_base.specs.declared.store.Role.TheVariants.{Base as BaseRole};
 ghost use Rattle.fx_base.specs.Store.{OnlyBaseFaults, OnlyCounts};
 ghost use Rattle.pips_top.specs.Replies.{BadBaseOr, BaseOr, KeptOr, OpenedOr, VerifiedOr};
@@ -10,8 +10,9 @@ use crate::Status;
 use crate::job::Opening;
 use crate::reply::{Reply, stopping};
 use crate::status::{base_line, naming_line, stale_line};
-use base_text::{Base, BaseRefusal, base_read, kept_text, read_is_in_grammar};
-use fx_base::{Fetched, Kept, List, Role, Store, Text};
+use fx_base::{Fetched, Kept, Role, Store};
+use fx_lists::{List, Text};
+use pipsmake_base::base_text::{Base, BaseRefusal, base_read, kept_text, read_is_in_grammar};
 use pipsmake_base::{bases_are_modules, first_stale};
 use std::alloc::Global;
 

@@ -1,18 +1,17 @@
 //! What is counted of a program: its modules, statements, loops, parallel loops and weak claims.
 ghost use Rattle.std.specs.Prelude.{◌≡◌, ◌+◌, ◌++◌, map, IfOk, OnOk, length};
-ghost use Rattle.loop_marker.specs.Views.{marks_tree};
+ghost use Rattle.pipsmake_base.specs.loop_marker.Views.{results_tree};
 ghost use Rattle.pips_top.specs.Counts.{count_line, counts_lines, counts_of, counts_text, is_parallel, no_counts, parallel_among, weak_among, with_module};
 ghost use Rattle.pips_top.specs.Program.{program_tree};
 
 use crate::program::Program;
-use crate::results::{lines_on, said_of};
+use crate::results::{lines_on, results_of_program};
 use call_graph::Graph;
+use f77_ast::{At, Mark};
 use f77_printer::Added;
-use f77_results::At;
-use fx_base::Text;
-use loop_marker::ModuleMarks;
-use region_sets::Mark;
-use result_lines::Show;
+use fx_lists::Text;
+use pipsmake_base::loop_marker::ModuleResults;
+use pipsmake_base::result_lines::Show;
 use std::alloc::{AllocError as Memory, Global};
 
 /// What is counted of modules.
@@ -74,16 +73,16 @@ fn with_module(
     alloc: Global,
     graph: &Graph,
     counts: Counts,
-    said: &ModuleMarks<'_>,
+    results: &ModuleResults<'_>,
 ) -> Result<Counts, Memory>
-    ensures { IfOk result (λ sum. sum ≡ with_module counts (marks_tree said.now)) }
+    ensures { IfOk result (λ sum. sum ≡ with_module counts (results_tree results.now)) }
 {
-    let lines = lines_on(alloc, graph, Show::All, said)?;
-    let statements = said.outs.known.known.analysis.holds.at.len();
-    let parallel = parallel_among(said.marks.as_slice());
+    let lines = lines_on(alloc, graph, Show::All, results)?;
+    let statements = results.preconditions.at.len();
+    let parallel = parallel_among(results.marks.as_slice());
     Ok(Counts {
         statements: sum(counts.statements, statements)?,
-        loops: sum(counts.loops, said.marks.len())?,
+        loops: sum(counts.loops, results.marks.len())?,
         parallel: sum(counts.parallel, parallel)?,
         weak: sum(counts.weak, weak_among(lines.as_slice()))?,
     })
@@ -91,12 +90,12 @@ fn with_module(
 
 /// The counts of all modules.
 #[tactic(auto, using(crate::proofs::Joining::count_steps))]
-fn counts_of(alloc: Global, graph: &Graph, all: &[ModuleMarks<'_>]) -> Result<Counts, Memory>
-    ensures { IfOk result (λ counts. counts ≡ counts_of (map marks_tree all.now)) }
+fn counts_of(alloc: Global, graph: &Graph, all: &[ModuleResults<'_>]) -> Result<Counts, Memory>
+    ensures { IfOk result (λ counts. counts ≡ counts_of (map results_tree all.now)) }
 {
     let mut counts = Counts::none();
-    for said in all {
-        counts = with_module(alloc, graph, counts, said)?;
+    for results in all {
+        counts = with_module(alloc, graph, counts, results)?;
     }
     Ok(counts)
 }
@@ -131,7 +130,7 @@ pub fn count_program(alloc: Global, program: &Program) -> Result<Text, Memory>
     requires one_each { length program.now.modules ≡ length program.now.tables }
     ensures { IfOk result (λ text. text ≡ counts_text (program_tree program.now)) }
 {
-    let all = said_of(alloc, program)?;
+    let all = results_of_program(alloc, program)?;
     let counts = counts_of(alloc, &program.graph, all.as_slice())?;
     counts_lines(alloc, program.modules.len(), &counts)
 }

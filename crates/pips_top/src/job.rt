@@ -3,8 +3,9 @@ ghost use Rattle.std.specs.Prelude.{◌≡◌};
 ghost use Rattle.pips_top.specs.Jobs.{JobBy, does, shown};
 
 use command_words::{Request, Task, request_of};
-use fx_base::{Text, Words};
-use result_lines::Show;
+use fx_base::Words;
+use fx_lists::Text;
+use pipsmake_base::result_lines::Show;
 use std::alloc::{AllocError as Memory, Global};
 
 /// A base that is opened before the work, and kept after it.

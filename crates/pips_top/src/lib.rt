@@ -3,6 +3,7 @@
 
 mod base;
 mod counts;
+mod example_laws;
 mod job;
 mod laws;
 mod make;
@@ -11,10 +12,13 @@ mod program;
 mod reading;
 mod reply;
 mod results;
+mod sample;
 mod session;
 mod status;
 mod top;
 mod written;
 
+pub use example_laws::{text_runs_so, wrong_claim_fails};
+pub use sample::sample_program;
 pub use status::Status;
 pub use top::run;

@@ -4,11 +4,11 @@ ghost use Rattle.pips_top.specs.Made.{counted, made, input_limit};
 
 use crate::counts::count_program;
 use crate::reading::read;
+use crate::sample_program;
 use crate::written::write_program;
 use f77_parser::ParseRefusal;
-use fx_base::Text;
-use result_lines::Show;
-use sample_program::sample_program;
+use fx_lists::Text;
+use pipsmake_base::result_lines::Show;
 use std::alloc::{AllocError as Memory, Global};
 
 /// What becomes of a text.

@@ -15,10 +15,11 @@ use crate::make::Made;
 use crate::reply::{Reply, stopping};
 use crate::session::print_over;
 use crate::status::{naming_line, refusal_line};
-use fx_base::{Fetched, Role, Store, Text};
+use fx_base::{Fetched, Role, Store};
+use fx_lists::Text;
+use pipsmake_base::pipsmake_db::{Db, answer_script};
+use pipsmake_base::result_lines::Show;
 use pipsmake_base::{answers_stay_current, bases_are_modules, load, save, sessions_begin_current};
-use pipsmake_db::{Db, answer_script};
-use result_lines::Show;
 use std::alloc::Global;
 
 /// Fetches the INPUT of a name, of at most 2^20 bytes. Err is what is replied where it is not got.

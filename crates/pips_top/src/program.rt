@@ -2,7 +2,7 @@
 use call_graph::Graph;
 use f77_ast::Symbols;
 use f77_parser::ModuleTrees;
-use fx_base::List;
+use fx_lists::List;
 
 /// The modules of a text, the symbols of each in the same order, and the graph of their CALLs and common blocks.
 #[derive(Drop)]

@@ -3,51 +3,20 @@ ghost use Rattle.std.specs.Prelude.{◌≡◌, ◌≤◌, length, map, IfOk};
 ghost use Rattle.f77_ast.specs.PlainDecl.{parsed_tree};
 ghost use Rattle.f77_parser.specs.Gives.{Gives};
 ghost use Rattle.f77_ast.specs.Symbols.{symbol_tree};
-ghost use Rattle.storage_layout.specs.Symbols.{symbols_of};
 ghost use Rattle.call_graph.specs.Links.{link_of};
 ghost use Rattle.pips_top.specs.Made.{input_limit};
 ghost use Rattle.pips_top.specs.Program.{program_tree};
-ghost use Rattle.pips_top.specs.Reading.{graph_or, in_reading, program_of, reading, table_or, tables_of};
+ghost use Rattle.pips_top.specs.Reading.{graph_or, in_reading, program_of, reading};
+ghost use Rattle.pipsmake_base.specs.session_texts.Sources.{tables_of};
 
 use crate::program::Program;
 use call_graph::{Graph, LinkRefusal, link};
-use f77_ast::{Parsed, Symbols};
+use f77_ast::Symbols;
 use f77_parser::{ModuleTrees, ParseRefusal, parse};
 use fixed_form::{ReadRefusal, statements};
-use fx_base::{List, Text};
-use refusal_codes::Code;
+use fx_lists::{Code, List, Text};
+use pipsmake_base::session_texts::tables_of;
 use std::alloc::Global;
-use storage_layout::{LayoutRefusal, symbols};
-
-/// The symbols of a module, or its refusal as one of reading.
-#[tactic(auto, using(crate::proofs::SymbolLaws::refused_table))]
-fn table_of(alloc: Global, parsed: &Parsed) -> Result<Symbols, ParseRefusal>
-    ensures { Gives (map symbol_tree) result (table_or (symbols_of (parsed_tree parsed.now))) }
-{
-    match symbols(alloc, parsed) {
-        Ok(table) => Ok(table),
-        Err(LayoutRefusal::At(line, code)) => {
-            Err(ParseRefusal::At(line, code, Text::new(alloc)))
-        }
-        Err(LayoutRefusal::Memory) => Err(ParseRefusal::Memory),
-    }
-}
-
-/// The symbols of each module, or the refusal of the first that has none.
-#[tactic(auto, using(crate::proofs::SymbolLaws::symbol_steps))]
-fn tables_of(alloc: Global, modules: &ModuleTrees) -> Result<List<Symbols>, ParseRefusal>
-    ensures defined { Gives (map (map symbol_tree)) result (tables_of (map parsed_tree modules.now)) }
-    ensures one_each { IfOk result (λ tables. length modules.now ≡ length tables) }
-{
-    let mut tables = List::new(alloc);
-    for parsed in modules.as_slice() {
-        match table_of(alloc, parsed) {
-            Ok(table) => tables.push(table)?,
-            Err(refusal) => return Err(refusal),
-        }
-    }
-    Ok(tables)
-}
 
 /// A refusal of links as one of reading. The line is one of the text, in whichever module it stands.
 fn in_reading(alloc: Global, refusal: LinkRefusal) -> ParseRefusal

@@ -14,8 +14,9 @@ use crate::make::{Made, count_sample, make};
 use crate::over::{reply_to_program_over, reply_to_script_over};
 use crate::session::answer_first;
 use crate::status::{naming_line, refusal_line, usage_line};
-use fx_base::{Fetched, Role, Store, Text, Words};
-use result_lines::Show;
+use fx_base::{Fetched, Role, Store, Words};
+use fx_lists::Text;
+use pipsmake_base::result_lines::Show;
 use std::alloc::{AllocError as Memory, Global};
 
 /// What a run answers, before anything is written.

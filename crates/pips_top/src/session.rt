@@ -4,11 +4,11 @@ ghost use Rattle.pips_top.specs.Made.{input_limit};
 ghost use Rattle.pips_top.specs.Replies.{AnswersFirst, PrintsWhole, RefusedBy};
 
 use crate::make::Made;
-use fx_base::Text;
-use laws_plain_run::{accepted_is_split, linked_alike, linked_is_accepted};
+use fx_lists::Text;
+use pipsmake_base::laws_database::{accepted_is_split, linked_alike, linked_is_accepted};
 use pipsmake_base::making_stays_current;
-use pipsmake_db::{Db, DbRefusal, Prints, answer_script, print_all};
-use result_lines::Show;
+use pipsmake_base::pipsmake_db::{Db, DbRefusal, Prints, answer_script, print_all};
+use pipsmake_base::result_lines::Show;
 use std::alloc::{AllocError as Memory, Global};
 
 /// The answers to the commands of a script of at most 2^20 bytes, from a session without texts.

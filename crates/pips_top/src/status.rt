@@ -3,10 +3,9 @@ ghost use Rattle.std.specs.Prelude.{◌≡◌, ◌++◌, IfOk, OnOk};
 ghost use Rattle.pips_top.specs.Codes.{code_name};
 ghost use Rattle.pips_top.specs.Status.{base_line, base_word, keyword_text, naming, number_of, refusal_line, stale_line, usage_line};
 
-use base_text::BaseRefusal;
-use fx_base::Text;
-use pipsmake_rules::Key;
-use refusal_codes::Code;
+use fx_lists::{Code, Text};
+use pipsmake_base::base_text::BaseRefusal;
+use pipsmake_base::pipsmake_rules::Key;
 use std::alloc::{AllocError as Memory, Global};
 
 /// How a run ended. `BadBase` has the code of what is wrong with the base.

@@ -1,21 +1,21 @@
 //! The written text of a program.
 ghost use Rattle.std.specs.Prelude.{◌≡◌, IfOk, length, map};
 ghost use Rattle.f77_ast.specs.PlainDecl.{parsed_tree};
-ghost use Rattle.loop_marker.specs.Views.{marks_tree};
-ghost use Rattle.roundtrip_text.specs.Texts.{modules_text, text_of};
-ghost use Rattle.laws_written.specs.Laws.{by_tree};
-ghost use Rattle.laws_database.specs.ProgramTexts.{lines_found};
+ghost use Rattle.pipsmake_base.specs.loop_marker.Views.{results_tree};
+ghost use Rattle.laws_programs.specs.roundtrip_programs.Texts.Texts.{modules_text, text_of};
+ghost use Rattle.laws_programs.specs.roundtrip_programs.Written.Laws.{by_tree};
+ghost use Rattle.pipsmake_base.specs.laws_database.ProgramTexts.{lines_found};
 ghost use Rattle.pips_top.specs.Program.{program_tree};
 ghost use Rattle.pips_top.specs.Written.{written};
 
 use crate::program::Program;
-use crate::results::{lines_for, said_of};
+use crate::results::{lines_for, results_of_program};
 use call_graph::Graph;
 use f77_ast::Parsed;
 use f77_printer::plain;
-use fx_base::Text;
-use loop_marker::ModuleMarks;
-use result_lines::Show;
+use fx_lists::Text;
+use pipsmake_base::loop_marker::ModuleResults;
+use pipsmake_base::result_lines::Show;
 use std::alloc::{AllocError as Memory, Global};
 
 /// A module, with the lines that are added to it.
@@ -23,10 +23,10 @@ fn text_of(
     alloc: Global,
     graph: &Graph,
     show: Show,
-    all: &[ModuleMarks<'_>],
+    all: &[ModuleResults<'_>],
     parsed: &Parsed,
 ) -> Result<Text, Memory>
-    ensures { IfOk result (λ text. text ≡ text_of (by_tree (lines_found show (map marks_tree all.now))) (parsed_tree parsed.now)) }
+    ensures { IfOk result (λ text. text ≡ text_of (by_tree (lines_found show (map results_tree all.now))) (parsed_tree parsed.now)) }
 {
     let added = lines_for(alloc, graph, show, all, &parsed.module.name)?;
     plain(alloc, &parsed.places, &parsed.module, &added)
@@ -38,10 +38,10 @@ fn modules_text(
     alloc: Global,
     graph: &Graph,
     show: Show,
-    all: &[ModuleMarks<'_>],
+    all: &[ModuleResults<'_>],
     modules: &[Parsed],
 ) -> Result<Text, Memory>
-    ensures { IfOk result (λ text. text ≡ modules_text (by_tree (lines_found show (map marks_tree all.now))) (map parsed_tree modules.now)) }
+    ensures { IfOk result (λ text. text ≡ modules_text (by_tree (lines_found show (map results_tree all.now))) (map parsed_tree modules.now)) }
 {
     let mut out = Text::new(alloc);
     for parsed in modules {
@@ -56,7 +56,7 @@ pub fn write_program(alloc: Global, show: Show, program: &Program) -> Result<Tex
     requires one_each { length program.now.modules ≡ length program.now.tables }
     ensures { IfOk result (λ text. text ≡ written show (program_tree program.now)) }
 {
-    let all = said_of(alloc, program)?;
+    let all = results_of_program(alloc, program)?;
     modules_text(
         alloc,
         &program.graph,

@@ -4,10 +4,10 @@ use Rattle.std.specs.Prelude.{bytes_eq, nat_le, nat_lt, option_map, option_and_t
 use Rattle.std.specs.Cmp.Lexicographic.{bytes_decides}
 use Rattle.std.proofs.lemmas.Bool.{and_parts}
 use Rattle.base_json.specs.Shapes.{when}
-use Rattle.base_values.specs.Modules.{ModuleNames}
+use Rattle.pipsmake_db.specs.base_values.Modules.{ModuleNames}
 use Rattle.base_text.specs.declared.base.BaseModule.{BaseModule}
 use Rattle.base_text.specs.Modules.{names_read, names_if, names_of, names_each}
-use Rattle.laws_database.specs.Texts.{ReadModule, module_read, IsModule, AreModules}
+use Rattle.pipsmake_db.specs.pipsmake_meaning.Texts.{ReadModule, module_read, IsModule, AreModules}
 use Rattle.pipsmake_base.specs.Bases.{BasesAreModules, EmptyIsBase}
 use Rattle.pipsmake_base.specs.Saved.{text_at}
 

@@ -1,41 +1,24 @@
 -- Sessions keep fresh results up to date.
-use Rattle.std.proofs.Common.{◌≡◌, ◌⊎◌, inl, inr, ℕ, Bool, true, false, List, [], ◌∷◌, ◌++◌, Some, refl, sym, ap, ◌∙◌, subst}
+use Rattle.std.proofs.Common.{◌≡◌, ◌⊎◌, ℕ, Bool, true, false, List, [], ◌∷◌, ◌++◌, Some, refl, sym, ap, ◌∙◌, subst}
 use Rattle.std.specs.Prelude.{if◌then◌else◌}
-use Rattle.pipsmake_rules.specs.declared.kind.Kind.{Kind}
-use Rattle.pipsmake_rules.specs.declared.kind.Kind.TheVariants as kind
-use Rattle.pipsmake_rules.specs.declared.key.Key.{Key}
-use Rattle.pipsmake_rules.specs.Keys.{holds}
-use Rattle.laws_statements.specs.CallsIn.{Each}
-use Rattle.laws_database.specs.Texts.{ModuleText}
-use Rattle.laws_database.specs.Laws.{walk_in}
-use Rattle.laws_database.specs.Session.{Makings, needs_in, SameText, SameValue, UpToDate, MadeOf, made_now, none_made}
+use Rattle.pipsmake_db.specs.pipsmake_rules.declared.kind.Kind.{Kind}
+use Rattle.pipsmake_db.specs.pipsmake_rules.declared.kind.Kind.TheVariants as kind
+use Rattle.pipsmake_db.specs.pipsmake_rules.declared.key.Key.{Key}
+use Rattle.pipsmake_db.specs.pipsmake_rules.Keys.{holds}
+use Rattle.call_graph.specs.CallsIn.{Each}
+use Rattle.pipsmake_db.specs.pipsmake_meaning.Texts.{ModuleText}
+use Rattle.pipsmake_db.specs.laws_database.Laws.{walk_in}
+use Rattle.pipsmake_db.specs.pipsmake_meaning.Session.{Makings, needs_in, SameText, SameValue, UpToDate, made_now, none_made}
 use Rattle.pipsmake_db.specs.Answers.{MakesIn}
 use Rattle.pipsmake_db.specs.Calls.{key}
 use Rattle.pipsmake_db.specs.Fresh.{key_put, keys_put}
 use Rattle.pipsmake_db.specs.State.{State}
 use Rattle.pipsmake_base.specs.Saved.{texts_in, keys_in}
 use Rattle.pipsmake_base.specs.Current.{FreshIsCurrent, FirstIsCurrent, LoadedIsCurrent, MakingStaysCurrent, LosingStaysCurrent, PrintingStaysCurrent}
-use Rattle.pipsmake_base.proofs.Lists.{each_map, each_join, holds_first, holds_later, all_held}
+use Rattle.pipsmake_base.proofs.Lists.{all_held, each_map, each_join}
+use Rattle.pipsmake_db.proofs.UpToDate.{same_text, same_values, walk_is_current}
 
 -- ---- what was made at the present texts is up to date
-
-same_text : (k : Kind) (x : List ℕ) (ts : List ModuleText) → SameText k x ts ts
-same_text kind.Parsed x ts = refl
-same_text kind.Lines x ts = refl
-same_text kind.Symbols x ts = tt
-same_text kind.CallGraph x ts = tt
-same_text kind.Effects x ts = tt
-same_text kind.Transformers x ts = tt
-same_text kind.Preconditions x ts = tt
-same_text kind.Regions x ts = tt
-same_text kind.InRegions x ts = tt
-same_text kind.OutRegions x ts = tt
-same_text kind.Marks x ts = tt
-same_text kind.Printed x ts = tt
-
-same_values : (ts : List ModuleText) (ns : List Key) → Each (SameValue ts ts) ns
-same_values ts [] = tt
-same_values ts (n ∷ ns) = (refl, same_values ts ns)
 
 module _ (made : Makings) (ts : List ModuleText) (now : List Key) where
   up_made : (k : Key) → holds now k ≡ true → UpToDate (made_now made ts now) ts k
@@ -47,30 +30,6 @@ module _ (made : Makings) (ts : List ModuleText) (now : List Key) where
       go : (b : Bool) → holds now k ≡ b → UpToDate (made_now made ts now) ts k
       go true e = up_made k e
       go false e = record { old = u.old; was_made = ap (λ b. if b then Some ts else made k.kind k.name) e ∙ u.was_made; text = u.text; needs = u.needs; values = u.values }
-
--- each result of a walk was made, or is up to date
-abbrev IsMadeOr : Makings → List ModuleText → List Key → Key → Type 0
-IsMadeOr made ts now k = (holds now k ≡ true) ⊎ UpToDate made ts k
-
-made_later : (made : Makings) (ts : List ModuleText) (rest : List Key) (k j : Key) → IsMadeOr made ts rest j → IsMadeOr made ts (k ∷ rest) j
-made_later made ts rest k j (inl e) = inl (holds_later k j rest e)
-made_later made ts rest k j (inr u) = inr u
-
-made_or : (made : Makings) (ts : List ModuleText) (ks now : List Key) → MadeOf made ts ks now → Each (IsMadeOr made ts now) ks
-made_or made ts [] now h = tt
-made_or made ts (k ∷ ks) now (inl h) = (inr h.0, made_or made ts ks now h.1)
-made_or made ts (k ∷ ks) now (inr h) =
-    let rest : List Key = h.1.0 in
-    let later : Each (IsMadeOr made ts rest) ks = made_or made ts ks h.1.0 h.1.2 in
-    let all : Each (IsMadeOr made ts (k ∷ rest)) (k ∷ ks) = (inl (holds_first k rest), each_map (IsMadeOr made ts rest) (IsMadeOr made ts (k ∷ rest)) ks (λ j. made_later made ts rest k j) later) in
-    subst (λ ns. Each (IsMadeOr made ts ns) (k ∷ ks)) (sym h.1.1) all
-
-pub walk_is_current : (made : Makings) (ts : List ModuleText) (ks now : List Key) → MadeOf made ts ks now → Each (UpToDate (made_now made ts now) ts) ks
-walk_is_current made ts ks now h = each_map (IsMadeOr made ts now) (UpToDate (made_now made ts now) ts) ks one (made_or made ts ks now h)
-  where
-    one : (k : Key) → IsMadeOr made ts now k → UpToDate (made_now made ts now) ts k
-    one k (inl e) = up_made made ts now k e
-    one k (inr u) = up_stays made ts now k u
 
 -- ---- fresh results
 

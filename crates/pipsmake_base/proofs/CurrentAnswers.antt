@@ -1,12 +1,12 @@
 -- The commands of a script keep fresh results up to date.
 use Rattle.std.proofs.Common.{ℕ, List, [], ◌∷◌, Option, Some, None, sym, subst}
-use Rattle.pipsmake_rules.specs.declared.kind.Kind.{Kind}
-use Rattle.pipsmake_rules.specs.Kinds.{kind_with}
-use Rattle.session_lines.specs.declared.command.Command.{Command}
-use Rattle.session_lines.specs.declared.command.Command.TheVariants as command
-use Rattle.session_lines.specs.Commands.{commands_of}
-use Rattle.result_lines.specs.declared.show.Show.{Show}
-use Rattle.laws_database.specs.Texts.{names_in}
+use Rattle.pipsmake_db.specs.pipsmake_rules.declared.kind.Kind.{Kind}
+use Rattle.pipsmake_db.specs.pipsmake_rules.Kinds.{kind_with}
+use Rattle.pipsmake_db.specs.session_texts.declared.command.Command.{Command}
+use Rattle.pipsmake_db.specs.session_texts.declared.command.Command.TheVariants as command
+use Rattle.pipsmake_db.specs.session_texts.Commands.{commands_of}
+use Rattle.pipsmake_db.specs.result_lines.declared.show.Show.{Show}
+use Rattle.pipsmake_db.specs.pipsmake_meaning.Texts.{names_in}
 use Rattle.pipsmake_db.specs.declared.refusal.DbRefusal.{DbRefusal}
 use Rattle.pipsmake_db.specs.Answers.{UnlessRefused, SourceAnswer, DropAnswer, MakeAnswer, ShowAnswer, PrintAnswer, OfKind, AnswersTo}
 use Rattle.pipsmake_db.specs.Calls.{key}

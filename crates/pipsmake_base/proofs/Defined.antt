@@ -1,28 +1,28 @@
 -- Results that are up to date are kept as they are defined.
 use Rattle.std.proofs.Common.{◌≡◌, ℕ, true, List, Option, Some, None, refl, sym, ap, ◌∙◌, subst}
-use Rattle.pipsmake_rules.specs.declared.kind.Kind.{Kind}
-use Rattle.pipsmake_rules.specs.declared.kind.Kind.TheVariants as kind
-use Rattle.pipsmake_rules.specs.declared.key.Key.{Key}
-use Rattle.pipsmake_rules.specs.Neighbours.{has_name}
-use Rattle.roundtrip_programs.specs.Laws.{TablesIgnorePlaces, GraphsIgnorePlaces}
-use Rattle.laws_statements.specs.CallsIn.{Each}
-use Rattle.laws_database.specs.Definitions.{definition}
-use Rattle.laws_database.specs.Laws.{AreLinked, CanMake, walk_in, IsDefined}
-use Rattle.laws_database.specs.Resting.{IsStored}
-use Rattle.laws_database.specs.Session.{Makings, UpToDate, made_now}
-use Rattle.laws_database.specs.Shelves.{Shelves, Kept, value_under, kept_of}
-use Rattle.laws_database.specs.Stands.{KeptStands, StandsFor}
-use Rattle.laws_database.specs.Texts.{ModuleText, AreModules, names_in}
-use Rattle.laws_database.specs.Values.{Value, result}
-use Rattle.laws_database.proofs.Stamps.{SameNeeds}
-use Rattle.laws_database.proofs.Whole.{same_for, walk_can}
+use Rattle.pipsmake_db.specs.pipsmake_rules.declared.kind.Kind.{Kind}
+use Rattle.pipsmake_db.specs.pipsmake_rules.declared.kind.Kind.TheVariants as kind
+use Rattle.pipsmake_db.specs.pipsmake_rules.declared.key.Key.{Key}
+use Rattle.pipsmake_db.specs.pipsmake_rules.Neighbours.{has_name}
+use Rattle.pipsmake_db.specs.roundtrip_programs.Laws.{TablesIgnorePlaces, GraphsIgnorePlaces}
+use Rattle.call_graph.specs.CallsIn.{Each}
+use Rattle.pipsmake_db.specs.pipsmake_meaning.Definitions.{definition}
+use Rattle.pipsmake_db.specs.laws_database.Laws.{AreLinked, CanMake, walk_in, IsDefined}
+use Rattle.pipsmake_db.specs.laws_database.Unverified.{IsStored}
+use Rattle.pipsmake_db.specs.pipsmake_meaning.Session.{Makings, UpToDate, made_now}
+use Rattle.pipsmake_db.specs.pipsmake_meaning.MemoCells.{MemoCells, Kept, value_under, kept_of}
+use Rattle.pipsmake_db.specs.laws_database.Stands.{KeptStands, StandsFor}
+use Rattle.pipsmake_db.specs.pipsmake_meaning.Texts.{ModuleText, AreModules, names_in}
+use Rattle.pipsmake_db.specs.pipsmake_meaning.Values.{Value, result}
+use Rattle.pipsmake_db.proofs.LawsDatabase.Stamps.{SameNeeds}
+use Rattle.pipsmake_db.proofs.LawsDatabase.Whole.{same_for, walk_can}
 use Rattle.pipsmake_db.specs.declared.db.Db.{Db}
 use Rattle.pipsmake_db.specs.Calls.{Makes}
-use Rattle.pipsmake_db.specs.State.{State, texts_of, shelves_in, IsIn}
+use Rattle.pipsmake_db.specs.State.{State, texts_of, memo_cells_in, IsIn}
 use Rattle.pipsmake_db.proofs.ShowLaws.{asked_defined}
-use Rattle.pipsmake_base.proofs.Current.{walk_is_current}
-use Rattle.pipsmake_base.proofs.Lists.{each_map, each_pair}
 use Rattle.pipsmake_base.proofs.StoredCan.{current_can}
+use Rattle.pipsmake_db.proofs.UpToDate.{walk_is_current}
+use Rattle.pipsmake_base.proofs.Lists.{each_map, each_pair}
 
 can_stored : (ts : List ModuleText) (k : Kind) (x : List ℕ) → IsStored k → AreLinked ts × (has_name (names_in ts) x ≡ true) → CanMake ts k x
 can_stored ts kind.Parsed x s c = absurd s
@@ -39,7 +39,7 @@ can_stored ts kind.Marks x s c = c
 can_stored ts kind.Printed x s c = absurd s
 
 -- a kept result that is up to date
-module _ (tables_law : TablesIgnorePlaces) (graphs_law : GraphsIgnorePlaces) (sh : Shelves) (ts : List ModuleText) (made : Makings) (stands : StandsFor sh ts made) (k : Key) (u : UpToDate made ts k) where
+module _ (tables_law : TablesIgnorePlaces) (graphs_law : GraphsIgnorePlaces) (sh : MemoCells) (ts : List ModuleText) (made : Makings) (stands : StandsFor sh ts made) (k : Key) (u : UpToDate made ts k) where
   abbrev At : Option Kept → Option (List ModuleText) → Type 0
   At o m = KeptStands sh k o m
 
@@ -69,15 +69,15 @@ module _ (tables_law : TablesIgnorePlaces) (graphs_law : GraphsIgnorePlaces) (sh
 
 -- a result that was asked for
 module _ (tables_law : TablesIgnorePlaces) (graphs_law : GraphsIgnorePlaces) (old new : Db) (k : Key) (now : List Key) (m : Makes old new k now) (s : State) (i : IsIn old s) (can : CanMake (texts_of old) k.kind k.name) where
-  pub made_is_defined : kept_of (shelves_in new) k.kind k.name ≡ definition (texts_of old) k.kind k.name
+  pub made_is_defined : kept_of (memo_cells_in new) k.kind k.name ≡ definition (texts_of old) k.kind k.name
   made_is_defined =
       let l = m.leads s i in
       let ms = i.stands.modules in
       let can_now : CanMake s.texts k.kind k.name = subst (λ ts. CanMake ts k.kind k.name) i.texts can in
       let ups = walk_is_current s.made s.texts (walk_in s.texts k) now l.made in
       let cans = walk_can s.texts ms k can_now in
-      let all : Each (IsDefined (shelves_in new) s.texts) (walk_in s.texts k) =
-      each_map (λ j. UpToDate (made_now s.made s.texts now) s.texts j × CanMake s.texts j.kind j.name) (IsDefined (shelves_in new) s.texts) (walk_in s.texts k)
-      (λ j p. kept_is_defined tables_law graphs_law (shelves_in new) s.texts (made_now s.made s.texts now) l.next.stands j p.0 p.1)
+      let all : Each (IsDefined (memo_cells_in new) s.texts) (walk_in s.texts k) =
+      each_map (λ j. UpToDate (made_now s.made s.texts now) s.texts j × CanMake s.texts j.kind j.name) (IsDefined (memo_cells_in new) s.texts) (walk_in s.texts k)
+      (λ j p. kept_is_defined tables_law graphs_law (memo_cells_in new) s.texts (made_now s.made s.texts now) l.next.stands j p.0 p.1)
       (each_pair (UpToDate (made_now s.made s.texts now) s.texts) (λ (j : Key). CanMake s.texts j.kind j.name) (walk_in s.texts k) ups cans) in
-      asked_defined (shelves_in new) s.texts k all ∙ ap (λ ts. definition ts k.kind k.name) (sym i.texts)
+      asked_defined (memo_cells_in new) s.texts k all ∙ ap (λ ts. definition ts k.kind k.name) (sym i.texts)

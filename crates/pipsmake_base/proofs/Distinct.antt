@@ -5,7 +5,7 @@ use Rattle.std.specs.List.{AllByRecursion, IsDistinct}
 use Rattle.std.specs.Cmp.Lexicographic.{nat_list_eq_equiv}
 use Rattle.std.proofs.lemmas.Bool.{and_parts}
 use Rattle.f77_ast.specs.Symbols.{number_from}
-use Rattle.base_rows.specs.Distinct.{are_new}
+use Rattle.base_json.specs.Distinct.{are_new}
 
 -- a name that is none of these is not this one
 abbrev Excludes : List ℕ → List (List ℕ) → Type 0

@@ -4,15 +4,27 @@ use Rattle.std.specs.Prelude.{bytes_eq, nat_lt, nat_eq, unwrap_or}
 use Rattle.std.specs.List.{IsDistinct}
 use Rattle.std.proofs.lemmas.Bool.{and_from, or_left, or_right}
 use Rattle.std.proofs.lemmas.Bool.Decides.{Decides-ltb}
-use Rattle.pipsmake_rules.specs.declared.kind.Kind.{Kind}
-use Rattle.pipsmake_rules.specs.Kinds.{number_of}
+use Rattle.pipsmake_db.specs.pipsmake_rules.declared.kind.Kind.{Kind}
+use Rattle.pipsmake_db.specs.pipsmake_rules.Kinds.{number_of}
+use Rattle.pipsmake_db.specs.base_values.declared.stored.StoredValue.{StoredValue}
+use Rattle.pipsmake_db.specs.base_values.Sizes.{kind_of}
 use Rattle.base_text.specs.declared.base.StoredResult.{StoredResult}
 use Rattle.base_text.specs.Order.{place_of, kind_place, is_before, are_in_order}
-use Rattle.laws_statements.specs.CallsIn.{Each}
+use Rattle.call_graph.specs.CallsIn.{Each}
 use Rattle.pipsmake_db.specs.declared.db.Db.{Db}
 use Rattle.pipsmake_base.specs.Saving.{stored_result, result_saved, results_of_kinds, stored_kinds, results_saved}
 use Rattle.pipsmake_base.proofs.Names.{place_after}
-use Rattle.pipsmake_base.proofs.ResultLaws.{OneResult}
+
+-- ---- what is saved of a kind and a module
+
+-- one result, of that kind
+pub record IsOneOf (d : Db) (x : List ℕ) (k : Kind) : Type 0 where
+  pub value : StoredValue
+  pub is : result_saved d x k ≡ stored_result x value ∷ []
+  pub kind : number_of (kind_of value) ≡ number_of k
+
+abbrev pub AtMostOne : Db → List ℕ → Kind → Type 0
+AtMostOne d x k = (result_saved d x k ≡ []) ⊎ IsOneOf d x k
 
 -- ---- results from a place and a kind on
 
@@ -59,15 +71,15 @@ abbrev AreNumbered : ℕ → List Kind → Type 0
 AreNumbered j [] = Unit {0}
 AreNumbered j (k ∷ ks) = (number_of k ≡ j) × AreNumbered (suc j) ks
 
-one_more : (d : Db) (names : List (List ℕ)) (i j : ℕ) (x : List ℕ) (k : Kind) (rs : List StoredResult) → ((r : StoredResult) → r.name ≡ x → place_of names r ≡ i) → number_of k ≡ j → OneResult d x k → Ahead names i (suc j) rs → Ahead names i j (result_saved d x k ++ rs)
+one_more : (d : Db) (names : List (List ℕ)) (i j : ℕ) (x : List ℕ) (k : Kind) (rs : List StoredResult) → ((r : StoredResult) → r.name ≡ x → place_of names r ≡ i) → number_of k ≡ j → AtMostOne d x k → Ahead names i (suc j) rs → Ahead names i j (result_saved d x k ++ rs)
 one_more d names i j x k rs place n (inl q) a =
     let le : j ≤ suc j = omega arith in
-    subst (λ qs. Ahead names i j (qs ++ rs)) (sym q.is) (ahead_less names i (suc j) j rs le a)
+    subst (λ qs. Ahead names i j (qs ++ rs)) (sym q) (ahead_less names i (suc j) j rs le a)
 one_more d names i j x k rs place n (inr p) a =
     let r : StoredResult = stored_result x p.value in
-    subst (λ qs. Ahead names i j (qs ++ rs)) (sym p.is) (ahead_cons names i j r rs (place r refl) (ap number_of p.kind ∙ n) a)
+    subst (λ qs. Ahead names i j (qs ++ rs)) (sym p.is) (ahead_cons names i j r rs (place r refl) (p.kind ∙ n) a)
 
-of_kinds : (d : Db) (names : List (List ℕ)) (i : ℕ) (x : List ℕ) (place : (r : StoredResult) → r.name ≡ x → place_of names r ≡ i) (j : ℕ) (ks : List Kind) (rs : List StoredResult) → AreNumbered j ks → Each (OneResult d x) ks → Ahead names (suc i) 0 rs → Ahead names i j (results_of_kinds d x ks ++ rs)
+of_kinds : (d : Db) (names : List (List ℕ)) (i : ℕ) (x : List ℕ) (place : (r : StoredResult) → r.name ≡ x → place_of names r ≡ i) (j : ℕ) (ks : List Kind) (rs : List StoredResult) → AreNumbered j ks → Each (AtMostOne d x) ks → Ahead names (suc i) 0 rs → Ahead names i j (results_of_kinds d x ks ++ rs)
 of_kinds d names i x place j [] rs n h a = record { ordered = a.ordered; first = first_next names i j rs a.first }
 of_kinds d names i x place j (k ∷ ks) rs n h a =
     subst (Ahead names i j) (sym (append_assoc (result_saved d x k) (results_of_kinds d x ks) rs))
@@ -81,7 +93,7 @@ place_is front x back d r e =
     let found = ap (λ (y : List ℕ). place_of names (record { name = y; value = r.value })) e in
     found ∙ ap (λ o. unwrap_or o (length names)) (place_after 0 front x back d) ∙ zero-add (length front)
 
-of_modules : (d : Db) (front xs : List (List ℕ)) → IsDistinct bytes_eq (front ++ xs) → Each (λ x. Each (OneResult d x) stored_kinds) xs → Ahead (front ++ xs) (length front) 0 (results_saved d xs)
+of_modules : (d : Db) (front xs : List (List ℕ)) → IsDistinct bytes_eq (front ++ xs) → Each (λ x. Each (AtMostOne d x) stored_kinds) xs → Ahead (front ++ xs) (length front) 0 (results_saved d xs)
 of_modules d front [] distinct h = record { ordered = refl; first = tt }
 of_modules d front (x ∷ xs) distinct h =
     let names : List (List ℕ) = front ++ x ∷ xs in
@@ -93,5 +105,5 @@ of_modules d front (x ∷ xs) distinct h =
     let le : 0 ≤ 4 = omega arith in
     ahead_less names (length front) 4 0 (results_of_kinds d x stored_kinds ++ results_saved d xs) le all
 
-pub saved_in_order : (d : Db) (names : List (List ℕ)) → IsDistinct bytes_eq names → Each (λ x. Each (OneResult d x) stored_kinds) names → are_in_order names (results_saved d names) ≡ true
+pub saved_in_order : (d : Db) (names : List (List ℕ)) → IsDistinct bytes_eq names → Each (λ x. Each (AtMostOne d x) stored_kinds) names → are_in_order names (results_saved d names) ≡ true
 saved_in_order d names distinct h = (of_modules d [] names distinct h).ordered

@@ -1,3 +1,16 @@
+pub use Rattle.loop_marker.proofs.OutRegions as OutRegions
+pub use Rattle.loop_marker.proofs.Privatizer as Privatizer
+pub use Rattle.loop_marker.proofs.ModulePhases as ModulePhases
+pub use Rattle.loop_marker.proofs as LoopMarker
+pub use Rattle.pipsmake_db.proofs.ResultLines as ResultLines
+pub use Rattle.pipsmake_db.proofs.PipsmakeRules as PipsmakeRules
+pub use Rattle.pipsmake_db.proofs.PipsmakeMeaning as PipsmakeMeaning
+pub use Rattle.pipsmake_db.proofs.SessionTexts as SessionTexts
+pub use Rattle.pipsmake_db.proofs.LawsDatabase as LawsDatabase
+pub use Rattle.pipsmake_db.proofs.BaseValues as BaseValues
+pub use Rattle.base_text.proofs as BaseText
+pub use Rattle.laws_stored.proofs as LawsStored
+pub use Rattle.pipsmake_db.proofs as PipsmakeDb
 pub mod SameTexts
 pub mod ModuleLaws
 pub mod Names
@@ -20,3 +33,5 @@ pub mod StaleLaws
 pub mod BaseLaws
 pub mod Current
 pub mod CurrentAnswers
+pub mod LongTexts
+pub mod FittingLaws

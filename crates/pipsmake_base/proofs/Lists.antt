@@ -1,10 +1,12 @@
 -- Lists of results, and what holds of each.
 use Rattle.std.proofs.Common.{◌≡◌, Bool, true, false, ◌||◌, List, [], ◌∷◌, ◌++◌, refl, ap, subst}
 use Rattle.std.proofs.lemmas.Bool.{or_left, or_right}
-use Rattle.laws_statements.specs.CallsIn.{Each}
-use Rattle.pipsmake_rules.specs.declared.key.Key.{Key}
-use Rattle.pipsmake_rules.specs.Keys.{same_key, holds}
-use Rattle.pipsmake_rules.proofs.KeyLaws.{same_key-true, same_key_self}
+use Rattle.call_graph.specs.CallsIn.{Each}
+use Rattle.pipsmake_db.specs.pipsmake_rules.declared.key.Key.{Key}
+use Rattle.pipsmake_db.specs.pipsmake_rules.Keys.{same_key, holds}
+use Rattle.pipsmake_db.proofs.PipsmakeRules.KeyLaws.{same_key-true, same_key_self}
+use Rattle.pipsmake_db.proofs.LawsDatabase.Keeping.{holds_other, held}
+use Rattle.fx_lists.proofs.Booleans.{no_both as clash}
 
 pub each_map : {A : Type 0} (P Q : A → Type 0) (xs : List A) → ((x : A) → P x → Q x) → Each P xs → Each Q xs
 each_map P Q [] f h = tt
@@ -20,10 +22,6 @@ each_join P (x ∷ xs) ys h k = (h.0, each_join P xs ys h.1 k)
 
 -- ---- results
 
-pub clash : (b : Bool) → b ≡ true → b ≡ false → ⊥
-clash true e f = cc
-clash false e f = cc
-
 pub holds_first : (k : Key) (ks : List Key) → holds (k ∷ ks) k ≡ true
 holds_first k ks = or_left (same_key k k) (holds ks k) (same_key_self k)
 
@@ -34,15 +32,3 @@ holds_later j k ks e = or_right (same_key j k) (holds ks k) e
 pub all_held : (ks : List Key) → Each (λ k. holds ks k ≡ true) ks
 all_held [] = tt
 all_held (k ∷ ks) = (holds_first k ks, each_map (λ j. holds ks j ≡ true) (λ j. holds (k ∷ ks) j ≡ true) ks (λ j e. holds_later k j ks e) (all_held ks))
-
-pub held : (P : Key → Type 0) (done : List Key) (n : Key) → Each P done → holds done n ≡ true → P n
-held P [] n h e = cc
-held P (d ∷ ds) n h e = go (same_key d n) refl e (λ q. held P ds n h.1 q)
-  where
-    go : (b : Bool) → same_key d n ≡ b → (b || holds ds n) ≡ true → (holds ds n ≡ true → P n) → P n
-    go true s q later = subst P (same_key-true d n s) h.0
-    go false s q later = later q
-
-pub holds_other : (ks : List Key) (k j : Key) → same_key k j ≡ false → holds (ks ++ k ∷ []) j ≡ holds ks j
-holds_other [] k j e = ap (λ b. b || false) e
-holds_other (i ∷ is) k j e = ap (λ b. same_key i j || b) (holds_other is k j e)

@@ -1,8 +1,8 @@
 -- Results that are made for what they are defined to be.
 use Rattle.std.proofs.Common.{◌≡◌, ℕ, Bool, List, Option, Some, Result, Ok, Err, OnOk, IfOk, sym, ap, ◌∙◌, subst}
-use Rattle.pipsmake_rules.specs.declared.kind.Kind.{Kind}
-use Rattle.pipsmake_rules.specs.Kinds.{name_of}
-use Rattle.laws_database.specs.Stands.{StandsFor}
+use Rattle.pipsmake_db.specs.pipsmake_rules.declared.kind.Kind.{Kind}
+use Rattle.pipsmake_db.specs.pipsmake_rules.Kinds.{name_of}
+use Rattle.pipsmake_db.specs.laws_database.Stands.{StandsFor}
 use Rattle.pipsmake_db.specs.declared.db.Db.{Db}
 use Rattle.pipsmake_db.specs.declared.refusal.DbRefusal.{DbRefusal}
 use Rattle.pipsmake_db.specs.declared.refusal.DbRefusal.TheVariants.{NoSuchKind, NoSuchName, NotShown, Source, Link, Memory}
@@ -11,16 +11,13 @@ use Rattle.pipsmake_db.specs.Refusals.{IsRefused, make_refusal}
 use Rattle.pipsmake_db.specs.State.{texts_of}
 use Rattle.pipsmake_base.specs.Made.{IsCause, IsTold, IsMade}
 use Rattle.pipsmake_base.specs.Taken.{IsInSome}
+use Rattle.fx_lists.proofs.Options.{if_ok as if_ok_to}
 
 -- ---- outcomes
 
 pub ok_any : {T E P : Type 0} (r : Result T E) → P → OnOk r P
 ok_any (Ok v) p = p
 ok_any (Err e) p = tt
-
-pub if_ok_to : {T E : Type 0} {P Q : T → Type 0} (r : Result T E) → ((v : T) → P v → Q v) → IfOk r P → IfOk r Q
-if_ok_to (Ok v) f h = f v h
-if_ok_to (Err e) f h = tt
 
 pub on_ok_from : {T E Q : Type 0} {P : T → Type 0} (r : Result T E) → ((v : T) → P v → Q) → IfOk r P → OnOk r Q
 on_ok_from (Ok v) f h = f v h

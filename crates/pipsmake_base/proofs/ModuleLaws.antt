@@ -1,10 +1,10 @@
 -- Modules as they are saved.
 use Rattle.std.proofs.Common.{◌≡◌, ℕ, suc, ◌<◌, ◌≤◌, List, [], ◌∷◌, ◌++◌, length, map, get_or, refl, sym, ap, ◌∙◌, subst, append_assoc, append-nil}
-use Rattle.base_values.specs.Naming.{Each, AreBytes}
+use Rattle.pipsmake_db.specs.base_values.Naming.{Each, AreBytes}
 use Rattle.base_text.specs.declared.base.BaseModule.{BaseModule}
 use Rattle.base_text.specs.Grammar.{HasBytes}
-use Rattle.session_texts.specs.declared.source.ModuleText.{ModuleText as Kept}
-use Rattle.session_texts.specs.Modules.{text_record}
+use Rattle.pipsmake_db.specs.session_texts.declared.source.ModuleText.{ModuleText as Kept}
+use Rattle.pipsmake_db.specs.session_texts.Modules.{text_record}
 use Rattle.pipsmake_base.specs.Saving.{module_of, AreShort, HaveBytes}
 
 pub all_bytes : (xs : List ℕ) → ((k : ℕ) → get_or xs k 0 < 256) → AreBytes xs

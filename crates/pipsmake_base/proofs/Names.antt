@@ -6,30 +6,20 @@ use Rattle.std.specs.List.{AllByRecursion, IsDistinct}
 use Rattle.std.proofs.lemmas.Bool.{and_from}
 use Rattle.std.proofs.lemmas.Bool.Decides.{Decides-ltb}
 use Rattle.f77_ast.specs.Symbols.{number_from}
-use Rattle.pipsmake_rules.specs.Neighbours.{has_name}
-use Rattle.base_rows.specs.Distinct.{are_new}
-use Rattle.base_values.specs.Modules.{ModuleNames}
-use Rattle.base_values.proofs.Options.{Decides-leb}
-use Rattle.base_values.proofs.RowsBack.{if_true, when_true}
+use Rattle.pipsmake_db.specs.pipsmake_rules.Neighbours.{has_name}
+use Rattle.base_json.specs.Distinct.{are_new}
+use Rattle.pipsmake_db.specs.base_values.Modules.{ModuleNames}
+use Rattle.pipsmake_db.proofs.BaseValues.Options.{Decides-leb}
+use Rattle.pipsmake_db.proofs.BaseValues.RowsBack.{if_true, when_true}
 use Rattle.base_text.specs.Modules.{module_names_in, names_read, names_if, names_of, names_each, known, names_at}
-use Rattle.laws_database.specs.Definitions.{module_named}
-use Rattle.laws_database.specs.Texts.{ModuleText, ReadModule, module_read, IsModule, AreModules, names_in, text_of}
+use Rattle.pipsmake_db.specs.pipsmake_meaning.Definitions.{module_named}
+use Rattle.pipsmake_db.specs.pipsmake_meaning.Texts.{ModuleText, ReadModule, module_read, IsModule, AreModules, names_in, text_of}
 use Rattle.laws_stored.specs.Laws.{IsCounted, ShortTextsAreCounted}
 use Rattle.pipsmake_base.specs.Saving.{module_of, AreShort}
+use Rattle.base_text.proofs.Names.{none_more}
+use Rattle.fx_lists.proofs.Texts.{apart_back as apart}
 
 -- ---- names that differ
-
-apart : (k j : List ℕ) → bytes_eq k j ≡ false → bytes_eq j k ≡ false
-apart k j e = nat_list_eq_equiv.symm j k ∙ e
-
-none_more : (n : ℕ) (before : List (List ℕ)) (k j : List ℕ) → bytes_eq j k ≡ false → number_from n before j ≡ None → number_from n (before ++ k ∷ []) j ≡ None
-none_more n [] k j f e = ap (λ b. if b then Some n else None) f
-none_more n (y ∷ ys) k j f e = go (bytes_eq j y) e (none_more (suc n) ys k j f)
-  where
-    go : (b : Bool) → (if b then Some n else number_from (suc n) ys j) ≡ None → (number_from (suc n) ys j ≡ None → number_from (suc n) (ys ++ k ∷ []) j ≡ None)
-        → (if b then Some n else number_from (suc n) (ys ++ k ∷ []) j) ≡ None
-    go true g ih = cc
-    go false g ih = ih g
 
 abbrev AreAbsent : List (List ℕ) → List (List ℕ) → Type 0
 AreAbsent before ks = AllByRecursion (λ j. number_from 1 before j ≡ None) ks

@@ -4,13 +4,13 @@ use Rattle.std.specs.Prelude.{nat_lt, nat_eq, unwrap_or, if◌then◌else◌}
 use Rattle.std.proofs.lemmas.Bool.{and_parts, or_cases}
 use Rattle.std.proofs.lemmas.Bool.Decides.{Decides-ltb, Decides-eqb}
 use Rattle.f77_ast.specs.Symbols.{number_from}
-use Rattle.pipsmake_rules.specs.declared.kind.Kind.{Kind}
-use Rattle.pipsmake_rules.specs.declared.key.Key.{Key}
-use Rattle.pipsmake_rules.specs.Kinds.{number_of}
-use Rattle.pipsmake_rules.specs.Keys.{same_key, holds}
-use Rattle.pipsmake_rules.proofs.KeyLaws.{same_key-true, same_key_self}
-use Rattle.base_values.specs.Naming.{Each}
-use Rattle.base_values.specs.Sizes.{kind_of}
+use Rattle.pipsmake_db.specs.pipsmake_rules.declared.kind.Kind.{Kind}
+use Rattle.pipsmake_db.specs.pipsmake_rules.declared.key.Key.{Key}
+use Rattle.pipsmake_db.specs.pipsmake_rules.Kinds.{number_of}
+use Rattle.pipsmake_db.specs.pipsmake_rules.Keys.{same_key, holds}
+use Rattle.pipsmake_db.proofs.PipsmakeRules.KeyLaws.{same_key-true, same_key_self}
+use Rattle.pipsmake_db.specs.base_values.Naming.{Each}
+use Rattle.pipsmake_db.specs.base_values.Sizes.{kind_of}
 use Rattle.base_text.specs.declared.base.StoredResult.{StoredResult}
 use Rattle.base_text.specs.Order.{place_of, kind_place, is_before, are_in_order}
 use Rattle.pipsmake_db.specs.Calls.{key}

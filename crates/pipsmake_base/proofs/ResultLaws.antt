@@ -1,33 +1,32 @@
 -- The results that are saved are those that are defined.
 use Rattle.std.proofs.Common.{◌≡◌, ◌⊎◌, inl, inr, ℕ, Bool, true, false, List, [], ◌∷◌, Option, Some, None, refl, sym, ap, ◌∙◌}
 use Rattle.std.specs.Prelude.{option_map, option_and_then, option_to_list, if◌then◌else◌}
-use Rattle.pipsmake_rules.specs.declared.kind.Kind.{Kind}
-use Rattle.pipsmake_rules.specs.declared.kind.Kind.TheVariants as kind
-use Rattle.pipsmake_rules.specs.Keys.{holds}
-use Rattle.roundtrip_programs.specs.Laws.{TablesIgnorePlaces, GraphsIgnorePlaces}
-use Rattle.base_values.specs.declared.stored.StoredValue.{StoredValue}
-use Rattle.base_values.specs.declared.stored.StoredValue.TheVariants as stored
-use Rattle.base_values.specs.Sizes.{kind_of}
+use Rattle.pipsmake_db.specs.pipsmake_rules.declared.kind.Kind.{Kind}
+use Rattle.pipsmake_db.specs.pipsmake_rules.declared.kind.Kind.TheVariants as kind
+use Rattle.pipsmake_db.specs.pipsmake_rules.Keys.{holds}
+use Rattle.pipsmake_db.specs.roundtrip_programs.Laws.{TablesIgnorePlaces, GraphsIgnorePlaces}
+use Rattle.pipsmake_db.specs.base_values.declared.stored.StoredValue.{StoredValue}
+use Rattle.pipsmake_db.specs.base_values.declared.stored.StoredValue.TheVariants as stored
+use Rattle.pipsmake_db.specs.base_values.Sizes.{kind_of}
 use Rattle.base_text.specs.declared.base.StoredResult.{StoredResult}
-use Rattle.laws_statements.specs.CallsIn.{Each}
-use Rattle.laws_database.specs.Definitions.{results_in, definition}
-use Rattle.laws_database.specs.ResultEntries.{transformers_in, preconditions_in, regions_in, ins_in, outs_in}
-use Rattle.laws_database.specs.Resting.{IsStored}
-use Rattle.laws_database.specs.Session.{UpToDate}
-use Rattle.laws_database.specs.Shelves.{kept_of}
-use Rattle.laws_database.specs.Texts.{ModuleText}
-use Rattle.laws_database.specs.Values.{Value, effects, transformers, preconditions, regions, ins, outs, marks}
-use Rattle.loop_marker.specs.Phases.{ModuleMarks}
+use Rattle.call_graph.specs.CallsIn.{Each}
+use Rattle.pipsmake_db.specs.pipsmake_meaning.Definitions.{results_in, definition}
+use Rattle.pipsmake_db.specs.laws_database.Unverified.{IsStored}
+use Rattle.pipsmake_db.specs.pipsmake_meaning.Session.{UpToDate}
+use Rattle.pipsmake_db.specs.pipsmake_meaning.MemoCells.{kept_of}
+use Rattle.pipsmake_db.specs.pipsmake_meaning.Texts.{ModuleText}
+use Rattle.pipsmake_db.specs.pipsmake_meaning.Values.{Value, effects, transformers, preconditions, regions, ins, outs, marks}
+use Rattle.loop_marker.specs.Results.{ModuleResults}
 use Rattle.pipsmake_db.specs.declared.db.Db.{Db}
 use Rattle.pipsmake_db.specs.Calls.{key}
 use Rattle.pipsmake_db.specs.Shown.{stored_in}
-use Rattle.pipsmake_db.specs.State.{State, texts_of, shelves_in, IsIn}
+use Rattle.pipsmake_db.specs.State.{State, texts_of, memo_cells_in, IsIn}
 use Rattle.pipsmake_base.specs.Current.{FreshIsCurrent}
 use Rattle.pipsmake_base.specs.Saved.{value_in}
 use Rattle.pipsmake_base.proofs.Defined.{stored_value}
-use Rattle.pipsmake_base.proofs.Lists.{held}
 use Rattle.pipsmake_base.proofs.StoredLaws.{stored_back}
 use Rattle.pipsmake_base.specs.Saving.{stored_result, kept_results, result_saved}
+use Rattle.pipsmake_db.proofs.LawsDatabase.Keeping.{held}
 
 -- ---- a value of a stored kind
 
@@ -49,13 +48,13 @@ stored_as ts kind.Parsed x v s e = absurd s
 stored_as ts kind.Lines x v s e = absurd s
 stored_as ts kind.Symbols x v s e = absurd s
 stored_as ts kind.CallGraph x v s e = absurd s
-stored_as ts kind.Effects x v s e = mapped_as (λ (f : ModuleMarks). effects f.effects) (λ (f : ModuleMarks). stored.Effects f.effects) (results_in ts x) v kind.Effects (λ a. refl) (λ a. refl) e
-stored_as ts kind.Transformers x v s e = mapped_as (λ (f : ModuleMarks). transformers (transformers_in f)) (λ (f : ModuleMarks). stored.Transformers (transformers_in f)) (results_in ts x) v kind.Transformers (λ a. refl) (λ a. refl) e
-stored_as ts kind.Preconditions x v s e = mapped_as (λ (f : ModuleMarks). preconditions (preconditions_in f)) (λ (f : ModuleMarks). stored.Preconditions (preconditions_in f)) (results_in ts x) v kind.Preconditions (λ a. refl) (λ a. refl) e
-stored_as ts kind.Regions x v s e = mapped_as (λ (f : ModuleMarks). regions (regions_in f)) (λ (f : ModuleMarks). stored.Regions (regions_in f)) (results_in ts x) v kind.Regions (λ a. refl) (λ a. refl) e
-stored_as ts kind.InRegions x v s e = mapped_as (λ (f : ModuleMarks). ins (ins_in f)) (λ (f : ModuleMarks). stored.InRegions (ins_in f)) (results_in ts x) v kind.InRegions (λ a. refl) (λ a. refl) e
-stored_as ts kind.OutRegions x v s e = mapped_as (λ (f : ModuleMarks). outs (outs_in f)) (λ (f : ModuleMarks). stored.OutRegions (outs_in f)) (results_in ts x) v kind.OutRegions (λ a. refl) (λ a. refl) e
-stored_as ts kind.Marks x v s e = mapped_as (λ (f : ModuleMarks). marks f.marks) (λ (f : ModuleMarks). stored.Marks f.marks) (results_in ts x) v kind.Marks (λ a. refl) (λ a. refl) e
+stored_as ts kind.Effects x v s e = mapped_as (λ (f : ModuleResults). effects f.effects) (λ (f : ModuleResults). stored.Effects f.effects) (results_in ts x) v kind.Effects (λ a. refl) (λ a. refl) e
+stored_as ts kind.Transformers x v s e = mapped_as (λ (f : ModuleResults). transformers f.transformers) (λ (f : ModuleResults). stored.Transformers f.transformers) (results_in ts x) v kind.Transformers (λ a. refl) (λ a. refl) e
+stored_as ts kind.Preconditions x v s e = mapped_as (λ (f : ModuleResults). preconditions f.preconditions) (λ (f : ModuleResults). stored.Preconditions f.preconditions) (results_in ts x) v kind.Preconditions (λ a. refl) (λ a. refl) e
+stored_as ts kind.Regions x v s e = mapped_as (λ (f : ModuleResults). regions f.regions) (λ (f : ModuleResults). stored.Regions f.regions) (results_in ts x) v kind.Regions (λ a. refl) (λ a. refl) e
+stored_as ts kind.InRegions x v s e = mapped_as (λ (f : ModuleResults). ins f.ins) (λ (f : ModuleResults). stored.InRegions f.ins) (results_in ts x) v kind.InRegions (λ a. refl) (λ a. refl) e
+stored_as ts kind.OutRegions x v s e = mapped_as (λ (f : ModuleResults). outs f.outs) (λ (f : ModuleResults). stored.OutRegions f.outs) (results_in ts x) v kind.OutRegions (λ a. refl) (λ a. refl) e
+stored_as ts kind.Marks x v s e = mapped_as (λ (f : ModuleResults). marks f.marks) (λ (f : ModuleResults). stored.Marks f.marks) (results_in ts x) v kind.Marks (λ a. refl) (λ a. refl) e
 stored_as ts kind.Printed x v s e = absurd s
 
 -- ---- one result
@@ -85,10 +84,10 @@ module _ (tables_law : TablesIgnorePlaces) (graphs_law : GraphsIgnorePlaces) (d 
 
   present : holds d.fresh (key k x) ≡ true → IsPresent d x k
   present e =
-      let v = stored_value tables_law graphs_law (shelves_in d) s.texts s.made i.stands (key k x) (fresh_up e) is_stored in
+      let v = stored_value tables_law graphs_law (memo_cells_in d) s.texts s.made i.stands (key k x) (fresh_up e) is_stored in
       let defined : definition (texts_of d) k x ≡ Some v.0 = ap (λ ts. definition ts k x) i.texts ∙ v.1 in
       let a : IsStoredAs v.0 k = stored_as (texts_of d) k x v.0 is_stored defined in
-      let saved : result_saved d x k ≡ listed x (option_and_then stored_in (kept_of (shelves_in d) k x)) = ap (λ b. if b then kept_results d k x else []) e in
+      let saved : result_saved d x k ≡ listed x (option_and_then stored_in (kept_of (memo_cells_in d) k x)) = ap (λ b. if b then kept_results d k x else []) e in
       record { value = a.value; fresh = e; is = saved ∙ ap (λ q. listed x (option_and_then stored_in q)) v.2 ∙ ap (listed x) a.is; kind = a.kind; defined = defined ∙ ap (λ u. Some u) (sym (stored_back v.0 a.value a.is)) }
 
   pub one_result : OneResult d x k

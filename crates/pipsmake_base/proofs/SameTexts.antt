@@ -1,6 +1,6 @@
 -- The texts that are saved are the same, at their own first lines.
 use Rattle.std.proofs.Common.{List, [], ◌∷◌, map, refl}
-use Rattle.laws_database.specs.Texts.{ModuleText, SameTexts}
+use Rattle.pipsmake_db.specs.pipsmake_meaning.Texts.{ModuleText, SameTexts}
 use Rattle.pipsmake_base.specs.Saved.{text_at}
 use Rattle.pipsmake_base.specs.Saving.{module_of}
 

@@ -1,36 +1,39 @@
 -- What is saved of a session is a base in the grammar, with results of its own texts.
-use Rattle.std.proofs.Common.{◌≡◌, inl, inr, ℕ, true, List, [], ◌∷◌, ◌++◌, map, Some, refl, sym, ap, ◌∙◌, subst}
-use Rattle.std.specs.Prelude.{bytes_eq, if◌then◌else◌}
+use Rattle.std.proofs.Common.{◌≡◌, inl, inr, ℕ, Bool, true, false, List, [], ◌∷◌, ◌++◌, map, Option, Some, None, refl, sym, ap, ◌∙◌, subst, eq-eqb}
+use Rattle.std.specs.Prelude.{bytes_eq, option_map, option_and_then, option_to_list, if◌then◌else◌}
 use Rattle.std.specs.List.{IsDistinct}
 use Rattle.std.specs.Cmp.Lexicographic.{bytes_decides}
 use Rattle.std.proofs.lemmas.Bool.{or_left, or_right}
 use Rattle.std.proofs.lemmas.List.{map-append}
-use Rattle.pipsmake_rules.specs.declared.kind.Kind.{Kind}
-use Rattle.pipsmake_rules.specs.Keys.{holds}
-use Rattle.pipsmake_rules.specs.Neighbours.{has_name}
-use Rattle.roundtrip_programs.specs.Laws.{TablesIgnorePlaces, GraphsIgnorePlaces}
-use Rattle.base_values.specs.declared.stored.StoredValue.{StoredValue}
-use Rattle.base_values.specs.declared.stored.StoredValue.TheVariants as stored
-use Rattle.base_values.specs.Fits.{StoredFits}
-use Rattle.base_values.specs.Naming.{Each as EachStored}
-use Rattle.base_values.specs.Sizes.{kind_of}
+use Rattle.pipsmake_db.specs.pipsmake_rules.declared.kind.Kind.{Kind}
+use Rattle.pipsmake_db.specs.pipsmake_rules.Keys.{holds}
+use Rattle.pipsmake_db.specs.pipsmake_rules.Kinds.{number_of}
+use Rattle.pipsmake_db.specs.pipsmake_rules.Neighbours.{has_name}
+use Rattle.pipsmake_db.proofs.PipsmakeRules.KindLaws.{same_kind-true}
+use Rattle.pipsmake_db.specs.roundtrip_programs.Laws.{TablesIgnorePlaces, GraphsIgnorePlaces}
+use Rattle.pipsmake_db.specs.base_values.declared.stored.StoredValue.{StoredValue}
+use Rattle.pipsmake_db.specs.base_values.Modules.{ModuleNames}
+use Rattle.pipsmake_db.specs.base_values.Naming.{Each as EachStored}
+use Rattle.pipsmake_db.specs.base_values.Sizes.{kind_of}
 use Rattle.base_text.specs.declared.base.StoredResult.{StoredResult}
 use Rattle.base_text.specs.Grammar.{IsBase, ResultFits}
-use Rattle.base_text.specs.Modules.{KnownNames, known}
+use Rattle.base_text.specs.Modules.{KnownNames, known, names_at, names_read}
 use Rattle.base_text.specs.Order.{are_in_order}
-use Rattle.laws_statements.specs.CallsIn.{Each}
-use Rattle.laws_database.specs.Definitions.{definition}
-use Rattle.laws_database.specs.Texts.{AreModules, names_in}
-use Rattle.laws_database.proofs.AtLines.{definition_same}
-use Rattle.laws_stored.specs.Laws.{DefinedResultsFit, ShortTextsAreCounted}
-use Rattle.laws_stored.specs.Stored.{is_stored, as_stored, names_in as stored_names}
+use Rattle.call_graph.specs.CallsIn.{Each}
+use Rattle.pipsmake_db.specs.pipsmake_meaning.Definitions.{definition, module_named}
+use Rattle.pipsmake_db.specs.pipsmake_meaning.MemoCells.{kept_of}
+use Rattle.pipsmake_db.specs.pipsmake_meaning.Texts.{ReadModule, AreModules, names_in}
+use Rattle.pipsmake_db.proofs.LawsDatabase.AtLines.{definition_same}
+use Rattle.laws_stored.specs.Laws.{ShortTextsAreCounted}
 use Rattle.pipsmake_db.specs.declared.db.Db.{Db}
 use Rattle.pipsmake_db.specs.Calls.{key}
-use Rattle.pipsmake_db.specs.State.{State, texts_of, IsIn}
+use Rattle.pipsmake_db.specs.Shown.{stored_in}
+use Rattle.pipsmake_db.specs.State.{State, texts_of, memo_cells_in, IsIn}
 use Rattle.pipsmake_base.specs.Current.{FreshIsCurrent}
-use Rattle.pipsmake_base.specs.Saved.{texts_in, key_at, keys_in, value_in, IsDefinedAt, IsSaved}
-use Rattle.pipsmake_base.specs.Saving.{module_of, stored_result, result_saved, results_of_kinds, stored_kinds, results_saved, fresh_keys, stored_keys, saved_base, AreShort, HaveBytes}
-use Rattle.pipsmake_base.proofs.InOrder.{saved_in_order}
+use Rattle.pipsmake_base.specs.Saved.{texts_in, key_at, value_in, IsDefinedAt, IsSaved}
+use Rattle.pipsmake_base.specs.Fitting.{IsFitting, SavedFits, KindsFit, ModuleFits}
+use Rattle.pipsmake_base.specs.Saving.{module_of, stored_result, kept_results, result_saved, results_of_kinds, stored_kinds, results_saved, fresh_keys, stored_keys, saved_base, AreShort, HaveBytes}
+use Rattle.pipsmake_base.proofs.InOrder.{AtMostOne, saved_in_order}
 use Rattle.pipsmake_base.proofs.Names.{names_are, names_once, found_of, each_named, named}
 use Rattle.pipsmake_base.proofs.ResultLaws.{OneResult, all_results}
 use Rattle.pipsmake_base.proofs.SameTexts.{as_saved}
@@ -75,51 +78,71 @@ module _ (tables_law : TablesIgnorePlaces) (graphs_law : GraphsIgnorePlaces) (d 
   pub saved_is_saved : IsSaved (saved_base d)
   saved_is_saved = of_all (IsDefinedAt (texts_in (saved_base d))) d (names_in (texts_of d)) (each_name (names_in (texts_of d)) (own_text d)) results_are
 
--- ---- which results
-
-one_key : (d : Db) (x : List ℕ) (k : Kind) → OneResult d x k → map key_at (result_saved d x k) ≡ (if holds d.fresh (key k x) then key k x ∷ [] else [])
-one_key d x k (inl a) = ap (map key_at) a.is ∙ sym (ap (λ b. if b then key k x ∷ [] else []) a.stale)
-one_key d x k (inr p) = ap (map key_at) p.is ∙ ap (λ j. key j x ∷ []) p.kind ∙ sym (ap (λ b. if b then key k x ∷ [] else []) p.fresh)
-
-kinds_keys : (d : Db) (x : List ℕ) (ks : List Kind) → Each (OneResult d x) ks → map key_at (results_of_kinds d x ks) ≡ fresh_keys d.fresh x ks
-kinds_keys d x [] o = refl
-kinds_keys d x (k ∷ ks) o =
-    let one = one_key d x k o.0 in
-    let rest = kinds_keys d x ks o.1 in
-    map-append key_at (result_saved d x k) (results_of_kinds d x ks) ∙ (λ i. one i ++ rest i)
-
-all_keys : (d : Db) (xs : List (List ℕ)) → Each (λ x. Each (OneResult d x) stored_kinds) xs → map key_at (results_saved d xs) ≡ stored_keys d.fresh xs
-all_keys d [] o = refl
-all_keys d (x ∷ xs) o =
-    let one = kinds_keys d x stored_kinds o.0 in
-    let rest = all_keys d xs o.1 in
-    map-append key_at (results_of_kinds d x stored_kinds) (results_saved d xs) ∙ (λ i. one i ++ rest i)
-
-pub saved_keys : (tables_law : TablesIgnorePlaces) (graphs_law : GraphsIgnorePlaces) (d : Db) (s : State) → IsIn d s → FreshIsCurrent s → keys_in (saved_base d) ≡ stored_keys s.fresh (names_in s.texts)
-saved_keys tables_law graphs_law d s i f = all_keys d (names_in (texts_of d)) (results_are tables_law graphs_law d s i f) ∙ (λ j. stored_keys (i.fresh j) (names_in (i.texts j)))
-
 -- ---- results that fit
 
-as_stored_in : (w : StoredValue) → as_stored (value_in w) ≡ Some w
-as_stored_in (stored.Effects r) = refl
-as_stored_in (stored.Transformers r) = refl
-as_stored_in (stored.Preconditions r) = refl
-as_stored_in (stored.Regions r) = refl
-as_stored_in (stored.InRegions r) = refl
-as_stored_in (stored.OutRegions r) = refl
-as_stored_in (stored.Marks ms) = refl
+-- what is saved of a kind and a module
+one_saved : (names : ModuleNames) (d : Db) (x : List ℕ) (k : Kind) → SavedFits names d x k → AtMostOne d x k
+one_saved names d x k h = go (holds d.fresh (key k x)) refl
+  where
+    some : (o : Option StoredValue) → result_saved d x k ≡ option_to_list (option_map (stored_result x) o) → AtMostOne d x k
+    some None e = inl e
+    some (Some v) e = inr (record { value = v; is = e; kind = (subst (EachStored (λ (r : StoredResult). IsFitting names k r.value)) e h.1).0.kind })
 
-kind_is_stored : (w : StoredValue) → is_stored (kind_of w) ≡ true
-kind_is_stored (stored.Effects r) = refl
-kind_is_stored (stored.Transformers r) = refl
-kind_is_stored (stored.Preconditions r) = refl
-kind_is_stored (stored.Regions r) = refl
-kind_is_stored (stored.InRegions r) = refl
-kind_is_stored (stored.OutRegions r) = refl
-kind_is_stored (stored.Marks ms) = refl
+    go : (b : Bool) → holds d.fresh (key k x) ≡ b → AtMostOne d x k
+    go true e = some (option_and_then stored_in (kept_of (memo_cells_in d) k x)) (ap (λ b. if b then kept_results d k x else []) e)
+    go false e = inl (ap (λ b. if b then kept_results d k x else []) e)
 
-one_stored : (a b : StoredValue) → Some a ≡ Some b → a ≡ b
-one_stored a b e = cc
+all_at_most : (names : ModuleNames) (d : Db) (x : List ℕ) (ks : List Kind) → KindsFit names d x ks → Each (AtMostOne d x) ks
+all_at_most names d x [] h = tt
+all_at_most names d x (k ∷ ks) h = (one_saved names d x k h.0, all_at_most names d x ks h.1)
+
+modules_at_most : (d : Db) (xs : List (List ℕ)) → EachStored (ModuleFits d) xs → Each (λ x. Each (AtMostOne d x) stored_kinds) xs
+modules_at_most d [] h = tt
+modules_at_most d (x ∷ xs) h = (all_at_most (names_read h.0.read) d x stored_kinds h.0.fits, modules_at_most d xs h.1)
+
+module _ (known_names : KnownNames) (names : ModuleNames) (d : Db) (x : List ℕ) (at : names_at known_names x ≡ Some names) where
+  result_fits : (k : Kind) → SavedFits names d x k → AtMostOne d x k → EachStored (ResultFits known_names) (result_saved d x k)
+  result_fits k h (inl e) = subst (EachStored (ResultFits known_names)) (sym e) tt
+  result_fits k h (inr p) =
+      let f = subst (EachStored (λ (r : StoredResult). IsFitting names k r.value)) p.is h.1 in
+      subst (EachStored (ResultFits known_names)) (sym p.is) (record { names = names; of_module = at; fits = f.0.fits }, tt)
+
+  kinds_fit : (ks : List Kind) → KindsFit names d x ks → EachStored (ResultFits known_names) (results_of_kinds d x ks)
+  kinds_fit [] h = tt
+  kinds_fit (k ∷ ks) h = each_join (ResultFits known_names) (result_saved d x k) (results_of_kinds d x ks) (result_fits k h.0 (one_saved names d x k h.0)) (kinds_fit ks h.1)
+
+-- ---- which results
+
+-- the one result of a kind where it is fresh
+one_key : (names : ModuleNames) (d : Db) (x : List ℕ) (k : Kind) → SavedFits names d x k → map key_at (result_saved d x k) ≡ (if holds d.fresh (key k x) then key k x ∷ [] else [])
+one_key names d x k h = go (one_saved names d x k h) (holds d.fresh (key k x)) refl
+  where
+    go : AtMostOne d x k → (b : Bool) → holds d.fresh (key k x) ≡ b → map key_at (result_saved d x k) ≡ (if holds d.fresh (key k x) then key k x ∷ [] else [])
+    go (inl e) true f = let no : [] ≡ x ∷ [] = sym (ap (map (λ (r : StoredResult). r.name)) e) ∙ h.0 ∙ ap (λ b. if b then x ∷ [] else []) f in cc
+    go (inl e) false f = ap (map key_at) e ∙ sym (ap (λ b. if b then key k x ∷ [] else []) f)
+    go (inr p) true f =
+        let same : kind_of p.value ≡ k = same_kind-true (kind_of p.value) k (eq-eqb (number_of (kind_of p.value)) (number_of k) p.kind) in
+        ap (map key_at) p.is ∙ ap (λ j. key j x ∷ []) same ∙ sym (ap (λ b. if b then key k x ∷ [] else []) f)
+    go (inr p) false f = let no : x ∷ [] ≡ [] = sym (ap (map (λ (r : StoredResult). r.name)) p.is) ∙ h.0 ∙ ap (λ b. if b then x ∷ [] else []) f in cc
+
+kinds_keys : (names : ModuleNames) (d : Db) (x : List ℕ) (ks : List Kind) → KindsFit names d x ks → map key_at (results_of_kinds d x ks) ≡ fresh_keys d.fresh x ks
+kinds_keys names d x [] h = refl
+kinds_keys names d x (k ∷ ks) h =
+    let one = one_key names d x k h.0 in
+    let rest = kinds_keys names d x ks h.1 in
+    map-append key_at (result_saved d x k) (results_of_kinds d x ks) ∙ (λ i. one i ++ rest i)
+
+pub saved_keys : (d : Db) (xs : List (List ℕ)) → EachStored (ModuleFits d) xs → map key_at (results_saved d xs) ≡ stored_keys d.fresh xs
+saved_keys d [] h = refl
+saved_keys d (x ∷ xs) h =
+    let one = kinds_keys (names_read h.0.read) d x stored_kinds h.0.fits in
+    let rest = saved_keys d xs h.1 in
+    map-append key_at (results_of_kinds d x stored_kinds) (results_saved d xs) ∙ (λ i. one i ++ rest i)
+
+-- ---- the grammar
+
+same_read : (o : Option ReadModule) (a b : ReadModule) → o ≡ Some a → o ≡ Some b → a ≡ b
+same_read o a b e f = let both : Some a ≡ Some b = sym e ∙ f in cc
 
 first_named : (x : List ℕ) (xs : List (List ℕ)) → has_name (x ∷ xs) x ≡ true
 first_named x xs = or_left (bytes_eq x x) (has_name xs x) ((bytes_decides x x).1 refl)
@@ -127,38 +150,29 @@ first_named x xs = or_left (bytes_eq x x) (has_name xs x) ((bytes_decides x x).1
 later_named : (y x : List ℕ) (xs : List (List ℕ)) → has_name xs x ≡ true → has_name (y ∷ xs) x ≡ true
 later_named y x xs e = or_right (bytes_eq y x) (has_name xs x) e
 
-all_named : (xs all : List (List ℕ)) → ((x : List ℕ) → has_name xs x ≡ true → has_name all x ≡ true) → Each (λ x. has_name all x ≡ true) xs
-all_named [] all h = tt
-all_named (x ∷ xs) all h = (h x (first_named x xs), all_named xs all (λ y e. h y (later_named x y xs e)))
-
-module _ (fit : DefinedResultsFit) (counted : ShortTextsAreCounted) (d : Db) (ms : AreModules (texts_of d)) (short : AreShort (map module_of (texts_of d))) where
+module _ (counted : ShortTextsAreCounted) (d : Db) (ms : AreModules (texts_of d)) (short : AreShort (map module_of (texts_of d))) where
   abbrev names : KnownNames
   names = known (map module_of (texts_of d)) (found_of (texts_of d) ms)
 
-  result_fits : (x : List ℕ) → has_name (names_in (texts_of d)) x ≡ true → (k : Kind) → Holds (ResultFits names) d x k
-  result_fits x e k w same h =
+  module_fits : (x : List ℕ) → has_name (names_in (texts_of d)) x ≡ true → ModuleFits d x → EachStored (ResultFits names) (results_of_kinds d x stored_kinds)
+  module_fits x e m =
       let n = named counted (texts_of d) ms short x e in
-      let is : definition (texts_of d) (kind_of w) x ≡ Some (value_in w) = ap (λ j. definition (texts_of d) j x) same ∙ h in
-      let m = fit (texts_of d) (kind_of w) x n.read (value_in w) ms n.is_read n.few (kind_is_stored w) is in
-      let found : m.stored ≡ w = one_stored m.stored w (sym m.is ∙ as_stored_in w) in
-      record { names = stored_names n.read; of_module = n.at; fits = subst (StoredFits (stored_names n.read)) found m.fits }
+      let same : n.read ≡ m.read = same_read (module_named (texts_of d) x) n.read m.read n.is_read m.is_read in
+      kinds_fit names (names_read m.read) d x (n.at ∙ ap (λ (r : ReadModule). Some (names_read r)) same) stored_kinds m.fits
 
-  fits_from : (xs : List (List ℕ)) → Each (λ x. has_name (names_in (texts_of d)) x ≡ true) xs → Each (λ x. (k : Kind) → Holds (ResultFits names) d x k) xs
-  fits_from [] h = tt
-  fits_from (x ∷ xs) h = (result_fits x h.0, fits_from xs h.1)
+  all_fit : (xs : List (List ℕ)) → ((x : List ℕ) → has_name xs x ≡ true → has_name (names_in (texts_of d)) x ≡ true) → EachStored (ModuleFits d) xs → EachStored (ResultFits names) (results_saved d xs)
+  all_fit [] there h = tt
+  all_fit (x ∷ xs) there h = each_join (ResultFits names) (results_of_kinds d x stored_kinds) (results_saved d xs) (module_fits x (there x (first_named x xs)) h.0) (all_fit xs (λ y e. there y (later_named x y xs e)) h.1)
 
--- ---- the grammar
-
-pub saved_is_base : (tables_law : TablesIgnorePlaces) (graphs_law : GraphsIgnorePlaces) (fit : DefinedResultsFit) (counted : ShortTextsAreCounted) (d : Db) → IsDistinct bytes_eq (names_in (texts_of d)) → AreShort (map module_of (texts_of d)) → HaveBytes (map module_of (texts_of d)) → (s : State) → IsIn d s → FreshIsCurrent s → IsBase (saved_base d)
-saved_is_base tables_law graphs_law fit counted d distinct short bytes s i f =
+pub saved_is_base : (counted : ShortTextsAreCounted) (d : Db) → IsDistinct bytes_eq (names_in (texts_of d)) → AreModules (texts_of d) → AreShort (map module_of (texts_of d)) → HaveBytes (map module_of (texts_of d)) →
+    EachStored (ModuleFits d) (names_in (texts_of d)) → IsBase (saved_base d)
+saved_is_base counted d distinct ms short bytes fits =
     let ts = texts_of d in
-    let ms : AreModules ts = subst AreModules (sym i.texts) i.stands.modules in
-    let results = results_are tables_law graphs_law d s i f in
     record {
       bytes = bytes;
       found = found_of ts ms;
       are_modules = each_named counted ts ms short;
       once = names_once ts distinct;
-      fit = of_all (ResultFits (known (map module_of ts) (found_of ts ms))) d (names_in ts) (fits_from fit counted d ms short (names_in ts) (all_named (names_in ts) (names_in ts) (λ x e. e))) results;
-      ordered = subst (λ xs. are_in_order xs (results_saved d (names_in ts)) ≡ true) (sym (names_are ts)) (saved_in_order d (names_in ts) distinct results);
+      fit = all_fit counted d ms short (names_in ts) (λ x e. e) fits;
+      ordered = subst (λ xs. are_in_order xs (results_saved d (names_in ts)) ≡ true) (sym (names_are ts)) (saved_in_order d (names_in ts) distinct (modules_at_most d (names_in ts) fits));
     }

@@ -8,14 +8,14 @@ use Rattle.f77_parser.specs.Gives.{Refused}
 use Rattle.f77_ast.specs.declared.symbol.Symbol.{Symbol}
 use Rattle.f77_ast.specs.Symbols.{SymbolTree, symbol_tree}
 use Rattle.storage_layout.specs.Symbols.{symbols_of}
-use Rattle.base_rows.specs.Distinct.{are_new}
+use Rattle.base_json.specs.Distinct.{are_new}
 use Rattle.base_text.specs.declared.base.BaseModule.{BaseModule}
 use Rattle.base_text.specs.Modules.{module_names_in, tree_in}
-use Rattle.laws_database.specs.Texts.{modules_of, with_table, one_module, module_read, names_in}
-use Rattle.session_texts.specs.declared.source.Source.{Source}
-use Rattle.session_texts.specs.Modules.{AreSources, NamesDiffer, source_text}
-use Rattle.session_texts.specs.Changes.{replaced}
-use Rattle.session_texts.proofs.Replaced.{replaced_none}
+use Rattle.pipsmake_db.specs.pipsmake_meaning.Texts.{modules_of, with_table, one_module, module_read, names_in}
+use Rattle.pipsmake_db.specs.session_texts.declared.source.Source.{Source}
+use Rattle.pipsmake_db.specs.session_texts.Modules.{AreSources, NamesDiffer, source_text}
+use Rattle.pipsmake_db.specs.session_texts.Changes.{replaced}
+use Rattle.pipsmake_db.proofs.SessionTexts.Replaced.{replaced_none}
 use Rattle.pipsmake_db.specs.declared.db.Db.{Db}
 use Rattle.pipsmake_db.specs.Puts.{Puts}
 use Rattle.pipsmake_db.specs.State.{first_state, IsIn}

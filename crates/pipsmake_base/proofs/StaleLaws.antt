@@ -1,29 +1,29 @@
 -- Stored results that are not what is defined.
 use Rattle.std.proofs.Common.{◌≡◌, inl, inr, ℕ, Bool, true, false, List, [], ◌∷◌, Option, Some, None, Result, Ok, Err, IfOk, refl, sym, ap, ◌∙◌, subst}
 use Rattle.std.specs.Prelude.{◌↔◌, IsTrue, IsNone, is_some, not, if◌then◌else◌}
-use Rattle.pipsmake_rules.specs.declared.kind.Kind.{Kind}
-use Rattle.pipsmake_rules.specs.declared.kind.Kind.TheVariants as kind
-use Rattle.pipsmake_rules.specs.declared.key.Key.{Key}
-use Rattle.pipsmake_rules.specs.Kinds.{name_of, kind_with}
-use Rattle.pipsmake_rules.specs.Neighbours.{has_name}
-use Rattle.roundtrip_programs.specs.Laws.{TablesIgnorePlaces, GraphsIgnorePlaces}
-use Rattle.base_values.specs.declared.stored.StoredValue.{StoredValue}
-use Rattle.base_values.specs.declared.stored.StoredValue.TheVariants as stored
-use Rattle.base_values.specs.Naming.{Each as EachStored}
-use Rattle.base_values.specs.Sizes.{kind_of}
+use Rattle.pipsmake_db.specs.pipsmake_rules.declared.kind.Kind.{Kind}
+use Rattle.pipsmake_db.specs.pipsmake_rules.declared.kind.Kind.TheVariants as kind
+use Rattle.pipsmake_db.specs.pipsmake_rules.declared.key.Key.{Key}
+use Rattle.pipsmake_db.specs.pipsmake_rules.Kinds.{name_of, kind_with}
+use Rattle.pipsmake_db.specs.pipsmake_rules.Neighbours.{has_name}
+use Rattle.pipsmake_db.specs.roundtrip_programs.Laws.{TablesIgnorePlaces, GraphsIgnorePlaces}
+use Rattle.pipsmake_db.specs.base_values.declared.stored.StoredValue.{StoredValue}
+use Rattle.pipsmake_db.specs.base_values.declared.stored.StoredValue.TheVariants as stored
+use Rattle.pipsmake_db.specs.base_values.Naming.{Each as EachStored}
+use Rattle.pipsmake_db.specs.base_values.Sizes.{kind_of}
 use Rattle.base_text.specs.declared.base.StoredResult.{StoredResult}
-use Rattle.laws_database.specs.Definitions.{definition}
-use Rattle.laws_database.specs.Laws.{AreLinked}
-use Rattle.laws_database.specs.Resting.{IsStored}
-use Rattle.laws_database.specs.Shelves.{Shelves, kept_of}
-use Rattle.laws_database.specs.Texts.{ModuleText, AreModules, names_in, links_in}
-use Rattle.laws_database.specs.Values.{Value}
+use Rattle.pipsmake_db.specs.pipsmake_meaning.Definitions.{definition}
+use Rattle.pipsmake_db.specs.laws_database.Laws.{AreLinked}
+use Rattle.pipsmake_db.specs.laws_database.Unverified.{IsStored}
+use Rattle.pipsmake_db.specs.pipsmake_meaning.MemoCells.{MemoCells, kept_of}
+use Rattle.pipsmake_db.specs.pipsmake_meaning.Texts.{ModuleText, AreModules, names_in, links_in}
+use Rattle.pipsmake_db.specs.pipsmake_meaning.Values.{Value}
 use Rattle.pipsmake_db.specs.declared.db.Db.{Db}
 use Rattle.pipsmake_db.specs.declared.refusal.DbRefusal.{DbRefusal}
 use Rattle.pipsmake_db.specs.declared.refusal.DbRefusal.TheVariants.{NoSuchName}
 use Rattle.pipsmake_db.specs.Calls.{Makes, MakesNamed, key}
 use Rattle.pipsmake_db.specs.Refusals.{or_else, name_refusal, refused_links, links_refusal, owner_refusal, of_kind, make_refusal}
-use Rattle.pipsmake_db.specs.State.{after_make, texts_of, shelves_in}
+use Rattle.pipsmake_db.specs.State.{after_make, texts_of, memo_cells_in}
 use Rattle.pipsmake_db.proofs.AskedLaws.{can_make}
 use Rattle.pipsmake_base.specs.Saved.{key_at, value_in, IsDefinedAt, FirstStale}
 use Rattle.pipsmake_base.specs.Made.{IsRefusedAt, IsMade}
@@ -31,22 +31,10 @@ use Rattle.pipsmake_base.specs.Stale.{IsStale, IsOther}
 use Rattle.pipsmake_base.specs.Taken.{IsInSome}
 use Rattle.pipsmake_base.proofs.Defined.{made_is_defined}
 use Rattle.pipsmake_base.proofs.StoredCan.{stored_can}
+use Rattle.pipsmake_base.proofs.LoadLaws.{kind_is_stored as stored_kind}
+use Rattle.pipsmake_db.proofs.PipsmakeRules.Shared.{named_back as kind_named}
 
 -- ---- kinds by their names
-
-pub kind_named : (k : Kind) → kind_with (name_of k) ≡ Some k
-kind_named kind.Parsed = refl
-kind_named kind.Lines = refl
-kind_named kind.Symbols = refl
-kind_named kind.CallGraph = refl
-kind_named kind.Effects = refl
-kind_named kind.Transformers = refl
-kind_named kind.Preconditions = refl
-kind_named kind.Regions = refl
-kind_named kind.InRegions = refl
-kind_named kind.OutRegions = refl
-kind_named kind.Marks = refl
-kind_named kind.Printed = refl
 
 by_name : (ts : List ModuleText) (k : Kind) (word x : List ℕ) → word ≡ name_of k → make_refusal ts word x ≡ or_else (owner_refusal ts k x) (links_refusal ts k)
 by_name ts k word x e = ap (of_kind (λ j. or_else (owner_refusal ts j x) (links_refusal ts j))) (ap kind_with e ∙ kind_named k)
@@ -58,7 +46,7 @@ no_first None b e = (refl, e)
 no_first (Some r) b e = cc
 
 pub made_named : (tables_law : TablesIgnorePlaces) (graphs_law : GraphsIgnorePlaces) (old new : Db) (k : Kind) (word x : List ℕ) (now : List Key) → word ≡ name_of k → MakesNamed old new word x now → IsInSome old
-    → (kept_of (shelves_in new) k x ≡ definition (texts_of old) k x) × (texts_of new ≡ texts_of old) × IsInSome new
+    → (kept_of (memo_cells_in new) k x ≡ definition (texts_of old) k x) × (texts_of new ≡ texts_of old) × IsInSome new
 made_named tables_law graphs_law old new k word x now e m i =
     let none = no_first (owner_refusal (texts_of old) k x) (links_refusal (texts_of old) k) (sym (by_name (texts_of old) k word x e) ∙ m.0) in
     let makes : Makes old new (key k x) now = m.1 k (ap kind_with e ∙ kind_named k) in (
@@ -68,15 +56,6 @@ made_named tables_law graphs_law old new k word x now e m i =
     )
 
 -- ---- a result that cannot be made
-
-stored_kind : (v : StoredValue) → IsStored (kind_of v)
-stored_kind (stored.Effects r) = tt
-stored_kind (stored.Transformers r) = tt
-stored_kind (stored.Preconditions r) = tt
-stored_kind (stored.Regions r) = tt
-stored_kind (stored.InRegions r) = tt
-stored_kind (stored.OutRegions r) = tt
-stored_kind (stored.Marks ms) = tt
 
 not_refused : (ts : List ModuleText) (k : Kind) (x : List ℕ) → IsStored k → AreLinked ts × (has_name (names_in ts) x ≡ true) → or_else (owner_refusal ts k x) (links_refusal ts k) ≡ None
 not_refused ts k x s c = go k s
@@ -121,18 +100,18 @@ made_or_stale old new i r b e m = refused_is_stale old (some_modules old i) r (s
 
 -- ---- what is kept is what is defined
 
-other_is_stale : (sh : Shelves) (ts : List ModuleText) (r : StoredResult) (b : Bool) → kept_of sh (kind_of r.value) r.name ≡ definition ts (kind_of r.value) r.name → IsOther sh r b → IsStale ts r b
+other_is_stale : (sh : MemoCells) (ts : List ModuleText) (r : StoredResult) (b : Bool) → kept_of sh (kind_of r.value) r.name ≡ definition ts (kind_of r.value) r.name → IsOther sh r b → IsStale ts r b
 other_is_stale sh ts r true e h = λ d. h (e ∙ d)
 other_is_stale sh ts r false e h = sym e ∙ h
 
 -- none is kept
-pub other_none : (sh : Shelves) (r : StoredResult) (k : Kind) → k ≡ kind_of r.value → None ≡ kept_of sh k r.name → IsOther sh r true
+pub other_none : (sh : MemoCells) (r : StoredResult) (k : Kind) → k ≡ kind_of r.value → None ≡ kept_of sh k r.name → IsOther sh r true
 other_none sh r k e n h =
     let same : None ≡ Some (value_in r.value) = n ∙ ap (λ j. kept_of sh j r.name) e ∙ h in
     cc
 
 -- a value is kept, and compared
-pub other_some : (sh : Shelves) (r : StoredResult) (k : Kind) (found value : Value) (b : Bool) → k ≡ kind_of r.value → Some found ≡ kept_of sh k r.name → value ≡ value_in r.value → IsTrue b ↔ (found ≡ value) → IsOther sh r (not b)
+pub other_some : (sh : MemoCells) (r : StoredResult) (k : Kind) (found value : Value) (b : Bool) → k ≡ kind_of r.value → Some found ≡ kept_of sh k r.name → value ≡ value_in r.value → IsTrue b ↔ (found ≡ value) → IsOther sh r (not b)
 other_some sh r k found value true e f v h = sym (ap (λ j. kept_of sh j r.name) e) ∙ sym f ∙ ap Some (h.0 refl ∙ v)
 other_some sh r k found value false e f v h = λ is.
     let kept : Some found ≡ Some (value_in r.value) = f ∙ ap (λ j. kept_of sh j r.name) e ∙ is in
@@ -141,7 +120,7 @@ other_some sh r k found value false e f v h = λ is.
     cc
 
 -- so is what a call tells of it
-pub stale_from : {E : Type 0} (sh : Shelves) (ts : List ModuleText) (r : StoredResult) (told : Result Bool E) → kept_of sh (kind_of r.value) r.name ≡ definition ts (kind_of r.value) r.name → IfOk told (IsOther sh r) → IfOk told (IsStale ts r)
+pub stale_from : {E : Type 0} (sh : MemoCells) (ts : List ModuleText) (r : StoredResult) (told : Result Bool E) → kept_of sh (kind_of r.value) r.name ≡ definition ts (kind_of r.value) r.name → IfOk told (IsOther sh r) → IfOk told (IsStale ts r)
 stale_from sh ts r (Ok b) e h = other_is_stale sh ts r b e h
 stale_from sh ts r (Err x) e h = tt
 

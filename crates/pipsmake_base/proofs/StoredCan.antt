@@ -4,71 +4,38 @@ use Rattle.std.specs.Prelude.{bytes_eq, option_map, option_and_then, Result, Ok,
 use Rattle.std.proofs.lemmas.Slice.Eq.{bytes_eq-Decides}
 use Rattle.call_graph.specs.declared.graph.Graph.{Graph}
 use Rattle.call_graph.specs.declared.refusal.Fault.{Fault}
-use Rattle.loop_marker.specs.Phases.{ModuleMarks}
-use Rattle.laws_statements.specs.CallsIn.{Each}
-use Rattle.laws_database.specs.ResultEntries.{marks_in, module_in, name_in, transformers_in, preconditions_in, regions_in, ins_in, outs_in, said_for}
-use Rattle.laws_database.specs.ResultLaws.{IsFound}
-use Rattle.laws_database.proofs.ResultEntries.{modules_have_entries}
-use Rattle.pipsmake_rules.specs.declared.kind.Kind.{Kind}
-use Rattle.pipsmake_rules.specs.declared.kind.Kind.TheVariants as kind
-use Rattle.pipsmake_rules.specs.Keys.{key_of}
-use Rattle.pipsmake_rules.specs.Neighbours.{has_name}
-use Rattle.laws_database.specs.Values.{Value, parsed, effects, transformers, preconditions, regions, ins, outs, marks}
-use Rattle.laws_database.specs.Texts.{ModuleText, ReadModule, module_read, AreModules, trees_in, tables_in, names_in, links_in, known_in, text_of}
-use Rattle.laws_database.specs.Definitions.{module_named, results_with, results_in, graph_found, definition}
-use Rattle.laws_database.specs.Session.{needs_in, SameValue}
-use Rattle.laws_database.specs.Laws.{AreLinked}
-use Rattle.laws_database.specs.Resting.{IsStored}
-use Rattle.laws_database.proofs.Stamps.{SameNeeds}
-use Rattle.laws_database.proofs.Modules.{read_at, linked}
-use Rattle.laws_database.proofs.Made.{said_each}
-use Rattle.laws_database.proofs.Linked.{known_named}
+use Rattle.loop_marker.specs.Results.{ModuleResults}
+use Rattle.call_graph.specs.CallsIn.{Each}
+use Rattle.pipsmake_db.specs.pipsmake_meaning.ResultEntries.{results_of_modules, name_in, results_for}
+use Rattle.pipsmake_db.specs.laws_database.ResultLaws.{IsFound}
+use Rattle.pipsmake_db.proofs.LawsDatabase.ResultEntries.{modules_have_entries}
+use Rattle.pipsmake_db.specs.pipsmake_rules.declared.kind.Kind.{Kind}
+use Rattle.pipsmake_db.specs.pipsmake_rules.declared.kind.Kind.TheVariants as kind
+use Rattle.pipsmake_db.specs.pipsmake_rules.Keys.{key_of}
+use Rattle.pipsmake_db.specs.pipsmake_rules.Neighbours.{has_name}
+use Rattle.pipsmake_db.specs.pipsmake_meaning.Values.{Value, parsed, effects, transformers, preconditions, regions, ins, outs, marks}
+use Rattle.pipsmake_db.specs.pipsmake_meaning.Texts.{ModuleText, ReadModule, module_read, AreModules, trees_in, tables_in, names_in, links_in, known_in, text_of}
+use Rattle.pipsmake_db.specs.pipsmake_meaning.Definitions.{module_named, results_with, results_in, graph_found, definition}
+use Rattle.pipsmake_db.specs.pipsmake_meaning.Session.{needs_in, SameValue}
+use Rattle.pipsmake_db.specs.laws_database.Laws.{AreLinked}
+use Rattle.pipsmake_db.specs.laws_database.Unverified.{IsStored}
+use Rattle.pipsmake_db.proofs.LawsDatabase.Stamps.{SameNeeds}
+use Rattle.pipsmake_db.proofs.LawsDatabase.Modules.{read_at, linked}
+use Rattle.pipsmake_db.proofs.LawsDatabase.Made.{said_each}
+use Rattle.pipsmake_db.proofs.LawsDatabase.Linked.{known_named}
+use Rattle.pipsmake_db.proofs.LawsDatabase.Whole.{some_mapped, text_named, read_named, linked_result, said_name}
 
 -- ---- what has a value is of texts that link, and of one of their modules
 
-some_mapped : {A : Type 0} (f : A → Value) (o : Option A) (v : Value) → option_map f o ≡ Some v → (a : A) × (o ≡ Some a)
-some_mapped f None v e = cc
-some_mapped f (Some a) v e = (a, refl)
-
-text_named : (ts : List ModuleText) (x t : List ℕ) → text_of ts x ≡ Some t → has_name (names_in ts) x ≡ true
-text_named [] x t e = cc
-text_named (u ∷ ts) x t e = go (bytes_eq u.name x) e (text_named ts x t)
-  where
-    go : (b : Bool) → (if b then Some u.text else text_of ts x) ≡ Some t → (text_of ts x ≡ Some t → has_name (names_in ts) x ≡ true) → (b || has_name (names_in ts) x) ≡ true
-    go true q ih = refl
-    go false q ih = ih q
-
-read_named : (ts : List ModuleText) (x : List ℕ) (m : ReadModule) → module_named ts x ≡ Some m → has_name (names_in ts) x ≡ true
-read_named ts x m e = go (text_of ts x) refl e
-  where
-    go : (o : Option (List ℕ)) → text_of ts x ≡ o → option_and_then module_read o ≡ Some m → has_name (names_in ts) x ≡ true
-    go None q w = cc
-    go (Some t) q w = text_named ts x t q
-
-linked_result : (ts : List ModuleText) (x : List ℕ) (f : ModuleMarks) → results_in ts x ≡ Some f → (g : Graph) × (links_in ts ≡ Ok g) × (said_for (marks_in (known_in ts) g) x ≡ Some f)
-linked_result ts x f e = go (links_in ts) refl e
-  where
-    go : (r : Result Graph Fault) → links_in ts ≡ r → results_with ts r x ≡ Some f → (g : Graph) × (links_in ts ≡ Ok g) × (said_for (marks_in (known_in ts) g) x ≡ Some f)
-    go (Ok g) q w = (g, q, w)
-    go (Err a) q w = cc
-
-said_name : (fs : List ModuleMarks) (x : List ℕ) (f : ModuleMarks) → said_for fs x ≡ Some f → bytes_eq (name_in f) x ≡ true
-said_name [] x f e = cc
-said_name (d ∷ fs) x f e = go (bytes_eq (name_in d) x) refl e (said_name fs x f)
-  where
-    go : (b : Bool) → bytes_eq (name_in d) x ≡ b → (if b then Some d else said_for fs x) ≡ Some f → (said_for fs x ≡ Some f → bytes_eq (name_in f) x ≡ true) → bytes_eq (name_in f) x ≡ true
-    go true q w ih = (let same : d ≡ f = cc in subst (λ z. bytes_eq (name_in z) x ≡ true) same q)
-    go false q w ih = ih w
-
 module _ (ts : List ModuleText) (ms : AreModules ts) (x : List ℕ) where
-  result_can : (f : ModuleMarks) → results_in ts x ≡ Some f → AreLinked ts × (has_name (names_in ts) x ≡ true)
+  result_can : (f : ModuleResults) → results_in ts x ≡ Some f → AreLinked ts × (has_name (names_in ts) x ≡ true)
   result_can f e =
       let r = linked_result ts x f e in
-      let fs = marks_in (known_in ts) r.0 in
+      let fs = results_of_modules (known_in ts) r.0 in
       let i : IsFound (known_in ts) fs f = said_each (IsFound (known_in ts) fs) fs x f (modules_have_entries (trees_in ts) (tables_in ts) r.0 (linked ts r.0 r.1)).found r.2 in
-      ((r.0, r.1), subst (λ y. has_name (names_in ts) y ≡ true) ((bytes_eq-Decides (name_in f) x).0 (said_name fs x f r.2)) (known_named ts ms i.at (module_in f) i.is_module))
+      ((r.0, r.1), subst (λ y. has_name (names_in ts) y ≡ true) ((bytes_eq-Decides (name_in f) x).0 (said_name fs x f r.2)) (known_named ts ms i.at f.known i.is_module))
 
-  of_result : (f : ModuleMarks → Value) (v : Value) → option_map f (results_in ts x) ≡ Some v → AreLinked ts × (has_name (names_in ts) x ≡ true)
+  of_result : (f : ModuleResults → Value) (v : Value) → option_map f (results_in ts x) ≡ Some v → AreLinked ts × (has_name (names_in ts) x ≡ true)
   of_result f v e = let r = some_mapped f (results_in ts x) v e in result_can r.0 r.1
 
 -- ---- stored kinds
@@ -80,11 +47,11 @@ stored_can ts ms kind.Lines x v s e = absurd s
 stored_can ts ms kind.Symbols x v s e = absurd s
 stored_can ts ms kind.CallGraph x v s e = absurd s
 stored_can ts ms kind.Effects x v s e = of_result ts ms x (λ f. effects f.effects) v e
-stored_can ts ms kind.Transformers x v s e = of_result ts ms x (λ f. transformers (transformers_in f)) v e
-stored_can ts ms kind.Preconditions x v s e = of_result ts ms x (λ f. preconditions (preconditions_in f)) v e
-stored_can ts ms kind.Regions x v s e = of_result ts ms x (λ f. regions (regions_in f)) v e
-stored_can ts ms kind.InRegions x v s e = of_result ts ms x (λ f. ins (ins_in f)) v e
-stored_can ts ms kind.OutRegions x v s e = of_result ts ms x (λ f. outs (outs_in f)) v e
+stored_can ts ms kind.Transformers x v s e = of_result ts ms x (λ f. transformers f.transformers) v e
+stored_can ts ms kind.Preconditions x v s e = of_result ts ms x (λ f. preconditions f.preconditions) v e
+stored_can ts ms kind.Regions x v s e = of_result ts ms x (λ f. regions f.regions) v e
+stored_can ts ms kind.InRegions x v s e = of_result ts ms x (λ f. ins f.ins) v e
+stored_can ts ms kind.OutRegions x v s e = of_result ts ms x (λ f. outs f.outs) v e
 stored_can ts ms kind.Marks x v s e = of_result ts ms x (λ f. marks f.marks) v e
 stored_can ts ms kind.Printed x v s e = absurd s
 

@@ -1,8 +1,8 @@
 -- Stored values are values of results.
 use Rattle.std.proofs.Common.{◌≡◌, Some, sym, ap}
-use Rattle.base_values.specs.declared.stored.StoredValue.TheVariants as stored
-use Rattle.base_values.specs.declared.stored.StoredValue.{StoredValue}
-use Rattle.laws_database.specs.Values.{Value, source, parsed, lines, symbols, graph, effects, transformers, preconditions, regions, ins, outs, marks, printed}
+use Rattle.pipsmake_db.specs.base_values.declared.stored.StoredValue.TheVariants as stored
+use Rattle.pipsmake_db.specs.base_values.declared.stored.StoredValue.{StoredValue}
+use Rattle.pipsmake_db.specs.pipsmake_meaning.Values.{Value, source, parsed, lines, symbols, graph, effects, transformers, preconditions, regions, ins, outs, marks, printed}
 use Rattle.pipsmake_db.specs.Shown.{stored_in}
 use Rattle.pipsmake_base.specs.Saved.{value_in}
 

@@ -4,46 +4,48 @@ use Rattle.std.specs.Prelude.{slice_get, is_some, is_ok}
 use Rattle.std.proofs.lemmas.List.{map-append}
 use Rattle.call_graph.specs.declared.graph.Graph.{Graph}
 use Rattle.call_graph.specs.declared.refusal.Fault.{Fault}
-use Rattle.pipsmake_rules.specs.declared.kind.Kind.{Kind}
-use Rattle.pipsmake_rules.specs.declared.kind.Kind.TheVariants as kind
-use Rattle.pipsmake_rules.specs.declared.key.Key.{Key}
-use Rattle.pipsmake_rules.specs.Keys.{same_key, holds}
-use Rattle.pipsmake_rules.proofs.KeyLaws.{same_key-true, same_key_self, holds-last, holds-more}
+use Rattle.pipsmake_db.specs.pipsmake_rules.declared.kind.Kind.{Kind}
+use Rattle.pipsmake_db.specs.pipsmake_rules.declared.kind.Kind.TheVariants as kind
+use Rattle.pipsmake_db.specs.pipsmake_rules.declared.key.Key.{Key}
+use Rattle.pipsmake_db.specs.pipsmake_rules.Keys.{same_key, holds}
+use Rattle.pipsmake_db.proofs.PipsmakeRules.KeyLaws.{same_key-true, same_key_self, holds-last, holds-more}
 use Rattle.base_text.specs.declared.base.StoredResult.{StoredResult}
-use Rattle.base_values.specs.Naming.{Each as EachStored}
-use Rattle.laws_statements.specs.CallsIn.{Each}
-use Rattle.laws_database.specs.Texts.{ModuleText, links_in}
-use Rattle.laws_database.specs.Definitions.{definition}
-use Rattle.laws_database.specs.Session.{needs_in, none_made}
-use Rattle.laws_database.specs.Shelves.{Shelves, Shelf, Stamped, Kept, Adds, KeepsIn, SeenIn}
-use Rattle.laws_database.specs.Stands.{Needed, text_needed, AreStamps, KeptStands, StandsFor, Valuation, needed_with, KeepsValues}
-use Rattle.laws_database.specs.Laws.{AreLinked}
-use Rattle.laws_database.specs.Resting.{IsStored}
-use Rattle.laws_database.specs.Values.{Value, Item, text, result}
-use Rattle.laws_database.proofs.Going.{nothing_is_given, given_may_be_kept, given_may_be_seen}
-use Rattle.laws_database.proofs.Stamps.{adds_keep, stamps_grow}
-use Rattle.result_store.specs.Fits.{ValueFits}
-use Rattle.result_store.specs.declared.item.Stamped as code
-use Rattle.result_store.specs.declared.item.Item.TheVariants.{Result}
-use Rattle.result_store.specs.Seen.{KeepsSeen}
-use Rattle.result_store.specs.Values.{stamped_tree}
+use Rattle.pipsmake_db.specs.base_values.Naming.{Each as EachStored}
+use Rattle.call_graph.specs.CallsIn.{Each}
+use Rattle.pipsmake_db.specs.pipsmake_meaning.Texts.{ModuleText, links_in}
+use Rattle.pipsmake_db.specs.pipsmake_meaning.Definitions.{definition}
+use Rattle.pipsmake_db.specs.pipsmake_meaning.Session.{needs_in, none_made}
+use Rattle.pipsmake_db.specs.pipsmake_meaning.MemoCells.{MemoCells, MemoCell, Stamped, Kept, Adds, KeepsIn, SeenIn}
+use Rattle.pipsmake_db.specs.laws_database.Stands.{Needed, text_needed, AreStamps, KeptStands, StandsFor, Valuation, needed_with, KeepsValues}
+use Rattle.pipsmake_db.specs.laws_database.Laws.{AreLinked}
+use Rattle.pipsmake_db.specs.laws_database.Unverified.{IsStored}
+use Rattle.pipsmake_db.specs.pipsmake_meaning.Values.{Value, Item, text, result}
+use Rattle.pipsmake_db.proofs.LawsDatabase.Going.{nothing_is_given, given_may_be_kept, given_may_be_seen}
+use Rattle.pipsmake_db.proofs.LawsDatabase.Stamps.{adds_keep, stamps_grow}
+use Rattle.pipsmake_db.specs.result_store.Fits.{ValueFits}
+use Rattle.pipsmake_db.specs.result_store.declared.item.Stamped as code
+use Rattle.pipsmake_db.specs.result_store.declared.item.Item.TheVariants.{Result}
+use Rattle.pipsmake_db.specs.result_store.Seen.{KeepsSeen}
+use Rattle.pipsmake_db.specs.result_store.Values.{stamped_tree}
 use Rattle.pipsmake_base.specs.Saved.{key_at, value_in}
 use Rattle.pipsmake_base.specs.Taken.{IsGivenAt, HasFirst, OthersDefined, Taken, SlotsStay, SeesFirst, SeesResults, SeesNeed, SeesNeeds, need_at, IsStoredKey, SeesStamps, LinksFor, KeepsResults}
-use Rattle.pipsmake_base.proofs.Lists.{each_map, each_join, clash, held, holds_other}
+use Rattle.fx_lists.proofs.Booleans.{no_both as clash}
+use Rattle.pipsmake_db.proofs.LawsDatabase.Keeping.{held, holds_other}
+use Rattle.pipsmake_base.proofs.Lists.{each_map, each_join}
 
--- ---- shelves that stay
+-- ---- memo cells that stay
 
-abbrev Others : Shelves → Shelves → Key → Type 0
+abbrev Others : MemoCells → MemoCells → Key → Type 0
 Others old new k = (item : Item) (y : List ℕ) → (((item ≡ result k.kind) × (y ≡ k.name)) → ⊥) → new item y ≡ old item y
 
-module _ (old new : Shelves) (k : Key) (others : Others old new k) where
+module _ (old new : MemoCells) (k : Key) (others : Others old new k) where
   is_other : (j : Key) → same_key j k ≡ false → ((result j.kind ≡ result k.kind) × (j.name ≡ k.name)) → ⊥
   is_other j e p =
       let r : result j.kind ≡ result k.kind = p.0 in
       let q : j.kind ≡ k.kind = cc in
       clash (same_key k k) (same_key_self k) ((λ i. same_key (record { kind = sym q i; name = sym p.1 i }) k) ∙ e)
 
-  at_result : (P : Shelf → Shelf → Type 0) → P (old (result k.kind) k.name) (new (result k.kind) k.name) → ((s : Shelf) → P s s) → (j : Key) → P (old (result j.kind) j.name) (new (result j.kind) j.name)
+  at_result : (P : MemoCell → MemoCell → Type 0) → P (old (result k.kind) k.name) (new (result k.kind) k.name) → ((s : MemoCell) → P s s) → (j : Key) → P (old (result j.kind) j.name) (new (result j.kind) j.name)
   at_result P here same j = go (same_key j k) refl
     where
       go : (b : Bool) → same_key j k ≡ b → P (old (result j.kind) j.name) (new (result j.kind) j.name)
@@ -51,34 +53,34 @@ module _ (old new : Shelves) (k : Key) (others : Others old new k) where
       go false e = subst (λ s. P (old (result j.kind) j.name) s) (sym (others (result j.kind) j.name (is_other j e))) (same (old (result j.kind) j.name))
 
   slots_stay : (v : Value) → Adds (old (result k.kind) k.name).values v (new (result k.kind) k.name).values → SlotsStay old new
-  slots_stay v adds text x i w e = ap (λ (s : Shelf). slice_get s.values i) (others text x (λ p. (let q : text ≡ result k.kind = p.0 in cc))) ∙ e
+  slots_stay v adds text x i w e = ap (λ (s : MemoCell). slice_get s.values i) (others text x (λ p. (let q : text ≡ result k.kind = p.0 in cc))) ∙ e
   slots_stay v adds (result j) x i w e =
       at_result (λ s t. slice_get s.values i ≡ Some w → slice_get t.values i ≡ Some w)
       (λ f. adds_keep (old (result k.kind) k.name).values (new (result k.kind) k.name).values v w i adds f) (λ s f. f) (record { kind = j; name = x }) e
 
-pub first_stays : (old new : Shelves) (d : Valuation) → SlotsStay old new → (j : Key) → HasFirst old d j → HasFirst new d j
+pub first_stays : (old new : MemoCells) (d : Valuation) → SlotsStay old new → (j : Key) → HasFirst old d j → HasFirst new d j
 first_stays old new d g j h = record { value = h.value; is = h.is; at = g (result j.kind) j.name 0 h.value h.at }
 
-pub firsts_stay : (old new : Shelves) (d : Valuation) → SlotsStay old new → (ks : List Key) → Each (HasFirst old d) ks → Each (HasFirst new d) ks
+pub firsts_stay : (old new : MemoCells) (d : Valuation) → SlotsStay old new → (ks : List Key) → Each (HasFirst old d) ks → Each (HasFirst new d) ks
 firsts_stay old new d g ks h = each_map (HasFirst old d) (HasFirst new d) ks (first_stays old new d g) h
 
-pub stay_same : (sh : Shelves) → SlotsStay sh sh
+pub stay_same : (sh : MemoCells) → SlotsStay sh sh
 stay_same sh item x i w e = e
 
-pub stay_on : (old mid new : Shelves) → SlotsStay old mid → SlotsStay mid new → SlotsStay old new
+pub stay_on : (old mid new : MemoCells) → SlotsStay old mid → SlotsStay mid new → SlotsStay old new
 stay_on old mid new f g item x i w e = g item x i w (f item x i w e)
 
 -- ---- what is kept of results that are being seen
 
-pub record TakenSome (sh : Shelves) (ts : List ModuleText) (d : Valuation) (seen kept : List Key) : Type 0 where
+pub record TakenSome (sh : MemoCells) (ts : List ModuleText) (d : Valuation) (seen kept : List Key) : Type 0 where
   pub keeps : KeepsValues sh ts d
   pub first : Each (HasFirst sh d) seen
   pub kept_are : (kind : Kind) (x : List ℕ) → is_some ((sh (result kind) x).kept) ≡ holds kept (record { kind = kind; name = x })
 
-some_of : (sh : Shelves) (ts : List ModuleText) (d : Valuation) (seen kept : List Key) → Taken sh ts d seen kept → TakenSome sh ts d seen kept
+some_of : (sh : MemoCells) (ts : List ModuleText) (d : Valuation) (seen kept : List Key) → Taken sh ts d seen kept → TakenSome sh ts d seen kept
 some_of sh ts d seen kept t = record { keeps = t.keeps; first = t.first; kept_are = t.kept_are }
 
-with_others : (sh : Shelves) (ts : List ModuleText) (d : Valuation) (seen kept : List Key) → TakenSome sh ts d seen kept → OthersDefined ts d seen → Taken sh ts d seen kept
+with_others : (sh : MemoCells) (ts : List ModuleText) (d : Valuation) (seen kept : List Key) → TakenSome sh ts d seen kept → OthersDefined ts d seen → Taken sh ts d seen kept
 with_others sh ts d seen kept t others = record { keeps = t.keeps; first = t.first; kept_are = t.kept_are; others = others }
 
 not_before : (ks : List Key) (k j : Key) → holds (ks ++ k ∷ []) j ≡ false → holds ks j ≡ false
@@ -89,7 +91,7 @@ not_before ks k j e = go (holds ks j) refl
     go false h = refl
 
 -- nothing was seen
-pub nothing_taken : (sh : Shelves) (ts : List ModuleText) (d : Valuation) → StandsFor sh ts none_made → TakenSome sh ts d [] []
+pub nothing_taken : (sh : MemoCells) (ts : List ModuleText) (d : Valuation) → StandsFor sh ts none_made → TakenSome sh ts d [] []
 nothing_taken sh ts d s = record {
   keeps = nothing_is_given sh ts d s;
   first = tt;
@@ -102,7 +104,7 @@ nothing_taken sh ts d s = record {
 
 -- ---- a value that is seen
 
-module _ (old new : Shelves) (k : Key) (v : Value) (sees : SeenIn old new (result k.kind) k.name v 0) where
+module _ (old new : MemoCells) (k : Key) (v : Value) (sees : SeenIn old new (result k.kind) k.name v 0) where
   pub seen_stay : SlotsStay old new
   seen_stay = slots_stay old new k sees.others v sees.sees.values
 
@@ -122,19 +124,19 @@ module _ (old new : Shelves) (k : Key) (v : Value) (sees : SeenIn old new (resul
 -- ---- stored values that are seen
 
 -- a value that was seen at the first place
-pub sees_first : (old new : Shelves) (before seen : List Key) (k c : Key) (v : Value) (n : ℕ) → n ≡ 0 → SeenIn old new (result k.kind) k.name v n → c ≡ k → seen ≡ before ++ c ∷ [] → SeesFirst old before k v new seen
+pub sees_first : (old new : MemoCells) (before seen : List Key) (k c : Key) (v : Value) (n : ℕ) → n ≡ 0 → SeenIn old new (result k.kind) k.name v n → c ≡ k → seen ≡ before ++ c ∷ [] → SeesFirst old before k v new seen
 sees_first old new before seen k c v n z s e a = record { sees = subst (SeenIn old new (result k.kind) k.name v) z s; adds = a ∙ ap (λ j. before ++ j ∷ []) e }
 
 -- the first of these were seen, and these are left
-pub record SeesRest (old : Shelves) (all : List StoredResult) (sh : Shelves) (seen : List Key) (left : List StoredResult) : Type 0 where
+pub record SeesRest (old : MemoCells) (all : List StoredResult) (sh : MemoCells) (seen : List Key) (left : List StoredResult) : Type 0 where
   pub fits : EachStored (λ (r : StoredResult). ValueFits (value_in r.value)) left
   pub adds : seen ++ map key_at left ≡ map key_at all
   pub takes : (ts : List ModuleText) (d : Valuation) → EachStored (IsGivenAt d) all → StandsFor old ts none_made → TakenSome sh ts d seen [] × EachStored (IsGivenAt d) left
 
-pub sees_none : (sh : Shelves) (all : List StoredResult) → EachStored (λ (r : StoredResult). ValueFits (value_in r.value)) all → SeesRest sh all sh [] all
+pub sees_none : (sh : MemoCells) (all : List StoredResult) → EachStored (λ (r : StoredResult). ValueFits (value_in r.value)) all → SeesRest sh all sh [] all
 sees_none sh all f = record { fits = f; adds = refl; takes = λ ts d given s. (nothing_taken sh ts d s, given) }
 
-pub sees_more : (old : Shelves) (all : List StoredResult) (sh new : Shelves) (seen more : List Key) (r : StoredResult) (left : List StoredResult) → SeesRest old all sh seen (r ∷ left) → SeesFirst sh seen (key_at r) (value_in r.value) new more → SeesRest old all new more left
+pub sees_more : (old : MemoCells) (all : List StoredResult) (sh new : MemoCells) (seen more : List Key) (r : StoredResult) (left : List StoredResult) → SeesRest old all sh seen (r ∷ left) → SeesFirst sh seen (key_at r) (value_in r.value) new more → SeesRest old all new more left
 sees_more old all sh new seen more r left s f = record {
   fits = s.fits.1;
   adds = ap (λ ks. ks ++ map key_at left) f.adds ∙ append_assoc seen (key_at r ∷ []) (map key_at left) ∙ s.adds;
@@ -144,17 +146,17 @@ sees_more old all sh new seen more r left s f = record {
   ));
 }
 
-pub sees_all : (old : Shelves) (all : List StoredResult) (sh : Shelves) (seen : List Key) → SeesRest old all sh seen [] → SeesResults old all sh seen
+pub sees_all : (old : MemoCells) (all : List StoredResult) (sh : MemoCells) (seen : List Key) → SeesRest old all sh seen [] → SeesResults old all sh seen
 sees_all old all sh seen s =
     let adds : seen ≡ map key_at all = sym (append-nil seen) ∙ s.adds in
     record { adds = adds; takes = λ ts d given others stands. with_others sh ts d seen [] (s.takes ts d given stands).0 (subst (OthersDefined ts d) (sym adds) others) }
 
 -- ---- needs that are seen
 
-pub seen_already : (ts : List ModuleText) (sh : Shelves) (seen : List Key) (n : Key) → holds seen n ≡ true → SeesNeed ts sh seen n sh seen
+pub seen_already : (ts : List ModuleText) (sh : MemoCells) (seen : List Key) (n : Key) → holds seen n ≡ true → SeesNeed ts sh seen n sh seen
 seen_already ts sh seen n e = record { takes = λ d kept t. (t, held (HasFirst sh d) seen n t.first e); stay = stay_same sh }
 
-pub seen_now : (ts : List ModuleText) (old new : Shelves) (seen more : List Key) (n : Key) (v : Value) → holds seen n ≡ false → definition ts n.kind n.name ≡ Some v → SeesFirst old seen n v new more → SeesNeed ts old seen n new more
+pub seen_now : (ts : List ModuleText) (old new : MemoCells) (seen more : List Key) (n : Key) (v : Value) → holds seen n ≡ false → definition ts n.kind n.name ≡ Some v → SeesFirst old seen n v new more → SeesNeed ts old seen n new more
 seen_now ts old new seen more n v e is f = record {
   takes = λ d kept t. (let given : d n.kind n.name ≡ Some v = t.others n e ∙ is in (
     subst (λ ks. Taken new ts d ks kept) (sym f.adds) (taken_seen old new n v f.sees ts d seen kept given t),
@@ -163,25 +165,25 @@ seen_now ts old new seen more n v e is f = record {
   stay = seen_stay old new n v f.sees;
 }
 
-pub record NeedsRest (ts : List ModuleText) (old : Shelves) (before : List Key) (all : List Key) (sh : Shelves) (seen : List Key) (stamps : List Stamped) (left : List Key) : Type 0 where
+pub record NeedsRest (ts : List ModuleText) (old : MemoCells) (before : List Key) (all : List Key) (sh : MemoCells) (seen : List Key) (stamps : List Stamped) (left : List Key) : Type 0 where
   pub done : List Key
   pub parts : done ++ left ≡ all
   pub takes : (d : Valuation) (kept : List Key) → Taken old ts d before kept → Taken sh ts d seen kept × AreStamps sh stamps (map (need_at d) done)
   pub stay : SlotsStay old sh
 
-pub needs_none : (ts : List ModuleText) (sh : Shelves) (seen all : List Key) → NeedsRest ts sh seen all sh seen [] all
+pub needs_none : (ts : List ModuleText) (sh : MemoCells) (seen all : List Key) → NeedsRest ts sh seen all sh seen [] all
 needs_none ts sh seen all = record { done = []; parts = refl; takes = λ d kept t. (t, tt); stay = stay_same sh }
 
 abbrev first_stamp : Key → Stamped
 first_stamp n = record { item = result n.kind; name = n.name; stamp = 0 }
 
-stamps_last : (sh : Shelves) (ss : List Stamped) (ns : List Needed) (s : Stamped) (n : Needed) → AreStamps sh ss ns → AreStamps sh (s ∷ []) (n ∷ []) → AreStamps sh (ss ++ s ∷ []) (ns ++ n ∷ [])
+stamps_last : (sh : MemoCells) (ss : List Stamped) (ns : List Needed) (s : Stamped) (n : Needed) → AreStamps sh ss ns → AreStamps sh (s ∷ []) (n ∷ []) → AreStamps sh (ss ++ s ∷ []) (ns ++ n ∷ [])
 stamps_last sh [] [] s n h p = p
 stamps_last sh [] (m ∷ ns) s n h p = absurd h
 stamps_last sh (t ∷ ss) [] s n h p = absurd h
 stamps_last sh (t ∷ ss) (m ∷ ns) s n h p = (h.0, h.1, h.2, stamps_last sh ss ns s n h.3 p)
 
-pub needs_more : (ts : List ModuleText) (old : Shelves) (before all : List Key) (sh new : Shelves) (seen more : List Key) (stamps later : List Stamped) (n : Key) (left : List Key) → NeedsRest ts old before all sh seen stamps (n ∷ left)
+pub needs_more : (ts : List ModuleText) (old : MemoCells) (before all : List Key) (sh new : MemoCells) (seen more : List Key) (stamps later : List Stamped) (n : Key) (left : List Key) → NeedsRest ts old before all sh seen stamps (n ∷ left)
     → SeesNeed ts sh seen n new more → later ≡ stamps ++ first_stamp n ∷ [] → NeedsRest ts old before all new more later left
 needs_more ts old before all sh new seen more stamps later n left r s e = record {
   done = r.done ++ n ∷ [];
@@ -201,7 +203,7 @@ pub stamp_pushed : (ss ts : List code.Stamped) (n : Key) (x : List ℕ) → x �
 stamp_pushed ss ts n x e p =
     ap (map stamped_tree) p ∙ map-append stamped_tree ss (record { item = Result n.kind; name = x; stamp = 0 } ∷ []) ∙ ap (λ (y : List ℕ). map stamped_tree ss ++ record { item = result n.kind; name = y; stamp = 0 } ∷ []) e
 
-pub needs_all : (ts : List ModuleText) (old : Shelves) (before all : List Key) (sh : Shelves) (seen : List Key) (stamps : List Stamped) → NeedsRest ts old before all sh seen stamps [] → SeesNeeds ts old before all sh seen stamps
+pub needs_all : (ts : List ModuleText) (old : MemoCells) (before all : List Key) (sh : MemoCells) (seen : List Key) (stamps : List Stamped) → NeedsRest ts old before all sh seen stamps [] → SeesNeeds ts old before all sh seen stamps
 needs_all ts old before all sh seen stamps r =
     let parts : r.done ≡ all = sym (append-nil r.done) ∙ r.parts in
     record { takes = λ d kept t. (let p = r.takes d kept t in (p.0, subst (λ ns. AreStamps sh stamps (map (need_at d) ns)) parts p.1)); stay = r.stay }
@@ -223,13 +225,13 @@ no_text ts kind.OutRegions x s = refl
 no_text ts kind.Marks x s = refl
 no_text ts kind.Printed x s = absurd s
 
-pub stamps_from : (ts : List ModuleText) (old : Shelves) (before : List Key) (k : Key) (new : Shelves) (seen : List Key) (stamps : List Stamped) → SeesNeeds ts old before (needs_in ts k) new seen stamps → SeesStamps ts old before k new seen stamps
+pub stamps_from : (ts : List ModuleText) (old : MemoCells) (before : List Key) (k : Key) (new : MemoCells) (seen : List Key) (stamps : List Stamped) → SeesNeeds ts old before (needs_in ts k) new seen stamps → SeesStamps ts old before k new seen stamps
 stamps_from ts old before k new seen stamps s = record {
   takes = λ l stored d kept t. (let p = s.takes d kept t in (p.0, subst (λ ns. AreStamps new stamps (ns ++ map (need_at d) (needs_in ts k))) (sym (no_text ts k.kind k.name stored)) p.1));
   stay = s.stay;
 }
 
-pub stamps_unlinked : (ts : List ModuleText) (sh : Shelves) (seen : List Key) (k : Key) (stamps : List Stamped) → (AreLinked ts → ⊥) → SeesStamps ts sh seen k sh seen stamps
+pub stamps_unlinked : (ts : List ModuleText) (sh : MemoCells) (seen : List Key) (k : Key) (stamps : List Stamped) → (AreLinked ts → ⊥) → SeesStamps ts sh seen k sh seen stamps
 stamps_unlinked ts sh seen k stamps n = record { takes = λ l stored d kept t. absurd (n l); stay = stay_same sh }
 
 not_ok : (ts : List ModuleText) (r : Outcome Graph Fault) → links_in ts ≡ r → is_ok r ≡ false → AreLinked ts → ⊥
@@ -241,7 +243,7 @@ not_linked ts e l = not_ok ts (links_in ts) refl e l
 
 -- ---- results that are kept
 
-module _ (old new : Shelves) (k : Key) (v : Value) (stamps : List Stamped) (keeps : KeepsIn old new (result k.kind) k.name v stamps) where
+module _ (old new : MemoCells) (k : Key) (v : Value) (stamps : List Stamped) (keeps : KeepsIn old new (result k.kind) k.name v stamps) where
   pub keeps_stay : SlotsStay old new
   keeps_stay = slots_stay old new k keeps.others v keeps.keeps.values
 
@@ -258,7 +260,7 @@ module _ (old new : Shelves) (k : Key) (v : Value) (stamps : List Stamped) (keep
       go true e =
           let same : k ≡ j = same_key-true k j e in
           subst (λ (i : Key). is_some ((new (result i.kind) i.name).kept) ≡ holds (kept ++ k ∷ []) i) same (ap is_some keeps.keeps.kept ∙ sym (holds-last kept k))
-      go false e = ap (λ (s : Shelf). is_some s.kept) (keeps.others (result j.kind) j.name (at_other e)) ∙ h j.kind j.name ∙ sym (holds_other kept k j e)
+      go false e = ap (λ (s : MemoCell). is_some s.kept) (keeps.others (result j.kind) j.name (at_other e)) ∙ h j.kind j.name ∙ sym (holds_other kept k j e)
 
   pub taken_kept : (ts : List ModuleText) (d : Valuation) (seen kept : List Key) → d k.kind k.name ≡ Some v → AreStamps old stamps (needed_with ts d k) → Taken old ts d seen kept → Taken new ts d seen (kept ++ k ∷ [])
   taken_kept ts d seen kept is are t = record {
@@ -273,7 +275,7 @@ linked_one ts k ks (inl e) = cc
 linked_one ts k ks (inr l) = l
 
 -- one result, whose needs were seen
-pub keeps_one : (ts : List ModuleText) (old mid new : Shelves) (before seen : List Key) (k : Key) (stamps : List Stamped) → SeesStamps ts old before k mid seen stamps → KeepsSeen mid new (result k.kind) k.name 0 stamps → KeepsResults ts old before (k ∷ []) new seen
+pub keeps_one : (ts : List ModuleText) (old mid new : MemoCells) (before seen : List Key) (k : Key) (stamps : List Stamped) → SeesStamps ts old before k mid seen stamps → KeepsSeen mid new (result k.kind) k.name 0 stamps → KeepsResults ts old before (k ∷ []) new seen
 keeps_one ts old mid new before seen k stamps s keeps = record {
   takes = λ l d kept t stored firsts. (
       let p = s.takes (linked_one ts k [] l) stored.0 d kept t in
@@ -286,12 +288,12 @@ keeps_one ts old mid new before seen k stamps s keeps = record {
       );
 }
 
-pub record KeepsRest (ts : List ModuleText) (old : Shelves) (before : List Key) (all : List Key) (sh : Shelves) (seen : List Key) (left : List Key) : Type 0 where
+pub record KeepsRest (ts : List ModuleText) (old : MemoCells) (before : List Key) (all : List Key) (sh : MemoCells) (seen : List Key) (left : List Key) : Type 0 where
   pub done : List Key
   pub parts : done ++ left ≡ all
   pub keeps : KeepsResults ts old before done sh seen
 
-pub keeps_none : (ts : List ModuleText) (sh : Shelves) (seen all : List Key) → KeepsRest ts sh seen all sh seen all
+pub keeps_none : (ts : List ModuleText) (sh : MemoCells) (seen all : List Key) → KeepsRest ts sh seen all sh seen all
 keeps_none ts sh seen all = record {
   done = [];
   parts = refl;
@@ -307,7 +309,7 @@ links_last ts [] k (inl e) = cc
 links_last ts (d ∷ done) k (inl e) = cc
 links_last ts done k (inr l) = l
 
-pub keeps_more : (ts : List ModuleText) (old : Shelves) (before all : List Key) (sh new : Shelves) (seen more : List Key) (k : Key) (left : List Key) → KeepsRest ts old before all sh seen (k ∷ left) → KeepsResults ts sh seen (k ∷ []) new more → KeepsRest ts old before all new more left
+pub keeps_more : (ts : List ModuleText) (old : MemoCells) (before all : List Key) (sh new : MemoCells) (seen more : List Key) (k : Key) (left : List Key) → KeepsRest ts old before all sh seen (k ∷ left) → KeepsResults ts sh seen (k ∷ []) new more → KeepsRest ts old before all new more left
 keeps_more ts old before all sh new seen more k left r s = record {
   done = r.done ++ k ∷ [];
   parts = append_assoc r.done (k ∷ []) left ∙ r.parts;
@@ -328,5 +330,5 @@ keeps_more ts old before all sh new seen more k left r s = record {
   };
 }
 
-pub keeps_all : (ts : List ModuleText) (old : Shelves) (before all : List Key) (sh : Shelves) (seen : List Key) → KeepsRest ts old before all sh seen [] → KeepsResults ts old before all sh seen
+pub keeps_all : (ts : List ModuleText) (old : MemoCells) (before all : List Key) (sh : MemoCells) (seen : List Key) → KeepsRest ts old before all sh seen [] → KeepsResults ts old before all sh seen
 keeps_all ts old before all sh seen r = subst (λ ks. KeepsResults ts old before ks sh seen) (sym (append-nil r.done) ∙ r.parts) r.keeps

@@ -4,46 +4,48 @@ use Rattle.std.specs.Prelude.{not, is_some, option_and_then, IfSome}
 use Rattle.std.specs.List.{list_all}
 use Rattle.std.proofs.lemmas.Bool.{and_parts}
 use Rattle.affine_systems.specs.declared.row.System.{System}
-use Rattle.f77_results.specs.declared.results.At.{At}
-use Rattle.f77_results.specs.declared.results.Results.{Results}
-use Rattle.transformer_algebra.specs.declared.transformer.Transformer.{Transformer}
-use Rattle.region_sets.specs.declared.region.Region.{Region}
-use Rattle.region_sets.specs.declared.marks.Mark.{Mark}
-use Rattle.result_lines.specs.Lines.{ModuleResults}
-use Rattle.pipsmake_rules.specs.declared.kind.Kind.{Kind}
-use Rattle.pipsmake_rules.specs.declared.kind.Kind.TheVariants as kind
-use Rattle.pipsmake_rules.specs.declared.key.Key.{Key}
-use Rattle.pipsmake_rules.specs.Kinds.{same_kind}
-use Rattle.pipsmake_rules.specs.Keys.{key_of, holds}
-use Rattle.pipsmake_rules.specs.Neighbours.{has_name, callees_of, callers_of}
-use Rattle.pipsmake_rules.specs.Table.{own_needs, program_needs, callee_needs, caller_needs}
-use Rattle.pipsmake_rules.specs.Needs.{keys_of, by_module, by_kind}
-use Rattle.base_values.specs.declared.stored.StoredValue.{StoredValue}
-use Rattle.base_values.specs.declared.stored.StoredValue.TheVariants as stored
-use Rattle.base_values.specs.Naming.{Each as EachStored}
-use Rattle.base_values.specs.Sizes.{kind_of}
+use Rattle.f77_ast.specs.declared.results.At.{At}
+use Rattle.f77_ast.specs.declared.results.Results.{Results}
+use Rattle.loop_marker.specs.transformer_algebra.declared.transformer.Transformer.{Transformer}
+use Rattle.loop_marker.specs.region_sets.declared.region.Region.{Region}
+use Rattle.f77_ast.specs.declared.marks.Mark.{Mark}
+use Rattle.pipsmake_db.specs.result_lines.Lines.{PrintedResults}
+use Rattle.pipsmake_db.specs.pipsmake_rules.declared.kind.Kind.{Kind}
+use Rattle.pipsmake_db.specs.pipsmake_rules.declared.kind.Kind.TheVariants as kind
+use Rattle.pipsmake_db.specs.pipsmake_rules.declared.key.Key.{Key}
+use Rattle.pipsmake_db.specs.pipsmake_rules.Kinds.{same_kind}
+use Rattle.pipsmake_db.specs.pipsmake_rules.Keys.{key_of, holds}
+use Rattle.pipsmake_db.specs.pipsmake_rules.Neighbours.{has_name, callees_of, callers_of}
+use Rattle.pipsmake_db.specs.pipsmake_rules.Table.{own_needs, program_needs, callee_needs, caller_needs}
+use Rattle.pipsmake_db.specs.pipsmake_rules.Needs.{keys_of, by_module, by_kind}
+use Rattle.pipsmake_db.specs.base_values.declared.stored.StoredValue.{StoredValue}
+use Rattle.pipsmake_db.specs.base_values.declared.stored.StoredValue.TheVariants as stored
+use Rattle.pipsmake_db.specs.base_values.Naming.{Each as EachStored}
+use Rattle.pipsmake_db.specs.base_values.Sizes.{kind_of}
 use Rattle.base_text.specs.declared.base.Base.{Base}
 use Rattle.base_text.specs.declared.base.StoredResult.{StoredResult}
 use Rattle.base_text.specs.Order.{are_in_order}
-use Rattle.laws_statements.specs.CallsIn.{Each}
-use Rattle.laws_database.specs.Texts.{ModuleText, AreModules, names_in, graph_of}
-use Rattle.laws_database.specs.Definitions.{definition}
-use Rattle.laws_database.specs.Session.{needs_in, none_made}
-use Rattle.laws_database.specs.Shelves.{Shelves, Kept}
-use Rattle.laws_database.specs.Rules.{transformers_in, preconditions_in, regions_in, ins_in, outs_in, marks_in, results_from}
-use Rattle.laws_database.specs.Stands.{text_needed, AreStamps, StandsFor, Valuation, needed_with, HasValue, KeepsValues}
-use Rattle.laws_database.specs.Resting.{IsStored, stored_results, value_with, IsWhole, RestsOn}
-use Rattle.laws_database.specs.Values.{Value, result}
+use Rattle.call_graph.specs.CallsIn.{Each}
+use Rattle.pipsmake_db.specs.pipsmake_meaning.Texts.{ModuleText, AreModules, names_in, graph_of}
+use Rattle.pipsmake_db.specs.pipsmake_meaning.Definitions.{definition}
+use Rattle.pipsmake_db.specs.pipsmake_meaning.Session.{needs_in, none_made}
+use Rattle.pipsmake_db.specs.pipsmake_meaning.MemoCells.{MemoCells, Kept}
+use Rattle.pipsmake_db.specs.pipsmake_meaning.Rules.{transformers_in, preconditions_in, regions_in, ins_in, outs_in, marks_in, results_from}
+use Rattle.pipsmake_db.specs.laws_database.Stands.{text_needed, AreStamps, StandsFor, Valuation, needed_with, HasValue, KeepsValues}
+use Rattle.pipsmake_db.specs.laws_database.Unverified.{IsStored, stored_results, value_with, IsWhole, RestsOn}
+use Rattle.pipsmake_db.specs.pipsmake_meaning.Values.{Value, result}
 use Rattle.pipsmake_db.specs.declared.db.Db.{Db}
 use Rattle.pipsmake_db.specs.Calls.{key, Rests}
-use Rattle.pipsmake_db.specs.State.{texts_of, shelves_in}
+use Rattle.pipsmake_db.specs.State.{texts_of, memo_cells_in}
 use Rattle.pipsmake_base.specs.Saved.{texts_in, key_at, keys_in, value_in}
-use Rattle.pipsmake_base.specs.Whole.{value_among, values_in, IsWholeBase}
+use Rattle.pipsmake_base.specs.Whole.{value_among, values_in, IsCompleteBase}
 use Rattle.pipsmake_base.specs.Taken.{IsGivenAt, OthersDefined, Taken, SeesResults, IsStoredKey, need_at, KeepsAll}
-use Rattle.pipsmake_base.proofs.Lists.{each_join, clash, held}
 use Rattle.pipsmake_base.proofs.LoadLaws.{keys_are_stored}
 use Rattle.pipsmake_base.proofs.Ordered.{all_found, none_found, some_found}
 use Rattle.pipsmake_base.proofs.StoredCan.{stored_can}
+use Rattle.fx_lists.proofs.Booleans.{no_both as clash}
+use Rattle.pipsmake_db.proofs.LawsDatabase.Keeping.{held}
+use Rattle.pipsmake_base.proofs.Lists.{each_join}
 
 -- ---- what is stored where it is stored, and else what is defined
 
@@ -76,7 +78,7 @@ all_given ts st (r ∷ rs) h = (given_at ts st r.value r.name ∙ h.0, all_given
 
 -- ---- what a whole base does not hold has no value
 
-module _ (b : Base) (ms : AreModules (texts_in b)) (whole : IsWholeBase b) where
+module _ (b : Base) (ms : AreModules (texts_in b)) (whole : IsCompleteBase b) where
   none_defined : (k : Kind) (x : List ℕ) → IsStored k → holds (keys_in b) (key k x) ≡ false → definition (texts_in b) k x ≡ None
   none_defined k x s e = go (definition (texts_in b) k x) refl
     where
@@ -179,7 +181,7 @@ is_there : (o : Option Kept) → is_some o ≡ true → (kept : Kept) × (o ≡ 
 is_there None e = cc
 is_there (Some kept) e = (kept, refl)
 
-module _ (sh : Shelves) (ts : List ModuleText) (st : Valuation) (seen ks : List Key) (taken : Taken sh ts (given ts st) seen ks) where
+module _ (sh : MemoCells) (ts : List ModuleText) (st : Valuation) (seen ks : List Key) (taken : Taken sh ts (given ts st) seen ks) where
   kept_as : Each IsStoredKey ks → KeepsValues sh ts (value_with ts st)
   kept_as are = record {
     modules = taken.keeps.modules;
@@ -238,7 +240,7 @@ module _ (rs : List StoredResult) (x : List ℕ) (all : (k : Kind) → IsStored 
       let r = f q.0.value q.2 in
       (r.0, ap (option_and_then read) q.1 ∙ r.1)
 
-  all_in : (r : ModuleResults) × (stored_results (value_among rs) x ≡ Some r)
+  all_in : (r : PrintedResults) × (stored_results (value_among rs) x ≡ Some r)
   all_in =
       let own = one_in kind.Transformers transformers_in tt own_in in
       let holding = one_in kind.Preconditions preconditions_in tt holds_in in
@@ -246,15 +248,15 @@ module _ (rs : List StoredResult) (x : List ℕ) (all : (k : Kind) → IsStored 
       let taken = one_in kind.InRegions ins_in tt taken_in in
       let later = one_in kind.OutRegions outs_in tt later_in in
       let loops = one_in kind.Marks marks_in tt loops_in in
-      (record { own = own.0; holds = holding.0; regions = found.0; ins = taken.0; outs = later.0; marks = loops.0 }, λ i. results_from (own.1 i) (holding.1 i) (found.1 i) (taken.1 i) (later.1 i) (loops.1 i))
+      (record { transformers = own.0; preconditions = holding.0; regions = found.0; ins = taken.0; outs = later.0; marks = loops.0 }, λ i. results_from (own.1 i) (holding.1 i) (found.1 i) (taken.1 i) (later.1 i) (loops.1 i))
 
-whole_in : (b : Base) → IsWholeBase b → IsWhole (texts_in b) (values_in b)
+whole_in : (b : Base) → IsCompleteBase b → IsWhole (texts_in b) (values_in b)
 whole_in b whole x h = all_in b.results x (λ k s. whole.all k x s h)
 
 -- ---- a database that goes on from a whole base
 
-pub rests_loaded : (b : Base) (names : List (List ℕ)) (old mid : Shelves) (d : Db) (ks : List Key) → are_in_order names b.results ≡ true → StandsFor old (texts_in b) none_made → SeesResults old b.results mid ks → KeepsAll (texts_in b) mid ks (shelves_in d) → texts_of d ≡ texts_in b
-    → IsWholeBase b → Rests d (values_in b)
+pub rests_loaded : (b : Base) (names : List (List ℕ)) (old mid : MemoCells) (d : Db) (ks : List Key) → are_in_order names b.results ≡ true → StandsFor old (texts_in b) none_made → SeesResults old b.results mid ks → KeepsAll (texts_in b) mid ks (memo_cells_in d) → texts_of d ≡ texts_in b
+    → IsCompleteBase b → Rests d (values_in b)
 rests_loaded b names old mid d ks ordered s sees keeps texts whole =
     let ts : List ModuleText = texts_in b in
     let st : Valuation = values_in b in
@@ -264,5 +266,5 @@ rests_loaded b names old mid d ks ordered s sees keeps texts whole =
     let all_held : (k : Kind) (x : List ℕ) → IsStored k → has_name (names_in ts) x ≡ true → holds ks (key k x) ≡ true = λ k x i h. ap (λ js. holds js (key k x)) sees.adds ∙ whole.all k x i h in
     record {
       whole = subst (λ us. IsWhole us st) (sym texts) (whole_in b whole);
-      kept = subst (λ us. RestsOn (shelves_in d) us (value_with us st)) (sym texts) (rested_on (shelves_in d) ts st all.0 ks all.1 are all_held);
+      kept = subst (λ us. RestsOn (memo_cells_in d) us (value_with us st)) (sym texts) (rested_on (memo_cells_in d) ts st all.0 ks all.1 are all_held);
     }

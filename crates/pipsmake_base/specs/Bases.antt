@@ -2,7 +2,7 @@
 use Rattle.std.specs.Prelude.{[]}
 use Rattle.base_text.specs.declared.base.Base.{Base}
 use Rattle.base_text.specs.Grammar.{IsBase}
-use Rattle.laws_database.specs.Texts.{AreModules}
+use Rattle.pipsmake_db.specs.pipsmake_meaning.Texts.{AreModules}
 use Rattle.pipsmake_base.specs.Saved.{texts_in}
 
 -- its texts are modules of their names, each alone

@@ -1,11 +1,11 @@
 -- Sessions keep fresh results up to date.
 use Rattle.std.specs.Prelude.{ℕ, List}
-use Rattle.pipsmake_rules.specs.declared.key.Key.{Key}
-use Rattle.laws_statements.specs.CallsIn.{Each}
-use Rattle.result_lines.specs.declared.show.Show.{Show}
+use Rattle.pipsmake_db.specs.pipsmake_rules.declared.key.Key.{Key}
+use Rattle.call_graph.specs.CallsIn.{Each}
+use Rattle.pipsmake_db.specs.result_lines.declared.show.Show.{Show}
 use Rattle.base_text.specs.declared.base.Base.{Base}
-use Rattle.laws_database.specs.Session.{UpToDate, MadeOf, made_now}
-use Rattle.laws_database.specs.Laws.{walk_in}
+use Rattle.pipsmake_db.specs.pipsmake_meaning.Session.{UpToDate, MadeOf, made_now}
+use Rattle.pipsmake_db.specs.laws_database.Laws.{walk_in}
 use Rattle.pipsmake_db.specs.State.{State, first_state, after_make}
 use Rattle.pipsmake_db.specs.Answers.{MakesPrinted}
 use Rattle.pipsmake_db.specs.Scripts.{AnswersScript}

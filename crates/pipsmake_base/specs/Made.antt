@@ -1,14 +1,14 @@
 -- Results that are made for what they are defined to be: cited by private functions alone.
 use Rattle.std.specs.Prelude.{◌≡◌, ℕ, Bool, true, false, List, Some}
-use Rattle.pipsmake_rules.specs.declared.kind.Kind.{Kind}
-use Rattle.pipsmake_rules.specs.Kinds.{name_of}
-use Rattle.laws_database.specs.Definitions.{definition}
-use Rattle.laws_database.specs.Shelves.{kept_of}
+use Rattle.pipsmake_db.specs.pipsmake_rules.declared.kind.Kind.{Kind}
+use Rattle.pipsmake_db.specs.pipsmake_rules.Kinds.{name_of}
+use Rattle.pipsmake_db.specs.pipsmake_meaning.Definitions.{definition}
+use Rattle.pipsmake_db.specs.pipsmake_meaning.MemoCells.{kept_of}
 use Rattle.pipsmake_db.specs.declared.db.Db.{Db}
 use Rattle.pipsmake_db.specs.declared.refusal.DbRefusal.{DbRefusal}
 use Rattle.pipsmake_db.specs.declared.refusal.DbRefusal.TheVariants.{NoSuchKind, NoSuchName, NotShown, Source, Link, Memory}
 use Rattle.pipsmake_db.specs.Refusals.{make_refusal}
-use Rattle.pipsmake_db.specs.State.{texts_of, shelves_in}
+use Rattle.pipsmake_db.specs.State.{texts_of, memo_cells_in}
 
 -- it is no want of memory
 abbrev pub IsCause : DbRefusal → Type 0
@@ -30,5 +30,5 @@ pub record IsRefusedAt (d : Db) (k : Kind) (x : List ℕ) : Type 0 where
 
 -- it is kept as it is defined, or cannot be made
 abbrev pub IsMade : Db → Db → Kind → List ℕ → Bool → Type 0
-IsMade old new k x true = kept_of (shelves_in new) k x ≡ definition (texts_of old) k x
+IsMade old new k x true = kept_of (memo_cells_in new) k x ≡ definition (texts_of old) k x
 IsMade old new k x false = IsRefusedAt old k x

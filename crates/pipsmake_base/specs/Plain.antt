@@ -1,8 +1,8 @@
 -- A database over the texts of a base that is made when it is first asked for: cited by private functions alone.
 use Rattle.std.specs.Prelude.{◌≡◌, true, List, [], map, Option, Some, None}
-use Rattle.base_rows.specs.Distinct.{are_new}
+use Rattle.base_json.specs.Distinct.{are_new}
 use Rattle.base_text.specs.Modules.{module_names_in}
-use Rattle.laws_database.specs.Texts.{ModuleText}
+use Rattle.pipsmake_db.specs.pipsmake_meaning.Texts.{ModuleText}
 use Rattle.pipsmake_db.specs.declared.db.Db.{Db}
 use Rattle.pipsmake_db.specs.State.{texts_of}
 use Rattle.pipsmake_base.specs.declared.plain.Plain.{Plain}

@@ -1,17 +1,17 @@
 -- A base as texts and results of a session, and when it holds only results of its own texts.
 use Rattle.std.specs.Prelude.{◌≡◌, ◌⊎◌, List, [], ◌∷◌, map, Option, Some, None}
-use Rattle.pipsmake_rules.specs.declared.key.Key.{Key}
-use Rattle.base_values.specs.declared.stored.StoredValue.{StoredValue}
-use Rattle.base_values.specs.declared.stored.StoredValue.TheVariants as stored
-use Rattle.base_values.specs.Naming.{Each}
-use Rattle.base_values.specs.Sizes.{kind_of}
+use Rattle.pipsmake_db.specs.pipsmake_rules.declared.key.Key.{Key}
+use Rattle.pipsmake_db.specs.base_values.declared.stored.StoredValue.{StoredValue}
+use Rattle.pipsmake_db.specs.base_values.declared.stored.StoredValue.TheVariants as stored
+use Rattle.pipsmake_db.specs.base_values.Naming.{Each}
+use Rattle.pipsmake_db.specs.base_values.Sizes.{kind_of}
 use Rattle.base_text.specs.declared.base.BaseModule.{BaseModule}
 use Rattle.base_text.specs.declared.base.StoredResult.{StoredResult}
 use Rattle.base_text.specs.declared.base.Base.{Base}
-use Rattle.laws_database.specs.Texts.{ModuleText}
-use Rattle.laws_database.specs.Definitions.{definition}
-use Rattle.laws_database.specs.Session.{none_made, made_now}
-use Rattle.laws_database.specs.Values.{Value, effects, transformers, preconditions, regions, ins, outs, marks}
+use Rattle.pipsmake_db.specs.pipsmake_meaning.Texts.{ModuleText}
+use Rattle.pipsmake_db.specs.pipsmake_meaning.Definitions.{definition}
+use Rattle.pipsmake_db.specs.pipsmake_meaning.Session.{none_made, made_now}
+use Rattle.pipsmake_db.specs.pipsmake_meaning.Values.{Value, effects, transformers, preconditions, regions, ins, outs, marks}
 use Rattle.pipsmake_db.specs.State.{State}
 
 -- the text of a module, which begins at its own first line

@@ -1,21 +1,21 @@
 -- The base that is saved of a database.
 use Rattle.std.specs.Prelude.{◌≤◌, ℕ, List, [], ◌∷◌, ◌++◌, map, length, option_map, option_and_then, option_to_list, if◌then◌else◌}
-use Rattle.pipsmake_rules.specs.declared.kind.Kind.{Kind}
-use Rattle.pipsmake_rules.specs.declared.kind.Kind.TheVariants.{Effects, Transformers, Preconditions, Regions, InRegions, OutRegions, Marks}
-use Rattle.pipsmake_rules.specs.declared.key.Key.{Key}
-use Rattle.pipsmake_rules.specs.Keys.{holds}
-use Rattle.base_values.specs.declared.stored.StoredValue.{StoredValue}
-use Rattle.base_values.specs.Naming.{Each}
+use Rattle.pipsmake_db.specs.pipsmake_rules.declared.kind.Kind.{Kind}
+use Rattle.pipsmake_db.specs.pipsmake_rules.declared.kind.Kind.TheVariants.{Effects, Transformers, Preconditions, Regions, InRegions, OutRegions, Marks}
+use Rattle.pipsmake_db.specs.pipsmake_rules.declared.key.Key.{Key}
+use Rattle.pipsmake_db.specs.pipsmake_rules.Keys.{holds}
+use Rattle.pipsmake_db.specs.base_values.declared.stored.StoredValue.{StoredValue}
+use Rattle.pipsmake_db.specs.base_values.Naming.{Each}
 use Rattle.base_text.specs.declared.base.BaseModule.{BaseModule}
 use Rattle.base_text.specs.declared.base.StoredResult.{StoredResult}
 use Rattle.base_text.specs.declared.base.Base.{Base}
 use Rattle.base_text.specs.Grammar.{HasBytes}
-use Rattle.laws_database.specs.Texts.{ModuleText, names_in}
-use Rattle.laws_database.specs.Shelves.{kept_of}
+use Rattle.pipsmake_db.specs.pipsmake_meaning.Texts.{ModuleText, names_in}
+use Rattle.pipsmake_db.specs.pipsmake_meaning.MemoCells.{kept_of}
 use Rattle.pipsmake_db.specs.declared.db.Db.{Db}
 use Rattle.pipsmake_db.specs.Calls.{key}
 use Rattle.pipsmake_db.specs.Shown.{stored_in}
-use Rattle.pipsmake_db.specs.State.{texts_of, shelves_in}
+use Rattle.pipsmake_db.specs.State.{texts_of, memo_cells_in}
 
 -- ---- modules
 
@@ -31,7 +31,7 @@ stored_result x v = record { name = x; value = v }
 
 -- what is kept of a result of a stored kind
 abbrev pub kept_results : Db → Kind → List ℕ → List StoredResult
-kept_results d k x = option_to_list (option_map (stored_result x) (option_and_then stored_in (kept_of (shelves_in d) k x)))
+kept_results d k x = option_to_list (option_map (stored_result x) (option_and_then stored_in (kept_of (memo_cells_in d) k x)))
 
 -- the same where it is fresh
 abbrev pub result_saved : Db → List ℕ → Kind → List StoredResult

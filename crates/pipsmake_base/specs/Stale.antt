@@ -1,9 +1,9 @@
 -- Whether a stored result is another than what is defined, or kept: cited by private functions alone.
 use Rattle.std.specs.Prelude.{◌≡◌, Bool, true, false, List, Some}
-use Rattle.base_values.specs.Sizes.{kind_of}
+use Rattle.pipsmake_db.specs.base_values.Sizes.{kind_of}
 use Rattle.base_text.specs.declared.base.StoredResult.{StoredResult}
-use Rattle.laws_database.specs.Texts.{ModuleText}
-use Rattle.laws_database.specs.Shelves.{Shelves, kept_of}
+use Rattle.pipsmake_db.specs.pipsmake_meaning.Texts.{ModuleText}
+use Rattle.pipsmake_db.specs.pipsmake_meaning.MemoCells.{MemoCells, kept_of}
 use Rattle.pipsmake_base.specs.Saved.{value_in, IsDefinedAt}
 
 -- a stored result is not what is defined for these texts, or is
@@ -12,10 +12,10 @@ IsStale ts r true = IsDefinedAt ts r → ⊥
 IsStale ts r false = IsDefinedAt ts r
 
 -- it is what is kept
-abbrev pub IsKeptAs : Shelves → StoredResult → Type 0
+abbrev pub IsKeptAs : MemoCells → StoredResult → Type 0
 IsKeptAs sh r = kept_of sh (kind_of r.value) r.name ≡ Some (value_in r.value)
 
 -- it is another than what is kept, or is that
-abbrev pub IsOther : Shelves → StoredResult → Bool → Type 0
+abbrev pub IsOther : MemoCells → StoredResult → Bool → Type 0
 IsOther sh r true = IsKeptAs sh r → ⊥
 IsOther sh r false = IsKeptAs sh r

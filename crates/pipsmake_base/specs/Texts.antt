@@ -1,10 +1,10 @@
 -- The modules of a base, read from their texts: cited by private functions alone.
 use Rattle.std.specs.Prelude.{◌≡◌, List, [], map}
 use Rattle.base_text.specs.declared.base.BaseModule.{BaseModule}
-use Rattle.laws_database.specs.Texts.{ModuleText}
-use Rattle.laws_database.specs.Session.{none_made}
-use Rattle.session_texts.specs.declared.source.Source.{Source}
-use Rattle.session_texts.specs.Modules.{IsSource, AreSources, source_text}
+use Rattle.pipsmake_db.specs.pipsmake_meaning.Texts.{ModuleText}
+use Rattle.pipsmake_db.specs.pipsmake_meaning.Session.{none_made}
+use Rattle.pipsmake_db.specs.session_texts.declared.source.Source.{Source}
+use Rattle.pipsmake_db.specs.session_texts.Modules.{IsSource, AreSources, source_text}
 use Rattle.pipsmake_db.specs.State.{State}
 use Rattle.pipsmake_base.specs.Saved.{text_at}
 

@@ -1,17 +1,17 @@
 //! Stored results that are kept.
 ghost use Rattle.std.specs.Prelude.{◌≡◌, [], ◌∷◌, map, IfOk, OnOk};
-ghost use Rattle.result_making.specs.Making.{AreGraphed};
-ghost use Rattle.result_store.specs.Rows.{shelves_of};
-ghost use Rattle.result_store.specs.Values.{stamped_tree};
+ghost use Rattle.pipsmake_db.specs.result_making.Making.{AreGraphed};
+ghost use Rattle.pipsmake_db.specs.result_store.Rows.{memo_cells_of};
+ghost use Rattle.pipsmake_db.specs.result_store.Values.{stamped_tree};
 ghost use Rattle.pipsmake_base.specs.Plain.{IsPlain, texts_behind};
 ghost use Rattle.pipsmake_base.specs.Taken.{SeesStamps, KeepsResults};
 
 use crate::need::see_needs;
 use crate::plain::Plain;
 use fx_lists::List;
-use pipsmake_rules::{Key, Listed, needs};
-use result_making::Modules;
-use result_store::{Item, Stamped, Store};
+use pipsmake_db::pipsmake_rules::{Key, Listed, needs};
+use pipsmake_db::result_making::Modules;
+use pipsmake_db::result_store::{Item, Stamped, Store};
 use std::alloc::{AllocError as Memory, Global};
 
 /// The stamps of what a result needs. Of texts that do not link there are none: what is kept of them is out of date as soon as they do.
@@ -26,7 +26,7 @@ fn stamps_of(
     requires graphed { AreGraphed modules.now }
     requires in_some { IsPlain plain.old }
     requires texts { texts_behind plain.old ≡ modules.now.sources.now }
-    ensures ok { IfOk result (λ ss. SeesStamps modules.now.sources.now (shelves_of store.old) seen.old key.now (shelves_of store.new) seen.new (map stamped_tree ss)) }
+    ensures ok { IfOk result (λ ss. SeesStamps modules.now.sources.now (memo_cells_of store.old) seen.old key.now (memo_cells_of store.new) seen.new (map stamped_tree ss)) }
     ensures texts { OnOk result (texts_behind plain.new ≡ modules.now.sources.now) }
     ensures in_some { OnOk result (IsPlain plain.new) }
 {
@@ -50,7 +50,7 @@ fn keep_result(
     requires graphed { AreGraphed modules.now }
     requires in_some { IsPlain plain.old }
     requires texts { texts_behind plain.old ≡ modules.now.sources.now }
-    ensures ok { OnOk result (KeepsResults modules.now.sources.now (shelves_of store.old) seen.old (key.now ∷ []) (shelves_of store.new) seen.new) }
+    ensures ok { OnOk result (KeepsResults modules.now.sources.now (memo_cells_of store.old) seen.old (key.now ∷ []) (memo_cells_of store.new) seen.new) }
     ensures texts { OnOk result (texts_behind plain.new ≡ modules.now.sources.now) }
     ensures in_some { OnOk result (IsPlain plain.new) }
 {
@@ -71,7 +71,7 @@ pub(crate) fn keep_results(
     requires graphed { AreGraphed modules.now }
     requires in_some { IsPlain plain.old }
     requires texts { texts_behind plain.old ≡ modules.now.sources.now }
-    ensures { OnOk result (KeepsResults modules.now.sources.now (shelves_of store.old) seen.old keys.now (shelves_of store.new) seen.new) }
+    ensures { OnOk result (KeepsResults modules.now.sources.now (memo_cells_of store.old) seen.old keys.now (memo_cells_of store.new) seen.new) }
 {
     let mut rest = keys;
     while let [key, more @ ..] = rest {

@@ -2,11 +2,11 @@
 ghost use Rattle.std.specs.Prelude.{◌≡◌, IfOk, OnOk};
 ghost use Rattle.base_text.specs.Grammar.{IsBase};
 ghost use Rattle.pipsmake_db.specs.Links.{AreLinks};
-ghost use Rattle.pipsmake_db.specs.State.{texts_of, shelves_in, IsIn};
+ghost use Rattle.pipsmake_db.specs.State.{texts_of, memo_cells_in, IsIn};
 ghost use Rattle.pipsmake_db.specs.Calls.{Rests};
 ghost use Rattle.pipsmake_base.specs.Plain.{IsPlain, texts_behind};
 ghost use Rattle.pipsmake_base.specs.Saved.{texts_in, keys_in, IsSaved, loaded_state};
-ghost use Rattle.pipsmake_base.specs.Whole.{values_in, IsWholeBase};
+ghost use Rattle.pipsmake_base.specs.Whole.{values_in, IsCompleteBase};
 ghost use Rattle.pipsmake_base.specs.Taken.{KeepsAll};
 
 use crate::keep::keep_results;
@@ -14,10 +14,10 @@ use crate::plain::Plain;
 use crate::see::see_results;
 use crate::source::over_texts;
 use base_text::Base;
-use base_values::fits_is_taken;
+use pipsmake_db::base_values::fits_is_taken;
+use pipsmake_db::pipsmake_rules::{Kind, Listed};
+use pipsmake_db::result_making::Modules;
 use pipsmake_db::{Db, Links};
-use pipsmake_rules::{Kind, Listed};
-use result_making::Modules;
 use std::alloc::{AllocError as Memory, Global};
 
 /// Results that were seen are kept in a database, as made from its texts, and are fresh.
@@ -32,7 +32,7 @@ fn keep_all(
     requires in_some { IsPlain plain.old }
     requires texts { texts_behind plain.old ≡ texts_of db.old }
     ensures same { texts_of db.new ≡ texts_of db.old }
-    ensures ok { OnOk result (KeepsAll (texts_of db.old) (shelves_in db.old) fresh.now (shelves_in db.new)) }
+    ensures ok { OnOk result (KeepsAll (texts_of db.old) (memo_cells_in db.old) fresh.now (memo_cells_in db.new)) }
 {
     let copy = fresh.copied(alloc)?;
     let keys = copy.into_list();
@@ -60,7 +60,7 @@ pub fn load(alloc: Global, base: Base) -> Result<Db, Memory>
     ensures texts { IfOk result (λ d. texts_of d ≡ texts_in base) }
     ensures fresh { IfOk result (λ d. d.fresh ≡ keys_in base) }
     ensures stands { IfOk result (λ d. IsSaved base → IsIn d (loaded_state base)) }
-    ensures rests { IfOk result (λ d. IsWholeBase base → Rests d (values_in base)) }
+    ensures rests { IfOk result (λ d. IsCompleteBase base → Rests d (values_in base)) }
 {
     fits_is_taken();
     let Base { modules, results } = base;

@@ -1,14 +1,14 @@
 //! Results that are made by a database for what they are defined to be.
 ghost use Rattle.std.specs.Prelude.{◌≡◌, IfOk, OnOk};
-ghost use Rattle.pipsmake_rules.specs.Kinds.{name_of};
+ghost use Rattle.pipsmake_db.specs.pipsmake_rules.Kinds.{name_of};
 ghost use Rattle.pipsmake_db.specs.State.{texts_of};
 ghost use Rattle.pipsmake_base.specs.Made.{IsTold, IsMade};
 ghost use Rattle.pipsmake_base.specs.Taken.{IsInSome};
 
 use fx_lists::Text;
+use pipsmake_db::pipsmake_rules::Kind;
+use pipsmake_db::roundtrip_programs::{graphs_ignore_places, tables_ignore_places};
 use pipsmake_db::{Db, DbRefusal};
-use pipsmake_rules::Kind;
-use roundtrip_programs::{graphs_ignore_places, tables_ignore_places};
 use std::alloc::{AllocError as Memory, Global};
 
 /// The name of a kind.

@@ -1,13 +1,13 @@
 //! The modules of a database as those of a base.
 ghost use Rattle.std.specs.Prelude.{◌≡◌, ◌≤◌, length, map, IfOk};
 ghost use Rattle.base_text.specs.Grammar.{HasBytes};
-ghost use Rattle.base_values.specs.Naming.{AreBytes};
-ghost use Rattle.session_texts.specs.Modules.{text_record};
+ghost use Rattle.pipsmake_db.specs.base_values.Naming.{AreBytes};
+ghost use Rattle.pipsmake_db.specs.session_texts.Modules.{text_record};
 ghost use Rattle.pipsmake_base.specs.Saving.{module_of, AreShort, HaveBytes};
 
 use base_text::BaseModule;
 use fx_lists::{List, Text};
-use session_texts::ModuleText;
+use pipsmake_db::session_texts::ModuleText;
 use std::alloc::{AllocError as Memory, Global};
 
 /// A copy.

@@ -1,11 +1,11 @@
 //! Results that stored ones need.
 ghost use Rattle.std.specs.Prelude.{◌≡◌, Some, IfOk, OnOk, map};
-ghost use Rattle.laws_database.specs.Definitions.{definition};
-ghost use Rattle.laws_database.specs.Shelves.{kept_of};
-ghost use Rattle.result_making.specs.Making.{AreGraphed};
-ghost use Rattle.result_store.specs.Fits.{ValueFits};
-ghost use Rattle.result_store.specs.Rows.{shelves_of};
-ghost use Rattle.result_store.specs.Values.{value_tree, stamped_tree};
+ghost use Rattle.pipsmake_db.specs.pipsmake_meaning.Definitions.{definition};
+ghost use Rattle.pipsmake_db.specs.pipsmake_meaning.MemoCells.{kept_of};
+ghost use Rattle.pipsmake_db.specs.result_making.Making.{AreGraphed};
+ghost use Rattle.pipsmake_db.specs.result_store.Fits.{ValueFits};
+ghost use Rattle.pipsmake_db.specs.result_store.Rows.{memo_cells_of};
+ghost use Rattle.pipsmake_db.specs.result_store.Values.{value_tree, stamped_tree};
 ghost use Rattle.pipsmake_db.specs.State.{texts_of};
 ghost use Rattle.pipsmake_base.specs.Plain.{IsPlain, texts_behind};
 ghost use Rattle.pipsmake_base.specs.Taken.{IsInSome, SeesNeed, SeesNeeds, IsPlainKind};
@@ -15,10 +15,10 @@ use crate::plain::{Plain, taken_out};
 use crate::see::see_value;
 use crate::stored::value_of;
 use fx_lists::List;
+use pipsmake_db::pipsmake_rules::{Key, Kind, Listed};
+use pipsmake_db::result_making::{Modules, made_value};
+use pipsmake_db::result_store::{Item, Stamped, Store, Value};
 use pipsmake_db::{Db, stored_of};
-use pipsmake_rules::{Key, Kind, Listed};
-use result_making::{Modules, made_value};
-use result_store::{Item, Stamped, Store, Value};
 use std::alloc::{AllocError as Memory, Global};
 
 /// What is defined of the statements, lines or symbols of a module, or of the graph.
@@ -43,7 +43,7 @@ fn plain_value(
 /// A copy of what is kept of a result of a stored kind.
 #[tactic(auto, using(crate::proofs::StoredLaws::stored_back))]
 fn copied_kept(alloc: Global, store: &Store, key: &Key) -> Result<Value, Memory>
-    ensures value { IfOk result (λ v. kept_of (shelves_of store.now) key.now.kind key.now.name ≡ Some (value_tree v)) }
+    ensures value { IfOk result (λ v. kept_of (memo_cells_of store.now) key.now.kind key.now.name ≡ Some (value_tree v)) }
     ensures fits { IfOk result (λ v. ValueFits (value_tree v)) }
 {
     let Some(value) = store.value(Item::Result(key.kind), &key.name) else {
@@ -128,7 +128,7 @@ fn see_need(
     requires graphed { AreGraphed modules.now }
     requires in_some { IsPlain plain.old }
     requires texts { texts_behind plain.old ≡ modules.now.sources.now }
-    ensures ok { OnOk result (SeesNeed modules.now.sources.now (shelves_of store.old) seen.old need.now (shelves_of store.new) seen.new) }
+    ensures ok { OnOk result (SeesNeed modules.now.sources.now (memo_cells_of store.old) seen.old need.now (memo_cells_of store.new) seen.new) }
     ensures texts { OnOk result (texts_behind plain.new ≡ modules.now.sources.now) }
     ensures in_some { OnOk result (IsPlain plain.new) }
 {
@@ -153,7 +153,7 @@ pub(crate) fn see_needs(
     requires graphed { AreGraphed modules.now }
     requires in_some { IsPlain plain.old }
     requires texts { texts_behind plain.old ≡ modules.now.sources.now }
-    ensures ok { IfOk result (λ ss. SeesNeeds modules.now.sources.now (shelves_of store.old) seen.old needs.now (shelves_of store.new) seen.new (map stamped_tree ss)) }
+    ensures ok { IfOk result (λ ss. SeesNeeds modules.now.sources.now (memo_cells_of store.old) seen.old needs.now (memo_cells_of store.new) seen.new (map stamped_tree ss)) }
     ensures texts { OnOk result (texts_behind plain.new ≡ modules.now.sources.now) }
     ensures in_some { OnOk result (IsPlain plain.new) }
 {

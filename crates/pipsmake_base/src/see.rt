@@ -1,20 +1,20 @@
 //! Values that are seen and not kept yet.
 ghost use Rattle.std.specs.Prelude.{◌≡◌, IfOk, OnOk};
-ghost use Rattle.base_values.specs.Naming.{Each};
-ghost use Rattle.result_store.specs.Fits.{ValueFits};
-ghost use Rattle.result_store.specs.Rows.{shelves_of};
-ghost use Rattle.result_store.specs.Values.{value_tree};
+ghost use Rattle.pipsmake_db.specs.base_values.Naming.{Each};
+ghost use Rattle.pipsmake_db.specs.result_store.Fits.{ValueFits};
+ghost use Rattle.pipsmake_db.specs.result_store.Rows.{memo_cells_of};
+ghost use Rattle.pipsmake_db.specs.result_store.Values.{value_tree};
 ghost use Rattle.pipsmake_base.specs.Saved.{value_in};
 ghost use Rattle.pipsmake_base.specs.Taken.{SeesFirst, SeesResults};
 
 use crate::stored::value_of;
 use base_text::StoredResult;
-use base_values::kind_of;
 use f77_structure::stack_of;
 use fx_lists::List;
+use pipsmake_db::base_values::kind_of;
 use pipsmake_db::copy_key;
-use pipsmake_rules::{Key, Listed};
-use result_store::{Item, Store, Value};
+use pipsmake_db::pipsmake_rules::{Key, Listed};
+use pipsmake_db::result_store::{Item, Store, Value};
 use std::alloc::{AllocError as Memory, Global};
 
 /// A value is seen of a result of which none was. Err also where one was, as none is by `load`.
@@ -26,7 +26,7 @@ pub(crate) fn see_value(
     value: Value,
 ) -> Result<(), Memory>
     requires { ValueFits (value_tree value) }
-    ensures { OnOk result (SeesFirst (shelves_of store.old) seen.old key.now (value_tree value) (shelves_of store.new) seen.new) }
+    ensures { OnOk result (SeesFirst (memo_cells_of store.old) seen.old key.now (value_tree value) (memo_cells_of store.new) seen.new) }
 {
     let stamp = store.see(alloc, Item::Result(key.kind), &key.name, value)?;
     if stamp != 0 {
@@ -44,7 +44,7 @@ pub(crate) fn see_results(
     results: List<StoredResult>,
 ) -> Result<Listed, Memory>
     requires { Each (λ (r : _). ValueFits (value_in r.value)) results }
-    ensures { IfOk result (SeesResults (shelves_of store.old) results (shelves_of store.new)) }
+    ensures { IfOk result (SeesResults (memo_cells_of store.old) results (memo_cells_of store.new)) }
 {
     let mut seen = Listed::new(alloc);
     let mut rest = stack_of(results);

@@ -1,9 +1,9 @@
 //! The modules of a base, each read from its text.
 ghost use Rattle.std.specs.Prelude.{◌≡◌, ◌≤◌, [], true, length, map, Some, IfOk};
-ghost use Rattle.base_rows.specs.Distinct.{are_new};
+ghost use Rattle.base_json.specs.Distinct.{are_new};
 ghost use Rattle.base_text.specs.Modules.{module_names_in, tree_in};
 ghost use Rattle.f77_ast.specs.PlainDecl.{parsed_tree};
-ghost use Rattle.laws_database.specs.Texts.{modules_of};
+ghost use Rattle.pipsmake_db.specs.pipsmake_meaning.Texts.{modules_of};
 ghost use Rattle.pipsmake_db.specs.State.{IsIn};
 ghost use Rattle.pipsmake_base.specs.Saved.{text_at};
 ghost use Rattle.pipsmake_base.specs.Texts.{IsSourceOf, AreSourcesOf, plain_state};
@@ -14,12 +14,12 @@ use f77_parser::{ParseRefusal, parse};
 use fixed_form::{ReadRefusal, statements};
 use fx_lists::{List, Text};
 use pipsmake_db::Db;
-use session_texts::{ModuleText, Source};
+use pipsmake_db::session_texts::{ModuleText, Source};
 use std::alloc::{AllocError as Memory, Global};
 use storage_layout::{LayoutRefusal, symbols};
 
 /// The one module of a text. Err also where the text is refused, or has none or several.
-#[tactic(auto, using(session_texts::proofs::Sizes::long_texts, base_text::proofs::ModuleLaws::trees))]
+#[tactic(auto, using(crate::proofs::LongTexts::long_texts, base_text::proofs::ModuleLaws::trees))]
 fn tree_of(alloc: Global, text: &Text) -> Result<Parsed, Memory>
     requires { length text.now ≤ 16777216 }
     ensures { IfOk result (λ p. tree_in (modules_of text.now) ≡ Some (parsed_tree p)) }

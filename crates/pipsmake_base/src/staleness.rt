@@ -1,8 +1,8 @@
 //! The first stored result that is not what is defined.
 ghost use Rattle.std.specs.Prelude.{◌≡◌, ◌↔◌, IfOk, OnOk, IsNone};
 ghost use Rattle.base_text.specs.Grammar.{IsBase};
-ghost use Rattle.base_values.specs.Sizes.{kind_of as kind_of_is};
-ghost use Rattle.pipsmake_db.specs.State.{texts_of, shelves_in};
+ghost use Rattle.pipsmake_db.specs.base_values.Sizes.{kind_of as kind_of_is};
+ghost use Rattle.pipsmake_db.specs.State.{texts_of, memo_cells_in};
 ghost use Rattle.pipsmake_base.specs.Saved.{texts_in, key_at, IsSaved, FirstStale};
 ghost use Rattle.pipsmake_base.specs.Taken.{IsInSome};
 ghost use Rattle.pipsmake_base.specs.Stale.{IsOther, IsStale};
@@ -11,10 +11,10 @@ use crate::made::made;
 use crate::source::over_texts;
 use crate::stored::copied_value;
 use base_text::{Base, StoredResult};
-use base_values::kind_of;
 use pipsmake_db::Db;
-use pipsmake_rules::{Key, Kind};
-use result_store::{Item, same_value};
+use pipsmake_db::base_values::kind_of;
+use pipsmake_db::pipsmake_rules::{Key, Kind};
+use pipsmake_db::result_store::{Item, same_value};
 use std::alloc::{AllocError as Memory, Global};
 
 /// The result that a stored value is of.
@@ -29,7 +29,7 @@ fn key_of(stored: &StoredResult) -> Result<Key, Memory>
 /// Whether another value is kept of its result, or none.
 fn is_other(alloc: Global, db: &Db, kind: Kind, stored: &StoredResult) -> Result<bool, Memory>
     requires { kind ≡ kind_of_is stored.now.value }
-    ensures { IfOk result (IsOther (shelves_in db.now) stored.now) }
+    ensures { IfOk result (IsOther (memo_cells_in db.now) stored.now) }
 {
     let value = copied_value(alloc, &stored.value)?;
     match db.store.value(Item::Result(kind), &stored.name) {

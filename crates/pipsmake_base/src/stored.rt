@@ -1,11 +1,10 @@
 //! Stored values as values of results.
 ghost use Rattle.std.specs.Prelude.{◌≡◌, IfOk};
-ghost use Rattle.result_store.specs.Values.{value_tree};
+ghost use Rattle.pipsmake_db.specs.result_store.Values.{value_tree};
 ghost use Rattle.pipsmake_base.specs.Saved.{value_in};
 
-use base_values::StoredValue;
-use result_store::Value;
-use same_results::Copied;
+use pipsmake_db::base_values::StoredValue;
+use pipsmake_db::result_store::{Copied, Value};
 use std::alloc::{AllocError as Memory, Global};
 
 /// The same as the value of a result.

@@ -3,46 +3,33 @@ use Rattle.std.proofs.Common.{◌≡◌, ℕ, Bool, true, false, List, [], ◌�
 use Rattle.std.specs.Prelude.{find, is_some, codes, bytes_eq, IfSome, IfNone, ◌≢◌, if◌then◌else◌}
 use Rattle.std.specs.Cmp.Lexicographic.{bytes_decides}
 use Rattle.f77_ast.specs.Symbols.{number_from}
-use Rattle.pipsmake_rules.specs.declared.kind.Kind.{Kind}
-use Rattle.pipsmake_rules.specs.declared.kind.Kind.TheVariants.{Parsed, Lines, Symbols, CallGraph, Effects, Transformers, Preconditions, Regions, InRegions, OutRegions, Marks, Printed}
-use Rattle.pipsmake_rules.specs.Kinds.{name_of, kinds, kind_with}
-use Rattle.pipsmake_rules.specs.Neighbours.{has_name}
-use Rattle.laws_database.specs.Texts.{ModuleText, names_in}
+use Rattle.session_texts.specs.pipsmake_rules.declared.kind.Kind.{Kind}
+use Rattle.session_texts.specs.pipsmake_rules.declared.kind.Kind.TheVariants.{Parsed, Lines, Symbols, CallGraph, Effects, Transformers, Preconditions, Regions, InRegions, OutRegions, Marks, Printed}
+use Rattle.session_texts.specs.pipsmake_rules.Kinds.{name_of, kinds, kind_with}
+use Rattle.session_texts.specs.pipsmake_rules.Neighbours.{has_name}
+use Rattle.session_texts.specs.pipsmake_meaning.Texts.{ModuleText, names_in}
 use Rattle.laws_database.specs.Laws.{CanMake}
 use Rattle.session_texts.proofs.Removed.{there}
 use Rattle.pipsmake_db.specs.declared.refusal.DbRefusal.{DbRefusal}
 use Rattle.pipsmake_db.specs.declared.refusal.DbRefusal.TheVariants.{NoSuchName}
 use Rattle.pipsmake_db.specs.Asked.{IsAsked, refused_unless}
 use Rattle.pipsmake_db.specs.Refusals.{or_else, of_kind, name_refusal, graph_refusal, owner_refusal, show_refusal, links_refusal, make_refusal, value_refusal}
-use Rattle.pipsmake_rules.specs.declared.key.Key.{Key}
+use Rattle.session_texts.specs.pipsmake_rules.declared.key.Key.{Key}
 use Rattle.result_lines.specs.declared.show.Show.{Show}
 use Rattle.pipsmake_db.specs.declared.db.Db.{Db}
 use Rattle.pipsmake_db.specs.declared.db.Shown.{Shown}
 use Rattle.pipsmake_db.specs.Calls.{key, Makes, MakesLinked, MakesNamed, Shows, ShowsLinked, ShowsNamed}
 use Rattle.pipsmake_db.specs.State.{texts_of}
 use Rattle.pipsmake_db.proofs.LinkLaws.{are_linked}
+use Rattle.session_texts.proofs.PipsmakeRules.Shared.{named_back as kind_of-name}
 
 -- ---- the kind of a name
-
-kind_of-name : (k : Kind) → kind_with (name_of k) ≡ Some k
-kind_of-name Parsed = refl
-kind_of-name Lines = refl
-kind_of-name Symbols = refl
-kind_of-name CallGraph = refl
-kind_of-name Effects = refl
-kind_of-name Transformers = refl
-kind_of-name Preconditions = refl
-kind_of-name Regions = refl
-kind_of-name InRegions = refl
-kind_of-name OutRegions = refl
-kind_of-name Marks = refl
-kind_of-name Printed = refl
 
 find-none : (p : Kind → Bool) (ks : List Kind) → ((k : Kind) → p k ≡ false) → find p ks ≡ None
 find-none p [] h = refl
 find-none p (k ∷ ks) h = ap (λ b. if b then Some k else find p ks) (h k) ∙ find-none p ks h
 
-unequal : (y x : List ℕ) → (y ≡ x → ⊥) → bytes_eq y x ≡ false
+pub unequal : (y x : List ℕ) → (y ≡ x → ⊥) → bytes_eq y x ≡ false
 unequal y x d = go (bytes_eq y x) refl
   where
     go : (b : Bool) → bytes_eq y x ≡ b → b ≡ false

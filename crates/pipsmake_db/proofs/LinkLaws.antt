@@ -5,7 +5,7 @@ use Rattle.call_graph.specs.declared.graph.Graph.{Graph}
 use Rattle.call_graph.specs.declared.refusal.Fault.{Fault}
 use Rattle.call_graph.specs.declared.refusal.Fault.TheVariants as fault
 use Rattle.call_graph.specs.Faults.{IsAt as IsFault}
-use Rattle.laws_database.specs.Texts.{ModuleText, links_in, graph_or_none, no_graph}
+use Rattle.session_texts.specs.pipsmake_meaning.Texts.{ModuleText, links_in, graph_or_none, no_graph}
 use Rattle.laws_database.specs.Laws.{AreLinked}
 use Rattle.pipsmake_db.specs.declared.linked.Links.{Links}
 use Rattle.pipsmake_db.specs.declared.refusal.DbRefusal.{DbRefusal}

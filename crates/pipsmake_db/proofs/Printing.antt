@@ -2,11 +2,11 @@
 use Rattle.std.proofs.Common.{◌≡◌, ℕ, List, [], ◌∷◌, ◌++◌, Option, Some, None, Result, Ok, Err, refl, sym, ap, ◌∙◌, append_assoc}
 use Rattle.call_graph.specs.declared.graph.Graph.{Graph}
 use Rattle.call_graph.specs.declared.refusal.Fault.{Fault}
-use Rattle.session_lines.specs.declared.command.Command.{Command}
-use Rattle.session_lines.specs.declared.command.Command.TheVariants as command
-use Rattle.session_lines.specs.Answers.{made_lines, text_with_count}
+use Rattle.session_texts.specs.declared.command.Command.{Command}
+use Rattle.session_texts.specs.declared.command.Command.TheVariants as command
+use Rattle.session_texts.specs.Answers.{made_lines, text_with_count}
 use Rattle.result_lines.specs.declared.show.Show as shows
-use Rattle.laws_database.specs.Texts.{AreModules, tables_in, links_in}
+use Rattle.session_texts.specs.pipsmake_meaning.Texts.{AreModules, tables_in, links_in}
 use Rattle.laws_database.specs.ProgramTexts.{program_text, session_text, joined_modules}
 use Rattle.laws_database.specs.ProgramTextLaws.{TextsMakeTheProgram, TextsAreWrittenAlike, NamesShowTheText}
 use Rattle.pipsmake_db.specs.declared.refusal.DbRefusal.{DbRefusal}

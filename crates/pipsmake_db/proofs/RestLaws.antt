@@ -4,42 +4,42 @@ use Rattle.std.specs.Prelude.{bytes_eq, not, if◌then◌else◌}
 use Rattle.std.specs.Cmp.Lexicographic.{bytes_decides}
 use Rattle.std.specs.List.{AllByRecursion, IsDistinct}
 use Rattle.std.proofs.lemmas.Bool.{or_left, or_right}
-use Rattle.pipsmake_rules.specs.declared.kind.Kind.{Kind}
-use Rattle.pipsmake_rules.specs.Neighbours.{has_name}
-use Rattle.laws_database.specs.Texts.{ModuleText, names_in, text_of, SameTexts}
-use Rattle.laws_database.specs.Shelves.{Shelf, Shelves, KeepsIn, SeenIn}
-use Rattle.laws_database.specs.Values.{source, text, result}
-use Rattle.laws_database.specs.Making.{AllStay}
+use Rattle.session_texts.specs.pipsmake_rules.declared.kind.Kind.{Kind}
+use Rattle.session_texts.specs.pipsmake_rules.Neighbours.{has_name}
+use Rattle.session_texts.specs.pipsmake_meaning.Texts.{ModuleText, names_in, text_of, SameTexts}
+use Rattle.session_texts.specs.pipsmake_meaning.MemoCells.{MemoCell, MemoCells, KeepsIn, SeenIn}
+use Rattle.session_texts.specs.pipsmake_meaning.Values.{source, text, result}
+use Rattle.session_texts.specs.pipsmake_meaning.Making.{AllStay}
 use Rattle.laws_database.specs.Stands.{Valuation}
-use Rattle.laws_database.specs.Resting.{RestsOn, value_with}
+use Rattle.laws_database.specs.Unverified.{RestsOn, value_with}
 use Rattle.laws_database.proofs.Going.{given_may_be_seen, given_texts_may_stay}
-use Rattle.laws_database.proofs.AtLines.{lines_may_change}
+use Rattle.laws_database.proofs.AtLines.{lines_may_change, names_same, text_same}
 use Rattle.session_texts.specs.Changes.{replaced}
 use Rattle.session_texts.specs.Laws.{or_text, TextOfReplaced}
 use Rattle.session_texts.specs.Modules.{NamesDiffer}
 use Rattle.pipsmake_db.specs.declared.db.Db.{Db}
 use Rattle.pipsmake_db.specs.Calls.{RestsAtSame}
-use Rattle.pipsmake_db.specs.State.{texts_of, shelves_in, gone_of}
+use Rattle.pipsmake_db.specs.State.{texts_of, memo_cells_in, gone_of}
 use Rattle.pipsmake_db.specs.Texts.{RestsOnSame, KeepsInTurn}
 
 -- ---- one text
 
-pub rests_same : (old new : Shelves) → AllStay old new → RestsOnSame old new
+pub rests_same : (old new : MemoCells) → AllStay old new → RestsOnSame old new
 rests_same old new h ts d r = let same : old ≡ new = λ i item x. sym (h item x) i in subst (λ sh. RestsOn sh ts d) same r
 
 no_text : (k : Kind) (x y : List ℕ) → ((result k ≡ text) × (y ≡ x)) → ⊥
 no_text k x y p = let q : result k ≡ text = p.0 in cc
 
-pub rests_seen : (old new : Shelves) (x t : List ℕ) (stamp : ℕ) → SeenIn old new text x (source t) stamp → RestsOnSame old new
+pub rests_seen : (old new : MemoCells) (x t : List ℕ) (stamp : ℕ) → SeenIn old new text x (source t) stamp → RestsOnSame old new
 rests_seen old new x t stamp sees ts d r = record {
   keeps = given_may_be_seen old new ts d text x (source t) stamp r.keeps sees;
-  stored = λ k y s h. (let there = r.stored k y s h in (there.0, ap (λ (z : Shelf). z.kept) (sees.others (result k) y (no_text k x y)) ∙ there.1));
+  stored = λ k y s h. (let there = r.stored k y s h in (there.0, ap (λ (z : MemoCell). z.kept) (sees.others (result k) y (no_text k x y)) ∙ there.1));
 }
 
-rests_kept : (old new : Shelves) (ts : List ModuleText) (d : Valuation) (x t : List ℕ) → text_of ts x ≡ Some t → KeepsIn old new text x (source t) [] → RestsOn old ts d → RestsOn new ts d
+rests_kept : (old new : MemoCells) (ts : List ModuleText) (d : Valuation) (x t : List ℕ) → text_of ts x ≡ Some t → KeepsIn old new text x (source t) [] → RestsOn old ts d → RestsOn new ts d
 rests_kept old new ts d x t is keeps r = record {
   keeps = given_texts_may_stay old new ts d x t r.keeps is keeps;
-  stored = λ k y s h. (let there = r.stored k y s h in (there.0, ap (λ (z : Shelf). z.kept) (keeps.others (result k) y (no_text k x y)) ∙ there.1));
+  stored = λ k y s h. (let there = r.stored k y s h in (there.0, ap (λ (z : MemoCell). z.kept) (keeps.others (result k) y (no_text k x y)) ∙ there.1));
 }
 
 -- ---- several texts
@@ -49,7 +49,7 @@ abbrev AreThere : List ModuleText → List ModuleText → Type 0
 AreThere ts [] = Unit {0}
 AreThere ts (u ∷ us) = (text_of ts u.name ≡ Some u.text) × AreThere ts us
 
-rests_in_turn : (us : List ModuleText) (sh new : Shelves) (ts : List ModuleText) (d : Valuation) → AreThere ts us → KeepsInTurn sh us new → RestsOn sh ts d → RestsOn new ts d
+rests_in_turn : (us : List ModuleText) (sh new : MemoCells) (ts : List ModuleText) (d : Valuation) → AreThere ts us → KeepsInTurn sh us new → RestsOn sh ts d → RestsOn new ts d
 rests_in_turn [] sh new ts d a k r = rests_same sh new k ts d r
 rests_in_turn (u ∷ us) sh new ts d a k r = rests_in_turn us k.0 new ts d a.1 k.2 (rests_kept sh k.0 ts d u.name u.text a.0 k.1 r)
 
@@ -67,18 +67,6 @@ there_too ts us f [] a = tt
 there_too ts us f (v ∷ vs) a = (f v.name v.text a.0, there_too ts us f vs a.1)
 
 -- ---- the same texts
-
-text_same : (ts us : List ModuleText) → SameTexts ts us → (x : List ℕ) → text_of ts x ≡ text_of us x
-text_same [] [] s x = refl
-text_same [] (u ∷ us) s x = absurd s
-text_same (t ∷ ts) [] s x = absurd s
-text_same (t ∷ ts) (u ∷ us) s x = let rest = text_same ts us s.2 x in λ i. if bytes_eq (s.0 i) x then Some (s.1 i) else rest i
-
-names_same : (ts us : List ModuleText) → SameTexts ts us → names_in ts ≡ names_in us
-names_same [] [] s = refl
-names_same [] (u ∷ us) s = absurd s
-names_same (t ∷ ts) [] s = absurd s
-names_same (t ∷ ts) (u ∷ us) s = let rest = names_same ts us s.2 in λ i. s.0 i ∷ rest i
 
 -- ---- names that go
 
@@ -106,22 +94,22 @@ same_gone ts us found before b e same =
 
 -- ---- databases
 
-module _ (old new : Db) (found : List ModuleText) (mid : Shelves) (differ : NamesDiffer found) (keeps : KeepsInTurn mid found (shelves_in new)) where
-  rests_on_found : (SameTexts (texts_of old) (texts_of new) → RestsOnSame (shelves_in old) mid) → (SameTexts (texts_of old) (texts_of new) → (y t : List ℕ) → text_of found y ≡ Some t → text_of (texts_of old) y ≡ Some t) → RestsAtSame old new
+module _ (old new : Db) (found : List ModuleText) (mid : MemoCells) (differ : NamesDiffer found) (keeps : KeepsInTurn mid found (memo_cells_in new)) where
+  rests_on_found : (SameTexts (texts_of old) (texts_of new) → RestsOnSame (memo_cells_in old) mid) → (SameTexts (texts_of old) (texts_of new) → (y t : List ℕ) → text_of found y ≡ Some t → text_of (texts_of old) y ≡ Some t) → RestsAtSame old new
   rests_on_found seen there same stored r =
       let ts : List ModuleText = texts_of old in
       let us : List ModuleText = texts_of new in
-      let kept : RestsOn (shelves_in new) ts (value_with ts stored) =
-      rests_in_turn found mid (shelves_in new) ts (value_with ts stored) (there_too ts found (there same) found (all_there found differ)) keeps (seen same ts (value_with ts stored) r.kept) in
+      let kept : RestsOn (memo_cells_in new) ts (value_with ts stored) =
+      rests_in_turn found mid (memo_cells_in new) ts (value_with ts stored) (there_too ts found (there same) found (all_there found differ)) keeps (seen same ts (value_with ts stored) r.kept) in
       record {
         whole = λ x h. r.whole x (ap (λ names. has_name names x) (names_same ts us same) ∙ h);
-        kept = lines_may_change (shelves_in new) ts us stored kept same;
+        kept = lines_may_change (memo_cells_in new) ts us stored kept same;
       }
 
-  pub rests_put : (law : TextOfReplaced) → new.linked ≡ replaced old.linked found → RestsOnSame (shelves_in old) mid → RestsAtSame old new
+  pub rests_put : (law : TextOfReplaced) → new.linked ≡ replaced old.linked found → RestsOnSame (memo_cells_in old) mid → RestsAtSame old new
   rests_put law texts seen =
       rests_on_found (λ same. seen)
       (λ same y t e. text_same (texts_of old) (texts_of new) same y ∙ ap (λ vs. text_of vs y) texts ∙ law (texts_of old) found y differ ∙ ap (λ o. or_text o (text_of (texts_of old) y)) e)
 
-  pub rests_put_only : new.linked ≡ found → (SameTexts (texts_of old) (texts_of new) → RestsOnSame (shelves_in old) mid) → RestsAtSame old new
+  pub rests_put_only : new.linked ≡ found → (SameTexts (texts_of old) (texts_of new) → RestsOnSame (memo_cells_in old) mid) → RestsAtSame old new
   rests_put_only texts seen = rests_on_found seen (λ same y t e. text_same (texts_of old) (texts_of new) same y ∙ ap (λ vs. text_of vs y) texts ∙ e)

@@ -1,16 +1,17 @@
 -- Answers to scripts.
 use Rattle.std.proofs.Common.{◌≡◌, ℕ, ◌≤◌, List, [], ◌∷◌, ◌++◌, refl, sym, ap, ◌∙◌, subst, append_assoc, append-nil, arith}
 use Rattle.std.proofs.lemmas.List.Elements.{All-head, All-tail}
-use Rattle.session_lines.specs.declared.command.Command.{Command}
-use Rattle.session_lines.specs.declared.command.Command.TheVariants.{Source, Drop, Make, Show, Print, Bad, Short}
-use Rattle.session_lines.specs.Commands.{IsWithin, AreWithin, commands_of}
+use Rattle.session_texts.specs.declared.command.Command.{Command}
+use Rattle.session_texts.specs.declared.command.Command.TheVariants.{Source, Drop, Make, Show, Print, Bad, Short}
+use Rattle.session_texts.specs.Commands.{IsWithin, AreWithin, commands_of}
 use Rattle.result_lines.specs.declared.show.Show as shows
 use Rattle.pipsmake_db.specs.declared.db.Db.{Db}
 use Rattle.pipsmake_db.specs.State.{State, IsIn}
-use Rattle.laws_database.specs.Texts.{ModuleText}
+use Rattle.session_texts.specs.pipsmake_meaning.Texts.{ModuleText}
 use Rattle.pipsmake_db.specs.Scripts.{AnswersAll}
+use Rattle.pipsmake_db.specs.Outlines.{Outline, outline_of, OutlinesAll, OutlinesScript}
 use Rattle.pipsmake_db.specs.AnswerTexts.{texts_after, texts_at_end}
-use Rattle.pipsmake_db.specs.AnswerSteps.{AnswersFrom, Answers, AnswersWholeFrom}
+use Rattle.pipsmake_db.specs.AnswerSteps.{AnswersFrom, AnswersAnyway, Answers, AnswersWholeFrom}
 
 -- ---- sources that are short enough
 
@@ -61,6 +62,25 @@ no_more show s script out d h = record {
   answers = subst (λ (o : List ℕ). AnswersAll show s (commands_of script) o h.mid) (append-nil out) (h.answers [] h.mid (refl, refl));
   is_in = h.is_in;
 }
+
+-- ---- whatever is kept of results
+
+pub record SoFarAnyway (o : Outline) (commands rest : List Command) (out : List ℕ) (d : Db) : Type 0 where
+  pub answers : (more : List ℕ) (p : Outline) → OutlinesAll (outline_of d) rest more p → OutlinesAll o commands (out ++ more) p
+
+pub none_anyway : (commands rest : List Command) (out : List ℕ) (d : Db) → rest ≡ commands → out ≡ [] → SoFarAnyway (outline_of d) commands rest out d
+none_anyway commands rest out d r e = record {
+  answers = λ more p h. subst (λ (o : List ℕ). OutlinesAll (outline_of d) commands (o ++ more) p) (sym e) (subst (λ (cs : List Command). OutlinesAll (outline_of d) cs more p) r h);
+}
+
+pub more_anyway : (o : Outline) (commands : List Command) (c : Command) (rest : List Command) (old new : List ℕ) (d e : Db) → SoFarAnyway o commands (c ∷ rest) old d → AnswersAnyway c d e old new → SoFarAnyway o commands rest new e
+more_anyway o commands c rest old new d e h a = record {
+  answers = λ more p m.
+      subst (λ (out : List ℕ). OutlinesAll o commands out p) (sym (append_assoc old a.lines more) ∙ ap (λ (w : List ℕ). w ++ more) (sym a.written)) (h.answers (a.lines ++ more) p (a.lines, more, outline_of e, a.outlines, m, refl));
+}
+
+pub no_more_anyway : (o : Outline) (script out : List ℕ) (d : Db) → SoFarAnyway o (commands_of script) [] out d → OutlinesScript o script out (outline_of d)
+no_more_anyway o script out d h = subst (λ (w : List ℕ). OutlinesAll o (commands_of script) w (outline_of d)) (append-nil out) (h.answers [] (outline_of d) (refl, refl))
 
 -- ---- texts
 

@@ -1,79 +1,65 @@
 -- The text that shows what is kept.
-use Rattle.std.proofs.Common.{◌≡◌, ℕ, true, List, [], ◌∷◌, ◌++◌, map, Some, None, Result, Ok, Err, refl, sym, ap, ◌∙◌, subst}
+use Rattle.std.proofs.Common.{◌≡◌, ℕ, true, List, [], ◌∷◌, ◌++◌, map, Some, None, refl, sym, ap, ◌∙◌, subst}
 use Rattle.std.specs.Prelude.{codes, option_map, option_and_then, IfSome}
 use Rattle.serde_json.specs.Written.{compact_text}
 use Rattle.f77_ast.specs.declared.symbol.Symbol.{Symbol}
 use Rattle.f77_ast.specs.Index.{names_of}
 use Rattle.f77_ast.specs.Symbols.{symbol_tree}
-use Rattle.call_graph.specs.declared.graph.Graph.{Graph}
-use Rattle.call_graph.specs.declared.refusal.Fault.{Fault}
-use Rattle.f77_meaning.specs.Modules.{symbol_names}
-use Rattle.pipsmake_rules.specs.declared.kind.Kind.{Kind}
-use Rattle.pipsmake_rules.specs.declared.kind.Kind.TheVariants as kind
-use Rattle.pipsmake_rules.specs.declared.key.Key.{Key}
-use Rattle.pipsmake_rules.specs.Laws.{is_bottom_up}
-use Rattle.pipsmake_rules.specs.Neighbours.{has_name}
-use Rattle.pipsmake_rules.proofs.WalkLaws.{complete}
+use Rattle.session_texts.specs.pipsmake_rules.declared.kind.Kind.{Kind}
+use Rattle.session_texts.specs.pipsmake_rules.declared.kind.Kind.TheVariants as kind
+use Rattle.session_texts.specs.pipsmake_rules.declared.key.Key.{Key}
+use Rattle.session_texts.specs.pipsmake_rules.Neighbours.{has_name}
+use Rattle.session_texts.proofs.PipsmakeRules.WalkLaws.{complete}
 use Rattle.base_values.specs.declared.stored.StoredValue.{StoredValue}
 use Rattle.base_values.specs.Written.{stored_data}
 use Rattle.result_lines.specs.declared.show.Show.{Show}
-use Rattle.laws_statements.specs.CallsIn.{Each}
-use Rattle.laws_database.specs.Texts.{ModuleText, AreModules, names_in, trees_in, tables_in, links_in, graph_of, graph_or_none}
-use Rattle.laws_database.specs.Definitions.{module_named, definition, results_in, text_shown}
-use Rattle.laws_database.specs.Shelves.{Shelves, value_under, kept_of}
-use Rattle.laws_database.specs.Values.{result}
+use Rattle.call_graph.specs.CallsIn.{Each}
+use Rattle.session_texts.specs.pipsmake_meaning.Texts.{ModuleText, AreModules, names_in, graph_of}
+use Rattle.session_texts.specs.pipsmake_meaning.Definitions.{module_named, definition, results_in, text_shown}
+use Rattle.session_texts.specs.pipsmake_meaning.MemoCells.{MemoCells, value_under, kept_of}
+use Rattle.session_texts.specs.pipsmake_meaning.Values.{result}
 use Rattle.laws_database.specs.Stands.{Valuation, HasValue}
-use Rattle.laws_database.specs.Rules.{transformers_in, preconditions_in, regions_in, ins_in, outs_in, marks_in, results_from, kept_results, text_with}
+use Rattle.session_texts.specs.pipsmake_meaning.Rules.{transformers_in, preconditions_in, regions_in, ins_in, outs_in, marks_in, results_from, kept_results, text_with}
 use Rattle.laws_database.specs.Laws.{CanMake, walk_in, IsDefined, MakingMayStop, TextsAreShown}
-use Rattle.laws_database.specs.Resting.{IsStored, stored_results, value_with, RestsOn, RestingStays}
-use Rattle.laws_database.specs.Making.{BringsAll}
-use Rattle.laws_database.proofs.InOrder.{bottom_up}
+use Rattle.laws_database.specs.Unverified.{IsStored, stored_results, value_with, RestsOn, RestingStays}
+use Rattle.session_texts.specs.pipsmake_meaning.Making.{BringsAll}
 use Rattle.laws_database.proofs.Modules.{linked}
 use Rattle.laws_database.specs.ProgramTexts.{text_named}
 use Rattle.result_making.specs.Making.{text_made}
 use Rattle.pipsmake_db.specs.Kept.{json_kept, text_kept, IsShown}
 use Rattle.pipsmake_db.specs.declared.show.Ready.{Ready}
-use Rattle.result_store.specs.Rows.{shelves_of}
+use Rattle.result_store.specs.Rows.{memo_cells_of}
 use Rattle.pipsmake_db.specs.Shown.{json_with, json_line, text_for, text_of_results, printed_from, text_from}
 use Rattle.pipsmake_db.specs.Calls.{key, Makes, ShowsLinked}
 use Rattle.pipsmake_db.specs.Fresh.{keys_put}
 use Rattle.pipsmake_db.specs.Refusals.{owner_refusal, links_refusal}
-use Rattle.pipsmake_db.specs.State.{texts_of, shelves_in}
+use Rattle.pipsmake_db.specs.State.{texts_of, memo_cells_in}
 use Rattle.pipsmake_db.specs.declared.db.Db.{Db}
 use Rattle.pipsmake_db.specs.declared.db.Shown.{Shown}
 use Rattle.pipsmake_db.proofs.AskedLaws.{can_make}
 use Rattle.pipsmake_db.proofs.MakeLaws.{makes, leads, brings_linked, fresh_linked}
+use Rattle.laws_database.proofs.Whole.{graph_in_order}
+pub use Rattle.f77_meaning.proofs.SymbolNames.{names-same as names_are}
 
 -- ---- names of symbols
-
-pub names_are : (ss : List Symbol) → names_of ss ≡ symbol_names (map symbol_tree ss)
-names_are [] = refl
-names_are (s ∷ ss) = ap (λ xs. s.name ∷ xs) (names_are ss)
 
 pub line_is : (ss : List Symbol) (v : StoredValue) (t : List ℕ) → t ≡ compact_text (stored_data (names_of ss) v) → t ++ codes "\n" ≡ json_line (map symbol_tree ss) v
 line_is ss v t e = ap (λ u. u ++ codes "\n") (e ∙ ap (λ names. compact_text (stored_data names v)) (names_are ss))
 
 -- ---- the last of a walk
 
-graph_in_order : (ts : List ModuleText) → is_bottom_up (graph_of ts) ≡ true
-graph_in_order ts = go (links_in ts) refl
-  where
-    go : (r : Result Graph Fault) → links_in ts ≡ r → is_bottom_up (graph_or_none r) ≡ true
-    go (Ok g) e = bottom_up (trees_in ts) (tables_in ts) g (linked ts g e)
-    go (Err f) e = refl
-
 last : (P : Key → Type 0) (before : List Key) (k : Key) → Each P (before ++ k ∷ []) → P k
 last P [] k h = h.0
 last P (j ∷ before) k h = last P before k h.1
 
-pub asked_defined : (sh : Shelves) (ts : List ModuleText) (k : Key) → Each (IsDefined sh ts) (walk_in ts k) → IsDefined sh ts k
+pub asked_defined : (sh : MemoCells) (ts : List ModuleText) (k : Key) → Each (IsDefined sh ts) (walk_in ts k) → IsDefined sh ts k
 asked_defined sh ts k are =
     let end = (complete (names_in ts) (graph_of ts) k (graph_in_order ts)).1 in
     last (IsDefined sh ts) end.0 k (subst (Each (IsDefined sh ts)) end.1 are)
 
 -- ---- the text
 
-module _ (shown : TextsAreShown) (sh : Shelves) (ts : List ModuleText) (ms : AreModules ts) (show : Show) (x : List ℕ) where
+module _ (shown : TextsAreShown) (sh : MemoCells) (ts : List ModuleText) (ms : AreModules ts) (show : Show) (x : List ℕ) where
   printed_is : CanMake ts kind.Printed x → Each (IsDefined sh ts) (walk_in ts (key kind.Printed x)) → text_made sh ts x show ≡ text_named show ts x
   printed_is can are =
       let s = shown sh ts x show ms can are in
@@ -113,7 +99,7 @@ stored_with ts stored kind.OutRegions x s = refl
 stored_with ts stored kind.Marks x s = refl
 stored_with ts stored kind.Printed x s = absurd s
 
-module _ (sh : Shelves) (ts : List ModuleText) (stored : Valuation) (rests : RestsOn sh ts (value_with ts stored)) (x : List ℕ) (named : has_name (names_in ts) x ≡ true) where
+module _ (sh : MemoCells) (ts : List ModuleText) (stored : Valuation) (rests : RestsOn sh ts (value_with ts stored)) (x : List ℕ) (named : has_name (names_in ts) x ≡ true) where
   stored_kept : (k : Kind) → IsStored k → kept_of sh k x ≡ stored k x
   stored_kept k s =
       let there = rests.stored k x s named in
@@ -131,8 +117,8 @@ module _ (sh : Shelves) (ts : List ModuleText) (stored : Valuation) (rests : Res
   printed_stored : (show : Show) → text_made sh ts x show ≡ printed_from ts stored show x
   printed_stored show = λ i. option_and_then (λ m. option_map (text_of_results show m) (all_kept i)) (module_named ts x)
 
-module _ (sh : Shelves) (ts : List ModuleText) (stored : Valuation) (rests : RestsOn sh ts (value_with ts stored)) (show : Show) (x : List ℕ) where
-  text_stored : (k : Kind) → CanMake ts k x → text_kept sh ts show k x ≡ text_from ts stored show k x
+module _ (sh : MemoCells) (ts : List ModuleText) (stored : Valuation) (rests : RestsOn sh ts (value_with ts stored)) (show : Show) (x : List ℕ) where
+  pub text_stored : (k : Kind) → CanMake ts k x → text_kept sh ts show k x ≡ text_from ts stored show k x
   text_stored kind.Parsed can = refl
   text_stored kind.Lines can = refl
   text_stored kind.Symbols can = refl
@@ -149,21 +135,21 @@ module _ (sh : Shelves) (ts : List ModuleText) (stored : Valuation) (rests : Res
 -- ---- what is shown
 
 module _ (may_stop : MakingMayStop) (rests : RestingStays) (shown : TextsAreShown) (old new : Db) (k : Kind) (x : List ℕ) (owned : owner_refusal (texts_of old) k x ≡ None) (links : links_refusal (texts_of old) k ≡ None) (texts : new.linked ≡ old.linked) where
-  made : (s : Shown) → BringsAll (shelves_in old) (texts_of old) (walk_in (texts_of old) (key k x)) s.made (shelves_in new) → new.fresh ≡ keys_put old.fresh (walk_in (texts_of old) (key k x)) → Makes old new (key k x) s.made
+  made : (s : Shown) → BringsAll (memo_cells_in old) (texts_of old) (walk_in (texts_of old) (key k x)) s.made (memo_cells_in new) → new.fresh ≡ keys_put old.fresh (walk_in (texts_of old) (key k x)) → Makes old new (key k x) s.made
   made s b fresh = makes may_stop old new k x owned links texts rests s.made b fresh
 
-  pub shows : (show : Show) (s : Shown) → BringsAll (shelves_in old) (texts_of old) (walk_in (texts_of old) (key k x)) s.made (shelves_in new) → new.fresh ≡ keys_put old.fresh (walk_in (texts_of old) (key k x))
-      → text_kept (shelves_in new) (texts_of old) show k x ≡ Some s.text → ShowsLinked old new k x show s
+  pub shows : (show : Show) (s : Shown) → BringsAll (memo_cells_in old) (texts_of old) (walk_in (texts_of old) (key k x)) s.made (memo_cells_in new) → new.fresh ≡ keys_put old.fresh (walk_in (texts_of old) (key k x))
+      → text_kept (memo_cells_in new) (texts_of old) show k x ≡ Some s.text → ShowsLinked old new k x show s
   shows show s b fresh text = record {
     links = links;
     shows = record {
       makes = made s b fresh;
       rests = λ stored r. (
-          let kept : RestsOn (shelves_in new) (texts_of old) (value_with (texts_of old) stored) = subst (λ ts. RestsOn (shelves_in new) ts (value_with ts stored)) texts ((made s b fresh).rests stored r).rests.kept in
-          sym (text_stored (shelves_in new) (texts_of old) stored kept show x k (can_make (texts_of old) k x owned links)) ∙ text
+          let kept : RestsOn (memo_cells_in new) (texts_of old) (value_with (texts_of old) stored) = subst (λ ts. RestsOn (memo_cells_in new) ts (value_with ts stored)) texts ((made s b fresh).rests stored r).rests.kept in
+          sym (text_stored (memo_cells_in new) (texts_of old) stored kept show x k (can_make (texts_of old) k x owned links)) ∙ text
           );
-      text = λ st i. sym (text_is shown (shelves_in new) (texts_of old) (subst AreModules (sym i.texts) i.stands.modules) show x k (can_make (texts_of old) k x owned links)
-          (subst (λ ts. Each (IsDefined (shelves_in new) ts) (walk_in ts (key k x))) (sym i.texts) (leads may_stop old new k x owned links texts s.made b st i).defined)) ∙ text;
+      text = λ st i. sym (text_is shown (memo_cells_in new) (texts_of old) (subst AreModules (sym i.texts) i.stands.modules) show x k (can_make (texts_of old) k x owned links)
+          (subst (λ ts. Each (IsDefined (memo_cells_in new) ts) (walk_in ts (key k x))) (sym i.texts) (leads may_stop old new k x owned links texts s.made b st i).defined)) ∙ text;
     };
   }
 
@@ -174,4 +160,4 @@ module _ (may_stop : MakingMayStop) (rests : RestingStays) (shown : TextsAreShow
       shows may_stop rests shown old new k x owned links (back ∙ same) show (record { made = r.brought.made; text = r.text })
       (brings_linked may_stop old mid after new k x owned links same store fresh back kept r.brought.made h.brought.brings)
       (f ∙ fresh_linked may_stop old mid after new k x owned links same store fresh back kept r.brought.fresh h.brought.fresh)
-      (ap (λ rows. text_kept (shelves_of rows) (texts_of old) show k x) kept ∙ ap (λ ts. text_kept (shelves_in after) ts show k x) (sym same) ∙ h.text)
+      (ap (λ rows. text_kept (memo_cells_of rows) (texts_of old) show k x) kept ∙ ap (λ ts. text_kept (memo_cells_in after) ts show k x) (sym same) ∙ h.text)

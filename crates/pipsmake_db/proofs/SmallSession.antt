@@ -4,12 +4,12 @@ use Rattle.std.specs.Prelude.{codes}
 use Rattle.std.specs.Fmt.{digits}
 use Rattle.fixed_form.specs.Faults.{first_fault}
 use Rattle.fixed_form.specs.Reading.{rest_from, reading}
-use Rattle.module_texts.specs.Pieces.{pieces_of}
+use Rattle.fixed_form.specs.Pieces.{pieces_of}
 use Rattle.f77_parser.specs.Modules.{parse_of}
-use Rattle.session_lines.specs.declared.command.Command.{Command}
-use Rattle.session_lines.specs.declared.command.Command.TheVariants as command
-use Rattle.session_lines.specs.Answers.{source_line}
-use Rattle.session_lines.specs.Commands.{commands_of}
+use Rattle.session_texts.specs.declared.command.Command.{Command}
+use Rattle.session_texts.specs.declared.command.Command.TheVariants as command
+use Rattle.session_texts.specs.Answers.{source_line}
+use Rattle.session_texts.specs.Commands.{commands_of}
 use Rattle.result_lines.specs.declared.show.Show.{Show}
 use Rattle.session_texts.specs.Sources.{source_modules}
 use Rattle.pipsmake_db.specs.State.{first_state}

@@ -6,21 +6,21 @@ use Rattle.f77_ast.specs.DeclTrees.{ParsedTree}
 use Rattle.f77_parser.specs.Gives.{Refused, and_then}
 use Rattle.f77_parser.specs.Modules.{parse_of}
 use Rattle.f77_ast.specs.Symbols.{SymbolTree}
-use Rattle.refusal_codes.specs.declared.refusal.Refusal.{Refusal}
+use Rattle.fx_lists.specs.declared.refusal.Refusal.{Refusal}
 use Rattle.storage_layout.specs.Symbols.{symbols_of}
-use Rattle.module_texts.specs.declared.source.Piece.{Piece}
-use Rattle.module_texts.specs.Pieces.{pieces_of}
-use Rattle.roundtrip_programs.specs.Laws.{tree_of, TablesIgnorePlaces}
-use Rattle.roundtrip_programs.specs.Programs.{AreTables}
-use Rattle.laws_pieces.specs.Laws.{IsPieceOf, ArePiecesOf, PiecesAreModules}
-use Rattle.pipsmake_rules.specs.declared.kind.Kind.{Kind}
-use Rattle.pipsmake_rules.specs.declared.kind.Kind.TheVariants.{Printed}
-use Rattle.pipsmake_rules.specs.declared.key.Key.{Key}
-use Rattle.pipsmake_rules.specs.Kinds.{kind_with}
-use Rattle.session_lines.specs.declared.command.Command.{Command}
-use Rattle.session_lines.specs.declared.command.Command.TheVariants as command
+use Rattle.fixed_form.specs.declared.source.Piece.{Piece}
+use Rattle.fixed_form.specs.Pieces.{pieces_of}
+use Rattle.session_texts.specs.roundtrip_programs.Laws.{tree_of, TablesIgnorePlaces}
+use Rattle.session_texts.specs.roundtrip_programs.Programs.{AreTables}
+use Rattle.session_texts.specs.roundtrip_programs.Pieces.Laws.{IsPieceOf, ArePiecesOf, PiecesAreModules}
+use Rattle.session_texts.specs.pipsmake_rules.declared.kind.Kind.{Kind}
+use Rattle.session_texts.specs.pipsmake_rules.declared.kind.Kind.TheVariants.{Printed}
+use Rattle.session_texts.specs.pipsmake_rules.declared.key.Key.{Key}
+use Rattle.session_texts.specs.pipsmake_rules.Kinds.{kind_with}
+use Rattle.session_texts.specs.declared.command.Command.{Command}
+use Rattle.session_texts.specs.declared.command.Command.TheVariants as command
 use Rattle.result_lines.specs.declared.show.Show as shows
-use Rattle.laws_database.specs.Texts.{ModuleText, IsModule, AreModules, lines_or, modules_of, with_table, one_module, names_in}
+use Rattle.session_texts.specs.pipsmake_meaning.Texts.{ModuleText, IsModule, AreModules, lines_or, modules_of, with_table, one_module, names_in}
 use Rattle.session_texts.specs.Sources.{table_or, tables_of, source_refusal, unless_refused, named_texts, texts_with, texts_of_lines, source_modules}
 use Rattle.session_texts.specs.Laws.{ReplacedKeep, WithoutKeep}
 use Rattle.pipsmake_db.specs.declared.refusal.DbRefusal.{DbRefusal}
@@ -29,6 +29,7 @@ use Rattle.pipsmake_db.specs.Refusals.{text_refusal, name_refusal, link_refusal,
 use Rattle.pipsmake_db.specs.Calls.{key}
 use Rattle.pipsmake_db.specs.Answers.{UnlessRefused, SourceAnswer, DropAnswer, MakesIn, MakeAnswer, ShowAnswer, OfKind, MakesPrinted, PrintAnswer, AnswersTo}
 use Rattle.pipsmake_db.specs.Scripts.{AnswersAll}
+use Rattle.session_texts.proofs.SourceTexts.{all_tables}
 
 -- ---- the modules of a source text
 
@@ -48,22 +49,6 @@ pieces_are law [] (m ∷ ms) ts h k = absurd h
 pieces_are law (p ∷ ps) [] ts h k = absurd h
 pieces_are law (p ∷ ps) (m ∷ ms) [] h k = absurd k
 pieces_are law (p ∷ ps) (m ∷ ms) (t ∷ ts) h k = (one_piece law p m t h.0 k.0, pieces_are law ps ms ts h.1 k.1)
-
--- tables that all modules have
-all_tables : (ms : List ParsedTree) (ts : List (List SymbolTree)) → tables_of ms ≡ Ok ts → AreTables ms ts
-all_tables [] [] e = tt
-all_tables [] (t ∷ ts) e = cc
-all_tables (m ∷ ms) ts e = go (symbols_of m) refl (tables_of ms) refl ts e (all_tables ms)
-  where
-    go : (r : Result (List SymbolTree) Refusal) → symbols_of m ≡ r → (q : Result (List (List SymbolTree)) Refused) → tables_of ms ≡ q → (us : List (List SymbolTree))
-        → and_then (table_or r) (λ t. and_then q (λ later. Ok (t ∷ later))) ≡ Ok us → ((vs : List (List SymbolTree)) → tables_of ms ≡ Ok vs → AreTables ms vs) → AreTables (m ∷ ms) us
-    go (Err r) d q f us g ih = cc
-    go (Ok t) d (Err r) f us g ih = cc
-    go (Ok t) d (Ok later) f [] g ih = cc
-    go (Ok t) d (Ok later) f (u ∷ us) g ih =
-        let first : t ≡ u = cc in
-        let rest : later ≡ us = cc in
-        (d ∙ ap Ok first, ih us (f ∙ ap Ok rest))
 
 source_with : PiecesAreModules → TablesIgnorePlaces → (text : List ℕ) (lines : Lines) (ms : List ParsedTree) (us : List ModuleText) → reading text ≡ Ok lines → parse_of lines ≡ Ok ms → texts_with text lines ms ≡ Ok us → AreModules us
 source_with pieces law text lines ms us r p e = go (tables_of ms) refl (source_refusal ms) e

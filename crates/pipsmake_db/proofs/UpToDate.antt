@@ -2,16 +2,17 @@
 use Rattle.std.proofs.Common.{◌≡◌, ◌⊎◌, inl, inr, ℕ, Bool, true, false, ◌||◌, List, [], ◌∷◌, ◌++◌, Some, refl, sym, ap, ◌∙◌, subst}
 use Rattle.std.specs.Prelude.{if◌then◌else◌}
 use Rattle.std.proofs.lemmas.Bool.{or_left, or_right}
-use Rattle.pipsmake_rules.specs.declared.kind.Kind.{Kind}
-use Rattle.pipsmake_rules.specs.declared.kind.Kind.TheVariants as kind
-use Rattle.pipsmake_rules.specs.declared.key.Key.{Key}
-use Rattle.pipsmake_rules.specs.Keys.{same_key, holds}
-use Rattle.pipsmake_rules.proofs.KeyLaws.{same_key-true, same_key_self, holds-last, holds-more}
-use Rattle.laws_statements.specs.CallsIn.{Each}
-use Rattle.laws_database.specs.Texts.{ModuleText}
-use Rattle.laws_database.specs.Session.{Makings, needs_in, SameText, SameValue, UpToDate, MadeOf, made_now}
+use Rattle.session_texts.specs.pipsmake_rules.declared.kind.Kind.{Kind}
+use Rattle.session_texts.specs.pipsmake_rules.declared.kind.Kind.TheVariants as kind
+use Rattle.session_texts.specs.pipsmake_rules.declared.key.Key.{Key}
+use Rattle.session_texts.specs.pipsmake_rules.Keys.{same_key, holds}
+use Rattle.session_texts.proofs.PipsmakeRules.KeyLaws.{same_key-true, same_key_self, holds-last, holds-more}
+use Rattle.call_graph.specs.CallsIn.{Each}
+use Rattle.session_texts.specs.pipsmake_meaning.Texts.{ModuleText}
+use Rattle.session_texts.specs.pipsmake_meaning.Session.{Makings, needs_in, SameText, SameValue, UpToDate, MadeOf, made_now}
 use Rattle.pipsmake_db.specs.Fresh.{key_put, keys_put}
 use Rattle.pipsmake_db.proofs.WalkedLists.{new_of}
+use Rattle.laws_database.proofs.Keeping.{held}
 
 -- ---- lists
 
@@ -31,14 +32,6 @@ each_new P l (k ∷ ks) h = go (holds l k) (each_new P l ks h.1)
     go true ih = ih
     go false ih = (h.0, ih)
 
-pub held : (P : Key → Type 0) (done : List Key) (n : Key) → Each P done → holds done n ≡ true → P n
-held P [] n h e = cc
-held P (d ∷ ds) n h e = go (same_key d n) refl e (λ q. held P ds n h.1 q)
-  where
-    go : (b : Bool) → same_key d n ≡ b → (b || holds ds n) ≡ true → (holds ds n ≡ true → P n) → P n
-    go true s q later = subst P (same_key-true d n s) h.0
-    go false s q later = later q
-
 -- what holds of all of a list holds of all that are in it
 pub each_held : (P : Key → Type 0) (done ks : List Key) → Each P done → ((k : Key) → holds ks k ≡ true → holds done k ≡ true) → Each P ks
 each_held P done [] h f = tt
@@ -47,7 +40,7 @@ each_held P done (k ∷ ks) h f =
 
 -- ---- what is up to date
 
-same_text : (k : Kind) (x : List ℕ) (ts : List ModuleText) → SameText k x ts ts
+pub same_text : (k : Kind) (x : List ℕ) (ts : List ModuleText) → SameText k x ts ts
 same_text kind.Parsed x ts = refl
 same_text kind.Lines x ts = refl
 same_text kind.Symbols x ts = tt
@@ -61,7 +54,7 @@ same_text kind.OutRegions x ts = tt
 same_text kind.Marks x ts = tt
 same_text kind.Printed x ts = tt
 
-same_values : (ts : List ModuleText) (ns : List Key) → Each (SameValue ts ts) ns
+pub same_values : (ts : List ModuleText) (ns : List Key) → Each (SameValue ts ts) ns
 same_values ts [] = tt
 same_values ts (n ∷ ns) = (refl, same_values ts ns)
 
@@ -77,14 +70,14 @@ module _ (made : Makings) (ts : List ModuleText) (now : List Key) where
       go false e = record { old = u.old; was_made = ap (λ b. if b then Some ts else made k.kind k.name) e ∙ u.was_made; text = u.text; needs = u.needs; values = u.values }
 
 -- each result of a walk was made, or is up to date
-abbrev IsMadeOr : Makings → List ModuleText → List Key → Key → Type 0
+abbrev pub IsMadeOr : Makings → List ModuleText → List Key → Key → Type 0
 IsMadeOr made ts now k = (holds now k ≡ true) ⊎ UpToDate made ts k
 
-made_later : (made : Makings) (ts : List ModuleText) (rest : List Key) (k j : Key) → IsMadeOr made ts rest j → IsMadeOr made ts (k ∷ rest) j
+pub made_later : (made : Makings) (ts : List ModuleText) (rest : List Key) (k j : Key) → IsMadeOr made ts rest j → IsMadeOr made ts (k ∷ rest) j
 made_later made ts rest k j (inl e) = inl (or_right (same_key k j) (holds rest j) e)
 made_later made ts rest k j (inr u) = inr u
 
-made_or : (made : Makings) (ts : List ModuleText) (ks now : List Key) → MadeOf made ts ks now → Each (IsMadeOr made ts now) ks
+pub made_or : (made : Makings) (ts : List ModuleText) (ks now : List Key) → MadeOf made ts ks now → Each (IsMadeOr made ts now) ks
 made_or made ts [] now h = tt
 made_or made ts (k ∷ ks) now (inl h) = (inr h.0, made_or made ts ks now h.1)
 made_or made ts (k ∷ ks) now (inr h) =
@@ -117,14 +110,14 @@ module _ (made : Makings) (ts : List ModuleText) (l : List Key) (current : Each 
 abbrev pub Within : List Key → List Key → Type 0
 Within l fresh = (k : Key) → holds l k ≡ true → holds fresh k ≡ true
 
-put_keeps : (j k : Key) (ks : List Key) → holds ks k ≡ true → holds (key_put j ks) k ≡ true
+pub put_keeps : (j k : Key) (ks : List Key) → holds ks k ≡ true → holds (key_put j ks) k ≡ true
 put_keeps j k ks e = go (holds ks j)
   where
     go : (b : Bool) → holds (if b then ks else ks ++ j ∷ []) k ≡ true
     go true = e
     go false = holds-more ks j k e
 
-put_holds : (j : Key) (ks : List Key) → holds (key_put j ks) j ≡ true
+pub put_holds : (j : Key) (ks : List Key) → holds (key_put j ks) j ≡ true
 put_holds j ks = go (holds ks j) refl
   where
     go : (b : Bool) → holds ks j ≡ b → holds (if b then ks else ks ++ j ∷ []) j ≡ true

@@ -5,17 +5,15 @@ use Rattle.std.specs.List.{list_all}
 use Rattle.std.proofs.lemmas.Bool.{and_parts, and_from, or_left, or_right, or_cases}
 use Rattle.std.proofs.lemmas.List.Folds.{list_any-append}
 use Rattle.call_graph.specs.declared.graph.Graph.{Graph}
-use Rattle.pipsmake_rules.specs.declared.key.Key.{Key}
-use Rattle.pipsmake_rules.specs.Keys.{same_key, holds}
-use Rattle.pipsmake_rules.specs.Needs.{needs_of}
-use Rattle.pipsmake_rules.specs.Walk.{walk_from}
-use Rattle.pipsmake_rules.specs.Laws.{StandBehindNeeds}
-use Rattle.pipsmake_rules.proofs.KeyLaws.{same_key-true}
-use Rattle.pipsmake_rules.proofs.StepLaws.{walk_there}
-
-clash : (b : Bool) → b ≡ true → b ≡ false → ⊥
-clash true e f = cc
-clash false e f = cc
+use Rattle.session_texts.specs.pipsmake_rules.declared.key.Key.{Key}
+use Rattle.session_texts.specs.pipsmake_rules.Keys.{same_key, holds}
+use Rattle.session_texts.specs.pipsmake_rules.Needs.{needs_of}
+use Rattle.session_texts.specs.pipsmake_rules.Walk.{walk_from}
+use Rattle.session_texts.specs.pipsmake_rules.Laws.{StandBehindNeeds}
+use Rattle.session_texts.proofs.PipsmakeRules.KeyLaws.{same_key-true}
+use Rattle.session_texts.proofs.PipsmakeRules.StepLaws.{walk_there}
+use Rattle.fx_lists.proofs.Booleans.{no_both as clash}
+use Rattle.session_texts.proofs.PipsmakeRules.WalkLaws.{no_empty}
 
 pub front_holds : (xs ys : List Key) (k : Key) → holds xs k ≡ true → holds (xs ++ ys) k ≡ true
 front_holds xs ys k e = list_any-append (λ j. same_key j k) xs ys ∙ or_left (holds xs k) (holds ys k) e
@@ -86,10 +84,6 @@ still_holds l ks k e = go (holds l k) refl
     go false q = with_new l ks k q ∙ e
 
 -- ---- places
-
-no_empty : (before : List Key) (k : Key) (after : List Key) → [] ≡ before ++ k ∷ after → ⊥
-no_empty [] k after e = cc
-no_empty (b ∷ bs) k after e = cc
 
 -- where a result of two lists stands
 abbrev InFirst : List Key → List Key → Key → Type 0

@@ -1,14 +1,14 @@
 -- What follows from the definitions of answers.
 use Rattle.std.specs.Prelude.{◌≡◌, ℕ, List, ◌∷◌, ◌++◌, Option, Some, None, Ok}
 use Rattle.call_graph.specs.declared.graph.Graph.{Graph}
-use Rattle.pipsmake_rules.specs.declared.key.Key.{Key}
-use Rattle.session_lines.specs.declared.command.Command.{Command}
-use Rattle.session_lines.specs.declared.command.Command.TheVariants as command
-use Rattle.session_lines.specs.Answers.{made_lines, text_with_count}
+use Rattle.session_texts.specs.pipsmake_rules.declared.key.Key.{Key}
+use Rattle.session_texts.specs.declared.command.Command.{Command}
+use Rattle.session_texts.specs.declared.command.Command.TheVariants as command
+use Rattle.session_texts.specs.Answers.{made_lines, text_with_count}
 use Rattle.result_lines.specs.declared.show.Show.{Show}
-use Rattle.roundtrip_programs.specs.Programs.{IsProgram}
-use Rattle.laws_pieces.specs.Joined.{joined_texts}
-use Rattle.laws_database.specs.Texts.{AreModules, tables_in, links_in}
+use Rattle.session_texts.specs.roundtrip_programs.Programs.{IsProgram}
+use Rattle.session_texts.specs.roundtrip_programs.Pieces.Joined.{joined_texts}
+use Rattle.session_texts.specs.pipsmake_meaning.Texts.{AreModules, tables_in, links_in}
 use Rattle.laws_database.specs.ProgramTexts.{program_text, texts_of, joined_modules}
 use Rattle.pipsmake_db.specs.declared.refusal.DbRefusal.{DbRefusal}
 use Rattle.pipsmake_db.specs.Refusals.{link_refusal}

@@ -1,10 +1,10 @@
 -- The texts of a session after commands, whatever is kept of results.
 use Rattle.std.specs.Prelude.{List, [], ◌∷◌, Result, Ok, Err, if◌then◌else◌}
 use Rattle.f77_parser.specs.Gives.{Refused}
-use Rattle.pipsmake_rules.specs.Neighbours.{has_name}
-use Rattle.session_lines.specs.declared.command.Command.{Command}
-use Rattle.session_lines.specs.declared.command.Command.TheVariants.{Source, Drop, Make, Show, Print, Bad, Short}
-use Rattle.laws_database.specs.Texts.{ModuleText, names_in}
+use Rattle.session_texts.specs.pipsmake_rules.Neighbours.{has_name}
+use Rattle.session_texts.specs.declared.command.Command.{Command}
+use Rattle.session_texts.specs.declared.command.Command.TheVariants.{Source, Drop, Make, Show, Print, Bad, Short}
+use Rattle.session_texts.specs.pipsmake_meaning.Texts.{ModuleText, names_in}
 use Rattle.session_texts.specs.Changes.{replaced, without}
 use Rattle.session_texts.specs.Sources.{source_modules}
 

@@ -1,17 +1,17 @@
 -- What a session answers to a command, and the state that follows.
 use Rattle.std.specs.Prelude.{◌≡◌, ℕ, List, [], ◌∷◌, ◌++◌, Option, Some, None, Ok}
-use Rattle.pipsmake_rules.specs.declared.kind.Kind.{Kind}
-use Rattle.pipsmake_rules.specs.declared.kind.Kind.TheVariants.{Printed}
-use Rattle.pipsmake_rules.specs.declared.key.Key.{Key}
-use Rattle.pipsmake_rules.specs.Kinds.{kind_with}
-use Rattle.session_lines.specs.declared.command.Command.{Command}
-use Rattle.session_lines.specs.declared.command.Command.TheVariants as command
-use Rattle.session_lines.specs.declared.refusal.Refusal.TheVariants as refusal
-use Rattle.session_lines.specs.Answers.{source_line, dropped_line, made_lines, ok_line, text_with_count}
-use Rattle.session_lines.specs.Refusals.{refused_line}
+use Rattle.session_texts.specs.pipsmake_rules.declared.kind.Kind.{Kind}
+use Rattle.session_texts.specs.pipsmake_rules.declared.kind.Kind.TheVariants.{Printed}
+use Rattle.session_texts.specs.pipsmake_rules.declared.key.Key.{Key}
+use Rattle.session_texts.specs.pipsmake_rules.Kinds.{kind_with}
+use Rattle.session_texts.specs.declared.command.Command.{Command}
+use Rattle.session_texts.specs.declared.command.Command.TheVariants as command
+use Rattle.session_texts.specs.declared.refusal.Refusal.TheVariants as refusal
+use Rattle.session_texts.specs.Answers.{source_line, dropped_line, made_lines, ok_line, text_with_count}
+use Rattle.session_texts.specs.Refusals.{refused_line}
 use Rattle.result_lines.specs.declared.show.Show.{Show}
-use Rattle.laws_database.specs.Texts.{ModuleText, names_in}
-use Rattle.laws_database.specs.Session.{MadeOf}
+use Rattle.session_texts.specs.pipsmake_meaning.Texts.{ModuleText, names_in}
+use Rattle.session_texts.specs.pipsmake_meaning.Session.{MadeOf}
 use Rattle.laws_database.specs.Laws.{walk_in}
 use Rattle.laws_database.specs.ProgramTexts.{texts_named}
 use Rattle.session_texts.specs.Sources.{source_modules}

@@ -1,8 +1,8 @@
 -- What is asked for: cited by private functions alone.
 use Rattle.std.specs.Prelude.{◌≡◌, ℕ, Bool, List, Option, Some, None, if◌then◌else◌}
-use Rattle.pipsmake_rules.specs.declared.kind.Kind.{Kind}
-use Rattle.pipsmake_rules.specs.Kinds.{kind_with}
-use Rattle.laws_database.specs.Texts.{ModuleText}
+use Rattle.session_texts.specs.pipsmake_rules.declared.kind.Kind.{Kind}
+use Rattle.session_texts.specs.pipsmake_rules.Kinds.{kind_with}
+use Rattle.session_texts.specs.pipsmake_meaning.Texts.{ModuleText}
 use Rattle.pipsmake_db.specs.declared.refusal.DbRefusal.{DbRefusal}
 use Rattle.pipsmake_db.specs.Refusals.{owner_refusal}
 

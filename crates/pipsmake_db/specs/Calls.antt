@@ -1,18 +1,18 @@
 -- What each call of a database does.
 use Rattle.std.specs.Prelude.{◌≡◌, ℕ, true, List, [], Some, None, Ok}
-use Rattle.pipsmake_rules.specs.declared.kind.Kind.{Kind}
-use Rattle.pipsmake_rules.specs.declared.key.Key.{Key}
-use Rattle.pipsmake_rules.specs.Kinds.{kind_with}
-use Rattle.pipsmake_rules.specs.Neighbours.{has_name}
+use Rattle.session_texts.specs.pipsmake_rules.declared.kind.Kind.{Kind}
+use Rattle.session_texts.specs.pipsmake_rules.declared.key.Key.{Key}
+use Rattle.session_texts.specs.pipsmake_rules.Kinds.{kind_with}
+use Rattle.session_texts.specs.pipsmake_rules.Neighbours.{has_name}
 use Rattle.result_lines.specs.declared.show.Show.{Show}
-use Rattle.laws_statements.specs.CallsIn.{Each}
-use Rattle.laws_database.specs.Texts.{ModuleText, names_in, SameTexts}
-use Rattle.laws_database.specs.Session.{MadeOf, made_now}
-use Rattle.laws_database.specs.Shelves.{kept_of}
+use Rattle.call_graph.specs.CallsIn.{Each}
+use Rattle.session_texts.specs.pipsmake_meaning.Texts.{ModuleText, names_in, SameTexts}
+use Rattle.session_texts.specs.pipsmake_meaning.Session.{MadeOf, made_now}
+use Rattle.session_texts.specs.pipsmake_meaning.MemoCells.{kept_of}
 use Rattle.laws_database.specs.Stands.{Valuation}
-use Rattle.laws_database.specs.Making.{AllStay}
+use Rattle.session_texts.specs.pipsmake_meaning.Making.{AllStay}
 use Rattle.laws_database.specs.Laws.{walk_in}
-use Rattle.laws_database.specs.Resting.{IsStored, RestsOn, IsWhole, value_with}
+use Rattle.laws_database.specs.Unverified.{IsStored, RestsOn, IsWhole, value_with}
 use Rattle.session_texts.specs.Changes.{replaced, without}
 use Rattle.session_texts.specs.Sources.{source_modules}
 use Rattle.pipsmake_db.specs.declared.db.Db.{Db}
@@ -22,14 +22,14 @@ use Rattle.pipsmake_db.specs.declared.refusal.DbRefusal.TheVariants.{NoSuchKind,
 use Rattle.pipsmake_db.specs.Fresh.{keys_put}
 use Rattle.pipsmake_db.specs.Refusals.{links_refusal, make_refusal, value_refusal}
 use Rattle.pipsmake_db.specs.Shown.{text_for, text_from}
-use Rattle.pipsmake_db.specs.State.{State, after_source, after_all, after_drop, after_make, texts_of, shelves_in, IsIn}
+use Rattle.pipsmake_db.specs.State.{State, after_source, after_all, after_drop, after_make, texts_of, memo_cells_in, IsIn}
 
 -- ---- what a refusal leaves
 
 -- texts and fresh results stay, and so does all that is kept
 pub record Stays (old new : Db) : Type 0 where
   pub texts : texts_of new ≡ texts_of old
-  pub kept : AllStay (shelves_in old) (shelves_in new)
+  pub kept : AllStay (memo_cells_in old) (memo_cells_in new)
   pub fresh : new.fresh ≡ old.fresh
 
 -- texts and fresh results stay; what is kept is of the session before, or was made at the present texts
@@ -52,7 +52,7 @@ IsLeft old new Memory = Loses old new
 -- a database rests on stored results: one is kept of each stored kind and module, with this value, and all else that is kept was made from these
 pub record Rests (d : Db) (stored : Valuation) : Type 0 where
   pub whole : IsWhole (texts_of d) stored
-  pub kept : RestsOn (shelves_in d) (texts_of d) (value_with (texts_of d) stored)
+  pub kept : RestsOn (memo_cells_in d) (texts_of d) (value_with (texts_of d) stored)
 
 -- where the texts are the same as before, at whatever lines, a database rests on what it rested on
 abbrev pub RestsAtSame : Db → Db → Type 0
@@ -62,7 +62,7 @@ RestsAtSame old new = SameTexts (texts_of old) (texts_of new) → (stored : Valu
 pub record RestsMaking (new : Db) (stored : Valuation) (walked now : List Key) : Type 0 where
   pub rests : Rests new stored
   pub none_stored : Each (λ (n : Key). IsStored n.kind → ⊥) now
-  pub shown : Each (λ (n : Key). kept_of (shelves_in new) n.kind n.name ≡ value_with (texts_of new) stored n.kind n.name) walked
+  pub shown : Each (λ (n : Key). kept_of (memo_cells_in new) n.kind n.name ≡ value_with (texts_of new) stored n.kind n.name) walked
 
 -- ---- texts
 

@@ -1,7 +1,7 @@
 -- Which results were asked for, or needed by one that was, since a text changed last.
 use Rattle.std.specs.Prelude.{List, [], ◌∷◌, ◌++◌, if◌then◌else◌}
-use Rattle.pipsmake_rules.specs.declared.key.Key.{Key}
-use Rattle.pipsmake_rules.specs.Keys.{holds}
+use Rattle.session_texts.specs.pipsmake_rules.declared.key.Key.{Key}
+use Rattle.session_texts.specs.pipsmake_rules.Keys.{holds}
 
 -- a result more, unless it is there
 abbrev pub key_put : Key → List Key → List Key

@@ -1,7 +1,7 @@
 -- A graph that is kept beside texts: cited by private functions alone.
 use Rattle.std.specs.Prelude.{◌≡◌, List, Option, Some, None, Ok}
 use Rattle.call_graph.specs.declared.graph.Graph.{Graph}
-use Rattle.laws_database.specs.Texts.{ModuleText, links_in}
+use Rattle.session_texts.specs.pipsmake_meaning.Texts.{ModuleText, links_in}
 
 -- it is that of the texts
 abbrev pub IsGraph : List ModuleText → Option Graph → Type 0

@@ -1,23 +1,23 @@
 -- The text that shows what is kept: cited by private functions alone.
 use Rattle.std.specs.Prelude.{◌≡◌, ℕ, List, Option, Some, None}
-use Rattle.pipsmake_rules.specs.declared.kind.Kind.{Kind}
-use Rattle.pipsmake_rules.specs.declared.kind.Kind.TheVariants as kind
+use Rattle.session_texts.specs.pipsmake_rules.declared.kind.Kind.{Kind}
+use Rattle.session_texts.specs.pipsmake_rules.declared.kind.Kind.TheVariants as kind
 use Rattle.result_lines.specs.declared.show.Show.{Show}
-use Rattle.laws_database.specs.Texts.{ModuleText}
-use Rattle.laws_database.specs.Definitions.{module_named}
-use Rattle.laws_database.specs.Shelves.{Shelves, kept_of}
+use Rattle.session_texts.specs.pipsmake_meaning.Texts.{ModuleText}
+use Rattle.session_texts.specs.pipsmake_meaning.Definitions.{module_named}
+use Rattle.session_texts.specs.pipsmake_meaning.MemoCells.{MemoCells, kept_of}
 use Rattle.result_making.specs.Making.{text_made}
 use Rattle.pipsmake_db.specs.declared.db.Db.{Db}
 use Rattle.pipsmake_db.specs.declared.show.Ready.{Ready}
 use Rattle.pipsmake_db.specs.Bring.{Brought}
 use Rattle.pipsmake_db.specs.Calls.{key}
 use Rattle.pipsmake_db.specs.Shown.{json_with}
-use Rattle.pipsmake_db.specs.State.{texts_of, shelves_in}
+use Rattle.pipsmake_db.specs.State.{texts_of, memo_cells_in}
 
-abbrev pub json_kept : Shelves → List ModuleText → Kind → List ℕ → Option (List ℕ)
+abbrev pub json_kept : MemoCells → List ModuleText → Kind → List ℕ → Option (List ℕ)
 json_kept sh ts k x = json_with (module_named ts x) (kept_of sh k x)
 
-abbrev pub text_kept : Shelves → List ModuleText → Show → Kind → List ℕ → Option (List ℕ)
+abbrev pub text_kept : MemoCells → List ModuleText → Show → Kind → List ℕ → Option (List ℕ)
 text_kept sh ts show kind.Printed x = text_made sh ts x show
 text_kept sh ts show kind.Parsed x = None
 text_kept sh ts show kind.Lines x = None
@@ -34,4 +34,4 @@ text_kept sh ts show kind.Marks x = json_kept sh ts kind.Marks x
 -- a result was brought up to date, and the text shows what is kept
 pub record IsShown (old : Db) (k : Kind) (x : List ℕ) (show : Show) (new : Db) (r : Ready) : Type 0 where
   pub brought : Brought old (key k x) new r.brought
-  pub text : text_kept (shelves_in new) (texts_of old) show k x ≡ Some r.text
+  pub text : text_kept (memo_cells_in new) (texts_of old) show k x ≡ Some r.text

@@ -1,8 +1,8 @@
 -- The links of texts, as they are handed on: cited by private functions alone.
 use Rattle.std.specs.Prelude.{◌≡◌, ℕ, List, Option, is_ok}
-use Rattle.refusal_codes.specs.declared.code.Code.{Code}
-use Rattle.refusal_codes.specs.Refusals.{number_of}
-use Rattle.laws_database.specs.Texts.{ModuleText, links_in, graph_of}
+use Rattle.fx_lists.specs.declared.code.Code.{Code}
+use Rattle.fx_lists.specs.Refusals.{number_of}
+use Rattle.session_texts.specs.pipsmake_meaning.Texts.{ModuleText, links_in, graph_of}
 use Rattle.pipsmake_db.specs.declared.linked.Links.{Links}
 use Rattle.pipsmake_db.specs.declared.refusal.DbRefusal.{DbRefusal}
 use Rattle.pipsmake_db.specs.Refusals.{fault_in}

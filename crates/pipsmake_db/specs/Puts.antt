@@ -1,6 +1,6 @@
 -- Modules that are put: cited by private functions alone.
 use Rattle.std.specs.Prelude.{◌≡◌, ℕ, List, []}
-use Rattle.laws_database.specs.Texts.{ModuleText, names_in}
+use Rattle.session_texts.specs.pipsmake_meaning.Texts.{ModuleText, names_in}
 use Rattle.session_texts.specs.Changes.{replaced}
 use Rattle.pipsmake_db.specs.declared.db.Db.{Db}
 use Rattle.pipsmake_db.specs.Calls.{RestsAtSame}

@@ -1,16 +1,16 @@
 -- Why a call is refused.
 use Rattle.std.specs.Prelude.{◌≡◌, ℕ, List, [], slice_get, Option, Some, None, Result, Ok, Err, codes, bytes_eq, if◌then◌else◌}
-use Rattle.refusal_codes.specs.declared.code.Code.{Code}
-use Rattle.refusal_codes.specs.Refusals.{number_of}
+use Rattle.fx_lists.specs.declared.code.Code.{Code}
+use Rattle.fx_lists.specs.Refusals.{number_of}
 use Rattle.f77_parser.specs.Gives.{Refused as TextRefused}
 use Rattle.call_graph.specs.declared.graph.Graph.{Graph}
 use Rattle.call_graph.specs.declared.refusal.Fault.{Fault}
 use Rattle.call_graph.specs.declared.refusal.Fault.TheVariants as fault
-use Rattle.pipsmake_rules.specs.declared.kind.Kind.{Kind}
-use Rattle.pipsmake_rules.specs.declared.kind.Kind.TheVariants.{Parsed, Lines, Symbols, CallGraph, Effects, Transformers, Preconditions, Regions, InRegions, OutRegions, Marks, Printed}
-use Rattle.pipsmake_rules.specs.Kinds.{kind_with}
-use Rattle.pipsmake_rules.specs.Neighbours.{has_name}
-use Rattle.laws_database.specs.Texts.{ModuleText, names_in, links_in}
+use Rattle.session_texts.specs.pipsmake_rules.declared.kind.Kind.{Kind}
+use Rattle.session_texts.specs.pipsmake_rules.declared.kind.Kind.TheVariants.{Parsed, Lines, Symbols, CallGraph, Effects, Transformers, Preconditions, Regions, InRegions, OutRegions, Marks, Printed}
+use Rattle.session_texts.specs.pipsmake_rules.Kinds.{kind_with}
+use Rattle.session_texts.specs.pipsmake_rules.Neighbours.{has_name}
+use Rattle.session_texts.specs.pipsmake_meaning.Texts.{ModuleText, names_in, links_in}
 use Rattle.session_texts.specs.Sources.{source_modules}
 use Rattle.pipsmake_db.specs.declared.refusal.DbRefusal.{DbRefusal}
 use Rattle.pipsmake_db.specs.declared.refusal.DbRefusal.TheVariants.{NoSuchKind, NoSuchName, NotShown, Source, Link, Memory}

@@ -1,7 +1,7 @@
 -- What a session answers to a script.
 use Rattle.std.specs.Prelude.{◌≡◌, ℕ, List, [], ◌∷◌, ◌++◌}
-use Rattle.session_lines.specs.declared.command.Command.{Command}
-use Rattle.session_lines.specs.Commands.{commands_of}
+use Rattle.session_texts.specs.declared.command.Command.{Command}
+use Rattle.session_texts.specs.Commands.{commands_of}
 use Rattle.result_lines.specs.declared.show.Show.{Show}
 use Rattle.pipsmake_db.specs.State.{State}
 use Rattle.pipsmake_db.specs.Answers.{AnswersTo}

@@ -1,23 +1,23 @@
 -- The text that shows a result.
-use Rattle.std.specs.Prelude.{ℕ, List, ◌++◌, codes, Option, Some, None, option_map, option_and_then}
+use Rattle.std.specs.Prelude.{ℕ, List, [], ◌∷◌, ◌++◌, codes, Option, Some, None, option_map, option_and_then}
 use Rattle.serde_json.specs.Written.{compact_text}
 use Rattle.f77_ast.specs.Symbols.{SymbolTree}
 use Rattle.f77_printer.specs.ModuleText as printer
 use Rattle.f77_meaning.specs.Modules.{symbol_names}
-use Rattle.pipsmake_rules.specs.declared.kind.Kind.{Kind}
-use Rattle.pipsmake_rules.specs.declared.kind.Kind.TheVariants as kind
+use Rattle.session_texts.specs.pipsmake_rules.declared.kind.Kind.{Kind}
+use Rattle.session_texts.specs.pipsmake_rules.declared.kind.Kind.TheVariants as kind
 use Rattle.base_values.specs.declared.stored.StoredValue.{StoredValue}
 use Rattle.base_values.specs.declared.stored.StoredValue.TheVariants as stored
 use Rattle.base_values.specs.Written.{stored_data}
 use Rattle.result_lines.specs.declared.show.Show.{Show}
-use Rattle.result_lines.specs.Lines.{ModuleResults, lines_of}
-use Rattle.laws_database.specs.Texts.{ModuleText, ReadModule}
-use Rattle.laws_database.specs.Definitions.{module_named, definition}
-use Rattle.laws_database.specs.Values.{Value, source, parsed, lines, symbols, graph, effects, transformers, preconditions, regions, ins, outs, marks, printed}
-use Rattle.laws_database.specs.ProgramTexts.{text_named}
-use Rattle.laws_database.specs.Rules.{known}
+use Rattle.result_lines.specs.Lines.{PrintedResults, lines_of}
+use Rattle.session_texts.specs.pipsmake_meaning.Texts.{ModuleText, ReadModule}
+use Rattle.session_texts.specs.pipsmake_meaning.Definitions.{module_named, definition}
+use Rattle.session_texts.specs.pipsmake_meaning.Values.{Value, source, parsed, lines, symbols, graph, effects, transformers, preconditions, regions, ins, outs, marks, printed}
+use Rattle.laws_database.specs.ProgramTexts.{text_named, before_text}
+use Rattle.session_texts.specs.pipsmake_meaning.Rules.{known}
 use Rattle.laws_database.specs.Stands.{Valuation}
-use Rattle.laws_database.specs.Resting.{stored_results}
+use Rattle.laws_database.specs.Unverified.{stored_results}
 
 -- a value of a kind that is stored
 abbrev pub stored_in : Value → Option StoredValue
@@ -64,12 +64,17 @@ text_for ts show kind.Marks x = json_named ts kind.Marks x
 -- ---- stored results, whatever they are
 
 -- the written text of a module with results
-abbrev pub text_of_results : Show → ReadModule → ModuleResults → List ℕ
+abbrev pub text_of_results : Show → ReadModule → PrintedResults → List ℕ
 text_of_results show m r = printer.module_text m.module_is.places m.module_is.module_read (lines_of show (known m) r)
 
 -- the written text of the module of a name, with its stored results
 abbrev pub printed_from : List ModuleText → Valuation → Show → List ℕ → Option (List ℕ)
 printed_from ts stored show x = option_and_then (λ m. option_map (text_of_results show m) (stored_results stored x)) (module_named ts x)
+
+-- those of these modules one after another, where there are all
+abbrev pub texts_from : List ModuleText → Valuation → Show → List (List ℕ) → Option (List ℕ)
+texts_from ts stored show [] = Some []
+texts_from ts stored show (x ∷ xs) = before_text (printed_from ts stored show x) (texts_from ts stored show xs)
 
 -- the text that shows a result where these are the stored ones: the written text of a module with what `show` adds of them, and of stored kinds the JSON
 abbrev pub text_from : List ModuleText → Valuation → Show → Kind → List ℕ → Option (List ℕ)

@@ -1,14 +1,14 @@
 -- The state of a session, and the databases that are in it.
 use Rattle.std.specs.Prelude.{◌≡◌, ℕ, List, [], ◌∷◌, filter, not}
-use Rattle.pipsmake_rules.specs.declared.key.Key.{Key}
-use Rattle.pipsmake_rules.specs.Neighbours.{has_name}
-use Rattle.laws_database.specs.Texts.{ModuleText, names_in}
-use Rattle.laws_database.specs.Session.{Makings, none_made, made_now, made_without}
-use Rattle.laws_database.specs.Shelves.{Shelves}
+use Rattle.session_texts.specs.pipsmake_rules.declared.key.Key.{Key}
+use Rattle.session_texts.specs.pipsmake_rules.Neighbours.{has_name}
+use Rattle.session_texts.specs.pipsmake_meaning.Texts.{ModuleText, names_in}
+use Rattle.session_texts.specs.pipsmake_meaning.Session.{Makings, none_made, made_now, made_without}
+use Rattle.session_texts.specs.pipsmake_meaning.MemoCells.{MemoCells}
 use Rattle.laws_database.specs.Stands.{StandsFor}
 use Rattle.laws_database.specs.Laws.{walk_in}
 use Rattle.session_texts.specs.Changes.{replaced, without}
-use Rattle.result_store.specs.Rows.{shelves_of}
+use Rattle.result_store.specs.Rows.{memo_cells_of}
 use Rattle.pipsmake_db.specs.declared.db.Db.{Db}
 use Rattle.pipsmake_db.specs.Fresh.{keys_put}
 
@@ -53,11 +53,11 @@ after_make s k now = record { texts = s.texts; made = made_now s.made s.texts no
 abbrev pub texts_of : Db → List ModuleText
 texts_of d = d.linked
 
-abbrev pub shelves_in : Db → Shelves
-shelves_in d = shelves_of d.store
+abbrev pub memo_cells_in : Db → MemoCells
+memo_cells_in d = memo_cells_of d.store
 
 -- a database is in a state: what it keeps stands for the session of these makings at the present texts
 pub record IsIn (d : Db) (s : State) : Type 0 where
   pub texts : texts_of d ≡ s.texts
-  pub stands : StandsFor (shelves_in d) s.texts s.made
+  pub stands : StandsFor (memo_cells_in d) s.texts s.made
   pub fresh : d.fresh ≡ s.fresh

@@ -1,19 +1,19 @@
 -- Walks one after another, and what they bring up to date: cited by private functions alone.
 use Rattle.std.specs.Prelude.{◌≡◌, ℕ, List, ◌++◌, length, drop, Some}
-use Rattle.pipsmake_rules.specs.declared.kind.Kind.TheVariants.{Printed}
-use Rattle.pipsmake_rules.specs.declared.key.Key.{Key}
-use Rattle.pipsmake_rules.specs.Walk.{walk_from, depth_of}
-use Rattle.session_lines.specs.Answers.{made_lines}
+use Rattle.session_texts.specs.pipsmake_rules.declared.kind.Kind.TheVariants.{Printed}
+use Rattle.session_texts.specs.pipsmake_rules.declared.key.Key.{Key}
+use Rattle.session_texts.specs.pipsmake_rules.Walk.{walk_from, depth_of}
+use Rattle.session_texts.specs.Answers.{made_lines}
 use Rattle.result_lines.specs.declared.show.Show.{Show}
-use Rattle.laws_database.specs.Texts.{ModuleText, names_in, graph_of}
-use Rattle.laws_database.specs.Making.{BringsAll}
+use Rattle.session_texts.specs.pipsmake_meaning.Texts.{ModuleText, names_in, graph_of}
+use Rattle.session_texts.specs.pipsmake_meaning.Making.{BringsAll}
 use Rattle.pipsmake_db.specs.declared.db.Db.{Db}
 use Rattle.pipsmake_db.specs.declared.print.Prints.{Prints}
 use Rattle.pipsmake_db.specs.declared.walked.Walked.{Walked}
 use Rattle.pipsmake_db.specs.Calls.{key}
 use Rattle.pipsmake_db.specs.Fresh.{keys_put}
 use Rattle.pipsmake_db.specs.Kept.{text_kept}
-use Rattle.pipsmake_db.specs.State.{texts_of, shelves_in}
+use Rattle.pipsmake_db.specs.State.{texts_of, memo_cells_in}
 
 -- just these results were walked
 pub record AreWalked (ks : List Key) (w : Walked) : Type 0 where
@@ -33,9 +33,9 @@ pub record PrintsNext (show : Show) (x : List ℕ) (d e : Db) (before : List Key
   pub texts : texts_of e ≡ texts_of d
   pub walked : AreWalked (walked_on (texts_of d) before x) after
   pub now : List Key
-  pub brings : BringsAll (shelves_in d) (texts_of d) (added (texts_of d) before x) now (shelves_in e)
+  pub brings : BringsAll (memo_cells_in d) (texts_of d) (added (texts_of d) before x) now (memo_cells_in e)
   pub fresh : e.fresh ≡ keys_put d.fresh (added (texts_of d) before x)
   pub text : List ℕ
-  pub is : text_kept (shelves_in e) (texts_of d) show Printed x ≡ Some text
+  pub is : text_kept (memo_cells_in e) (texts_of d) show Printed x ≡ Some text
   pub made : new.made ≡ old.made ++ made_lines now
   pub written : new.text ≡ old.text ++ text

@@ -1,13 +1,13 @@
 //! What is asked for by the names of a kind and of a module.
 ghost use Rattle.std.specs.Prelude.{◌≡◌, ◌↔◌, None, Some, IfOk, IfErr, IsTrue};
-ghost use Rattle.pipsmake_rules.specs.Kinds.{kind_with};
+ghost use Rattle.session_texts.specs.pipsmake_rules.Kinds.{kind_with};
 ghost use Rattle.pipsmake_db.specs.Refusals.{of_kind, name_refusal, graph_refusal, owner_refusal, show_refusal};
 ghost use Rattle.pipsmake_db.specs.Asked.{IsAsked, refused_unless};
 
 use crate::linked::Linked;
 use crate::refusal::DbRefusal;
 use fx_lists::Text;
-use pipsmake_rules::Kind;
+use session_texts::pipsmake_rules::Kind;
 
 /// Whether there is a module of this name.
 #[tactic(auto, using(crate::proofs::AskedLaws::named))]

@@ -1,7 +1,7 @@
 //! The answer to a command.
 ghost use Rattle.std.specs.Prelude.{◌≡◌, ◌≤◌, Some, length, OnOk};
-ghost use Rattle.pipsmake_rules.specs.Kinds.{kind_with};
-ghost use Rattle.session_lines.specs.Commands.{IsWithin};
+ghost use Rattle.session_texts.specs.pipsmake_rules.Kinds.{kind_with};
+ghost use Rattle.session_texts.specs.Commands.{IsWithin};
 ghost use Rattle.result_lines.specs.declared.show.Show.{Show};
 ghost use Rattle.pipsmake_db.specs.AnswerSteps.{Answers};
 
@@ -9,9 +9,9 @@ use crate::Db;
 use crate::print::print_all;
 use crate::refuse::write_refusal;
 use fx_lists::Text;
-use pipsmake_rules::{Key, Kind};
 use result_lines::Show;
-use session_lines::{
+use session_texts::pipsmake_rules::{Key, Kind};
+use session_texts::{
     Command, Refusal, write_dropped, write_made, write_ok, write_refused, write_source, write_text,
 };
 use std::alloc::{AllocError as Memory, Global};

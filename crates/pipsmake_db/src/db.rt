@@ -1,6 +1,6 @@
 //! The database of a session.
 ghost use Rattle.std.specs.Prelude.{◌≡◌, None, OnOk, IfErr};
-ghost use Rattle.laws_database.specs.Texts.{names_in};
+ghost use Rattle.session_texts.specs.pipsmake_meaning.Texts.{names_in};
 ghost use Rattle.pipsmake_db.specs.Calls.{Stays};
 ghost use Rattle.pipsmake_db.specs.Refusals.{IsRefused, link_refusal};
 ghost use Rattle.pipsmake_db.specs.State.{first_state, texts_of, IsIn};
@@ -9,8 +9,8 @@ use crate::linked::Linked;
 use crate::refusal::DbRefusal;
 use fx_lists::{List, Text};
 use laws_database::nothing_stands;
-use pipsmake_rules::{Key, Listed};
 use result_store::Store;
+use session_texts::pipsmake_rules::{Key, Listed};
 use std::alloc::Global;
 
 /// The texts of a session, what is kept of results, and which results are fresh: those that were asked for, with what they need, since a text changed last.

@@ -2,7 +2,7 @@
 ghost use Rattle.std.specs.Prelude.{◌≡◌, IfOk, OnOk};
 ghost use Rattle.pipsmake_db.specs.Fresh.{key_put, keys_put};
 
-use pipsmake_rules::{Key, Listed};
+use session_texts::pipsmake_rules::{Key, Listed};
 use std::alloc::{AllocError as Memory, Global};
 
 /// The same result.

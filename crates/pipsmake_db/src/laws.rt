@@ -3,9 +3,8 @@ ghost use Rattle.pipsmake_db.specs.AnswerLaws.{AnswersAreUnique, TextsStayModule
 ghost use Rattle.pipsmake_db.specs.SmallSession.{SmallSession};
 
 use laws_database::{names_show_the_text, texts_are_written_alike, texts_make_the_program};
-use laws_pieces::pieces_are_modules;
-use roundtrip_programs::tables_ignore_places;
 use session_texts::changes_keep_modules;
+use session_texts::roundtrip_programs::{pieces_are_modules, tables_ignore_places};
 
 /// Commands have one answer, and lead to one state.
 pub fn answers_are_unique()

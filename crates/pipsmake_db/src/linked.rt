@@ -1,18 +1,18 @@
 //! The present texts, and their links, which are kept while the texts stay.
 ghost use Rattle.std.specs.Prelude.{◌≡◌, [], Ok, Err, None, map, slice_get, IfOk, IfErr, OnOk, OnErr, is_ok};
 ghost use Rattle.call_graph.specs.Faults.{Gives};
-ghost use Rattle.laws_database.specs.Texts.{names_in, links_in};
+ghost use Rattle.session_texts.specs.pipsmake_meaning.Texts.{names_in, links_in};
 ghost use Rattle.session_texts.specs.Changes.{replaced, without};
 ghost use Rattle.session_texts.specs.Modules.{source_text, AreSources, NamesDiffer};
-ghost use Rattle.pipsmake_rules.specs.Neighbours.{has_name};
+ghost use Rattle.session_texts.specs.pipsmake_rules.Neighbours.{has_name};
 ghost use Rattle.pipsmake_db.specs.Links.{AreLinks, IsAt};
 ghost use Rattle.pipsmake_db.specs.Refusals.{IsRefused, link_refusal, links_refusal};
 
 use crate::refusal::DbRefusal;
 use call_graph::{Graph, LinkRefusal};
 use fx_lists::{List, Text};
-use pipsmake_rules::Kind;
 use result_making::no_links;
+use session_texts::pipsmake_rules::Kind;
 use session_texts::{Source, Sources};
 use std::alloc::{AllocError as Memory, Global};
 use std::marker::Model;
@@ -34,7 +34,7 @@ pub struct Linked {
 
 impl Model for Linked {
     ghost use Rattle.std.specs.Prelude.{List};
-    ghost use Rattle.laws_database.specs.Texts.{ModuleText};
+    ghost use Rattle.session_texts.specs.pipsmake_meaning.Texts.{ModuleText};
     ghost use Rattle.pipsmake_db.specs.Graphs.{IsGraph};
 
     ghost Value = { List ModuleText };

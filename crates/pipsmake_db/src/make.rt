@@ -4,7 +4,7 @@ ghost use Rattle.pipsmake_db.specs.Bring.{BringsSome, Brought as IsBrought, IsWa
 ghost use Rattle.pipsmake_db.specs.Calls.{Makes, MakesNamed, IsLeft, MakesLinked, key};
 ghost use Rattle.pipsmake_db.specs.Links.{AreLinks};
 ghost use Rattle.pipsmake_db.specs.Refusals.{IsRefused, owner_refusal, links_refusal, make_refusal};
-ghost use Rattle.pipsmake_db.specs.State.{texts_of, shelves_in};
+ghost use Rattle.pipsmake_db.specs.State.{texts_of, memo_cells_in};
 ghost use Rattle.laws_database.specs.Laws.{walk_in};
 
 use crate::asked::kind_asked;
@@ -15,8 +15,8 @@ use crate::linked::Links;
 use crate::refusal::DbRefusal;
 use fx_lists::{List, Text};
 use laws_database::{making_may_stop, resting_stays};
-use pipsmake_rules::{Key, Kind, Listed, walk};
 use result_making::Modules;
+use session_texts::pipsmake_rules::{Key, Kind, Listed, walk};
 use std::alloc::{AllocError as Memory, Global};
 
 /// A result with all that it needs, and what is fresh when it is up to date.
@@ -60,7 +60,7 @@ impl Db {
         ensures texts { texts_of self.new ≡ texts_of self.old }
         ensures fresh { self.new.fresh ≡ self.old.fresh }
         ensures ok { IfOk result (λ b. IsBrought self.old (key kind name.now) self.new b) }
-        ensures err { OnErr result (BringsSome (shelves_in self.old) (texts_of self.old) (walk_in (texts_of self.old) (key kind name.now)) (shelves_in self.new)) }
+        ensures err { OnErr result (BringsSome (memo_cells_in self.old) (texts_of self.old) (walk_in (texts_of self.old) (key kind name.now)) (memo_cells_in self.new)) }
     {
         let Walk { keys, fresh } = self.walk(alloc, links, kind, name)?;
         let modules = Modules {

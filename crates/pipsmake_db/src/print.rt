@@ -1,6 +1,6 @@
 //! The written texts of all modules.
 ghost use Rattle.std.specs.Prelude.{◌≡◌, None, IfOk, OnOk};
-ghost use Rattle.laws_database.specs.Texts.{names_in};
+ghost use Rattle.session_texts.specs.pipsmake_meaning.Texts.{names_in};
 ghost use Rattle.pipsmake_db.specs.Links.{AreLinks};
 ghost use Rattle.pipsmake_db.specs.Refusals.{link_refusal};
 ghost use Rattle.pipsmake_db.specs.State.{texts_of};
@@ -16,11 +16,11 @@ use crate::show::text_kept;
 use crate::walked::{Walked, none_walked, walk_on};
 use fx_lists::{List, Text};
 use laws_database::texts_are_shown;
-use pipsmake_rules::{Key, Kind};
 use result_lines::Show;
 use result_making::Modules;
-use roundtrip_programs::{graphs_ignore_places, tables_ignore_places};
-use session_lines::write_made;
+use session_texts::pipsmake_rules::{Key, Kind};
+use session_texts::roundtrip_programs::{graphs_ignore_places, tables_ignore_places};
+use session_texts::write_made;
 use std::alloc::{AllocError as Memory, Global};
 
 /// What printing gives: the lines that say what was made, and the texts of the modules, one after another.

@@ -5,7 +5,7 @@ ghost use Rattle.pipsmake_db.specs.declared.refusal.DbRefusal.TheVariants.{Memor
 use fx_lists::Text;
 use std::alloc::{AllocError, AllocFailed};
 
-/// Why a call of a database is refused. Codes are the numbers of `refusal_codes`; lines count from 1.
+/// Why a call of a database is refused. Codes are the numbers of `fx_lists`; lines count from 1.
 #[derive(Drop)]
 pub enum DbRefusal {
     /// No kind of results has the name.

@@ -4,7 +4,7 @@ ghost use Rattle.pipsmake_db.specs.Answers.{refusal_line};
 
 use crate::DbRefusal;
 use fx_lists::Text;
-use session_lines::{Refusal, write_refused};
+use session_texts::{Refusal, write_refused};
 use std::alloc::{AllocError as Memory, Global};
 
 /// Appends the line of a refusal. Err where that is want of memory, too.

@@ -6,7 +6,7 @@ use crate::Db;
 use crate::command::answer_command;
 use fx_lists::Text;
 use result_lines::Show;
-use session_lines::commands;
+use session_texts::commands;
 use std::alloc::{AllocError as Memory, Global};
 
 /// The answers to the commands of a script of at most 16,777,216 bytes, one after another, each ended by LF. Err is want of memory.

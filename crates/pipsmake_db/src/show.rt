@@ -1,17 +1,17 @@
 //! Results that are shown.
 ghost use Rattle.std.specs.Prelude.{◌≡◌, None, IfOk, IfErr, OnErr, map};
 ghost use Rattle.f77_ast.specs.Symbols.{symbol_tree};
-ghost use Rattle.laws_database.specs.Definitions.{module_named};
+ghost use Rattle.session_texts.specs.pipsmake_meaning.Definitions.{module_named};
 ghost use Rattle.laws_database.specs.Laws.{walk_in};
-ghost use Rattle.laws_database.specs.Shelves.{kept_of};
-ghost use Rattle.result_store.specs.Rows.{shelves_of};
+ghost use Rattle.session_texts.specs.pipsmake_meaning.MemoCells.{kept_of};
+ghost use Rattle.result_store.specs.Rows.{memo_cells_of};
 ghost use Rattle.pipsmake_db.specs.Bring.{BringsSome};
 ghost use Rattle.pipsmake_db.specs.Calls.{ShowsNamed, ShowsLinked, IsLeft, key};
 ghost use Rattle.pipsmake_db.specs.Kept.{text_kept, IsShown};
 ghost use Rattle.pipsmake_db.specs.Links.{AreLinks};
 ghost use Rattle.pipsmake_db.specs.Refusals.{IsRefused, or_else, owner_refusal, show_refusal, links_refusal, value_refusal};
 ghost use Rattle.pipsmake_db.specs.Shown.{json_line, json_with};
-ghost use Rattle.pipsmake_db.specs.State.{texts_of, shelves_in};
+ghost use Rattle.pipsmake_db.specs.State.{texts_of, memo_cells_in};
 
 use crate::asked::{is_shown, kind_asked};
 use crate::db::{Db, Shown};
@@ -23,11 +23,11 @@ use base_values::{StoredValue, value_text};
 use f77_ast::Symbols;
 use fx_lists::Text;
 use laws_database::{making_may_stop, resting_stays, texts_are_shown};
-use pipsmake_rules::Kind;
 use result_lines::Show;
 use result_making::{Modules, shown};
 use result_store::{Item, Store};
 use session_texts::Sources;
+use session_texts::pipsmake_rules::Kind;
 use std::alloc::{AllocError as Memory, Global};
 
 /// The JSON of a value of a stored kind, as a line.
@@ -48,7 +48,7 @@ fn json_kept(
     kind: Kind,
     name: &Text,
 ) -> Result<Option<Text>, Memory>
-    ensures { IfOk result (λ t. t ≡ json_with (module_named sources.now name.now) (kept_of (shelves_of store.now) kind name.now)) }
+    ensures { IfOk result (λ t. t ≡ json_with (module_named sources.now name.now) (kept_of (memo_cells_of store.now) kind name.now)) }
 {
     let Some(symbols) = sources.symbols_named(name) else {
         return Ok(None);
@@ -72,7 +72,7 @@ pub(crate) fn text_kept(
     name: &Text,
     show: Show,
 ) -> Result<Option<Text>, Memory>
-    ensures { IfOk result (λ t. t ≡ text_kept (shelves_of store.now) modules.now.sources.now show kind name.now) }
+    ensures { IfOk result (λ t. t ≡ text_kept (memo_cells_of store.now) modules.now.sources.now show kind name.now) }
 {
     match kind {
         Kind::Parsed | Kind::Lines | Kind::Symbols | Kind::CallGraph => Ok(None),
@@ -108,7 +108,7 @@ impl Db {
         ensures texts { texts_of self.new ≡ texts_of self.old }
         ensures fresh { self.new.fresh ≡ self.old.fresh }
         ensures ok { IfOk result (IsShown self.old kind name.now show self.new) }
-        ensures err { OnErr result (BringsSome (shelves_in self.old) (texts_of self.old) (walk_in (texts_of self.old) (key kind name.now)) (shelves_in self.new)) }
+        ensures err { OnErr result (BringsSome (memo_cells_in self.old) (texts_of self.old) (walk_in (texts_of self.old) (key kind name.now)) (memo_cells_in self.new)) }
     {
         let brought = self.brought(alloc, links, kind, name)?;
         let modules = Modules {

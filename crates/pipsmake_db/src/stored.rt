@@ -4,8 +4,7 @@ ghost use Rattle.result_store.specs.Values.{value_tree};
 ghost use Rattle.pipsmake_db.specs.Shown.{stored_in};
 
 use base_values::StoredValue;
-use result_store::Value;
-use same_results::Copied;
+use result_store::{Copied, Value};
 use std::alloc::{AllocError as Memory, Global};
 
 /// The same value as one of a stored kind; None where its kind is not stored.

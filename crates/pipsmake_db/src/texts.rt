@@ -1,8 +1,8 @@
 //! Texts that change.
 ghost use Rattle.std.specs.Prelude.{◌≡◌, ◌≤◌, length, map, IfOk, IfErr, OnOk, OnErr};
-ghost use Rattle.laws_database.specs.Making.{AllStay};
-ghost use Rattle.laws_database.specs.Texts.{names_in};
-ghost use Rattle.result_store.specs.Rows.{shelves_of};
+ghost use Rattle.session_texts.specs.pipsmake_meaning.Making.{AllStay};
+ghost use Rattle.session_texts.specs.pipsmake_meaning.Texts.{names_in};
+ghost use Rattle.result_store.specs.Rows.{memo_cells_of};
 ghost use Rattle.session_texts.specs.Modules.{AreSources, NamesDiffer, source_text};
 ghost use Rattle.pipsmake_db.specs.Calls.{Replaces, ReplacesAll, Drops, Loses, IsLeft};
 ghost use Rattle.pipsmake_db.specs.Puts.{Puts, PutsOnly};
@@ -15,8 +15,8 @@ use crate::refusal::DbRefusal;
 use f77_parser::ParseRefusal;
 use fx_lists::{List, Text};
 use laws_database::{results_may_go, texts_may_change, texts_may_go, values_may_be_seen};
-use pipsmake_rules::Listed;
 use result_store::{Item, Store, Value};
+use session_texts::pipsmake_rules::Listed;
 use session_texts::{Source, Sources, changes_keep_modules, sources_of, texts_after_changes};
 use std::alloc::{AllocError as Memory, Global};
 
@@ -55,8 +55,8 @@ fn names_of(alloc: Global, found: &[Source]) -> Result<List<Text>, Memory>
 
 /// The text of a module is among those that were seen; what is kept stays.
 fn see(alloc: Global, store: &mut Store, source: &Source) -> Result<Seen, Memory>
-    ensures ok { IfOk result (λ seen. SeesText (shelves_of store.old) (source_text source.now) seen (shelves_of store.new)) }
-    ensures err { OnErr result (AllStay (shelves_of store.old) (shelves_of store.new)) }
+    ensures ok { IfOk result (λ seen. SeesText (memo_cells_of store.old) (source_text source.now) seen (memo_cells_of store.new)) }
+    ensures err { OnErr result (AllStay (memo_cells_of store.old) (memo_cells_of store.new)) }
 {
     let name = source.text.name.clone()?;
     let text = Value::Source(source.text.text.clone()?);
@@ -66,9 +66,9 @@ fn see(alloc: Global, store: &mut Store, source: &Source) -> Result<Seen, Memory
 
 /// The texts of modules are among those that were seen; what is kept stays. On Err some of them may be.
 fn see_all(alloc: Global, store: &mut Store, found: &[Source]) -> Result<List<Seen>, Memory>
-    ensures stands { StandsStill (shelves_of store.old) (shelves_of store.new) }
-    ensures rests { RestsOnSame (shelves_of store.old) (shelves_of store.new) }
-    ensures placed { IfOk result (λ all. ArePlaced (shelves_of store.new) (map source_text found.now) all) }
+    ensures stands { StandsStill (memo_cells_of store.old) (memo_cells_of store.new) }
+    ensures rests { RestsOnSame (memo_cells_of store.old) (memo_cells_of store.new) }
+    ensures placed { IfOk result (λ all. ArePlaced (memo_cells_of store.new) (map source_text found.now) all) }
 {
     values_may_be_seen();
     let mut all = List::new(alloc);
@@ -83,7 +83,7 @@ fn see_all(alloc: Global, store: &mut Store, found: &[Source]) -> Result<List<Se
 
 /// Texts that were seen are kept, each as the one of its name. Takes no memory.
 fn keep_all(alloc: Global, store: &mut Store, all: &[Seen])
-    ensures { KeepsTexts (shelves_of store.old) all.now (shelves_of store.new) }
+    ensures { KeepsTexts (memo_cells_of store.old) all.now (memo_cells_of store.new) }
 {
     let mut rest = all;
     while let [seen, more @ ..] = rest {
@@ -107,7 +107,7 @@ fn copy_names(alloc: Global, names: &[Text]) -> Result<List<Text>, Memory>
 
 /// No result is kept of a name that no module has any more. Takes no memory.
 fn forget_gone(store: &mut Store, sources: &Sources, name: &Text)
-    ensures { ForgetsGone (shelves_of store.old) sources.now name.now (shelves_of store.new) }
+    ensures { ForgetsGone (memo_cells_of store.old) sources.now name.now (memo_cells_of store.new) }
 {
     match sources.place(name) {
         None => store.forget(name),
@@ -117,9 +117,9 @@ fn forget_gone(store: &mut Store, sources: &Sources, name: &Text)
 
 /// No result is kept of those of these names that no module has any more. Takes no memory.
 fn forget_all(store: &mut Store, sources: &Sources, names: &[Text])
-    ensures texts { TextsStay (shelves_of store.old) (shelves_of store.new) }
-    ensures stands { StandsWithout (shelves_of store.old) (gone_of sources.now names.now) (shelves_of store.new) }
-    ensures stays { StaysWithout (shelves_of store.old) (gone_of sources.now names.now) (shelves_of store.new) }
+    ensures texts { TextsStay (memo_cells_of store.old) (memo_cells_of store.new) }
+    ensures stands { StandsWithout (memo_cells_of store.old) (gone_of sources.now names.now) (memo_cells_of store.new) }
+    ensures stays { StaysWithout (memo_cells_of store.old) (gone_of sources.now names.now) (memo_cells_of store.new) }
 {
     results_may_go();
     let mut rest = names;

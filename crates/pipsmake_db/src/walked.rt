@@ -1,12 +1,12 @@
 //! Walks along the needs of results, one after another.
 ghost use Rattle.std.specs.Prelude.{◌≡◌, [], ◌∷◌, ◌++◌, IfOk};
-ghost use Rattle.pipsmake_rules.specs.Walk.{walk_from};
+ghost use Rattle.session_texts.specs.pipsmake_rules.Walk.{walk_from};
 ghost use Rattle.pipsmake_db.specs.Walked.{AreWalked};
 
 use crate::fresh::copy_key;
 use call_graph::Graph;
 use fx_lists::{List, Text};
-use pipsmake_rules::{Key, Listed, needs};
+use session_texts::pipsmake_rules::{Key, Listed, needs};
 use std::alloc::{AllocError as Memory, Global};
 
 /// Results that were walked, in order.
@@ -39,7 +39,7 @@ fn push_walked(alloc: Global, walked: &mut Walked, key: &Key) -> Result<(), Memo
 }
 
 /// Adds a result after its needs, unless it is there; by fewer than `depth` needs of needs.
-#[tactic(auto, using(pipsmake_rules::proofs::StepLaws::walk_steps))]
+#[tactic(auto, using(crate::proofs::Walking::walk_steps))]
 pub(crate) fn walk_on(
     alloc: Global,
     depth: usize,

@@ -11,11 +11,9 @@ use Rattle.pipsmake_rules.specs.declared.key.Key.{Key}
 use Rattle.pipsmake_rules.specs.Kinds.{same_kind}
 use Rattle.pipsmake_rules.proofs.KindLaws.{same_kind-true, same_kind_self}
 use Rattle.pipsmake_rules.specs.Keys.{same_key, holds, code_of}
+use Rattle.fx_lists.proofs.Texts.{same_name}
 
 -- ---- results
-
-pub same_name : (x : List ℕ) → bytes_eq x x ≡ true
-same_name x = (bytes_decides x x).1 refl
 
 pub same_key-true : (a b : Key) → same_key a b ≡ true → a ≡ b
 same_key-true a b e =

@@ -7,6 +7,7 @@ use Rattle.std.proofs.lemmas.Bool.{eqb-true, eq-eqb}
 use Rattle.pipsmake_rules.specs.declared.kind.Kind.{Kind}
 use Rattle.pipsmake_rules.specs.declared.kind.Kind.TheVariants.{Parsed, Lines, Symbols, CallGraph, Effects, Transformers, Preconditions, Regions, InRegions, OutRegions, Marks, Printed}
 use Rattle.pipsmake_rules.specs.Kinds.{number_of, name_of, kinds, same_kind, kind_with}
+use Rattle.fx_lists.proofs.Booleans.{no_both as both}
 
 abbrev kind_at : ℕ → Kind
 kind_at n = get_or kinds n Parsed
@@ -63,10 +64,6 @@ find-None p (j ∷ js) k e there = go (p j) refl e (same_kind j k) refl there (f
     go true q r c s t ih = cc
     go false q r true s t ih = subst (λ i. p i ≡ false) (same_kind-true j k s) q
     go false q r false s t ih = ih r t
-
-both : (b : Bool) → b ≡ true → b ≡ false → ⊥
-both true e f = cc
-both false e f = cc
 
 pub named : (x : List ℕ) → IfSome (kind_with x) (λ k. name_of k ≡ x)
 named x = go (kind_with x) refl

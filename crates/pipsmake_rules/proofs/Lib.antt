@@ -5,3 +5,4 @@ pub mod NeighbourLaws
 pub mod RankLaws
 pub mod StepLaws
 pub mod WalkLaws
+pub mod Shared

@@ -14,7 +14,7 @@ use Rattle.pipsmake_rules.proofs.RankLaws.{rank, is_lower, needs_lower, rank-dep
 
 -- ---- one result more
 
-no_empty : (before : List Key) (k : Key) (after : List Key) → [] ≡ before ++ k ∷ after → ⊥
+pub no_empty : (before : List Key) (k : Key) (after : List Key) → [] ≡ before ++ k ∷ after → ⊥
 no_empty [] k after e = cc
 no_empty (b ∷ bs) k after e = cc
 

@@ -7,10 +7,10 @@ use Rattle.affine_systems.specs.Given.{Fits}
 use Rattle.f77_ast.specs.Trees.{StmtTrees}
 use Rattle.f77_ast.proofs.PlainlyStmt.{what_calls, list_calls, loop_calls as do_calls, arm_calls as if_calls}
 use Rattle.f77_ast.specs.Shared.{numbered}
-use Rattle.f77_results.specs.declared.results.At.{At}
-use Rattle.transformer_algebra.specs.declared.transformer.Transformer.{Transformer}
-use Rattle.transformer_algebra.specs.Transformers.{unchanging}
-use Rattle.call_translation.specs.Scopes.{ScopeTree}
+use Rattle.f77_ast.specs.declared.results.At.{At}
+use Rattle.transformers.specs.transformer_algebra.declared.transformer.Transformer.{Transformer}
+use Rattle.transformers.specs.transformer_algebra.Transformers.{identity_transformer}
+use Rattle.transformers.specs.call_translation.Scopes.{ScopeTree}
 use Rattle.transformers.specs.Given.{ResultsFit}
 use Rattle.transformers.specs.Jumps.{unstructured}
 use Rattle.transformers.specs.Lists.{first_at, or_first, value_at, or_unchanging, transformer_at}
@@ -84,7 +84,7 @@ found_fits as' n t e h = subst (λ o. IfSome o SystemFits) (sym e) (value_fits a
 pub found_is : (as' : List (At Transformer)) (n : ℕ) (t : Transformer) → Some t ≡ value_at as' n → t ≡ transformer_at as' n
 found_is as' n t e = ap or_unchanging e
 
-pub none_is : (as' : List (At Transformer)) (n : ℕ) → None ≡ value_at as' n → unchanging ≡ transformer_at as' n
+pub none_is : (as' : List (At Transformer)) (n : ℕ) → None ≡ value_at as' n → identity_transformer ≡ transformer_at as' n
 none_is as' n e = ap or_unchanging e
 
 pub ruleset results_found = (found_fits, found_is, none_is)

@@ -8,13 +8,13 @@ use Rattle.hull_projection.specs.Hull.{hull}
 use Rattle.f77_ast.specs.declared.symbol.Symbol.{Symbol}
 use Rattle.f77_ast.specs.Symbols.{symbol_tree}
 use Rattle.affine_forms.specs.Scalars.{is_cell}
-use Rattle.call_translation.specs.declared.sites.Site.{Site}
-use Rattle.call_translation.specs.Scopes.{ScopeTree}
-use Rattle.call_translation.specs.Sites.{AllSitesFit, site_tree}
-use Rattle.call_translation.specs.SiteEntry.{site_entry}
-use Rattle.call_translation.proofs.Steps.{at_place}
+use Rattle.transformers.specs.call_translation.declared.sites.Site.{Site}
+use Rattle.transformers.specs.call_translation.Scopes.{ScopeTree}
+use Rattle.transformers.specs.call_translation.Sites.{AllSitesFit, site_tree}
+use Rattle.transformers.specs.call_translation.SiteEntry.{site_entry}
 use Rattle.preconditions.specs.Statement.{hull_from, some_holds, AllFit}
 use Rattle.preconditions.specs.Entry.{sites_entry, entries_of, initial_row, initial_from}
+use Rattle.fx_lists.proofs.Lists.{at_place}
 
 -- ---- hulls
 

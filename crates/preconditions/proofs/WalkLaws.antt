@@ -10,11 +10,11 @@ use Rattle.f77_ast.specs.Trees as tree
 use Rattle.f77_ast.specs.Plain.{expr_tree}
 use Rattle.f77_ast.specs.PlainStmt.{stmt_tree, stmt_trees, arm_trees}
 use Rattle.f77_ast.proofs.PlainlyStmt.{stmt_trees-drop, arm_trees-drop_at}
-use Rattle.f77_results.specs.declared.results.At.{At}
-use Rattle.transformer_algebra.specs.declared.transformer.Transformer.{Transformer}
-use Rattle.transformer_algebra.specs.declared.loop_parts.LoopParts.{LoopParts}
-use Rattle.transformer_algebra.specs.Loops.{iteration, at_iteration, after_loop}
-use Rattle.call_translation.specs.Scopes.{ScopeTree}
+use Rattle.f77_ast.specs.declared.results.At.{At}
+use Rattle.transformers.specs.transformer_algebra.declared.transformer.Transformer.{Transformer}
+use Rattle.transformers.specs.transformer_algebra.declared.loop_parts.LoopParts.{LoopParts}
+use Rattle.transformers.specs.transformer_algebra.Loops.{iteration, at_iteration, after_loop}
+use Rattle.transformers.specs.call_translation.Scopes.{ScopeTree}
 use Rattle.transformers.specs.Lists.{list_at}
 use Rattle.transformers.specs.Loops.{loop_parts}
 use Rattle.transformers.specs.Statement.{at}

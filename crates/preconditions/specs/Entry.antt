@@ -5,14 +5,14 @@ use Rattle.affine_systems.specs.declared.row.Row.{Row}
 use Rattle.affine_systems.specs.declared.row.System.{System}
 use Rattle.affine_systems.specs.Terms.{term}
 use Rattle.affine_systems.specs.Rows.{row}
-use Rattle.system_renaming.specs.Renaming.{of_rows}
+use Rattle.transformers.specs.transformer_algebra.Renaming.{of_rows}
 use Rattle.f77_ast.specs.declared.symbol.InitialRun.{InitialRun}
 use Rattle.f77_ast.specs.Symbols.{SymbolTree}
 use Rattle.affine_forms.specs.Scalars.{is_cell}
-use Rattle.call_translation.specs.declared.sites.Site.{Site}
-use Rattle.call_translation.specs.Scopes.{ScopeTree}
-use Rattle.call_translation.specs.Sites.{HoldingSite, site_tree}
-use Rattle.call_translation.specs.SiteEntry.{site_entry}
+use Rattle.transformers.specs.call_translation.declared.sites.Site.{Site}
+use Rattle.transformers.specs.call_translation.Scopes.{ScopeTree}
+use Rattle.transformers.specs.call_translation.Sites.{HoldingSite, site_tree}
+use Rattle.transformers.specs.call_translation.SiteEntry.{site_entry}
 use Rattle.preconditions.specs.Statement.{some_holds}
 
 -- ---- the main program (ANSI X3.9-1978 §9)

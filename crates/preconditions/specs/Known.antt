@@ -1,5 +1,5 @@
 -- What is known around a statement.
-use Rattle.call_translation.specs.Scopes.{ScopeTree, scope_tree}
+use Rattle.transformers.specs.call_translation.Scopes.{ScopeTree, scope_tree}
 use Rattle.transformers.specs.Given.{ResultsFit}
 use Rattle.transformers.specs.Lists.{transformer_at}
 use Rattle.preconditions.specs.declared.statement.PreconditionContext.{PreconditionContext}

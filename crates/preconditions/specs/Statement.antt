@@ -7,13 +7,13 @@ use Rattle.affine_systems.specs.Calls.{meet}
 use Rattle.hull_projection.specs.Hull.{hull}
 use Rattle.f77_ast.specs.Trees.{ExprTree, StmtTree, WhatTree, ArmTree, ArmTrees, ElseTree, LoopTree, StmtTrees}
 use Rattle.f77_ast.specs.Trees as tree
-use Rattle.f77_results.specs.declared.results.At.{At}
+use Rattle.f77_ast.specs.declared.results.At.{At}
 use Rattle.affine_forms.specs.Conditions.{infeasible, condition_of}
-use Rattle.transformer_algebra.specs.declared.transformer.Transformer.{Transformer}
-use Rattle.transformer_algebra.specs.declared.loop_parts.LoopParts.{LoopParts}
-use Rattle.transformer_algebra.specs.Transformers.{apply, without}
-use Rattle.transformer_algebra.specs.Loops.{iteration, at_iteration, after_loop}
-use Rattle.call_translation.specs.Scopes.{ScopeTree}
+use Rattle.transformers.specs.transformer_algebra.declared.transformer.Transformer.{Transformer}
+use Rattle.transformers.specs.transformer_algebra.declared.loop_parts.LoopParts.{LoopParts}
+use Rattle.transformers.specs.transformer_algebra.Transformers.{apply, without}
+use Rattle.transformers.specs.transformer_algebra.Loops.{iteration, at_iteration, after_loop}
+use Rattle.transformers.specs.call_translation.Scopes.{ScopeTree}
 use Rattle.transformers.specs.Jumps.{unstructured}
 use Rattle.transformers.specs.Lists.{list_at}
 use Rattle.transformers.specs.Loops.{loop_parts}

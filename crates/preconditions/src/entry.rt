@@ -3,20 +3,22 @@ ghost use Rattle.std.specs.Prelude.{◌≡◌, ◌+◌, ◌++◌, map, IfOk};
 ghost use Rattle.affine_systems.specs.Rows.{AllRows};
 ghost use Rattle.affine_systems.specs.Given.{IsGiven, Fits};
 ghost use Rattle.f77_ast.specs.Symbols.{symbol_tree};
-ghost use Rattle.call_translation.specs.Scopes.{scope_tree, scope_of};
-ghost use Rattle.call_translation.specs.Sites.{site_tree, sites_in, AllSitesFit};
+ghost use Rattle.transformers.specs.call_translation.Scopes.{scope_tree, scope_of};
+ghost use Rattle.transformers.specs.call_translation.Sites.{site_tree, sites_in, AllSitesFit};
 ghost use Rattle.preconditions.specs.Statement.{hull_from};
 ghost use Rattle.preconditions.specs.Entry.{entries_of, initial_row, main_entry as main_entry_is, sites_entry as sites_entry_is, entry_of};
 
 use affine_forms::{infeasible, is_cell};
 use affine_systems::{Row, System, Term, Var};
-use call_translation::{CallSites, CellScope, Site, next_number, site_entry, tracked_of};
+use call_graph::View;
 use f77_ast::Symbol;
-use f77_results::View;
 use fx_lists::List;
 use hull_projection::hull;
 use std::alloc::{AllocError as Memory, Global};
-use system_renaming::of_rows;
+use transformers::call_translation::{
+    CallSites, CellScope, Site, next_number, site_entry, tracked_of,
+};
+use transformers::transformer_algebra::of_rows;
 
 /// Adds that the symbol of a number, if it is tracked, begins with its value from DATA, where it has one.
 fn add_initial(

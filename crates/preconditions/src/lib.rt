@@ -7,3 +7,5 @@ mod statement;
 
 pub use entry::entry_from;
 pub use modules::preconditions;
+pub use transformers;
+pub use transformers::{call_translation, transformer_algebra};

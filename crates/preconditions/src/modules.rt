@@ -2,7 +2,7 @@
 ghost use Rattle.std.specs.Prelude.{◌≡◌, IfOk};
 ghost use Rattle.affine_systems.specs.Given.{Fits};
 ghost use Rattle.f77_ast.specs.PlainStmt.{stmt_trees};
-ghost use Rattle.call_translation.specs.Scopes.{scope_of};
+ghost use Rattle.transformers.specs.call_translation.Scopes.{scope_of};
 ghost use Rattle.transformers.specs.Lists.{transformer_at as transformer_at_is};
 ghost use Rattle.transformers.specs.Given.{ResultsFit};
 ghost use Rattle.preconditions.specs.Statement.{EachFits};
@@ -10,11 +10,12 @@ ghost use Rattle.preconditions.specs.Modules.{preconditions_of};
 
 use crate::statement::{PreconditionContext, after_list};
 use affine_systems::System;
-use call_translation::{CellScope, tracked_of};
-use f77_results::{Results, View};
+use call_graph::View;
+use f77_ast::Results;
 use fx_lists::List;
 use std::alloc::{AllocError as Memory, Global};
-use transformer_algebra::Transformer;
+use transformers::call_translation::{CellScope, tracked_of};
+use transformers::transformer_algebra::Transformer;
 
 /// What holds of the analysed scalars where each executable statement of a module begins, in the order of the text, from the transformers
 /// `own` of its statements and from what holds where it is entered, `entry`, which is the summary of the result.

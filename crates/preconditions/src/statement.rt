@@ -4,21 +4,20 @@ ghost use Rattle.affine_systems.specs.Given.{Fits};
 ghost use Rattle.f77_ast.specs.Plain.{expr_tree};
 ghost use Rattle.f77_ast.specs.PlainStmt.{stmt_tree, stmt_trees, what_tree, loop_tree, arm_trees};
 ghost use Rattle.hull_projection.specs.Hull.{hull};
-ghost use Rattle.transformer_algebra.specs.Transformers.{apply};
+ghost use Rattle.transformers.specs.transformer_algebra.Transformers.{apply};
 ghost use Rattle.transformers.specs.Statement.{at as at_is};
 ghost use Rattle.preconditions.specs.Statement.{after as after_is, after_what as after_what_is, after_each as after_each_is, after_list as after_list_is, after_arms as after_arms_is, after_loop_of, past_arms, if_true, if_false, hull_from, some_holds as some_holds_is, throughout as throughout_is, at_stmt, at_parts, at_each, at_all, at_list, at_arms, at_loop, AllFit, EachFits};
 ghost use Rattle.preconditions.specs.Known.{scope_in, found_in, KnownFits};
 
 use affine_forms::{condition_of, infeasible};
 use affine_systems::{System, meet};
-use call_translation::CellScope;
-use f77_ast::{Arm, Expr, Loop, Stmt, StmtId, What};
-use f77_results::At;
+use f77_ast::{Arm, At, Expr, Loop, Stmt, StmtId, What};
 use fx_lists::List;
 use hull_projection::hull;
 use std::alloc::{AllocError as Memory, Global};
-use transformer_algebra::{
-    Transformer, after_loop, apply, at_iteration, iteration, unchanging, without,
+use transformers::call_translation::CellScope;
+use transformers::transformer_algebra::{
+    Transformer, after_loop, apply, at_iteration, identity_transformer, iteration, without,
 };
 use transformers::{is_unstructured, list_at, loop_parts, value_at};
 
@@ -92,7 +91,7 @@ fn after_leaf(
     ensures fits { IfOk result Fits }
 {
     match value_at(known.own, id) {
-        None => apply(alloc, &unchanging(alloc), p),
+        None => apply(alloc, &identity_transformer(alloc), p),
         Some(t) => apply(alloc, t, p),
     }
 }

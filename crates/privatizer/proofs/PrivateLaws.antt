@@ -13,18 +13,18 @@ use Rattle.f77_ast.specs.Trees.{LoopTree}
 use Rattle.f77_ast.specs.DeclTrees.{ModuleTree}
 use Rattle.f77_ast.specs.Symbols.{SymbolTree}
 use Rattle.f77_ast.specs.declared.variable.Variable.{Variable}
-use Rattle.transformer_algebra.specs.Laws.{In, here, there}
-use Rattle.transformer_algebra.proofs.CellLaws.{clashes}
-use Rattle.region_sets.specs.declared.marks.Private.{Private}
-use Rattle.region_sets.specs.declared.marks.Private.TheVariants.{Yes, Name, Carried, Live}
-use Rattle.region_sets.specs.declared.region.Access.{Access}
-use Rattle.region_sets.specs.declared.region.Access.TheVariants as access
-use Rattle.region_sets.specs.declared.region.Region.{Region}
-use Rattle.loop_bodies.specs.Same.{same_variable}
+use Rattle.preconditions.specs.transformer_algebra.Laws.{In, here, there}
+use Rattle.f77_ast.specs.declared.marks.Private.{Private}
+use Rattle.f77_ast.specs.declared.marks.Private.TheVariants.{Yes, Name, Carried, Live}
+use Rattle.in_out_regions.specs.region_sets.declared.region.Access.{Access}
+use Rattle.in_out_regions.specs.region_sets.declared.region.Access.TheVariants as access
+use Rattle.in_out_regions.specs.region_sets.declared.region.Region.{Region}
 use Rattle.privatizer.specs.Uses.{Uses}
 use Rattle.privatizer.specs.Names.{may_copy}
 use Rattle.privatizer.specs.Private.{may_hold, some_may_hold, region_may, may_lie, is_carried, is_live, private_by, private_in, private_at}
 use Rattle.privatizer.specs.Claims.{NoneLies, IsPrivate, IsPrivateAt, IfPrivate}
+use Rattle.fx_lists.proofs.Booleans.{clash as clashes}
+use Rattle.f77_ast.specs.Variables.{same_variable}
 
 -- ---- all are refuted
 

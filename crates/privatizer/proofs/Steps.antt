@@ -6,12 +6,12 @@ use Rattle.f77_ast.specs.Trees.{LoopTree}
 use Rattle.f77_ast.specs.PlainStmt.{stmt_trees, loop_tree}
 use Rattle.f77_ast.proofs.PlainlyStmt.{loop_tree-out}
 use Rattle.f77_ast.specs.Symbols.{SymbolTree}
-use Rattle.f77_results.specs.declared.results.At.{At}
-use Rattle.transformer_algebra.specs.declared.transformer.Transformer.{Transformer}
-use Rattle.region_sets.specs.declared.region.Region.{Region}
-use Rattle.region_sets.specs.Lists.{or_none}
+use Rattle.f77_ast.specs.declared.results.At.{At}
+use Rattle.preconditions.specs.transformer_algebra.declared.transformer.Transformer.{Transformer}
+use Rattle.in_out_regions.specs.region_sets.declared.region.Region.{Region}
+use Rattle.in_out_regions.specs.region_sets.Lists.{or_none}
 use Rattle.in_out_regions.specs.Lists.{list_in}
-use Rattle.loop_bodies.specs.Body.{head_of}
+use Rattle.dependence_test.specs.Body.{head_of}
 use Rattle.privatizer.specs.Uses.{head_in, ins_in}
 
 pub head_made : (l : Loop) (ps : List (At System)) (s : System) → s ≡ head_of ps (stmt_trees (out-Loop l).body) → s ≡ head_in ps (loop_tree l)

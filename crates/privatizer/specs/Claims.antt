@@ -3,15 +3,15 @@ use Rattle.std.specs.Prelude.{◌≡◌, ℕ, Bool, true, false, List, Option, S
 use Rattle.affine_systems.specs.declared.row.System.{System}
 use Rattle.f77_ast.specs.Trees.{LoopTree}
 use Rattle.f77_ast.specs.declared.variable.Variable.{Variable}
-use Rattle.transformer_algebra.specs.Claims.{Scene, HoldsAt}
-use Rattle.region_sets.specs.declared.marks.Private.{Private}
-use Rattle.region_sets.specs.declared.marks.Private.TheVariants as answer
-use Rattle.region_sets.specs.declared.region.Access.{Access}
-use Rattle.region_sets.specs.declared.region.Access.TheVariants.{In, Out}
-use Rattle.region_sets.specs.declared.region.Region.{Region}
-use Rattle.region_sets.specs.Claims.{Places, LiesInSet}
-use Rattle.loop_bodies.specs.Same.{same_variable}
+use Rattle.preconditions.specs.transformer_algebra.Claims.{Scene, HoldsAt}
+use Rattle.f77_ast.specs.declared.marks.Private.{Private}
+use Rattle.f77_ast.specs.declared.marks.Private.TheVariants as answer
+use Rattle.in_out_regions.specs.region_sets.declared.region.Access.{Access}
+use Rattle.in_out_regions.specs.region_sets.declared.region.Access.TheVariants.{In, Out}
+use Rattle.in_out_regions.specs.region_sets.declared.region.Region.{Region}
+use Rattle.in_out_regions.specs.region_sets.Claims.{Places, LiesInSet}
 use Rattle.privatizer.specs.Uses.{Uses}
+use Rattle.f77_ast.specs.Variables.{same_variable}
 
 -- no other variable has the unit
 abbrev pub IsAlone : Places → Variable → ℕ → Type 0

@@ -1,21 +1,14 @@
 -- The variables of which each iteration may have its own copy by their names: locals that keep no value between calls (ANSI X3.9-1978 §8.9, §9), and share
 -- no storage (§8.2).
-use Rattle.std.specs.Prelude.{ℕ, Bool, true, false, not, ◌&&◌, List, Option, Some, None, bytes_eq}
+use Rattle.std.specs.Prelude.{ℕ, Bool, false, not, ◌&&◌, List, Option, Some, None, bytes_eq}
 use Rattle.std.specs.List.{list_any}
 use Rattle.f77_ast.specs.DeclTrees.{ModuleTree}
-use Rattle.f77_ast.specs.declared.symbol.Place.{Place}
-use Rattle.f77_ast.specs.declared.symbol.Place.TheVariants.{Local, Dummy, Block, Constant}
 use Rattle.f77_ast.specs.declared.variable.Variable.{Variable}
 use Rattle.f77_ast.specs.declared.variable.Variable.TheVariants as variable
 use Rattle.f77_ast.specs.Symbols.{SymbolTree}
 use Rattle.f77_ast.specs.Shared.{symbol_at}
 use Rattle.tracked_cells.specs.Equivalences.{equivalenced_names}
-
-abbrev pub is_local : Place → Bool
-is_local (Local g o) = true
-is_local (Dummy n) = false
-is_local (Block x o) = false
-is_local (Constant n) = false
+use Rattle.call_graph.specs.Visible.{is_local}
 
 -- the name is in an EQUIVALENCE of the module
 abbrev pub is_equivalenced : ModuleTree → List ℕ → Bool

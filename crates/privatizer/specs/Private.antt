@@ -7,12 +7,12 @@ use Rattle.f77_ast.specs.Trees.{LoopTree}
 use Rattle.f77_ast.specs.DeclTrees.{ModuleTree}
 use Rattle.f77_ast.specs.Symbols.{SymbolTree}
 use Rattle.f77_ast.specs.declared.variable.Variable.{Variable}
-use Rattle.region_sets.specs.declared.marks.Private.{Private}
-use Rattle.region_sets.specs.declared.marks.Private.TheVariants.{Yes, Name, Carried, Live}
-use Rattle.region_sets.specs.declared.region.Region.{Region}
-use Rattle.loop_bodies.specs.Same.{same_variable}
+use Rattle.f77_ast.specs.declared.marks.Private.{Private}
+use Rattle.f77_ast.specs.declared.marks.Private.TheVariants.{Yes, Name, Carried, Live}
+use Rattle.in_out_regions.specs.region_sets.declared.region.Region.{Region}
 use Rattle.privatizer.specs.Uses.{Uses}
 use Rattle.privatizer.specs.Names.{may_copy}
+use Rattle.f77_ast.specs.Variables.{same_variable}
 
 -- a system has a point where another holds, as far as is known
 abbrev pub may_hold : System → System → Bool

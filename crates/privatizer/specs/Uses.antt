@@ -4,13 +4,14 @@ use Rattle.affine_systems.specs.declared.row.System.{System}
 use Rattle.f77_ast.specs.Trees.{LoopTree}
 use Rattle.f77_ast.specs.Trees as tree
 use Rattle.f77_ast.specs.Symbols.{SymbolTree, symbol_tree}
-use Rattle.f77_results.specs.declared.results.At.{At}
-use Rattle.transformer_algebra.specs.declared.transformer.Transformer.{Transformer}
-use Rattle.transformers.specs.Lists.{transformer_at}
-use Rattle.region_sets.specs.declared.region.Region.{Region}
-use Rattle.in_out_regions.specs.Lists.{set_at, list_in}
-use Rattle.loop_bodies.specs.declared.analysis.Analysis.{Analysis}
-use Rattle.loop_bodies.specs.Body.{system_at, head_of}
+use Rattle.f77_ast.specs.declared.results.At.{At}
+use Rattle.preconditions.specs.transformer_algebra.declared.transformer.Transformer.{Transformer}
+use Rattle.preconditions.specs.transformers.Lists.{transformer_at}
+use Rattle.in_out_regions.specs.region_sets.declared.region.Region.{Region}
+use Rattle.in_out_regions.specs.Lists.{list_in}
+use Rattle.dependence_test.specs.declared.analysis.Analysis.{Analysis}
+use Rattle.dependence_test.specs.Body.{system_at, head_of}
+use Rattle.in_out_regions.specs.region_sets.Lists.{set_at}
 
 -- what holds where an iteration begins, and the IN regions of the body there; what holds where the DO begins, and the OUT regions of the DO
 pub record Uses : Type 0 where

@@ -1,6 +1,6 @@
 -- What the code holds, as plain data, and what calls ask of it.
 use Rattle.affine_systems.specs.Given.{Fits}
-use Rattle.region_sets.specs.Sets.{SetFits}
+use Rattle.in_out_regions.specs.region_sets.Sets.{SetFits}
 use Rattle.privatizer.specs.declared.uses.Uses as code
 use Rattle.privatizer.specs.Uses as plain
 

@@ -5,20 +5,11 @@ ghost use Rattle.f77_ast.specs.Plain.{expr_tree};
 ghost use Rattle.f77_ast.specs.PlainDecl.{decl_tree, module_tree};
 ghost use Rattle.f77_ast.specs.Symbols.{symbol_tree};
 ghost use Rattle.tracked_cells.specs.Equivalences.{item_name, item_names, group_names, decl_names};
-ghost use Rattle.privatizer.specs.Names.{is_local as is_local_is, is_equivalenced as is_equivalenced_is, is_own as is_own_is, may_copy as may_copy_is};
+ghost use Rattle.privatizer.specs.Names.{is_equivalenced as is_equivalenced_is, is_own as is_own_is, may_copy as may_copy_is};
 
-use f77_ast::{Decl, Expr, Module, Place, Symbol, Variable};
-use f77_results::View;
+use call_graph::{View, is_local};
+use f77_ast::{Decl, Expr, Module, Symbol, Variable};
 use fx_lists::{List, Text};
-
-fn is_local(place: &Place) -> bool
-    ensures { result ≡ is_local_is place.now }
-{
-    match place {
-        Place::Local(..) => true,
-        Place::Dummy(_) | Place::Block(..) | Place::Constant(_) => false,
-    }
-}
 
 /// Whether an item of an EQUIVALENCE group is of this name.
 #[tactic(auto, using(f77_ast::proofs::Plainly::expr_appends))]

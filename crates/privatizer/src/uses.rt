@@ -4,23 +4,20 @@ ghost use Rattle.affine_systems.specs.Given.{Fits};
 ghost use Rattle.f77_ast.specs.PlainStmt.{loop_tree};
 ghost use Rattle.f77_ast.specs.Symbols.{symbol_tree};
 ghost use Rattle.preconditions.specs.Statement.{EachFits};
-ghost use Rattle.transformers.specs.Lists.{transformer_at};
-ghost use Rattle.region_sets.specs.Lists.{SetsFit};
-ghost use Rattle.region_sets.specs.Sets.{SetFits};
-ghost use Rattle.in_out_regions.specs.Lists.{set_at};
-ghost use Rattle.loop_bodies.specs.Given.{AnalysisFits};
+ghost use Rattle.preconditions.specs.transformers.Lists.{transformer_at};
+ghost use Rattle.in_out_regions.specs.region_sets.Lists.{set_at};
+ghost use Rattle.in_out_regions.specs.region_sets.Sets.{SetFits};
+ghost use Rattle.dependence_test.specs.Given.{AnalysisFits};
 ghost use Rattle.privatizer.specs.Uses.{head_in as head_in_is, ins_in as ins_in_is, known_uses};
 ghost use Rattle.privatizer.specs.Views.{uses_tree, UsesFit};
 
 use affine_systems::System;
-use f77_ast::{Loop, StmtId};
-use f77_results::At;
+use dependence_test::{Analysis, head_of, system_at};
+use f77_ast::{At, Loop, StmtId};
 use fx_lists::List;
 use in_out_regions::list_in;
-use loop_bodies::{Analysis, head_of, system_at};
-use region_sets::{Region, RegionSet};
+use in_out_regions::region_sets::{Region, RegionSet, set_at};
 use std::alloc::{AllocError as Memory, Global};
-use transformers::value_at;
 
 /// What is known of a DO where private variables are looked for.
 #[derive(Drop)]
@@ -63,19 +60,6 @@ fn ins_in(alloc: Global, a: &Analysis<'_>, l: &Loop) -> Result<RegionSet, Memory
     )
 }
 
-/// The regions of the statement with a number; none where there is no result.
-#[tactic(auto, using(crate::proofs::Steps::sets))]
-fn outs_at(at: &List<At<RegionSet>>, id: StmtId) -> &[Region]
-    requires { SetsFit at.now }
-    ensures defined { result.now ≡ set_at at.now id }
-    ensures fits { SetFits result.now }
-{
-    match value_at(at, id) {
-        None => &[],
-        Some(set) => set.as_slice(),
-    }
-}
-
 /// What is known of the DO `l`, whose statement has the number `at`.
 pub fn uses_of<'a>(
     alloc: Global,
@@ -91,6 +75,6 @@ pub fn uses_of<'a>(
         head: head_in(alloc, &a.preconditions.at, l)?,
         ins: ins_in(alloc, a, l)?,
         before: system_at(alloc, &a.preconditions.at, at)?,
-        outs: outs_at(&a.outs.at, at),
+        outs: set_at(&a.outs.at, at),
     })
 }

@@ -15,8 +15,8 @@ use Rattle.affine_systems.proofs.CallLaws.{append_all, renamed_same}
 use Rattle.hull_projection.specs.declared.projection.Shadow.{Shadow}
 use Rattle.hull_projection.specs.Project.{shadow, shadow_after, eliminate_each, project}
 use Rattle.hull_projection.specs.Variables.{in_order}
-use Rattle.system_renaming.specs.declared.naming.Naming.{Naming}
-use Rattle.system_renaming.specs.Renaming.{renamed_by, rename_all, push_rows}
+use Rattle.transformers.specs.transformer_algebra.declared.naming.Naming.{Naming}
+use Rattle.transformers.specs.transformer_algebra.Renaming.{renamed_by, rename_all, push_rows}
 
 -- ---- no row was lost
 

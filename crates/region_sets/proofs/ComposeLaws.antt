@@ -1,5 +1,5 @@
 -- A system that describes subscripts after a statement is one before it; where it is exact, a point before has one after.
-use Rattle.std.proofs.Common.{◌≡◌, ℕ, List, [], ◌∷◌, ◌||◌, ◌&&◌, Bool, true, false, refl, sym, ap, ◌∙◌, subst, ℤ, ◌↔◌, nat_eq, Option, Some, None, ◌⊎◌, inl, inr, ⊎_elim, true≢false}
+use Rattle.std.proofs.Common.{◌≡◌, ℕ, List, [], ◌∷◌, ◌||◌, ◌&&◌, Bool, true, false, refl, sym, ap, ◌∙◌, subst, ℤ, nat_eq, Option, Some, None, ◌⊎◌, inl, inr, ⊎_elim, true≢false}
 use Rattle.std.specs.Prelude.{if◌then◌else◌, not}
 use Rattle.std.proofs.lemmas.Bool.{or_parts, or_left, or_right, and_parts, not-true}
 use Rattle.affine_systems.specs.declared.row.Var.{Var}
@@ -9,140 +9,53 @@ use Rattle.affine_systems.specs.declared.row.Row.{Row}
 use Rattle.affine_systems.specs.declared.row.System.{System}
 use Rattle.affine_systems.specs.Terms.{var_eq}
 use Rattle.affine_systems.specs.Points.{Point, value, Holds, HoldsAll, only, factor_of}
-use Rattle.affine_systems.specs.Normal.{Normal, Kept, Always, Never, TooBig, normal}
-use Rattle.affine_systems.specs.Tidy.{is_unit, by_row}
-use Rattle.affine_systems.specs.Calls.{meet, unless_too_big, substitute}
+use Rattle.affine_systems.specs.Tidy.{is_unit}
+use Rattle.affine_systems.specs.Calls.{meet}
 use Rattle.affine_systems.proofs.TermLaws.{var_eq-true}
-use Rattle.affine_systems.proofs.NormalLaws.{Agrees, normal_agrees}
-use Rattle.affine_systems.proofs.TidyLaws.{tidy_holds, tidy_back, equally, not_false_row}
-use Rattle.affine_systems.proofs.CallLaws.{meet_holds, HoldsIf, substitute_same}
+use Rattle.affine_systems.proofs.TidyLaws.{tidy_holds, tidy_back, equally}
+use Rattle.affine_systems.proofs.CallLaws.{meet_holds}
 use Rattle.affine_systems.proofs.LackLaws.{Nil, RowsNil}
 use Rattle.hull_projection.specs.declared.projection.Shadow.{Shadow}
 use Rattle.hull_projection.specs.Laws.{IsOneOf}
 use Rattle.hull_projection.specs.Project.{shadow}
 use Rattle.hull_projection.proofs.ProjectLaws.{project_keeps}
-use Rattle.system_renaming.specs.Renaming.{renamed_by, rename_all}
-use Rattle.system_renaming.proofs.KeepLaws.{rename_all_holds}
-use Rattle.transformer_algebra.specs.declared.transformer.Transformer.{Transformer}
-use Rattle.transformer_algebra.specs.Cells.{has}
-use Rattle.transformer_algebra.specs.Claims.{Scene, AtStart, Does}
-use Rattle.transformer_algebra.proofs.CellLaws.{nat_same, nat_eq_same, clashes, exit_same}
+use Rattle.transformers.specs.transformer_algebra.Renaming.{renamed_by, rename_all}
+use Rattle.transformers.proofs.TransformerAlgebra.KeepLaws.{rename_all_holds}
+use Rattle.transformers.specs.transformer_algebra.declared.transformer.Transformer.{Transformer}
+use Rattle.transformers.specs.transformer_algebra.Cells.{has}
+use Rattle.transformers.specs.transformer_algebra.Claims.{Scene, AtStart, Does}
+use Rattle.transformers.proofs.TransformerAlgebra.CellLaws.{exit_same}
 use Rattle.hull_projection.proofs.ClosureLaws.{rows_elsewhere}
 use Rattle.region_sets.specs.Naming.{in_terms, in_rows, named_cells, to_exits, exit_vars}
-use Rattle.region_sets.specs.Compose.{is_other_exit, has_other_exit, is_exit_row, exit_row, settled_by, normal_form, put_in, before_rows, put_in_all, is_lost, loses_row, put_exit, on_row, put_exits, led_to, put_or_led, through_transformer, compose_piece}
+use Rattle.region_sets.specs.Compose.{is_other_exit, has_other_exit, is_exit_row, exit_row, on_row, put_exits, composed_with, put_or_led, through_transformer, compose_piece}
 use Rattle.region_sets.specs.Claims.{HasSubscripts, Describes}
 use Rattle.region_sets.proofs.NameLaws.{Agree, flip, terms_agree, rows_agree, has_named, named_has, exit_of_named, cell_of_other, stays_exit, stays_phi, stays_aux}
-use Rattle.region_sets.proofs.NilLaws.{NormalNil, normal_nil, by_row_nil, by_row_gone, off_terms}
+use Rattle.region_sets.proofs.NilLaws.{off_terms}
 use Rattle.region_sets.proofs.BackLaws.{tidy_weak, rename_all_back}
-
-some_is : {A : Type 0} (x y : A) → Some x ≡ Some y → x ≡ y
-some_is x y q = cc
-
-none_some : {A : Type 0} {B : Type 0} (x : A) → None ≡ Some x → B
-none_some x q = absurd (cc)
+use Rattle.fx_lists.proofs.Options.{none_some, some_is}
+use Rattle.fx_lists.proofs.Numbers.{same_is as nat_same, nat_eq_same}
+use Rattle.fx_lists.proofs.Booleans.{clash as clashes}
+use Rattle.region_sets.specs.Putting.{put_in_all, loses_row, put_row}
+use Rattle.region_sets.proofs.PutLaws.{put_holds, put_back, all_gone, all_nil}
 
 -- ---- one row put in
 
 -- a row that says what the exit of a cell is
-record Says (c : ℕ) (e : Row) : Type 0 where
-  equal : e.equal ≡ true
-  unit : is_unit (factor_of (Exit c) e.terms) ≡ true
-  other : has_other_exit c e.terms ≡ false
+pub record Says (c : ℕ) (e : Row) : Type 0 where
+  pub equal : e.equal ≡ true
+  pub unit : is_unit (factor_of (Exit c) e.terms) ≡ true
+  pub other : has_other_exit c e.terms ≡ false
 
-says : (c : ℕ) (e : Row) → is_exit_row c e ≡ true → Says c e
+pub says : (c : ℕ) (e : Row) → is_exit_row c e ≡ true → Says c e
 says c e h =
     let a = and_parts e.equal (is_unit (factor_of (Exit c) e.terms) && not (has_other_exit c e.terms)) h in
     let b = and_parts (is_unit (factor_of (Exit c) e.terms)) (not (has_other_exit c e.terms)) a.1 in
     record { equal = a.0; unit = b.0; other = not-true (has_other_exit c e.terms) b.1 }
 
-settled_same : (q : Point) (P : Type 0) (o : Option Row) → HoldsIf q P o → HoldsIf q P (normal_form o)
-settled_same q P None h = h
-settled_same q P (Some r) h = go (normal false r) (normal_agrees q false r)
-  where
-    go : (n : Normal) → Agrees q (Holds q r) n → P ↔ Holds q (settled_by n r)
-    go (Kept s) a = ((λ k. a.0 (h.0 k)), (λ k. h.1 (a.1 k)))
-    go Always a = h
-    go Never a = ((λ k. absurd (a (h.0 k))), (λ k. absurd (not_false_row q k)))
-    go TooBig a = h
-
--- at a point of the equal row it says the same
-put_same : (q : Point) (c : ℕ) (e r : Row) → value q e.terms ≡ e.bound → HoldsIf q (Holds q r) (put_in c e r)
-put_same q c e r h = go (in_terms (Exit c) r.terms)
-  where
-    go : (b : Bool) → HoldsIf q (Holds q r) (if b then normal_form (substitute r (Exit c) e) else Some r)
-    go true = settled_same q (Holds q r) (substitute r (Exit c) e) (substitute_same q r (Exit c) e h)
-    go false = ((λ k. k), (λ k. k))
-
-put_holds : (q : Point) (c : ℕ) (e : Row) (rs : List Row) → value q e.terms ≡ e.bound → HoldsAll q rs → HoldsAll q (put_in_all c e rs)
-put_holds q c e [] h k = tt
-put_holds q c e (r ∷ rs) h k = go (put_in c e r) (put_same q c e r h) (put_holds q c e rs h k.1)
-  where
-    go : (o : Option Row) → HoldsIf q (Holds q r) o → HoldsAll q (put_in_all c e rs) → HoldsAll q (before_rows o (put_in_all c e rs))
-    go None s ih = ih
-    go (Some p) s ih = (s.0 k.0, ih)
-
-put_back : (q : Point) (c : ℕ) (e : Row) (rs : List Row) → value q e.terms ≡ e.bound → loses_row c e rs ≡ false → HoldsAll q (put_in_all c e rs) → HoldsAll q rs
-put_back q c e [] h l k = tt
-put_back q c e (r ∷ rs) h l k = go (put_in c e r) (put_same q c e r h) l k (λ m n. put_back q c e rs h m n)
-  where
-    go : (o : Option Row) → HoldsIf q (Holds q r) o → (is_lost o || loses_row c e rs) ≡ false → HoldsAll q (before_rows o (put_in_all c e rs)) → (loses_row c e rs ≡ false → HoldsAll q (put_in_all c e rs) → HoldsAll q rs) → Holds q r × HoldsAll q rs
-    go None s l k ih = clashes true refl l
-    go (Some p) s l k ih = (s.1 k.0, ih l k.1)
-
 -- ---- which exits rows have
 
-abbrev NilIf : Point → Option Row → Type 0
-NilIf u None = Unit {0}
-NilIf u (Some r) = Nil u r
-
-too_big_nil : (u : Point) (r : Row) (n : Normal) → NormalNil u n → Nil u r → NilIf u (unless_too_big n r)
-too_big_nil u r (Kept s) k h = k
-too_big_nil u r Always k h = h
-too_big_nil u r Never k h = h
-too_big_nil u r TooBig k h = tt
-
-settled_nil : (u : Point) (o : Option Row) → NilIf u o → NilIf u (normal_form o)
-settled_nil u None h = h
-settled_nil u (Some r) h = go (normal false r) (normal_nil u false r h)
-  where
-    go : (n : Normal) → NormalNil u n → Nil u (settled_by n r)
-    go (Kept s) k = k
-    go Always k = h
-    go Never k = refl
-    go TooBig k = h
-
-substitute_nil : (u : Point) (r : Row) (v : Var) (e : Row) → Nil u (by_row r v e) → NilIf u (normal_form (substitute r v e))
-substitute_nil u r v e h = settled_nil u (substitute r v e) (too_big_nil u (by_row r v e) (normal false (by_row r v e)) (normal_nil u false (by_row r v e) h) h)
-
--- the exit is gone
-put_gone : (c : ℕ) (e r : Row) → Says c e → NilIf (only (Exit c)) (put_in c e r)
-put_gone c e r s = go (in_terms (Exit c) r.terms) refl
-  where
-    go : (b : Bool) → in_terms (Exit c) r.terms ≡ b → NilIf (only (Exit c)) (if b then normal_form (substitute r (Exit c) e) else Some r)
-    go true k = substitute_nil (only (Exit c)) r (Exit c) e (by_row_gone r (Exit c) e s.unit)
-    go false k = off_terms (Exit c) r.terms k
-
-put_nil : (u : Point) (c : ℕ) (e r : Row) → Nil u e → Nil u r → NilIf u (put_in c e r)
-put_nil u c e r z h = go (in_terms (Exit c) r.terms)
-  where
-    go : (b : Bool) → NilIf u (if b then normal_form (substitute r (Exit c) e) else Some r)
-    go true = substitute_nil u r (Exit c) e (by_row_nil u r (Exit c) e h z)
-    go false = h
-
-before_nil : (u : Point) (o : Option Row) (rs : List Row) → NilIf u o → RowsNil u rs → RowsNil u (before_rows o rs)
-before_nil u None rs h k = k
-before_nil u (Some r) rs h k = (h, k)
-
-all_gone : (c : ℕ) (e : Row) (rs : List Row) → Says c e → RowsNil (only (Exit c)) (put_in_all c e rs)
-all_gone c e [] s = tt
-all_gone c e (r ∷ rs) s = before_nil (only (Exit c)) (put_in c e r) (put_in_all c e rs) (put_gone c e r s) (all_gone c e rs s)
-
-all_nil : (u : Point) (c : ℕ) (e : Row) (rs : List Row) → Nil u e → RowsNil u rs → RowsNil u (put_in_all c e rs)
-all_nil u c e [] z h = tt
-all_nil u c e (r ∷ rs) z h = before_nil u (put_in c e r) (put_in_all c e rs) (put_nil u c e r z h.0) (all_nil u c e rs z h.1)
-
 -- the only exit of such a row
-other_exits : (c d : ℕ) (ts : List Term) → has_other_exit c ts ≡ false → in_terms (Exit d) ts ≡ true → c ≡ d
+pub other_exits : (c d : ℕ) (ts : List Term) → has_other_exit c ts ≡ false → in_terms (Exit d) ts ≡ true → c ≡ d
 other_exits c d [] h k = clashes false k refl
 other_exits c d (t ∷ ts) h k = go t.var h (var_eq (Exit d) t.var) refl k (λ l n. other_exits c d ts l n)
   where
@@ -164,19 +77,19 @@ other_exits c d (t ∷ ts) h k = go t.var h (var_eq (Exit d) t.var) refl k (λ l
     go w l true e n f = mine w (var_eq-true (Exit d) w e) l
     go w l false e n f = rest (is_other_exit c w) l n f
 
-other_nil : (c d : ℕ) (e : Row) → Says c e → (c ≡ d → ⊥) → Nil (only (Exit d)) e
+pub other_nil : (c d : ℕ) (e : Row) → Says c e → (c ≡ d → ⊥) → Nil (only (Exit d)) e
 other_nil c d e s f = go (in_terms (Exit d) e.terms) refl
   where
     go : (b : Bool) → in_terms (Exit d) e.terms ≡ b → Nil (only (Exit d)) e
     go true k = absurd (f (other_exits c d e.terms s.other k))
     go false k = off_terms (Exit d) e.terms k
 
-exit_nil : (c d : ℕ) (e : Row) (rs : List Row) → Says c e → RowsNil (only (Exit d)) rs → RowsNil (only (Exit d)) (put_in_all c e rs)
+pub exit_nil : (c d : ℕ) (e : Row) (rs : List Row) → Says c e → RowsNil (only (Exit d)) rs → RowsNil (only (Exit d)) (put_in_all (Exit c) e rs)
 exit_nil c d e rs s h = go (nat_eq c d) refl
   where
-    go : (b : Bool) → nat_eq c d ≡ b → RowsNil (only (Exit d)) (put_in_all c e rs)
-    go true k = subst (λ (z : ℕ). RowsNil (only (Exit z)) (put_in_all c e rs)) (nat_same c d k) (all_gone c e rs s)
-    go false k = all_nil (only (Exit d)) c e rs (other_nil c d e s (λ q. clashes (nat_eq c d) (subst (λ (z : ℕ). nat_eq c z ≡ true) q (nat_eq_same c)) k)) h
+    go : (b : Bool) → nat_eq c d ≡ b → RowsNil (only (Exit d)) (put_in_all (Exit c) e rs)
+    go true k = subst (λ (z : ℕ). RowsNil (only (Exit z)) (put_in_all (Exit c) e rs)) (nat_same c d k) (all_gone (Exit c) e rs s.unit)
+    go false k = all_nil (only (Exit d)) (Exit c) e rs (other_nil c d e s (λ q. clashes (nat_eq c d) (subst (λ (z : ℕ). nat_eq c z ≡ true) q (nat_eq_same c)) k)) h
 
 -- ---- points before and after
 
@@ -287,19 +200,19 @@ module _ (m : Scene) (t : Transformer) (x y : ℕ → ℤ) (d : Does m t x y) (s
   result [] sub a b q = subst (λ (z : System). Result [] a z) (some_is a b q) (record { forward = λ p h k. k; backward = λ w p h k. k; strong = λ w. w; off = λ c h. h; gone = λ c h. clashes false h refl })
   result (c ∷ cs) sub a b q = go (exit_row c t.system.rows) refl q (λ a2. result cs (λ z h. sub z (or_right (nat_eq c z) (has cs z) h)) a2 b)
     where
-      go : (w : Option Row) → exit_row c t.system.rows ≡ w → on_row w (λ e. put_exits cs t.system.rows (put_exit c e a)) ≡ Some b → ((a2 : System) → put_exits cs t.system.rows a2 ≡ Some b → Result cs a2 b) → Result (c ∷ cs) a b
+      go : (w : Option Row) → exit_row c t.system.rows ≡ w → on_row w (λ e. put_exits cs t.system.rows (put_row (Exit c) e a)) ≡ Some b → ((a2 : System) → put_exits cs t.system.rows a2 ≡ Some b → Result cs a2 b) → Result (c ∷ cs) a b
       go None f k ih = none_some b k
       go (Some e) f k ih =
           let w = found c t.system.rows e f in
-          let r = ih (put_exit c e a) k in
+          let r = ih (put_row (Exit c) e a) k in
           let mine = sub c (or_left (nat_eq c c) (has cs c) (nat_eq_same c)) in
           let is_there = λ (p : Point) (h : HoldsAll (at_all p) t.system.rows). row_there e c p mine w.row_says (w.holds (at_all p) h) in
           record {
-            forward = λ p h z. r.forward p h (put_holds (at_named p) c e a.rows (is_there p h) z);
-            backward = λ l p h z. put_back (at_named p) c e a.rows (is_there p h) (or_parts a.weak (loses_row c e a.rows) (r.strong l)).1 (r.backward l p h z);
-            strong = λ l. (or_parts a.weak (loses_row c e a.rows) (r.strong l)).0;
+            forward = λ p h z. r.forward p h (put_holds (at_named p) (Exit c) e a.rows (is_there p h) z);
+            backward = λ l p h z. put_back (at_named p) (Exit c) e a.rows (is_there p h) (or_parts a.weak (loses_row (Exit c) e a.rows) (r.strong l)).1 (r.backward l p h z);
+            strong = λ l. (or_parts a.weak (loses_row (Exit c) e a.rows) (r.strong l)).0;
             off = λ z h. r.off z (exit_nil c z e a.rows w.row_says h);
-            gone = λ z h. one z (nat_eq c z) refl h (λ l. r.gone z l) (r.off c (all_gone c e a.rows w.row_says));
+            gone = λ z h. one z (nat_eq c z) refl h (λ l. r.gone z l) (r.off c (all_gone (Exit c) e a.rows w.row_says.unit));
           }
         where
           one : (z : ℕ) (i : Bool) → nat_eq c z ≡ i → (i || has cs z) ≡ true → (has cs z ≡ true → RowsNil (only (Exit z)) b.rows) → RowsNil (only (Exit c)) b.rows → RowsNil (only (Exit z)) b.rows
@@ -361,7 +274,7 @@ module _ (m : Scene) (t : Transformer) (x y : ℕ → ℤ) (d : Does m t x y) (s
           let w = result ns (λ z h. h) renamed b q in
           tidy_holds p b (rows_elsewhere (at_named p) p b.rows (off_named b w p) (w.forward p (relates_all p st) (to_renamed p ns (λ z h. h) (after_holds p ns st ph))))
       go (c ∷ cs) e None q = λ p st ph.
-          subst (λ (z : List ℕ). HoldsAll p (led_to z t s).rows) e
+          subst (λ (z : List ℕ). HoldsAll p (composed_with z t s).rows) e
           (project_keeps (meet renamed t.system) (exit_vars t.cells) (at_all p) p (λ v f. ends_off t.cells yc p v f)
           (meet_holds (at_all p) renamed t.system (to_renamed p t.cells (named_has t.cells s) (after_holds p t.cells st ph), relates_all p st)))
 

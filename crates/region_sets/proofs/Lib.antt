@@ -4,6 +4,7 @@ pub mod BackLaws
 pub mod UniteLaws
 pub mod SubtractLaws
 pub mod NilLaws
+pub mod PutLaws
 pub mod ComposeLaws
 pub mod LoopLaws
 pub mod PieceLaws

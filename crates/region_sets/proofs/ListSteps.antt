@@ -1,13 +1,14 @@
 -- A statement before the rest of a list.
-use Rattle.std.proofs.Common.{◌≡◌, ℕ, zero, suc, ◌-◌, Bool, true, false, Option, Some, None, subst, nat_eq, ◌+◌, ◌<◌, List, [], ◌∷◌, ◌++◌, length, drop, get_or, drop-cons, add-one, ap, refl, sym, ◌∙◌}
+use Rattle.std.proofs.Common.{◌≡◌, ℕ, zero, suc, ◌-◌, Bool, true, false, Option, Some, None, subst, nat_eq, ◌+◌, ◌<◌, List, [], ◌∷◌, ◌++◌, length, drop, get_or, drop-cons, add-one, append_assoc, append-nil, ap, refl, sym, ◌∙◌}
 use Rattle.std.specs.Prelude.{slice_get, if◌then◌else◌}
 use Rattle.f77_ast.specs.Shared.{numbered}
-use Rattle.f77_results.specs.declared.results.At.{At}
-use Rattle.transformer_algebra.specs.declared.transformer.Transformer.{Transformer}
+use Rattle.f77_ast.specs.declared.results.At.{At}
+use Rattle.transformers.specs.transformer_algebra.declared.transformer.Transformer.{Transformer}
 use Rattle.transformers.specs.Lists.{first_at, or_first, value_at}
 use Rattle.region_sets.specs.declared.region.Region.{Region}
 use Rattle.region_sets.specs.Sets.{SetFits, unite_all}
-use Rattle.region_sets.specs.Lists.{SetsFit, all_composed, in_order}
+use Rattle.region_sets.specs.Lists.{SetsFit, or_none, set_at, all_composed, in_order}
+use Rattle.region_sets.proofs.Steps.{fits-push, set-push, and_assoc}
 
 pub order_step : (t : ℕ → Transformer) (f : ℕ → List Region) (ns : List ℕ) (i d : ℕ) (set new : List Region) → i < length ns → set ≡ in_order t f (drop (i + 1) ns) → new ≡ unite_all (f (get_or ns i d) ++ all_composed (t (get_or ns i d)) set) → new ≡ in_order t f (drop i ns)
 order_step t f ns i d set new l e h =
@@ -45,3 +46,12 @@ or-fits (Some a) n as' t e q h = go (nat_eq a.id n) q
 
 pub value-fits : (as' : List (At (List Region))) (n : ℕ) (t : List Region) → value_at as' n ≡ Some t → SetsFit as' → SetFits t
 value-fits as' n t q h = or-fits (numbered as' n) n as' t refl q h
+
+none-fits : (o : Option (List Region)) → ((t : List Region) → o ≡ Some t → SetFits t) → SetFits (or_none o)
+none-fits None h = tt
+none-fits (Some t) h = h t refl
+
+pub set-fits : (as' : List (At (List Region))) (n : ℕ) (rs : List Region) → rs ≡ set_at as' n → SetsFit as' → SetFits rs
+set-fits as' n rs e h = subst SetFits (sym e) (none-fits (value_at as' n) (λ t q. value-fits as' n t q h))
+
+pub ruleset looked_up = (set-push, fits-push, append_assoc, append-nil, and_assoc, set-fits)

@@ -3,13 +3,13 @@ use Rattle.std.proofs.Common.{◌≡◌, List, [], ◌∷◌, Bool, true, false,
 use Rattle.std.specs.Prelude.{if◌then◌else◌}
 use Rattle.affine_systems.specs.declared.row.System.{System}
 use Rattle.hull_projection.specs.Refute.{refuted}
-use Rattle.transformer_algebra.specs.Laws.{In, here, there}
+use Rattle.transformers.specs.transformer_algebra.Laws.{In, here, there}
 use Rattle.region_sets.specs.declared.region.Region.{Region}
 use Rattle.region_sets.specs.Regions.{remade}
 use Rattle.region_sets.specs.Sets.{live_pieces, with_pieces, with_regions, live}
 use Rattle.region_sets.specs.Live.{NoneIsRefuted}
 
-abbrev IsLive : System → Type 0
+abbrev pub IsLive : System → Type 0
 IsLive s = refuted s.rows ≡ false
 
 at_front : {A : Type 0} (P : A → Type 0) (x y : A) (xs : List A) → P x → (In y xs → P y) → In y (x ∷ xs) → P y

@@ -19,7 +19,7 @@ use Rattle.region_sets.proofs.SetSteps.{come_same, come_back, come_chain, come_n
 pub piece_stays : (s : System) (ss : List System) → refuted s.rows ≡ false → live_pieces ss ≡ ss → live_pieces (s ∷ ss) ≡ s ∷ ss
 piece_stays s ss e h = rw e (ap (λ (ts : List System). s ∷ ts) h)
 
-live_pieces_fit : (ss : List System) → AllFit ss → AllFit (live_pieces ss)
+pub live_pieces_fit : (ss : List System) → AllFit ss → AllFit (live_pieces ss)
 live_pieces_fit [] h = tt
 live_pieces_fit (s ∷ ss) h = if_cases AllFit (refuted s.rows) (live_pieces ss) (s ∷ live_pieces ss) (λ e. live_pieces_fit ss h.1) (λ e. (h.0, live_pieces_fit ss h.1))
 

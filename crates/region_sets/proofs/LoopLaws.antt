@@ -18,26 +18,28 @@ use Rattle.hull_projection.specs.Laws.{IsOneOf}
 use Rattle.hull_projection.specs.Hull.{at_least_0}
 use Rattle.hull_projection.specs.Project.{project}
 use Rattle.hull_projection.proofs.ProjectLaws.{project_keeps, project_extends}
-use Rattle.system_renaming.specs.Renaming.{naming, renamed_by, rename_all, push_rows}
-use Rattle.system_renaming.proofs.KeepLaws.{rename_all_holds, push_rows_holds, of_rows_holds}
+use Rattle.transformers.specs.transformer_algebra.Renaming.{naming, renamed_by, rename_all, push_rows}
+use Rattle.transformers.proofs.TransformerAlgebra.KeepLaws.{rename_all_holds, push_rows_holds, of_rows_holds}
 use Rattle.affine_forms.specs.declared.affine.Affine.{Affine}
 use Rattle.affine_forms.specs.Claims.{form_value}
 use Rattle.affine_forms.specs.Comparisons.{var_form, at_most_row, same_row}
 use Rattle.affine_forms.proofs.RowLaws.{at_most_holds, same_holds}
-use Rattle.transformer_algebra.specs.Cells.{has, others}
-use Rattle.transformer_algebra.specs.Transformers.{unchanging, assign, exit_system, iterate}
-use Rattle.transformer_algebra.specs.Loops.{goes_up, within_row, if_counted}
-use Rattle.transformer_algebra.specs.Claims.{Scene, AtStart, AtEnd, Does, Means, NotBeyond}
-use Rattle.transformer_algebra.proofs.CellLaws.{nat_same, nat_eq_same, clashes, right_in}
-use Rattle.transformer_algebra.proofs.RuleLaws.{does_then}
-use Rattle.transformer_algebra.proofs.TurnLaws.{kept_chain, does_closed}
+use Rattle.transformers.specs.transformer_algebra.Cells.{has, others}
+use Rattle.transformers.specs.transformer_algebra.Transformers.{identity_transformer, assign, exit_system, iterate}
+use Rattle.transformers.specs.transformer_algebra.Loops.{goes_up, within_row, if_counted}
+use Rattle.transformers.specs.transformer_algebra.Claims.{Scene, AtStart, AtEnd, Does, Means, NotBeyond}
+use Rattle.transformers.proofs.TransformerAlgebra.CellLaws.{right_in}
+use Rattle.transformers.proofs.TransformerAlgebra.RuleLaws.{does_then}
+use Rattle.transformers.proofs.TransformerAlgebra.TurnLaws.{kept_chain, does_closed}
 use Rattle.region_sets.specs.declared.range.Range.{Range}
 use Rattle.region_sets.specs.Naming.{in_rows, named_cells, to_exits, exit_vars}
-use Rattle.region_sets.specs.Loops.{index_form, start_of, step_rows, first_rows, last_rows, counted_rows, range_rows, is_counted, first_assignment, iterations, iterations_at, at_index, loop_vars, led_to, through_loop, loop_piece}
+use Rattle.region_sets.specs.Loops.{index_form, start_of, step_rows, first_rows, last_rows, counted_rows, range_rows, is_counted, first_assignment, iterations, iterations_at, at_index, loop_vars, composed_with, through_loop, loop_piece}
 use Rattle.region_sets.specs.Claims.{Describes, InRange, Iteration, Begins}
 use Rattle.region_sets.proofs.NameLaws.{Agree, flip, rows_agree, has_named, named_has, has_others, others_has, exit_of_named, cell_of_other, stays_exit, stays_phi, stays_aux}
 use Rattle.region_sets.proofs.BackLaws.{push_weak, project_weak, rename_all_back, push_rows_back}
 use Rattle.region_sets.proofs.ComposeLaws.{ends_at, ends_off}
+use Rattle.fx_lists.proofs.Numbers.{same_is as nat_same, nat_eq_same}
+use Rattle.fx_lists.proofs.Booleans.{clash as clashes}
 
 -- ---- the index, by its name
 
@@ -83,13 +85,13 @@ end_is i c e = go (var_eq (Exit c) (Exit i)) (true-var_eq (Exit c) (Exit i) (ap 
 exit_apart : (i c : ℕ) → nat_eq i c ≡ false → Exit c ≡ Exit i → ⊥
 exit_apart i c e q = let k : i ≡ c = cc in clashes (nat_eq i c) (subst (λ (z : ℕ). nat_eq i z ≡ true) k (nat_eq_same i)) e
 
-exit_no_cell : (c i : ℕ) → Exit c ≡ Cell i → ⊥
+pub exit_no_cell : (c i : ℕ) → Exit c ≡ Cell i → ⊥
 exit_no_cell c i q = cc
 
-phi_no_cell : (c i : ℕ) → Phi c ≡ Cell i → ⊥
+pub phi_no_cell : (c i : ℕ) → Phi c ≡ Cell i → ⊥
 phi_no_cell c i q = cc
 
-aux_no_cell : (c i : ℕ) → Aux c ≡ Cell i → ⊥
+pub aux_no_cell : (c i : ℕ) → Aux c ≡ Cell i → ⊥
 aux_no_cell c i q = cc
 
 cell_no_exit : (c i : ℕ) → Cell c ≡ Exit i → ⊥
@@ -97,20 +99,20 @@ cell_no_exit c i q = cc
 
 -- ---- rows
 
-within_holds : (s : ℤ) (f g : Affine) (p : Point) → NotBeyond (goes_up s) (form_value p f) (form_value p g) → Holds p (within_row s f g)
+pub within_holds : (s : ℤ) (f g : Affine) (p : Point) → NotBeyond (goes_up s) (form_value p f) (form_value p g) → Holds p (within_row s f g)
 within_holds s f g p h = go (goes_up s) h
   where
     go : (b : Bool) → NotBeyond b (form_value p f) (form_value p g) → Holds p (if b then at_most_row f g else at_most_row g f)
     go true k = at_most_holds f g p k
     go false k = at_most_holds g f p k
 
-at_most_back : (f g : Affine) (p : Point) → Holds p (at_most_row f g) → form_value p f ≤ℤ form_value p g
+pub at_most_back : (f g : Affine) (p : Point) → Holds p (at_most_row f g) → form_value p f ≤ℤ form_value p g
 at_most_back f g p h = let v = value-combined p (pos 1) f.terms (negsuc 0) g.terms in omega (arith, ints, v, h)
 
-same_back : (f g : Affine) (p : Point) → Holds p (same_row f g) → form_value p f ≡ form_value p g
+pub same_back : (f g : Affine) (p : Point) → Holds p (same_row f g) → form_value p f ≡ form_value p g
 same_back f g p h = let v = value-combined p (pos 1) f.terms (negsuc 0) g.terms in omega (arith, ints, v, h)
 
-within_back : (s : ℤ) (f g : Affine) (p : Point) → Holds p (within_row s f g) → NotBeyond (goes_up s) (form_value p f) (form_value p g)
+pub within_back : (s : ℤ) (f g : Affine) (p : Point) → Holds p (within_row s f g) → NotBeyond (goes_up s) (form_value p f) (form_value p g)
 within_back s f g p h = go (goes_up s) h
   where
     go : (b : Bool) → Holds p (if b then at_most_row f g else at_most_row g f) → NotBeyond b (form_value p f) (form_value p g)
@@ -131,11 +133,11 @@ least_back p h = omega (arith, ints, h)
 
 -- ---- each number between is met in steps of 1 or -1
 
-record Offset (a n : ℤ) : Type 0 where
-  by : ℕ
-  is_it : n ≡ a +ℤ pos by
+pub record Offset (a n : ℤ) : Type 0 where
+  pub by : ℕ
+  pub is_it : n ≡ a +ℤ pos by
 
-offset : (a n : ℤ) → a ≤ℤ n → Offset a n
+pub offset : (a n : ℤ) → a ≤ℤ n → Offset a n
 offset a n h = go (n -ℤ a) refl
   where
     go : (z : ℤ) → n -ℤ a ≡ z → Offset a n
@@ -167,7 +169,7 @@ with_turn n k p (Aux (suc zero)) = pos k
 with_turn n k p (Aux (suc (suc j))) = p (Aux (suc (suc j)))
 
 -- the numbers where it begins
-abbrev in_turn : ℕ → ℤ → List ℕ → (ℕ → ℤ) → Point → Var → ℤ
+abbrev pub in_turn : ℕ → ℤ → List ℕ → (ℕ → ℤ) → Point → Var → ℤ
 in_turn i n cs y p (Cell c) = if nat_eq i c then n else if has cs c then y c else p (Cell c)
 in_turn i n cs y p (Exit c) = p (Exit c)
 in_turn i n cs y p (Phi k) = p (Phi k)
@@ -237,7 +239,7 @@ module _ (m : Scene) (g : Range) (x : ℕ → ℤ) (a b : ℤ) (bg : Begins m g 
       means None = tt
       means (Some s) = bg.first
 
-      go : (h : Bool) → has g.turn.cells g.index ≡ h → Does m (if h then assign g.index (if_counted g.step g.first) else unchanging) x it.begin
+      go : (h : Bool) → has g.turn.cells g.index ≡ h → Does m (if h then assign g.index (if_counted g.step g.first) else identity_transformer) x it.begin
       go true h = record {
         relates = λ p st en. exit_holds (if_counted g.step g.first) p (means g.step) st (en g.index (bg.tracks g.index h) (or_left (nat_eq g.index g.index) false (nat_eq_same g.index)) ∙ it.wrote.there);
         kept = record { cells = λ c t e. it.wrote.cells c t (no_rest c e); foreign = λ u t e. it.wrote.foreign u t };
@@ -326,8 +328,8 @@ module _ (m : Scene) (g : Range) (x : ℕ → ℤ) (a b : ℤ) (bg : Begins m g 
             let at_p2 = l (in_it n y p2) (starts_turn n k y p p2 it st (λ c. refl)) ph in
             let here = rename_all_holds (to_exits ns) (at_index g.index s) p2 (rename_all_holds (naming (Cell g.index) (Aux 0) ∷ []) s (λ v. p2 (renamed_by (to_exits ns) v)) (rows_agree s.rows (in_it n y p2) (λ v. p2 (stands v)) (moving n y p1 refl) at_p2)) in
             let turned = rename_all_holds (naming (Exit g.index) (Aux 0) ∷ []) (iterations g).system p2 ((does_turns n k y it).relates (λ v. p2 (renamed_by (naming (Exit g.index) (Aux 0) ∷ []) v)) (starts p st) (ends p)) in
-            subst (λ (z : List ℕ). HoldsAll p (project (led_to z g s) loop_vars).system.rows) e
-            (project_keeps (led_to ns g s) loop_vars p1 p (λ v f. turn_off n k p v f)
+            subst (λ (z : List ℕ). HoldsAll p (project (composed_with z g s) loop_vars).system.rows) e
+            (project_keeps (composed_with ns g s) loop_vars p1 p (λ v f. turn_off n k p v f)
             (project_keeps (meet (push_rows (rename_all (to_exits ns) (at_index g.index s)) (range_rows g)) (iterations_at g)) (exit_vars (iterations g).cells) p2 p1 (λ v f. ends_off (iterations g).cells (yc y) p1 v f)
             (meet_holds p2 (push_rows (rename_all (to_exits ns) (at_index g.index s)) (range_rows g)) (iterations_at g) (push_rows_holds (rename_all (to_exits ns) (at_index g.index s)) (range_rows g) p2 here (rows_hold n k p2 it.range st refl refl), turned))))
           where

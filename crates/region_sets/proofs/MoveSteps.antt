@@ -6,8 +6,8 @@ use Rattle.affine_systems.specs.declared.row.System.{System}
 use Rattle.affine_systems.proofs.ItemSteps.{reverse_pushed}
 use Rattle.hull_projection.specs.declared.projection.Shadow.{Shadow}
 use Rattle.hull_projection.specs.Project.{shadow}
-use Rattle.system_renaming.specs.Renaming.{rename_all}
-use Rattle.transformer_algebra.specs.declared.transformer.Transformer.{Transformer}
+use Rattle.transformers.specs.transformer_algebra.Renaming.{rename_all}
+use Rattle.transformers.specs.transformer_algebra.declared.transformer.Transformer.{Transformer}
 use Rattle.region_sets.specs.declared.region.Region.{Region}
 use Rattle.region_sets.specs.Regions.{region, remade, any_weak, all_exact, systems}
 use Rattle.region_sets.specs.Naming.{has_none, named_cells, to_exits}
@@ -15,6 +15,7 @@ use Rattle.region_sets.specs.Compose.{put_or_led, put_exits, compose_piece, comp
 use Rattle.region_sets.specs.Lists.{all_composed}
 use Rattle.region_sets.proofs.Steps.{set-push}
 use Rattle.region_sets.proofs.LiveSteps.{less_fits, last_fits, reverse_fits}
+use Rattle.fx_lists.proofs.Booleans.{and_true}
 
 -- ---- a region that names no changed cell
 
@@ -37,10 +38,6 @@ all_true (s ∷ ss) = all_true ss
 all_same : (ss : List System) → systems (map (λ (u : System). shadow u true) ss) ≡ ss
 all_same [] = refl
 all_same (s ∷ ss) = ap (λ (us : List System). s ∷ us) (all_same ss)
-
-and_true : (b : Bool) → (b && true) ≡ b
-and_true true = refl
-and_true false = refl
 
 pub passed : (r : Region) (t : Transformer) (b : Bool) → map (compose_piece t) r.pieces ≡ map (λ (u : System). shadow u true) r.pieces → b ≡ (r.exact && not (any_weak r.pieces)) → region r.variable r.kind b r.pieces ≡ compose r t
 passed r t b h e =

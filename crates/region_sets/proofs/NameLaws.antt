@@ -1,5 +1,5 @@
 -- A system speaks of the variables that it names alone; and what namings of cells read.
-use Rattle.std.proofs.Common.{◌≡◌, ℕ, List, [], ◌∷◌, ◌||◌, Bool, true, false, refl, sym, ap, ap₂, ◌∙◌, subst, ℤ, ◌+ℤ◌, ◌*ℤ◌, nat_eq}
+use Rattle.std.proofs.Common.{◌≡◌, ℕ, List, [], ◌∷◌, ◌||◌, Bool, true, false, refl, sym, ap, ap₂, ◌∙◌, subst, ℤ, ◌+ℤ◌, ◌*ℤ◌, nat_eq, ◌-◌}
 use Rattle.std.specs.Prelude.{if◌then◌else◌}
 use Rattle.std.proofs.lemmas.Bool.{or_left, or_right}
 use Rattle.affine_systems.specs.declared.row.Var.{Var}
@@ -10,10 +10,14 @@ use Rattle.affine_systems.specs.declared.row.System.{System}
 use Rattle.affine_systems.specs.Terms.{var_eq}
 use Rattle.affine_systems.specs.Points.{Point, value, Meets, HoldsAll}
 use Rattle.affine_systems.proofs.TermLaws.{var_eq-true, true-var_eq}
-use Rattle.system_renaming.specs.Renaming.{renamed_by}
-use Rattle.transformer_algebra.specs.Cells.{has, others}
-use Rattle.transformer_algebra.proofs.CellLaws.{nat_same, nat_eq_same, clashes, exit_cell, cell_same, tail_has}
+use Rattle.transformers.specs.transformer_algebra.Renaming.{renamed_by}
+use Rattle.transformers.specs.transformer_algebra.Cells.{has, others}
+use Rattle.transformers.proofs.TransformerAlgebra.CellLaws.{exit_cell, cell_same, tail_has}
 use Rattle.region_sets.specs.Naming.{in_terms, in_rows, named_cells, to_exits}
+use Rattle.fx_lists.proofs.Numbers.{same_is as nat_same, nat_eq_same}
+use Rattle.fx_lists.proofs.Booleans.{clash as clashes}
+use Rattle.hull_projection.specs.Laws.{IsOneOf}
+use Rattle.hull_projection.proofs.VarLaws.{TermsIn, RowsIn}
 
 -- ---- tests
 
@@ -39,7 +43,6 @@ rows_agree (r ∷ rs) p q h e = (
 )
 
 -- ---- named cells
-
 pub has_named : (cs : List ℕ) (s : System) (c : ℕ) → has cs c ≡ true → in_rows (Cell c) s.rows ≡ true → has (named_cells cs s) c ≡ true
 has_named [] s c h n = h
 has_named (d ∷ cs) s c h n = go (nat_eq d c) refl h (in_rows (Cell d) s.rows) refl (λ k. has_named cs s c k n)
@@ -94,7 +97,6 @@ others_has i (d ∷ cs) c h = go (nat_eq i d || false) refl h (λ k. others_has 
     go false e h ih = one (nat_eq d c) refl e h ih
 
 -- ---- cells that become exits
-
 pub exit_of_named : (cs : List ℕ) (c : ℕ) → has cs c ≡ true → renamed_by (to_exits cs) (Cell c) ≡ Exit c
 exit_of_named [] c h = clashes false h refl
 exit_of_named (d ∷ cs) c h = go (var_eq (Cell c) (Cell d)) refl (λ k. exit_of_named cs c k)
@@ -143,3 +145,19 @@ stays_phi cs c = stays cs (Phi c) (λ d. phi_cell c d)
 
 pub stays_aux : (cs : List ℕ) (c : ℕ) → renamed_by (to_exits cs) (Aux c) ≡ Aux c
 stays_aux cs c = stays cs (Aux c) (λ d. aux_cell c d)
+
+pub terms_has : (v : Var) (xs : List Var) (ts : List Term) → TermsIn xs ts → in_terms v ts ≡ true → IsOneOf v xs
+terms_has v xs [] h e = clashes false e refl
+terms_has v xs (t ∷ ts) h e = go (var_eq v t.var) refl e (λ f. terms_has v xs ts h.1 f)
+  where
+    go : (b : Bool) → var_eq v t.var ≡ b → (b || in_terms v ts) ≡ true → (in_terms v ts ≡ true → IsOneOf v xs) → IsOneOf v xs
+    go true k f ih = subst (λ w. IsOneOf w xs) (sym (var_eq-true v t.var k)) h.0
+    go false k f ih = ih f
+
+pub rows_has : (v : Var) (xs : List Var) (rs : List Row) → RowsIn xs rs → in_rows v rs ≡ true → IsOneOf v xs
+rows_has v xs [] h e = clashes false e refl
+rows_has v xs (r ∷ rs) h e = go (in_terms v r.terms) refl e (λ f. rows_has v xs rs h.1 f)
+  where
+    go : (b : Bool) → in_terms v r.terms ≡ b → (b || in_rows v rs) ≡ true → (in_rows v rs ≡ true → IsOneOf v xs) → IsOneOf v xs
+    go true k f ih = terms_has v xs r.terms h.0 k
+    go false k f ih = ih f

@@ -1,65 +1,20 @@
 -- Rows without a variable: the terms come to 0 at the point that is 1 there and 0 elsewhere.
-use Rattle.std.proofs.Common.{◌≡◌, ℕ, ◌<◌, ◌%◌, Bool, true, false, ◌&&◌, ◌||◌, List, [], ◌∷◌, ℤ, pos, negsuc, neg_ℤ, ◌+ℤ◌, ◌*ℤ◌, arith, ap, refl, sym, ◌∙◌, int_eq, int_lt, unsigned_abs, nat_eq}
+use Rattle.std.proofs.Common.{◌≡◌, Bool, true, false, ◌||◌, List, [], ◌∷◌, ℤ, pos, negsuc, neg_ℤ, ◌+ℤ◌, ◌*ℤ◌, arith, ap, refl, sym, ◌∙◌}
 use Rattle.std.specs.Prelude.{if◌then◌else◌}
-use Rattle.std.specs.Int.{int_div_euclid}
 use Rattle.std.proofs.lemmas.Int.{ints}
 use Rattle.std.proofs.lemmas.Bool.Decides.{nat_tests}
 use Rattle.affine_systems.specs.declared.row.Var.{Var}
 use Rattle.affine_systems.specs.declared.row.Term.{Term}
 use Rattle.affine_systems.specs.declared.row.Row.{Row}
-use Rattle.affine_systems.specs.Terms.{var_eq, negated_terms}
-use Rattle.affine_systems.specs.Rows.{row}
+use Rattle.affine_systems.specs.Terms.{var_eq}
 use Rattle.affine_systems.specs.Points.{Point, value, only, factor_of}
-use Rattle.affine_systems.specs.Normal.{divisor, divided, last_is_negative, is_small, are_small, Normal, Kept, Always, Never, TooBig, without_terms, if_small, turned, turned_if_small, divided_by, start_of, normal_terms, normal}
 use Rattle.affine_systems.specs.Tidy.{is_unit, by_row}
-use Rattle.affine_systems.proofs.Basics.{if_cases, mul_assoc, neg_mul}
-use Rattle.affine_systems.proofs.NormalLaws.{DividesAll, divisor_divides, divisor_positive, value-divided, value-negated, cancel_scale}
+use Rattle.affine_systems.proofs.Basics.{mul_assoc, neg_mul}
+use Rattle.affine_systems.proofs.NormalLaws.{value-divided, value-negated, cancel_scale}
 use Rattle.affine_systems.proofs.ElimLaws.{value-combined}
 use Rattle.affine_systems.proofs.LackLaws.{Nil, factor-only}
-use Rattle.transformer_algebra.proofs.CellLaws.{clashes}
 use Rattle.region_sets.specs.Naming.{in_terms}
-
--- ---- normal rows
-
-abbrev pub NormalNil : Point → Normal → Type 0
-NormalNil u (Kept r) = Nil u r
-NormalNil u Always = Unit {0}
-NormalNil u Never = Unit {0}
-NormalNil u TooBig = Unit {0}
-
-nil_negated : (u : Point) (ts : List Term) → value u ts ≡ pos 0 → value u (negated_terms ts) ≡ pos 0
-nil_negated u ts h = value-negated u ts ∙ ap neg_ℤ h
-
-if_small_nil : (u : Point) (r s : Row) → Nil u s → NormalNil u (if_small r s)
-if_small_nil u r s h = if_cases (NormalNil u) (is_small r.bound && are_small r.terms) (Kept s) TooBig (λ e. h) (λ e. tt)
-
-divided_nil : (u : Point) (g : ℕ) (ts : List Term) → 0 < g → DividesAll g ts → value u ts ≡ pos 0 → value u (divided g ts) ≡ pos 0
-divided_nil u g ts h d k =
-    cancel_scale g (value u (divided g ts)) (pos 0) h (value-divided u g ts h d ∙ k ∙ zero_times g)
-  where
-    zero_times : (g : ℕ) → pos 0 ≡ pos g *ℤ pos 0
-    zero_times g = omega (arith, ints)
-
-divided_by_nil : (u : Point) (g : ℕ) (e : Bool) (ts : List Term) (b : ℤ) → 0 < g → DividesAll g ts → value u ts ≡ pos 0 → NormalNil u (divided_by g e ts b)
-divided_by_nil u g false ts b h d k = if_small_nil u (row false (divided g ts) (int_div_euclid b (pos g))) (row false (divided g ts) (int_div_euclid b (pos g))) (divided_nil u g ts h d k)
-divided_by_nil u g true ts b h d k =
-    let r = row true (divided g ts) (int_div_euclid b (pos g)) in
-    let z = divided_nil u g ts h d k in
-    if_cases (NormalNil u) (nat_eq (unsigned_abs b % g) 0) (turned_if_small r) Never
-    (λ e. if_small_nil u r (turned r) (if_cases (Nil u) (last_is_negative (divided g ts)) (row true (negated_terms (divided g ts)) (neg_ℤ (int_div_euclid b (pos g)))) r (λ t. nil_negated u (divided g ts) z) (λ t. z)))
-    (λ e. tt)
-
-pub normal_nil : (u : Point) (q : Bool) (r : Row) → Nil u r → NormalNil u (normal q r)
-normal_nil u q r h = go r.terms h where
-  go : (ts : List Term) → value u ts ≡ pos 0 → NormalNil u (normal_terms q r.equal ts r.bound)
-  go [] h = none r.equal
-    where
-      none : (e : Bool) → NormalNil u (without_terms e r.bound)
-      none true = if_cases (NormalNil u) (int_eq r.bound (pos 0)) Always Never (λ e. tt) (λ e. tt)
-      none false = if_cases (NormalNil u) (int_lt r.bound (pos 0)) Never Always (λ e. tt) (λ e. tt)
-  go (t ∷ ts) h =
-      let m = start_of q r.bound in
-      divided_by_nil u (divisor (t ∷ ts) m) r.equal (t ∷ ts) r.bound (divisor_positive (t ∷ ts) m) (divisor_divides (t ∷ ts) m).0 h
+use Rattle.fx_lists.proofs.Booleans.{clash as clashes}
 
 -- ---- rows with another put in
 

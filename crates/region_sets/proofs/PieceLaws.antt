@@ -5,8 +5,8 @@ use Rattle.std.proofs.lemmas.Bool.{or_parts, and_parts, not-true}
 use Rattle.affine_systems.specs.declared.row.System.{System}
 use Rattle.affine_systems.specs.Points.{Point, HoldsAll}
 use Rattle.hull_projection.specs.declared.projection.Shadow.{Shadow}
-use Rattle.transformer_algebra.specs.declared.transformer.Transformer.{Transformer}
-use Rattle.transformer_algebra.specs.Laws.{In, here, there}
+use Rattle.transformers.specs.transformer_algebra.declared.transformer.Transformer.{Transformer}
+use Rattle.transformers.specs.transformer_algebra.Laws.{In, here, there}
 use Rattle.region_sets.specs.declared.range.Range.{Range}
 use Rattle.region_sets.specs.declared.region.Region.{Region}
 use Rattle.region_sets.specs.Regions.{any_weak, all_exact, systems}
@@ -17,20 +17,20 @@ use Rattle.region_sets.specs.Laws.{MovesUnits, MovesSharp, HasIterations, HasIte
 use Rattle.region_sets.proofs.ComposeLaws.{piece_describes, piece_back}
 use Rattle.region_sets.proofs.LoopLaws.{piece_of_turn, piece_turned}
 
-in_systems : (f : System → Shadow) (s : System) (ss : List System) → In s ss → In (f s).system (systems (map f ss))
+pub in_systems : (f : System → Shadow) (s : System) (ss : List System) → In s ss → In (f s).system (systems (map f ss))
 in_systems f s [] i = elim i [ ]
 in_systems f s (u ∷ ss) here = here
 in_systems f s (u ∷ ss) (there i) = there (in_systems f s ss i)
 
 -- a piece of which a point is one of what is made of it
-record Made (f : System → Shadow) (p : Point) (ss : List System) : Type 0 where
-  piece : System
-  exact : (f piece).exact ≡ true
-  strong : (f piece).system.weak ≡ false
-  holds : HoldsAll p (f piece).system.rows
-  back : (q : Point) → HoldsAll q piece.rows → HoldsSome q ss
+pub record Made (f : System → Shadow) (p : Point) (ss : List System) : Type 0 where
+  pub piece : System
+  pub exact : (f piece).exact ≡ true
+  pub strong : (f piece).system.weak ≡ false
+  pub holds : HoldsAll p (f piece).system.rows
+  pub back : (q : Point) → HoldsAll q piece.rows → HoldsSome q ss
 
-made : (f : System → Shadow) (p : Point) (ss : List System) → all_exact (map f ss) ≡ true → any_weak (systems (map f ss)) ≡ false → HoldsSome p (systems (map f ss)) → Made f p ss
+pub made : (f : System → Shadow) (p : Point) (ss : List System) → all_exact (map f ss) ≡ true → any_weak (systems (map f ss)) ≡ false → HoldsSome p (systems (map f ss)) → Made f p ss
 made f p [] e w h = absurd h
 made f p (s ∷ ss) e w h =
     let e2 = and_parts (f s).exact (all_exact (map f ss)) e in

@@ -1,4 +1,4 @@
--- Rows with what an exit is put in: they are ready for the next.
+-- Rows with what a variable is put in: they are ready for the next.
 use Rattle.std.proofs.Common.{arith, ◌≡◌, ℕ, zero, suc, ◌+◌, ◌<◌, ◌≤◌, length, drop, get_or, drop-cons, drop_of_length-le, add-one, ap₂, ◌%◌, Bool, true, false, ◌&&◌, ◌||◌, List, [], ◌∷◌, ◌++◌, Option, Some, None, refl, sym, ap, subst, ◌∙◌, nat_eq, unsigned_abs, ℤ, pos, append_assoc, append-nil}
 use Rattle.std.specs.Prelude.{if◌then◌else◌, not}
 use Rattle.std.specs.Int.{int_div_euclid}
@@ -19,11 +19,13 @@ use Rattle.affine_systems.proofs.Basics.{if_cases}
 use Rattle.affine_systems.proofs.FitLaws.{by_row_given, kept-ascends, small_given}
 use Rattle.affine_systems.proofs.ReducedLaws.{normal-reduced, kept-reduced}
 use Rattle.affine_systems.proofs.RenameSteps.{normal_small_row}
-use Rattle.transformer_algebra.proofs.CellLaws.{clashes}
 use Rattle.region_sets.specs.Ready.{IsReady}
 use Rattle.region_sets.specs.Naming.{in_terms}
-use Rattle.region_sets.specs.Compose.{has_other_exit, is_exit_row, exit_row, settled_by, normal_form, put_in, before_rows, put_in_all, is_lost, loses_row}
-use Rattle.region_sets.proofs.Steps.{ready-push, or_assoc}
+use Rattle.region_sets.specs.Compose.{has_other_exit, is_exit_row, exit_row}
+use Rattle.region_sets.proofs.Steps.{ready-push}
+use Rattle.fx_lists.proofs.Options.{none_some, some_is}
+use Rattle.fx_lists.proofs.Booleans.{clash as clashes, or_turned as or_assoc}
+use Rattle.region_sets.specs.Putting.{settled_by, normal_form, put_in, before_rows, put_in_all, is_lost, loses_row}
 
 pub in_some : (v : Var) (ts : List Term) → in_terms v ts ≡ true → has_no_terms ts ≡ false
 in_some v [] h = clashes false h refl
@@ -35,12 +37,12 @@ exit_equal c e h = (and_parts e.equal (is_unit (factor_of (Exit c) e.terms) && n
 pub exit_unit : (c : ℕ) (e : Row) → is_exit_row c e ≡ true → is_unit (factor_of (Exit c) e.terms) ≡ true
 exit_unit c e h = (and_parts (is_unit (factor_of (Exit c) e.terms)) (not (has_other_exit c e.terms)) (and_parts e.equal (is_unit (factor_of (Exit c) e.terms) && not (has_other_exit c e.terms)) h).1).0
 
-pub named_normal : (c : ℕ) (r : Row) → IsReady r → in_terms (Exit c) r.terms ≡ true → IsNormal r
-named_normal c r h e = h.normal (in_some (Exit c) r.terms e)
+pub named_normal : (v : Var) (r : Row) → IsReady r → in_terms v r.terms ≡ true → IsNormal r
+named_normal v r h e = h.normal (in_some v r.terms e)
 
 -- ---- a row that always holds has no terms
 
-abbrev NotAlways : Normal → Type 0
+abbrev pub NotAlways : Normal → Type 0
 NotAlways (Kept r) = Unit {0}
 NotAlways Always = ⊥
 NotAlways Never = Unit {0}
@@ -55,7 +57,7 @@ divided_not g true ts b =
     if_cases NotAlways (nat_eq (unsigned_abs b % g) 0) (turned_if_small r) Never (λ e. small_not r (turned r)) (λ e. tt)
 divided_not g false ts b = let r = row false (divided g ts) (int_div_euclid b (pos g)) in small_not r r
 
-no_terms : (r : Row) → normal false r ≡ Always → has_no_terms r.terms ≡ true
+pub no_terms : (r : Row) → normal false r ≡ Always → has_no_terms r.terms ≡ true
 no_terms r e = go r.terms e
   where
     go : (ts : List Term) → normal_terms false r.equal ts r.bound ≡ Always → has_no_terms ts ≡ true
@@ -64,20 +66,14 @@ no_terms r e = go r.terms e
 
 -- ---- the row that is made
 
-false_ready : IsReady false_row
+pub false_ready : IsReady false_row
 false_ready = record { given = (tt, omega arith, tt); normal = λ e. clashes true refl e }
 
-normal_ready : (r : Row) → IsNormal r → IsReady r
+pub normal_ready : (r : Row) → IsNormal r → IsReady r
 normal_ready r h = record { given = small_given r (normal_small_row r h); normal = λ e. h }
 
-none_some : {A : Type 0} {B : Type 0} (x : A) → None ≡ Some x → B
-none_some x q = absurd (cc)
-
-some_is : {A : Type 0} (x y : A) → Some x ≡ Some y → x ≡ y
-some_is x y q = cc
-
 -- what is put in is ready
-made_ready : (b new : Row) → IsGiven b → normal_form (unless_too_big (normal false b) b) ≡ Some new → IsReady new
+pub made_ready : (b new : Row) → IsGiven b → normal_form (unless_too_big (normal false b) b) ≡ Some new → IsReady new
 made_ready b new h q = go (normal false b) refl q
   where
     kept : (s : Row) → normal false b ≡ Kept s → normal false s ≡ Kept s
@@ -95,11 +91,11 @@ made_ready b new h q = go (normal false b) refl q
         subst IsReady same false_ready
     go TooBig e k = none_some new k
 
-pub put_ready : (c : ℕ) (e r new : Row) → IsNormal e → is_exit_row c e ≡ true → IsReady r → put_in c e r ≡ Some new → IsReady new
-put_ready c e r new n x h q = go (in_terms (Exit c) r.terms) refl q
+pub put_ready : (v : Var) (e r new : Row) → IsNormal e → is_unit (factor_of v e.terms) ≡ true → IsReady r → put_in v e r ≡ Some new → IsReady new
+put_ready v e r new n x h q = go (in_terms v r.terms) refl q
   where
-    go : (b : Bool) → in_terms (Exit c) r.terms ≡ b → (if b then normal_form (substitute r (Exit c) e) else Some r) ≡ Some new → IsReady new
-    go true i k = made_ready (by_row r (Exit c) e) new (by_row_given r (Exit c) e (exit_unit c e x) (normal_small_row r (named_normal c r h i)) (normal_small_row e n)) k
+    go : (b : Bool) → in_terms v r.terms ≡ b → (if b then normal_form (substitute r v e) else Some r) ≡ Some new → IsReady new
+    go true i k = made_ready (by_row r v e) new (by_row_given r v e x (normal_small_row r (named_normal v r h i)) (normal_small_row e n)) k
     go false i k = subst IsReady (some_is r new k) h
 
 -- the row that is found is one of the system's, and says what the exit is
@@ -124,29 +120,29 @@ found_says c es e q h = (found_ready c es e q h).1
 
 pub ruleset putting = (in_some, exit_equal, exit_unit, named_normal, put_ready, found_normal, found_says, ready-push, append_assoc, append-nil)
 
-pub put_more : (c : ℕ) (e r : Row) (rs : List Row) → put_in_all c e (r ∷ rs) ≡ before_rows (put_in c e r) [] ++ put_in_all c e rs
-put_more c e r rs = go (put_in c e r)
+pub put_more : (v : Var) (e r : Row) (rs : List Row) → put_in_all v e (r ∷ rs) ≡ before_rows (put_in v e r) [] ++ put_in_all v e rs
+put_more v e r rs = go (put_in v e r)
   where
-    go : (o : Option Row) → before_rows o (put_in_all c e rs) ≡ before_rows o [] ++ put_in_all c e rs
+    go : (o : Option Row) → before_rows o (put_in_all v e rs) ≡ before_rows o [] ++ put_in_all v e rs
     go None = refl
     go (Some s) = refl
 
-pub put-step : (c : ℕ) (e : Row) (rs out new goal : List Row) (i : ℕ) (d : Row) → i < length rs → new ≡ out ++ before_rows (put_in c e (get_or rs i d)) [] → out ++ put_in_all c e (drop i rs) ≡ goal → new ++ put_in_all c e (drop (i + 1) rs) ≡ goal
-put-step c e rs out new goal i d l h g =
-    let b = before_rows (put_in c e (get_or rs i d)) [] in
-    let x : put_in_all c e (drop i rs) ≡ b ++ put_in_all c e (drop (suc i) rs) = ap (put_in_all c e) (drop-cons rs i d l) ∙ put_more c e (get_or rs i d) (drop (suc i) rs) in
-    ap₂ (λ (us : List Row) n. us ++ put_in_all c e (drop n rs)) h (add-one i) ∙ (append_assoc out b (put_in_all c e (drop (suc i) rs)) ∙ (ap (λ (us : List Row). out ++ us) (sym x) ∙ g))
+pub put-step : (v : Var) (e : Row) (rs out new goal : List Row) (i : ℕ) (d : Row) → i < length rs → new ≡ out ++ before_rows (put_in v e (get_or rs i d)) [] → out ++ put_in_all v e (drop i rs) ≡ goal → new ++ put_in_all v e (drop (i + 1) rs) ≡ goal
+put-step v e rs out new goal i d l h g =
+    let b = before_rows (put_in v e (get_or rs i d)) [] in
+    let x : put_in_all v e (drop i rs) ≡ b ++ put_in_all v e (drop (suc i) rs) = ap (put_in_all v e) (drop-cons rs i d l) ∙ put_more v e (get_or rs i d) (drop (suc i) rs) in
+    ap₂ (λ (us : List Row) n. us ++ put_in_all v e (drop n rs)) h (add-one i) ∙ (append_assoc out b (put_in_all v e (drop (suc i) rs)) ∙ (ap (λ (us : List Row). out ++ us) (sym x) ∙ g))
 
-pub put-end : (c : ℕ) (e : Row) (rs out goal : List Row) (i : ℕ) → length rs ≤ i → out ++ put_in_all c e (drop i rs) ≡ goal → out ≡ goal
-put-end c e rs out goal i l g = sym (append-nil out) ∙ (ap (λ (us : List Row). out ++ put_in_all c e us) (sym (drop_of_length-le rs l)) ∙ g)
+pub put-end : (v : Var) (e : Row) (rs out goal : List Row) (i : ℕ) → length rs ≤ i → out ++ put_in_all v e (drop i rs) ≡ goal → out ≡ goal
+put-end v e rs out goal i l g = sym (append-nil out) ∙ (ap (λ (us : List Row). out ++ put_in_all v e us) (sym (drop_of_length-le rs l)) ∙ g)
 
-pub lost-step : (c : ℕ) (e : Row) (rs : List Row) (w one goal : Bool) (i : ℕ) (d : Row) → i < length rs → one ≡ is_lost (put_in c e (get_or rs i d)) → (w || loses_row c e (drop i rs)) ≡ goal → ((w || one) || loses_row c e (drop (i + 1) rs)) ≡ goal
-lost-step c e rs w one goal i d l h g =
-    ap₂ (λ (u : Bool) n. (w || u) || loses_row c e (drop n rs)) h (add-one i)
-    ∙ (or_assoc w (is_lost (put_in c e (get_or rs i d))) (loses_row c e (drop (suc i) rs)) ∙ (ap (λ (us : List Row). w || loses_row c e us) (sym (drop-cons rs i d l)) ∙ g))
+pub lost-step : (v : Var) (e : Row) (rs : List Row) (w one goal : Bool) (i : ℕ) (d : Row) → i < length rs → one ≡ is_lost (put_in v e (get_or rs i d)) → (w || loses_row v e (drop i rs)) ≡ goal → ((w || one) || loses_row v e (drop (i + 1) rs)) ≡ goal
+lost-step v e rs w one goal i d l h g =
+    ap₂ (λ (u : Bool) n. (w || u) || loses_row v e (drop n rs)) h (add-one i)
+    ∙ (or_assoc w (is_lost (put_in v e (get_or rs i d))) (loses_row v e (drop (suc i) rs)) ∙ (ap (λ (us : List Row). w || loses_row v e us) (sym (drop-cons rs i d l)) ∙ g))
 
-pub lost-end : (c : ℕ) (e : Row) (rs : List Row) (w goal : Bool) (i : ℕ) → length rs ≤ i → (w || loses_row c e (drop i rs)) ≡ goal → w ≡ goal
-lost-end c e rs w goal i l g = none w ∙ (ap (λ (us : List Row). w || loses_row c e us) (sym (drop_of_length-le rs l)) ∙ g)
+pub lost-end : (v : Var) (e : Row) (rs : List Row) (w goal : Bool) (i : ℕ) → length rs ≤ i → (w || loses_row v e (drop i rs)) ≡ goal → w ≡ goal
+lost-end v e rs w goal i l g = none w ∙ (ap (λ (us : List Row). w || loses_row v e us) (sym (drop_of_length-le rs l)) ∙ g)
   where
     none : (b : Bool) → b ≡ (b || false)
     none true = refl

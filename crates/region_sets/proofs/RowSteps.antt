@@ -6,15 +6,12 @@ use Rattle.std.specs.Ordering.{int_eq}
 use Rattle.affine_systems.specs.declared.row.Row.{Row}
 use Rattle.affine_systems.specs.Rows.{AllRows}
 use Rattle.affine_systems.specs.Given.{IsGiven}
-use Rattle.affine_systems.proofs.ReducedLaws.{abs-neg}
 use Rattle.hull_projection.proofs.GivenLaws.{at_least_0_given}
 use Rattle.hull_projection.proofs.VarLaws.{aux_lt}
 use Rattle.affine_forms.specs.Forms.{IsSmallForm}
 use Rattle.region_sets.specs.Loops.{start_of}
-
-pub given-push : (rs : List Row) (r : Row) → AllRows IsGiven rs → IsGiven r → AllRows IsGiven (rs ++ r ∷ [])
-given-push [] r h f = (f, tt)
-given-push (a ∷ rs) r h f = (h.0, given-push rs r h.1 f)
+use Rattle.transformers.proofs.CallTranslation.Steps.{given-push}
+use Rattle.fx_lists.proofs.Numbers.{size_turned as abs-neg}
 
 not_zero : (s : ℤ) → nat_lt 1 (unsigned_abs s) ≡ true → int_eq (neg_ℤ s) (pos 0) ≡ false
 not_zero (pos n) e = grind (arith, ints, nat_tests)

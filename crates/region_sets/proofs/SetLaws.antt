@@ -10,10 +10,9 @@ use Rattle.affine_systems.specs.declared.row.System.{System}
 use Rattle.affine_systems.specs.Points.{Point}
 use Rattle.hull_projection.specs.Refute.{refuted}
 use Rattle.hull_projection.proofs.RefuteLaws.{refuted_none}
-use Rattle.f77_results.specs.Variables.{variable_cmp}
-use Rattle.transformer_algebra.specs.Laws.{In, here, there}
-use Rattle.transformer_algebra.specs.Claims.{Scene}
-use Rattle.transformer_algebra.proofs.CellLaws.{clashes}
+use Rattle.f77_ast.specs.Variables.{variable_cmp}
+use Rattle.transformers.specs.transformer_algebra.Laws.{In, here, there}
+use Rattle.transformers.specs.transformer_algebra.Claims.{Scene}
 use Rattle.region_sets.specs.declared.region.Access.{Access}
 use Rattle.region_sets.specs.declared.region.Access.TheVariants.{Read, Write, In as ReadFirst, Out}
 use Rattle.region_sets.specs.declared.region.Region.{Region}
@@ -24,6 +23,8 @@ use Rattle.region_sets.specs.Claims.{HoldsSome, Describes, Elements, LiesIn, IsS
 use Rattle.region_sets.specs.Laws.{HasAll, HasUnits, IsAsSharp}
 use Rattle.std.proofs.lemmas.Bool.{and_parts}
 use Rattle.region_sets.proofs.UniteLaws.{unite_has, unite_exact}
+use Rattle.fx_lists.proofs.Orders.{at_equal, then_equal}
+use Rattle.fx_lists.proofs.Booleans.{clash as clashes}
 
 none_in : {A : Type 0} {B : Type 0} (a : A) → In a [] → B
 none_in a i = elim i [ ]
@@ -31,13 +32,13 @@ none_in a i = elim i [ ]
 -- ---- pieces that are refuted
 
 -- a point with these subscripts at these numbers
-abbrev arrival : Scene → (ℕ → ℤ) → (ℕ → ℤ) → Var → ℤ
+abbrev pub arrival : Scene → (ℕ → ℤ) → (ℕ → ℤ) → Var → ℤ
 arrival m phi x (Cell c) = x (m.unit c)
 arrival m phi x (Exit c) = pos 0
 arrival m phi x (Phi k) = phi k
 arrival m phi x (Aux n) = pos 0
 
-not_refuted : (m : Scene) (s : System) (x phi : ℕ → ℤ) → Describes m s x phi → refuted s.rows ≡ false
+pub not_refuted : (m : Scene) (s : System) (x phi : ℕ → ℤ) → Describes m s x phi → refuted s.rows ≡ false
 not_refuted m s x phi d = go (refuted s.rows) refl
   where
     go : (b : Bool) → refuted s.rows ≡ b → b ≡ false
@@ -57,7 +58,7 @@ live_in s (u ∷ ss) (there i) e = go (refuted u.rows) (live_in s ss i e)
     go true k = k
     go false k = there k
 
-live_some : (p : Point) (ss : List System) → HoldsSome p (live_pieces ss) → HoldsSome p ss
+pub live_some : (p : Point) (ss : List System) → HoldsSome p (live_pieces ss) → HoldsSome p ss
 live_some p [] h = h
 live_some p (s ∷ ss) h = go (refuted s.rows) h (λ k. live_some p ss k)
   where
@@ -85,16 +86,11 @@ with_some : (P : List Region → Type 0) (r : Region) (ss : List System) (k : Re
 with_some P r [] k none s i h = none_in s i
 with_some P r (u ∷ ss) k none s i h = h
 
-with_any : (P : List Region → Type 0) (r : Region) (ss : List System) (k : Region → List Region) (none : List Region) → P (k (remade r r.exact ss)) → P none → P (with_pieces r ss k none)
+pub with_any : (P : List Region → Type 0) (r : Region) (ss : List System) (k : Region → List Region) (none : List Region) → P (k (remade r r.exact ss)) → P none → P (with_pieces r ss k none)
 with_any P r [] k none h n = n
 with_any P r (u ∷ ss) k none h n = h
 
 -- ---- the order of regions
-
-at_equal : (A B C : Type 0) (o : Ordering) → MatchOrdering o A B C → o ≡ Equal → B
-at_equal A B C Less m e = cc
-at_equal A B C Equal m e = m
-at_equal A B C Greater m e = cc
 
 same_numbers : (i j : ℕ) → nat_cmp i j ≡ Equal → i ≡ j
 same_numbers i j e = at_equal (i < j) (i ≡ j) (j < i) (nat_cmp i j) (ranked i j (nat_cmp i j) refl) e
@@ -116,11 +112,6 @@ same_access Out Read e = cc
 same_access Out Write e = cc
 same_access Out ReadFirst e = cc
 same_access Out Out e = refl
-
-then_equal : (o p : Ordering) → ordering_then o p ≡ Equal → (o ≡ Equal) × (p ≡ Equal)
-then_equal Less p e = cc
-then_equal Equal p e = (refl, e)
-then_equal Greater p e = cc
 
 -- two regions of one place in the order
 record Fellows (at : Places) (r q : Region) : Type 0 where

@@ -7,7 +7,7 @@ use Rattle.std.specs.Cmp.{IsTotalOrder}
 use Rattle.std.proofs.lemmas.Cmp.{on_total, then_total, lists_total, nat_cmp_total}
 use Rattle.f77_ast.specs.declared.variable.Variable.{Variable}
 use Rattle.f77_ast.specs.declared.variable.Variable.TheVariants.{Own, Block, Saved}
-use Rattle.f77_results.specs.Variables.{variable_text, text_cmp, variable_cmp}
+use Rattle.f77_ast.specs.Variables.{variable_text, text_cmp, variable_cmp}
 use Rattle.std.proofs.lemmas.List.{take_more, take-set, drop-set, get_or_default}
 use Rattle.affine_systems.specs.declared.row.System.{System}
 use Rattle.region_sets.specs.declared.region.Region.{Region}
@@ -15,6 +15,7 @@ use Rattle.region_sets.specs.Regions.{RegionFits, remade}
 use Rattle.region_sets.specs.Sets.{SetFits, ComeBefore, access_number, region_cmp, live_pieces, with_pieces, with_region, live}
 use Rattle.region_sets.specs.Unite.{unite}
 use Rattle.region_sets.proofs.Steps.{set-push}
+use Rattle.fx_lists.proofs.Orders.{then_nothing}
 
 -- the region comes behind those before the place
 abbrev pub IsBehind : Region → List Region → ℕ → Type 0
@@ -99,11 +100,6 @@ own_number (Saved s x) = 0
 
 abbrev parts_cmp : Variable → Variable → Ordering
 parts_cmp v w = ordering_then (nat_cmp (kind_number v) (kind_number w)) (ordering_then (nat_cmp (own_number v) (own_number w)) (text_cmp (variable_text v) (variable_text w)))
-
-then_nothing : (o : Ordering) → ordering_then o Equal ≡ o
-then_nothing Less = refl
-then_nothing Equal = refl
-then_nothing Greater = refl
 
 by_parts : (v w : Variable) → variable_cmp v w ≡ parts_cmp v w
 by_parts (Own m) (Own n) = sym (then_nothing (nat_cmp m n))

@@ -5,15 +5,14 @@ use Rattle.affine_systems.specs.declared.row.System.{System}
 use Rattle.f77_ast.specs.Trees.{StmtTrees}
 use Rattle.hull_projection.proofs.ProjectLaws.{project_keeps}
 use Rattle.f77_ast.specs.declared.variable.Unit.{Unit as BlockUnit}
-use Rattle.transformer_algebra.specs.declared.transformer.Transformer.{Transformer}
-use Rattle.transformer_algebra.specs.Halves.{cell_vars}
-use Rattle.transformer_algebra.specs.Transformers.{without}
-use Rattle.transformer_algebra.specs.Laws.{In, here, there}
-use Rattle.transformer_algebra.specs.Claims.{Scene, Kept}
-use Rattle.transformer_algebra.proofs.CellLaws.{clashes}
+use Rattle.transformers.specs.transformer_algebra.declared.transformer.Transformer.{Transformer}
+use Rattle.transformers.specs.transformer_algebra.Halves.{cell_vars}
+use Rattle.transformers.specs.transformer_algebra.Transformers.{without}
+use Rattle.transformers.specs.transformer_algebra.Laws.{In, here, there}
+use Rattle.transformers.specs.transformer_algebra.Claims.{Scene, Kept}
 use Rattle.transformers.specs.Jumps.{unstructured}
 use Rattle.transformers.specs.Lists.{list_at}
-use Rattle.transformer_algebra.proofs.RuleLaws.{old_point, old_off, at_old}
+use Rattle.transformers.proofs.TransformerAlgebra.RuleLaws.{old_point, old_off, at_old}
 use Rattle.region_sets.specs.declared.region.Access.{Access}
 use Rattle.region_sets.specs.declared.region.Region.{Region}
 use Rattle.region_sets.specs.Compose.{compose}
@@ -23,6 +22,7 @@ use Rattle.region_sets.specs.Claims.{Describes, Places, LiesIn, IsSharp, IsSharp
 use Rattle.region_sets.specs.Laws.{HasSteps, HasStepsAlone, HasAnyStep, NoneExact, HasList, HasListAlone}
 use Rattle.region_sets.proofs.PieceLaws.{compose_moves, compose_sharp}
 use Rattle.region_sets.proofs.SetLaws.{gathered_units, gathered_sharp}
+use Rattle.fx_lists.proofs.Booleans.{clash as clashes}
 
 -- ---- of two lists
 
@@ -125,11 +125,11 @@ any_inexact cs f ns = of_map inexact (λ (r : Region). r.exact ≡ false) (unite
 
 -- ---- a list
 
-at_true : (b : Bool) (qs rs : List Region) → b ≡ true → (if b then qs else rs) ≡ qs
+pub at_true : (b : Bool) (qs rs : List Region) → b ≡ true → (if b then qs else rs) ≡ qs
 at_true true qs rs e = refl
 at_true false qs rs e = clashes false e refl
 
-at_false : (b : Bool) (qs rs : List Region) → b ≡ false → (if b then qs else rs) ≡ rs
+pub at_false : (b : Bool) (qs rs : List Region) → b ≡ false → (if b then qs else rs) ≡ rs
 at_false true qs rs e = clashes true refl e
 at_false false qs rs e = refl
 

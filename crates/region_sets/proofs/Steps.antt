@@ -13,7 +13,7 @@ use Rattle.region_sets.specs.Regions.{RegionFits}
 use Rattle.region_sets.specs.Ready.{IsReady}
 use Rattle.region_sets.specs.Sets.{SetFits}
 use Rattle.region_sets.specs.Subtract.{less_all, before_left, left_of}
-use Rattle.transformer_algebra.proofs.CellLaws.{clashes}
+use Rattle.fx_lists.proofs.Booleans.{or_turned as or_assoc, clash as clashes}
 
 pub fits-push : (ss : List System) (s : System) → AllFit ss → Fits s → AllFit (ss ++ s ∷ [])
 fits-push [] s h f = (f, tt)
@@ -30,10 +30,6 @@ ready-push (a ∷ rs) r h f = (h.0, ready-push rs r h.1 f)
 pub and_assoc : (a b c : Bool) → ((a && b) && c) ≡ (a && (b && c))
 and_assoc true b c = refl
 and_assoc false b c = refl
-
-pub or_assoc : (a b c : Bool) → ((a || b) || c) ≡ (a || (b || c))
-or_assoc true b c = refl
-or_assoc false b c = refl
 
 -- what is left of the first piece, and of the others
 pub left_more : (p : System) (ps ss : List System) → left_of (p ∷ ps) ss ≡ left_of (p ∷ []) ss ++ left_of ps ss

@@ -13,22 +13,18 @@ use Rattle.hull_projection.specs.Refute.{refuted}
 use Rattle.hull_projection.specs.Minus.{difference, minus, minus_parts, parts, all_negations}
 use Rattle.hull_projection.proofs.RefuteLaws.{refuted_none}
 use Rattle.hull_projection.proofs.MinusLaws.{minus_holds, minus_exact}
-use Rattle.transformer_algebra.proofs.CellLaws.{clashes}
 use Rattle.region_sets.specs.declared.region.Region.{Region}
 use Rattle.region_sets.specs.Regions.{any_weak, remade}
 use Rattle.region_sets.specs.Subtract.{less_from, less_one, less_each, less_all, before_left, left_of, all_left_exactly, unless_empty, are_apart, all_apart, subtract}
-use Rattle.transformer_algebra.specs.Laws.{In, here, there}
-use Rattle.transformer_algebra.specs.Claims.{Scene, AtStart}
+use Rattle.transformers.specs.transformer_algebra.Laws.{In, here, there}
+use Rattle.transformers.specs.transformer_algebra.Claims.{Scene, AtStart}
 use Rattle.region_sets.specs.Claims.{HoldsSome, HasSubscripts, Describes, LiesIn}
 use Rattle.region_sets.specs.Laws.{KeepsRest, HasRestAlone}
+use Rattle.region_sets.proofs.SetLaws.{arrival}
+use Rattle.fx_lists.proofs.Options.{none_some, some_is}
+use Rattle.fx_lists.proofs.Booleans.{clash as clashes}
 
 -- ---- options
-
-some_is : {A : Type 0} (x y : A) → Some x ≡ Some y → x ≡ y
-some_is x y q = cc
-
-none_some : {A : Type 0} {B : Type 0} (x : A) → None ≡ Some x → B
-none_some x q = absurd (cc)
 
 -- ---- what stays of one piece
 
@@ -50,13 +46,6 @@ each_stays p m (s ∷ ss) h n = each_stays p (less_one m s) ss (one_stays p m s 
 left_more : (s : System) (o : Option System) (ss : List System) → In s ss → In s (before_left o ss)
 left_more s None ss i = i
 left_more s (Some q) ss i = there i
-
--- a point with these subscripts at these numbers
-abbrev arrival : Scene → (ℕ → ℤ) → (ℕ → ℤ) → Var → ℤ
-arrival m phi x (Cell c) = x (m.unit c)
-arrival m phi x (Exit c) = pos 0
-arrival m phi x (Phi k) = phi k
-arrival m phi x (Aux n) = pos 0
 
 record Left (m : Scene) (x phi : ℕ → ℤ) (ss : List System) : Type 0 where
   piece : System

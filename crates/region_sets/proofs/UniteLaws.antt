@@ -14,7 +14,7 @@ use Rattle.hull_projection.proofs.HullLaws.{hull_holds}
 use Rattle.region_sets.specs.declared.region.Region.{Region}
 use Rattle.region_sets.specs.Regions.{any_weak, remade, hull_of}
 use Rattle.region_sets.specs.Unite.{gives_row, gives_rows, within_one, all_within, unite}
-use Rattle.transformer_algebra.specs.Laws.{In, here, there}
+use Rattle.transformers.specs.transformer_algebra.Laws.{In, here, there}
 use Rattle.region_sets.specs.Laws.{WithinOne, HasBoth, IsOneExact}
 
 gives_holds : (p : Point) (rs : List Row) (r : Row) → gives_row rs r ≡ true → HoldsAll p rs → Holds p r
@@ -58,16 +58,16 @@ in_right : (s : System) (ss us : List System) → In s us → In s (ss ++ us)
 in_right s [] us i = i
 in_right s (u ∷ ss) us i = there (in_right s ss us i)
 
-hulled_first : (p : Point) (s : System) (ss : List System) → HoldsAll p s.rows → HoldsAll p (hull_all s ss).rows
+pub hulled_first : (p : Point) (s : System) (ss : List System) → HoldsAll p s.rows → HoldsAll p (hull_all s ss).rows
 hulled_first p s [] h = h
 hulled_first p s (u ∷ ss) h = hulled_first p (hull s u) ss (hull_holds s u p (inl h))
 
-hulled_rest : (p : Point) (q s : System) (ss : List System) → In q ss → HoldsAll p q.rows → HoldsAll p (hull_all s ss).rows
+pub hulled_rest : (p : Point) (q s : System) (ss : List System) → In q ss → HoldsAll p q.rows → HoldsAll p (hull_all s ss).rows
 hulled_rest p q s [] i h = elim i [ ]
 hulled_rest p q s (u ∷ ss) here h = hulled_first p (hull s q) ss (hull_holds s q p (inr h))
 hulled_rest p q s (u ∷ ss) (there i) h = hulled_rest p q (hull s u) ss i h
 
-hull_has : (p : Point) (q : System) (ss : List System) → In q ss → HoldsAll p q.rows → HoldsAll p (hull_of ss).rows
+pub hull_has : (p : Point) (q : System) (ss : List System) → In q ss → HoldsAll p q.rows → HoldsAll p (hull_of ss).rows
 hull_has p q [] i h = elim i [ ]
 hull_has p q (s ∷ ss) here h = hulled_first p q ss h
 hull_has p q (s ∷ ss) (there i) h = hulled_rest p q s ss i h

@@ -5,13 +5,13 @@ use Rattle.std.specs.declared.cmp.Ordering.TheVariants.{Equal}
 use Rattle.affine_systems.specs.declared.row.Var.TheVariants.{Phi}
 use Rattle.affine_systems.specs.declared.row.System.{System}
 use Rattle.affine_systems.specs.Points.{Point, HoldsAll}
-use Rattle.transformer_algebra.specs.Cells.{has}
-use Rattle.transformer_algebra.specs.Loops.{goes_up}
-use Rattle.transformer_algebra.specs.Laws.{In}
-use Rattle.transformer_algebra.specs.Claims.{Scene, AtStart, Does, Chain, Wrote, Tracks, Means, NotBeyond}
+use Rattle.transformers.specs.transformer_algebra.Cells.{has}
+use Rattle.transformers.specs.transformer_algebra.Loops.{goes_up}
+use Rattle.transformers.specs.transformer_algebra.Laws.{In}
+use Rattle.transformers.specs.transformer_algebra.Claims.{Scene, AtStart, Does, Chain, Wrote, Tracks, Means, NotBeyond}
 use Rattle.f77_ast.specs.declared.variable.Variable.{Variable}
-use Rattle.f77_results.specs.Variables.{variable_cmp}
-use Rattle.transformer_algebra.specs.declared.transformer.Transformer.{Transformer}
+use Rattle.f77_ast.specs.Variables.{variable_cmp}
+use Rattle.transformers.specs.transformer_algebra.declared.transformer.Transformer.{Transformer}
 use Rattle.region_sets.specs.declared.range.Range.{Range}
 use Rattle.region_sets.specs.declared.region.Access.{Access}
 use Rattle.region_sets.specs.declared.region.Region.{Region}

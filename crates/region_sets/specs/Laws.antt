@@ -2,10 +2,10 @@
 use Rattle.std.specs.Prelude.{◌≡◌, ◌⊎◌, ℕ, Bool, true, false, List, Option, Some, MatchOption, ℤ, pos}
 use Rattle.affine_systems.specs.declared.row.System.{System}
 use Rattle.affine_systems.specs.Points.{Point, HoldsAll}
-use Rattle.transformer_algebra.specs.declared.transformer.Transformer.{Transformer}
+use Rattle.transformers.specs.transformer_algebra.declared.transformer.Transformer.{Transformer}
 use Rattle.f77_ast.specs.declared.variable.Unit.{Unit as BlockUnit}
-use Rattle.transformer_algebra.specs.Claims.{Scene, Kept, Does}
-use Rattle.transformer_algebra.specs.Laws.{In}
+use Rattle.transformers.specs.transformer_algebra.Claims.{Scene, Kept, Does}
+use Rattle.transformers.specs.transformer_algebra.Laws.{In}
 use Rattle.f77_ast.specs.Trees.{StmtTrees}
 use Rattle.transformers.specs.Jumps.{unstructured}
 use Rattle.transformers.specs.Lists.{list_at}

@@ -3,6 +3,7 @@ pub mod Ready
 pub mod Naming
 pub mod Unite
 pub mod Subtract
+pub mod Putting
 pub mod Compose
 pub mod Loops
 pub mod Sets

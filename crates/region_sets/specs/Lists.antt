@@ -2,9 +2,9 @@
 use Rattle.std.specs.Prelude.{ℕ, Bool, true, false, if◌then◌else◌, List, [], ◌∷◌, ◌++◌, map, Option, Some, None}
 use Rattle.f77_ast.specs.Trees.{StmtTree, StmtTrees}
 use Rattle.f77_ast.specs.Trees as tree
-use Rattle.f77_results.specs.declared.results.At.{At}
-use Rattle.transformer_algebra.specs.declared.transformer.Transformer.{Transformer}
-use Rattle.transformer_algebra.specs.Transformers.{without}
+use Rattle.f77_ast.specs.declared.results.At.{At}
+use Rattle.transformers.specs.transformer_algebra.declared.transformer.Transformer.{Transformer}
+use Rattle.transformers.specs.transformer_algebra.Transformers.{without}
 use Rattle.transformers.specs.Jumps.{unstructured}
 use Rattle.transformers.specs.Lists.{value_at, number_of, list_at}
 use Rattle.region_sets.specs.declared.region.Access.{Access}
@@ -34,9 +34,13 @@ abbrev pub or_none : Option (List Region) → List Region
 or_none None = []
 or_none (Some rs) = rs
 
+-- the set of the statement of a number
+abbrev pub set_at : List (At (List Region)) → ℕ → List Region
+set_at as' n = or_none (value_at as' n)
+
 -- READ and WRITE of the statement of a number
 abbrev pub accesses_at : List (At (List Region)) → ℕ → List Region
-accesses_at as' n = accesses (or_none (value_at as' n))
+accesses_at as' n = accesses (set_at as' n)
 
 -- ---- in order
 

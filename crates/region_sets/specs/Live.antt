@@ -2,7 +2,7 @@
 use Rattle.std.specs.Prelude.{◌≡◌, false, List}
 use Rattle.affine_systems.specs.declared.row.System.{System}
 use Rattle.hull_projection.specs.Refute.{refuted}
-use Rattle.transformer_algebra.specs.Laws.{In}
+use Rattle.transformers.specs.transformer_algebra.Laws.{In}
 use Rattle.region_sets.specs.declared.region.Region.{Region}
 use Rattle.region_sets.specs.Sets.{unite_all}
 

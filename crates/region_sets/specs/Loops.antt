@@ -10,14 +10,14 @@ use Rattle.affine_systems.specs.Calls.{meet}
 use Rattle.hull_projection.specs.declared.projection.Shadow.{Shadow}
 use Rattle.hull_projection.specs.Hull.{at_least_0}
 use Rattle.hull_projection.specs.Project.{shadow, project}
-use Rattle.system_renaming.specs.Renaming.{naming, rename_all, push_rows}
+use Rattle.transformers.specs.transformer_algebra.Renaming.{naming, rename_all, push_rows}
 use Rattle.affine_forms.specs.declared.affine.Affine.{Affine}
 use Rattle.affine_forms.specs.Forms.{affine, IsSmallForm}
 use Rattle.affine_forms.specs.Comparisons.{var_form, same_row}
-use Rattle.transformer_algebra.specs.declared.transformer.Transformer.{Transformer}
-use Rattle.transformer_algebra.specs.Cells.{has, others}
-use Rattle.transformer_algebra.specs.Transformers.{unchanging, assign, followed, iterate}
-use Rattle.transformer_algebra.specs.Loops.{within_row, if_counted}
+use Rattle.transformers.specs.transformer_algebra.declared.transformer.Transformer.{Transformer}
+use Rattle.transformers.specs.transformer_algebra.Cells.{has, others}
+use Rattle.transformers.specs.transformer_algebra.Transformers.{identity_transformer, assign, followed, iterate}
+use Rattle.transformers.specs.transformer_algebra.Loops.{within_row, if_counted}
 use Rattle.region_sets.specs.declared.range.Range.{Range}
 use Rattle.region_sets.specs.declared.region.Region.{Region}
 use Rattle.region_sets.specs.Regions.{each_piece}
@@ -65,7 +65,7 @@ is_counted g = is_some g.step && (is_some g.first && is_some g.last)
 
 -- the index becomes the first value, where it is a cell that changes
 abbrev pub first_assignment : Range → Transformer
-first_assignment g = if has g.turn.cells g.index then assign g.index (if_counted g.step g.first) else unchanging
+first_assignment g = if has g.turn.cells g.index then assign g.index (if_counted g.step g.first) else identity_transformer
 
 -- from the DO to any iteration
 abbrev pub iterations : Range → Transformer
@@ -83,8 +83,8 @@ abbrev pub loop_vars : List Var
 loop_vars = Aux 0 ∷ (Aux 1 ∷ [])
 
 -- the other cells are as some iterations left them
-abbrev pub led_to : List ℕ → Range → System → System
-led_to cs g s = (project (meet (push_rows (rename_all (to_exits cs) (at_index g.index s)) (range_rows g)) (iterations_at g)) (exit_vars (iterations g).cells)).system
+abbrev pub composed_with : List ℕ → Range → System → System
+composed_with cs g s = (project (meet (push_rows (rename_all (to_exits cs) (at_index g.index s)) (range_rows g)) (iterations_at g)) (exit_vars (iterations g).cells)).system
 
 abbrev pub counted : Range → Shadow → Shadow
 counted g s = shadow s.system (s.exact && is_counted g)
@@ -93,7 +93,7 @@ counted g s = shadow s.system (s.exact && is_counted g)
 abbrev pub through_loop : List ℕ → Range → System → Shadow
 through_loop cs g s =
     if has_none cs then counted g (project (push_rows (at_index g.index s) (range_rows g)) loop_vars)
-    else shadow (project (led_to cs g s) loop_vars).system false
+    else shadow (project (composed_with cs g s) loop_vars).system false
 
 abbrev pub loop_piece : Range → System → Shadow
 loop_piece g s = through_loop (named_cells (others g.turn.cells (g.index ∷ [])) s) g s

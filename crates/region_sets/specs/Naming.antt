@@ -6,8 +6,8 @@ use Rattle.affine_systems.specs.declared.row.Term.{Term}
 use Rattle.affine_systems.specs.declared.row.Row.{Row}
 use Rattle.affine_systems.specs.declared.row.System.{System}
 use Rattle.affine_systems.specs.Terms.{var_eq}
-use Rattle.system_renaming.specs.declared.naming.Naming.{Naming}
-use Rattle.system_renaming.specs.Renaming.{naming}
+use Rattle.transformers.specs.transformer_algebra.declared.naming.Naming.{Naming}
+use Rattle.transformers.specs.transformer_algebra.Renaming.{naming}
 
 abbrev pub in_terms : Var → List Term → Bool
 in_terms v [] = false

@@ -5,7 +5,7 @@ use Rattle.std.specs.declared.cmp.Ordering.TheVariants.{Greater}
 use Rattle.std.specs.Ordering.{nat_cmp, ordering_then, match_ordering}
 use Rattle.affine_systems.specs.declared.row.System.{System}
 use Rattle.hull_projection.specs.Refute.{refuted}
-use Rattle.f77_results.specs.Variables.{variable_cmp}
+use Rattle.f77_ast.specs.Variables.{variable_cmp}
 use Rattle.region_sets.specs.declared.region.Access.{Access}
 use Rattle.region_sets.specs.declared.region.Access.TheVariants.{Read, Write, In, Out}
 use Rattle.region_sets.specs.declared.region.Region.{Region}

@@ -5,7 +5,7 @@ use Rattle.affine_systems.specs.Rows.{system}
 use Rattle.system_text.specs.SystemText.{Bytes, joined, name_at, system_text, weak_text}
 use Rattle.f77_ast.specs.declared.variable.Variable.{Variable}
 use Rattle.f77_ast.specs.declared.variable.Variable.TheVariants.{Own, Block, Saved}
-use Rattle.f77_results.specs.Variables.{variable_text}
+use Rattle.f77_ast.specs.Variables.{variable_text}
 use Rattle.region_sets.specs.declared.region.Access.{Access}
 use Rattle.region_sets.specs.declared.region.Access.TheVariants.{Read, Write, In, Out}
 use Rattle.region_sets.specs.declared.region.Region.{Region}

@@ -1,24 +1,24 @@
 //! Regions that speak of the cells after a statement, as such that speak of those before it.
-ghost use Rattle.std.specs.Prelude.{◌≡◌, ◌++◌, ◌||◌, [], true, IfOk, IfSome};
+ghost use Rattle.std.specs.Prelude.{◌≡◌, true, IfOk, IfSome};
 ghost use Rattle.std.specs.Option.{option_copied};
-ghost use Rattle.affine_systems.specs.Rows.{AllRows, false_row as false_row_is};
-ghost use Rattle.affine_systems.specs.Given.{IsNormal, Fits};
+ghost use Rattle.affine_systems.specs.Rows.{AllRows};
+ghost use Rattle.affine_systems.specs.Given.{Fits};
 ghost use Rattle.affine_systems.specs.Terms.{Ascends};
 ghost use Rattle.region_sets.specs.Regions.{RegionFits};
 ghost use Rattle.region_sets.specs.Ready.{IsReady};
-ghost use Rattle.region_sets.specs.Compose.{is_other_exit as is_other_exit_is, has_other_exit as has_other_exit_is, is_exit_row as is_exit_row_is, exit_row as exit_row_is, normal_form as normal_form_is, put_in as put_in_is, before_rows, is_lost, put_in_all, loses_row, put_exit as put_exit_is, put_exits as put_exits_is, led_to as led_to_is, through_transformer as through_transformer_is, compose_piece as compose_piece_is, compose as compose_is};
+ghost use Rattle.region_sets.specs.Compose.{is_other_exit as is_other_exit_is, has_other_exit as has_other_exit_is, is_exit_row as is_exit_row_is, exit_row as exit_row_is, put_exits as put_exits_is, composed_with as led_to_is, through_transformer as through_transformer_is, compose_piece as compose_piece_is, compose as compose_is};
 ghost use Rattle.region_sets.specs.Laws.{MovesUnits, MovesSharp};
 
 use crate::Region;
-use crate::naming::{exit_vars, has_none, in_terms, named_cells, to_exits};
+use crate::naming::{exit_vars, has_none, named_cells, to_exits};
+use crate::putting::put_row;
 use crate::region::{copy_system, push_system, remade};
 use affine_systems::terms::factor_of;
-use affine_systems::{Norm, Row, System, Term, Var, meet, normalise, substitute, tidy};
+use affine_systems::{Row, System, Term, Var, meet, tidy};
 use fx_lists::List;
 use hull_projection::{Shadow, project};
 use std::alloc::{AllocError as Memory, Global};
-use system_renaming::rename_all;
-use transformer_algebra::Transformer;
+use transformers::transformer_algebra::{Transformer, rename_all};
 
 fn is_other_exit(cell: u32, v: Var) -> bool
     ensures { result ≡ is_other_exit_is cell v }
@@ -69,119 +69,6 @@ fn exit_row(cell: u32, rows: &[Row]) -> Option<&Row>
     None
 }
 
-/// 0 <= -1
-fn false_row(alloc: Global) -> Row
-    ensures { result ≡ false_row_is }
-{
-    Row {
-        equal: false,
-        terms: List::new(alloc),
-        bound: -1,
-    }
-}
-
-/// A row in normal form; 0 <= -1 where it never holds.
-fn normal_form(alloc: Global, row: Option<Row>) -> Option<Row>
-    ensures { result ≡ normal_form_is row }
-{
-    match row {
-        None => None,
-        Some(mut row) => match normalise(&mut row) {
-            Norm::False => Some(false_row(alloc)),
-            Norm::Kept | Norm::True | Norm::TooBig => Some(row),
-        },
-    }
-}
-
-/// A row with the exit of a cell replaced by what it is.
-#[tactic(auto, using(crate::proofs::PutSteps::putting))]
-fn put_in(alloc: Global, cell: u32, by: &Row, row: &Row) -> Result<Option<Row>, Memory>
-    requires by { IsNormal by.now }
-    requires exit { is_exit_row_is cell by.now ≡ true }
-    requires row { IsReady row.now }
-    ensures { IfOk result (λ o. o ≡ put_in_is cell by.now row.now) }
-{
-    if in_terms(Var::Exit(cell), row.terms.as_slice()) {
-        let put = substitute(alloc, row, Var::Exit(cell), by)?;
-        Ok(normal_form(alloc, put))
-    } else {
-        Ok(Some(row.clone()?))
-    }
-}
-
-/// Adds a row with the exit of a cell replaced. Whether it was lost.
-#[tactic(auto, using(crate::proofs::PutSteps::putting))]
-fn push_put(
-    alloc: Global,
-    out: &mut Vec<Row>,
-    cell: u32,
-    by: &Row,
-    row: &Row,
-) -> Result<bool, Memory>
-    requires by { IsNormal by.now }
-    requires exit { is_exit_row_is cell by.now ≡ true }
-    requires out { AllRows IsReady out.old.items }
-    requires row { IsReady row.now }
-    ensures lost { IfOk result (λ l. l ≡ is_lost (put_in_is cell by.now row.now)) }
-    ensures added { IfOk result (λ _. out.new.items ≡ out.old.items ++ before_rows (put_in_is cell by.now row.now) []) }
-    ensures ready { IfOk result (λ _. AllRows IsReady out.new.items) }
-{
-    match put_in(alloc, cell, by, row)? {
-        None => Ok(true),
-        Some(new) => {
-            out.push(new)?;
-            Ok(false)
-        }
-    }
-}
-
-fn either(one: bool, other: bool) -> bool
-    ensures { result ≡ (one || other) }
-{
-    one || other
-}
-
-/// Adds rows with the exit of a cell replaced. Whether one was lost.
-#[tactic(auto, using(crate::proofs::PutSteps::put_loop))]
-fn put_all(
-    alloc: Global,
-    out: &mut Vec<Row>,
-    cell: u32,
-    by: &Row,
-    rows: &[Row],
-) -> Result<bool, Memory>
-    requires by { IsNormal by.now }
-    requires exit { is_exit_row_is cell by.now ≡ true }
-    requires out { AllRows IsReady out.old.items }
-    requires rows { AllRows IsReady rows.now }
-    ensures lost { IfOk result (λ l. l ≡ loses_row cell by.now rows.now) }
-    ensures added { IfOk result (λ _. out.new.items ≡ out.old.items ++ put_in_all cell by.now rows.now) }
-    ensures ready { IfOk result (λ _. AllRows IsReady out.new.items) }
-{
-    let mut lost = false;
-    for row in rows {
-        let one = push_put(alloc, out, cell, by, row)?;
-        lost = either(lost, one);
-    }
-    Ok(lost)
-}
-
-/// A system with the exit of a cell replaced in all rows. It is not tidied.
-fn put_exit(alloc: Global, cell: u32, by: &Row, s: System) -> Result<System, Memory>
-    requires by { IsNormal by.now }
-    requires exit { is_exit_row_is cell by.now ≡ true }
-    requires rows { AllRows IsReady s.rows }
-    ensures defined { IfOk result (λ t. t ≡ put_exit_is cell by.now s) }
-    ensures ready { IfOk result (λ t. AllRows IsReady t.rows) }
-{
-    let mut rows = Vec::new(alloc);
-    let lost = put_all(alloc, &mut rows, cell, by, s.rows.as_slice())?;
-    Ok(System {
-        rows: List::from_vec(rows),
-        weak: either(s.weak, lost),
-    })
-}
-
 /// A system with the exits of cells replaced, one after the other; None where the rows do not say what one becomes.
 #[tactic(auto, using(crate::proofs::PutSteps::putting))]
 fn put_exits(
@@ -200,7 +87,7 @@ fn put_exits(
     while let [cell, more @ ..] = rest {
         match exit_row(*cell, rows) {
             None => return Ok(None),
-            Some(by) => left = put_exit(alloc, *cell, by, left)?,
+            Some(by) => left = put_row(alloc, Var::Exit(*cell), by, left)?,
         }
         rest = more;
     }
@@ -208,7 +95,12 @@ fn put_exits(
 }
 
 /// The system for some numbers of these cells afterwards that the transformer leads to.
-fn led_to(alloc: Global, cells: &[u32], t: &Transformer, s: &System) -> Result<System, Memory>
+fn composed_with(
+    alloc: Global,
+    cells: &[u32],
+    t: &Transformer,
+    s: &System,
+) -> Result<System, Memory>
     requires transformer { Fits t.now.system }
     requires fits { Fits s.now }
     ensures defined { IfOk result (λ r. r ≡ led_to_is cells.now t.now s.now) }
@@ -244,7 +136,7 @@ fn through_transformer(
     let after = rename_all(alloc, s, names.as_slice())?;
     match put_exits(alloc, cells, t.system.rows.as_slice(), after)? {
         None => Ok(Shadow {
-            system: led_to(alloc, cells, t, s)?,
+            system: composed_with(alloc, cells, t, s)?,
             exact: false,
         }),
         Some(put) => Ok(Shadow {

@@ -1,34 +1,40 @@
 //! Regions: which elements of arrays may be read and written, and which of them certainly are.
 #![tactic(auto)]
 
+mod any_order;
 mod composing;
 mod list;
 mod live;
 mod living;
 mod loop_rows;
 mod loops;
-mod marks;
 mod moving;
 mod naming;
+mod putting;
 mod range;
 mod region;
 mod sets;
+mod site;
 mod subtracting;
 mod text;
 mod uniting;
 
+pub use any_order::{all_sets, in_any_order, numbers, push_forgetting, set_at};
 pub use composing::compose;
 pub use list::{list_regions, push_composed};
 pub use live::none_is_refuted;
 pub use loops::over_loop;
-pub use marks::{Kinds, Mark, Private, Reason, SiteOut};
 pub use naming::{has_none, named_cells};
+pub use putting::put_row;
 pub use range::Range;
-pub use region::{Access, Region, RegionSet, copy_region, push_copies, push_system, remade};
-pub use sets::{
-    live as live_regions, live_pieces, pieces_alive, push_region, same_pieces, unite_all,
-    unite_owned,
+pub use region::{
+    Access, Region, RegionList, RegionSet, copy_region, push_copies, push_system, remade, with_flag,
 };
+pub use sets::{
+    live as live_regions, live_pieces, pieces_alive, push_region, push_regions, same_pieces,
+    unite_all, unite_owned,
+};
+pub use site::SiteOut;
 pub use subtracting::subtract;
 pub use text::{put_variable, region_line, region_text};
 pub use uniting::{hull_of, unite};

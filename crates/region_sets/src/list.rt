@@ -6,19 +6,19 @@ ghost use Rattle.f77_ast.specs.PlainStmt.{stmt_trees};
 ghost use Rattle.transformers.specs.Given.{ResultsFit};
 ghost use Rattle.transformers.specs.Lists.{transformer_at as transformer_at_is};
 ghost use Rattle.region_sets.specs.Laws.{HasList, HasListAlone};
-ghost use Rattle.region_sets.specs.Regions.{RegionFits};
 ghost use Rattle.region_sets.specs.Sets.{SetFits, unite_all as unite_all_is};
-ghost use Rattle.region_sets.specs.Lists.{SetsFit, is_access as is_access_is, accesses, accesses_at, all_composed, in_order as in_order_is, forgetting as forgetting_is, all_forgetting, inexact as inexact_is, numbers as numbers_is, all_inexact as all_inexact_is, all_accesses as all_accesses_is, in_any_order as in_any_order_is, list_regions as list_regions_is};
+ghost use Rattle.region_sets.specs.Lists.{SetsFit, is_access as is_access_is, accesses, accesses_at, all_composed, in_order as in_order_is, inexact as inexact_is, all_accesses as all_accesses_is, list_regions as list_regions_is};
 
+use crate::any_order::{in_any_order, numbers};
 use crate::moving::push_moved;
-use crate::region::{copy_region, push_system, remade, with_flag};
+use crate::region::copy_region;
 use crate::sets::{push_region, unite_owned};
 use crate::{Access, Region, RegionSet, compose};
-use f77_ast::{Stmt, StmtId};
-use f77_results::{At, Results, View};
+use call_graph::View;
+use f77_ast::{At, Results, Stmt, StmtId};
 use fx_lists::List;
 use std::alloc::{AllocError as Memory, Global};
-use transformer_algebra::{Transformer, without};
+use transformers::transformer_algebra::Transformer;
 use transformers::{is_unstructured, list_at, transformer_at, value_at};
 
 fn is_access(kind: Access) -> bool
@@ -109,20 +109,6 @@ fn with_rest(
     unite_owned(alloc, all)
 }
 
-/// The numbers of the statements of a list.
-#[tactic(auto, using(crate::proofs::Steps::fitting))]
-fn numbers(alloc: Global, list: &[Stmt]) -> Result<Vec<StmtId>, Memory>
-    ensures { IfOk result (λ ns. ns.items ≡ numbers_is (stmt_trees list.now)) }
-{
-    let mut out = Vec::new(alloc);
-    let mut rest = list;
-    while let [s, more @ ..] = rest {
-        out.push(s.id)?;
-        rest = more;
-    }
-    Ok(out)
-}
-
 /// Of statements that are executed from the first to the last; from the last on.
 #[tactic(auto, using(crate::proofs::ListSteps::order_step))]
 fn in_order(
@@ -145,43 +131,6 @@ fn in_order(
     Ok(set)
 }
 
-/// A region for any numbers of the cells.
-#[tactic(auto, using(crate::proofs::Steps::fitting))]
-fn forgetting(alloc: Global, cells: &[u32], r: &Region) -> Result<Region, Memory>
-    requires { RegionFits r.now }
-    ensures defined { IfOk result (λ q. q ≡ forgetting_is cells.now r.now) }
-    ensures fits { IfOk result RegionFits }
-{
-    let mut pieces = List::new(alloc);
-    let mut rest = r.pieces.as_slice();
-    while let [piece, more @ ..] = rest {
-        push_system(&mut pieces, without(alloc, cells, piece)?)?;
-        rest = more;
-    }
-    remade(r, false, pieces)
-}
-
-/// Adds regions for any numbers of the cells.
-#[tactic(auto, using(crate::proofs::Steps::fitting))]
-fn push_forgetting(
-    alloc: Global,
-    out: &mut RegionSet,
-    cells: &[u32],
-    set: &[Region],
-) -> Result<(), Memory>
-    requires out { SetFits out.old }
-    requires set { SetFits set.now }
-    ensures added { OnOk result (out.new ≡ out.old ++ all_forgetting cells.now set.now) }
-    ensures fits { OnOk result (SetFits out.new) }
-{
-    let mut rest = set;
-    while let [r, more @ ..] = rest {
-        push_region(out, forgetting(alloc, cells, r)?)?;
-        rest = more;
-    }
-    Ok(())
-}
-
 #[tactic(auto, using(crate::proofs::Steps::fitting))]
 fn all_accesses(
     alloc: Global,
@@ -201,40 +150,6 @@ fn all_accesses(
     Ok(out)
 }
 
-/// Regions that are not exact.
-#[tactic(auto, using(crate::proofs::Steps::fitting))]
-fn all_inexact(alloc: Global, set: &[Region]) -> Result<RegionSet, Memory>
-    requires { SetFits set.now }
-    ensures defined { IfOk result (λ qs. qs ≡ all_inexact_is set.now) }
-    ensures fits { IfOk result SetFits }
-{
-    let mut out = List::new(alloc);
-    let mut rest = set;
-    while let [r, more @ ..] = rest {
-        push_region(&mut out, with_flag(alloc, r, false)?)?;
-        rest = more;
-    }
-    Ok(out)
-}
-
-/// Of a list whose statements are executed in any order, each any number of times.
-fn in_any_order(
-    alloc: Global,
-    cells: &[u32],
-    ids: &[StmtId],
-    at: &List<At<RegionSet>>,
-) -> Result<RegionSet, Memory>
-    requires { SetsFit at.now }
-    ensures defined { IfOk result (λ qs. qs ≡ in_any_order_is cells.now (accesses_at at.now) ids.now) }
-    ensures fits { IfOk result SetFits }
-{
-    let all = all_accesses(alloc, ids, at)?;
-    let mut free = List::new(alloc);
-    push_forgetting(alloc, &mut free, cells, all.as_slice())?;
-    let set = unite_owned(alloc, free)?;
-    all_inexact(alloc, set.as_slice())
-}
-
 fn of_list(
     alloc: Global,
     list: &List<Stmt>,
@@ -250,7 +165,8 @@ fn of_list(
     let ids = numbers(alloc, list.as_slice())?;
     if is_unstructured(alloc, list, whole)? {
         let t = list_at(alloc, list, whole, &own.at)?;
-        in_any_order(alloc, t.cells.as_slice(), ids.as_slice(), at)
+        let all = all_accesses(alloc, ids.as_slice(), at)?;
+        in_any_order(alloc, t.cells.as_slice(), all.as_slice())
     } else {
         in_order(alloc, ids.as_slice(), &own.at, at)
     }

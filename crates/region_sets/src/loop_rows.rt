@@ -4,7 +4,7 @@ ghost use Rattle.affine_systems.specs.Rows.{AllRows};
 ghost use Rattle.affine_systems.specs.Given.{IsGiven};
 ghost use Rattle.hull_projection.specs.Hull.{at_least_0 as at_least_0_is};
 ghost use Rattle.affine_forms.specs.Forms.{IsSmallForm};
-ghost use Rattle.transformer_algebra.specs.Loops.{goes_up, within_row as within_row_is};
+ghost use Rattle.transformers.specs.transformer_algebra.Loops.{goes_up, within_row as within_row_is};
 ghost use Rattle.region_sets.specs.Loops.{RangeFits, start_of as start_of_is, step_rows, first_rows, last_rows, counted_rows, range_rows as range_rows_is, index_form};
 
 use crate::Range;

@@ -2,7 +2,7 @@
 ghost use Rattle.std.specs.Prelude.{◌≡◌, IfOk};
 ghost use Rattle.affine_systems.specs.Given.{Fits};
 ghost use Rattle.region_sets.specs.Regions.{RegionFits};
-ghost use Rattle.region_sets.specs.Loops.{RangeFits, is_counted as is_counted_is, first_assignment as first_assignment_is, iterations as iterations_is, iterations_at as iterations_at_is, at_index as at_index_is, loop_vars as loop_vars_is, led_to as led_to_is, through_loop as through_loop_is, loop_piece as loop_piece_is, over_loop as over_loop_is};
+ghost use Rattle.region_sets.specs.Loops.{RangeFits, is_counted as is_counted_is, first_assignment as first_assignment_is, iterations as iterations_is, iterations_at as iterations_at_is, at_index as at_index_is, loop_vars as loop_vars_is, composed_with as led_to_is, through_loop as through_loop_is, loop_piece as loop_piece_is, over_loop as over_loop_is};
 ghost use Rattle.region_sets.specs.Laws.{HasIterations, HasIterationsAlone};
 
 use crate::loop_rows::range_rows;
@@ -13,8 +13,10 @@ use affine_systems::{System, Var, meet};
 use fx_lists::List;
 use hull_projection::{Shadow, project};
 use std::alloc::{AllocError as Memory, Global};
-use system_renaming::{Naming, push_rows, rename_all};
-use transformer_algebra::{Transformer, assign, has, iterate, others, then, unchanging};
+use transformers::transformer_algebra::{
+    Naming, Transformer, assign, has, identity_transformer, iterate, others, push_rows, rename_all,
+    then,
+};
 
 fn is_counted(g: &Range) -> bool
     ensures { result ≡ is_counted_is g.now }
@@ -29,7 +31,7 @@ fn first_assignment(alloc: Global, g: &Range) -> Result<Transformer, Memory>
     ensures fits { IfOk result (λ t. Fits t.system) }
 {
     if !has(g.turn.cells.as_slice(), g.index) {
-        return Ok(unchanging(alloc));
+        return Ok(identity_transformer(alloc));
     }
     match g.step {
         None => assign(alloc, g.index, &None),
@@ -83,7 +85,7 @@ fn iterations_at(alloc: Global, g: &Range, t: &Transformer) -> Result<System, Me
 }
 
 /// The system where these cells are as some iterations left them.
-fn led_to(alloc: Global, cells: &[u32], g: &Range, s: &System) -> Result<System, Memory>
+fn composed_with(alloc: Global, cells: &[u32], g: &Range, s: &System) -> Result<System, Memory>
     requires range { RangeFits g.now }
     requires fits { Fits s.now }
     ensures defined { IfOk result (λ r. r ≡ led_to_is cells.now g.now s.now) }
@@ -117,7 +119,7 @@ fn through_loop(alloc: Global, cells: &[u32], g: &Range, s: &System) -> Result<S
             exact: left.exact && is_counted(g),
         });
     }
-    let there = led_to(alloc, cells, g, s)?;
+    let there = composed_with(alloc, cells, g, s)?;
     Ok(Shadow {
         system: project(alloc, &there, &vars)?.system,
         exact: false,

@@ -15,7 +15,7 @@ use crate::sets::push_region;
 use crate::{Region, RegionSet, compose};
 use affine_systems::{System, Var};
 use std::alloc::{AllocError as Memory, Global};
-use transformer_algebra::Transformer;
+use transformers::transformer_algebra::Transformer;
 
 /// Whether a system names one of some cells.
 fn names_one(cells: &[u32], s: &System) -> bool

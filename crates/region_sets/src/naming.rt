@@ -5,7 +5,7 @@ ghost use Rattle.region_sets.specs.Naming.{in_terms as in_terms_is, in_rows as i
 use affine_systems::{Row, System, Term, Var};
 use fx_lists::List;
 use std::alloc::{AllocError as Memory, Global};
-use system_renaming::Naming;
+use transformers::transformer_algebra::Naming;
 
 /// Whether a variable is in one of the terms.
 pub fn in_terms(v: Var, terms: &[Term]) -> bool

@@ -1,6 +1,6 @@
 //! The iterations of a DO.
 use affine_forms::Affine;
-use transformer_algebra::Transformer;
+use transformers::transformer_algebra::Transformer;
 
 /// What a DO is to the regions of its body (ANSI X3.9-1978, §11.10).
 #[derive(Drop)]

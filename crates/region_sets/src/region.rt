@@ -5,8 +5,7 @@ ghost use Rattle.hull_projection.specs.Minus.{AllFit};
 ghost use Rattle.region_sets.specs.Regions.{RegionFits, any_weak as any_weak_is, remade as remade_is};
 
 use affine_systems::System;
-use f77_ast::Variable;
-use f77_results::copy_variable;
+use f77_ast::{At, Variable, copy_variable};
 use fx_lists::List;
 use std::alloc::{AllocError as Memory, Global};
 
@@ -38,6 +37,9 @@ pub struct Region {
 /// Regions in the order in which they are written: by kind as in `Access`, then own symbols by their numbers, then other variables by what is
 /// written of them; at most one of a variable and kind. What is still to be united has its regions in any order.
 pub type RegionSet = List<Region>;
+
+/// Sets of regions of statements, those of the parts of a statement after its own, in the order of the text.
+pub type RegionList = List<At<RegionSet>>;
 
 /// Whether one of the systems is over-approximated: it lost a row by a limit.
 pub fn any_weak(pieces: &[System]) -> bool

@@ -12,7 +12,7 @@ use crate::living::{alive, live_all};
 use crate::region::{copy_region, copy_system, push_copies, push_system, remade};
 use crate::{Access, Region, RegionSet, unite};
 use affine_systems::System;
-use f77_results::order;
+use f77_ast::order;
 use fx_lists::List;
 use hull_projection::refuted;
 use std::alloc::{AllocError as Memory, Global};
@@ -65,6 +65,22 @@ pub fn push_region(out: &mut RegionSet, r: Region) -> Result<(), Memory>
     ensures fits { OnOk result (SetFits out.new) }
 {
     out.push(r)?;
+    Ok(())
+}
+
+/// Appends copies of regions, in their order.
+#[tactic(auto, using(crate::proofs::Steps::fitting))]
+pub fn push_regions(alloc: Global, out: &mut RegionSet, set: &[Region]) -> Result<(), Memory>
+    requires out { SetFits out.old }
+    requires set { SetFits set.now }
+    ensures added { OnOk result (out.new ≡ out.old ++ set.now) }
+    ensures fits { OnOk result (SetFits out.new) }
+{
+    let mut rest = set;
+    while let [r, more @ ..] = rest {
+        push_region(out, copy_region(alloc, r)?)?;
+        rest = more;
+    }
     Ok(())
 }
 

@@ -8,8 +8,8 @@ ghost use Rattle.region_sets.specs.Written.{access_text as access_text_is, name_
 use crate::region::any_weak;
 use crate::{Access, Region};
 use affine_systems::System;
-use f77_ast::{Symbols, Variable};
-use fx_lists::{List, Text};
+use f77_ast::{Symbols, Variable, names_of};
+use fx_lists::Text;
 use std::alloc::{AllocError as Memory, Global};
 use system_text::system_text;
 
@@ -111,21 +111,11 @@ pub fn region_line(alloc: Global, names: &[Text], r: &Region) -> Result<Text, Me
     Ok(out)
 }
 
-fn all_names(alloc: Global, symbols: &Symbols) -> Result<List<Text>, Memory>
-    ensures { IfOk result (λ names. names ≡ names_of symbols.now) }
-{
-    let mut names = List::new(alloc);
-    for symbol in symbols.as_slice() {
-        names.push(symbol.name.clone()?)?;
-    }
-    Ok(names)
-}
-
 /// The text of a region with the names of these symbols, all of which are copied: `READ A {1<=PHI1, PHI1<=N} EXACT`. `MAY` in place of
 /// `EXACT` where it is not exact; ` + ` between systems; ` WEAK` at the end where one is over-approximated.
 pub fn region_text(alloc: Global, symbols: &Symbols, r: &Region) -> Result<Text, Memory>
     ensures { IfOk result (λ t. t ≡ region_text_is (names_of symbols.now) r.now) }
 {
-    let names = all_names(alloc, symbols)?;
+    let names = names_of(alloc, symbols)?;
     region_line(alloc, names.as_slice(), r)
 }

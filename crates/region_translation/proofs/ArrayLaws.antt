@@ -9,6 +9,8 @@ use native.Mathlib.Nat.{div-add-mod', mod-lt}
 use Rattle.f77_ast.specs.Places.{Dim, Place, as_count, size_from, dim_size, total_size, at_most, dim_has, in_column, position, within}
 use Rattle.f77_ast.specs.Calls.{ends_open, is_open}
 use Rattle.region_translation.specs.Claims.{listed_from, elements_of, IsClosed, LastMayBeOpen}
+use Rattle.f77_ast.proofs.Shared.{counted}
+use Rattle.affine_forms.proofs.ConditionLaws.{most_true as le_true}
 
 -- ---- places of elements, by their subscripts from the k-th on
 
@@ -70,10 +72,7 @@ some_same a b q = grind arith
 pub none_some : {A : Type 0} (a : A) → None ≡ Some a → ⊥
 none_some a q = grind arith
 
-le_true : (m n : ℤ) → int_le m n ≡ true → m ≤ℤ n
-le_true m n e = grind (arith, ints)
-
-true_le : (m n : ℤ) → m ≤ℤ n → int_le m n ≡ true
+pub true_le : (m n : ℤ) → m ≤ℤ n → int_le m n ≡ true
 true_le m n e = grind (arith, ints)
 
 high_true : (n : ℤ) (h : Option ℤ) → at_most n h ≡ true → BelowHigh n h
@@ -89,10 +88,6 @@ in_dim d n e = let k = and_parts _ _ e in (le_true d.low n k.0, high_true n d.hi
 
 pub dim_in : (d : Dim) (n : ℤ) → InDim d n → dim_has d n ≡ true
 dim_in d n i = ap₂ (λ x y. x && y) (true_le d.low n i.0) (true_high n d.high i.1)
-
-counted : (z : ℤ) → pos 0 ≤ℤ z → pos (as_count z) ≡ z
-counted (pos n) h = refl
-counted (negsuc n) h = absurd (omega (arith, ints))
 
 offset : (d : Dim) (n : ℤ) → d.low ≤ℤ n → pos (as_count (n -ℤ d.low)) ≡ n -ℤ d.low
 offset d n h = counted (n -ℤ d.low) (omega (arith, ints))

@@ -12,17 +12,16 @@ use Rattle.f77_ast.specs.Trees as tree
 use Rattle.f77_ast.specs.Places.{Dim, Place, dim_has, in_column, position, within, element_in}
 use Rattle.f77_ast.specs.declared.constant.Constant.{Constant}
 use Rattle.f77_ast.specs.declared.constant.Constant.TheVariants.{Int, Log}
-use Rattle.f77_ast.specs.declared.constant.Worth.{Worth}
-use Rattle.f77_ast.specs.declared.constant.Worth.TheVariants.{Is, Faults, Varies}
-use Rattle.f77_ast.specs.Constants.{worth}
+use Rattle.f77_ast.specs.declared.constant.ConstantValue.{ConstantValue}
+use Rattle.f77_ast.specs.declared.constant.ConstantValue.TheVariants.{Is, Faults, Varies}
+use Rattle.f77_ast.specs.Constants.{const_value}
 use Rattle.f77_ast.specs.Symbols.{BoundTree}
 use Rattle.affine_forms.specs.declared.affine.Affine.{Affine}
 use Rattle.affine_forms.specs.Forms.{affine, affine_of}
 use Rattle.affine_forms.specs.Claims.{form_value}
 use Rattle.affine_forms.specs.Comparisons.{var_form}
 use Rattle.affine_forms.proofs.RowLaws.{at_most_holds, same_holds}
-use Rattle.transformer_algebra.specs.Claims.{Scene, AtStart, Means}
-use Rattle.transformer_algebra.proofs.CellLaws.{nat_eq_same, clashes}
+use Rattle.call_translation.specs.transformer_algebra.Claims.{Scene, AtStart, Means}
 use Rattle.region_sets.specs.Claims.{HasSubscripts}
 use Rattle.call_equations.specs.Sides.{SidesTree}
 use Rattle.call_equations.specs.Rows.{constant_form, low_rows, high_rows, high_form, bound_rows, dimension_rows, subscript_rows, all_affine, bounds_rows}
@@ -31,6 +30,8 @@ use Rattle.region_translation.specs.Claims.{elements_of, ConstantsFit, EachDim, 
 use Rattle.region_translation.specs.Laws.{SameElementsHold, ScalarLinkHolds, ElementLinkHolds}
 use Rattle.region_translation.proofs.FormLaws.{same_back, var_value}
 use Rattle.region_translation.proofs.ArrayLaws.{some_same, none_some, in_dim, InDim, BelowHigh, InDims, place_in, unit_in, elements_are}
+use Rattle.fx_lists.proofs.Numbers.{nat_eq_same}
+use Rattle.fx_lists.proofs.Booleans.{clash as clashes}
 
 -- ---- elements by their numbers
 
@@ -173,10 +174,10 @@ number_form q n = one n
     one : (n : ℤ) → pos 0 +ℤ n ≡ n
     one n = omega (arith, ints)
 
-low_holds : (value : List ℕ → Option Constant) (b : BoundTree) (d : Dim) (k : ℕ) (q : Point) → ConstantsFit value b d → d.low ≤ℤ q (Phi k) → HoldsAll q (low_rows (constant_form (worth value b.low)) k)
-low_holds value b d k q f l = go (worth value b.low) refl
+low_holds : (value : List ℕ → Option Constant) (b : BoundTree) (d : Dim) (k : ℕ) (q : Point) → ConstantsFit value b d → d.low ≤ℤ q (Phi k) → HoldsAll q (low_rows (constant_form (const_value value b.low)) k)
+low_holds value b d k q f l = go (const_value value b.low) refl
   where
-    go : (w : Worth) → worth value b.low ≡ w → HoldsAll q (low_rows (constant_form w) k)
+    go : (w : ConstantValue) → const_value value b.low ≡ w → HoldsAll q (low_rows (constant_form w) k)
     go (Is (Int n)) e = (at_most_holds (affine [] n) (var_form (Phi k)) q (below (form_value q (affine [] n)) n d.low (q (Phi k)) (form_value q (var_form (Phi k))) (number_form q n) (f.low n (ap number_in e)) (var_value q (Phi k)) l), tt)
       where
         below : (a n d z w : ℤ) → a ≡ n → d ≡ n → w ≡ z → d ≤ℤ z → a ≤ℤ w
@@ -191,7 +192,7 @@ high_holds value b d k q f l = go b.high refl
     above : (a n z w : ℤ) → a ≡ n → w ≡ z → z ≤ℤ n → w ≤ℤ a
     above a n z w e f h = omega (arith, ints)
 
-    one : (a : ExprTree) → b.high ≡ Some a → (w : Worth) → worth value a ≡ w → HoldsAll q (high_rows (constant_form w) k)
+    one : (a : ExprTree) → b.high ≡ Some a → (w : ConstantValue) → const_value value a ≡ w → HoldsAll q (high_rows (constant_form w) k)
     one a g (Is (Int n)) e =
         let h : d.high ≡ Some n = f.high n (ap (high_number value) g ∙ ap number_in e) in
         let i : q (Phi k) ≤ℤ n = subst (BelowHigh (q (Phi k))) h l in
@@ -202,10 +203,10 @@ high_holds value b d k q f l = go b.high refl
 
     go : (o : Option ExprTree) → b.high ≡ o → HoldsAll q (high_rows (high_form value o) k)
     go None g = tt
-    go (Some a) g = one a g (worth value a) refl
+    go (Some a) g = one a g (const_value value a) refl
 
 pub bound_holds : (value : List ℕ → Option Constant) (b : BoundTree) (d : Dim) (k : ℕ) (q : Point) → ConstantsFit value b d → InDim d (q (Phi k)) → HoldsAll q (bound_rows value b k)
-bound_holds value b d k q f i = (append_all q (low_rows (constant_form (worth value b.low)) k) (high_rows (high_form value b.high) k)).0 (low_holds value b d k q f i.0, high_holds value b d k q f i.1)
+bound_holds value b d k q f i = (append_all q (low_rows (constant_form (const_value value b.low)) k) (high_rows (high_form value b.high) k)).0 (low_holds value b d k q f i.0, high_holds value b d k q f i.1)
 
 pub bounds_hold : (value : List ℕ → Option Constant) (bs : List BoundTree) (ds : List Dim) (k : ℕ) (q : Point) → EachDim (ConstantsFit value) bs ds → InDims ds k (λ j. q (Phi j)) → HoldsAll q (bounds_rows value k bs)
 bounds_hold value [] [] k q f i = tt

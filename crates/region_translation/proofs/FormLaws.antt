@@ -20,12 +20,12 @@ use Rattle.affine_forms.specs.Forms.{affine, limited, sum_of}
 use Rattle.affine_forms.specs.Claims.{form_value}
 use Rattle.affine_forms.specs.Comparisons.{var_form, difference, same_row}
 use Rattle.affine_forms.proofs.RowLaws.{same_holds}
-use Rattle.transformer_algebra.specs.Claims.{Scene, AtStart, Means}
+use Rattle.call_translation.specs.transformer_algebra.Claims.{Scene, AtStart, Means}
 use Rattle.call_equations.specs.Sides.{SidesTree}
 use Rattle.call_equations.specs.Forms.{offset, less, is_zero, equation}
 use Rattle.call_equations.specs.Cells.{var_in_caller, terms_in_caller, in_caller, named, named_terms, named_form}
 use Rattle.region_translation.specs.Claims.{FormsMean}
-use Rattle.region_translation.proofs.PutLaws.{some_is, none_some}
+use Rattle.fx_lists.proofs.Options.{some_is, none_some}
 
 -- ---- small forms
 

@@ -1,3 +1,6 @@
+pub use Rattle.effects.proofs as Effects
+pub use Rattle.region_sets.proofs as RegionSets
+pub use Rattle.call_equations.proofs as CallEquations
 pub mod Steps
 pub mod PutSteps
 pub mod PutLaws
@@ -9,3 +12,8 @@ pub mod ArrayLaws
 pub mod ElementLaws
 pub mod PositionLaws
 pub mod LinkLaws
+pub mod CalleeSteps
+pub mod UnitLaws
+pub mod CalleePieceLaws
+pub mod CalleeRegionLaws
+pub mod CalleeLinkLaws

@@ -15,8 +15,7 @@ use Rattle.f77_ast.specs.declared.variable.Variable.TheVariants.{Own, Block as W
 use Rattle.f77_ast.specs.Symbols.{BoundTree}
 use Rattle.affine_forms.specs.declared.affine.Affine.{Affine}
 use Rattle.affine_forms.specs.Claims.{form_value}
-use Rattle.transformer_algebra.specs.Claims.{Scene, AtStart}
-use Rattle.transformer_algebra.proofs.CellLaws.{nat_eq_same}
+use Rattle.call_translation.specs.transformer_algebra.Claims.{Scene, AtStart}
 use Rattle.region_sets.specs.Claims.{HasSubscripts}
 use Rattle.call_equations.specs.Sides.{SidesTree}
 use Rattle.call_equations.specs.Forms.{offset, less, equation}
@@ -25,11 +24,12 @@ use Rattle.call_equations.specs.Positions.{actual_extent, dummy_extent, same_ext
 use Rattle.call_equations.specs.Links.{link, by_position, actual_bounds, whole_by_position, aligned_or, bounds_unless_lines, by_unit}
 use Rattle.region_translation.specs.Claims.{FormsMean, Matches, LinkHolds, elements_of, ConstantsFit, BoundMeans, EachDim, LastMayBeOpen, AtEntry, ActualStands, DummyStands, IsPart, IsElement}
 use Rattle.region_translation.specs.Laws.{ArrayLinkHolds, RestLinkHolds, BlockLinkHolds}
-use Rattle.region_translation.proofs.PutLaws.{some_is, none_some}
 use Rattle.region_translation.proofs.FormLaws.{Equation, equation_is, offset_value, less_value, named_value, zero_same, entry_point, caller_value}
 use Rattle.region_translation.proofs.ArrayLaws.{lin, InDims, Leading, Filled, Within, place_in, placed, located, leading, within_total, filled_of, digits, digits_are}
 use Rattle.region_translation.proofs.ElementLaws.{element_of, spot_is, phi_from, reads_from, reads_place, subscripted, in_extent, bounds_hold}
 use Rattle.region_translation.proofs.PositionLaws.{dummy_value, whole_value, element_value, whole_sized, element_sized, leading_back, block_value}
+use Rattle.fx_lists.proofs.Numbers.{nat_eq_same}
+use Rattle.fx_lists.proofs.Options.{some_is, none_some}
 
 -- ---- sums of the same subscripts
 

@@ -1,10 +1,9 @@
 -- The names that stand for the variables of the callee, and the variables that rows have.
-use Rattle.std.proofs.Common.{◌≡◌, ℕ, suc, ◌+◌, ◌-◌, ◌<◌, List, [], ◌∷◌, ◌||◌, Bool, true, false, refl, sym, ap, subst, arith, nat_lt, ◌⊎◌, inl, inr}
+use Rattle.std.proofs.Common.{◌≡◌, ℕ, suc, ◌+◌, ◌-◌, ◌<◌, List, [], ◌∷◌, Bool, true, false, refl, sym, ap, subst, arith, nat_lt, ◌⊎◌, inl, inr}
 use Rattle.std.specs.Prelude.{if◌then◌else◌}
 use Rattle.std.proofs.lemmas.Bool.{or_parts, and_parts}
 use Rattle.std.proofs.lemmas.Bool.Decides.{nat_tests}
 use Rattle.affine_systems.specs.declared.row.Var.{Var}
-use Rattle.affine_systems.specs.declared.row.Term.{Term}
 use Rattle.affine_systems.specs.declared.row.Row.{Row}
 use Rattle.affine_systems.specs.Terms.{var_eq}
 use Rattle.affine_systems.specs.Points.{only}
@@ -12,30 +11,15 @@ use Rattle.affine_systems.proofs.TermLaws.{var_eq-true, true-var_eq}
 use Rattle.affine_systems.proofs.LackLaws.{RowsNil}
 use Rattle.hull_projection.specs.Variables.{row_vars}
 use Rattle.hull_projection.specs.Laws.{IsOneOf}
-use Rattle.hull_projection.proofs.VarLaws.{TermsIn, RowsIn, rows_covered}
-use Rattle.system_renaming.specs.Renaming.{renamed_by}
-use Rattle.transformer_algebra.proofs.CellLaws.{clashes}
+use Rattle.hull_projection.proofs.VarLaws.{rows_covered}
+use Rattle.call_translation.specs.transformer_algebra.Renaming.{renamed_by}
 use Rattle.region_sets.specs.Naming.{in_terms, in_rows}
 use Rattle.region_sets.proofs.NilLaws.{off_terms}
 use Rattle.region_translation.specs.Pieces.{standing, names_of, is_own, are_own}
+use Rattle.fx_lists.proofs.Booleans.{clash as clashes}
+use Rattle.region_sets.proofs.NameLaws.{rows_has}
 
 -- ---- variables of rows
-
-terms_has : (v : Var) (xs : List Var) (ts : List Term) → TermsIn xs ts → in_terms v ts ≡ true → IsOneOf v xs
-terms_has v xs [] h e = clashes false e refl
-terms_has v xs (t ∷ ts) h e = go (var_eq v t.var) refl e (λ f. terms_has v xs ts h.1 f)
-  where
-    go : (b : Bool) → var_eq v t.var ≡ b → (b || in_terms v ts) ≡ true → (in_terms v ts ≡ true → IsOneOf v xs) → IsOneOf v xs
-    go true k f ih = subst (λ w. IsOneOf w xs) (sym (var_eq-true v t.var k)) h.0
-    go false k f ih = ih f
-
-rows_has : (v : Var) (xs : List Var) (rs : List Row) → RowsIn xs rs → in_rows v rs ≡ true → IsOneOf v xs
-rows_has v xs [] h e = clashes false e refl
-rows_has v xs (r ∷ rs) h e = go (in_terms v r.terms) refl e (λ f. rows_has v xs rs h.1 f)
-  where
-    go : (b : Bool) → in_terms v r.terms ≡ b → (b || in_rows v rs) ≡ true → (in_rows v rs ≡ true → IsOneOf v xs) → IsOneOf v xs
-    go true k f ih = terms_has v xs r.terms h.0 k
-    go false k f ih = ih f
 
 pub is_row_var : (v : Var) (rs : List Row) → in_rows v rs ≡ true → IsOneOf v (row_vars rs)
 is_row_var v rs e = rows_has v (row_vars rs) rs (rows_covered [] rs) e

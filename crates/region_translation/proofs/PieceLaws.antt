@@ -20,14 +20,13 @@ use Rattle.hull_projection.specs.Project.{shadow, project}
 use Rattle.hull_projection.specs.Variables.{row_vars}
 use Rattle.hull_projection.proofs.ClosureLaws.{rows_elsewhere}
 use Rattle.hull_projection.proofs.ProjectLaws.{project_keeps, project_extends}
-use Rattle.system_renaming.specs.declared.naming.Naming.{Naming}
-use Rattle.system_renaming.specs.Renaming.{renamed_by, rename_all}
-use Rattle.system_renaming.proofs.KeepLaws.{rename_all_holds, push_rows_holds}
+use Rattle.call_translation.specs.transformer_algebra.declared.naming.Naming.{Naming}
+use Rattle.call_translation.specs.transformer_algebra.Renaming.{renamed_by, rename_all}
+use Rattle.call_translation.proofs.TransformerAlgebra.KeepLaws.{rename_all_holds, push_rows_holds}
 use Rattle.affine_forms.specs.declared.affine.Affine.{Affine}
 use Rattle.affine_forms.specs.Claims.{form_value}
 use Rattle.affine_forms.specs.Conditions.{no_rows}
-use Rattle.transformer_algebra.specs.Claims.{Scene, AtStart, Means}
-use Rattle.transformer_algebra.proofs.CellLaws.{clashes}
+use Rattle.call_translation.specs.transformer_algebra.Claims.{Scene, AtStart, Means}
 use Rattle.region_sets.specs.Naming.{in_rows}
 use Rattle.region_sets.specs.Claims.{HasSubscripts, Describes}
 use Rattle.region_sets.proofs.NameLaws.{rows_agree}
@@ -35,19 +34,23 @@ use Rattle.region_sets.proofs.BackLaws.{tidy_weak, push_weak, project_weak, rena
 use Rattle.call_equations.specs.declared.link.Link.{Link}
 use Rattle.call_equations.specs.Sides.{SidesTree}
 use Rattle.call_equations.specs.Cells.{form_of, cell_name}
-use Rattle.region_translation.specs.Pieces.{standing, names_of, is_own, are_own, linked, aux_row, loses_row, put_aux, cell_row, if_row, with_var, with_forms, if_formless, one_formless, formless, subscripts_from, subscripts, without_all, linked_piece, piece_in_caller}
+use Rattle.region_translation.specs.Pieces.{standing, names_of, is_own, are_own, linked, aux_row, cell_row, if_row, with_var, with_forms, if_formless, one_formless, formless, subscripts_from, subscripts, without_all, linked_piece, piece_in_caller}
 use Rattle.region_translation.specs.Claims.{FormsMean, Matches, inner_of, HasInner}
-use Rattle.region_translation.proofs.PutLaws.{none_some, put_holds, put_back, all_gone, aux_nil, row_says, row_means}
+use Rattle.region_translation.proofs.PutLaws.{aux_nil, row_says, row_means}
 use Rattle.region_translation.proofs.NamingLaws.{is_row_var, off_rows, name_is, one_own, behind, back_again}
+use Rattle.fx_lists.proofs.Booleans.{clash as clashes}
+use Rattle.fx_lists.proofs.Options.{none_some}
+use Rattle.region_sets.specs.Putting.{loses_row, put_row}
+use Rattle.region_sets.proofs.PutLaws.{put_holds, put_back, all_gone}
 
 -- ---- lists of variables
 
-one_left : (v : Var) (vs ws : List Var) → IsOneOf v vs → IsOneOf v (vs ++ ws)
+pub one_left : (v : Var) (vs ws : List Var) → IsOneOf v vs → IsOneOf v (vs ++ ws)
 one_left v [] ws h = absurd h
 one_left v (w ∷ vs) ws (inl e) = inl e
 one_left v (w ∷ vs) ws (inr i) = inr (one_left v vs ws i)
 
-one_right : (v : Var) (vs ws : List Var) → IsOneOf v ws → IsOneOf v (vs ++ ws)
+pub one_right : (v : Var) (vs ws : List Var) → IsOneOf v ws → IsOneOf v (vs ++ ws)
 one_right v [] ws h = h
 one_right v (w ∷ vs) ws h = inr (one_right v vs ws h)
 
@@ -70,7 +73,7 @@ among_not n (v ∷ vs) e (inr i) = among_not n vs (or_parts (var_eq (Aux n) v) (
 
 -- ---- the names of subscripts
 
-subscript_in : (k r n : ℕ) → k ≤ n → n < k + r → IsOneOf (Aux n) (subscripts_from k r)
+pub subscript_in : (k r n : ℕ) → k ≤ n → n < k + r → IsOneOf (Aux n) (subscripts_from k r)
 subscript_in k zero n h l = absurd (omega (arith, h, l))
 subscript_in k (suc r) n h l = go (nat_lt k n) refl (λ a b. subscript_in (suc k) r n a b)
   where
@@ -212,11 +215,11 @@ module _ (c : SidesTree) (l : Link) (m e : Scene) (x y : ℕ → ℤ) (forms : F
       go true b (Some w) f =
           let s = row_says k (form_of c ((k - l.rank) - 1)) w f in
           record {
-            forward = λ q g h. put_holds q k w a.rows (g k w b f) h;
-            backward = λ i q g h. put_back q k w a.rows (g k w b f) (or_parts a.weak (loses_row k w a.rows) i).1 h;
-            strong = λ i. (or_parts a.weak (loses_row k w a.rows) i).0;
+            forward = λ q g h. put_holds q (Aux k) w a.rows (g k w b f) h;
+            backward = λ i q g h. put_back q (Aux k) w a.rows (g k w b f) (or_parts a.weak (loses_row (Aux k) w a.rows) i).1 h;
+            strong = λ i. (or_parts a.weak (loses_row (Aux k) w a.rows) i).0;
             off = λ n h. aux_nil k n w a.rows s h;
-            gone = λ n z q t i. subst (λ j. RowsNil (only (Aux j)) (put_aux k w a).rows) (aux_is k n q) (all_gone k w a.rows s);
+            gone = λ n z q t i. subst (λ j. RowsNil (only (Aux j)) (put_row (Aux k) w a).rows) (aux_is k n q) (all_gone (Aux k) w a.rows s.unit);
           }
 
   -- what putting in the forms of the names among some variables does to a system

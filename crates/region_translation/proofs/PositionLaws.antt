@@ -11,46 +11,44 @@ use Rattle.f77_ast.specs.Trees as tree
 use Rattle.f77_ast.specs.Places.{Dim, as_count, size_from, dim_size}
 use Rattle.f77_ast.specs.declared.constant.Constant.{Constant}
 use Rattle.f77_ast.specs.declared.constant.Constant.TheVariants.{Int, Log}
-use Rattle.f77_ast.specs.declared.constant.Worth.{Worth}
-use Rattle.f77_ast.specs.declared.constant.Worth.TheVariants.{Is, Faults, Varies}
-use Rattle.f77_ast.specs.Constants.{worth}
+use Rattle.f77_ast.specs.declared.constant.ConstantValue.{ConstantValue}
+use Rattle.f77_ast.specs.declared.constant.ConstantValue.TheVariants.{Is, Faults, Varies}
+use Rattle.f77_ast.specs.Constants.{const_value}
 use Rattle.f77_ast.specs.Symbols.{BoundTree}
 use Rattle.affine_forms.specs.declared.affine.Affine.{Affine}
 use Rattle.affine_forms.specs.Forms.{affine, affine_of, limited}
 use Rattle.affine_forms.specs.Claims.{form_value}
 use Rattle.affine_forms.specs.Comparisons.{var_form, difference, at_most_row}
-use Rattle.transformer_algebra.specs.Claims.{Scene, AtStart, Means}
+use Rattle.call_translation.specs.transformer_algebra.Claims.{Scene, AtStart, Means}
 use Rattle.call_equations.specs.Sides.{SidesTree}
 use Rattle.call_equations.specs.Rows.{constant_form, low_rows, high_rows, high_form, bound_rows, bounds_rows}
 use Rattle.call_equations.specs.Forms.{zero as zero_form, offset}
 use Rattle.call_equations.specs.Cells.{named, named_form, actual_bound, dummy_bound}
 use Rattle.call_equations.specs.Positions.{number_in, high_number, size_between, size_of, sum_with, whole_position, element_position, dummy_position, block_position}
 use Rattle.region_translation.specs.Claims.{Matches, ConstantsFit, BoundMeans, EachDim, AtEntry}
-use Rattle.region_translation.proofs.PutLaws.{some_is, none_some}
 use Rattle.region_translation.proofs.FormLaws.{sum_value, offset_value, named_value, number_value, var_value}
 use Rattle.region_translation.proofs.ArrayLaws.{lin, InSize, Leading, Filled}
 use Rattle.region_translation.proofs.ElementLaws.{Reads, Subscripted, no_more, one_more}
+use Rattle.fx_lists.proofs.Numbers.{times_0}
+use Rattle.fx_lists.proofs.Options.{some_is, none_some}
 
 -- ---- sizes
 
-count_is : (w : ℤ) → 0 < as_count w → pos (as_count w) ≡ w
+pub count_is : (w : ℤ) → 0 < as_count w → pos (as_count w) ≡ w
 count_is (pos n) h = refl
 count_is (negsuc n) h = absurd (omega (arith, h))
 
-size_is : (value : List ℕ → Option Constant) (b : BoundTree) (d : Dim) (n : ℤ) → ConstantsFit value b d → size_of value b ≡ Some n → 0 < dim_size d → n ≡ pos (dim_size d)
-size_is value b d n f e h = go (number_in (worth value b.low)) refl (high_number value b.high) refl e
+pub size_is : (value : List ℕ → Option Constant) (b : BoundTree) (d : Dim) (n : ℤ) → ConstantsFit value b d → size_of value b ≡ Some n → 0 < dim_size d → n ≡ pos (dim_size d)
+size_is value b d n f e h = go (number_in (const_value value b.low)) refl (high_number value b.high) refl e
   where
-    go : (l : Option ℤ) → number_in (worth value b.low) ≡ l → (u : Option ℤ) → high_number value b.high ≡ u → size_between l u ≡ Some n → n ≡ pos (dim_size d)
+    go : (l : Option ℤ) → number_in (const_value value b.low) ≡ l → (u : Option ℤ) → high_number value b.high ≡ u → size_between l u ≡ Some n → n ≡ pos (dim_size d)
     go None g u k q = none_some n q
     go (Some l) g None k q = none_some n q
     go (Some l) g (Some u) k q =
         let s : dim_size d ≡ as_count ((u -ℤ l) +ℤ pos 1) = ap₂ (λ (a : ℤ) (o : Option ℤ). size_from a o) (f.low l g) (f.high u k) in
         sym (some_is ((u -ℤ l) +ℤ pos 1) n q) ∙ (sym (count_is ((u -ℤ l) +ℤ pos 1) (subst (λ j. 0 < j) s h)) ∙ ap pos (sym s))
 
-times_0 : (n : ℕ) → pos n *ℤ pos 0 ≡ pos 0
-times_0 n = let z : pos n *ℤ pos 0 ≡ pos (n * 0) = refl in let y : n * 0 ≡ 0 = omega arith in z ∙ ap pos y
-
-last_sum : (a b : ℤ) (n : ℕ) → a ≡ b → a ≡ b +ℤ (pos n *ℤ pos 0)
+pub last_sum : (a b : ℤ) (n : ℕ) → a ≡ b → a ≡ b +ℤ (pos n *ℤ pos 0)
 last_sum a b n e = e ∙ (plus b ∙ ap (λ z. b +ℤ z) (sym (times_0 n)))
   where
     plus : (b : ℤ) → b ≡ b +ℤ pos 0
@@ -191,10 +189,10 @@ at_most_back f g q h = sums (value_of q f.terms) f.constant (value_of q g.terms)
     sums a b x y d e k = omega (arith, ints)
 
 bound_back : (value : List ℕ → Option Constant) (b : BoundTree) (d : Dim) (n : ℤ) (k : ℕ) (q : Point) → ConstantsFit value b d → size_of value b ≡ Some n → 0 < dim_size d → HoldsAll q (bound_rows value b k) → InSize d (q (Phi k))
-bound_back value b d n k q f e z h = go (worth value b.low) refl b.high refl parts.0 parts.1 e
+bound_back value b d n k q f e z h = go (const_value value b.low) refl b.high refl parts.0 parts.1 e
   where
-    parts : HoldsAll q (low_rows (constant_form (worth value b.low)) k) × HoldsAll q (high_rows (high_form value b.high) k)
-    parts = (append_all q (low_rows (constant_form (worth value b.low)) k) (high_rows (high_form value b.high) k)).1 h
+    parts : HoldsAll q (low_rows (constant_form (const_value value b.low)) k) × HoldsAll q (high_rows (high_form value b.high) k)
+    parts = (append_all q (low_rows (constant_form (const_value value b.low)) k) (high_rows (high_form value b.high) k)).1 h
 
     within : (l u : ℤ) → d.low ≡ l → d.high ≡ Some u → l ≤ℤ q (Phi k) → q (Phi k) ≤ℤ u → InSize d (q (Phi k))
     within l u e g a t =
@@ -225,15 +223,15 @@ bound_back value b d n k q f e z h = go (worth value b.low) refl b.high refl par
         le : (a l w p : ℤ) → a ≡ l → w ≡ p → w ≤ℤ a → p ≤ℤ l
         le a l w p e f h = omega (arith, ints)
 
-    high_of : (l : ℤ) → d.low ≡ l → l ≤ℤ q (Phi k) → (a : ExprTree) → b.high ≡ Some a → (w : Worth) → worth value a ≡ w → HoldsAll q (high_rows (constant_form w) k) → size_between (Some l) (number_in w) ≡ Some n → InSize d (q (Phi k))
+    high_of : (l : ℤ) → d.low ≡ l → l ≤ℤ q (Phi k) → (a : ExprTree) → b.high ≡ Some a → (w : ConstantValue) → const_value value a ≡ w → HoldsAll q (high_rows (constant_form w) k) → size_between (Some l) (number_in w) ≡ Some n → InSize d (q (Phi k))
     high_of l e a t g (Is (Int u)) i j s = within l u e (f.high u (ap (high_number value) g ∙ ap number_in i)) a (high_back u j)
     high_of l e a t g (Is (Log v)) i j s = none_some n s
     high_of l e a t g Faults i j s = none_some n s
     high_of l e a t g Varies i j s = none_some n s
 
-    go : (w : Worth) → worth value b.low ≡ w → (o : Option ExprTree) → b.high ≡ o → HoldsAll q (low_rows (constant_form w) k) → HoldsAll q (high_rows (high_form value o) k) → size_between (number_in w) (high_number value o) ≡ Some n → InSize d (q (Phi k))
+    go : (w : ConstantValue) → const_value value b.low ≡ w → (o : Option ExprTree) → b.high ≡ o → HoldsAll q (low_rows (constant_form w) k) → HoldsAll q (high_rows (high_form value o) k) → size_between (number_in w) (high_number value o) ≡ Some n → InSize d (q (Phi k))
     go (Is (Int l)) i None g lo hi s = none_some n s
-    go (Is (Int l)) i (Some a) g lo hi s = high_of l (f.low l (ap number_in i)) (low_back l lo) a g (worth value a) refl hi s
+    go (Is (Int l)) i (Some a) g lo hi s = high_of l (f.low l (ap number_in i)) (low_back l lo) a g (const_value value a) refl hi s
     go (Is (Log v)) i o g lo hi s = none_some n s
     go Faults i o g lo hi s = none_some n s
     go Varies i o g lo hi s = none_some n s

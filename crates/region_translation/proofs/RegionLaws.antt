@@ -1,15 +1,12 @@
 -- What the translation keeps of each system it keeps of the region.
-use Rattle.std.proofs.Common.{◌≡◌, ℕ, ℤ, List, [], ◌∷◌, map, ◌&&◌, true, false, Bool, Option, Some, refl, sym, subst, inl, inr, ⊎_elim}
+use Rattle.std.proofs.Common.{◌≡◌, ℕ, ℤ, map, ◌&&◌, true, false, Bool, Option, Some, refl, sym, subst}
 use Rattle.std.specs.Prelude.{not, MatchOption, option_map}
-use Rattle.std.proofs.lemmas.Bool.{or_parts, and_parts, not-true}
-use Rattle.affine_systems.specs.declared.row.System.{System}
-use Rattle.affine_systems.specs.Points.{Point, HoldsAll}
-use Rattle.hull_projection.specs.declared.projection.Shadow.{Shadow}
-use Rattle.transformer_algebra.specs.Claims.{Scene}
-use Rattle.transformer_algebra.specs.Laws.{In, here, there}
+use Rattle.std.proofs.lemmas.Bool.{and_parts, not-true}
+use Rattle.call_translation.specs.transformer_algebra.Claims.{Scene}
+use Rattle.call_translation.specs.transformer_algebra.Laws.{In, here, there}
 use Rattle.region_sets.specs.declared.region.Region.{Region}
 use Rattle.region_sets.specs.Regions.{any_weak, all_exact, systems}
-use Rattle.region_sets.specs.Claims.{Elements, HoldsSome, LiesIn, IsSharp}
+use Rattle.region_sets.specs.Claims.{Elements, LiesIn, IsSharp}
 use Rattle.call_equations.specs.declared.link.Link.{Link}
 use Rattle.call_equations.specs.Sides.{SidesTree}
 use Rattle.region_translation.specs.Pieces.{piece_in_caller}
@@ -17,29 +14,7 @@ use Rattle.region_translation.specs.Caller.{by_link, to_caller}
 use Rattle.region_translation.specs.Claims.{FormsMean, LinkHolds, inner_of}
 use Rattle.region_translation.specs.Laws.{SendsUnits, SendsSharp}
 use Rattle.region_translation.proofs.PieceLaws.{entered, piece_describes, piece_source}
-
-in_systems : (f : System → Shadow) (s : System) (ss : List System) → In s ss → In (f s).system (systems (map f ss))
-in_systems f s [] i = elim i [ ]
-in_systems f s (u ∷ ss) here = here
-in_systems f s (u ∷ ss) (there i) = there (in_systems f s ss i)
-
--- a piece of which a point is one of what is made of it
-record Made (f : System → Shadow) (p : Point) (ss : List System) : Type 0 where
-  piece : System
-  exact : (f piece).exact ≡ true
-  strong : (f piece).system.weak ≡ false
-  holds : HoldsAll p (f piece).system.rows
-  back : (q : Point) → HoldsAll q piece.rows → HoldsSome q ss
-
-made : (f : System → Shadow) (p : Point) (ss : List System) → all_exact (map f ss) ≡ true → any_weak (systems (map f ss)) ≡ false → HoldsSome p (systems (map f ss)) → Made f p ss
-made f p [] e w h = absurd h
-made f p (s ∷ ss) e w h =
-    let e2 = and_parts (f s).exact (all_exact (map f ss)) e in
-    let w2 = or_parts (f s).system.weak (any_weak (systems (map f ss))) w in
-    ⊎_elim
-    (λ k. record { piece = s; exact = e2.0; strong = w2.0; holds = k; back = λ q j. inl j })
-    (λ k. let r = made f p ss e2.1 w2.1 k in record { piece = r.piece; exact = r.exact; strong = r.strong; holds = r.holds; back = λ q j. inr (r.back q j) })
-    h
+use Rattle.region_sets.proofs.PieceLaws.{in_systems, made}
 
 record Exactly (c : SidesTree) (r : Region) (l : Link) : Type 0 where
   region : r.exact ≡ true

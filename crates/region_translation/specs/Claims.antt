@@ -7,13 +7,13 @@ use Rattle.f77_ast.specs.Trees as tree
 use Rattle.f77_ast.specs.Places.{Dim, Place, total_size, element_in}
 use Rattle.f77_ast.specs.Calls.{is_open}
 use Rattle.f77_ast.specs.declared.constant.Constant.{Constant}
-use Rattle.f77_ast.specs.Constants.{worth}
+use Rattle.f77_ast.specs.Constants.{const_value}
 use Rattle.f77_ast.specs.Symbols.{BoundTree}
 use Rattle.affine_forms.specs.declared.affine.Affine.{Affine}
 use Rattle.affine_forms.specs.Forms.{affine_of}
 use Rattle.affine_forms.specs.Scalars.{Scalars}
 use Rattle.affine_forms.specs.Claims.{form_value}
-use Rattle.transformer_algebra.specs.Claims.{Scene, AtStart, Means}
+use Rattle.call_translation.specs.transformer_algebra.Claims.{Scene, AtStart, Means}
 use Rattle.region_sets.specs.Claims.{HasSubscripts, Elements}
 use Rattle.call_equations.specs.declared.link.Link.{Link}
 use Rattle.call_equations.specs.Sides.{SidesTree}
@@ -68,7 +68,7 @@ elements_of p phi = option_map (λ k. p.first + k) (element_in p (listed_from 1 
 
 -- constant bounds are those of the dimension
 pub record ConstantsFit (value : List ℕ → Option Constant) (b : BoundTree) (d : Dim) : Type 0 where
-  pub low : (n : ℤ) → number_in (worth value b.low) ≡ Some n → d.low ≡ n
+  pub low : (n : ℤ) → number_in (const_value value b.low) ≡ Some n → d.low ≡ n
   pub high : (n : ℤ) → high_number value b.high ≡ Some n → d.high ≡ Some n
 
 -- forms of bounds have the values of the dimension at each such point

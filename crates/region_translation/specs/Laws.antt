@@ -4,7 +4,7 @@ use Rattle.f77_ast.specs.Trees.{ExprTrees}
 use Rattle.f77_ast.specs.Places.{Place}
 use Rattle.f77_ast.specs.declared.variable.Variable.{Variable}
 use Rattle.f77_ast.specs.Symbols.{BoundTree}
-use Rattle.transformer_algebra.specs.Claims.{Scene}
+use Rattle.call_translation.specs.transformer_algebra.Claims.{Scene}
 use Rattle.region_sets.specs.declared.region.Region.{Region}
 use Rattle.region_sets.specs.Claims.{Elements, LiesIn, IsSharp}
 use Rattle.call_equations.specs.declared.link.Link.{Link}

@@ -8,24 +8,21 @@ use Rattle.affine_systems.specs.declared.row.Row.{Row}
 use Rattle.affine_systems.specs.declared.row.System.{System}
 use Rattle.affine_systems.specs.Terms.{var_eq}
 use Rattle.affine_systems.specs.Points.{factor_of}
-use Rattle.affine_systems.specs.Rows.{system}
 use Rattle.affine_systems.specs.Given.{IsNormal}
 use Rattle.affine_systems.specs.Normal.{Normal, Kept, Always, Never, TooBig, normal}
 use Rattle.affine_systems.specs.Tidy.{is_unit, tidy}
-use Rattle.affine_systems.specs.Calls.{substitute}
 use Rattle.hull_projection.specs.declared.projection.Shadow.{Shadow}
 use Rattle.hull_projection.specs.Variables.{row_vars}
 use Rattle.hull_projection.specs.Project.{shadow, project}
-use Rattle.system_renaming.specs.declared.naming.Naming.{Naming}
-use Rattle.system_renaming.specs.Renaming.{naming, rename_all, push_rows}
+use Rattle.call_translation.specs.transformer_algebra.declared.naming.Naming.{Naming}
+use Rattle.call_translation.specs.transformer_algebra.Renaming.{naming, rename_all, push_rows}
 use Rattle.affine_forms.specs.declared.affine.Affine.{Affine}
 use Rattle.affine_forms.specs.Comparisons.{var_form, same_row}
 use Rattle.affine_forms.specs.Conditions.{no_rows}
-use Rattle.region_sets.specs.Naming.{in_terms}
-use Rattle.region_sets.specs.Compose.{normal_form, before_rows, is_lost}
 use Rattle.call_equations.specs.declared.link.Link.{Link}
 use Rattle.call_equations.specs.Sides.{SidesTree}
 use Rattle.call_equations.specs.Cells.{form_of, cell_name}
+use Rattle.region_sets.specs.Putting.{put_row}
 
 -- ---- names
 
@@ -86,23 +83,6 @@ pub record IsAuxRow (n : ℕ) (e : Row) : Type 0 where
   pub normal : IsNormal e
   pub says : is_aux_row n e ≡ true
 
--- ---- such rows put in
-
--- a row with the variable replaced by what it is; None where a number reaches 2^62
-abbrev pub put_in : ℕ → Row → Row → Option Row
-put_in n e r = if in_terms (Aux n) r.terms then normal_form (substitute r (Aux n) e) else Some r
-
-abbrev pub put_in_all : ℕ → Row → List Row → List Row
-put_in_all n e [] = []
-put_in_all n e (r ∷ rs) = before_rows (put_in n e r) (put_in_all n e rs)
-
-abbrev pub loses_row : ℕ → Row → List Row → Bool
-loses_row n e [] = false
-loses_row n e (r ∷ rs) = is_lost (put_in n e r) || loses_row n e rs
-
-abbrev pub put_aux : ℕ → Row → System → System
-put_aux n e s = system (put_in_all n e s.rows) (s.weak || loses_row n e s.rows)
-
 -- ---- the callee's cells
 
 -- a variable behind the first r is the name of a cell
@@ -111,7 +91,7 @@ cell_row c r n = aux_row n (form_of c ((n - r) - 1))
 
 abbrev pub if_row : ℕ → Option Row → System → System
 if_row n None s = s
-if_row n (Some e) s = put_aux n e s
+if_row n (Some e) s = put_row (Aux n) e s
 
 abbrev pub with_var : SidesTree → ℕ → Var → System → System
 with_var c r (Cell n) s = s

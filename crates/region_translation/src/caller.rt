@@ -8,7 +8,7 @@ ghost use Rattle.region_translation.specs.Caller.{by_link as by_link_is, to_call
 
 use crate::pieces::piece_in_caller;
 use call_equations::{CallSides, Link, link_of};
-use f77_results::copy_variable;
+use f77_ast::copy_variable;
 use fx_lists::List;
 use region_sets::{Region, push_system, remade};
 use std::alloc::{AllocError as Memory, Global};

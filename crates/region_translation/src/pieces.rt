@@ -3,21 +3,22 @@ ghost use Rattle.std.specs.Prelude.{◌≡◌, ◌++◌, suc, IfOk, IfSome, ◌<
 ghost use Rattle.affine_systems.specs.Rows.{AllRows};
 ghost use Rattle.affine_systems.specs.Given.{Fits, IsGiven};
 ghost use Rattle.region_sets.specs.Ready.{IsReady};
-ghost use Rattle.system_renaming.specs.Renaming.{rename_all as rename_all_is};
+ghost use Rattle.call_translation.specs.transformer_algebra.Renaming.{rename_all as rename_all_is};
 ghost use Rattle.hull_projection.specs.Variables.{row_vars as row_vars_is};
 ghost use Rattle.call_equations.specs.Sides.{sides_tree};
 ghost use Rattle.call_equations.specs.Links.{LinkFits};
 ghost use Rattle.region_translation.specs.Pieces.{standing as standing_is, names_of as names_of_is, is_own as is_own_is, are_own as are_own_is, linked as linked_is, cell_row as cell_row_is, with_var as with_var_is, with_forms as with_forms_is, one_formless, formless as formless_is, IsAuxRow, subscripts_from, subscripts as subscripts_is, without_all as without_all_is, linked_piece as linked_piece_is, piece_in_caller as piece_in_caller_is};
 
-use crate::putting::{aux_row, put_aux};
+use crate::putting::aux_row;
 use affine_forms::no_rows;
 use affine_systems::items::copy_rows;
 use affine_systems::{Row, System, Var, tidy};
 use call_equations::{CallSides, Link, cell_name, form_of};
+use call_translation::transformer_algebra::{Naming, push_rows, rename_all};
 use fx_lists::List;
 use hull_projection::{Shadow, add_rows, project};
+use region_sets::put_row;
 use std::alloc::{AllocError as Memory, Global};
-use system_renaming::{Naming, push_rows, rename_all};
 
 /// The variables of rows, ascending.
 pub fn row_vars(alloc: Global, rows: &[Row]) -> Result<Vec<Var>, Memory>
@@ -129,6 +130,7 @@ fn cell_row(
 }
 
 /// Puts in what a variable is, where it is the name of a cell; one without a form is added to `formless`.
+#[tactic(auto, using(crate::proofs::PutSteps::aux_rows))]
 fn with_var(
     alloc: Global,
     sides: &CallSides<'_>,
@@ -152,7 +154,7 @@ fn with_var(
                     formless.push(v)?;
                     Ok(s)
                 }
-                Some(by) => put_aux(alloc, number, &by, s),
+                Some(by) => put_row(alloc, Var::Aux(number), &by, s),
             }
         }
         Var::Cell(_) | Var::Exit(_) | Var::Phi(_) => Ok(s),

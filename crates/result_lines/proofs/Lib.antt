@@ -1,1 +1,5 @@
 pub mod Naming
+pub mod ClaimLineLaws
+pub mod SpotLaws
+pub mod Steps
+pub mod RegionLineLaws

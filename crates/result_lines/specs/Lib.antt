@@ -1,1 +1,7 @@
 pub mod Lines
+pub mod ScalarLines
+pub mod ClaimSpots
+pub mod MarkText
+pub mod MarkLines
+pub mod RegionLines
+pub mod RegionSpots

@@ -1,8 +1,19 @@
 //! The comment lines that say the results of a module.
 #![tactic(auto)]
 
+mod claim_lines;
+mod directive;
 mod lines;
+mod loop_marks;
+mod obstacle;
+mod set_lines;
 mod show;
+mod spots;
+mod statement;
 
-pub use lines::{ModuleResults, result_lines};
+pub use claim_lines::scalar_lines;
+pub use lines::{PrintedResults, result_lines};
+pub use loop_marks::mark_lines;
+pub use set_lines::region_lines;
 pub use show::Show;
+pub use spots::{LineSpot, line_spots};

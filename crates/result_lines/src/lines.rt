@@ -1,25 +1,24 @@
 //! The lines of a module: claims on scalars first, then READ and WRITE, then IN, then OUT, and last directives and obstacles.
 ghost use Rattle.std.specs.Prelude.{◌≡◌, IfOk};
-ghost use Rattle.scalar_phases.specs.Views.{known_in};
-ghost use Rattle.result_lines.specs.Lines.{claims_of, mark_lines_of, lines_of, region_lines_of, results_tree, scalar_lines_of};
+ghost use Rattle.module_phases.specs.ScalarViews.{known_in};
+ghost use Rattle.result_lines.specs.Lines.{claims_of, mark_lines_of, lines_of, region_lines_of, printed_tree, scalar_lines_of};
 
 use crate::show::Show;
+use crate::{mark_lines, region_lines, scalar_lines};
 use affine_systems::System;
-use claim_lines::scalar_lines;
+use call_graph::View;
+use f77_ast::{At, Mark, Results};
 use f77_printer::Added;
-use f77_results::{At, Results, View};
 use fx_lists::List;
-use mark_lines::mark_lines;
-use region_lines::region_lines;
-use region_sets::{Mark, RegionSet};
+use region_sets::RegionSet;
 use std::alloc::{AllocError as Memory, Global};
-use transformer_algebra::Transformer;
+use transformers::transformer_algebra::Transformer;
 
 /// The results of a module that lines say.
 #[derive(Drop)]
-pub struct ModuleResults<'a> {
-    pub own: &'a Results<Transformer>,
-    pub holds: &'a Results<System>,
+pub struct PrintedResults<'a> {
+    pub transformers: &'a Results<Transformer>,
+    pub preconditions: &'a Results<System>,
     pub regions: &'a Results<RegionSet>,
     pub ins: &'a Results<RegionSet>,
     pub outs: &'a Results<RegionSet>,
@@ -31,11 +30,11 @@ pub struct ModuleResults<'a> {
 fn lines_on_scalars(
     alloc: Global,
     view: &View<'_>,
-    results: &ModuleResults<'_>,
+    results: &PrintedResults<'_>,
 ) -> Result<List<Added>, Memory>
-    ensures { IfOk result (λ lines. lines ≡ scalar_lines_of (known_in view.now) results.now.own.now results.now.holds.now) }
+    ensures { IfOk result (λ lines. lines ≡ scalar_lines_of (known_in view.now) results.now.transformers.now results.now.preconditions.now) }
 {
-    scalar_lines(alloc, view, results.own, results.holds)
+    scalar_lines(alloc, view, results.transformers, results.preconditions)
 }
 
 /// The lines on sets of regions of a module: READ and WRITE, IN, or OUT.
@@ -54,9 +53,9 @@ fn lines_on_regions(
 fn claims_of(
     alloc: Global,
     view: &View<'_>,
-    results: &ModuleResults<'_>,
+    results: &PrintedResults<'_>,
 ) -> Result<List<Added>, Memory>
-    ensures { IfOk result (λ lines. lines ≡ claims_of (known_in view.now) (results_tree results.now)) }
+    ensures { IfOk result (λ lines. lines ≡ claims_of (known_in view.now) (printed_tree results.now)) }
 {
     let mut lines = lines_on_scalars(alloc, view, results)?.into_vec();
     let mut regions = lines_on_regions(alloc, view, results.regions)?.into_vec();
@@ -85,10 +84,10 @@ fn lines_on_loops(
 pub fn result_lines(
     alloc: Global,
     view: &View<'_>,
-    results: &ModuleResults<'_>,
+    results: &PrintedResults<'_>,
     show: Show,
 ) -> Result<List<Added>, Memory>
-    ensures { IfOk result (λ lines. lines ≡ lines_of show (known_in view.now) (results_tree results.now)) }
+    ensures { IfOk result (λ lines. lines ≡ lines_of show (known_in view.now) (printed_tree results.now)) }
 {
     match show {
         Show::All => {

@@ -2,15 +2,15 @@
 use Rattle.std.proofs.Common.{◌≡◌, List, [], ◌∷◌, ◌++◌, sym, subst}
 use Rattle.affine_systems.specs.Given.{Fits}
 use Rattle.preconditions.specs.Statement.{EachFits}
-use Rattle.transformer_algebra.specs.declared.transformer.Transformer.{Transformer}
-use Rattle.region_sets.specs.declared.region.Region.{Region}
-use Rattle.region_sets.specs.Lists.{SetsFit}
-use Rattle.region_sets.specs.Sets.{SetFits}
-use Rattle.region_phases.specs.declared.callees.Callee.{Callee}
-use Rattle.region_phases.specs.declared.callers.CallerHolds.{CallerHolds}
-use Rattle.region_phases.specs.declared.callers.CallerOuts.{CallerOuts}
-use Rattle.region_phases.specs.Callees.{AllFit, AllSetsFit}
-use Rattle.region_phases.specs.Callers.{AllHold, AllOuts}
+use Rattle.preconditions.specs.transformer_algebra.declared.transformer.Transformer.{Transformer}
+use Rattle.loop_marker.specs.region_sets.declared.region.Region.{Region}
+use Rattle.loop_marker.specs.region_sets.Lists.{SetsFit}
+use Rattle.loop_marker.specs.region_sets.Sets.{SetFits}
+use Rattle.loop_marker.specs.module_phases.declared.callees.Callee.{Callee}
+use Rattle.loop_marker.specs.module_phases.declared.callers.CallerHolds.{CallerHolds}
+use Rattle.loop_marker.specs.module_phases.declared.callers.CallerOuts.{CallerOuts}
+use Rattle.loop_marker.specs.module_phases.Callees.{AllFit, AllSetsFit}
+use Rattle.loop_marker.specs.module_phases.Callers.{AllHold, AllOuts}
 
 fit-more : (cs : List (Callee Transformer)) (c : Callee Transformer) → AllFit cs → Fits c.summary.now.system → AllFit (cs ++ c ∷ [])
 fit-more [] c h f = (f, tt)

@@ -1,13 +1,13 @@
 //! The modules that call a module, with what is kept of them.
 ghost use Rattle.std.specs.Prelude.{◌≡◌, ◌++◌, map, option_to_list, IfOk};
-ghost use Rattle.region_phases.specs.Callers.{holds_tree, outs_tree, AllHold, AllOuts};
-ghost use Rattle.laws_database.specs.Definitions.{module_named};
-ghost use Rattle.laws_database.specs.Rules.{preconditions_kept, transformers_kept, outs_kept, holding_with, holding_callers, outs_with, later_callers};
-ghost use Rattle.result_store.specs.Rows.{shelves_of};
+ghost use Rattle.loop_marker.specs.module_phases.Callers.{holds_tree, outs_tree, AllHold, AllOuts};
+ghost use Rattle.session_texts.specs.pipsmake_meaning.Definitions.{module_named};
+ghost use Rattle.session_texts.specs.pipsmake_meaning.Rules.{preconditions_kept, transformers_kept, outs_kept, holding_with, holding_callers, outs_with, later_callers};
+ghost use Rattle.result_store.specs.Rows.{memo_cells_of};
 
 use crate::modules::own_of;
 use fx_lists::Text;
-use region_phases::{CallerHolds, CallerOuts};
+use loop_marker::module_phases::{CallerHolds, CallerOuts};
 use result_store::Store;
 use session_texts::Sources;
 use std::alloc::{AllocError as Memory, Global};
@@ -20,7 +20,7 @@ fn add_holding<'x>(
     name: &'x Text,
 ) -> Result<(), Memory>
     requires { AllHold above.old.items }
-    ensures added { IfOk result (λ _. map holds_tree above.new.items ≡ map holds_tree above.old.items ++ option_to_list (holding_with (module_named sources.now name.now) (preconditions_kept (shelves_of store.now) name.now))) }
+    ensures added { IfOk result (λ _. map holds_tree above.new.items ≡ map holds_tree above.old.items ++ option_to_list (holding_with (module_named sources.now name.now) (preconditions_kept (memo_cells_of store.now) name.now))) }
     ensures fits { IfOk result (λ _. AllHold above.new.items) }
 {
     let Some(own) = own_of(sources, name) else {
@@ -44,7 +44,7 @@ pub(crate) fn holding_above<'x>(
     store: &'x Store,
     names: &'x [Text],
 ) -> Result<Vec<CallerHolds<'x>>, Memory>
-    ensures defined { IfOk result (λ above. map holds_tree above.items ≡ holding_callers (shelves_of store.now) sources.now names.now) }
+    ensures defined { IfOk result (λ above. map holds_tree above.items ≡ holding_callers (memo_cells_of store.now) sources.now names.now) }
     ensures fits { IfOk result (λ above. AllHold above.items) }
 {
     let mut above = Vec::new(alloc);
@@ -64,7 +64,7 @@ fn add_later<'x>(
     name: &'x Text,
 ) -> Result<(), Memory>
     requires { AllOuts above.old.items }
-    ensures added { IfOk result (λ _. map outs_tree above.new.items ≡ map outs_tree above.old.items ++ option_to_list (outs_with (module_named sources.now name.now) (transformers_kept (shelves_of store.now) name.now) (outs_kept (shelves_of store.now) name.now))) }
+    ensures added { IfOk result (λ _. map outs_tree above.new.items ≡ map outs_tree above.old.items ++ option_to_list (outs_with (module_named sources.now name.now) (transformers_kept (memo_cells_of store.now) name.now) (outs_kept (memo_cells_of store.now) name.now))) }
     ensures fits { IfOk result (λ _. AllOuts above.new.items) }
 {
     let Some(own) = own_of(sources, name) else {
@@ -92,7 +92,7 @@ pub(crate) fn later_above<'x>(
     store: &'x Store,
     names: &'x [Text],
 ) -> Result<Vec<CallerOuts<'x>>, Memory>
-    ensures defined { IfOk result (λ above. map outs_tree above.items ≡ later_callers (shelves_of store.now) sources.now names.now) }
+    ensures defined { IfOk result (λ above. map outs_tree above.items ≡ later_callers (memo_cells_of store.now) sources.now names.now) }
     ensures fits { IfOk result (λ above. AllOuts above.items) }
 {
     let mut above = Vec::new(alloc);

@@ -1,20 +1,20 @@
 //! The modules that a module calls, with what is kept of them.
 ghost use Rattle.std.specs.Prelude.{◌≡◌, ◌++◌, map, option_to_list, IfOk, IfSome, option_copied};
-ghost use Rattle.region_phases.specs.Views.{RegionsFit};
-ghost use Rattle.region_phases.specs.Callees.{callee_tree, AllFit, AllSetsFit};
-ghost use Rattle.laws_database.specs.Definitions.{module_named};
-ghost use Rattle.laws_database.specs.Rules.{effects_kept, transformers_kept, regions_kept, ins_kept, callee_with, callees_with};
-ghost use Rattle.result_store.specs.Rows.{shelves_of};
+ghost use Rattle.loop_marker.specs.module_phases.RegionViews.{RegionsFit};
+ghost use Rattle.loop_marker.specs.module_phases.Callees.{callee_tree, AllFit, AllSetsFit};
+ghost use Rattle.session_texts.specs.pipsmake_meaning.Definitions.{module_named};
+ghost use Rattle.session_texts.specs.pipsmake_meaning.Rules.{effects_kept, transformers_kept, regions_kept, ins_kept, callee_with, callees_with};
+ghost use Rattle.result_store.specs.Rows.{memo_cells_of};
 
 use crate::modules::own_of;
-use f77_results::{EffectSet, Results};
+use f77_ast::{EffectSet, Results};
 use fx_lists::Text;
-use region_phases::Callee;
-use region_sets::RegionSet;
+use loop_marker::module_phases::Callee;
+use loop_marker::region_sets::RegionSet;
+use preconditions::transformer_algebra::Transformer;
 use result_store::Store;
 use session_texts::Sources;
 use std::alloc::{AllocError as Memory, Global};
-use transformer_algebra::Transformer;
 
 /// Adds a called module with its effects, where both are there.
 fn add_effects<'x>(
@@ -23,7 +23,7 @@ fn add_effects<'x>(
     store: &'x Store,
     name: &'x Text,
 ) -> Result<(), Memory>
-    ensures { IfOk result (λ _. map callee_tree below.new.items ≡ map callee_tree below.old.items ++ option_to_list (callee_with name.now (module_named sources.now name.now) (effects_kept (shelves_of store.now) name.now))) }
+    ensures { IfOk result (λ _. map callee_tree below.new.items ≡ map callee_tree below.old.items ++ option_to_list (callee_with name.now (module_named sources.now name.now) (effects_kept (memo_cells_of store.now) name.now))) }
 {
     let Some(own) = own_of(sources, name) else {
         return Ok(());
@@ -46,7 +46,7 @@ pub(crate) fn effects_below<'x>(
     store: &'x Store,
     names: &'x [Text],
 ) -> Result<Vec<Callee<'x, EffectSet>>, Memory>
-    ensures { IfOk result (λ below. map callee_tree below.items ≡ callees_with (effects_kept (shelves_of store.now)) sources.now names.now) }
+    ensures { IfOk result (λ below. map callee_tree below.items ≡ callees_with (effects_kept (memo_cells_of store.now)) sources.now names.now) }
 {
     let mut below = Vec::new(alloc);
     let mut rest = names;
@@ -65,7 +65,7 @@ fn add_transformers<'x>(
     name: &'x Text,
 ) -> Result<(), Memory>
     requires { AllFit below.old.items }
-    ensures added { IfOk result (λ _. map callee_tree below.new.items ≡ map callee_tree below.old.items ++ option_to_list (callee_with name.now (module_named sources.now name.now) (transformers_kept (shelves_of store.now) name.now))) }
+    ensures added { IfOk result (λ _. map callee_tree below.new.items ≡ map callee_tree below.old.items ++ option_to_list (callee_with name.now (module_named sources.now name.now) (transformers_kept (memo_cells_of store.now) name.now))) }
     ensures fits { IfOk result (λ _. AllFit below.new.items) }
 {
     let Some(own) = own_of(sources, name) else {
@@ -89,7 +89,7 @@ pub(crate) fn transformers_below<'x>(
     store: &'x Store,
     names: &'x [Text],
 ) -> Result<Vec<Callee<'x, Transformer>>, Memory>
-    ensures defined { IfOk result (λ below. map callee_tree below.items ≡ callees_with (transformers_kept (shelves_of store.now)) sources.now names.now) }
+    ensures defined { IfOk result (λ below. map callee_tree below.items ≡ callees_with (transformers_kept (memo_cells_of store.now)) sources.now names.now) }
     ensures fits { IfOk result (λ below. AllFit below.items) }
 {
     let mut below = Vec::new(alloc);
@@ -134,7 +134,7 @@ pub(crate) fn regions_below<'x>(
     store: &'x Store,
     names: &'x [Text],
 ) -> Result<Vec<Callee<'x, RegionSet>>, Memory>
-    ensures defined { IfOk result (λ below. map callee_tree below.items ≡ callees_with (regions_kept (shelves_of store.now)) sources.now names.now) }
+    ensures defined { IfOk result (λ below. map callee_tree below.items ≡ callees_with (regions_kept (memo_cells_of store.now)) sources.now names.now) }
     ensures fits { IfOk result (λ below. AllSetsFit below.items) }
 {
     let mut below = Vec::new(alloc);
@@ -153,7 +153,7 @@ pub(crate) fn ins_below<'x>(
     store: &'x Store,
     names: &'x [Text],
 ) -> Result<Vec<Callee<'x, RegionSet>>, Memory>
-    ensures defined { IfOk result (λ below. map callee_tree below.items ≡ callees_with (ins_kept (shelves_of store.now)) sources.now names.now) }
+    ensures defined { IfOk result (λ below. map callee_tree below.items ≡ callees_with (ins_kept (memo_cells_of store.now)) sources.now names.now) }
     ensures fits { IfOk result (λ below. AllSetsFit below.items) }
 {
     let mut below = Vec::new(alloc);

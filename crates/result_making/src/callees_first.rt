@@ -1,20 +1,20 @@
 //! Results that rest on those of the modules that a module calls.
 ghost use Rattle.std.specs.Prelude.{◌≡◌, IfOk};
 ghost use Rattle.std.specs.Option.{option_map};
-ghost use Rattle.laws_database.specs.Rules.{rule_of};
-ghost use Rattle.laws_database.specs.Texts.{graph_of};
-ghost use Rattle.result_store.specs.Rows.{shelves_of};
+ghost use Rattle.session_texts.specs.pipsmake_meaning.Rules.{rule_of};
+ghost use Rattle.session_texts.specs.pipsmake_meaning.Texts.{graph_of};
+ghost use Rattle.result_store.specs.Rows.{memo_cells_of};
 ghost use Rattle.result_store.specs.Values.{value_tree};
 ghost use Rattle.result_making.specs.Making.{MayBeKept};
 ghost use Rattle.result_making.specs.Parts.{own_tree};
 
 use crate::below::{effects_below, ins_below, regions_below, transformers_below};
 use crate::modules::{Modules, Own};
-use f77_results::View;
+use call_graph::View;
 use fx_lists::Text;
-use pipsmake_rules::{Kind, callees};
-use region_phases::{effects_from, ins_from, regions_from, transformers_from};
+use loop_marker::module_phases::{effects_from, ins_from, regions_from, transformers_from};
 use result_store::{Store, Value};
+use session_texts::pipsmake_rules::{Kind, callees};
 use std::alloc::{AllocError as Memory, Global};
 
 /// The effects of a module.
@@ -26,7 +26,7 @@ pub(crate) fn effects_value(
     name: &Text,
 ) -> Result<Option<Value>, Memory>
     requires { modules.now.graph.now ≡ graph_of modules.now.sources.now }
-    ensures value { IfOk result (λ v. option_map value_tree v ≡ rule_of (shelves_of store.now) modules.now.sources.now Kind.Effects name.now (own_tree own.now)) }
+    ensures value { IfOk result (λ v. option_map value_tree v ≡ rule_of (memo_cells_of store.now) modules.now.sources.now Kind.Effects name.now (own_tree own.now)) }
     ensures fits { IfOk result MayBeKept }
 {
     let names = callees(alloc, modules.graph, name)?;
@@ -49,7 +49,7 @@ pub(crate) fn transformers_value(
     name: &Text,
 ) -> Result<Option<Value>, Memory>
     requires { modules.now.graph.now ≡ graph_of modules.now.sources.now }
-    ensures value { IfOk result (λ v. option_map value_tree v ≡ rule_of (shelves_of store.now) modules.now.sources.now Kind.Transformers name.now (own_tree own.now)) }
+    ensures value { IfOk result (λ v. option_map value_tree v ≡ rule_of (memo_cells_of store.now) modules.now.sources.now Kind.Transformers name.now (own_tree own.now)) }
     ensures fits { IfOk result MayBeKept }
 {
     let names = callees(alloc, modules.graph, name)?;
@@ -72,7 +72,7 @@ pub(crate) fn regions_value(
     name: &Text,
 ) -> Result<Option<Value>, Memory>
     requires { modules.now.graph.now ≡ graph_of modules.now.sources.now }
-    ensures value { IfOk result (λ v. option_map value_tree v ≡ rule_of (shelves_of store.now) modules.now.sources.now Kind.Regions name.now (own_tree own.now)) }
+    ensures value { IfOk result (λ v. option_map value_tree v ≡ rule_of (memo_cells_of store.now) modules.now.sources.now Kind.Regions name.now (own_tree own.now)) }
     ensures fits { IfOk result MayBeKept }
 {
     let Some(transformers) = store.transformers(name) else {
@@ -98,7 +98,7 @@ pub(crate) fn ins_value(
     name: &Text,
 ) -> Result<Option<Value>, Memory>
     requires { modules.now.graph.now ≡ graph_of modules.now.sources.now }
-    ensures value { IfOk result (λ v. option_map value_tree v ≡ rule_of (shelves_of store.now) modules.now.sources.now Kind.InRegions name.now (own_tree own.now)) }
+    ensures value { IfOk result (λ v. option_map value_tree v ≡ rule_of (memo_cells_of store.now) modules.now.sources.now Kind.InRegions name.now (own_tree own.now)) }
     ensures fits { IfOk result MayBeKept }
 {
     let Some(transformers) = store.transformers(name) else {

@@ -1,20 +1,20 @@
 //! Results that rest on those of the modules that call a module.
 ghost use Rattle.std.specs.Prelude.{◌≡◌, IfOk};
 ghost use Rattle.std.specs.Option.{option_map};
-ghost use Rattle.laws_database.specs.Rules.{rule_of};
-ghost use Rattle.laws_database.specs.Texts.{graph_of};
-ghost use Rattle.result_store.specs.Rows.{shelves_of};
+ghost use Rattle.session_texts.specs.pipsmake_meaning.Rules.{rule_of};
+ghost use Rattle.session_texts.specs.pipsmake_meaning.Texts.{graph_of};
+ghost use Rattle.result_store.specs.Rows.{memo_cells_of};
 ghost use Rattle.result_store.specs.Values.{value_tree};
 ghost use Rattle.result_making.specs.Making.{MayBeKept};
 ghost use Rattle.result_making.specs.Parts.{own_tree};
 
 use crate::above::{holding_above, later_above};
 use crate::modules::{Modules, Own};
-use f77_results::View;
+use call_graph::View;
 use fx_lists::Text;
-use pipsmake_rules::{Kind, callers};
-use region_phases::{outs_from, preconditions_from};
+use loop_marker::module_phases::{outs_from, preconditions_from};
 use result_store::{Store, Value};
+use session_texts::pipsmake_rules::{Kind, callers};
 use std::alloc::{AllocError as Memory, Global};
 
 /// The preconditions of a module; None where its transformers are not kept.
@@ -26,7 +26,7 @@ pub(crate) fn preconditions_value(
     name: &Text,
 ) -> Result<Option<Value>, Memory>
     requires { modules.now.graph.now ≡ graph_of modules.now.sources.now }
-    ensures value { IfOk result (λ v. option_map value_tree v ≡ rule_of (shelves_of store.now) modules.now.sources.now Kind.Preconditions name.now (own_tree own.now)) }
+    ensures value { IfOk result (λ v. option_map value_tree v ≡ rule_of (memo_cells_of store.now) modules.now.sources.now Kind.Preconditions name.now (own_tree own.now)) }
     ensures fits { IfOk result MayBeKept }
 {
     let Some(transformers) = store.transformers(name) else {
@@ -52,7 +52,7 @@ pub(crate) fn outs_value(
     name: &Text,
 ) -> Result<Option<Value>, Memory>
     requires { modules.now.graph.now ≡ graph_of modules.now.sources.now }
-    ensures value { IfOk result (λ v. option_map value_tree v ≡ rule_of (shelves_of store.now) modules.now.sources.now Kind.OutRegions name.now (own_tree own.now)) }
+    ensures value { IfOk result (λ v. option_map value_tree v ≡ rule_of (memo_cells_of store.now) modules.now.sources.now Kind.OutRegions name.now (own_tree own.now)) }
     ensures fits { IfOk result MayBeKept }
 {
     let Some(transformers) = store.transformers(name) else {

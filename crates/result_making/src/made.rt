@@ -1,9 +1,9 @@
 //! The value of a result by the rule of its kind.
 ghost use Rattle.std.specs.Prelude.{◌≡◌, Some, IfOk};
 ghost use Rattle.std.specs.Option.{option_map};
-ghost use Rattle.laws_database.specs.Definitions.{module_named};
-ghost use Rattle.laws_database.specs.Rules.{rule_of, rule_with, rule_value};
-ghost use Rattle.result_store.specs.Rows.{shelves_of};
+ghost use Rattle.session_texts.specs.pipsmake_meaning.Definitions.{module_named};
+ghost use Rattle.session_texts.specs.pipsmake_meaning.Rules.{rule_of, rule_with, rule_value};
+ghost use Rattle.result_store.specs.Rows.{memo_cells_of};
 ghost use Rattle.result_store.specs.Values.{value_tree};
 ghost use Rattle.result_making.specs.Making.{AreGraphed, MayBeKept};
 ghost use Rattle.result_making.specs.Parts.{own_tree};
@@ -15,8 +15,8 @@ use crate::modules::{Modules, Own, own_of};
 use crate::own::{graph_value, lines_value, parsed_value, symbols_value};
 use crate::written::printed_value;
 use fx_lists::Text;
-use pipsmake_rules::{Key, Kind};
 use result_store::{Store, Value};
+use session_texts::pipsmake_rules::{Key, Kind};
 use std::alloc::{AllocError as Memory, Global};
 
 /// The value of a result of a module, by the rule of its kind; the graph is of no module.
@@ -30,7 +30,7 @@ fn value_of(
 ) -> Result<Option<Value>, Memory>
     requires graphed { AreGraphed modules.now }
     requires own { module_named modules.now.sources.now name.now ≡ Some (own_tree own.now) }
-    ensures value { IfOk result (λ v. option_map value_tree v ≡ rule_of (shelves_of store.now) modules.now.sources.now kind name.now (own_tree own.now)) }
+    ensures value { IfOk result (λ v. option_map value_tree v ≡ rule_of (memo_cells_of store.now) modules.now.sources.now kind name.now (own_tree own.now)) }
     ensures fits { IfOk result MayBeKept }
 {
     match kind {
@@ -58,7 +58,7 @@ fn value_named(
     name: &Text,
 ) -> Result<Option<Value>, Memory>
     requires { AreGraphed modules.now }
-    ensures value { IfOk result (λ v. option_map value_tree v ≡ rule_with (shelves_of store.now) modules.now.sources.now kind name.now (module_named modules.now.sources.now name.now)) }
+    ensures value { IfOk result (λ v. option_map value_tree v ≡ rule_with (memo_cells_of store.now) modules.now.sources.now kind name.now (module_named modules.now.sources.now name.now)) }
     ensures fits { IfOk result MayBeKept }
 {
     match own_of(modules.sources, name) {
@@ -77,7 +77,7 @@ pub fn made_value(
     key: &Key,
 ) -> Result<Option<Value>, Memory>
     requires { AreGraphed modules.now }
-    ensures value { IfOk result (λ v. option_map value_tree v ≡ rule_value (shelves_of store.now) modules.now.sources.now key.now) }
+    ensures value { IfOk result (λ v. option_map value_tree v ≡ rule_value (memo_cells_of store.now) modules.now.sources.now key.now) }
     ensures fits { IfOk result MayBeKept }
 {
     match key.kind {

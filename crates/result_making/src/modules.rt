@@ -1,8 +1,8 @@
 //! The present modules with their links.
 ghost use Rattle.std.specs.Prelude.{◌≡◌};
 ghost use Rattle.std.specs.Option.{option_map};
-ghost use Rattle.laws_database.specs.Texts.{no_graph};
-ghost use Rattle.laws_database.specs.Definitions.{module_named};
+ghost use Rattle.session_texts.specs.pipsmake_meaning.Texts.{no_graph};
+ghost use Rattle.session_texts.specs.pipsmake_meaning.Definitions.{module_named};
 ghost use Rattle.result_making.specs.Parts.{own_tree};
 
 use call_graph::Graph;

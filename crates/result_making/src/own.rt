@@ -2,17 +2,16 @@
 ghost use Rattle.std.specs.Prelude.{◌≡◌, map, Some, IfOk};
 ghost use Rattle.std.specs.Option.{option_map};
 ghost use Rattle.f77_ast.specs.PlainDecl.{module_tree, parsed_tree};
-ghost use Rattle.laws_database.specs.Definitions.{module_named, graph_found};
-ghost use Rattle.laws_database.specs.Texts.{links_in, module_read};
-ghost use Rattle.laws_database.specs.Values.{parsed, lines, symbols};
+ghost use Rattle.session_texts.specs.pipsmake_meaning.Definitions.{module_named, graph_found};
+ghost use Rattle.session_texts.specs.pipsmake_meaning.Texts.{links_in, module_read};
+ghost use Rattle.session_texts.specs.pipsmake_meaning.Values.{parsed, lines, symbols};
 ghost use Rattle.result_store.specs.Values.{value_tree};
 ghost use Rattle.result_making.specs.Making.{AreGraphed, MayBeKept};
 ghost use Rattle.result_making.specs.Parts.{own_tree, first_tree, IsReadAs};
 
 use crate::modules::{Modules, Own};
-use f77_ast::{Module, Parsed};
+use f77_ast::{Module, Parsed, copy_symbols};
 use f77_parser::{ModuleTrees, ParseRefusal, parse};
-use f77_results::copy_symbols;
 use f77_structure::stack_of;
 use fixed_form::{ReadRefusal, statements};
 use fx_lists::Text;

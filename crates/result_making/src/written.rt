@@ -1,35 +1,35 @@
 //! The written text of a module, from what is kept of it.
 ghost use Rattle.std.specs.Prelude.{◌≡◌, IfOk, IfSome};
 ghost use Rattle.std.specs.Option.{option_map};
-ghost use Rattle.result_lines.specs.Lines.{results_tree};
-ghost use Rattle.laws_database.specs.Rules.{kept_results, rule_of, text_with};
-ghost use Rattle.result_store.specs.Rows.{shelves_of};
+ghost use Rattle.result_lines.specs.Lines.{printed_tree};
+ghost use Rattle.session_texts.specs.pipsmake_meaning.Rules.{kept_results, rule_of, text_with};
+ghost use Rattle.result_store.specs.Rows.{memo_cells_of};
 ghost use Rattle.result_store.specs.Values.{value_tree};
 ghost use Rattle.result_making.specs.Making.{text_made, MayBeKept};
 ghost use Rattle.result_making.specs.Parts.{own_tree};
 
 use crate::modules::{Modules, Own, own_of};
+use call_graph::View;
 use f77_printer::plain;
-use f77_results::View;
 use fx_lists::Text;
-use pipsmake_rules::Kind;
-use result_lines::{ModuleResults, Show, result_lines};
+use result_lines::{PrintedResults, Show, result_lines};
 use result_store::{Store, Value};
+use session_texts::pipsmake_rules::Kind;
 use std::alloc::{AllocError as Memory, Global};
 
 /// The results of a module that lines say; None where one is not kept.
-fn kept_results<'x>(store: &'x Store, name: &Text) -> Option<ModuleResults<'x>>
-    ensures { option_map results_tree result ≡ kept_results (shelves_of store.now) name.now }
+fn kept_results<'x>(store: &'x Store, name: &Text) -> Option<PrintedResults<'x>>
+    ensures { option_map printed_tree result ≡ kept_results (memo_cells_of store.now) name.now }
 {
-    let own = store.transformers(name)?;
-    let holds = store.preconditions(name)?;
+    let transformers = store.transformers(name)?;
+    let preconditions = store.preconditions(name)?;
     let regions = store.regions(name)?;
     let ins = store.in_regions(name)?;
     let outs = store.out_regions(name)?;
     let marks = store.marks(name)?;
-    Some(ModuleResults {
-        own,
-        holds,
+    Some(PrintedResults {
+        transformers,
+        preconditions,
         regions,
         ins,
         outs,
@@ -46,7 +46,7 @@ fn text_with(
     name: &Text,
     show: Show,
 ) -> Result<Option<Text>, Memory>
-    ensures { IfOk result (λ t. t ≡ text_with (shelves_of store.now) (own_tree own.now) name.now show) }
+    ensures { IfOk result (λ t. t ≡ text_with (memo_cells_of store.now) (own_tree own.now) name.now show) }
 {
     let Some(results) = kept_results(store, name) else {
         return Ok(None);
@@ -70,7 +70,7 @@ pub fn shown(
     name: &Text,
     show: Show,
 ) -> Result<Option<Text>, Memory>
-    ensures { IfOk result (λ t. t ≡ text_made (shelves_of store.now) modules.now.sources.now name.now show) }
+    ensures { IfOk result (λ t. t ≡ text_made (memo_cells_of store.now) modules.now.sources.now name.now show) }
 {
     match own_of(modules.sources, name) {
         None => Ok(None),
@@ -86,7 +86,7 @@ pub(crate) fn printed_value(
     own: &Own<'_>,
     name: &Text,
 ) -> Result<Option<Value>, Memory>
-    ensures value { IfOk result (λ v. option_map value_tree v ≡ rule_of (shelves_of store.now) modules.now.sources.now Kind.Printed name.now (own_tree own.now)) }
+    ensures value { IfOk result (λ v. option_map value_tree v ≡ rule_of (memo_cells_of store.now) modules.now.sources.now Kind.Printed name.now (own_tree own.now)) }
     ensures fits { IfOk result MayBeKept }
 {
     match text_with(alloc, modules, store, own, name, Show::All)? {

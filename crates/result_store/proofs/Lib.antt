@@ -1,6 +1,7 @@
 pub mod ListLaws
 pub mod Outcomes
-pub mod ShelfLaws
+pub mod MemoCellLaws
 pub mod RowLaws
 pub mod StoreLaws
 pub mod StampLaws
+pub mod ResultLaws

@@ -7,18 +7,12 @@ use Rattle.std.specs.Borrow.{Bor}
 use Rattle.std.proofs.Common.{eq-eqb}
 use Rattle.pipsmake_rules.specs.Kinds.{same_kind}
 use Rattle.pipsmake_rules.proofs.KindLaws.{same_kind-true, same_kind_self}
-use Rattle.laws_database.specs.Shelves.{Stamped}
-use Rattle.laws_database.specs.Values.{Item, text, result}
+use Rattle.pipsmake_meaning.specs.MemoCells.{Stamped}
+use Rattle.pipsmake_meaning.specs.Values.{Item, text, result}
 use Rattle.result_store.specs.declared.item.Stamped as code
 use Rattle.result_store.specs.Stamps.{same_item, same_stamped}
 use Rattle.result_store.specs.Values.{stamped_tree}
-
-and_parts : (a b : Bool) → (a && b) ≡ true → (a ≡ true) × (b ≡ true)
-and_parts true b e = (refl, e)
-and_parts false b e = cc
-
-and_from : (a b : Bool) → a ≡ true → b ≡ true → (a && b) ≡ true
-and_from a b e f = ap (λ c. c && b) e ∙ f
+use Rattle.fx_lists.proofs.Booleans.{and_from, and_parts}
 
 item_same : (a b : Item) → same_item a b ≡ true → a ≡ b
 item_same text text e = refl

@@ -1,4 +1,4 @@
--- Rows of shelves: the row of a name, one row more, and a row that is changed.
+-- Rows of memo cells: the row of a name, one row more, and a row that is changed.
 use Rattle.std.proofs.Common.{◌≡◌, ◌<◌, ℕ, zero, suc, ◌+◌, Bool, true, false, List, [], ◌∷◌, ◌++◌, length, map, set, get_or, Option, Some, None, inl, refl, sym, ap, ◌∙◌, subst, arith}
 use Rattle.std.specs.Prelude.{slice_get, bytes_eq, IfSome, if◌then◌else◌}
 use Rattle.std.specs.List.{AllByRecursion}
@@ -8,11 +8,11 @@ use Rattle.f77_ast.specs.Symbols.{number_from}
 use Rattle.f77_ast.specs.declared.name_index.NameIndex.{NameIndex}
 use Rattle.f77_ast.specs.Index.{Indexes}
 use Rattle.f77_ast.proofs.NumbersLaws.{number_from-append}
-use Rattle.laws_database.specs.Making.{AllStay}
-use Rattle.laws_database.specs.Shelves.{Shelf, Shelves, Stamped, Keeps, KeepsIn, no_shelf, forgotten, Sees, SeenIn, Forgets}
-use Rattle.laws_database.specs.Values.{Value, Item, text, result}
+use Rattle.pipsmake_meaning.specs.Making.{AllStay}
+use Rattle.pipsmake_meaning.specs.MemoCells.{MemoCell, MemoCells, Stamped, Keeps, KeepsIn, no_memo_cell, forgotten, Sees, SeenIn, Forgets}
+use Rattle.pipsmake_meaning.specs.Values.{Value, Item, text, result}
 use Rattle.result_store.specs.declared.row.Row.{Row}
-use Rattle.result_store.specs.Rows.{RowTree, row_tree, shelf_at, row_in, shelf_in, shelves_of, names_of, RowFits, AreRows}
+use Rattle.result_store.specs.Rows.{RowTree, row_tree, memo_cell_at, row_in, memo_cell_in, memo_cells_of, names_of, RowFits, AreRows}
 use Rattle.result_store.specs.RowChanges.{IsEmptyRow, ChangesAt, ForgetsAll}
 use Rattle.result_store.specs.Seen.{kept_at, KeepsSeen}
 use Rattle.result_store.proofs.ListLaws.{map-set_same, slice_get-map_at, all_at, all_set, all_more}
@@ -82,25 +82,25 @@ row_in-others (q ∷ rs) x y zero r new h e n d =
     go false t named at = ap (λ b. if b then Some new else row_in rs y) (ap (bytes_eq y) named ∙ t) ∙ sym (ap (λ b. if b then Some q else row_in rs y) t)
 row_in-others (q ∷ rs) x y (suc p) r new h e n d = ap (λ o. if bytes_eq y q.name then Some q else o) (row_in-others rs x y p r new h.1 e n d)
 
--- what is kept of a name and item where one shelf of its row was changed
+-- what is kept of a name and item where one memo cell of its row was changed
 pub record IsChanged (rs : List RowTree) (x : List ℕ) (item : Item) (r new : RowTree) (news : List RowTree) : Type 0 where
-  pub before : shelf_in (row_in rs x) item ≡ shelf_at r item
-  pub after : shelf_in (row_in news x) item ≡ shelf_at new item
-  pub others : (other : Item) (y : List ℕ) → (((other ≡ item) × (y ≡ x)) → ⊥) → shelf_in (row_in news y) other ≡ shelf_in (row_in rs y) other
+  pub before : memo_cell_in (row_in rs x) item ≡ memo_cell_at r item
+  pub after : memo_cell_in (row_in news x) item ≡ memo_cell_at new item
+  pub others : (other : Item) (y : List ℕ) → (((other ≡ item) × (y ≡ x)) → ⊥) → memo_cell_in (row_in news y) other ≡ memo_cell_in (row_in rs y) other
 
-pub changed : (rs : List RowTree) (x : List ℕ) (item : Item) (p : ℕ) (r new : RowTree) → IsAt rs x p → slice_get rs p ≡ Some r → new.name ≡ r.name → ((other : Item) → (other ≡ item → ⊥) → shelf_at new other ≡ shelf_at r other) → IsChanged rs x item r new (set rs p new)
+pub changed : (rs : List RowTree) (x : List ℕ) (item : Item) (p : ℕ) (r new : RowTree) → IsAt rs x p → slice_get rs p ≡ Some r → new.name ≡ r.name → ((other : Item) → (other ≡ item → ⊥) → memo_cell_at new other ≡ memo_cell_at r other) → IsChanged rs x item r new (set rs p new)
 changed rs x item p r new h e n others = record {
-  before = ap (λ o. shelf_in o item) (row_in-at rs x p h ∙ e);
-  after = ap (λ o. shelf_in o item) (row_in-set rs x p r new h e n);
+  before = ap (λ o. memo_cell_in o item) (row_in-at rs x p h ∙ e);
+  after = ap (λ o. memo_cell_in o item) (row_in-set rs x p r new h e n);
   others = λ other y d. go (bytes_eq y x) other y refl d;
 }
   where
-    go : (b : Bool) (other : Item) (y : List ℕ) → bytes_eq y x ≡ b → (((other ≡ item) × (y ≡ x)) → ⊥) → shelf_in (row_in (set rs p new) y) other ≡ shelf_in (row_in rs y) other
+    go : (b : Bool) (other : Item) (y : List ℕ) → bytes_eq y x ≡ b → (((other ≡ item) × (y ≡ x)) → ⊥) → memo_cell_in (row_in (set rs p new) y) other ≡ memo_cell_in (row_in rs y) other
     go true other y t d =
         let same : y ≡ x = (bytes_decides y x).0 t in
-        subst (λ z. shelf_in (row_in (set rs p new) z) other ≡ shelf_in (row_in rs z) other) (sym same)
-        (ap (λ o. shelf_in o other) (row_in-set rs x p r new h e n) ∙ others other (λ i. d (i, same)) ∙ sym (ap (λ o. shelf_in o other) (row_in-at rs x p h ∙ e)))
-    go false other y t d = ap (λ o. shelf_in o other) (row_in-others rs x y p r new h e n (λ same. let z : false ≡ true = sym t ∙ (bytes_decides y x).1 same in cc))
+        subst (λ z. memo_cell_in (row_in (set rs p new) z) other ≡ memo_cell_in (row_in rs z) other) (sym same)
+        (ap (λ o. memo_cell_in o other) (row_in-set rs x p r new h e n) ∙ others other (λ i. d (i, same)) ∙ sym (ap (λ o. memo_cell_in o other) (row_in-at rs x p h ∙ e)))
+    go false other y t d = ap (λ o. memo_cell_in o other) (row_in-others rs x y p r new h e n (λ same. let z : false ≡ true = sym t ∙ (bytes_decides y x).1 same in cc))
 
 -- ---- the rows of the code
 
@@ -139,80 +139,80 @@ module _ (rows : List Row) (x : List ℕ) (p : ℕ) (old : Row) (at : number_fro
       subst (IsChanged (map row_tree rows) x item (row_tree old) (row_tree new)) (sym (map-set row_tree rows p new))
       (changed (map row_tree rows) x item p (row_tree old) (row_tree new) (row_at rows x p at) found c.name c.others)
 
-  pub nothing_changed : (new : Row) → row_tree new ≡ row_tree old → AllStay (shelves_of rows) (shelves_of (set rows p new))
-  nothing_changed new e item y = ap (λ rs. shelf_in (row_in rs y) item) (map-set_same row_tree rows p old new is e)
+  pub nothing_changed : (new : Row) → row_tree new ≡ row_tree old → AllStay (memo_cells_of rows) (memo_cells_of (set rows p new))
+  nothing_changed new e item y = ap (λ rs. memo_cell_in (row_in rs y) item) (map-set_same row_tree rows p old new is e)
 
-  pub row_forgotten : (new : Row) → ForgetsAll (row_tree old) (row_tree new) → Forgets (shelves_of rows) (shelves_of (set rows p new)) x
+  pub row_forgotten : (new : Row) → ForgetsAll (row_tree old) (row_tree new) → Forgets (memo_cells_of rows) (memo_cells_of (set rows p new)) x
   row_forgotten new f = record {
     text = after text ∙ f.text ∙ sym (before text);
     results = λ k. after (result k) ∙ f.results k ∙ sym (ap forgotten (before (result k)));
-    others = λ item y d. ap (λ rs. shelf_in (row_in rs y) item) (map-set row_tree rows p new) ∙ ap (λ o. shelf_in o item) (row_in-others (map row_tree rows) x y p (row_tree old) (row_tree new) (row_at rows x p at) found f.name d);
+    others = λ item y d. ap (λ rs. memo_cell_in (row_in rs y) item) (map-set row_tree rows p new) ∙ ap (λ o. memo_cell_in o item) (row_in-others (map row_tree rows) x y p (row_tree old) (row_tree new) (row_at rows x p at) found f.name d);
   }
     where
-      before : (item : Item) → shelves_of rows item x ≡ shelf_at (row_tree old) item
-      before item = ap (λ o. shelf_in o item) (row_in-at (map row_tree rows) x p (row_at rows x p at) ∙ found)
+      before : (item : Item) → memo_cells_of rows item x ≡ memo_cell_at (row_tree old) item
+      before item = ap (λ o. memo_cell_in o item) (row_in-at (map row_tree rows) x p (row_at rows x p at) ∙ found)
 
-      after : (item : Item) → shelves_of (set rows p new) item x ≡ shelf_at (row_tree new) item
-      after item = ap (λ rs. shelf_in (row_in rs x) item) (map-set row_tree rows p new) ∙ ap (λ o. shelf_in o item) (row_in-set (map row_tree rows) x p (row_tree old) (row_tree new) (row_at rows x p at) found f.name)
+      after : (item : Item) → memo_cells_of (set rows p new) item x ≡ memo_cell_at (row_tree new) item
+      after item = ap (λ rs. memo_cell_in (row_in rs x) item) (map-set row_tree rows p new) ∙ ap (λ o. memo_cell_in o item) (row_in-set (map row_tree rows) x p (row_tree old) (row_tree new) (row_at rows x p at) found f.name)
 
 -- of a name that has no row nothing is kept
-pub no_name_forgets : (rows : List Row) (x : List ℕ) → number_from 0 (names_of rows) x ≡ None → Forgets (shelves_of rows) (shelves_of rows) x
+pub no_name_forgets : (rows : List Row) (x : List ℕ) → number_from 0 (names_of rows) x ≡ None → Forgets (memo_cells_of rows) (memo_cells_of rows) x
 no_name_forgets rows x e =
     let none = no_row 0 rows x e in
     record {
       text = refl;
-      results = λ k. ap (λ o. shelf_in o (result k)) none ∙ sym (ap (λ o. forgotten (shelf_in o (result k))) none);
+      results = λ k. ap (λ o. memo_cell_in o (result k)) none ∙ sym (ap (λ o. forgotten (memo_cell_in o (result k))) none);
       others = λ item y d. refl;
     }
 
 -- ---- what calls say
 
-abbrev now : List RowTree → Shelves
-now ts item y = shelf_in (row_in ts y) item
+abbrev now : List RowTree → MemoCells
+now ts item y = memo_cell_in (row_in ts y) item
 
-module _ (old : Shelves) (rs news : List RowTree) (x : List ℕ) (item : Item) (r new : RowTree) where
-  pub kept_in : (v : Value) (needs : List Stamped) → AllStay old (now rs) → IsChanged rs x item r new news → Keeps (shelf_at r item) v needs (shelf_at new item) → KeepsIn old (now news) item x v needs
+module _ (old : MemoCells) (rs news : List RowTree) (x : List ℕ) (item : Item) (r new : RowTree) where
+  pub kept_in : (v : Value) (needs : List Stamped) → AllStay old (now rs) → IsChanged rs x item r new news → Keeps (memo_cell_at r item) v needs (memo_cell_at new item) → KeepsIn old (now news) item x v needs
   kept_in v needs s c k = record {
-    keeps = subst (λ a. Keeps a v needs (now news item x)) (sym c.before ∙ s item x) (subst (λ b. Keeps (shelf_at r item) v needs b) (sym c.after) k);
+    keeps = subst (λ a. Keeps a v needs (now news item x)) (sym c.before ∙ s item x) (subst (λ b. Keeps (memo_cell_at r item) v needs b) (sym c.after) k);
     others = λ other y d. c.others other y d ∙ s other y;
   }
 
-  pub seen_in : (v : Value) (n : ℕ) → AllStay old (now rs) → IsChanged rs x item r new news → Sees (shelf_at r item) v n (shelf_at new item) → SeenIn old (now news) item x v n
+  pub seen_in : (v : Value) (n : ℕ) → AllStay old (now rs) → IsChanged rs x item r new news → Sees (memo_cell_at r item) v n (memo_cell_at new item) → SeenIn old (now news) item x v n
   seen_in v n s c k = record {
-    sees = subst (λ a. Sees a v n (now news item x)) (sym c.before ∙ s item x) (subst (λ b. Sees (shelf_at r item) v n b) (sym c.after) k);
+    sees = subst (λ a. Sees a v n (now news item x)) (sym c.before ∙ s item x) (subst (λ b. Sees (memo_cell_at r item) v n b) (sym c.after) k);
     others = λ other y d. c.others other y d ∙ s other y;
   }
 
 -- of a name that has no row nothing was seen
-pub no_name_keeps : (rows : List Row) (x : List ℕ) (item : Item) (n : ℕ) (needs : List Stamped) → number_from 0 (names_of rows) x ≡ None → KeepsSeen (shelves_of rows) (shelves_of rows) item x n needs
+pub no_name_keeps : (rows : List Row) (x : List ℕ) (item : Item) (n : ℕ) (needs : List Stamped) → number_from 0 (names_of rows) x ≡ None → KeepsSeen (memo_cells_of rows) (memo_cells_of rows) item x n needs
 no_name_keeps rows x item n needs e v at =
-    let none : slice_get (shelves_of rows item x).values n ≡ None = ap (λ o. slice_get (shelf_in o item).values n) (no_row 0 rows x e) in
+    let none : slice_get (memo_cells_of rows item x).values n ≡ None = ap (λ o. slice_get (memo_cell_in o item).values n) (no_row 0 rows x e) in
     absurd (let z : None ≡ Some v = sym none ∙ at in cc)
 
-pub keeps_seen_in : (rs news : List RowTree) (x : List ℕ) (item : Item) (r new : RowTree) (n : ℕ) (needs : List Stamped) → IsChanged rs x item r new news → shelf_at new item ≡ kept_at (shelf_at r item) n needs → KeepsSeen (now rs) (now news) item x n needs
+pub keeps_seen_in : (rs news : List RowTree) (x : List ℕ) (item : Item) (r new : RowTree) (n : ℕ) (needs : List Stamped) → IsChanged rs x item r new news → memo_cell_at new item ≡ kept_at (memo_cell_at r item) n needs → KeepsSeen (now rs) (now news) item x n needs
 keeps_seen_in rs news x item r new n needs c e v at =
     let is : now news item x ≡ kept_at (now rs item x) n needs = c.after ∙ e ∙ ap (λ s. kept_at s n needs) (sym c.before) in
     record {
       keeps = record {
         stamp = n;
-        values = inl (ap (λ (s : Shelf). s.values) is);
-        at = ap (λ (s : Shelf). slice_get s.values n) is ∙ at;
-        kept = ap (λ (s : Shelf). s.kept) is;
+        values = inl (ap (λ (s : MemoCell). s.values) is);
+        at = ap (λ (s : MemoCell). slice_get s.values n) is ∙ at;
+        kept = ap (λ (s : MemoCell). s.kept) is;
       };
       others = c.others;
     }
 
 -- ---- a row more
 
-row_in-more : (rs : List RowTree) (r : RowTree) (x : List ℕ) (y : List ℕ) (item : Item) → IsEmptyRow x r → shelf_in (row_in (rs ++ r ∷ []) y) item ≡ shelf_in (row_in rs y) item
+row_in-more : (rs : List RowTree) (r : RowTree) (x : List ℕ) (y : List ℕ) (item : Item) → IsEmptyRow x r → memo_cell_in (row_in (rs ++ r ∷ []) y) item ≡ memo_cell_in (row_in rs y) item
 row_in-more [] r x y item h = go (bytes_eq y r.name)
   where
-    go : (b : Bool) → shelf_in (if b then Some r else None) item ≡ no_shelf
-    go true = h.shelves item
+    go : (b : Bool) → memo_cell_in (if b then Some r else None) item ≡ no_memo_cell
+    go true = h.memo_cells item
     go false = refl
 row_in-more (q ∷ rs) r x y item h = go (bytes_eq y q.name) (row_in-more rs r x y item h)
   where
-    go : (b : Bool) → shelf_in (row_in (rs ++ r ∷ []) y) item ≡ shelf_in (row_in rs y) item → shelf_in (if b then Some q else row_in (rs ++ r ∷ []) y) item ≡ shelf_in (if b then Some q else row_in rs y) item
+    go : (b : Bool) → memo_cell_in (row_in (rs ++ r ∷ []) y) item ≡ memo_cell_in (row_in rs y) item → memo_cell_in (if b then Some q else row_in (rs ++ r ∷ []) y) item ≡ memo_cell_in (if b then Some q else row_in rs y) item
     go true e = refl
     go false e = e
 
@@ -223,8 +223,8 @@ module _ (rows : List Row) (x : List ℕ) (new : Row) (empty : IsEmptyRow x (row
   names-more : names_of (rows ++ new ∷ []) ≡ names_of rows ++ x ∷ []
   names-more = map-append (λ (r : Row). r.name) rows (new ∷ []) ∙ ap (λ y. names_of rows ++ y ∷ []) empty.name
 
-  pub same_with_more : AllStay (shelves_of rows) (shelves_of (rows ++ new ∷ []))
-  same_with_more item y = ap (λ rs. shelf_in (row_in rs y) item) more ∙ row_in-more (map row_tree rows) (row_tree new) x y item empty
+  pub same_with_more : AllStay (memo_cells_of rows) (memo_cells_of (rows ++ new ∷ []))
+  same_with_more item y = ap (λ rs. memo_cell_in (row_in rs y) item) more ∙ row_in-more (map row_tree rows) (row_tree new) x y item empty
 
   pub rows_with_more : (index next : NameIndex) → ((names : List (List ℕ)) → Indexes index names → Indexes next (names ++ x ∷ [])) → AreRows index rows → AreRows next (rows ++ new ∷ [])
   rows_with_more index next add are = record {

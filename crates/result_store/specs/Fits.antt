@@ -1,10 +1,10 @@
 -- Values that calls take: their systems are such as the rules of results ask.
 use Rattle.std.specs.List.{AllByRecursion}
 use Rattle.preconditions.specs.Statement.{EachFits}
-use Rattle.region_phases.specs.Views.{RegionsFit}
-use Rattle.scalar_phases.specs.Views.{OwnFits}
-use Rattle.laws_database.specs.Shelves.{Shelf}
-use Rattle.laws_database.specs.Values.{Value, source, parsed, lines, symbols, graph, effects, transformers, preconditions, regions, ins, outs, marks, printed}
+use Rattle.loop_marker.specs.module_phases.RegionViews.{RegionsFit}
+use Rattle.loop_marker.specs.module_phases.ScalarViews.{OwnFits}
+use Rattle.pipsmake_meaning.specs.MemoCells.{MemoCell}
+use Rattle.pipsmake_meaning.specs.Values.{Value, source, parsed, lines, symbols, graph, effects, transformers, preconditions, regions, ins, outs, marks, printed}
 
 abbrev pub ValueFits : Value → Type 0
 ValueFits (source x) = Unit {0}
@@ -21,5 +21,5 @@ ValueFits (outs x) = RegionsFit x
 ValueFits (marks x) = Unit {0}
 ValueFits (printed x) = Unit {0}
 
-abbrev pub ShelfFits : Shelf → Type 0
-ShelfFits s = AllByRecursion ValueFits s.values
+abbrev pub MemoCellFits : MemoCell → Type 0
+MemoCellFits s = AllByRecursion ValueFits s.values

@@ -1,8 +1,8 @@
 -- Tests whether what values were made from is the same: cited by private functions alone.
 use Rattle.std.specs.Prelude.{Bool, true, false, ◌&&◌, nat_eq, bytes_eq}
 use Rattle.pipsmake_rules.specs.Kinds.{same_kind}
-use Rattle.laws_database.specs.Shelves.{Stamped}
-use Rattle.laws_database.specs.Values.{Item, text, result}
+use Rattle.pipsmake_meaning.specs.MemoCells.{Stamped}
+use Rattle.pipsmake_meaning.specs.Values.{Item, text, result}
 
 abbrev pub same_item : Item → Item → Bool
 same_item text text = true

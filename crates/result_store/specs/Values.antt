@@ -6,8 +6,8 @@ use Rattle.f77_ast.specs.PlainDecl.{module_tree}
 use Rattle.f77_ast.specs.Symbols.{SymbolTree, symbol_tree}
 use Rattle.call_graph.specs.declared.graph.Graph.{Graph}
 use Rattle.pipsmake_rules.specs.declared.kind.Kind.TheVariants as kind
-use Rattle.laws_database.specs.Shelves.{Shelves, Stamped, Kept, kept_of}
-use Rattle.laws_database.specs.Values.{Value, source, parsed, lines, symbols, graph, effects, transformers, preconditions, regions, ins, outs, marks, printed, Item, text, result}
+use Rattle.pipsmake_meaning.specs.MemoCells.{MemoCells, Stamped, Kept, kept_of}
+use Rattle.pipsmake_meaning.specs.Values.{Value, source, parsed, lines, symbols, graph, effects, transformers, preconditions, regions, ins, outs, marks, printed, Item, text, result}
 use Rattle.result_store.specs.declared.item.Item as code_item
 use Rattle.result_store.specs.declared.item.Item.TheVariants.{Text, Result}
 use Rattle.result_store.specs.declared.item.Stamped as code_stamped
@@ -132,5 +132,5 @@ printed_in (outs x) = None
 printed_in (marks x) = None
 printed_in (printed x) = Some x
 
-abbrev pub printed_kept : Shelves → List ℕ → Option (List ℕ)
+abbrev pub printed_kept : MemoCells → List ℕ → Option (List ℕ)
 printed_kept sh x = option_and_then printed_in (kept_of sh kind.Printed x)

@@ -2,17 +2,16 @@
 ghost use Rattle.std.specs.Prelude.{◌≡◌, map, option_copied, option_map};
 ghost use Rattle.f77_ast.specs.PlainDecl.{module_tree};
 ghost use Rattle.f77_ast.specs.Symbols.{symbol_tree};
-ghost use Rattle.laws_database.specs.Rules.{effects_in, transformers_in, preconditions_in, regions_in, ins_in, outs_in, marks_in};
+ghost use Rattle.pipsmake_meaning.specs.Rules.{effects_in, transformers_in, preconditions_in, regions_in, ins_in, outs_in, marks_in};
 ghost use Rattle.result_store.specs.Values.{value_tree, source_in, parsed_in, lines_in, symbols_in, graph_in, printed_in};
 
 use crate::value::Value;
 use affine_systems::System;
 use call_graph::Graph;
-use f77_ast::{Module, Places, Symbols};
-use f77_results::{At, EffectSet, Results};
+use f77_ast::{At, EffectSet, Mark, Module, Places, Results, Symbols};
 use fx_lists::{List, Text};
-use region_sets::{Mark, RegionSet};
-use transformer_algebra::Transformer;
+use loop_marker::region_sets::RegionSet;
+use preconditions::transformer_algebra::Transformer;
 
 /// Where it is the text of a module.
 pub fn source_of(value: &Value) -> Option<&Text>

@@ -1,44 +1,44 @@
-//! The shelves of a name.
+//! The memo cells of a name.
 ghost use Rattle.std.specs.Prelude.{◌≡◌, map, replicate, IfOk, OnOk, OnErr};
-ghost use Rattle.laws_database.specs.Shelves.{Keeps, no_shelf, forgotten, Sees};
-ghost use Rattle.result_store.specs.Fits.{ValueFits, ShelfFits};
-ghost use Rattle.result_store.specs.Rows.{row_tree, shelf_tree, shelf_at, RowFits};
+ghost use Rattle.pipsmake_meaning.specs.MemoCells.{Keeps, no_memo_cell, forgotten, Sees};
+ghost use Rattle.result_store.specs.Fits.{ValueFits, MemoCellFits};
+ghost use Rattle.result_store.specs.Rows.{row_tree, memo_cell_tree, memo_cell_at, RowFits};
 ghost use Rattle.result_store.specs.RowChanges.{IsEmptyRow, ChangesAt, ForgetsAll};
 ghost use Rattle.result_store.specs.Seen.{kept_at};
 ghost use Rattle.result_store.specs.Values.{value_tree, stamped_tree, item_of};
 
 use crate::item::{Item, Stamped};
-use crate::shelf::Shelf;
+use crate::memo_cell::MemoCell;
 use crate::value::Value;
 use fx_lists::{List, Text};
 use pipsmake_rules::KINDS;
 use std::alloc::{AllocError as Memory, Global};
 
-/// The shelves of a name: that of its text, and those of its results in the order of the kinds.
+/// The memo cells of a name: that of its text, and those of its results in the order of the kinds.
 #[derive(Drop)]
 pub struct Row {
     pub name: Text,
-    pub text: Shelf,
-    pub results: Vec<Shelf>,
+    pub text: MemoCell,
+    pub results: Vec<MemoCell>,
 }
 
-/// A shelf for each kind, of which nothing was seen.
-fn empty_shelves(alloc: Global) -> Result<Vec<Shelf>, Memory>
-    ensures { IfOk result (λ shelves. map shelf_tree shelves.items ≡ replicate 12 no_shelf) }
+/// A memo cell for each kind, of which nothing was seen.
+fn empty_memo_cells(alloc: Global) -> Result<Vec<MemoCell>, Memory>
+    ensures { IfOk result (λ memo_cells. map memo_cell_tree memo_cells.items ≡ replicate 12 no_memo_cell) }
 {
-    let mut shelves = Vec::new(alloc);
+    let mut memo_cells = Vec::new(alloc);
     for _kind in 0..KINDS.len() {
-        shelves.push(Shelf::new(alloc))?;
+        memo_cells.push(MemoCell::new(alloc))?;
     }
-    Ok(shelves)
+    Ok(memo_cells)
 }
 
 /// Nothing is kept of these; what was seen stays.
-fn forget_all(shelves: &mut [Shelf])
-    ensures { map shelf_tree shelves.new ≡ map (λ s. forgotten (shelf_tree s)) shelves.old }
+fn forget_all(memo_cells: &mut [MemoCell])
+    ensures { map memo_cell_tree memo_cells.new ≡ map (λ s. forgotten (memo_cell_tree s)) memo_cells.old }
 {
-    for shelf in shelves.iter_mut() {
-        shelf.forget();
+    for memo_cell in memo_cells.iter_mut() {
+        memo_cell.forget();
     }
 }
 
@@ -47,19 +47,19 @@ impl Row {
     pub fn new(alloc: Global, name: Text) -> Result<Row, Memory>
         ensures { IfOk result (λ row. IsEmptyRow name (row_tree row)) }
     {
-        let results = empty_shelves(alloc)?;
+        let results = empty_memo_cells(alloc)?;
         Ok(Row {
             name,
-            text: Shelf::new(alloc),
+            text: MemoCell::new(alloc),
             results,
         })
     }
 
-    /// The shelf of an item.
-    pub fn shelf(&self, item: Item) -> &Shelf
+    /// The memo cell of an item.
+    pub fn memo_cell(&self, item: Item) -> &MemoCell
         requires { RowFits (row_tree self.now) }
-        ensures shelf { shelf_tree result.now ≡ shelf_at (row_tree self.now) (item_of item) }
-        ensures fits { ShelfFits (shelf_tree result.now) }
+        ensures memo_cell { memo_cell_tree result.now ≡ memo_cell_at (row_tree self.now) (item_of item) }
+        ensures fits { MemoCellFits (memo_cell_tree result.now) }
     {
         match item {
             Item::Text => &self.text,
@@ -72,14 +72,14 @@ impl Row {
         requires row { RowFits (row_tree self.old) }
         requires value { ValueFits (value_tree value) }
         ensures changes { ChangesAt (item_of item) (row_tree self.old) (row_tree self.new) }
-        ensures ok { OnOk result (Keeps (shelf_at (row_tree self.old) (item_of item)) (value_tree value) (map stamped_tree needs) (shelf_at (row_tree self.new) (item_of item))) }
+        ensures ok { OnOk result (Keeps (memo_cell_at (row_tree self.old) (item_of item)) (value_tree value) (map stamped_tree needs) (memo_cell_at (row_tree self.new) (item_of item))) }
         ensures err { OnErr result (row_tree self.new ≡ row_tree self.old) }
     {
         match item {
             Item::Text => self.text.keep(value, needs),
             Item::Result(kind) => {
-                let shelf = &mut self.results[kind.number() as usize];
-                shelf.keep(value, needs)
+                let memo_cell = &mut self.results[kind.number() as usize];
+                memo_cell.keep(value, needs)
             }
         }
     }
@@ -89,14 +89,14 @@ impl Row {
         requires row { RowFits (row_tree self.old) }
         requires value { ValueFits (value_tree value) }
         ensures changes { ChangesAt (item_of item) (row_tree self.old) (row_tree self.new) }
-        ensures ok { IfOk result (λ n. Sees (shelf_at (row_tree self.old) (item_of item)) (value_tree value) n (shelf_at (row_tree self.new) (item_of item))) }
+        ensures ok { IfOk result (λ n. Sees (memo_cell_at (row_tree self.old) (item_of item)) (value_tree value) n (memo_cell_at (row_tree self.new) (item_of item))) }
         ensures err { OnErr result (row_tree self.new ≡ row_tree self.old) }
     {
         match item {
             Item::Text => self.text.see(value),
             Item::Result(kind) => {
-                let shelf = &mut self.results[kind.number() as usize];
-                shelf.see(value)
+                let memo_cell = &mut self.results[kind.number() as usize];
+                memo_cell.see(value)
             }
         }
     }
@@ -105,13 +105,13 @@ impl Row {
     pub fn keep_seen(&mut self, item: Item, stamp: u32, needs: List<Stamped>)
         requires { RowFits (row_tree self.old) }
         ensures changes { ChangesAt (item_of item) (row_tree self.old) (row_tree self.new) }
-        ensures kept { shelf_at (row_tree self.new) (item_of item) ≡ kept_at (shelf_at (row_tree self.old) (item_of item)) stamp (map stamped_tree needs) }
+        ensures kept { memo_cell_at (row_tree self.new) (item_of item) ≡ kept_at (memo_cell_at (row_tree self.old) (item_of item)) stamp (map stamped_tree needs) }
     {
         match item {
             Item::Text => self.text.keep_seen(stamp, needs),
             Item::Result(kind) => {
-                let shelf = &mut self.results[kind.number() as usize];
-                shelf.keep_seen(stamp, needs)
+                let memo_cell = &mut self.results[kind.number() as usize];
+                memo_cell.keep_seen(stamp, needs)
             }
         }
     }

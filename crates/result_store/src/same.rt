@@ -7,9 +7,7 @@ use crate::forms::{
     preconditions_of, printed_of, regions_of, source_of, symbols_of, transformers_of,
 };
 use crate::value::Value;
-use same_results::{
-    same_effects, same_marks, same_preconditions, same_region_sets, same_transformers,
-};
+use crate::{same_effects, same_marks, same_preconditions, same_region_sets, same_transformers};
 use same_values::{same_graph, same_module, same_places, same_symbols};
 
 /// Whether two values are of one kind and equal. Takes no memory.

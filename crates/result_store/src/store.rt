@@ -1,11 +1,11 @@
-//! The shelves of all names.
+//! The memo cells of all names.
 ghost use Rattle.std.specs.Prelude.{◌≡◌, ◌<◌, ◌↔◌, ℕ, List, length, map, Some, IfOk, OnOk, OnErr, IfSome, IsTrue, option_map};
 ghost use Rattle.f77_ast.specs.Symbols.{number_from};
-ghost use Rattle.laws_database.specs.Making.{stamp_of, AllStay};
-ghost use Rattle.laws_database.specs.Shelves.{KeepsIn, kept_value, no_shelf, SeenIn, Forgets};
-ghost use Rattle.laws_database.specs.Values.{Item as Of};
+ghost use Rattle.pipsmake_meaning.specs.Making.{stamp_of, AllStay};
+ghost use Rattle.pipsmake_meaning.specs.MemoCells.{KeepsIn, kept_value, no_memo_cell, SeenIn, Forgets};
+ghost use Rattle.pipsmake_meaning.specs.Values.{Item as Of};
 ghost use Rattle.result_store.specs.Fits.{ValueFits};
-ghost use Rattle.result_store.specs.Rows.{row_tree, row_in, names_of, shelves_of, RowFits};
+ghost use Rattle.result_store.specs.Rows.{row_tree, row_in, names_of, memo_cells_of, RowFits};
 ghost use Rattle.result_store.specs.Seen.{KeepsSeen};
 ghost use Rattle.result_store.specs.Values.{item_of, value_tree, stamped_tree, kept_tree};
 
@@ -45,7 +45,7 @@ impl Model for Store {
 impl Store {
     /// Nothing was seen, and nothing is kept. Takes no memory.
     pub fn new(alloc: Global) -> Store
-        ensures { (item : Of) (x : List ℕ) → shelves_of result item x ≡ no_shelf }
+        ensures { (item : Of) (x : List ℕ) → memo_cells_of result item x ≡ no_memo_cell }
     {
         Store {
             rows: Vec::new(alloc),
@@ -80,28 +80,28 @@ impl Store {
 
     /// What is kept of an item and name.
     fn kept(&self, item: Item, name: &Text) -> Option<&Kept>
-        ensures { option_map (λ k. kept_tree k.now) result ≡ (shelves_of self.now (item_of item) name.now).kept }
+        ensures { option_map (λ k. kept_tree k.now) result ≡ (memo_cells_of self.now (item_of item) name.now).kept }
     {
         match self.row(name) {
             None => None,
-            Some(row) => row.shelf(item).kept.as_ref(),
+            Some(row) => row.memo_cell(item).kept.as_ref(),
         }
     }
 
     /// The value that is kept; None where none is. Takes no memory.
     pub fn value(&self, item: Item, name: &Text) -> Option<&Value>
-        ensures value { option_map (λ v. value_tree v.now) result ≡ kept_value (shelves_of self.now (item_of item) name.now) }
+        ensures value { option_map (λ v. value_tree v.now) result ≡ kept_value (memo_cells_of self.now (item_of item) name.now) }
         ensures fits { IfSome result (λ v. ValueFits (value_tree v.now)) }
     {
         match self.row(name) {
             None => None,
-            Some(row) => row.shelf(item).value(),
+            Some(row) => row.memo_cell(item).value(),
         }
     }
 
     /// The stamp of the value that is kept: its place among those that were seen of its item and name, from 0. It is 0 too where none is kept. Takes no memory.
     pub fn stamp(&self, item: Item, name: &Text) -> u32
-        ensures { result ≡ (stamp_of (shelves_of self.now) (item_of item) name.now).stamp }
+        ensures { result ≡ (stamp_of (memo_cells_of self.now) (item_of item) name.now).stamp }
     {
         match self.kept(item, name) {
             None => 0,
@@ -111,7 +111,7 @@ impl Store {
 
     /// What the kept value was made from; None where none is kept. Takes no memory.
     pub fn needs(&self, item: Item, name: &Text) -> Option<&List<Stamped>>
-        ensures { option_map (λ ns. map stamped_tree ns.now) result ≡ option_map (λ k. k.needs) (shelves_of self.now (item_of item) name.now).kept }
+        ensures { option_map (λ ns. map stamped_tree ns.now) result ≡ option_map (λ k. k.needs) (memo_cells_of self.now (item_of item) name.now).kept }
     {
         match self.kept(item, name) {
             None => None,
@@ -121,7 +121,7 @@ impl Store {
 
     /// Whether the kept value was made from just these, in this order. Takes no memory.
     pub fn is_made_from(&self, item: Item, name: &Text, stamps: &[Stamped]) -> bool
-        ensures { IsTrue result ↔ (option_map (λ k. k.needs) (shelves_of self.now (item_of item) name.now).kept ≡ Some (map stamped_tree stamps.now)) }
+        ensures { IsTrue result ↔ (option_map (λ k. k.needs) (memo_cells_of self.now (item_of item) name.now).kept ≡ Some (map stamped_tree stamps.now)) }
     {
         match self.needs(item, name) {
             None => false,
@@ -134,7 +134,7 @@ impl Store {
         requires { number_from 0 (names_of self.old) name.now ≡ None }
         ensures place { IfOk result (λ at. number_from 0 (names_of self.new) name.now ≡ Some at) }
         ensures within { IfOk result (λ at. at < length self.new) }
-        ensures same { AllStay (shelves_of self.old) (shelves_of self.new) }
+        ensures same { AllStay (memo_cells_of self.old) (memo_cells_of self.new) }
     {
         let row = Row::new(alloc, name.clone()?)?;
         let key = Vec::from_slice(alloc, name.as_slice())?;
@@ -147,7 +147,7 @@ impl Store {
     fn place_or_add(&mut self, alloc: Global, name: &Text) -> Result<usize, Memory>
         ensures place { IfOk result (λ at. number_from 0 (names_of self.new) name.now ≡ Some at) }
         ensures within { IfOk result (λ at. at < length self.new) }
-        ensures same { AllStay (shelves_of self.old) (shelves_of self.new) }
+        ensures same { AllStay (memo_cells_of self.old) (memo_cells_of self.new) }
     {
         match self.place(name) {
             Some(at) => Ok(at as usize),
@@ -166,8 +166,8 @@ impl Store {
         needs: List<Stamped>,
     ) -> Result<(), Memory>
         requires { ValueFits (value_tree value) }
-        ensures ok { OnOk result (KeepsIn (shelves_of self.old) (shelves_of self.new) (item_of item) name.now (value_tree value) (map stamped_tree needs)) }
-        ensures err { OnErr result (AllStay (shelves_of self.old) (shelves_of self.new)) }
+        ensures ok { OnOk result (KeepsIn (memo_cells_of self.old) (memo_cells_of self.new) (item_of item) name.now (value_tree value) (map stamped_tree needs)) }
+        ensures err { OnErr result (AllStay (memo_cells_of self.old) (memo_cells_of self.new)) }
     {
         let at = self.place_or_add(alloc, name)?;
         let row = &mut self.rows[at];
@@ -183,8 +183,8 @@ impl Store {
         value: Value,
     ) -> Result<u32, Memory>
         requires { ValueFits (value_tree value) }
-        ensures ok { IfOk result (λ n. SeenIn (shelves_of self.old) (shelves_of self.new) (item_of item) name.now (value_tree value) n) }
-        ensures err { OnErr result (AllStay (shelves_of self.old) (shelves_of self.new)) }
+        ensures ok { IfOk result (λ n. SeenIn (memo_cells_of self.old) (memo_cells_of self.new) (item_of item) name.now (value_tree value) n) }
+        ensures err { OnErr result (AllStay (memo_cells_of self.old) (memo_cells_of self.new)) }
     {
         let at = self.place_or_add(alloc, name)?;
         let row = &mut self.rows[at];
@@ -193,7 +193,7 @@ impl Store {
 
     /// The value that was seen with a stamp is kept of an item and name, with what it was made from. Takes no memory.
     pub fn keep_seen(&mut self, item: Item, name: &Text, stamp: u32, needs: List<Stamped>)
-        ensures { KeepsSeen (shelves_of self.old) (shelves_of self.new) (item_of item) name.now stamp (map stamped_tree needs) }
+        ensures { KeepsSeen (memo_cells_of self.old) (memo_cells_of self.new) (item_of item) name.now stamp (map stamped_tree needs) }
     {
         match self.place(name) {
             None => {}
@@ -206,7 +206,7 @@ impl Store {
 
     /// No result of a name is kept any more. What was seen stays, and what is kept of its text. Takes no memory.
     pub fn forget(&mut self, name: &Text)
-        ensures { Forgets (shelves_of self.old) (shelves_of self.new) name.now }
+        ensures { Forgets (memo_cells_of self.old) (memo_cells_of self.new) name.now }
     {
         match self.place(name) {
             None => {}

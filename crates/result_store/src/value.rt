@@ -1,11 +1,10 @@
 //! The values of results.
 use affine_systems::System;
 use call_graph::Graph;
-use f77_ast::{Module, Places, Symbols};
-use f77_results::{At, EffectSet, Results};
+use f77_ast::{At, EffectSet, Mark, Module, Places, Results, Symbols};
 use fx_lists::{List, Text};
-use region_sets::{Mark, RegionSet};
-use transformer_algebra::Transformer;
+use loop_marker::region_sets::RegionSet;
+use preconditions::transformer_algebra::Transformer;
 
 /// The text of a module, or the value of a result, one variant for each kind in the order of the kinds.
 #[derive(Drop)]

@@ -3,13 +3,15 @@ use Rattle.std.proofs.Common.{◌≡◌, List, [], ◌∷◌, map}
 use Rattle.f77_ast.specs.DeclTrees.{ParsedTree}
 use Rattle.f77_ast.specs.Symbols.{SymbolTree}
 use Rattle.f77_names.specs.Lines.{lines_of}
-use Rattle.roundtrip_text.specs.Laws.{TextsReadBack}
+use Rattle.roundtrip_programs.specs.Texts.Laws.{TextsReadBack}
 use Rattle.roundtrip_programs.specs.Laws.{tree_of}
 use Rattle.roundtrip_programs.specs.Programs.{AreTables, ProgramsReadBack, NamesAreShown}
 use Rattle.roundtrip_programs.proofs.Tables.{tables_ignore_places}
 use Rattle.roundtrip_programs.proofs.Graphs.{graphs_ignore_places}
 use Rattle.roundtrip_programs.proofs.Body.{table_named}
 use Rattle.roundtrip_programs.proofs.Listed.{table_shown}
+use Rattle.roundtrip_programs.specs.Lines.{IsShown}
+use Rattle.roundtrip_programs.proofs.Names.{name_shown}
 
 tables_again : (ps qs : List ParsedTree) (tables : List (List SymbolTree)) → map tree_of qs ≡ map tree_of ps → AreTables ps tables → AreTables qs tables
 tables_again [] [] tables e h = h
@@ -32,4 +34,4 @@ programs_read_back back text ps tables g added r a =
     }
 
 pub names_are_shown : NamesAreShown
-names_are_shown p table w f e = table_shown p table (table_named (lines_of p.places.spots) p.module_read w f) e
+names_are_shown p table w f e = table_shown p table (table_named IsShown name_shown (lines_of p.places.spots) p.module_read w f) e

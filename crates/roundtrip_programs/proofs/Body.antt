@@ -1,4 +1,4 @@
--- The names of the table of a module that was read are of printable characters.
+-- The names of the table of a module that was read have what names have.
 use Rattle.std.proofs.Common.{ℕ, suc, ◌+◌, Bool, true, false, List, [], ◌∷◌, ◌++◌, Option, None, sym, subst}
 use Rattle.std.specs.Prelude.{if◌then◌else◌, ◌||◌, not}
 use Rattle.f77_ast.specs.declared.places.Part.TheVariants as parts
@@ -14,124 +14,125 @@ use Rattle.f77_names.specs.Entries.{EntryTree}
 use Rattle.f77_names.specs.Appearing.{name_seen, expr_seen, exprs_seen, maybe_seen, stmt_seen, what_seen, arms_seen, else_seen, stmts_seen}
 use Rattle.f77_names.specs.Declaring.{Told, dummies_told, decl_told, decls_told}
 use Rattle.f77_names.specs.Tables.{no_names, table_of}
-use Rattle.roundtrip_statements.specs.Formed.{IsName, Each}
-use Rattle.roundtrip_statements.specs.Phrased.{AllVariables, IsWhat, IsPhrase}
-use Rattle.roundtrip_modules.specs.Cards.{Card, card, cards_of, cards_by, part_cards, else_cards, cards_in, title_cards, decl_cards, statements_of}
-use Rattle.roundtrip_modules.specs.Numbered.{last_of, last_in, last_arms, IsNumbered, NumberedBelow, NumberedArms, NumberedElse, AreNumbered, TitleFits, IsWell}
+use Rattle.roundtrip_programs.specs.Statements.Formed.{IsName, Each}
+use Rattle.roundtrip_programs.specs.Statements.Phrased.{AllVariables, IsWhat, IsPhrase}
+use Rattle.roundtrip_programs.specs.ModuleTexts.Cards.{Card, card, cards_of, cards_by, part_cards, else_cards, cards_in, title_cards, decl_cards, statements_of}
+use Rattle.roundtrip_programs.specs.ModuleTexts.Numbered.{last_of, last_in, last_arms, IsNumbered, NumberedBelow, NumberedArms, NumberedElse, AreNumbered, TitleFits, IsWell}
 use Rattle.roundtrip_programs.proofs.Named.{AreNamed, name_named, all_named, expr_named, maybe_named, variable_named, dummies_named, decl_named}
 
 abbrev pub AreCards : List Card → Type 0
 AreCards cs = Each (λ (c : Card). IsPhrase c.phrase) cs
 
-left_of : (xs ys : List Card) → AreCards (xs ++ ys) → AreCards xs
+pub left_of : (xs ys : List Card) → AreCards (xs ++ ys) → AreCards xs
 left_of [] ys h = tt
 left_of (x ∷ xs) ys h = record { first = h.first; others = left_of xs ys h.others }
 
-right_of : (xs ys : List Card) → AreCards (xs ++ ys) → AreCards ys
+pub right_of : (xs ys : List Card) → AreCards (xs ++ ys) → AreCards ys
 right_of [] ys h = h
 right_of (x ∷ xs) ys h = right_of xs ys h.others
 
--- ---- statements that are one line
-
-variables_named : (fs : List Function) (rest : ExprTrees) (line : ℕ) (es : List EntryTree) → AllVariables rest → AreNamed es → AreNamed (exprs_seen fs rest line es)
-variables_named fs tree.no_exprs line es k h = h
-variables_named fs (tree.more_exprs e rest) line es k h = variables_named fs rest line (expr_seen fs e line es) k.others (variable_named fs e line es k.first h)
-
-simple_named : (fs : List Function) (at : LineTable) (w : WhatTree) (id line : ℕ) (es : List EntryTree) → IsWhat w → AreNamed es → AreNamed (what_seen fs at w id line es)
-simple_named fs at (tree.assign left right) id line es k h = expr_named fs right line (expr_seen fs left line es) k.right (variable_named fs left line es k.left h)
-simple_named fs at (tree.block_if arms other) id line es k h = absurd k
-simple_named fs at (tree.logical_if e s) id line es k h = absurd k
-simple_named fs at (tree.do_loop l) id line es k h = absurd k
-simple_named fs at (tree.call x rest) id line es k h = all_named fs line k.actuals es h
-simple_named fs at (tree.goto l) id line es k h = h
-simple_named fs at tree.continue id line es k h = h
-simple_named fs at tree.return id line es k h = h
-simple_named fs at (tree.stop text) id line es k h = h
-simple_named fs at (tree.print rest) id line es k h = all_named fs line k es h
-simple_named fs at (tree.read rest) id line es k h = variables_named fs rest line es k h
-
 -- what ends a block IF
-part_end : (id place : ℕ) (arms : ArmTrees) (end : List Card) → AreCards (part_cards id place arms end) → AreCards end
+pub part_end : (id place : ℕ) (arms : ArmTrees) (end : List Card) → AreCards (part_cards id place arms end) → AreCards end
 part_end id place tree.no_arms end k = k
 part_end id place (tree.more_arms (tree.arm test body) others) end k = part_end id (place + 1) others end (right_of (cards_in body) (part_cards id (place + 1) others end) k.others)
 
-mutual
-  stmt_named : (fs : List Function) (at : LineTable) (n : ℕ) (s : StmtTree) (line : ℕ) (es : List EntryTree) → IsNumbered n s → AreCards (cards_of s) → AreNamed es → AreNamed (stmt_seen fs at s line es)
-  stmt_named fs at n (tree.stmt id label w) line es b k h = what_named fs at (n + 1) w id label (line_or at (Statement id) line) es b.below k h
+module _ (P : List ℕ → Type 0) (named : (x : List ℕ) → IsName x → P x) where
+  -- ---- statements that are one line
 
-  what_named : (fs : List Function) (at : LineTable) (n : ℕ) (w : WhatTree) (id : ℕ) (label : Option ℕ) (line : ℕ) (es : List EntryTree) → NumberedBelow n w → AreCards (cards_by id label w) → AreNamed es
-      → AreNamed (what_seen fs at w id line es)
-  what_named fs at n (tree.assign left right) id label line es b k h = simple_named fs at (tree.assign left right) id line es k.first h
-  what_named fs at n (tree.block_if tree.no_arms other) id label line es b k h = absurd b.parts
-  what_named fs at n (tree.block_if (tree.more_arms (tree.arm test body) others) other) id label line es b k h =
-      let end = else_cards id other ++ card (parts.Close id) None end_if ∷ [] in
-      let parts_behind = part_cards id 1 others end in
-      let inner = line_or at (ElseIf id 0) line in
-      let first = stmts_named fs at n body inner (expr_seen fs test inner es) b.parts.below (left_of (cards_in body) parts_behind k.others) (expr_named fs test inner es k.first h) in
-      let behind = right_of (cards_in body) parts_behind k.others in
-      let after = arms_named fs at (last_in n body) others id 1 1 line (stmts_seen fs at body inner (expr_seen fs test inner es)) end b.parts.parts behind first in
-      else_named fs at (last_arms (last_in n body) others) other id line (arms_seen fs at others id 1 line (stmts_seen fs at body inner (expr_seen fs test inner es))) b.last
-      (left_of (else_cards id other) (card (parts.Close id) None end_if ∷ []) (part_end id 1 others end behind)) after
-  what_named fs at n (tree.logical_if e (tree.stmt inner own w)) id label line es b k h =
-      simple_named fs at w inner (line_or at (Statement inner) line) (expr_seen fs e line es) k.first.inner (expr_named fs e line es k.first.test h)
-  what_named fs at n (tree.do_loop (tree.loop index first last step body)) id label line es b k h =
-      let head = k.first in
-      let e1 = name_seen fs index line es in
-      let e2 = expr_seen fs first line e1 in
-      let e3 = expr_seen fs last line e2 in
-      stmts_named fs at n body line (maybe_seen fs step line e3) b (left_of (cards_in body) (card (parts.Close id) None end_do ∷ []) k.others)
-      (maybe_named fs step line e3 head.step (expr_named fs last line e2 head.last (expr_named fs first line e1 head.first (name_named fs index line es head.index h))))
-  what_named fs at n (tree.call x rest) id label line es b k h = simple_named fs at (tree.call x rest) id line es k.first h
-  what_named fs at n (tree.goto l) id label line es b k h = h
-  what_named fs at n tree.continue id label line es b k h = h
-  what_named fs at n tree.return id label line es b k h = h
-  what_named fs at n (tree.stop text) id label line es b k h = h
-  what_named fs at n (tree.print rest) id label line es b k h = simple_named fs at (tree.print rest) id line es k.first h
-  what_named fs at n (tree.read rest) id label line es b k h = simple_named fs at (tree.read rest) id line es k.first h
+  variables_named : (fs : List Function) (rest : ExprTrees) (line : ℕ) (es : List EntryTree) → AllVariables rest → AreNamed P es → AreNamed P (exprs_seen fs rest line es)
+  variables_named fs tree.no_exprs line es k h = h
+  variables_named fs (tree.more_exprs e rest) line es k h = variables_named fs rest line (expr_seen fs e line es) k.others (variable_named P named fs e line es k.first h)
 
-  -- the other parts of a block IF
-  arms_named : (fs : List Function) (at : LineTable) (n : ℕ) (arms : ArmTrees) (id place m line : ℕ) (es : List EntryTree) (end : List Card) → NumberedArms n arms → AreCards (part_cards id place arms end) → AreNamed es
-      → AreNamed (arms_seen fs at arms id m line es)
-  arms_named fs at n tree.no_arms id place m line es end b k h = h
-  arms_named fs at n (tree.more_arms (tree.arm test body) others) id place m line es end b k h =
-      let inner = line_or at (ElseIf id m) line in
-      let behind = part_cards id (place + 1) others end in
-      arms_named fs at (last_in n body) others id (place + 1) (suc m) line (stmts_seen fs at body inner (expr_seen fs test inner es)) end b.parts (right_of (cards_in body) behind k.others)
-      (stmts_named fs at n body inner (expr_seen fs test inner es) b.below (left_of (cards_in body) behind k.others) (expr_named fs test inner es k.first h))
+  simple_named : (fs : List Function) (at : LineTable) (w : WhatTree) (id line : ℕ) (es : List EntryTree) → IsWhat w → AreNamed P es → AreNamed P (what_seen fs at w id line es)
+  simple_named fs at (tree.assign left right) id line es k h = expr_named P named fs right line (expr_seen fs left line es) k.right (variable_named P named fs left line es k.left h)
+  simple_named fs at (tree.block_if arms other) id line es k h = absurd k
+  simple_named fs at (tree.logical_if e s) id line es k h = absurd k
+  simple_named fs at (tree.do_loop l) id line es k h = absurd k
+  simple_named fs at (tree.call x rest) id line es k h = all_named P named fs line k.actuals es h
+  simple_named fs at (tree.goto l) id line es k h = h
+  simple_named fs at tree.continue id line es k h = h
+  simple_named fs at tree.return id line es k h = h
+  simple_named fs at (tree.stop text) id line es k h = h
+  simple_named fs at (tree.print rest) id line es k h = all_named P named fs line k es h
+  simple_named fs at (tree.read rest) id line es k h = variables_named fs rest line es k h
 
-  else_named : (fs : List Function) (at : LineTable) (n : ℕ) (other : ElseTree) (id line : ℕ) (es : List EntryTree) → NumberedElse n other → AreCards (else_cards id other) → AreNamed es → AreNamed (else_seen fs at other line es)
-  else_named fs at n tree.no_else id line es b k h = h
-  else_named fs at n (tree.otherwise body) id line es b k h = stmts_named fs at n body line es b k.others h
+  mutual
+    stmt_named : (fs : List Function) (at : LineTable) (n : ℕ) (s : StmtTree) (line : ℕ) (es : List EntryTree) → IsNumbered n s → AreCards (cards_of s) → AreNamed P es → AreNamed P (stmt_seen fs at s line es)
+    stmt_named fs at n (tree.stmt id label w) line es b k h = what_named fs at (n + 1) w id label (line_or at (Statement id) line) es b.below k h
 
-  stmts_named : (fs : List Function) (at : LineTable) (n : ℕ) (ss : StmtTrees) (line : ℕ) (es : List EntryTree) → AreNumbered n ss → AreCards (cards_in ss) → AreNamed es → AreNamed (stmts_seen fs at ss line es)
-  stmts_named fs at n tree.no_stmts line es b k h = h
-  stmts_named fs at n (tree.more_stmts s others) line es b k h =
-      stmts_named fs at (last_of n s) others line (stmt_seen fs at s line es) b.behind (right_of (cards_of s) (cards_in others) k)
-      (stmt_named fs at n s line es b.first (left_of (cards_of s) (cards_in others) k) h)
+    what_named : (fs : List Function) (at : LineTable) (n : ℕ) (w : WhatTree) (id : ℕ) (label : Option ℕ) (line : ℕ) (es : List EntryTree) → NumberedBelow n w → AreCards (cards_by id label w) → AreNamed P es
+        → AreNamed P (what_seen fs at w id line es)
+    what_named fs at n (tree.assign left right) id label line es b k h = simple_named fs at (tree.assign left right) id line es k.first h
+    what_named fs at n (tree.block_if tree.no_arms other) id label line es b k h = absurd b.parts
+    what_named fs at n (tree.block_if (tree.more_arms (tree.arm test body) others) other) id label line es b k h =
+        let end = else_cards id other ++ card (parts.Close id) None end_if ∷ [] in
+        let parts_behind = part_cards id 1 others end in
+        let inner = line_or at (ElseIf id 0) line in
+        let first = stmts_named fs at n body inner (expr_seen fs test inner es) b.parts.below (left_of (cards_in body) parts_behind k.others) (expr_named P named fs test inner es k.first h) in
+        let behind = right_of (cards_in body) parts_behind k.others in
+        let after = arms_named fs at (last_in n body) others id 1 1 line (stmts_seen fs at body inner (expr_seen fs test inner es)) end b.parts.parts behind first in
+        else_named fs at (last_arms (last_in n body) others) other id line (arms_seen fs at others id 1 line (stmts_seen fs at body inner (expr_seen fs test inner es))) b.last
+        (left_of (else_cards id other) (card (parts.Close id) None end_if ∷ []) (part_end id 1 others end behind)) after
+    what_named fs at n (tree.logical_if e (tree.stmt inner own w)) id label line es b k h =
+        simple_named fs at w inner (line_or at (Statement inner) line) (expr_seen fs e line es) k.first.inner (expr_named P named fs e line es k.first.test h)
+    what_named fs at n (tree.do_loop (tree.loop index first last step body)) id label line es b k h =
+        let head = k.first in
+        let e1 = name_seen fs index line es in
+        let e2 = expr_seen fs first line e1 in
+        let e3 = expr_seen fs last line e2 in
+        stmts_named fs at n body line (maybe_seen fs step line e3) b (left_of (cards_in body) (card (parts.Close id) None end_do ∷ []) k.others)
+        (maybe_named P named fs step line e3 head.step (expr_named P named fs last line e2 head.last (expr_named P named fs first line e1 head.first (name_named P named fs index line es head.index h))))
+    what_named fs at n (tree.call x rest) id label line es b k h = simple_named fs at (tree.call x rest) id line es k.first h
+    what_named fs at n (tree.goto l) id label line es b k h = h
+    what_named fs at n tree.continue id label line es b k h = h
+    what_named fs at n tree.return id label line es b k h = h
+    what_named fs at n (tree.stop text) id label line es b k h = h
+    what_named fs at n (tree.print rest) id label line es b k h = simple_named fs at (tree.print rest) id line es k.first h
+    what_named fs at n (tree.read rest) id label line es b k h = simple_named fs at (tree.read rest) id line es k.first h
 
--- ---- modules
+    -- the other parts of a block IF
+    arms_named : (fs : List Function) (at : LineTable) (n : ℕ) (arms : ArmTrees) (id place m line : ℕ) (es : List EntryTree) (end : List Card) → NumberedArms n arms → AreCards (part_cards id place arms end) → AreNamed P es
+        → AreNamed P (arms_seen fs at arms id m line es)
+    arms_named fs at n tree.no_arms id place m line es end b k h = h
+    arms_named fs at n (tree.more_arms (tree.arm test body) others) id place m line es end b k h =
+        let inner = line_or at (ElseIf id m) line in
+        let behind = part_cards id (place + 1) others end in
+        arms_named fs at (last_in n body) others id (place + 1) (suc m) line (stmts_seen fs at body inner (expr_seen fs test inner es)) end b.parts (right_of (cards_in body) behind k.others)
+        (stmts_named fs at n body inner (expr_seen fs test inner es) b.below (left_of (cards_in body) behind k.others) (expr_named P named fs test inner es k.first h))
 
-dummies_are_names : (main titled : Bool) (name : List ℕ) (dummies : List (List ℕ)) → TitleFits main titled name dummies
-    → AreCards (if titled || not main then card parts.Title None (if main then program name else subroutine name dummies) ∷ [] else []) → Each IsName dummies
-dummies_are_names true true name dummies f k = subst (Each IsName) (sym f) tt
-dummies_are_names true false name dummies f k = subst (Each IsName) (sym f.alone) tt
-dummies_are_names false true name dummies f k = cc
-dummies_are_names false false name dummies f k = k.first.dummies
+    else_named : (fs : List Function) (at : LineTable) (n : ℕ) (other : ElseTree) (id line : ℕ) (es : List EntryTree) → NumberedElse n other → AreCards (else_cards id other) → AreNamed P es → AreNamed P (else_seen fs at other line es)
+    else_named fs at n tree.no_else id line es b k h = h
+    else_named fs at n (tree.otherwise body) id line es b k h = stmts_named fs at n body line es b k.others h
 
-decls_named : (fs : List Function) (at : LineTable) (ds : List DeclTree) (n place : ℕ) (t : Told) → AreCards (decl_cards place ds) → AreNamed t.entries → AreNamed (decls_told fs at ds n t).entries
-decls_named fs at [] n place t k h = h
-decls_named fs at (d ∷ ds) n place t k h =
-    let line = line_or at (Decl n) 0 in
-    decls_named fs at ds (suc n) (place + 1) (decl_told fs d line t) k.others (decl_named fs d line t k.first h)
+    stmts_named : (fs : List Function) (at : LineTable) (n : ℕ) (ss : StmtTrees) (line : ℕ) (es : List EntryTree) → AreNumbered n ss → AreCards (cards_in ss) → AreNamed P es → AreNamed P (stmts_seen fs at ss line es)
+    stmts_named fs at n tree.no_stmts line es b k h = h
+    stmts_named fs at n (tree.more_stmts s others) line es b k h =
+        stmts_named fs at (last_of n s) others line (stmt_seen fs at s line es) b.behind (right_of (cards_of s) (cards_in others) k)
+        (stmt_named fs at n s line es b.first (left_of (cards_of s) (cards_in others) k) h)
 
-pub table_named : (at : LineTable) (m : ModuleTree) → IsWell m → AreCards (statements_of m) → AreNamed (table_of at m).entries
-unfolding statements_of
-table_named at m w k =
-    let fs = arrays_named m.decls in
-    let all = left_of (title_cards m ++ decl_cards 0 m.decls ++ cards_in m.body) (card parts.End None end_module ∷ []) k in
-    let heads = left_of (title_cards m ++ decl_cards 0 m.decls) (cards_in m.body) all in
-    let dummies = dummies_are_names m.main m.titled m.name m.dummies w.title (left_of (title_cards m) (decl_cards 0 m.decls) heads) in
-    let line = line_or at Title 0 in
-    let named = dummies_named m.dummies 1 line no_names dummies tt in
-    let told = decls_named fs at m.decls 0 0 (dummies_told m.dummies 1 line no_names) (right_of (title_cards m) (decl_cards 0 m.decls) heads) named in
-    stmts_named fs at 0 m.body 0 (decls_told fs at m.decls 0 (dummies_told m.dummies 1 line no_names)).entries w.body (right_of (title_cards m ++ decl_cards 0 m.decls) (cards_in m.body) all) told
+  -- ---- modules
+
+  dummies_are_names : (main titled : Bool) (name : List ℕ) (dummies : List (List ℕ)) → TitleFits main titled name dummies
+      → AreCards (if titled || not main then card parts.Title None (if main then program name else subroutine name dummies) ∷ [] else []) → Each IsName dummies
+  dummies_are_names true true name dummies f k = subst (Each IsName) (sym f) tt
+  dummies_are_names true false name dummies f k = subst (Each IsName) (sym f.alone) tt
+  dummies_are_names false true name dummies f k = cc
+  dummies_are_names false false name dummies f k = k.first.dummies
+
+  decls_named : (fs : List Function) (at : LineTable) (ds : List DeclTree) (n place : ℕ) (t : Told) → AreCards (decl_cards place ds) → AreNamed P t.entries → AreNamed P (decls_told fs at ds n t).entries
+  decls_named fs at [] n place t k h = h
+  decls_named fs at (d ∷ ds) n place t k h =
+      let line = line_or at (Decl n) 0 in
+      decls_named fs at ds (suc n) (place + 1) (decl_told fs d line t) k.others (decl_named P named fs d line t k.first h)
+
+  pub table_named : (at : LineTable) (m : ModuleTree) → IsWell m → AreCards (statements_of m) → AreNamed P (table_of at m).entries
+  unfolding statements_of
+  table_named at m w k =
+      let fs = arrays_named m.decls in
+      let all = left_of (title_cards m ++ decl_cards 0 m.decls ++ cards_in m.body) (card parts.End None end_module ∷ []) k in
+      let heads = left_of (title_cards m ++ decl_cards 0 m.decls) (cards_in m.body) all in
+      let dummies = dummies_are_names m.main m.titled m.name m.dummies w.title (left_of (title_cards m) (decl_cards 0 m.decls) heads) in
+      let line = line_or at Title 0 in
+      let first = dummies_named P named m.dummies 1 line no_names dummies tt in
+      let told = decls_named fs at m.decls 0 0 (dummies_told m.dummies 1 line no_names) (right_of (title_cards m) (decl_cards 0 m.decls) heads) first in
+      stmts_named fs at 0 m.body 0 (decls_told fs at m.decls 0 (dummies_told m.dummies 1 line no_names)).entries w.body (right_of (title_cards m ++ decl_cards 0 m.decls) (cards_in m.body) all) told

@@ -6,11 +6,11 @@ use Rattle.f77_ast.specs.DeclTrees.{ModuleTree, ParsedTree}
 use Rattle.f77_ast.specs.Symbols.{SymbolTree, number_from}
 use Rattle.tracked_cells.specs.Equivalences.{equivalenced_names}
 use Rattle.tracked_cells.specs.Scalars.{all_scalars}
-use Rattle.tracked_cells.specs.Untracked.{equivalenced_names_of_all, spoilt}
+use Rattle.tracked_cells.specs.Untracked.{equivalenced_names_of_all, untrackable}
 use Rattle.call_graph.specs.declared.calls.Called.{Called}
 use Rattle.call_graph.specs.declared.graph.Graph.{Graph}
-use Rattle.refusal_codes.specs.declared.code.Code.{Code}
-use Rattle.refusal_codes.specs.declared.code.Code.TheVariants.{TwoMains, ModuleTwice}
+use Rattle.fx_lists.specs.declared.code.Code.{Code}
+use Rattle.fx_lists.specs.declared.code.Code.TheVariants.{TwoMains, ModuleTwice}
 use Rattle.call_graph.specs.declared.refusal.Fault.{Fault}
 use Rattle.call_graph.specs.declared.refusal.Fault.TheVariants as fault
 use Rattle.call_graph.specs.Faults.{or_fault, unless}
@@ -24,7 +24,7 @@ use Rattle.call_graph.specs.Links.{program_calls, callees_of, unfit, cyclic, gra
 use Rattle.roundtrip_programs.specs.Laws.{tree_of, GraphsIgnorePlaces}
 
 -- a module without the places of its statements
-abbrev placeless : ModuleTree → ParsedTree
+abbrev pub placeless : ModuleTree → ParsedTree
 placeless m = record { module_read = m; places = record { spots = []; closing = [] } }
 
 abbrev bare : ParsedTree → ParsedTree
@@ -157,7 +157,7 @@ graph_same ps sss =
       order = names_at (order_of (callees_of (bares ps) sss)) (names_of (bares ps));
       edges = all_edges (names_of (bares ps)) (program_calls (bares ps) sss);
       blocks = blocks_of sss;
-      untracked = spoilt xs sss (all_scalars sss []);
+      untracked = untrackable xs sss (all_scalars sss []);
     }) (equivalenced_bare ps)
 
 -- ---- the links

@@ -3,16 +3,16 @@ use Rattle.std.proofs.Common.{◌≡◌, ℕ, Bool, true, false, List, [], ◌�
 use Rattle.f77_ast.specs.Trees.{ExprTree, ExprTrees}
 use Rattle.f77_ast.specs.Trees as tree
 use Rattle.f77_ast.specs.Symbols.{number_from}
-use Rattle.refusal_codes.specs.declared.refusal.Refusal.{Refusal}
+use Rattle.fx_lists.specs.declared.refusal.Refusal.{Refusal}
 use Rattle.f77_names.specs.Entries.{EntryTree, find, place_in, has_shape}
 use Rattle.f77_names.specs.Tables.{NameTable}
-use Rattle.f77_checks.specs.Dimensions.{dims_in, worth_in}
+use Rattle.f77_checks.specs.Dimensions.{dims_in, const_value_in}
 use Rattle.storage_data.specs.Units.{place_of, units_by, units_of_entry, units_of}
 use Rattle.storage_data.specs.Items.{element_fault, item_fault, both, check_items, with_number, numbers_of, position_at, element_position, item_position}
 use Rattle.roundtrip_programs.proofs.Found.{SameFound, noted_same}
 use Rattle.roundtrip_programs.proofs.Bare.{bare, bares, bare_found, bare_table, find_bare, shape_bare}
 use Rattle.roundtrip_programs.proofs.Sorts.{expr_same, subscripts_same}
-use Rattle.roundtrip_programs.proofs.Shapes.{dims_bare, worth_in_bare}
+use Rattle.roundtrip_programs.proofs.Shapes.{dims_bare, const_value_in_bare}
 
 -- ---- names and units
 
@@ -35,7 +35,7 @@ units_bare t x = units_entry_bare t (find x t.entries) ∙ ap (units_of_entry (b
 
 numbers_bare : (t : NameTable) (es : ExprTrees) → numbers_of t es ≡ numbers_of (bare_table t) es
 numbers_bare t tree.no_exprs = refl
-numbers_bare t (tree.more_exprs e es) = ap (λ w. with_number w (numbers_of t es)) (worth_in_bare t e) ∙ ap (with_number (worth_in (bare_table t) e)) (numbers_bare t es)
+numbers_bare t (tree.more_exprs e es) = ap (λ w. with_number w (numbers_of t es)) (const_value_in_bare t e) ∙ ap (with_number (const_value_in (bare_table t) e)) (numbers_bare t es)
 
 element_position_bare : (t : NameTable) (o : Option EntryTree) (es : ExprTrees) → element_position t o es ≡ element_position (bare_table t) (bare_found o) es
 element_position_bare t None es = refl

@@ -9,13 +9,19 @@ mod Judged
 mod Items
 mod Filled
 mod Put
-mod Shared
+pub mod Shared
 mod Symbols
 mod Tables
-mod Graphs
-mod Shown
+pub mod Graphs
+pub mod Shown
 pub mod Names
-mod Named
+pub mod Named
 pub mod Body
-mod Listed
+pub mod Listed
 mod Back
+mod Pieces
+pub mod Written
+pub mod Cards
+pub mod ModuleTexts
+pub mod Statements
+pub mod Texts

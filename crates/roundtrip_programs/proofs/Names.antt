@@ -5,8 +5,8 @@ use Rattle.std.specs.Char.{is_ascii_uppercase, is_ascii_digit}
 use Rattle.std.specs.List.{list_all}
 use Rattle.std.proofs.lemmas.Bool.{and_parts, and_from, or_cases, leb-true, le-leb, eqb-true}
 use Rattle.f77_exprs.specs.Lexical.{in_name, skip_name}
-use Rattle.roundtrip_lines.specs.Good.{is_printable}
-use Rattle.roundtrip_statements.specs.Formed.{IsName}
+use Rattle.roundtrip_programs.specs.Cards.Good.{is_printable}
+use Rattle.roundtrip_programs.specs.Statements.Formed.{IsName}
 use Rattle.roundtrip_programs.specs.Lines.{IsShown}
 
 between : (c : ℕ) → 32 ≤ c → c ≤ 126 → is_printable c ≡ true

@@ -13,7 +13,7 @@ use Rattle.roundtrip_programs.proofs.Items.{place_bare, units_bare}
 member_at : (t : NameTable) (block : List ℕ) (e : EntityTree) (p : Option ℕ) (l : Laid) → member_put t block e p l ≡ member_put (bare_table t) block e p l
 member_at t block e None l = refl
 member_at t block e (Some place) l =
-    ap (λ (n : ℕ). if sits_in_block (slice_get l.seats place) then l else put_there n place (block_number l.names block) l) (units_bare t e.name)
+    ap (λ (n : ℕ). if sits_in_block (slice_get l.offset_nodes place) then l else put_there n place (block_number l.names block) l) (units_bare t e.name)
 
 member_bare : (t : NameTable) (block : List ℕ) (e : EntityTree) (l : Laid) → member_put t block e (place_of t e.name) l ≡ member_put (bare_table t) block e (place_of (bare_table t) e.name) l
 member_bare t block e l = member_at t block e (place_of t e.name) l ∙ ap (λ p. member_put (bare_table t) block e p l) (place_bare t e.name)

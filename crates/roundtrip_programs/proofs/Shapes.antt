@@ -4,18 +4,18 @@ use Rattle.std.specs.Prelude.{if◌then◌else◌, not, ◌&&◌, ◌||◌, nat_
 use Rattle.f77_ast.specs.Trees.{ExprTree}
 use Rattle.f77_ast.specs.Trees as tree
 use Rattle.f77_ast.specs.declared.constant.Constant.TheVariants.{Int, Log}
-use Rattle.f77_ast.specs.declared.constant.Worth.{Worth}
-use Rattle.f77_ast.specs.declared.constant.Worth.TheVariants.{Is, Faults, Varies}
+use Rattle.f77_ast.specs.declared.constant.ConstantValue.{ConstantValue}
+use Rattle.f77_ast.specs.declared.constant.ConstantValue.TheVariants.{Is, Faults, Varies}
 use Rattle.f77_ast.specs.Constants.{turns_logical, gives_logical}
 use Rattle.f77_ast.specs.Symbols.{BoundTree}
-use Rattle.refusal_codes.specs.declared.refusal.Refusal.{Refusal}
+use Rattle.fx_lists.specs.declared.refusal.Refusal.{Refusal}
 use Rattle.f77_names.specs.Entries.{ShapeTree, EntryTree}
 use Rattle.f77_names.specs.Tables.{NameTable, entry_kind}
-use Rattle.f77_checks.specs.Dimensions.{is_int_kind, may_adjust, is_adjustable, is_bad_worth, worth_in, is_bad_limit, is_below, is_bad_high, is_bad_bound, is_last, has_bad_bound, dim_from, dim_up_to, dim_of, with_dim, dims_of, is_too_big, is_bad_shape, entry_dims, dims_in, check_maybe, check_bounds, check_shape, check_shapes}
+use Rattle.f77_checks.specs.Dimensions.{is_int_kind, may_adjust, is_adjustable, is_bad_const_value, const_value_in, is_bad_limit, is_below, is_bad_high, is_bad_bound, is_last, has_bad_bound, dim_from, dim_up_to, dim_of, with_dim, dims_of, is_too_big, is_bad_shape, entry_dims, dims_in, check_maybe, check_bounds, check_shape, check_shapes}
 use Rattle.roundtrip_programs.proofs.Found.{SameFound, noted_same}
 use Rattle.roundtrip_programs.proofs.Bare.{bare, bares, bare_shape, bare_table, asked, some_line}
 use Rattle.roundtrip_programs.proofs.Sorts.{expr_same}
-use Rattle.roundtrip_programs.proofs.Values.{worth_bare}
+use Rattle.roundtrip_programs.proofs.Values.{const_value_bare}
 
 -- ---- bounds
 
@@ -41,24 +41,24 @@ adjustable_bare t (tree.binary o a b) =
     ∙ ap (λ c. not (gives_logical o) && (is_adjustable (bare_table t) a && c)) (adjustable_bare t b)
 adjustable_bare t (tree.chars x) = refl
 
-bad_worth_bare : (t : NameTable) (dummy : Bool) (e : ExprTree) (w : Worth) → is_bad_worth t dummy e w ≡ is_bad_worth (bare_table t) dummy e w
-bad_worth_bare t dummy e (Is (Int n)) = refl
-bad_worth_bare t dummy e (Is (Log b)) = refl
-bad_worth_bare t dummy e Faults = refl
-bad_worth_bare t dummy e Varies = ap (λ b. not (dummy && b)) (adjustable_bare t e)
+bad_const_value_bare : (t : NameTable) (dummy : Bool) (e : ExprTree) (w : ConstantValue) → is_bad_const_value t dummy e w ≡ is_bad_const_value (bare_table t) dummy e w
+bad_const_value_bare t dummy e (Is (Int n)) = refl
+bad_const_value_bare t dummy e (Is (Log b)) = refl
+bad_const_value_bare t dummy e Faults = refl
+bad_const_value_bare t dummy e Varies = ap (λ b. not (dummy && b)) (adjustable_bare t e)
 
-pub worth_in_bare : (t : NameTable) (e : ExprTree) → worth_in t e ≡ worth_in (bare_table t) e
-worth_in_bare t e = worth_bare t e
+pub const_value_in_bare : (t : NameTable) (e : ExprTree) → const_value_in t e ≡ const_value_in (bare_table t) e
+const_value_in_bare t e = const_value_bare t e
 
 bad_limit_bare : (t : NameTable) (dummy : Bool) (e : ExprTree) → is_bad_limit t dummy e ≡ is_bad_limit (bare_table t) dummy e
-bad_limit_bare t dummy e = bad_worth_bare t dummy e (worth_in t e) ∙ ap (is_bad_worth (bare_table t) dummy e) (worth_bare t e)
+bad_limit_bare t dummy e = bad_const_value_bare t dummy e (const_value_in t e) ∙ ap (is_bad_const_value (bare_table t) dummy e) (const_value_bare t e)
 
 bad_high_bare : (t : NameTable) (dummy last : Bool) (low : ExprTree) (high : Option ExprTree) → is_bad_high t dummy last low high ≡ is_bad_high (bare_table t) dummy last low high
 bad_high_bare t dummy last low None = refl
 bad_high_bare t dummy last low (Some high) =
-    ap (λ b. b || is_below (worth_in t high) (worth_in t low)) (bad_limit_bare t dummy high)
-    ∙ ap (λ w. is_bad_limit (bare_table t) dummy high || is_below w (worth_in t low)) (worth_bare t high)
-    ∙ ap (λ w. is_bad_limit (bare_table t) dummy high || is_below (worth_in (bare_table t) high) w) (worth_bare t low)
+    ap (λ b. b || is_below (const_value_in t high) (const_value_in t low)) (bad_limit_bare t dummy high)
+    ∙ ap (λ w. is_bad_limit (bare_table t) dummy high || is_below w (const_value_in t low)) (const_value_bare t high)
+    ∙ ap (λ w. is_bad_limit (bare_table t) dummy high || is_below (const_value_in (bare_table t) high) w) (const_value_bare t low)
 
 bad_bound_bare : (t : NameTable) (dummy last : Bool) (b : BoundTree) → is_bad_bound t dummy last b ≡ is_bad_bound (bare_table t) dummy last b
 bad_bound_bare t dummy last b =
@@ -73,12 +73,12 @@ bad_bounds_bare t dummy (b ∷ bs) =
 
 -- ---- constant bounds
 
-dim_up_bare : (t : NameTable) (low : Worth) (high : Option ExprTree) → dim_up_to t low high ≡ dim_up_to (bare_table t) low high
+dim_up_bare : (t : NameTable) (low : ConstantValue) (high : Option ExprTree) → dim_up_to t low high ≡ dim_up_to (bare_table t) low high
 dim_up_bare t low None = refl
-dim_up_bare t low (Some high) = ap (dim_from low) (worth_bare t high)
+dim_up_bare t low (Some high) = ap (dim_from low) (const_value_bare t high)
 
 dim_bare : (t : NameTable) (b : BoundTree) → dim_of t b ≡ dim_of (bare_table t) b
-dim_bare t b = dim_up_bare t (worth_in t b.low) b.high ∙ ap (λ w. dim_up_to (bare_table t) w b.high) (worth_bare t b.low)
+dim_bare t b = dim_up_bare t (const_value_in t b.low) b.high ∙ ap (λ w. dim_up_to (bare_table t) w b.high) (const_value_bare t b.low)
 
 dims_of_bare : (t : NameTable) (bs : List BoundTree) → dims_of t bs ≡ dims_of (bare_table t) bs
 dims_of_bare t [] = refl

@@ -10,7 +10,7 @@ use Rattle.f77_names.specs.declared.lines.Sited.TheVariants.{Decl}
 use Rattle.f77_names.specs.Lines.{LineTable, line_or}
 use Rattle.f77_names.specs.Entries.{find}
 use Rattle.f77_names.specs.Tables.{NameTable}
-use Rattle.storage_groups.specs.declared.seat.Seat.{Seat}
+use Rattle.storage_data.specs.declared.offset_node.OffsetNode.{OffsetNode}
 use Rattle.storage_layout.specs.declared.equivalences.Grouping.{Grouping}
 use Rattle.storage_layout.specs.declared.equivalences.Shared.{Shared}
 use Rattle.storage_data.specs.Units.{place_of}
@@ -40,11 +40,11 @@ items_bare t (i ∷ is) g = items_bare t is (named_joined t (item_name i) (item_
 
 -- ---- refusals
 
-name_extends_bare : (t : NameTable) (ss : List Seat) (x : Option (List ℕ)) → name_extends t ss x ≡ name_extends (bare_table t) ss x
+name_extends_bare : (t : NameTable) (ss : List OffsetNode) (x : Option (List ℕ)) → name_extends t ss x ≡ name_extends (bare_table t) ss x
 name_extends_bare t ss None = refl
 name_extends_bare t ss (Some x) = ap (place_extends ss) (place_bare t x)
 
-extend_bare : (t : NameTable) (ss : List Seat) (is : List ExprTree) → items_extend t ss is ≡ items_extend (bare_table t) ss is
+extend_bare : (t : NameTable) (ss : List OffsetNode) (is : List ExprTree) → items_extend t ss is ≡ items_extend (bare_table t) ss is
 extend_bare t ss is = ap (λ f. list_any f is) (fun_ext (λ i. name_extends_bare t ss (item_name i)))
 
 -- the same groups
@@ -55,7 +55,7 @@ pub record SameShared (s r : Shared) : Type 0 where
 
 late_same : (t : NameTable) (is : List ExprTree) (l : ℕ) (g k : Grouping) → g ≡ k → {s r : Shared} → SameShared s r → SameShared (after_items t is l g s) (after_items (bare_table t) is 0 k r)
 late_same t is l g k e h =
-    let ends = extend_bare t g.seats is ∙ ap (λ (z : Grouping). items_extend (bare_table t) z.seats is) e in
+    let ends = extend_bare t g.offset_nodes is ∙ ap (λ (z : Grouping). items_extend (bare_table t) z.offset_nodes is) e in
     record {
       group = e;
       found = items_same t is l 0 h.found;

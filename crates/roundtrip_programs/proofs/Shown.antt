@@ -12,7 +12,7 @@ use Rattle.affine_systems.specs.declared.row.Row.{Row}
 use Rattle.affine_systems.specs.declared.row.System.{System}
 use Rattle.system_text.specs.SystemText.{each_after, joined, name_at, var_text, term_text, has_sign, term_texts, bound_text, side_text, row_side, row_text, are_never, rows_text, weak_text, system_text, precondition_line, cells_text, transformer_line}
 use Rattle.fixed_form.specs.TextLines.{unless_return, without_returns}
-use Rattle.roundtrip_lines.specs.Good.{is_printable}
+use Rattle.roundtrip_programs.specs.Cards.Good.{is_printable}
 use Rattle.roundtrip_programs.specs.Lines.{IsShown, AreShown, IsClaimLine, LinesArePassedOver}
 
 -- ---- pieces
@@ -125,7 +125,7 @@ cells_shown names (c ∷ cs) h = record { first = name_shown names c h; others =
 
 -- ---- lines of printable characters that begin with C>
 
-not_feed : (c : ℕ) → is_printable c ≡ true → nat_eq 10 c ≡ false
+pub not_feed : (c : ℕ) → is_printable c ≡ true → nat_eq 10 c ≡ false
 not_feed c h = let low = leb-true 32 c (and_parts (nat_le 32 c) (nat_le c 126) h).0 in ne_eqb 10 c (λ e. absurd (omega arith))
 
 not_return : (c : ℕ) → is_printable c ≡ true → nat_eq c 13 ≡ false

@@ -4,7 +4,7 @@ use Rattle.std.specs.Prelude.{not}
 use Rattle.f77_ast.specs.Trees.{ExprTree, ExprTrees}
 use Rattle.f77_ast.specs.Trees as tree
 use Rattle.f77_ast.specs.Constants.{turns_logical, joins_logical}
-use Rattle.refusal_codes.specs.declared.refusal.Refusal.{Refusal}
+use Rattle.fx_lists.specs.declared.refusal.Refusal.{Refusal}
 use Rattle.f77_names.specs.declared.functions.Function.{Function}
 use Rattle.f77_names.specs.Functions.{function_of}
 use Rattle.f77_names.specs.Kinds.{kind_of_name}

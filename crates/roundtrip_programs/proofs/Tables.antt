@@ -3,12 +3,12 @@ use Rattle.std.proofs.Common.{◌≡◌, ℕ, List, [], Option, Some, None, Resu
 use Rattle.std.proofs.lemmas.List.{length-map}
 use Rattle.f77_ast.specs.DeclTrees.{DeclTree, ModuleTree}
 use Rattle.f77_ast.specs.Symbols.{SymbolTree}
-use Rattle.refusal_codes.specs.declared.refusal.Refusal.{Refusal}
+use Rattle.fx_lists.specs.declared.refusal.Refusal.{Refusal}
 use Rattle.f77_names.specs.Lines.{LineTable, lines_of}
 use Rattle.f77_names.specs.Tables.{NameTable}
 use Rattle.f77_checks.specs.Parameters.{Valued}
-use Rattle.storage_groups.specs.declared.seat.Seat.{Seat}
-use Rattle.storage_groups.specs.Seats.{alone_from}
+use Rattle.storage_data.specs.declared.offset_node.OffsetNode.{OffsetNode}
+use Rattle.storage_data.specs.OffsetNodes.{alone_from}
 use Rattle.storage_data.specs.declared.initials.Filled.{Filled}
 use Rattle.storage_data.specs.declared.deals.Piece.{Piece}
 use Rattle.storage_layout.specs.declared.blocks.Laid.{Laid}
@@ -50,7 +50,7 @@ answer_same (Some r) None a b l h k = let e = h.same in cc
 
 -- ---- storage
 
-answered_same : (t : NameTable) (ds : List DeclTree) (names : List (List ℕ)) (ss : List Seat) (a b : Option Refusal) (f g : Filled) → SameFound a b → SameFilled f g
+answered_same : (t : NameTable) (ds : List DeclTree) (names : List (List ℕ)) (ss : List OffsetNode) (a b : Option Refusal) (f g : Filled) → SameFound a b → SameFilled f g
     → SameAnswer (symbols_or_refusal t ds names ss a f) (symbols_or_refusal (bare_table t) ds names ss b g)
 unfolding symbols_or_refusal
 answered_same t ds names ss a b f g k h =
@@ -61,22 +61,22 @@ after_shared_same : (t : NameTable) (at : LineTable) (ds : List DeclTree) (names
     → SameAnswer (after_shared t at ds names s) (after_shared (bare_table t) no_lines ds names r)
 unfolding after_shared filled
 after_shared_same t at ds names s r h =
-    let all : SameFilled (filled t s.group.seats at ds s.found) (filled (bare_table t) s.group.seats no_lines ds r.found) =
-    initials.decls_same t s.group.seats at ds 0 (record { pieces = refl; stretches = refl; found = h.found }) in
-    subst (λ (g : Grouping). SameAnswer (symbols_or_refusal t ds names s.group.seats s.late (filled t s.group.seats at ds s.found)) (symbols_or_refusal (bare_table t) ds names g.seats r.late (filled (bare_table t) g.seats no_lines ds r.found))) h.group
-    (answered_same t ds names s.group.seats s.late r.late (filled t s.group.seats at ds s.found) (filled (bare_table t) s.group.seats no_lines ds r.found) h.late all)
+    let all : SameFilled (filled t s.group.offset_nodes at ds s.found) (filled (bare_table t) s.group.offset_nodes no_lines ds r.found) =
+    initials.decls_same t s.group.offset_nodes at ds 0 (record { pieces = refl; stretches = refl; found = h.found }) in
+    subst (λ (g : Grouping). SameAnswer (symbols_or_refusal t ds names s.group.offset_nodes s.late (filled t s.group.offset_nodes at ds s.found)) (symbols_or_refusal (bare_table t) ds names g.offset_nodes r.late (filled (bare_table t) g.offset_nodes no_lines ds r.found))) h.group
+    (answered_same t ds names s.group.offset_nodes s.late r.late (filled t s.group.offset_nodes at ds s.found) (filled (bare_table t) s.group.offset_nodes no_lines ds r.found) h.late all)
 
 after_laid_same : (t : NameTable) (at : LineTable) (ds : List DeclTree) (f g : Option Refusal) (l : Laid) → SameFound f g → SameAnswer (lay_shared_and_data t at ds f l) (lay_shared_and_data (bare_table t) no_lines ds g l)
 unfolding lay_shared_and_data shared
 after_laid_same t at ds f g l h =
-    after_shared_same t at ds l.names (shared t at ds l.seats f) (shared (bare_table t) no_lines ds l.seats g)
+    after_shared_same t at ds l.names (shared t at ds l.offset_nodes f) (shared (bare_table t) no_lines ds l.offset_nodes g)
     (groups.decls_same t at ds 0 (record { group = refl; found = h; late = record { same = refl } }))
 
 laid_bare : (t : NameTable) (ds : List DeclTree) → laid t ds ≡ laid (bare_table t) ds
 unfolding laid
 laid_bare t ds =
     decls_bare t ds (alone t)
-    ∙ ap (λ n. decls_put (bare_table t) ds (record { seats = alone_from 0 n; names = []; sizes = [] })) (sym (length-map t.entries bare))
+    ∙ ap (λ n. decls_put (bare_table t) ds (record { offset_nodes = alone_from 0 n; names = []; sizes = [] })) (sym (length-map t.entries bare))
 
 laid_out_same : (t : NameTable) (at : LineTable) (ds : List DeclTree) (f g : Option Refusal) → SameFound f g → SameAnswer (lay_out t at ds f) (lay_out (bare_table t) no_lines ds g)
 unfolding lay_out

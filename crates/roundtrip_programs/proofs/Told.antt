@@ -9,7 +9,7 @@ use Rattle.f77_ast.specs.Trees as tree
 use Rattle.f77_ast.specs.DeclTrees.{ExtentTree, EntityTree, SettingTree, CommonTree, DataTree, DeclTree, ModuleTree}
 use Rattle.f77_ast.specs.DeclTrees as decl
 use Rattle.f77_ast.specs.Symbols.{BoundTree}
-use Rattle.refusal_codes.specs.declared.refusal.Refusal.{Refusal}
+use Rattle.fx_lists.specs.declared.refusal.Refusal.{Refusal}
 use Rattle.f77_names.specs.declared.functions.Function.{Function}
 use Rattle.f77_names.specs.declared.kinds.Kind.{Kind}
 use Rattle.f77_names.specs.declared.lines.Sited.TheVariants.{Title, Decl}

@@ -7,12 +7,12 @@ use Rattle.f77_ast.specs.DeclTrees.{SettingTree, DeclTree}
 use Rattle.f77_ast.specs.DeclTrees as decl
 use Rattle.f77_ast.specs.declared.constant.Constant.{Constant}
 use Rattle.f77_ast.specs.declared.constant.Constant.TheVariants as constant
-use Rattle.f77_ast.specs.declared.constant.Worth.{Worth}
-use Rattle.f77_ast.specs.declared.constant.Worth.TheVariants.{Is, Faults, Varies}
-use Rattle.f77_ast.specs.Constants.{worth}
-use Rattle.refusal_codes.specs.declared.code.Code.TheVariants.{NotAnArray}
-use Rattle.refusal_codes.specs.declared.refusal.Refusal.{Refusal}
-use Rattle.refusal_codes.specs.Refusals.{refuse_if}
+use Rattle.f77_ast.specs.declared.constant.ConstantValue.{ConstantValue}
+use Rattle.f77_ast.specs.declared.constant.ConstantValue.TheVariants.{Is, Faults, Varies}
+use Rattle.f77_ast.specs.Constants.{const_value}
+use Rattle.fx_lists.specs.declared.code.Code.TheVariants.{NotAnArray}
+use Rattle.fx_lists.specs.declared.refusal.Refusal.{Refusal}
+use Rattle.fx_lists.specs.Refusals.{refuse_if}
 use Rattle.f77_names.specs.declared.kinds.Kind.{Kind}
 use Rattle.f77_names.specs.declared.kinds.Kind.TheVariants.{Int, Log, Real}
 use Rattle.f77_names.specs.declared.lines.Sited.TheVariants.{Decl}
@@ -20,7 +20,7 @@ use Rattle.f77_names.specs.Lines.{LineTable, line_or}
 use Rattle.f77_names.specs.Entries.{EntryTree, has_dummy, has_shape, has_value, value_among, with_value}
 use Rattle.f77_names.specs.Tables.{NameTable, kind_in}
 use Rattle.f77_checks.specs.Expressions.{check_expr}
-use Rattle.f77_checks.specs.Parameters.{Valued, is_bad_parameter, given_value, given_typed, given_worth, setting_valued, settings_valued, decl_valued, decls_valued}
+use Rattle.f77_checks.specs.Parameters.{Valued, is_bad_parameter, given_value, given_typed, given_const_value, setting_valued, settings_valued, decl_valued, decls_valued}
 use Rattle.roundtrip_programs.proofs.Found.{SameFound, noted_same}
 use Rattle.roundtrip_programs.proofs.Bare.{no_lines, bares, bare_table, Bare, dummy_bare, shape_bare, has_value_bare, value_bare, changed_same}
 use Rattle.roundtrip_programs.proofs.Sorts.{kind_bare, expr_same}
@@ -57,24 +57,24 @@ typed_same Log x (constant.Int n) line v r h = bad_same line (record { table = r
 typed_same Log x (constant.Log b) line v r h = value_same x (constant.Log b) v r h
 typed_same Real x c line v r h = record { table = refl; found = h }
 
-worth_same : (x : List ℕ) (w : Worth) (line : ℕ) (v : Valued) (r : Option Refusal) → SameFound v.found r
-    → SameValued (given_worth x w line v) (given_worth x w 0 (with_found (bare_table v.table) r))
-worth_same x Varies line v r h = bad_same line (record { table = refl; found = h })
-worth_same x Faults line v r h = bad_same line (record { table = refl; found = h })
-worth_same x (Is c) line v r h =
+const_value_same : (x : List ℕ) (w : ConstantValue) (line : ℕ) (v : Valued) (r : Option Refusal) → SameFound v.found r
+    → SameValued (given_const_value x w line v) (given_const_value x w 0 (with_found (bare_table v.table) r))
+const_value_same x Varies line v r h = bad_same line (record { table = refl; found = h })
+const_value_same x Faults line v r h = bad_same line (record { table = refl; found = h })
+const_value_same x (Is c) line v r h =
     subst (λ k. SameValued (given_typed (kind_in v.table x) x c line v) (given_typed k x c 0 (with_found (bare_table v.table) r))) (kind_bare v.table x)
     (typed_same (kind_in v.table x) x c line v r h)
 
--- what an expression is worth
-pub worth_bare : (t : NameTable) (e : ExprTree) → worth (value_among t.entries) e ≡ worth (value_among (bares t.entries)) e
-worth_bare t e = ap (λ f. worth f e) (fun_ext (λ x. value_bare t.entries x))
+-- the value of an expression
+pub const_value_bare : (t : NameTable) (e : ExprTree) → const_value (value_among t.entries) e ≡ const_value (value_among (bares t.entries)) e
+const_value_bare t e = ap (λ f. const_value f e) (fun_ext (λ x. value_bare t.entries x))
 
-abbrev with_setting : Bool → SettingTree → Worth → ℕ → NameTable → Option Refusal → Valued
-with_setting b s w line t f = if b then is_bad_parameter line (with_found t f) else given_worth s.name w line (with_found t (check_expr t s.value line f))
+abbrev with_setting : Bool → SettingTree → ConstantValue → ℕ → NameTable → Option Refusal → Valued
+with_setting b s w line t f = if b then is_bad_parameter line (with_found t f) else given_const_value s.name w line (with_found t (check_expr t s.value line f))
 
-setting_by : (b : Bool) (s : SettingTree) (w : Worth) (line : ℕ) (t : NameTable) (f r : Option Refusal) → SameFound f r → SameValued (with_setting b s w line t f) (with_setting b s w 0 (bare_table t) r)
+setting_by : (b : Bool) (s : SettingTree) (w : ConstantValue) (line : ℕ) (t : NameTable) (f r : Option Refusal) → SameFound f r → SameValued (with_setting b s w line t f) (with_setting b s w 0 (bare_table t) r)
 setting_by true s w line t f r h = bad_same line (record { table = refl; found = h })
-setting_by false s w line t f r h = worth_same s.name w line (with_found t (check_expr t s.value line f)) (check_expr (bare_table t) s.value 0 r) (expr_same t s.value line 0 h)
+setting_by false s w line t f r h = const_value_same s.name w line (with_found t (check_expr t s.value line f)) (check_expr (bare_table t) s.value 0 r) (expr_same t s.value line 0 h)
 
 is_given : (x : List ℕ) (es : List EntryTree) → (has_dummy x es || has_value x es) ≡ (has_dummy x (bares es) || has_value x (bares es))
 is_given x es = ap (λ b. b || has_value x es) (dummy_bare x es) ∙ ap (λ b. has_dummy x (bares es) || b) (has_value_bare x es)
@@ -83,11 +83,11 @@ setting_same : (s : SettingTree) (line : ℕ) (v : Valued) (r : Option Refusal) 
 setting_same s line v r h =
     let es = v.table.entries in
     let b = has_dummy s.name es || has_value s.name es in
-    let w = worth (value_among es) s.value in
+    let w = const_value (value_among es) s.value in
     let f = refuse_if (has_shape s.name es) line NotAnArray v.found in
     let q = refuse_if (has_shape s.name (bares es)) 0 NotAnArray r in
     let g : SameFound f q = noted_same _ _ _ _ _ _ (shape_bare s.name es) h in
-    subst (λ z. SameValued (with_setting b s w line v.table f) (with_setting (has_dummy s.name (bares es) || has_value s.name (bares es)) s z 0 (bare_table v.table) q)) (worth_bare v.table s.value)
+    subst (λ z. SameValued (with_setting b s w line v.table f) (with_setting (has_dummy s.name (bares es) || has_value s.name (bares es)) s z 0 (bare_table v.table) q)) (const_value_bare v.table s.value)
     (subst (λ c. SameValued (with_setting b s w line v.table f) (with_setting c s w 0 (bare_table v.table) q)) (is_given s.name es) (setting_by b s w line v.table f q g))
 
 settings_same : (ss : List SettingTree) (line : ℕ) {v w : Valued} → SameValued v w → SameValued (settings_valued ss line v) (settings_valued ss 0 w)

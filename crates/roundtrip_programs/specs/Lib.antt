@@ -1,3 +1,9 @@
 pub mod Laws
 pub mod Lines
 pub mod Programs
+pub mod Pieces
+pub mod Written
+pub mod Cards
+pub mod ModuleTexts
+pub mod Statements
+pub mod Texts

@@ -4,7 +4,7 @@ use Rattle.std.specs.List.{list_all}
 use Rattle.affine_systems.specs.declared.row.System.{System}
 use Rattle.system_text.specs.SystemText.{precondition_line, transformer_line}
 use Rattle.fixed_form.specs.Cards.{is_dropped}
-use Rattle.roundtrip_lines.specs.Good.{IsComment, is_printable}
+use Rattle.roundtrip_programs.specs.Cards.Good.{IsComment, is_printable}
 
 -- of printable ASCII alone
 abbrev pub IsShown : List ℕ → Type 0

@@ -6,12 +6,12 @@ use Rattle.f77_printer.specs.declared.added.Added.{Added}
 use Rattle.storage_layout.specs.Symbols.{symbols_of}
 use Rattle.call_graph.specs.declared.graph.Graph.{Graph}
 use Rattle.call_graph.specs.Links.{link_of}
-use Rattle.roundtrip_statements.specs.Formed.{Each}
-use Rattle.roundtrip_statements.specs.Phrased.{IsPhrase}
-use Rattle.roundtrip_modules.specs.Cards.{Card, statements_of}
-use Rattle.roundtrip_modules.specs.Numbered.{IsWell}
-use Rattle.roundtrip_text.specs.Texts.{IsReadAs, modules_text, plain_text}
-use Rattle.roundtrip_text.specs.Laws.{AllPassedOver}
+use Rattle.roundtrip_programs.specs.Statements.Formed.{Each}
+use Rattle.roundtrip_programs.specs.Statements.Phrased.{IsPhrase}
+use Rattle.roundtrip_programs.specs.ModuleTexts.Cards.{Card, statements_of}
+use Rattle.roundtrip_programs.specs.ModuleTexts.Numbered.{IsWell}
+use Rattle.roundtrip_programs.specs.Texts.Texts.{IsReadAs, modules_text, plain_text}
+use Rattle.roundtrip_programs.specs.Texts.Laws.{AllPassedOver}
 use Rattle.roundtrip_programs.specs.Laws.{tree_of}
 use Rattle.roundtrip_programs.specs.Lines.{AreShown}
 

@@ -3,7 +3,7 @@ ghost use Rattle.roundtrip_programs.specs.Laws.{TablesIgnorePlaces, GraphsIgnore
 ghost use Rattle.roundtrip_programs.specs.Lines.{LinesArePassedOver};
 ghost use Rattle.roundtrip_programs.specs.Programs.{ProgramsReadBack, NamesAreShown};
 
-use roundtrip_text::texts_read_back;
+use crate::texts_read_back;
 
 /// A module that is not refused has the same table of symbols wherever its statements stand.
 pub fn tables_ignore_places()

@@ -32,7 +32,7 @@ pointwise-maps f E [] (y ∷ ys) = refl
 pointwise-maps f E (x ∷ xs) [] = refl
 pointwise-maps f E (x ∷ xs) (y ∷ ys) = ap (λ b. b && pointwise (pointwise (λ a b. E (f a) (f b))) xs ys) (pointwise-map f E x y) ∙ ap (λ b. pointwise E (map f x) (map f y) && b) (pointwise-maps f E xs ys)
 
-scalar-true : (a b : Scalar) → nat_eq (scalar_number a) (scalar_number b) ≡ true → a ≡ b
+pub scalar-true : (a b : Scalar) → nat_eq (scalar_number a) (scalar_number b) ≡ true → a ≡ b
 scalar-true scalar.Int scalar.Int e = refl
 scalar-true scalar.Int scalar.Log e = cc
 scalar-true scalar.Log scalar.Int e = cc

@@ -12,12 +12,8 @@ use Rattle.f77_ast.specs.declared.places.Part.TheVariants as part
 use Rattle.f77_ast.specs.declared.places.Spot.{Spot}
 use Rattle.f77_ast.specs.declared.places.Places.{Places}
 use Rattle.same_values.specs.GraphTests.{edge_test, block_test, unit_test, graph_test, part_code, code_test, spot_test, places_test}
-
-same_number : (n : ℕ) → nat_eq n n ≡ true
-same_number n = eq-eqb n n refl
-
-same_name : (x : List ℕ) → bytes_eq x x ≡ true
-same_name x = (bytes_decides x x).1 refl
+use Rattle.fx_lists.proofs.Numbers.{same_number}
+use Rattle.fx_lists.proofs.Texts.{same_name}
 
 edge-true : (a b : Edge) → edge_test a b ≡ true → a ≡ b
 edge-true a b e =

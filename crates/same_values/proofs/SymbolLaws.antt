@@ -17,28 +17,10 @@ use Rattle.f77_ast.specs.Symbols.{BoundTree, SymbolTree, bound_tree, symbol_tree
 use Rattle.same_values.specs.Tests.{same_bool, expr_test}
 use Rattle.same_values.specs.SymbolTests.{maybe_test, bound_test, scalar_number, place_test, run_test, symbol_test}
 use Rattle.same_values.proofs.TestLaws.{same_bool-true, same_bool_self, expr_decides}
-
-same_number : (n : ℕ) → nat_eq n n ≡ true
-same_number n = eq-eqb n n refl
-
-same_name : (x : List ℕ) → bytes_eq x x ≡ true
-same_name x = (bytes_decides x x).1 refl
-
-maybe-true : (a b : Option ExprTree) → maybe_test a b ≡ true → a ≡ b
-maybe-true None None e = refl
-maybe-true None (Some b) e = cc
-maybe-true (Some a) None e = cc
-maybe-true (Some a) (Some b) e = ap Some ((expr_decides a b).0 e)
-
-maybe_self : (a : Option ExprTree) → maybe_test a a ≡ true
-maybe_self None = refl
-maybe_self (Some a) = (expr_decides a a).1 refl
-
-scalar-true : (a b : Scalar) → nat_eq (scalar_number a) (scalar_number b) ≡ true → a ≡ b
-scalar-true scalar.Int scalar.Int e = refl
-scalar-true scalar.Int scalar.Log e = cc
-scalar-true scalar.Log scalar.Int e = cc
-scalar-true scalar.Log scalar.Log e = refl
+use Rattle.same_values.proofs.DeclLaws.{scalar-true}
+use Rattle.same_values.proofs.StmtLaws.{maybe-true, maybe_self}
+use Rattle.fx_lists.proofs.Numbers.{same_number}
+use Rattle.fx_lists.proofs.Texts.{same_name}
 
 place-true : (a b : Place) → place_test a b ≡ true → a ≡ b
 place-true (Local g o) (Local h p) e = let q = and_parts (nat_eq g h) (nat_eq o p) e in ap (λ z. Local z o) (eqb-true g h q.0) ∙ ap (Local h) (eqb-true o p q.1)

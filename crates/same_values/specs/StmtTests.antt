@@ -3,6 +3,7 @@ use Rattle.std.specs.Prelude.{ℕ, Bool, true, false, ◌&&◌, nat_eq, bytes_eq
 use Rattle.f77_ast.specs.Trees.{ExprTree, ExprTrees, StmtTree, stmt, WhatTree, assign, block_if, logical_if, do_loop, call, goto, continue, return, stop, print, read, ArmTree, arm, ArmTrees, no_arms, more_arms, ElseTree, no_else, otherwise, LoopTree, loop, StmtTrees, no_stmts, more_stmts}
 use Rattle.same_values.specs.Tests.{test_some, expr_test, exprs_test}
 use Rattle.same_values.specs.SymbolTests.{maybe_test}
+use Rattle.f77_ast.specs.Shapes.{is_return}
 
 abbrev pub number_test : Option ℕ → Option ℕ → Bool
 number_test None None = true
@@ -108,19 +109,6 @@ is_continue return = false
 is_continue (stop t) = false
 is_continue (print es) = false
 is_continue (read es) = false
-
-abbrev pub is_return : WhatTree → Bool
-is_return (assign a b) = false
-is_return (block_if arms other) = false
-is_return (logical_if e s) = false
-is_return (do_loop l) = false
-is_return (call x es) = false
-is_return (goto n) = false
-is_return continue = false
-is_return return = true
-is_return (stop t) = false
-is_return (print es) = false
-is_return (read es) = false
 
 abbrev pub stop_in : WhatTree → Option (Option (List ℕ))
 stop_in (assign a b) = None

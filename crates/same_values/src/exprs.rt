@@ -116,13 +116,6 @@ fn exprs_test(es: &List<Expr>, ds: &List<Expr>) -> bool
     right.is_empty()
 }
 
-/// Whether two expressions are written alike. Takes no memory.
-pub fn same_expr(a: &Expr, b: &Expr) -> bool
-    ensures { IsTrue result ↔ (expr_tree a.now ≡ expr_tree b.now) }
-{
-    expr_test(a, b)
-}
-
 /// Whether two lists of expressions are written alike. Takes no memory.
 pub fn same_exprs(es: &List<Expr>, ds: &List<Expr>) -> bool
     ensures { IsTrue result ↔ (expr_trees es.now ≡ expr_trees ds.now) }

@@ -14,7 +14,7 @@ mod stmts;
 mod tables;
 
 pub use copies::{copy_graph, copy_places};
-pub use exprs::{same_expr, same_exprs};
+pub use exprs::same_exprs;
 pub use graphs::{same_graph, same_places};
 pub use modules::same_module;
 pub use tables::same_symbols;

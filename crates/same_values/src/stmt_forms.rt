@@ -2,7 +2,7 @@
 ghost use Rattle.std.specs.Prelude.{◌≡◌, option_copied, option_map};
 ghost use Rattle.f77_ast.specs.Plain.{expr_tree, expr_trees};
 ghost use Rattle.f77_ast.specs.PlainStmt.{what_tree, stmt_tree, loop_tree, arm_trees, else_tree};
-ghost use Rattle.same_values.specs.StmtTests.{assign_in, block_if_in, logical_if_in, do_loop_in, call_in, goto_in, is_continue, is_return, stop_in, print_in, read_in};
+ghost use Rattle.same_values.specs.StmtTests.{assign_in, block_if_in, logical_if_in, do_loop_in, call_in, goto_in, is_continue, stop_in, print_in, read_in};
 
 use f77_ast::{Arm, Expr, Loop, Stmt, What};
 use fx_lists::{List, Text};
@@ -141,26 +141,6 @@ pub fn is_continue(what: &What) -> bool
         | What::Call(..)
         | What::Goto(_)
         | What::Return
-        | What::Stop(_)
-        | What::Print(_)
-        | What::Read(_) => false,
-    }
-}
-
-/// Whether it is a RETURN.
-#[tactic(auto, using(f77_ast::proofs::PlainlyStmt::what_cases))]
-pub fn is_return(what: &What) -> bool
-    ensures { result ≡ is_return (what_tree what.now) }
-{
-    match what {
-        What::Return => true,
-        What::Assign(..)
-        | What::If(..)
-        | What::LogicalIf(..)
-        | What::Do(_)
-        | What::Call(..)
-        | What::Goto(_)
-        | What::Continue
         | What::Stop(_)
         | What::Print(_)
         | What::Read(_) => false,

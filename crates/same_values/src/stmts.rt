@@ -9,10 +9,10 @@ ghost use Rattle.same_values.specs.StmtTests.{number_test, text_test, stmt_test,
 
 use crate::exprs::{expr_test, same_exprs};
 use crate::stmt_forms::{
-    assign_of, block_if_of, call_of, do_loop_of, goto_of, is_continue, is_return, logical_if_of,
-    print_of, read_of, stop_of,
+    assign_of, block_if_of, call_of, do_loop_of, goto_of, is_continue, logical_if_of, print_of,
+    read_of, stop_of,
 };
-use f77_ast::{Arm, Expr, Loop, Stmt, What};
+use f77_ast::{Arm, Expr, Loop, Stmt, What, is_return};
 use fx_lists::{List, Text};
 
 pub fn same_number(a: Option<u32>, b: Option<u32>) -> bool

@@ -4,12 +4,13 @@ use Rattle.std.specs.Prelude.{bytes_eq, option_map, option_to_list, unwrap_or, r
 use Rattle.f77_ast.specs.declared.places.Parsed.{Parsed}
 use Rattle.f77_ast.specs.Symbols.{number_from}
 use Rattle.pipsmake_rules.specs.Neighbours.{name_put}
-use Rattle.laws_database.specs.Texts.{ModuleText, ReadModule, IsModule, AreModules, modules_in, names_in}
+use Rattle.pipsmake_meaning.specs.Texts.{ModuleText, ReadModule, IsModule, AreModules, modules_in, names_in}
 use Rattle.session_texts.specs.declared.source.Source.{Source}
 use Rattle.session_texts.specs.Modules.{source_text, source_read, IsSource, AreSources}
 use Rattle.session_texts.specs.Changes.{put, replaced}
 use Rattle.session_texts.specs.Places.{place_for, places_from, names_after, put_at, all_put}
-use Rattle.session_texts.proofs.Puts.{either_way, names_put}
+use Rattle.session_texts.proofs.Puts.{names_put}
+use Rattle.fx_lists.proofs.Texts.{turned as either_way}
 
 -- ---- the place of a name
 

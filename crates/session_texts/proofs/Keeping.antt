@@ -8,7 +8,7 @@ use Rattle.f77_ast.specs.DeclTrees.{ParsedTree}
 use Rattle.f77_ast.specs.PlainDecl.{parsed_tree}
 use Rattle.f77_ast.specs.declared.symbol.Symbol.{Symbol}
 use Rattle.f77_ast.specs.Symbols.{SymbolTree, symbol_tree, number_from}
-use Rattle.laws_database.specs.Texts.{ModuleText, ReadModule, AreModules, modules_in, names_in, trees_in, tables_in}
+use Rattle.pipsmake_meaning.specs.Texts.{ModuleText, ReadModule, AreModules, modules_in, names_in, trees_in, tables_in}
 use Rattle.session_texts.specs.declared.lists.Lists.{Lists}
 use Rattle.session_texts.specs.declared.source.ModuleText.{ModuleText as Kept}
 use Rattle.session_texts.specs.declared.source.Source.{Source}
@@ -20,6 +20,7 @@ use Rattle.session_texts.specs.Kept.{AreKept}
 use Rattle.session_texts.proofs.Replaced.{replaced_keeps}
 use Rattle.session_texts.proofs.Removed.{RemovedAt, one_removed, names_without, without_keeps}
 use Rattle.session_texts.proofs.AtPlaces.{replaced_is, names_replaced, map_all_put, part_removed, part_length, are_modules, parts_put}
+use Rattle.fx_lists.proofs.Texts.{no_names}
 
 map_own : {A B : Type 0} (part : Source → A) (view : A → B) (ss : List Source) → map view (map part ss) ≡ map (λ s. view (part s)) ss
 map_own part view [] = refl
@@ -28,10 +29,10 @@ map_own part view (s ∷ ss) = ap (λ bs. view (part s) ∷ bs) (map_own part vi
 abbrev table_tree : List Symbol → List SymbolTree
 table_tree t = map symbol_tree t
 
-abbrev tree_in : ReadModule → ParsedTree
+abbrev pub tree_in : ReadModule → ParsedTree
 tree_in m = m.module_is
 
-abbrev table_in : ReadModule → List SymbolTree
+abbrev pub table_in : ReadModule → List SymbolTree
 table_in m = m.table
 
 -- ---- modules that are put
@@ -176,10 +177,6 @@ kept_but old names kept x k e =
     }
 
 -- ---- nothing
-
-no_names : IsDistinct bytes_eq []
-unfolding IsDistinct
-no_names = tt
 
 none_kept : AreKept [] [] [] []
 none_kept = record { names_are = refl; trees_are = refl; tables_are = refl; modules = tt; distinct = no_names }

@@ -6,13 +6,14 @@ use Rattle.f77_ast.specs.DeclTrees.{ParsedTree}
 use Rattle.f77_ast.specs.PlainDecl.{parsed_tree}
 use Rattle.f77_ast.specs.declared.symbol.Symbol.{Symbol}
 use Rattle.f77_ast.specs.Symbols.{SymbolTree, symbol_tree, number_from}
-use Rattle.laws_database.specs.Texts.{ModuleText, ReadModule, module_read, AreModules, modules_in, names_in, trees_in, tables_in, text_of}
-use Rattle.laws_database.specs.Definitions.{module_named}
+use Rattle.pipsmake_meaning.specs.Texts.{ModuleText, ReadModule, module_read, AreModules, modules_in, names_in, trees_in, tables_in, text_of}
+use Rattle.pipsmake_meaning.specs.Definitions.{module_named}
 use Rattle.session_texts.specs.declared.source.ModuleText.{ModuleText as Kept}
 use Rattle.session_texts.specs.Modules.{text_record}
 use Rattle.session_texts.specs.Kept.{AreKept}
-use Rattle.session_texts.proofs.Puts.{either_way}
 use Rattle.session_texts.proofs.AtPlaces.{number_later, part_first}
+use Rattle.session_texts.proofs.Keeping.{tree_in, table_in}
+use Rattle.fx_lists.proofs.Texts.{turned as either_way}
 
 abbrev text_in : ModuleText → List ℕ
 text_in t = t.text
@@ -62,12 +63,6 @@ map_there g (x ∷ xs) zero = refl
 map_there g (x ∷ xs) (suc k) = map_there g xs k
 
 -- ---- what is kept of a name
-
-abbrev tree_in : ReadModule → ParsedTree
-tree_in m = m.module_is
-
-abbrev table_in : ReadModule → List SymbolTree
-table_in m = m.table
 
 module _ (texts : List Kept) (names : List (List ℕ)) (trees : List Parsed) (tables : List (List Symbol)) (kept : AreKept (map text_record texts) names trees tables) (x : List ℕ) where
   number_is : number_from 0 (names_in (map text_record texts)) x ≡ number_from 0 names x

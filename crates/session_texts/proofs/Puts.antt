@@ -6,19 +6,11 @@ use Rattle.std.specs.Cmp.Lexicographic.{nat_list_eq_equiv}
 use Rattle.std.proofs.lemmas.Map.Keys.{IsDistinct-push}
 use Rattle.std.proofs.lemmas.Slice.Eq.{bytes_eq-Decides}
 use Rattle.pipsmake_rules.specs.Neighbours.{has_name, name_put}
-use Rattle.laws_database.specs.Texts.{ModuleText, IsModule, AreModules, names_in, text_of}
+use Rattle.pipsmake_meaning.specs.Texts.{ModuleText, IsModule, AreModules, names_in, text_of}
 use Rattle.session_texts.specs.Modules.{NamesDiffer}
 use Rattle.session_texts.specs.Changes.{put}
 use Rattle.session_texts.specs.Laws.{PutKeeps}
-
-pub same_name : (x y : List ℕ) → bytes_eq x y ≡ true → x ≡ y
-same_name x y e = (bytes_eq-Decides x y).0 e
-
-pub name_itself : (x : List ℕ) → bytes_eq x x ≡ true
-name_itself x = (bytes_eq-Decides x x).1 refl
-
-pub either_way : (x y : List ℕ) → bytes_eq x y ≡ bytes_eq y x
-either_way x y = nat_list_eq_equiv.symm x y
+use Rattle.fx_lists.proofs.Texts.{turned as either_way, same_name as name_itself, same_name_2 as same_name}
 
 pub any_either_way : (y : List ℕ) (xs : List (List ℕ)) → list_any (bytes_eq y) xs ≡ has_name xs y
 any_either_way y [] = refl

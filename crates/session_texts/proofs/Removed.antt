@@ -5,11 +5,12 @@ use Rattle.std.specs.List.{AllByRecursion, IsDistinct}
 use Rattle.std.proofs.lemmas.Map.Keys.{IsDistinct-head, IsDistinct-tail, IsDistinct-cons}
 use Rattle.f77_ast.specs.Symbols.{number_from}
 use Rattle.pipsmake_rules.specs.Neighbours.{has_name}
-use Rattle.laws_database.specs.Texts.{ModuleText, IsModule, AreModules, names_in, text_of}
+use Rattle.pipsmake_meaning.specs.Texts.{ModuleText, IsModule, AreModules, names_in, text_of}
 use Rattle.session_texts.specs.Modules.{NamesDiffer}
 use Rattle.session_texts.specs.Changes.{without}
 use Rattle.session_texts.specs.Laws.{WithoutKeeps}
-use Rattle.session_texts.proofs.Puts.{either_way, same_name, apart}
+use Rattle.session_texts.proofs.Puts.{apart}
+use Rattle.fx_lists.proofs.Texts.{turned as either_way, same_name_2 as same_name}
 
 -- ---- the text of a name
 

@@ -4,11 +4,13 @@ use Rattle.std.specs.Prelude.{bytes_eq, if◌then◌else◌}
 use Rattle.std.specs.List.{AllByRecursion}
 use Rattle.std.proofs.lemmas.Map.Keys.{IsDistinct-head, IsDistinct-tail}
 use Rattle.pipsmake_rules.specs.Neighbours.{has_name}
-use Rattle.laws_database.specs.Texts.{ModuleText, IsModule, AreModules, names_in, text_of}
+use Rattle.pipsmake_meaning.specs.Texts.{ModuleText, IsModule, AreModules, names_in, text_of}
 use Rattle.session_texts.specs.Modules.{NamesDiffer}
 use Rattle.session_texts.specs.Changes.{put, replaced}
 use Rattle.session_texts.specs.Laws.{or_text, ReplacedKeeps}
-use Rattle.session_texts.proofs.Puts.{either_way, same_name, text_of_put, put_keeps}
+use Rattle.session_texts.proofs.Puts.{text_of_put, put_keeps}
+use Rattle.fx_lists.proofs.Booleans.{neither}
+use Rattle.fx_lists.proofs.Texts.{turned as either_way, same_name_2 as same_name}
 
 -- a name that none of these has
 abbrev IsNone : List ℕ → List ModuleText → Type 0
@@ -59,10 +61,6 @@ put_last u (t ∷ ts) e = go (bytes_eq t.name u.name) e (put_last u ts)
 in_middle : (x : List ℕ) (ts : List ModuleText) (u : ModuleText) (us : List ModuleText) → IsNone x (ts ++ u ∷ us) → bytes_eq x u.name ≡ false
 in_middle x [] u us h = h.0
 in_middle x (t ∷ ts) u us h = in_middle x ts u us h.1
-
-neither : (a b : Bool) → a ≡ false → b ≡ false → (a || b) ≡ false
-neither true b e f = cc
-neither false b e f = f
 
 new_name : (ts : List ModuleText) (u : ModuleText) (us : List ModuleText) → NamesDiffer (ts ++ u ∷ us) → has_name (names_in ts) u.name ≡ false
 new_name [] u us d = refl

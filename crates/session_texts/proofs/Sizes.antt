@@ -1,8 +1,8 @@
 -- How many characters the statements of a long text have: a line gives them 66 at most, and none where it is shorter than 6.
-use Rattle.std.proofs.Common.{◌≡◌, ◌⊎◌, inl, inr, ℕ, ◌+◌, ◌*◌, ◌<◌, ◌≤◌, ◌^◌, Bool, true, false, List, [], ◌∷◌, ◌++◌, length, map, Option, Some, None, Result, Ok, Err, refl, ap, sym, subst, arith, length-append, length-drop, if◌then◌else◌}
-use Rattle.std.specs.Prelude.{sum_by, is_some, unwrap_or, nat_eq}
+use Rattle.std.proofs.Common.{◌≡◌, ◌⊎◌, inl, inr, ℕ, ◌+◌, ◌*◌, ◌<◌, ◌≤◌, ◌^◌, Bool, true, false, List, [], ◌∷◌, ◌++◌, length, map, Option, Some, None, Result, Ok, Err, refl, ap, subst, arith, length-drop, if◌then◌else◌}
+use Rattle.std.specs.Prelude.{sum_by, unwrap_or, nat_eq}
 use Rattle.std.proofs.lemmas.List.Sums.{sum_by-cons}
-use Rattle.refusal_codes.specs.declared.code.Code.{Code}
+use Rattle.fx_lists.specs.declared.code.Code.{Code}
 use Rattle.fixed_form.specs.declared.line.Line.{Line}
 use Rattle.fixed_form.specs.declared.line.Lines.{Lines}
 use Rattle.fixed_form.specs.Characters.{is_space, upper_case, line_feed, carriage_return}
@@ -10,9 +10,11 @@ use Rattle.fixed_form.specs.TextLines.{text_lines, lines_of, onto_first, unless_
 use Rattle.fixed_form.specs.Cards.{front, filled, card, columns, is_comment, is_dropped, is_initial, label_field}
 use Rattle.fixed_form.specs.Body.{stripped, quoted_after_byte}
 use Rattle.fixed_form.specs.Faults.{first_fault}
-use Rattle.fixed_form.specs.Reading.{Rest, label_of, before_statements, with_comment, with_initial, with_continuation, with_line, rest_from, ends_well, outcome, reading}
+use Rattle.fixed_form.specs.Reading.{Rest, label_of, with_comment, with_initial, with_continuation, with_line, rest_from, ends_well, outcome, reading}
 use Rattle.fixed_form.proofs.CardLemmas.{length-front, length-filled}
 use Rattle.f77_parser.specs.Statements.{length_of, characters}
+use Rattle.f77_parser.proofs.SizeLemmas.{stripped-short, chosen, outcome-lines, room, with_line-room as line-long, with_comment-room}
+use Rattle.fx_lists.proofs.Lists.{each_short}
 
 -- ---- short lines
 
@@ -32,40 +34,6 @@ short (a ∷ b ∷ c ∷ d ∷ e ∷ f ∷ l) = inr (omega arith)
 
 -- ---- one line
 
-each_short : (t u : Bool) (xs ys zs : List ℕ) (n : ℕ) → length xs ≤ n → length ys ≤ n → length zs ≤ n → length (if t then xs else if u then ys else zs) ≤ n
-each_short true u xs ys zs n h i j = h
-each_short false true xs ys zs n h i j = i
-each_short false false xs ys zs n h i j = j
-
-stripped-short : (q : Bool) (bs : List ℕ) → length (stripped q bs) ≤ length bs
-stripped-short q [] = omega arith
-stripped-short q (b ∷ bs) =
-    each_short q (is_space b) (b ∷ stripped (quoted_after_byte q b) bs) (stripped q bs) (upper_case b ∷ stripped (quoted_after_byte q b) bs) (length (b ∷ bs))
-    (omega (arith, stripped-short (quoted_after_byte q b) bs))
-    (omega (arith, stripped-short q bs))
-    (omega (arith, stripped-short (quoted_after_byte q b) bs))
-
-columns-66 : (l : List ℕ) → length (columns (card l)) ≡ 66
-columns-66 l = omega (arith, length-drop 6 (card l), length-filled (front l) (length-front l))
-
--- the characters of the statements that begin in some lines, and of the columns for one that began before them
-abbrev room : Rest → ℕ
-room rest = sum_by length_of rest.statements + length rest.more
-
-before_statements-room : (c : List ℕ) (ss : List Line) (cs : List (List ℕ)) (rest : Rest) → rest.statements ≡ ss
-    → room (before_statements c ss cs rest) ≡ room rest
-before_statements-room c [] cs rest e = refl
-before_statements-room c (s ∷ ss) cs rest e = ap (λ (all : List Line). sum_by length_of all + length rest.more) (sym e)
-
-by_last : (t : Bool) (a b : Rest) (n : ℕ) → room a ≡ n → room b ≡ n → room (if t then a else b) ≡ n
-by_last true a b n h i = h
-by_last false a b n h i = i
-
-with_comment-room : (c : List ℕ) (rest : Rest) → room (with_comment c rest) ≡ room rest
-with_comment-room c rest =
-    by_last (is_some rest.last) (record rest { inside = c ∷ rest.inside }) (before_statements c rest.statements rest.closing rest) (room rest)
-    refl (before_statements-room c rest.statements rest.closing rest refl)
-
 -- an initial line, whose columns and those after it give so many characters
 with_initial-room : (n k : ℕ) (c : List ℕ) (rest : Rest) → length (stripped false (columns c ++ rest.more)) ≤ k + length rest.more → room (with_initial n c rest) ≤ k + room rest
 with_initial-room n k c rest h =
@@ -78,32 +46,12 @@ with_initial-room n k c rest h =
     } in
     omega (arith, sum_by-cons length_of s rest.statements)
 
-initial-long : (n : ℕ) (c : List ℕ) (rest : Rest) → length (columns c) ≡ 66 → room (with_initial n c rest) ≤ 66 + room rest
-initial-long n c rest h = with_initial-room n 66 c rest (omega (arith, stripped-short false (columns c ++ rest.more), length-append (columns c) rest.more))
-
-continuation-long : (n : ℕ) (c : List ℕ) (rest : Rest) → length (columns c) ≡ 66 → room (with_continuation n c rest) ≤ 66 + room rest
-continuation-long n c rest h = omega (arith, length-append (columns c) rest.more)
-
-by_line : (t u v : Bool) (a b c d : Rest) (n : ℕ) → room a ≤ n → room b ≤ n → room c ≤ n → room d ≤ n
-    → room (if t then (if u then a else b) else if v then c else d) ≤ n
-by_line true true v a b c d n h i j k = h
-by_line true false v a b c d n h i j k = i
-by_line false u true a b c d n h i j k = j
-by_line false u false a b c d n h i j k = k
-
 by_initial : (t u v : Bool) (a b c d : Rest) (n : ℕ) → v ≡ true → room a ≤ n → room b ≤ n → room c ≤ n
     → room (if t then (if u then a else b) else if v then c else d) ≤ n
 by_initial true true v a b c d n e h i j = h
 by_initial true false v a b c d n e h i j = i
 by_initial false u true a b c d n e h i j = j
 by_initial false u false a b c d n e h i j = cc
-
-line-long : (n : ℕ) (l : List ℕ) (rest : Rest) → room (with_line n l rest) ≤ 66 + room rest
-line-long n l rest =
-    by_line (is_comment l) (is_dropped l) (is_initial (card l))
-    rest (with_comment l rest) (with_initial n (card l) rest) (with_continuation n (card l) rest) (66 + room rest)
-    (omega arith) (omega (arith, with_comment-room l rest))
-    (initial-long n (card l) rest (columns-66 l)) (continuation-long n (card l) rest (columns-66 l))
 
 line-short : (n : ℕ) (l : List ℕ) (rest : Rest) → IsShort l → room (with_line n l rest) ≤ room rest
 line-short n l rest s =
@@ -161,14 +109,6 @@ without_returns-short (b ∷ bs) = omega (arith, unless_return-short b (without_
 all_without : (ls : List (List ℕ)) → bytes (map without_returns ls) ≤ bytes ls
 all_without [] = omega arith
 all_without (l ∷ ls) = omega (arith, without_returns-short l, all_without ls)
-
-chosen : (t : Bool) (a b : Lines) (e : ℕ × ℕ) → (let r : Result Lines (ℕ × ℕ) = if t then Ok a else Err e in r) ≡ Ok b → a ≡ b
-chosen true a b e h = cc
-chosen false a b e h = cc
-
-outcome-lines : (found : Option (ℕ × Code)) (last : ℕ) (rest : Rest) (lines : Lines) → outcome found last rest ≡ Ok lines → rest.statements ≡ lines.lines
-outcome-lines (Some f) last rest lines h = cc
-outcome-lines None last rest lines h = ap (λ (ls : Lines). ls.lines) (chosen (ends_well rest.statements) _ lines _ h)
 
 -- seven bytes of a text give its statements at most 66 characters
 characters-reading : (text : List ℕ) (lines : Lines) → reading text ≡ Ok lines → 7 * characters lines ≤ 66 * (length text + 1)

@@ -7,13 +7,14 @@ use Rattle.std.proofs.lemmas.Bool.{eqb-true}
 use Rattle.std.proofs.lemmas.Map.Keys.{IsDistinct-push}
 use Rattle.f77_ast.specs.DeclTrees.{ParsedTree}
 use Rattle.f77_ast.specs.Symbols.{number_from}
-use Rattle.refusal_codes.specs.declared.refusal.Refusal.{Refusal}
+use Rattle.fx_lists.specs.declared.refusal.Refusal.{Refusal}
 use Rattle.call_graph.specs.declared.refusal.Fault.{Fault}
 use Rattle.call_graph.specs.declared.refusal.Fault.TheVariants as fault
 use Rattle.call_graph.specs.Faults.{or_fault}
 use Rattle.call_graph.specs.Modules.{module_line, too_many, is_place, names_of, twice_from, name_twice, main_twice}
-use Rattle.refusal_codes.specs.declared.code.Code.TheVariants.{ModuleTwice}
+use Rattle.fx_lists.specs.declared.code.Code.TheVariants.{ModuleTwice}
 use Rattle.session_texts.specs.Sources.{refusal_for, source_refusal}
+use Rattle.fx_lists.proofs.Texts.{no_names}
 
 -- a name that is first found at a place has no equal before it
 first_there : (n : ℕ) (before : List (List ℕ)) (x : List ℕ) (after : List (List ℕ)) → number_from n (before ++ x ∷ after) x ≡ Some (n + length before) → list_any (bytes_eq x) before ≡ false
@@ -57,10 +58,6 @@ distinct_from before (p ∷ ps) d e =
     ∙ ap (λ ns. twice_from (suc (length before)) ns ps) same
     ∙ h.others in
     subst (IsDistinct bytes_eq) same (distinct_from (before ++ x ∷ []) ps (IsDistinct-push nat_list_eq_equiv before x d new) later)
-
-no_names : IsDistinct bytes_eq []
-unfolding IsDistinct
-no_names = tt
 
 unfaulted : (a b c : Option Fault) → option_map refusal_for (or_fault a (or_fault b c)) ≡ None → b ≡ None
 unfaulted None None c e = refl

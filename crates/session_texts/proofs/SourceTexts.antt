@@ -12,17 +12,17 @@ use Rattle.f77_parser.specs.Gives.{Refused, and_then}
 use Rattle.f77_parser.specs.Modules.{parse_of}
 use Rattle.f77_ast.specs.declared.symbol.Symbol.{Symbol}
 use Rattle.f77_ast.specs.Symbols.{SymbolTree, symbol_tree}
-use Rattle.refusal_codes.specs.declared.refusal.Refusal.{Refusal}
+use Rattle.fx_lists.specs.declared.refusal.Refusal.{Refusal}
 use Rattle.storage_layout.specs.Symbols.{symbols_of}
 use Rattle.call_graph.specs.Modules.{names_of}
-use Rattle.module_texts.specs.declared.source.Piece.{Piece}
-use Rattle.module_texts.specs.Pieces.{pieces_of}
-use Rattle.roundtrip_text.specs.Texts.{IsReadAs}
+use Rattle.fixed_form.specs.declared.source.Piece.{Piece}
+use Rattle.fixed_form.specs.Pieces.{pieces_of}
+use Rattle.roundtrip_programs.specs.Texts.Texts.{IsReadAs}
 use Rattle.roundtrip_programs.specs.Laws.{tree_of, TablesIgnorePlaces}
 use Rattle.roundtrip_programs.specs.Programs.{AreTables}
-use Rattle.laws_pieces.specs.Moved.{moved, moved_spot}
-use Rattle.laws_pieces.specs.Laws.{IsPieceOf, ArePiecesOf, PiecesAreModules}
-use Rattle.laws_database.specs.Texts.{ModuleText, ReadModule, lines_or, modules_of, with_table, one_module, module_read, names_in}
+use Rattle.roundtrip_programs.specs.Pieces.Moved.{moved, moved_spot}
+use Rattle.roundtrip_programs.specs.Pieces.Laws.{IsPieceOf, ArePiecesOf, PiecesAreModules}
+use Rattle.pipsmake_meaning.specs.Texts.{ModuleText, ReadModule, lines_or, modules_of, with_table, one_module, module_read, names_in}
 use Rattle.session_texts.specs.declared.source.Source.{Source}
 use Rattle.session_texts.specs.Modules.{source_text, source_read, IsSource, AreSources, NamesDiffer}
 use Rattle.session_texts.specs.Sources.{table_or, tables_of, source_refusal, unless_refused, named_texts, texts_with}
@@ -84,7 +84,7 @@ names_are (p ∷ ps) [] h = absurd h
 names_are (p ∷ ps) (m ∷ ms) h = ap (λ rest. m.module_read.name ∷ rest) (names_are ps ms h.1)
 
 -- tables that all modules have
-all_tables : (ms : List ParsedTree) (ts : List (List SymbolTree)) → tables_of ms ≡ Ok ts → AreTables ms ts
+pub all_tables : (ms : List ParsedTree) (ts : List (List SymbolTree)) → tables_of ms ≡ Ok ts → AreTables ms ts
 all_tables [] [] e = tt
 all_tables [] (t ∷ ts) e = cc
 all_tables (m ∷ ms) ts e = go (symbols_of m) refl (tables_of ms) refl ts e (all_tables ms)

@@ -3,7 +3,7 @@ use Rattle.std.proofs.Common.{◌≡◌, ℕ, List, [], ◌∷◌, ◌++◌, Res
 use Rattle.f77_ast.specs.DeclTrees.{ParsedTree}
 use Rattle.f77_parser.specs.Gives.{Refused, and_then}
 use Rattle.f77_ast.specs.Symbols.{SymbolTree}
-use Rattle.refusal_codes.specs.declared.refusal.Refusal.{Refusal}
+use Rattle.fx_lists.specs.declared.refusal.Refusal.{Refusal}
 use Rattle.storage_layout.specs.Gives.{IsRefusal}
 use Rattle.storage_layout.specs.Symbols.{symbols_of}
 use Rattle.session_texts.specs.Sources.{table_or, tables_of}
@@ -19,7 +19,7 @@ remaining done [] = Ok done
 remaining done (m ∷ ms) = and_then (table_or (symbols_of m)) (λ t. remaining (done ++ t ∷ []) ms)
 
 -- one more table in front
-in_front : (done : List (List SymbolTree)) (t : List SymbolTree) (r : Result (List (List SymbolTree)) Refused)
+pub in_front : (done : List (List SymbolTree)) (t : List SymbolTree) (r : Result (List (List SymbolTree)) Refused)
     → and_then (and_then r (λ ts. Ok (t ∷ ts))) (λ ts. Ok (done ++ ts)) ≡ and_then r (λ ts. Ok ((done ++ t ∷ []) ++ ts))
 in_front done t (Ok ts) = ap Ok (sym (append_assoc done (t ∷ []) ts))
 in_front done t (Err r) = refl
@@ -35,7 +35,7 @@ from_tables : (done : List (List SymbolTree)) (ms : List ParsedTree) → and_the
 from_tables done [] = ap Ok (append-nil done)
 from_tables done (m ∷ ms) = one_table done ms (table_or (symbols_of m)) (λ t. from_tables (done ++ t ∷ []) ms)
 
-ok_again : (r : Result (List (List SymbolTree)) Refused) → r ≡ and_then r (λ ts. Ok ([] ++ ts))
+pub ok_again : (r : Result (List (List SymbolTree)) Refused) → r ≡ and_then r (λ ts. Ok ([] ++ ts))
 ok_again (Ok ts) = refl
 ok_again (Err r) = refl
 

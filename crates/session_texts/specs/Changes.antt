@@ -1,6 +1,6 @@
 -- Module texts that change.
 use Rattle.std.specs.Prelude.{ℕ, List, [], ◌∷◌, filter, not, bytes_eq, if◌then◌else◌}
-use Rattle.laws_database.specs.Texts.{ModuleText}
+use Rattle.pipsmake_meaning.specs.Texts.{ModuleText}
 
 -- a text in the place of the one of its name, or as the last
 abbrev pub put : ModuleText → List ModuleText → List ModuleText

@@ -3,7 +3,7 @@ use Rattle.std.specs.Prelude.{ℕ, ◌-◌, List, [], ◌∷◌, map}
 use Rattle.f77_ast.specs.declared.places.Parsed.{Parsed}
 use Rattle.f77_ast.specs.declared.places.Spot.{Spot}
 use Rattle.f77_ast.specs.declared.symbol.Symbol.{Symbol}
-use Rattle.module_texts.specs.declared.source.Piece.{Piece}
+use Rattle.fixed_form.specs.declared.source.Piece.{Piece}
 use Rattle.session_texts.specs.declared.source.Source.{Source}
 
 -- the place of a statement, its line counted back, so many

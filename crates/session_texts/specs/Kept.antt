@@ -4,7 +4,7 @@ use Rattle.f77_ast.specs.declared.places.Parsed.{Parsed}
 use Rattle.f77_ast.specs.PlainDecl.{parsed_tree}
 use Rattle.f77_ast.specs.declared.symbol.Symbol.{Symbol}
 use Rattle.f77_ast.specs.Symbols.{symbol_tree}
-use Rattle.laws_database.specs.Texts.{ModuleText, AreModules, names_in, trees_in, tables_in}
+use Rattle.pipsmake_meaning.specs.Texts.{ModuleText, AreModules, names_in, trees_in, tables_in}
 use Rattle.session_texts.specs.Modules.{NamesDiffer}
 
 pub record AreKept (ts : List ModuleText) (names : List (List ℕ)) (trees : List Parsed) (tables : List (List Symbol)) : Type 0 where

@@ -1,7 +1,7 @@
 -- What changes of module texts keep, and which text a name has after them.
 use Rattle.std.specs.Prelude.{◌≡◌, ℕ, List, [], Option, Some, None, bytes_eq, if◌then◌else◌}
 use Rattle.pipsmake_rules.specs.Neighbours.{name_put}
-use Rattle.laws_database.specs.Texts.{ModuleText, IsModule, AreModules, names_in, text_of}
+use Rattle.pipsmake_meaning.specs.Texts.{ModuleText, IsModule, AreModules, names_in, text_of}
 use Rattle.session_texts.specs.Modules.{NamesDiffer}
 use Rattle.session_texts.specs.Changes.{put, replaced, without}
 

@@ -5,7 +5,7 @@ use Rattle.f77_ast.specs.PlainDecl.{parsed_tree}
 use Rattle.f77_ast.specs.Symbols.{symbol_tree}
 use Rattle.session_texts.specs.declared.source.ModuleText.{ModuleText as Kept}
 use Rattle.session_texts.specs.declared.source.Source.{Source}
-use Rattle.laws_database.specs.Texts.{ModuleText, ReadModule, module_read, names_in}
+use Rattle.pipsmake_meaning.specs.Texts.{ModuleText, ReadModule, module_read, names_in}
 
 -- a module's name, its text, and the line of its source where the text begins
 abbrev pub text_record : Kept → ModuleText

@@ -2,21 +2,21 @@
 use Rattle.std.specs.Prelude.{ℕ, List, [], ◌∷◌, Option, Some, None, option_map, Result, Ok, Err}
 use Rattle.fixed_form.specs.declared.line.Lines.{Lines}
 use Rattle.fixed_form.specs.Reading.{reading}
-use Rattle.module_texts.specs.declared.source.Piece.{Piece}
-use Rattle.module_texts.specs.Pieces.{pieces_of}
+use Rattle.fixed_form.specs.declared.source.Piece.{Piece}
+use Rattle.fixed_form.specs.Pieces.{pieces_of}
 use Rattle.f77_ast.specs.DeclTrees.{ParsedTree}
 use Rattle.f77_parser.specs.Gives.{Refused, and_then}
 use Rattle.f77_parser.specs.Modules.{parse_of}
 use Rattle.f77_ast.specs.Symbols.{SymbolTree}
-use Rattle.refusal_codes.specs.declared.code.Code.TheVariants.{NoMain}
-use Rattle.refusal_codes.specs.declared.refusal.Refusal.{Refusal}
-use Rattle.refusal_codes.specs.Refusals.{number_of}
+use Rattle.fx_lists.specs.declared.code.Code.TheVariants.{NoMain}
+use Rattle.fx_lists.specs.declared.refusal.Refusal.{Refusal}
+use Rattle.fx_lists.specs.Refusals.{number_of}
 use Rattle.storage_layout.specs.Symbols.{symbols_of}
 use Rattle.call_graph.specs.declared.refusal.Fault.{Fault}
 use Rattle.call_graph.specs.declared.refusal.Fault.TheVariants as fault
 use Rattle.call_graph.specs.Faults.{or_fault}
 use Rattle.call_graph.specs.Modules.{too_many, name_twice, main_twice}
-use Rattle.laws_database.specs.Texts.{ModuleText, lines_or}
+use Rattle.pipsmake_meaning.specs.Texts.{ModuleText, lines_or}
 
 -- the line of a refusal and the number of its code; only what is outside the profile has a keyword
 abbrev pub refused : Refusal → Refused

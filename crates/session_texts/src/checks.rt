@@ -6,7 +6,7 @@ ghost use Rattle.session_texts.specs.Sources.{refusal_for, source_refusal};
 
 use f77_ast::Parsed;
 use f77_parser::ModuleTrees;
-use refusal_codes::{Code, Refusal};
+use fx_lists::{Code, Refusal};
 use std::alloc::{AllocError as Memory, Global};
 use tracked_cells::Names;
 

@@ -6,7 +6,7 @@ ghost use Rattle.f77_ast.specs.PlainDecl.{parsed_tree};
 ghost use Rattle.f77_parser.specs.Gives.{Gives};
 ghost use Rattle.f77_parser.specs.Modules.{parse_of};
 ghost use Rattle.f77_ast.specs.Symbols.{symbol_tree};
-ghost use Rattle.refusal_codes.specs.Refusals.{number_of};
+ghost use Rattle.fx_lists.specs.Refusals.{number_of};
 ghost use Rattle.storage_layout.specs.Symbols.{symbols_of};
 ghost use Rattle.session_texts.specs.Modules.{AreSources, NamesDiffer, source_text};
 ghost use Rattle.session_texts.specs.Sources.{source_modules, table_or, tables_of, texts_with};
@@ -15,12 +15,9 @@ use crate::checks::source_refusal;
 use crate::source::{Source, sources_from};
 use f77_ast::{Parsed, Symbols};
 use f77_parser::{ModuleTrees, ParseRefusal, parse};
-use fixed_form::{Lines, ReadRefusal, statements};
-use fx_lists::{List, Text};
-use laws_pieces::pieces_are_modules;
-use module_texts::pieces;
-use refusal_codes::Refusal;
-use roundtrip_programs::tables_ignore_places;
+use fixed_form::{Lines, ReadRefusal, pieces, statements};
+use fx_lists::{List, Refusal, Text};
+use roundtrip_programs::{pieces_are_modules, tables_ignore_places};
 use std::alloc::Global;
 use storage_layout::{LayoutRefusal, symbols};
 
@@ -38,10 +35,11 @@ fn table_of(alloc: Global, parsed: &Parsed) -> Result<Symbols, ParseRefusal>
     }
 }
 
-/// The symbols of each module, or the refusal of the first that has none.
+/// The symbols of each module, in the order of the modules, or the refusal of the first that has none.
 #[tactic(auto, using(crate::proofs::SymbolLaws::symbol_steps))]
-fn tables_of(alloc: Global, modules: &ModuleTrees) -> Result<List<Symbols>, ParseRefusal>
-    ensures { Gives (map (map symbol_tree)) result (tables_of (map parsed_tree modules.now)) }
+pub fn tables_of(alloc: Global, modules: &ModuleTrees) -> Result<List<Symbols>, ParseRefusal>
+    ensures defined { Gives (map (map symbol_tree)) result (tables_of (map parsed_tree modules.now)) }
+    ensures one_each { IfOk result (λ tables. length modules.now ≡ length tables) }
 {
     let mut tables = List::new(alloc);
     for parsed in modules.as_slice() {

@@ -5,8 +5,8 @@ ghost use Rattle.session_texts.specs.Joined.{spot_back, counted_back, made_of, s
 use f77_ast::{Parsed, Places, Spot, Symbols};
 use f77_parser::ModuleTrees;
 use f77_structure::stack_of;
+use fixed_form::Piece;
 use fx_lists::{List, Text};
-use module_texts::Piece;
 use std::alloc::{AllocError as Memory, Global};
 
 /// The text of a module.

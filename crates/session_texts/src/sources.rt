@@ -5,8 +5,8 @@ ghost use Rattle.f77_ast.specs.PlainDecl.{parsed_tree};
 ghost use Rattle.f77_ast.specs.Symbols.{symbol_tree, number_from};
 ghost use Rattle.call_graph.specs.Faults.{Gives};
 ghost use Rattle.pipsmake_rules.specs.Neighbours.{has_name, name_put};
-ghost use Rattle.laws_database.specs.Texts.{AreModules, names_in, trees_in, tables_in, text_of, links_in};
-ghost use Rattle.laws_database.specs.Definitions.{module_named};
+ghost use Rattle.pipsmake_meaning.specs.Texts.{AreModules, names_in, trees_in, tables_in, text_of, links_in};
+ghost use Rattle.pipsmake_meaning.specs.Definitions.{module_named};
 ghost use Rattle.session_texts.specs.Modules.{text_record, source_text, AreSources, NamesDiffer};
 ghost use Rattle.session_texts.specs.Changes.{replaced, without};
 ghost use Rattle.session_texts.specs.Places.{place_for, places_from, names_after};
@@ -32,7 +32,7 @@ pub struct Sources {
 
 impl Model for Sources {
     ghost use Rattle.std.specs.Prelude.{List, map};
-    ghost use Rattle.laws_database.specs.Texts.{ModuleText};
+    ghost use Rattle.pipsmake_meaning.specs.Texts.{ModuleText};
     ghost use Rattle.session_texts.specs.Modules.{text_record};
     ghost use Rattle.session_texts.specs.Kept.{AreKept};
 

@@ -2,3 +2,9 @@ pub mod NumberLaws
 pub mod DealLaws
 pub mod TestLaws
 pub mod ColumnLaws
+pub mod AloneLaws
+pub mod MoveLaws
+pub mod LowestLaws
+pub mod BlockLaws
+pub mod SpanLaws
+pub mod JoinLaws

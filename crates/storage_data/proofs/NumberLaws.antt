@@ -2,7 +2,7 @@
 use Rattle.std.proofs.Common.{◌≡◌, ◌≤◌, Bool, List, [], ◌∷◌, ◌++◌, length, Option, Some, None, refl, sym, ap, ℤ, arith, append_assoc, append-nil}
 use Rattle.f77_ast.proofs.Plainly.{expr_lists}
 use Rattle.f77_ast.specs.declared.constant.Constant.TheVariants.{Int, Log}
-use Rattle.f77_ast.specs.declared.constant.Worth.TheVariants.{Is, Faults, Varies}
+use Rattle.f77_ast.specs.declared.constant.ConstantValue.TheVariants.{Is, Faults, Varies}
 use Rattle.f77_ast.specs.Places.{position}
 use Rattle.f77_checks.specs.declared.sizes.Size.{Size}
 use Rattle.f77_checks.specs.Sizes.{dims_tree}

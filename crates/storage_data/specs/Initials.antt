@@ -7,21 +7,21 @@ use Rattle.f77_ast.specs.DeclTrees.{DataValueTree, DataTree, DeclTree}
 use Rattle.f77_ast.specs.DeclTrees as decl
 use Rattle.f77_ast.specs.declared.constant.Constant.{Constant}
 use Rattle.f77_ast.specs.declared.constant.Constant.TheVariants as constant
-use Rattle.f77_ast.specs.declared.constant.Worth.{Worth}
-use Rattle.f77_ast.specs.declared.constant.Worth.TheVariants.{Is, Faults, Varies}
-use Rattle.f77_ast.specs.Constants.{worth}
-use Rattle.refusal_codes.specs.declared.code.Code.TheVariants.{InitialMismatch}
-use Rattle.refusal_codes.specs.declared.refusal.Refusal.{Refusal}
+use Rattle.f77_ast.specs.declared.constant.ConstantValue.{ConstantValue}
+use Rattle.f77_ast.specs.declared.constant.ConstantValue.TheVariants.{Is, Faults, Varies}
+use Rattle.f77_ast.specs.Constants.{const_value}
+use Rattle.fx_lists.specs.declared.code.Code.TheVariants.{InitialMismatch}
+use Rattle.fx_lists.specs.declared.refusal.Refusal.{Refusal}
 use Rattle.f77_names.specs.declared.kinds.Kind.{Kind}
 use Rattle.f77_names.specs.declared.kinds.Kind.TheVariants.{Int, Log, Real}
 use Rattle.f77_names.specs.declared.lines.Sited.TheVariants.{Decl}
-use Rattle.refusal_codes.specs.Refusals.{refuse_if}
+use Rattle.fx_lists.specs.Refusals.{refuse_if}
 use Rattle.f77_names.specs.Lines.{LineTable, line_or}
 use Rattle.f77_names.specs.Entries.{EntryTree, find}
 use Rattle.f77_names.specs.Tables.{NameTable, entry_kind}
 use Rattle.f77_checks.specs.Dimensions.{dims_in}
-use Rattle.storage_groups.specs.declared.seat.Seat.{Seat}
-use Rattle.storage_groups.specs.Seats.{same_home, is_block}
+use Rattle.storage_data.specs.declared.offset_node.OffsetNode.{OffsetNode}
+use Rattle.storage_data.specs.OffsetNodes.{same_home, is_block}
 use Rattle.storage_data.specs.declared.targets.Target.{Target}
 use Rattle.storage_data.specs.declared.targets.Target.TheVariants.{Excluded, Open, Covers}
 use Rattle.storage_data.specs.declared.values.Run.{Run}
@@ -57,15 +57,15 @@ covers t place (tree.unary o e) = Excluded
 covers t place (tree.binary o a b) = Excluded
 covers t place (tree.chars x) = Excluded
 
-abbrev pub is_seated : Option Seat → Bool
-is_seated None = false
-is_seated (Some s) = is_block s.home
+abbrev pub is_associated : Option OffsetNode → Bool
+is_associated None = false
+is_associated (Some s) = is_block s.home
 
 -- dummies, PARAMETER names and what lies in a block have no DATA
-abbrev pub is_barred : EntryTree → Option Seat → Bool
-is_barred e s = is_some e.dummy || (is_some e.common || (e.parameter || is_seated s))
+abbrev pub is_barred : EntryTree → Option OffsetNode → Bool
+is_barred e s = is_some e.dummy || (is_some e.common || (e.parameter || is_associated s))
 
-abbrev pub entry_target : NameTable → List Seat → ExprTree → Option ℕ → Option EntryTree → Target
+abbrev pub entry_target : NameTable → List OffsetNode → ExprTree → Option ℕ → Option EntryTree → Target
 entry_target t ss i None e = Excluded
 entry_target t ss i (Some place) None = Excluded
 entry_target t ss i (Some place) (Some e) =
@@ -73,15 +73,15 @@ entry_target t ss i (Some place) (Some e) =
     else if is_none (dims_in t e) || is_some (item_fault t i 0) then Open
     else covers t place i
 
-abbrev pub named_target : NameTable → List Seat → ExprTree → Option (List ℕ) → Target
+abbrev pub named_target : NameTable → List OffsetNode → ExprTree → Option (List ℕ) → Target
 named_target t ss i None = Excluded
 named_target t ss i (Some x) = entry_target t ss i (place_of t x) (find x t.entries)
 
 -- what a target asks for
-abbrev pub target_of : NameTable → List Seat → ExprTree → Target
+abbrev pub target_of : NameTable → List OffsetNode → ExprTree → Target
 target_of t ss i = named_target t ss i (item_name i)
 
-abbrev pub targets_of : NameTable → List Seat → List ExprTree → List Target
+abbrev pub targets_of : NameTable → List OffsetNode → List ExprTree → List Target
 targets_of t ss [] = []
 targets_of t ss (i ∷ is) = target_of t ss i ∷ targets_of t ss is
 
@@ -100,14 +100,14 @@ abbrev pub times : Option ℕ → ℕ
 times None = 1
 times (Some n) = n
 
-abbrev pub constant_of : Worth → Option Constant
+abbrev pub constant_of : ConstantValue → Option Constant
 constant_of (Is c) = Some c
 constant_of Faults = None
 constant_of Varies = None
 
 -- a value is a literal, perhaps with a sign
 abbrev pub literal_of : ExprTree → Option Constant
-literal_of e = constant_of (worth (λ x. None) e)
+literal_of e = constant_of (const_value (λ x. None) e)
 
 abbrev pub run_of : DataValueTree → Run
 run_of v = record { count = times v.repeat; value = literal_of v.value }
@@ -181,16 +181,16 @@ is_mistyped t p = has_other_type (kind_at t (slice_get t.entries p.place)) p.val
 abbrev pub meets : Stretch → Stretch → Bool
 meets a b = same_home a.home b.home && (int_lt a.from b.end && int_lt b.from a.end)
 
-abbrev pub stretch_at : Option Seat → ℕ → ℕ → List Stretch
+abbrev pub stretch_at : Option OffsetNode → ℕ → ℕ → List Stretch
 stretch_at None offset n = []
 stretch_at (Some s) offset n = record { home = s.home; from = s.offset +ℤ pos offset; end = (s.offset +ℤ pos offset) +ℤ pos n } ∷ []
 
-abbrev pub stretch_of : List Seat → Target → List Stretch
+abbrev pub stretch_of : List OffsetNode → Target → List Stretch
 stretch_of ss Excluded = []
 stretch_of ss Open = []
 stretch_of ss (Covers place offset n) = stretch_at (slice_get ss place) offset n
 
-abbrev pub stretches_of : List Seat → List Target → List Stretch
+abbrev pub stretches_of : List OffsetNode → List Target → List Stretch
 stretches_of ss [] = []
 stretches_of ss (c ∷ cs) = stretch_of ss c ++ stretches_of ss cs
 
@@ -219,11 +219,11 @@ given_pieces t ps new line f = record {
   found = refuse_if (list_any (is_mistyped t) ps || meet_twice f.stretches new) line InitialMismatch f.found;
 }
 
-abbrev pub given : NameTable → List Seat → List Target → List Run → ℕ → Filled → Filled
+abbrev pub given : NameTable → List OffsetNode → List Target → List Run → ℕ → Filled → Filled
 given t ss cs rs line f = given_pieces t (dealt cs rs) (stretches_of ss cs) line f
 
 -- where a target is open nothing is said of the number of values
-abbrev pub targets_filled : NameTable → List Seat → List Target → List Run → ℕ → Filled → Filled
+abbrev pub targets_filled : NameTable → List OffsetNode → List Target → List Run → ℕ → Filled → Filled
 targets_filled t ss cs rs line f =
     if list_any is_excluded cs then mismatch true line f
     else if list_any is_open cs then f
@@ -233,14 +233,14 @@ targets_filled t ss cs rs line f =
 abbrev pub faulted : NameTable → List ExprTree → ℕ → Filled → Filled
 faulted t is line f = record f { found = check_items t is line f.found }
 
-abbrev pub group_filled : NameTable → List Seat → DataTree → ℕ → Filled → Filled
+abbrev pub group_filled : NameTable → List OffsetNode → DataTree → ℕ → Filled → Filled
 group_filled t ss g line f = targets_filled t ss (targets_of t ss g.targets) (runs_of g.values) line (faulted t g.targets line f)
 
-abbrev pub groups_filled : NameTable → List Seat → List DataTree → ℕ → Filled → Filled
+abbrev pub groups_filled : NameTable → List OffsetNode → List DataTree → ℕ → Filled → Filled
 groups_filled t ss [] line f = f
 groups_filled t ss (g ∷ gs) line f = groups_filled t ss gs line (group_filled t ss g line f)
 
-abbrev pub decl_filled : NameTable → List Seat → DeclTree → ℕ → Filled → Filled
+abbrev pub decl_filled : NameTable → List OffsetNode → DeclTree → ℕ → Filled → Filled
 decl_filled t ss (decl.initial gs) line f = groups_filled t ss gs line f
 decl_filled t ss (decl.implicit ps) line f = f
 decl_filled t ss (decl.integer es) line f = f
@@ -251,6 +251,6 @@ decl_filled t ss (decl.common cs) line f = f
 decl_filled t ss (decl.equivalence gs) line f = f
 decl_filled t ss (decl.save is) line f = f
 
-abbrev pub decls_filled : NameTable → List Seat → LineTable → List DeclTree → ℕ → Filled → Filled
+abbrev pub decls_filled : NameTable → List OffsetNode → LineTable → List DeclTree → ℕ → Filled → Filled
 decls_filled t ss at [] n f = f
 decls_filled t ss at (d ∷ ds) n f = decls_filled t ss at ds (n + 1) (decl_filled t ss d (line_or at (Decl n) 0) f)

@@ -4,15 +4,15 @@ use Rattle.f77_ast.specs.Trees.{ExprTree, ExprTrees}
 use Rattle.f77_ast.specs.Trees as tree
 use Rattle.f77_ast.specs.Places.{Dim, position}
 use Rattle.f77_ast.specs.declared.constant.Constant.TheVariants.{Int, Log}
-use Rattle.f77_ast.specs.declared.constant.Worth.{Worth}
-use Rattle.f77_ast.specs.declared.constant.Worth.TheVariants.{Is, Faults, Varies}
-use Rattle.refusal_codes.specs.declared.code.Code.TheVariants.{NotAnArray}
-use Rattle.refusal_codes.specs.declared.refusal.Refusal.{Refusal}
-use Rattle.refusal_codes.specs.Refusals.{refuse_if}
+use Rattle.f77_ast.specs.declared.constant.ConstantValue.{ConstantValue}
+use Rattle.f77_ast.specs.declared.constant.ConstantValue.TheVariants.{Is, Faults, Varies}
+use Rattle.fx_lists.specs.declared.code.Code.TheVariants.{NotAnArray}
+use Rattle.fx_lists.specs.declared.refusal.Refusal.{Refusal}
+use Rattle.fx_lists.specs.Refusals.{refuse_if}
 use Rattle.f77_names.specs.Entries.{EntryTree, find, has_shape}
 use Rattle.f77_names.specs.Tables.{NameTable}
 use Rattle.f77_checks.specs.Expressions.{check_expr, check_subscripts}
-use Rattle.f77_checks.specs.Dimensions.{dims_in, worth_in}
+use Rattle.f77_checks.specs.Dimensions.{dims_in, const_value_in}
 
 abbrev pub item_name : ExprTree → Option (List ℕ)
 item_name (tree.name x) = Some x
@@ -53,7 +53,7 @@ check_items t (i ∷ is) line found = check_items t is line (both (item_fault t 
 
 -- ---- positions
 
-abbrev pub with_number : Worth → Option (List ℤ) → Option (List ℤ)
+abbrev pub with_number : ConstantValue → Option (List ℤ) → Option (List ℤ)
 with_number w None = None
 with_number (Is (Int n)) (Some ns) = Some (n ∷ ns)
 with_number (Is (Log b)) (Some ns) = None
@@ -63,7 +63,7 @@ with_number Varies (Some ns) = None
 -- the numbers of constant subscripts
 abbrev pub numbers_of : NameTable → ExprTrees → Option (List ℤ)
 numbers_of t tree.no_exprs = Some []
-numbers_of t (tree.more_exprs e es) = with_number (worth_in t e) (numbers_of t es)
+numbers_of t (tree.more_exprs e es) = with_number (const_value_in t e) (numbers_of t es)
 
 abbrev pub position_at : Option (List Dim) → Option (List ℤ) → Option ℕ
 position_at None ns = None

@@ -7,6 +7,7 @@ ghost use Rattle.f77_names.specs.Entries.{entry_tree};
 ghost use Rattle.f77_names.specs.Views.{line_in, table_tree};
 ghost use Rattle.storage_data.specs.Initials.{given, group_filled, groups_filled, decl_filled, decls_filled, has_other_type, is_mistyped, kind_at, mismatch, targets_filled, unfilled};
 
+use crate::Groups;
 use crate::deals::{Piece, dealt};
 use crate::items::check_items;
 use crate::stretches::{Stretch, meet_twice, stretches_of};
@@ -15,10 +16,8 @@ use crate::values::{Run, runs_of, values_in};
 use f77_ast::{Constant, DataGroup, Decl};
 use f77_checks::decl_line;
 use f77_names::{Kind, LineTable, NameTable};
-use fx_lists::List;
-use refusal_codes::{Code, Refusal, refuse_if};
+use fx_lists::{Code, List, Refusal, refuse_if};
 use std::alloc::{AllocError as Memory, Global};
-use storage_groups::Groups;
 
 /// What the DATA statements so far give: the pieces, and the stretches of units that have a value, both in the order of the
 /// text; and the first refusal, by line, then by code.
@@ -100,16 +99,16 @@ impl Filled {
         &mut self,
         alloc: Global,
         table: &NameTable,
-        seats: &Groups,
+        offset_nodes: &Groups,
         targets: &[Target],
         runs: List<Run>,
         line: u32,
     ) -> Result<(), Memory>
         ensures { OnOk result
-            (self.new ≡ given (table_tree table.now) seats.now targets.now runs line self.old) }
+            (self.new ≡ given (table_tree table.now) offset_nodes.now targets.now runs line self.old) }
     {
         let pieces = dealt(alloc, targets, runs)?;
-        let new = stretches_of(alloc, seats, targets)?;
+        let new = stretches_of(alloc, offset_nodes, targets)?;
         let twice = meet_twice(&mut self.stretches, new.as_slice())?;
         let mistyped = some_mistyped(table, pieces.as_slice());
         add_pieces(&mut self.pieces, pieces.as_slice())?;
@@ -121,13 +120,13 @@ impl Filled {
         &mut self,
         alloc: Global,
         table: &NameTable,
-        seats: &Groups,
+        offset_nodes: &Groups,
         targets: &[Target],
         runs: List<Run>,
         line: u32,
     ) -> Result<(), Memory>
         ensures { OnOk result
-            (self.new ≡ targets_filled (table_tree table.now) seats.now targets.now runs line self.old) }
+            (self.new ≡ targets_filled (table_tree table.now) offset_nodes.now targets.now runs line self.old) }
     {
         if some_excluded(targets) {
             self.note(true, line);
@@ -140,25 +139,25 @@ impl Filled {
             self.note(true, line);
             return Ok(());
         }
-        self.give(alloc, table, seats, targets, runs, line)
+        self.give(alloc, table, offset_nodes, targets, runs, line)
     }
 
     fn fill_group(
         &mut self,
         alloc: Global,
         table: &NameTable,
-        seats: &Groups,
+        offset_nodes: &Groups,
         group: &DataGroup,
         line: u32,
     ) -> Result<(), Memory>
         ensures { OnOk result
-            (self.new ≡ group_filled (table_tree table.now) seats.now (data_tree group.now) line self.old) }
+            (self.new ≡ group_filled (table_tree table.now) offset_nodes.now (data_tree group.now) line self.old) }
     {
         let items = group.targets.as_slice();
         self.found = check_items(table, items, line, self.found);
-        let targets = targets_of(alloc, table, seats, items)?;
+        let targets = targets_of(alloc, table, offset_nodes, items)?;
         let runs = runs_of(alloc, group.values.as_slice())?;
-        self.fill_targets(alloc, table, seats, targets.as_slice(), runs, line)
+        self.fill_targets(alloc, table, offset_nodes, targets.as_slice(), runs, line)
     }
 
     #[tactic(auto, using(f77_ast::proofs::PlainlyDecl::decl_lists))]
@@ -166,15 +165,15 @@ impl Filled {
         &mut self,
         alloc: Global,
         table: &NameTable,
-        seats: &Groups,
+        offset_nodes: &Groups,
         groups: &[DataGroup],
         line: u32,
     ) -> Result<(), Memory>
         ensures { OnOk result
-            (self.new ≡ groups_filled (table_tree table.now) seats.now (map data_tree groups.now) line self.old) }
+            (self.new ≡ groups_filled (table_tree table.now) offset_nodes.now (map data_tree groups.now) line self.old) }
     {
         for group in groups {
-            self.fill_group(alloc, table, seats, group, line)?;
+            self.fill_group(alloc, table, offset_nodes, group, line)?;
         }
         Ok(())
     }
@@ -183,15 +182,21 @@ impl Filled {
         &mut self,
         alloc: Global,
         table: &NameTable,
-        seats: &Groups,
+        offset_nodes: &Groups,
         decl: &Decl,
         line: u32,
     ) -> Result<(), Memory>
         ensures { OnOk result
-            (self.new ≡ decl_filled (table_tree table.now) seats.now (decl_tree decl.now) line self.old) }
+            (self.new ≡ decl_filled (table_tree table.now) offset_nodes.now (decl_tree decl.now) line self.old) }
     {
         match decl {
-            Decl::Data(groups) => self.fill_groups(alloc, table, seats, groups.as_slice(), line),
+            Decl::Data(groups) => self.fill_groups(
+                alloc,
+                table,
+                offset_nodes,
+                groups.as_slice(),
+                line,
+            ),
             Decl::Implicit(_)
             | Decl::Integer(_)
             | Decl::Logical(_)
@@ -211,16 +216,16 @@ impl Filled {
         &mut self,
         alloc: Global,
         table: &NameTable,
-        seats: &Groups,
+        offset_nodes: &Groups,
         lines: &LineTable,
         decls: &[Decl],
     ) -> Result<(), Memory>
         ensures { OnOk result
-            (self.new ≡ decls_filled (table_tree table.now) seats.now (line_in lines.now) (map decl_tree decls.now) 0 self.old) }
+            (self.new ≡ decls_filled (table_tree table.now) offset_nodes.now (line_in lines.now) (map decl_tree decls.now) 0 self.old) }
     {
         for (place, decl) in decls.iter().enumerate() {
             let line = decl_line(lines, place)?;
-            self.fill_decl(alloc, table, seats, decl, line)?;
+            self.fill_decl(alloc, table, offset_nodes, decl, line)?;
         }
         Ok(())
     }

@@ -10,8 +10,7 @@ use crate::positions::element_position;
 use f77_ast::Expr;
 use f77_checks::{check_element, check_subscripts};
 use f77_names::NameTable;
-use fx_lists::{List, Text};
-use refusal_codes::{Code, Refusal, refuse_if};
+use fx_lists::{Code, List, Refusal, Text, refuse_if};
 use std::alloc::{AllocError as Memory, Global};
 
 /// The name of an item: of a variable, of a whole array or of the array of an element. None of any other expression.

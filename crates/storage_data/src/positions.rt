@@ -9,7 +9,7 @@ ghost use Rattle.f77_checks.specs.Sizes.{dim_tree, dims_tree};
 ghost use Rattle.storage_data.specs.Items.{element_position, numbers_of};
 
 use crate::numbers::{as_count, product, sum};
-use f77_ast::{Constant, Expr, Worth, worth_of};
+use f77_ast::{Constant, ConstantValue, Expr, const_value_of};
 use f77_checks::{Size, dimensions_of};
 use f77_names::{Entry, NameTable};
 use fx_lists::{List, Text};
@@ -26,9 +26,10 @@ fn numbers_of(
 {
     let mut numbers = List::new(alloc);
     for e in es.as_slice() {
-        match worth_of(e, &table.names) {
-            Worth::Is(Constant::Int(n)) => numbers.push(n)?,
-            Worth::Is(Constant::Log(_)) | Worth::Faults | Worth::Varies => return Ok(None),
+        match const_value_of(e, &table.names) {
+            ConstantValue::Is(Constant::Int(n)) => numbers.push(n)?,
+            ConstantValue::Is(Constant::Log(_)) | ConstantValue::Faults | ConstantValue::Varies =>
+                return Ok(None),
         }
     }
     Ok(Some(numbers))

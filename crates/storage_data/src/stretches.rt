@@ -4,9 +4,9 @@ ghost use Rattle.storage_data.specs.Initials.{meet_twice, meets, meets_some, str
 
 use crate::numbers::as_offset;
 use crate::targets::Target;
+use crate::{Groups, Home, OffsetNode};
 use fx_lists::List;
 use std::alloc::{AllocError as Memory, Global};
-use storage_groups::{Groups, Home, Seat};
 
 /// Units of a group, as offsets from its unit 0: the first, and the one after the last.
 #[derive(Clone, Copy)]
@@ -25,25 +25,29 @@ fn end_of(from: i64, count: u64) -> Result<i64, Memory>
     }
 }
 
-fn stretch_at(seat: Seat, offset: u64, count: u64) -> Result<Stretch, Memory>
-    ensures { IfOk result (λ s. s ∷ [] ≡ stretch_at (Some seat) offset count) }
+fn stretch_at(offset_node: OffsetNode, offset: u64, count: u64) -> Result<Stretch, Memory>
+    ensures { IfOk result (λ s. s ∷ [] ≡ stretch_at (Some offset_node) offset count) }
 {
-    let from = end_of(seat.offset, offset)?;
+    let from = end_of(offset_node.offset, offset)?;
     Ok(Stretch {
-        home: seat.home,
+        home: offset_node.home,
         from,
         end: end_of(from, count)?,
     })
 }
 
-fn add_stretch(seats: &Groups, target: Target, stretches: &mut List<Stretch>) -> Result<(), Memory>
-    ensures { OnOk result (stretches.new ≡ stretches.old ++ stretch_of seats.now target) }
+fn add_stretch(
+    offset_nodes: &Groups,
+    target: Target,
+    stretches: &mut List<Stretch>,
+) -> Result<(), Memory>
+    ensures { OnOk result (stretches.new ≡ stretches.old ++ stretch_of offset_nodes.now target) }
 {
     match target {
         Target::Excluded | Target::Open => Ok(()),
-        Target::Covers(place, offset, count) => match seats.seat(place) {
+        Target::Covers(place, offset, count) => match offset_nodes.offset_node(place) {
             None => Ok(()),
-            Some(seat) => stretches.push(stretch_at(seat, offset, count)?),
+            Some(offset_node) => stretches.push(stretch_at(offset_node, offset, count)?),
         },
     }
 }
@@ -53,14 +57,14 @@ fn add_stretch(seats: &Groups, target: Target, stretches: &mut List<Stretch>) ->
 #[tactic(auto, using(f77_ast::proofs::PlainlyDecl::decl_lists))]
 pub fn stretches_of(
     alloc: Global,
-    seats: &Groups,
+    offset_nodes: &Groups,
     targets: &[Target],
 ) -> Result<List<Stretch>, Memory>
-    ensures { IfOk result (λ ss. ss ≡ stretches_of seats.now targets.now) }
+    ensures { IfOk result (λ ss. ss ≡ stretches_of offset_nodes.now targets.now) }
 {
     let mut stretches = List::new(alloc);
     for target in targets {
-        add_stretch(seats, *target, &mut stretches)?;
+        add_stretch(offset_nodes, *target, &mut stretches)?;
     }
     Ok(stretches)
 }

@@ -4,17 +4,17 @@ ghost use Rattle.std.specs.List.{list_any};
 ghost use Rattle.f77_ast.specs.Plain.{expr_tree};
 ghost use Rattle.f77_names.specs.Entries.{entry_tree};
 ghost use Rattle.f77_names.specs.Views.{table_tree};
-ghost use Rattle.storage_data.specs.Initials.{covers, entry_target, is_barred, is_excluded, is_open, is_seated, target_of, targets_of, units_in, count_of};
+ghost use Rattle.storage_data.specs.Initials.{covers, entry_target, is_barred, is_excluded, is_open, is_associated, target_of, targets_of, units_in, count_of};
 
 use crate::items::{item_fault, item_name, item_position};
 use crate::numbers::sum;
 use crate::units::units_of;
+use crate::{Groups, OffsetNode};
 use f77_ast::Expr;
 use f77_checks::dimensions_of;
 use f77_names::{Entry, NameTable};
 use fx_lists::List;
 use std::alloc::{AllocError as Memory, Global};
-use storage_groups::{Groups, Seat};
 
 /// What an item of DATA covers (ANSI X3.9-1978, §9).
 #[derive(Clone, Copy)]
@@ -77,34 +77,34 @@ fn covers(alloc: Global, table: &NameTable, place: usize, item: &Expr) -> Result
     }
 }
 
-fn is_seated(seat: Option<Seat>) -> bool
-    ensures { result ≡ is_seated seat }
+fn is_associated(offset_node: Option<OffsetNode>) -> bool
+    ensures { result ≡ is_associated offset_node }
 {
-    match seat {
+    match offset_node {
         None => false,
-        Some(seat) => seat.home.is_block(),
+        Some(offset_node) => offset_node.home.is_block(),
     }
 }
 
 /// Whether a name may have no DATA.
-fn is_barred(entry: &Entry, seat: Option<Seat>) -> bool
-    ensures { result ≡ is_barred (entry_tree entry.now) seat }
+fn is_barred(entry: &Entry, offset_node: Option<OffsetNode>) -> bool
+    ensures { result ≡ is_barred (entry_tree entry.now) offset_node }
 {
-    entry.dummy.is_some() || entry.common.is_some() || entry.parameter || is_seated(seat)
+    entry.dummy.is_some() || entry.common.is_some() || entry.parameter || is_associated(offset_node)
 }
 
 fn entry_target(
     alloc: Global,
     table: &NameTable,
-    seats: &Groups,
+    offset_nodes: &Groups,
     item: &Expr,
     place: usize,
     entry: &Entry,
 ) -> Result<Target, Memory>
     ensures { IfOk result
-        (λ c. c ≡ entry_target (table_tree table.now) seats.now (expr_tree item.now) (Some place) (Some (entry_tree entry.now))) }
+        (λ c. c ≡ entry_target (table_tree table.now) offset_nodes.now (expr_tree item.now) (Some place) (Some (entry_tree entry.now))) }
 {
-    if is_barred(entry, seats.seat(place)) {
+    if is_barred(entry, offset_nodes.offset_node(place)) {
         return Ok(Target::Excluded);
     }
     match (
@@ -119,16 +119,23 @@ fn entry_target(
 fn target_of(
     alloc: Global,
     table: &NameTable,
-    seats: &Groups,
+    offset_nodes: &Groups,
     item: &Expr,
 ) -> Result<Target, Memory>
     ensures { IfOk result
-        (λ c. c ≡ target_of (table_tree table.now) seats.now (expr_tree item.now)) }
+        (λ c. c ≡ target_of (table_tree table.now) offset_nodes.now (expr_tree item.now)) }
 {
     match item_name(item) {
         None => Ok(Target::Excluded),
         Some(name) => match (table.names.place(name), table.names.find(name)) {
-            (Some(place), Some(entry)) => entry_target(alloc, table, seats, item, place, entry),
+            (Some(place), Some(entry)) => entry_target(
+                alloc,
+                table,
+                offset_nodes,
+                item,
+                place,
+                entry,
+            ),
             (None, _) | (Some(_), None) => Ok(Target::Excluded),
         },
     }
@@ -139,15 +146,15 @@ fn target_of(
 pub fn targets_of(
     alloc: Global,
     table: &NameTable,
-    seats: &Groups,
+    offset_nodes: &Groups,
     items: &[Expr],
 ) -> Result<List<Target>, Memory>
     ensures { IfOk result
-        (λ cs. cs ≡ targets_of (table_tree table.now) seats.now (map expr_tree items.now)) }
+        (λ cs. cs ≡ targets_of (table_tree table.now) offset_nodes.now (map expr_tree items.now)) }
 {
     let mut targets = List::new(alloc);
     for item in items {
-        targets.push(target_of(alloc, table, seats, item)?)?;
+        targets.push(target_of(alloc, table, offset_nodes, item)?)?;
     }
     Ok(targets)
 }

@@ -5,7 +5,7 @@ ghost use Rattle.f77_ast.specs.PlainDecl.{data_value_tree};
 ghost use Rattle.storage_data.specs.Initials.{literal_of, run_of, runs_of, values_in};
 
 use crate::numbers::sum;
-use f77_ast::{Constant, Constants, DataValue, Expr, Worth, worth_of};
+use f77_ast::{Constant, ConstantValue, Constants, DataValue, Expr, const_value_of};
 use fx_lists::{List, Text};
 use std::alloc::{AllocError as Memory, Global};
 
@@ -33,9 +33,9 @@ impl Constants for Nameless {
 fn literal_of(e: &Expr) -> Option<Constant>
     ensures { result ≡ literal_of (expr_tree e.now) }
 {
-    match worth_of(e, &Nameless {}) {
-        Worth::Is(constant) => Some(constant),
-        Worth::Faults | Worth::Varies => None,
+    match const_value_of(e, &Nameless {}) {
+        ConstantValue::Is(constant) => Some(constant),
+        ConstantValue::Faults | ConstantValue::Varies => None,
     }
 }
 

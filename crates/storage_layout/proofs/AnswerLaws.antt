@@ -3,7 +3,7 @@ use Rattle.std.proofs.Common.{◌≡◌, List, Option, Result, ap, ◌∙◌, su
 use Rattle.f77_ast.specs.declared.places.Spot.{Spot}
 use Rattle.f77_ast.specs.DeclTrees.{ModuleTree, ParsedTree}
 use Rattle.f77_ast.specs.declared.symbol.Symbol.{Symbol}
-use Rattle.refusal_codes.specs.declared.refusal.Refusal.{Refusal}
+use Rattle.fx_lists.specs.declared.refusal.Refusal.{Refusal}
 use Rattle.f77_names.specs.Lines.{LineTable, lines_of}
 use Rattle.f77_names.specs.Tables.{NameTable, table_of, check_names}
 use Rattle.f77_checks.specs.Parameters.{Valued, decls_valued}

@@ -7,18 +7,18 @@ use Rattle.std.proofs.lemmas.Bool.{or_right as or_true, and_from as and_true}
 use Rattle.f77_ast.specs.Trees.{ExprTree}
 use Rattle.f77_ast.specs.DeclTrees.{EntityTree, CommonTree, DeclTree}
 use Rattle.f77_ast.specs.DeclTrees as decl
-use Rattle.refusal_codes.specs.declared.code.Code.{Code}
-use Rattle.refusal_codes.specs.declared.code.Code.TheVariants.{EquivalenceClash, EquivalenceExtendsBack}
-use Rattle.refusal_codes.specs.declared.refusal.Refusal.{Refusal}
+use Rattle.fx_lists.specs.declared.code.Code.{Code}
+use Rattle.fx_lists.specs.declared.code.Code.TheVariants.{EquivalenceClash, EquivalenceExtendsBack}
+use Rattle.fx_lists.specs.declared.refusal.Refusal.{Refusal}
 use Rattle.f77_names.specs.declared.lines.Sited.TheVariants.{Decl}
-use Rattle.refusal_codes.specs.Refusals.{refuse_if}
+use Rattle.fx_lists.specs.Refusals.{refuse_if}
 use Rattle.f77_names.specs.Lines.{LineTable, line_or}
 use Rattle.f77_names.specs.Entries.{find}
 use Rattle.f77_names.specs.Tables.{NameTable}
-use Rattle.storage_groups.specs.declared.seat.Home.TheVariants.{Block, Own}
-use Rattle.storage_groups.specs.declared.seat.Seat.{Seat}
-use Rattle.storage_groups.specs.Seats.{alone_from, same_home, is_block, begins_before, joined}
-use Rattle.storage_groups.proofs.BlockLaws.{same_home-refl, same_home-is, blocks_stay, blocks_take_groups}
+use Rattle.storage_data.specs.declared.offset_node.Home.TheVariants.{Block, Own}
+use Rattle.storage_data.specs.declared.offset_node.OffsetNode.{OffsetNode}
+use Rattle.storage_data.specs.OffsetNodes.{alone_from, same_home, is_block, begins_before, joined}
+use Rattle.storage_data.proofs.BlockLaws.{same_home-refl, same_home-is, blocks_stay, blocks_take_groups}
 use Rattle.storage_data.specs.Units.{place_of, units_of}
 use Rattle.storage_data.specs.Items.{item_name, item_position}
 use Rattle.storage_layout.specs.declared.blocks.Laid.{Laid}
@@ -29,8 +29,8 @@ use Rattle.storage_layout.specs.Blocks.{block_number, with_block, sits_in_block,
 use Rattle.storage_layout.specs.Equivalences.{may_join, clashes, unit_joined, at_place, named_joined, items_joined, extends_back, place_extends, name_extends, items_extend, begun, group_shared, groups_shared, decl_shared, decls_shared}
 
 -- no variable lies in a block before its first unit
-abbrev pub NoneBefore : List Seat → Type 0
-NoneBefore ss = (n : ℕ) (s : Seat) → slice_get ss n ≡ Some s → is_block s.home ≡ true → pos 0 ≤ℤ s.offset
+abbrev pub NoneBefore : List OffsetNode → Type 0
+NoneBefore ss = (n : ℕ) (s : OffsetNode) → slice_get ss n ≡ Some s → is_block s.home ≡ true → pos 0 ≤ℤ s.offset
 
 -- ---- tests on lists
 
@@ -53,45 +53,45 @@ set_get (y ∷ xs) (suc i) v (suc n) x e = set_get xs i v n x e
 alone_none : (n k : ℕ) → NoneBefore (alone_from n k)
 alone_none n zero zero s e b = cc
 alone_none n zero (suc i) s e b = cc
-alone_none n (suc k) zero s e b = let one : record { home = Own n; offset = pos 0 } ≡ s = cc in let own : is_block s.home ≡ false = ap (λ (r : Seat). is_block r.home) (sym one) in cc
+alone_none n (suc k) zero s e b = let one : record { home = Own n; offset = pos 0 } ≡ s = cc in let own : is_block s.home ≡ false = ap (λ (r : OffsetNode). is_block r.home) (sym one) in cc
 alone_none n (suc k) (suc i) s e b = alone_none (n + 1) k i s e b
 
-block_none : (x : List ℕ) (o : Option ℕ) (l : Laid) → NoneBefore l.seats → NoneBefore (with_block x o l).seats
+block_none : (x : List ℕ) (o : Option ℕ) (l : Laid) → NoneBefore l.offset_nodes → NoneBefore (with_block x o l).offset_nodes
 block_none x None l h = h
 block_none x (Some n) l h = h
 
-at_none : (units place n : ℕ) (o : Option ℕ) (l : Laid) → NoneBefore l.seats → NoneBefore (put_at units place n o l).seats
+at_none : (units place n : ℕ) (o : Option ℕ) (l : Laid) → NoneBefore l.offset_nodes → NoneBefore (put_at units place n o l).offset_nodes
 at_none units place n None l h i s e b = h i s e b
-at_none units place n (Some size) l h i s e b = go (set_get l.seats place (record { home = Block n; offset = pos size }) i s e)
+at_none units place n (Some size) l h i s e b = go (set_get l.offset_nodes place (record { home = Block n; offset = pos size }) i s e)
   where
-    go : (slice_get l.seats i ≡ Some s) ⊎ (record { home = Block n; offset = pos size } ≡ s) → pos 0 ≤ℤ s.offset
+    go : (slice_get l.offset_nodes i ≡ Some s) ⊎ (record { home = Block n; offset = pos size } ≡ s) → pos 0 ≤ℤ s.offset
     go (inl q) = h i s q b
-    go (inr q) = let least : pos 0 ≤ℤ pos size = omega (arith, ints) in subst (λ (r : Seat). pos 0 ≤ℤ r.offset) q least
+    go (inr q) = let least : pos 0 ≤ℤ pos size = omega (arith, ints) in subst (λ (r : OffsetNode). pos 0 ≤ℤ r.offset) q least
 
-there_none : (units place : ℕ) (o : Option ℕ) (l : Laid) → NoneBefore l.seats → NoneBefore (put_there units place o l).seats
+there_none : (units place : ℕ) (o : Option ℕ) (l : Laid) → NoneBefore l.offset_nodes → NoneBefore (put_there units place o l).offset_nodes
 there_none units place None l h = h
 there_none units place (Some n) l h = at_none units place n (slice_get l.sizes n) l h
 
-member_none : (t : NameTable) (block : List ℕ) (e : EntityTree) (o : Option ℕ) (l : Laid) → NoneBefore l.seats → NoneBefore (member_put t block e o l).seats
+member_none : (t : NameTable) (block : List ℕ) (e : EntityTree) (o : Option ℕ) (l : Laid) → NoneBefore l.offset_nodes → NoneBefore (member_put t block e o l).offset_nodes
 member_none t block e None l h = h
-member_none t block e (Some place) l h = go (sits_in_block (slice_get l.seats place))
+member_none t block e (Some place) l h = go (sits_in_block (slice_get l.offset_nodes place))
   where
-    go : (b : Bool) → NoneBefore (let r : Laid = if b then l else put_there (units_of t e.name) place (block_number l.names block) l in r.seats)
+    go : (b : Bool) → NoneBefore (let r : Laid = if b then l else put_there (units_of t e.name) place (block_number l.names block) l in r.offset_nodes)
     go true = h
     go false = there_none (units_of t e.name) place (block_number l.names block) l h
 
-members_none : (t : NameTable) (block : List ℕ) (es : List EntityTree) (l : Laid) → NoneBefore l.seats → NoneBefore (members_put t block es l).seats
+members_none : (t : NameTable) (block : List ℕ) (es : List EntityTree) (l : Laid) → NoneBefore l.offset_nodes → NoneBefore (members_put t block es l).offset_nodes
 members_none t block [] l h = h
 members_none t block (e ∷ es) l h = members_none t block es (member_put t block e (place_of t e.name) l) (member_none t block e (place_of t e.name) l h)
 
-part_none : (t : NameTable) (c : CommonTree) (l : Laid) → NoneBefore l.seats → NoneBefore (part_put t c l).seats
+part_none : (t : NameTable) (c : CommonTree) (l : Laid) → NoneBefore l.offset_nodes → NoneBefore (part_put t c l).offset_nodes
 part_none t c l h = members_none t c.block c.members (with_block c.block (block_number l.names c.block) l) (block_none c.block (block_number l.names c.block) l h)
 
-parts_none : (t : NameTable) (cs : List CommonTree) (l : Laid) → NoneBefore l.seats → NoneBefore (parts_put t cs l).seats
+parts_none : (t : NameTable) (cs : List CommonTree) (l : Laid) → NoneBefore l.offset_nodes → NoneBefore (parts_put t cs l).offset_nodes
 parts_none t [] l h = h
 parts_none t (c ∷ cs) l h = parts_none t cs (part_put t c l) (part_none t c l h)
 
-decl_none : (t : NameTable) (d : DeclTree) (l : Laid) → NoneBefore l.seats → NoneBefore (decl_put t d l).seats
+decl_none : (t : NameTable) (d : DeclTree) (l : Laid) → NoneBefore l.offset_nodes → NoneBefore (decl_put t d l).offset_nodes
 decl_none t (decl.common cs) l h = parts_none t cs l h
 decl_none t (decl.implicit ps) l h = h
 decl_none t (decl.integer es) l h = h
@@ -102,7 +102,7 @@ decl_none t (decl.equivalence gs) l h = h
 decl_none t (decl.save is) l h = h
 decl_none t (decl.initial gs) l h = h
 
-pub decls_none : (t : NameTable) (ds : List DeclTree) (l : Laid) → NoneBefore l.seats → NoneBefore (decls_put t ds l).seats
+pub decls_none : (t : NameTable) (ds : List DeclTree) (l : Laid) → NoneBefore l.offset_nodes → NoneBefore (decls_put t ds l).offset_nodes
 decls_none t [] l h = h
 decls_none t (d ∷ ds) l h = decls_none t ds (decl_put t d l) (decl_none t d l h)
 
@@ -120,12 +120,12 @@ abbrev NamesPlace : NameTable → List ExprTree → ℕ → Type 0
 NamesPlace t all j = (k : ℕ) × (i : ExprTree) × (slice_get all k ≡ Some i) × (place_maybe t (item_name i) ≡ Some j)
 
 -- an item lies in this group
-abbrev LiesWithItem : NameTable → List ExprTree → List Seat → Seat → Type 0
-LiesWithItem t all ss s = (j : ℕ) × (r : Seat) × NamesPlace t all j × (slice_get ss j ≡ Some r) × (r.home ≡ s.home)
+abbrev LiesWithItem : NameTable → List ExprTree → List OffsetNode → OffsetNode → Type 0
+LiesWithItem t all ss s = (j : ℕ) × (r : OffsetNode) × NamesPlace t all j × (slice_get ss j ≡ Some r) × (r.home ≡ s.home)
 
 -- what lies in a block before its first unit lies with an item, and so does the unit that the items share
 record Taken (t : NameTable) (all : List ExprTree) (g : Grouping) : Type 0 where
-  early : (n : ℕ) (s : Seat) → slice_get g.seats n ≡ Some s → is_block s.home ≡ true → s.offset <ℤ pos 0 → LiesWithItem t all g.seats s
+  early : (n : ℕ) (s : OffsetNode) → slice_get g.offset_nodes n ≡ Some s → is_block s.home ≡ true → s.offset <ℤ pos 0 → LiesWithItem t all g.offset_nodes s
   anchored : (a : Anchor) → g.anchor ≡ Some a → NamesPlace t all a.place
 
 clashed : (t : NameTable) (all : List ExprTree) (g : Grouping) → Taken t all g → Taken t all (clashes g)
@@ -138,17 +138,17 @@ unit_step t all g None q place unit names h = record {
 }
 unit_step t all g (Some b) q place unit names h = record { early = after; anchored = h.anchored }
   where
-    after : (n : ℕ) (s : Seat) → slice_get (joined g.seats b.place (pos b.unit) place (pos unit)).seats n ≡ Some s → is_block s.home ≡ true → s.offset <ℤ pos 0 → LiesWithItem t all (joined g.seats b.place (pos b.unit) place (pos unit)).seats s
-    after n s e inside low = go (blocks_take_groups g.seats b.place (pos b.unit) place (pos unit) n s e inside)
+    after : (n : ℕ) (s : OffsetNode) → slice_get (joined g.offset_nodes b.place (pos b.unit) place (pos unit)).offset_nodes n ≡ Some s → is_block s.home ≡ true → s.offset <ℤ pos 0 → LiesWithItem t all (joined g.offset_nodes b.place (pos b.unit) place (pos unit)).offset_nodes s
+    after n s e inside low = go (blocks_take_groups g.offset_nodes b.place (pos b.unit) place (pos unit) n s e inside)
       where
         which : (j : ℕ) → (j ≡ b.place) ⊎ (j ≡ place) → NamesPlace t all j
         which j (inl p) = subst (λ (k : ℕ). NamesPlace t all k) (sym p) (h.anchored b q)
         which j (inr p) = subst (λ (k : ℕ). NamesPlace t all k) (sym p) names
 
-        go : (slice_get g.seats n ≡ Some s) ⊎ ((j : ℕ) × (r : Seat) × ((j ≡ b.place) ⊎ (j ≡ place)) × (slice_get (joined g.seats b.place (pos b.unit) place (pos unit)).seats j ≡ Some r) × (same_home r.home s.home ≡ true)) → LiesWithItem t all (joined g.seats b.place (pos b.unit) place (pos unit)).seats s
+        go : (slice_get g.offset_nodes n ≡ Some s) ⊎ ((j : ℕ) × (r : OffsetNode) × ((j ≡ b.place) ⊎ (j ≡ place)) × (slice_get (joined g.offset_nodes b.place (pos b.unit) place (pos unit)).offset_nodes j ≡ Some r) × (same_home r.home s.home ≡ true)) → LiesWithItem t all (joined g.offset_nodes b.place (pos b.unit) place (pos unit)).offset_nodes s
         go (inl old) =
             let w = h.early n s old inside low in
-            (w.0, w.1, w.2, blocks_stay g.seats b.place (pos b.unit) place (pos unit) w.0 w.1 w.3 (ap is_block w.4 ∙ inside), w.4)
+            (w.0, w.1, w.2, blocks_stay g.offset_nodes b.place (pos b.unit) place (pos unit) w.0 w.1 w.3 (ap is_block w.4 ∙ inside), w.4)
         go (inr (j, r, p, f, same)) = (j, r, which j p, f, same_home-is r.home s.home same)
 
 named_step : (t : NameTable) (all : List ExprTree) (g : Grouping) (k : ℕ) (i : ExprTree) (u : Option ℕ) → slice_get all k ≡ Some i → Taken t all g → Taken t all (named_joined t (item_name i) u g)
@@ -180,39 +180,39 @@ unfolding refuse_if
 noted_none true line c o e = cc
 noted_none false line c o e = (refl, e)
 
-name_back : (t : NameTable) (ss : List Seat) (o : Option (List ℕ)) (j : ℕ) (r : Seat) → place_maybe t o ≡ Some j → slice_get ss j ≡ Some r → extends_back ss (Some r) ≡ true → name_extends t ss o ≡ true
+name_back : (t : NameTable) (ss : List OffsetNode) (o : Option (List ℕ)) (j : ℕ) (r : OffsetNode) → place_maybe t o ≡ Some j → slice_get ss j ≡ Some r → extends_back ss (Some r) ≡ true → name_extends t ss o ≡ true
 name_back t ss None j r p f b = cc
 name_back t ss (Some x) j r p f b = ap (place_extends ss) p ∙ ap (extends_back ss) f ∙ b
 
 -- an item lies in the group of a variable that lies before the first unit of its block
-found_back : (t : NameTable) (is : List ExprTree) (ss : List Seat) (n : ℕ) (s : Seat) → slice_get ss n ≡ Some s → is_block s.home ≡ true → int_lt s.offset (pos 0) ≡ true → LiesWithItem t is ss s → items_extend t ss is ≡ true
+found_back : (t : NameTable) (is : List ExprTree) (ss : List OffsetNode) (n : ℕ) (s : OffsetNode) → slice_get ss n ≡ Some s → is_block s.home ≡ true → int_lt s.offset (pos 0) ≡ true → LiesWithItem t is ss s → items_extend t ss is ≡ true
 found_back t is ss n s e inside low (j, r, (k, i, f, p), at, same) =
     let together : same_home s.home r.home ≡ true = subst (λ h. same_home s.home h ≡ true) (sym same) (same_home-refl s.home) in
-    let before : begins_before ss r.home ≡ true = any_at (λ (q : Seat). same_home q.home r.home && int_lt q.offset (pos 0)) ss n s e (and_true (same_home s.home r.home) (int_lt s.offset (pos 0)) together low) in
+    let before : begins_before ss r.home ≡ true = any_at (λ (q : OffsetNode). same_home q.home r.home && int_lt q.offset (pos 0)) ss n s e (and_true (same_home s.home r.home) (int_lt s.offset (pos 0)) together low) in
     let back : extends_back ss (Some r) ≡ true = and_true (is_block r.home) (begins_before ss r.home) (ap is_block same ∙ inside) before in
     any_at (λ i. name_extends t ss (item_name i)) is k i f (name_back t ss (item_name i) j r p at back)
 
-ends_none : (t : NameTable) (is : List ExprTree) (g : Grouping) → Taken t is g → items_extend t g.seats is ≡ false → NoneBefore g.seats
+ends_none : (t : NameTable) (is : List ExprTree) (g : Grouping) → Taken t is g → items_extend t g.offset_nodes is ≡ false → NoneBefore g.offset_nodes
 ends_none t is g h none n s e inside = go (int_lt s.offset (pos 0)) refl
   where
     go : (b : Bool) → int_lt s.offset (pos 0) ≡ b → pos 0 ≤ℤ s.offset
     go true low =
         let less : s.offset <ℤ pos 0 = grind (arith, ints) in
-        let some = found_back t is g.seats n s e inside low (h.early n s e inside less) in
+        let some = found_back t is g.offset_nodes n s e inside low (h.early n s e inside less) in
         cc
     go false low = grind (arith, ints)
 
 -- where nothing is refused so far no variable lies before its block
 abbrev pub IsSound : Shared → Type 0
-IsSound s = s.late ≡ None → NoneBefore s.group.seats
+IsSound s = s.late ≡ None → NoneBefore s.group.offset_nodes
 
 group_sound : (t : NameTable) (is : List ExprTree) (line : ℕ) (s : Shared) → IsSound s → IsSound (group_shared t is line s)
 group_sound t is line s h e =
-    let last = noted_none (items_extend t (items_joined t is (begun s.group)).seats is) line EquivalenceExtendsBack (refuse_if (items_joined t is (begun s.group)).clash line EquivalenceClash s.late) e in
+    let last = noted_none (items_extend t (items_joined t is (begun s.group)).offset_nodes is) line EquivalenceExtendsBack (refuse_if (items_joined t is (begun s.group)).clash line EquivalenceClash s.late) e in
     let first = noted_none (items_joined t is (begun s.group)).clash line EquivalenceClash s.late last.1 in
     ends_none t is (items_joined t is (begun s.group)) (items_step t is is (begun s.group) (λ k i f. (k, f)) (fresh (h first.1))) last.0
   where
-    fresh : NoneBefore s.group.seats → Taken t is (begun s.group)
+    fresh : NoneBefore s.group.offset_nodes → Taken t is (begun s.group)
     fresh none = record {
       early = λ n r f inside low. (let least = none n r f inside in absurd (omega (arith, ints)));
       anchored = λ a q. cc;

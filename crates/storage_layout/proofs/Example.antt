@@ -9,21 +9,15 @@ use Rattle.f77_ast.specs.DeclTrees.{EntityTree, DeclTree, integer, common, equiv
 use Rattle.f77_ast.specs.declared.symbol.Place.{Place}
 use Rattle.f77_ast.specs.declared.symbol.Place.TheVariants.{Local, Block}
 use Rattle.f77_ast.specs.Symbols.{BoundTree, SymbolTree}
-use Rattle.refusal_codes.specs.declared.code.Code.TheVariants.{EquivalenceExtendsBack, InitialMismatch, TypeMismatch}
-use Rattle.refusal_codes.specs.Refusals.{refuse_if, is_before}
+use Rattle.fx_lists.specs.declared.code.Code.TheVariants.{EquivalenceExtendsBack, InitialMismatch, TypeMismatch}
+use Rattle.fx_lists.specs.Refusals.{refuse_if, is_before}
 use Rattle.f77_names.specs.Entries.{find, place_in}
 use Rattle.f77_names.specs.Functions.{function_of}
 use Rattle.f77_names.specs.Tables.{entry_kind, kind_in}
 use Rattle.storage_layout.specs.Symbols.{laid, shared, filled, symbols_or_refusal, after_shared, lay_shared_and_data, lay_out, valued, checked, check_and_lay_out, symbols_at, symbols_of}
-
-abbrev i : ExprTree
-i = name (codes "I")
-
-abbrev j_at : ExprTree → ExprTree
-j_at e = element (codes "J") (more_exprs e no_exprs)
-
-abbrev scalar_named : List ℕ → EntityTree
-scalar_named x = record { name = x; bounds = [] }
+use Rattle.f77_ast.proofs.Example.{i}
+use Rattle.f77_ast.proofs.ExampleLoops.{j_at}
+use Rattle.f77_names.proofs.Example.{scalar_named}
 
 -- J(5)
 abbrev five : EntityTree

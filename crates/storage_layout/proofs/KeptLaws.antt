@@ -1,7 +1,8 @@
 -- Groups that are kept, one more after another.
 use Rattle.std.proofs.Common.{◌≡◌, Bool, true, false, Option, Some, None, refl, cond}
 use Rattle.std.specs.Prelude.{◌||◌, is_some}
-use Rattle.storage_data.proofs.TestLaws.{or_false, or_assoc}
+use Rattle.storage_data.proofs.TestLaws.{or_false}
+use Rattle.fx_lists.proofs.Booleans.{or_turned as or_assoc}
 
 pub is_some-cond : {A : Type 0} (b : Bool) (x : A) (o : Option A) → is_some (cond b (Some x) o) ≡ (is_some o || b)
 is_some-cond true x None = refl

@@ -7,6 +7,6 @@ pub mod AnswerLaws
 pub mod GroupKeeps
 pub mod GroupLaws
 pub mod StayLaws
-pub mod SeatedLaws
+pub mod IsAssociatedLaws
 pub mod EquivalenceLaws
 pub mod RowLaws

@@ -10,9 +10,9 @@ use Rattle.f77_ast.proofs.NumbersLaws.{number_from-append}
 use Rattle.f77_names.proofs.NamesLaws.{number_from-least}
 use Rattle.f77_names.specs.Entries.{place_in}
 use Rattle.f77_names.specs.Tables.{NameTable}
-use Rattle.storage_groups.specs.declared.seat.Home.TheVariants.{Block}
-use Rattle.storage_groups.specs.declared.seat.Seat.{Seat}
-use Rattle.storage_groups.specs.Seats.{alone_from}
+use Rattle.storage_data.specs.declared.offset_node.Home.TheVariants.{Block}
+use Rattle.storage_data.specs.declared.offset_node.OffsetNode.{OffsetNode}
+use Rattle.storage_data.specs.OffsetNodes.{alone_from}
 use Rattle.storage_data.specs.Units.{place_of, units_of}
 use Rattle.storage_layout.specs.declared.blocks.Laid.{Laid}
 use Rattle.storage_layout.specs.Statements.{Has, commons_in, commons, members_in, members, names_in, common_names}
@@ -20,7 +20,7 @@ use Rattle.storage_layout.specs.Blocks.{block_number, with_block, sits_in_block,
 use Rattle.storage_layout.specs.Symbols.{alone, laid}
 use Rattle.storage_layout.specs.Laws.{AreDistinct, InARow, HasRow, no_block, a_row, MembersLieInARow}
 use Rattle.storage_layout.proofs.StayLaws.{BlocksRemain}
-use Rattle.storage_layout.proofs.SeatedLaws.{free_seat, none_sits}
+use Rattle.storage_layout.proofs.IsAssociatedLaws.{free_offset_node, none_sits}
 
 -- ---- lists
 
@@ -78,11 +78,11 @@ distinct_after t (x ∷ xs) ys d = distinct_after t xs ys d.3
 -- ---- rows
 
 module _ (t : NameTable) where
-  row_more : (ss : List Seat) (n from : ℕ) (xs : List (List ℕ)) (to : ℕ) (x : List ℕ) (k : ℕ) → InARow t ss n from xs to → place_of t x ≡ Some k → slice_get ss k ≡ Some (record { home = Block n; offset = pos to }) → InARow t ss n from (xs ++ x ∷ []) (to + units_of t x)
+  row_more : (ss : List OffsetNode) (n from : ℕ) (xs : List (List ℕ)) (to : ℕ) (x : List ℕ) (k : ℕ) → InARow t ss n from xs to → place_of t x ≡ Some k → slice_get ss k ≡ Some (record { home = Block n; offset = pos to }) → InARow t ss n from (xs ++ x ∷ []) (to + units_of t x)
   row_more ss n from [] to x k h p e = (k, p, e ∙ ap (λ o. Some (record { home = Block n; offset = pos o })) (sym h), ap (λ o. o + units_of t x) h)
   row_more ss n from (y ∷ xs) to x k h p e = (h.0, h.1, h.2, row_more ss n (from + units_of t y) xs to x k h.3 p e)
 
-  pub row_remains : (ss ts : List Seat) (n from : ℕ) (xs : List (List ℕ)) (to : ℕ) → BlocksRemain ss ts → InARow t ss n from xs to → InARow t ts n from xs to
+  pub row_remains : (ss ts : List OffsetNode) (n from : ℕ) (xs : List (List ℕ)) (to : ℕ) → BlocksRemain ss ts → InARow t ss n from xs to → InARow t ts n from xs to
   row_remains ss ts n from [] to r h = h
   row_remains ss ts n from (x ∷ xs) to r h = (h.0, h.1, r h.0 (record { home = Block n; offset = pos from }) h.2 refl, row_remains ss ts n (from + units_of t x) xs to r h.3)
 
@@ -90,7 +90,7 @@ module _ (t : NameTable) where
 
   -- these names are in no block so far
   abbrev Free : List (List ℕ) → Laid → Type 0
-  Free ys l = (y : List ℕ) (j : ℕ) → Has ys y → place_of t y ≡ Some j → sits_in_block (slice_get l.seats j) ≡ false
+  Free ys l = (y : List ℕ) (j : ℕ) → Has ys y → place_of t y ≡ Some j → sits_in_block (slice_get l.offset_nodes j) ≡ false
 
   -- the row of a block so far, and the names that are to come
   record State (b : List ℕ) (ys : List (List ℕ)) (l : Laid) (xs : List (List ℕ)) : Type 0 where
@@ -98,8 +98,8 @@ module _ (t : NameTable) where
     free : Free ys l
     row : HasRow t b l xs
 
-  -- a seat that is free is none of a block
-  free_remains : (ss : List Seat) (place : ℕ) (v : Seat) → sits_in_block (slice_get ss place) ≡ false → BlocksRemain ss (slice_set ss place v)
+  -- an offset node that is free is none of a block
+  free_remains : (ss : List OffsetNode) (place : ℕ) (v : OffsetNode) → sits_in_block (slice_get ss place) ≡ false → BlocksRemain ss (slice_set ss place v)
   free_remains ss place v free k s e inside = set_other ss place k v (λ q. not_here q) ∙ e
     where
       not_here : place ≡ k → ⊥
@@ -110,28 +110,28 @@ module _ (t : NameTable) where
   same_place x y k e f = one_number 0 k (map (λ e. e.name) t.entries) x y e f
 
   -- with one member less to come
-  free_next : (ys : List (List ℕ)) (l : Laid) (x : List ℕ) (k : ℕ) (v : Seat) → place_of t x ≡ Some k → (Has ys x → ⊥) → Free (x ∷ ys) l → (y : List ℕ) (j : ℕ) → Has ys y → place_of t y ≡ Some j → sits_in_block (slice_get (slice_set l.seats k v) j) ≡ false
+  free_next : (ys : List (List ℕ)) (l : Laid) (x : List ℕ) (k : ℕ) (v : OffsetNode) → place_of t x ≡ Some k → (Has ys x → ⊥) → Free (x ∷ ys) l → (y : List ℕ) (j : ℕ) → Has ys y → place_of t y ≡ Some j → sits_in_block (slice_get (slice_set l.offset_nodes k v) j) ≡ false
   free_next ys l x k v p new h y j i q = go (nat_eq k j) refl
     where
-      go : (b : Bool) → nat_eq k j ≡ b → sits_in_block (slice_get (slice_set l.seats k v) j) ≡ false
+      go : (b : Bool) → nat_eq k j ≡ b → sits_in_block (slice_get (slice_set l.offset_nodes k v) j) ≡ false
       go true e = absurd (new (subst (Has ys) (sym (same_place x y k p (q ∙ ap Some (sym (eqb-true k j e))))) i))
-      go false e = ap sits_in_block (set_other l.seats k j v (eqb-false k j e)) ∙ h y j (suc i.0, i.1) q
+      go false e = ap sits_in_block (set_other l.offset_nodes k j v (eqb-false k j e)) ∙ h y j (suc i.0, i.1) q
 
   state_next : (b x : List ℕ) (ys : List (List ℕ)) (l : Laid) (xs : List (List ℕ)) → State b (x ∷ ys) l xs → State b ys l xs
   state_next b x ys l xs st = record { even = st.even; free = λ y j i q. st.free y j (suc i.0, i.1) q; row = st.row }
 
   module _ (b : List ℕ) (block : List ℕ) where
     -- of the block itself
-    own_put : (ys : List (List ℕ)) (l : Laid) (xs : List (List ℕ)) (x : List ℕ) (k n size : ℕ) → place_of t x ≡ Some k → (Has ys x → ⊥) → State b (x ∷ ys) l xs → block_number l.names b ≡ Some n → slice_get l.sizes n ≡ Some size → InARow t l.seats n 0 xs size →
+    own_put : (ys : List (List ℕ)) (l : Laid) (xs : List (List ℕ)) (x : List ℕ) (k n size : ℕ) → place_of t x ≡ Some k → (Has ys x → ⊥) → State b (x ∷ ys) l xs → block_number l.names b ≡ Some n → slice_get l.sizes n ≡ Some size → InARow t l.offset_nodes n 0 xs size →
         State b ys (put_at (units_of t x) k n (Some size) l) (xs ++ x ∷ [])
     own_put ys l xs x k n size p new st is has row =
-        let v : Seat = record { home = Block n; offset = pos size } in
+        let v : OffsetNode = record { home = Block n; offset = pos size } in
         let free = st.free x k (zero, refl) p in
-        let seat = free_seat (slice_get l.seats k) free in
+        let offset_node = free_offset_node (slice_get l.offset_nodes k) free in
         record {
           even = st.even ∙ sym (set_length l.sizes n (size + units_of t x));
           free = free_next ys l x k v p new st.free;
-          row = a_row n (size + units_of t x) is (set_here l.sizes n (size + units_of t x) size has) (row_more (slice_set l.seats k v) n 0 xs size x k (row_remains l.seats (slice_set l.seats k v) n 0 xs size (free_remains l.seats k v free) row) p (set_here l.seats k v seat.0 seat.1));
+          row = a_row n (size + units_of t x) is (set_here l.sizes n (size + units_of t x) size has) (row_more (slice_set l.offset_nodes k v) n 0 xs size x k (row_remains l.offset_nodes (slice_set l.offset_nodes k v) n 0 xs size (free_remains l.offset_nodes k v free) row) p (set_here l.offset_nodes k v offset_node.0 offset_node.1));
         }
 
     -- of another block
@@ -146,12 +146,12 @@ module _ (t : NameTable) where
         go (no_block a c) = no_block a c
         go (a_row n old a c row) =
             a_row n old a (set_other l.sizes m n (size + units_of t x) (λ q. differ (one_number 0 n l.names b block a (is ∙ ap Some q))) ∙ c)
-            (row_remains l.seats (slice_set l.seats k (record { home = Block m; offset = pos size })) n 0 xs old (free_remains l.seats k (record { home = Block m; offset = pos size }) (st.free x k (zero, refl) p)) row)
+            (row_remains l.offset_nodes (slice_set l.offset_nodes k (record { home = Block m; offset = pos size })) n 0 xs old (free_remains l.offset_nodes k (record { home = Block m; offset = pos size }) (st.free x k (zero, refl) p)) row)
 
   -- ---- members
 
-  -- a member with a place and a free seat is put there
-  put_is : (block : List ℕ) (e : EntityTree) (l : Laid) (k : ℕ) → place_of t e.name ≡ Some k → sits_in_block (slice_get l.seats k) ≡ false → member_put t block e (place_of t e.name) l ≡ put_there (units_of t e.name) k (block_number l.names block) l
+  -- a member with a place and a free offset node is put there
+  put_is : (block : List ℕ) (e : EntityTree) (l : Laid) (k : ℕ) → place_of t e.name ≡ Some k → sits_in_block (slice_get l.offset_nodes k) ≡ false → member_put t block e (place_of t e.name) l ≡ put_there (units_of t e.name) k (block_number l.names block) l
   put_is block e l k p free = ap (λ o. member_put t block e o l) p ∙ ap (λ c. if c then l else put_there (units_of t e.name) k (block_number l.names block) l) free
 
   module _ (b : List ℕ) where
@@ -208,7 +208,7 @@ module _ (t : NameTable) where
         is_last none = number_from-append 0 l.names block b none ∙ ap (λ c. if c then Some (0 + length l.names) else number_from 0 l.names b) e ∙ (let z : 0 + length l.names ≡ length l.names = omega arith in ap Some z)
 
         fresh : block_number l.names block ≡ None → HasRow t b l xs → HasRow t b (with_block block None l) xs
-        fresh none (no_block a c) = a_row (length l.names) 0 (is_last none) (ap (slice_get (l.sizes ++ 0 ∷ [])) st.even ∙ get_last l.sizes 0) (subst (λ z. InARow t l.seats (length l.names) 0 z 0) (sym c) refl)
+        fresh none (no_block a c) = a_row (length l.names) 0 (is_last none) (ap (slice_get (l.sizes ++ 0 ∷ [])) st.even ∙ get_last l.sizes 0) (subst (λ z. InARow t l.offset_nodes (length l.names) 0 z 0) (sym c) refl)
         fresh none (a_row n size a has row) = let z : Some n ≡ None = sym a ∙ ap (block_number l.names) same ∙ none in cc
 
         go : (o : Option ℕ) → block_number l.names block ≡ o → Begun ys (with_block block o l) xs

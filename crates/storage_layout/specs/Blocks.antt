@@ -4,9 +4,9 @@ use Rattle.f77_ast.specs.DeclTrees.{EntityTree, CommonTree, DeclTree}
 use Rattle.f77_ast.specs.DeclTrees as decl
 use Rattle.f77_ast.specs.Symbols.{number_from}
 use Rattle.f77_names.specs.Tables.{NameTable}
-use Rattle.storage_groups.specs.declared.seat.Home.TheVariants.{Block}
-use Rattle.storage_groups.specs.declared.seat.Seat.{Seat}
-use Rattle.storage_groups.specs.Seats.{is_block}
+use Rattle.storage_data.specs.declared.offset_node.Home.TheVariants.{Block}
+use Rattle.storage_data.specs.declared.offset_node.OffsetNode.{OffsetNode}
+use Rattle.storage_data.specs.OffsetNodes.{is_block}
 use Rattle.storage_data.specs.Units.{place_of, units_of}
 use Rattle.storage_layout.specs.declared.blocks.Laid.{Laid}
 
@@ -15,10 +15,10 @@ block_number names x = number_from 0 names x
 
 -- the blocks in order of first appearance
 abbrev pub with_block : List ℕ → Option ℕ → Laid → Laid
-with_block x None l = record { seats = l.seats; names = l.names ++ x ∷ []; sizes = l.sizes ++ 0 ∷ [] }
+with_block x None l = record { offset_nodes = l.offset_nodes; names = l.names ++ x ∷ []; sizes = l.sizes ++ 0 ∷ [] }
 with_block x (Some n) l = l
 
-abbrev pub sits_in_block : Option Seat → Bool
+abbrev pub sits_in_block : Option OffsetNode → Bool
 sits_in_block None = true
 sits_in_block (Some s) = is_block s.home
 
@@ -26,7 +26,7 @@ sits_in_block (Some s) = is_block s.home
 abbrev pub put_at : ℕ → ℕ → ℕ → Option ℕ → Laid → Laid
 put_at units place n None l = l
 put_at units place n (Some size) l = record {
-  seats = slice_set l.seats place (record { home = Block n; offset = pos size });
+  offset_nodes = slice_set l.offset_nodes place (record { home = Block n; offset = pos size });
   names = l.names;
   sizes = slice_set l.sizes n (size + units);
 }
@@ -39,7 +39,7 @@ put_there units place (Some n) l = put_at units place n (slice_get l.sizes n) l
 abbrev pub member_put : NameTable → List ℕ → EntityTree → Option ℕ → Laid → Laid
 member_put t block e None l = l
 member_put t block e (Some place) l =
-    if sits_in_block (slice_get l.seats place) then l
+    if sits_in_block (slice_get l.offset_nodes place) then l
     else put_there (units_of t e.name) place (block_number l.names block) l
 
 abbrev pub members_put : NameTable → List ℕ → List EntityTree → Laid → Laid

@@ -5,14 +5,14 @@ use Rattle.std.specs.List.{list_any}
 use Rattle.f77_ast.specs.Trees.{ExprTree}
 use Rattle.f77_ast.specs.DeclTrees.{DeclTree}
 use Rattle.f77_ast.specs.DeclTrees as decl
-use Rattle.refusal_codes.specs.declared.code.Code.TheVariants.{EquivalenceClash, EquivalenceExtendsBack}
+use Rattle.fx_lists.specs.declared.code.Code.TheVariants.{EquivalenceClash, EquivalenceExtendsBack}
 use Rattle.f77_names.specs.declared.lines.Sited.TheVariants.{Decl}
-use Rattle.refusal_codes.specs.Refusals.{refuse_if}
+use Rattle.fx_lists.specs.Refusals.{refuse_if}
 use Rattle.f77_names.specs.Lines.{LineTable, line_or}
 use Rattle.f77_names.specs.Entries.{EntryTree, find, of_entry}
 use Rattle.f77_names.specs.Tables.{NameTable}
-use Rattle.storage_groups.specs.declared.seat.Seat.{Seat}
-use Rattle.storage_groups.specs.Seats.{Joined, joined, is_block, begins_before}
+use Rattle.storage_data.specs.declared.offset_node.OffsetNode.{OffsetNode}
+use Rattle.storage_data.specs.OffsetNodes.{Joined, joined, is_block, begins_before}
 use Rattle.storage_layout.specs.declared.equivalences.Anchor.{Anchor}
 use Rattle.storage_layout.specs.declared.equivalences.Grouping.{Grouping}
 use Rattle.storage_layout.specs.declared.equivalences.Shared.{Shared}
@@ -27,11 +27,11 @@ abbrev pub clashes : Grouping → Grouping
 clashes g = record g { clash = true }
 
 abbrev pub after_join : Joined → Grouping → Grouping
-after_join j g = record { seats = j.seats; anchor = g.anchor; clash = g.clash || j.clash }
+after_join j g = record { offset_nodes = j.offset_nodes; anchor = g.anchor; clash = g.clash || j.clash }
 
 abbrev pub unit_joined : Option Anchor → ℕ → ℕ → Grouping → Grouping
 unit_joined None place unit g = record g { anchor = Some (record { place = place; unit = unit }) }
-unit_joined (Some a) place unit g = after_join (joined g.seats a.place (pos a.unit) place (pos unit)) g
+unit_joined (Some a) place unit g = after_join (joined g.offset_nodes a.place (pos a.unit) place (pos unit)) g
 
 abbrev pub at_place : Option ℕ → Option ℕ → Grouping → Grouping
 at_place None unit g = clashes g
@@ -49,31 +49,31 @@ items_joined t (i ∷ is) g = items_joined t is (named_joined t (item_name i) (i
 -- ---- refusals
 
 -- the variable's group is a block's, and begins before the block
-abbrev pub extends_back : List Seat → Option Seat → Bool
+abbrev pub extends_back : List OffsetNode → Option OffsetNode → Bool
 extends_back ss None = false
 extends_back ss (Some s) = is_block s.home && begins_before ss s.home
 
-abbrev pub place_extends : List Seat → Option ℕ → Bool
+abbrev pub place_extends : List OffsetNode → Option ℕ → Bool
 place_extends ss None = false
 place_extends ss (Some n) = extends_back ss (slice_get ss n)
 
-abbrev pub name_extends : NameTable → List Seat → Option (List ℕ) → Bool
+abbrev pub name_extends : NameTable → List OffsetNode → Option (List ℕ) → Bool
 name_extends t ss None = false
 name_extends t ss (Some x) = place_extends ss (place_of t x)
 
-abbrev pub items_extend : NameTable → List Seat → List ExprTree → Bool
+abbrev pub items_extend : NameTable → List OffsetNode → List ExprTree → Bool
 items_extend t ss is = list_any (λ i. name_extends t ss (item_name i)) is
 
 -- no item yet
 abbrev pub begun : Grouping → Grouping
-begun g = record { seats = g.seats; anchor = None; clash = false }
+begun g = record { offset_nodes = g.offset_nodes; anchor = None; clash = false }
 
 -- the second refusal is the first of those that come after all others
 abbrev pub after_items : NameTable → List ExprTree → ℕ → Grouping → Shared → Shared
 after_items t is line g s = record {
   group = g;
   found = check_items t is line s.found;
-  late = refuse_if (items_extend t g.seats is) line EquivalenceExtendsBack (refuse_if g.clash line EquivalenceClash s.late);
+  late = refuse_if (items_extend t g.offset_nodes is) line EquivalenceExtendsBack (refuse_if g.clash line EquivalenceClash s.late);
 }
 
 abbrev pub group_shared : NameTable → List ExprTree → ℕ → Shared → Shared

@@ -2,8 +2,8 @@
 use Rattle.std.specs.Prelude.{◌≡◌, ℕ, List, map, Result, Ok, Err}
 use Rattle.f77_ast.specs.declared.symbol.Symbol.{Symbol}
 use Rattle.f77_ast.specs.Symbols.{SymbolTree, symbol_tree}
-use Rattle.refusal_codes.specs.declared.refusal.Refusal.{Refusal}
-use Rattle.refusal_codes.specs.Refusals.{number_of}
+use Rattle.fx_lists.specs.declared.refusal.Refusal.{Refusal}
+use Rattle.fx_lists.specs.Refusals.{number_of}
 use Rattle.storage_layout.specs.declared.refusal.LayoutRefusal.{LayoutRefusal}
 use Rattle.storage_layout.specs.declared.refusal.LayoutRefusal.TheVariants.{At, Memory}
 

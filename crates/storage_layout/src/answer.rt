@@ -16,11 +16,9 @@ use crate::table::is_save_all;
 use f77_ast::{Decl, Module, Parsed, Symbols};
 use f77_checks::{check_list, check_shapes, parameters_valued};
 use f77_names::{LineTable, NameTable, table_of};
-use fx_lists::{List, Text};
-use refusal_codes::Refusal;
+use fx_lists::{List, Refusal, Text};
 use std::alloc::{AllocError as Memory, Global};
-use storage_data::{Filled, as_number};
-use storage_groups::Groups;
+use storage_data::{Filled, Groups, as_number};
 
 /// Where the names lie after COMMON.
 #[tactic(auto, unfolding(crate::specs::Symbols::laid))]
@@ -29,7 +27,7 @@ fn lay_common(alloc: Global, table: &NameTable, decls: &[Decl]) -> Result<Laid, 
 {
     let count = as_number(table.names.as_slice().len())?;
     let mut laid = Laid {
-        seats: Groups::singletons(alloc, count)?,
+        offset_nodes: Groups::singletons(alloc, count)?,
         names: List::new(alloc),
         sizes: List::new(alloc),
     };
@@ -44,14 +42,14 @@ fn lay_equivalence(
     table: &NameTable,
     lines: &LineTable,
     decls: &[Decl],
-    seats: Groups,
+    offset_nodes: Groups,
     found: Option<Refusal>,
 ) -> Result<Shared, Memory>
     ensures { IfOk result
-        (λ s. s ≡ shared (table_tree table.now) (line_in lines.now) (map decl_tree decls.now) seats found) }
+        (λ s. s ≡ shared (table_tree table.now) (line_in lines.now) (map decl_tree decls.now) offset_nodes found) }
 {
     let group = Grouping {
-        seats,
+        offset_nodes,
         anchor: None,
         clash: false,
     };
@@ -69,16 +67,16 @@ fn lay_equivalence(
 fn lay_data(
     alloc: Global,
     table: &NameTable,
-    seats: &Groups,
+    offset_nodes: &Groups,
     lines: &LineTable,
     decls: &[Decl],
     found: Option<Refusal>,
 ) -> Result<Filled, Memory>
     ensures { IfOk result
-        (λ f. f ≡ filled (table_tree table.now) seats.now (line_in lines.now) (map decl_tree decls.now) found) }
+        (λ f. f ≡ filled (table_tree table.now) offset_nodes.now (line_in lines.now) (map decl_tree decls.now) found) }
 {
     let mut filled = Filled::new(alloc, found);
-    filled.fill_decls(alloc, table, seats, lines, decls)?;
+    filled.fill_decls(alloc, table, offset_nodes, lines, decls)?;
     Ok(filled)
 }
 
@@ -89,12 +87,12 @@ fn symbols_or_refusal(
     table: &NameTable,
     decls: &[Decl],
     names: &List<Text>,
-    seats: &Groups,
+    offset_nodes: &Groups,
     late: Option<Refusal>,
     filled: &Filled,
 ) -> Result<Symbols, LayoutRefusal>
     ensures { Gives result
-        (symbols_or_refusal (table_tree table.now) (map decl_tree decls.now) names.now seats.now late filled.now) }
+        (symbols_or_refusal (table_tree table.now) (map decl_tree decls.now) names.now offset_nodes.now late filled.now) }
 {
     match (filled.found, late) {
         (Some(refusal), _) | (None, Some(refusal)) => {
@@ -102,7 +100,7 @@ fn symbols_or_refusal(
         }
         (None, None) => {
             let save_all = is_save_all(decls);
-            let layout = Layout::of(alloc, table, seats, names, &filled.pieces, save_all)?;
+            let layout = Layout::of(alloc, table, offset_nodes, names, &filled.pieces, save_all)?;
             Ok(layout.symbols_in(alloc)?)
         }
     }
@@ -122,14 +120,22 @@ fn lay_shared_and_data(
         (lay_shared_and_data (table_tree table.now) (line_in lines.now) (map decl_tree decls.now) found laid) }
 {
     let Laid {
-        seats,
+        offset_nodes,
         names,
         sizes: _,
     } = laid;
-    let shared = lay_equivalence(alloc, table, lines, decls, seats, found)?;
-    let seats = &shared.group.seats;
-    let filled = lay_data(alloc, table, seats, lines, decls, shared.found)?;
-    symbols_or_refusal(alloc, table, decls, &names, seats, shared.late, &filled)
+    let shared = lay_equivalence(alloc, table, lines, decls, offset_nodes, found)?;
+    let offset_nodes = &shared.group.offset_nodes;
+    let filled = lay_data(alloc, table, offset_nodes, lines, decls, shared.found)?;
+    symbols_or_refusal(
+        alloc,
+        table,
+        decls,
+        &names,
+        offset_nodes,
+        shared.late,
+        &filled,
+    )
 }
 
 /// Lays COMMON, EQUIVALENCE and DATA out, in this order. Refusals of EQUIVALENCE come after all others.

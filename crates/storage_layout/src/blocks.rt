@@ -8,14 +8,13 @@ use f77_ast::{CommonPart, Decl, Entity};
 use f77_names::NameTable;
 use fx_lists::{List, Text};
 use std::alloc::{AllocError as Memory, Global};
-use storage_data::{as_number, as_offset, sum, units_of};
-use storage_groups::{Groups, Home, Seat};
+use storage_data::{Groups, Home, OffsetNode, as_number, as_offset, sum, units_of};
 
-/// The layout so far: the seats of the names, by their places from 0 in the table of names; the names of the blocks in order of
+/// The layout so far: the offset nodes of the names, by their places from 0 in the table of names; the names of the blocks in order of
 /// first appearance; and how many units each block has.
 #[derive(Drop)]
 pub struct Laid {
-    pub seats: Groups,
+    pub offset_nodes: Groups,
     pub names: List<Text>,
     pub sizes: List<u64>,
 }
@@ -64,9 +63,9 @@ impl Laid {
         let number = as_number(block)?;
         let offset = as_offset(size)?;
         self.sizes.set(block, sum(size, units)?);
-        self.seats.put(
+        self.offset_nodes.put(
             place,
-            Seat {
+            OffsetNode {
                 home: Home::Block(number),
                 offset,
             },
@@ -75,11 +74,11 @@ impl Laid {
     }
 
     fn sits_in_block(&self, place: usize) -> bool
-        ensures { result ≡ sits_in_block (slice_get self.now.seats place) }
+        ensures { result ≡ sits_in_block (slice_get self.now.offset_nodes place) }
     {
-        match self.seats.seat(place) {
+        match self.offset_nodes.offset_node(place) {
             None => true,
-            Some(seat) => seat.home.is_block(),
+            Some(offset_node) => offset_node.home.is_block(),
         }
     }
 

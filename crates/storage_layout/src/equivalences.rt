@@ -11,11 +11,9 @@ ghost use Rattle.storage_layout.specs.Equivalences.{begun, decl_shared, decls_sh
 use f77_ast::{Decl, Expr};
 use f77_checks::decl_line;
 use f77_names::{LineTable, NameTable};
-use fx_lists::{List, Text};
-use refusal_codes::{Code, Refusal, refuse_if};
+use fx_lists::{Code, List, Refusal, Text, refuse_if};
 use std::alloc::{AllocError as Memory, Global};
-use storage_data::{as_offset, check_items, item_name, item_position};
-use storage_groups::{Groups, Seat};
+use storage_data::{Groups, OffsetNode, as_offset, check_items, item_name, item_position};
 
 /// A unit of a variable: the place of its name in the table of names, from 0, and the unit, from 0 in the variable.
 #[derive(Clone, Copy)]
@@ -24,11 +22,11 @@ pub struct Anchor {
     pub unit: u64,
 }
 
-/// The seats of the names, and of the current list of an EQUIVALENCE the unit that its items share, None before the first, and
+/// The offset nodes of the names, and of the current list of an EQUIVALENCE the unit that its items share, None before the first, and
 /// whether an item clashes: with earlier joins, as a dummy or PARAMETER, or by its subscripts.
 #[derive(Drop)]
 pub struct Grouping {
-    pub seats: Groups,
+    pub offset_nodes: Groups,
     pub anchor: Option<Anchor>,
     pub clash: bool,
 }
@@ -53,7 +51,7 @@ fn join_unit(group: &mut Grouping, place: usize, unit: u64) -> Result<(), Memory
         Some(anchor) => {
             let first = as_offset(anchor.unit)?;
             let second = as_offset(unit)?;
-            match group.seats.join(anchor.place, first, place, second) {
+            match group.offset_nodes.join(anchor.place, first, place, second) {
                 None => Err(Memory),
                 Some(clash) => {
                     group.clash = group.clash || clash;
@@ -131,33 +129,34 @@ fn join_items(
 }
 
 /// Whether a variable lies in a block that begins before its first unit.
-fn extends_back(seats: &Groups, seat: Option<Seat>) -> bool
-    ensures { result ≡ extends_back seats.now seat }
+fn extends_back(offset_nodes: &Groups, offset_node: Option<OffsetNode>) -> bool
+    ensures { result ≡ extends_back offset_nodes.now offset_node }
 {
-    match seat {
+    match offset_node {
         None => false,
-        Some(seat) => seat.home.is_block() && seats.begins_before(seat.home),
+        Some(offset_node) => offset_node.home.is_block()
+            && offset_nodes.begins_before(offset_node.home),
     }
 }
 
-fn item_extends(table: &NameTable, seats: &Groups, item: &Expr) -> bool
-    ensures { result ≡ name_extends (table_tree table.now) seats.now (item_name (expr_tree item.now)) }
+fn item_extends(table: &NameTable, offset_nodes: &Groups, item: &Expr) -> bool
+    ensures { result ≡ name_extends (table_tree table.now) offset_nodes.now (item_name (expr_tree item.now)) }
 {
     match item_name(item) {
         None => false,
         Some(name) => match table.names.place(name) {
             None => false,
-            Some(place) => extends_back(seats, seats.seat(place)),
+            Some(place) => extends_back(offset_nodes, offset_nodes.offset_node(place)),
         },
     }
 }
 
 #[tactic(auto, using(f77_ast::proofs::PlainlyDecl::decl_lists))]
-fn items_extend(table: &NameTable, seats: &Groups, items: &[Expr]) -> bool
-    ensures { result ≡ items_extend (table_tree table.now) seats.now (map expr_tree items.now) }
+fn items_extend(table: &NameTable, offset_nodes: &Groups, items: &[Expr]) -> bool
+    ensures { result ≡ items_extend (table_tree table.now) offset_nodes.now (map expr_tree items.now) }
 {
     for item in items {
-        if item_extends(table, seats, item) {
+        if item_extends(table, offset_nodes, item) {
             return true;
         }
     }
@@ -184,7 +183,7 @@ impl Shared {
     {
         begin(&mut self.group);
         join_items(alloc, table, items, &mut self.group)?;
-        let back = items_extend(table, &self.group.seats, items);
+        let back = items_extend(table, &self.group.offset_nodes, items);
         let late = refuse_if(self.group.clash, line, Code::EquivalenceClash, self.late);
         self.late = refuse_if(back, line, Code::EquivalenceExtendsBack, late);
         self.found = check_items(table, items, line, self.found);

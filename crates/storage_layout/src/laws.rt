@@ -1,4 +1,4 @@
-//! What the seats of names keep of COMMON and EQUIVALENCE.
+//! What the offset nodes of names keep of COMMON and EQUIVALENCE.
 ghost use Rattle.storage_layout.specs.Laws.{EquivalencesCoincide, MembersLieInARow};
 
 /// The law that the members of each COMMON block lie in a row in the order of the text.

@@ -9,7 +9,7 @@ use indexmap::IndexSet;
 use std::alloc::{AllocError as Memory, Global};
 use std::collections::HashMap;
 use std::marker::Model;
-use storage_groups::{Groups, Home, Seat};
+use storage_data::{Groups, Home, OffsetNode};
 
 /// Storage groups of locals in the order of their first symbols, each by the number of the variable that it began with. A group
 /// is looked up in constant time.
@@ -62,15 +62,15 @@ impl Numbering {
         Ok(())
     }
 
-    fn add_entry(&mut self, entry: &Entry, seat: Option<Seat>) -> Result<(), Memory>
-        ensures { OnOk result (self.new ≡ with_entry (entry_tree entry.now) seat self.old) }
+    fn add_entry(&mut self, entry: &Entry, offset_node: Option<OffsetNode>) -> Result<(), Memory>
+        ensures { OnOk result (self.new ≡ with_entry (entry_tree entry.now) offset_node self.old) }
     {
         if entry.dummy.is_some() || entry.parameter {
             return Ok(());
         }
-        match seat {
+        match offset_node {
             None => Ok(()),
-            Some(seat) => match seat.home {
+            Some(offset_node) => match offset_node.home {
                 Home::Block(_) => Ok(()),
                 Home::Own(began) => self.add(began),
             },
@@ -80,28 +80,32 @@ impl Numbering {
     /// The groups of the locals among these names, in the order of the names. Dummies, PARAMETER names and variables in blocks
     /// give none. Err also where there are 2^32 - 1 groups.
     #[tactic(auto, using(f77_ast::proofs::PlainlyDecl::decl_lists))]
-    pub fn of(alloc: Global, entries: &[Entry], seats: &Groups) -> Result<Numbering, Memory>
-        ensures { IfOk result (λ n. n ≡ groups_from 0 (map entry_tree entries.now) seats.now []) }
+    pub fn of(alloc: Global, entries: &[Entry], offset_nodes: &Groups) -> Result<Numbering, Memory>
+        ensures { IfOk result (λ n. n ≡ groups_from 0 (map entry_tree entries.now) offset_nodes.now []) }
     {
         let mut numbering = Numbering::new(alloc);
         for (place, entry) in entries.iter().enumerate() {
-            numbering.add_entry(entry, seats.seat(place))?;
+            numbering.add_entry(entry, offset_nodes.offset_node(place))?;
         }
         Ok(numbering)
     }
 }
 
 #[tactic(auto, using(crate::proofs::KeptLaws::kept_steps))]
-fn keep(kept: &mut HashMap<u32, bool>, entry: &Entry, seat: Option<Seat>) -> Result<(), Memory>
+fn keep(
+    kept: &mut HashMap<u32, bool>,
+    entry: &Entry,
+    offset_node: Option<OffsetNode>,
+) -> Result<(), Memory>
     ensures { OnOk result
-        ((h : ℕ) → is_some (get nat_eq kept.new h) ≡ (is_some (get nat_eq kept.old h) || keeps h (entry_tree entry.now) seat)) }
+        ((h : ℕ) → is_some (get nat_eq kept.new h) ≡ (is_some (get nat_eq kept.old h) || keeps h (entry_tree entry.now) offset_node)) }
 {
     if !(entry.saved || entry.initial) {
         return Ok(());
     }
-    match seat {
+    match offset_node {
         None => Ok(()),
-        Some(seat) => match seat.home {
+        Some(offset_node) => match offset_node.home {
             Home::Block(_) => Ok(()),
             Home::Own(began) => match kept.insert(began, true) {
                 Ok(_) => Ok(()),
@@ -117,14 +121,14 @@ fn keep(kept: &mut HashMap<u32, bool>, entry: &Entry, seat: Option<Seat>) -> Res
 pub fn kept_groups(
     alloc: Global,
     entries: &[Entry],
-    seats: &Groups,
+    offset_nodes: &Groups,
 ) -> Result<HashMap<u32, bool>, Memory>
     ensures { IfOk result
-        (λ m. (h : ℕ) → is_some (get nat_eq m h) ≡ some_keeps h 0 (map entry_tree entries.now) seats.now) }
+        (λ m. (h : ℕ) → is_some (get nat_eq m h) ≡ some_keeps h 0 (map entry_tree entries.now) offset_nodes.now) }
 {
     let mut kept = HashMap::new(alloc);
     for (place, entry) in entries.iter().enumerate() {
-        keep(&mut kept, entry, seats.seat(place))?;
+        keep(&mut kept, entry, offset_nodes.offset_node(place))?;
     }
     Ok(kept)
 }

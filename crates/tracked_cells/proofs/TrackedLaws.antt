@@ -10,14 +10,15 @@ use Rattle.f77_ast.specs.Symbols.{SymbolTree}
 use Rattle.f77_ast.specs.declared.symbol.Place.{Place}
 use Rattle.f77_ast.specs.declared.symbol.Place.TheVariants.{Block}
 use Rattle.tracked_cells.specs.Equivalences.{equivalenced_names}
-use Rattle.tracked_cells.specs.Standing.{is_plain, stands_at, spoils_at, two_at, spoils}
+use Rattle.tracked_cells.specs.Standing.{is_plain, stands_at, untracks_at, two_at, untracks}
 use Rattle.tracked_cells.specs.Scalars.{all_scalars}
-use Rattle.tracked_cells.specs.Untracked.{some_spoils, equivalenced_names_of_all, begin_of}
+use Rattle.tracked_cells.specs.Untracked.{some_untracks, equivalenced_names_of_all, begin_of}
 use Rattle.tracked_cells.specs.Tracked.{is_unit}
 use Rattle.tracked_cells.specs.Laws.{among, TrackedUnitsArePlain}
+use Rattle.fx_lists.proofs.Booleans.{plain_from}
 
 -- what holds of a unit holds of the one that is it
-of_unit : (f : Place → Bool) (u v : BlockUnit) → is_unit u.block u.offset v ≡ true → f (begin_of v) ≡ false → f (begin_of u) ≡ false
+pub of_unit : (f : Place → Bool) (u v : BlockUnit) → is_unit u.block u.offset v ≡ true → f (begin_of v) ≡ false → f (begin_of u) ≡ false
 of_unit f u v e h =
     let parts = and-true (bytes_eq u.block v.block) (nat_eq u.offset v.offset) e in
     let b : u.block ≡ v.block = (bytes_decides u.block v.block).0 parts.0 in
@@ -25,7 +26,7 @@ of_unit f u v e h =
     subst (λ x. f (Block x u.offset) ≡ false) (sym b) (subst (λ k. f (Block v.block k) ≡ false) (sym o) h)
 
 -- a unit of a list that a test leaves out fails the test
-left_out : (f : Place → Bool) (u : BlockUnit) (us : List BlockUnit) → among u us ≡ true → among u (filter (λ v. f (begin_of v)) us) ≡ false → f (begin_of u) ≡ false
+pub left_out : (f : Place → Bool) (u : BlockUnit) (us : List BlockUnit) → among u us ≡ true → among u (filter (λ v. f (begin_of v)) us) ≡ false → f (begin_of u) ≡ false
 left_out f u [] e h = cc
 left_out f u (v ∷ us) e h = go (is_unit u.block u.offset v) (f (begin_of v)) refl refl e h (left_out f u us)
   where
@@ -36,34 +37,29 @@ left_out f u (v ∷ us) e h = go (is_unit u.block u.offset v) (f (begin_of v)) r
     go false true is t e h ih = ih e (or-false (is_unit u.block u.offset v) (among u (filter (λ w. f (begin_of w)) us)) h).1
     go false false is t e h ih = ih e h
 
--- no module spoils it
-unspoilt : (ps : List ParsedTree) (sss : List (List SymbolTree)) (at : Place) → some_spoils (equivalenced_names_of_all ps) sss at ≡ false → (k : ℕ) (p : ParsedTree) (ss : List SymbolTree) → slice_get ps k ≡ Some p → slice_get sss k ≡ Some ss → spoils (equivalenced_names p.module_read) ss at ≡ false
-unspoilt [] sss at e k p ss a b = cc
-unspoilt (q ∷ ps) [] at e k p ss a b = cc
-unspoilt (q ∷ ps) (ts ∷ sss) at e zero p ss a b =
-    let parts = or-false (spoils (equivalenced_names q.module_read) ts at) (some_spoils (equivalenced_names_of_all ps) sss at) e in
+-- no module untracks it
+pub trackable : (ps : List ParsedTree) (sss : List (List SymbolTree)) (at : Place) → some_untracks (equivalenced_names_of_all ps) sss at ≡ false → (k : ℕ) (p : ParsedTree) (ss : List SymbolTree) → slice_get ps k ≡ Some p → slice_get sss k ≡ Some ss → untracks (equivalenced_names p.module_read) ss at ≡ false
+trackable [] sss at e k p ss a b = cc
+trackable (q ∷ ps) [] at e k p ss a b = cc
+trackable (q ∷ ps) (ts ∷ sss) at e zero p ss a b =
+    let parts = or-false (untracks (equivalenced_names q.module_read) ts at) (some_untracks (equivalenced_names_of_all ps) sss at) e in
     let x : q ≡ p = cc in
     let y : ts ≡ ss = cc in
-    subst (λ (z : ParsedTree). spoils (equivalenced_names z.module_read) ss at ≡ false) x
-    (subst (λ (z : List SymbolTree). spoils (equivalenced_names q.module_read) z at ≡ false) y parts.0)
-unspoilt (q ∷ ps) (ts ∷ sss) at e (suc k) p ss a b =
-    unspoilt ps sss at (or-false (spoils (equivalenced_names q.module_read) ts at) (some_spoils (equivalenced_names_of_all ps) sss at) e).1 k p ss a b
+    subst (λ (z : ParsedTree). untracks (equivalenced_names z.module_read) ss at ≡ false) x
+    (subst (λ (z : List SymbolTree). untracks (equivalenced_names q.module_read) z at ≡ false) y parts.0)
+trackable (q ∷ ps) (ts ∷ sss) at e (suc k) p ss a b =
+    trackable ps sss at (or-false (untracks (equivalenced_names q.module_read) ts at) (some_untracks (equivalenced_names_of_all ps) sss at) e).1 k p ss a b
 
-none_of : (f : SymbolTree → Bool) (ss : List SymbolTree) → list_any f ss ≡ false → (n : ℕ) (s : SymbolTree) → slice_get ss n ≡ Some s → f s ≡ false
+pub none_of : (f : SymbolTree → Bool) (ss : List SymbolTree) → list_any f ss ≡ false → (n : ℕ) (s : SymbolTree) → slice_get ss n ≡ Some s → f s ≡ false
 none_of f [] e n s a = cc
 none_of f (t ∷ ss) e zero s a =
     let x : t ≡ s = cc in subst (λ (z : SymbolTree). f z ≡ false) x (or-false (f t) (list_any f ss) e).0
 none_of f (t ∷ ss) e (suc n) s a = none_of f ss (or-false (f t) (list_any f ss) e).1 n s a
 
-plain_from : (a b : Bool) → (a && not b) ≡ false → a ≡ true → b ≡ true
-plain_from true true e h = refl
-plain_from true false e h = cc
-plain_from false b e h = cc
-
 pub are_plain : TrackedUnitsArePlain
 are_plain ps sss u there out k p ss a b n s at stands =
     let names = equivalenced_names p.module_read in
-    let calm : some_spoils (equivalenced_names_of_all ps) sss (begin_of u) ≡ false = left_out (λ v. some_spoils (equivalenced_names_of_all ps) sss v) u (all_scalars sss []) there out in
-    let alone : spoils names ss (begin_of u) ≡ false = unspoilt ps sss (begin_of u) calm k p ss a b in
-    let none = (or-false (list_any (spoils_at names ss (begin_of u)) ss) (two_at ss (begin_of u) ss) alone).0 in
-    plain_from (stands_at ss (begin_of u) s) (is_plain names s) (none_of (spoils_at names ss (begin_of u)) ss none n s at) stands
+    let calm : some_untracks (equivalenced_names_of_all ps) sss (begin_of u) ≡ false = left_out (λ v. some_untracks (equivalenced_names_of_all ps) sss v) u (all_scalars sss []) there out in
+    let alone : untracks names ss (begin_of u) ≡ false = trackable ps sss (begin_of u) calm k p ss a b in
+    let none = (or-false (list_any (untracks_at names ss (begin_of u)) ss) (two_at ss (begin_of u) ss) alone).0 in
+    plain_from (stands_at ss (begin_of u) s) (is_plain names s) (none_of (untracks_at names ss (begin_of u)) ss none n s at) stands

@@ -57,8 +57,8 @@ abbrev pub stands_at : List SymbolTree → Place → SymbolTree → Bool
 stands_at ss at s = place_has s.place (units_in ss s) at
 
 -- a variable has a unit and is no INTEGER scalar, or is one of these names
-abbrev pub spoils_at : List (List ℕ) → List SymbolTree → Place → SymbolTree → Bool
-spoils_at names ss at s = stands_at ss at s && not (is_plain names s)
+abbrev pub untracks_at : List (List ℕ) → List SymbolTree → Place → SymbolTree → Bool
+untracks_at names ss at s = stands_at ss at s && not (is_plain names s)
 
 -- two of these are at the unit
 abbrev pub two_at : List SymbolTree → Place → List SymbolTree → Bool
@@ -67,5 +67,5 @@ two_at ss at (s ∷ rest) = if stands_at ss at s then list_any (stands_at ss at)
 
 -- a module with these names in its EQUIVALENCEs has at a unit a variable that is no INTEGER scalar or is one of them, or two
 -- variables
-abbrev pub spoils : List (List ℕ) → List SymbolTree → Place → Bool
-spoils names ss at = list_any (spoils_at names ss at) ss || two_at ss at ss
+abbrev pub untracks : List (List ℕ) → List SymbolTree → Place → Bool
+untracks names ss at = list_any (untracks_at names ss at) ss || two_at ss at ss

@@ -7,14 +7,14 @@ use Rattle.f77_ast.specs.declared.symbol.Place.TheVariants.{Local, Dummy, Block,
 use Rattle.f77_ast.specs.declared.variable.Unit.{Unit as BlockUnit}
 use Rattle.f77_ast.specs.Symbols.{SymbolTree}
 use Rattle.tracked_cells.specs.Equivalences.{equivalenced_names}
-use Rattle.tracked_cells.specs.Standing.{is_plain, spoils}
+use Rattle.tracked_cells.specs.Standing.{is_plain, untracks}
 
 abbrev pub is_unit : List ℕ → ℕ → BlockUnit → Bool
 is_unit x o u = bytes_eq x u.block && nat_eq o u.offset
 
 -- nothing else has the unit at this place: in the module, or, in a block, in any module of the program; two dummies never share
 abbrev pub is_alone : List (List ℕ) → List SymbolTree → List BlockUnit → Place → Bool
-is_alone names ss untracked (Local g o) = not (spoils names ss (Local g o))
+is_alone names ss untracked (Local g o) = not (untracks names ss (Local g o))
 is_alone names ss untracked (Dummy n) = true
 is_alone names ss untracked (Block x o) = not (list_any (is_unit x o) untracked)
 is_alone names ss untracked (Constant n) = false

@@ -6,14 +6,14 @@ use Rattle.f77_ast.specs.declared.symbol.Place.TheVariants.{Block}
 use Rattle.f77_ast.specs.declared.variable.Unit.{Unit as BlockUnit}
 use Rattle.f77_ast.specs.Symbols.{SymbolTree}
 use Rattle.tracked_cells.specs.Equivalences.{equivalenced_names}
-use Rattle.tracked_cells.specs.Standing.{spoils}
+use Rattle.tracked_cells.specs.Standing.{untracks}
 use Rattle.tracked_cells.specs.Scalars.{all_scalars}
 
--- some module, of those with these names in their EQUIVALENCEs and these symbols, spoils a unit
-abbrev pub some_spoils : List (List (List ℕ)) → List (List SymbolTree) → Place → Bool
-some_spoils [] sss at = false
-some_spoils (names ∷ more) [] at = false
-some_spoils (names ∷ more) (ss ∷ sss) at = spoils names ss at || some_spoils more sss at
+-- some module, of those with these names in their EQUIVALENCEs and these symbols, untracks a unit
+abbrev pub some_untracks : List (List (List ℕ)) → List (List SymbolTree) → Place → Bool
+some_untracks [] sss at = false
+some_untracks (names ∷ more) [] at = false
+some_untracks (names ∷ more) (ss ∷ sss) at = untracks names ss at || some_untracks more sss at
 
 -- the names in the EQUIVALENCEs of each module
 abbrev pub equivalenced_names_of_all : List ParsedTree → List (List (List ℕ))
@@ -22,14 +22,14 @@ equivalenced_names_of_all ps = map (λ p. equivalenced_names p.module_read) ps
 abbrev pub begin_of : BlockUnit → Place
 begin_of u = Block u.block u.offset
 
--- a unit, if some module spoils it
-abbrev pub one_spoilt : List (List (List ℕ)) → List (List SymbolTree) → BlockUnit → List BlockUnit
-one_spoilt names sss u = if some_spoils names sss (begin_of u) then u ∷ [] else []
+-- a unit, if some module untracks it
+abbrev pub one_untrackable : List (List (List ℕ)) → List (List SymbolTree) → BlockUnit → List BlockUnit
+one_untrackable names sss u = if some_untracks names sss (begin_of u) then u ∷ [] else []
 
--- the units that some module spoils
-abbrev pub spoilt : List (List (List ℕ)) → List (List SymbolTree) → List BlockUnit → List BlockUnit
-spoilt names sss us = filter (λ u. some_spoils names sss (begin_of u)) us
+-- the units that some module untracks
+abbrev pub untrackable : List (List (List ℕ)) → List (List SymbolTree) → List BlockUnit → List BlockUnit
+untrackable names sss us = filter (λ u. some_untracks names sss (begin_of u)) us
 
--- the units at which some module has an INTEGER scalar, and which some module spoils
+-- the units at which some module has an INTEGER scalar, and which some module untracks
 abbrev pub untracked_of : List ParsedTree → List (List SymbolTree) → List BlockUnit
-untracked_of ps sss = spoilt (equivalenced_names_of_all ps) sss (all_scalars sss [])
+untracked_of ps sss = untrackable (equivalenced_names_of_all ps) sss (all_scalars sss [])

@@ -7,13 +7,13 @@ ghost use Rattle.tracked_cells.specs.Tracked.{is_unit, is_alone, is_tracked, tra
 
 use crate::equivalences::equivalenced_names;
 use crate::names::Names;
-use crate::standing::{is_plain, spoils};
+use crate::standing::{is_plain, untracks};
 use f77_ast::{Module, Place, Symbol, Symbols, Unit};
 use fx_lists::{List, Text};
 use std::alloc::{AllocError as Memory, Global};
 
-/// Whether a unit is among these.
-fn is_among(untracked: &List<Unit>, block: &Text, offset: u64) -> bool
+/// Whether the unit of a block at an offset from its first unit, from 0, is among these.
+pub fn is_untracked(untracked: &List<Unit>, block: &Text, offset: u64) -> bool
     ensures { result ≡ list_any (is_unit block.now offset) untracked.now }
 {
     let mut rest = untracked.as_slice();
@@ -31,9 +31,9 @@ fn is_alone(names: &Names, table: &Symbols, untracked: &List<Unit>, place: &Plac
     ensures { result ≡ is_alone names.now (map symbol_tree table.now) untracked.now place.now }
 {
     match place {
-        Place::Local(..) => !spoils(names, table, place),
+        Place::Local(..) => !untracks(names, table, place),
         Place::Dummy(_) => true,
-        Place::Block(block, offset) => !is_among(untracked, block, *offset),
+        Place::Block(block, offset) => !is_untracked(untracked, block, *offset),
         Place::Constant(_) => false,
     }
 }

@@ -6,12 +6,12 @@ mod equivalences;
 mod laws;
 mod names;
 mod scalars;
-mod spoilt;
 mod standing;
+mod untrackable;
 mod untracked;
 
-pub use cells::tracked_flags;
+pub use cells::{is_untracked, tracked_flags};
 pub use laws::tracked_units_are_plain;
 pub use names::Names;
-pub use standing::{has_bounds, reaches};
+pub use standing::{has_bounds, is_int_scalar, reaches};
 pub use untracked::untracked_of;

@@ -3,7 +3,7 @@ ghost use Rattle.std.specs.Prelude.{◌≡◌, map};
 ghost use Rattle.std.specs.List.{list_any};
 ghost use Rattle.f77_ast.specs.Symbols.{symbol_tree};
 ghost use Rattle.f77_ast.specs.Units.{units_in};
-ghost use Rattle.tracked_cells.specs.Standing.{has_bounds, is_int_scalar, is_plain, reaches, stands_at, spoils_at, two_at, spoils};
+ghost use Rattle.tracked_cells.specs.Standing.{has_bounds, is_int_scalar, is_plain, reaches, stands_at, untracks_at, two_at, untracks};
 
 use crate::names::Names;
 use f77_ast::{Place, Scalar, Symbol, Symbols, has_more};
@@ -59,18 +59,18 @@ fn stands_at(table: &Symbols, at: &Place, symbol: &Symbol) -> bool
     }
 }
 
-fn spoils_at(names: &Names, table: &Symbols, at: &Place, symbol: &Symbol) -> bool
-    ensures { result ≡ spoils_at names.now (map symbol_tree table.now) at.now (symbol_tree symbol.now) }
+fn untracks_at(names: &Names, table: &Symbols, at: &Place, symbol: &Symbol) -> bool
+    ensures { result ≡ untracks_at names.now (map symbol_tree table.now) at.now (symbol_tree symbol.now) }
 {
     stands_at(table, at, symbol) && !is_plain(names, symbol)
 }
 
 fn some_other(names: &Names, table: &Symbols, at: &Place) -> bool
-    ensures { result ≡ list_any (spoils_at names.now (map symbol_tree table.now) at.now) (map symbol_tree table.now) }
+    ensures { result ≡ list_any (untracks_at names.now (map symbol_tree table.now) at.now) (map symbol_tree table.now) }
 {
     let mut rest = table.as_slice();
     while let [symbol, more @ ..] = rest {
-        if spoils_at(names, table, at, symbol) {
+        if untracks_at(names, table, at, symbol) {
             return true;
         }
         rest = more;
@@ -106,8 +106,8 @@ fn two_at(table: &Symbols, at: &Place) -> bool
 
 /// Whether a module has, at the first unit of a place, two variables, or one that is no INTEGER scalar or is one of these
 /// names, which are those in its EQUIVALENCE statements. Linear in the number of its symbols.
-pub fn spoils(names: &Names, table: &Symbols, at: &Place) -> bool
-    ensures { result ≡ spoils names.now (map symbol_tree table.now) at.now }
+pub fn untracks(names: &Names, table: &Symbols, at: &Place) -> bool
+    ensures { result ≡ untracks names.now (map symbol_tree table.now) at.now }
 {
     some_other(names, table, at) || two_at(table, at)
 }

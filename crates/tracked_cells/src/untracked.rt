@@ -6,7 +6,7 @@ ghost use Rattle.tracked_cells.specs.Untracked.{untracked_of};
 
 use crate::equivalences::equivalenced_names_of_all;
 use crate::scalars::{all_scalars, unit_list};
-use crate::spoilt::spoilt;
+use crate::untrackable::untrackable;
 use f77_ast::{Parsed, Symbols, Unit};
 use fx_lists::List;
 use std::alloc::{AllocError as Memory, Global};
@@ -24,5 +24,5 @@ pub fn untracked_of(
     let names = equivalenced_names_of_all(alloc, modules)?;
     let units = all_scalars(alloc, tables)?;
     let keys = unit_list(alloc, units)?;
-    spoilt(alloc, &names, tables, keys.as_slice())
+    untrackable(alloc, &names, tables, keys.as_slice())
 }

@@ -1,6 +1,6 @@
 -- Which cells and which units are in lists that are put together.
 use Rattle.std.proofs.Common.{◌≡◌, ℕ, List, [], ◌∷◌, ◌||◌, Bool, true, false, refl, sym, ap, ap₂, ◌∙◌, subst, arith, nat_eq, nat_lt, true≢false, ◌⊎◌, inl, inr, ⊎_elim, Ordering}
-use Rattle.std.specs.Prelude.{if◌then◌else◌}
+use Rattle.std.specs.Prelude.{if◌then◌else◌, filter}
 use Rattle.std.specs.declared.cmp.Ordering.TheVariants.{Less, Equal, Greater}
 use Rattle.std.specs.Ordering.{match_ordering, ordering_then, nat_cmp}
 use Rattle.std.specs.Cmp.Lexicographic.{slice_cmp}
@@ -15,17 +15,10 @@ use Rattle.f77_ast.specs.declared.variable.Unit.{Unit as BlockUnit}
 use Rattle.transformer_algebra.specs.Cells.{has, with_cell, with_cells, joined_cells}
 use Rattle.transformer_algebra.specs.Units.{unit_cmp, with_unit, with_units, joined_units}
 use Rattle.transformer_algebra.specs.Claims.{IsIn}
+use Rattle.fx_lists.proofs.Booleans.{clash as clashes, or_turned as or_assoc, or_swap}
+use Rattle.fx_lists.proofs.Numbers.{nat_eq_same, same_is as nat_same}
 
 -- ---- numbers
-
-pub nat_same : (a b : ℕ) → nat_eq a b ≡ true → a ≡ b
-nat_same a b e = grind (arith, nat_tests)
-
-pub nat_eq_same : (a : ℕ) → nat_eq a a ≡ true
-nat_eq_same a = grind (arith, nat_tests)
-
-pub clashes : {A : Type 0} (b : Bool) → b ≡ true → b ≡ false → A
-clashes b e f = absurd (true≢false (sym e ∙ f))
 
 -- ---- cells
 
@@ -33,18 +26,9 @@ or_same : (a b : Bool) → (a || b) ≡ (a || (a || b))
 or_same true b = refl
 or_same false b = refl
 
-or_swap : (a b c : Bool) → (a || (b || c)) ≡ (b || (a || c))
-or_swap true true c = refl
-or_swap true false c = refl
-or_swap false b c = refl
-
 or_none : (a : Bool) → a ≡ (a || false)
 or_none true = refl
 or_none false = refl
-
-or_assoc : (a b c : Bool) → ((a || b) || c) ≡ (a || (b || c))
-or_assoc true b c = refl
-or_assoc false b c = refl
 
 has-with_cell : (c d : ℕ) (ds : List ℕ) → has (with_cell d ds) c ≡ (nat_eq d c || has ds c)
 has-with_cell c d [] = refl
@@ -126,7 +110,6 @@ pub unit_right : (us vs : List BlockUnit) (w : BlockUnit) → IsIn w vs → IsIn
 unit_right us vs w h = in-with_units w (with_units [] us) vs (inr h)
 
 -- ---- variables of different kinds, and of different numbers
-
 pub cell_exit : (c d : ℕ) → var_eq (Cell c) (Exit d) ≡ false
 cell_exit c d = go (var_eq (Cell c) (Exit d)) refl
   where
@@ -150,3 +133,15 @@ cell_same c d e = ap number (var_eq-true (Cell c) (Cell d) e)
 -- d is c, or c is among the rest
 pub tail_has : (d c : ℕ) (ds : List ℕ) → (nat_eq d c || has ds c) ≡ true → (d ≡ c → ⊥) → has ds c ≡ true
 tail_has d c ds h f = ⊎_elim (λ e. absurd (f (nat_same d c e))) (λ r. r) (or_cases (nat_eq d c) (has ds c) h)
+
+pub has-filter : (f : ℕ → Bool) (cs : List ℕ) (c : ℕ) → has cs c ≡ true → f c ≡ true → has (filter f cs) c ≡ true
+has-filter f [] c h e = h
+has-filter f (d ∷ cs) c h e = go (nat_eq d c) refl h (λ k. has-filter f cs c k e)
+  where
+    skip : (b : Bool) → has (filter f cs) c ≡ true → has (if b then d ∷ filter f cs else filter f cs) c ≡ true
+    skip true k = or_in_right (nat_eq d c) (has (filter f cs) c) k
+    skip false k = k
+
+    go : (b : Bool) → nat_eq d c ≡ b → (b || has cs c) ≡ true → (has cs c ≡ true → has (filter f cs) c ≡ true) → has (if f d then d ∷ filter f cs else filter f cs) c ≡ true
+    go true q k ih = let t : f d ≡ true = ap f (nat_same d c q) ∙ e in rw t (ap (λ b. b || has (filter f cs) c) q)
+    go false q k ih = skip (f d) (ih k)

@@ -5,7 +5,7 @@ use Rattle.affine_systems.specs.declared.row.Row.{Row}
 use Rattle.affine_systems.specs.Terms.{term}
 use Rattle.affine_systems.specs.Rows.{AllRows}
 use Rattle.affine_systems.specs.Given.{IsGiven}
-use Rattle.affine_systems.proofs.RenameSteps.{given_append}
+use Rattle.affine_systems.proofs.RenameSteps.{given_append, given_append as rows_given}
 use Rattle.hull_projection.specs.Closure.{AreCells}
 use Rattle.affine_forms.specs.Forms.{affine, IsSmallForm}
 use Rattle.transformer_algebra.specs.Halves.{cell_vars}
@@ -17,9 +17,6 @@ are_cells (c ∷ cs) = (tt, are_cells cs)
 -- a list of one row
 pub one_given : (r : Row) → IsGiven r → AllRows IsGiven (r ∷ [])
 one_given r h = (h, tt)
-
-pub rows_given : (rs ss : List Row) → AllRows IsGiven rs → AllRows IsGiven ss → AllRows IsGiven (rs ++ ss)
-rows_given rs ss h k = given_append rs ss h k
 
 pub ruleset given_rows = (one_given, rows_given)
 

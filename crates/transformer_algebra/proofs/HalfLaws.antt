@@ -9,11 +9,13 @@ use Rattle.affine_systems.proofs.TermLaws.{var_eq-true, true-var_eq}
 use Rattle.affine_systems.proofs.AscendLaws.{var_eq-sym}
 use Rattle.hull_projection.specs.Laws.{IsOneOf}
 use Rattle.hull_projection.proofs.LiftLaws.{aux_eq, aux_apart}
-use Rattle.system_renaming.specs.declared.naming.Naming.{Naming}
-use Rattle.system_renaming.specs.Renaming.{naming, renamed_by}
+use Rattle.transformer_algebra.specs.declared.naming.Naming.{Naming}
+use Rattle.transformer_algebra.specs.Renaming.{naming, renamed_by}
 use Rattle.transformer_algebra.specs.Cells.{has}
 use Rattle.transformer_algebra.specs.Halves.{first_names, second_names, middle, to_cells, cell_vars}
-use Rattle.transformer_algebra.proofs.CellLaws.{nat_same, nat_eq_same, clashes, or_right, cell_exit, exit_cell, exit_same, cell_same, tail_has}
+use Rattle.transformer_algebra.proofs.CellLaws.{or_right, cell_exit, exit_cell, exit_same, cell_same, tail_has}
+use Rattle.fx_lists.proofs.Numbers.{same_is as nat_same, nat_eq_same}
+use Rattle.fx_lists.proofs.Booleans.{clash as clashes}
 
 -- an auxiliary variable
 abbrev pub IsAux : Var → Type 0

@@ -8,3 +8,6 @@ pub mod LoopLaws
 pub mod AllLaws
 pub mod ArmSteps
 pub mod GivenSteps
+pub mod Steps
+pub mod KeepLaws
+pub mod Shared

@@ -15,8 +15,8 @@ use Rattle.hull_projection.specs.Hull.{hull}
 use Rattle.hull_projection.proofs.HullLaws.{hull_holds}
 use Rattle.hull_projection.proofs.CleanLaws.{clean_same}
 use Rattle.f77_ast.specs.declared.variable.Unit.{Unit as BlockUnit}
-use Rattle.system_renaming.specs.Renaming.{push_rows}
-use Rattle.system_renaming.proofs.KeepLaws.{push_rows_holds, of_rows_holds}
+use Rattle.transformer_algebra.specs.Renaming.{push_rows}
+use Rattle.transformer_algebra.proofs.KeepLaws.{push_rows_holds, of_rows_holds}
 use Rattle.affine_forms.specs.declared.affine.Affine.{Affine}
 use Rattle.affine_forms.specs.Forms.{affine}
 use Rattle.affine_forms.specs.Comparisons.{var_form, at_most_row, below_row, same_row}
@@ -29,9 +29,11 @@ use Rattle.transformer_algebra.specs.Cells.{has, joined_cells, others}
 use Rattle.transformer_algebra.specs.Transformers.{exit_system, followed, apply, equals, iterate}
 use Rattle.transformer_algebra.specs.Loops.{own_cells, index_becomes, if_counted, stepped, start, next, goes_up, within_row, beyond_row, within_rows, beyond_rows, index_form, guard, unguard, inside, beyond_last, with_rows, iteration, zero_iterations, first_iterations, some_iterations, counted_by, loop_transformer, terms_stay, stays, if_stays, before_iterations, iteration_by, at_iteration, end_by, after_loop}
 use Rattle.transformer_algebra.specs.Claims.{Scene, AtStart, AtEnd, HoldsAt, Kept, Does, Chain, Wrote, Tracks, Means, NotBeyond, Beyond}
-use Rattle.transformer_algebra.proofs.CellLaws.{clashes, nat_same, nat_eq_same, left_in, joined_in}
+use Rattle.transformer_algebra.proofs.CellLaws.{left_in, joined_in}
 use Rattle.transformer_algebra.proofs.RuleLaws.{does_then, holds_apply, equals_hold, old_point, at_old}
 use Rattle.transformer_algebra.proofs.TurnLaws.{kept_chain, does_closed}
+use Rattle.fx_lists.proofs.Booleans.{same_left as and_left, same_right as and_right, clash as clashes}
+use Rattle.fx_lists.proofs.Numbers.{same_is as nat_same, nat_eq_same}
 
 -- ---- rows
 
@@ -68,7 +70,7 @@ means_at : (m : Scene) (f : Option Affine) (x : ℕ → ℤ) (n : ℤ) (p : Poin
 means_at m None x n p h st = tt
 means_at m (Some f) x n p h st = h p st
 
-var_value : (v : Var) (p : Point) (n : ℤ) → p v ≡ n → form_value p (var_form v) ≡ n
+pub var_value : (v : Var) (p : Point) (n : ℤ) → p v ≡ n → form_value p (var_form v) ≡ n
 var_value v p n e = omega (arith, ints, e)
 
 index_at : (l : LoopParts) (v : Var) (p : Point) (n : ℤ) → (l.tracked ≡ true → p v ≡ n) → ValueAt p (index_form l v) n
@@ -93,14 +95,6 @@ step_value : (i : ℕ) (s k : ℤ) (p : Point) → p (Cell i) ≡ k → form_val
 step_value i s k p e = omega (arith, ints, e)
 
 -- ---- forms of which no cell changes
-
-and_left : (a b : Bool) → (a && b) ≡ true → a ≡ true
-and_left true b h = refl
-and_left false b h = h
-
-and_right : (a b : Bool) → (a && b) ≡ true → b ≡ true
-and_right true b h = h
-and_right false b h = clashes false h refl
 
 module _ (m : Scene) where
   var_old : (cs : List ℕ) (x : ℕ → ℤ) (p : Point) (v : Var) → has cs (number v) ≡ false → old_point m cs x p v ≡ p v

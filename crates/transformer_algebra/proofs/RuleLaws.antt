@@ -13,9 +13,9 @@ use Rattle.hull_projection.specs.Laws.{IsOneOf}
 use Rattle.hull_projection.proofs.HullLaws.{hull_holds}
 use Rattle.hull_projection.proofs.ProjectLaws.{project_keeps}
 use Rattle.f77_ast.specs.declared.variable.Unit.{Unit as BlockUnit}
-use Rattle.system_renaming.specs.Renaming.{renamed_by, rename_all}
-use Rattle.system_renaming.specs.Fresh.{fresh_over}
-use Rattle.system_renaming.proofs.KeepLaws.{rename_all_holds, push_rows_holds}
+use Rattle.transformer_algebra.specs.Renaming.{renamed_by, rename_all}
+use Rattle.transformer_algebra.specs.Fresh.{fresh_over}
+use Rattle.transformer_algebra.proofs.KeepLaws.{rename_all_holds, push_rows_holds}
 use Rattle.affine_forms.specs.Comparisons.{var_form}
 use Rattle.affine_forms.proofs.RowLaws.{same_holds}
 use Rattle.transformer_algebra.specs.declared.transformer.Transformer.{Transformer}
@@ -25,8 +25,10 @@ use Rattle.transformer_algebra.specs.Halves.{first_names, second_names, middle, 
 use Rattle.transformer_algebra.specs.Transformers.{test, followed_from, followed, without, apply, equal, equals, complete, cells_from, all_cells, units_from, all_units, hull_of_arms, one_of}
 use Rattle.transformer_algebra.specs.Laws.{In, here, there}
 use Rattle.transformer_algebra.specs.Claims.{Scene, AtStart, AtEnd, HoldsAt, IsIn, Kept, Does, Tracks}
-use Rattle.transformer_algebra.proofs.CellLaws.{clashes, nat_eq_same, left_out, right_out, left_in, right_in, unit_left, unit_right}
+use Rattle.transformer_algebra.proofs.CellLaws.{left_out, right_out, left_in, right_in, unit_left, unit_right}
 use Rattle.transformer_algebra.proofs.HalfLaws.{mid, mid_off, mid_cell, mid_exit, Between, first_between, first_exit, first_cell, second_between, second_exit, second_once, second_never, to_cells_exit, to_cells_cell, in_cell_vars}
+use Rattle.fx_lists.proofs.Booleans.{clash as clashes}
+use Rattle.fx_lists.proofs.Numbers.{nat_eq_same}
 
 module _ (m : Scene) where
   pub kept_then : (cs ds : List ℕ) (us vs : List BlockUnit) (x y z : ℕ → ℤ) → Kept m cs us x y → Kept m ds vs y z → Kept m (joined_cells cs ds) (joined_units us vs) x z

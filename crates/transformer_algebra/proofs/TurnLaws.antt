@@ -12,17 +12,20 @@ use Rattle.hull_projection.specs.Iterations.{Store, between, Joined}
 use Rattle.hull_projection.specs.Closure.{AreCells, exit_of, closure}
 use Rattle.hull_projection.specs.Laws.{IsOneOf}
 use Rattle.hull_projection.proofs.ProjectLaws.{all-agree}
-use Rattle.hull_projection.proofs.ClosureLaws.{closure_holds}
+use Rattle.hull_projection.proofs.ClosureLaws.{closure_holds, zero_point}
 use Rattle.hull_projection.proofs.LiftLaws.{old_apart}
-use Rattle.affine_systems.proofs.AscendLaws.{var_eq-sym}
+use Rattle.affine_systems.proofs.AscendLaws.{var_eq-sym, only-other as only_zero}
 use Rattle.transformer_algebra.specs.declared.transformer.Transformer.{Transformer}
 use Rattle.transformer_algebra.specs.Cells.{has}
 use Rattle.transformer_algebra.specs.Halves.{cell_vars}
 use Rattle.transformer_algebra.specs.Transformers.{iterate}
 use Rattle.transformer_algebra.specs.Claims.{Scene, AtStart, AtEnd, Kept, Does, Chain, none_yet, then_iteration, Tracks}
-use Rattle.transformer_algebra.proofs.CellLaws.{clashes, nat_eq_same, cell_exit, exit_cell, cell_same, exit_same}
+use Rattle.transformer_algebra.proofs.CellLaws.{cell_exit, exit_cell, cell_same, exit_same}
 use Rattle.hull_projection.proofs.ClosureLaws.{rows_elsewhere}
 use Rattle.transformer_algebra.proofs.ElsewhereLaws.{closure_nil}
+use Rattle.transformer_algebra.proofs.GivenSteps.{are_cells}
+use Rattle.fx_lists.proofs.Booleans.{clash as clashes}
+use Rattle.fx_lists.proofs.Numbers.{nat_eq_same}
 
 -- one iteration more at the end
 between_same : (q : Point) (s u w : Store) → ((c : ℕ) → s c ≡ u c) → (v : Var) → between q s w v ≡ between q u w v
@@ -34,16 +37,6 @@ between_same q s u w f (Aux c) = refl
 joined_more : (n : ℕ) (t : System) (s u w : Store) (q : Point) → Joined n t s u → HoldsAll (between q u w) t.rows → Joined (suc n) t s w
 joined_more zero t s u w q j h = (w, q, all-agree (between q u w) (between q s w) t.rows (between_same q s u w j) h, (λ c. refl))
 joined_more (suc n) t s u w q j h = (j.0, j.1, j.2, joined_more n t j.0 u w q j.3 h)
-
-abbrev zero_point : Point
-zero_point v = pos 0
-
-are_cells : (cs : List ℕ) → AreCells (cell_vars cs)
-are_cells [] = tt
-are_cells (c ∷ cs) = (tt, are_cells cs)
-
-only_zero : (v w : Var) → var_eq v w ≡ false → only v w ≡ pos 0
-only_zero v w e = ap (λ b. if b then pos 1 else pos 0) e
 
 -- a cell that is none of these, and its exit
 absent : (cs : List ℕ) (c d : ℕ) → has cs c ≡ false → has cs d ≡ true → c ≡ d → ⊥

@@ -3,8 +3,8 @@
 use Rattle.std.specs.Prelude.{ℕ, suc, if◌then◌else◌, List, [], ◌∷◌, map}
 use Rattle.affine_systems.specs.declared.row.Var.{Var}
 use Rattle.affine_systems.specs.declared.row.Var.TheVariants.{Cell, Exit, Aux}
-use Rattle.system_renaming.specs.declared.naming.Naming.{Naming}
-use Rattle.system_renaming.specs.Renaming.{naming}
+use Rattle.transformer_algebra.specs.declared.naming.Naming.{Naming}
+use Rattle.transformer_algebra.specs.Renaming.{naming}
 use Rattle.transformer_algebra.specs.Cells.{has}
 
 -- of the first: exits

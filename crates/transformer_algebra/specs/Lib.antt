@@ -5,3 +5,6 @@ pub mod Transformers
 pub mod Loops
 pub mod Claims
 pub mod Laws
+pub mod Renaming
+pub mod Fresh
+pub mod RenamingLaws

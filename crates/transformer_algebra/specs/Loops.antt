@@ -11,7 +11,7 @@ use Rattle.affine_systems.specs.Terms.{term, number}
 use Rattle.affine_systems.specs.Given.{Fits}
 use Rattle.hull_projection.specs.Hull.{hull}
 use Rattle.hull_projection.specs.Clean.{clean}
-use Rattle.system_renaming.specs.Renaming.{push_rows}
+use Rattle.transformer_algebra.specs.Renaming.{push_rows}
 use Rattle.affine_forms.specs.declared.affine.Affine.{Affine}
 use Rattle.affine_forms.specs.Forms.{affine, IsSmallForm}
 use Rattle.affine_forms.specs.Comparisons.{var_form, at_most_row, below_row}

@@ -9,8 +9,8 @@ use Rattle.hull_projection.specs.Project.{project}
 use Rattle.hull_projection.specs.Hull.{hull}
 use Rattle.hull_projection.specs.Closure.{closure}
 use Rattle.f77_ast.specs.declared.variable.Unit.{Unit as BlockUnit}
-use Rattle.system_renaming.specs.Renaming.{rename_all, of_rows, push_rows}
-use Rattle.system_renaming.specs.Fresh.{fresh_over}
+use Rattle.transformer_algebra.specs.Renaming.{rename_all, of_rows, push_rows}
+use Rattle.transformer_algebra.specs.Fresh.{fresh_over}
 use Rattle.affine_forms.specs.declared.affine.Affine.{Affine}
 use Rattle.affine_forms.specs.Comparisons.{var_form, same_row}
 use Rattle.affine_forms.specs.Conditions.{no_rows, infeasible}
@@ -28,8 +28,8 @@ transformer cs us s = record { cells = cs; foreign = us; system = s }
 abbrev pub test : System → Transformer
 test s = transformer [] [] s
 
-abbrev pub unchanging : Transformer
-unchanging = test no_rows
+abbrev pub identity_transformer : Transformer
+identity_transformer = test no_rows
 
 -- of a statement that never ends normally
 abbrev pub nowhere : Transformer

@@ -3,12 +3,11 @@ ghost use Rattle.std.specs.Prelude.{◌≡◌, IfOk};
 ghost use Rattle.affine_systems.specs.Given.{Fits};
 ghost use Rattle.transformer_algebra.specs.Transformers.{apply as apply_is, without as without_is};
 
-use crate::Transformer;
 use crate::halves::{cell_vars, to_cells};
+use crate::{Transformer, rename_all};
 use affine_systems::{System, meet};
 use hull_projection::project;
 use std::alloc::{AllocError as Memory, Global};
-use system_renaming::rename_all;
 
 /// The system without the values of these cells: their `Cell` variables are eliminated.
 pub fn without(alloc: Global, cells: &[u32], p: &System) -> Result<System, Memory>

@@ -4,14 +4,13 @@ ghost use Rattle.affine_systems.specs.Rows.{AllRows};
 ghost use Rattle.affine_systems.specs.Given.{IsGiven, Fits};
 ghost use Rattle.transformer_algebra.specs.Transformers.{AllFit, equal as equal_is, equals as equals_is, complete as complete_is, all_cells as all_cells_is, all_units as all_units_is, hull_of_arms as hull_of_arms_is, one_of as one_of_is};
 
-use crate::{Transformer, joined_cells, joined_units, nowhere, others};
+use crate::{Transformer, joined_cells, joined_units, nowhere, others, push_rows};
 use affine_forms::{same_row, var_form};
 use affine_systems::{Row, System, Var};
 use f77_ast::Unit;
 use fx_lists::List;
 use hull_projection::hull;
 use std::alloc::{AllocError as Memory, Global};
-use system_renaming::push_rows;
 
 /// That the exit of a cell is the cell.
 fn equal(alloc: Global, cell: u32) -> Result<Row, Memory>

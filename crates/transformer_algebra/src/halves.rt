@@ -2,11 +2,10 @@
 ghost use Rattle.std.specs.Prelude.{◌≡◌, ◌+◌, ◌<◌, ◌^◌, length, IfOk};
 ghost use Rattle.transformer_algebra.specs.Halves.{first_names as first_names_is, second_names as second_names_is, middle as middle_is, to_cells as to_cells_is, cell_vars as cell_vars_is};
 
-use crate::has;
+use crate::{Naming, has};
 use affine_systems::Var;
 use fx_lists::List;
 use std::alloc::{AllocError as Memory, Global};
-use system_renaming::Naming;
 
 #[tactic(auto, using(crate::proofs::CellSteps::first_loop))]
 /// The namings for the system of the first transformer. `cells` are those that it changes and `again` those of the

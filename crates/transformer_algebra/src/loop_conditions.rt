@@ -6,14 +6,13 @@ ghost use Rattle.affine_systems.specs.Terms.{number as number_is};
 ghost use Rattle.transformer_algebra.specs.Loops.{LoopFits, terms_stay as terms_stay_is, stays as stays_is, if_stays as if_stays_is, before_iterations as before_iterations_is, counted_iteration as counted_iteration_is, at_iteration as at_iteration_is, counted_end as counted_end_is, after_loop as after_loop_is};
 
 use crate::{
-    LoopParts, Transformer, apply, beyond_last, guard, has, inside, iterate, next, start, unguard,
-    without,
+    LoopParts, Transformer, apply, beyond_last, guard, has, inside, iterate, next, push_rows,
+    start, unguard, without,
 };
 use affine_forms::Affine;
 use affine_systems::{Row, System, Term, Var};
 use hull_projection::{clean, hull};
 use std::alloc::{AllocError as Memory, Global};
-use system_renaming::push_rows;
 
 fn number_of(v: Var) -> u32
     ensures { result ≡ number_is v }

@@ -7,14 +7,14 @@ ghost use Rattle.transformer_algebra.specs.Loops.{LoopFits, with_rows as with_ro
 use crate::arms::equals;
 use crate::units::copy_units;
 use crate::{
-    LoopParts, Transformer, beyond_last, guard, inside, iterate, next, others, start, then, unguard,
+    LoopParts, Transformer, beyond_last, guard, inside, iterate, next, others, push_rows, start,
+    then, unguard,
 };
 use affine_forms::no_rows;
 use affine_systems::{Row, System, Var};
 use fx_lists::List;
 use hull_projection::hull;
 use std::alloc::{AllocError as Memory, Global};
-use system_renaming::push_rows;
 
 /// A transformer whose system has more rows.
 fn with_rows(alloc: Global, t: Transformer, rows: Vec<Row>) -> Result<Transformer, Memory>

@@ -4,12 +4,11 @@ ghost use Rattle.affine_systems.specs.Given.{Fits};
 ghost use Rattle.transformer_algebra.specs.Transformers.{followed_from as followed_from_is, followed as followed_is};
 
 use crate::halves::{first_names, middle, second_names};
-use crate::{Transformer, joined_cells, joined_units};
+use crate::{Transformer, fresh_over, joined_cells, joined_units, rename_all};
 use affine_systems::{System, meet};
 use fx_lists::List;
 use hull_projection::project;
 use std::alloc::{AllocError as Memory, Global};
-use system_renaming::{fresh_over, rename_all};
 
 /// Where the auxiliary variables in between are numbered from the first on.
 fn followed_from(

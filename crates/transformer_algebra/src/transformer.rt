@@ -2,15 +2,14 @@
 ghost use Rattle.std.specs.Prelude.{◌≡◌, IfOk, IfSome};
 ghost use Rattle.affine_systems.specs.Given.{Fits};
 ghost use Rattle.affine_forms.specs.Forms.{IsSmallForm};
-ghost use Rattle.transformer_algebra.specs.Transformers.{unchanging as unchanging_is, nowhere as nowhere_is, test as test_is, forgotten as forgotten_is, exit_system as exit_system_is, assign as assign_is};
+ghost use Rattle.transformer_algebra.specs.Transformers.{identity_transformer as unchanging_is, nowhere as nowhere_is, test as test_is, forgotten as forgotten_is, exit_system as exit_system_is, assign as assign_is};
 
-use crate::joined_cells;
+use crate::{joined_cells, of_rows};
 use affine_forms::{Affine, infeasible, no_rows, same_row, var_form};
 use affine_systems::{System, Var};
 use f77_ast::Unit;
 use fx_lists::List;
 use std::alloc::{AllocError as Memory, Global};
-use system_renaming::of_rows;
 
 /// The transition relation of a statement, from an arrival to its normal end.
 #[derive(PartialEq, Eq, Drop)]
@@ -38,7 +37,7 @@ pub fn test(alloc: Global, system: System) -> Transformer
 }
 
 /// The identity transformer: changes nothing. Takes no memory.
-pub fn unchanging(alloc: Global) -> Transformer
+pub fn identity_transformer(alloc: Global) -> Transformer
     ensures defined { result ≡ unchanging_is }
     ensures fits { Fits result.system }
 {

@@ -1,3 +1,5 @@
+pub use Rattle.call_translation.proofs.TransformerAlgebra as TransformerAlgebra
+pub use Rattle.call_translation.proofs as CallTranslation
 pub mod Steps
 pub mod StatementLaws
 pub mod WhatLaws

@@ -4,10 +4,12 @@ use Rattle.std.specs.Prelude.{slice_set}
 use Rattle.std.proofs.Math.Seq.{set-append_seam}
 use Rattle.affine_systems.specs.Given.{Fits}
 use Rattle.f77_ast.proofs.PlainlyStmt.{what_calls, list_calls, loop_calls as do_calls, arm_calls as if_calls}
-use Rattle.f77_results.specs.declared.results.At.{At}
-use Rattle.transformer_algebra.specs.declared.transformer.Transformer.{Transformer}
+use Rattle.f77_ast.specs.declared.results.At.{At}
+use Rattle.call_translation.specs.transformer_algebra.declared.transformer.Transformer.{Transformer}
 use Rattle.transformers.specs.Given.{ResultsFit}
-use Rattle.transformers.proofs.Steps.{fits-push, results-push}
+use Rattle.transformers.proofs.Steps.{results-push}
+use Rattle.fx_lists.proofs.Lists.{filled}
+use Rattle.call_translation.proofs.TransformerAlgebra.Shared.{fits-push}
 
 pub ruleset part_calls = (what_calls, results-push, append_assoc, append-nil)
 
@@ -16,11 +18,6 @@ pub ruleset statement_calls = (list_calls, fits-push, append_assoc, append-nil)
 pub ruleset body_calls = (do_calls, append_assoc, append-nil)
 
 pub ruleset arm_calls = (if_calls, fits-push, append_assoc, append-nil)
-
--- the place behind a list
-pub filled : {A : Type 0} (xs ys zs : List A) (x y : A) (n : ℕ) → zs ≡ (xs ++ x ∷ []) ++ ys → n ≡ length xs → slice_set zs n y ≡ xs ++ y ∷ ys
-filled xs ys zs x y n e h =
-    ap (λ ws. slice_set ws n y) (e ∙ append_assoc xs (x ∷ []) ys) ∙ ap (λ k. slice_set (xs ++ x ∷ ys) k y) h ∙ set-append_seam xs x ys y
 
 -- results of which one is another
 pub fits-other : (xs ys : List (At Transformer)) (x y : At Transformer) → ResultsFit (xs ++ x ∷ ys) → Fits y.value.system → ResultsFit (xs ++ y ∷ ys)

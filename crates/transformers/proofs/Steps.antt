@@ -3,19 +3,16 @@ use Rattle.std.proofs.Common.{◌≡◌, ℕ, zero, suc, Bool, true, false, List
 use Rattle.std.specs.Prelude.{slice_get, nat_eq, if◌then◌else◌}
 use Rattle.affine_systems.specs.Given.{Fits}
 use Rattle.f77_ast.specs.Shared.{numbered}
-use Rattle.f77_results.specs.declared.results.At.{At}
-use Rattle.transformer_algebra.specs.declared.transformer.Transformer.{Transformer}
-use Rattle.transformer_algebra.specs.Transformers.{AllFit}
+use Rattle.f77_ast.specs.declared.results.At.{At}
+use Rattle.call_translation.specs.transformer_algebra.declared.transformer.Transformer.{Transformer}
+use Rattle.call_translation.specs.transformer_algebra.Transformers.{AllFit}
 use Rattle.transformers.specs.Given.{ResultsFit}
 use Rattle.transformers.specs.Lists.{first_at, or_first, value_at}
+use Rattle.call_translation.proofs.TransformerAlgebra.Shared.{fits-push}
 
 pub ruleset lists = (append_assoc, append-nil)
 
 -- ---- one more
-
-pub fits-push : (ts : List Transformer) (t : Transformer) → AllFit ts → Fits t.system → AllFit (ts ++ t ∷ [])
-fits-push [] t h f = (f, tt)
-fits-push (s ∷ ts) t h f = (h.0, fits-push ts t h.1 f)
 
 pub results-push : (as' : List (At Transformer)) (a : At Transformer) → ResultsFit as' → Fits a.value.system → ResultsFit (as' ++ a ∷ [])
 results-push [] a h f = (f, tt)

@@ -11,10 +11,10 @@ use Rattle.f77_ast.specs.PlainStmt.{stmt_trees, loop_tree}
 use Rattle.f77_ast.proofs.PlainlyStmt.{loop_tree-out}
 use Rattle.affine_forms.specs.declared.conditions.Condition.{Condition}
 use Rattle.affine_forms.specs.Conditions.{no_rows, condition_of}
-use Rattle.transformer_algebra.specs.declared.transformer.Transformer.{Transformer}
-use Rattle.transformer_algebra.specs.declared.loop_parts.LoopParts.{LoopParts}
-use Rattle.transformer_algebra.specs.Transformers.{unchanging, one_of}
-use Rattle.transformer_algebra.specs.Loops.{iteration, loop_transformer}
+use Rattle.call_translation.specs.transformer_algebra.declared.transformer.Transformer.{Transformer}
+use Rattle.call_translation.specs.transformer_algebra.declared.loop_parts.LoopParts.{LoopParts}
+use Rattle.call_translation.specs.transformer_algebra.Transformers.{identity_transformer, one_of}
+use Rattle.call_translation.specs.transformer_algebra.Loops.{iteration, loop_transformer}
 use Rattle.call_translation.specs.Scopes.{ScopeTree}
 use Rattle.transformers.specs.Given.{Callees}
 use Rattle.transformers.specs.Loops.{loop_parts}
@@ -22,12 +22,12 @@ use Rattle.transformers.specs.Statement.{where_holds, if_does, choice, parts_do,
 
 -- ---- an IF
 
-pub if_does-made : (m : ScopeTree) (e : ExprTree) (t u done passed : Transformer) (k : Condition) (b y n : System) → k ≡ condition_of m.scalars e → b ≡ no_rows → y ≡ meet b k.yes → n ≡ meet b k.no → u ≡ unchanging → done ≡ where_holds y t → passed ≡ where_holds n u → one_of (done ∷ passed ∷ []) ≡ if_does m e t
+pub if_does-made : (m : ScopeTree) (e : ExprTree) (t u done passed : Transformer) (k : Condition) (b y n : System) → k ≡ condition_of m.scalars e → b ≡ no_rows → y ≡ meet b k.yes → n ≡ meet b k.no → u ≡ identity_transformer → done ≡ where_holds y t → passed ≡ where_holds n u → one_of (done ∷ passed ∷ []) ≡ if_does m e t
 if_does-made m e t u done passed k b y n ek eb ey en eu ed ep =
     let ys : y ≡ meet no_rows (condition_of m.scalars e).yes = ey ∙ ap (λ (z : System). meet z k.yes) eb ∙ ap (λ (z : Condition). meet no_rows z.yes) ek in
     let ns : n ≡ meet no_rows (condition_of m.scalars e).no = en ∙ ap (λ (z : System). meet z k.no) eb ∙ ap (λ (z : Condition). meet no_rows z.no) ek in
     let d : done ≡ where_holds (meet no_rows (condition_of m.scalars e).yes) t = ed ∙ ap (λ (z : System). where_holds z t) ys in
-    let p : passed ≡ where_holds (meet no_rows (condition_of m.scalars e).no) unchanging = ep ∙ ap (λ (z : Transformer). where_holds n z) eu ∙ ap (λ (z : System). where_holds z unchanging) ns in
+    let p : passed ≡ where_holds (meet no_rows (condition_of m.scalars e).no) identity_transformer = ep ∙ ap (λ (z : Transformer). where_holds n z) eu ∙ ap (λ (z : System). where_holds z identity_transformer) ns in
     ap (λ (z : Transformer). one_of (z ∷ passed ∷ [])) d ∙ ap (λ (z : Transformer). one_of (where_holds (meet no_rows (condition_of m.scalars e).yes) t ∷ z ∷ [])) p
 
 pub choice-made : (ts all : List Transformer) (b : System) (t made : Transformer) → made ≡ where_holds b t → all ≡ ts ++ made ∷ [] → one_of all ≡ choice ts b t

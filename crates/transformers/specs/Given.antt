@@ -1,9 +1,9 @@
 -- What the calls ask of summaries and of results at statements, and what they give: systems that further calls take.
 use Rattle.std.specs.Prelude.{ℕ, List, [], ◌∷◌, Option}
 use Rattle.affine_systems.specs.Given.{Fits}
-use Rattle.f77_results.specs.declared.results.At.{At}
-use Rattle.f77_results.specs.Summaries.{SummaryTree}
-use Rattle.transformer_algebra.specs.declared.transformer.Transformer.{Transformer}
+use Rattle.f77_ast.specs.declared.results.At.{At}
+use Rattle.f77_ast.specs.Summaries.{SummaryTree}
+use Rattle.call_translation.specs.transformer_algebra.declared.transformer.Transformer.{Transformer}
 use Rattle.call_translation.specs.Summary.{SummaryFits}
 
 -- the summary of the module of a name

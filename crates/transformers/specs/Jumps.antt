@@ -2,9 +2,10 @@
 use Rattle.std.specs.Prelude.{ℕ, Bool, true, false, not, ◌&&◌, ◌||◌, List, [], ◌∷◌, Option, Some, None}
 use Rattle.f77_ast.specs.Trees.{StmtTree, WhatTree, ArmTree, ArmTrees, ElseTree, LoopTree, StmtTrees}
 use Rattle.f77_ast.specs.Trees as tree
-use Rattle.transformer_algebra.specs.Cells.{has}
+use Rattle.call_translation.specs.transformer_algebra.Cells.{has}
 use Rattle.transformers.specs.declared.jumps.Sought.{Sought}
 use Rattle.transformers.specs.declared.jumps.Sought.TheVariants.{Jump, Beyond, Return}
+use Rattle.f77_ast.specs.Shapes.{is_return}
 
 -- ---- a statement among others
 
@@ -87,19 +88,6 @@ goes_beyond ls (tree.print es) = false
 goes_beyond ls (tree.read es) = false
 
 -- ---- RETURN (§15.8)
-
-abbrev pub is_return : WhatTree → Bool
-is_return (tree.assign a b) = false
-is_return (tree.block_if arms other) = false
-is_return (tree.logical_if test s) = false
-is_return (tree.do_loop l) = false
-is_return (tree.call x es) = false
-is_return (tree.goto l) = false
-is_return tree.continue = false
-is_return tree.return = true
-is_return (tree.stop text) = false
-is_return (tree.print es) = false
-is_return (tree.read es) = false
 
 -- what the code looks for
 abbrev pub such_of : Sought → WhatTree → Bool

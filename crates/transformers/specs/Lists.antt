@@ -3,10 +3,10 @@ use Rattle.std.specs.Prelude.{ℕ, Bool, nat_eq, List, [], ◌∷◌, Option, So
 use Rattle.f77_ast.specs.Trees.{StmtTree, StmtTrees}
 use Rattle.f77_ast.specs.Trees as tree
 use Rattle.f77_ast.specs.Shared.{numbered}
-use Rattle.f77_results.specs.declared.results.At.{At}
+use Rattle.f77_ast.specs.declared.results.At.{At}
 use Rattle.affine_forms.specs.Conditions.{no_rows}
-use Rattle.transformer_algebra.specs.declared.transformer.Transformer.{Transformer}
-use Rattle.transformer_algebra.specs.Transformers.{transformer, unchanging, followed, all_cells, all_units}
+use Rattle.call_translation.specs.transformer_algebra.declared.transformer.Transformer.{Transformer}
+use Rattle.call_translation.specs.transformer_algebra.Transformers.{transformer, identity_transformer, followed, all_cells, all_units}
 use Rattle.transformers.specs.Jumps.{unstructured}
 
 -- ---- lists
@@ -17,7 +17,7 @@ followed_by a (t ∷ ts) = followed_by (followed a t) ts
 
 -- from left to right
 abbrev pub in_order : List Transformer → Transformer
-in_order [] = unchanging
+in_order [] = identity_transformer
 in_order (t ∷ ts) = followed_by t ts
 
 -- each any number of times, in any order: nothing is known of what they change
@@ -43,7 +43,7 @@ abbrev pub value_at : {T : Type 0} → List (At T) → ℕ → Option T
 value_at as' n = or_first (numbered as' n) n as'
 
 abbrev pub or_unchanging : Option Transformer → Transformer
-or_unchanging None = unchanging
+or_unchanging None = identity_transformer
 or_unchanging (Some t) = t
 
 abbrev pub transformer_at : List (At Transformer) → ℕ → Transformer

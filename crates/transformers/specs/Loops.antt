@@ -5,18 +5,18 @@ use Rattle.f77_ast.specs.Trees.{ExprTree, LoopTree}
 use Rattle.f77_ast.specs.Trees as tree
 use Rattle.f77_ast.specs.declared.constant.Constant.{Constant}
 use Rattle.f77_ast.specs.declared.constant.Constant.TheVariants.{Int, Log}
-use Rattle.f77_ast.specs.declared.constant.Worth.{Worth}
-use Rattle.f77_ast.specs.declared.constant.Worth.TheVariants.{Is, Faults, Varies}
-use Rattle.f77_ast.specs.Constants.{worth}
+use Rattle.f77_ast.specs.declared.constant.ConstantValue.{ConstantValue}
+use Rattle.f77_ast.specs.declared.constant.ConstantValue.TheVariants.{Is, Faults, Varies}
+use Rattle.f77_ast.specs.Constants.{const_value}
 use Rattle.f77_ast.specs.Symbols.{number_from}
 use Rattle.affine_forms.specs.Scalars.{is_cell}
 use Rattle.affine_forms.specs.Forms.{affine_of}
-use Rattle.transformer_algebra.specs.declared.transformer.Transformer.{Transformer}
-use Rattle.transformer_algebra.specs.declared.loop_parts.LoopParts.{LoopParts}
+use Rattle.call_translation.specs.transformer_algebra.declared.transformer.Transformer.{Transformer}
+use Rattle.call_translation.specs.transformer_algebra.declared.loop_parts.LoopParts.{LoopParts}
 use Rattle.call_translation.specs.Scopes.{ScopeTree}
 
 -- a number that is not 0
-abbrev pub counting : Worth → Option ℤ
+abbrev pub counting : ConstantValue → Option ℤ
 counting (Is (Int n)) = if int_eq n (pos 0) then None else Some n
 counting (Is (Log b)) = None
 counting Faults = None
@@ -25,7 +25,7 @@ counting Varies = None
 -- 1 where none was written; none where it is no constant, or 0
 abbrev pub step_of : (List ℕ → Option Constant) → Option ExprTree → Option ℤ
 step_of value None = Some (pos 1)
-step_of value (Some e) = counting (worth value e)
+step_of value (Some e) = counting (const_value value e)
 
 -- the number of a symbol, 0 of a name without one
 abbrev pub number_in : ScopeTree → List ℕ → ℕ

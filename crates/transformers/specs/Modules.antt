@@ -10,9 +10,9 @@ use Rattle.f77_ast.specs.declared.symbol.Place.{Place}
 use Rattle.f77_ast.specs.declared.symbol.Place.TheVariants.{Local, Dummy, Block, Constant}
 use Rattle.f77_ast.specs.Symbols.{SymbolTree}
 use Rattle.f77_ast.specs.Shared.{place_at}
-use Rattle.f77_results.specs.declared.results.Results.{Results}
-use Rattle.transformer_algebra.specs.declared.transformer.Transformer.{Transformer}
-use Rattle.transformer_algebra.specs.Transformers.{transformer}
+use Rattle.f77_ast.specs.declared.results.Results.{Results}
+use Rattle.call_translation.specs.transformer_algebra.declared.transformer.Transformer.{Transformer}
+use Rattle.call_translation.specs.transformer_algebra.Transformers.{transformer}
 use Rattle.call_translation.specs.Scopes.{ScopeTree}
 use Rattle.transformers.specs.Given.{Callees}
 use Rattle.transformers.specs.Statement.{list_transformer, at_list}
@@ -25,18 +25,18 @@ is_seen (Some (Dummy m)) = true
 is_seen (Some (Block b o)) = true
 is_seen (Some (Constant n)) = false
 
-abbrev pub goes_out : List SymbolTree → ℕ → Bool
-goes_out ss c = is_seen (place_at ss c)
+abbrev pub is_visible_to_callers : List SymbolTree → ℕ → Bool
+is_visible_to_callers ss c = is_seen (place_at ss c)
 
 abbrev pub stays_in : List SymbolTree → Var → Bool
-stays_in ss v = not (goes_out ss (number v))
+stays_in ss v = not (is_visible_to_callers ss (number v))
 
 abbrev pub hidden_vars : List SymbolTree → System → List Var
 hidden_vars ss s = filter (stays_in ss) (row_vars s.rows)
 
 -- of a module whose body has this transformer: locals are projected away
 abbrev pub summary_of : List SymbolTree → Transformer → Transformer
-summary_of ss t = transformer (filter (goes_out ss) t.cells) t.foreign (project t.system (hidden_vars ss t.system)).system
+summary_of ss t = transformer (filter (is_visible_to_callers ss) t.cells) t.foreign (project t.system (hidden_vars ss t.system)).system
 
 abbrev pub transformers_of : StmtTrees → ScopeTree → Callees → Results Transformer
 transformers_of body m cs = record {

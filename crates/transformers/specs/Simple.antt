@@ -5,12 +5,12 @@ use Rattle.f77_ast.specs.Trees as tree
 use Rattle.affine_forms.specs.declared.affine.Affine.{Affine}
 use Rattle.affine_forms.specs.Scalars.{Scalars}
 use Rattle.affine_forms.specs.Forms.{affine_of}
-use Rattle.transformer_algebra.specs.declared.transformer.Transformer.{Transformer}
-use Rattle.transformer_algebra.specs.Transformers.{unchanging, forgotten, assign}
+use Rattle.call_translation.specs.transformer_algebra.declared.transformer.Transformer.{Transformer}
+use Rattle.call_translation.specs.transformer_algebra.Transformers.{identity_transformer, forgotten, assign}
 use Rattle.call_translation.specs.Actuals.{named_cell, one_cell}
 
 abbrev pub becomes : Option ℕ → Option Affine → Transformer
-becomes None f = unchanging
+becomes None f = identity_transformer
 becomes (Some c) f = assign c f
 
 -- the left side becomes the right one

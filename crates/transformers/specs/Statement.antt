@@ -4,13 +4,13 @@ use Rattle.affine_systems.specs.declared.row.System.{System}
 use Rattle.affine_systems.specs.Calls.{meet}
 use Rattle.f77_ast.specs.Trees.{ExprTree, StmtTree, WhatTree, ArmTree, ArmTrees, ElseTree, LoopTree, StmtTrees}
 use Rattle.f77_ast.specs.Trees as tree
-use Rattle.f77_results.specs.declared.results.At.{At}
-use Rattle.f77_results.specs.Summaries.{summary_in}
+use Rattle.f77_ast.specs.declared.results.At.{At}
+use Rattle.f77_ast.specs.Summaries.{summary_in}
 use Rattle.affine_forms.specs.Conditions.{no_rows, condition_of}
-use Rattle.transformer_algebra.specs.declared.transformer.Transformer.{Transformer}
-use Rattle.transformer_algebra.specs.declared.loop_parts.LoopParts.{LoopParts}
-use Rattle.transformer_algebra.specs.Transformers.{test, unchanging, nowhere, followed, one_of}
-use Rattle.transformer_algebra.specs.Loops.{iteration, loop_transformer}
+use Rattle.call_translation.specs.transformer_algebra.declared.transformer.Transformer.{Transformer}
+use Rattle.call_translation.specs.transformer_algebra.declared.loop_parts.LoopParts.{LoopParts}
+use Rattle.call_translation.specs.transformer_algebra.Transformers.{test, identity_transformer, nowhere, followed, one_of}
+use Rattle.call_translation.specs.transformer_algebra.Loops.{iteration, loop_transformer}
 use Rattle.call_translation.specs.Scopes.{ScopeTree, scope_tree}
 use Rattle.call_translation.specs.Summary.{call_transformer}
 use Rattle.transformers.specs.declared.statement.TransformerContext.{TransformerContext}
@@ -40,7 +40,7 @@ where_holds s t = followed (test s) t
 abbrev pub if_does : ScopeTree → ExprTree → Transformer → Transformer
 if_does m e t = one_of
     (where_holds (meet no_rows (condition_of m.scalars e).yes) t ∷
-    where_holds (meet no_rows (condition_of m.scalars e).no) unchanging ∷ [])
+    where_holds (meet no_rows (condition_of m.scalars e).no) identity_transformer ∷ [])
 
 -- a block IF whose arms have these transformers; where all tests are false, `before` holds and t is done
 abbrev pub choice : List Transformer → System → Transformer → Transformer
@@ -68,10 +68,10 @@ abbrev mutual
   what_transformer (tree.do_loop l) m cs last = parts_do (loop_parts m l (body_transformer l m cs))
   what_transformer (tree.call x es) m cs last = call_transformer m (cs x) es
   what_transformer (tree.goto l) m cs last = nowhere
-  what_transformer tree.continue m cs last = unchanging
-  what_transformer tree.return m cs last = if last then unchanging else nowhere
+  what_transformer tree.continue m cs last = identity_transformer
+  what_transformer tree.return m cs last = if last then identity_transformer else nowhere
   what_transformer (tree.stop text) m cs last = nowhere
-  what_transformer (tree.print es) m cs last = unchanging
+  what_transformer (tree.print es) m cs last = identity_transformer
   what_transformer (tree.read es) m cs last = reading m.scalars es
 
   -- of the statements of a list
@@ -88,7 +88,7 @@ abbrev mutual
   arm_transformer (tree.arm e body) m cs before = where_holds (meet before (condition_of m.scalars e).yes) (list_of false body (each_transformer body m cs false))
 
   pub else_transformer : ElseTree → ScopeTree → Callees → Transformer
-  else_transformer tree.no_else m cs = unchanging
+  else_transformer tree.no_else m cs = identity_transformer
   else_transformer (tree.otherwise body) m cs = list_of false body (each_transformer body m cs false)
 
   pub body_transformer : LoopTree → ScopeTree → Callees → Transformer

@@ -1,12 +1,13 @@
 //! Lists of statements that do not run from the first to the last.
 ghost use Rattle.std.specs.Prelude.{◌≡◌, IfOk};
 ghost use Rattle.f77_ast.specs.PlainStmt.{stmt_tree, stmt_trees, what_tree, arm_trees};
-ghost use Rattle.transformers.specs.Jumps.{such_of, goes_to, goes_beyond, is_return, is_end, stmt_has, parts_have, list_has, arms_have, labels as labels_is, returns_early, early_return, unstructured};
+ghost use Rattle.transformers.specs.Jumps.{such_of, goes_to, goes_beyond, is_end, stmt_has, parts_have, list_has, arms_have, labels as labels_is, returns_early, early_return, unstructured};
+ghost use Rattle.f77_ast.specs.Shapes.{is_return};
 
-use f77_ast::{Arm, Shape, Stmt, What, shape_of};
+use call_translation::transformer_algebra::has;
+use f77_ast::{Arm, Shape, Stmt, What, is_return, shape_of};
 use fx_lists::List;
 use std::alloc::{AllocError as Memory, Global};
-use transformer_algebra::has;
 
 /// The statements that are looked for.
 #[derive(Drop)]
@@ -51,25 +52,6 @@ fn goes_beyond(labels: &[u32], what: &What) -> bool
         | What::Call(..)
         | What::Continue
         | What::Return
-        | What::Stop(_)
-        | What::Print(_)
-        | What::Read(_) => false,
-    }
-}
-
-#[tactic(auto, using(f77_ast::proofs::PlainlyStmt::what_cases))]
-fn is_return(what: &What) -> bool
-    ensures { result ≡ is_return (what_tree what.now) }
-{
-    match what {
-        What::Return => true,
-        What::Assign(..)
-        | What::If(..)
-        | What::LogicalIf(..)
-        | What::Do(_)
-        | What::Call(..)
-        | What::Goto(_)
-        | What::Continue
         | What::Stop(_)
         | What::Print(_)
         | What::Read(_) => false,

@@ -8,6 +8,8 @@ mod modules;
 mod simple;
 mod statement;
 
+pub use call_translation;
+pub use call_translation::transformer_algebra;
 pub use jumps::{Sought, any_has, early_return, is_unstructured, returns_early, stmt_has};
 pub use lists::{copy_transformer, list_at, list_transformer, transformer_at, value_at};
 pub use loops::loop_parts;

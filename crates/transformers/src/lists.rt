@@ -3,18 +3,20 @@ ghost use Rattle.std.specs.Prelude.{◌≡◌, [], ◌∷◌, ◌++◌, IfOk, On
 ghost use Rattle.affine_systems.specs.Given.{Fits};
 ghost use Rattle.f77_ast.specs.PlainStmt.{stmt_trees};
 ghost use Rattle.f77_ast.specs.Shared.{numbered};
-ghost use Rattle.transformer_algebra.specs.Transformers.{AllFit};
+ghost use Rattle.call_translation.specs.transformer_algebra.Transformers.{AllFit};
 ghost use Rattle.transformers.specs.Given.{ResultsFit};
 ghost use Rattle.transformers.specs.Lists.{first_at, value_at as value_at_is, transformer_at as transformer_at_is, followed_by, in_order as in_order_is, in_any_order as in_any_order_is, list_of as list_of_is, list_at as list_at_is};
 
 use crate::is_unstructured;
 use affine_forms::no_rows;
+use call_graph::View;
 use call_translation::copy_unit;
-use f77_ast::{Stmt, StmtId, Unit};
-use f77_results::{At, View};
+use call_translation::transformer_algebra::{
+    Transformer, identity_transformer, joined_cells, joined_units, then,
+};
+use f77_ast::{At, Stmt, StmtId, Unit};
 use fx_lists::List;
 use std::alloc::{AllocError as Memory, Global};
-use transformer_algebra::{Transformer, joined_cells, joined_units, then, unchanging};
 
 #[tactic(auto, using(crate::proofs::Steps::lists))]
 fn copy_units(alloc: Global, units: &[Unit]) -> Result<List<Unit>, Memory>
@@ -79,7 +81,7 @@ fn in_order(alloc: Global, all: &[Transformer]) -> Result<Transformer, Memory>
     ensures fits { IfOk result (λ t. Fits t.system) }
 {
     match all {
-        [] => Ok(unchanging(alloc)),
+        [] => Ok(identity_transformer(alloc)),
         [first, more @ ..] => {
             let first = copy_transformer(alloc, first)?;
             followed_by(alloc, first, more)
@@ -177,7 +179,7 @@ pub fn transformer_at(
     ensures fits { IfOk result (λ t. Fits t.system) }
 {
     match value_at(all, id) {
-        None => Ok(unchanging(alloc)),
+        None => Ok(identity_transformer(alloc)),
         Some(t) => copy_transformer(alloc, t),
     }
 }

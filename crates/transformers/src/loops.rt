@@ -3,22 +3,22 @@ ghost use Rattle.std.specs.Prelude.{◌≡◌, map, IfOk};
 ghost use Rattle.affine_systems.specs.Given.{Fits};
 ghost use Rattle.f77_ast.specs.PlainStmt.{loop_tree, maybe_tree};
 ghost use Rattle.f77_ast.specs.Symbols.{symbol_tree, value_in};
-ghost use Rattle.transformer_algebra.specs.Loops.{LoopFits};
+ghost use Rattle.call_translation.specs.transformer_algebra.Loops.{LoopFits};
 ghost use Rattle.call_translation.specs.Scopes.{scope_tree};
 ghost use Rattle.transformers.specs.Loops.{counting as counting_is, step_of as step_of_is, number_in, loop_parts as loop_parts_is};
 
 use affine_forms::{affine_of, is_cell};
 use call_translation::CellScope;
-use f77_ast::{Constant, Expr, Loop, Symbols, Worth, worth_of};
+use call_translation::transformer_algebra::{LoopParts, Transformer};
+use f77_ast::{Constant, ConstantValue, Expr, Loop, Symbols, const_value_of};
 use std::alloc::{AllocError as Memory, Global};
-use transformer_algebra::{LoopParts, Transformer};
 
-fn counting(worth: Worth) -> Option<i32>
-    ensures { result ≡ counting_is worth }
+fn counting(const_value: ConstantValue) -> Option<i32>
+    ensures { result ≡ counting_is const_value }
 {
-    match worth {
-        Worth::Is(Constant::Int(n)) => { if n == 0 { None } else { Some(n) } }
-        Worth::Is(Constant::Log(_)) | Worth::Faults | Worth::Varies => None,
+    match const_value {
+        ConstantValue::Is(Constant::Int(n)) => { if n == 0 { None } else { Some(n) } }
+        ConstantValue::Is(Constant::Log(_)) | ConstantValue::Faults | ConstantValue::Varies => None,
     }
 }
 
@@ -28,7 +28,7 @@ fn step_of(symbols: &Symbols, step: &Option<Expr>) -> Option<i32>
 {
     match step {
         None => Some(1),
-        Some(step) => counting(worth_of(step, symbols)),
+        Some(step) => counting(const_value_of(step, symbols)),
     }
 }
 

@@ -4,23 +4,23 @@ ghost use Rattle.affine_systems.specs.Terms.{number};
 ghost use Rattle.affine_systems.specs.Given.{Fits};
 ghost use Rattle.f77_ast.specs.PlainStmt.{stmt_trees};
 ghost use Rattle.f77_ast.specs.Symbols.{symbol_tree};
-ghost use Rattle.f77_results.specs.Summaries.{summary_in};
+ghost use Rattle.f77_ast.specs.Summaries.{summary_in};
 ghost use Rattle.call_translation.specs.Scopes.{scope_of};
 ghost use Rattle.transformers.specs.Given.{CalleesFit, ResultsFit};
-ghost use Rattle.transformers.specs.Modules.{goes_out as goes_out_is, hidden_vars as hidden_vars_is, summary_of as summary_of_is, transformers_of};
+ghost use Rattle.transformers.specs.Modules.{is_visible_to_callers as goes_out_is, hidden_vars as hidden_vars_is, summary_of as summary_of_is, transformers_of};
 
 use crate::statement::{TransformerContext, with_list};
 use affine_systems::{System, Var};
+use call_graph::View;
+use call_translation::transformer_algebra::Transformer;
 use call_translation::{CellScope, tracked_of};
-use f77_ast::{Place, Symbols};
-use f77_results::{EffectSet, Results, Summaries, View};
+use f77_ast::{EffectSet, Place, Results, Summaries, Symbols};
 use fx_lists::List;
 use hull_projection::{add_rows, project};
 use std::alloc::{AllocError as Memory, Global};
-use transformer_algebra::Transformer;
 
 /// Whether callers see a symbol: a dummy, or a variable of a block.
-fn goes_out(symbols: &Symbols, number: u32) -> bool
+fn is_visible_to_callers(symbols: &Symbols, number: u32) -> bool
     ensures { result ≡ goes_out_is (map symbol_tree symbols.now) number }
 {
     match symbols.symbol(number) {
@@ -52,7 +52,7 @@ fn hidden_vars(alloc: Global, symbols: &Symbols, s: &System) -> Result<List<Var>
     let mut hidden = List::new(alloc);
     let mut rest = all.as_slice();
     while let [v, more @ ..] = rest {
-        if !goes_out(symbols, number_of(*v)) {
+        if !is_visible_to_callers(symbols, number_of(*v)) {
             hidden.push(*v)?;
         }
         rest = more;
@@ -68,7 +68,7 @@ fn seen_cells(alloc: Global, symbols: &Symbols, cells: &[u32]) -> Result<List<u3
     let mut seen = List::new(alloc);
     let mut rest = cells;
     while let [cell, more @ ..] = rest {
-        if goes_out(symbols, *cell) {
+        if is_visible_to_callers(symbols, *cell) {
             seen.push(*cell)?;
         }
         rest = more;

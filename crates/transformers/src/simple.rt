@@ -6,11 +6,11 @@ ghost use Rattle.affine_forms.specs.Scalars.{scalars};
 ghost use Rattle.transformers.specs.Simple.{assignment as assignment_is, named_cells as named_cells_is, reading as reading_is};
 
 use affine_forms::affine_of;
+use call_translation::transformer_algebra::{Transformer, assign, forgotten, identity_transformer};
 use call_translation::{CellScope, named_cell, push_cell};
 use f77_ast::Expr;
 use fx_lists::List;
 use std::alloc::{AllocError as Memory, Global};
-use transformer_algebra::{Transformer, assign, forgotten, unchanging};
 
 /// The transformer of an assignment (ANSI X3.9-1978, §10.1): the identity where the left side is no analysed scalar.
 pub fn assignment(
@@ -23,7 +23,7 @@ pub fn assignment(
     ensures fits { IfOk result (λ t. Fits t.system) }
 {
     match named_cell(scope, left) {
-        None => Ok(unchanging(alloc)),
+        None => Ok(identity_transformer(alloc)),
         Some(cell) => {
             let form = affine_of(alloc, scope.symbols, scope.tracked, right)?;
             assign(alloc, cell, &form)

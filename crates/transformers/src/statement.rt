@@ -4,8 +4,8 @@ ghost use Rattle.affine_systems.specs.Given.{Fits};
 ghost use Rattle.f77_ast.specs.Plain.{expr_tree};
 ghost use Rattle.f77_ast.specs.PlainStmt.{stmt_tree, stmt_trees, what_tree, loop_tree, arm_trees};
 ghost use Rattle.affine_forms.specs.Conditions.{no_rows as no_rows_is};
-ghost use Rattle.transformer_algebra.specs.Loops.{LoopFits};
-ghost use Rattle.transformer_algebra.specs.Transformers.{AllFit};
+ghost use Rattle.call_translation.specs.transformer_algebra.Loops.{LoopFits};
+ghost use Rattle.call_translation.specs.transformer_algebra.Transformers.{AllFit};
 ghost use Rattle.call_translation.specs.Scopes.{scope_tree};
 ghost use Rattle.transformers.specs.Given.{CalleesFit, ResultsFit};
 ghost use Rattle.transformers.specs.Jumps.{is_end};
@@ -18,14 +18,14 @@ use crate::loops::loop_parts;
 use crate::simple::{assignment, reading};
 use affine_forms::{condition_of, no_rows};
 use affine_systems::{System, meet};
+use call_translation::transformer_algebra::{
+    LoopParts, Transformer, identity_transformer, iteration, loop_transformer, nowhere, one_of,
+    test, then,
+};
 use call_translation::{CellScope, call_transformer};
-use f77_ast::{Arm, Expr, Loop, Stmt, StmtId, What};
-use f77_results::{At, Summaries};
+use f77_ast::{Arm, At, Expr, Loop, Stmt, StmtId, Summaries, What};
 use fx_lists::List;
 use std::alloc::{AllocError as Memory, Global};
-use transformer_algebra::{
-    LoopParts, Transformer, iteration, loop_transformer, nowhere, one_of, test, then, unchanging,
-};
 
 /// What is known around a statement: the scope of its module, and the summaries of the modules that it calls.
 #[derive(Drop)]
@@ -68,7 +68,7 @@ fn stmt_transformer(
     ensures results_fit { IfOk result (λ _. ResultsFit at.new) }
 {
     let place = at.len();
-    push_result(at, s.id, unchanging(alloc))?;
+    push_result(at, s.id, identity_transformer(alloc))?;
     let whole = what_transformer(alloc, known, &s.what, last, at)?;
     let value = copy_transformer(alloc, &whole)?;
     at.set(place, At { id: s.id, value });
@@ -96,7 +96,7 @@ fn what_transformer(
         What::If(arms, other) => {
             let tried = arm_transformers(alloc, known, arms, at)?;
             match other {
-                None => choice(alloc, tried, &unchanging(alloc)),
+                None => choice(alloc, tried, &identity_transformer(alloc)),
                 Some(body) => {
                     let does = with_list(alloc, known, body, false, at)?;
                     choice(alloc, tried, &does)
@@ -114,12 +114,12 @@ fn what_transformer(
         What::Goto(_) | What::Stop(_) => nowhere(alloc),
         What::Return => {
             if last {
-                Ok(unchanging(alloc))
+                Ok(identity_transformer(alloc))
             } else {
                 nowhere(alloc)
             }
         }
-        What::Continue | What::Print(_) => Ok(unchanging(alloc)),
+        What::Continue | What::Print(_) => Ok(identity_transformer(alloc)),
         What::Read(items) => reading(alloc, known.scope, items),
     }
 }
@@ -150,7 +150,7 @@ fn if_transformer(
     let yes = meet(alloc, &before, &condition.yes)?;
     let no = meet(alloc, &before, &condition.no)?;
     let done = where_holds(alloc, yes, does)?;
-    let passed = where_holds(alloc, no, &unchanging(alloc))?;
+    let passed = where_holds(alloc, no, &identity_transformer(alloc))?;
     one_of(alloc, &[done, passed])
 }
 

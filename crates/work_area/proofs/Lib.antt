@@ -5,3 +5,14 @@ pub mod PairSteps
 pub mod NoteLaws
 pub mod RefuteBounds
 pub mod RefuteSteps
+pub mod Rooms
+pub mod Swaps
+pub mod SortSteps
+pub mod FormSteps
+pub mod FaceSteps
+pub mod PivotSteps
+pub mod ColumnLaws
+pub mod NoteSteps
+pub mod AllLaws
+pub mod FillLaws
+pub mod FillSteps

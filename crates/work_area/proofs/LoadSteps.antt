@@ -13,17 +13,12 @@ use Rattle.affine_systems.specs.Items.{AllItems, item, no_originals, items_from,
 use Rattle.affine_systems.specs.Given.{AreNormal, IsNormalAs, ItemsFit, ItemsGiven, ItemsSmall}
 use Rattle.affine_systems.proofs.FitLaws.{length-rows_of, small_given}
 use Rattle.elimination.proofs.ElimSteps.{fit_small}
-use Rattle.row_places.specs.declared.slot.Slot.{Slot}
-use Rattle.row_places.specs.Slots.{row_in, item_in, items_in}
-use Rattle.row_places.specs.Columns.{AreAmong, InColumns}
+use Rattle.work_area.specs.declared.slot.Slot.{Slot}
+use Rattle.work_area.specs.Slots.{row_in, item_in, items_in}
+use Rattle.work_area.specs.Columns.{AreAmong, InColumns}
 use Rattle.work_area.specs.Tables.{MadeBelow}
-use Rattle.row_places.proofs.ColumnLaws.{among_count}
-
-items_from-push : (n : ℕ) (rs : List Row) (r : Row) → items_from n (rs ++ r ∷ []) ≡ items_from n rs ++ item r no_originals (n + length rs) ∷ []
-items_from-push n [] r = let e : n ≡ n + 0 = omega arith in ap (λ m. item r no_originals m ∷ []) e
-items_from-push n (s ∷ rs) r =
-    let e : suc n + length rs ≡ n + suc (length rs) = omega arith in
-    ap (λ (is : List Item). item s no_originals n ∷ is) (items_from-push (suc n) rs r ∙ ap (λ m. items_from (suc n) rs ++ item r no_originals m ∷ []) e)
+use Rattle.work_area.proofs.ColumnLaws.{among_count}
+use Rattle.affine_systems.proofs.SystemSteps.{items_from-push}
 
 pub put_more : (rs : List Row) (cur new : List Item) (i : ℕ) (d : Row) → i < length rs → i < length cur → new ≡ set cur i (item (get_or rs i d) no_originals i) → take i cur ≡ items_from 0 (take i rs) → take (i + 1) new ≡ items_from 0 (take (i + 1) rs)
 put_more rs cur new i d l m e h =

@@ -11,15 +11,16 @@ use Rattle.affine_systems.specs.Items.{item, joined, false_item, collapsed, next
 use Rattle.affine_systems.specs.Tidy.{with_normal, normal_items, sorted, one_each, in_form, row_limit, are_opposite, merged_row, against, face_opposite, faced_all, merged, round, by_row, all_substituted, taken, pivoted, unit_var}
 use Rattle.affine_systems.proofs.Basics.{if_cases}
 use Rattle.affine_systems.proofs.ItemSteps.{item_at as all_at}
-use Rattle.row_places.specs.declared.slot.Slot.{Slot}
-use Rattle.row_places.specs.Slots.{item_in, items_in}
+use Rattle.work_area.specs.declared.slot.Slot.{Slot}
+use Rattle.work_area.specs.Slots.{item_in, items_in}
 use Rattle.std.proofs.Math.Nat.{mul-le-mul}
 use Rattle.affine_systems.proofs.LastLaws.{keep_has}
-use Rattle.elimination.proofs.ElimSteps.{length-keep}
 use Rattle.work_area.specs.Outcomes.{paired_items}
 use Rattle.work_area.specs.Tables.{MadeBelow}
-use Rattle.row_places.proofs.AllLaws.{all_appended, all_sorted, all_once, all_collapsed, all_taken, all_dropped, all_removed}
-use Rattle.row_places.proofs.Swaps.{item_read, length-items_in}
+use Rattle.work_area.proofs.AllLaws.{all_appended, all_sorted, all_once, all_collapsed, all_dropped, all_removed}
+use Rattle.work_area.proofs.Swaps.{item_read, length-items_in}
+use Rattle.elimination.proofs.ClosedLaws.{length-keep}
+use Rattle.elimination.proofs.FormLaws.{all_taken}
 
 -- ---- numbers
 

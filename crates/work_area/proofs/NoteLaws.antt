@@ -20,12 +20,12 @@ use Rattle.elimination.proofs.ElimSteps.{elim_absent}
 use Rattle.hull_projection.specs.Laws.{IsOneOf}
 use Rattle.hull_projection.proofs.VarLaws.{TermsIn, RowsIn, rows_covered}
 use Rattle.affine_systems.proofs.AscendLaws.{var_lt-one_way}
-use Rattle.row_places.specs.declared.slot.Slot.{Slot}
-use Rattle.row_places.specs.Slots.{row_in, item_in, items_in}
-use Rattle.row_places.specs.Columns.{InColumns, Notes, noted, noted_terms, noted_rows}
-use Rattle.row_places.proofs.Swaps.{item_read, length-items_in}
-use Rattle.row_places.proofs.ColumnLaws.{found_before}
-use Rattle.row_places.proofs.NoteSteps.{noted_there, noted_new, ascends_noted, ascends_terms, rows_more, rows_full, few_noted}
+use Rattle.work_area.specs.declared.slot.Slot.{Slot}
+use Rattle.work_area.specs.Slots.{row_in, item_in, items_in}
+use Rattle.work_area.specs.Columns.{InColumns, Notes, noted, noted_terms, noted_rows}
+use Rattle.work_area.proofs.Swaps.{item_read, length-items_in}
+use Rattle.work_area.proofs.ColumnLaws.{found_before}
+use Rattle.work_area.proofs.NoteSteps.{noted_there, noted_new, ascends_noted, ascends_terms, rows_more, rows_full, few_noted}
 use Rattle.hull_projection.specs.Variables.{with_var, with_terms, with_rows, row_vars}
 use Rattle.work_area.specs.Refuting.{vars_of}
 use Rattle.work_area.proofs.LoadSteps.{from_columns}

@@ -11,19 +11,15 @@ use Rattle.affine_systems.specs.Items.{rows_of}
 use Rattle.affine_systems.specs.Given.{IsNormal, ItemsFit}
 use Rattle.affine_systems.specs.Eliminate.{any_has, has_unit, all_have_unit, every_pair_unit, is_lower, is_upper, keep, pair, with_uppers, pairs}
 use Rattle.affine_systems.proofs.Basics.{if_cases}
-use Rattle.affine_systems.proofs.TidyLaws.{clash}
-use Rattle.row_places.specs.declared.slot.Slot.{Slot}
-use Rattle.row_places.specs.Slots.{item_in, items_in}
-use Rattle.row_places.proofs.Swaps.{item_read, length-items_in}
+use Rattle.work_area.specs.declared.slot.Slot.{Slot}
+use Rattle.work_area.specs.Slots.{item_in, items_in}
+use Rattle.work_area.proofs.Swaps.{item_read, length-items_in}
+use Rattle.elimination.proofs.ClosedLaws.{length-keep as kept_no_more}
+use Rattle.elimination.proofs.ElimSteps.{keep-push as keep_push}
+use Rattle.elimination.proofs.PairLaws.{uppers_last, pairs_last, none_taken as nothing_taken}
+use Rattle.fx_lists.proofs.Booleans.{clash}
 
 -- ---- what is kept of a list, item by item
-
-keep_push : (f : Item → Bool) (xs : List Item) (i : Item) → keep f (xs ++ i ∷ []) ≡ keep f xs ++ (if f i then i ∷ [] else [])
-keep_push f [] i = refl
-keep_push f (x ∷ xs) i = go (f x) (keep_push f xs i) where
-  go : (b : Bool) → keep f (xs ++ i ∷ []) ≡ keep f xs ++ (if f i then i ∷ [] else []) → (if b then x ∷ keep f (xs ++ i ∷ []) else keep f (xs ++ i ∷ [])) ≡ (if b then x ∷ keep f xs else keep f xs) ++ (if f i then i ∷ [] else [])
-  go true h = ap (λ (ys : List Item). x ∷ ys) h
-  go false h = h
 
 module _ (f : Item → Bool) (ss : List Slot) (k : ℕ) (s : Slot) (l : k < length ss) (h : s ≡ get_or ss k s) where
   next_item : drop k (items_in ss) ≡ item_in s ∷ drop (k + 1) (items_in ss)
@@ -56,10 +52,6 @@ kept_few f [] zero = omega arith
 kept_few f [] (suc k) = omega arith
 kept_few f (i ∷ is) zero = omega arith
 kept_few f (i ∷ is) (suc k) = let a = kept_few f is k in if_cases (λ (js : List Item). length js ≤ suc k) (f i) (i ∷ keep f (take k is)) (keep f (take k is)) (λ _. omega (arith, a)) (λ _. omega (arith, a))
-
-pub kept_no_more : (f : Item → Bool) (is : List Item) → length (keep f is) ≤ length is
-kept_no_more f [] = omega arith
-kept_no_more f (i ∷ is) = let a = kept_no_more f is in if_cases (λ (js : List Item). length js ≤ suc (length is)) (f i) (i ∷ keep f is) (keep f is) (λ _. omega (arith, a)) (λ _. omega (arith, a))
 
 -- ---- whether one factor is 1 or -1
 
@@ -105,18 +97,6 @@ pub ruleset units_loop = (units-passed, units-have, units-ups, units-lack, units
 
 -- ---- pairs taken in
 
-uppers_last : (n : ℕ) (v : Var) (low : Item) (ups : List Item) (up : Item) → with_uppers n v low (ups ++ up ∷ []) ≡ with_uppers n v low ups ++ pair (n + length ups) v low up ∷ []
-uppers_last n v low [] up = ap (λ m. pair m v low up ∷ []) (omega arith)
-uppers_last n v low (u ∷ us) up =
-    ap (λ (is : List Item). pair n v low u ∷ is) (uppers_last (suc n) v low us up ∙ ap (λ m. with_uppers (suc n) v low us ++ pair m v low up ∷ []) (omega arith))
-
-pairs_last : (n : ℕ) (v : Var) (lows ups : List Item) (low : Item) → pairs n v (lows ++ low ∷ []) ups ≡ pairs n v lows ups ++ with_uppers (n + length lows * length ups) v low ups
-pairs_last n v [] ups low = append-nil (with_uppers n v low ups) ∙ ap (λ m. with_uppers m v low ups) (omega arith)
-pairs_last n v (l ∷ ls) ups low =
-    let s : n + length ups + length ls * length ups ≡ n + suc (length ls) * length ups = omega arith in
-    ap (λ is. with_uppers n v l ups ++ is) (pairs_last (n + length ups) v ls ups low ∙ ap (λ m. pairs (n + length ups) v ls ups ++ with_uppers m v low ups) s)
-    ∙ sym (append_assoc (with_uppers n v l ups) (pairs (n + length ups) v ls ups) (with_uppers (n + suc (length ls) * length ups) v low ups))
-
 -- the list so far, with one pair more
 pub one_pair : (n m : ℕ) (v : Var) (low up : Item) (us vs is : List Item) → vs ≡ us ++ up ∷ [] → m ≡ n + length us → (is ++ with_uppers n v low us) ++ pair m v low up ∷ [] ≡ is ++ with_uppers n v low vs
 one_pair n m v low up us vs is e s =
@@ -151,7 +131,3 @@ fit_normal v is h e = ⊎_elim (λ f. clash (any_has v is) e (lacks is f)) (λ n
 pub kept_normal : (f : Item → Bool) (is : List Item) → AllRows IsNormal (rows_of is) → AllRows IsNormal (rows_of (keep f is))
 kept_normal f [] h = tt
 kept_normal f (i ∷ is) h = if_cases (λ (js : List Item). AllRows IsNormal (rows_of js)) (f i) (i ∷ keep f is) (keep f is) (λ _. (h.0, kept_normal f is h.1)) (λ _. kept_normal f is h.1)
-
-pub nothing_taken : (is : List Item) → take 0 is ≡ []
-nothing_taken [] = refl
-nothing_taken (i ∷ is) = refl

@@ -9,22 +9,15 @@ use Rattle.affine_systems.specs.declared.items.Item.{Item}
 use Rattle.affine_systems.specs.Items.{AllItems}
 use Rattle.affine_systems.specs.Eliminate.{keep, eliminate_item}
 use Rattle.affine_systems.proofs.LastLaws.{keep_has}
-use Rattle.row_places.specs.Columns.{AreAmong, InColumns}
-use Rattle.row_places.proofs.SortSteps.{heads, take-swap}
+use Rattle.work_area.specs.Columns.{AreAmong, InColumns}
+use Rattle.work_area.proofs.SortSteps.{heads, take-swap}
 use Rattle.hull_projection.specs.Refute.{as_original, with_originals, has_few, with_few, count_pairs, left, eliminate_all}
 use Rattle.work_area.specs.Refuting.{vars_of, LeavesFew}
+use Rattle.elimination.proofs.ElimSteps.{keep-push}
+use Rattle.hull_projection.proofs.FitLaws.{originals_length as length-originals}
+use Rattle.hull_projection.proofs.IterationSteps.{originals-push}
 
 -- ---- originals
-
-originals-push : (n : ℕ) (is : List Item) (i : Item) → with_originals n (is ++ i ∷ []) ≡ with_originals n is ++ as_original (n + length is) i ∷ []
-originals-push n [] i = let e : n ≡ n + 0 = omega arith in ap (λ m. as_original m i ∷ []) e
-originals-push n (j ∷ is) i =
-    let e : suc n + length is ≡ n + suc (length is) = omega arith in
-    ap (λ (js : List Item). as_original n j ∷ js) (originals-push (suc n) is i ∙ ap (λ m. with_originals (suc n) is ++ as_original m i ∷ []) e)
-
-pub length-originals : (n : ℕ) (is : List Item) → length (with_originals n is) ≡ length is
-length-originals n [] = refl
-length-originals n (i ∷ is) = ap suc (length-originals (suc n) is)
 
 pub mark_more : (old cur new : List Item) (i : ℕ) (d : Item) → i < length old → new ≡ set cur i (as_original i (get_or cur i d)) → cur ≡ with_originals 0 (take i old) ++ drop i old → new ≡ with_originals 0 (take (i + 1) old) ++ drop (i + 1) old
 mark_more old cur new i d l n h =
@@ -46,13 +39,6 @@ mark_end old cur i n e l h =
     ap (take n) h ∙ (take_at (with_originals 0 (take i old)) (drop i old) n a ∙ ap (λ m. with_originals 0 (take m old)) e)
 
 -- ---- rows of few originals, brought to the front
-
-keep-push : (f : Item → Bool) (xs : List Item) (i : Item) → keep f (xs ++ i ∷ []) ≡ keep f xs ++ (if f i then i ∷ [] else [])
-keep-push f [] i = refl
-keep-push f (x ∷ xs) i = go (f x) (keep-push f xs i) where
-  go : (b : Bool) → keep f (xs ++ i ∷ []) ≡ keep f xs ++ (if f i then i ∷ [] else []) → (if b then x ∷ keep f (xs ++ i ∷ []) else keep f (xs ++ i ∷ [])) ≡ (if b then x ∷ keep f xs else keep f xs) ++ (if f i then i ∷ [] else [])
-  go true h = ap (λ (ys : List Item). x ∷ ys) h
-  go false h = h
 
 pub few_stays : (f : Item → Bool) (old cur new : List Item) (i kept : ℕ) (d : Item) → kept ≤ i → i < length cur → i < length old → f (get_or cur i d) ≡ true → drop i cur ≡ drop i old → new ≡ swap cur kept i → take kept cur ≡ keep f (take i old) → take (kept + 1) new ≡ keep f (take (i + 1) old)
 few_stays f old cur new i kept d k l m p r n h =

@@ -19,16 +19,16 @@ use Rattle.work_area.specs.declared.substitution.Outcome.{Outcome}
 use Rattle.work_area.specs.Outcomes.{Eliminates, paired_items}
 use Rattle.affine_systems.specs.Forms.{IsForm, HasForm}
 use Rattle.affine_systems.proofs.ItemSteps.{item_at as all_at}
-use Rattle.row_places.proofs.AllLaws.{all_removed}
+use Rattle.work_area.proofs.AllLaws.{all_removed}
 use Rattle.affine_systems.specs.Tidy.{row_limit, in_form, is_lossy, any_too_big, merged, round, next_pivot, pivoted, tidy_items}
 use Rattle.affine_systems.proofs.LastLaws.{Has, in_form_has, cut_form_has, merged_has, round_has, next_has, pivoted_has, tidied_has, cancelled_items_has, paired_items_has, eliminated_has}
-use Rattle.row_places.specs.declared.slot.Slot.{Slot}
+use Rattle.work_area.specs.declared.slot.Slot.{Slot}
 use Rattle.work_area.specs.declared.tables.Tables.{Tables}
-use Rattle.row_places.specs.Slots.{items_in, room, HaveRoom, AreShort, KeepsRoom}
-use Rattle.row_places.specs.Columns.{AreAmong, InColumns}
+use Rattle.work_area.specs.Slots.{items_in, room, HaveRoom, AreShort, KeepsRoom}
+use Rattle.work_area.specs.Columns.{AreAmong, InColumns}
 use Rattle.work_area.specs.Tables.{items_of, IsReady, KeepsReady}
-use Rattle.row_places.proofs.Swaps.{items_in-take, length-items_in, both_have, first_has, rest_has}
-use Rattle.row_places.proofs.ColumnLaws.{among_count, Given, TidyIn, columns_last, columns_survive}
+use Rattle.work_area.proofs.Swaps.{items_in-take, length-items_in, both_have, first_has, rest_has}
+use Rattle.work_area.proofs.ColumnLaws.{among_count, Given, TidyIn, columns_last, columns_survive}
 
 -- other rows in the first table
 pub ready_rows : (n : ℕ) (t u : Tables) (out : List Slot) → u.rows.items ≡ out → length out ≡ length t.rows.items → KeepsRoom t.rows.items out → u.len ≤ 512 → u.others ≡ t.others → u.scratch ≡ t.scratch → u.pivot ≡ t.pivot → IsReady n t → IsReady n u

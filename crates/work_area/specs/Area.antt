@@ -3,7 +3,7 @@ use Rattle.std.specs.Prelude.{ℕ, false, []}
 use Rattle.affine_systems.specs.declared.row.System.{System}
 use Rattle.affine_systems.specs.Rows.{system}
 use Rattle.affine_systems.specs.Items.{items_from}
-use Rattle.row_places.specs.Columns.{InColumns}
+use Rattle.work_area.specs.Columns.{InColumns}
 
 -- a system, and how many variables it may have
 pub record Area : Type 0 where

@@ -5,7 +5,7 @@ use Rattle.affine_systems.specs.Rows.{system}
 use Rattle.affine_systems.specs.Items.{rows_of}
 use Rattle.affine_systems.specs.Given.{Fits}
 use Rattle.work_area.specs.declared.work.Work.TheInside.{Inside}
-use Rattle.row_places.specs.Columns.{InColumns, noted_rows}
+use Rattle.work_area.specs.Columns.{InColumns, noted_rows}
 use Rattle.work_area.specs.Tables.{items_of, IsReady}
 use Rattle.work_area.specs.Area.{Area, area}
 

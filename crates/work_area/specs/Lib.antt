@@ -3,3 +3,7 @@ pub mod Area
 pub mod Inside
 pub mod Outcomes
 pub mod Refuting
+pub mod Slots
+pub mod Choices
+pub mod Columns
+pub mod Filling

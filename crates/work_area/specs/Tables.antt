@@ -4,10 +4,10 @@ use Rattle.std.specs.List.{All}
 use Rattle.affine_systems.specs.declared.row.Row.{Row}
 use Rattle.affine_systems.specs.declared.items.Item.{Item}
 use Rattle.affine_systems.specs.Items.{AllItems}
-use Rattle.row_places.specs.declared.slot.Slot.{Slot}
+use Rattle.work_area.specs.declared.slot.Slot.{Slot}
 use Rattle.work_area.specs.declared.tables.Tables.{Tables}
-use Rattle.row_places.specs.Slots.{items_in, room, HaveRoom}
-use Rattle.row_places.specs.Columns.{InColumns}
+use Rattle.work_area.specs.Slots.{items_in, room, HaveRoom}
+use Rattle.work_area.specs.Columns.{InColumns}
 
 -- each row finds room in each place
 pub record FitAll (rows : List Row) (out : List Slot) : Type 0 where

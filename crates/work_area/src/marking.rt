@@ -1,12 +1,12 @@
 //! Originals of rows, and rows that come from too many, in the reserved tables.
 ghost use Rattle.std.specs.Prelude.{◌≡◌, ◌<◌, ◌≤◌, length, take};
-ghost use Rattle.row_places.specs.Slots.{item_in, items_in, room, KeepsRoom};
+ghost use Rattle.work_area.specs.Slots.{item_in, items_in, room, KeepsRoom};
 ghost use Rattle.hull_projection.specs.Refute.{as_original, with_originals, has_few as has_few_is, with_few};
 ghost use Rattle.work_area.specs.Tables.{items_of, IsReady, KeepsReady};
 
+use crate::Slot;
 use crate::tables::Tables;
 use affine_systems::items::Originals;
-use row_places::Slot;
 
 /// An at-most row as the original with a number; an equal row is none.
 fn mark(slot: &mut Slot, number: u32)

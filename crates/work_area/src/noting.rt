@@ -3,13 +3,13 @@ ghost use Rattle.std.specs.Prelude.{◌≡◌, ◌≤◌, []};
 ghost use Rattle.std.specs.Vec.{vec_capacity};
 ghost use Rattle.affine_systems.specs.Items.{rows_of};
 ghost use Rattle.affine_systems.specs.Places.{has_var};
-ghost use Rattle.row_places.specs.Slots.{items_in};
-ghost use Rattle.row_places.specs.Columns.{InColumns, noted_rows};
+ghost use Rattle.work_area.specs.Slots.{items_in};
+ghost use Rattle.work_area.specs.Columns.{InColumns, noted_rows};
 ghost use Rattle.work_area.specs.Tables.{items_of, IsReady};
 
 use crate::tables::Tables;
+use crate::{Slot, note_terms};
 use affine_systems::{Term, Var};
-use row_places::{Slot, note_terms};
 
 /// Puts the variables of rows into a sum, in place of what was there. They are at most `limit`, and there is room for
 /// these.
@@ -37,7 +37,7 @@ pub fn note_tables(sum: &mut Vec<Term>, limit: usize, tables: &Tables)
     note_slots(sum, limit, &rows[..tables.len]);
 }
 
-#[tactic(auto, using(row_places::proofs::NoteSteps::has_loop))]
+#[tactic(auto, using(crate::proofs::NoteSteps::has_loop))]
 /// Whether a variable stands in a sum.
 pub fn is_noted(sum: &[Term], v: Var) -> bool
     ensures { result ≡ has_var v sum.now }

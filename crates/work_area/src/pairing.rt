@@ -7,17 +7,17 @@ ghost use Rattle.affine_systems.specs.Items.{rows_of, tidied, next_made as next_
 ghost use Rattle.affine_systems.specs.Tidy.{tidy_items};
 ghost use Rattle.affine_systems.specs.Forms.{IsForm};
 ghost use Rattle.affine_systems.specs.Eliminate.{any_has, has_unit as has_unit_is, all_have_unit, every_pair_unit as every_pair_unit_is, is_lower as is_lower_is, is_upper as is_upper_is, is_without, keep, pair, with_uppers, pairs};
-ghost use Rattle.row_places.specs.Slots.{row_in, item_in, items_in, room, FitIn, KeepsRoom};
-ghost use Rattle.row_places.specs.Columns.{IsRoomy};
-ghost use Rattle.row_places.specs.Filling.{Stands};
+ghost use Rattle.work_area.specs.Slots.{row_in, item_in, items_in, room, FitIn, KeepsRoom};
+ghost use Rattle.work_area.specs.Columns.{IsRoomy};
+ghost use Rattle.work_area.specs.Filling.{Stands};
 ghost use Rattle.work_area.specs.Tables.{items_of, IsReady, IsSound, KeepsReady, MadeBelow};
 ghost use Rattle.work_area.specs.Outcomes.{paired_items};
 
 use crate::tables::Tables;
 use crate::tidying::{next_made, tidy_formed};
+use crate::{Filled, Slot, add, begin, factor, finish, occurs, put_combined};
 use affine_systems::Var;
 use affine_systems::items::is_unit;
-use row_places::{Filled, Slot, add, begin, factor, finish, occurs, put_combined};
 use std::mem;
 
 /// Whether it bounds v from below.

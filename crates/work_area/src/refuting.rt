@@ -2,17 +2,17 @@
 ghost use Rattle.std.specs.Prelude.{◌≡◌, ◌+◌, ◌<◌, ◌≤◌, ◌^◌, suc, if◌then◌else◌, false};
 ghost use Rattle.std.specs.Vec.{vec_capacity};
 ghost use Rattle.affine_systems.specs.Given.{ItemsFit};
-ghost use Rattle.row_places.specs.Columns.{InColumns};
+ghost use Rattle.work_area.specs.Columns.{InColumns};
 ghost use Rattle.hull_projection.specs.Refute.{left, eliminate_all, refuted_items};
 ghost use Rattle.work_area.specs.Tables.{items_of, IsReady, IsSound, KeepsReady, MadeBelow};
 ghost use Rattle.work_area.specs.Refuting.{vars_of, LeavesFew};
 
+use crate::any_false;
 use crate::marking::{drop_many, mark_rows};
 use crate::noting::note_tables;
 use crate::substitution::eliminate_rows;
 use crate::tables::Tables;
 use affine_systems::{Term, Var};
-use row_places::any_false;
 
 /// One elimination more, which was by pairs or not.
 fn pairs_after(pairs: usize, paired: bool) -> usize

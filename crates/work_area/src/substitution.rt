@@ -5,19 +5,19 @@ ghost use Rattle.affine_systems.specs.Items.{false_item, next_made as next_made_
 ghost use Rattle.affine_systems.specs.Tidy.{tidy_items};
 ghost use Rattle.affine_systems.specs.Eliminate.{any_has as any_has_is, is_unit_on as is_unit_on_is, is_equal_on as is_equal_on_is, all_cancelled};
 ghost use Rattle.affine_systems.specs.Given.{IsSmallRow};
-ghost use Rattle.row_places.specs.Slots.{row_in, item_in, items_in, KeepsRoom};
-ghost use Rattle.row_places.specs.Columns.{IsRoomy};
+ghost use Rattle.work_area.specs.Slots.{row_in, item_in, items_in, KeepsRoom};
+ghost use Rattle.work_area.specs.Columns.{IsRoomy};
 ghost use Rattle.work_area.specs.Outcomes.{Eliminates};
 ghost use Rattle.work_area.specs.Tables.{items_of, IsSound, KeepsReady, MadeBelow};
 
 use crate::pairing::{is_exact, pair_off};
 use crate::tables::Tables;
 use crate::tidying::{next_made, tidy_tables};
+use crate::{Slot, cancel_all, factor, occurs, take_out};
 use affine_systems::Var;
 use affine_systems::items::is_unit;
-use row_places::{Slot, cancel_all, factor, occurs, take_out};
 
-#[tactic(auto, using(row_places::proofs::PivotSteps::has_loop))]
+#[tactic(auto, using(crate::proofs::PivotSteps::has_loop))]
 /// Whether a variable occurs in any row.
 pub fn any_has(rows: &[Slot], v: Var) -> bool
     requires { ItemsSmall (items_in rows.now) }
@@ -47,7 +47,7 @@ fn is_equal_on(slot: &Slot, v: Var) -> bool
     slot.equal && occurs(slot, v)
 }
 
-#[tactic(auto, using(row_places::proofs::PivotSteps::cut_loop))]
+#[tactic(auto, using(crate::proofs::PivotSteps::cut_loop))]
 /// The index of the first equal row with factor 1 or -1 on v.
 pub fn find_unit(rows: &[Slot], v: Var) -> Option<usize>
     requires { ItemsSmall (items_in rows.now) }
@@ -61,7 +61,7 @@ pub fn find_unit(rows: &[Slot], v: Var) -> Option<usize>
     None
 }
 
-#[tactic(auto, using(row_places::proofs::PivotSteps::cut_loop))]
+#[tactic(auto, using(crate::proofs::PivotSteps::cut_loop))]
 /// The index of the first equal row with v.
 pub fn find_equal(rows: &[Slot], v: Var) -> Option<usize>
     requires { ItemsSmall (items_in rows.now) }

@@ -1,13 +1,13 @@
 //! Two tables of rows in reserved memory.
 ghost use Rattle.std.specs.Prelude.{◌≡◌, ◌+◌, ◌<◌, ◌≤◌, length, take, map, IfOk};
 ghost use Rattle.affine_systems.specs.Items.{items_from, rows_of};
-ghost use Rattle.row_places.specs.Slots.{row_in, items_in, HaveRoom, KeepsRoom};
+ghost use Rattle.work_area.specs.Slots.{row_in, items_in, HaveRoom, KeepsRoom};
 ghost use Rattle.work_area.specs.Tables.{FitAll, items_of, IsReady, KeepsReady};
 
+use crate::Slot;
 use affine_systems::Row;
 use affine_systems::items::ROWS;
 use fx_lists::List;
-use row_places::Slot;
 use std::alloc::{AllocError as Memory, Global};
 
 /// The rows of a system, and room for what becomes of them.

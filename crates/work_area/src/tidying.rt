@@ -5,11 +5,11 @@ ghost use Rattle.affine_systems.specs.Given.{ItemsGiven, ItemsSmall};
 ghost use Rattle.affine_systems.specs.Forms.{IsForm, HasForm};
 ghost use Rattle.affine_systems.specs.Items.{next_made as next_made_is, collapsed, cut_of, tidied, FindsCut};
 ghost use Rattle.affine_systems.specs.Tidy.{sorted, one_each, faced_all, merged, any_too_big, in_form as in_form_is, round as round_is, is_lossy, is_to_take, pivoted, tidy_turns, tidy_items};
-ghost use Rattle.row_places.specs.Slots.{items_in};
+ghost use Rattle.work_area.specs.Slots.{items_in};
 ghost use Rattle.work_area.specs.Tables.{items_of, IsReady, IsSound, KeepsReady, MadeBelow};
 
 use crate::tables::Tables;
-use row_places::{Slot, arrange_front, face_all, find_pivot, form_front, take_pivot_front};
+use crate::{Slot, arrange_front, face_all, find_pivot, form_front, take_pivot_front};
 use std::mem;
 
 #[tactic(auto, using(crate::proofs::MadeLaws::next_made_loop))]

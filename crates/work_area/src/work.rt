@@ -12,8 +12,8 @@ use crate::refuting::refuted_rows;
 use crate::substitution::eliminate_rows;
 use crate::tables::{Tables, put_rows, row_list, start, with_places};
 use crate::tidying::{either, tidy_tables};
+use crate::{Slot, note_rows};
 use affine_systems::{System, Term, Var};
-use row_places::{Slot, note_rows};
 use std::alloc::{AllocError as Memory, Global};
 use std::marker::Model;
 

@@ -33,7 +33,7 @@ modules = module_p ∷ module_s ∷ []
 abbrev links : Graph
 links = graph ((codes "S") ∷ (codes "P") ∷ []) (edge (codes "P") 2 (codes "S") ∷ []) []
 
-abbrev input : List Content
+abbrev pub input : List Content
 input = []
 
 abbrev at : Area → ℕ → ℕ

@@ -1,4 +1,4 @@
--- lent_block.f: part of a block as a vector, and a local of the callee
+-- passed_block.f: part of a block as a vector, and a local of the callee
 use Rattle.std.proofs.Common.{◌≡◌, ℕ, List, [], ◌∷◌, None, Some, false, refl, pos}
 use Rattle.std.specs.Prelude.{codes}
 use Rattle.f77_ast.specs.declared.decl.Scalar.TheVariants as scalar
@@ -14,28 +14,14 @@ use Rattle.f77_meaning.specs.Areas.{Area, block, group, unit_at}
 use Rattle.f77_meaning.specs.Modules.{Known}
 use Rattle.f77_meaning.specs.Linked.{numbering}
 use Rattle.f77_meaning.proofs.CaseWords.{bound, symbol, main_module, subroutine, edge, block_of, graph, stmts_of, Arrives, Reads, Writes, Prints, ending, end_of, seen_in}
-
-abbrev module_p : Known
-module_p = main_module (codes "P")
-    (stmts_of (stmt 1 None (assign (element (codes "M") (exprs_of ((int (pos 1)) ∷ []))) (int (pos 5))) ∷ stmt 2 None (call (codes "S") (exprs_of ((element (codes "M") (exprs_of ((int (pos 2)) ∷ []))) ∷ []))) ∷ stmt 3 None (print (exprs_of ((element (codes "M") (exprs_of ((int (pos 2)) ∷ []))) ∷ (element (codes "M") (exprs_of ((int (pos 3)) ∷ []))) ∷ []))) ∷ []))
-    (symbol (codes "M") scalar.Int (bound (int (pos 1)) (Some (int (pos 3))) ∷ []) (place.Block (codes "B") 0) false [] ∷
-    [])
-
-abbrev module_s : Known
-module_s = subroutine (codes "S") ((codes "V") ∷ [])
-    (stmts_of (stmt 1 None (assign (name (codes "K")) (int (pos 7))) ∷ stmt 2 None (assign (element (codes "V") (exprs_of ((int (pos 1)) ∷ []))) (name (codes "K"))) ∷ stmt 3 None (assign (element (codes "V") (exprs_of ((int (pos 2)) ∷ []))) (element (codes "V") (exprs_of ((int (pos 1)) ∷ [])))) ∷ []))
-    (symbol (codes "V") scalar.Int (bound (int (pos 1)) (Some (int (pos 2))) ∷ []) (place.Dummy 1) false [] ∷
-    symbol (codes "K") scalar.Int [] (place.Local 1 0) false [] ∷
-    [])
+use Rattle.f77_meaning.proofs.ClaimCases.{module_p, module_s}
+use Rattle.f77_meaning.proofs.cases.ActiveVariable.{input}
 
 abbrev modules : List Known
 modules = module_p ∷ module_s ∷ []
 
 abbrev links : Graph
 links = graph ((codes "S") ∷ (codes "P") ∷ []) (edge (codes "P") 2 (codes "S") ∷ []) (block_of (codes "B") 3 ∷ [])
-
-abbrev input : List Content
-input = []
 
 abbrev at : Area → ℕ → ℕ
 at a o = unit_at (numbering modules links) a o

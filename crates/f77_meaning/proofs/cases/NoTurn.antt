@@ -14,6 +14,7 @@ use Rattle.f77_meaning.specs.Areas.{Area, group, unit_at}
 use Rattle.f77_meaning.specs.Modules.{Known}
 use Rattle.f77_meaning.specs.Linked.{numbering}
 use Rattle.f77_meaning.proofs.CaseWords.{symbol, main_module, graph, stmts_of, Arrives, Reads, Writes, Prints, ending, end_of, seen_in}
+use Rattle.f77_meaning.proofs.cases.ActiveVariable.{input}
 
 abbrev module_p : Known
 module_p = main_module (codes "P")
@@ -26,9 +27,6 @@ modules = module_p ∷ []
 
 abbrev links : Graph
 links = graph ((codes "P") ∷ []) [] []
-
-abbrev input : List Content
-input = []
 
 abbrev at : Area → ℕ → ℕ
 at a o = unit_at (numbering modules links) a o

@@ -15,6 +15,7 @@ use Rattle.f77_meaning.specs.Areas.{Area, block, unit_at}
 use Rattle.f77_meaning.specs.Modules.{Known}
 use Rattle.f77_meaning.specs.Linked.{numbering}
 use Rattle.f77_meaning.proofs.CaseWords.{bound, symbol, main_module, subroutine, edge, block_of, graph, stmts_of, Arrives, Reads, Writes, Prints, ending, end_of, seen_in}
+use Rattle.f77_meaning.proofs.cases.ActiveVariable.{input}
 
 abbrev module_p : Known
 module_p = main_module (codes "P")
@@ -36,9 +37,6 @@ modules = module_p ∷ module_s ∷ []
 
 abbrev links : Graph
 links = graph ((codes "S") ∷ (codes "P") ∷ []) (edge (codes "P") 5 (codes "S") ∷ []) (block_of (codes "B") 4 ∷ [])
-
-abbrev input : List Content
-input = []
 
 abbrev at : Area → ℕ → ℕ
 at a o = unit_at (numbering modules links) a o

@@ -15,6 +15,7 @@ use Rattle.f77_meaning.specs.Areas.{Area, group, own, unit_at}
 use Rattle.f77_meaning.specs.Modules.{Known}
 use Rattle.f77_meaning.specs.Linked.{numbering}
 use Rattle.f77_meaning.proofs.CaseWords.{symbol, main_module, subroutine, edge, graph, stmts_of, Arrives, Reads, Writes, Prints, ending, end_of, seen_in}
+use Rattle.f77_meaning.proofs.cases.ActiveVariable.{input}
 
 abbrev module_p : Known
 module_p = main_module (codes "P")
@@ -33,9 +34,6 @@ modules = module_p ∷ module_s ∷ []
 
 abbrev links : Graph
 links = graph ((codes "S") ∷ (codes "P") ∷ []) (edge (codes "P") 2 (codes "S") ∷ edge (codes "P") 4 (codes "S") ∷ []) []
-
-abbrev input : List Content
-input = []
 
 abbrev at : Area → ℕ → ℕ
 at a o = unit_at (numbering modules links) a o

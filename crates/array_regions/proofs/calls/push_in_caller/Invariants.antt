@@ -1,6 +1,6 @@
 use Rattle.std.proofs.Common.{◌≡◌, ◌++◌, length}
-use Rattle.region_sets.specs.Sets.{SetFits}
-use Rattle.call_equations.specs.Sides.{sides_tree}
+use Rattle.region_translation.specs.region_sets.Sets.{SetFits}
+use Rattle.region_translation.specs.call_equations.Sides.{sides_tree}
 use Rattle.array_regions.specs.Calls.{all_in_caller}
 use Rattle.array_regions.proofs.calls.push_in_caller.Given as goal
 

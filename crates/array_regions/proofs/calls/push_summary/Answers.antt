@@ -1,6 +1,6 @@
 use Rattle.std.proofs.lemmas.Result.{on_ok_weaker}
 use Rattle.f77_ast.specs.Plain.{expr_trees}
-use Rattle.f77_results.specs.Summaries.{summary_in, summary_tree}
+use Rattle.f77_ast.specs.Summaries.{summary_in, summary_tree}
 use Rattle.array_regions.specs.Known.{scope_in}
 use Rattle.array_regions.proofs.CallLaws.{with-summary}
 use Rattle.array_regions.proofs.calls.push_summary.Goals as goal

@@ -1,6 +1,6 @@
 use Rattle.std.proofs.Common.{◌≡◌, ◌++◌, length, map}
 use Rattle.f77_ast.specs.Symbols.{symbol_tree}
-use Rattle.region_sets.specs.Sets.{SetFits}
+use Rattle.region_translation.specs.region_sets.Sets.{SetFits}
 use Rattle.array_regions.specs.Entry.{locals, seen}
 use Rattle.array_regions.proofs.entry.all_seen.Given as goal
 

@@ -1,6 +1,6 @@
 use Rattle.std.proofs.Common.{◌≡◌, ◌++◌, length, map}
 use Rattle.hull_projection.specs.Minus.{AllFit}
-use Rattle.transformer_algebra.specs.Transformers.{without}
+use Rattle.transformers.specs.transformer_algebra.Transformers.{without}
 use Rattle.array_regions.proofs.entry.for_callers.Given as goal
 
 abbrev pub invariant-loop-rest : goal.invariant-loop-rest

@@ -1,7 +1,7 @@
 use Rattle.std.proofs.Common.{◌≡◌, ◌++◌, length, map}
 use Rattle.f77_ast.specs.Symbols.{bound_tree}
-use Rattle.call_translation.specs.Scopes.{scope_tree}
-use Rattle.region_sets.specs.Sets.{SetFits}
+use Rattle.transformers.specs.call_translation.Scopes.{scope_tree}
+use Rattle.region_translation.specs.region_sets.Sets.{SetFits}
 use Rattle.array_regions.specs.Entry.{bounds_reads}
 use Rattle.array_regions.proofs.entry.push_bounds_reads.Given as goal
 

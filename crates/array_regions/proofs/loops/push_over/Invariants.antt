@@ -1,5 +1,5 @@
 use Rattle.std.proofs.Common.{◌≡◌, ◌++◌, length}
-use Rattle.region_sets.specs.Sets.{SetFits}
+use Rattle.region_translation.specs.region_sets.Sets.{SetFits}
 use Rattle.array_regions.specs.Loops.{all_over}
 use Rattle.array_regions.proofs.loops.push_over.Given as goal
 

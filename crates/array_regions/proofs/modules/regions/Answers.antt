@@ -2,7 +2,7 @@ use Rattle.std.proofs.Common.{◌≡◌, map}
 use Rattle.f77_ast.specs.PlainDecl.{module_tree}
 use Rattle.f77_ast.specs.PlainStmt.{stmt_trees}
 use Rattle.f77_ast.specs.Symbols.{symbol_tree}
-use Rattle.f77_results.specs.Summaries.{summary_in}
+use Rattle.f77_ast.specs.Summaries.{summary_in}
 use Rattle.tracked_cells.specs.Tracked.{tracked_of}
 use Rattle.array_regions.proofs.ModuleLaws.{module-regions}
 use Rattle.array_regions.proofs.modules.regions.Goals as goal

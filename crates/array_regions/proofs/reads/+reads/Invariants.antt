@@ -1,7 +1,7 @@
 use Rattle.std.proofs.Common.{◌≡◌, ◌++◌, drop}
 use Rattle.f77_ast.specs.Plain.{expr_trees}
-use Rattle.call_translation.specs.Scopes.{scope_tree}
-use Rattle.region_sets.specs.Sets.{SetFits}
+use Rattle.transformers.specs.call_translation.Scopes.{scope_tree}
+use Rattle.region_translation.specs.region_sets.Sets.{SetFits}
 use Rattle.array_regions.specs.Reads.{all_reads}
 use Rattle.array_regions.proofs.reads.+reads.Given as goal
 

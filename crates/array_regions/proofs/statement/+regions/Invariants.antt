@@ -1,7 +1,7 @@
 use Rattle.std.proofs.Common.{◌≡◌, ◌++◌, drop}
 use Rattle.f77_ast.specs.PlainStmt.{stmt_trees, arm_trees}
-use Rattle.region_sets.specs.Lists.{SetsFit}
-use Rattle.region_sets.specs.Sets.{SetFits}
+use Rattle.region_translation.specs.region_sets.Lists.{SetsFit}
+use Rattle.region_translation.specs.region_sets.Sets.{SetFits}
 use Rattle.array_regions.specs.Arms.{ReachedFits, always, past_arms}
 use Rattle.array_regions.specs.Known.{scope_in, found_in, called_in}
 use Rattle.array_regions.specs.Statement.{arm_sets, at_list, at_arms}

@@ -1,7 +1,7 @@
 use Rattle.std.proofs.Common.{◌≡◌, true}
-use Rattle.base_values.proofs.Options.{and_from}
-use Rattle.base_rows.specs.Scopes.{is_short_name}
+use Rattle.base_json.specs.Scopes.{is_short_name}
 use Rattle.base_takes.proofs.check_names.are_short_names.Goals as goal
+use Rattle.fx_lists.proofs.Booleans.{and_from}
 
 pub returns : goal.returns
 returns c =

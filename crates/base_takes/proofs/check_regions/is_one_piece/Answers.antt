@@ -1,7 +1,7 @@
 use Rattle.std.proofs.Common.{◌≡◌, true, length, arith}
 use Rattle.std.proofs.lemmas.Result.{IfOk-weaker}
 use Rattle.f77_ast.specs.Index.{names_of}
-use Rattle.base_rows.specs.Scopes.{cells_alone, with_phi}
+use Rattle.base_json.specs.Scopes.{cells_alone, with_phi}
 use Rattle.base_values.specs.Naming.{Each, SystemFits}
 use Rattle.base_values.specs.Fits.{OnePiece}
 use Rattle.base_takes.proofs.Pieces.{one_piece}

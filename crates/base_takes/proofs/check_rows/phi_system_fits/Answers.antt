@@ -2,7 +2,7 @@ use Rattle.std.proofs.Common.{◌≡◌, true, false, ap, subst}
 use Rattle.std.specs.Prelude.{nat_eq, IfOk}
 use Rattle.std.specs.List.{list_any}
 use Rattle.f77_ast.specs.Index.{names_of}
-use Rattle.base_rows.specs.Scopes.{ScopeTree}
+use Rattle.base_json.specs.Scopes.{ScopeTree}
 use Rattle.base_values.specs.Naming.{SystemFits}
 use Rattle.base_values.proofs.ScopeLaws.{same_scope}
 use Rattle.base_takes.proofs.check_rows.phi_system_fits.Goals as goal

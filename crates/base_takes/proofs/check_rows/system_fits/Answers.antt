@@ -1,7 +1,7 @@
 use Rattle.std.proofs.Common.{◌≡◌, true}
 use Rattle.std.proofs.lemmas.Result.{IfOk-weaker}
-use Rattle.base_rows.specs.Scopes.{scope_tree}
-use Rattle.base_rows.specs.Read.{rows_fit, is_small_system}
+use Rattle.base_json.specs.Scopes.{scope_tree}
+use Rattle.base_json.specs.Read.{rows_fit, is_small_system}
 use Rattle.base_values.specs.Naming.{Each, SystemFits}
 use Rattle.base_takes.proofs.RowsFit.{RowChecked, system_fits}
 use Rattle.base_takes.proofs.check_rows.system_fits.Goals as goal

@@ -1,6 +1,6 @@
 use Rattle.std.proofs.Common.{◌≡◌, true, map, sym, ap, ◌∙◌}
 use Rattle.std.proofs.lemmas.Result.{IfOk-weaker}
-use Rattle.f77_results.specs.declared.results.At.{At}
+use Rattle.f77_ast.specs.declared.results.At.{At}
 use Rattle.base_values.specs.Naming.{Each}
 use Rattle.base_values.specs.Fits.{AllFit}
 use Rattle.base_takes.proofs.check_values.all_fit.Goals as goal

@@ -1,5 +1,5 @@
 use Rattle.std.proofs.Common.{◌≡◌, length, map}
-use Rattle.f77_results.specs.declared.results.At.{At}
+use Rattle.f77_ast.specs.declared.results.At.{At}
 use Rattle.base_takes.proofs.check_values.are_at.Given as goal
 
 abbrev pub invariant-loop-rest : goal.invariant-loop-rest

@@ -1,6 +1,6 @@
 use Rattle.std.proofs.Common.{ap, ◌∙◌}
 use Rattle.std.specs.Prelude.{option_and_then}
-use Rattle.pipsmake_rules.specs.Kinds.{kind_with}
+use Rattle.session_texts.specs.pipsmake_rules.Kinds.{kind_with}
 use Rattle.base_text.proofs.NamedKinds.{with_name}
 use Rattle.base_text.proofs.results.kind_at.Goals as goal
 

@@ -4,8 +4,8 @@ use Rattle.serde_json.specs.View.{view}
 use Rattle.f77_ast.specs.Index.{names_of}
 use Rattle.base_json.specs.Gives.{Gives}
 use Rattle.base_json.specs.Shapes.{member_as}
-use Rattle.base_rows.specs.Scopes.{ScopeTree}
-use Rattle.base_rows.specs.Read.{system_of}
+use Rattle.base_json.specs.Scopes.{ScopeTree}
+use Rattle.base_json.specs.Read.{system_of}
 use Rattle.base_values.proofs.ScopeLaws.{same_scope}
 use Rattle.base_values.proofs.at_transformers.exit_system.Goals as goal
 

@@ -3,7 +3,7 @@ use Rattle.std.proofs.lemmas.Result.{on_ok_weaker}
 use Rattle.serde_json.specs.Written.{compact_text}
 use Rattle.serde_json.proofs.OnLiterals.{serde_json_on_literals}
 use Rattle.base_json.specs.Written.{list_data}
-use Rattle.base_rows.specs.Written.{system_data}
+use Rattle.base_json.specs.RowsWritten.{system_data}
 use Rattle.base_values.specs.Written.{at_data}
 use Rattle.base_values.proofs.Joins.{joined}
 use Rattle.base_values.proofs.put.put_entry.Goals as goal

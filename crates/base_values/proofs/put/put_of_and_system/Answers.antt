@@ -3,7 +3,7 @@ use Rattle.std.proofs.lemmas.Result.{on_ok_weaker}
 use Rattle.serde_json.specs.Written.{compact_text}
 use Rattle.serde_json.proofs.OnLiterals.{serde_json_on_literals}
 use Rattle.f77_ast.specs.Index.{names_of}
-use Rattle.base_rows.specs.Written.{system_data}
+use Rattle.base_json.specs.RowsWritten.{system_data}
 use Rattle.base_values.specs.Written.{piece_of, variable_data}
 use Rattle.base_values.proofs.Joins.{joined}
 use Rattle.base_values.proofs.put.put_of_and_system.Goals as goal

@@ -1,5 +1,5 @@
 use Rattle.std.proofs.Common.{◌<◌, ◌^◌, arith}
-use Rattle.f77_results.specs.declared.results.At.{At}
+use Rattle.f77_ast.specs.declared.results.At.{At}
 use Rattle.base_values.proofs.Rests.{each_rest}
 use Rattle.base_values.proofs.ranges.ids_fit.Goals as goal
 

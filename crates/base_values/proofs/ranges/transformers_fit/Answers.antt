@@ -1,6 +1,6 @@
 use Rattle.std.proofs.Common.{arith, subst}
-use Rattle.f77_results.specs.declared.results.At.{At}
-use Rattle.transformer_algebra.specs.declared.transformer.Transformer.{Transformer}
+use Rattle.f77_ast.specs.declared.results.At.{At}
+use Rattle.preconditions.specs.transformer_algebra.declared.transformer.Transformer.{Transformer}
 use Rattle.base_values.specs.Ranges.{OffsetsFit}
 use Rattle.base_values.proofs.Rests.{each_rest}
 use Rattle.base_values.proofs.ranges.transformers_fit.Goals as goal

@@ -4,7 +4,7 @@ use Rattle.std.specs.List.{list_any}
 use Rattle.serde_json.specs.View.{view}
 use Rattle.f77_ast.specs.Index.{names_of}
 use Rattle.base_json.specs.Gives.{Gives}
-use Rattle.base_rows.specs.Scopes.{ScopeTree}
+use Rattle.base_json.specs.Scopes.{ScopeTree}
 use Rattle.base_values.specs.Read.{value_of}
 use Rattle.base_values.proofs.ScopeLaws.{same_scope}
 use Rattle.base_values.proofs.read.stored_at.Goals as goal

@@ -1,7 +1,7 @@
 use Rattle.std.proofs.Common.{sym, subst}
 use Rattle.serde_json.specs.View.{view}
 use Rattle.base_json.specs.Gives.{Gives}
-use Rattle.base_rows.specs.Scopes.{scope_tree}
+use Rattle.base_json.specs.Scopes.{scope_tree}
 use Rattle.pipsmake_rules.specs.declared.kind.Kind.{Kind}
 use Rattle.std.specs.Prelude.{codes, option_map}
 use Rattle.base_values.specs.declared.stored.StoredValue.TheVariants as stored

@@ -5,8 +5,9 @@ use Rattle.f77_ast.specs.PlainDecl.{parsed_tree}
 use Rattle.f77_ast.specs.Symbols.{SymbolTree, symbol_tree}
 use Rattle.call_graph.specs.Modules.{too_many}
 use Rattle.call_graph.specs.Links.{named_of}
-use Rattle.call_graph.proofs.LinkLaws.{refused_by, passed, few, length-map}
+use Rattle.call_graph.proofs.LinkLaws.{refused_by, passed, few}
 use Rattle.call_graph.proofs.links.link.Goals as goal
+use Rattle.fx_lists.proofs.Lists.{map_length as length-map}
 
 pub returns-in-Some : goal.returns-in-Some
 returns-in-Some c =

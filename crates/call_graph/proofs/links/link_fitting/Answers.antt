@@ -6,8 +6,9 @@ use Rattle.f77_ast.specs.Symbols.{SymbolTree, symbol_tree}
 use Rattle.call_graph.specs.Callees.{all_places}
 use Rattle.call_graph.specs.Recursion.{reaches, cyclic_from}
 use Rattle.call_graph.specs.Links.{callees_of, cyclic, graph_from, graph_of, program_calls}
-use Rattle.call_graph.proofs.LinkLaws.{refused_by, passed, length-all_places, length-all_calls, length-map}
+use Rattle.call_graph.proofs.LinkLaws.{refused_by, passed, length-all_places, length-all_calls}
 use Rattle.call_graph.proofs.links.link_fitting.Goals as goal
+use Rattle.fx_lists.proofs.Lists.{map_length as length-map}
 
 pub recursion-requires-clause-few_callees : goal.recursion-requires-clause-few_callees
 recursion-requires-clause-few_callees c =

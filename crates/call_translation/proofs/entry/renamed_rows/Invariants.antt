@@ -1,7 +1,7 @@
 use Rattle.std.proofs.Common.{◌≡◌, ◌++◌, map, drop}
 use Rattle.affine_systems.specs.Rows.{AllRows, renamed_row}
 use Rattle.affine_systems.specs.Given.{IsGiven, IsSmallRow}
-use Rattle.system_renaming.specs.Renaming.{renamed_by}
+use Rattle.transformer_algebra.specs.Renaming.{renamed_by}
 use Rattle.call_translation.proofs.entry.renamed_rows.Given as goal
 
 abbrev pub invariant-loop-row : goal.invariant-loop-row

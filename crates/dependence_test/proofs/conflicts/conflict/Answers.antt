@@ -3,8 +3,8 @@ use Rattle.std.proofs.lemmas.Result.{IfOk-weaker}
 use Rattle.hull_projection.specs.Refute.{refuted}
 use Rattle.f77_ast.specs.PlainStmt.{stmt_trees}
 use Rattle.f77_ast.specs.Symbols.{symbol_tree}
-use Rattle.loop_bodies.specs.Finding.{loop_in}
-use Rattle.loop_bodies.specs.Given.{known_body}
+use Rattle.dependence_test.specs.Finding.{loop_in}
+use Rattle.dependence_test.specs.Given.{known_body}
 use Rattle.dependence_test.specs.declared.answer.Conflict.{Conflict}
 use Rattle.dependence_test.specs.Conflicts.{conflict_in}
 use Rattle.dependence_test.specs.Claims.{DoNotMeetIn, IfNoConflict, IfKept}

@@ -1,10 +1,10 @@
 use Rattle.std.proofs.Common.{◌≡◌, [], ◌∷◌, ◌++◌, map, ap, ◌∙◌}
 use Rattle.f77_ast.specs.PlainStmt.{what_tree}
 use Rattle.f77_ast.specs.Symbols.{symbol_tree}
-use Rattle.f77_results.specs.Summaries.{summary_in}
+use Rattle.f77_ast.specs.Summaries.{summary_in}
 use Rattle.effects.specs.List.{at, at_parts, with_parts}
-use Rattle.effects.proofs.ListLaws.{filled}
 use Rattle.effects.proofs.list.+effects.Goals as goal
+use Rattle.fx_lists.proofs.Lists.{filled}
 
 pub stmt_effect-returns-clause-added : goal.stmt_effect-returns-clause-added
 stmt_effect-returns-clause-added t c =

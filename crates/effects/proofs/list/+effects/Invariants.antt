@@ -1,7 +1,7 @@
 use Rattle.std.proofs.Common.{◌≡◌, ◌++◌, drop, map}
 use Rattle.f77_ast.specs.PlainStmt.{stmt_trees, arm_trees}
 use Rattle.f77_ast.specs.Symbols.{symbol_tree}
-use Rattle.f77_results.specs.Summaries.{summary_in}
+use Rattle.f77_ast.specs.Summaries.{summary_in}
 use Rattle.effects.specs.List.{with_list, with_arms, at_list, at_arms}
 use Rattle.effects.proofs.list.+effects.Given as goal
 

@@ -5,9 +5,10 @@ use Rattle.affine_systems.specs.Given.{ItemsSmall, AreNormal}
 use Rattle.affine_systems.specs.Items.{rows_of, next_made}
 use Rattle.affine_systems.specs.Tidy.{tidy_items}
 use Rattle.affine_systems.specs.Eliminate.{is_lower, is_upper, is_without, AreLower, pairs, every_pair_unit, elimination_of}
-use Rattle.elimination.proofs.ElimSteps.{keep_small, keep_lower, length-keep, pairs_room, fit_small, pairs_given}
+use Rattle.elimination.proofs.ElimSteps.{keep_small, keep_lower, pairs_room, fit_small, pairs_given}
 use Rattle.elimination.proofs.PairLaws.{normal_kept, all_paired}
 use Rattle.elimination.proofs.elimination.pair_off.Goals as goal
+use Rattle.elimination.proofs.ClosedLaws.{length-keep}
 
 pub split_by_sign-requires : goal.split_by_sign-requires
 split_by_sign-requires c = fit_small c.args.rational c.args.items.items c.requires

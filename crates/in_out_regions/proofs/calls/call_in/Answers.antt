@@ -1,8 +1,8 @@
 use Rattle.std.proofs.Common.{◌≡◌, List, Some}
 use Rattle.std.proofs.lemmas.Result.{IfOk-weaker}
 use Rattle.f77_ast.specs.Plain.{expr_trees}
-use Rattle.f77_results.specs.Summaries.{summary_in as callees_in, summary_tree}
-use Rattle.region_sets.specs.declared.region.Region.{Region}
+use Rattle.f77_ast.specs.Summaries.{summary_in as callees_in, summary_tree}
+use Rattle.array_regions.specs.region_sets.declared.region.Region.{Region}
 use Rattle.array_regions.specs.Known.{scope_in}
 use Rattle.in_out_regions.specs.Calls.{summary_in, call_in}
 use Rattle.in_out_regions.proofs.CallLaws.{with-summary}

@@ -1,6 +1,6 @@
 use Rattle.std.proofs.Common.{◌≡◌, length, ◌++◌, ◌&&◌, map}
 use Rattle.hull_projection.specs.Minus.{AllFit}
-use Rattle.region_sets.specs.Regions.{all_exact, systems}
+use Rattle.array_regions.specs.region_sets.Regions.{all_exact, systems}
 use Rattle.in_out_regions.specs.Loops.{earlier_piece}
 use Rattle.in_out_regions.proofs.earlier.projected.Given as goal
 

@@ -1,5 +1,5 @@
 use Rattle.std.proofs.Common.{◌≡◌, length, ◌++◌}
-use Rattle.region_sets.specs.Sets.{SetFits}
+use Rattle.array_regions.specs.region_sets.Sets.{SetFits}
 use Rattle.in_out_regions.specs.Kinds.{first_reads}
 use Rattle.in_out_regions.proofs.kinds.first_reads.Given as goal
 

@@ -1,6 +1,6 @@
 use Rattle.std.proofs.Common.{◌≡◌, length, ◌++◌, map}
 use Rattle.f77_ast.specs.Symbols.{symbol_tree}
-use Rattle.region_sets.specs.Sets.{SetFits}
+use Rattle.array_regions.specs.region_sets.Sets.{SetFits}
 use Rattle.in_out_regions.specs.Lists.{all_unless_overlapped}
 use Rattle.in_out_regions.proofs.lists.all_unless_overlapped.Given as goal
 

@@ -1,9 +1,10 @@
 use Rattle.std.proofs.Common.{◌≡◌, length, ◌≤◌, drop, map}
 use Rattle.f77_ast.specs.Symbols.{symbol_tree}
-use Rattle.transformers.specs.Lists.{transformer_at}
-use Rattle.region_sets.specs.Sets.{SetFits}
-use Rattle.in_out_regions.specs.Lists.{set_at, ins_in_order}
+use Rattle.array_regions.specs.transformers.Lists.{transformer_at}
+use Rattle.array_regions.specs.region_sets.Sets.{SetFits}
+use Rattle.in_out_regions.specs.Lists.{ins_in_order}
 use Rattle.in_out_regions.proofs.lists.in_order.Given as goal
+use Rattle.array_regions.specs.region_sets.Lists.{set_at}
 
 abbrev pub invariant-loop-left : goal.invariant-loop-left
 invariant-loop-left l = record {

@@ -2,12 +2,13 @@ use Rattle.std.proofs.Common.{◌≡◌, List, map, sym, subst}
 use Rattle.std.proofs.lemmas.Result.{IfOk-weaker}
 use Rattle.f77_ast.specs.PlainStmt.{stmt_trees}
 use Rattle.f77_ast.specs.Symbols.{symbol_tree}
-use Rattle.transformers.specs.Lists.{transformer_at}
-use Rattle.region_sets.specs.declared.region.Region.{Region}
-use Rattle.in_out_regions.specs.Lists.{set_at, list_in}
+use Rattle.array_regions.specs.transformers.Lists.{transformer_at}
+use Rattle.array_regions.specs.region_sets.declared.region.Region.{Region}
+use Rattle.in_out_regions.specs.Lists.{list_in}
 use Rattle.in_out_regions.specs.ListClaims.{HasListIn, HasListInAlone}
 use Rattle.in_out_regions.proofs.ListLaws.{list_sound, list_sharp}
 use Rattle.in_out_regions.proofs.lists.list_in.Goals as goal
+use Rattle.array_regions.specs.region_sets.Lists.{set_at}
 
 pub returns-clause-sound : goal.returns-clause-sound
 returns-clause-sound c =

@@ -1,5 +1,5 @@
 use Rattle.std.proofs.Common.{◌≡◌, length}
-use Rattle.transformer_algebra.specs.Loops.{terms_stay}
+use Rattle.array_regions.specs.transformer_algebra.Loops.{terms_stay}
 use Rattle.in_out_regions.proofs.loop_rows.terms_stay.Given as goal
 
 abbrev pub invariant-loop-rest : goal.invariant-loop-rest

@@ -1,6 +1,6 @@
 use Rattle.std.proofs.Common.{◌≡◌, length, ◌++◌, map}
 use Rattle.hull_projection.specs.Minus.{AllFit}
-use Rattle.system_renaming.specs.Renaming.{push_rows}
+use Rattle.array_regions.specs.transformer_algebra.Renaming.{push_rows}
 use Rattle.in_out_regions.specs.Loops.{index_rows}
 use Rattle.in_out_regions.proofs.loops.in_range.Given as goal
 

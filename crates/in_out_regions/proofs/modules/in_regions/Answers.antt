@@ -1,6 +1,6 @@
 use Rattle.std.proofs.Common.{◌≡◌}
 use Rattle.f77_ast.specs.PlainStmt.{stmt_trees}
-use Rattle.f77_results.specs.Summaries.{summary_in}
+use Rattle.f77_ast.specs.Summaries.{summary_in}
 use Rattle.in_out_regions.proofs.ModuleLaws.{module-ins}
 use Rattle.in_out_regions.proofs.modules.in_regions.Goals as goal
 

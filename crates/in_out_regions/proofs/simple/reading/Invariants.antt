@@ -1,7 +1,7 @@
 use Rattle.std.proofs.Common.{◌≡◌, ◌≤◌, length, drop}
 use Rattle.f77_ast.specs.Plain.{expr_trees}
-use Rattle.call_translation.specs.Scopes.{scope_tree}
-use Rattle.region_sets.specs.Sets.{SetFits}
+use Rattle.array_regions.specs.call_translation.Scopes.{scope_tree}
+use Rattle.array_regions.specs.region_sets.Sets.{SetFits}
 use Rattle.in_out_regions.specs.Simple.{reading}
 use Rattle.in_out_regions.proofs.simple.reading.Given as goal
 

@@ -1,4 +1,4 @@
-use Rattle.in_out_regions.proofs.Steps.{set-fits}
+use Rattle.array_regions.proofs.RegionSets.ListSteps.{set-fits}
 use Rattle.in_out_regions.proofs.statement.+ins.Goals as goal
 
 pub what_in-first_reads-requires : goal.what_in-first_reads-requires

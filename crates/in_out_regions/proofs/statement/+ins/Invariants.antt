@@ -1,7 +1,7 @@
 use Rattle.std.proofs.Common.{◌≡◌, ◌++◌, drop}
 use Rattle.f77_ast.specs.PlainStmt.{stmt_trees, arm_trees}
-use Rattle.region_sets.specs.Lists.{SetsFit}
-use Rattle.region_sets.specs.Sets.{SetFits}
+use Rattle.array_regions.specs.region_sets.Lists.{SetsFit}
+use Rattle.array_regions.specs.region_sets.Sets.{SetFits}
 use Rattle.array_regions.specs.Arms.{ReachedFits, always, past_arms}
 use Rattle.in_out_regions.specs.Contexts.{known_in}
 use Rattle.in_out_regions.specs.Statement.{arms_in, at_list, at_arms}

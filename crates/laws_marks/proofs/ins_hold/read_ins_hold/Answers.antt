@@ -1,4 +1,4 @@
-use Rattle.laws_regions.proofs.Carrying.{LinkLaws}
+use Rattle.laws_analyses.proofs.Regions.Carrying.{LinkLaws}
 use Rattle.laws_marks.proofs.InAccepted.{read_ins_hold}
 use Rattle.laws_marks.proofs.InGrouped.{locals_are_saved_together}
 use Rattle.laws_marks.proofs.ins_hold.read_ins_hold.Goals as goal

@@ -1,9 +1,9 @@
 use Rattle.std.proofs.Common.{◌≡◌, Bool, false, sym, ap, subst, ◌∙◌}
 use Rattle.std.specs.Prelude.{IfOk, if◌then◌else◌}
 use Rattle.f77_ast.specs.PlainStmt.{loop_tree}
-use Rattle.region_sets.specs.declared.marks.Mark.{Mark}
-use Rattle.region_sets.specs.declared.marks.Mark.TheVariants.{Serial}
-use Rattle.region_sets.specs.declared.marks.Reason.TheVariants.{InputOutput}
+use Rattle.f77_ast.specs.declared.marks.Mark.{Mark}
+use Rattle.f77_ast.specs.declared.marks.Mark.TheVariants.{Serial}
+use Rattle.f77_ast.specs.declared.marks.Reason.TheVariants.{InputOutput}
 use Rattle.loop_marker.specs.Jumps.{body_of, may_have_io}
 use Rattle.loop_marker.specs.Variables.{indexes_in}
 use Rattle.loop_marker.specs.Known.{known_module}

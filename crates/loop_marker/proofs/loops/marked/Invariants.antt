@@ -1,6 +1,6 @@
 use Rattle.std.proofs.Common.{◌≡◌, [], length}
 use Rattle.f77_ast.specs.PlainStmt.{loop_tree}
-use Rattle.loop_bodies.specs.Given.{BodyFits}
+use Rattle.dependence_test.specs.Given.{BodyFits}
 use Rattle.privatizer.specs.Views.{UsesFit, uses_tree}
 use Rattle.loop_marker.specs.Known.{known_module}
 use Rattle.loop_marker.specs.Marks.{marked, verdict_of}

@@ -3,14 +3,14 @@ use Rattle.std.specs.Prelude.{IfOk}
 use Rattle.f77_ast.specs.PlainDecl.{module_tree}
 use Rattle.f77_ast.specs.Symbols.{symbol_tree}
 use Rattle.f77_ast.specs.Index.{names_of}
-use Rattle.call_translation.specs.Scopes.{ScopeTree}
-use Rattle.scalar_phases.specs.Phases.{scope_of}
-use Rattle.scalar_phases.specs.Views.{known}
-use Rattle.scalar_phases.proofs.ScopeLaws.{scope-same}
+use Rattle.transformers.specs.call_translation.Scopes.{ScopeTree}
+use Rattle.module_phases.specs.ScalarPhases.{scope_of}
+use Rattle.module_phases.specs.ScalarViews.{known}
+use Rattle.module_phases.proofs.ScopeLaws.{scope-same}
 use Rattle.loop_marker.specs.Known.{knowledge_of}
 use Rattle.loop_marker.specs.Marks.{marks_of}
-use Rattle.loop_marker.proofs.PhaseLaws.{names_same}
 use Rattle.loop_marker.proofs.phases.marks_with.Goals as goal
+use Rattle.f77_meaning.proofs.SymbolNames.{names-same as names_same}
 
 pub returns : goal.returns
 returns c =

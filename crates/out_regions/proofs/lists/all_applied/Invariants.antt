@@ -1,5 +1,5 @@
 use Rattle.std.proofs.Common.{◌≡◌, take}
-use Rattle.region_sets.specs.Sets.{SetFits}
+use Rattle.in_out_regions.specs.region_sets.Sets.{SetFits}
 use Rattle.out_regions.specs.Lists.{all_applied}
 use Rattle.out_regions.proofs.lists.all_applied.Given as goal
 

@@ -1,6 +1,6 @@
 use Rattle.std.proofs.Common.{◌≡◌, ◌++◌, length, map}
 use Rattle.hull_projection.specs.Minus.{AllFit}
-use Rattle.transformer_algebra.specs.Transformers.{apply}
+use Rattle.in_out_regions.specs.transformer_algebra.Transformers.{apply}
 use Rattle.out_regions.proofs.lists.applied.Given as goal
 
 abbrev pub invariant-loop-rest : goal.invariant-loop-rest

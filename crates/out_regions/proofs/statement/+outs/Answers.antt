@@ -2,7 +2,7 @@ use Rattle.std.proofs.Common.{◌≡◌, ℕ, List, ◌++◌, Some, get_or, sym,
 use Rattle.std.proofs.lemmas.List.Elements.{All-pop}
 use Rattle.f77_ast.specs.declared.stmt.Stmt.{Stmt}
 use Rattle.f77_ast.specs.PlainStmt.{stmt_tree}
-use Rattle.region_sets.specs.declared.region.Region.{Region}
+use Rattle.in_out_regions.specs.region_sets.declared.region.Region.{Region}
 use Rattle.out_regions.specs.Contexts.{known_in, RestFits}
 use Rattle.out_regions.specs.Lists.{rest_out}
 use Rattle.out_regions.specs.Statement.{at_first}

@@ -1,8 +1,8 @@
 use Rattle.std.proofs.Common.{◌≡◌, ◌++◌, drop, reverse}
 use Rattle.std.specs.Prelude.{All}
 use Rattle.f77_ast.specs.PlainStmt.{stmt_trees, arm_trees}
-use Rattle.region_sets.specs.Lists.{SetsFit}
-use Rattle.region_sets.specs.Sets.{SetFits}
+use Rattle.in_out_regions.specs.region_sets.Lists.{SetsFit}
+use Rattle.in_out_regions.specs.region_sets.Sets.{SetFits}
 use Rattle.out_regions.specs.Contexts.{known_in, RestFits}
 use Rattle.out_regions.specs.Lists.{rests_behind}
 use Rattle.out_regions.specs.Statement.{at_arms, at_any, at_rest}

@@ -1,5 +1,5 @@
 use Rattle.std.proofs.Common.{◌≡◌, ◌++◌, length, map}
-use Rattle.region_sets.specs.Sets.{SetFits}
+use Rattle.in_out_regions.specs.region_sets.Sets.{SetFits}
 use Rattle.out_regions.specs.Used.{as_out, all_out}
 use Rattle.out_regions.proofs.used.push_out.Given as goal
 

@@ -1,6 +1,6 @@
 use Rattle.std.proofs.Common.{◌≡◌, ◌++◌, length}
 use Rattle.hull_projection.specs.Minus.{AllFit}
-use Rattle.region_sets.specs.Sets.{SetFits}
+use Rattle.in_out_regions.specs.region_sets.Sets.{SetFits}
 use Rattle.out_regions.specs.Used.{used_pieces}
 use Rattle.out_regions.proofs.used.used_pieces.Given as goal
 

@@ -1,4 +1,4 @@
-use Rattle.pips_top.proofs.Programs.{claims_from}
+use Rattle.pips_top.proofs.EntryClaims.{claims_from}
 use Rattle.pips_top.proofs.laws.claims_hold.Goals as goal
 
 pub returns : goal.returns

@@ -26,6 +26,8 @@ returns-in-Ok-load-clause-answer g c =
         verified = found.1;
         grammar = c.in-Ok-open_base.ensures.grammar;
         texts = c.in-Ok-load.ensures.texts;
+        fresh = c.in-Ok-load.ensures.fresh;
+        rests = c.in-Ok-load.ensures.rests;
         stands = c.in-Ok-load.ensures.stands;
       },
     )

@@ -1,4 +1,4 @@
-use Rattle.pipsmake_db.specs.State.{first_state}
+use Rattle.pipsmake_base.specs.pipsmake_db.State.{first_state}
 use Rattle.pips_top.proofs.session.answer_first.Goals as goal
 
 pub returns-in-Ok : goal.returns-in-Ok

@@ -1,5 +1,5 @@
 use Rattle.std.proofs.Common.{◌∙◌, ap, sym, Ok}
-use Rattle.pipsmake_db.specs.State.{texts_of}
+use Rattle.pipsmake_base.specs.pipsmake_db.State.{texts_of}
 use Rattle.pips_top.specs.Replies.{PrintsWhole, RefusedBy}
 use Rattle.pips_top.proofs.PrintedOver.{printed_over}
 use Rattle.pips_top.proofs.ReadAlike.{refused_as_text, refused_as_links, on_made}

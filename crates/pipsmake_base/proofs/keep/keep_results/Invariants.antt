@@ -1,5 +1,5 @@
 use Rattle.std.proofs.Common.{◌≡◌, length}
-use Rattle.result_store.specs.Rows.{shelves_of}
+use Rattle.pipsmake_db.specs.result_store.Rows.{memo_cells_of}
 use Rattle.pipsmake_base.specs.Plain.{IsPlain, texts_behind}
 use Rattle.pipsmake_base.proofs.Taking.{KeepsRest}
 use Rattle.pipsmake_base.proofs.keep.keep_results.Given as goal
@@ -8,7 +8,7 @@ abbrev pub invariant-loop-rest : goal.invariant-loop-rest
 invariant-loop-rest l = record {
   in_some : IsPlain l.plain;
   texts : texts_behind l.plain ≡ l.modules.sources.now;
-  keeps : KeepsRest l.modules.sources.now (shelves_of l.fn.store) l.fn.seen l.fn.keys (shelves_of l.store) l.seen l.rest;
+  keeps : KeepsRest l.modules.sources.now (memo_cells_of l.fn.store) l.fn.seen l.fn.keys (memo_cells_of l.store) l.seen l.rest;
 }
 
 abbrev pub decreases-loop-rest : goal.decreases-loop-rest

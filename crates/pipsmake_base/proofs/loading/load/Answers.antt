@@ -1,13 +1,13 @@
 use Rattle.std.proofs.Common.{◌≡◌, List, [], map, refl, sym, ap, ◌∙◌, subst}
-use Rattle.base_rows.specs.Distinct.{are_new}
+use Rattle.base_json.specs.Distinct.{are_new}
 use Rattle.base_text.specs.declared.base.BaseModule.{BaseModule}
 use Rattle.base_text.specs.Modules.{module_names_in, known}
-use Rattle.laws_database.specs.Session.{none_made}
-use Rattle.laws_database.specs.Stands.{StandsFor}
+use Rattle.pipsmake_db.specs.pipsmake_meaning.Session.{none_made}
+use Rattle.pipsmake_db.specs.laws_database.Stands.{StandsFor}
 use Rattle.pipsmake_db.specs.declared.db.Db.{Db}
 use Rattle.pipsmake_db.specs.Links.{AreLinks}
-use Rattle.pipsmake_db.specs.State.{texts_of, shelves_in}
-use Rattle.result_store.specs.Rows.{shelves_of}
+use Rattle.pipsmake_db.specs.State.{texts_of, memo_cells_in}
+use Rattle.pipsmake_db.specs.result_store.Rows.{memo_cells_of}
 use Rattle.pipsmake_base.specs.Saved.{text_at, texts_in}
 use Rattle.pipsmake_base.specs.Taken.{KeepsAll}
 use Rattle.pipsmake_base.proofs.LoadLaws.{values_fit, is_loaded}
@@ -43,20 +43,20 @@ pub returns-clause-stands : goal.returns-clause-stands
 returns-clause-stands c =
     let base = c.args.base in
     let d : Db = record { linked = c.give_back.new.self; store = c.keep_all.new.db.store; fresh = c.in_ok-fresh.fresh } in
-    let old = shelves_in c.in_ok-db.db in
-    let mid = shelves_of c.see_results.new.store in
+    let old = memo_cells_in c.in_ok-db.db in
+    let mid = memo_cells_of c.see_results.new.store in
     let texts : texts_of c.in_ok-db.db ≡ texts_in base = c.in_ok-db.ensures.texts ∙ ap (map text_at) c.as_slice-2.ensures in
     let stands : StandsFor old (texts_in base) none_made = subst (λ ts. StandsFor old ts none_made) (ap (map text_at) c.as_slice-2.ensures) c.in_ok-db.ensures.stands in
-    let kept : KeepsAll (texts_in base) mid c.in_ok-fresh.fresh (shelves_in d) = subst (λ ts. KeepsAll ts mid c.in_ok-fresh.fresh (shelves_in d)) (c.links.ensures.same ∙ texts) c.in_ok-keep_all.ensures.ok in
+    let kept : KeepsAll (texts_in base) mid c.in_ok-fresh.fresh (memo_cells_in d) = subst (λ ts. KeepsAll ts mid c.in_ok-fresh.fresh (memo_cells_in d)) (c.links.ensures.same ∙ texts) c.in_ok-keep_all.ensures.ok in
     λ saved. is_loaded base old mid d c.in_ok-fresh.fresh stands c.in_ok-fresh.ensures kept (c.give_back.ensures ∙ c.keep_all.ensures.same ∙ c.links.ensures.same ∙ texts) refl saved
 
 pub returns-clause-rests : goal.returns-clause-rests
 returns-clause-rests c =
     let base = c.args.base in
     let d : Db = record { linked = c.give_back.new.self; store = c.keep_all.new.db.store; fresh = c.in_ok-fresh.fresh } in
-    let old = shelves_in c.in_ok-db.db in
-    let mid = shelves_of c.see_results.new.store in
+    let old = memo_cells_in c.in_ok-db.db in
+    let mid = memo_cells_of c.see_results.new.store in
     let texts : texts_of c.in_ok-db.db ≡ texts_in base = c.in_ok-db.ensures.texts ∙ ap (map text_at) c.as_slice-2.ensures in
     let stands : StandsFor old (texts_in base) none_made = subst (λ ts. StandsFor old ts none_made) (ap (map text_at) c.as_slice-2.ensures) c.in_ok-db.ensures.stands in
-    let kept : KeepsAll (texts_in base) mid c.in_ok-fresh.fresh (shelves_in d) = subst (λ ts. KeepsAll ts mid c.in_ok-fresh.fresh (shelves_in d)) (c.links.ensures.same ∙ texts) c.in_ok-keep_all.ensures.ok in
+    let kept : KeepsAll (texts_in base) mid c.in_ok-fresh.fresh (memo_cells_in d) = subst (λ ts. KeepsAll ts mid c.in_ok-fresh.fresh (memo_cells_in d)) (c.links.ensures.same ∙ texts) c.in_ok-keep_all.ensures.ok in
     rests_loaded base (module_names_in base.modules) old mid d c.in_ok-fresh.fresh c.requires.ordered stands c.in_ok-fresh.ensures kept (c.give_back.ensures ∙ c.keep_all.ensures.same ∙ c.links.ensures.same ∙ texts)

@@ -1,6 +1,7 @@
-use Rattle.pipsmake_base.proofs.MadeLaws.{if_ok_to, on_ok_from, refused_made, refused_texts, refused_in}
+use Rattle.pipsmake_base.proofs.MadeLaws.{on_ok_from, refused_made, refused_texts, refused_in}
 use Rattle.pipsmake_base.proofs.StaleLaws.{made_named}
 use Rattle.pipsmake_base.proofs.made.made.Goals as goal
+use Rattle.fx_lists.proofs.Options.{if_ok as if_ok_to}
 
 pub returns-in-Ok-clause-is : goal.returns-in-Ok-clause-is
 returns-in-Ok-clause-is c = (made_named c.tables_ignore_places.ensures c.graphs_ignore_places.ensures c.args.db.now c.make.new.self c.args.kind c.in_ok-word.word c.args.name.now _ c.in_ok-word.ensures c.in-Ok.ensures.ok c.requires).0

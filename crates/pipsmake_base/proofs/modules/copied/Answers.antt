@@ -1,5 +1,5 @@
 use Rattle.std.proofs.Common.{ℕ, ◌<◌, get_or, subst, rules}
-use Rattle.base_values.specs.Naming.{AreBytes}
+use Rattle.pipsmake_db.specs.base_values.Naming.{AreBytes}
 use Rattle.pipsmake_base.proofs.ModuleLaws.{all_bytes}
 use Rattle.pipsmake_base.proofs.modules.copied.Goals as goal
 

@@ -1,7 +1,8 @@
 use Rattle.std.proofs.Common.{sym, subst}
-use Rattle.pipsmake_db.proofs.ListLaws.{first-rest, no-more}
 use Rattle.pipsmake_base.proofs.ModuleLaws.{ModulesRest, modules_none, modules_more, modules_all}
 use Rattle.pipsmake_base.proofs.modules.modules_of.Goals as goal
+use Rattle.pipsmake_db.proofs.CallEquations.PositionSteps.{first-rest}
+use Rattle.fx_lists.proofs.Lists.{none_left as no-more}
 
 pub loop-rest-init : goal.loop-rest-init
 loop-rest-init c = subst (λ ms. ModulesRest c.args.texts.now ms c.args.texts.now) (sym c.new-modules.ensures) (modules_none c.args.texts.now)

@@ -1,7 +1,8 @@
 use Rattle.std.proofs.Common.{sym, subst}
-use Rattle.pipsmake_db.proofs.ListLaws.{first-rest, no-more}
 use Rattle.pipsmake_base.proofs.Sources.{SourcesRest, sources_none, sources_more, sources_all}
 use Rattle.pipsmake_base.proofs.source.sources_of.Goals as goal
+use Rattle.pipsmake_db.proofs.CallEquations.PositionSteps.{first-rest}
+use Rattle.fx_lists.proofs.Lists.{none_left as no-more}
 
 pub loop-rest-init : goal.loop-rest-init
 loop-rest-init c = subst (λ ss. SourcesRest c.args.modules.now ss c.args.modules.now) (sym c.new-sources.ensures) (sources_none c.args.modules.now)

@@ -1,14 +1,15 @@
 use Rattle.std.proofs.Common.{true, false, List, [], map, sym, ap, ◌∙◌, subst}
-use Rattle.base_rows.specs.Distinct.{are_new}
+use Rattle.base_json.specs.Distinct.{are_new}
 use Rattle.base_text.specs.declared.base.BaseModule.{BaseModule}
 use Rattle.base_text.specs.Modules.{module_names_in}
 use Rattle.pipsmake_db.specs.State.{texts_of}
-use Rattle.pipsmake_db.proofs.ListLaws.{first-rest, no-more}
 use Rattle.pipsmake_base.specs.Saved.{text_at, texts_in}
 use Rattle.pipsmake_base.specs.Stale.{IsStale}
 use Rattle.pipsmake_base.proofs.LoadLaws.{in_plain}
 use Rattle.pipsmake_base.proofs.StaleLaws.{FirstRest, first_none, first_more, first_found, none_found, stale_or_saved}
 use Rattle.pipsmake_base.proofs.staleness.first_stale.Goals as goal
+use Rattle.pipsmake_db.proofs.CallEquations.PositionSteps.{first-rest}
+use Rattle.fx_lists.proofs.Lists.{none_left as no-more}
 
 pub over_texts-requires : goal.over_texts-requires
 over_texts-requires c = ap (λ (ms : List BaseModule). are_new [] (module_names_in ms)) c.as_slice.ensures ∙ c.requires.once

@@ -1,6 +1,6 @@
 use Rattle.std.proofs.Common.{◌≡◌, IfSome, IfNone, ◌≢◌, subst}
-use Rattle.pipsmake_rules.specs.declared.kind.Kind.{Kind}
-use Rattle.pipsmake_rules.specs.Kinds.{name_of}
+use Rattle.session_texts.specs.pipsmake_rules.declared.kind.Kind.{Kind}
+use Rattle.session_texts.specs.pipsmake_rules.Kinds.{name_of}
 use Rattle.pipsmake_db.proofs.AskedLaws.{kind_is}
 use Rattle.pipsmake_db.proofs.asked.kind_named.Goals as goal
 

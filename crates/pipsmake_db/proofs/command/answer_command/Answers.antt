@@ -1,10 +1,10 @@
 use Rattle.std.proofs.Common.{sym, subst}
 use Rattle.result_lines.specs.declared.show.Show.{Show}
-use Rattle.session_lines.specs.declared.command.Command.{Command}
-use Rattle.session_lines.specs.declared.command.Command.TheVariants.{Source, Drop, Make}
+use Rattle.session_texts.specs.declared.command.Command.{Command}
+use Rattle.session_texts.specs.declared.command.Command.TheVariants.{Source, Drop, Make}
 use Rattle.pipsmake_db.specs.AnswerSteps.{Answers}
-use Rattle.pipsmake_db.proofs.CommandLemmas.{on_ok}
 use Rattle.pipsmake_db.proofs.command.answer_command.Goals as goal
+use Rattle.fx_lists.proofs.Options.{on_ok}
 
 pub returns-in-Source : goal.returns-in-Source
 returns-in-Source c =

@@ -1,7 +1,8 @@
 use Rattle.std.proofs.Common.{◌≡◌, ◌++◌, ◌∙◌, ap}
-use Rattle.session_lines.specs.Answers.{text_with_count}
-use Rattle.pipsmake_db.proofs.CommandLemmas.{on_ok, on_ok_both, joined, all_printed, refused_print}
+use Rattle.session_texts.specs.Answers.{text_with_count}
+use Rattle.pipsmake_db.proofs.CommandLemmas.{on_ok_both, joined, all_printed, refused_print}
 use Rattle.pipsmake_db.proofs.command.answer_print.Goals as goal
+use Rattle.fx_lists.proofs.Options.{on_ok}
 
 pub returns-in_ok-append-in-Ok : goal.returns-in_ok-append-in-Ok
 returns-in_ok-append-in-Ok c =

@@ -1,7 +1,8 @@
 use Rattle.std.proofs.Common.{◌≡◌, ◌++◌, ◌∙◌, ap}
-use Rattle.session_lines.specs.Answers.{made_lines}
-use Rattle.pipsmake_db.proofs.CommandLemmas.{on_ok, on_ok_both, joined, result_shown, refused_show}
+use Rattle.session_texts.specs.Answers.{made_lines}
+use Rattle.pipsmake_db.proofs.CommandLemmas.{on_ok_both, joined, result_shown, refused_show}
 use Rattle.pipsmake_db.proofs.command.answer_show.Goals as goal
+use Rattle.fx_lists.proofs.Options.{on_ok}
 
 pub returns-in_ok-write_made-in-Ok : goal.returns-in_ok-write_made-in-Ok
 returns-in_ok-write_made-in-Ok c =

@@ -1,7 +1,8 @@
 use Rattle.std.proofs.Common.{◌≡◌, ◌++◌, ◌∙◌, ap}
-use Rattle.session_lines.specs.Answers.{source_line}
-use Rattle.pipsmake_db.proofs.CommandLemmas.{on_ok, on_ok_both, source_read, refused_source}
+use Rattle.session_texts.specs.Answers.{source_line}
+use Rattle.pipsmake_db.proofs.CommandLemmas.{on_ok_both, source_read, refused_source}
 use Rattle.pipsmake_db.proofs.command.answer_source.Goals as goal
+use Rattle.fx_lists.proofs.Options.{on_ok}
 
 pub returns-in-Ok : goal.returns-in-Ok
 returns-in-Ok c =

@@ -1,8 +1,8 @@
 use Rattle.std.proofs.Common.{refl}
 use Rattle.pipsmake_db.specs.State.{texts_of}
-use Rattle.pipsmake_db.proofs.ListLaws.{if_ok}
 use Rattle.pipsmake_db.proofs.PrintLemmas.{only_memory, prints_linked}
 use Rattle.pipsmake_db.proofs.print.print_all.Goals as goal
+use Rattle.fx_lists.proofs.Options.{if_ok}
 
 pub returns-in-Ok : goal.returns-in-Ok
 returns-in-Ok c =

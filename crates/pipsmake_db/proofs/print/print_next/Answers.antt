@@ -1,7 +1,7 @@
 use Rattle.std.proofs.Common.{length, ap, arith}
-use Rattle.pipsmake_rules.specs.declared.kind.Kind.TheVariants.{Printed}
-use Rattle.pipsmake_rules.specs.Walk.{depth_of}
-use Rattle.laws_database.specs.Texts.{names_in, graph_of}
+use Rattle.session_texts.specs.pipsmake_rules.declared.kind.Kind.TheVariants.{Printed}
+use Rattle.session_texts.specs.pipsmake_rules.Walk.{depth_of}
+use Rattle.session_texts.specs.pipsmake_meaning.Texts.{names_in, graph_of}
 use Rattle.pipsmake_db.specs.Calls.{key}
 use Rattle.pipsmake_db.specs.State.{texts_of}
 use Rattle.pipsmake_db.proofs.WalkedLists.{longer}

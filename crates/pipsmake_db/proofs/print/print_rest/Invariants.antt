@@ -1,9 +1,12 @@
 use Rattle.std.proofs.Common.{◌≡◌, None, length}
-use Rattle.laws_database.specs.Texts.{names_in}
+use Rattle.session_texts.specs.pipsmake_meaning.Texts.{names_in}
 use Rattle.pipsmake_db.specs.Links.{AreLinks}
 use Rattle.pipsmake_db.specs.Refusals.{link_refusal}
 use Rattle.pipsmake_db.specs.State.{State, IsIn, texts_of}
-use Rattle.pipsmake_db.proofs.PrintLemmas.{AllThere, SoFar}
+use Rattle.pipsmake_db.specs.Calls.{Rests}
+use Rattle.pipsmake_db.specs.Outlines.{outline_of}
+use Rattle.laws_database.specs.Stands.{Valuation}
+use Rattle.pipsmake_db.proofs.PrintLemmas.{AllThere, SoFar, SoFarAnyway, SoFarStored}
 use Rattle.pipsmake_db.proofs.print.print_rest.Given as goal
 
 abbrev pub invariant-loop-rest : goal.invariant-loop-rest
@@ -13,6 +16,8 @@ invariant-loop-rest l = record {
   there : AllThere (names_in (texts_of l.db)) l.rest;
   same : l.walked.keys ≡ l.walked.listed;
   texts : texts_of l.db ≡ texts_of l.fn.db;
+  anyway : SoFarAnyway (texts_of l.fn.db) (outline_of l.fn.db) l.rest l.prints l.db l.walked.listed;
+  stored : (stored : Valuation) → Rests l.fn.db stored → SoFarStored (texts_of l.fn.db) l.show stored l.rest l.prints l.db l.walked.listed;
   so_far : (s : State) → IsIn l.fn.db s → SoFar l.show s l.rest l.prints l.db l.walked.listed;
 }
 

@@ -1,10 +1,10 @@
 use Rattle.std.proofs.Common.{length}
-use Rattle.result_store.specs.Rows.{shelves_of}
+use Rattle.result_store.specs.Rows.{memo_cells_of}
 use Rattle.pipsmake_db.proofs.TextLaws.{Forgot}
 use Rattle.pipsmake_db.proofs.texts.forget_all.Given as goal
 
 abbrev pub invariant-loop-rest : goal.invariant-loop-rest
-invariant-loop-rest l = Forgot (shelves_of l.fn.store) l.sources l.fn.names (shelves_of l.store) l.rest
+invariant-loop-rest l = Forgot (memo_cells_of l.fn.store) l.sources l.fn.names (memo_cells_of l.store) l.rest
 
 abbrev pub decreases-loop-rest : goal.decreases-loop-rest
 decreases-loop-rest l = length l.rest

@@ -1,10 +1,10 @@
 use Rattle.std.proofs.Common.{length}
-use Rattle.result_store.specs.Rows.{shelves_of}
+use Rattle.result_store.specs.Rows.{memo_cells_of}
 use Rattle.pipsmake_db.proofs.TextLaws.{KeepsRest}
 use Rattle.pipsmake_db.proofs.texts.keep_all.Given as goal
 
 abbrev pub invariant-loop-rest : goal.invariant-loop-rest
-invariant-loop-rest l = KeepsRest (shelves_of l.fn.store) l.fn.all (shelves_of l.store) l.rest
+invariant-loop-rest l = KeepsRest (memo_cells_of l.fn.store) l.fn.all (memo_cells_of l.store) l.rest
 
 abbrev pub decreases-loop-rest : goal.decreases-loop-rest
 decreases-loop-rest l = length l.rest

@@ -1,5 +1,5 @@
 use Rattle.std.proofs.Common.{◌≡◌, ◌++◌, length, map}
-use Rattle.laws_database.specs.Texts.{names_in}
+use Rattle.session_texts.specs.pipsmake_meaning.Texts.{names_in}
 use Rattle.session_texts.specs.Modules.{source_text}
 use Rattle.pipsmake_db.proofs.texts.names_of.Given as goal
 

@@ -1,7 +1,7 @@
 use Rattle.std.proofs.Common.{◌≡◌, ◌-◌, length}
 use Rattle.std.specs.Prelude.{fold}
-use Rattle.pipsmake_rules.specs.Needs.{needs_of}
-use Rattle.pipsmake_rules.specs.Walk.{walk_from}
+use Rattle.session_texts.specs.pipsmake_rules.Needs.{needs_of}
+use Rattle.session_texts.specs.pipsmake_rules.Walk.{walk_from}
 use Rattle.pipsmake_db.proofs.walked.+walk_on.Given as goal
 
 abbrev pub decreases-walk_on : goal.decreases-walk_on

@@ -1,7 +1,7 @@
 use Rattle.std.proofs.Common.{◌≡◌, map, drop}
 use Rattle.affine_systems.specs.Given.{Fits}
-use Rattle.call_translation.specs.Scopes.{scope_tree}
-use Rattle.call_translation.specs.Sites.{site_tree, AllSitesFit}
+use Rattle.transformers.specs.call_translation.Scopes.{scope_tree}
+use Rattle.transformers.specs.call_translation.Sites.{site_tree, AllSitesFit}
 use Rattle.preconditions.specs.Statement.{hull_from}
 use Rattle.preconditions.specs.Entry.{entries_of}
 use Rattle.preconditions.proofs.entry.hull_with_sites.Given as goal

@@ -1,9 +1,9 @@
 use Rattle.std.proofs.Common.{◌≡◌, true, List, ap₂, ◌∙◌}
 use Rattle.affine_systems.specs.declared.row.System.{System}
 use Rattle.f77_ast.specs.PlainStmt.{stmt_trees}
-use Rattle.f77_results.specs.declared.results.At.{At}
-use Rattle.f77_results.specs.declared.results.Results.{Results}
-use Rattle.call_translation.specs.Scopes.{ScopeTree, scope_tree}
+use Rattle.f77_ast.specs.declared.results.At.{At}
+use Rattle.f77_ast.specs.declared.results.Results.{Results}
+use Rattle.transformers.specs.call_translation.Scopes.{ScopeTree, scope_tree}
 use Rattle.transformers.specs.Lists.{transformer_at}
 use Rattle.preconditions.specs.Statement.{at_list}
 use Rattle.preconditions.proofs.Copies.{system_same}

@@ -4,8 +4,8 @@ use Rattle.f77_ast.specs.declared.stmt.Loop.{out-Loop}
 use Rattle.f77_ast.specs.Plain.{expr_tree}
 use Rattle.f77_ast.specs.PlainStmt.{stmt_tree, stmt_trees, what_tree, loop_tree, maybe_tree}
 use Rattle.f77_ast.proofs.PlainlyStmt.{loop_tree-out}
-use Rattle.f77_results.specs.declared.results.At.{At}
-use Rattle.transformer_algebra.specs.Loops.{after_loop}
+use Rattle.f77_ast.specs.declared.results.At.{At}
+use Rattle.transformers.specs.transformer_algebra.Loops.{after_loop}
 use Rattle.transformers.specs.Statement.{at}
 use Rattle.preconditions.specs.Statement.{at_stmt, at_parts}
 use Rattle.preconditions.specs.Known.{scope_in, found_in}

@@ -3,8 +3,8 @@ use Rattle.std.proofs.lemmas.Result.{IfOk-weaker}
 use Rattle.f77_ast.specs.PlainDecl.{module_tree}
 use Rattle.f77_ast.specs.PlainStmt.{stmt_trees}
 use Rattle.f77_ast.specs.Symbols.{symbol_tree}
-use Rattle.region_sets.specs.declared.marks.Private.{Private}
-use Rattle.loop_bodies.specs.Finding.{loop_in}
+use Rattle.f77_ast.specs.declared.marks.Private.{Private}
+use Rattle.dependence_test.specs.Finding.{loop_in}
 use Rattle.privatizer.specs.Uses.{known_uses}
 use Rattle.privatizer.specs.Private.{private_at}
 use Rattle.privatizer.specs.Claims.{IfPrivate}

@@ -1,5 +1,5 @@
 use Rattle.std.proofs.Common.{◌≡◌, length}
-use Rattle.region_sets.specs.Sets.{SetFits}
+use Rattle.in_out_regions.specs.region_sets.Sets.{SetFits}
 use Rattle.privatizer.specs.Private.{may_lie}
 use Rattle.privatizer.proofs.answer.may_lie.Given as goal
 

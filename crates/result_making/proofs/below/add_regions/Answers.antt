@@ -1,5 +1,5 @@
 use Rattle.std.proofs.Common.{rules}
-use Rattle.region_sets.specs.Sets.{SetFits}
+use Rattle.loop_marker.specs.region_sets.Sets.{SetFits}
 use Rattle.result_making.proofs.Fitting.{all_sets_fit}
 use Rattle.result_making.proofs.below.add_regions.Goals as goal
 

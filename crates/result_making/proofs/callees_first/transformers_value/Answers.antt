@@ -1,21 +1,21 @@
 use Rattle.std.proofs.Common.{◌≡◌, List, map, Some, ap, ◌∙◌}
 use Rattle.call_graph.specs.declared.graph.Graph.{Graph}
-use Rattle.f77_results.specs.declared.results.Results.{Results}
-use Rattle.transformer_algebra.specs.declared.transformer.Transformer.{Transformer}
-use Rattle.pipsmake_rules.specs.Neighbours.{callees_of}
-use Rattle.region_phases.specs.declared.callees.Callee.{Callee}
-use Rattle.region_phases.specs.Callees.{callee_tree}
-use Rattle.region_phases.specs.Rules.{transformers_from}
-use Rattle.laws_database.specs.Rules.{known, transformers_kept, callees_with}
-use Rattle.laws_database.specs.Values.{transformers}
-use Rattle.result_store.specs.Rows.{shelves_of}
+use Rattle.f77_ast.specs.declared.results.Results.{Results}
+use Rattle.preconditions.specs.transformer_algebra.declared.transformer.Transformer.{Transformer}
+use Rattle.session_texts.specs.pipsmake_rules.Neighbours.{callees_of}
+use Rattle.loop_marker.specs.module_phases.declared.callees.Callee.{Callee}
+use Rattle.loop_marker.specs.module_phases.Callees.{callee_tree}
+use Rattle.loop_marker.specs.module_phases.Rules.{transformers_from}
+use Rattle.session_texts.specs.pipsmake_meaning.Rules.{known, transformers_kept, callees_with}
+use Rattle.session_texts.specs.pipsmake_meaning.Values.{transformers}
+use Rattle.result_store.specs.Rows.{memo_cells_of}
 use Rattle.result_making.specs.Parts.{own_tree}
 use Rattle.result_making.proofs.callees_first.transformers_value.Goals as goal
 
 pub returns-clause-value : goal.returns-clause-value
 returns-clause-value c =
     let m = c.args.modules.now in
-    let sh = shelves_of c.args.store.now in
+    let sh = memo_cells_of c.args.store.now in
     let k = known (own_tree c.args.own.now) in
     let x = c.args.name.now in
     let made : c.in_ok-made.made ≡ transformers_from m.graph.now.untracked k (map callee_tree c.as_slice-2.result.now) = c.in_ok-made.ensures.defined in

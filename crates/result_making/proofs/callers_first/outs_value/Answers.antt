@@ -1,24 +1,24 @@
 use Rattle.std.proofs.Common.{◌≡◌, List, map, Some, ap, ◌∙◌}
 use Rattle.std.specs.Prelude.{option_map, option_and_then}
 use Rattle.call_graph.specs.declared.graph.Graph.{Graph}
-use Rattle.f77_results.specs.declared.results.Results.{Results}
-use Rattle.transformer_algebra.specs.declared.transformer.Transformer.{Transformer}
-use Rattle.region_sets.specs.declared.region.Region.{Region}
-use Rattle.pipsmake_rules.specs.Neighbours.{callers_of}
-use Rattle.region_phases.specs.declared.callers.CallerOuts.{CallerOuts}
-use Rattle.region_phases.specs.Callers.{outs_tree}
-use Rattle.region_phases.specs.Rules.{outs_from}
-use Rattle.laws_database.specs.Texts.{graph_of}
-use Rattle.laws_database.specs.Rules.{known, transformers_kept, regions_kept, ins_kept, later_callers}
-use Rattle.laws_database.specs.Values.{Value, outs}
-use Rattle.result_store.specs.Rows.{shelves_of}
+use Rattle.f77_ast.specs.declared.results.Results.{Results}
+use Rattle.preconditions.specs.transformer_algebra.declared.transformer.Transformer.{Transformer}
+use Rattle.loop_marker.specs.region_sets.declared.region.Region.{Region}
+use Rattle.session_texts.specs.pipsmake_rules.Neighbours.{callers_of}
+use Rattle.loop_marker.specs.module_phases.declared.callers.CallerOuts.{CallerOuts}
+use Rattle.loop_marker.specs.module_phases.Callers.{outs_tree}
+use Rattle.loop_marker.specs.module_phases.Rules.{outs_from}
+use Rattle.session_texts.specs.pipsmake_meaning.Texts.{graph_of}
+use Rattle.session_texts.specs.pipsmake_meaning.Rules.{known, transformers_kept, regions_kept, ins_kept, later_callers}
+use Rattle.session_texts.specs.pipsmake_meaning.Values.{Value, outs}
+use Rattle.result_store.specs.Rows.{memo_cells_of}
 use Rattle.result_making.specs.Parts.{own_tree}
 use Rattle.result_making.proofs.callers_first.outs_value.Goals as goal
 
 pub returns-clause-value : goal.returns-clause-value
 returns-clause-value c =
     let m = c.args.modules.now in
-    let sh = shelves_of c.args.store.now in
+    let sh = memo_cells_of c.args.store.now in
     let k = known (own_tree c.args.own.now) in
     let x = c.args.name.now in
     let own = c.in-Some.transformers.now in

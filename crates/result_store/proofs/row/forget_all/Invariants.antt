@@ -1,7 +1,7 @@
 use Rattle.std.proofs.Common.{◌≡◌, ◌++◌, map, take, drop}
-use Rattle.laws_database.specs.Shelves.{forgotten}
-use Rattle.result_store.specs.Rows.{shelf_tree}
+use Rattle.pipsmake_meaning.specs.MemoCells.{forgotten}
+use Rattle.result_store.specs.Rows.{memo_cell_tree}
 use Rattle.result_store.proofs.row.forget_all.Given as goal
 
-abbrev pub invariant-loop-shelf : goal.invariant-loop-shelf
-invariant-loop-shelf l = map shelf_tree l.shelves ≡ map (λ s. forgotten (shelf_tree s)) (take l.shelf-index l.fn.shelves) ++ map shelf_tree (drop l.shelf-index l.fn.shelves)
+abbrev pub invariant-loop-memo_cell : goal.invariant-loop-memo_cell
+invariant-loop-memo_cell l = map memo_cell_tree l.memo_cells ≡ map (λ s. forgotten (memo_cell_tree s)) (take l.memo_cell-index l.fn.memo_cells) ++ map memo_cell_tree (drop l.memo_cell-index l.fn.memo_cells)

@@ -1,5 +1,5 @@
 use Rattle.std.proofs.Common.{◌≡◌, ◌++◌, length, map}
-use Rattle.laws_database.specs.Texts.{names_in}
+use Rattle.pipsmake_meaning.specs.Texts.{names_in}
 use Rattle.session_texts.specs.Modules.{source_text}
 use Rattle.session_texts.specs.Places.{places_from, names_after}
 use Rattle.session_texts.proofs.sources.places_from.Given as goal

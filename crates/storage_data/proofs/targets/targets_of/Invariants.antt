@@ -6,4 +6,4 @@ use Rattle.storage_data.proofs.targets.targets_of.Given as goal
 
 abbrev pub invariant-loop-item : goal.invariant-loop-item
 invariant-loop-item l =
-    l.targets ++ targets_of (table_tree l.table) l.seats (map expr_tree (drop l.item-index l.items)) ≡ targets_of (table_tree l.table) l.seats (map expr_tree l.items)
+    l.targets ++ targets_of (table_tree l.table) l.offset_nodes (map expr_tree (drop l.item-index l.items)) ≡ targets_of (table_tree l.table) l.offset_nodes (map expr_tree l.items)

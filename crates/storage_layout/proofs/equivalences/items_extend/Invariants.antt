@@ -6,4 +6,4 @@ use Rattle.storage_layout.proofs.equivalences.items_extend.Given as goal
 
 abbrev pub invariant-loop-item : goal.invariant-loop-item
 invariant-loop-item l =
-    items_extend (table_tree l.table) l.seats (map expr_tree (drop l.item-index l.items)) ≡ items_extend (table_tree l.table) l.seats (map expr_tree l.items)
+    items_extend (table_tree l.table) l.offset_nodes (map expr_tree (drop l.item-index l.items)) ≡ items_extend (table_tree l.table) l.offset_nodes (map expr_tree l.items)

@@ -8,4 +8,4 @@ use Rattle.storage_layout.proofs.numbering.kept_groups.Given as goal
 
 abbrev pub invariant-loop-place : goal.invariant-loop-place
 invariant-loop-place l =
-    (h : ℕ) → (is_some (get nat_eq l.kept h) || some_keeps h l.place (map entry_tree (drop l.place l.entries)) l.seats) ≡ some_keeps h 0 (map entry_tree l.entries) l.seats
+    (h : ℕ) → (is_some (get nat_eq l.kept h) || some_keeps h l.place (map entry_tree (drop l.place l.entries)) l.offset_nodes) ≡ some_keeps h 0 (map entry_tree l.entries) l.offset_nodes

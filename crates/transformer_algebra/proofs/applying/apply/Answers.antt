@@ -2,8 +2,8 @@ use Rattle.std.proofs.Common.{◌≡◌, ◌∙◌, ℕ, List, ap, ap₂, Result
 use Rattle.std.specs.Prelude.{IfOk}
 use Rattle.affine_systems.specs.declared.row.System.{System}
 use Rattle.affine_systems.specs.Calls.{meet}
-use Rattle.system_renaming.specs.declared.naming.Naming.{Naming}
-use Rattle.system_renaming.specs.Renaming.{rename_all}
+use Rattle.transformer_algebra.specs.declared.naming.Naming.{Naming}
+use Rattle.transformer_algebra.specs.Renaming.{rename_all}
 use Rattle.transformer_algebra.specs.declared.transformer.Transformer.{Transformer}
 use Rattle.transformer_algebra.specs.Halves.{to_cells}
 use Rattle.transformer_algebra.specs.Transformers.{apply, without}

@@ -1,6 +1,6 @@
 use Rattle.std.proofs.Common.{◌≡◌, length}
 use Rattle.affine_systems.specs.Given.{Fits}
-use Rattle.transformer_algebra.specs.Transformers.{AllFit}
+use Rattle.call_translation.specs.transformer_algebra.Transformers.{AllFit}
 use Rattle.transformers.specs.Lists.{followed_by}
 use Rattle.transformers.proofs.lists.followed_by.Given as goal
 

@@ -1,5 +1,5 @@
 use Rattle.std.proofs.Common.{◌≡◌, [], length}
-use Rattle.transformer_algebra.specs.Transformers.{cells_from, units_from}
+use Rattle.call_translation.specs.transformer_algebra.Transformers.{cells_from, units_from}
 use Rattle.transformers.proofs.lists.in_any_order.Given as goal
 
 abbrev pub invariant-loop-rest : goal.invariant-loop-rest

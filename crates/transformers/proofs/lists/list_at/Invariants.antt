@@ -1,6 +1,6 @@
 use Rattle.std.proofs.Common.{◌≡◌, ◌++◌, length}
 use Rattle.f77_ast.specs.PlainStmt.{stmt_trees}
-use Rattle.transformer_algebra.specs.Transformers.{AllFit}
+use Rattle.call_translation.specs.transformer_algebra.Transformers.{AllFit}
 use Rattle.transformers.specs.Lists.{transformer_at, each_at}
 use Rattle.transformers.proofs.lists.list_at.Given as goal
 

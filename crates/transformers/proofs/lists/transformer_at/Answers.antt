@@ -1,7 +1,7 @@
 use Rattle.std.proofs.Common.{◌≡◌, sym, subst}
 use Rattle.std.proofs.lemmas.Result.{IfOk-weaker}
 use Rattle.affine_systems.specs.Given.{Fits}
-use Rattle.transformer_algebra.specs.declared.transformer.Transformer.{Transformer}
+use Rattle.call_translation.specs.transformer_algebra.declared.transformer.Transformer.{Transformer}
 use Rattle.transformers.proofs.Steps.{value-fits}
 use Rattle.transformers.proofs.lists.transformer_at.Goals as goal
 

@@ -8,8 +8,8 @@ use Rattle.f77_ast.proofs.PlainlyStmt.{loop_tree-out}
 use Rattle.affine_forms.specs.declared.affine.Affine.{Affine}
 use Rattle.affine_forms.specs.Scalars.{is_cell}
 use Rattle.affine_forms.specs.Forms.{affine_of}
-use Rattle.transformer_algebra.specs.declared.transformer.Transformer.{Transformer}
-use Rattle.transformer_algebra.specs.declared.loop_parts.LoopParts.{LoopParts}
+use Rattle.call_translation.specs.transformer_algebra.declared.transformer.Transformer.{Transformer}
+use Rattle.call_translation.specs.transformer_algebra.declared.loop_parts.LoopParts.{LoopParts}
 use Rattle.call_translation.specs.Scopes.{ScopeTree, scope_tree}
 use Rattle.transformers.specs.Loops.{step_of, number_in, loop_parts}
 use Rattle.transformers.proofs.loops.loop_parts.Goals as goal

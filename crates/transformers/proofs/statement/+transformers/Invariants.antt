@@ -2,7 +2,7 @@ use Rattle.std.proofs.Common.{◌≡◌, ◌++◌, drop}
 use Rattle.affine_systems.specs.Given.{Fits}
 use Rattle.f77_ast.specs.PlainStmt.{stmt_trees, arm_trees}
 use Rattle.affine_forms.specs.Conditions.{no_rows}
-use Rattle.transformer_algebra.specs.Transformers.{AllFit}
+use Rattle.call_translation.specs.transformer_algebra.Transformers.{AllFit}
 use Rattle.transformers.specs.Given.{ResultsFit}
 use Rattle.transformers.specs.Statement.{scope_in, callees_in, each_transformer, arm_transformers, without_arms, at_list, at_arms}
 use Rattle.transformers.proofs.statement.+transformers.Given as goal

@@ -1,5 +1,5 @@
 use Rattle.std.proofs.Common.{◌≡◌, IfOk, subst, ◌∙◌}
-use Rattle.transformer_algebra.specs.declared.transformer.Transformer.{Transformer}
+use Rattle.call_translation.specs.transformer_algebra.declared.transformer.Transformer.{Transformer}
 use Rattle.transformers.proofs.WhatLaws.{choice-made}
 use Rattle.transformers.proofs.statement.choice.Goals as goal
 

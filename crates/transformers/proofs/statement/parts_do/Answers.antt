@@ -1,5 +1,5 @@
 use Rattle.std.proofs.Common.{◌≡◌, IfOk, subst}
-use Rattle.transformer_algebra.specs.declared.transformer.Transformer.{Transformer}
+use Rattle.call_translation.specs.transformer_algebra.declared.transformer.Transformer.{Transformer}
 use Rattle.transformers.proofs.WhatLaws.{parts-made}
 use Rattle.transformers.proofs.statement.parts_do.Goals as goal
 

@@ -1,6 +1,6 @@
 use Rattle.std.proofs.Common.{◌≡◌, IfOk, subst}
-use Rattle.transformer_algebra.specs.declared.transformer.Transformer.{Transformer}
-use Rattle.transformer_algebra.specs.Transformers.{followed}
+use Rattle.call_translation.specs.transformer_algebra.declared.transformer.Transformer.{Transformer}
+use Rattle.call_translation.specs.transformer_algebra.Transformers.{followed}
 use Rattle.transformers.proofs.statement.where_holds.Goals as goal
 
 pub returns-clause-defined : goal.returns-clause-defined

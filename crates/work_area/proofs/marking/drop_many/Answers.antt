@@ -1,7 +1,7 @@
 use Rattle.std.proofs.Common.{◌∙◌, List, take, length, ap, subst, arith, refl}
 use Rattle.std.proofs.lemmas.List.{with_items_is}
-use Rattle.row_places.specs.declared.slot.Slot.{Slot}
-use Rattle.row_places.specs.Slots.{items_in, KeepsRoom}
+use Rattle.work_area.specs.declared.slot.Slot.{Slot}
+use Rattle.work_area.specs.Slots.{items_in, KeepsRoom}
 use Rattle.hull_projection.specs.Refute.{with_few}
 use Rattle.work_area.proofs.TableSteps.{ready_rows}
 use Rattle.work_area.proofs.marking.drop_many.Goals as goal

@@ -1,8 +1,8 @@
 use Rattle.std.proofs.Common.{◌≡◌, ◌∙◌, ◌+◌, ◌<◌, true, false, length, take, drop, get_or, arith, ap, sym}
 use Rattle.affine_systems.specs.Items.{false_item}
-use Rattle.row_places.specs.Slots.{items_in}
-use Rattle.row_places.proofs.Swaps.{length-items_in, items_in-swap, item_at, keeps_swap, keeps_more}
-use Rattle.row_places.proofs.SortSteps.{drop-swap, tails}
+use Rattle.work_area.specs.Slots.{items_in}
+use Rattle.work_area.proofs.Swaps.{length-items_in, items_in-swap, item_at, keeps_swap, keeps_more}
+use Rattle.work_area.proofs.SortSteps.{drop-swap, tails}
 use Rattle.hull_projection.specs.Refute.{has_few, with_few}
 use Rattle.work_area.proofs.RefuteSteps.{few_stays, few_goes}
 use Rattle.work_area.proofs.marking.few_front.Goals as goal

@@ -1,5 +1,5 @@
 use Rattle.std.proofs.Common.{◌≡◌, ◌++◌, take, drop, length}
-use Rattle.row_places.specs.Slots.{items_in, KeepsRoom}
+use Rattle.work_area.specs.Slots.{items_in, KeepsRoom}
 use Rattle.hull_projection.specs.Refute.{with_originals}
 use Rattle.work_area.proofs.marking.mark_front.Given as goal
 

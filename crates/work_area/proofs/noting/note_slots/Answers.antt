@@ -1,8 +1,8 @@
 use Rattle.std.proofs.Common.{◌∙◌, ◌<◌, [], length, sym, ap, subst, arith}
 use Rattle.std.proofs.lemmas.List.{drop_all}
 use Rattle.affine_systems.specs.Items.{rows_of}
-use Rattle.row_places.specs.Slots.{row_in, items_in}
-use Rattle.row_places.specs.Columns.{Notes, noted_rows, noted_terms}
+use Rattle.work_area.specs.Slots.{row_in, items_in}
+use Rattle.work_area.specs.Columns.{Notes, noted_rows, noted_terms}
 use Rattle.work_area.proofs.NoteLaws.{row_read, length-rows_in, note_done, few_in}
 use Rattle.work_area.proofs.noting.note_slots.Goals as goal
 

@@ -1,8 +1,8 @@
 use Rattle.std.proofs.Common.{◌≡◌, ◌≤◌, [], drop}
 use Rattle.std.specs.Vec.{vec_len, vec_capacity}
 use Rattle.affine_systems.specs.Items.{rows_of}
-use Rattle.row_places.specs.Slots.{items_in}
-use Rattle.row_places.specs.Columns.{noted_rows}
+use Rattle.work_area.specs.Slots.{items_in}
+use Rattle.work_area.specs.Columns.{noted_rows}
 use Rattle.work_area.proofs.noting.note_slots.Given as goal
 
 abbrev pub invariant-loop-slot : goal.invariant-loop-slot

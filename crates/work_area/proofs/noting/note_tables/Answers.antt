@@ -1,6 +1,6 @@
 use Rattle.std.proofs.Common.{◌∙◌, [], sym, ap, subst}
 use Rattle.affine_systems.specs.Items.{rows_of}
-use Rattle.row_places.specs.Columns.{InColumns, noted_rows}
+use Rattle.work_area.specs.Columns.{InColumns, noted_rows}
 use Rattle.work_area.proofs.TableSteps.{front_is}
 use Rattle.work_area.proofs.noting.note_tables.Goals as goal
 

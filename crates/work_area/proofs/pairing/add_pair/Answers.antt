@@ -1,5 +1,5 @@
 use Rattle.std.proofs.Common.{◌∷◌}
-use Rattle.row_places.proofs.Swaps.{keeps_more, keeps_beside}
+use Rattle.work_area.proofs.Swaps.{keeps_more, keeps_beside}
 use Rattle.work_area.proofs.pairing.add_pair.Goals as goal
 
 pub returns-clause-room : goal.returns-clause-room

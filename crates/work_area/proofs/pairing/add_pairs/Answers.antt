@@ -3,14 +3,15 @@ use Rattle.std.proofs.Math.Nat.{mul-le-mul}
 use Rattle.affine_systems.specs.declared.items.Item.{Item}
 use Rattle.affine_systems.specs.Items.{false_item}
 use Rattle.affine_systems.specs.Eliminate.{is_lower, is_upper, keep, pairs}
-use Rattle.row_places.specs.Slots.{item_in, items_in}
-use Rattle.row_places.specs.Filling.{Stands}
-use Rattle.row_places.specs.Columns.{AreAmong}
-use Rattle.row_places.proofs.FaceSteps.{small_at}
-use Rattle.row_places.proofs.Swaps.{item_read, length-items_in, keeps_more}
-use Rattle.row_places.proofs.ColumnLaws.{among_at}
-use Rattle.work_area.proofs.PairSteps.{nothing_kept, kept_in, kept_out, all_kept, kept_few, kept_no_more, length_more, more_pairs}
+use Rattle.work_area.specs.Slots.{item_in, items_in}
+use Rattle.work_area.specs.Filling.{Stands}
+use Rattle.work_area.specs.Columns.{AreAmong}
+use Rattle.work_area.proofs.FaceSteps.{small_at}
+use Rattle.work_area.proofs.Swaps.{item_read, length-items_in, keeps_more}
+use Rattle.work_area.proofs.ColumnLaws.{among_at}
+use Rattle.work_area.proofs.PairSteps.{nothing_kept, kept_in, kept_out, all_kept, kept_few, length_more, more_pairs}
 use Rattle.work_area.proofs.pairing.add_pairs.Goals as goal
+use Rattle.elimination.proofs.ClosedLaws.{length-keep as kept_no_more}
 
 pub loop-low-init : goal.loop-low-init
 loop-low-init c =

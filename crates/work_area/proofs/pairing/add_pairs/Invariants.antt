@@ -1,8 +1,8 @@
 use Rattle.std.proofs.Common.{◌≡◌, ◌≤◌, ◌+◌, ◌*◌, ◌++◌, ◌∷◌, List, length, take}
 use Rattle.affine_systems.specs.declared.items.Item.{Item}
 use Rattle.affine_systems.specs.Eliminate.{is_lower, is_upper, keep, pairs}
-use Rattle.row_places.specs.Slots.{items_in, KeepsRoom}
-use Rattle.row_places.specs.Filling.{Stands}
+use Rattle.work_area.specs.Slots.{items_in, KeepsRoom}
+use Rattle.work_area.specs.Filling.{Stands}
 use Rattle.work_area.proofs.pairing.add_pairs.Given as goal
 
 abbrev pub invariant-loop-low : goal.invariant-loop-low

@@ -4,12 +4,12 @@ use Rattle.affine_systems.specs.Points.{factor_of}
 use Rattle.affine_systems.specs.Items.{false_item}
 use Rattle.affine_systems.specs.Eliminate.{is_upper, keep, with_uppers}
 use Rattle.std.specs.Prelude.{neg_ℤ}
-use Rattle.row_places.specs.Slots.{item_in, items_in}
-use Rattle.row_places.specs.Filling.{Stands}
-use Rattle.row_places.specs.Columns.{AreAmong}
-use Rattle.row_places.proofs.FaceSteps.{small_at}
-use Rattle.row_places.proofs.Swaps.{item_read, length-items_in, keeps_more, first_has}
-use Rattle.row_places.proofs.ColumnLaws.{among_at, combined_short}
+use Rattle.work_area.specs.Slots.{item_in, items_in}
+use Rattle.work_area.specs.Filling.{Stands}
+use Rattle.work_area.specs.Columns.{AreAmong}
+use Rattle.work_area.proofs.FaceSteps.{small_at}
+use Rattle.work_area.proofs.Swaps.{item_read, length-items_in, keeps_more, first_has}
+use Rattle.work_area.proofs.ColumnLaws.{among_at, combined_short}
 use Rattle.work_area.proofs.PairSteps.{nothing_kept, kept_in, kept_out, all_kept, kept_few, length_more, one_pair}
 use Rattle.work_area.proofs.pairing.add_uppers.Goals as goal
 

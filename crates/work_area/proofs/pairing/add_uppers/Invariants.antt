@@ -1,8 +1,8 @@
 use Rattle.std.proofs.Common.{◌≡◌, ◌≤◌, ◌+◌, ◌++◌, ◌∷◌, List, length, take}
 use Rattle.affine_systems.specs.declared.items.Item.{Item}
 use Rattle.affine_systems.specs.Eliminate.{is_upper, keep, with_uppers}
-use Rattle.row_places.specs.Slots.{item_in, items_in, KeepsRoom}
-use Rattle.row_places.specs.Filling.{Stands}
+use Rattle.work_area.specs.Slots.{item_in, items_in, KeepsRoom}
+use Rattle.work_area.specs.Filling.{Stands}
 use Rattle.work_area.proofs.pairing.add_uppers.Given as goal
 
 abbrev pub invariant-loop-up : goal.invariant-loop-up

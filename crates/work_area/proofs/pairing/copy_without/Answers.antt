@@ -2,12 +2,13 @@ use Rattle.std.proofs.Common.{◌∙◌, ◌<◌, ◌≤◌, ◌+◌, ◌++◌, 
 use Rattle.std.proofs.lemmas.List.{length-set, take_more_set}
 use Rattle.affine_systems.specs.declared.items.Item.{Item}
 use Rattle.affine_systems.specs.Eliminate.{is_without}
-use Rattle.row_places.specs.declared.slot.Slot.{Slot}
-use Rattle.row_places.specs.Slots.{item_in, items_in}
-use Rattle.row_places.proofs.FaceSteps.{small_at}
-use Rattle.row_places.proofs.Swaps.{items_in-set, length-items_in, keeps_more, keeps_set}
-use Rattle.work_area.proofs.PairSteps.{nothing_kept, kept_in, kept_out, all_kept, nothing_taken}
+use Rattle.work_area.specs.declared.slot.Slot.{Slot}
+use Rattle.work_area.specs.Slots.{item_in, items_in}
+use Rattle.work_area.proofs.FaceSteps.{small_at}
+use Rattle.work_area.proofs.Swaps.{items_in-set, length-items_in, keeps_more, keeps_set}
+use Rattle.work_area.proofs.PairSteps.{nothing_kept, kept_in, kept_out, all_kept}
 use Rattle.work_area.proofs.pairing.copy_without.Goals as goal
+use Rattle.elimination.proofs.PairLaws.{none_taken as nothing_taken}
 
 pub loop-slot-init : goal.loop-slot-init
 loop-slot-init c = record {

@@ -1,6 +1,6 @@
 use Rattle.std.proofs.Common.{◌≡◌, ◌≤◌, length, take}
 use Rattle.affine_systems.specs.Eliminate.{is_without, keep}
-use Rattle.row_places.specs.Slots.{items_in, KeepsRoom}
+use Rattle.work_area.specs.Slots.{items_in, KeepsRoom}
 use Rattle.work_area.proofs.pairing.copy_without.Given as goal
 
 abbrev pub invariant-loop-slot : goal.invariant-loop-slot

@@ -1,4 +1,4 @@
-use Rattle.row_places.proofs.FaceSteps.{small_at}
+use Rattle.work_area.proofs.FaceSteps.{small_at}
 use Rattle.work_area.proofs.pairing.every_pair_unit.Goals as goal
 
 pub is_lower-requires : goal.is_lower-requires

@@ -1,6 +1,6 @@
 use Rattle.std.proofs.Common.{◌≡◌, drop}
 use Rattle.affine_systems.specs.Eliminate.{every_pair_unit, is_lower, is_upper, keep}
-use Rattle.row_places.specs.Slots.{items_in}
+use Rattle.work_area.specs.Slots.{items_in}
 use Rattle.work_area.proofs.pairing.every_pair_unit.Given as goal
 
 abbrev pub invariant-loop-slot : goal.invariant-loop-slot

@@ -6,10 +6,10 @@ use Rattle.affine_systems.specs.Items.{rows_of, next_made}
 use Rattle.affine_systems.specs.Given.{IsNormal, ItemsSmall}
 use Rattle.affine_systems.specs.Forms.{IsForm}
 use Rattle.elimination.proofs.ElimSteps.{fit_small}
-use Rattle.row_places.specs.declared.slot.Slot.{Slot}
-use Rattle.row_places.specs.Slots.{items_in, HaveRoom, KeepsRoom}
-use Rattle.row_places.specs.Columns.{InColumns}
-use Rattle.row_places.proofs.Swaps.{both_have}
+use Rattle.work_area.specs.declared.slot.Slot.{Slot}
+use Rattle.work_area.specs.Slots.{items_in, HaveRoom, KeepsRoom}
+use Rattle.work_area.specs.Columns.{InColumns}
+use Rattle.work_area.proofs.Swaps.{both_have}
 use Rattle.work_area.specs.Outcomes.{paired_items}
 use Rattle.work_area.specs.Tables.{items_of, MadeBelow}
 use Rattle.work_area.proofs.MadeLaws.{below_more, next_below}

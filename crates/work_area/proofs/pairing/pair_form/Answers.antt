@@ -5,9 +5,9 @@ use Rattle.affine_systems.specs.Rows.{AllRows}
 use Rattle.affine_systems.specs.Items.{rows_of}
 use Rattle.affine_systems.specs.Given.{IsNormal}
 use Rattle.affine_systems.specs.Eliminate.{is_without, keep}
-use Rattle.row_places.specs.Slots.{items_in}
-use Rattle.row_places.specs.Filling.{Stands}
-use Rattle.row_places.proofs.Swaps.{both_have, first_has, rest_has}
+use Rattle.work_area.specs.Slots.{items_in}
+use Rattle.work_area.specs.Filling.{Stands}
+use Rattle.work_area.proofs.Swaps.{both_have, first_has, rest_has}
 use Rattle.work_area.specs.Outcomes.{paired_items}
 use Rattle.work_area.proofs.TableSteps.{short_slots}
 use Rattle.work_area.proofs.PairSteps.{kept_normal}

@@ -1,4 +1,4 @@
-use Rattle.row_places.proofs.FaceSteps.{small_at}
+use Rattle.work_area.proofs.FaceSteps.{small_at}
 use Rattle.work_area.proofs.pairing.uppers_have_unit.Goals as goal
 
 pub is_upper-requires : goal.is_upper-requires

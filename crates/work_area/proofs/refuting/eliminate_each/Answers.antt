@@ -5,7 +5,7 @@ use Rattle.affine_systems.specs.declared.row.Term.{Term}
 use Rattle.affine_systems.specs.Terms.{term}
 use Rattle.affine_systems.specs.Eliminate.{eliminate_item}
 use Rattle.affine_systems.proofs.FitLaws.{eliminated_fits}
-use Rattle.row_places.specs.Columns.{InColumns}
+use Rattle.work_area.specs.Columns.{InColumns}
 use Rattle.hull_projection.specs.Refute.{left, eliminate_all}
 use Rattle.hull_projection.proofs.FitLaws.{few_fits}
 use Rattle.work_area.specs.Tables.{items_of, MadeBelow}

@@ -1,7 +1,7 @@
 use Rattle.std.proofs.Common.{◌≡◌, ◌∙◌, false, sym, ap, ap₂, subst}
 use Rattle.affine_systems.specs.Given.{ItemsFit}
 use Rattle.affine_systems.specs.Items.{rows_of, any_false}
-use Rattle.row_places.specs.Columns.{InColumns}
+use Rattle.work_area.specs.Columns.{InColumns}
 use Rattle.hull_projection.specs.Variables.{row_vars}
 use Rattle.hull_projection.specs.Refute.{left, eliminate_all}
 use Rattle.hull_projection.proofs.FitLaws.{originals_fit}

@@ -1,4 +1,4 @@
-use Rattle.row_places.proofs.FaceSteps.{small_at}
+use Rattle.work_area.proofs.FaceSteps.{small_at}
 use Rattle.work_area.proofs.substitution.any_has.Goals as goal
 
 pub occurs-requires : goal.occurs-requires

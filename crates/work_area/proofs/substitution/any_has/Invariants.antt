@@ -1,6 +1,6 @@
 use Rattle.std.proofs.Common.{◌≡◌, drop}
 use Rattle.affine_systems.specs.Eliminate.{any_has}
-use Rattle.row_places.specs.Slots.{items_in}
+use Rattle.work_area.specs.Slots.{items_in}
 use Rattle.work_area.proofs.substitution.any_has.Given as goal
 
 abbrev pub invariant-loop-slot : goal.invariant-loop-slot

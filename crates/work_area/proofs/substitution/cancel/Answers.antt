@@ -2,8 +2,8 @@ use Rattle.std.proofs.Common.{◌∙◌, ◌^◌, ◌∷◌, List, take, length,
 use Rattle.std.proofs.lemmas.List.{with_items_is}
 use Rattle.affine_systems.specs.Items.{next_made, cut_of, others}
 use Rattle.affine_systems.specs.Eliminate.{all_cancelled}
-use Rattle.row_places.specs.declared.slot.Slot.{Slot}
-use Rattle.row_places.specs.Slots.{items_in, KeepsRoom}
+use Rattle.work_area.specs.declared.slot.Slot.{Slot}
+use Rattle.work_area.specs.Slots.{items_in, KeepsRoom}
 use Rattle.work_area.specs.Tables.{MadeBelow}
 use Rattle.work_area.proofs.TableSteps.{front_is, ready_pivot}
 use Rattle.work_area.proofs.substitution.cancel.Goals as goal

@@ -6,11 +6,11 @@ use Rattle.affine_systems.specs.Items.{AllItems, false_item}
 use Rattle.affine_systems.specs.Eliminate.{all_cancelled}
 use Rattle.affine_systems.proofs.PivotSteps.{small_removed}
 use Rattle.affine_systems.proofs.ItemSteps.{item_at as all_at}
-use Rattle.row_places.specs.Slots.{items_in}
-use Rattle.row_places.specs.Columns.{AreAmong}
-use Rattle.row_places.proofs.Swaps.{items_in-take, length-items_in, front_items, out_rooms, keeps_cancelled}
-use Rattle.row_places.proofs.ColumnLaws.{among_at}
-use Rattle.row_places.proofs.AllLaws.{all_removed}
+use Rattle.work_area.specs.Slots.{items_in}
+use Rattle.work_area.specs.Columns.{AreAmong}
+use Rattle.work_area.proofs.Swaps.{items_in-take, length-items_in, front_items, out_rooms, keeps_cancelled}
+use Rattle.work_area.proofs.ColumnLaws.{among_at}
+use Rattle.work_area.proofs.AllLaws.{all_removed}
 use Rattle.work_area.proofs.substitution.cancel_by.Goals as goal
 
 pub cancel_all-requires-clause-each : goal.cancel_all-requires-clause-each

@@ -3,9 +3,9 @@ use Rattle.std.proofs.lemmas.List.{length-take-le}
 use Rattle.affine_systems.specs.Given.{ItemsSmall}
 use Rattle.affine_systems.specs.Items.{cut_of, others}
 use Rattle.affine_systems.specs.Eliminate.{all_cancelled}
-use Rattle.row_places.specs.Slots.{items_in}
-use Rattle.row_places.specs.Columns.{InColumns}
-use Rattle.row_places.proofs.Swaps.{items_in-take, front_items, front_rooms, keeps_front_rooms}
+use Rattle.work_area.specs.Slots.{items_in}
+use Rattle.work_area.specs.Columns.{InColumns}
+use Rattle.work_area.proofs.Swaps.{items_in-take, front_items, front_rooms, keeps_front_rooms}
 use Rattle.work_area.proofs.substitution.cancel_by_front.Goals as goal
 
 pub cancel_by-requires-clause-each : goal.cancel_by-requires-clause-each

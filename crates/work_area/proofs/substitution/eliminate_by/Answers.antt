@@ -3,7 +3,7 @@ use Rattle.affine_systems.specs.Items.{next_made, cut_of, others}
 use Rattle.affine_systems.specs.Eliminate.{all_cancelled}
 use Rattle.affine_systems.specs.Tidy.{tidy_items}
 use Rattle.elimination.proofs.ElimSteps.{fit_small, by_given}
-use Rattle.row_places.specs.Columns.{InColumns}
+use Rattle.work_area.specs.Columns.{InColumns}
 use Rattle.work_area.specs.Tables.{items_of, MadeBelow}
 use Rattle.work_area.proofs.MadeLaws.{below_more, cancelled_by_below}
 use Rattle.work_area.proofs.TableSteps.{keeps_both, cancelled_columns}

@@ -1,8 +1,8 @@
 use Rattle.std.proofs.Common.{◌∙◌, sym, arith}
 use Rattle.affine_systems.specs.Eliminate.{is_unit_on}
-use Rattle.row_places.proofs.Swaps.{length-items_in}
-use Rattle.row_places.proofs.FaceSteps.{small_at}
-use Rattle.row_places.proofs.PivotSteps.{cut-here}
+use Rattle.work_area.proofs.Swaps.{length-items_in}
+use Rattle.work_area.proofs.FaceSteps.{small_at}
+use Rattle.work_area.proofs.PivotSteps.{cut-here}
 use Rattle.work_area.proofs.substitution.find_unit.Goals as goal
 
 pub is_unit_on-requires : goal.is_unit_on-requires

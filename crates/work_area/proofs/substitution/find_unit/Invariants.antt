@@ -2,7 +2,7 @@ use Rattle.std.proofs.Common.{◌≡◌, take, drop}
 use Rattle.affine_systems.specs.Items.{cut_at}
 use Rattle.affine_systems.specs.Eliminate.{is_unit_on}
 use Rattle.affine_systems.proofs.PivotSteps.{after}
-use Rattle.row_places.specs.Slots.{items_in}
+use Rattle.work_area.specs.Slots.{items_in}
 use Rattle.work_area.proofs.substitution.find_unit.Given as goal
 
 abbrev pub invariant-loop-i : goal.invariant-loop-i

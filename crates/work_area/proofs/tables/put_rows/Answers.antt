@@ -2,8 +2,8 @@ use Rattle.std.proofs.Common.{◌∙◌, ◌≤◌, ◌<◌, length, set, sym, a
 use Rattle.std.proofs.lemmas.List.{length-set}
 use Rattle.affine_systems.specs.Items.{item, no_originals}
 use Rattle.affine_systems.specs.declared.row.Row.{Row}
-use Rattle.row_places.specs.Slots.{items_in}
-use Rattle.row_places.proofs.Swaps.{items_in-set, length-items_in, keeps_more, keeps_set}
+use Rattle.work_area.specs.Slots.{items_in}
+use Rattle.work_area.proofs.Swaps.{items_in-set, length-items_in, keeps_more, keeps_set}
 use Rattle.work_area.proofs.LoadSteps.{put_more}
 use Rattle.work_area.proofs.tables.put_rows.Goals as goal
 

@@ -1,6 +1,6 @@
 use Rattle.std.proofs.Common.{◌≡◌, take, length}
 use Rattle.affine_systems.specs.Items.{items_from}
-use Rattle.row_places.specs.Slots.{items_in, KeepsRoom}
+use Rattle.work_area.specs.Slots.{items_in, KeepsRoom}
 use Rattle.work_area.proofs.tables.put_rows.Given as goal
 
 abbrev pub invariant-loop-i : goal.invariant-loop-i

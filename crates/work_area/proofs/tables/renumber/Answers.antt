@@ -1,8 +1,8 @@
 use Rattle.std.proofs.Common.{◌∙◌, ◌<◌, length, set, sym, ap, arith, refl}
 use Rattle.std.proofs.lemmas.List.{length-set}
 use Rattle.affine_systems.specs.Items.{false_item, item, no_originals}
-use Rattle.row_places.specs.Slots.{items_in}
-use Rattle.row_places.proofs.Swaps.{items_in-set, item_at, length-items_in, keeps_more, keeps_set}
+use Rattle.work_area.specs.Slots.{items_in}
+use Rattle.work_area.proofs.Swaps.{items_in-set, item_at, length-items_in, keeps_more, keeps_set}
 use Rattle.work_area.proofs.LoadSteps.{number_more, number_end}
 use Rattle.work_area.proofs.tables.renumber.Goals as goal
 

@@ -1,6 +1,6 @@
 use Rattle.std.proofs.Common.{◌≡◌, ◌++◌, take, drop, length}
 use Rattle.affine_systems.specs.Items.{items_from, rows_of}
-use Rattle.row_places.specs.Slots.{items_in, KeepsRoom}
+use Rattle.work_area.specs.Slots.{items_in, KeepsRoom}
 use Rattle.work_area.proofs.tables.renumber.Given as goal
 
 abbrev pub invariant-loop-i : goal.invariant-loop-i

@@ -1,8 +1,8 @@
 use Rattle.std.proofs.Common.{◌≡◌, ◌∙◌, length, ap, arith}
 use Rattle.std.proofs.lemmas.List.{take_all, length-take-le}
 use Rattle.affine_systems.specs.Items.{items_from, rows_of}
-use Rattle.row_places.specs.Slots.{items_in}
-use Rattle.row_places.proofs.Swaps.{items_in-take, length-items_in, front_items, keeps_front}
+use Rattle.work_area.specs.Slots.{items_in}
+use Rattle.work_area.proofs.Swaps.{items_in-take, length-items_in, front_items, keeps_front}
 use Rattle.work_area.proofs.tables.renumber_front.Goals as goal
 
 pub returns-clause-items : goal.returns-clause-items

@@ -1,6 +1,6 @@
 use Rattle.std.proofs.Common.{◌≡◌, take}
 use Rattle.std.specs.Prelude.{map}
-use Rattle.row_places.specs.Slots.{row_in}
+use Rattle.work_area.specs.Slots.{row_in}
 use Rattle.work_area.proofs.tables.row_list.Given as goal
 
 abbrev pub invariant-loop-slot : goal.invariant-loop-slot

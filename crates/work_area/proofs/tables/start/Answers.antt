@@ -1,8 +1,8 @@
 use Rattle.std.proofs.Common.{◌∙◌, List, take, length, ap, subst, refl}
 use Rattle.std.proofs.lemmas.List.{with_items_is}
 use Rattle.affine_systems.specs.Items.{items_from, rows_of}
-use Rattle.row_places.specs.declared.slot.Slot.{Slot}
-use Rattle.row_places.specs.Slots.{items_in, KeepsRoom}
+use Rattle.work_area.specs.declared.slot.Slot.{Slot}
+use Rattle.work_area.specs.Slots.{items_in, KeepsRoom}
 use Rattle.work_area.proofs.TableSteps.{ready_rows}
 use Rattle.work_area.proofs.tables.start.Goals as goal
 

@@ -1,5 +1,5 @@
 use Rattle.std.proofs.Common.{◌≤◌, ◌-◌, vec_len}
-use Rattle.row_places.specs.Slots.{HaveRoom}
+use Rattle.work_area.specs.Slots.{HaveRoom}
 use Rattle.work_area.proofs.tables.with_places.Given as goal
 
 abbrev pub invariant-loop-alloc : goal.invariant-loop-alloc

@@ -3,8 +3,8 @@ use Rattle.std.proofs.lemmas.List.{with_items_is, length-take-le}
 use Rattle.affine_systems.specs.Given.{ItemsSmall}
 use Rattle.affine_systems.specs.Items.{next_made}
 use Rattle.affine_systems.specs.Tidy.{faced_all}
-use Rattle.row_places.specs.Slots.{items_in, HaveRoom, KeepsRoom}
-use Rattle.row_places.specs.Columns.{InColumns}
+use Rattle.work_area.specs.Slots.{items_in, HaveRoom, KeepsRoom}
+use Rattle.work_area.specs.Columns.{InColumns}
 use Rattle.work_area.specs.Tables.{MadeBelow}
 use Rattle.work_area.proofs.TableSteps.{short_slots, ready_turned, front_is}
 use Rattle.work_area.proofs.tidying.face.Goals as goal

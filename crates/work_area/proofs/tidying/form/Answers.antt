@@ -1,8 +1,8 @@
 use Rattle.std.proofs.Common.{◌∙◌, false, List, take, length, ap, subst, arith, refl}
 use Rattle.std.proofs.lemmas.List.{with_items_is}
 use Rattle.affine_systems.specs.Tidy.{in_form, any_too_big}
-use Rattle.row_places.specs.declared.slot.Slot.{Slot}
-use Rattle.row_places.specs.Slots.{items_in, KeepsRoom}
+use Rattle.work_area.specs.declared.slot.Slot.{Slot}
+use Rattle.work_area.specs.Slots.{items_in, KeepsRoom}
 use Rattle.work_area.proofs.TableSteps.{ready_rows}
 use Rattle.work_area.proofs.tidying.form.Goals as goal
 

@@ -1,7 +1,7 @@
 use Rattle.std.proofs.Common.{◌∙◌, ◌^◌, ◌+◌, drop, ap, arith}
 use Rattle.std.specs.Prelude.{max}
 use Rattle.affine_systems.specs.Items.{next_made as made_from}
-use Rattle.row_places.specs.Slots.{items_in}
+use Rattle.work_area.specs.Slots.{items_in}
 use Rattle.work_area.proofs.MadeLaws.{made-read, next-more}
 use Rattle.work_area.proofs.tidying.next_made.Goals as goal
 

@@ -1,7 +1,7 @@
 use Rattle.std.proofs.Common.{◌≡◌, ◌≤◌, drop}
 use Rattle.std.specs.Prelude.{max, ◌^◌}
 use Rattle.affine_systems.specs.Items.{next_made}
-use Rattle.row_places.specs.Slots.{items_in}
+use Rattle.work_area.specs.Slots.{items_in}
 use Rattle.work_area.proofs.tidying.next_made.Given as goal
 
 abbrev pub invariant-loop-slot : goal.invariant-loop-slot

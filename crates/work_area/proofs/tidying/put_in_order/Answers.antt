@@ -2,8 +2,8 @@ use Rattle.std.proofs.Common.{◌∙◌, List, take, length, ap, subst, arith, r
 use Rattle.std.proofs.lemmas.List.{with_items_is}
 use Rattle.affine_systems.specs.Items.{collapsed}
 use Rattle.affine_systems.specs.Tidy.{sorted, one_each}
-use Rattle.row_places.specs.declared.slot.Slot.{Slot}
-use Rattle.row_places.specs.Slots.{items_in, KeepsRoom}
+use Rattle.work_area.specs.declared.slot.Slot.{Slot}
+use Rattle.work_area.specs.Slots.{items_in, KeepsRoom}
 use Rattle.work_area.proofs.TableSteps.{ready_rows}
 use Rattle.work_area.proofs.tidying.put_in_order.Goals as goal
 

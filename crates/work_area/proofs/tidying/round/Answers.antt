@@ -1,7 +1,7 @@
 use Rattle.std.proofs.Common.{◌∙◌, ◌≤◌, ◌^◌, false, length, ap, sym, subst, arith}
 use Rattle.affine_systems.specs.Given.{ItemsSmall}
 use Rattle.affine_systems.specs.Tidy.{in_form, merged}
-use Rattle.row_places.specs.Columns.{InColumns}
+use Rattle.work_area.specs.Columns.{InColumns}
 use Rattle.work_area.specs.Tables.{items_of, MadeBelow}
 use Rattle.work_area.proofs.MadeLaws.{form_below}
 use Rattle.work_area.proofs.TableSteps.{ready_zero, keeps_both, form_narrow, round_whole, lossy_whole, length-items_of}

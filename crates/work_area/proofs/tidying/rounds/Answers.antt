@@ -4,7 +4,7 @@ use Rattle.affine_systems.specs.Given.{ItemsSmall}
 use Rattle.affine_systems.specs.Items.{cut_of}
 use Rattle.affine_systems.specs.Tidy.{round, next_pivot, pivoted}
 use Rattle.affine_systems.proofs.TurnSteps.{turns_start, turns_more, turns_stop, turns_end}
-use Rattle.row_places.specs.Columns.{InColumns}
+use Rattle.work_area.specs.Columns.{InColumns}
 use Rattle.work_area.specs.Tables.{items_of, MadeBelow}
 use Rattle.work_area.proofs.MadeLaws.{round_below, pivoted_below, below_more}
 use Rattle.work_area.proofs.TableSteps.{ready_zero, keeps_both, keeps_same, round_narrow, next_narrow, length-items_of}

@@ -1,8 +1,8 @@
 use Rattle.std.proofs.Common.{◌∙◌, ◌^◌, ◌∷◌, List, take, length, sym, ap, subst, refl}
 use Rattle.std.proofs.lemmas.List.{with_items_is}
 use Rattle.affine_systems.specs.Items.{next_made}
-use Rattle.row_places.specs.declared.slot.Slot.{Slot}
-use Rattle.row_places.specs.Slots.{items_in, KeepsRoom}
+use Rattle.work_area.specs.declared.slot.Slot.{Slot}
+use Rattle.work_area.specs.Slots.{items_in, KeepsRoom}
 use Rattle.work_area.specs.Tables.{MadeBelow}
 use Rattle.work_area.proofs.TableSteps.{front_is, ready_pivot}
 use Rattle.work_area.proofs.tidying.take_pivot.Goals as goal

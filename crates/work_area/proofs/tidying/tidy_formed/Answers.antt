@@ -3,7 +3,7 @@ use Rattle.affine_systems.proofs.TurnSteps.{last_turns}
 use Rattle.affine_systems.proofs.FormSteps.{form_small, some_small, form_stops, form_goes_on, next_given}
 use Rattle.affine_systems.specs.Items.{cut_of, tidied}
 use Rattle.affine_systems.specs.Tidy.{pivoted, merged}
-use Rattle.row_places.specs.Columns.{InColumns}
+use Rattle.work_area.specs.Columns.{InColumns}
 use Rattle.work_area.specs.Tables.{items_of, MadeBelow}
 use Rattle.work_area.proofs.MadeLaws.{below_more, merged_below, pivoted_below}
 use Rattle.work_area.proofs.TableSteps.{ready_zero, keeps_both, length-items_of, merged_columns, pivoted_columns}

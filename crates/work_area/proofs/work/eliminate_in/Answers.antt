@@ -8,7 +8,7 @@ use Rattle.affine_systems.specs.Given.{Fits, ItemsFit}
 use Rattle.affine_systems.specs.Items.{items_from, rows_of}
 use Rattle.affine_systems.specs.Eliminate.{eliminate, eliminate_item}
 use Rattle.affine_systems.proofs.FitLaws.{items_fit, eliminated_fits, system_fits}
-use Rattle.row_places.specs.Columns.{InColumns, noted_rows}
+use Rattle.work_area.specs.Columns.{InColumns, noted_rows}
 use Rattle.work_area.specs.Tables.{items_of, MadeBelow}
 use Rattle.work_area.specs.declared.work.Work.TheInside.{Inside}
 use Rattle.work_area.specs.Area.{area}

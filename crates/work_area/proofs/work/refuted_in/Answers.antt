@@ -5,8 +5,8 @@ use Rattle.affine_systems.specs.Given.{Fits, ItemsFit, ItemsGiven}
 use Rattle.affine_systems.specs.Items.{items_from, rows_of}
 use Rattle.affine_systems.specs.Tidy.{tidy_items}
 use Rattle.affine_systems.proofs.FitLaws.{items_fit, tidied_fits}
-use Rattle.row_places.specs.Slots.{items_in}
-use Rattle.row_places.specs.Columns.{InColumns, noted_rows}
+use Rattle.work_area.specs.Slots.{items_in}
+use Rattle.work_area.specs.Columns.{InColumns, noted_rows}
 use Rattle.hull_projection.specs.Refute.{refuted, refuted_items}
 use Rattle.hull_projection.proofs.RefuteLaws.{refuted_none}
 use Rattle.work_area.specs.Tables.{items_of, MadeBelow}

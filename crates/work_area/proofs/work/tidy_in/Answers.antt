@@ -4,7 +4,7 @@ use Rattle.affine_systems.specs.Given.{Fits, ItemsGiven}
 use Rattle.affine_systems.specs.Items.{items_from, rows_of}
 use Rattle.affine_systems.specs.Tidy.{tidy, tidy_items}
 use Rattle.affine_systems.proofs.FitLaws.{items_fit, tidied_fits, system_fits}
-use Rattle.row_places.specs.Columns.{InColumns}
+use Rattle.work_area.specs.Columns.{InColumns}
 use Rattle.work_area.specs.Tables.{items_of, MadeBelow}
 use Rattle.work_area.specs.Area.{area}
 use Rattle.work_area.proofs.LoadSteps.{fit_given, from_columns, from_below}

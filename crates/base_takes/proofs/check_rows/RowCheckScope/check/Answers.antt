@@ -1,5 +1,5 @@
 use Rattle.std.proofs.Common.{◌≡◌, true}
-use Rattle.base_rows.specs.Read.{terms_ascend}
+use Rattle.base_json.specs.Read.{terms_ascend}
 use Rattle.base_takes.proofs.check_rows.RowCheckScope.check.Goals as goal
 
 pub returns : goal.returns

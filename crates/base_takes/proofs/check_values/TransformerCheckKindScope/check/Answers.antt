@@ -1,7 +1,7 @@
 use Rattle.std.proofs.Common.{◌≡◌, true, subst}
 use Rattle.std.proofs.lemmas.Result.{IfOk-weaker}
 use Rattle.f77_ast.specs.Index.{names_of}
-use Rattle.base_rows.specs.Scopes.{cells_alone, with_exits}
+use Rattle.base_json.specs.Scopes.{cells_alone, with_exits}
 use Rattle.base_values.specs.Naming.{SystemFits}
 use Rattle.base_values.specs.Fits.{TransformerFits}
 use Rattle.base_takes.proofs.check_values.TransformerCheckKindScope.check.Goals as goal

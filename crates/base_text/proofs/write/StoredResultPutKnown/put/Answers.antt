@@ -3,7 +3,7 @@ use Rattle.std.proofs.lemmas.Result.{on_ok_weaker}
 use Rattle.serde_json.specs.Data.{string}
 use Rattle.serde_json.specs.Written.{compact_text}
 use Rattle.serde_json.proofs.OnLiterals.{serde_json_on_literals}
-use Rattle.pipsmake_rules.specs.Kinds.{name_of}
+use Rattle.session_texts.specs.pipsmake_rules.Kinds.{name_of}
 use Rattle.base_json.specs.Written.{text_data}
 use Rattle.base_values.specs.Sizes.{kind_of}
 use Rattle.base_values.specs.Written.{stored_data}

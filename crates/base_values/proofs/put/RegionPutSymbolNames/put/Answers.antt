@@ -5,7 +5,7 @@ use Rattle.serde_json.specs.Data.{boolean, string, member, no_members}
 use Rattle.serde_json.specs.Written.{compact_text, members_text}
 use Rattle.serde_json.proofs.OnLiterals.{serde_json_on_literals}
 use Rattle.f77_ast.specs.Index.{names_of}
-use Rattle.base_rows.specs.Written.{system_data}
+use Rattle.base_json.specs.RowsWritten.{system_data}
 use Rattle.base_values.specs.Words.{access_word}
 use Rattle.base_values.specs.Written.{piece_of, variable_data}
 use Rattle.base_values.proofs.Joins.{joined}

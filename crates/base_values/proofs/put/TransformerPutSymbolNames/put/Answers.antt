@@ -3,7 +3,7 @@ use Rattle.std.proofs.lemmas.Result.{on_ok_weaker}
 use Rattle.serde_json.specs.Written.{compact_text}
 use Rattle.serde_json.proofs.OnLiterals.{serde_json_on_literals}
 use Rattle.base_json.specs.Written.{list_data, number_data}
-use Rattle.base_rows.specs.Written.{system_data}
+use Rattle.base_json.specs.RowsWritten.{system_data}
 use Rattle.base_values.specs.Written.{unit_data}
 use Rattle.base_values.proofs.SevenJoins.{joined_seven}
 use Rattle.base_values.proofs.put.TransformerPutSymbolNames.put.Goals as goal

@@ -1,9 +1,10 @@
 use Rattle.std.proofs.Common.{Some, sym, ap, ◌∙◌, subst}
 use Rattle.std.specs.HashMap.{Updates}
 use Rattle.f77_ast.specs.declared.name_index.NameIndex.{NameIndex}
-use Rattle.f77_ast.proofs.NumbersLaws.{same_key, indexes_again, indexes_after}
+use Rattle.f77_ast.proofs.NumbersLaws.{indexes_again, indexes_after}
 use Rattle.f77_ast.proofs.name_index.NameIndex.add.Goals as goal
 use Rattle.f77_ast.proofs.name_index.NameIndex.add.Goals.{then-not-contains_key+in_ok-insert, else-not-contains_key}
+use Rattle.f77_ast.proofs.MapLaws.{same_key}
 
 pub returns-clause-ok : goal.returns-clause-ok
 returns-clause-ok c names are =

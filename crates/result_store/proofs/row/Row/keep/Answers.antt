@@ -1,27 +1,27 @@
 use Rattle.std.proofs.Common.{map, set, subst}
 use Rattle.std.specs.Prelude.{OnOk}
-use Rattle.laws_database.specs.Shelves.{Keeps}
-use Rattle.result_store.specs.Rows.{shelf_tree, shelf_at}
+use Rattle.pipsmake_meaning.specs.MemoCells.{Keeps}
+use Rattle.result_store.specs.Rows.{memo_cell_tree, memo_cell_at}
 use Rattle.result_store.specs.Values.{value_tree, stamped_tree, item_of}
 use Rattle.result_store.proofs.Outcomes.{on_err}
-use Rattle.result_store.proofs.RowLaws.{tree, shelf_fits, row_changes, shelf_before, shelf_after, row_unchanged}
+use Rattle.result_store.proofs.RowLaws.{tree, memo_cell_fits, row_changes, memo_cell_before, memo_cell_after, row_unchanged}
 use Rattle.result_store.proofs.row.Row.keep.Goals as goal
 
-pub keep-requires-in-Result-clause-shelf : goal.keep-requires-in-Result-clause-shelf
-keep-requires-in-Result-clause-shelf c =
-    shelf_fits c.args.self.now.results.items c.in-Result.kind c.number.result c.index_mut-shelf.result.now c.number.ensures c.requires.row.kinds c.index_mut-shelf.ensures.value c.requires.row.results
+pub keep-requires-in-Result-clause-memo_cell : goal.keep-requires-in-Result-clause-memo_cell
+keep-requires-in-Result-clause-memo_cell c =
+    memo_cell_fits c.args.self.now.results.items c.in-Result.kind c.number.result c.index_mut-memo_cell.result.now c.number.ensures c.requires.row.kinds c.index_mut-memo_cell.ensures.value c.requires.row.results
 
 pub returns-in-Result-clause-changes : goal.returns-in-Result-clause-changes
 returns-in-Result-clause-changes c =
-    row_changes c.args.self.now.name (shelf_tree c.args.self.now.text) c.args.self.now.results.items c.args.item c.in-Result.kind c.number.result c.index_mut-shelf.result.now c.keep-in-Result.new.self c.in-Result.is c.number.ensures c.index_mut-shelf.ensures.value c.requires.row c.keep-in-Result.ensures.fits
+    row_changes c.args.self.now.name (memo_cell_tree c.args.self.now.text) c.args.self.now.results.items c.args.item c.in-Result.kind c.number.result c.index_mut-memo_cell.result.now c.keep-in-Result.new.self c.in-Result.is c.number.ensures c.index_mut-memo_cell.ensures.value c.requires.row c.keep-in-Result.ensures.fits
 
 pub returns-in-Result-clause-ok : goal.returns-in-Result-clause-ok
 returns-in-Result-clause-ok c =
-    let before = shelf_before c.args.self.now.name (shelf_tree c.args.self.now.text) c.args.self.now.results.items c.args.item c.in-Result.kind c.number.result c.index_mut-shelf.result.now c.keep-in-Result.new.self c.in-Result.is c.number.ensures c.index_mut-shelf.ensures.value c.requires.row in
-    let after = shelf_after c.args.self.now.name (shelf_tree c.args.self.now.text) c.args.self.now.results.items c.args.item c.in-Result.kind c.number.result c.index_mut-shelf.result.now c.keep-in-Result.new.self c.in-Result.is c.number.ensures c.index_mut-shelf.ensures.value c.requires.row in
-    subst (λ a. OnOk c.keep-in-Result.result (Keeps a (value_tree c.args.value) (map stamped_tree c.args.needs) (shelf_at (tree c.args.self.now.name (shelf_tree c.args.self.now.text) (set c.args.self.now.results.items c.number.result c.keep-in-Result.new.self)) (item_of c.args.item)))) before
-    (subst (λ b. OnOk c.keep-in-Result.result (Keeps (shelf_tree c.index_mut-shelf.result.now) (value_tree c.args.value) (map stamped_tree c.args.needs) b)) after c.keep-in-Result.ensures.ok)
+    let before = memo_cell_before c.args.self.now.name (memo_cell_tree c.args.self.now.text) c.args.self.now.results.items c.args.item c.in-Result.kind c.number.result c.index_mut-memo_cell.result.now c.keep-in-Result.new.self c.in-Result.is c.number.ensures c.index_mut-memo_cell.ensures.value c.requires.row in
+    let after = memo_cell_after c.args.self.now.name (memo_cell_tree c.args.self.now.text) c.args.self.now.results.items c.args.item c.in-Result.kind c.number.result c.index_mut-memo_cell.result.now c.keep-in-Result.new.self c.in-Result.is c.number.ensures c.index_mut-memo_cell.ensures.value c.requires.row in
+    subst (λ a. OnOk c.keep-in-Result.result (Keeps a (value_tree c.args.value) (map stamped_tree c.args.needs) (memo_cell_at (tree c.args.self.now.name (memo_cell_tree c.args.self.now.text) (set c.args.self.now.results.items c.number.result c.keep-in-Result.new.self)) (item_of c.args.item)))) before
+    (subst (λ b. OnOk c.keep-in-Result.result (Keeps (memo_cell_tree c.index_mut-memo_cell.result.now) (value_tree c.args.value) (map stamped_tree c.args.needs) b)) after c.keep-in-Result.ensures.ok)
 
 pub returns-in-Result-clause-err : goal.returns-in-Result-clause-err
 returns-in-Result-clause-err c =
-    on_err c.keep-in-Result.result (row_unchanged c.args.self.now.name (shelf_tree c.args.self.now.text) c.args.self.now.results.items c.args.item c.in-Result.kind c.number.result c.index_mut-shelf.result.now c.keep-in-Result.new.self c.in-Result.is c.number.ensures c.index_mut-shelf.ensures.value c.requires.row) c.keep-in-Result.ensures.err
+    on_err c.keep-in-Result.result (row_unchanged c.args.self.now.name (memo_cell_tree c.args.self.now.text) c.args.self.now.results.items c.args.item c.in-Result.kind c.number.result c.index_mut-memo_cell.result.now c.keep-in-Result.new.self c.in-Result.is c.number.ensures c.index_mut-memo_cell.ensures.value c.requires.row) c.keep-in-Result.ensures.err

@@ -1,6 +1,6 @@
 use Rattle.std.proofs.Common.{◌≡◌, length, Some, None, subst, ap, ◌∙◌, rules, arith}
 use Rattle.f77_ast.specs.Symbols.{number_from}
-use Rattle.result_store.specs.Rows.{row_tree, names_of, shelves_of}
+use Rattle.result_store.specs.Rows.{row_tree, names_of, memo_cells_of}
 use Rattle.result_store.specs.RowChanges.{IsEmptyRow}
 use Rattle.result_store.proofs.StoreLaws.{place_of_more, same_with_more}
 use Rattle.result_store.proofs.store.Store.add.Goals as goal
@@ -15,4 +15,4 @@ returns-clause-place c =
 pub returns-clause-same : goal.returns-clause-same
 returns-clause-same c =
     let empty = subst (λ y. IsEmptyRow y (row_tree c.in_ok-row.row)) c.in_ok-clone.ensures.cases c.in_ok-row.ensures in
-    λ item y. ap (λ rows. shelves_of rows item y) c.in_ok-push.ensures.list ∙ same_with_more c.self.inside.rows.items c.args.name.now c.in_ok-row.row empty item y ∙ ap (λ rows. shelves_of rows item y) c.self.view_is
+    λ item y. ap (λ rows. memo_cells_of rows item y) c.in_ok-push.ensures.list ∙ same_with_more c.self.inside.rows.items c.args.name.now c.in_ok-row.row empty item y ∙ ap (λ rows. memo_cells_of rows item y) c.self.view_is

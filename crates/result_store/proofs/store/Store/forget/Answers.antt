@@ -1,7 +1,7 @@
 use Rattle.std.proofs.Common.{set, ap, subst, sym, ◌∙◌}
 use Rattle.f77_ast.specs.Symbols.{number_from}
-use Rattle.laws_database.specs.Shelves.{Forgets}
-use Rattle.result_store.specs.Rows.{names_of, shelves_of}
+use Rattle.pipsmake_meaning.specs.MemoCells.{Forgets}
+use Rattle.result_store.specs.Rows.{names_of, memo_cells_of}
 use Rattle.result_store.proofs.StoreLaws.{row_fits, rows_after, row_forgotten, no_name_forgets}
 use Rattle.result_store.proofs.store.Store.forget.Goals as goal
 
@@ -18,5 +18,5 @@ returns-in-None c = no_name_forgets c.args.self.now c.args.name.now (sym c.in-No
 
 pub returns-in-Some : goal.returns-in-Some
 returns-in-Some c =
-    subst (λ rows. Forgets (shelves_of rows) (shelves_of (set c.self.inside.rows.items c.in-Some.at c.forget.new.self)) c.args.name.now) c.self.view_is
+    subst (λ rows. Forgets (memo_cells_of rows) (memo_cells_of (set c.self.inside.rows.items c.in-Some.at c.forget.new.self)) c.args.name.now) c.self.view_is
     (row_forgotten c.self.inside.rows.items c.args.name.now c.in-Some.at c.index_mut-row.result.now (ap (λ rows. number_from 0 (names_of rows) c.args.name.now) c.self.view_is ∙ sym c.in-Some.ensures.place) c.index_mut-row.ensures.value c.forget.new.self c.forget.ensures)

@@ -1,7 +1,7 @@
 use Rattle.std.proofs.Common.{List, map, sym, ap, ◌∙◌}
 use Rattle.std.specs.Prelude.{is_some}
 use Rattle.pipsmake_rules.specs.Neighbours.{has_name}
-use Rattle.laws_database.specs.Texts.{names_in}
+use Rattle.pipsmake_meaning.specs.Texts.{names_in}
 use Rattle.f77_ast.specs.Symbols.{number_from}
 use Rattle.session_texts.specs.declared.lists.Lists.{Lists}
 use Rattle.session_texts.specs.Changes.{without}

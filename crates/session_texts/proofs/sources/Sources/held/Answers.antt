@@ -1,6 +1,6 @@
 use Rattle.std.proofs.Common.{sym, ap, ◌∙◌}
 use Rattle.std.specs.Prelude.{option_map}
-use Rattle.laws_database.specs.Texts.{text_of}
+use Rattle.pipsmake_meaning.specs.Texts.{text_of}
 use Rattle.session_texts.specs.declared.source.ModuleText.{ModuleText as Kept}
 use Rattle.session_texts.proofs.Named.{text_missing, text_found}
 use Rattle.session_texts.proofs.sources.Sources.held.Goals as goal

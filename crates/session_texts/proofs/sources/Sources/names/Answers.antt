@@ -1,5 +1,5 @@
 use Rattle.std.proofs.Common.{List, ap, ◌∙◌, subst}
-use Rattle.laws_database.specs.Texts.{ModuleText, names_in}
+use Rattle.pipsmake_meaning.specs.Texts.{ModuleText, names_in}
 use Rattle.session_texts.specs.Modules.{NamesDiffer}
 use Rattle.session_texts.proofs.sources.Sources.names.Goals as goal
 

@@ -1,7 +1,7 @@
 use Rattle.std.proofs.Common.{sym, ap, ◌∙◌}
 use Rattle.std.specs.Prelude.{option_map, slice_get}
 use Rattle.f77_ast.specs.PlainDecl.{parsed_tree}
-use Rattle.laws_database.specs.Texts.{trees_in}
+use Rattle.pipsmake_meaning.specs.Texts.{trees_in}
 use Rattle.session_texts.proofs.Named.{tree_at}
 use Rattle.session_texts.proofs.sources.Sources.parsed.Goals as goal
 

@@ -1,8 +1,8 @@
 use Rattle.std.proofs.Common.{sym, ap, ◌∙◌}
 use Rattle.std.specs.Prelude.{option_map}
 use Rattle.f77_ast.specs.PlainDecl.{parsed_tree}
-use Rattle.laws_database.specs.Texts.{ReadModule}
-use Rattle.laws_database.specs.Definitions.{module_named}
+use Rattle.pipsmake_meaning.specs.Texts.{ReadModule}
+use Rattle.pipsmake_meaning.specs.Definitions.{module_named}
 use Rattle.session_texts.proofs.Named.{tree_missing, tree_found}
 use Rattle.session_texts.proofs.sources.Sources.parsed_named.Goals as goal
 

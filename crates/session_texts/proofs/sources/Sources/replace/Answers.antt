@@ -1,5 +1,5 @@
 use Rattle.std.proofs.Common.{List, ℕ, map, ap, ◌∙◌, ◌≡◌}
-use Rattle.laws_database.specs.Texts.{names_in}
+use Rattle.pipsmake_meaning.specs.Texts.{names_in}
 use Rattle.session_texts.specs.Modules.{text_record, source_text}
 use Rattle.session_texts.specs.Changes.{replaced}
 use Rattle.session_texts.specs.Lists.{all_placed}

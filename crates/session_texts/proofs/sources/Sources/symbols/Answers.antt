@@ -1,7 +1,7 @@
 use Rattle.std.proofs.Common.{map, sym, ap, ◌∙◌}
 use Rattle.std.specs.Prelude.{option_map, slice_get}
 use Rattle.f77_ast.specs.Symbols.{symbol_tree}
-use Rattle.laws_database.specs.Texts.{tables_in}
+use Rattle.pipsmake_meaning.specs.Texts.{tables_in}
 use Rattle.session_texts.proofs.Named.{table_at}
 use Rattle.session_texts.proofs.sources.Sources.symbols.Goals as goal
 

@@ -1,8 +1,8 @@
 use Rattle.std.proofs.Common.{map, sym, ap, ◌∙◌}
 use Rattle.std.specs.Prelude.{option_map}
 use Rattle.f77_ast.specs.Symbols.{symbol_tree}
-use Rattle.laws_database.specs.Texts.{ReadModule}
-use Rattle.laws_database.specs.Definitions.{module_named}
+use Rattle.pipsmake_meaning.specs.Texts.{ReadModule}
+use Rattle.pipsmake_meaning.specs.Definitions.{module_named}
 use Rattle.session_texts.proofs.Named.{table_missing, table_found}
 use Rattle.session_texts.proofs.sources.Sources.symbols_named.Goals as goal
 

@@ -1,5 +1,5 @@
 use Rattle.std.proofs.Common.{ap, ◌∙◌}
-use Rattle.laws_database.specs.Texts.{tables_in}
+use Rattle.pipsmake_meaning.specs.Texts.{tables_in}
 use Rattle.session_texts.proofs.sources.Sources.tables.Goals as goal
 
 pub returns : goal.returns

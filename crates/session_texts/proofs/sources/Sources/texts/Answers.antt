@@ -1,5 +1,5 @@
 use Rattle.std.proofs.Common.{List, map, ap, ◌∙◌, subst}
-use Rattle.laws_database.specs.Texts.{ModuleText, AreModules}
+use Rattle.pipsmake_meaning.specs.Texts.{ModuleText, AreModules}
 use Rattle.session_texts.specs.Modules.{text_record}
 use Rattle.session_texts.proofs.sources.Sources.texts.Goals as goal
 

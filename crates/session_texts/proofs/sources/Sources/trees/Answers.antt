@@ -1,5 +1,5 @@
 use Rattle.std.proofs.Common.{ap, ◌∙◌}
-use Rattle.laws_database.specs.Texts.{trees_in}
+use Rattle.pipsmake_meaning.specs.Texts.{trees_in}
 use Rattle.session_texts.proofs.sources.Sources.trees.Goals as goal
 
 pub returns : goal.returns

@@ -6,4 +6,4 @@ use Rattle.storage_data.proofs.initials.Filled.fill_decls.Given as goal
 
 abbrev pub invariant-loop-place : goal.invariant-loop-place
 invariant-loop-place l =
-    decls_filled (table_tree l.table) l.seats (line_in l.lines) (map decl_tree (drop l.place l.decls)) l.place l.self ≡ decls_filled (table_tree l.table) l.seats (line_in l.lines) (map decl_tree l.decls) 0 l.initial.self
+    decls_filled (table_tree l.table) l.offset_nodes (line_in l.lines) (map decl_tree (drop l.place l.decls)) l.place l.self ≡ decls_filled (table_tree l.table) l.offset_nodes (line_in l.lines) (map decl_tree l.decls) 0 l.initial.self

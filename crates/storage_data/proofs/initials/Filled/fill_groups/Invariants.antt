@@ -6,4 +6,4 @@ use Rattle.storage_data.proofs.initials.Filled.fill_groups.Given as goal
 
 abbrev pub invariant-loop-group : goal.invariant-loop-group
 invariant-loop-group l =
-    groups_filled (table_tree l.table) l.seats (map data_tree (drop l.group-index l.groups)) l.line l.self ≡ groups_filled (table_tree l.table) l.seats (map data_tree l.groups) l.line l.initial.self
+    groups_filled (table_tree l.table) l.offset_nodes (map data_tree (drop l.group-index l.groups)) l.line l.self ≡ groups_filled (table_tree l.table) l.offset_nodes (map data_tree l.groups) l.line l.initial.self

@@ -6,4 +6,4 @@ use Rattle.storage_layout.proofs.numbering.Numbering.of.Given as goal
 
 abbrev pub invariant-loop-place : goal.invariant-loop-place
 invariant-loop-place l =
-    groups_from l.place (map entry_tree (drop l.place l.entries)) l.seats l.numbering ≡ groups_from 0 (map entry_tree l.entries) l.seats []
+    groups_from l.place (map entry_tree (drop l.place l.entries)) l.offset_nodes l.numbering ≡ groups_from 0 (map entry_tree l.entries) l.offset_nodes []

@@ -7,10 +7,10 @@ use Rattle.affine_systems.specs.Given.{AreNormal}
 use Rattle.affine_systems.specs.Tidy.{row_limit}
 use Rattle.affine_systems.specs.Items.{items_from, rows_of}
 use Rattle.affine_systems.proofs.FitLaws.{rows_of-items_from}
-use Rattle.row_places.specs.Slots.{items_in, HaveRoom}
-use Rattle.row_places.specs.Columns.{InColumns, noted_rows}
+use Rattle.work_area.specs.Slots.{items_in, HaveRoom}
+use Rattle.work_area.specs.Columns.{InColumns, noted_rows}
 use Rattle.work_area.specs.Area.{area}
-use Rattle.row_places.proofs.NoteSteps.{rows_in_columns, few_noted}
+use Rattle.work_area.proofs.NoteSteps.{rows_in_columns, few_noted}
 use Rattle.work_area.proofs.LoadSteps.{short}
 use Rattle.work_area.proofs.TableSteps.{ready_zero}
 use Rattle.work_area.proofs.work.Work.load.Goals as goal

@@ -3,7 +3,7 @@ use Rattle.std.specs.Prelude.{map}
 use Rattle.affine_systems.specs.Rows.{system}
 use Rattle.affine_systems.specs.Items.{rows_of}
 use Rattle.affine_systems.specs.Given.{Fits}
-use Rattle.row_places.specs.Slots.{row_in}
+use Rattle.work_area.specs.Slots.{row_in}
 use Rattle.work_area.specs.Tables.{items_of}
 use Rattle.work_area.proofs.LoadSteps.{rows_in_front}
 use Rattle.work_area.proofs.work.Work.system.Goals as goal

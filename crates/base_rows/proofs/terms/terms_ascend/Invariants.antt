@@ -1,9 +1,0 @@
-use Rattle.std.proofs.Common.{◌≡◌, length}
-use Rattle.base_rows.specs.Read.{terms_ascend}
-use Rattle.base_rows.proofs.terms.terms_ascend.Given as goal
-
-abbrev pub invariant-loop-rest : goal.invariant-loop-rest
-invariant-loop-rest l = terms_ascend l.rest ≡ terms_ascend l.fn.terms
-
-abbrev pub decreases-loop-rest : goal.decreases-loop-rest
-decreases-loop-rest l = length l.rest

@@ -1,4 +1,0 @@
-pub mod Scopes
-pub mod Distinct
-pub mod Read
-pub mod Written

@@ -1,5 +1,0 @@
-pub mod Steps
-pub mod UnitLaws
-pub mod PieceLaws
-pub mod RegionLaws
-pub mod LinkLaws

@@ -1,9 +1,0 @@
-use Rattle.std.proofs.Common.{◌≡◌, ◌++◌, length}
-use Rattle.callee_regions.specs.Names.{turned_names}
-use Rattle.callee_regions.proofs.names.turned_names.Given as goal
-
-abbrev pub invariant-loop-rest : goal.invariant-loop-rest
-invariant-loop-rest l = l.names.items ++ turned_names l.inner l.outer l.rest ≡ turned_names l.inner l.outer l.terms
-
-abbrev pub decreases-loop-rest : goal.decreases-loop-rest
-decreases-loop-rest l = length l.rest

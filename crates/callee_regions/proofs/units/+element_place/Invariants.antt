@@ -1,5 +1,0 @@
-use Rattle.std.proofs.Common.{length}
-use Rattle.callee_regions.proofs.units.+element_place.Given as goal
-
-abbrev pub decreases-element_place : goal.decreases-element_place
-decreases-element_place l = length l.bounds.now

@@ -1,2 +1,0 @@
-pub mod ScalarLines
-pub mod Spots

@@ -1,3 +1,0 @@
-mod OrderLaws
-mod UnionLaws
-mod MapLaws

@@ -1,4 +1,0 @@
-mod Reading
-mod Runs
-mod Claiming
-mod Schedules

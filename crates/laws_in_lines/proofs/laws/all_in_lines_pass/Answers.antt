@@ -1,5 +1,0 @@
-use Rattle.laws_in_lines.proofs.InPrograms.{in_lines_pass}
-use Rattle.laws_in_lines.proofs.laws.all_in_lines_pass.Goals as goal
-
-pub returns : goal.returns
-returns c = in_lines_pass c.region_lines_are_passed_over.ensures

@@ -1,5 +1,0 @@
-use Rattle.storage_data.proofs.ColumnLaws.{next_element_has_next_number}
-use Rattle.laws_layout.proofs.laws.columns_come_first.Goals as goal
-
-pub returns : goal.returns
-returns c = next_element_has_next_number

@@ -1,0 +1,178 @@
+-- The variables of OUT regions: of what is used of WRITE regions, of what later iterations read, and of the rest of a list.
+use Rattle.std.proofs.Common.{◌≡◌, ◌⊎◌, inl, inr, ⊎_elim, ℕ, Bool, true, false, ◌&&◌, ◌||◌, List, [], ◌∷◌, ◌++◌, map, Option, Some, None, refl, sym, subst}
+use Rattle.std.specs.Prelude.{if◌then◌else◌, ℤ}
+use Rattle.std.specs.List.{AllByRecursion}
+use Rattle.affine_systems.specs.declared.row.Var.{Var}
+use Rattle.affine_systems.specs.declared.row.Var.TheVariants.{Cell, Exit, Phi, Aux}
+use Rattle.affine_systems.specs.declared.row.System.{System}
+use Rattle.affine_systems.specs.Terms.{var_eq}
+use Rattle.affine_systems.specs.Calls.{meet}
+use Rattle.affine_systems.proofs.TermLaws.{var_eq-true}
+use Rattle.affine_systems.proofs.Basics.{if_cases}
+use Rattle.hull_projection.specs.Laws.{IsOneOf}
+use Rattle.hull_projection.specs.Project.{project}
+use Rattle.preconditions.specs.transformer_algebra.Renaming.{naming, renamed_by, rename_all, push_rows}
+use Rattle.f77_ast.specs.declared.variable.Variable.{Variable}
+use Rattle.f77_ast.specs.Symbols.{SymbolTree}
+use Rattle.affine_forms.specs.declared.affine.Affine.{Affine}
+use Rattle.affine_forms.specs.Comparisons.{var_form}
+use Rattle.preconditions.specs.transformer_algebra.declared.transformer.Transformer.{Transformer}
+use Rattle.preconditions.specs.transformer_algebra.Cells.{has}
+use Rattle.preconditions.specs.transformer_algebra.Halves.{to_cells}
+use Rattle.preconditions.specs.transformer_algebra.Transformers.{without, apply}
+use Rattle.preconditions.proofs.TransformerAlgebra.HalfLaws.{to_cells_cell, to_cells_exit}
+use Rattle.in_out_regions.specs.region_sets.declared.range.Range.{Range}
+use Rattle.in_out_regions.specs.region_sets.declared.region.Region.{Region}
+use Rattle.in_out_regions.specs.region_sets.Regions.{hull_of}
+use Rattle.in_out_regions.specs.region_sets.Sets.{live, live_pieces}
+use Rattle.in_out_regions.specs.Kinds.{is_write}
+use Rattle.in_out_regions.specs.Lists.{all_unwritten}
+use Rattle.loop_marker.specs.out_regions.Used.{as_out, all_out, is_used_beside, used_pieces, is_none, unless_empty, met_with, used_of, if_write, used}
+use Rattle.loop_marker.specs.out_regions.Lists.{writes, applied, all_applied, left_over}
+use Rattle.loop_marker.specs.out_regions.Later.{later_from, later_rows_by, later_rows, is_steady, later_index, later_piece, later, all_later}
+use Rattle.laws_lines.specs.Variables.{IsCellOf}
+use Rattle.laws_lines.specs.Halves.{IsHalfOf}
+use Rattle.laws_lines.proofs.SystemVars.{IsNeat, AreGiven, system_more, meet_neat, push_rows_neat, project_neat, rename_neat}
+use Rattle.laws_lines.proofs.FormVars.{FormOf, infeasible_neat}
+use Rattle.laws_lines.proofs.RuleVars.{IsDone, without_neat}
+use Rattle.laws_lines.specs.Regions.Places.{IsPlaceOf, IsOne}
+use Rattle.laws_lines.proofs.Regions.PieceVars.{IsRangeOf}
+use Rattle.laws_lines.proofs.Regions.RegionVars.{map_all, one_map, AtMostOne, one_live, IsFine, AreFine, mapped_fine, all_live}
+use Rattle.laws_lines.proofs.Ins.Differences.{one_of, hulls_neat}
+use Rattle.laws_lines.proofs.Ins.InSets.{unwritten_fine}
+use Rattle.laws_lines.proofs.Ins.Iterations.{within_given, beyond_given, form_s, renamed_s}
+use Rattle.fx_lists.proofs.Lists.{each_append as both_all}
+use Rattle.f77_ast.specs.Variables.{same_variable}
+
+-- no subscript is renamed
+phi_stays : (cs : List ℕ) (n : ℕ) → renamed_by (to_cells cs) (Phi n) ≡ Phi n
+phi_stays [] n = refl
+phi_stays (c ∷ cs) n = go (var_eq (Phi n) (Exit c)) refl (phi_stays cs n)
+  where
+    go : (b : Bool) → var_eq (Phi n) (Exit c) ≡ b → renamed_by (to_cells cs) (Phi n) ≡ Phi n → (if b then Cell c else renamed_by (to_cells cs) (Phi n)) ≡ Phi n
+    go true e ih = let q = var_eq-true (Phi n) (Exit c) e in absurd (cc)
+    go false e ih = ih
+
+-- ---- what is used
+
+module _ (N : Variable → Type 0) (ok : ℕ → Type 0) where
+  abbrev P : Var → Type 0
+  P = IsPlaceOf ok
+
+  abbrev F : List Region → Type 0
+  F rs = AreFine N ok rs
+
+  pub out_fine : (rs : List Region) → F rs → F (all_out rs)
+  out_fine rs h = map_all (IsFine N ok) as_out (λ r i. i) (live rs) (all_live N ok rs h)
+
+  pieces_used : (v : Variable) (us : List Region) → F us → AllByRecursion (IsNeat P) (used_pieces v us)
+  pieces_used v [] h = tt
+  pieces_used v (u ∷ us) h =
+      let others = pieces_used v us h.1 in
+      if_cases (AllByRecursion (IsNeat P)) (same_variable v u.variable) (u.pieces ++ used_pieces v us) (used_pieces v us) (λ e. both_all (IsNeat P) u.pieces (used_pieces v us) (one_of P u.pieces h.0.1) others) (λ e. others)
+
+  hull_used : (ss : List System) → AllByRecursion (IsNeat P) ss → IsNeat P (hull_of ss)
+  hull_used [] h = infeasible_neat P
+  hull_used (s ∷ ss) h = hulls_neat P s ss h.0 h.1
+
+  empty_fine : (w : Region) (ss : List System) → N w.variable → AtMostOne (IsNeat P) ss → F (unless_empty w ss)
+  empty_fine w [] n h = tt
+  empty_fine w (s ∷ []) n h = ((n, h), tt)
+  empty_fine w (s ∷ (q ∷ qs)) n h = absurd h
+
+  met_fine : (w : Region) (us : List System) → IsFine N ok w → AllByRecursion (IsNeat P) us → F (met_with w us)
+  met_fine w us h k =
+      let met = map (λ s. meet s (hull_of us)) w.pieces in
+      if_cases F (is_none us) [] (unless_empty w (live_pieces met)) (λ e. tt)
+      (λ e. empty_fine w (live_pieces met) h.0 (one_live (IsNeat P) met (one_map (IsNeat P) (λ s. meet s (hull_of us)) (λ s i. meet_neat P s (hull_of us) i (hull_used us k)) w.pieces h.1)))
+
+  used_of_fine : (ss : List SymbolTree) (us : List Region) (w : Region) → F us → IsFine N ok w → F (used_of ss us w)
+  used_of_fine ss us w h k =
+      let pieces = used_pieces w.variable us in
+      if_cases F (is_used_beside ss us w.variable) (as_out w ∷ []) (met_with w pieces) (λ e. (k, tt)) (λ e. met_fine w pieces k (pieces_used w.variable us h))
+
+  pub used_fine : (ss : List SymbolTree) (us ws : List Region) → F us → F ws → F (used ss us ws)
+  used_fine ss us [] h k = tt
+  used_fine ss us (w ∷ ws) h k =
+      both_all (IsFine N ok) (if_write ss us w) (used ss us ws) (if_cases F (is_write w.kind) (used_of ss us w) [] (λ e. used_of_fine ss us w h k.0) (λ e. tt)) (used_fine ss us ws h k.1)
+
+  pub writes_fine : (rs : List Region) → F rs → F (writes rs)
+  writes_fine [] h = tt
+  writes_fine (r ∷ rs) h = let others = writes_fine rs h.1 in if_cases F (is_write r.kind) (r ∷ writes rs) (writes rs) (λ e. (h.0, others)) (λ e. others)
+
+  -- ---- a list that may be left
+
+  pub left_over_fine : (leaving : Bool) (ws out : List Region) → F ws → F out → F (left_over leaving ws out)
+  left_over_fine leaving ws out h k = if_cases F leaving out (all_unwritten (live ws) out) (λ e. k) (λ e. unwritten_fine N ok (live ws) out (all_live N ok ws h) k)
+
+  -- ---- after a statement
+
+  module _ (t : Transformer) (d : IsDone ok t) where
+    -- a place before it, or a cell that it changes after it
+    abbrev H : Var → Type 0
+    H (Cell n) = ok n
+    H (Exit n) = has t.cells n ≡ true
+    H (Phi n) = P (Phi n)
+    H (Aux n) = ⊥
+
+    place_h : (v : Var) → P v → H v
+    place_h (Cell n) h = h
+    place_h (Exit n) h = absurd h
+    place_h (Phi n) h = h
+    place_h (Aux n) h = absurd h
+
+    half_h : (v : Var) → IsHalfOf ok t.cells v → H v
+    half_h (Cell n) h = h
+    half_h (Exit n) h = h
+    half_h (Phi n) h = absurd h
+    half_h (Aux n) h = absurd h
+
+    become : (v : Var) → H v → P (renamed_by (to_cells t.cells) v)
+    become (Cell n) i = subst P (sym (to_cells_cell t.cells n)) i
+    become (Exit n) i = subst P (sym (to_cells_exit t.cells n i)) (d.cells n i)
+    become (Phi n) i = subst P (sym (phi_stays t.cells n)) i
+    become (Aux n) i = absurd i
+
+    after_neat : (s : System) → IsNeat P s → IsNeat P (apply t s)
+    after_neat s h =
+        let m = meet t.system s in
+        rename_neat H P (to_cells t.cells) become (without t.cells m)
+        (without_neat H t.cells m (meet_neat H t.system s (system_more (IsHalfOf ok t.cells) H half_h t.system d.system) (system_more P H place_h s h)))
+
+    pub applied_fine : (rs : List Region) → F rs → F (all_applied t rs)
+    applied_fine rs h = map_all (IsFine N ok) (applied t) (λ r i. mapped_fine N ok (apply t) after_neat r.exact r i) rs h
+
+  -- ---- later iterations
+
+  module _ (g : Range) (range : IsRangeOf ok g) (tracked : Bool) (index : tracked ≡ true → ok g.index) where
+    -- such a place, or the index of a later iteration
+    abbrev S : Var → Type 0
+    S v = P v ⊎ IsOneOf v (Aux 2 ∷ [])
+
+    from_given : (s : ℤ) (o : Option Affine) → ok g.index → FormOf (IsCellOf ok) o → AreGiven S (later_rows_by (Some s) g.index o)
+    from_given s None i h = tt
+    from_given s (Some l) i h = (
+      beyond_given S s (var_form (Aux 2)) (var_form (Cell g.index)) (inr (inl refl), tt) (inl i, tt),
+      (within_given S s (var_form (Aux 2)) l (inr (inl refl), tt) (form_s N ok g range tracked index l h), tt),
+    )
+
+    rows_given : AreGiven S (later_rows tracked g)
+    rows_given = go tracked index g.step
+      where
+        go : (b : Bool) → (b ≡ true → ok g.index) → (s : Option ℤ) → AreGiven S (if b then later_rows_by s g.index g.last else [])
+        go false i s = tt
+        go true i None = tt
+        go true i (Some s) = from_given s g.last (i refl) range.last
+
+    index_neat : (s : System) → IsNeat P s → IsNeat P (later_index tracked g s)
+    index_neat s h =
+        let renamed = rename_all (naming (Cell g.index) (Aux 2) ∷ []) s in
+        let within = push_rows renamed (later_rows tracked g) in
+        system_more (λ w. S w × (IsOneOf w (Aux 2 ∷ []) → ⊥)) P (λ w p. ⊎_elim (λ j. j) (λ j. absurd (p.1 j)) p.0) (project within (Aux 2 ∷ [])).system
+        (project_neat S within (Aux 2 ∷ []) (push_rows_neat S renamed (later_rows tracked g) (renamed_s N ok g range tracked index s h) rows_given))
+
+    piece_neat : (s : System) → IsNeat P s → IsNeat P (later_piece tracked g s)
+    piece_neat s h = if_cases (IsNeat P) (is_steady g s) (later_index tracked g s) (without g.turn.cells s) (λ e. index_neat s h) (λ e. without_neat P g.turn.cells s h)
+
+    pub later_fine : (rs : List Region) → F rs → F (all_later tracked g rs)
+    later_fine rs h = map_all (IsFine N ok) (later tracked g) (λ r i. mapped_fine N ok (later_piece tracked g) piece_neat false r i) rs h

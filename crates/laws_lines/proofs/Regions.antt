@@ -1,0 +1,13 @@
+pub mod Indexes
+pub mod PutVars
+pub mod PieceVars
+pub mod RegionVars
+pub mod AccessVars
+pub mod CalleeVars
+pub mod LinkVars
+pub mod CallRegions
+pub mod StatementRegions
+pub mod ProgramRegions
+pub mod LinesEach
+pub mod LinesMean
+pub mod LinesPass

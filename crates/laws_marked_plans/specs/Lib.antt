@@ -1,4 +1,0 @@
-pub mod Fine
-pub mod Uses
-pub mod Cleared
-pub mod Laws

@@ -1,5 +1,0 @@
-use Rattle.laws_pieces.proofs.Programs as programs
-use Rattle.laws_pieces.proofs.laws.pieces_make_the_program.Goals as goal
-
-pub returns : goal.returns
-returns c = programs.pieces_make_the_program c.tables_ignore_places.ensures c.graphs_ignore_places.ensures

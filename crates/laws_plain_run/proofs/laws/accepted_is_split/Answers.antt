@@ -1,5 +1,0 @@
-use Rattle.laws_plain_run.proofs.Split as split
-use Rattle.laws_plain_run.proofs.laws.accepted_is_split.Goals as goal
-
-pub returns : goal.returns
-returns c = split.accepted_is_split c.pieces_are_modules.ensures c.pieces_are_the_program.ensures c.names_show_the_text.ensures

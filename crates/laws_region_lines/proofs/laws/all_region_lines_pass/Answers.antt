@@ -1,5 +1,0 @@
-use Rattle.laws_region_lines.proofs.LinesPass.{all_pass}
-use Rattle.laws_region_lines.proofs.laws.all_region_lines_pass.Goals as goal
-
-pub returns : goal.returns
-returns c = all_pass c.region_lines_are_passed_over.ensures

@@ -1,6 +1,0 @@
-use Rattle.laws_regions.proofs.Carrying.{LinkLaws}
-use Rattle.laws_regions.proofs.Whole.{program_regions_hold}
-use Rattle.laws_regions.proofs.program_laws.program_regions_hold.Goals as goal
-
-pub returns : goal.returns
-returns c = program_regions_hold (record { same = c.links_hold.ensures.same; scalar = c.links_hold.ensures.scalar; element = c.links_hold.ensures.element; array = c.links_hold.ensures.array; rest = c.links_hold.ensures.rest; block = c.links_hold.ensures.block })

@@ -1,5 +1,0 @@
-use Rattle.laws_regions.proofs.StatementLaws.{assignments_are_shown}
-use Rattle.laws_regions.proofs.statement_laws.assignments_are_shown.Goals as goal
-
-pub returns : goal.returns
-returns c = assignments_are_shown

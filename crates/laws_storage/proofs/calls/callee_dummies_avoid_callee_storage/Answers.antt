@@ -1,5 +1,0 @@
-use Rattle.laws_storage.proofs.KeepLaws.{callee_dummies_avoid_callee_storage}
-use Rattle.laws_storage.proofs.calls.callee_dummies_avoid_callee_storage.Goals as goal
-
-pub returns : goal.returns
-returns c = callee_dummies_avoid_callee_storage

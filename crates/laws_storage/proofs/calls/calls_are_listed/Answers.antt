@@ -1,5 +1,0 @@
-use Rattle.laws_storage.proofs.CallLaws.{calls_are_listed}
-use Rattle.laws_storage.proofs.calls.calls_are_listed.Goals as goal
-
-pub returns : goal.returns
-returns c = calls_are_listed

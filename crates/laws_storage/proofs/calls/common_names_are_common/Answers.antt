@@ -1,5 +1,0 @@
-use Rattle.laws_storage.proofs.LyingLaws.{common_names_are_common}
-use Rattle.laws_storage.proofs.calls.common_names_are_common.Goals as goal
-
-pub returns : goal.returns
-returns c = common_names_are_common

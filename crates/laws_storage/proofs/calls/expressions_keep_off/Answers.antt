@@ -1,5 +1,0 @@
-use Rattle.laws_storage.proofs.OwnedLaws.{expressions_keep_off}
-use Rattle.laws_storage.proofs.calls.expressions_keep_off.Goals as goal
-
-pub returns : goal.returns
-returns c = expressions_keep_off

@@ -1,5 +1,0 @@
-use Rattle.laws_storage.proofs.OwnedLaws.{own_of_called}
-use Rattle.laws_storage.proofs.calls.own_of_called.Goals as goal
-
-pub returns : goal.returns
-returns c = own_of_called

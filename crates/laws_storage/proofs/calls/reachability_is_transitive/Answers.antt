@@ -1,5 +1,0 @@
-use Rattle.laws_storage.proofs.BelowLaws.{reachability_is_transitive}
-use Rattle.laws_storage.proofs.calls.reachability_is_transitive.Goals as goal
-
-pub returns : goal.returns
-returns c = reachability_is_transitive

@@ -1,5 +1,0 @@
-use Rattle.laws_storage.proofs.LockLaws.{shared_cells_are_locked}
-use Rattle.laws_storage.proofs.calls.shared_cells_are_locked.Goals as goal
-
-pub returns : goal.returns
-returns c = shared_cells_are_locked

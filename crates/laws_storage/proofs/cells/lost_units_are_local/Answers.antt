@@ -1,5 +1,0 @@
-use Rattle.laws_storage.proofs.LocalLaws.{lost_units_are_local}
-use Rattle.laws_storage.proofs.cells.lost_units_are_local.Goals as goal
-
-pub returns : goal.returns
-returns c = lost_units_are_local

@@ -1,5 +1,0 @@
-use Rattle.laws_storage.proofs.DataLaws.{data_stays_in_locals}
-use Rattle.laws_storage.proofs.data_units.data_stays_in_locals.Goals as goal
-
-pub returns : goal.returns
-returns c = data_stays_in_locals

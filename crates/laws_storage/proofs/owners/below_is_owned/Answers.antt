@@ -1,5 +1,0 @@
-use Rattle.laws_storage.proofs.OwnerLaws.{below_is_owned}
-use Rattle.laws_storage.proofs.owners.below_is_owned.Goals as goal
-
-pub returns : goal.returns
-returns c = below_is_owned

@@ -1,5 +1,0 @@
-use Rattle.laws_storage.proofs.OwnerLaws.{called_owns_no_expression}
-use Rattle.laws_storage.proofs.owners.called_owns_no_expression.Goals as goal
-
-pub returns : goal.returns
-returns c = called_owns_no_expression

@@ -1,5 +1,0 @@
-use Rattle.laws_storage.proofs.OwnerLaws.{expressions_are_below}
-use Rattle.laws_storage.proofs.owners.expressions_are_below.Goals as goal
-
-pub returns : goal.returns
-returns c = expressions_are_below

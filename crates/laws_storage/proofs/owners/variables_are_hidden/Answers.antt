@@ -1,5 +1,0 @@
-use Rattle.laws_storage.proofs.OwnerLaws.{variables_are_hidden}
-use Rattle.laws_storage.proofs.owners.variables_are_hidden.Goals as goal
-
-pub returns : goal.returns
-returns c = variables_are_hidden

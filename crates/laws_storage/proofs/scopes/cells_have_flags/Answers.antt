@@ -1,5 +1,0 @@
-use Rattle.laws_storage.proofs.FlagLaws.{cells_have_flags}
-use Rattle.laws_storage.proofs.scopes.cells_have_flags.Goals as goal
-
-pub returns : goal.returns
-returns c = cells_have_flags

@@ -1,5 +1,0 @@
-use Rattle.laws_storage.proofs.FoundLaws.{common_scalars_are_tracked_together}
-use Rattle.laws_storage.proofs.scopes.common_scalars_are_tracked_together.Goals as goal
-
-pub returns : goal.returns
-returns c = common_scalars_are_tracked_together

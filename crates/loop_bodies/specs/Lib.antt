@@ -1,4 +1,0 @@
-pub mod Same
-pub mod Finding
-pub mod Body
-pub mod Given

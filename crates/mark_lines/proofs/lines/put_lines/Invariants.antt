@@ -1,6 +1,0 @@
-use Rattle.std.proofs.Common.{◌≡◌, ◌++◌, drop, map}
-use Rattle.claim_lines.specs.ScalarLines.{before}
-use Rattle.mark_lines.proofs.lines.put_lines.Given as goal
-
-abbrev pub invariant-loop-line : goal.invariant-loop-line
-invariant-loop-line l = l.out ++ map (before l.at) (drop l.line-index l.lines) ≡ l.fn.out ++ map (before l.at) l.lines

@@ -1,2 +1,0 @@
-pub mod MarkText
-pub mod MarkLines

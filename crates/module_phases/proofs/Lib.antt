@@ -1,0 +1,10 @@
+pub mod Steps
+pub mod RegionPhaseLaws
+pub mod InPhaseLaws
+pub mod HandingLaws
+pub mod OutPhaseLaws
+pub mod ModuleLaws
+pub mod ScopeLaws
+pub mod SiteLaws
+pub mod ScalarPhaseLaws
+pub mod Fitting

@@ -1,0 +1,15 @@
+use Rattle.std.proofs.Common.{◌≡◌, ℕ, List, map, length}
+use Rattle.f77_ast.specs.Summaries.{summary_in}
+use Rattle.in_out_regions.specs.array_regions.Calls.{CalleesFit as SetsFit}
+use Rattle.module_phases.specs.Callees.{callee_tree, callee_at, callees_of, AllSetsFit}
+use Rattle.module_phases.proofs.callees.regions_of.Given as goal
+
+abbrev pub invariant-loop-rest : goal.invariant-loop-rest
+invariant-loop-rest l = record {
+  same : (x : List ℕ) → callee_at (summary_in l.summaries x) (map callee_tree l.rest) x ≡ callees_of (map callee_tree l.callees) x;
+  fits : SetsFit (summary_in l.summaries);
+  each : AllSetsFit l.rest;
+}
+
+abbrev pub decreases-loop-rest : goal.decreases-loop-rest
+decreases-loop-rest l = length l.rest

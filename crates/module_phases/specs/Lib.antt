@@ -1,0 +1,11 @@
+pub mod Callees
+pub mod Callers
+pub mod Rules
+pub mod RegionPhases
+pub mod RegionViews
+pub mod InPhases
+pub mod InViews
+pub mod OutPhases
+pub mod OutViews
+pub mod ScalarPhases
+pub mod ScalarViews

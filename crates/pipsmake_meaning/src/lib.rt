@@ -1,0 +1,2 @@
+//! What a session is, and which value each result of its program has, as definitions.
+#![tactic(auto)]

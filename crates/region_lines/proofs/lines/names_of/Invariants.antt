@@ -1,6 +1,0 @@
-use Rattle.std.proofs.Common.{◌≡◌, ◌++◌, drop}
-use Rattle.f77_ast.specs.Index.{names_of}
-use Rattle.region_lines.proofs.lines.names_of.Given as goal
-
-abbrev pub invariant-loop-symbol : goal.invariant-loop-symbol
-invariant-loop-symbol l = l.names ++ names_of (drop l.symbol-index l.symbols) ≡ names_of l.symbols

@@ -1,2 +1,0 @@
-pub mod RegionLines
-pub mod Spots

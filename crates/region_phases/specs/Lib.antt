@@ -1,9 +1,0 @@
-pub mod Callees
-pub mod Callers
-pub mod Rules
-pub mod Phases
-pub mod Views
-pub mod InPhases
-pub mod InViews
-pub mod OutPhases
-pub mod OutViews

@@ -1,0 +1,9 @@
+use Rattle.std.proofs.Common.{◌≡◌, ◌++◌, drop}
+use Rattle.std.specs.List.{flat_map}
+use Rattle.f77_ast.specs.PlainStmt.{stmt_trees}
+use Rattle.result_lines.specs.RegionLines.{list_lines}
+use Rattle.result_lines.specs.RegionSpots.{spot_lines}
+use Rattle.result_lines.proofs.set_lines.put_list.Given as goal
+
+abbrev pub invariant-loop-spot : goal.invariant-loop-spot
+invariant-loop-spot l = l.out ++ flat_map (spot_lines l.said.names.now l.said.at.now) (drop l.spot-index l.spot-items) ≡ l.fn.out ++ list_lines (stmt_trees l.list) l.said.names.now l.said.at.now

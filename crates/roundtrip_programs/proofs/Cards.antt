@@ -1,0 +1,10 @@
+pub mod Rows
+pub mod TextLines
+pub mod Fields
+pub mod LineFacts
+pub mod Fit
+pub mod Statements
+pub mod Faults
+pub mod Whole
+pub mod Bodies
+pub mod Example

@@ -1,0 +1,15 @@
+pub mod Texts
+pub mod Cutting
+pub mod Counting
+pub mod LineFaults
+pub mod Structure
+pub mod Ends
+pub mod Parsing
+pub mod First
+pub mod Pieces
+pub mod Frame
+pub mod JoinedLines
+pub mod Fronted
+pub mod Joining
+pub mod Programs
+pub mod LinkFaults

@@ -1,0 +1,11 @@
+pub mod Labels
+pub mod Sources
+pub mod Read
+pub mod SpotsKept
+pub mod CardsFit
+pub mod Rows
+pub mod RowsBack
+pub mod Standing
+pub mod SameText
+pub mod Faultless
+pub mod Whole

@@ -1,0 +1,5 @@
+use Rattle.roundtrip_programs.proofs.ModuleTexts.Well.{built_well}
+use Rattle.roundtrip_programs.proofs.modules.built_well.Goals as goal
+
+pub returns : goal.returns
+returns c = built_well

@@ -1,4 +1,0 @@
-pub mod Reading
-pub mod Meaning
-pub mod Printed
-pub mod Laws

@@ -1,5 +1,0 @@
-use Rattle.row_places.proofs.FaceSteps.{small_at}
-use Rattle.row_places.proofs.pivots.is_elsewhere.Goals as goal
-
-pub occurs-requires : goal.occurs-requires
-occurs-requires c = small_at c.args.rows.now c.loop-slot.slot-index c.slot-item.result c.requires c.loop-slot-test.true c.slot-item.is

@@ -1,4 +1,0 @@
-pub mod Slots
-pub mod Choices
-pub mod Columns
-pub mod Filling

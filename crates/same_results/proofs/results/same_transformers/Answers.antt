@@ -1,5 +1,0 @@
-use Rattle.same_results.proofs.ResultLaws.{transformers_same}
-use Rattle.same_results.proofs.results.same_transformers.Goals as goal
-
-pub returns : goal.returns
-returns c = transformers_same c.eq.result c.args.t.now c.args.u.now c.eq.ensures

@@ -1,6 +1,0 @@
-//! A program of any length to be analysed.
-#![tactic(auto)]
-
-mod sample;
-
-pub use sample::sample_program;

@@ -1,4 +1,0 @@
-pub mod ModuleLaws
-pub mod ScopeLaws
-pub mod SiteLaws
-pub mod PhaseLaws

@@ -1,5 +1,0 @@
-pub mod Words
-pub mod Commands
-pub mod Steps
-pub mod Refusals
-pub mod Answers

@@ -1,5 +1,0 @@
-use Rattle.storage_groups.proofs.SpanLaws.{joins_keep_compact}
-use Rattle.storage_groups.proofs.laws.joins_keep_compact.Goals as goal
-
-pub returns : goal.returns
-returns c = joins_keep_compact

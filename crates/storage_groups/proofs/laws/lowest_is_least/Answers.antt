@@ -1,5 +1,0 @@
-use Rattle.storage_groups.proofs.LowestLaws.{lowest_is_least}
-use Rattle.storage_groups.proofs.laws.lowest_is_least.Goals as goal
-
-pub returns : goal.returns
-returns c = lowest_is_least

@@ -1,5 +1,0 @@
-use Rattle.storage_groups.proofs.LowestLaws.{lowest_is_reached}
-use Rattle.storage_groups.proofs.laws.lowest_is_reached.Goals as goal
-
-pub returns : goal.returns
-returns c = lowest_is_reached

@@ -1,6 +1,0 @@
-use Rattle.std.proofs.Common.{◌≡◌, ◌≤◌, ◌^◌, drop}
-use Rattle.system_renaming.specs.Fresh.{above_terms}
-use Rattle.system_renaming.proofs.fresh.above_terms.Given as goal
-
-abbrev pub invariant-loop-t : goal.invariant-loop-t
-invariant-loop-t l = record { same : above_terms l.least (drop l.t-index l.terms) ≡ above_terms l.fn.least l.fn.terms; below : l.least ≤ 2 ^ 32 }

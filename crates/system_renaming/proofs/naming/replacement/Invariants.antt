@@ -1,6 +1,0 @@
-use Rattle.std.proofs.Common.{◌≡◌, drop}
-use Rattle.system_renaming.specs.Renaming.{renamed_by}
-use Rattle.system_renaming.proofs.naming.replacement.Given as goal
-
-abbrev pub invariant-loop-n : goal.invariant-loop-n
-invariant-loop-n l = renamed_by (drop l.n-index l.names) l.v ≡ renamed_by l.fn.names l.fn.v

@@ -1,8 +1,0 @@
-use Rattle.std.proofs.Common.{◌≡◌, ◌++◌, map, drop}
-use Rattle.affine_systems.specs.Rows.{AllRows, renamed_row}
-use Rattle.affine_systems.specs.Given.{IsGiven, IsSmallRow}
-use Rattle.system_renaming.specs.Renaming.{renamed_by}
-use Rattle.system_renaming.proofs.renaming.renamed_rows.Given as goal
-
-abbrev pub invariant-loop-row : goal.invariant-loop-row
-invariant-loop-row l = record { rows : l.out.items ++ map (renamed_row (renamed_by l.names)) (drop l.row-index l.rows) ≡ map (renamed_row (renamed_by l.fn.names)) l.fn.rows; given : AllRows IsGiven l.out.items; small : AllRows IsSmallRow (drop l.row-index l.rows) }

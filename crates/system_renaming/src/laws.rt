@@ -1,8 +1,0 @@
-//! What is known of renaming.
-ghost use Rattle.system_renaming.specs.Laws.{RenamingKeepsPoints};
-
-/// Law of `rename_all`: a point that reads the replacement of each variable and meets the system is a point of the
-/// renamed system. For all namings, also those that give two variables one name.
-pub fn renaming_keeps_points()
-    ensures { RenamingKeepsPoints }
-{}
