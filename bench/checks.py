@@ -47,6 +47,7 @@ def checks():
     yield 'the stored programs are packed', passes('bench/pack.py', '--check')
     yield 'the examples of docs/LANGUAGE.md', passes('bench/language.py')
     yield 'the counts of docs/DEFINITIONS.md', passes('bench/believed.py')
+    yield 'the files that docs/DEFINITIONS.md names', passes('bench/definitions.py')
     yield 'each must-fail edit can be applied', passes('bench/edits.py', '--check')
     yield 'crates.txt names what is used, and has few paths', passes('bench/crates.py')
     for name in REPORTED:
