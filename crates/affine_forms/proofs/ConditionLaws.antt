@@ -8,7 +8,6 @@ use Rattle.affine_systems.specs.declared.row.Row.{Row}
 use Rattle.affine_systems.specs.declared.row.System.{System}
 use Rattle.affine_systems.specs.Points.{Point, HoldsAll}
 use Rattle.affine_systems.specs.Calls.{meet}
-use Rattle.affine_systems.proofs.Basics.{int_eq-true}
 use Rattle.affine_systems.proofs.CallLaws.{meet_holds}
 use Rattle.f77_ast.specs.declared.expr.UnaryOp.{UnaryOp}
 use Rattle.f77_ast.specs.declared.expr.UnaryOp.TheVariants.{Plus, Minus, Not}
@@ -34,11 +33,8 @@ use Rattle.affine_forms.specs.Conditions.{condition_of, no_rows, infeasible, of_
 use Rattle.affine_forms.specs.Claims.{AtStart, HoldsAt, Means, form_value, unit_in, numbers_of, Agrees, Says, FormsHold, ConditionsHold}
 use Rattle.affine_forms.proofs.RowLaws.{at_most_holds, below_holds, same_holds, one_holds}
 use Rattle.affine_forms.proofs.ValueLaws.{HasConstantValue, given_leads, value_leads}
-use Rattle.fx_lists.proofs.Numbers.{less_false, less_true}
+use Rattle.fx_lists.proofs.Numbers.{less_false, less_true, is_number, at_most_true}
 use Rattle.f77_ast.proofs.Shared.{truth_true}
-
-pub most_true : (m n : ℤ) → int_le m n ≡ true → m ≤ℤ n
-most_true m n e = grind (arith, ints)
 
 most_false : (m n : ℤ) → int_le m n ≡ false → (n +ℤ pos 1) ≤ℤ m
 most_false m n e = grind (arith, ints)
@@ -103,7 +99,7 @@ module _ (tracked : ℕ → Bool) (unit : ℕ → ℕ) (x : ℕ → ℤ) where
     says_compared Le k e =
         let t = truth_of (int_le m n) k e in
         record {
-          true_side = λ h p st. one_holds (at_most_row f g) p (at_most_holds f g p (most (most_true m n (sym t ∙ h)) p st));
+          true_side = λ h p st. one_holds (at_most_row f g) p (at_most_holds f g p (most (at_most_true m n (sym t ∙ h)) p st));
           false_side = λ h p st. one_holds (below_row g f) p (below_holds g f p (less_back (most_false m n (sym t ∙ h)) p st));
         }
     says_compared Gt k e =
@@ -115,20 +111,20 @@ module _ (tracked : ℕ → Bool) (unit : ℕ → ℕ) (x : ℕ → ℤ) where
     says_compared Ge k e =
         let t = truth_of (int_le n m) k e in
         record {
-          true_side = λ h p st. one_holds (at_most_row g f) p (at_most_holds g f p (most_back (most_true n m (sym t ∙ h)) p st));
+          true_side = λ h p st. one_holds (at_most_row g f) p (at_most_holds g f p (most_back (at_most_true n m (sym t ∙ h)) p st));
           false_side = λ h p st. one_holds (below_row f g) p (below_holds f g p (less (most_false n m (sym t ∙ h)) p st));
         }
     says_compared Eq k e =
         let t = truth_of (int_eq m n) k e in
         record {
-          true_side = λ h p st. one_holds (same_row f g) p (same_holds f g p (same (int_eq-true m n (sym t ∙ h)) p st));
+          true_side = λ h p st. one_holds (same_row f g) p (same_holds f g p (same (is_number m n (sym t ∙ h)) p st));
           false_side = λ h p st. tt;
         }
     says_compared Ne k e =
         let t = truth_of (not (int_eq m n)) k e in
         record {
           true_side = λ h p st. tt;
-          false_side = λ h p st. one_holds (same_row f g) p (same_holds f g p (same (int_eq-true m n (not_is (int_eq m n) false (sym t ∙ h))) p st));
+          false_side = λ h p st. one_holds (same_row f g) p (same_holds f g p (same (is_number m n (not_is (int_eq m n) false (sym t ∙ h))) p st));
         }
     says_compared Add k e = says_unknown (is_true k)
     says_compared Sub k e = says_unknown (is_true k)

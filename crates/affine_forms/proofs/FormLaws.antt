@@ -13,13 +13,11 @@ use Rattle.f77_ast.specs.declared.expr.UnaryOp.{UnaryOp}
 use Rattle.f77_ast.specs.declared.expr.UnaryOp.TheVariants.{Plus, Minus, Not}
 use Rattle.f77_ast.specs.declared.expr.BinaryOp.{BinaryOp}
 use Rattle.f77_ast.specs.declared.expr.BinaryOp.TheVariants.{Add, Sub, Mul, Div, Pow, Eq, Ne, Lt, Le, Gt, Ge, And, Or, Eqv, Neqv}
-use Rattle.f77_ast.specs.Numbers.{in_range, kept, unary_number, binary_number}
+use Rattle.f77_ast.specs.Numbers.{unary_number, binary_number}
 use Rattle.affine_forms.specs.declared.affine.Affine.{Affine}
 use Rattle.affine_forms.specs.Forms.{affine, limited, plus, times, sum_of, product, product_of, times_of, unary_form, binary_form, number_form}
 use Rattle.affine_forms.specs.Claims.{AtStart, form_value, Means}
-
-pub kept_is : (n k : ℤ) → kept n ≡ Some k → n ≡ k
-kept_is n k e = if_cases (λ o. o ≡ Some k → n ≡ k) (in_range n) (Some n) None (λ h q. cc) (λ h q. cc) e
+use Rattle.f77_ast.proofs.KeptNumbers.{kept_is}
 
 module _ (tracked : ℕ → Bool) (unit : ℕ → ℕ) (x : ℕ → ℤ) where
   abbrev M : Option Affine → ℤ → Type 0

@@ -4,3 +4,4 @@ pub mod RowLaws
 pub mod ValueLaws
 pub mod ConditionLaws
 pub mod FormSteps
+pub mod RowValues

@@ -36,9 +36,6 @@ HasConstantValue (Is d) n = n ≡ number_of d
 HasConstantValue Faults n = Unit {0}
 HasConstantValue Varies n = Unit {0}
 
-pub some_is : (a b : ℤ) → Some a ≡ Some b → a ≡ b
-some_is a b e = cc
-
 -- the number of a LOGICAL value is that of its truth
 truthful : (b : Bool) (n : ℤ) → Some (truth b) ≡ Some n → truth (is_true n) ≡ n
 truthful b n e = let q : truth b ≡ n = cc in subst (λ m. truth (is_true m) ≡ m) q (ap truth (truth_true b))

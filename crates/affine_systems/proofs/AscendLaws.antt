@@ -10,9 +10,10 @@ use Rattle.affine_systems.specs.Terms.{kind, number, var_eq, var_lt, term, term_
 use Rattle.affine_systems.specs.Rows.{combined_terms}
 use Rattle.affine_systems.specs.Points.{value, only, factor_of}
 use Rattle.affine_systems.specs.Given.{FactorsBelow}
-use Rattle.affine_systems.proofs.Basics.{if_cases, int_eq-true}
+use Rattle.affine_systems.proofs.Basics.{if_cases}
 use Rattle.affine_systems.proofs.TermLaws.{var_eq-true, true-var_eq, same_parts}
 use Rattle.fx_lists.proofs.Booleans.{clash}
+use Rattle.fx_lists.proofs.Numbers.{is_number}
 
 -- ---- the order of variables
 
@@ -127,7 +128,7 @@ before-negated w [] h = tt
 before-negated w (t ∷ ts) h = (h.0, before-negated w ts h.1)
 
 pub negated_zero : (z : ℤ) → int_eq z (pos 0) ≡ false → int_eq (neg_ℤ z) (pos 0) ≡ false
-negated_zero z e = false_from_ne_true (int_eq (neg_ℤ z) (pos 0)) (λ k. clash (int_eq z (pos 0)) ((Decides-int_eq z (pos 0)).1 (let h = int_eq-true (neg_ℤ z) (pos 0) k in omega (arith, ints, h))) e)
+negated_zero z e = false_from_ne_true (int_eq (neg_ℤ z) (pos 0)) (λ k. clash (int_eq z (pos 0)) ((Decides-int_eq z (pos 0)).1 (let h = is_number (neg_ℤ z) (pos 0) k in omega (arith, ints, h))) e)
 
 pub ascends-negated : (ts : List Term) → Ascends ts → Ascends (negated_terms ts)
 ascends-negated [] a = tt

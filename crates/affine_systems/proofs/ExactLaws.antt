@@ -17,12 +17,13 @@ use Rattle.affine_systems.specs.Points.{Point, value, Meets, Holds, HoldsAll, mo
 use Rattle.affine_systems.specs.Items.{joined, item, AllItems, next_made, items_from, Cut, cut_at, others}
 use Rattle.affine_systems.specs.Tidy.{by_row, substituted, all_substituted, tidy_items}
 use Rattle.affine_systems.specs.Eliminate.{unchanged, any_has, has_unit, is_unit_on, is_equal_on, keep, is_lower, is_upper, is_without, pair, with_uppers, pairs, all_have_unit, every_pair_unit, paired_off, by_equal, by_unit, eliminate_item, eliminate}
-use Rattle.affine_systems.proofs.Basics.{if_cases, int_eq-true, distributes, distributes_right, mul_assoc, mul_comm, neg_mul}
+use Rattle.affine_systems.proofs.Basics.{if_cases, distributes, distributes_right, mul_assoc, mul_comm, neg_mul}
 use Rattle.affine_systems.proofs.TermLaws.{var_eq-true}
 use Rattle.affine_systems.proofs.NormalLaws.{below_floor, from_floor}
 use Rattle.affine_systems.proofs.TidyLaws.{HoldsItems, at_most, equally, append_holds, CutSays, cut_says, all_substituted_same, items_from_same, rows_of_same}
 use Rattle.affine_systems.proofs.ElimLaws.{tidied_back, value-combined, AllPass, keep_passes}
 use Rattle.fx_lists.proofs.Booleans.{right_of as rest, clash}
+use Rattle.fx_lists.proofs.Numbers.{is_number}
 
 back : (x y : ℤ) → (x -ℤ y) +ℤ y ≡ x
 back x y = omega (arith, ints)
@@ -64,7 +65,7 @@ without_moves p v x r z h =
     subst (λ (y : ℤ). Meets r.equal y r.bound) e h
 
 pub occurs-false : (v : Var) (r : Row) → occurs v r ≡ false → factor_of v r.terms ≡ pos 0
-occurs-false v r e = int_eq-true (factor_of v r.terms) (pos 0) (true_from (int_eq (factor_of v r.terms) (pos 0)) e) where
+occurs-false v r e = is_number (factor_of v r.terms) (pos 0) (true_from (int_eq (factor_of v r.terms) (pos 0)) e) where
   true_from : (b : Bool) → not b ≡ false → b ≡ true
   true_from true e = refl
   true_from false e = cc
@@ -309,7 +310,7 @@ all_hold p v d (i ∷ is) n w l u =
     let ls = kept_part (λ j. low_end p v j ≤ℤ d) (is_lower v) i is l in
     let us = kept_part (λ j. d ≤ℤ high_end p v j) (is_upper v) i is u in (
       three_ways (Holds (moved p v (p v +ℤ d)) i.row) (factor_of v i.row.terms)
-          (λ e. without_moves p v (p v +ℤ d) i.row (int_eq-true (factor_of v i.row.terms) (pos 0) e) (ws.0 (ap (λ b. not (not b)) e)))
+          (λ e. without_moves p v (p v +ℤ d) i.row (is_number (factor_of v i.row.terms) (pos 0) e) (ws.0 (ap (λ b. not (not b)) e)))
           (λ e t. lower_holds p v d i (not_equal_on v i n.0 e) t (ls.0 t))
           (λ e t. upper_holds p v d i (not_equal_on v i n.0 e) t (us.0 t)),
       all_hold p v d is n.1 ws.1 ls.1 us.1,

@@ -19,7 +19,7 @@ use Rattle.affine_systems.specs.Normal.{divisor, divided, last_is_negative, is_s
 use Rattle.affine_systems.specs.Tidy.{sorted, one_each, row_limit, are_opposite, merged_row, faced_all, in_form, round, is_unit, last_unit, unit_var, by_row, turn_limit, tidy_items, tidy}
 use Rattle.affine_systems.specs.Eliminate.{eliminate_item, eliminate}
 use Rattle.affine_systems.specs.Given.{IsSmallRow, FactorsBelow, IsGiven, IsNormalAs, AreNormal, Fits, ItemsFit, ItemsGiven}
-use Rattle.affine_systems.proofs.Basics.{if_cases, int_eq-true}
+use Rattle.affine_systems.proofs.Basics.{if_cases}
 use Rattle.affine_systems.proofs.TermLaws.{var_eq-true, true-var_eq}
 use Rattle.affine_systems.proofs.NormalLaws.{DividesAll, divisor_divides, divisor_positive, exact_quotient}
 use Rattle.affine_systems.proofs.ElimLaws.{value-combined}
@@ -27,7 +27,7 @@ use Rattle.affine_systems.proofs.LastLaws.{Lasts, Survives, Has, ordered_has, fa
 use Rattle.affine_systems.proofs.AscendLaws.{ascends-combined, ascends-negated, factor_of-first, factor_of-there, factor_of-before, factor_below, below_factors}
 use Rattle.affine_systems.proofs.ReducedLaws.{IsReduced, normal-reduced, kept-reduced}
 use Rattle.fx_lists.proofs.Booleans.{clash}
-use Rattle.fx_lists.proofs.Numbers.{size_turned as abs-neg}
+use Rattle.fx_lists.proofs.Numbers.{size_turned as abs-neg, is_number}
 
 -- ---- small numbers
 
@@ -137,7 +137,7 @@ before-divided w g (t ∷ ts) h = (h.0, before-divided w g ts h.1)
 ascends-divided : (g : ℕ) (ts : List Term) → 0 < g → DividesAll g ts → Ascends ts → Ascends (divided g ts)
 ascends-divided g [] p d a = tt
 ascends-divided g (t ∷ ts) p d a = (
-  false_from_ne_true (int_eq (int_div_euclid t.factor (pos g)) (pos 0)) (λ e. let z = int_eq-true (int_div_euclid t.factor (pos g)) (pos 0) e in
+  false_from_ne_true (int_eq (int_div_euclid t.factor (pos g)) (pos 0)) (λ e. let z = is_number (int_div_euclid t.factor (pos g)) (pos 0) e in
       let x = exact_quotient g t.factor p d.0 in
       let m : pos g *ℤ int_div_euclid t.factor (pos g) ≡ pos g *ℤ pos 0 = ap (λ y. pos g *ℤ y) z in
       let o : t.factor ≡ pos 0 = omega (arith, ints, x, m) in
@@ -201,7 +201,7 @@ opposite_last (t ∷ ts) [] o e = cc
 opposite_last (t ∷ []) (u ∷ []) o e =
     let h = and_parts (is_opposite t u) true o in
     let k = and_parts (var_eq t.var u.var) (int_eq t.factor (neg_ℤ u.factor)) h.0 in
-    let f = int_eq-true t.factor (neg_ℤ u.factor) k.1 in
+    let f = is_number t.factor (neg_ℤ u.factor) k.1 in
     false_from_ne_true (int_lt u.factor (pos 0)) (λ l. omega (arith, ints, e, f, l))
 opposite_last (t ∷ []) (u ∷ (w ∷ ws)) o e = let h = and_parts (is_opposite t u) false o in cc (h.1)
 opposite_last (t ∷ (x ∷ xs)) (u ∷ []) o e = let h = and_parts (is_opposite t u) false o in cc (h.1)
@@ -222,7 +222,7 @@ merged_tidy q r s o z h k = go h k where
   none = opposite_none r.terms s.terms opposite
 
   sum_zero : r.bound +ℤ s.bound ≡ pos 0
-  sum_zero = int_eq-true (r.bound +ℤ s.bound) (pos 0) z
+  sum_zero = is_number (r.bound +ℤ s.bound) (pos 0) z
 
   go : IsTidy q r → IsTidy q s → IsTidy q (merged_row r s)
   go (inl a) (inl b) =

@@ -9,11 +9,11 @@ use Rattle.affine_systems.specs.Items.{joined, item, AllItems, next_made, false_
 use Rattle.affine_systems.specs.Normal.{Normal, Kept, Always, Never, TooBig, normal, Answers}
 use Rattle.affine_systems.specs.Tidy.{with_normal, normal_items, is_too_big, any_too_big, stronger, one_each_after, are_opposite, merged_row, against, face_opposite, faced_all}
 use Rattle.affine_systems.specs.Given.{ItemsSmall, IsSmallRow}
-use Rattle.affine_systems.proofs.Basics.{int_eq-true}
 use Rattle.std.specs.Prelude.{if◌then◌else◌}
 use Rattle.std.specs.List.{list_any}
 use Rattle.std.proofs.lemmas.Bool.{false_from_ne_true}
 use Rattle.affine_systems.specs.declared.row.Norm.TheVariants as answer
+use Rattle.fx_lists.proofs.Numbers.{is_number}
 
 pub popped : {X : Type 0} (xs ys : List X) (x : X) → xs ≡ ys ++ x ∷ [] → reverse xs ≡ x ∷ reverse ys
 popped xs ys x e = ap reverse e ∙ reverse-append ys (x ∷ [])
@@ -126,7 +126,7 @@ pub against-stays : (n : ℕ) (i j : Item) → pos 0 <ℤ (i.row.bound +ℤ j.ro
 against-stays n i j h =
     let s = i.row.bound +ℤ j.row.bound in
     let a : int_lt s (pos 0) ≡ false = false_from_ne_true (int_lt s (pos 0)) (λ e. omega (arith, ints, h, e)) in
-    let b : int_eq s (pos 0) ≡ false = false_from_ne_true (int_eq s (pos 0)) (λ e. let z = int_eq-true s (pos 0) e in omega (arith, ints, h, z)) in
+    let b : int_eq s (pos 0) ≡ false = false_from_ne_true (int_eq s (pos 0)) (λ e. let z = is_number s (pos 0) e in omega (arith, ints, h, z)) in
     ap₂ (λ x y. if x then false_item else if y then item (merged_row i.row j.row) (joined i.originals j.originals) n else i) a b
 
 -- whatever number it would take, an item stays

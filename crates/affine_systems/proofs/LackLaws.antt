@@ -232,7 +232,7 @@ nil_moves p v x (r ∷ rs) n h = (without_moves p v x r (factor-only v r.terms �
 pub eliminate_moves : (p : Point) (s : System) (v : Var) (x : ℤ) → HoldsAll p s.rows → HoldsAll (moved p v x) (eliminate s v).system.rows
 eliminate_moves p s v x h = nil_moves p v x (eliminate s v).system.rows (eliminate_lacks s v) (eliminate_holds p s v h)
 
-lacks_from : (v : Var) (rs : List Row) → RowsNil (only v) rs → Lacks v rs
+pub lacks_from : (v : Var) (rs : List Row) → RowsNil (only v) rs → Lacks v rs
 lacks_from v [] h = tt
 lacks_from v (r ∷ rs) h = (factor-only v r.terms ∙ h.0, lacks_from v rs h.1)
 

@@ -14,6 +14,7 @@ pub mod FitLaws
 pub mod Numbers
 pub mod Merges
 pub mod GcdSteps
+pub mod GcdLaws
 pub mod Three
 pub mod RenameSteps
 pub mod SystemSteps

@@ -11,10 +11,10 @@ use Rattle.affine_systems.specs.Terms.{kind, number, var_eq, var_lt, term, term_
 use Rattle.affine_systems.specs.Rows.{combined_terms, var_cmp}
 use Rattle.affine_systems.specs.Points.{factor_of}
 use Rattle.affine_systems.specs.Given.{FactorsBelow, AreSmall}
-use Rattle.affine_systems.proofs.Basics.{int_eq-true}
 use Rattle.affine_systems.proofs.TermLaws.{true-var_eq}
 use Rattle.affine_systems.proofs.OrderLaws.{var_cmp-equal}
 use Rattle.affine_systems.proofs.AscendLaws.{parts_lt, var_lt-apart, var_lt-one_way, var_eq-sym, before_later, before-add_terms, factor_of-first, factor_of-there, factor_of-before, factor_of-nil, ComesBefore}
+use Rattle.fx_lists.proofs.Numbers.{is_number}
 
 -- ---- what a comparison says
 
@@ -123,7 +123,7 @@ add_term-same : (v : Var) (f g : ℤ) (ts : List Term) → IsBefore v ts → add
 add_term-same v f g ts h = go (int_eq g (pos 0)) refl where
   go : (b : Bool) → int_eq g (pos 0) ≡ b → add_term v f (if b then ts else term v g ∷ ts) ≡ term_before v (f +ℤ g) ts
   go true e =
-      let z = int_eq-true g (pos 0) e in
+      let z = is_number g (pos 0) e in
       let s : f ≡ f +ℤ g = omega (arith, ints, z) in
       add_term-front v f ts h ∙ ap (λ x. term_before v x ts) s
   go false e = rw (true-var_eq v v refl) refl

@@ -13,7 +13,8 @@ use Rattle.affine_systems.specs.Terms.{negated_terms}
 use Rattle.affine_systems.specs.Rows.{row}
 use Rattle.affine_systems.specs.Points.{Point, value, Holds}
 use Rattle.affine_systems.specs.Normal.{gcd_within, gcd, gcd_of, divisor, divided, last_is_negative, is_small, are_small, Normal, Kept, Always, Never, TooBig, without_terms, if_small, turned, turned_if_small, divided_by, normal_terms, normal}
-use Rattle.affine_systems.proofs.Basics.{if_cases, int_eq-true, distributes, mul_assoc, mul_comm, scale_le, neg_mul}
+use Rattle.affine_systems.proofs.Basics.{if_cases, distributes, mul_assoc, mul_comm, scale_le, neg_mul}
+use Rattle.fx_lists.proofs.Numbers.{is_number}
 
 -- ---- common divisors
 
@@ -27,7 +28,7 @@ gcd_within_divides (suc n) a (suc b) =
     let ih = gcd_within_divides n (suc b) (a % suc b) in
     ((dvd-mod_iff (gcd_within n (suc b) (a % suc b)) ih.0).0 ih.1, ih.0)
 
-gcd_divides : (a b : ℕ) → (gcd a b ∣ a) × (gcd a b ∣ b)
+pub gcd_divides : (a b : ℕ) → (gcd a b ∣ a) × (gcd a b ∣ b)
 unfolding gcd
 gcd_divides a b = gcd_within_divides (suc (suc b)) a b
 
@@ -161,7 +162,7 @@ turned_holds p ts b =
 agrees-without_terms : (p : Point) (e : Bool) (b : ℤ) → Agrees p (Holds p (row e [] b)) (without_terms e b)
 agrees-without_terms p true b =
     if_cases (Agrees p (pos 0 ≡ b)) (int_eq b (pos 0)) Always Never
-    (λ e. sym (int_eq-true b (pos 0) e))
+    (λ e. sym (is_number b (pos 0) e))
     (λ e h. false_true (sym e ∙ (Decides-int_eq b (pos 0)).1 (sym h)))
   where
     false_true : false ≡ true → ⊥

@@ -15,11 +15,10 @@ use Rattle.affine_systems.specs.Items.{AllItems}
 use Rattle.affine_systems.specs.Normal.{last_is_negative}
 use Rattle.affine_systems.specs.Tidy.{times, are_opposite, against, face_opposite}
 use Rattle.affine_systems.specs.Places.{place_of, has_var, Noted, Covers, key_after, key_of, side_of, far_side_of, Sided, may_face}
-use Rattle.affine_systems.proofs.Basics.{int_eq-true}
 use Rattle.affine_systems.proofs.TermLaws.{var_eq-true}
 use Rattle.affine_systems.proofs.LastLaws.{append_items}
 use Rattle.affine_systems.proofs.AscendLaws.{factor_of-nil, factor_of-there}
-use Rattle.fx_lists.proofs.Numbers.{size_turned}
+use Rattle.fx_lists.proofs.Numbers.{size_turned, is_number}
 use Rattle.fx_lists.proofs.Booleans.{not_true, clash}
 
 -- ---- variables of terms
@@ -161,7 +160,7 @@ same_key : (n : ℕ) (t u : Term) → is_opposite t u ≡ true → key_after n t
 unfolding key_after
 same_key n t u o =
     let p = and_parts (var_eq t.var u.var) (int_eq t.factor (neg_ℤ u.factor)) o in
-    let f : unsigned_abs t.factor ≡ unsigned_abs u.factor = ap unsigned_abs (int_eq-true t.factor (neg_ℤ u.factor) p.1) ∙ size_turned u.factor in
+    let f : unsigned_abs t.factor ≡ unsigned_abs u.factor = ap unsigned_abs (is_number t.factor (neg_ℤ u.factor) p.1) ∙ size_turned u.factor in
     ap₂ (λ (v : Var) (m : ℕ). (31 * n + 7 * (m % 256) + place_of v) % 2048) (var_eq-true t.var u.var p.0) f
 
 keys : (n : ℕ) (ts us : List Term) → are_opposite_terms ts us ≡ true → key_of n ts ≡ key_of n us
@@ -186,7 +185,7 @@ last_signs (t ∷ ts) [] a n o = cc
 last_signs (t ∷ []) (u ∷ []) a n o =
     let h = and_parts (is_opposite t u) true o in
     let k = and_parts (var_eq t.var u.var) (int_eq t.factor (neg_ℤ u.factor)) h.0 in
-    signs t.factor u.factor (int_eq-true t.factor (neg_ℤ u.factor) k.1) a.0
+    signs t.factor u.factor (is_number t.factor (neg_ℤ u.factor) k.1) a.0
 last_signs (t ∷ []) (u ∷ (w ∷ ws)) a n o = let h = and_parts (is_opposite t u) false o in cc (h.1)
 last_signs (t ∷ (x ∷ xs)) (u ∷ []) a n o = let h = and_parts (is_opposite t u) false o in cc (h.1)
 last_signs (t ∷ (x ∷ xs)) (u ∷ (w ∷ ws)) a n o =

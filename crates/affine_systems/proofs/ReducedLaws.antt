@@ -29,11 +29,11 @@ gcd_within_greatest (suc n) a (suc b) d l h k =
     let r : a % suc b < n = omega arith in
     gcd_within_greatest n (suc b) (a % suc b) d r k ((dvd-mod_iff d k).1 h)
 
-gcd_greatest : (a b d : ℕ) → d ∣ a → d ∣ b → d ∣ gcd a b
+pub gcd_greatest : (a b d : ℕ) → d ∣ a → d ∣ b → d ∣ gcd a b
 unfolding gcd
 gcd_greatest a b d h k = gcd_within_greatest (suc (suc b)) a b d (omega arith) h k
 
-gcd_of_greatest : (ts : List Term) (m d : ℕ) → DividesAll d ts → d ∣ m → d ∣ gcd_of ts m
+pub gcd_of_greatest : (ts : List Term) (m d : ℕ) → DividesAll d ts → d ∣ m → d ∣ gcd_of ts m
 gcd_of_greatest [] m d h k = k
 gcd_of_greatest (t ∷ ts) m d h k = gcd_of_greatest ts (gcd (unsigned_abs t.factor) m) d h.1 (gcd_greatest (unsigned_abs t.factor) m d h.0 k)
 

@@ -1,5 +1,5 @@
 -- The values of terms.
-use Rattle.std.proofs.Common.{◌≡◌, ℕ, true, List, [], ◌∷◌, ℤ, pos, ◌+ℤ◌, ◌*ℤ◌, arith, ap, refl, subst, ◌∙◌, int_eq}
+use Rattle.std.proofs.Common.{◌≡◌, true, List, [], ◌∷◌, ℤ, pos, ◌+ℤ◌, ◌*ℤ◌, arith, ap, refl, subst, ◌∙◌, int_eq}
 use Rattle.std.specs.Prelude.{if◌then◌else◌, nat_eq}
 use Rattle.std.proofs.lemmas.Int.{ints}
 use Rattle.std.proofs.lemmas.Bool.Decides.{Decides-eqb}
@@ -9,10 +9,8 @@ use Rattle.affine_systems.specs.declared.row.Term.{Term}
 use Rattle.affine_systems.specs.declared.row.Var.TheVariants.{Cell, Exit, Phi, Aux}
 use Rattle.affine_systems.specs.Terms.{kind, number, var_eq, var_lt, term, term_before, add_term, add_terms}
 use Rattle.affine_systems.specs.Points.{Point, value}
-use Rattle.affine_systems.proofs.Basics.{if_cases, int_eq-true, distributes, distributes_right, mul_assoc}
-
-eqb-true : (m n : ℕ) → nat_eq m n ≡ true → m ≡ n
-eqb-true m n e = (Decides-eqb m n).0 e
+use Rattle.affine_systems.proofs.Basics.{if_cases, distributes, distributes_right, mul_assoc}
+use Rattle.fx_lists.proofs.Numbers.{is_number, same_is}
 
 pub same_parts : (v w : Var) → kind v ≡ kind w → number v ≡ number w → v ≡ w
 same_parts (Cell m) (Cell n) e f = ap Cell f
@@ -36,12 +34,12 @@ pub var_eq-true : (v w : Var) → var_eq v w ≡ true → v ≡ w
 unfolding var_eq
 var_eq-true v w e =
     let h = and_parts (nat_eq (kind v) (kind w)) (nat_eq (number v) (number w)) e in
-    same_parts v w (eqb-true (kind v) (kind w) h.0) (eqb-true (number v) (number w) h.1)
+    same_parts v w (same_is (kind v) (kind w) h.0) (same_is (number v) (number w) h.1)
 
 pub value-term_before : (p : Point) (v : Var) (f : ℤ) (ts : List Term) → value p (term_before v f ts) ≡ (f *ℤ p v) +ℤ value p ts
 value-term_before p v f ts =
     if_cases (λ us. value p us ≡ (f *ℤ p v) +ℤ value p ts) (int_eq f (pos 0)) ts (term v f ∷ ts)
-    (λ e. let z : f ≡ pos 0 = int_eq-true f (pos 0) e in rw z (omega (arith, ints)))
+    (λ e. let z : f ≡ pos 0 = is_number f (pos 0) e in rw z (omega (arith, ints)))
     (λ e. refl)
 
 pub value-add_term : (p : Point) (v : Var) (f : ℤ) (ts : List Term) → value p (add_term v f ts) ≡ (f *ℤ p v) +ℤ value p ts

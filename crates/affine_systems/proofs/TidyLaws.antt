@@ -15,11 +15,12 @@ use Rattle.affine_systems.specs.Points.{Point, value, Meets, Holds, HoldsAll, fa
 use Rattle.affine_systems.specs.Items.{joined, item, AllItems, next_made, items_from, rows_of, false_item, is_false_row, any_false, collapsed, Cut, cut, cut_later, cut_at, others}
 use Rattle.affine_systems.specs.Normal.{last_is_negative, Normal, Kept, Always, Never, TooBig, normal}
 use Rattle.affine_systems.specs.Tidy.{with_normal, normal_items, is_too_big, any_too_big, put, sorted, stronger, one_each_after, one_each, row_limit, are_opposite, merged_row, against, face_opposite, faced_all, in_form, merged, round, unit_var, is_elsewhere, is_to_take, next_pivot, by_row, substituted, all_substituted, taken, pivoted, turn_limit, after_round, tidy_turns, tidy_items, tidy}
-use Rattle.affine_systems.proofs.Basics.{if_cases, int_eq-true, neg_mul}
+use Rattle.affine_systems.proofs.Basics.{if_cases, neg_mul}
 use Rattle.affine_systems.proofs.TermLaws.{value-add_terms, var_eq-true}
 use Rattle.affine_systems.proofs.OrderLaws.{same_shape-true}
 use Rattle.affine_systems.proofs.NormalLaws.{Agrees, normal_agrees}
 use Rattle.fx_lists.proofs.Booleans.{clash}
+use Rattle.fx_lists.proofs.Numbers.{is_number}
 
 abbrev pub HoldsItems : Point → List Item → Type 0
 HoldsItems p is = AllItems (λ i. Holds p i.row) is
@@ -90,7 +91,7 @@ stronger_same p i j e =
     let v : value p i.row.terms ≡ value p j.row.terms = ap (value p) s.1 in
     let P = λ (k : Item). (Holds p i.row × Holds p j.row) ↔ Holds p k.row in
     if_cases P (int_eq i.row.bound j.row.bound) (if nat_lt j.made i.made then j else i) (if i.row.equal then false_item else if int_lt j.row.bound i.row.bound then j else i)
-    (λ b. let c = int_eq-true i.row.bound j.row.bound b in
+    (λ b. let c = is_number i.row.bound j.row.bound b in
     let there = λ (h : Holds p i.row). meets_at i.row.equal j.row.equal (value p i.row.terms) (value p j.row.terms) i.row.bound j.row.bound s.0 v c h in
     let back = λ (h : Holds p j.row). meets_at j.row.equal i.row.equal (value p j.row.terms) (value p i.row.terms) j.row.bound i.row.bound (sym s.0) (sym v) (sym c) h in
     if_cases P (nat_lt j.made i.made) j i
@@ -165,7 +166,7 @@ opposite_terms_value p (t ∷ ts) (u ∷ us) e =
     let k = and_parts (var_eq t.var u.var) (int_eq t.factor (neg_ℤ u.factor)) h.0 in
     let ih = opposite_terms_value p ts us h.1 in
     let x : p t.var ≡ p u.var = ap p (var_eq-true t.var u.var k.0) in
-    let f = int_eq-true t.factor (neg_ℤ u.factor) k.1 in
+    let f = is_number t.factor (neg_ℤ u.factor) k.1 in
     let m : t.factor *ℤ p t.var ≡ neg_ℤ u.factor *ℤ p t.var = ap (λ z. z *ℤ p t.var) f in
     let o : neg_ℤ u.factor *ℤ p t.var ≡ neg_ℤ u.factor *ℤ p u.var = ap (λ z. neg_ℤ u.factor *ℤ z) x in
     let n = neg_mul u.factor (p u.var) in
@@ -193,7 +194,7 @@ against_holds p n i j e h k =
     if_cases P (int_lt (i.row.bound +ℤ j.row.bound) (pos 0)) false_item (if int_eq (i.row.bound +ℤ j.row.bound) (pos 0) then item (merged_row i.row j.row) (joined i.originals j.originals) n else i)
     (λ l. absurd (omega (arith, ints, l, x, y, v)))
     (λ l. if_cases P (int_eq (i.row.bound +ℤ j.row.bound) (pos 0)) (item (merged_row i.row j.row) (joined i.originals j.originals) n) i
-    (λ z. let t = int_eq-true (i.row.bound +ℤ j.row.bound) (pos 0) z in
+    (λ z. let t = is_number (i.row.bound +ℤ j.row.bound) (pos 0) z in
     if_cases (Holds p) (last_is_negative i.row.terms) (row true j.row.terms j.row.bound) (row true i.row.terms i.row.bound)
     (λ m. omega (arith, ints, t, x, y, v))
     (λ m. omega (arith, ints, t, x, y, v)))
@@ -207,7 +208,7 @@ against_back p n i j e =
     if_cases P (int_lt (i.row.bound +ℤ j.row.bound) (pos 0)) false_item (if int_eq (i.row.bound +ℤ j.row.bound) (pos 0) then item (merged_row i.row j.row) (joined i.originals j.originals) n else i)
     (λ l h. absurd (not_false_row p h))
     (λ l. if_cases P (int_eq (i.row.bound +ℤ j.row.bound) (pos 0)) (item (merged_row i.row j.row) (joined i.originals j.originals) n) i
-    (λ z. let t = int_eq-true (i.row.bound +ℤ j.row.bound) (pos 0) z in
+    (λ z. let t = is_number (i.row.bound +ℤ j.row.bound) (pos 0) z in
     if_cases (λ (r : Row). Holds p r → Holds p i.row) (last_is_negative i.row.terms) (row true j.row.terms j.row.bound) (row true i.row.terms i.row.bound)
     (λ m h. (at_most p i.row o.0).1 (omega (arith, ints, t, v, h)))
     (λ m h. (at_most p i.row o.0).1 (omega (arith, ints, h))))

@@ -1,5 +1,5 @@
 -- The normal form of a row.
-use Rattle.std.specs.Prelude.{◌≡◌, ℕ, zero, suc, ◌%◌, ◌^◌, max, Bool, true, false, ◌&&◌, if◌then◌else◌, nat_eq, nat_lt, List, [], ◌∷◌, map, ℤ, pos, neg_ℤ, int_lt, unsigned_abs}
+use Rattle.std.specs.Prelude.{◌≡◌, ◌⊎◌, ℕ, zero, suc, ◌%◌, ◌^◌, max, Bool, true, false, ◌&&◌, if◌then◌else◌, nat_eq, nat_lt, List, [], ◌∷◌, map, ℤ, pos, neg_ℤ, int_lt, unsigned_abs}
 use Rattle.std.specs.List.{list_all}
 use Rattle.std.specs.Ordering.{int_eq}
 use Rattle.std.specs.Int.{int_div_euclid}
@@ -26,6 +26,11 @@ gcd a b = gcd_within (suc (suc b)) a b
 abbrev pub gcd_of : List Term → ℕ → ℕ
 gcd_of [] g = g
 gcd_of (t ∷ ts) g = gcd_of ts (gcd (unsigned_abs t.factor) g)
+
+-- a number is the magnitude of one of the factors
+abbrev pub IsSize : ℕ → List Term → Type 0
+IsSize n [] = ⊥
+IsSize n (t ∷ ts) = (n ≡ unsigned_abs t.factor) ⊎ IsSize n ts
 
 -- what a row is divided by; at least 1
 unfoldable pub divisor : List Term → ℕ → ℕ

@@ -1,10 +1,10 @@
 //! The normal form of a row.
-ghost use Rattle.std.specs.Prelude.{true, false, neg_ℤ, [], ◌≡◌, ◌<◌, ◌/◌, ◌%◌, List, pos, if◌then◌else◌};
+ghost use Rattle.std.specs.Prelude.{true, false, neg_ℤ, [], ◌≡◌, ◌<◌, ◌≤◌, ◌*◌, ◌^◌, ◌/◌, ◌%◌, length, List, pos, if◌then◌else◌};
 ghost use Rattle.std.specs.Int.{int_div_euclid};
 ghost use Rattle.affine_systems.specs.Terms.{negated_terms, Ascends};
 ghost use Rattle.affine_systems.specs.Given.{IsNormal};
 ghost use Rattle.affine_systems.specs.Rows.{row as row_of};
-ghost use Rattle.affine_systems.specs.Normal.{gcd as gcd_is, divisor as divisor_is, is_small as is_small_number, are_small as are_small_factors, last_is_negative as last_factor_is_negative, start_of as start_is, divided, normal, turned_divided, without_terms as without_terms_is, Answers};
+ghost use Rattle.affine_systems.specs.Normal.{gcd as gcd_is, divisor as divisor_is, is_small as is_small_number, are_small as are_small_factors, IsSize, last_is_negative as last_factor_is_negative, start_of as start_is, divided, normal, turned_divided, without_terms as without_terms_is, Answers};
 
 use crate::{Norm, Row, Term, Terms};
 
@@ -41,13 +41,44 @@ fn gcd(a: u128, b: u128) -> u128
     x
 }
 
+#[tactic(auto, using(crate::proofs::GcdLaws::size_at))]
+/// The magnitudes of the smallest and the largest factor.
+fn size_range(terms: &[Term]) -> (u128, u128)
+    requires { 0 < length terms.now }
+    ensures least { IsSize result.0 terms.now }
+    ensures most { IsSize result.1 terms.now }
+{
+    let first = terms[0].factor.unsigned_abs();
+    let mut least = first;
+    let mut most = first;
+    for t in terms {
+        let size = t.factor.unsigned_abs();
+        if size < least {
+            least = size;
+        }
+        if size > most {
+            most = size;
+        }
+    }
+    (least, most)
+}
+
+/// Whether the larger number stays at or above 2^62 whatever divisor of the smaller one it is divided by.
+fn stays_big(least: u128, most: u128) -> bool
+    ensures { result ≡ true → (0 < least) × (least * 2 ^ 62 ≤ most) }
+{
+    least > 0 && most / (1 << 62) >= least
+}
+
 #[tactic(auto, using(crate::proofs::GcdSteps::divisor_loop))]
-/// What a row is divided by; at least 1.
-fn divisor(terms: &[Term], start: u128) -> u128
+/// What a row is divided by; at least 1. Dividing starts from the magnitude of one of the factors, so that numbers are
+/// small soon.
+fn divisor(terms: &[Term], size: u128, start: u128) -> u128
+    requires { IsSize size terms.now }
     ensures defined { result ≡ divisor_is terms.now start }
     ensures positive { 0 < result }
 {
-    let mut g = start;
+    let mut g = gcd(size, start);
     for t in terms {
         g = gcd(t.factor.unsigned_abs(), g);
         if g == 1 {
@@ -194,14 +225,19 @@ fn start_of(rational: bool, bound: i128) -> u128
 
 /// Brings a row to normal form: divides it by the gcd of its factors, with the bound of an at-most row rounded down,
 /// and makes the last factor of an equal row positive. The bound of a `rational` row counts in the gcd, so that it is
-/// never rounded. The row changes only where the answer is Kept.
+/// never rounded. The row changes only where the answer is Kept. An at-most row with factors so far apart that one stays
+/// at or above 2^62 is refused before anything is divided.
 pub fn normalise_as(rational: bool, row: &mut Row) -> Norm
     ensures { Answers (normal rational row.old) result row.old row.new }
 {
     if row.terms.is_empty() {
         return without_terms(row.equal, row.bound);
     }
-    let g = divisor(row.terms.as_slice(), start_of(rational, row.bound));
+    let (least, most) = size_range(row.terms.as_slice());
+    if !row.equal && stays_big(least, most) {
+        return Norm::TooBig;
+    }
+    let g = divisor(row.terms.as_slice(), least, start_of(rational, row.bound));
     if row.equal && remainder(row.bound.unsigned_abs(), g) != 0 {
         return Norm::False;
     }

@@ -24,7 +24,7 @@ use Rattle.affine_forms.specs.Conditions.{condition_of}
 use Rattle.affine_forms.specs.Forms.{affine_of}
 use Rattle.transformers.specs.call_translation.Scopes.{ScopeTree}
 use Rattle.region_translation.specs.region_sets.declared.region.Region.{Region}
-use Rattle.region_translation.specs.region_sets.Claims.{HoldsSome}
+use Rattle.hull_projection.specs.Unions.{HoldsSome}
 use Rattle.region_translation.specs.region_sets.Regions.{any_weak}
 use Rattle.region_translation.proofs.RegionSets.BackLaws.{meet_weak}
 use Rattle.array_regions.specs.declared.arms.Reached.{Reached}
@@ -32,8 +32,8 @@ use Rattle.array_regions.specs.Arms.{if_true, if_false, into_arm, past_arm, past
 use Rattle.array_regions.specs.Reads.{reads}
 use Rattle.array_regions.specs.Rows.{dimension_rows, subscript_rows, all_affine}
 use Rattle.array_regions.specs.Laws.{IsFalseAt, OnlyWhereFalse, LaterParts, LaterPartsAreExact, IsValue, AreValues, ElementsAreExact}
-use Rattle.region_translation.proofs.RegionSets.LoopLaws.{same_back}
 use Rattle.fx_lists.proofs.Lists.{each_append}
+use Rattle.affine_forms.proofs.RowValues.{same_back}
 
 -- ---- parts of an IF
 

@@ -13,7 +13,7 @@ use Rattle.affine_forms.specs.Forms.{affine_of}
 use Rattle.transformers.specs.call_translation.Scopes.{ScopeTree}
 use Rattle.region_translation.specs.region_sets.declared.region.Access.{Access}
 use Rattle.region_translation.specs.region_sets.declared.region.Region.{Region}
-use Rattle.region_translation.specs.region_sets.Claims.{HoldsSome}
+use Rattle.hull_projection.specs.Unions.{HoldsSome}
 use Rattle.array_regions.specs.declared.arms.Reached.{Reached}
 use Rattle.array_regions.specs.Arms.{into_arm, past_arms, all_met, arm_reads, tests_reads}
 use Rattle.array_regions.specs.References.{array_at}

@@ -11,7 +11,7 @@ use Rattle.base_values.specs.Read.{stored_of}
 use Rattle.base_values.specs.Sizes.{kind_of, is_small_value}
 use Rattle.base_values.specs.Written.{stored_data}
 use Rattle.base_values.proofs.Options.{and_then_some, each_map, all_each, list_back}
-use Rattle.base_values.proofs.RowsBack.{when_true, if_true}
+use Rattle.base_values.proofs.RowsBack.{when_true}
 use Rattle.base_values.proofs.NamesBack.{text_back}
 use Rattle.base_values.proofs.TakenLaws.{fits_is_small}
 use Rattle.base_values.proofs.ValuesBack.{written_is_read as value_back}
@@ -27,6 +27,7 @@ use Rattle.base_text.specs.Grammar.{HasBytes, ResultFits, IsBase}
 use Rattle.base_text.specs.Laws.{WrittenIsRead}
 use Rattle.base_text.proofs.KnownLaws.{known_same, found_names, found_bytes}
 use Rattle.session_texts.proofs.PipsmakeRules.Shared.{named_back}
+use Rattle.fx_lists.proofs.Booleans.{chosen}
 
 -- ---- modules
 
@@ -69,7 +70,7 @@ results_back k rs h e =
 -- ---- a base
 
 known_back : (ms : List BaseModule) (ns : List ModuleNames) → are_new [] (module_names_in ms) ≡ true → names_each ms ≡ Some ns → known_in ms ≡ Some (known ms ns)
-known_back ms ns e f = if_true (are_new [] (module_names_in ms)) (option_map (known ms) (names_each ms)) None e ∙ ap (option_map (known ms)) f
+known_back ms ns e f = chosen (are_new [] (module_names_in ms)) (option_map (known ms) (names_each ms)) None e ∙ ap (option_map (known ms)) f
 
 with_back : (ms : List BaseModule) (rs : List StoredResult) (k : KnownNames) → known_in ms ≡ Some k → known_or_none ms ≡ k → results_of k (list_data (map (result_data k) rs)) ≡ Some rs
     → base_with (data_with ms rs) ms ≡ Some (base ms rs)
@@ -95,4 +96,4 @@ base_back b h =
 pub written_is_read : WrittenIsRead
 written_is_read b h =
     let k = known b.modules h.found in
-    ap if_small (base_back b h) ∙ if_true (are_small b.results) (Ok b) (Err NumberTooBig) (small_fit k b.results h.fit)
+    ap if_small (base_back b h) ∙ chosen (are_small b.results) (Ok b) (Err NumberTooBig) (small_fit k b.results h.fit)

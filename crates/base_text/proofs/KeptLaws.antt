@@ -4,22 +4,23 @@ use Rattle.std.specs.Prelude.{nat_le}
 use Rattle.std.proofs.lemmas.Bool.{false_from_ne_true}
 use Rattle.base_json.specs.Shapes.{when}
 use Rattle.base_values.proofs.Options.{Decides-leb}
-use Rattle.base_values.proofs.RowsBack.{if_true, if_false, when_true}
+use Rattle.base_values.proofs.RowsBack.{when_true}
 use Rattle.base_text.specs.declared.base.Base.{Base}
 use Rattle.base_text.specs.declared.base.StoredResult.{StoredResult}
 use Rattle.base_text.specs.Read.{base, base_of}
 use Rattle.base_text.specs.Written.{base_text, without_results, kept_base, kept}
 use Rattle.base_text.specs.Grammar.{IsBase}
 use Rattle.session_texts.proofs.ScriptLemmas.{too_few as above}
+use Rattle.fx_lists.proofs.Booleans.{chosen, not_chosen}
 
 at_most : (n m : ℕ) → n ≤ m → nat_le n m ≡ true
 at_most n m h = (Decides-leb n m).1 h
 
 pub whole_kept : (b : Base) (limit : ℕ) → length (base_text b) ≤ limit → kept_base b limit ≡ b
-whole_kept b limit h = if_true (nat_le (length (base_text b)) limit) b (without_results b) (at_most (length (base_text b)) limit h)
+whole_kept b limit h = chosen (nat_le (length (base_text b)) limit) b (without_results b) (at_most (length (base_text b)) limit h)
 
 pub bare_kept : (b : Base) (limit : ℕ) → limit < length (base_text b) → kept_base b limit ≡ without_results b
-bare_kept b limit h = if_false (nat_le (length (base_text b)) limit) b (without_results b) (above (length (base_text b)) limit h)
+bare_kept b limit h = not_chosen (nat_le (length (base_text b)) limit) b (without_results b) (above (length (base_text b)) limit h)
 
 -- the text of what is kept, where that is some base
 kept_some : (b c : Base) (limit : ℕ) → kept_base b limit ≡ c → length (base_text c) ≤ limit → kept b limit ≡ Some (base_text c)

@@ -23,10 +23,10 @@ use Rattle.base_values.specs.Modules.{ModuleNames}
 use Rattle.base_values.specs.declared.names.Numbers.{Numbers}
 use Rattle.base_values.specs.Modules.{loops_in}
 use Rattle.base_values.proofs.Options.{Decides-leb}
-use Rattle.base_values.proofs.RowsBack.{if_true, when_true}
+use Rattle.base_values.proofs.RowsBack.{when_true}
 use Rattle.base_text.specs.declared.modules.Table.{Table}
 use Rattle.base_text.specs.Modules.{names_read, names_if, names_of, names_each, table_names, tree_in}
-use Rattle.fx_lists.proofs.Booleans.{and_from}
+use Rattle.fx_lists.proofs.Booleans.{and_from, chosen}
 
 -- ---- one module
 
@@ -70,10 +70,10 @@ names_by_tree x text = by_tree x (modules_of text)
 -- the names of a module of a base, by its tree
 pub names_of_tree : (m : BaseModule) (p : ParsedTree) → length m.text ≤ 16777216 → tree_in (modules_of m.text) ≡ Some p → option_and_then (names_if m.name) (with_table p (symbols_of p)) ≡ names_of m
 names_of_tree m p h e =
-    sym (if_true (nat_le (length m.text) 16777216) (option_and_then (names_if m.name) (module_read m.text)) None ((Decides-leb (length m.text) 16777216).1 h)
+    sym (chosen (nat_le (length m.text) 16777216) (option_and_then (names_if m.name) (module_read m.text)) None ((Decides-leb (length m.text) 16777216).1 h)
     ∙ (names_by_tree m.name m.text ∙ ap (option_and_then (λ q. option_and_then (names_if m.name) (with_table q (symbols_of q)))) e))
 
-abbrev module_of : List (List ℕ) → List ℕ → List ℕ → ModuleNames
+abbrev pub module_of : List (List ℕ) → List ℕ → List ℕ → ModuleNames
 module_of xs ns ls = record { names = xs; statements = ns; loops = ls }
 
 -- what is made in code of the symbols and numbers of a module

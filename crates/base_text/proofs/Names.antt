@@ -3,7 +3,6 @@ use Rattle.std.proofs.Common.{◌≡◌, ℕ, suc, ◌<◌, ◌^◌, Bool, true,
 use Rattle.std.specs.Prelude.{bytes_eq, nat_lt, nat_le, is_none}
 use Rattle.std.specs.List.{IsDistinct, AllByRecursion}
 use Rattle.std.proofs.lemmas.Bool.{false_from_ne_true, false≢true}
-use Rattle.std.proofs.lemmas.Bool.Decides.{Decides-ltb}
 use Rattle.std.proofs.lemmas.Slice.Eq.{bytes_eq-Decides}
 use Rattle.fixed_form.specs.declared.line.Lines.{Lines}
 use Rattle.fixed_form.specs.Reading.{reading}
@@ -23,12 +22,12 @@ use Rattle.base_json.specs.Distinct.{are_new}
 use Rattle.base_values.specs.Modules.{ModuleNames}
 use Rattle.base_values.specs.Naming.{Each, AreNames}
 use Rattle.base_values.proofs.Options.{and_then_some, if_some, when_some, each_all}
-use Rattle.base_values.proofs.RowsBack.{if_false}
 use Rattle.base_text.specs.declared.base.BaseModule.{BaseModule}
 use Rattle.base_text.specs.Modules.{names_read, names_if, names_of}
 use Rattle.fx_lists.proofs.Texts.{apart_back}
-use Rattle.fx_lists.proofs.Booleans.{and_parts, and_from}
+use Rattle.fx_lists.proofs.Booleans.{and_parts, and_from, not_chosen}
 use Rattle.f77_meaning.proofs.SymbolNames.{few_names}
+use Rattle.fx_lists.proofs.Numbers.{below_true}
 
 -- ---- how a module is read
 
@@ -70,7 +69,7 @@ words_are (x ∷ xs) h = (sym (same_word x) ∙ h.0, words_are xs h.1)
 -- ---- and comes once
 
 pub none_more : (n : ℕ) (before : List (List ℕ)) (k j : List ℕ) → bytes_eq j k ≡ false → number_from n before j ≡ None → number_from n (before ++ k ∷ []) j ≡ None
-none_more n [] k j f e = if_false (bytes_eq j k) (Some n) None f
+none_more n [] k j f e = not_chosen (bytes_eq j k) (Some n) None f
 none_more n (y ∷ ys) k j f e = go (bytes_eq j y) e (none_more (suc n) ys k j f)
   where
     go : (b : Bool) → (if b then Some n else number_from (suc n) ys j) ≡ None → (number_from (suc n) ys j ≡ None → number_from (suc n) (ys ++ k ∷ []) j ≡ None)
@@ -95,9 +94,6 @@ none_before (k ∷ ks) = (refl, none_before ks)
 
 -- ---- the names of a module
 
-below : (n m : ℕ) → nat_lt n m ≡ true → n < m
-below n m e = (Decides-ltb n m).0 e
-
 read_names : (r : ReadModule) → ReadWell r → length r.table < 2 ^ 32 → AreNames (names_read r).names
 read_names r w few = record {
   few = few_names r.table few;
@@ -113,4 +109,4 @@ module_has_names m n e =
     let r : ReadModule = b.0 in
     let c = when_some (bytes_eq r.module_is.module_read.name m.name && nat_lt (length r.table) 4294967296) (names_read r) n b.2 in
     let d = and_parts (bytes_eq r.module_is.module_read.name m.name) (nat_lt (length r.table) 4294967296) c.0 in
-    subst (λ (k : ModuleNames). AreNames k.names) c.1 (read_names r (read_well m.text r b.1) (below (length r.table) 4294967296 d.1))
+    subst (λ (k : ModuleNames). AreNames k.names) c.1 (read_names r (read_well m.text r b.1) (below_true (length r.table) 4294967296 d.1))

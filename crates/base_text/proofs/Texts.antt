@@ -4,12 +4,12 @@ use Rattle.std.specs.Str.{is_utf8, IsUtf8}
 use Rattle.std.proofs.lemmas.Str.{is_utf8-from_IsUtf8, IsUtf8-from_is_utf8}
 use Rattle.serde_json.specs.Data.{Data}
 use Rattle.serde_json.specs.Read.{read}
-use Rattle.base_values.proofs.RowsBack.{if_true}
 use Rattle.base_text.specs.Read.{data_of}
+use Rattle.fx_lists.proofs.Booleans.{chosen}
 
 -- a text of UTF-8 that is read
 pub data_some : (text : List ℕ) (d : Data) → IsUtf8 text → read text ≡ Some d → data_of text ≡ Some d
-data_some text d u e = if_true (is_utf8 text) (read text) None (is_utf8-from_IsUtf8 text u) ∙ e
+data_some text d u e = chosen (is_utf8 text) (read text) None (is_utf8-from_IsUtf8 text u) ∙ e
 
 -- a text that is not read where it is UTF-8
 pub data_none : (text : List ℕ) → (IsUtf8 text → read text ≡ None) → data_of text ≡ None

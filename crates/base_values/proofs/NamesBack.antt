@@ -21,9 +21,11 @@ use Rattle.base_json.specs.Scopes.{ScopeTree, is_symbol, in_name, is_name, is_sh
 use Rattle.base_json.specs.Distinct.{are_new}
 use Rattle.base_values.specs.Naming.{Each, AreBytes, AreNames, VariableFits}
 use Rattle.base_values.proofs.Options.{Decides-leb, and_then_some, when_some, if_some, each_map, each_all, all_each}
-use Rattle.base_values.proofs.RowsBack.{less, when_true, if_true, if_false, either_some}
+use Rattle.base_values.proofs.RowsBack.{when_true, either_some}
 use Rattle.fx_lists.proofs.Texts.{same_name as same_bytes}
-use Rattle.fx_lists.proofs.Booleans.{and_parts, and_from, or_cases}
+use Rattle.fx_lists.proofs.Booleans.{and_parts, and_from, or_cases, and_false, chosen, not_chosen}
+use Rattle.fx_lists.proofs.Numbers.{below_is}
+use Rattle.f77_ast.proofs.NumberedNames.{number_from-between}
 
 -- ---- texts
 
@@ -34,7 +36,7 @@ scalars_of (c ∷ cs) h = let l : c < 256 = h.0 in and_from (scalar c) (scalars 
 pub text_back : (x : List ℕ) → AreBytes x → text_of (text_data x) ≡ Some x
 text_back x h =
     let e : chars (encode_utf8_all x) ≡ x = chars-encodes x (scalars_of x h) in
-    ap (λ y. when (is_latin y) y) e ∙ when_true (is_latin x) x (all_each (λ c. nat_lt c 256) x (each_map (λ c. c < 256) (λ c. nat_lt c 256 ≡ true) (λ c l. less c 256 l) x h))
+    ap (λ y. when (is_latin y) y) e ∙ when_true (is_latin x) x (all_each (λ c. nat_lt c 256) x (each_map (λ c. c < 256) (λ c. nat_lt c 256 ≡ true) (λ c l. below_is c 256 l) x h))
 
 pub bytes_append : (x y : List ℕ) → AreBytes x → AreBytes y → AreBytes (x ++ y)
 bytes_append [] y h k = k
@@ -83,10 +85,6 @@ pub block_bytes : (b : List ℕ) → is_block b ≡ true → AreBytes b
 block_bytes [] e = tt
 block_bytes (c ∷ cs) e = name_bytes (c ∷ cs) (short_name (c ∷ cs) e)
 
-and_false : (b : Bool) → (b && false) ≡ false
-and_false true = refl
-and_false false = refl
-
 -- a text with a character that no name has is no name
 not_all : (p : ℕ → Bool) (xs : List ℕ) (c : ℕ) (ys : List ℕ) → p c ≡ false → list_all p (xs ++ c ∷ ys) ≡ false
 not_all p [] c ys e = ap (λ b. b && list_all p ys) e
@@ -97,21 +95,21 @@ apart x y e f = false_from_ne_true (bytes_eq x y) (λ h. let s : x ≡ y = (byte
 
 pub absent : (n : ℕ) (names : List (List ℕ)) (x : List ℕ) → is_name x ≡ false → Each (λ y. is_name y ≡ true) names → number_from n names x ≡ None
 absent n [] x e h = refl
-absent n (y ∷ ys) x e h = if_false (bytes_eq x y) (Some n) (number_from (suc n) ys x) (apart x y e h.0) ∙ absent (suc n) ys x e h.1
+absent n (y ∷ ys) x e h = not_chosen (bytes_eq x y) (Some n) (number_from (suc n) ys x) (apart x y e h.0) ∙ absent (suc n) ys x e h.1
 
 -- ---- own variables
 
 found_after : (n : ℕ) (before : List (List ℕ)) (k : List ℕ) (ks : List (List ℕ)) → number_from n before k ≡ None → number_from n (before ++ k ∷ ks) k ≡ Some (n + length before)
-found_after n [] k ks e = if_true (bytes_eq k k) (Some n) (number_from (suc n) ks k) (same_bytes k) ∙ (let z : n ≡ n + 0 = omega arith in ap Some z)
+found_after n [] k ks e = chosen (bytes_eq k k) (Some n) (number_from (suc n) ks k) (same_bytes k) ∙ (let z : n ≡ n + 0 = omega arith in ap Some z)
 found_after n (y ∷ ys) k ks e = go (bytes_eq k y) refl (λ f. found_after (suc n) ys k ks f) where
   none_some : Some n ≡ None → ⊥
   none_some q = cc
 
   go : (b : Bool) → bytes_eq k y ≡ b → (number_from (suc n) ys k ≡ None → number_from (suc n) (ys ++ k ∷ ks) k ≡ Some (suc n + length ys)) → number_from n (y ∷ ys ++ k ∷ ks) k ≡ Some (n + suc (length ys))
-  go true f rest = absurd (none_some (sym (if_true (bytes_eq k y) (Some n) (number_from (suc n) ys k) f) ∙ e))
+  go true f rest = absurd (none_some (sym (chosen (bytes_eq k y) (Some n) (number_from (suc n) ys k) f) ∙ e))
   go false f rest =
       let z : suc n + length ys ≡ n + suc (length ys) = omega arith in
-      if_false (bytes_eq k y) (Some n) (number_from (suc n) (ys ++ k ∷ ks) k) f ∙ (rest (sym (if_false (bytes_eq k y) (Some n) (number_from (suc n) ys k) f) ∙ e) ∙ ap Some z)
+      not_chosen (bytes_eq k y) (Some n) (number_from (suc n) (ys ++ k ∷ ks) k) f ∙ (rest (sym (not_chosen (bytes_eq k y) (Some n) (number_from (suc n) ys k) f) ∙ e) ∙ ap Some z)
 
 none_is : {A : Type 0} (o : Option A) → is_none o ≡ true → o ≡ None
 none_is None e = refl
@@ -173,7 +171,7 @@ block_in_slashes : (b : List ℕ) → is_block b ≡ true → block_in (slashed 
 block_in_slashes b e =
     let x = slashed b in
     let two : 2 ≤ length (slashed b) = omega (arith, slashed-length b) in
-    if_true (nat_le 2 (length x) && (slice_index x (length x - 1) == 47)) (block_named (slice_range x 1 (length x - 1))) None
+    chosen (nat_le 2 (length x) && (slice_index x (length x - 1) == 47)) (block_named (slice_range x 1 (length x - 1))) None
     (and_from (nat_le 2 (length x)) (slice_index x (length x - 1) == 47) ((Decides-leb 2 (length x)).1 two) (slashed_last b))
     ∙ (ap block_named (slashed_inner b) ∙ when_true (is_block b) (Block b) e)
 
@@ -181,20 +179,20 @@ block_back : (b : List ℕ) → is_block b ≡ true → foreign_variable (slashe
 block_back b e =
     let x = slashed b in
     let some : 0 < length (slashed b) = omega (arith, slashed-length b) in
-    if_true (nat_lt 0 (length x) && (slice_index x 0 == 47)) (block_in x) (saved_at x (position (λ c. c == 58) x)) (and_from (nat_lt 0 (length x)) (slice_index x 0 == 47) (less 0 (length x) some) refl)
+    chosen (nat_lt 0 (length x) && (slice_index x 0 == 47)) (block_in x) (saved_at x (position (λ c. c == 58) x)) (and_from (nat_lt 0 (length x)) (slice_index x 0 == 47) (below_is 0 (length x) some) refl)
     ∙ block_in_slashes b e
 
 prefix_at : (p : ℕ → Bool) (xs : List ℕ) (c : ℕ) (ys : List ℕ) → Each (λ x. p x ≡ false) xs → p c ≡ true → prefix_len (λ x. not (p x)) (xs ++ c ∷ ys) ≡ length xs
-prefix_at p [] c ys h e = if_false (not (p c)) (1 + prefix_len (λ x. not (p x)) ys) 0 (ap not e)
+prefix_at p [] c ys h e = not_chosen (not (p c)) (1 + prefix_len (λ x. not (p x)) ys) 0 (ap not e)
 prefix_at p (x ∷ xs) c ys h e =
     let z : 1 + length xs ≡ suc (length xs) = omega arith in
-    if_true (not (p x)) (1 + prefix_len (λ x. not (p x)) (xs ++ c ∷ ys)) 0 (ap not h.0) ∙ (ap (λ n. 1 + n) (prefix_at p xs c ys h.1 e) ∙ z)
+    chosen (not (p x)) (1 + prefix_len (λ x. not (p x)) (xs ++ c ∷ ys)) 0 (ap not h.0) ∙ (ap (λ n. 1 + n) (prefix_at p xs c ys h.1 e) ∙ z)
 
 position_at : (p : ℕ → Bool) (xs : List ℕ) (c : ℕ) (ys : List ℕ) → Each (λ x. p x ≡ false) xs → p c ≡ true → position p (xs ++ c ∷ ys) ≡ Some (length xs)
 position_at p xs c ys h e =
     let n = length (xs ++ c ∷ ys) in
     let l : length xs < length (xs ++ c ∷ ys) = omega (arith, length-append xs (c ∷ ys)) in
-    ap (λ k. if nat_lt k n then Some k else None) (prefix_at p xs c ys h e) ∙ if_true (nat_lt (length xs) n) (Some (length xs)) None (less (length xs) n l)
+    ap (λ k. if nat_lt k n then Some k else None) (prefix_at p xs c ys h e) ∙ chosen (nat_lt (length xs) n) (Some (length xs)) None (below_is (length xs) n l)
 
 not_colon : (c : ℕ) → (c ≡ 58 → ⊥) → (c == 58) ≡ false
 not_colon c h = false_from_ne_true (c == 58) (λ q. h ((Decides-eqb c 58).0 q))
@@ -219,7 +217,7 @@ saved_back (c ∷ cs) x e =
     let n = short_name (c ∷ cs) (and_parts (is_short_name (c ∷ cs)) (is_short_name x) e).0 in
     let u : 64 < c = (upper_below c (and_parts (is_ascii_uppercase c) (list_all in_name cs) n).0).0 in
     let f : (c == 47) ≡ false = false_from_ne_true (c == 47) (λ q. let z : c ≡ 47 = (Decides-eqb c 47).0 q in omega arith) in
-    if_false (nat_lt 0 (length y) && (slice_index y 0 == 47)) (block_in y) (saved_at y (position (λ d. d == 58) y)) (ap (λ b. nat_lt 0 (length y) && b) f ∙ and_false (nat_lt 0 (length y)))
+    not_chosen (nat_lt 0 (length y) && (slice_index y 0 == 47)) (block_in y) (saved_at y (position (λ d. d == 58) y)) (ap (λ b. nat_lt 0 (length y) && b) f ∙ and_false (nat_lt 0 (length y)))
     ∙ (ap (saved_at y) (position_at (λ d. d == 58) (c ∷ cs) 58 x (no_colon (c ∷ cs) n) refl) ∙ saved_cut (c ∷ cs) x e)
 
 -- ---- variables, by what is written of them
@@ -250,19 +248,12 @@ saved_read_back s m x h e =
 
 -- ---- what is read fits
 
-number_between : (n : ℕ) (names : List (List ℕ)) (x : List ℕ) (k : ℕ) → number_from n names x ≡ Some k → (n ≤ k) × (k < n + length names)
-number_between n [] x k e = cc
-number_between n (y ∷ ys) x k e =
-    either_some ((n ≤ k) × (k < n + suc (length ys))) (bytes_eq x y) (Some n) (number_from (suc n) ys x) k
-    (λ f. let z : n ≡ k = cc in (omega arith, omega arith))
-    (λ f. let h = number_between (suc n) ys x k f in let a : suc n ≤ k = h.0 in let b : k < suc n + length ys = h.1 in (omega arith, omega arith)) e
-
 own_fits : (names : List (List ℕ)) (x : List ℕ) (n : ℕ) → number_from 1 names x ≡ Some n → is_symbol names n ≡ true
 own_fits names x n e =
-    let h = number_between 1 names x n e in
+    let h = number_from-between 1 names x n e in
     let a : 0 < n = omega (arith, h.0) in
     let b : n ≤ length names = omega (arith, h.1) in
-    and_from (nat_lt 0 n) (nat_le n (length names)) (less 0 n a) ((Decides-leb n (length names)).1 b)
+    and_from (nat_lt 0 n) (nat_le n (length names)) (below_is 0 n a) ((Decides-leb n (length names)).1 b)
 
 foreign_fits : (names : List (List ℕ)) (x : List ℕ) (v : Variable) → foreign_variable x ≡ Some v → VariableFits names v
 foreign_fits names x v e =

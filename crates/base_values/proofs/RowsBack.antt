@@ -20,7 +20,6 @@ use Rattle.affine_systems.specs.Tidy.{row_limit}
 use Rattle.affine_systems.specs.Given.{IsNormal, AreNormal, Fits}
 use Rattle.affine_systems.proofs.FitLaws.{small_is}
 use Rattle.affine_systems.proofs.AscendLaws.{before_later}
-use Rattle.affine_systems.proofs.Basics.{int_eq-true}
 use Rattle.affine_systems.proofs.ReducedLaws.{IsReduced, normal-reduced, normal_reduced}
 use Rattle.base_json.specs.Shapes.{list_of, each_as, list_as, member_as, has_members, triple_of, when, whole_of, number_below, flag_of, offset_of}
 use Rattle.base_json.specs.Written.{list_data, number_data, whole_data}
@@ -31,18 +30,16 @@ use Rattle.base_values.specs.Naming.{Each, VarFits, RowNames, SystemFits}
 use Rattle.base_values.proofs.Options.{Decides-leb, and_then_some, map_some, when_some, if_some, each_map, each_both, each_all, all_each, each_read, list_read, each_back, list_back}
 use Rattle.affine_systems.proofs.TidyLaws.{has_no_terms-true as no_terms}
 use Rattle.system_text.proofs.Ordered.{reduced as reduced_parts}
-use Rattle.fx_lists.proofs.Booleans.{not_true, or_cases, or_there as or_right, and_parts, and_from}
+use Rattle.fx_lists.proofs.Booleans.{not_true, or_cases, or_there as or_right, and_parts, and_from, chosen, not_chosen}
+use Rattle.fx_lists.proofs.Numbers.{is_number, below_is}
 
 -- ---- numbers
-
-pub less : (n m : ℕ) → n < m → nat_lt n m ≡ true
-less n m h = (Decides-ltb n m).1 h
 
 pub when_true : {A : Type 0} (t : Bool) (x : A) → t ≡ true → when t x ≡ Some x
 when_true t x e = rw e refl
 
 pub number_back : (n : ℕ) → n < 2 ^ 32 → number_of (number_data n) ≡ Some n
-number_back n h = when_true (nat_lt n 4294967296) n (less n 4294967296 h)
+number_back n h = when_true (nat_lt n 4294967296) n (below_is n 4294967296 h)
 
 pub symbol_below : (names : List (List ℕ)) (n : ℕ) → length names < 2 ^ 32 → is_symbol names n ≡ true → n < 2 ^ 32
 symbol_below names n few e =
@@ -58,24 +55,16 @@ exit_back : (s : ScopeTree) (n : ℕ) → s.may_exit n ≡ true → n < 2 ^ 32 �
 exit_back s n e h = ap (option_and_then (λ k. when (s.may_exit k) k)) (number_back n h) ∙ when_true (s.may_exit n) n e
 
 phi_back : (s : ScopeTree) (n : ℕ) → s.phi ≡ true → n < 256 → phi_of s (number_data n) ≡ Some n
-phi_back s n e h = ap (option_and_then (λ k. when s.phi k)) (when_true (nat_lt n 256) n (less n 256 h)) ∙ when_true s.phi n e
-
-pub if_true : {A : Type 0} (t : Bool) (x y : A) → t ≡ true → (if t then x else y) ≡ x
-if_true true x y e = refl
-if_true false x y e = cc
-
-pub if_false : {A : Type 0} (t : Bool) (x y : A) → t ≡ false → (if t then x else y) ≡ y
-if_false true x y e = cc
-if_false false x y e = refl
+phi_back s n e h = ap (option_and_then (λ k. when s.phi k)) (when_true (nat_lt n 256) n (below_is n 256 h)) ∙ when_true s.phi n e
 
 pub whole_back : (z : ℤ) → unsigned_abs z < 2 ^ 62 → whole_of (whole_data z) ≡ Some z
 whole_back (pos n) h =
     let a : int_lt (pos n) (pos 0) ≡ false = false_from_ne_true (int_lt (pos n) (pos 0)) (λ l. omega (arith, ints, l)) in
-    let b : int_lt (pos n) (pos 18446744073709551616) ≡ true = less n 18446744073709551616 (omega arith) in
-    ap whole_of (if_false (int_lt (pos n) (pos 0)) _ _ a ∙ if_true (int_lt (pos n) (pos 18446744073709551616)) _ _ b)
+    let b : int_lt (pos n) (pos 18446744073709551616) ≡ true = below_is n 18446744073709551616 (omega arith) in
+    ap whole_of (not_chosen (int_lt (pos n) (pos 0)) _ _ a ∙ chosen (int_lt (pos n) (pos 18446744073709551616)) _ _ b)
 whole_back (negsuc n) h =
     let b : int_le (negsuc 9223372036854775807) (negsuc n) ≡ true = (Decides-leb n 9223372036854775807).1 (omega arith) in
-    ap whole_of (if_true (int_le (negsuc 9223372036854775807) (negsuc n)) _ _ b)
+    ap whole_of (chosen (int_le (negsuc 9223372036854775807) (negsuc n)) _ _ b)
 
 -- ---- variables and terms
 
@@ -266,7 +255,7 @@ false_is : (r : Row) → is_false_row r ≡ true → r ≡ false_row
 false_is r e =
     let a = and_parts (has_no_terms r.terms) (not r.equal && int_eq r.bound (negsuc 0)) e in
     let b = and_parts (not r.equal) (int_eq r.bound (negsuc 0)) a.1 in
-    ap (λ q. row q r.terms r.bound) (not_true r.equal b.0) ∙ (ap (λ ts. row false ts r.bound) (no_terms r.terms a.0) ∙ ap (row false []) (int_eq-true r.bound (negsuc 0) b.1))
+    ap (λ q. row q r.terms r.bound) (not_true r.equal b.0) ∙ (ap (λ ts. row false ts r.bound) (no_terms r.terms a.0) ∙ ap (row false []) (is_number r.bound (negsuc 0) b.1))
 
 false_alone : (rs : List Row) → is_false_alone rs ≡ true → rs ≡ false_row ∷ []
 false_alone [] e = cc

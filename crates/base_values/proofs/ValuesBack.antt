@@ -44,8 +44,9 @@ use Rattle.base_values.specs.Sizes.{kind_of}
 use Rattle.base_values.specs.Fits.{EffectsFit, TransformerFits, OnePiece, RegionFits, RegionsFit, ReasonFits, MarkFits, AllFit, ResultsFit, StoredFits}
 use Rattle.base_values.specs.Laws.{WrittenIsRead}
 use Rattle.base_values.proofs.Options.{each_map, each_to, each_back, list_back}
-use Rattle.base_values.proofs.RowsBack.{when_true, if_true, cell_back, system_back}
+use Rattle.base_values.proofs.RowsBack.{when_true, cell_back, system_back}
 use Rattle.base_values.proofs.NamesBack.{block_bytes, text_back, own_read_back, block_read_back, saved_read_back}
+use Rattle.fx_lists.proofs.Booleans.{chosen}
 
 -- ---- variables, effects
 
@@ -153,7 +154,7 @@ mark_back names (Serial r) h e = reason_back names r h e
 
 at_back : {T : Type 0} (f : Data → Option T) (g : T → Data) (a : At T) → f (g a.value) ≡ Some a.value → at_one f a.id (at_data g a) ≡ Some a
 at_back f g a e =
-    if_true (nat_eq a.id a.id) (option_map (at_number a.id) (f (g a.value))) None ((Decides-eqb a.id a.id).1 refl) ∙ ap (option_map (at_number a.id)) e
+    chosen (nat_eq a.id a.id) (option_map (at_number a.id) (f (g a.value))) None ((Decides-eqb a.id a.id).1 refl) ∙ ap (option_map (at_number a.id)) e
 
 each_at_back : (T : Type 0) (f : Data → Option T) (g : T → Data) (as' : List (At T)) → Each (λ (a : At T). f (g a.value) ≡ Some a.value) as' → at_each f (map (λ (a : At T). a.id) as') (map (at_data g) as') ≡ Some as'
 each_at_back T f g [] h = refl

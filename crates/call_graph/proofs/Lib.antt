@@ -4,3 +4,5 @@ pub mod OrderLaws
 pub mod SizeLaws
 pub mod LinkLaws
 pub mod CycleLaws
+pub mod EachLaws
+mod CarrierSteps

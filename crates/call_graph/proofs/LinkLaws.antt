@@ -10,7 +10,7 @@ use Rattle.call_graph.specs.declared.refusal.Fault.{Fault}
 use Rattle.call_graph.specs.declared.refusal.Fault.TheVariants as fault
 use Rattle.call_graph.specs.declared.refusal.LinkRefusal.{LinkRefusal}
 use Rattle.call_graph.specs.Faults.{refusal_of, or_fault, unless, IsAt, Gives}
-use Rattle.call_graph.specs.Modules.{too_many_at, too_many}
+use Rattle.call_graph.specs.Modules.{most_modules, too_many_at, too_many}
 use Rattle.call_graph.specs.Calls.{all_calls}
 use Rattle.call_graph.specs.Callees.{all_places}
 use Rattle.fx_lists.proofs.Lists.{map_length as length-map}
@@ -42,6 +42,6 @@ length-all_calls (p ∷ ps) (ss ∷ sss) = omega (arith, length-all_calls ps sss
 
 pub ruleset link_sizes = (length-all_places, length-all_calls, length-map)
 
--- no 65th module
-pub few : (ps : List ParsedTree) → too_many ps ≡ None → length ps ≤ 64
-few ps e = elim (slice_get_cases ps 64).1 [ inl w ↦ (let z = ap too_many_at w.2 in cc) | inr w ↦ w.0 ]
+-- no module after the most that there may be
+pub few : (ps : List ParsedTree) → too_many ps ≡ None → length ps ≤ most_modules
+few ps e = elim (slice_get_cases ps most_modules).1 [ inl w ↦ (let z = ap too_many_at w.2 in cc) | inr w ↦ w.0 ]

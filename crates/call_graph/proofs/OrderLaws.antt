@@ -8,6 +8,7 @@ use Rattle.call_graph.specs.Recursion.{callees_at, leads, reaches}
 use Rattle.call_graph.specs.Order.{holds, ready, first_ready, with_next, order_from, order_of}
 use Rattle.call_graph.specs.Laws.{IsBottomUp, HasEach, AreModules, NeverBack}
 use Rattle.fx_lists.proofs.Booleans.{no_both}
+use Rattle.fx_lists.proofs.Numbers.{same_number}
 
 -- ---- a loop that counts up
 
@@ -140,9 +141,6 @@ missing-none n k f lt e = go (f k) refl
     go false q = absurd (omega (arith, e, missing-less n k f (λ j. true) (λ j h. refl) lt q refl))
 
 -- ---- tests of lists
-
-same_number : (c : ℕ) → nat_eq c c ≡ true
-same_number c = grind (arith, nat_tests)
 
 any_mono : (f g : ℕ → Bool) (xs : List ℕ) → ((x : ℕ) → f x ≡ true → g x ≡ true) → list_any f xs ≡ true → list_any g xs ≡ true
 any_mono f g [] h e = cc

@@ -25,6 +25,11 @@ table_step r n css table h = let e : n - r ≡ suc (n - (r + 1)) = omega arith i
 pub table_end : (r n : ℕ) (css : List (List ℕ)) (table : List (List Bool)) → n ≤ r → table_after (n - r) css table ≡ table
 table_end r n css table h = let e : n - r ≡ zero = omega arith in rw e refl
 
+-- where one call more changes nothing, no further one does
+pub settled : (t : ℕ) (css : List (List ℕ)) (table : List (List Bool)) → longer css table ≡ table → table_after t css table ≡ table
+settled zero css table e = refl
+settled (suc t) css table e = ap (table_after t css) e ∙ settled t css table e
+
 pub ruleset table_steps = (table_step, table_end)
 
 -- ---- cells

@@ -1,7 +1,9 @@
 -- Whether CALLs fit what they call, and which modules call which.
 use Rattle.std.specs.Prelude.{ℕ, suc, Bool, true, false, not, nat_eq, List, [], ◌∷◌, ◌++◌, length, slice_get, Option, Some, None, if◌then◌else◌}
 use Rattle.std.specs.List.{list_any}
+use Rattle.f77_ast.specs.declared.module.FunctionForm.{FunctionForm}
 use Rattle.f77_ast.specs.DeclTrees.{ModuleTree, ParsedTree}
+use Rattle.f77_ast.specs.Hidden.{is_hidden}
 use Rattle.f77_ast.specs.Symbols.{SymbolTree, number_from}
 use Rattle.call_graph.specs.declared.calls.Called.{Called}
 use Rattle.call_graph.specs.declared.graph.Edge.{Edge}
@@ -9,15 +11,22 @@ use Rattle.fx_lists.specs.declared.code.Code.{Code}
 use Rattle.fx_lists.specs.declared.code.Code.TheVariants.{NoSuchModule, ArgumentCount, ArgumentType}
 use Rattle.call_graph.specs.declared.refusal.Fault.{Fault}
 use Rattle.call_graph.specs.declared.refusal.Fault.TheVariants as fault
-use Rattle.call_graph.specs.Modules.{statement_line}
+use Rattle.call_graph.specs.Modules.{call_line}
 use Rattle.call_graph.specs.Actuals.{all_fit}
 
 -- ---- what is wrong with a CALL
 
--- the callee is a main program, or has another number of dummies, or a dummy does not take its actual
+-- a hidden CALL calls a function, any other a subroutine
+abbrev pub takes_call : ℕ → Option FunctionForm → Bool
+takes_call n None = not (is_hidden n)
+takes_call n (Some form) = is_hidden n
+
+-- the callee is a main program, or a function that is called as a subroutine or the other way round; or it has another number of
+-- dummies, or a dummy does not take its actual
 abbrev pub against : Called → ModuleTree → List SymbolTree → Option Code
 against c m ss =
     if m.main then Some NoSuchModule
+    else if not (takes_call c.at m.function) then Some NoSuchModule
     else if not (nat_eq (length c.actuals) (length m.dummies)) then Some ArgumentCount
     else if all_fit c.actuals ss then None
     else Some ArgumentType
@@ -46,7 +55,7 @@ first_in (c ∷ cs) names ps sss = or_later c.at (call_cause c names ps sss) (fi
 
 abbrev pub unfit_at : ℕ → ParsedTree → Option (ℕ × Code) → Option Fault → Option Fault
 unfit_at k p None later = later
-unfit_at k p (Some (n, cause)) later = Some (fault.At k (statement_line n p.places.spots) cause)
+unfit_at k p (Some (n, cause)) later = Some (fault.At k (call_line n p) cause)
 
 -- the first CALL of these modules that does not fit; the first module has the place k
 abbrev pub unfit_from : ℕ → List ParsedTree → List (List Called) → List (List ℕ) → List ParsedTree → List (List SymbolTree) → Option Fault

@@ -6,6 +6,7 @@ use Rattle.f77_ast.specs.declared.places.Part.TheVariants as part
 use Rattle.f77_ast.specs.declared.places.Spot.{Spot}
 use Rattle.f77_ast.specs.DeclTrees.{ParsedTree}
 use Rattle.f77_ast.specs.Symbols.{number_from}
+use Rattle.f77_ast.specs.Hidden.{carrier_in}
 pub use Rattle.tracked_cells.specs.Names.{names_of}
 use Rattle.fx_lists.specs.declared.code.Code.TheVariants.{TwoMains, ModuleTwice, TooManyModules}
 use Rattle.call_graph.specs.declared.refusal.Fault.{Fault}
@@ -35,15 +36,32 @@ abbrev pub statement_line : ℕ → List Spot → ℕ
 statement_line n [] = 0
 statement_line n (q ∷ qs) = if is_statement n q.part then q.first else statement_line n qs
 
+-- an executable statement has a line of its own
+abbrev pub has_spot : ℕ → List Spot → Bool
+has_spot n [] = false
+has_spot n (q ∷ qs) = is_statement n q.part || has_spot n qs
+
+abbrev pub carrier_or : ℕ → Option ℕ → ℕ
+carrier_or n None = n
+carrier_or n (Some c) = c
+
+-- the line of a CALL: where it has none, that of the statement of the text that it belongs to
+abbrev pub call_line : ℕ → ParsedTree → ℕ
+call_line n p = statement_line (if has_spot n p.places.spots then n else carrier_or n (carrier_in n p.module_read.body)) p.places.spots
+
 -- ---- the modules of a program
+
+-- so many modules at most
+abbrev pub most_modules : ℕ
+most_modules = 64
 
 abbrev pub too_many_at : Option ParsedTree → Option Fault
 too_many_at None = None
-too_many_at (Some p) = Some (fault.At 64 (module_line p) TooManyModules)
+too_many_at (Some p) = Some (fault.At most_modules (module_line p) TooManyModules)
 
--- a 65th module
+-- a module after these
 abbrev pub too_many : List ParsedTree → Option Fault
-too_many ps = too_many_at (slice_get ps 64)
+too_many ps = too_many_at (slice_get ps most_modules)
 
 abbrev pub is_place : ℕ → Option ℕ → Bool
 is_place k None = false

@@ -7,7 +7,7 @@ use Rattle.call_graph.specs.declared.calls.Called.{Called}
 use Rattle.fx_lists.specs.declared.code.Code.TheVariants.{Recursion}
 use Rattle.call_graph.specs.declared.refusal.Fault.{Fault}
 use Rattle.call_graph.specs.declared.refusal.Fault.TheVariants as fault
-use Rattle.call_graph.specs.Modules.{statement_line}
+use Rattle.call_graph.specs.Modules.{call_line}
 
 -- the places of the modules that the module at a place calls
 abbrev pub callees_at : List (List ℕ) → ℕ → List ℕ
@@ -32,7 +32,7 @@ cyclic_in back names [] = None
 cyclic_in back names (c ∷ cs) = if is_back back (number_from 0 names c.callee) then Some c.at else cyclic_in back names cs
 
 abbrev pub cyclic_fault : ℕ → ParsedTree → ℕ → Fault
-cyclic_fault k p n = fault.At k (statement_line n p.places.spots) Recursion
+cyclic_fault k p n = fault.At k (call_line n p) Recursion
 
 abbrev pub cyclic_at : ℕ → ParsedTree → Option ℕ → Option Fault → Option Fault
 cyclic_at k p None later = later

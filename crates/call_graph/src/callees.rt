@@ -2,24 +2,38 @@
 ghost use Rattle.std.specs.Prelude.{◌≡◌, ◌≤◌, ◌++◌, [], length, map, IfOk};
 ghost use Rattle.f77_ast.specs.PlainDecl.{parsed_tree, module_tree};
 ghost use Rattle.f77_ast.specs.Symbols.{symbol_tree};
-ghost use Rattle.call_graph.specs.Callees.{against, call_cause, first_in, unfit_from, place_put, found_put, places_of, all_places, edge_of, edges_of, all_edges};
+ghost use Rattle.call_graph.specs.Modules.{most_modules};
+ghost use Rattle.call_graph.specs.Callees.{takes_call, against, call_cause, first_in, unfit_from, place_put, found_put, places_of, all_places, edge_of, edges_of, all_edges};
 
 use crate::actuals::all_fit;
 use crate::calls::{Called, Calls};
 use crate::graph::Edge;
-use crate::modules::statement_line;
+use crate::modules::call_line;
 use crate::order::holds;
 use crate::refusal::Fault;
-use f77_ast::{Module, Parsed, StmtId, Symbols};
+use f77_ast::{FunctionForm, Module, Parsed, StmtId, Symbols};
 use fx_lists::{Code, List, Text};
 use std::alloc::{AllocError as Memory, Global};
 use tracked_cells::Names;
+
+/// Whether a CALL of this number is one of a module of this form: a hidden one calls a function, any other a subroutine.
+fn takes_call(at: StmtId, function: Option<FunctionForm>) -> bool
+    ensures { result ≡ takes_call at function }
+{
+    match function {
+        None => at <= 4096,
+        Some(_) => at > 4096,
+    }
+}
 
 /// Why a CALL of this module, with this table, does not fit.
 fn against(call: &Called, callee: &Module, table: &Symbols) -> Option<Code>
     ensures { result ≡ against call.now (module_tree callee.now) (map symbol_tree table.now) }
 {
     if callee.main {
+        return Some(Code::NoSuchModule);
+    }
+    if !takes_call(call.at, callee.function) {
         return Some(Code::NoSuchModule);
     }
     if call.actuals.len() != callee.dummies.len() {
@@ -78,7 +92,7 @@ pub fn unfit(
     modules: &List<Parsed>,
     tables: &List<Symbols>,
 ) -> Option<Fault>
-    requires { length modules.now ≤ 64 }
+    requires { length modules.now ≤ most_modules }
     ensures { result ≡ unfit_from 0 (map parsed_tree modules.now) calls.now names.now (map parsed_tree modules.now) (map (map symbol_tree) tables.now) }
 {
     let mut place = 0u32;
@@ -89,7 +103,7 @@ pub fn unfit(
             [] => return None,
             [own, later @ ..] => {
                 if let Some((at, cause)) = first_in(own, names, modules, tables) {
-                    let line = statement_line(parsed.places.spots.as_slice(), at);
+                    let line = call_line(parsed, at);
                     return Some(Fault::At(place, line, cause));
                 }
                 others = later;

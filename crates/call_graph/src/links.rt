@@ -3,7 +3,7 @@ ghost use Rattle.std.specs.Prelude.{◌≡◌, ◌≤◌, length, map, IfOk};
 ghost use Rattle.f77_ast.specs.PlainDecl.{parsed_tree};
 ghost use Rattle.f77_ast.specs.Symbols.{symbol_tree};
 ghost use Rattle.call_graph.specs.Faults.{Gives};
-ghost use Rattle.call_graph.specs.Modules.{names_of};
+ghost use Rattle.call_graph.specs.Modules.{most_modules, names_of};
 ghost use Rattle.call_graph.specs.Links.{program_calls, graph_from, module_fault, acyclic_of, joined_of, named_of, link_of};
 
 use crate::blocks::blocks_of;
@@ -21,7 +21,7 @@ use tracked_cells::{Names, untracked_of};
 
 /// What is wrong with the modules before their CALLs are looked at.
 fn module_fault(modules: &List<Parsed>, names: &Names) -> Option<Fault>
-    requires few { length modules.now ≤ 64 }
+    requires few { length modules.now ≤ most_modules }
     requires named { names.now ≡ names_of (map parsed_tree modules.now) }
     ensures { result ≡ module_fault (map parsed_tree modules.now) }
 {
@@ -42,7 +42,7 @@ fn graph_of(
     calls: &List<Calls>,
     callees: &List<List<u32>>,
 ) -> Result<Graph, Memory>
-    requires { length callees.now ≤ 64 }
+    requires { length callees.now ≤ most_modules }
     ensures { IfOk result (λ g. g ≡ graph_from (map parsed_tree modules.now) (map (map symbol_tree) tables.now) names.now calls.now callees.now) }
 {
     let order = names_in_order(alloc, names, callees)?;
@@ -65,7 +65,7 @@ fn link_fitting(
     names: &Names,
     calls: &List<Calls>,
 ) -> Result<Graph, LinkRefusal>
-    requires few { length modules.now ≤ 64 }
+    requires few { length modules.now ≤ most_modules }
     requires named { names.now ≡ names_of (map parsed_tree modules.now) }
     requires called { calls.now ≡ program_calls (map parsed_tree modules.now) (map (map symbol_tree) tables.now) }
     ensures { Gives result (acyclic_of (map parsed_tree modules.now) (map (map symbol_tree) tables.now)) }
@@ -88,7 +88,7 @@ fn link_distinct(
     tables: &List<Symbols>,
     names: &Names,
 ) -> Result<Graph, LinkRefusal>
-    requires few { length modules.now ≤ 64 }
+    requires few { length modules.now ≤ most_modules }
     requires named { names.now ≡ names_of (map parsed_tree modules.now) }
     ensures { Gives result (joined_of (map parsed_tree modules.now) (map (map symbol_tree) tables.now)) }
 {
@@ -105,7 +105,7 @@ fn link_few(
     modules: &List<Parsed>,
     tables: &List<Symbols>,
 ) -> Result<Graph, LinkRefusal>
-    requires few { length modules.now ≤ 64 }
+    requires few { length modules.now ≤ most_modules }
     ensures { Gives result (named_of (map parsed_tree modules.now) (map (map symbol_tree) tables.now)) }
 {
     let names = Names::of(alloc, modules)?;

@@ -1,8 +1,9 @@
 //! How many modules there are, their names, and their main program.
 ghost use Rattle.std.specs.Prelude.{◌≡◌, ◌≤◌, length, map};
 ghost use Rattle.f77_ast.specs.PlainDecl.{parsed_tree};
-ghost use Rattle.call_graph.specs.Modules.{module_line, statement_line, is_statement, too_many, is_place, twice_from, main_twice, no_main};
+ghost use Rattle.call_graph.specs.Modules.{most_modules, module_line, statement_line, is_statement, has_spot, call_line, too_many, is_place, twice_from, main_twice, no_main};
 
+use crate::carriers::carrier_in;
 use crate::refusal::Fault;
 use f77_ast::{Parsed, Part, Spot, StmtId};
 use fx_lists::{Code, List};
@@ -33,7 +34,7 @@ fn is_statement(part: Part, id: StmtId) -> bool
 }
 
 /// The first line of an executable statement, from 1; 0 where no spot is of its number. Linear in the spots.
-pub fn statement_line(spots: &[Spot], id: StmtId) -> u32
+fn statement_line(spots: &[Spot], id: StmtId) -> u32
     ensures { result ≡ statement_line id spots.now }
 {
     let mut rest = spots;
@@ -46,12 +47,47 @@ pub fn statement_line(spots: &[Spot], id: StmtId) -> u32
     0
 }
 
-/// The fault of the 65th module; None where there are at most 64.
+/// The most modules of a program.
+pub const MOST_MODULES: usize = 64;
+
+/// Whether an executable statement has a line of its own.
+fn has_spot(spots: &[Spot], id: StmtId) -> bool
+    ensures { result ≡ has_spot id spots.now }
+{
+    let mut rest = spots;
+    while let [spot, more @ ..] = rest {
+        if is_statement(spot.part, id) {
+            return true;
+        }
+        rest = more;
+    }
+    false
+}
+
+/// The line of a CALL, from 1: where it has none of its own, that of the statement of the text that it belongs to. Linear in the statements.
+pub fn call_line(parsed: &Parsed, id: StmtId) -> u32
+    ensures { result ≡ call_line id (parsed_tree parsed.now) }
+{
+    let spots = parsed.places.spots.as_slice();
+    if has_spot(spots, id) {
+        return statement_line(spots, id);
+    }
+    match carrier_in(id, &parsed.module.body) {
+        None => statement_line(spots, id),
+        Some(carrier) => statement_line(spots, carrier),
+    }
+}
+
+/// The fault of the first module after the most that a program may have; None where there are no more.
 pub fn too_many(modules: &List<Parsed>) -> Option<Fault>
     ensures { result ≡ too_many (map parsed_tree modules.now) }
 {
-    let extra = modules.get(64)?;
-    Some(Fault::At(64, module_line(extra), Code::TooManyModules))
+    let extra = modules.get(MOST_MODULES)?;
+    Some(Fault::At(
+        MOST_MODULES as u32,
+        module_line(extra),
+        Code::TooManyModules,
+    ))
 }
 
 fn is_place(place: u32, found: Option<u32>) -> bool
@@ -65,7 +101,7 @@ fn is_place(place: u32, found: Option<u32>) -> bool
 
 /// The fault of the first module whose name an earlier one has; None where the names differ. `names` are those of the modules.
 pub fn name_twice(modules: &List<Parsed>, names: &Names) -> Option<Fault>
-    requires { length modules.now ≤ 64 }
+    requires { length modules.now ≤ most_modules }
     ensures { result ≡ twice_from 0 names.now (map parsed_tree modules.now) }
 {
     let mut place = 0u32;
@@ -82,7 +118,7 @@ pub fn name_twice(modules: &List<Parsed>, names: &Names) -> Option<Fault>
 
 /// The fault of the second main program; None where there are not two.
 pub fn main_twice(modules: &List<Parsed>) -> Option<Fault>
-    requires { length modules.now ≤ 64 }
+    requires { length modules.now ≤ most_modules }
     ensures { result ≡ main_twice (map parsed_tree modules.now) }
 {
     let mut place = 0u32;

@@ -1,6 +1,7 @@
 //! The order of modules, each after those that it calls.
 ghost use Rattle.std.specs.Prelude.{◌≡◌, ◌≤◌, ◌++◌, length, slice_get, option_to_list, IfOk};
 ghost use Rattle.std.specs.List.{list_all};
+ghost use Rattle.call_graph.specs.Modules.{most_modules};
 ghost use Rattle.call_graph.specs.Order.{holds, ready, first_ready, order_of, names_at};
 
 use fx_lists::{List, Text};
@@ -29,7 +30,7 @@ fn ready(order: &List<u32>, place: u32, callees: &List<u32>) -> bool
 
 /// The first module that comes next.
 fn first_ready(order: &List<u32>, callees: &List<List<u32>>) -> Option<u32>
-    requires { length callees.now ≤ 64 }
+    requires { length callees.now ≤ most_modules }
     ensures { result ≡ first_ready 0 callees.now order.now }
 {
     let mut place = 0u32;
@@ -47,7 +48,7 @@ fn first_ready(order: &List<u32>, callees: &List<List<u32>>) -> Option<u32>
 /// The modules in order, by their places. For each the order so far is gone through; modules are few.
 #[tactic(auto, using(crate::proofs::OrderLaws::order_steps))]
 fn order_of(alloc: Global, callees: &List<List<u32>>) -> Result<List<u32>, Memory>
-    requires { length callees.now ≤ 64 }
+    requires { length callees.now ≤ most_modules }
     ensures { IfOk result (λ order. order ≡ order_of callees.now) }
 {
     let mut order = List::new(alloc);
@@ -77,7 +78,7 @@ pub fn names_in_order(
     names: &Names,
     callees: &List<List<u32>>,
 ) -> Result<List<Text>, Memory>
-    requires { length callees.now ≤ 64 }
+    requires { length callees.now ≤ most_modules }
     ensures { IfOk result (λ order. order ≡ names_at (order_of callees.now) names.now) }
 {
     let order = order_of(alloc, callees)?;

@@ -1,12 +1,13 @@
 //! Whether calls lead back to their callers.
-ghost use Rattle.std.specs.Prelude.{◌≡◌, ◌≤◌, false, length, map, IfOk, [], slice_index_or};
+ghost use Rattle.std.specs.Prelude.{◌≡◌, ◌≤◌, true, false, length, map, IfOk, [], slice_index_or};
 ghost use Rattle.std.specs.List.{list_any};
 ghost use Rattle.f77_ast.specs.PlainDecl.{parsed_tree};
+ghost use Rattle.call_graph.specs.Modules.{most_modules};
 ghost use Rattle.call_graph.specs.Recursion.{reaches, cyclic_in, cyclic_fault, cyclic_from};
 ghost use Rattle.call_graph.specs.Tables.{cell, longer_cell, row_from, longer, table_after};
 
 use crate::calls::Calls;
-use crate::modules::statement_line;
+use crate::modules::call_line;
 use crate::refusal::Fault;
 use f77_ast::{Parsed, StmtId};
 use fx_lists::{Code, List};
@@ -65,7 +66,7 @@ fn longer_row(
 
 /// The table for one call more.
 fn longer(alloc: Global, table: &Table, callees: &List<List<u32>>) -> Result<Table, Memory>
-    requires { length callees.now ≤ 64 }
+    requires { length callees.now ≤ most_modules }
     ensures { IfOk result (λ t. t ≡ longer callees.now table.now) }
 {
     let size = callees.len() as u32;
@@ -80,15 +81,26 @@ fn longer(alloc: Global, table: &Table, callees: &List<List<u32>>) -> Result<Tab
     Ok(rows)
 }
 
-/// Whether each module leads to each.
+/// Whether a round has changed nothing.
+fn is_settled(table: &Table, next: &Table) -> bool
+    ensures { result ≡ true → table.now ≡ next.now }
+{
+    *table == *next
+}
+
+/// Whether each module leads to each. The rounds end with one that changes nothing.
 #[tactic(auto, using(crate::proofs::TableLaws::table_steps))]
 fn table_of(alloc: Global, callees: &List<List<u32>>) -> Result<Table, Memory>
-    requires { length callees.now ≤ 64 }
+    requires { length callees.now ≤ most_modules }
     ensures { IfOk result (λ t. t ≡ table_after (length callees.now) callees.now []) }
 {
     let mut table = List::new(alloc);
     for _round in 0..callees.len() {
-        table = longer(alloc, &table, callees)?;
+        let next = longer(alloc, &table, callees)?;
+        if is_settled(&table, &next) {
+            return Ok(next);
+        }
+        table = next;
     }
     Ok(table)
 }
@@ -113,7 +125,7 @@ fn cyclic_in(table: &Table, names: &Names, caller: u32, calls: &Calls) -> Option
 fn cyclic_fault(caller: u32, parsed: &Parsed, at: StmtId) -> Fault
     ensures { result ≡ cyclic_fault caller (parsed_tree parsed.now) at }
 {
-    let line = statement_line(parsed.places.spots.as_slice(), at);
+    let line = call_line(parsed, at);
     Fault::At(caller, line, Code::Recursion)
 }
 
@@ -124,7 +136,7 @@ fn cyclic_from(
     modules: &List<Parsed>,
     calls: &List<Calls>,
 ) -> Option<Fault>
-    requires { length modules.now ≤ 64 }
+    requires { length modules.now ≤ most_modules }
     ensures { result ≡ cyclic_from (cell table.now) 0 (map parsed_tree modules.now) calls.now names.now }
 {
     let mut caller = 0u32;
@@ -148,7 +160,7 @@ fn cyclic_from(
 
 /// The fault of the first CALL that is on a cycle of calls, in the order of the modules and of their texts; None where there is
 /// no recursion. `callees` has for each module the places, from 0, of those that it calls. Takes time of the square of the
-/// number of modules times that of all callees.
+/// number of modules times that of all callees in each round, and one round more than the longest chain of calls at most.
 pub fn recursion(
     alloc: Global,
     names: &Names,
@@ -156,8 +168,8 @@ pub fn recursion(
     calls: &List<Calls>,
     callees: &List<List<u32>>,
 ) -> Result<Option<Fault>, Memory>
-    requires few { length modules.now ≤ 64 }
-    requires few_callees { length callees.now ≤ 64 }
+    requires few { length modules.now ≤ most_modules }
+    requires few_callees { length callees.now ≤ most_modules }
     requires one_each { length calls.now ≡ length callees.now }
     ensures { IfOk result (λ f. f ≡ cyclic_from (reaches callees.now) 0 (map parsed_tree modules.now) calls.now names.now) }
 {

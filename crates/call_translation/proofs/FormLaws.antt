@@ -35,6 +35,7 @@ use Rattle.call_translation.specs.Scopes.{ScopeTree}
 use Rattle.call_translation.specs.Actuals.{actual_of, form_in}
 use Rattle.call_translation.specs.Sites.{HoldingSite}
 use Rattle.call_translation.specs.SiteEntry.{form_at, dummy_form}
+use Rattle.transformer_algebra.proofs.CellLaws.{exit_cell}
 
 abbrev pub NoExits : Affine → Type 0
 NoExits f = (n : ℕ) → factor_of (Exit n) f.terms ≡ pos 0
@@ -106,13 +107,9 @@ constant_none (Is (Log b)) f h = h
 constant_none Faults f h = h
 constant_none Varies f h = h
 
-apart : (n c : ℕ) → var_eq (Exit n) (Cell c) ≡ false
-unfolding var_eq
-apart n c = refl
-
 cell_none : (c : Option ℕ) → IfSome (cell_form c) NoExits
 cell_none None = tt
-cell_none (Some c) = λ n. factor_of-there (Exit n) (term (Cell c) (pos 1)) [] (apart n c) ∙ factor_of-nil (Exit n)
+cell_none (Some c) = λ n. factor_of-there (Exit n) (term (Cell c) (pos 1)) [] (exit_cell n c) ∙ factor_of-nil (Exit n)
 
 pub no_exits : (k : Scalars) (e : ExprTree) → IfSome (affine_of k e) NoExits
 no_exits k (tree.int n) = constant_none (const_value k.value (tree.int n)) None tt

@@ -3,3 +3,4 @@ pub mod NamedSiteLaws
 pub mod Steps
 pub mod FormLaws
 pub mod SiteLaws
+pub mod CallerCells

@@ -18,7 +18,7 @@ use affine_forms::{Affine, is_cell, no_rows, same_row, var_form};
 use affine_systems::{Row, System, Var};
 use f77_ast::{Place, Symbol};
 use fx_lists::List;
-use hull_projection::{add_rows, project};
+use hull_projection::{add_rows, project_owned};
 use std::alloc::{AllocError as Memory, Global};
 use tracked_cells::is_int_scalar;
 use transformer_algebra::{Naming, fresh_over, push_rows, rename_all, renamed_row};
@@ -168,5 +168,5 @@ pub fn site_entry(
     let dummies = renamed_rows(alloc, names.as_slice(), rows.as_slice())?;
     let known = push_rows(alloc, &named, dummies)?;
     let left = auxiliaries_in(alloc, names.as_slice())?;
-    Ok(project(alloc, &known, &left)?.system)
+    Ok(project_owned(alloc, known, &left)?.system)
 }

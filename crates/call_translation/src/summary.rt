@@ -18,7 +18,7 @@ use affine_forms::no_rows;
 use affine_systems::{Row, System, Var};
 use f77_ast::{Expr, Place, Summary, Unit};
 use fx_lists::List;
-use hull_projection::{add_rows, add_var, project};
+use hull_projection::{add_rows, add_var, project_owned};
 use std::alloc::{AllocError as Memory, Global};
 use transformer_algebra::{
     Naming, Transformer, fresh_over, identity_transformer, joined_cells, joined_units, push_rows,
@@ -119,7 +119,7 @@ fn call_system(alloc: Global, call: &CallContext<'_>, t: &Transformer) -> Result
     let rows = first_rows(alloc, call, first, vars.as_slice())?;
     let with_first = push_rows(alloc, &named, rows)?;
     let left = auxiliaries_in(alloc, names.as_slice())?;
-    Ok(project(alloc, &with_first, &left)?.system)
+    Ok(project_owned(alloc, with_first, &left)?.system)
 }
 
 /// The tracked cells of the caller at units. Each is looked up among the caller's symbols.

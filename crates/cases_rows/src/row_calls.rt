@@ -87,7 +87,7 @@ pub fn eliminate_case(alloc: Global, words: &str, parts: &[&str]) -> Result<Stri
         return Err(DecodeError::Malformed);
     };
     let sys = system_of(alloc, sys)?;
-    let e = eliminate(alloc, &sys, only_var(words)?)?;
+    let e = eliminate(alloc, sys, only_var(words)?)?;
     Ok(exact_text(alloc, e.exact, &e.system)?)
 }
 

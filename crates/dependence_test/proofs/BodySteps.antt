@@ -1,5 +1,5 @@
 -- What is known of a DO is made of its parts, and what is looked up may be handed on.
-use Rattle.std.proofs.Common.{◌≡◌, ℕ, suc, ◌-◌, false, List, ◌∷◌, Option, Some, None, refl, sym, ap, ◌∙◌, arith}
+use Rattle.std.proofs.Common.{◌≡◌, ℕ, ◌-◌, false, List, Option, Some, None, refl, sym, ap, ◌∙◌}
 use Rattle.std.specs.Prelude.{unwrap_or}
 use Rattle.std.proofs.lemmas.Option.{slice_get_within, unwrap_or-slice_get}
 use Rattle.affine_systems.specs.declared.row.System.{System}
@@ -23,9 +23,6 @@ use Rattle.dependence_test.specs.Body.{or_no_rows, head_of, changed_cells, with_
 use Rattle.preconditions.proofs.Shared.{or-fits}
 
 -- ---- what holds at a statement
-
-tail-fits : (a : At System) (as' : List (At System)) → EachFits (a ∷ as') → EachFits as'
-tail-fits a as' h k d l = h (suc k) d (omega (arith, l))
 
 pub value-fits : (as' : List (At System)) (n : ℕ) (s : System) → value_at as' n ≡ Some s → EachFits as' → Fits s
 value-fits as' n s q h = or-fits (numbered as' n) n as' s refl q h

@@ -21,7 +21,8 @@ use Rattle.region_sets.specs.declared.region.Access.{Access}
 use Rattle.region_sets.specs.declared.region.Access.TheVariants.{Write}
 use Rattle.region_sets.specs.declared.region.Region.{Region}
 use Rattle.region_sets.specs.Naming.{in_rows}
-use Rattle.region_sets.specs.Claims.{Places, AreByOrder, LiesIn}
+use Rattle.region_sets.specs.Claims.{AreNumbers, Places, AreByOrder, LiesIn}
+use Rattle.region_sets.proofs.DescribedLaws.{stored, moved}
 use Rattle.dependence_test.specs.declared.body.LoopBody.{LoopBody}
 use Rattle.dependence_test.specs.Kinds.{first_access, second_access, is_first, is_second, is_write, related, may_meet, is_written, is_pair}
 use Rattle.dependence_test.specs.Pairs.{pair_system}
@@ -147,6 +148,14 @@ module _ (ss : List SymbolTree) (b : LoopBody) (v : Variable) (ks : Kinds) (free
   same_cells : Same m b p.begin q.begin
   same_cells c tr off = unchanged k q c tr off ∙ sym (unchanged j p c tr off)
 
+  -- the numbers of all cells at the second, with those of the first where nothing changes
+  later_numbers : AreNumbers m q.begin (moved m b.cells q.begin (stored m p.begin))
+  later_numbers c t = go (has b.cells c) refl
+    where
+      go : (h : Bool) → has b.cells c ≡ h → (if h then q.begin (m.unit c) else p.begin (m.unit c)) ≡ q.begin (m.unit c)
+      go true e = refl
+      go false e = sym (same_cells c t e)
+
   index_of : (i : ℕ) (e : Executed m at b g x first last i) → e.begin (m.unit b.index) ≡ e.number
   index_of i e = ap (λ (c : ℕ). e.begin (m.unit c)) (sym range.index) ∙ e.iteration.number
 
@@ -170,13 +179,15 @@ module _ (ss : List SymbolTree) (b : LoopBody) (v : Variable) (ks : Kinds) (free
   -- no unit lies in both regions of a pair
   apart : (y z : Region) → In_regions y → In_regions z → is_pair ss v ks y z ≡ true → LiesIn m (at y.variable) y p.begin u → LiesIn m (at z.variable) z q.begin u → ⊥
   apart y z iy iz pair ly lz =
-      let point = pair_holds m b p.begin q.begin p.head q.head same_cells range.own ly.piece lz.piece ly.phi lz.phi ly.described lz.described between (same_variable y.variable z.variable) alike in
-      refuted_none point.0 (pair_system b (same_variable y.variable z.variable) ly.piece lz.piece).rows (all_refuted ss b v ks y z ly.piece lz.piece free iy iz pair ly.is_one lz.is_one) point.1
+      let dy = ly.described (stored m p.begin) (λ c t. refl) in
+      let dz = lz.described (moved m b.cells q.begin (stored m p.begin)) later_numbers in
+      let point = pair_holds m b p.begin q.begin p.head q.head same_cells range.own dy.piece dz.piece ly.phi lz.phi dy.holds dz.holds between (same_variable y.variable z.variable) (alike dz.piece dz.is_one) in
+      refuted_none point.0 (pair_system b (same_variable y.variable z.variable) dy.piece dz.piece).rows (all_refuted ss b v ks y z dy.piece dz.piece free iy iz pair dy.is_one dz.is_one) point.1
     where
-      alike : same_variable y.variable z.variable ≡ true → (i : ℕ) → in_rows (Phi i) lz.piece.rows ≡ true → ly.phi i ≡ lz.phi i
-      alike e i named =
+      alike : (s : System) → In s z.pieces → same_variable y.variable z.variable ≡ true → (i : ℕ) → in_rows (Phi i) s.rows ≡ true → ly.phi i ≡ lz.phi i
+      alike s is e i named =
           let there' : at z.variable ly.phi ≡ Some u = subst (λ (f : (ℕ → ℤ) → Option ℕ). f ly.phi ≡ Some u) (by y.variable z.variable (cmp_if y.variable z.variable e)) ly.there in
-          one z iz ly.phi lz.phi there' lz.there lz.piece lz.is_one i named
+          one z iz ly.phi lz.phi there' lz.there s is i named
 
   related_to : (r : Region) (w : ℕ → ℤ) (z : Region) (c : ℕ → ℤ) → LiesIn m (at z.variable) z w u → LiesIn m (at r.variable) r c u → same_variable r.variable v ≡ true → related ss z.variable v ≡ true
   related_to r w z c lz lr e =

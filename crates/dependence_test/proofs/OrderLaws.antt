@@ -14,6 +14,7 @@ use Rattle.affine_forms.proofs.RowLaws.{at_most_holds, below_holds, same_holds}
 use Rattle.dependence_test.specs.Order.{one, steps_from, step_rows, rows_by, order_rows}
 use Rattle.fx_lists.proofs.Numbers.{is_number}
 use Rattle.preconditions.proofs.CallTranslation.Steps.{given-push}
+use Rattle.affine_forms.proofs.RowValues.{var_value}
 
 -- ---- rows that may be given
 
@@ -30,9 +31,6 @@ one_small = ((tt, tt), omega arith)
 pub ruleset order_steps = (given-push, steps_small, one_small)
 
 -- ---- rows that hold
-
-var_value : (p : Point) (v : Var) → form_value p (var_form v) ≡ p v
-var_value p v = omega (arith, ints)
 
 one_value : (p : Point) → form_value p one ≡ pos 1
 one_value p = omega (arith, ints)

@@ -1,5 +1,6 @@
 -- The system of a pair has a point where two iterations may access one unit.
 use Rattle.std.proofs.Common.{◌≡◌, ℕ, suc, ◌+◌, List, [], ◌∷◌, ◌++◌, length, map, Bool, true, false, refl, sym, ap, ◌∙◌, subst, arith, ℤ, pos, length-append}
+use Rattle.std.specs.Prelude.{if◌then◌else◌}
 use Rattle.affine_systems.specs.declared.row.Var.{Var}
 use Rattle.affine_systems.specs.declared.row.Var.TheVariants.{Cell, Exit, Phi, Aux}
 use Rattle.affine_systems.specs.declared.row.System.{System}
@@ -11,7 +12,8 @@ use Rattle.preconditions.proofs.TransformerAlgebra.KeepLaws.{rename_all_holds, p
 use Rattle.preconditions.specs.transformer_algebra.Cells.{has}
 use Rattle.preconditions.specs.transformer_algebra.Claims.{Scene, AtStart, HoldsAt}
 use Rattle.region_sets.specs.Naming.{in_rows}
-use Rattle.region_sets.specs.Claims.{Describes}
+use Rattle.region_sets.specs.Claims.{HasCells, Describes}
+use Rattle.region_sets.proofs.DescribedLaws.{stored, moved}
 use Rattle.region_sets.proofs.NameLaws.{Agree, rows_agree}
 use Rattle.dependence_test.specs.declared.body.LoopBody.{LoopBody}
 use Rattle.dependence_test.specs.Variables.{cell_namings, at_iteration, index_at, named_subscripts, subscript_namings}
@@ -59,8 +61,8 @@ module _ (m : Scene) (b : LoopBody) (x y : ℕ → ℤ) where
       rename_all_holds (cell_namings a b.cells) (meet b.head s) p (meet_holds (read_by p a b.cells) b.head s (head (read_by p a b.cells) st, h))
 
   -- a system that describes these subscripts, at a point that has them as far as the system names them
-  described_at : (z : ℕ → ℤ) (p : Point) (s : System) (phi : ℕ → ℤ) → AtStart m z p → Describes m s z phi → ((k : ℕ) → in_rows (Phi k) s.rows ≡ true → phi k ≡ p (Phi k)) → HoldsAll p s.rows
-  described_at z p s phi st d named = rows_agree s.rows (with_phi phi p) p agree (d (with_phi phi p) st (λ k. refl))
+  described_at : (n : ℕ → ℤ) (p : Point) (s : System) (phi : ℕ → ℤ) → HasCells n p → Describes s n phi → ((k : ℕ) → in_rows (Phi k) s.rows ≡ true → phi k ≡ p (Phi k)) → HoldsAll p s.rows
+  described_at n p s phi h d named = rows_agree s.rows (with_phi phi p) p agree (d (with_phi phi p) h (λ k. refl))
     where
       agree : Agree (λ v. in_rows v s.rows) (with_phi phi p) p
       agree (Cell c) e = refl
@@ -68,7 +70,7 @@ module _ (m : Scene) (b : LoopBody) (x y : ℕ → ℤ) where
       agree (Phi k) e = named k e
       agree (Aux n) e = refl
 
-  module _ (head : HoldsAt m b.head x) (head' : HoldsAt m b.head y) (same : Same) (own : has b.cells b.index ≡ true) (s r : System) (phi psi : ℕ → ℤ) (ds : Describes m s x phi) (dr : Describes m r y psi) (between : Between (x (m.unit b.index)) (y (m.unit b.index)) b.step) where
+  module _ (head : HoldsAt m b.head x) (head' : HoldsAt m b.head y) (same : Same) (own : has b.cells b.index ≡ true) (s r : System) (phi psi : ℕ → ℤ) (ds : Describes s (stored m x) phi) (dr : Describes r (moved m b.cells y (stored m x)) psi) (between : Between (x (m.unit b.index)) (y (m.unit b.index)) b.step) where
     abbrev steps : ℤ
     steps = steps_of (x (m.unit b.index)) (y (m.unit b.index)) b.step between
 
@@ -125,19 +127,33 @@ module _ (m : Scene) (b : LoopBody) (x y : ℕ → ℤ) where
     first_start : (zs : List ℤ) → AtStart m x (read_by (at_pair zs) 0 b.cells)
     first_start zs = start_of x (at_pair zs) 0 (λ c tr e. refl) (first_reads zs)
 
+    first_cells : (zs : List ℤ) → HasCells (stored m x) (read_by (at_pair zs) 0 b.cells)
+    first_cells zs c = go (has b.cells c) refl
+      where
+        go : (h : Bool) → has b.cells c ≡ h → at_pair zs (renamed_by (cell_namings 0 b.cells) (Cell c)) ≡ x (m.unit c)
+        go true e = named_cell (at_pair zs) (numbers x) 0 b.cells c (first_reads zs) e
+        go false e = ap (at_pair zs) (other_cell 0 b.cells c e)
+
     earlier_holds : (zs : List ℤ) → HoldsAll (at_pair zs) (earlier b s).rows
     earlier_holds zs =
-        iteration_holds x (at_pair zs) 0 s head (first_start zs) (ds (read_by (at_pair zs) 0 b.cells) (first_start zs) (λ k. ap (at_pair zs) (subscript_stays 0 b.cells k)))
+        iteration_holds x (at_pair zs) 0 s head (first_start zs) (ds (read_by (at_pair zs) 0 b.cells) (first_cells zs) (λ k. ap (at_pair zs) (subscript_stays 0 b.cells k)))
 
     -- ---- the later one
 
     second_start : (p : Point) → ((c : ℕ) → p (Cell c) ≡ numbers x c) → Reads p (numbers y) (length b.cells) b.cells → AtStart m y (read_by p (length b.cells) b.cells)
     second_start p cells r = start_of y p (length b.cells) (λ c tr e. cells c ∙ sym (same c tr e)) r
 
+    second_cells : (p : Point) → ((c : ℕ) → p (Cell c) ≡ numbers x c) → Reads p (numbers y) (length b.cells) b.cells → HasCells (moved m b.cells y (stored m x)) (read_by p (length b.cells) b.cells)
+    second_cells p cells r c = go (has b.cells c) refl
+      where
+        go : (h : Bool) → has b.cells c ≡ h → p (renamed_by (cell_namings (length b.cells) b.cells) (Cell c)) ≡ (if h then y (m.unit c) else x (m.unit c))
+        go true e = named_cell p (numbers y) (length b.cells) b.cells c r e
+        go false e = ap p (other_cell (length b.cells) b.cells c e) ∙ cells c
+
     later_holds : (p : Point) → ((c : ℕ) → p (Cell c) ≡ numbers x c) → Reads p (numbers y) (length b.cells) b.cells → ((k : ℕ) → in_rows (Phi k) r.rows ≡ true → psi k ≡ p (Phi k)) → HoldsAll p (later b r).rows
     later_holds p cells reads named =
         let st = second_start p cells reads in
-        iteration_holds y p (length b.cells) r head' st (described_at y (read_by p (length b.cells) b.cells) r psi st dr (λ k e. named k e ∙ ap p (sym (subscript_stays (length b.cells) b.cells k))))
+        iteration_holds y p (length b.cells) r head' st (described_at (moved m b.cells y (stored m x)) (read_by p (length b.cells) b.cells) r psi (second_cells p cells reads) dr (λ k e. named k e ∙ ap p (sym (subscript_stays (length b.cells) b.cells k))))
 
     -- ---- both
 

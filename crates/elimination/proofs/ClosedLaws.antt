@@ -15,12 +15,13 @@ use Rattle.affine_systems.specs.Tidy.{with_normal, normal_items, is_too_big, any
 use Rattle.affine_systems.specs.Eliminate.{unchanged, any_has, is_unit_on, keep, is_without, by_unit, eliminate_item, elimination_of}
 use Rattle.affine_systems.specs.Given.{IsNormalAs}
 use Rattle.affine_systems.specs.Lone.{Rises, AreApart, AllApart, row_times, IsOwn, HasOwn, IsClosed, AllWithout, IsLone}
-use Rattle.affine_systems.proofs.Basics.{if_cases, int_eq-true}
+use Rattle.affine_systems.proofs.Basics.{if_cases}
 use Rattle.affine_systems.proofs.ReducedLaws.{kept-reduced}
 use Rattle.affine_systems.proofs.SortLaws.{item_order}
 use Rattle.affine_systems.proofs.ArrangeSteps.{lt_not_eq}
 use Rattle.affine_systems.proofs.ItemSteps.{against-stays}
 use Rattle.fx_lists.proofs.Booleans.{clash}
+use Rattle.fx_lists.proofs.Numbers.{is_number}
 
 -- ---- lists of rows
 
@@ -182,7 +183,7 @@ unit_occurs v i u = go (factor_of v i.row.terms) (and_parts i.row.equal (is_unit
     apart : (z : ℤ) → is_unit z ≡ true → int_eq z (pos 0) ≡ true → ⊥
     apart z h e =
         let x : unsigned_abs z ≡ 1 = (Decides-eqb (unsigned_abs z) 1).0 h in
-        let y : unsigned_abs z ≡ 0 = ap unsigned_abs (int_eq-true z (pos 0) e) in
+        let y : unsigned_abs z ≡ 0 = ap unsigned_abs (is_number z (pos 0) e) in
         absurd (omega (arith, x, y))
 
 pub without_kept : (v : Var) (is : List Item) → AllWithout v is → keep (is_without v) is ≡ is

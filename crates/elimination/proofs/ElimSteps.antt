@@ -10,7 +10,7 @@ use Rattle.affine_systems.specs.Items.{AllItems, next_made, Cut, cut_at, others,
 use Rattle.affine_systems.specs.Tidy.{tidy_items}
 use Rattle.affine_systems.specs.Eliminate.{AreLower, elimination_of, unchanged, any_has, has_unit, is_unit_on, is_equal_on, all_cancelled, keep, is_lower, is_upper, is_without, pair, with_uppers, pairs, all_have_unit, every_pair_unit, paired_off, by_equal, by_unit, eliminate_item}
 use Rattle.affine_systems.specs.Given.{IsGiven, ItemsFit, ItemsGiven, ItemsSmall, IsSmallRow}
-use Rattle.affine_systems.proofs.Basics.{if_cases, int_eq-true}
+use Rattle.affine_systems.proofs.Basics.{if_cases}
 use Rattle.std.proofs.Math.Nat.{mul-le-mul}
 use Rattle.std.proofs.lemmas.Bool.{false_from_ne_true, and_parts}
 use Rattle.affine_systems.proofs.LastLaws.{Has, CutPasses, cut_passes, keep_has, cancelled_items_has, paired_items_has}
@@ -19,6 +19,7 @@ use Rattle.affine_systems.proofs.PivotSteps.{substituted-cancelled}
 use Rattle.affine_systems.proofs.ItemSteps.{popped, item_at}
 use Rattle.affine_systems.proofs.TurnSteps.{tidy_all_small as all_small}
 use Rattle.elimination.proofs.ClosedLaws.{length-keep}
+use Rattle.fx_lists.proofs.Numbers.{is_number}
 
 pub has-lack : (v : Var) (is : List Item) (k : ℕ) (i : Item) → k < length is → i ≡ get_or is k i → occurs v i.row ≡ false → any_has v (drop k is) ≡ any_has v (drop (k + 1) is)
 has-lack v is k i h e p =
@@ -77,7 +78,7 @@ less_tests : (z : ℤ) → z <ℤ pos 0 → (int_lt z (pos 0) ≡ true) × (int_
 less_tests z h = (
   true_of (int_lt z (pos 0)) (λ e. omega (arith, ints, h, e)),
   false_from_ne_true (int_lt (pos 0) z) (λ e. omega (arith, ints, h, e)),
-  false_from_ne_true (int_eq z (pos 0)) (λ e. let k = int_eq-true z (pos 0) e in omega (arith, ints, h, k)),
+  false_from_ne_true (int_eq z (pos 0)) (λ e. let k = is_number z (pos 0) e in omega (arith, ints, h, k)),
 ) where
   true_of : (b : Bool) → (b ≡ false → ⊥) → b ≡ true
   true_of true n = refl
@@ -87,7 +88,7 @@ more_tests : (z : ℤ) → pos 0 <ℤ z → (int_lt z (pos 0) ≡ false) × (int
 more_tests z h = (
   false_from_ne_true (int_lt z (pos 0)) (λ e. omega (arith, ints, h, e)),
   true_of (int_lt (pos 0) z) (λ e. omega (arith, ints, h, e)),
-  false_from_ne_true (int_eq z (pos 0)) (λ e. let k = int_eq-true z (pos 0) e in omega (arith, ints, h, k)),
+  false_from_ne_true (int_eq z (pos 0)) (λ e. let k = is_number z (pos 0) e in omega (arith, ints, h, k)),
 ) where
   true_of : (b : Bool) → (b ≡ false → ⊥) → b ≡ true
   true_of true n = refl

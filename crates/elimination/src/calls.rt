@@ -5,27 +5,27 @@ ghost use Rattle.affine_systems.specs.Given.{Fits};
 ghost use Rattle.affine_systems.specs.Laws.{ProjectsPoints, ExtendsPoints, Lacks};
 
 use crate::elimination::eliminate_item;
-use affine_systems::items::{copy_rows, items_of, rows_of};
+use affine_systems::items::{items_of, rows_of};
 use affine_systems::{Elim, System, Var};
 use std::alloc::{AllocError as Memory, Global};
 
 /// The projection of a system that removes one variable: by an equal row with it, else by Fourier-Motzkin pairs, which
 /// are as many as the lower rows times the upper ones. No point is lost.
-pub fn eliminate(alloc: Global, sys: &System, var: Var) -> Result<Elim, Memory>
-    requires fits { Fits sys.now }
-    ensures defined { IfOk result (λ e. e ≡ eliminate_is sys.now var) }
+pub fn eliminate(alloc: Global, sys: System, var: Var) -> Result<Elim, Memory>
+    requires fits { Fits sys }
+    ensures defined { IfOk result (λ e. e ≡ eliminate_is sys var) }
     ensures fits { IfOk result (λ e. Fits e.system) }
     ensures gone { IfOk result (λ e. Lacks var e.system.rows) }
-    ensures sound { IfOk result (ProjectsPoints sys.now var) }
-    ensures exact { IfOk result (ExtendsPoints sys.now var) }
+    ensures sound { IfOk result (ProjectsPoints sys var) }
+    ensures exact { IfOk result (ExtendsPoints sys var) }
 {
-    let rows = copy_rows(alloc, sys.rows.as_slice())?;
-    let items = items_of(alloc, rows)?;
+    let System { rows, weak } = sys;
+    let items = items_of(alloc, rows.into_vec())?;
     let e = eliminate_item(alloc, false, var, items)?;
     Ok(Elim {
         system: System {
             rows: rows_of(alloc, e.items)?,
-            weak: sys.weak || e.lost,
+            weak: weak || e.lost,
         },
         exact: e.exact,
     })

@@ -17,7 +17,7 @@ abbrev pub i : ExprTree
 i = name (codes "I")
 
 abbrev main_of : StmtTrees → ModuleTree
-main_of body = record { name = codes "MAIN"; main = true; titled = false; dummies = []; decls = []; body = body }
+main_of body = record { name = codes "MAIN"; main = true; titled = false; dummies = []; decls = []; body = body; function = None; references = []; whiles = [] }
 
 -- I=1; I=I+1; PRINT *,I
 abbrev counts : ModuleTree

@@ -17,5 +17,9 @@ mod ExampleWalks
 mod OrderLaws
 mod UnionLaws
 pub mod MapLaws
+pub mod NumberOrder
 pub mod Shared
 pub mod SameLaws
+pub mod HiddenLaws
+pub mod NumberedNames
+pub mod KeptNumbers

@@ -90,5 +90,8 @@ to_number ss i s e =
     let some : nat_eq (suc i) 0 ≡ false = ne_eqb (suc i) 0 (λ q. omega arith) in
     ap (λ b. if b then None else slice_get ss (suc i - 1)) some ∙ ap (slice_get ss) low ∙ e
 
+pub at_number : (ss : List SymbolTree) (m : ℕ) (s : SymbolTree) → 1 ≤ m → slice_get ss (m - 1) ≡ Some s → symbol_at ss m ≡ Some s
+at_number ss m s h e = ap (λ b. if b then None else slice_get ss (m - 1)) (ne_eqb m 0 (λ z. absurd (omega (arith, h, z)))) ∙ e
+
 pub sizes_are_reached : SizesAreReached
 sizes_are_reached ss z h = let r = last_of ss ss z h in (suc r.0, r.1, to_number ss r.0 r.1 r.2, r.3)

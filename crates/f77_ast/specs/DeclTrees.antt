@@ -2,6 +2,7 @@
 use Rattle.std.specs.Prelude.{ℕ, Bool, List, Option}
 use Rattle.f77_ast.specs.declared.decl.ImplicitPart.{ImplicitPart}
 use Rattle.f77_ast.specs.declared.decl.SaveItem.{SaveItem}
+use Rattle.f77_ast.specs.declared.module.FunctionForm.{FunctionForm}
 use Rattle.f77_ast.specs.declared.places.Places.{Places}
 use Rattle.f77_ast.specs.Trees.{ExprTree, StmtTrees}
 
@@ -50,6 +51,11 @@ pub record ModuleTree : Type 0 where
   pub dummies : List (List ℕ)
   pub decls : List DeclTree
   pub body : StmtTrees
+  -- the form of its FUNCTION statement, for a function
+  pub function : Option FunctionForm
+  -- the block IFs that stand for an assignment of the value of a function, and those that stand for a DO WHILE
+  pub references : List ℕ
+  pub whiles : List ℕ
 
 -- a module that was read, and where its statements stood
 pub record ParsedTree : Type 0 where

@@ -11,6 +11,9 @@ pub mod PlainStmt
 pub mod PlainDecl
 pub mod Shapes
 pub mod StatementNumbers
+pub mod Hidden
+pub mod ResultLists
+pub mod NumberOrder
 pub mod Operators
 pub mod Store
 pub mod Faults

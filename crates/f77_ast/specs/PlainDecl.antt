@@ -59,6 +59,9 @@ module_tree m = record {
   dummies = m.dummies;
   decls = map decl_tree m.decls;
   body = stmt_trees m.body;
+  function = m.function;
+  references = m.references;
+  whiles = m.whiles;
 }
 
 -- a module that was read, without pointers

@@ -1,5 +1,5 @@
 -- The numbers of the statements of a list, in the order of the text.
-use Rattle.std.specs.Prelude.{◌≡◌, ℕ, suc, List, [], ◌∷◌, ◌++◌, Some, slice_get}
+use Rattle.std.specs.Prelude.{◌≡◌, ℕ, ◌<◌, List, [], ◌∷◌, ◌++◌, Some, slice_get}
 use Rattle.f77_ast.specs.Trees.{StmtTree, WhatTree, ArmTree, ArmTrees, ElseTree, LoopTree, StmtTrees}
 use Rattle.f77_ast.specs.Trees as tree
 
@@ -42,6 +42,7 @@ abbrev mutual
 abbrev pub StandOnce : List ℕ → Type 0
 StandOnce ns = (i j n : ℕ) → slice_get ns i ≡ Some n → slice_get ns j ≡ Some n → i ≡ j
 
--- they are 1, 2, 3 and so on, as reading gives them
-abbrev pub IsNumbered : StmtTrees → Type 0
-IsNumbered body = (i n : ℕ) → slice_get (list_numbers body) i ≡ Some n → n ≡ suc i
+-- each statement of a body has a number of its own, which is not 0, as reading gives them
+pub record HasNumbers (body : StmtTrees) : Type 0 where
+  pub once : StandOnce (list_numbers body)
+  pub above : (i n : ℕ) → slice_get (list_numbers body) i ≡ Some n → 0 < n

@@ -37,7 +37,7 @@ pub use decl::{
 pub use effect_set::{EffectSet, copy_effect, unite};
 pub use expr::{BinaryOp, Expr, UnaryOp};
 pub use marks::{Kinds, Mark, Private, Reason};
-pub use module::Module;
+pub use module::{FunctionForm, Module};
 pub use name_index::NameIndex;
 pub use names::names_of;
 pub use ordering::{order, same_variable};

@@ -6,6 +6,7 @@ use Rattle.f77_exprs.specs.State.{State, ◌>>=◌}
 use Rattle.f77_exprs.specs.Lexical.{in_name, digit_first, letter_first, skip_name, skip_digits, name_at, after_point, after_digits, skip_sign, after_exponent, exponent_or, real_end, after_real, number, number_by, constant, with_front}
 use Rattle.f77_exprs.specs.Grammar.{constant_at}
 use Rattle.f77_exprs.proofs.Same.{Within}
+use Rattle.fx_lists.proofs.Lists.{if_short}
 
 abbrev pub Fits : Option (List ℕ) → ℕ → Type 0
 Fits None k = Unit {0}
@@ -18,10 +19,6 @@ fits-le (Some r) j k h l = omega (arith, h)
 if_fits : (t : Bool) (o p : Option (List ℕ)) (k : ℕ) → Fits o k → Fits p k → Fits (if t then o else p) k
 if_fits true o p k x y = x
 if_fits false o p k x y = y
-
-if_short : (t : Bool) (a b : List ℕ) (k : ℕ) → length a ≤ k → length b ≤ k → length (if t then a else b) ≤ k
-if_short true a b k x y = x
-if_short false a b k x y = y
 
 name_short : (text : List ℕ) → length (skip_name text) ≤ length text
 name_short [] = omega arith

@@ -1,6 +1,5 @@
 -- The longest of some words is one of them, and none that stands is longer.
 use Rattle.std.proofs.Common.{◌≡◌, ℕ, suc, zero, ◌<◌, ◌≤◌, List, [], ◌∷◌, length, refl, ap, sym, subst, ◌∙◌, arith, Option, Some, None, Bool, true, false, if◌then◌else◌, nat_lt}
-use Rattle.std.proofs.lemmas.Bool.Decides.{nat_tests}
 use Rattle.std.proofs.lemmas.List.Elements.{All-nil, All-cons}
 use Rattle.std.specs.Prelude.{IsTrue, All, Contains, unwrap_or, IfSome}
 use Rattle.f77_forms.specs.declared.choice.Choice.TheVariants.{Chosen, OutOfProfile}
@@ -11,6 +10,7 @@ use Rattle.f77_forms.specs.Longest.{longer, longest}
 use Rattle.f77_forms.specs.Refused.{refused_word, refused_stands, refused_keywords}
 use Rattle.f77_forms.specs.Choice.{Entry, entry_stands, longer_of, keyword_choice, marked_choice, chosen, form_of}
 use Rattle.f77_forms.specs.Claim.{IsByKeyword, BeginsAs}
+use Rattle.fx_lists.proofs.Numbers.{below_true, below_false}
 
 pub record IsLongest {X : Type 0} (word : X → List ℕ) (test : X → Bool) (xs : List X) (x : X) : Type 0 where
   pub there : Contains xs x
@@ -40,12 +40,6 @@ longest-none word test (y ∷ ys) h = none-step word test y ys (test y) refl (lo
 contains-more : {X : Type 0} (y : X) (ys : List X) (x : X) → Contains ys x → Contains (y ∷ ys) x
 contains-more y ys x c = (suc c.0, omega arith, c.2)
 
-lt-true : (m n : ℕ) → nat_lt m n ≡ true → m < n
-lt-true m n h = grind (arith, nat_tests)
-
-lt-false : (m n : ℕ) → nat_lt m n ≡ false → n ≤ m
-lt-false m n h = grind (arith, nat_tests)
-
 some-step : {X : Type 0} (word : X → List ℕ) (test : X → Bool) (y : X) (ys : List X) (x : X) (t : Bool) → test y ≡ t
     → (r : Option X) → ((z : X) → r ≡ Some z → IsLongest word test ys z) → (r ≡ None → All (λ z. test z ≡ false) ys)
     → longer word (if t then Some y else None) r ≡ Some x → IsLongest word test (y ∷ ys) x
@@ -68,12 +62,12 @@ some-step word test y ys x true e None some none h =
 some-step word test y ys x true e (Some z) some none h =
     let l = some z refl in
     choice-some (nat_lt (length (word y)) (length (word z))) z y x (IsLongest word test (y ∷ ys))
-    (λ b. let lt = lt-true (length (word y)) (length (word z)) b in record {
+    (λ b. let lt = below_true (length (word y)) (length (word z)) b in record {
       there = contains-more y ys z l.there;
       stands = l.stands;
       longest = All-cons (λ v. test v ≡ true → length (word v) ≤ length (word z)) y ys (λ s. omega arith) l.longest;
     })
-    (λ b. let le = lt-false (length (word y)) (length (word z)) b in record {
+    (λ b. let le = below_false (length (word y)) (length (word z)) b in record {
       there = (zero, omega arith, refl);
       stands = e;
       longest = All-cons (λ v. test v ≡ true → length (word v) ≤ length (word y)) y ys (λ s. omega arith)
@@ -116,7 +110,7 @@ keyword-by table body id (Some e) hf None hr h =
 keyword-by table body id (Some e) hf (Some r) hr h =
     chosen-choice (nat_lt (length (refused_word r)) (length e.word)) e r id (BeginsAs table body)
     (λ b. begins-as table body e (longest-is (λ e. e.word) (entry_stands body) table e hf)
-    (accepted-shorter body (length e.word) r (longest-is refused_word (refused_stands body) refused_keywords r hr) (lt-true _ _ b)))
+    (accepted-shorter body (length e.word) r (longest-is refused_word (refused_stands body) refused_keywords r hr) (below_true _ _ b)))
     h
 
 form_of-keyword : (table : List Entry) (body : List ℕ) → IsByKeyword body → form_of table body ≡ chosen (keyword_choice table body)

@@ -1,5 +1,5 @@
 -- Words for programs that are written as terms, and for what their runs do.
-use Rattle.std.specs.Prelude.{ℕ, Bool, true, false, ℤ, List, [], ◌∷◌, Option}
+use Rattle.std.specs.Prelude.{ℕ, Bool, true, false, ℤ, List, [], ◌∷◌, Option, None}
 use Rattle.f77_ast.specs.declared.decl.Scalar.{Scalar}
 use Rattle.f77_ast.specs.Trees.{ExprTree, StmtTree, StmtTrees, no_stmts, more_stmts, ArmTree, ArmTrees, no_arms, more_arms}
 use Rattle.f77_ast.specs.Store.{Content}
@@ -37,10 +37,10 @@ symbol x t bounds place saved runs = record { name = x; scalar = t; bounds = bou
 
 -- without its specification statements: the symbols have what they say
 abbrev pub main_module : List ℕ → StmtTrees → List SymbolTree → Known
-main_module x body ss = record { read = record { name = x; main = true; titled = true; dummies = []; decls = []; body = body }; symbols = ss }
+main_module x body ss = record { read = record { name = x; main = true; titled = true; dummies = []; decls = []; body = body; function = None; references = []; whiles = [] }; symbols = ss }
 
 abbrev pub subroutine : List ℕ → List (List ℕ) → StmtTrees → List SymbolTree → Known
-subroutine x ds body ss = record { read = record { name = x; main = false; titled = true; dummies = ds; decls = []; body = body }; symbols = ss }
+subroutine x ds body ss = record { read = record { name = x; main = false; titled = true; dummies = ds; decls = []; body = body; function = None; references = []; whiles = [] }; symbols = ss }
 
 abbrev pub edge : List ℕ → ℕ → List ℕ → Edge
 edge caller n callee = record { caller = caller; at = n; callee = callee }

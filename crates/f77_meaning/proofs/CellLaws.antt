@@ -16,8 +16,8 @@ use Rattle.f77_meaning.specs.Modules.{fixed}
 use Rattle.f77_meaning.specs.Linked.{offset_in, numbering}
 use Rattle.f77_meaning.specs.Laws.{area_of, CellsAreAlone}
 use Rattle.f77_meaning.proofs.ModuleLaws.{offsets_fit, variables_occupy_their_storage, meet_at}
-use Rattle.f77_meaning.proofs.LinkLaws.{found_any}
 use Rattle.f77_ast.proofs.StorageLaws.{from_number as numbered_place}
+use Rattle.fx_lists.proofs.Lookups.{any_at}
 
 -- ---- two at a unit
 
@@ -27,12 +27,12 @@ both_at ss p (x ∷ rest) zero zero s t n e f h q = absurd (n refl)
 both_at ss p (x ∷ rest) zero (suc j) s t n e f h q =
     let same : x ≡ s = cc in
     let one : stands_at ss p x ≡ true = ap (stands_at ss p) same ∙ h in
-    ap (λ b. if b then list_any (stands_at ss p) rest else two_at ss p rest) one ∙ found_any (stands_at ss p) rest j t f q
+    ap (λ b. if b then list_any (stands_at ss p) rest else two_at ss p rest) one ∙ any_at (stands_at ss p) rest j t f q
 both_at ss p (x ∷ rest) (suc i) zero s t n e f h q =
     let same : x ≡ t = cc in
     let one : stands_at ss p x ≡ true = ap (stands_at ss p) same ∙ q in
-    ap (λ b. if b then list_any (stands_at ss p) rest else two_at ss p rest) one ∙ found_any (stands_at ss p) rest i s e h
-both_at ss p (x ∷ rest) (suc i) (suc j) s t n e f h q = go (stands_at ss p x) (found_any (stands_at ss p) rest i s e h) (both_at ss p rest i j s t (λ m. n (ap suc m)) e f h q)
+    ap (λ b. if b then list_any (stands_at ss p) rest else two_at ss p rest) one ∙ any_at (stands_at ss p) rest i s e h
+both_at ss p (x ∷ rest) (suc i) (suc j) s t n e f h q = go (stands_at ss p x) (any_at (stands_at ss p) rest i s e h) (both_at ss p rest i j s t (λ m. n (ap suc m)) e f h q)
   where
     go : (b : Bool) → list_any (stands_at ss p) rest ≡ true → two_at ss p rest ≡ true → (if b then list_any (stands_at ss p) rest else two_at ss p rest) ≡ true
     go true a c = a

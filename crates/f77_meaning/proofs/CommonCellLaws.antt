@@ -120,7 +120,7 @@ scalar_bounds s h = go s.bounds refl (not-true (has_bounds s.bounds) (and_parts 
     go (b ∷ bs) e h = cc
 
 -- a scalar that stands at the first unit of a place has just this one
-stands_there : (x : List ℕ) (o : ℕ) (p : Place) → place_has p 1 (place.Block x o) ≡ true → p ≡ place.Block x o
+pub stands_there : (x : List ℕ) (o : ℕ) (p : Place) → place_has p 1 (place.Block x o) ≡ true → p ≡ place.Block x o
 stands_there x o (place.Local g r) h = cc
 stands_there x o (place.Dummy m) h = cc
 stands_there x o (place.Block y r) h =

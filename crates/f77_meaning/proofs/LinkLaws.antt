@@ -2,7 +2,7 @@
 use Rattle.std.proofs.Common.{◌≡◌, ℕ, zero, suc, ◌/◌, ◌<◌, Bool, true, false, List, [], ◌∷◌, length, map, Some, refl, sym, ap, ◌∙◌, subst, arith}
 use Rattle.std.specs.Prelude.{if◌then◌else◌, bytes_eq, ◌&&◌, ◌||◌, slice_get}
 use Rattle.std.specs.List.{list_any}
-use Rattle.std.proofs.lemmas.Bool.{and_parts, and_from, eqb-true, eq-eqb, or_right}
+use Rattle.std.proofs.lemmas.Bool.{and_parts, and_from, eqb-true, eq-eqb}
 use Rattle.std.proofs.lemmas.Nat.{div-mul-add}
 use Rattle.std.proofs.lemmas.Slice.Eq.{bytes_eq-Decides}
 use Rattle.f77_ast.specs.Symbols.{number_from}
@@ -11,6 +11,7 @@ use Rattle.f77_meaning.specs.Modules.{Known}
 use Rattle.f77_meaning.specs.Linked.{room_for, numbering, declares, reaches, is_common}
 use Rattle.f77_meaning.specs.Laws.{IsKnown, ModulesAreKnown, IsDeclaredBelow, CommonIsOfBlocks}
 use Rattle.f77_meaning.proofs.UnitLaws.{same_place}
+use Rattle.fx_lists.proofs.Lookups.{any_at}
 
 -- ---- elements of lists
 
@@ -27,11 +28,6 @@ any_found {A = A} p (x ∷ xs) h = go (p x) refl h (any_found p xs)
     go : (b : Bool) → p x ≡ b → (b || list_any p xs) ≡ true → (list_any p xs ≡ true → Found p xs) → Found p (x ∷ xs)
     go true e h ih = record { place = zero; item = x; is_item = refl; holds = e }
     go false e h ih = let f = ih h in record { place = suc f.place; item = f.item; is_item = f.is_item; holds = f.holds }
-
-pub found_any : {A : Type 0} (p : A → Bool) (xs : List A) (i : ℕ) (x : A) → slice_get xs i ≡ Some x → p x ≡ true → list_any p xs ≡ true
-found_any p [] i x e h = cc
-found_any p (y ∷ xs) zero x e h = let same : y ≡ x = cc in ap (λ z. p z || list_any p xs) same ∙ ap (λ b. b || list_any p xs) h
-found_any p (y ∷ xs) (suc i) x e h = or_right (p y) (list_any p xs) (found_any p xs i x e h)
 
 -- ---- modules
 
@@ -78,5 +74,5 @@ common_is_of_blocks ks g x a o known room = (there, back)
     back (b, e, d) =
         let number : area_number (numbering ks g) a ≡ area_number (numbering ks g) (block d.the_block.name) = ap (area_number (numbering ks g)) (e ∙ ap block (sym d.is_named)) in
         let is : is_unit_of (numbering ks g) (block d.the_block.name) (unit_at (numbering ks g) a o) ≡ true = eq-eqb (unit_at (numbering ks g) a o / room_for ks) (area_number (numbering ks g) (block d.the_block.name)) (div-mul-add (area_number (numbering ks g) a) (room_for ks) o room ∙ number) in
-        found_any (λ k. reaches (length ks) g.edges x k.read.name && list_any (λ c. declares c.name k && is_unit_of (numbering ks g) (block c.name) (unit_at (numbering ks g) a o)) g.blocks) ks d.module_at d.by d.is_module
-        (and_from _ _ d.reached (found_any (λ c. declares c.name d.by && is_unit_of (numbering ks g) (block c.name) (unit_at (numbering ks g) a o)) g.blocks d.block_at d.the_block d.is_block (and_from _ _ d.declared is)))
+        any_at (λ k. reaches (length ks) g.edges x k.read.name && list_any (λ c. declares c.name k && is_unit_of (numbering ks g) (block c.name) (unit_at (numbering ks g) a o)) g.blocks) ks d.module_at d.by d.is_module
+        (and_from _ _ d.reached (any_at (λ c. declares c.name d.by && is_unit_of (numbering ks g) (block c.name) (unit_at (numbering ks g) a o)) g.blocks d.block_at d.the_block d.is_block (and_from _ _ d.declared is)))

@@ -16,13 +16,13 @@ use Rattle.call_graph.specs.declared.actuals.Offer.{Offer}
 use Rattle.call_graph.specs.declared.actuals.Offer.TheVariants.{Array, Element, Variable, Value}
 use Rattle.call_graph.specs.Actuals.{all_fit, fits, is_scalar_of, suits}
 use Rattle.call_graph.specs.Calls.{calls_of, all_calls}
-use Rattle.call_graph.specs.Callees.{against, against_found, against_at, call_cause, or_later, first_in, unfit_at, unfit_from}
+use Rattle.call_graph.specs.Callees.{takes_call, against, against_found, against_at, call_cause, or_later, first_in, unfit_at, unfit_from}
 use Rattle.call_graph.specs.Modules.{too_many, names_of}
 use Rattle.call_graph.specs.Blocks.{blocks_of}
 use Rattle.call_graph.specs.Links.{unfit, cyclic, graph_of, module_fault, acyclic_of, joined_of, named_of, link_of}
 use Rattle.f77_meaning.specs.Modules.{known_of}
 use Rattle.f77_meaning.specs.Laws.{FitsCall, LinkedCallsFit, LinkedHaveBlocks, ActualsSuit}
-use Rattle.f77_meaning.proofs.UnitLaws.{number_least}
+use Rattle.f77_ast.proofs.NumberedNames.{number_from-least}
 
 -- ---- links
 
@@ -77,7 +77,7 @@ place_named n zero (q ∷ ps) x p e h = go (bytes_eq x q.module_read.name) refl 
   where
     go : (b : Bool) → bytes_eq x q.module_read.name ≡ b → (if b then Some n else number_from (suc n) (names_of ps) x) ≡ Some (n + zero) → p.module_read.name ≡ x
     go true t i = let same : q ≡ p = cc in ap (λ z. z.module_read.name) (sym same) ∙ sym ((bytes_eq-Decides x q.module_read.name).0 t)
-    go false t i = let low = number_least (suc n) (n + zero) (names_of ps) x i in absurd (omega (arith, low))
+    go false t i = let low = number_from-least (suc n) (n + zero) (names_of ps) x i in absurd (omega (arith, low))
 place_named n (suc k) (q ∷ ps) x p e h = go (bytes_eq x q.module_read.name) e (place_named (suc n) k ps x p)
   where
     go : (b : Bool) → (if b then Some n else number_from (suc n) (names_of ps) x) ≡ Some (n + suc k) → (number_from (suc n) (names_of ps) x ≡ Some (suc n + k) → slice_get ps k ≡ Some p → p.module_read.name ≡ x) → p.module_read.name ≡ x
@@ -96,9 +96,14 @@ module _ (ps : List ParsedTree) (sss : List (List SymbolTree)) (c : Called) wher
       counts true n m i = types (all_fit c.actuals t) refl m (eqb-true (length c.actuals) (length q.module_read.dummies) n) i
       counts false n m i = cc
 
-      main : (b : Bool) → q.module_read.main ≡ b → (if b then Some NoSuchModule else if not (nat_eq (length c.actuals) (length q.module_read.dummies)) then Some ArgumentCount else if all_fit c.actuals t then None else Some ArgumentType) ≡ None → FitsCall ps sss c
+      form : (b : Bool) → q.module_read.main ≡ false → (if not b then Some NoSuchModule else if not (nat_eq (length c.actuals) (length q.module_read.dummies)) then Some ArgumentCount else if all_fit c.actuals t then None else Some ArgumentType) ≡ None → FitsCall ps sss c
+      form true m i = counts (nat_eq (length c.actuals) (length q.module_read.dummies)) refl m i
+      form false m i = cc
+
+      main : (b : Bool) → q.module_read.main ≡ b
+          → (if b then Some NoSuchModule else if not (takes_call c.at q.module_read.function) then Some NoSuchModule else if not (nat_eq (length c.actuals) (length q.module_read.dummies)) then Some ArgumentCount else if all_fit c.actuals t then None else Some ArgumentType) ≡ None → FitsCall ps sss c
       main true m i = cc
-      main false m i = counts (nat_eq (length c.actuals) (length q.module_read.dummies)) refl m i
+      main false m i = form (takes_call c.at q.module_read.function) m i
 
   of_found : (j : ℕ) (o : Option ParsedTree) (r : Option (List SymbolTree)) → slice_get ps j ≡ o → slice_get sss j ≡ r → ((q : ParsedTree) → slice_get ps j ≡ Some q → q.module_read.name ≡ c.callee) → against_found c o r ≡ None → FitsCall ps sss c
   of_found j None r a b n e = cc

@@ -1,12 +1,12 @@
 -- Different units have different numbers.
-use Rattle.std.proofs.Common.{◌≡◌, ℕ, zero, suc, ◌+◌, ◌*◌, ◌^◌, ◌/◌, ◌%◌, ◌<◌, ◌≤◌, Bool, true, false, List, [], ◌∷◌, Option, Some, None, refl, sym, ap, ◌∙◌, subst, arith}
-use Rattle.std.specs.Prelude.{if◌then◌else◌, bytes_eq, nat_eq}
+use Rattle.std.proofs.Common.{◌≡◌, ℕ, zero, suc, ◌+◌, ◌*◌, ◌^◌, ◌/◌, ◌%◌, ◌<◌, ◌≤◌, Bool, true, false, List, Option, Some, None, refl, sym, ap, ◌∙◌, subst, arith}
+use Rattle.std.specs.Prelude.{if◌then◌else◌, nat_eq}
 use Rattle.std.proofs.lemmas.Nat.{div-mul-add}
 use Rattle.std.proofs.Math.Nat.{pow-suc, mul-add-mod_self_left}
-use Rattle.std.proofs.lemmas.Slice.Eq.{bytes_eq-Decides}
 use Rattle.f77_ast.specs.Symbols.{number_from}
 use Rattle.f77_meaning.specs.Areas.{Area, block, group, own, Numbering, or_zero, place_in, paired, area_number, unit_at}
 use Rattle.f77_meaning.specs.Laws.{IsKnown, UnitsDiffer, is_own, TemporariesAreRecognisable}
+use Rattle.f77_ast.proofs.NumberedNames.{one_number}
 
 -- ---- pairs
 
@@ -24,24 +24,6 @@ paired_same (suc m) n (suc k) l e =
 
 -- ---- places of names
 
-some_or_more : (n k : ℕ) (b : Bool) (o : Option ℕ) → (o ≡ Some k → suc n ≤ k) → (if b then Some n else o) ≡ Some k → n ≤ k
-some_or_more n k true o h e = let z : n ≡ k = cc in omega (arith, z)
-some_or_more n k false o h e = let z : suc n ≤ k = h e in omega (arith, z)
-
-pub number_least : (n k : ℕ) (names : List (List ℕ)) (x : List ℕ) → number_from n names x ≡ Some k → n ≤ k
-number_least n k [] x e = cc
-number_least n k (y ∷ ys) x e = some_or_more n k (bytes_eq x y) (number_from (suc n) ys x) (number_least (suc n) k ys x) e
-
-same_number : (n k : ℕ) (names : List (List ℕ)) (x y : List ℕ) → number_from n names x ≡ Some k → number_from n names y ≡ Some k → x ≡ y
-same_number n k [] x y d e = cc
-same_number n k (z ∷ zs) x y d e = go (bytes_eq x z) (bytes_eq y z) refl refl d e (λ f h. same_number (suc n) k zs x y f h)
-  where
-    go : (b c : Bool) → bytes_eq x z ≡ b → bytes_eq y z ≡ c → (if b then Some n else number_from (suc n) zs x) ≡ Some k → (if c then Some n else number_from (suc n) zs y) ≡ Some k → (number_from (suc n) zs x ≡ Some k → number_from (suc n) zs y ≡ Some k → x ≡ y) → x ≡ y
-    go true true p q f h ih = (bytes_eq-Decides x z).0 p ∙ sym ((bytes_eq-Decides y z).0 q)
-    go true false p q f h ih = let s : n ≡ k = cc in let t : suc n ≤ k = number_least (suc n) k zs y h in absurd (omega (arith, s, t))
-    go false true p q f h ih = let s : n ≡ k = cc in let t : suc n ≤ k = number_least (suc n) k zs x f in absurd (omega (arith, s, t))
-    go false false p q f h ih = ih f h
-
 is_some_place : (o : Option ℕ) → 0 < or_zero o → o ≡ Some (or_zero o)
 is_some_place None h = absurd (omega (arith, h))
 is_some_place (Some n) h = refl
@@ -51,7 +33,7 @@ same_place names x y h e =
     let o = number_from 1 names x in
     let p = number_from 1 names y in
     let h' : 0 < or_zero p = subst (λ n. 0 < n) e h in
-    same_number 1 (or_zero o) names x y (is_some_place o h) (is_some_place p h' ∙ ap Some (sym e))
+    one_number 1 (or_zero o) names x y (is_some_place o h) (is_some_place p h' ∙ ap Some (sym e))
 
 -- ---- units
 

@@ -88,7 +88,7 @@ subroutines ks g (x ∷ xs) = subroutines ks g xs ++ map (routine ks g) (subrout
 
 -- no module: reading has refused what has no main program
 abbrev pub no_module : Known
-no_module = record { read = record { name = []; main = true; titled = false; dummies = []; decls = []; body = no_stmts }; symbols = [] }
+no_module = record { read = record { name = []; main = true; titled = false; dummies = []; decls = []; body = no_stmts; function = None; references = []; whiles = [] }; symbols = [] }
 
 abbrev pub main_of : List Known → Known
 main_of [] = no_module

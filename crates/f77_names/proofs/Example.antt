@@ -24,7 +24,7 @@ abbrev pub scalar_named : List ℕ → EntityTree
 scalar_named x = record { name = x; bounds = [] }
 
 abbrev module_of : List DeclTree → StmtTrees → ModuleTree
-module_of ds body = record { name = codes "P"; main = true; titled = false; dummies = []; decls = ds; body = body }
+module_of ds body = record { name = codes "P"; main = true; titled = false; dummies = []; decls = ds; body = body; function = None; references = []; whiles = [] }
 
 -- line 2 `INTEGER X`, line 3 `COMMON /B/ L`, line 5 `X=1`
 abbrev sets_x : StmtTrees

@@ -7,6 +7,7 @@ use Rattle.f77_names.specs.declared.entry.Word.{Word}
 use Rattle.f77_names.specs.declared.entry.Word.TheVariants as word
 use Rattle.f77_names.specs.Entries.{EntryTree, entry_tree, find, changed, entry_names, place_in, seen, fresh}
 use Rattle.f77_names.specs.Words.{with_word}
+use Rattle.f77_ast.proofs.NumberedNames.{number_from-least}
 
 -- a name without a place is not found, and nothing is said of it
 pub not_there : (n : ℕ) (x : List ℕ) (f : EntryTree → EntryTree) (es : List EntryTree) → number_from n (entry_names es) x ≡ None → (find x es ≡ None) × (changed x f es ≡ es)
@@ -17,15 +18,6 @@ not_there n x f (a ∷ es) e = go (bytes_eq x a.name) e (not_there (suc n) x f e
     go : (b : Bool) → (if b then Some n else number_from (suc n) (entry_names es) x) ≡ None → (number_from (suc n) (entry_names es) x ≡ None → (find x es ≡ None) × (changed x f es ≡ es)) → ((if b then Some a else find x es) ≡ None) × ((if b then f a ∷ es else a ∷ changed x f es) ≡ a ∷ es)
     go true q ih = cc
     go false q ih = ((ih q).0, ap (λ zs. a ∷ zs) (ih q).1)
-
--- a number is at least the first one
-pub number_from-least : (n k : ℕ) (ys : List (List ℕ)) (x : List ℕ) → number_from n ys x ≡ Some k → n ≤ k
-number_from-least n k [] x e = cc
-number_from-least n k (y ∷ ys) x e = go (bytes_eq x y) e (number_from-least (suc n) k ys x)
-  where
-    go : (b : Bool) → (if b then Some n else number_from (suc n) ys x) ≡ Some k → (number_from (suc n) ys x ≡ Some k → suc n ≤ k) → n ≤ k
-    go true q ih = let same : n ≡ k = cc in omega arith
-    go false q ih = omega (arith, ih q)
 
 -- one that has a place is found there, and what is said of it is said there
 pub is_there : (n k : ℕ) (x : List ℕ) (f : EntryTree → EntryTree) (es : List Entry) (d new : Entry) → number_from n (entry_names (map entry_tree es)) x ≡ Some k → entry_tree new ≡ f (entry_tree (get_or es (k - n) d))

@@ -1,3 +1,4 @@
 pub mod StatementLemmas
 pub mod SoFarLemmas
 pub mod SizeLemmas
+pub mod ModuleLemmas

@@ -108,6 +108,9 @@ whole closing p = record {
     dummies = p.heading.dummies;
     decls = p.decls;
     body = stmts_of p.list;
+    function = None;
+    references = [];
+    whiles = [];
   };
   places = record { spots = p.spots; closing = closing };
 }

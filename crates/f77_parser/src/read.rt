@@ -40,7 +40,7 @@ fn no_statements(alloc: Global) -> Result<Progress, Memory>
     })
 }
 
-fn whole(progress: Progress, closing: List<Text>) -> Parsed
+fn whole(alloc: Global, progress: Progress, closing: List<Text>) -> Parsed
     ensures { parsed_tree result ≡ whole closing (so_far progress) }
 {
     let Progress {
@@ -64,6 +64,9 @@ fn whole(progress: Progress, closing: List<Text>) -> Parsed
         dummies,
         decls,
         body: list,
+        function: None,
+        references: List::new(alloc),
+        whiles: List::new(alloc),
     };
     Parsed {
         module,
@@ -85,7 +88,7 @@ fn build_module(
     while let Some(statement) = rest.pop() {
         progress.add_statement(alloc, statement)?;
     }
-    Ok(whole(progress, closing))
+    Ok(whole(alloc, progress, closing))
 }
 
 /// The module, or its first fault.

@@ -1,5 +1,5 @@
 -- The lists of blocks reach over just the places of the GO TOs that are in them.
-use Rattle.std.proofs.Common.{◌≡◌, ℕ, ◌<◌, ◌≤◌, Bool, true, false, List, [], ◌∷◌, ◌++◌, length, map, nat_eq, nat_le, slice_get, slice_set, refl, sym, ap, ◌∙◌, subst, arith, ⊎_elim, le_refl}
+use Rattle.std.proofs.Common.{◌≡◌, ℕ, ◌<◌, ◌≤◌, Bool, true, false, List, [], ◌∷◌, ◌++◌, length, map, nat_eq, nat_le, slice_get, slice_set, sym, ap, ◌∙◌, subst, arith, ⊎_elim, le_refl}
 use Rattle.std.specs.Prelude.{Some, ◌||◌, ◌&&◌}
 use Rattle.std.specs.List.{list_any}
 use Rattle.std.proofs.lemmas.Option.{slice_get_past}
@@ -14,7 +14,9 @@ use Rattle.f77_structure.specs.declared.blocks.Landing.{Landing}
 use Rattle.f77_structure.specs.Opens.{contains}
 use Rattle.f77_structure.specs.Jumps.{contained_in, has_place}
 use Rattle.f77_structure.specs.Nesting.{Block, Going, lists_of}
-use Rattle.f77_structure.proofs.Places.{set-same, set-other, more-last, more-other, more-before}
+use Rattle.f77_structure.proofs.Places.{more-other}
+use Rattle.fx_lists.proofs.Lookups.{set_here, set_other, get_last, get_more}
+use Rattle.fx_lists.proofs.Booleans.{and_false, or_neither}
 
 -- an open block as the definition has it
 abbrev pub plain : Open → Block
@@ -73,14 +75,10 @@ ended-before spans i from at q h l k =
     let P : ℕ → Type 0 = λ x. has_place (slice_set spans i (span from (ends.At at))) x q ≡ has_place spans x q in
     let past : nat_le q at ≡ true = grind (arith, nat_tests) in
     subst P e
-    (ap (λ x. contained_in x q) (set-same spans i (span from (ends.At at)) (span from ends.Open) h)
+    (ap (λ x. contained_in x q) (set_here spans i (span from (ends.At at)) (span from ends.Open) h)
     ∙ ap (λ v. nat_le from q && v) past
     ∙ sym (ap (λ x. contained_in x q) h)))
-    (λ e t. ap (λ x. contained_in x q) (set-other spans i k (span from (ends.At at)) e))
-
-and-false : (v : Bool) → (v && false) ≡ false
-and-false true = refl
-and-false false = refl
+    (λ e t. ap (λ x. contained_in x q) (set_other spans i k (span from (ends.At at)) e))
 
 pub ended-behind : (spans : List Span) (i from at q : ℕ) (ks : List ℕ) → slice_get spans i ≡ Some (span from ends.Open) → at < q → has i ks ≡ false
     → Within spans q (i ∷ ks) → Within (slice_set spans i (span from (ends.At at))) q ks
@@ -91,11 +89,11 @@ ended-behind spans i from at q ks h l n w k =
     let P : ℕ → Type 0 = λ x. has_place (slice_set spans i (span from (ends.At at))) x q ≡ has x ks in
     let past : nat_le q at ≡ false = grind (arith, nat_tests) in
     subst P e
-    (ap (λ x. contained_in x q) (set-same spans i (span from (ends.At at)) (span from ends.Open) h)
+    (ap (λ x. contained_in x q) (set_here spans i (span from (ends.At at)) (span from ends.Open) h)
     ∙ ap (λ v. nat_le from q && v) past
-    ∙ and-false (nat_le from q)
+    ∙ and_false (nat_le from q)
     ∙ sym n))
-    (λ e t. ap (λ x. contained_in x q) (set-other spans i k (span from (ends.At at)) e) ∙ w k ∙ ap (λ v. v || has k ks) t)
+    (λ e t. ap (λ x. contained_in x q) (set_other spans i k (span from (ends.At at)) e) ∙ w k ∙ ap (λ v. v || has k ks) t)
 
 -- no list that is yet to begin contains a place
 no-list : (spans : List Span) (q : ℕ) → has_place spans (length spans) q ≡ false
@@ -110,7 +108,7 @@ begun-before spans at q ks l w k =
     let P : ℕ → Type 0 = λ x. has_place (spans ++ span at ends.Open ∷ []) x q ≡ has x ks in
     let early : nat_le at q ≡ false = grind (arith, nat_tests) in
     subst P e
-    (ap (λ x. contained_in x q) (more-last spans (span at ends.Open))
+    (ap (λ x. contained_in x q) (get_last spans (span at ends.Open))
     ∙ ap (λ v. v && true) early
     ∙ sym (no-list spans q)
     ∙ w (length spans)))
@@ -125,7 +123,7 @@ begun-behind spans at q ks l w k =
     let late : nat_le at q ≡ true = grind (arith, nat_tests) in
     let own : nat_eq (length spans) (length spans) ≡ true = grind (arith, nat_tests) in
     subst P e
-    (ap (λ x. contained_in x q) (more-last spans (span at ends.Open))
+    (ap (λ x. contained_in x q) (get_last spans (span at ends.Open))
     ∙ ap (λ v. v && true) late
     ∙ sym (ap (λ v. v || has (length spans) ks) own)))
     (λ e t. ap (λ x. contained_in x q) (more-other spans k (span at ends.Open) e) ∙ w k ∙ sym (ap (λ v. v || has k ks) t))
@@ -135,22 +133,18 @@ new-list spans q ks w = sym (w (length spans)) ∙ no-list spans q
 
 -- ---- what is open
 
-or-false : (v w : Bool) → (v || w) ≡ false → (v ≡ false) × (w ≡ false)
-or-false true w h = cc
-or-false false w h = (refl, h)
-
 -- a list that no block has ends
 pub ended-open : (spans : List Span) (i : ℕ) (s : Span) (os : List Open) → AreOpen spans os → has i (path_of os) ≡ false → AreOpen (slice_set spans i s) os
 ended-open spans i s [] h n = tt
 ended-open spans i s (o ∷ os) h n =
-    let t = or-false (nat_eq o.list i) (has i (path_of os)) n in
+    let t = or_neither (nat_eq o.list i) (has i (path_of os)) n in
     let apart : i ≡ o.list → ⊥ = λ e. let own : nat_eq o.list i ≡ true = grind (arith, nat_tests, e) in absurd (cc (own, t.0)) in
-    record { own = set-other spans i o.list s apart ∙ h.own; other = h.other; outer = ended-open spans i s os h.outer t.1 }
+    record { own = set_other spans i o.list s apart ∙ h.own; other = h.other; outer = ended-open spans i s os h.outer t.1 }
 
 pub begun-open : (spans : List Span) (s : Span) (os : List Open) → AreOpen spans os → AreOpen (spans ++ s ∷ []) os
 begun-open spans s [] h = tt
 begun-open spans s (o ∷ os) h =
-    record { own = more-before spans o.list s (span o.from ends.Open) h.own; other = h.other; outer = begun-open spans s os h.outer }
+    record { own = get_more spans o.list s (span o.from ends.Open) h.own; other = h.other; outer = begun-open spans s os h.outer }
 
 -- ---- the GO TOs
 

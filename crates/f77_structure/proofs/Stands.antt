@@ -23,8 +23,8 @@ use Rattle.f77_structure.specs.Opens.{within_if, within_do}
 use Rattle.f77_structure.specs.Blocks.{leave_innermost, left_one, left_from, ended_by, refuse_unclosed, down_to, push_block, stray, list_at, add_landing, parse_executable, keep_jump}
 use Rattle.f77_structure.specs.Steps.{end_block}
 use Rattle.f77_structure.proofs.FirstLemmas.{refuse_if-first}
-use Rattle.f77_structure.proofs.Places.{more-last}
 use Rattle.f77_structure.proofs.Shown.{blocks_in, path_of, Within, span, ShowsIn, ended-before, ended-behind, begun-before, begun-behind, new-list, ended-open, begun-open, kept-at, kept-more}
+use Rattle.fx_lists.proofs.Lookups.{get_last}
 
 -- ---- the first of several faults
 
@@ -252,7 +252,7 @@ module _ (at : ℕ) where
           jumps = kept-at n n b.spans (b.spans ++ new ∷ []) b.jumps jumps (le_refl n)
               (λ q ks h w. begun-before b.spans b.place q ks (omega (arith, s.place)) w) s.jumps;
           stack = record {
-            own = more-last b.spans new;
+            own = get_last b.spans new;
             other = new-list b.spans (at + 1) (path_of b.stack) (s.now (at + 1) (le_refl (at + 1)));
             outer = begun-open b.spans new b.stack s.stack;
           };

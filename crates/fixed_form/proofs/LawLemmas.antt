@@ -17,6 +17,7 @@ use Rattle.fixed_form.specs.Cards.{is_comment, is_dropped, card, is_initial, fie
 use Rattle.fixed_form.specs.Faults.{first_fault}
 use Rattle.fixed_form.specs.Reading.{Rest, before_statements, with_comment, with_initial, with_continuation, label_of, rest_from, ends_well, outcome, reading, Gives}
 use Rattle.fixed_form.specs.Laws.{Ascend, IsLabel, AreLabelled, AreSmall, AreSpans, IsRead}
+use Rattle.fx_lists.proofs.Booleans.{same_left, same_right}
 
 -- Labels
 
@@ -32,19 +33,11 @@ most-le (suc k) v w h = most-le k (10 * v + 9) (10 * w + 9) (omega arith)
 digit-le : (v b : ℕ) → is_label_mark b ≡ true → (if is_space b then v else 10 * v + (b - 48)) ≤ 10 * v + 9
 digit-le v b h = grind (arith, nat_tests)
 
-first-mark : (p q : Bool) → (p && q) ≡ true → p ≡ true
-first-mark true q h = refl
-first-mark false q h = cc
-
-other-marks : (p q : Bool) → (p && q) ≡ true → q ≡ true
-other-marks true q h = h
-other-marks false q h = cc
-
 pub number_from-le : (v : ℕ) (bs : List ℕ) → list_all is_label_mark bs ≡ true → number_from v bs ≤ most (length bs) v
 number_from-le v [] h = omega arith
 number_from-le v (b ∷ bs) h =
-    let digit = digit-le v b (first-mark (is_label_mark b) (list_all is_label_mark bs) h) in
-    let rest = number_from-le (if is_space b then v else 10 * v + (b - 48)) bs (other-marks (is_label_mark b) (list_all is_label_mark bs) h) in
+    let digit = digit-le v b (same_left (is_label_mark b) (list_all is_label_mark bs) h) in
+    let rest = number_from-le (if is_space b then v else 10 * v + (b - 48)) bs (same_right (is_label_mark b) (list_all is_label_mark bs) h) in
     let more = most-le (length bs) _ _ digit in
     omega (arith, rest, more)
 

@@ -104,3 +104,31 @@ same_left false b h = cc
 pub same_right : (a b : Bool) → (a && b) ≡ true → b ≡ true
 same_right true b h = h
 same_right false b h = cc
+
+pub and_false : (b : Bool) → (b && false) ≡ false
+and_false true = refl
+and_false false = refl
+
+pub never_both : (a b : Bool) → (a ≡ true → b ≡ false) → (a && b) ≡ false
+never_both true b h = h refl
+never_both false b h = refl
+
+pub not_first : (a b : Bool) → (not a && b) ≡ true → a ≡ false
+not_first true b e = cc
+not_first false b e = refl
+
+pub not_chosen : {A : Type 0} (b : Bool) (x y : A) → b ≡ false → (if b then x else y) ≡ y
+not_chosen true x y e = cc
+not_chosen false x y e = refl
+
+pub or_here : (a b : Bool) → a ≡ true → (a || b) ≡ true
+or_here true b e = refl
+or_here false b e = cc
+
+pub with_false : (b : Bool) → b ≡ (b || false)
+with_false true = refl
+with_false false = refl
+
+pub bool_cases : (b : Bool) (X : Type 0) → (b ≡ true → X) → (b ≡ false → X) → X
+bool_cases true X f g = f refl
+bool_cases false X f g = g refl

@@ -4,3 +4,6 @@ pub mod Texts
 pub mod Options
 pub mod Lists
 pub mod Orders
+pub mod Lookups
+pub mod Every
+pub mod Refused

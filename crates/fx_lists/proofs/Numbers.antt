@@ -6,7 +6,7 @@ use Rattle.std.proofs.lemmas.Bool.Decides.{nat_tests}
 use Rattle.std.proofs.lemmas.Int.{ints}
 use Rattle.std.specs.Char.{is_ascii_digit, is_ascii_uppercase}
 use Rattle.std.specs.Ordering.{int_eq}
-use Rattle.std.specs.Prelude.{int_lt, nat_le}
+use Rattle.std.specs.Prelude.{int_le, int_lt, nat_le, nat_lt}
 
 pub size_turned : (z : ℤ) → unsigned_abs (neg_ℤ z) ≡ unsigned_abs z
 size_turned (pos zero) = refl
@@ -73,3 +73,24 @@ swapped u v e = grind (arith, nat_tests)
 
 pub times_0 : (n : ℕ) → pos n *ℤ pos 0 ≡ pos 0
 times_0 n = let z : pos n *ℤ pos 0 ≡ pos (n * 0) = refl in let y : n * 0 ≡ 0 = omega arith in z ∙ ap pos y
+
+pub at_most_true : (m n : ℤ) → int_le m n ≡ true → m ≤ℤ n
+at_most_true m n e = grind (arith, ints)
+
+pub at_most_is : (m n : ℤ) → m ≤ℤ n → int_le m n ≡ true
+at_most_is m n e = grind (arith, ints)
+
+pub below_true : (m n : ℕ) → nat_lt m n ≡ true → m < n
+below_true m n e = grind (arith, nat_tests)
+
+pub below_false : (m n : ℕ) → nat_lt m n ≡ false → n ≤ m
+below_false m n e = grind (arith, nat_tests)
+
+pub below_is : (m n : ℕ) → m < n → nat_lt m n ≡ true
+below_is m n h = grind (arith, nat_tests)
+
+pub unequal_numbers : (m n : ℕ) → (m ≡ n → ⊥) → nat_eq m n ≡ false
+unequal_numbers m n h = grind (arith, nat_tests)
+
+pub one_less : (n : ℕ) → suc n - 1 ≡ n
+one_less n = omega arith

@@ -26,3 +26,6 @@ pub then_nothing : (o : Ordering) → ordering_then o Equal ≡ o
 then_nothing Less = refl
 then_nothing Equal = refl
 then_nothing Greater = refl
+
+pub no_equal_less : {A : Type 0} → Equal ≡ Less → A
+no_equal_less e = absurd (cc)

@@ -1,5 +1,5 @@
 -- Lemmas on texts.
-use Rattle.std.proofs.Common.{List, [], false, refl, sym, true, true≢false, ℕ, ◌-◌, ◌∙◌, ◌≡◌}
+use Rattle.std.proofs.Common.{Bool, List, [], false, refl, sym, true, true≢false, ℕ, ◌∙◌, ◌≡◌}
 use Rattle.std.proofs.lemmas.Slice.Eq.{bytes_eq-Decides}
 use Rattle.std.specs.Cmp.Lexicographic.{nat_list_eq_equiv}
 use Rattle.std.specs.List.{IsDistinct}
@@ -23,3 +23,10 @@ same_name x = (bytes_eq-Decides x x).1 refl
 
 pub same_name_2 : (x y : List ℕ) → bytes_eq x y ≡ true → x ≡ y
 same_name_2 x y e = (bytes_eq-Decides x y).0 e
+
+pub unequal_texts : (x y : List ℕ) → (x ≡ y → ⊥) → bytes_eq x y ≡ false
+unequal_texts x y h = go (bytes_eq x y) refl
+  where
+    go : (b : Bool) → bytes_eq x y ≡ b → b ≡ false
+    go true e = absurd (h ((bytes_eq-Decides x y).0 e))
+    go false e = refl

@@ -18,7 +18,7 @@ use Rattle.hull_projection.specs.Fresh.{fresh_after}
 use Rattle.hull_projection.specs.Hull.{copy_of, share_of, scale, rest_scaled, at_least_0, at_most_1, lift_rows, both_vars}
 use Rattle.hull_projection.specs.Closure.{IsCell, AreCells, AreOrdered, exit_of, step_row, step_rows, same_row, cell_terms, exit_terms, iterations_var, many_iterations, iteration_rows}
 use Rattle.hull_projection.specs.Laws.{IsOneOf}
-use Rattle.affine_systems.proofs.Basics.{if_cases, int_eq-true}
+use Rattle.affine_systems.proofs.Basics.{if_cases}
 use Rattle.affine_systems.proofs.AscendLaws.{parts_lt, before-term_before, ascends-term_before, factor_below, negated_zero as neg_not_zero}
 use Rattle.affine_systems.proofs.FitLaws.{neg_small, small_given}
 use Rattle.affine_systems.proofs.RenameSteps.{given_append}

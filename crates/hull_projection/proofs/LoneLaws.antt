@@ -18,7 +18,7 @@ use Rattle.affine_systems.specs.Given.{IsNormalAs, AreNormal, ItemsFit}
 use Rattle.hull_projection.specs.declared.eliminations.Left.{Left}
 use Rattle.hull_projection.specs.Refute.{has_few, with_few, left, left_after, eliminate_all}
 use Rattle.hull_projection.specs.Project.{shadow, shadow_after, eliminate_each}
-use Rattle.fx_lists.proofs.Booleans.{alone as or_false}
+use Rattle.fx_lists.proofs.Booleans.{alone as or_false, and_true}
 
 without_again : (v : Var) (n : ℕ) (is : List Item) → AllWithout v is → AllWithout v (items_from n (rows_of is))
 without_again v n [] h = tt
@@ -35,10 +35,6 @@ kept_again v n (i ∷ is) = go (occurs v i.row) (kept_again v (suc n) is) where
   go : (b : Bool) → rows_of (keep (is_without v) (items_from (suc n) (rows_of is))) ≡ rows_of (keep (is_without v) is) → rows_of (if not b then item i.row no_originals n ∷ keep (is_without v) (items_from (suc n) (rows_of is)) else keep (is_without v) (items_from (suc n) (rows_of is))) ≡ rows_of (if not b then i ∷ keep (is_without v) is else keep (is_without v) is)
   go true h = h
   go false h = ap (λ (rs : List Row). i.row ∷ rs) h
-
-and_true : (e : Bool) → (e && true) ≡ e
-and_true true = refl
-and_true false = refl
 
 pub each_lone : (vs : List Var) (is : List Item) (w e : Bool) → IsClosed false (rows_of is) → length is ≤ 512 → AllLone vs is → eliminate_each (shadow (system (rows_of is) w) e) vs ≡ shadow (system (rows_of (left_by vs is)) w) e
 each_lone [] is w e c l h = refl

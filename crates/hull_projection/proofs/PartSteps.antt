@@ -1,5 +1,5 @@
 -- Steps of the difference: parts that are added, and the hull of many.
-use Rattle.std.proofs.Common.{◌≡◌, ℕ, zero, suc, ◌+◌, ◌<◌, ◌≤◌, Bool, true, false, List, [], ◌∷◌, ◌++◌, length, drop, get_or, drop-cons, drop_of_length-le, add-one, append_assoc, append-nil, arith, ap, ap₂, refl, sym, subst, ◌∙◌}
+use Rattle.std.proofs.Common.{◌≡◌, ℕ, zero, suc, ◌+◌, ◌<◌, ◌≤◌, Bool, true, false, List, [], ◌∷◌, ◌++◌, map, length, drop, get_or, drop-cons, drop_of_length-le, add-one, append_assoc, append-nil, arith, ap, ap₂, refl, sym, subst, ◌∙◌}
 use Rattle.std.specs.Prelude.{if◌then◌else◌}
 use Rattle.affine_systems.specs.declared.row.Row.{Row}
 use Rattle.affine_systems.specs.declared.row.System.{System}
@@ -7,6 +7,7 @@ use Rattle.affine_systems.specs.Rows.{AllRows}
 use Rattle.affine_systems.specs.Given.{IsSmallRow, Fits}
 use Rattle.affine_systems.specs.Calls.{push_row}
 use Rattle.hull_projection.specs.Refute.{refuted, above, below, negations}
+use Rattle.hull_projection.specs.Clean.{clean}
 use Rattle.hull_projection.specs.Hull.{hull}
 use Rattle.hull_projection.specs.Minus.{AllFit, all_negations, part_before, parts, hull_all}
 
@@ -79,3 +80,14 @@ fit_at (t ∷ ts) zero s h l g = subst Fits (sym g) h.0
 fit_at (t ∷ ts) (suc k) s h l g = fit_at ts k s h.1 (omega (arith, l)) g
 
 pub ruleset hulls_steps = (hulls-more, hulls-end, fit_at)
+
+pub cleaned-more : (out new goal ss : List System) (k : ℕ) (s t : System) → k < length ss → s ≡ get_or ss k s → t ≡ clean s → new ≡ out ++ t ∷ [] → out ++ map clean (drop k ss) ≡ goal → new ++ map clean (drop (k + 1) ss) ≡ goal
+cleaned-more out new goal ss k s t l g e n h =
+    let x : drop k ss ≡ s ∷ drop (suc k) ss = drop-cons ss k s l ∙ ap (λ (v : System). v ∷ drop (suc k) ss) (sym g) in
+    ap₂ (λ (us : List System) m. us ++ map clean (drop m ss)) (n ∙ ap (λ (v : System). out ++ v ∷ []) e) (add-one k)
+    ∙ (append_assoc out (clean s ∷ []) (map clean (drop (suc k) ss)) ∙ (ap (λ (vs : List System). out ++ map clean vs) (sym x) ∙ h))
+
+pub cleaned-end : (out goal ss : List System) (k : ℕ) → length ss ≤ k → out ++ map clean (drop k ss) ≡ goal → out ≡ goal
+cleaned-end out goal ss k l h = sym (append-nil out) ∙ (ap (λ (vs : List System). out ++ map clean vs) (sym (drop_of_length-le ss l)) ∙ h)
+
+pub ruleset cleaned_steps = (cleaned-more, cleaned-end, fit_at, all_fit_push)

@@ -10,7 +10,6 @@ use Rattle.hull_projection.specs.declared.projection.Shadow.{Shadow}
 use Rattle.affine_systems.specs.Terms.{var_eq, var_lt}
 use Rattle.affine_systems.specs.Points.{Point, value, Meets, HoldsAll, moved, only}
 use Rattle.affine_systems.specs.Eliminate.{eliminate}
-use Rattle.affine_systems.specs.Laws.{Lacks}
 use Rattle.affine_systems.specs.Given.{Fits}
 use Rattle.hull_projection.specs.Variables.{with_var, with_vars, in_order}
 use Rattle.hull_projection.specs.Clean.{is_spare, cleaned_behind}
@@ -20,7 +19,7 @@ use Rattle.affine_systems.proofs.Basics.{if_cases}
 use Rattle.affine_systems.proofs.TermLaws.{var_eq-true, true-var_eq}
 use Rattle.affine_systems.proofs.ElimLaws.{eliminate_holds}
 use Rattle.affine_systems.proofs.ExactLaws.{eliminate_extends}
-use Rattle.affine_systems.proofs.LackLaws.{RowsNil, factor-only, eliminate_nil, eliminate_lacks, nil_moves}
+use Rattle.affine_systems.proofs.LackLaws.{RowsNil, eliminate_nil, eliminate_lacks, nil_moves, lacks_from}
 use Rattle.affine_systems.proofs.FitLaws.{eliminate_fits}
 use Rattle.hull_projection.proofs.CleanLaws.{clean_same, clean_fits}
 use Rattle.fx_lists.proofs.Booleans.{clash}
@@ -90,12 +89,8 @@ cleaned_nil u front (r ∷ rs) h =
 pub project_nil : (w : Var) (s : System) (vs : List Var) → IsOneOf w vs → RowsNil (only w) (project s vs).system.rows
 project_nil w s vs h = cleaned_nil (only w) [] (eliminate_each (shadow s true) (in_order vs)).system.rows (each_lacks w (shadow s true) (in_order vs) (in_order-has w vs h))
 
-nil_lacks : (w : Var) (rs : List Row) → RowsNil (only w) rs → Lacks w rs
-nil_lacks w [] h = tt
-nil_lacks w (r ∷ rs) h = (factor-only w r.terms ∙ h.0, nil_lacks w rs h.1)
-
 pub project_gone : (s : System) (vs : List Var) → LacksAll vs (project s vs).system.rows
-project_gone s vs w h = nil_lacks w (project s vs).system.rows (project_nil w s vs h)
+project_gone s vs w h = lacks_from w (project s vs).system.rows (project_nil w s vs h)
 
 -- ---- points with any numbers at the variables
 

@@ -8,6 +8,7 @@ use Rattle.affine_systems.specs.Laws.{Lacks}
 use Rattle.hull_projection.specs.declared.projection.Shadow.{Shadow}
 use Rattle.hull_projection.specs.declared.parts.Minus.{Minus}
 use Rattle.hull_projection.specs.Iterations.{Store, between, Joined}
+use Rattle.hull_projection.specs.Unions.{HoldsSome}
 
 -- no point is one of all rows
 abbrev pub HasNoPoint : List Row → Type 0
@@ -51,6 +52,18 @@ abbrev pub HasNothingElse : System → System → Minus → Type 0
 HasNothingElse a b m =
     m.exact ≡ true →
     MatchOption m.system (Unit {0}) (λ s. s.weak ≡ false → (p : Point) → HoldsAll p s.rows → HoldsAll p a.rows × (HoldsAll p b.rows → ⊥))
+
+-- where no row was lost, each point of the part is one of a and none of b
+abbrev pub IsOutside : System → System → System → Type 0
+IsOutside a b s = s.weak ≡ false → (p : Point) → HoldsAll p s.rows → HoldsAll p a.rows × (HoldsAll p b.rows → ⊥)
+
+abbrev pub AreOutside : System → System → List System → Type 0
+AreOutside a b [] = Unit {0}
+AreOutside a b (s ∷ ss) = IsOutside a b s × AreOutside a b ss
+
+-- a point of a that is none of b is one of a part; and where no row was lost, a part has no other points
+abbrev pub HasParts : System → System → List System → Type 0
+HasParts a b ss = ((p : Point) → HoldsAll p a.rows → (HoldsAll p b.rows → ⊥) → HoldsSome p ss) × AreOutside a b ss
 
 -- each pair of stores that any number of iterations joins is in the closure
 abbrev pub ContainsIterations : System → System → Type 0

@@ -8,4 +8,5 @@ pub mod Hull
 pub mod Minus
 pub mod Closure
 pub mod Iterations
+pub mod Unions
 pub mod Laws

@@ -1,5 +1,5 @@
 -- The difference: a with each negation of a row of b, where that is not refuted.
-use Rattle.std.specs.Prelude.{Bool, true, false, ◌||◌, if◌then◌else◌, List, [], ◌∷◌, ◌++◌, Option}
+use Rattle.std.specs.Prelude.{Bool, true, false, ◌||◌, if◌then◌else◌, List, [], ◌∷◌, ◌++◌, map, Option}
 use Rattle.std.specs.declared.option.Option.TheVariants.{Some, None}
 use Rattle.affine_systems.specs.declared.row.Row.{Row}
 use Rattle.affine_systems.specs.declared.row.System.{System}
@@ -30,6 +30,10 @@ part_before s ss = if refuted s.rows then ss else s ∷ ss
 abbrev pub parts : System → List Row → List System
 parts a [] = []
 parts a (n ∷ ns) = part_before (push_row a n) (parts a ns)
+
+-- the parts of a outside b, each cleaned
+abbrev pub apart : System → System → List System
+apart a b = map clean (parts a (all_negations b.rows))
 
 -- from left to right
 abbrev pub hull_all : System → List System → System

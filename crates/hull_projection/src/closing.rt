@@ -10,7 +10,7 @@ ghost use Rattle.hull_projection.specs.Laws.{ContainsIterations};
 use crate::cleaning::clean;
 use crate::fresh::{fresh_number, old_vars};
 use crate::iterations::{iteration_rows, iterations_var, push_steps, same_rows};
-use crate::projection::project;
+use crate::projection::project_owned;
 use crate::variables::{add_rows, in_order};
 use affine_systems::items::copy_rows;
 use affine_systems::{Row, System, Var, Vars, tidy};
@@ -54,7 +54,7 @@ fn changes_of(alloc: Global, first: u32, cells: &[Var], body: &System) -> Result
 {
     let sys = steps(alloc, first, cells, body)?;
     let vars = old_vars(first, row_vars(alloc, sys.rows.as_slice())?);
-    let shadow = project(alloc, &sys, &vars)?;
+    let shadow = project_owned(alloc, sys, &vars)?;
     Ok(shadow.system)
 }
 
@@ -102,7 +102,7 @@ fn some_iterations(
         weak: changes.weak,
     };
     let many = tidy(alloc, &sys)?;
-    let left = eliminate(alloc, &many, iterations_var(first, cells))?;
+    let left = eliminate(alloc, many, iterations_var(first, cells))?;
     clean(alloc, &left.system)
 }
 

@@ -1,13 +1,14 @@
-//! The difference of two systems: the first with each negation of a row of the second.
+//! The difference of two systems: the first with each negation of a row of the second, as one system or in parts.
 ghost use Rattle.std.specs.Prelude.{◌≡◌, IfOk, IfSome};
 ghost use Rattle.affine_systems.specs.Given.{Fits};
-ghost use Rattle.hull_projection.specs.Minus.{minus as minus_is};
-ghost use Rattle.hull_projection.specs.Laws.{HasOutside, HasNothingElse};
+ghost use Rattle.hull_projection.specs.Minus.{AllFit, minus as minus_is, apart as apart_is};
+ghost use Rattle.hull_projection.specs.Laws.{HasOutside, HasNothingElse, HasParts};
 
 use crate::hulls::{copy_system, either};
-use crate::parts::{Minus, joined_parts, parts};
+use crate::parts::{Minus, cleaned_parts, joined_parts, parts};
 use crate::refutation::refuted;
 use affine_systems::{System, meet};
+use fx_lists::List;
 use std::alloc::{AllocError as Memory, Global};
 
 fn difference(alloc: Global, one: &System, other: &System) -> Result<Minus, Memory>
@@ -40,4 +41,27 @@ pub fn minus(alloc: Global, one: &System, other: &System) -> Result<Minus, Memor
     ensures exact { IfOk result (HasNothingElse one.now other.now) }
 {
     difference(alloc, one, other)
+}
+
+fn parts_outside(alloc: Global, a: &System, b: &System) -> Result<List<System>, Memory>
+    requires fits { Fits a.now }
+    requires other_fits { Fits b.now }
+    ensures defined { IfOk result (λ ss. ss ≡ apart_is a.now b.now) }
+    ensures fits { IfOk result AllFit }
+{
+    let parts = parts(alloc, a, b.rows.as_slice())?;
+    cleaned_parts(alloc, parts.as_slice())
+}
+
+/// The points of a that are not of b, as a union: a with each negation of a row of b, cleaned, without those that are
+/// refuted. An equal row has two negations. Parts can have points in common. One refutation for each negation, and a
+/// cleaning for each part.
+pub fn apart(alloc: Global, a: &System, b: &System) -> Result<List<System>, Memory>
+    requires fits { Fits a.now }
+    requires other_fits { Fits b.now }
+    ensures defined { IfOk result (λ ss. ss ≡ apart_is a.now b.now) }
+    ensures fits { IfOk result AllFit }
+    ensures sound { IfOk result (HasParts a.now b.now) }
+{
+    parts_outside(alloc, a, b)
 }

@@ -18,10 +18,10 @@ mod variables;
 
 pub use cleaning::clean;
 pub use closing::closure;
-pub use difference::minus;
+pub use difference::{apart, minus};
 pub use entailment::entails;
 pub use hulls::hull;
 pub use parts::Minus;
-pub use projection::{Shadow, project};
+pub use projection::{Shadow, project, project_owned};
 pub use refutation::refuted;
 pub use variables::{add_rows, add_var};

@@ -1,8 +1,9 @@
 //! The parts of a difference, and what they are joined to.
-ghost use Rattle.std.specs.Prelude.{◌≡◌, ◌++◌, [], ◌∷◌, IfOk, IfSome, OnOk};
+ghost use Rattle.std.specs.Prelude.{◌≡◌, ◌++◌, [], ◌∷◌, map, IfOk, IfSome, OnOk};
 ghost use Rattle.affine_systems.specs.Rows.{AllRows};
 ghost use Rattle.affine_systems.specs.Given.{IsSmallRow, IsGiven, Fits};
 ghost use Rattle.hull_projection.specs.Refute.{negations};
+ghost use Rattle.hull_projection.specs.Clean.{clean as clean_is};
 ghost use Rattle.hull_projection.specs.Minus.{AllFit, all_negations, parts as parts_is, hull_all as hull_all_is, weaker as weaker_is, minus_parts};
 
 use crate::cleaning::clean;
@@ -10,6 +11,7 @@ use crate::entailment::{above, below};
 use crate::hulls::{either, hull};
 use crate::refutation::refuted;
 use affine_systems::{Row, System, push_row};
+use fx_lists::List;
 use std::alloc::{AllocError as Memory, Global};
 
 /// A difference of systems: a system that has the points of one outside another, or None, which says that there are
@@ -68,6 +70,20 @@ pub fn parts(alloc: Global, sys: &System, rows: &[Row]) -> Result<Vec<System>, M
         push_parts(alloc, &mut out, sys, row)?;
     }
     Ok(out)
+}
+
+#[tactic(auto, using(crate::proofs::PartSteps::cleaned_steps))]
+/// The systems, each cleaned.
+pub fn cleaned_parts(alloc: Global, parts: &[System]) -> Result<List<System>, Memory>
+    requires { AllFit parts.now }
+    ensures defined { IfOk result (λ ss. ss ≡ map clean_is parts.now) }
+    ensures fits { IfOk result AllFit }
+{
+    let mut out = Vec::new(alloc);
+    for sys in parts {
+        out.push(clean(alloc, sys)?)?;
+    }
+    Ok(List::from_vec(out))
 }
 
 #[tactic(auto, using(crate::proofs::PartSteps::hulls_steps))]

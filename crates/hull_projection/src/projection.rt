@@ -1,8 +1,9 @@
 //! Projection: variables are eliminated in ascending order, and the rest is cleaned.
 
 use crate::cleaning::clean_rows;
+use crate::hulls::copy_system;
 use crate::variables::in_order;
-use affine_systems::items::{copy_rows, items_of, rows_of};
+use affine_systems::items::{items_of, rows_of};
 use affine_systems::{System, Var, Vars};
 use elimination::{eliminate, without_lone};
 use fx_lists::List;
@@ -20,7 +21,7 @@ ghost use Rattle.std.specs.Prelude.{◌≡◌, ◌<◌, ◌≤◌, length, take,
 ghost use Rattle.affine_systems.specs.Rows.{AllRows};
 ghost use Rattle.affine_systems.specs.Given.{IsSmallRow, Fits};
 ghost use Rattle.affine_systems.specs.Eliminate.{eliminate as eliminate_is};
-ghost use Rattle.hull_projection.specs.Project.{shadow, shadow_after, eliminate_each as eliminate_each_is, cleaned_shadow, project as project_is};
+ghost use Rattle.hull_projection.specs.Project.{shadow_after, eliminate_each as eliminate_each_is, cleaned_shadow, project as project_is};
 ghost use Rattle.hull_projection.specs.Laws.{ProjectsPoints, ExtendsPoints, LacksAll};
 
 /// One variable less.
@@ -29,10 +30,11 @@ fn eliminate_more(alloc: Global, s: Shadow, v: Var) -> Result<Shadow, Memory>
     ensures defined { IfOk result (λ t. t ≡ shadow_after s (eliminate_is s.system v)) }
     ensures fits { IfOk result (λ t. Fits t.system) }
 {
-    let e = eliminate(alloc, &s.system, v)?;
+    let Shadow { system, exact } = s;
+    let e = eliminate(alloc, system, v)?;
     Ok(Shadow {
         system: e.system,
-        exact: s.exact && e.exact,
+        exact: exact && e.exact,
     })
 }
 
@@ -109,17 +111,23 @@ fn cleaned_system(alloc: Global, s: Shadow) -> Result<Shadow, Memory>
     })
 }
 
-/// The system before the first elimination.
-fn whole(alloc: Global, sys: &System) -> Result<Shadow, Memory>
-    ensures { IfOk result (λ t. t ≡ shadow sys.now true) }
+/// The projection that removes these variables of a system that is handed over: it is not copied. They are eliminated in ascending order, whatever
+/// that of the list, and what is left is cleaned. No point is lost; exact where each elimination is.
+pub fn project_owned(alloc: Global, sys: System, vars: &Vars) -> Result<Shadow, Memory>
+    requires fits { Fits sys }
+    ensures defined { IfOk result (λ s. s ≡ project_is sys vars.now) }
+    ensures fits { IfOk result (λ s. Fits s.system) }
+    ensures gone { IfOk result (λ s. LacksAll vars.now s.system.rows) }
+    ensures sound { IfOk result (ProjectsPoints sys vars.now) }
+    ensures exact { IfOk result (ExtendsPoints sys vars.now) }
 {
-    Ok(Shadow {
-        system: System {
-            rows: List::from_vec(copy_rows(alloc, sys.rows.as_slice())?),
-            weak: sys.weak,
-        },
+    let order = in_order(alloc, vars.as_slice())?;
+    let start = Shadow {
+        system: sys,
         exact: true,
-    })
+    };
+    let left = eliminate_each(alloc, start, order.as_slice())?;
+    cleaned_system(alloc, left)
 }
 
 /// The projection of a system that removes these variables, cleaned. They are eliminated in ascending order, whatever
@@ -132,8 +140,6 @@ pub fn project(alloc: Global, sys: &System, vars: &Vars) -> Result<Shadow, Memor
     ensures sound { IfOk result (ProjectsPoints sys.now vars.now) }
     ensures exact { IfOk result (ExtendsPoints sys.now vars.now) }
 {
-    let order = in_order(alloc, vars.as_slice())?;
-    let start = whole(alloc, sys)?;
-    let left = eliminate_each(alloc, start, order.as_slice())?;
-    cleaned_system(alloc, left)
+    let copy = copy_system(alloc, sys)?;
+    project_owned(alloc, copy, vars)
 }

@@ -23,18 +23,20 @@ use Rattle.array_regions.specs.region_sets.Compose.{compose}
 use Rattle.array_regions.specs.region_sets.Subtract.{subtract, unless_empty, left_of, all_left_exactly, all_apart}
 use Rattle.array_regions.specs.region_sets.Sets.{unite_all}
 use Rattle.array_regions.specs.region_sets.Lists.{all_composed, in_any_order, numbers}
-use Rattle.array_regions.specs.region_sets.Claims.{HoldsSome, Elements, LiesIn, Accessed, IsSharp, Places, AreByOrder, LiesInSet, IsSharpSet}
+use Rattle.hull_projection.specs.Unions.{HoldsSome}
+use Rattle.array_regions.specs.region_sets.Claims.{Elements, LiesIn, Accessed, IsSharp, Places, AreByOrder, LiesInSet, IsSharpSet}
 use Rattle.array_regions.specs.region_sets.Laws.{HasAnyStep, NoneExact}
 use Rattle.array_regions.proofs.RegionSets.SubtractLaws.{subtract_keeps, subtract_exact}
 use Rattle.array_regions.proofs.RegionSets.PieceLaws.{compose_moves, compose_sharp}
 use Rattle.array_regions.proofs.RegionSets.SetLaws.{gathered_units, gathered_sharp}
-use Rattle.array_regions.proofs.RegionSets.StepLaws.{in_left, in_right, in_either, in_map, of_map, any_units, any_inexact, at_true as if_true, at_false as if_false}
+use Rattle.array_regions.proofs.RegionSets.StepLaws.{in_either, in_map, of_map, any_units, any_inexact, at_true as if_true, at_false as if_false}
 use Rattle.in_out_regions.specs.Writes.{write_of, is_overlapped}
 use Rattle.in_out_regions.specs.Lists.{less_write, all_unwritten, unless_overlapped, all_unless_overlapped, before_rest, ins_in_order, list_in}
 use Rattle.in_out_regions.specs.ListClaims.{AreWritten, arrived, past, HasFirstSteps, IsDescribed, IsFirstOf, Executed, no_more, before_more, HasFirstStepsAlone, HasListIn, HasListInAlone}
 use Rattle.in_out_regions.proofs.WriteLaws.{write_found, write_same}
 use Rattle.fx_lists.proofs.Booleans.{not_true, clash as clashes}
 use Rattle.f77_ast.proofs.SameLaws.{cmp_to_same, same_itself, cmp_if}
+use Rattle.array_regions.proofs.TransformerAlgebra.Members.{in_left, in_right}
 
 -- ---- what is left of a region
 
@@ -118,7 +120,7 @@ module _ (m : Scene) (at : Places) (by_order : AreByOrder at) (x : ℕ → ℤ) 
         region = unless_overlapped ss ws l.region;
         is_one = in_map (unless_overlapped ss ws) l.region rs l.is_one;
         kind = l.kind;
-        lies = record { phi = z.phi; there = z.there; piece = z.piece; is_one = z.is_one; described = z.described };
+        lies = record { phi = z.phi; there = z.there; described = z.described };
       }
 
   set_first : (ss : List SymbolTree) (is ws : List Region) (t : Transformer) (rest : List Region) (k : Access) (u : ℕ) → LiesInSet m at k (is ++ all_unwritten ws (unite_all (all_composed t rest))) x u → LiesInSet m at k (before_rest ss is ws t rest) x u

@@ -17,7 +17,7 @@ use Rattle.f77_ast.proofs.SameLaws.{cmp_same, cmp_if}
 
 -- ---- WRITE regions
 
-write_if : (k : Access) → is_write k ≡ true → k ≡ Write
+pub write_if : (k : Access) → is_write k ≡ true → k ≡ Write
 write_if Read e = cc
 write_if Write e = refl
 write_if First e = cc

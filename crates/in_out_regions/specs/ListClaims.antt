@@ -15,7 +15,8 @@ use Rattle.array_regions.specs.region_sets.declared.region.Access.{Access}
 use Rattle.array_regions.specs.region_sets.declared.region.Access.TheVariants.{Write}
 use Rattle.array_regions.specs.region_sets.declared.region.Region.{Region}
 use Rattle.array_regions.specs.region_sets.Lists.{numbers}
-use Rattle.array_regions.specs.region_sets.Claims.{HoldsSome, Accessed, IsSharp, IsSharpSet, Places, AreByOrder, LiesInSet}
+use Rattle.hull_projection.specs.Unions.{HoldsSome}
+use Rattle.array_regions.specs.region_sets.Claims.{Accessed, IsSharp, IsSharpSet, Places, AreByOrder, LiesInSet}
 use Rattle.array_regions.specs.region_sets.Laws.{HasAnyStep, NoneExact}
 use Rattle.in_out_regions.specs.Writes.{write_of, is_overlapped}
 

@@ -12,7 +12,7 @@ use array_regions::names_none;
 use array_regions::region_sets::{Range, Region, push_system, remade};
 use array_regions::transformer_algebra::{Naming, others, push_rows, rename_all};
 use fx_lists::List;
-use hull_projection::{Shadow, project};
+use hull_projection::{Shadow, project_owned};
 use std::alloc::{AllocError as Memory, Global};
 
 pub fn is_one_step(step: Option<i32>) -> bool
@@ -56,7 +56,7 @@ fn earlier_piece(alloc: Global, g: &Range, s: &System) -> Result<Shadow, Memory>
     let then = rename_all(alloc, s, &[name])?;
     let before = push_rows(alloc, &then, earlier_rows(alloc, g)?)?;
     let vars = List::from_slice(alloc, &[Var::Aux(2)])?;
-    project(alloc, &before, &vars)
+    project_owned(alloc, before, &vars)
 }
 
 /// The region for some earlier iteration, where the projection is exact.

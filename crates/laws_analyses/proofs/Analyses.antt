@@ -19,14 +19,14 @@ use Rattle.preconditions.specs.Entry.{main_entry, sites_entry, entry_of}
 use Rattle.preconditions.specs.Modules.{preconditions_of}
 use Rattle.laws_programs.specs.Storage.Programs.{IsLinked, IsModule, known}
 use Rattle.call_graph.specs.CallsIn.{CallAt, Each, list_calls}
-use Rattle.f77_ast.specs.StatementNumbers.{IsNumbered, list_numbers}
+use Rattle.f77_ast.specs.StatementNumbers.{HasNumbers, list_numbers}
 use Rattle.laws_analyses.specs.Statements.Results.{or_no_rows, found_in as found_of_module, pre_in}
 use Rattle.laws_analyses.proofs.Statements.MainResults.{found_at}
-use Rattle.laws_analyses.proofs.Statements.NumberLaws.{ids, in_order, p_list}
+use Rattle.laws_analyses.proofs.Statements.NumberLaws.{ids, own_numbers, p_list}
 use Rattle.module_phases.specs.ScalarPhases.{scope_of, Found, no_callees, found_in, list_sites, Analysis, caller_of, sites_of, analyses}
 use Rattle.laws_analyses.specs.Parts.{scope_in}
 use Rattle.laws_analyses.specs.Analysed.{AreAnalysed}
-use Rattle.laws_analyses.proofs.CallLists.{each_more, each_both, each_joined, each_in}
+use Rattle.laws_analyses.proofs.CallLists.{each_in}
 use Rattle.laws_analyses.proofs.UnitLaws.{module_at as place_module}
 use Rattle.laws_programs.specs.Storage.Below.{HasCall}
 use Rattle.laws_programs.proofs.Storage.CallLaws.{calls_are_listed}
@@ -36,6 +36,7 @@ use Rattle.laws_analyses.proofs.CallNumbers.{Stands, list_stands}
 use Rattle.laws_analyses.proofs.CallSites.{Sited, list_sited}
 use Rattle.laws_analyses.proofs.Founds.{NoneNamed, HasKnown, Calls, GoodFound, founds, InOrder, found_in_order, found_has, module_found}
 use Rattle.laws_analyses.proofs.Passes.{each_reversed, known_reversed, run_is, in_sites, before_here, before_other, summary_here, NoAnalysis, next, run}
+use Rattle.call_graph.proofs.EachLaws.{each_both, each_more, each_joined}
 
 module _ (ps : List ParsedTree) (sss : List (List SymbolTree)) (g : Graph) (l : IsLinked ps sss g) where
   abbrev ks : List Known
@@ -118,7 +119,7 @@ module _ (ps : List ParsedTree) (sss : List (List SymbolTree)) (g : Graph) (l : 
 
   -- ---- one module
 
-  module _ (i : ℕ) (p : ParsedTree) (ss : List SymbolTree) (m : IsModule ps sss i p ss) (numbered : IsNumbered p.module_read.body) (a : Analysis) (r : Located (analyses (known_of ps sss) g) a) (same : a.found.known ≡ known p ss) where
+  module _ (i : ℕ) (p : ParsedTree) (ss : List SymbolTree) (m : IsModule ps sss i p ss) (numbered : HasNumbers p.module_read.body) (a : Analysis) (r : Located (analyses (known_of ps sss) g) a) (same : a.found.known ≡ known p ss) where
     name : a.found.known.read.name ≡ p.module_read.name
     name = ap (λ z. z.read.name) same
 
@@ -169,7 +170,7 @@ module _ (ps : List ParsedTree) (sss : List (List SymbolTree)) (g : Graph) (l : 
     has_result c h =
         let numbers = p_list (scope_in g (known p ss)) (found_of_module p.module_read.body (scope_in g (known p ss)) all) true p.module_read.body (analysed_entry (known_of ps sss) g (known p ss)) in
         let b = at_number results.at (list_numbers p.module_read.body) h.0 c.number numbers h.1 in
-        let f = found_at results.at h.0 b.0 (in_order results.at p.module_read.body numbers numbered) b.1 in
+        let f = found_at results.at h.0 b.0 (own_numbers results.at p.module_read.body numbers numbered) b.1 in
         (b.0.value, ap (value_at results.at) (sym b.2) ∙ f.1)
 
     caller_holds : (n : ℕ) → (caller_of g.untracked a).holds n ≡ value_at results.at n
@@ -211,7 +212,7 @@ module _ (ps : List ParsedTree) (sss : List (List SymbolTree)) (g : Graph) (l : 
 
   -- ---- all modules
 
-  pub are_analysed : ((i : ℕ) (p : ParsedTree) (ss : List SymbolTree) → IsModule ps sss i p ss → IsNumbered p.module_read.body) → AreAnalysed (known_of ps sss) g (callees_of_all (known_of ps sss) g) (analysed_sites (known_of ps sss) g) (analysed_entry (known_of ps sss) g)
+  pub are_analysed : ((i : ℕ) (p : ParsedTree) (ss : List SymbolTree) → IsModule ps sss i p ss → HasNumbers p.module_read.body) → AreAnalysed (known_of ps sss) g (callees_of_all (known_of ps sss) g) (analysed_sites (known_of ps sss) g) (analysed_entry (known_of ps sss) g)
   are_analysed numbered = record {
     summaries = λ i k e. (let q = place_module ps sss i k e in let f = analysis_of_module i q.parsed q.table q.is_module in subst (λ (z : Known). all z.read.name ≡ Some (record { symbols = z.symbols; value = (transformers_of z.read.body (scope_in g z) all).summary })) q.same (summary_is i q.parsed q.table q.is_module (numbered i q.parsed q.table q.is_module) f.0 f.1 f.2));
     main = λ i k e h. (let q = place_module ps sss i k e in let f = analysis_of_module i q.parsed q.table q.is_module in subst (λ (z : Known). analysed_entry (known_of ps sss) g z ≡ main_entry (scope_in g z)) q.same (main_is i q.parsed q.table q.is_module (numbered i q.parsed q.table q.is_module) f.0 f.1 f.2 (ap (λ z. z.read.main) q.same ∙ h)));

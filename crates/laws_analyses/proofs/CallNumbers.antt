@@ -5,7 +5,7 @@ use Rattle.f77_ast.specs.Trees.{StmtTree, WhatTree, ArmTree, ArmTrees, ElseTree,
 use Rattle.f77_ast.specs.Trees as tree
 use Rattle.call_graph.specs.CallsIn.{CallAt, Each, stmt_calls, what_calls, list_calls, arms_calls, arm_calls, else_calls, loop_calls}
 use Rattle.f77_ast.specs.StatementNumbers.{stmt_numbers, part_numbers, list_numbers, arms_numbers, arm_numbers, else_numbers, loop_numbers}
-use Rattle.laws_analyses.proofs.CallLists.{each_more, each_joined}
+use Rattle.call_graph.proofs.EachLaws.{each_more, each_joined}
 
 abbrev pub Stands : List ℕ → CallAt → Type 0
 Stands ns c = (i : ℕ) × (slice_get ns i ≡ Some c.number)

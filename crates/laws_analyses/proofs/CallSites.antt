@@ -1,24 +1,16 @@
 -- Each CALL with a result is among the CALLs of its name.
-use Rattle.std.proofs.Common.{◌≡◌, ℕ, List, [], ◌∷◌, ◌++◌, Some, sym, subst}
+use Rattle.std.proofs.Common.{◌≡◌, ℕ, List, [], ◌++◌, Some, sym, subst}
 use Rattle.std.specs.Prelude.{if◌then◌else◌}
 use Rattle.std.proofs.lemmas.Slice.Eq.{bytes_eq-Decides}
 use Rattle.affine_systems.specs.declared.row.System.{System}
 use Rattle.f77_ast.specs.Trees.{StmtTree, WhatTree, ArmTree, ArmTrees, ElseTree, LoopTree, StmtTrees}
 use Rattle.f77_ast.specs.Trees as tree
-use Rattle.preconditions.specs.transformer_algebra.Laws.{In, here, there}
+use Rattle.preconditions.specs.transformer_algebra.Laws.{In, here}
 use Rattle.preconditions.specs.call_translation.Sites.{HoldingSite}
 use Rattle.module_phases.specs.ScalarPhases.{Caller, site, stmt_sites, what_sites, list_sites, arms_sites, arm_sites, else_sites, loop_sites}
 use Rattle.call_graph.specs.CallsIn.{CallAt, Each, stmt_calls, what_calls, list_calls, arms_calls, arm_calls, else_calls, loop_calls}
-use Rattle.laws_analyses.proofs.CallLists.{each_more, each_joined}
-
-pub in_front : {A : Type 0} (a : A) (xs ys : List A) → In a xs → In a (xs ++ ys)
-in_front a [] ys h = elim h [ ]
-in_front a (x ∷ xs) ys here = here
-in_front a (x ∷ xs) ys (there h) = there (in_front a xs ys h)
-
-pub in_back : {A : Type 0} (a : A) (xs ys : List A) → In a ys → In a (xs ++ ys)
-in_back a [] ys h = h
-in_back a (x ∷ xs) ys h = there (in_back a xs ys h)
+use Rattle.call_graph.proofs.EachLaws.{each_more, each_joined}
+use Rattle.preconditions.proofs.TransformerAlgebra.Members.{in_left, in_right}
 
 module _ (c : Caller) (x : List ℕ) where
   -- a CALL of the name, with what holds before it, is one of these
@@ -28,8 +20,8 @@ module _ (c : Caller) (x : List ℕ) where
   both : (ss us : List HoldingSite) (xs ys : List CallAt) → Each (Sited ss) xs → Each (Sited us) ys → Each (Sited (ss ++ us)) (xs ++ ys)
   both ss us xs ys h k =
       each_joined (Sited (ss ++ us)) xs ys
-      (each_more (Sited ss) (Sited (ss ++ us)) xs (λ a f P e q. in_front (record { caller = c.scope; actuals = a.actuals; value = P }) ss us (f P e q)) h)
-      (each_more (Sited us) (Sited (ss ++ us)) ys (λ a f P e q. in_back (record { caller = c.scope; actuals = a.actuals; value = P }) ss us (f P e q)) k)
+      (each_more (Sited ss) (Sited (ss ++ us)) xs (λ a f P e q. in_left (record { caller = c.scope; actuals = a.actuals; value = P }) ss us (f P e q)) h)
+      (each_more (Sited us) (Sited (ss ++ us)) ys (λ a f P e q. in_right (record { caller = c.scope; actuals = a.actuals; value = P }) ss us (f P e q)) k)
 
   mutual
     pub list_sited : (t : StmtTrees) → Each (Sited (list_sites t c x)) (list_calls t)

@@ -1,6 +1,6 @@
 -- The tracked cells of a module that is read, and where they lie.
-use Rattle.std.proofs.Common.{◌≡◌, ◌⊎◌, inl, inr, ℕ, suc, ◌+◌, ◌<◌, Bool, true, false, List, [], Some, sym, ap, ◌∙◌, subst, arith}
-use Rattle.std.specs.Prelude.{slice_get, nat_eq, is_some}
+use Rattle.std.proofs.Common.{◌≡◌, ◌⊎◌, inl, inr, ℕ, ◌+◌, ◌<◌, Bool, true, false, List, [], Some, sym, ap, ◌∙◌, subst, arith}
+use Rattle.std.specs.Prelude.{nat_eq, is_some}
 use Rattle.std.proofs.lemmas.Bool.{eqb-true, eq-eqb, cases_Bool}
 use Rattle.f77_ast.specs.DeclTrees.{ParsedTree}
 use Rattle.f77_ast.specs.Store as tag
@@ -16,7 +16,7 @@ use Rattle.f77_meaning.specs.Areas.{Area, block, group, unit_at}
 use Rattle.f77_meaning.specs.Modules.{known_of, names, fixed, dummies_from}
 use Rattle.f77_meaning.specs.Linked.{offset_in, room_for, is_common}
 use Rattle.f77_meaning.specs.Laws.{IsKnown, area_of}
-use Rattle.f77_meaning.proofs.LinkLaws.{any_found, found_any, common_is_of_blocks}
+use Rattle.f77_meaning.proofs.LinkLaws.{any_found, common_is_of_blocks}
 use Rattle.f77_meaning.proofs.ModuleLaws.{offsets_fit}
 use Rattle.affine_forms.specs.Scalars.{is_cell}
 use Rattle.preconditions.specs.call_translation.Common.{tracked_at, declares}
@@ -34,7 +34,7 @@ use Rattle.laws_analyses.specs.Calls.Scenes.{IsInBlock}
 use Rattle.laws_analyses.specs.Calls.Parts.{DummyOf, NoDummy}
 use Rattle.laws_analyses.specs.Parts.{scope_in, tracks}
 use Rattle.laws_analyses.proofs.UnitLaws.{in_own, scope_is, tracked_by}
-use Rattle.f77_ast.proofs.StorageLaws.{to_number as next_symbol}
+use Rattle.fx_lists.proofs.Lookups.{any_at}
 
 -- ---- dummies
 
@@ -46,10 +46,7 @@ not_listed ds v n = go (cases_Bool (is_dummy ds v))
     go (inr f) = f
 
 pub is_listed : (ds : List Dummy) (v : ℕ) → DummyOf ds v → is_dummy ds v ≡ true
-is_listed ds v o = found_any (λ d. nat_eq d.symbol v) ds o.at o.dummy o.is_dummy (eq-eqb o.dummy.symbol v o.symbol)
-
-pub symbol_behind : (ss : List SymbolTree) (k : ℕ) (s : SymbolTree) → slice_get ss k ≡ Some s → symbol_at ss (suc k) ≡ Some s
-symbol_behind ss k s e = next_symbol ss k s e
+is_listed ds v o = any_at (λ d. nat_eq d.symbol v) ds o.at o.dummy o.is_dummy (eq-eqb o.dummy.symbol v o.symbol)
 
 module _ (ps : List ParsedTree) (sss : List (List SymbolTree)) (g : Graph) (l : IsLinked ps sss g) (i : ℕ) (p : ParsedTree) (ss : List SymbolTree) (m : IsModule ps sss i p ss) where
   abbrev X : List ℕ
@@ -144,7 +141,7 @@ module _ (ps : List ParsedTree) (sss : List (List SymbolTree)) (g : Graph) (l : 
       ap (λ z. z.first) (cells_have_places ps sss g p ss c r.0 (block x) r.1 (ap (area_of p.module_read.name) q)) ∙ ap (λ z. unit_at (units ps sss g) (block x) (offset_in z)) q
 
   pub in_block_tracked : (c : ℕ) (x : List ℕ) (o : ℕ) → is_cell (scope_in g (known p ss)).tracked c ≡ true → IsInBlock ss c x o → tracks (known_of ps sss) g (unit x o) ≡ true
-  in_block_tracked c x o t h = found_any (λ k. is_some (tracked_at (scope_in g k) x o)) (known_of ps sss) i (known p ss) (known_module ps sss i p ss m) (ap is_some (found_there c x o t h))
+  in_block_tracked c x o t h = any_at (λ k. is_some (tracked_at (scope_in g k) x o)) (known_of ps sss) i (known p ss) (known_module ps sss i p ss m) (ap is_some (found_there c x o t h))
 
   -- a tracked cell in COMMON lies in a block
   pub block_of : (c : ℕ) → is_cell (scope_in g (known p ss)).tracked c ≡ true → NoDummy (dummies_from 1 ss) c → is_common (known_of ps sss) g p.module_read.name (fixed (units ps sss g) (known p ss) c).first ≡ true → (x : List ℕ) × (o : ℕ) × IsInBlock ss c x o

@@ -19,25 +19,25 @@ use Rattle.preconditions.specs.transformers.Modules.{transformers_of}
 use Rattle.preconditions.specs.Modules.{preconditions_of}
 use Rattle.laws_programs.specs.Storage.Programs.{IsLinked, IsModule, known}
 use Rattle.call_graph.specs.CallsIn.{Each}
-use Rattle.f77_ast.specs.StatementNumbers.{IsNumbered}
+use Rattle.f77_ast.specs.StatementNumbers.{HasNumbers}
 use Rattle.laws_analyses.specs.Statements.Results.{SystemHolds, Relates, or_no_rows, pre_in, found_in}
 use Rattle.laws_analyses.specs.Calls.Parts.{Part}
 use Rattle.laws_analyses.specs.Calls.ProgramLaws.{ScalarsHold, EachHolds}
 use Rattle.module_phases.specs.ScalarPhases.{scope_of, Analysis, analyses}
 use Rattle.laws_analyses.specs.Parts.{part_of}
 use Rattle.laws_analyses.specs.Analysed.{part_named}
-use Rattle.laws_analyses.proofs.CallLists.{each_more}
 use Rattle.laws_analyses.proofs.UnitLaws.{ModuleAt, module_at}
 use Rattle.laws_analyses.proofs.Modules.{module_named_is}
 use Rattle.laws_analyses.specs.Results.{callees_of_all, analysed_entry}
 use Rattle.laws_analyses.specs.Claims.{precondition_in, transformer_in, AnalysisHolds, AnalysesHold}
 use Rattle.laws_analyses.proofs.Analyses.{Located, all_located, holds_are}
+use Rattle.call_graph.proofs.EachLaws.{each_more}
 
 pub all_of_each : {T : Type 0} (P : T → Type 0) (xs : List T) → Each P xs → All P xs
 all_of_each P [] h = All-nil P
 all_of_each P (x ∷ xs) h = All-cons P x xs h.0 (all_of_each P xs h.1)
 
-module _ (ps : List ParsedTree) (sss : List (List SymbolTree)) (g : Graph) (l : IsLinked ps sss g) (numbered : (i : ℕ) (p : ParsedTree) (ss : List SymbolTree) → IsModule ps sss i p ss → IsNumbered p.module_read.body) (x : Occurrence) where
+module _ (ps : List ParsedTree) (sss : List (List SymbolTree)) (g : Graph) (l : IsLinked ps sss g) (numbered : (i : ℕ) (p : ParsedTree) (ss : List SymbolTree) → IsModule ps sss i p ss → HasNumbers p.module_read.body) (x : Occurrence) where
   abbrev all : Callees
   all = callees_of_all (known_of ps sss) g
 

@@ -20,12 +20,11 @@ use Rattle.laws_programs.specs.Programs.{IsProgram}
 use Rattle.laws_programs.proofs.Sources.{all_built}
 use Rattle.laws_programs.proofs.Tables.{programs_are_linked}
 use Rattle.laws_programs.proofs.Whole.{numbers_go_up}
-use Rattle.call_graph.specs.CallsIn.{Each}
-use Rattle.laws_analyses.specs.Statements.Laws.{InOrder}
-use Rattle.f77_ast.specs.StatementNumbers.{IsNumbered, list_numbers}
+use Rattle.laws_analyses.specs.Statements.Laws.{HaveOwnNumbers}
+use Rattle.f77_ast.specs.StatementNumbers.{HasNumbers, list_numbers}
 use Rattle.laws_analyses.specs.Statements.Results.{found_in}
 use Rattle.laws_analyses.proofs.Statements.MainResults.{found_at}
-use Rattle.laws_analyses.proofs.Statements.NumberLaws.{ids, in_order, t_list, p_list}
+use Rattle.laws_analyses.proofs.Statements.NumberLaws.{ids, own_numbers, t_list, p_list}
 use Rattle.module_phases.specs.ScalarPhases.{scope_of, Found, Analysis, analyses}
 use Rattle.laws_analyses.specs.Claims.{precondition_in, transformer_in}
 use Rattle.laws_analyses.specs.Coverage.{IsWhole, AreWhole}
@@ -33,17 +32,13 @@ use Rattle.laws_analyses.specs.Laws.{AnalysesAreWhole}
 use Rattle.laws_analyses.specs.Results.{callees_of_all, analysed_entry}
 use Rattle.laws_analyses.proofs.Analyses.{Fronted, fronted, in_order_found, analyses_are, analysis_of_module, Located, all_located, holds_are}
 use Rattle.laws_analyses.proofs.Founds.{found_in_order}
-use Rattle.laws_programs.proofs.Numbers.{is_numbered}
+use Rattle.laws_programs.proofs.Numbers.{has_numbers}
 use Rattle.laws_analyses.proofs.Orders.{NotIn, order_sorted}
 use Rattle.laws_analyses.proofs.Passes.{run}
 use Rattle.laws_analyses.proofs.UnitLaws.{ModuleAt, module_at}
+use Rattle.call_graph.proofs.EachLaws.{each_place}
 
 -- ---- places in lists
-
-each_place : {T : Type 0} (P : T → Type 0) (xs : List T) (j : ℕ) (x : T) → Each P xs → slice_get xs j ≡ Some x → P x
-each_place P [] j x h e = cc
-each_place P (y ∷ xs) zero x h e = let same : y ≡ x = cc in subst P same h.0
-each_place P (y ∷ xs) (suc j) x h e = each_place P xs j x h.1 e
 
 middle : {T : Type 0} (front : List T) (x : T) (rest : List T) → slice_get (front ++ x ∷ rest) (length front) ≡ Some x
 middle [] x rest = refl
@@ -58,10 +53,10 @@ at_number (b ∷ as') ns (suc j) n e h =
     let r' = at_number as' (ids as') j n refl (ap (λ xs. slice_get xs (suc j)) e ∙ h) in
     (r'.0, r'.1, r'.2)
 
-value_there : {T : Type 0} (as' : List (At T)) (ns : List ℕ) (j n : ℕ) → ids as' ≡ ns → InOrder as' → slice_get ns j ≡ Some n → IsSome (value_at as' n)
-value_there as' ns j n e order h =
+value_there : {T : Type 0} (as' : List (At T)) (ns : List ℕ) (j n : ℕ) → ids as' ≡ ns → HaveOwnNumbers as' → slice_get ns j ≡ Some n → IsSome (value_at as' n)
+value_there as' ns j n e own h =
     let b = at_number as' ns j n e h in
-    let f = found_at as' j b.0 order b.1 in
+    let f = found_at as' j b.0 own b.1 in
     ap is_some (ap (value_at as') (sym b.2) ∙ f.1)
 
 precondition_there : (a : Analysis) (n : ℕ) → IsSome (value_at a.holds.at n) → IsSome (precondition_in a n)
@@ -119,12 +114,12 @@ module _ (ps : List ParsedTree) (sss : List (List SymbolTree)) (g : Graph) (l : 
       let r = f.1 in
       (length r.front, f.0, ap (λ as'. slice_get as' (length r.front)) r.parts ∙ middle r.front f.0 r.rest, f.2 ∙ m.same)
 
-  module _ (numbered : (i : ℕ) (p : ParsedTree) (ss : List SymbolTree) → IsModule ps sss i p ss → IsNumbered p.module_read.body) (a : Analysis) (r : Located ps sss g l (analyses (known_of ps sss) g) a) where
+  module _ (numbered : (i : ℕ) (p : ParsedTree) (ss : List SymbolTree) → IsModule ps sss i p ss → HasNumbers p.module_read.body) (a : Analysis) (r : Located ps sss g l (analyses (known_of ps sss) g) a) where
     m : ModuleAt ps sss r.good.at a.found.known
     m = module_at ps sss r.good.at a.found.known r.good.is_module
 
-    number : IsNumbered a.found.known.read.body
-    number = subst (λ (k : Known). IsNumbered k.read.body) m.same (numbered r.good.at m.parsed m.table m.is_module)
+    number : HasNumbers a.found.known.read.body
+    number = subst (λ (k : Known). HasNumbers k.read.body) m.same (numbered r.good.at m.parsed m.table m.is_module)
 
     holds : a.holds ≡ preconditions_of m.parsed.module_read.body (scope_of g.untracked (known m.parsed m.table)) (found_in m.parsed.module_read.body (scope_of g.untracked (known m.parsed m.table)) (callees_of_all (known_of ps sss) g)) (analysed_entry (known_of ps sss) g (known m.parsed m.table))
     holds = holds_are ps sss g l r.good.at m.parsed m.table m.is_module (numbered r.good.at m.parsed m.table m.is_module) a r (sym m.same)
@@ -142,11 +137,11 @@ module _ (ps : List ParsedTree) (sss : List (List SymbolTree)) (g : Graph) (l : 
 
     whole_at : IsWhole a
     whole_at = record {
-      preconditions = λ j n e. precondition_there a n (value_there a.holds.at (list_numbers a.found.known.read.body) j n holds_ids (in_order a.holds.at a.found.known.read.body holds_ids number) e);
-      transformers = λ j n e. transformer_there a n (value_there a.found.own.at (list_numbers a.found.known.read.body) j n own_ids (in_order a.found.own.at a.found.known.read.body own_ids number) e);
+      preconditions = λ j n e. precondition_there a n (value_there a.holds.at (list_numbers a.found.known.read.body) j n holds_ids (own_numbers a.holds.at a.found.known.read.body holds_ids number) e);
+      transformers = λ j n e. transformer_there a n (value_there a.found.own.at (list_numbers a.found.known.read.body) j n own_ids (own_numbers a.found.own.at a.found.known.read.body own_ids number) e);
     }
 
-  are_whole : ((i : ℕ) (p : ParsedTree) (ss : List SymbolTree) → IsModule ps sss i p ss → IsNumbered p.module_read.body) → AreWhole (known_of ps sss) (analyses (known_of ps sss) g)
+  are_whole : ((i : ℕ) (p : ParsedTree) (ss : List SymbolTree) → IsModule ps sss i p ss → HasNumbers p.module_read.body) → AreWhole (known_of ps sss) (analyses (known_of ps sss) g)
   are_whole numbered =
       let located : (j : ℕ) (a : Analysis) → slice_get (analyses (known_of ps sss) g) j ≡ Some a → Located ps sss g l (analyses (known_of ps sss) g) a =
       λ j a e. each_place (Located ps sss g l (analyses (known_of ps sss) g)) (analyses (known_of ps sss) g) j a (all_located ps sss g l) e in
@@ -160,4 +155,4 @@ module _ (ps : List ParsedTree) (sss : List (List SymbolTree)) (g : Graph) (l : 
 pub analyses_are_whole : AnalysesAreWhole
 analyses_are_whole ps sss g x =
     are_whole ps sss g (programs_are_linked ps sss g x).0
-    (λ i p ss m. is_numbered p.module_read.body (numbers_go_up x.lines ps x.parsed i p m.parsed))
+    (λ i p ss m. has_numbers p.module_read.body (numbers_go_up x.lines ps x.parsed i p m.parsed))

@@ -7,12 +7,10 @@ use Rattle.f77_ast.specs.declared.symbol.Place.TheVariants as place
 use Rattle.f77_ast.specs.Symbols.{SymbolTree}
 use Rattle.f77_ast.specs.Shared.{symbol_at, place_of, place_at}
 use Rattle.laws_programs.specs.SymbolTables.Laws.{NoDummies, DummiesFirst}
-use Rattle.f77_meaning.specs.Modules.{tag_of, bound_of, as_dummy, dummies_from}
+use Rattle.f77_meaning.specs.Modules.{bound_of, as_dummy, dummies_from}
 use Rattle.laws_programs.proofs.Storage.LyingLaws.{at_least_one}
 use Rattle.f77_ast.proofs.StorageLaws.{from_number as numbered_place, to_number as next_symbol}
-
-abbrev pub the_dummy : ℕ → SymbolTree → Dummy
-the_dummy n s = record { symbol = n; tag = tag_of s.scalar; bounds = map bound_of s.bounds }
+use Rattle.laws_programs.proofs.Storage.KeepLaws.{the_dummy}
 
 no_dummy : (n : ℕ) (s : SymbolTree) (q : Place) → ((k : ℕ) → q ≡ place.Dummy k → ⊥) → as_dummy n s q ≡ []
 no_dummy n s (place.Local g o) h = refl

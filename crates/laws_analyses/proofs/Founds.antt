@@ -8,7 +8,6 @@ use Rattle.f77_ast.specs.Symbols.{SymbolTree, number_from}
 use Rattle.call_graph.specs.declared.graph.Graph.{Graph}
 use Rattle.call_graph.specs.Modules.{names_of}
 use Rattle.f77_meaning.specs.Modules.{Known, known_of}
-use Rattle.f77_meaning.proofs.UnitLaws.{number_least}
 use Rattle.preconditions.specs.transformers.Given.{Callees}
 use Rattle.preconditions.specs.transformers.Modules.{transformers_of}
 use Rattle.laws_programs.specs.Storage.Programs.{IsLinked, IsModule, known}
@@ -17,11 +16,13 @@ use Rattle.laws_programs.specs.Storage.Below.{HasCall}
 use Rattle.laws_programs.proofs.Storage.CallLaws.{calls_are_listed}
 use Rattle.call_graph.specs.CallsIn.{CallAt, Each, list_calls}
 use Rattle.module_phases.specs.ScalarPhases.{scope_of, module_names, module_at, module_of, Found, with_callee, found_of, maybe_found, found_in}
-use Rattle.laws_analyses.proofs.CallLists.{each_more, each_in}
+use Rattle.laws_analyses.proofs.CallLists.{each_in}
 use Rattle.laws_analyses.proofs.UnitLaws.{ModuleAt, module_at as place_module}
 use Rattle.laws_analyses.specs.Results.{callees_after}
 use Rattle.laws_analyses.proofs.CalleeLaws.{Same, same_transformers}
 use Rattle.laws_analyses.proofs.Orders.{NotIn, Sorted, Among}
+use Rattle.f77_ast.proofs.NumberedNames.{number_from-least}
+use Rattle.call_graph.proofs.EachLaws.{each_more}
 
 -- ---- the module of a name
 
@@ -42,7 +43,7 @@ first_of n (y ∷ ks) x i k e h = go (bytes_eq x y.read.name) refl e (first_of (
         let one : y ≡ k = cc in
         ap (λ z. z.read.name) (sym one) ∙ sym ((bytes_eq-Decides x y.read.name).0 q)
     go false q f ih =
-        let least = number_least (suc n) i (module_names ks) x f in
+        let least = number_from-least (suc n) i (module_names ks) x f in
         let less : i - n ≡ suc (i - suc n) = omega (arith, least) in
         ih f (sym (ap (slice_get (y ∷ ks)) less) ∙ h)
 

@@ -48,7 +48,7 @@ use Rattle.laws_analyses.specs.Statements.Laws.{scope_of, no_callees, is_dummy, 
 use Rattle.laws_analyses.specs.ScalarLaws.{AcceptedDataStaysInLocals, NamesAgree, MainsAreAlone, ResultsHold, ReadMainsHold}
 use Rattle.laws_analyses.proofs.ThroughoutLaws.{throughout_more}
 use Rattle.laws_analyses.proofs.MainCallees.{callees_aside}
-use Rattle.laws_programs.proofs.Numbers.{is_numbered}
+use Rattle.laws_programs.proofs.Numbers.{has_numbers}
 use Rattle.laws_analyses.proofs.TargetLaws.{body_lacks_none}
 use Rattle.f77_meaning.proofs.LinkedLaws.{passed}
 use Rattle.laws_programs.proofs.Effects.Once.{main_of_linked as some_main}
@@ -185,7 +185,7 @@ module _ (names_agree : NamesAgree) (data_lies : AcceptedDataStaysInLocals) (are
           no_dummy = has_none ss none;
           cells = cell;
           agrees = names_agree p ss g.untracked table;
-          numbered = is_numbered p.module_read.body (go_up x.lines ps x.parsed r.at p r.is_module.parsed);
+          numbered = has_numbers p.module_read.body (go_up x.lines ps x.parsed r.at p r.is_module.parsed);
           values = first_value;
         }
 

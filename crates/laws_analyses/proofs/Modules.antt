@@ -1,18 +1,19 @@
 -- The modules of a program by their names, and its subroutines in an order.
 use Rattle.std.proofs.Common.{◌≡◌, ℕ, zero, suc, Bool, true, false, List, [], ◌∷◌, ◌++◌, map, Some, refl, sym, ap, ◌∙◌, arith}
-use Rattle.std.specs.Prelude.{if◌then◌else◌, slice_get, bytes_eq}
+use Rattle.std.specs.Prelude.{if◌then◌else◌, slice_get, bytes_eq, option_to_list}
 use Rattle.std.proofs.lemmas.Slice.Eq.{bytes_eq-Decides}
 use Rattle.f77_ast.specs.DeclTrees.{ParsedTree}
 use Rattle.f77_ast.specs.Symbols.{SymbolTree}
 use Rattle.call_graph.specs.declared.graph.Graph.{Graph}
 use Rattle.f77_meaning.specs.Modules.{Known, known_of}
+use Rattle.module_phases.specs.ScalarPhases.{module_of}
 use Rattle.f77_meaning.specs.Linked.{routine, named, subroutines_among, subroutines}
 use Rattle.laws_programs.specs.Storage.Programs.{IsLinked}
 use Rattle.laws_programs.proofs.Storage.ModuleLaws.{names_tell_modules}
 use Rattle.call_graph.specs.CallsIn.{Each}
 use Rattle.laws_analyses.specs.Analysed.{module_named}
 use Rattle.laws_analyses.proofs.UnitLaws.{module_at}
-use Rattle.laws_analyses.proofs.CallLists.{each_more, each_joined}
+use Rattle.call_graph.proofs.EachLaws.{each_more, each_joined}
 
 map-append : {A B : Type 0} (f : A → B) (xs ys : List A) → map f (xs ++ ys) ≡ map f xs ++ map f ys
 map-append f [] ys = refl
@@ -45,6 +46,11 @@ among_in P (k ∷ ks) h = go k.read.main (among_in P ks h.1)
     go : (b : Bool) → Each P (subroutines_among ks) → Each P (if b then subroutines_among ks else k ∷ subroutines_among ks)
     go true i = i
     go false i = (h.0, i)
+
+-- the modules of these names
+abbrev pub modules_at : List Known → List (List ℕ) → List Known
+modules_at ks [] = []
+modules_at ks (x ∷ xs) = option_to_list (module_of ks x) ++ modules_at ks xs
 
 -- the subroutines of an order, the last one first
 abbrev pub subs : List Known → List (List ℕ) → List Known

@@ -19,7 +19,7 @@ use Rattle.laws_programs.specs.Storage.Below.{HasCall}
 use Rattle.laws_programs.proofs.Storage.RankLaws.{split, all_hold}
 use Rattle.laws_programs.proofs.Storage.EdgeLaws.{callees_have}
 use Rattle.laws_programs.proofs.Storage.BelowLaws.{stands}
-use Rattle.laws_programs.proofs.Effects.BottomUp.{other_name}
+use Rattle.fx_lists.proofs.Texts.{unequal_texts}
 
 -- no name of these
 abbrev pub NotIn : List ℕ → List (List ℕ) → Type 0
@@ -59,7 +59,7 @@ none_named names x (b ∷ rest) f = go (slice_get names b) refl (none_named name
   where
     go : (o : Option (List ℕ)) → slice_get names b ≡ o → NotIn x (names_at rest names) → NotIn x (option_to_list o ++ names_at rest names)
     go None e ih = ih
-    go (Some z) e ih = (other_name z x (f b (or_left (nat_eq b b) (holds rest b) (eq-eqb b b refl)) z e), ih)
+    go (Some z) e ih = (unequal_texts z x (f b (or_left (nat_eq b b) (holds rest b) (eq-eqb b b refl)) z e), ih)
 
 -- a name is one of these
 abbrev pub Among : List ℕ → List (List ℕ) → Type 0
@@ -132,7 +132,7 @@ module _ (ps : List ParsedTree) (sss : List (List SymbolTree)) (g : Graph) (l : 
           let here : a ≡ i = same_number a x i q (ap (number_from 0 (names_of ps)) (sym n) ∙ place_of_name ps sss g l.links i p m.parsed) in
           let r = callee_at i p ss m y c in
           let before : holds done r.at ≡ true = ready.1 r.at (ap (λ k. holds (callees_at (callees_of ps sss) k) r.at) here ∙ r.called) in (
-            other_name x y (λ w. let same : a ≡ r.at = same_number a x r.at q (ap (number_from 0 (names_of ps)) w ∙ r.number) in absent r.at before (ap (holds done) (sym same) ∙ ready.0)),
+            unequal_texts x y (λ w. let same : a ≡ r.at = same_number a x r.at q (ap (number_from 0 (names_of ps)) w ∙ r.number) in absent r.at before (ap (holds done) (sym same) ∙ ready.0)),
             none_named (names_of ps) y rest (λ b h z f w. let same : b ≡ r.at = same_number b z r.at f (ap (number_from 0 (names_of ps)) w ∙ r.number) in absent r.at before (ap (holds done) (sym same) ∙ (new b h).0)),
           )
 

@@ -10,10 +10,10 @@ use Rattle.preconditions.specs.call_translation.Sites.{HoldingSite}
 use Rattle.laws_programs.specs.Storage.Programs.{known}
 use Rattle.call_graph.specs.CallsIn.{Each}
 use Rattle.module_phases.specs.ScalarPhases.{Found, list_sites, Analysis, caller_of, sites_of, analysis_of, analyses_from}
-use Rattle.laws_analyses.proofs.CallLists.{each_joined}
 use Rattle.laws_analyses.specs.Results.{summary_named, analyses_before}
-use Rattle.laws_analyses.proofs.CallSites.{in_front, in_back}
 use Rattle.laws_analyses.proofs.Founds.{HasKnown}
+use Rattle.call_graph.proofs.EachLaws.{each_joined}
+use Rattle.preconditions.proofs.TransformerAlgebra.Members.{in_left, in_right}
 
 -- ---- lists turned around
 
@@ -57,8 +57,8 @@ module _ (u : List BlockUnit) where
   run_is done (f ∷ fs) = run_is (done ++ next done f ∷ []) fs ∙ append_assoc done (next done f ∷ []) (run (done ++ next done f ∷ []) fs)
 
   pub in_sites : (front : List Analysis) (a : Analysis) (rest : List Analysis) (x : List ℕ) (s : HoldingSite) → In s (list_sites a.found.known.read.body (caller_of u a) x) → In s (sites_of u (front ++ a ∷ rest) x)
-  in_sites [] a rest x s h = in_front s (list_sites a.found.known.read.body (caller_of u a) x) (sites_of u rest x) h
-  in_sites (b ∷ front) a rest x s h = in_back s (list_sites b.found.known.read.body (caller_of u b) x) (sites_of u (front ++ a ∷ rest) x) (in_sites front a rest x s h)
+  in_sites [] a rest x s h = in_left s (list_sites a.found.known.read.body (caller_of u a) x) (sites_of u rest x) h
+  in_sites (b ∷ front) a rest x s h = in_right s (list_sites b.found.known.read.body (caller_of u b) x) (sites_of u (front ++ a ∷ rest) x) (in_sites front a rest x s h)
 
 -- what stands before the analysis of a name
 pub before_here : (front : List Analysis) (a : Analysis) (rest : List Analysis) → NoAnalysis (name_of a) front → analyses_before (front ++ a ∷ rest) (name_of a) ≡ front

@@ -36,11 +36,12 @@ use Rattle.laws_analyses.specs.CallLaws.{Settled}
 use Rattle.laws_analyses.specs.Analysed.{part_named, AreAnalysed}
 use Rattle.laws_analyses.proofs.DummyLaws.{none_listed}
 use Rattle.laws_analyses.proofs.UnitLaws.{module_at, scope_is}
-use Rattle.laws_analyses.proofs.CallLists.{each_both, each_more, each_in}
+use Rattle.laws_analyses.proofs.CallLists.{each_in}
 use Rattle.laws_analyses.proofs.Subscripts.{HaveSubscripts}
 use Rattle.laws_analyses.proofs.Saneness.{module_sane}
 use Rattle.laws_analyses.proofs.SiteLaws.{call_site}
 use Rattle.laws_analyses.proofs.Modules.{IsIn, subs, subs_in, subs_are, module_named_is}
+use Rattle.call_graph.proofs.EachLaws.{each_both, each_more}
 
 -- what is known of a module
 pub record Ready (g : Graph) (p : ParsedTree) (ss : List SymbolTree) : Type 0 where

@@ -11,6 +11,7 @@ use Rattle.f77_ast.specs.Store as tag
 use Rattle.f77_ast.specs.Steps.{Done, ◌>>=◌}
 use Rattle.f77_ast.specs.Places.{Places, Variable, scalar_place}
 use Rattle.f77_ast.specs.Values.{value, name_value}
+use Rattle.f77_ast.proofs.StorageLaws.{to_number}
 use Rattle.f77_ast.specs.Calls.{Dummy, passed_by_reference, stored, actual, name_actual}
 use Rattle.f77_ast.specs.declared.symbol.Place.TheVariants as place
 use Rattle.f77_ast.specs.Symbols.{BoundTree, SymbolTree}
@@ -35,10 +36,11 @@ use Rattle.laws_programs.proofs.Storage.OwnerLaws.{expression_below, called_owns
 use Rattle.laws_analyses.specs.Calls.Parts.{summary}
 use Rattle.laws_analyses.specs.Calls.Sites.{Site, have_subscripts}
 use Rattle.laws_analyses.specs.Parts.{scope_in, blocks_in, part_of}
-use Rattle.laws_analyses.proofs.DummyLaws.{the_dummy, none_listed, listed}
+use Rattle.laws_analyses.proofs.DummyLaws.{none_listed, listed}
 use Rattle.laws_analyses.proofs.NameLaws.{bounds_scalar}
 use Rattle.laws_analyses.proofs.CellFacts as cells
 use Rattle.laws_analyses.proofs.Saneness.{int_dummies}
+use Rattle.laws_programs.proofs.Storage.KeepLaws.{the_dummy}
 
 -- ---- which actual goes to which dummy
 
@@ -139,7 +141,7 @@ module _ (ps : List ParsedTree) (sss : List (List SymbolTree)) (g : Graph) (l : 
       let whole : is_int_scalar a.symbol ≡ true = and_from (is_int a.symbol.scalar) (not (has_bounds a.symbol.bounds)) (ap is_int type) (ap (λ bs. not (has_bounds bs)) s.solid) in
       let next : 1 + k ≡ suc k = omega arith in
       let number : d.symbol ≡ suc k = ap (λ z. z.symbol) a.is ∙ next in
-      ap (is_cell (scope_in g (known q tt')).tracked) number ∙ int_dummies ps sss g l j q tt' mq (laid j q tt' mq) (suc k) a.dummy_place.0 a.symbol (cells.symbol_behind tt' k a.symbol a.is_symbol) whole a.dummy_place.1
+      ap (is_cell (scope_in g (known q tt')).tracked) number ∙ int_dummies ps sss g l j q tt' mq (laid j q tt' mq) (suc k) a.dummy_place.0 a.symbol (to_number tt' k a.symbol a.is_symbol) whole a.dummy_place.1
 
   pub call_site : (cs : Callees) (sites : List ℕ → List HoldingSite) (here there P : System) (x : List ℕ) → have_subscripts es ≡ true →
       (let h = part_of (known_of ps sss) g cs here (known p ss) in

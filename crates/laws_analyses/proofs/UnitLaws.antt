@@ -19,7 +19,7 @@ use Rattle.f77_meaning.specs.Linked.{offset_in, room_for}
 use Rattle.f77_meaning.specs.Laws.{IsKnown, area_of}
 use Rattle.f77_meaning.proofs.UnitLaws.{units_differ}
 use Rattle.f77_meaning.proofs.ModuleLaws.{variables_occupy_their_storage, offsets_fit}
-use Rattle.f77_meaning.proofs.LinkLaws.{any_found, found_any}
+use Rattle.f77_meaning.proofs.LinkLaws.{any_found}
 use Rattle.preconditions.specs.call_translation.Common.{tracked_at, declares}
 use Rattle.laws_programs.specs.Storage.Programs.{IsLinked, IsModule, IsCell, known}
 use Rattle.laws_programs.specs.Storage.CellLaws.{units}
@@ -31,6 +31,7 @@ use Rattle.laws_programs.specs.Storage.ScopeLaws.{IsScopeOf}
 use Rattle.laws_programs.proofs.Storage.FoundLaws.{found_is_cell}
 use Rattle.laws_analyses.specs.Parts.{scope_in, tracks}
 use Rattle.f77_ast.proofs.StorageLaws.{from_number as numbered_place}
+use Rattle.fx_lists.proofs.Lookups.{any_at}
 
 pub in_own : (p : RunPlace) (n : ℕ) → n < p.extent → in_place p (p.first + n) ≡ true
 in_own p n h = grind (arith, nat_tests)
@@ -123,4 +124,4 @@ module _ (ps : List ParsedTree) (sss : List (List SymbolTree)) (g : Graph) (l : 
       let offset : offset_in s.place ≡ o = ap (λ q. offset_in q) at in
       let there = block_stands b o (units_in ss s) u.offset (omega (arith, offset, x.from, both.1)) (omega (arith, offset, x.below, both.1)) in
       let stands : stands_at ss (place.Block u.block u.offset) s ≡ true = ap (λ q. place_has q (units_in ss s) (place.Block u.block u.offset)) at ∙ ap (λ y. place_has (place.Block b o) (units_in ss s) (place.Block y u.offset)) name ∙ there in
-      found_any (stands_at ss (place.Block u.block u.offset)) ss (v - 1) s (numbered_place ss v s is) stands
+      any_at (stands_at ss (place.Block u.block u.offset)) ss (v - 1) s (numbered_place ss v s is) stands

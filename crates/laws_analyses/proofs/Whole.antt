@@ -14,7 +14,9 @@ use Rattle.laws_programs.proofs.Tables.{programs_are_linked}
 use Rattle.laws_programs.proofs.Whole.{numbers_go_up}
 use Rattle.laws_analyses.specs.ScalarLaws.{NamesAgree, AcceptedDataStaysInLocals}
 use Rattle.laws_analyses.proofs.MainLaws.{built_at}
-use Rattle.laws_programs.proofs.Numbers.{is_numbered}
+use Rattle.laws_programs.proofs.Numbers.{has_numbers}
+use Rattle.laws_analyses.proofs.Programs.{Ready}
+use Rattle.laws_analyses.proofs.Subscripts.{built_have}
 use Rattle.laws_analyses.proofs.TargetLaws.{body_lacks_none}
 use Rattle.laws_analyses.proofs.ThroughoutLaws.{throughout_more}
 use Rattle.laws_analyses.specs.JumpLaws.{JumpsStayInside}
@@ -37,16 +39,19 @@ whole_analyses_hold holds ps sss g x lies settled =
     (analyses_follow ps sss g (programs_are_linked ps sss g x).0 (λ i p ss m. (settled i p ss m).numbered))
 
 module _ (names : NamesAgree) (stays : JumpsStayInside) (ps : List ParsedTree) (sss : List (List SymbolTree)) (g : Graph) (x : IsProgram ps sss g) where
-  settled : (i : ℕ) (p : ParsedTree) (ss : List SymbolTree) → IsModule ps sss i p ss → Settled g p ss
+  pub settled : (i : ℕ) (p : ParsedTree) (ss : List SymbolTree) → IsModule ps sss i p ss → Settled g p ss
   settled i p ss m =
       let table = (programs_are_linked ps sss g x).1 i p ss m in
       let built = built_at ps (all_built x.lines ps x.parsed) i p m.parsed in
       record {
         agrees = names p ss g.untracked table;
         stays = stays x.lines ps x.parsed i p m.parsed;
-        numbered = is_numbered p.module_read.body (numbers_go_up x.lines ps x.parsed i p m.parsed);
+        numbered = has_numbers p.module_read.body (numbers_go_up x.lines ps x.parsed i p m.parsed);
         targets = body_lacks_none ss p.module_read built.well.body built.formed (bodies_are_shaped p ss table);
       }
+
+  pub ready : (i : ℕ) (p : ParsedTree) (ss : List SymbolTree) → IsModule ps sss i p ss → Ready g p ss
+  ready i p ss m = record { settled = settled i p ss m; subscripts = built_have p (built_at ps (all_built x.lines ps x.parsed) i p m.parsed) }
 
 pub read_analyses_hold : NamesAgree → AcceptedDataStaysInLocals → JumpsStayInside → WholeAnalysesHold → ReadAnalysesHold
 read_analyses_hold names lies stays holds ps sss g x turns input =

@@ -17,7 +17,7 @@ use Rattle.laws_programs.specs.Storage.Calls.{AreLaidOut}
 use Rattle.laws_programs.specs.Programs.{IsProgram}
 use Rattle.laws_analyses.specs.Statements.Leads.{StaysIn}
 use Rattle.laws_analyses.specs.Statements.Targets.{lacks_targets}
-use Rattle.f77_ast.specs.StatementNumbers.{IsNumbered}
+use Rattle.f77_ast.specs.StatementNumbers.{HasNumbers}
 use Rattle.laws_analyses.specs.Statements.Laws.{is_scalar}
 use Rattle.laws_analyses.specs.Calls.Parts.{Sane}
 use Rattle.laws_analyses.specs.Calls.ProgramLaws.{EachHolds}
@@ -38,7 +38,7 @@ pub record Settled (g : Graph) (p : ParsedTree) (ss : List SymbolTree) : Type 0 
   pub agrees : NamesAgree g p ss
   -- GO TOs lead to labels of their module
   pub stays : StaysIn p.module_read.body
-  pub numbered : IsNumbered p.module_read.body
+  pub numbered : HasNumbers p.module_read.body
   -- left sides, items of READ and indices of DO are scalars or elements with subscripts
   pub targets : list_has (lacks_targets (is_scalar ss)) p.module_read.body ≡ false
 

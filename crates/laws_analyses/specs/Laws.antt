@@ -8,7 +8,7 @@ use Rattle.f77_meaning.specs.Claimed.{InEveryRun}
 use Rattle.laws_programs.specs.Storage.Programs.{IsLinked, IsModule}
 use Rattle.laws_programs.specs.Storage.Initial.{DataLies}
 use Rattle.laws_programs.specs.Programs.{IsProgram}
-use Rattle.f77_ast.specs.StatementNumbers.{IsNumbered}
+use Rattle.f77_ast.specs.StatementNumbers.{HasNumbers}
 use Rattle.laws_analyses.specs.Calls.ProgramLaws.{EachHolds}
 use Rattle.laws_analyses.specs.CallLaws.{Settled}
 use Rattle.laws_analyses.specs.Analysed.{part_named, AreAnalysed}
@@ -19,7 +19,7 @@ use Rattle.laws_analyses.specs.Results.{callees_of_all, analysed_entry, analysed
 
 -- the analyses of a program that links, whose statements are numbered, give summaries and entries that follow from one another
 abbrev pub AnalysesFollow : Type 0
-AnalysesFollow = (ps : List ParsedTree) (sss : List (List SymbolTree)) (g : Graph) → IsLinked ps sss g → ((i : ℕ) (p : ParsedTree) (ss : List SymbolTree) → IsModule ps sss i p ss → IsNumbered p.module_read.body) →
+AnalysesFollow = (ps : List ParsedTree) (sss : List (List SymbolTree)) (g : Graph) → IsLinked ps sss g → ((i : ℕ) (p : ParsedTree) (ss : List SymbolTree) → IsModule ps sss i p ss → HasNumbers p.module_read.body) →
     AreAnalysed (known_of ps sss) g (callees_of_all (known_of ps sss) g) (analysed_sites (known_of ps sss) g) (analysed_entry (known_of ps sss) g)
 
 -- in every run of a program that is read, up to its first fault, what they give holds, where names, GO TOs, numbers and targets are as reading makes them

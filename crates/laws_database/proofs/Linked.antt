@@ -29,6 +29,7 @@ use Rattle.session_texts.specs.pipsmake_meaning.MemoCells.{MemoCells}
 use Rattle.session_texts.specs.pipsmake_meaning.Rules.{known}
 use Rattle.laws_database.proofs.Modules.{Read, read_at, trees_named}
 use Rattle.laws_database.proofs.Same.{known_same}
+use Rattle.fx_lists.proofs.Options.{some_same}
 
 -- ---- the table of a module
 
@@ -140,9 +141,6 @@ known_named ts ms i k e =
     let m = module_at (trees_in ts) (tables_in ts) i k e in
     subst (λ (z : Known). has_name (names_in ts) z.read.name ≡ true) m.same (trees_named ts ms i m.parsed m.is_module.parsed)
 
-some_place : (i j : ℕ) → Some i ≡ Some j → i ≡ j
-some_place i j e = cc
-
 -- of two texts that link, with the same names and values
 module _ (sh : MemoCells) (old ts : List ModuleText) (mo : AreModules old) (ms : AreModules ts) (g d : Graph) (lo : links_in old ≡ Ok g) (l : links_in ts ≡ Ok d) (names : names_in old ≡ names_in ts)
     (same : (y : List ℕ) → has_name (names_in ts) y ≡ true → SameValue old ts (key_of kind.Parsed y) × SameValue old ts (key_of kind.Symbols y)) where
@@ -162,8 +160,8 @@ module _ (sh : MemoCells) (old ts : List ModuleText) (mo : AreModules old) (ms :
       let no = known_named old mo i k e in
       let n : has_name (names_in ts) k.read.name ≡ true = subst (λ xs. has_name xs k.read.name ≡ true) names no in
       let here = place_of old mo g lo i k e in
-      let a : (read_at old mo y no).at ≡ i = some_place (read_at old mo y no).at i (sym (at_old y no n) ∙ here) in
-      let b : (read_at ts ms y n).at ≡ i = some_place (read_at ts ms y n).at i (sym (at_new y no n) ∙ (ap (λ xs. number_from 0 xs k.read.name) (sym names) ∙ here)) in
+      let a : (read_at old mo y no).at ≡ i = some_same (read_at old mo y no).at i (sym (at_old y no n) ∙ here) in
+      let b : (read_at ts ms y n).at ≡ i = some_same (read_at ts ms y n).at i (sym (at_new y no n) ∙ (ap (λ xs. number_from 0 xs k.read.name) (sym names) ∙ here)) in
       let s : Some k ≡ Some (known (read_at old mo y no).read) = sym e ∙ (ap (slice_get (known_in old)) (sym a) ∙ (read_at old mo y no).is_known) in
       ap (slice_get (known_in ts)) (sym b) ∙ ((read_at ts ms y n).is_known ∙ (ap (λ z. Some z) (sym (both y no n)) ∙ sym s))
 
@@ -173,8 +171,8 @@ module _ (sh : MemoCells) (old ts : List ModuleText) (mo : AreModules old) (ms :
       let n = known_named ts ms i k e in
       let no : has_name (names_in old) k.read.name ≡ true = subst (λ xs. has_name xs k.read.name ≡ true) (sym names) n in
       let here = place_of ts ms d l i k e in
-      let a : (read_at ts ms y n).at ≡ i = some_place (read_at ts ms y n).at i (sym (at_new y no n) ∙ here) in
-      let b : (read_at old mo y no).at ≡ i = some_place (read_at old mo y no).at i (sym (at_old y no n) ∙ (ap (λ xs. number_from 0 xs k.read.name) names ∙ here)) in
+      let a : (read_at ts ms y n).at ≡ i = some_same (read_at ts ms y n).at i (sym (at_new y no n) ∙ here) in
+      let b : (read_at old mo y no).at ≡ i = some_same (read_at old mo y no).at i (sym (at_old y no n) ∙ (ap (λ xs. number_from 0 xs k.read.name) names ∙ here)) in
       let s : Some k ≡ Some (known (read_at ts ms y n).read) = sym e ∙ (ap (slice_get (known_in ts)) (sym a) ∙ (read_at ts ms y n).is_known) in
       ap (slice_get (known_in old)) (sym b) ∙ ((read_at old mo y no).is_known ∙ (ap (λ z. Some z) (both y no n) ∙ sym s))
 

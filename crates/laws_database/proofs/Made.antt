@@ -22,7 +22,6 @@ use Rattle.loop_marker.specs.Known.{knowledge_of}
 use Rattle.loop_marker.specs.Marks.{marks_of}
 use Rattle.loop_marker.specs.Results.{ModuleResults}
 use Rattle.call_graph.specs.CallsIn.{Each, list_calls}
-use Rattle.laws_analyses.proofs.CallLists.{each_both, each_more}
 use Rattle.laws_analyses.proofs.Passes.{each_reversed}
 use Rattle.laws_analyses.proofs.CalleeLaws.{same_transformers}
 use Rattle.session_texts.specs.pipsmake_meaning.ResultEntries.{results_of_modules, name_in, results_for}
@@ -63,6 +62,8 @@ use Rattle.laws_database.proofs.Modules.{read_at, Entry, entry_of as entry_at, l
 use Rattle.laws_database.proofs.Needs.{named_callees, named_callers}
 use Rattle.laws_database.proofs.Called.{IsSeen, called_are, second_of, third_of, fourth_of, skip_none, callers_same}
 use Rattle.in_out_regions.specs.region_sets.Lists.{set_at}
+use Rattle.call_graph.proofs.EachLaws.{each_both, each_more}
+use Rattle.fx_lists.proofs.Options.{some_is}
 
 pub said_each : (P : ModuleResults → Type 0) (fs : List ModuleResults) (x : List ℕ) (f : ModuleResults) → Each P fs → results_for fs x ≡ Some f → P f
 said_each P [] x f e h = cc
@@ -79,9 +80,6 @@ each_kept P t (f ∷ fs) h = go (t f) (each_kept P t fs h.1)
     go : (b : Bool) → Each P (filter t fs) → Each P (cond b (f ∷ filter t fs) (filter t fs))
     go true ih = (h.0, ih)
     go false ih = ih
-
-one_entry : (f h : ModuleResults) → Some f ≡ Some h → f ≡ h
-one_entry f h e = cc
 
 -- ---- callers
 
@@ -234,7 +232,7 @@ module _ (ts : List ModuleText) (ms : AreModules ts) (sh : MemoCells) (links : l
       where
         see : (d : ModuleResults) → IsNamed d → (m : IsName (name_in d)) → IsKnown sh ts (key_of kind.Preconditions (name_in d)) → Holds ts sh u x d
         see d named m q =
-            let same : (entry (name_in d) m).entry ≡ d = one_entry (entry (name_in d) m).entry d (sym (entry (name_in d) m).said ∙ named) in
+            let same : (entry (name_in d) m).entry ≡ d = some_is (entry (name_in d) m).entry d (sym (entry (name_in d) m).said ∙ named) in
             record {
               read = (read_at ts ms (name_in d) m).read;
               is_read = (read_at ts ms (name_in d) m).is_read;
@@ -252,7 +250,7 @@ module _ (ts : List ModuleText) (ms : AreModules ts) (sh : MemoCells) (links : l
       where
         see : (d : ModuleResults) → IsNamed d → (m : IsName (name_in d)) → IsKnown sh ts (key_of kind.Transformers (name_in d)) → IsKnown sh ts (key_of kind.OutRegions (name_in d)) → Later ts sh u x d
         see d named m p q =
-            let same : (entry (name_in d) m).entry ≡ d = one_entry (entry (name_in d) m).entry d (sym (entry (name_in d) m).said ∙ named) in
+            let same : (entry (name_in d) m).entry ≡ d = some_is (entry (name_in d) m).entry d (sym (entry (name_in d) m).said ∙ named) in
             record {
               read = (read_at ts ms (name_in d) m).read;
               is_read = (read_at ts ms (name_in d) m).is_read;

@@ -4,7 +4,6 @@ use Rattle.std.specs.Prelude.{bytes_eq, option_map}
 use Rattle.std.proofs.lemmas.Bool.{or_left, or_right}
 use Rattle.std.proofs.lemmas.Slice.Eq.{bytes_eq-Decides}
 use Rattle.call_graph.specs.CallsIn.{Each}
-use Rattle.laws_analyses.proofs.CallLists.{each_more, each_joined}
 use Rattle.result_lines.specs.declared.show.Show.TheVariants.{All}
 use Rattle.session_texts.specs.pipsmake_rules.declared.kind.Kind.{Kind}
 use Rattle.session_texts.specs.pipsmake_rules.declared.kind.Kind.TheVariants as kind
@@ -19,6 +18,7 @@ use Rattle.session_texts.specs.pipsmake_meaning.Session.{needs_in}
 use Rattle.laws_database.specs.Laws.{AreLinked, CanMake}
 use Rattle.laws_database.proofs.Stamps.{HasText}
 use Rattle.laws_database.proofs.Modules.{Read, read_at, Entry, entry_of, callees_named, callers_named}
+use Rattle.call_graph.proofs.EachLaws.{each_more, each_joined}
 
 own_names : (xs : List (List ℕ)) → Each (λ y. has_name xs y ≡ true) xs
 own_names [] = tt

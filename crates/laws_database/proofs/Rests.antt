@@ -9,7 +9,6 @@ use Rattle.in_out_regions.specs.region_sets.declared.region.Region.{Region}
 use Rattle.f77_ast.specs.declared.marks.Mark.{Mark}
 use Rattle.result_lines.specs.Lines.{PrintedResults}
 use Rattle.call_graph.specs.CallsIn.{Each}
-use Rattle.laws_analyses.proofs.CallLists.{each_more}
 use Rattle.session_texts.specs.pipsmake_rules.declared.kind.Kind.{Kind}
 use Rattle.session_texts.specs.pipsmake_rules.declared.kind.Kind.TheVariants as kind
 use Rattle.session_texts.specs.pipsmake_rules.declared.key.Key.{Key}
@@ -27,6 +26,7 @@ use Rattle.laws_database.proofs.Modules.{read_at}
 use Rattle.laws_database.proofs.Needs.{Can, has_value, has_text}
 use Rattle.laws_database.proofs.Unverified.{IsKept, RestFacts, rested}
 use Rattle.laws_database.proofs.Whole.{each_front, walk_can, in_order}
+use Rattle.call_graph.proofs.EachLaws.{each_more}
 
 same_kept : (d : Valuation) (sh : MemoCells) (n : Key) → IsKept d sh n → kept_of sh n.kind n.name ≡ d n.kind n.name
 same_kept d sh n q = q.kept ∙ sym q.is

@@ -5,9 +5,9 @@ use Rattle.std.proofs.lemmas.Slice.Eq.{bytes_eq-Decides}
 use Rattle.f77_ast.specs.Summaries.{SummaryTree}
 use Rattle.f77_meaning.specs.Modules.{Known}
 use Rattle.call_graph.specs.CallsIn.{CallAt, Each, list_calls}
-use Rattle.laws_analyses.proofs.CallLists.{each_more}
 use Rattle.laws_database.specs.ResultCallees.{Summaries, SameCallees}
 use Rattle.laws_database.proofs.ResultOrders.{NoneNamed, CalleesFirst}
+use Rattle.call_graph.proofs.EachLaws.{each_more}
 
 -- from A it makes B, of which callers see T; the summaries of what a module does not call do not matter
 pub record Pass (A B T : Type 0) : Type 0 where

@@ -14,19 +14,20 @@ use Rattle.loop_marker.specs.Results.{ModuleResults}
 use Rattle.loop_marker.specs.Phases.{phases_of, analysis_in, all_marks}
 use Rattle.laws_programs.specs.Storage.Programs.{IsLinked, known}
 use Rattle.call_graph.specs.CallsIn.{Each}
-use Rattle.laws_analyses.proofs.CallLists.{each_more, each_both}
 use Rattle.laws_analyses.proofs.Founds.{module_of_is, module_found}
 use Rattle.laws_analyses.proofs.Orders.{Among, each_stands}
 use Rattle.laws_analyses.proofs.UnitLaws.{module_at as place_module}
 use Rattle.session_texts.specs.pipsmake_meaning.ResultEntries.{results_of_modules, name_in, results_for}
 use Rattle.laws_database.specs.ResultLaws.{HavePasses, IsFound, HasEntry, AreEntries}
 use Rattle.laws_database.proofs.ResultLists.{each_mapped}
-use Rattle.laws_database.proofs.ResultOrders.{CalleesFirst, modules_at, modules_sorted}
+use Rattle.laws_database.proofs.ResultOrders.{CalleesFirst, modules_sorted}
 use Rattle.laws_database.proofs.ResultBottomUp.{run, no_summaries, backs}
 use Rattle.laws_database.proofs.ResultTopDown.{run as down, backs as backs_down}
 use Rattle.laws_database.proofs.ResultPhases.{with_own, founds_are, with_holds, analyses_are, with_sets, regions_are, with_in_sets, ins_are, with_out_sets, outs_are, with_loops, marks_are}
 use Rattle.fx_lists.proofs.Texts.{turned, same_name}
 use Rattle.fx_lists.proofs.Lists.{map_reverse}
+use Rattle.call_graph.proofs.EachLaws.{each_both, each_more}
+use Rattle.laws_analyses.proofs.Modules.{IsIn, modules_at}
 
 -- ---- lists of results
 
@@ -149,10 +150,6 @@ found_by_name (f ∷ fs) s = (
       (λ h q. ap (λ b. if b then Some f else results_for fs (name_in h)) (turned (name_in f) (name_in h) ∙ q.0) ∙ q.1)
       (each_both (λ (h : ModuleResults). bytes_eq (name_in h) (name_in f) ≡ false) (IsNamed fs) fs (each_mapped (λ (k : Known). bytes_eq k.read.name (name_in f) ≡ false) (λ (f : ModuleResults). f.known) fs s.0) (found_by_name fs s.2)),
 )
-
-pub record IsIn (ks : List Known) (k : Known) : Type 0 where
-  pub at : ℕ
-  pub is_module : slice_get ks at ≡ Some k
 
 modules_in : (ks : List Known) (xs : List (List ℕ)) → Each (IsIn ks) (modules_at ks xs)
 modules_in ks [] = tt

@@ -14,20 +14,21 @@ use Rattle.loop_marker.specs.Results.{ModuleResults}
 use Rattle.loop_marker.specs.Phases.{phases_of, analysis_in, with_marks, marks_found}
 use Rattle.laws_programs.specs.Storage.Programs.{IsLinked}
 use Rattle.call_graph.specs.CallsIn.{Each}
-use Rattle.laws_analyses.proofs.CallLists.{each_more, each_both}
 use Rattle.laws_analyses.proofs.Passes.{each_reversed}
 use Rattle.session_texts.specs.pipsmake_meaning.ResultEntries.{results_of_modules, name_in, results_for}
 use Rattle.laws_database.specs.ResultCallees.{seen_of, summaries, effect_summaries, transformer_summaries, region_summaries, in_summaries}
 use Rattle.laws_database.specs.ResultCallers.{callers, holding_sites, later_sites}
 use Rattle.laws_database.specs.ResultEquations.{FollowsFrom}
 use Rattle.laws_database.proofs.ResultLists.{each_mapped}
-use Rattle.laws_database.proofs.ResultOrders.{CalleesFirst, CallersFirst, callers_first, modules_at, modules_sorted}
+use Rattle.laws_database.proofs.ResultOrders.{CalleesFirst, CallersFirst, callers_first, modules_sorted}
 use Rattle.laws_database.proofs.ResultBottomUp.{Pass, no_summaries, first_or, all_good}
 use Rattle.laws_database.proofs.ResultTopDown.{sites, all_good as all_good_down}
 use Rattle.laws_database.proofs.ResultSites.{all_sites}
 use Rattle.laws_database.proofs.ResultPhases.{with_own, with_holds, holding_are, with_sets, with_in_sets, with_out_sets, later_are, with_loops}
 use Rattle.laws_database.proofs.ResultEntries.{map_same, turned_list, modules, founds, holds, regions, ins, outs, entries, entries_are, outs_of_entries, ins_of_entries, regions_of_entries, holds_of_entries, founds_of_entries, modules_of_founds, modules_of_holds, modules_of_regions, modules_of_ins, modules_of_outs}
 use Rattle.fx_lists.proofs.Lists.{map_reverse}
+use Rattle.call_graph.proofs.EachLaws.{each_both, each_more}
+use Rattle.laws_analyses.proofs.Modules.{modules_at}
 
 -- ---- summaries by the entries
 

@@ -24,19 +24,18 @@ use Rattle.loop_marker.specs.Results.{ModuleResults}
 use Rattle.laws_programs.specs.Storage.Programs.{IsLinked, known}
 use Rattle.laws_programs.proofs.Storage.ModuleLaws.{place_of_name}
 use Rattle.call_graph.specs.CallsIn.{CallAt, Each, stmt_calls, what_calls, list_calls, arms_calls, arm_calls, else_calls, loop_calls}
-use Rattle.laws_analyses.proofs.CallLists.{each_more}
 use Rattle.laws_analyses.proofs.Founds.{module_of_is, module_found}
 use Rattle.laws_analyses.proofs.Passes.{each_reversed}
 use Rattle.laws_analyses.proofs.UnitLaws.{module_at as place_module}
 use Rattle.session_texts.specs.pipsmake_meaning.ResultEntries.{results_of_modules, name_in}
 use Rattle.laws_database.specs.ResultCallers.{calls, callers, calls_by, caller_names}
 use Rattle.laws_database.specs.ResultLaws.{IsFound, IsInGraph, AreInGraph}
-use Rattle.laws_database.proofs.ResultOrders.{modules_at}
 use Rattle.laws_database.proofs.ResultEntries.{through, entries, entries_are, modules_of_entries, modules_have_entries}
 use Rattle.f77_meaning.proofs.LinkedLaws.{is_graph as graph_is}
-use Rattle.laws_programs.proofs.Effects.BottomUp.{other_name}
-use Rattle.fx_lists.proofs.Texts.{same_name}
+use Rattle.fx_lists.proofs.Texts.{same_name, unequal_texts}
 use Rattle.fx_lists.proofs.Lists.{map_reverse}
+use Rattle.call_graph.proofs.EachLaws.{each_more}
+use Rattle.laws_analyses.proofs.Modules.{modules_at}
 
 -- ---- the CALLs of a module, as links and as bodies have them
 
@@ -115,7 +114,7 @@ none_from [] sss x only = refl
 none_from (q ∷ ps) [] x only = refl
 none_from (q ∷ ps) (ss ∷ sss) x only =
     callees_joined (edges_of q.module_read.name (calls_of q ss)) (all_edges (names_of ps) (all_calls ps sss)) x
-    ∙ (λ i. no_callees q.module_read.name x (calls_of q ss) (other_name q.module_read.name x (only zero q refl)) i ++ none_from ps sss x (λ j r e. only (suc j) r e) i)
+    ∙ (λ i. no_callees q.module_read.name x (calls_of q ss) (unequal_texts q.module_read.name x (only zero q refl)) i ++ none_from ps sss x (λ j r e. only (suc j) r e) i)
 
 callees_are : (ps : List ParsedTree) (sss : List (List SymbolTree)) (i : ℕ) (p : ParsedTree) (ss : List SymbolTree) → slice_get ps i ≡ Some p → slice_get sss i ≡ Some ss → (x : List ℕ) → p.module_read.name ≡ x →
     ((j : ℕ) (q : ParsedTree) → slice_get ps j ≡ Some q → q.module_read.name ≡ x → j ≡ i) → callees (all_edges (names_of ps) (all_calls ps sss)) x ≡ map name_called (calls_of p ss)
@@ -130,7 +129,7 @@ callees_are (q ∷ ps) (us ∷ sss) zero p ss e f x n only =
     callees_joined (edges_of q.module_read.name (calls_of q us)) (all_edges (names_of ps) (all_calls ps sss)) x
     ∙ ((λ i. own i ++ rest i) ∙ (append-nil (map name_called (calls_of q us)) ∙ (λ i. map name_called (calls_of (one i) (two i)))))
 callees_are (q ∷ ps) (us ∷ sss) (suc i) p ss e f x n only =
-    let other : bytes_eq q.module_read.name x ≡ false = other_name q.module_read.name x (λ w. absurd (let z = only zero q refl w in omega (arith, z))) in
+    let other : bytes_eq q.module_read.name x ≡ false = unequal_texts q.module_read.name x (λ w. absurd (let z = only zero q refl w in omega (arith, z))) in
     callees_joined (edges_of q.module_read.name (calls_of q us)) (all_edges (names_of ps) (all_calls ps sss)) x
     ∙ (ap (λ z. z ++ callees (all_edges (names_of ps) (all_calls ps sss)) x) (no_callees q.module_read.name x (calls_of q us) other)
     ∙ callees_are ps sss i p ss e f x n (λ j r h w. (let z = only (suc j) r h w in omega (arith, z))))

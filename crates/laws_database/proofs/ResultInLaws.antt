@@ -23,8 +23,8 @@ use Rattle.in_out_regions.specs.Statement.{list_of, alone, if_in, do_of, what_in
 use Rattle.in_out_regions.specs.Modules.{summary_of, ins_of, ins_with}
 use Rattle.call_graph.specs.CallsIn.{CallAt, Each, stmt_calls, what_calls, list_calls, arms_calls, arm_calls, else_calls, loop_calls}
 use Rattle.laws_analyses.proofs.Statements.Placing.{each_parts}
-use Rattle.laws_analyses.proofs.CallLists.{each_more}
 use Rattle.laws_database.specs.ResultCallees.{SameCallees}
+use Rattle.call_graph.proofs.EachLaws.{each_more}
 
 module _ (m : ScopeTree) (t : Found) (accesses : List (At (List Region))) (c d : Called) where
   abbrev Same : CallAt → Type 0

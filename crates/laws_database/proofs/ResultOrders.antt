@@ -11,13 +11,15 @@ use Rattle.laws_programs.specs.Storage.Programs.{IsLinked}
 use Rattle.laws_programs.specs.Storage.Below.{HasCall}
 use Rattle.laws_programs.proofs.Storage.CallLaws.{calls_are_listed}
 use Rattle.call_graph.specs.CallsIn.{CallAt, Each, list_calls}
-use Rattle.laws_analyses.proofs.CallLists.{each_in, each_more, each_joined}
+use Rattle.laws_analyses.proofs.CallLists.{each_in}
 use Rattle.laws_analyses.proofs.Founds.{ModuleOf, module_of_is}
 use Rattle.laws_analyses.proofs.Orders.{NotIn, Sorted, order_sorted}
 use Rattle.laws_analyses.proofs.Passes.{each_reversed}
 use Rattle.laws_analyses.proofs.UnitLaws.{ModuleAt, module_at as place_module}
 use Rattle.laws_database.proofs.ResultLists.{each_turned}
 use Rattle.fx_lists.proofs.Texts.{turned}
+use Rattle.call_graph.proofs.EachLaws.{each_more, each_joined}
+use Rattle.laws_analyses.proofs.Modules.{modules_at}
 
 -- none of these modules has the name
 abbrev pub NoneNamed : List ℕ → List Known → Type 0
@@ -51,10 +53,6 @@ callers_first (k ∷ ks) s =
     subst CallersFirst (sym (reverse-cons k ks)) (one_more (reverse ks) k (callers_first ks s.2) (each_reversed (λ (x : Known). NoCall x.read.name k) ks silent.1) silent.0)
 
 -- ---- the modules of these names
-
-abbrev pub modules_at : List Known → List (List ℕ) → List Known
-modules_at ks [] = []
-modules_at ks (x ∷ xs) = option_to_list (module_of ks x) ++ modules_at ks xs
 
 none_named : (ks : List Known) (xs : List (List ℕ)) (y : List ℕ) → NotIn y xs → NoneNamed y (modules_at ks xs)
 none_named ks [] y n = tt

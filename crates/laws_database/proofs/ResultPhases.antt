@@ -25,10 +25,10 @@ use Rattle.laws_database.specs.ResultCallees.{Summaries}
 use Rattle.laws_database.proofs.ResultEffectLaws.{same_effects}
 use Rattle.laws_database.proofs.ResultRegionLaws.{same_regions}
 use Rattle.laws_database.proofs.ResultInLaws.{same_ins}
-use Rattle.laws_database.proofs.ResultOrders.{modules_at}
 use Rattle.laws_database.proofs.ResultBottomUp.{Pass, run}
 use Rattle.laws_database.proofs.ResultTopDown.{Descent, sites, next, run as down}
 use Rattle.laws_database.proofs.ResultSites.{no_holding_sites, no_later_sites}
+use Rattle.laws_analyses.proofs.Modules.{modules_at}
 
 -- ---- transformers
 

@@ -30,7 +30,6 @@ use Rattle.loop_marker.specs.Results.{ModuleResults}
 use Rattle.loop_marker.specs.Phases.{effects_found}
 use Rattle.laws_programs.specs.Storage.Programs.{IsLinked}
 use Rattle.call_graph.specs.CallsIn.{Each, list_calls}
-use Rattle.laws_analyses.proofs.CallLists.{each_more}
 use Rattle.laws_analyses.proofs.Passes.{each_reversed}
 use Rattle.laws_analyses.proofs.CalleeLaws.{same_transformers}
 use Rattle.session_texts.specs.pipsmake_meaning.ResultEntries.{results_of_modules, name_in, results_for}
@@ -47,6 +46,7 @@ use Rattle.laws_database.proofs.ResultEntries.{modules_have_entries, IsNamed}
 use Rattle.laws_database.proofs.ResultGraphs.{name_in_call, are_in_graph}
 use Rattle.laws_database.proofs.ResultFollows.{results_follow}
 use Rattle.in_out_regions.specs.region_sets.Lists.{set_at}
+use Rattle.call_graph.proofs.EachLaws.{each_more}
 
 -- ---- CALLs by what is needed of the modules that have them
 

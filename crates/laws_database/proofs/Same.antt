@@ -15,7 +15,6 @@ use Rattle.loop_marker.specs.module_phases.ScalarPhases.{scope_of}
 use Rattle.loop_marker.specs.Known.{knowledge_of}
 use Rattle.loop_marker.specs.Marks.{marks_of}
 use Rattle.call_graph.specs.CallsIn.{Each}
-use Rattle.laws_analyses.proofs.CallLists.{each_more}
 use Rattle.result_lines.specs.Lines.{lines_of}
 use Rattle.result_lines.specs.declared.show.Show.TheVariants.{All}
 use Rattle.loop_marker.specs.module_phases.Rules.{effects_from, transformers_from, preconditions_from, regions_from, ins_from, outs_from}
@@ -34,6 +33,7 @@ use Rattle.session_texts.specs.pipsmake_meaning.Rules.{known, effects_kept, tran
 use Rattle.laws_database.specs.Laws.{AreLinked}
 use Rattle.laws_database.proofs.Modules.{read_at}
 use Rattle.laws_database.proofs.Called.{second_of, third_of, fourth_of, skip_none}
+use Rattle.call_graph.proofs.EachLaws.{each_more}
 
 -- ---- what values tell
 

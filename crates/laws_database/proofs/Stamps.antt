@@ -12,6 +12,7 @@ use Rattle.session_texts.specs.pipsmake_meaning.Session.{needs_in, SameText, Sam
 use Rattle.session_texts.specs.pipsmake_meaning.MemoCells.{MemoCells, MemoCell, Stamped, Kept, value_under, kept_value, kept_stamp, kept_of, IsNew, AreDistinct, Adds}
 use Rattle.session_texts.specs.pipsmake_meaning.Making.{stamp_of, text_stamps, stamps_now}
 use Rattle.laws_database.specs.Stands.{Needed, text_needed, needed, AreStamps}
+use Rattle.fx_lists.proofs.Options.{some_is}
 
 -- ---- values that are all different
 
@@ -62,9 +63,6 @@ same_place : (sh : MemoCells) → Distinct sh → (a b : Item) (x y : List ℕ) 
 same_place sh d a b x y i j v w p q r e f =
     one_place (sh b y).values i j w (d b y) (sym (λ k. slice_get (sh (p k) (q k)).values i) ∙ (e ∙ ap (λ z. Some z) r)) f
 
-some : (v w : Value) → Some v ≡ Some w → v ≡ w
-some v w e = cc
-
 -- values have one stamp each
 pub stamps_same : (sh : MemoCells) → Distinct sh → (ss ts : List Stamped) (ns : List Needed) → AreStamps sh ss ns → AreStamps sh ts ns → ss ≡ ts
 stamps_same sh d [] [] [] a b = refl
@@ -75,7 +73,7 @@ stamps_same sh d (s ∷ ss) [] (n ∷ ns) a b = absurd b
 stamps_same sh d (s ∷ ss) (t ∷ ts) (n ∷ ns) a b =
     let item : s.item ≡ t.item = a.0 ∙ sym b.0 in
     let name : s.name ≡ t.name = a.1 ∙ sym b.1 in
-    let value : a.2.0 ≡ b.2.0 = some a.2.0 b.2.0 (sym a.2.1 ∙ b.2.1) in
+    let value : a.2.0 ≡ b.2.0 = some_is a.2.0 b.2.0 (sym a.2.1 ∙ b.2.1) in
     let stamp : s.stamp ≡ t.stamp = same_place sh d s.item t.item s.name t.name s.stamp t.stamp a.2.0 b.2.0 item name value a.2.2 b.2.2 in
     let rest : ss ≡ ts = stamps_same sh d ss ts ns a.3 b.3 in
     λ i. record { item = item i; name = name i; stamp = stamp i } ∷ rest i

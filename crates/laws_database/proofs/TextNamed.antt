@@ -17,6 +17,7 @@ use Rattle.laws_database.specs.ProgramTexts.{text_with, texts_with, text_named, 
 use Rattle.laws_database.specs.ProgramTextLaws.{NamesShowTheText}
 use Rattle.laws_database.proofs.Linked.{names_are as names-same}
 use Rattle.session_texts.proofs.Keeping.{tree_in as tree}
+use Rattle.fx_lists.proofs.Texts.{apart_back}
 
 -- ---- each text is the one of its name
 
@@ -28,16 +29,6 @@ tree-at (t ∷ ts) h zero u e =
 tree-at (t ∷ ts) h (suc i) u e =
     let r = tree-at ts h.1 i u e in
     (r.0, ap (λ o. slice_get (map tree (option_to_list o ++ modules_in ts)) (suc i)) h.0.is_read ∙ r.1, r.2)
-
-other-way : (a b : List ℕ) → bytes_eq a b ≡ false → bytes_eq b a ≡ false
-other-way a b h = go (bytes_eq b a) refl
-  where
-    go : (v : Bool) → bytes_eq b a ≡ v → bytes_eq b a ≡ false
-    go true e =
-        let same : b ≡ a = (bytes_eq-Decides b a).0 e in
-        let back : bytes_eq a b ≡ true = (bytes_eq-Decides a b).1 (sym same) in
-        cc
-    go false e = e
 
 text-at : (k i : ℕ) (ts : List ModuleText) (x : List ℕ) (u : ModuleText) → u.name ≡ x → number_from k (names_in ts) x ≡ Some (k + i) → slice_get ts i ≡ Some u → text_of ts x ≡ Some u.text
 text-at k i [] x u n h e = cc
@@ -54,7 +45,7 @@ text-at k (suc i) (t ∷ ts) x u n h e = go (bytes_eq x t.name) refl h (λ f. te
         absurd (omega (arith, same))
     go false g f ih =
         let next : k + suc i ≡ suc k + i = omega arith in
-        ap (λ b. if b then Some t.text else text_of ts x) (other-way x t.name g) ∙ ih (f ∙ ap Some next)
+        ap (λ b. if b then Some t.text else text_of ts x) (apart_back x t.name g) ∙ ih (f ∙ ap Some next)
 
 own-text : (ts : List ModuleText) (g : Graph) → AreModules ts → links_in ts ≡ Ok g → (i : ℕ) (u : ModuleText) → slice_get ts i ≡ Some u → text_of ts u.name ≡ Some u.text
 own-text ts g h l i u e =

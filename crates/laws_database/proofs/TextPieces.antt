@@ -1,39 +1,33 @@
 -- The pieces of the text of a program are its modules, and make the program.
 use Rattle.std.proofs.Common.{◌≡◌, ℕ, List, [], ◌∷◌, map, refl, sym, ap, ◌∙◌, subst}
-use Rattle.std.specs.Prelude.{Some, Ok}
+use Rattle.std.specs.Prelude.{Ok}
 use Rattle.f77_ast.specs.DeclTrees.{ParsedTree}
 use Rattle.f77_ast.specs.Symbols.{SymbolTree}
 use Rattle.storage_layout.specs.Symbols.{symbols_of}
 use Rattle.call_graph.specs.Links.{link_of}
 use Rattle.fixed_form.specs.declared.source.Piece.{Piece}
 use Rattle.fixed_form.specs.Pieces.{pieces_of}
-use Rattle.f77_parser.specs.Gives.{and_then}
-use Rattle.f77_parser.specs.Modules.{parse_of}
-use Rattle.laws_programs.specs.roundtrip_programs.Texts.Texts.{IsReadAs}
 use Rattle.laws_programs.specs.roundtrip_programs.Laws.{tree_of, TablesIgnorePlaces, GraphsIgnorePlaces}
 use Rattle.laws_programs.specs.roundtrip_programs.Programs.{AreTables}
 use Rattle.laws_programs.specs.roundtrip_programs.Pieces.Laws.{IsPieceOf, ArePiecesOf, PiecesAreModules}
 use Rattle.laws_programs.specs.roundtrip_programs.Pieces.Joined.{AreReadAlone}
 use Rattle.laws_programs.specs.roundtrip_programs.Pieces.Programs.{text_in}
 use Rattle.laws_programs.specs.roundtrip_programs.Written.Laws.{PiecesAreWrittenAlike, PiecesHaveTheSameTrees}
-use Rattle.session_texts.specs.pipsmake_meaning.Texts.{ModuleText, lines_or, with_table, one_module, module_read, IsModule, AreModules, names_in, trees_in, tables_in}
+use Rattle.session_texts.specs.pipsmake_meaning.Texts.{ModuleText, module_read, IsModule, AreModules, names_in, trees_in, tables_in}
 use Rattle.laws_database.specs.ProgramTexts.{name_of, lines_found, program_text, texts_of}
 use Rattle.laws_database.specs.ProgramTextLaws.{PiecesAreTheProgram}
 use Rattle.laws_database.proofs.TextRead.{all-read}
 use Rattle.laws_database.proofs.TextSame.{same-text}
+use Rattle.session_texts.proofs.SourceTexts.{read_alone}
 
 -- ---- each piece is a module
-
-pub read-by : (text : List ℕ) (m : ParsedTree) (table : List SymbolTree) → IsReadAs text (m ∷ []) → symbols_of m ≡ Ok table → module_read text ≡ Some (record { module_is = m; table = table })
-read-by text m table r e =
-    ap (λ x. one_module (and_then (lines_or x) parse_of)) r.lined ∙ ap one_module r.parsed ∙ ap (with_table m) e
 
 piece-module : TablesIgnorePlaces → (t : ModuleText) (p : Piece) (m : ParsedTree) (table : List SymbolTree) → t.text ≡ p.text → t.name ≡ name_of m → IsPieceOf p m → symbols_of m ≡ Ok table → IsModule t
 piece-module law t p m table e n h s =
     let same : tree_of h.alone ≡ tree_of m = ap tree_of h.same in
     record {
       found = record { module_is = h.alone; table = table };
-      is_read = ap module_read e ∙ read-by p.text h.alone table h.read (law m h.alone table same s);
+      is_read = ap module_read e ∙ read_alone p.text h.alone table h.read (law m h.alone table same s);
       is_named = ap (λ x. x.name) same ∙ sym n;
     }
 

@@ -10,7 +10,6 @@ use Rattle.loop_marker.specs.Results.{ModuleResults}
 use Rattle.laws_programs.specs.roundtrip_programs.Laws.{TablesIgnorePlaces, GraphsIgnorePlaces}
 use Rattle.fx_lists.specs.declared.refusal.Refusal.{Refusal}
 use Rattle.call_graph.specs.CallsIn.{Each}
-use Rattle.laws_analyses.proofs.CallLists.{each_both, each_more}
 use Rattle.session_texts.specs.pipsmake_meaning.ResultEntries.{results_of_modules, name_in, results_for}
 use Rattle.laws_database.specs.ResultLaws.{IsFound}
 use Rattle.laws_database.proofs.ResultEntries.{modules_have_entries}
@@ -38,6 +37,7 @@ use Rattle.laws_database.proofs.Needs.{Can, has_value, has_text, needs_can}
 use Rattle.laws_database.proofs.Made.{said_each, rule_is, shown_is}
 use Rattle.laws_database.proofs.Same.{read_is, tree_same, rule_same, effects_same, transformers_same, preconditions_same, regions_same, ins_same, outs_same, marks_same, printed_same}
 use Rattle.laws_database.proofs.Linked.{table_of, known_named, graph_stays, modules_same, each_right as each_back}
+use Rattle.call_graph.proofs.EachLaws.{each_both, each_more}
 
 -- ---- what has a value can be made
 

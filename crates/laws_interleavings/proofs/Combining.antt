@@ -10,10 +10,11 @@ use Rattle.laws_interleavings.specs.Reductions.{ReduceOp, Sum, Max, Min, And, Or
 use Rattle.laws_interleavings.specs.ReducedLoops.{AreDistinct}
 use Rattle.laws_interleavings.proofs.Stores.{put_other}
 use Rattle.laws_interleavings.proofs.Joined.{accumulated, joined_turned}
-use Rattle.laws_interleavings.proofs.Riding.{Gained, some_amount, some_operator, apart, differ}
+use Rattle.laws_interleavings.proofs.Riding.{Gained, some_amount, apart, differ}
 use Rattle.fx_lists.proofs.Booleans.{or_swap as or_turned}
 use Rattle.f77_ast.proofs.Shared.{put_same}
 use Rattle.fx_lists.proofs.Numbers.{eq_refl}
+use Rattle.fx_lists.proofs.Options.{some_is as some_operator}
 
 -- the numbers of the copies of a unit
 abbrev pub numbers_of : ℕ → List Copy → List ℤ

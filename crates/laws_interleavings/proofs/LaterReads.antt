@@ -1,7 +1,7 @@
 -- What the iterations of a loop read, of all that the run does from the loop on.
 use Rattle.std.proofs.Common.{◌≡◌, ℕ, zero, suc, ◌+◌, ◌<◌, ◌≤◌, ⊎_elim, List, [], ◌∷◌, ◌++◌, None, Bool, true, false, not, ◌&&◌, ◌||◌, refl, sym, ap, ap₂, ◌∙◌, subst, arith, nat_eq, true≢false, append_assoc}
 use Rattle.std.specs.Prelude.{if◌then◌else◌}
-use Rattle.std.proofs.lemmas.Bool.Decides.{eqb_tells, nat_tests}
+use Rattle.std.proofs.lemmas.Bool.Decides.{eqb_tells}
 use Rattle.f77_ast.specs.Store.{Undefined, Int, Content, Store, content, put, undefined}
 use Rattle.f77_ast.specs.Steps.{Steps, Done, Breaks, Look, Set, Hold, Forget, Show, Take, Arrive}
 use Rattle.f77_ast.specs.Runs.{Event, Arrived, Read, Wrote, Printed, Took, Gave}
@@ -14,15 +14,8 @@ use Rattle.laws_interleavings.specs.Sound.{grow, known_at, ReadsKnown, some_wrot
 use Rattle.laws_interleavings.specs.Strict.{Strict}
 use Rattle.laws_interleavings.proofs.Loops.{rest_of_loop, iterations_left, iteration_normal, one_trace}
 use Rattle.laws_interleavings.proofs.OwnFirst.{fault_ends}
-use Rattle.fx_lists.proofs.Numbers.{eq_refl, swapped}
+use Rattle.fx_lists.proofs.Numbers.{eq_refl, swapped, unequal_numbers}
 use Rattle.fx_lists.proofs.Booleans.{not_and, or_neither as or_false}
-
-pub differ : (u v : ℕ) → (u ≡ v → ⊥) → nat_eq u v ≡ false
-differ u v h = go (nat_eq u v) refl
-  where
-    go : (b : Bool) → nat_eq u v ≡ b → b ≡ false
-    go true e = absurd (h (grind (arith, nat_tests)))
-    go false e = refl
 
 -- ---- reads are of units with values
 
@@ -75,7 +68,7 @@ module _ (p : ℕ → Bool) where
       next x px kx ne = not_and (nat_eq u x) _ ne (h x px kx)
 
       go : ((k : ℕ → Bool) → Kept k (es ++ rest) → Known k (shared p es) rest) → (b : Bool) → p u ≡ b → Known known (if b then shared p es else Wrote u c ∷ shared p es) rest
-      go ih true pu = ih known (λ x px kx. next x px kx (differ u x (λ e. true≢false (sym pu ∙ ap p e ∙ px))))
+      go ih true pu = ih known (λ x px kx. next x px kx (unequal_numbers u x (λ e. true≢false (sym pu ∙ ap p e ∙ px))))
       go ih false pu = ih (λ x. nat_eq x u || known x) (λ x px kx. let q = or_false (nat_eq x u) (known x) kx in next x px q.1 (swapped x u q.0))
 
 -- what is not written in a part, and not read first from it on, is not read first after it
@@ -126,7 +119,7 @@ module _ (m : Marked) (s : Store) (normal : (whole_loop m s).answer ≡ Gave Nor
       let fine = iteration_normal m s normal i (omega (arith, e)) in
       let d = defined (steps_of m.body) (begun m s i) st (subst Conforms (sym fine) tt) in
       let q = reads_known p (own_trace i) tail (known_at (outside p) known i) d (λ x px kx. subst (λ l. is_read_first x l ≡ false) same (h x px kx)) in
-      let ih = loop_reads p known rest st pu k (suc i) (omega (arith, e)) (λ x px kx. not_and (nat_eq m.index x) _ (differ m.index x (λ z. true≢false (sym pu ∙ ap p z ∙ px))) (q.1 x px kx)) in
+      let ih = loop_reads p known rest st pu k (suc i) (omega (arith, e)) (λ x px kx. not_and (nat_eq m.index x) _ (unequal_numbers m.index x (λ z. true≢false (sym pu ∙ ap p z ∙ px))) (q.1 x px kx)) in
       record {
         reads = λ j l lt. ⊎_elim (λ z. subst (λ n. ReadsKnown (known_at (outside p) known n) (outside p n)) (sym z.1) q.0) (λ z. ih.reads j (omega (arith, l, z.1)) lt) (eqb_tells j i);
         later = ih.later;

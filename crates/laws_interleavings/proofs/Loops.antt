@@ -5,7 +5,7 @@ use Rattle.std.proofs.lemmas.Bool.Decides.{eqb_tells}
 use Rattle.f77_ast.specs.Store.{Int, Store, content, put, undefined, empty_store}
 use Rattle.f77_ast.specs.Steps.{Steps, Done, Breaks, Look, Set, Hold, Forget, Show, Take, Arrive, ◌>>=◌}
 use Rattle.f77_ast.specs.Runs.{Read, Wrote, Answer, Gave, Broke, Ran, Whole, run, store_of}
-use Rattle.f77_ast.specs.Numbers.{in_range, kept}
+use Rattle.f77_ast.specs.Numbers.{kept}
 use Rattle.f77_ast.specs.Values.{given}
 use Rattle.f77_ast.specs.Plans.{Flow, Normal, Jump, Returned, Stopped, Plan, Set as SetPlan, first, on_normal, steps_of}
 use Rattle.f77_ast.specs.Loops.{iterations_from}
@@ -18,6 +18,7 @@ use Rattle.laws_interleavings.proofs.Picks.{as_in_order}
 use Rattle.laws_interleavings.proofs.Runs.{after_part, broken_part, trace_part}
 use Rattle.laws_interleavings.proofs.Scripts.{iteration_alone, Agree}
 use Rattle.f77_ast.proofs.Shared.{put_same, steps_then}
+use Rattle.f77_ast.proofs.KeptNumbers.{kept_is}
 
 -- the shared events alone give each unit that is not private its contents
 pub shared_after : (p : ℕ → Bool) (t : Steps Flow) (known : ℕ → Bool) (s z : Store) → OwnFirst p t known s → ((x : ℕ) → p x ≡ false → s x ≡ z x) → (x : ℕ) → p x ≡ false → store_of (on_store t s).memory x ≡ after (shared p (on_store t s).trace) z x
@@ -48,14 +49,6 @@ IsNormal Stopped = ⊥
 abbrev pub IsNormalAnswer : Answer Flow → Type 0
 IsNormalAnswer (Gave f) = IsNormal f
 IsNormalAnswer (Broke b) = ⊥
-
--- a number that is kept is the number
-pub kept_same : (n z : ℤ) → kept n ≡ Some z → n ≡ z
-kept_same n z = go (in_range n)
-  where
-    go : (b : Bool) → (if b then Some n else None) ≡ Some z → n ≡ z
-    go true e = cc
-    go false e = cc
 
 module _ (m : Marked) where
   abbrev body : Steps Flow
@@ -105,7 +98,7 @@ module _ (m : Marked) where
           absurd (subst IsNormalAnswer (sym ends ∙ (after_part body next s Normal e).0 ∙ ap (λ o. (onward k y o).answer) q) tt)
       on e (Some z) q =
           let x = after_part body next s Normal e in
-          let same : n +ℤ m.step ≡ z = kept_same (n +ℤ m.step) z q in
+          let same : n +ℤ m.step ≡ z = kept_is (n +ℤ m.step) z q in
           let a : (onward k y (Some z)).answer ≡ (rest_of_loop k (n +ℤ m.step) (after_one n s)).answer = ap (λ w. (rest_of_loop k w (put y m.index (content Int w))).answer) (sym same) in
           let b : (onward k y (Some z)).memory ≡ (rest_of_loop k (n +ℤ m.step) (after_one n s)).memory = ap (λ w. (rest_of_loop k w (put y m.index (content Int w))).memory) (sym same) in (
             e,
@@ -139,7 +132,7 @@ module _ (m : Marked) where
       go : (o : Option ℤ) → kept (n +ℤ m.step) ≡ o → (rest_of_loop (suc k) n s).trace ≡ (on_store body s).trace ++ Wrote m.index (content Int (n +ℤ m.step)) ∷ (rest_of_loop k (n +ℤ m.step) (after_one n s)).trace
       go None q = absurd (subst IsNormalAnswer (sym (ap (λ r. r.answer) (sym is) ∙ normal) ∙ (after_part body next s Normal e).0 ∙ ap (λ o. (onward k y o).answer) q) tt)
       go (Some z) q =
-          let same : n +ℤ m.step ≡ z = kept_same (n +ℤ m.step) z q in
+          let same : n +ℤ m.step ≡ z = kept_is (n +ℤ m.step) z q in
           let a : (onward k y (Some z)).trace ≡ Wrote m.index (content Int (n +ℤ m.step)) ∷ (rest_of_loop k (n +ℤ m.step) (after_one n s)).trace = ap (λ w. Wrote m.index (content Int w) ∷ (rest_of_loop k w (put y m.index (content Int w))).trace) (sym same) in
           ap (λ r. r.trace) is ∙ trace_part body next s Normal e ∙ ap (λ l. (on_store body s).trace ++ l) (ap (λ o. (onward k y o).trace) q ∙ a)
 

@@ -14,8 +14,8 @@ use Rattle.laws_interleavings.specs.Sound.{known_at, some_wrote}
 use Rattle.laws_interleavings.specs.ReducedLoops.{reduced_does, MayReduce, ReducedHolds}
 use Rattle.laws_interleavings.proofs.Riding.{Gained, some_amount}
 use Rattle.laws_interleavings.proofs.ReducedIterations.{rode, joins}
-use Rattle.laws_interleavings.proofs.LaterReads.{differ, Kept, LoopReads, loop_reads, trace_from, own_trace, next_number, trace_splits, first_after, loop_unwritten}
-use Rattle.fx_lists.proofs.Numbers.{swapped}
+use Rattle.laws_interleavings.proofs.LaterReads.{Kept, LoopReads, loop_reads, trace_from, own_trace, next_number, trace_splits, first_after, loop_unwritten}
+use Rattle.fx_lists.proofs.Numbers.{swapped, unequal_numbers}
 use Rattle.fx_lists.proofs.Booleans.{or_neither as or_false, not_and}
 
 gained_tag : (o : ReduceOp) (g : List ℤ) (c e : Content) → some_amount g ≡ true → Gained o g c e → c.tag ≡ tag_of o
@@ -39,7 +39,7 @@ module _ (d : Reduced) (s : Store) (may : MayReduce d s) where
       let r = rode d s may i (omega (arith, e)) in
       let q = r.sums v o some in
       let none = or_false (some_amount (r.gains v)) (is_read_first v tail) (sym (q.reads refl tail) ∙ ap (is_read_first v) (sym same) ∙ h) in
-      let other : nat_eq m.index v ≡ false = differ m.index v (λ z. true≢false (sym may.index_private ∙ ap m.private z ∙ may.none_private v (ap is_some some))) in
+      let other : nat_eq m.index v ≡ false = unequal_numbers m.index v (λ z. true≢false (sym may.index_private ∙ ap m.private z ∙ may.none_private v (ap is_some some))) in
       let later = unused v o some rest k (suc i) (omega (arith, e)) (not_and (nat_eq m.index v) (is_read_first v (trace_from m s may.normal k (suc i) ++ rest)) other none.1) in
       ⊎_elim
       (λ z. subst (λ n. writes v (own_trace m s may.normal n) ≡ false) (sym z.1) (q.wrote ∙ none.0))
@@ -52,7 +52,7 @@ module _ (d : Reduced) (s : Store) (may : MayReduce d s) where
 
   module _ (known : ℕ → Bool) (rest : List Event) (all : (x : ℕ) → known x ≡ false → nat_eq m.index x ≡ false → is_read_first x ((whole_loop m s).trace ++ rest) ≡ false) where
     other_index : (x : ℕ) → own d x ≡ false → nat_eq m.index x ≡ false
-    other_index x px = differ m.index x (λ z. true≢false (sym own_index ∙ ap (own d) z ∙ px))
+    other_index x px = unequal_numbers m.index x (λ z. true≢false (sym own_index ∙ ap (own d) z ∙ px))
 
     pub reads : Strict (steps_of m.body) → LoopReads m s may.normal (own d) known 0 rest
     reads strict = loop_reads m s may.normal (own d) known rest strict own_index m.count 0 (omega arith) (λ x px kx. all x kx (other_index x px))
@@ -66,7 +66,7 @@ module _ (d : Reduced) (s : Store) (may : MayReduce d s) where
         go : (b : Bool) → known x ≡ b → known x ≡ true
         go true e = e
         go false e =
-            let other : nat_eq m.index x ≡ false = differ m.index x (λ z. true≢false (sym may.index_private ∙ ap m.private z ∙ may.none_private x (ap is_some some))) in
+            let other : nat_eq m.index x ≡ false = unequal_numbers m.index x (λ z. true≢false (sym may.index_private ∙ ap m.private z ∙ may.none_private x (ap is_some some))) in
             absurd (true≢false (sym wrote ∙ none_wrote x m.count (λ i lt. unused x o some rest m.count 0 (omega arith) (all x e other) i (omega arith) lt)))
 
     -- what is not known after the loop is not read first

@@ -17,6 +17,7 @@ use Rattle.laws_interleavings.proofs.Joined.{accumulated}
 use Rattle.fx_lists.proofs.Numbers.{eq_refl, swapped}
 use Rattle.fx_lists.proofs.Booleans.{or_false as or_false_right, or_true as or_true_right}
 use Rattle.f77_ast.proofs.Shared.{put_same}
+use Rattle.fx_lists.proofs.Options.{some_is}
 
 abbrev pub at_end : Steps Flow → Store → Store
 at_end t s = store_of (on_store t s).memory
@@ -111,9 +112,6 @@ differ v u n = ⊎_elim (λ e. absurd (n e.1)) (λ e. e.0) (eqb_tells v u)
 pub no_accumulator : (as' : List Accumulator) (u : ℕ) → operator_at as' u ≡ None → is_accumulator as' u ≡ false
 no_accumulator as' u none = ap is_some none
 
-pub some_operator : {X : Type 0} (a b : X) → Some a ≡ Some b → a ≡ b
-some_operator a b e = cc
-
 -- ---- events
 
 read_events : (p : ℕ → Bool) (u : ℕ) (c d : Content) (es fs : List Event) → c ≡ d → shared p fs ≡ shared p es → shared p (Read u d ∷ fs) ≡ shared p (Read u c ∷ es)
@@ -203,7 +201,7 @@ typed_put as' z u d none ty v o some = ap (λ y. y.tag) (put_other z u d v (apar
 typed_own : (as' : List Accumulator) (z : Store) (u : ℕ) (o : ReduceOp) (d : Content) → operator_at as' u ≡ Some o → d.tag ≡ tag_of o → AreTyped as' z → AreTyped as' (put z u d)
 typed_own as' z u o d some e ty v o' some' =
     ⊎_elim
-    (λ q. subst (λ y. (put z u d y).tag ≡ tag_of o') (sym q.1) (ap (λ y. y.tag) (put_same z u d) ∙ e ∙ ap tag_of (some_operator o o' (sym some ∙ ap (operator_at as') (sym q.1) ∙ some'))))
+    (λ q. subst (λ y. (put z u d y).tag ≡ tag_of o') (sym q.1) (ap (λ y. y.tag) (put_same z u d) ∙ e ∙ ap tag_of (some_is o o' (sym some ∙ ap (operator_at as') (sym q.1) ∙ some'))))
     (λ q. ap (λ y. y.tag) (put_other z u d v q.1) ∙ ty v o' some')
     (eqb_tells v u)
 
@@ -387,7 +385,7 @@ module _ (as' : List Accumulator) where
             (λ is.
             let mine = ih.sums v o held.0 in
             subst (λ y. Sums o' (g y) y (nat_eq y v) (s y) (at_end t (put s v c) y) (Wrote v c ∷ es) (z y) (at_end h (put z v d) y) (Wrote v d ∷ fs)) (sym is.1)
-            (subst (λ y. Sums y (g v) v (nat_eq v v) (s v) (at_end t (put s v c) v) (Wrote v c ∷ es) (z v) (at_end h (put z v d) v) (Wrote v d ∷ fs)) (some_operator o o' (sym held.0 ∙ ap (operator_at as') (sym is.1) ∙ some))
+            (subst (λ y. Sums y (g v) v (nat_eq v v) (s v) (at_end t (put s v c) v) (Wrote v c ∷ es) (z v) (at_end h (put z v d) v) (Wrote v d ∷ fs)) (some_is o o' (sym held.0 ∙ ap (operator_at as') (sym is.1) ∙ some))
             (subst (λ y. Sums o y v (nat_eq v v) (s v) (at_end t (put s v c) v) (Wrote v c ∷ es) (z v) (at_end h (put z v d) v) (Wrote v d ∷ fs)) (sym (put_same ih.gains v (q.amount ∷ ih.gains v)))
             (record {
               first = gained_more o q.amount m (ih.gains v) (s v) c (at_end t (put s v c) v) held.1 q.first (subst (λ y. Gained o (ih.gains v) y (at_end t (put s v c) v)) (put_same s v c) mine.first);

@@ -19,10 +19,10 @@ use Rattle.laws_interleavings.specs.ReducedLoops.{known_reduced}
 use Rattle.laws_interleavings.proofs.ReducedReads.{reads, before, unread_after}
 use Rattle.laws_interleavings.proofs.Runs.{run_bind, on_from, stays_whole}
 use Rattle.laws_interleavings.proofs.Same.{free_part}
-use Rattle.laws_interleavings.proofs.LaterReads.{differ, Kept, first_after, loop_reads, loop_unwritten}
+use Rattle.laws_interleavings.proofs.LaterReads.{Kept, first_after, loop_reads, loop_unwritten}
 use Rattle.laws_interleavings.proofs.Anyhow.{onward}
 use Rattle.fx_lists.proofs.Booleans.{or_neither as or_false, not_and}
-use Rattle.fx_lists.proofs.Numbers.{eq_refl}
+use Rattle.fx_lists.proofs.Numbers.{eq_refl, unequal_numbers}
 use Rattle.f77_ast.proofs.Shared.{steps_then}
 
 -- what is not known is not read first
@@ -63,7 +63,7 @@ first_part x (Took o ∷ es) rest h = first_part x es rest h
 unread_set : (known : ℕ → Bool) (u : ℕ) (c : Content) (es : List Event) → Unread known (Wrote u c ∷ es) → Unread (λ x. nat_eq x u || known x) es
 unread_set known u c es h x k =
     let q = or_false (nat_eq x u) (known x) k in
-    not_and (nat_eq u x) _ (differ u x (λ e. true≢false (sym (eq_refl x) ∙ ap (λ z. nat_eq x z) (sym e) ∙ q.0))) (h x q.1)
+    not_and (nat_eq u x) _ (unequal_numbers u x (λ e. true≢false (sym (eq_refl x) ∙ ap (λ z. nat_eq x z) (sym e) ∙ q.0))) (h x q.1)
 
 unread_more : (known : ℕ → Bool) (u : ℕ) (es : List Event) → Unread known es → Unread (λ x. nat_eq x u || known x) es
 unread_more known u es h x k = h x (or_false (nat_eq x u) (known x) k).1
@@ -88,7 +88,7 @@ after_loop m known s rest l all kept x true b2 b3 b4 e1 e2 e3 e4 k =
     let q : x ≡ m.index = grind (arith, nat_tests) in subst (λ z. is_read_first z rest ≡ false) (sym q) l.index_later
 after_loop m known s rest l all kept x false true b3 true e1 e2 e3 e4 k = l.named_later x e2 e4
 after_loop m known s rest l all kept x false true b3 false e1 e2 e3 e4 k =
-    let ne : nat_eq m.index x ≡ false = differ m.index x (λ q. true≢false (sym (eq_refl x) ∙ ap (λ z. nat_eq x z) (sym q) ∙ e1)) in
+    let ne : nat_eq m.index x ≡ false = unequal_numbers m.index x (λ q. true≢false (sym (eq_refl x) ∙ ap (λ z. nat_eq x z) (sym q) ∙ e1)) in
     first_after x (whole_loop m s).trace rest (loop_unwritten m s l.may.normal x e1 e4 m.count 0 (omega arith)) (all x k ne)
 after_loop m known s rest l all kept x false false true b4 e1 e2 e3 e4 k = absurd (true≢false k)
 after_loop m known s rest l all kept x false false false b4 e1 e2 e3 e4 k = kept x e3 k
@@ -131,7 +131,7 @@ sound_from (Loop m k) known s i rest st nf mh h =
     let all : (x : ℕ) → known x ≡ false → nat_eq m.index x ≡ false → is_read_first x (W ++ rest') ≡ false = λ x kx ne.
     subst (λ z. is_read_first x z ≡ false) (append_assoc W (plain_run (k Normal) y i).trace rest) (not_and (nat_eq m.index x) _ ne (h' x kx)) in
     let lr = loop_reads m s l.may.normal m.private known rest' st.0 l.may.index_private m.count 0 (omega arith)
-    (λ x px kx. all x kx (differ m.index x (λ z. true≢false (sym l.may.index_private ∙ ap m.private z ∙ px)))) in
+    (λ x px kx. all x kx (unequal_numbers m.index x (λ z. true≢false (sym l.may.index_private ∙ ap m.private z ∙ px)))) in
     let known' = known_after m known s in
     let all' : Unread known' rest' = λ x kx. after_loop m known s rest' l all lr.later x (nat_eq x m.index) (m.named x) (m.private x) (some_wrote m s m.count x) refl refl refl refl kx in
     let e = sound_from (k Normal) known' y i rest (st.1 Normal) (subst (λ (r : Ran Flow). Conforms r.answer) part nf) mh.1 all' in (

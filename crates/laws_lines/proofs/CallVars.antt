@@ -1,7 +1,6 @@
 -- The variables of what a CALL does in its caller, and of what it gives for the entry of its callee.
-use Rattle.std.proofs.Common.{◌≡◌, ◌⊎◌, inl, inr, ⊎_elim, ℕ, suc, Bool, true, false, ◌||◌, List, [], ◌∷◌, ◌++◌, Option, Some, None, pos, refl, sym, ap, ◌∙◌, subst, nat_eq}
+use Rattle.std.proofs.Common.{◌≡◌, ◌⊎◌, inl, inr, ⊎_elim, ℕ, suc, Bool, true, false, List, [], ◌∷◌, ◌++◌, Option, Some, None, pos, refl, sym, ap, ◌∙◌, subst}
 use Rattle.std.specs.Prelude.{if◌then◌else◌, ◌-ℤ◌}
-use Rattle.std.proofs.lemmas.Bool.{or_right}
 use Rattle.affine_systems.specs.declared.row.Var.{Var}
 use Rattle.affine_systems.specs.declared.row.Var.TheVariants.{Cell, Exit, Phi, Aux}
 use Rattle.affine_systems.specs.declared.row.Term.{Term}
@@ -41,14 +40,13 @@ use Rattle.laws_lines.specs.Halves.{IsHalfOf}
 use Rattle.laws_lines.proofs.RowVars.{each_more, Given}
 use Rattle.laws_lines.proofs.SystemVars.{IsNeat, AreGiven, all-append, system_more, push_rows_neat, project_neat, rename_neat}
 use Rattle.laws_lines.proofs.FormVars.{NamesCells, FormOf, affine_over, compared_given}
-use Rattle.laws_lines.proofs.RuleVars.{IsDone, none_has, only_has, head_has, cell_half, unchanging_done}
-use Rattle.fx_lists.proofs.Booleans.{clash, clash as clashes}
-use Rattle.fx_lists.proofs.Numbers.{same_is as nat_same}
+use Rattle.laws_lines.proofs.RuleVars.{IsDone, none_has, only_has, cell_half, unchanging_done}
+use Rattle.fx_lists.proofs.Booleans.{clash}
 use Rattle.elimination.proofs.ClosedLaws.{rows_weaker as all_more}
-
--- whatever number
-abbrev pub Every : ℕ → Type 0
-Every n = Unit {0}
+use Rattle.fx_lists.proofs.Every.{Anything}
+use Rattle.in_out_regions.proofs.RegionTranslation.PieceLaws.{one_right}
+use Rattle.preconditions.proofs.TransformerAlgebra.HasLaws.{has_either}
+use Rattle.preconditions.proofs.CallTranslation.CallerCells.{cells_of_has}
 
 -- ---- the cells of a module
 
@@ -85,59 +83,19 @@ pub one_cell_ok : (ok : ℕ → Type 0) (o : Option ℕ) → ((c : ℕ) → o �
 one_cell_ok ok None f c h = none_has ok c h
 one_cell_ok ok (Some d) f c h = only_has ok d c (f d refl) h
 
-pub append_has : (xs ys : List ℕ) (c : ℕ) → has (xs ++ ys) c ≡ true → (has xs c ≡ true) ⊎ (has ys c ≡ true)
-append_has [] ys c h = inr h
-append_has (x ∷ xs) ys c h = go (nat_eq x c) h (append_has xs ys c)
-  where
-    go : (b : Bool) → (b || has (xs ++ ys) c) ≡ true → (has (xs ++ ys) c ≡ true → (has xs c ≡ true) ⊎ (has ys c ≡ true)) → ((b || has xs c) ≡ true) ⊎ (has ys c ≡ true)
-    go true k ih = inl refl
-    go false k ih = ih k
-
-has_front : (xs ys : List ℕ) (c : ℕ) → has xs c ≡ true → has (xs ++ ys) c ≡ true
-has_front [] ys c h = clashes false h refl
-has_front (x ∷ xs) ys c h = go (nat_eq x c) h (has_front xs ys c)
-  where
-    go : (b : Bool) → (b || has xs c) ≡ true → (has xs c ≡ true → has (xs ++ ys) c ≡ true) → (b || has (xs ++ ys) c) ≡ true
-    go true k ih = refl
-    go false k ih = ih k
-
-has_back : (xs ys : List ℕ) (c : ℕ) → has ys c ≡ true → has (xs ++ ys) c ≡ true
-has_back [] ys c h = h
-has_back (x ∷ xs) ys c h = or_right (nat_eq x c) (has (xs ++ ys) c) (has_back xs ys c h)
-
 units_ok : (ok : ℕ → Type 0) (c : CallTree) → Allows ok c.caller → (us : List BlockUnit) (x : ℕ) → has (unit_cells c us) x ≡ true → ok x
 units_ok ok c a [] x h = none_has ok x h
 units_ok ok c a (u ∷ us) x h =
     ⊎_elim (λ i. one_cell_ok ok (tracked_at c.caller u.block u.offset) (λ y e. a.units u.block u.offset y e) x i) (λ i. units_ok ok c a us x i)
-    (append_has (one_cell (tracked_at c.caller u.block u.offset)) (unit_cells c us) x h)
+    (has_either (one_cell (tracked_at c.caller u.block u.offset)) (unit_cells c us) x h)
 
 cells_ok : (ok : ℕ → Type 0) (c : CallTree) → Allows ok c.caller → (ds : List ℕ) (x : ℕ) → has (cells_of c ds) x ≡ true → ok x
 cells_ok ok c a [] x h = none_has ok x h
 cells_ok ok c a (d ∷ ds) x h =
     ⊎_elim (λ i. one_cell_ok ok (cell_at c (place_at c.symbols d)) (λ y e. cell_at_ok ok c a (place_at c.symbols d) y e) x i) (λ i. cells_ok ok c a ds x i)
-    (append_has (one_cell (cell_at c (place_at c.symbols d))) (cells_of c ds) x h)
-
--- the cell of the caller that is a changed cell of the callee changes
-cells_have : (c : CallTree) (ds : List ℕ) (d x : ℕ) → has ds d ≡ true → cell_at c (place_at c.symbols d) ≡ Some x → has (cells_of c ds) x ≡ true
-cells_have c [] d x h e = clashes false h refl
-cells_have c (b ∷ ds) d x h e = go (nat_eq b d) refl h (λ k. cells_have c ds d x k e)
-  where
-    one : (o : Option ℕ) → o ≡ Some x → has (one_cell o) x ≡ true
-    one None k = cc
-    one (Some y) k = let same : y ≡ x = cc in subst (λ (z : ℕ). has (z ∷ []) x ≡ true) (sym same) (head_has x [])
-
-    first : nat_eq b d ≡ true → cell_at c (place_at c.symbols b) ≡ Some x
-    first q = subst (λ (z : ℕ). cell_at c (place_at c.symbols z) ≡ Some x) (sym (nat_same b d q)) e
-
-    go : (g : Bool) → nat_eq b d ≡ g → (g || has ds d) ≡ true → (has ds d ≡ true → has (cells_of c ds) x ≡ true) → has (one_cell (cell_at c (place_at c.symbols b)) ++ cells_of c ds) x ≡ true
-    go true q k ih = has_front (one_cell (cell_at c (place_at c.symbols b))) (cells_of c ds) x (one (cell_at c (place_at c.symbols b)) (first q))
-    go false q k ih = has_back (one_cell (cell_at c (place_at c.symbols b))) (cells_of c ds) x (ih k)
+    (has_either (one_cell (cell_at c (place_at c.symbols d))) (cells_of c ds) x h)
 
 -- ---- lists of variables
-
-pub one_back : (v : Var) (xs ys : List Var) → IsOneOf v ys → IsOneOf v (xs ++ ys)
-one_back v [] ys m = m
-one_back v (x ∷ xs) ys m = inr (one_back v xs ys m)
 
 -- an auxiliary variable stands among those at whose head it is
 pub aux_front : (n : ℕ) (x : Var) (rest : List Var) → x ≡ Aux n → IsOneOf x (auxiliary_of x ++ rest)
@@ -162,7 +120,7 @@ neat_in such xs s h k = go s.rows h k
 
 -- an exit of the callee is that of a cell that it changes
 abbrev pub Left : List ℕ → Var → Type 0
-Left cs v = IsHalfOf Every cs v
+Left cs v = IsHalfOf Anything cs v
 
 module _ (ok : ℕ → Type 0) (c : CallTree) (a : Allows ok c.caller) (t : Transformer) (cs : List ℕ) (more : (x : ℕ) → has (cells_of c t.cells) x ≡ true → has cs x ≡ true) where
   -- what stands for a variable of the callee is one of the caller's, or auxiliary
@@ -181,7 +139,7 @@ module _ (ok : ℕ → Type 0) (c : CallTree) (a : Allows ok c.caller) (t : Tran
   exit_stands n d passed_by_reference h = at (place_at c.symbols d) refl
     where
       changes : (x : ℕ) → cell_at c (place_at c.symbols d) ≡ Some x → has cs x ≡ true
-      changes x e = more x (cells_have c t.cells d x h e)
+      changes x e = more x (cells_of_has c t.cells d x h e)
 
       unless : (q : Option ℕ) → ((x : ℕ) → q ≡ Some x → has cs x ≡ true) → IsHalfOf ok cs (exit_or_aux n (unless_among passed_by_reference q)) ⊎ (exit_or_aux n (unless_among passed_by_reference q) ≡ Aux n)
       unless None f = inr refl
@@ -213,7 +171,7 @@ module _ (ok : ℕ → Type 0) (c : CallTree) (a : Allows ok c.caller) (t : Tran
   Said ns w = IsHalfOf ok cs w ⊎ IsOneOf w (auxiliaries_in ns)
 
   said_more : (m : Naming) (ns : List Naming) (w : Var) → Said ns w → Said (m ∷ ns) w
-  said_more m ns w s = ⊎_elim (λ i. inl i) (λ i. inr (one_back w (auxiliary_of m.to) (auxiliaries_in ns) i)) s
+  said_more m ns w s = ⊎_elim (λ i. inl i) (λ i. inr (one_right w (auxiliary_of m.to) (auxiliaries_in ns) i)) s
 
   names_said : (n : ℕ) (passed_by_reference : List ℕ) (vs : List Var) (v : Var) → Left t.cells v → IsOneOf v vs → Said (names_from c n passed_by_reference vs) (renamed_by (names_from c n passed_by_reference vs) v)
   names_said n passed_by_reference [] v h m = absurd m

@@ -34,10 +34,11 @@ use Rattle.laws_lines.specs.LineLaws.{LinesMeanResults}
 use Rattle.laws_lines.proofs.RowVars.{Neat}
 use Rattle.laws_lines.proofs.SystemVars.{IsNeat}
 use Rattle.laws_lines.proofs.RuleVars.{IsDone, head_has}
-use Rattle.laws_lines.proofs.PhaseVars.{EachOf, each-append, each_all, value_is, AnalysisOk}
+use Rattle.laws_lines.proofs.PhaseVars.{each_all, value_is, AnalysisOk}
 use Rattle.fx_lists.proofs.Lists.{map_length, got_below}
 use Rattle.fx_lists.proofs.Booleans.{clash}
 use Rattle.elimination.proofs.ClosedLaws.{rows_weaker as all_more}
+use Rattle.fx_lists.proofs.Every.{Every, every_joined}
 
 -- ---- systems of tidied rows are ordered
 
@@ -111,10 +112,10 @@ module _ (names : List (List ℕ)) (ok : ℕ → Type 0) (numbered : (n : ℕ) �
 
   module _ (a : Analysis) (are : AreNames names) (at : (n : ℕ) (s : System) → value_at a.holds.at n ≡ Some s → IsNeat (IsCellOf ok) s) (entry : IsNeat (IsCellOf ok) a.holds.summary) (own : (n : ℕ) (t : Transformer) → value_at a.found.own.at n ≡ Some t → IsDone ok t) (summary : IsDone ok a.found.own.summary) where
     abbrev Means : List Added → Type 0
-    Means xs = EachOf (MeansResult a names) xs
+    Means xs = Every (MeansResult a names) xs
 
     means-append : (xs ys : List Added) → Means xs → Means ys → Means (xs ++ ys)
-    means-append xs ys h k = each-append (MeansResult a names) xs ys h k
+    means-append xs ys h k = every_joined (MeansResult a names) xs ys h k
 
     abbrev k : Said
     k = said names a.found.own.at a.holds.at

@@ -22,8 +22,9 @@ use Rattle.laws_lines.proofs.RowVars.{each_more, Given}
 use Rattle.laws_lines.proofs.SystemVars.{IsNeat, AreGiven, all-append, system_more, push_rows_neat, clean_neat}
 use Rattle.laws_lines.proofs.HullVars.{hull_neat}
 use Rattle.laws_lines.proofs.FormVars.{FormOf, var_of, compared_given, none_neat}
-use Rattle.laws_lines.proofs.RuleVars.{IsDone, head_has, half_more, cell_half, unchanging_done, assign_done, followed_done, without_neat, apply_neat, others_has, equals_given, iterate_done}
+use Rattle.laws_lines.proofs.RuleVars.{IsDone, head_has, half_more, cell_half, unchanging_done, assign_done, followed_done, without_neat, apply_neat, equals_given, iterate_done}
 use Rattle.fx_lists.proofs.Booleans.{clash as clashes}
+use Rattle.preconditions.proofs.TransformerAlgebra.HasLaws.{others_in}
 
 -- the parts of a DO: a tracked index is such a cell, and its forms are over such cells
 pub record IsLoopOf (ok : ℕ → Type 0) (l : LoopParts) : Type 0 where
@@ -130,7 +131,7 @@ zero_neat ok l p =
     push_rows_neat H (start l).system (unguard l ++ equals (others cs (start l).cells))
     (system_more (IsHalfOf ok (start l).cells) H (half_more ok (start l).cells cs (own_more l)) (start l).system (start_done ok l p).system)
     (all-append (Given H) (unguard l) (equals (others cs (start l).cells)) (unguard_given ok cs l p)
-    (equals_given ok cs (others cs (start l).cells) (λ c e. let i = others_has cs (start l).cells c e in (i, (iteration_done ok l p).cells c i))))
+    (equals_given ok cs (others cs (start l).cells) (λ c e. let i = others_in cs (start l).cells c e in (i, (iteration_done ok l p).cells c i))))
 
 first_done : (ok : ℕ → Type 0) (l : LoopParts) → IsLoopOf ok l → IsDone ok (first_iterations l (iteration l))
 first_done ok l p =

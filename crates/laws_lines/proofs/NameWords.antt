@@ -41,12 +41,14 @@ use Rattle.laws_programs.specs.Programs.{AreTables}
 use Rattle.laws_programs.proofs.Sources.{IsBuilt, all_built}
 use Rattle.laws_programs.proofs.Ordered.{AllFormed, split, title_formed}
 use Rattle.laws_lines.specs.NameLaws.{AreWords, NamesAreWords}
-use Rattle.laws_lines.proofs.SymbolNames.{names-last, names_stay, said_stay, names_of_symbols}
-use Rattle.laws_lines.proofs.PhaseVars.{EachOf, each_all}
+use Rattle.laws_lines.proofs.SymbolNames.{said_stay, names_of_symbols}
+use Rattle.laws_lines.proofs.PhaseVars.{each_all}
 use Rattle.laws_programs.proofs.RoundtripPrograms.Statements.DeclBack.{each_of as each_filled, typed as typed_each}
 use Rattle.laws_programs.proofs.RoundtripPrograms.Named.{group_each}
 use Rattle.fx_lists.proofs.Booleans.{or_turned}
 use Rattle.laws_programs.proofs.RoundtripPrograms.ModuleTexts.Cards.{Any as AnyLabel}
+use Rattle.fx_lists.proofs.Every.{Every}
+use Rattle.laws_programs.proofs.Layouts.DifferLaws.{names_more, names_changed}
 
 -- ---- words
 
@@ -80,7 +82,7 @@ seen_words x line es n d = go (is_some (find x es))
   where
     go : (b : Bool) → Words (if b then es else es ++ fresh x line ∷ [])
     go true = d
-    go false = subst (Each IsWord) (sym (names-last es (fresh x line))) (Each-append IsWord (entry_names es) (x ∷ []) d (record { first = word x n; others = tt }))
+    go false = subst (Each IsWord) (sym (names_more es (fresh x line))) (Each-append IsWord (entry_names es) (x ∷ []) d (record { first = word x n; others = tt }))
 
 said_words : (x : List ℕ) (w : Said) (es : List EntryTree) → Words es → Words (changed x (with_said w) es)
 said_words x w es d = subst (Each IsWord) (sym (said_stay x w es)) d
@@ -89,7 +91,7 @@ dummies_words : (xs : List (List ℕ)) (n line : ℕ) (t : Told) → Each IsName
 dummies_words [] n line t h d = d
 dummies_words (x ∷ xs) n line t h d =
     let es = seen x line t.entries in
-    dummies_words xs (suc n) line (dummy_told x n line t) h.others (subst (Each IsWord) (sym (names_stay x (with_dummy n) (λ e. refl) es)) (seen_words x line t.entries h.first d))
+    dummies_words xs (suc n) line (dummy_told x n line t) h.others (subst (Each IsWord) (sym (names_changed x (with_dummy n) (λ e. refl) es)) (seen_words x line t.entries h.first d))
 
 -- ---- what the grammar gives
 
@@ -355,7 +357,7 @@ table_words p b =
 symbols_words : (p : ParsedTree) (ss : List SymbolTree) → IsBuilt p → symbols_of p ≡ Ok ss → AreWords ss
 symbols_words p ss b e = are_words (symbol_names ss) (subst (Each IsWord) (sym (names_of_symbols p ss e)) (table_words p b))
 
-tables_words : (ps : List ParsedTree) (sss : List (List SymbolTree)) → Each IsBuilt ps → AreTables ps sss → EachOf AreWords sss
+tables_words : (ps : List ParsedTree) (sss : List (List SymbolTree)) → Each IsBuilt ps → AreTables ps sss → Every AreWords sss
 tables_words [] [] b t = tt
 tables_words [] (ss ∷ sss) b t = absurd t
 tables_words (p ∷ ps) [] b t = absurd t

@@ -1,8 +1,7 @@
 -- The variables of the results of the analyses over the modules of a program.
-use Rattle.std.proofs.Common.{◌≡◌, ◌⊎◌, inl, inr, ℕ, zero, suc, ◌+◌, ◌-◌, Bool, true, false, not, ◌&&◌, ◌||◌, List, [], ◌∷◌, ◌++◌, Option, Some, None, Ok, arith, refl, sym, ap, ◌∙◌, subst, nat_eq}
+use Rattle.std.proofs.Common.{◌≡◌, ◌⊎◌, inl, inr, ℕ, zero, suc, ◌+◌, ◌-◌, Bool, true, false, not, ◌&&◌, ◌||◌, List, [], ◌∷◌, ◌++◌, Option, Some, None, Ok, arith, refl, ap, ◌∙◌, subst, nat_eq}
 use Rattle.std.specs.Prelude.{if◌then◌else◌, All, map, reverse, slice_get, bytes_eq, is_none, option_to_list}
 use Rattle.std.specs.List.{filter}
-use mathlib.Core.List.{reverse-cons}
 use Rattle.std.proofs.lemmas.Bool.{or_right, ne_eqb}
 use Rattle.affine_systems.specs.declared.row.Var.{Var}
 use Rattle.affine_systems.specs.declared.row.Var.TheVariants.{Cell, Exit, Phi, Aux}
@@ -45,28 +44,17 @@ use Rattle.laws_lines.specs.Halves.{IsHalfOf, IsTransformerOf}
 use Rattle.laws_lines.specs.Laws.{IsTracked, AnalysisIsOver, AnalysesAreOverCells}
 use Rattle.laws_lines.proofs.SystemVars.{IsNeat, neat_over, system_more, project_neat}
 use Rattle.laws_lines.proofs.RuleVars.{IsDone, done_is, unchanging_done}
-use Rattle.laws_lines.proofs.CallVars.{Every, Left, SummaryOf, neat_in}
+use Rattle.laws_lines.proofs.CallVars.{Left, SummaryOf, neat_in}
 use Rattle.laws_lines.proofs.StatementVars.{AllAt, Scope, body_list_done, at_list_done}
 use Rattle.laws_lines.proofs.HoldVars.{at_list_neat}
 use Rattle.laws_lines.proofs.SiteVars.{DummiesFrom, SitesOf, entry_neat}
 use Rattle.fx_lists.proofs.Booleans.{clash as clashes}
 use Rattle.preconditions.proofs.TransformerAlgebra.CellLaws.{has-filter as kept_has}
+use Rattle.fx_lists.proofs.Every.{Anything, Every, every_joined, every_turned, every_at}
 
 -- ---- lists
 
-abbrev pub EachOf : {A : Type 0} → (A → Type 0) → List A → Type 0
-EachOf P [] = Unit {0}
-EachOf P (x ∷ xs) = P x × EachOf P xs
-
-pub each-append : {A : Type 0} (P : A → Type 0) (xs ys : List A) → EachOf P xs → EachOf P ys → EachOf P (xs ++ ys)
-each-append P [] ys h k = k
-each-append P (x ∷ xs) ys h k = (h.0, each-append P xs ys h.1 k)
-
-pub each_reverse : {A : Type 0} (P : A → Type 0) (xs : List A) → EachOf P xs → EachOf P (reverse xs)
-each_reverse P [] h = tt
-each_reverse P (x ∷ xs) h = subst (EachOf P) (sym (reverse-cons x xs)) (each-append P (reverse xs) (x ∷ []) (each_reverse P xs h.1) (h.0, tt))
-
-pub each_all : {A : Type 0} (P Q : A → Type 0) → ((x : A) → P x → Q x) → (xs : List A) → EachOf P xs → All Q xs
+pub each_all : {A : Type 0} (P Q : A → Type 0) → ((x : A) → P x → Q x) → (xs : List A) → Every P xs → All Q xs
 each_all P Q f [] h k d l = absurd (omega (arith, l))
 each_all P Q f (x ∷ xs) h zero d l = f x h.0
 each_all P Q f (x ∷ xs) h (suc k) d l = each_all P Q f xs h.1 k d (omega (arith, l))
@@ -251,11 +239,11 @@ found_ok untracked cs k h c =
       summary = summary_done ok k.symbols (list_transformer k.read.body m cs true) (body_list_done ok m a cs c k.read.body true);
     }
 
-founds_ok : (untracked : List BlockUnit) (ks : List Known) → ((x : List ℕ) (k : Known) → module_of ks x ≡ Some k → KnownOk untracked k) → (cs : Callees) (xs : List (List ℕ)) → CalleesOk cs → EachOf (FoundOk untracked) (found_in untracked ks cs xs)
+founds_ok : (untracked : List BlockUnit) (ks : List Known) → ((x : List ℕ) (k : Known) → module_of ks x ≡ Some k → KnownOk untracked k) → (cs : Callees) (xs : List (List ℕ)) → CalleesOk cs → Every (FoundOk untracked) (found_in untracked ks cs xs)
 founds_ok untracked ks known cs [] c = tt
 founds_ok untracked ks known cs (x ∷ xs) c = go (module_of ks x) refl (λ ds d. founds_ok untracked ks known ds xs d)
   where
-    go : (o : Option Known) → module_of ks x ≡ o → ((ds : Callees) → CalleesOk ds → EachOf (FoundOk untracked) (found_in untracked ks ds xs)) → EachOf (FoundOk untracked) (option_to_list (maybe_found untracked cs o) ++ found_in untracked ks (with_callee (maybe_found untracked cs o) cs) xs)
+    go : (o : Option Known) → module_of ks x ≡ o → ((ds : Callees) → CalleesOk ds → Every (FoundOk untracked) (found_in untracked ks ds xs)) → Every (FoundOk untracked) (option_to_list (maybe_found untracked cs o) ++ found_in untracked ks (with_callee (maybe_found untracked cs o) cs) xs)
     go None e ih = ih (with_callee None cs) (λ y. c y)
     go (Some k) e ih =
         let f = found_ok untracked cs k (known x k e) c in
@@ -273,7 +261,7 @@ sites-append [] ds h k = k
 sites-append (c ∷ cs) ds h k = (h.0, sites-append cs ds h.1 k)
 
 module _ (c : Caller) (ok : ℕ → Type 0) (holds : (n : ℕ) (s : System) → c.holds n ≡ Some s → IsNeat (IsCellOf ok) s) where
-  any_cell : (v : Var) → IsCellOf ok v → IsCellOf Every v
+  any_cell : (v : Var) → IsCellOf ok v → IsCellOf Anything v
   any_cell (Cell n) h = tt
   any_cell (Exit n) h = absurd h
   any_cell (Phi n) h = absurd h
@@ -281,7 +269,7 @@ module _ (c : Caller) (ok : ℕ → Type 0) (holds : (n : ℕ) (s : System) → 
 
   site_is : (es : ExprTrees) (o : Option System) → ((s : System) → o ≡ Some s → IsNeat (IsCellOf ok) s) → SitesOf (site c.scope es o)
   site_is es None f = tt
-  site_is es (Some p) f = (system_more (IsCellOf ok) (IsCellOf Every) any_cell p (f p refl), tt)
+  site_is es (Some p) f = (system_more (IsCellOf ok) (IsCellOf Anything) any_cell p (f p refl), tt)
 
   mutual
     stmt_sites_are : (s : StmtTree) (x : List ℕ) → SitesOf (stmt_sites s c x)
@@ -319,7 +307,7 @@ module _ (c : Caller) (ok : ℕ → Type 0) (holds : (n : ℕ) (s : System) → 
     loop_sites_are : (l : LoopTree) (x : List ℕ) → SitesOf (loop_sites l c x)
     loop_sites_are (tree.loop index first last step body) x = list_sites_are body x
 
-sites_are : (untracked : List BlockUnit) (as' : List Analysis) (x : List ℕ) → EachOf (AnalysisOk untracked) as' → SitesOf (sites_of untracked as' x)
+sites_are : (untracked : List BlockUnit) (as' : List Analysis) (x : List ℕ) → Every (AnalysisOk untracked) as' → SitesOf (sites_of untracked as' x)
 sites_are untracked [] x h = tt
 sites_are untracked (a ∷ as') x h =
     let C = IsNeat (IsCellOf (IsTracked untracked a.found.known)) in
@@ -336,12 +324,12 @@ analysis_ok untracked cs f h s =
     let e = entry_neat ok m a h.known f.known.read.main cs s in
     record { found = h; at = at_list_neat ok m a (transformer_at f.own.at) (found_done ok f.own.at h.at) true f.known.read.body entry e; entry = e }
 
-all_ok : (untracked : List BlockUnit) (done : List Analysis) (fs : List Found) → EachOf (AnalysisOk untracked) done → EachOf (FoundOk untracked) fs → EachOf (AnalysisOk untracked) (analyses_from untracked done fs)
+all_ok : (untracked : List BlockUnit) (done : List Analysis) (fs : List Found) → Every (AnalysisOk untracked) done → Every (FoundOk untracked) fs → Every (AnalysisOk untracked) (analyses_from untracked done fs)
 all_ok untracked done [] d h = d
 all_ok untracked done (f ∷ fs) d h =
     let cs = sites_of untracked done f.known.read.name in
     let a = analysis_ok untracked cs f h.0 (sites_are untracked done f.known.read.name d) in
-    all_ok untracked (done ++ analysis_of untracked cs f ∷ []) fs (each-append (AnalysisOk untracked) done (analysis_of untracked cs f ∷ []) d (a, tt)) h.1
+    all_ok untracked (done ++ analysis_of untracked cs f ∷ []) fs (every_joined (AnalysisOk untracked) done (analysis_of untracked cs f ∷ []) d (a, tt)) h.1
 
 -- ---- modules with their tables
 
@@ -374,22 +362,17 @@ known_ok untracked p ss e =
     let r : suc i ≡ 1 + i = omega arith in
     subst (λ (m : ℕ). is_cell (map test ss) m ≡ true) r (set_cell (map test ss) i (got_map test ss i s g ∙ ap (λ (b : Bool). Some b) t)))
 
-knowns_ok : (untracked : List BlockUnit) (ps : List ParsedTree) (sss : List (List SymbolTree)) → AreTables ps sss → EachOf (KnownOk untracked) (known_of ps sss)
+knowns_ok : (untracked : List BlockUnit) (ps : List ParsedTree) (sss : List (List SymbolTree)) → AreTables ps sss → Every (KnownOk untracked) (known_of ps sss)
 knowns_ok untracked [] sss t = tt
 knowns_ok untracked (p ∷ ps) [] t = tt
 knowns_ok untracked (p ∷ ps) (ss ∷ sss) t = (known_ok untracked p ss t.0, knowns_ok untracked ps sss t.1)
 
-pub got_each : {A : Type 0} (P : A → Type 0) (xs : List A) (i : ℕ) (x : A) → EachOf P xs → slice_get xs i ≡ Some x → P x
-got_each P [] i x h e = cc
-got_each P (y ∷ xs) zero x h e = let same : y ≡ x = cc in subst P same h.0
-got_each P (y ∷ xs) (suc i) x h e = got_each P xs i x h.1 e
-
-module_ok : (untracked : List BlockUnit) (ks : List Known) → EachOf (KnownOk untracked) ks → (x : List ℕ) (k : Known) → module_of ks x ≡ Some k → KnownOk untracked k
+module_ok : (untracked : List BlockUnit) (ks : List Known) → Every (KnownOk untracked) ks → (x : List ℕ) (k : Known) → module_of ks x ≡ Some k → KnownOk untracked k
 module_ok untracked ks h x k e = go (place_of ks x) e
   where
     go : (o : Option ℕ) → module_at ks o ≡ Some k → KnownOk untracked k
     go None q = cc
-    go (Some i) q = got_each (KnownOk untracked) ks i k h q
+    go (Some i) q = every_at (KnownOk untracked) ks i k h q
 
 analysis_is : (untracked : List BlockUnit) (a : Analysis) → AnalysisOk untracked a → AnalysisIsOver untracked a
 analysis_is untracked a h =
@@ -401,12 +384,12 @@ analysis_is untracked a h =
       summary = done_is ok a.found.own.summary h.found.summary;
     }
 
-pub analyses_ok : (ps : List ParsedTree) (sss : List (List SymbolTree)) (g : Graph) → AreTables ps sss → EachOf (AnalysisOk g.untracked) (analyses (known_of ps sss) g)
+pub analyses_ok : (ps : List ParsedTree) (sss : List (List SymbolTree)) (g : Graph) → AreTables ps sss → Every (AnalysisOk g.untracked) (analyses (known_of ps sss) g)
 analyses_ok ps sss g t =
     let ks = known_of ps sss in
     let founds = founds_ok g.untracked ks (module_ok g.untracked ks (knowns_ok g.untracked ps sss t)) no_callees g.order (λ x. tt) in
     let fs = found_in g.untracked ks no_callees g.order in
-    all_ok g.untracked [] (reverse fs) tt (each_reverse (FoundOk g.untracked) fs founds)
+    all_ok g.untracked [] (reverse fs) tt (every_turned (FoundOk g.untracked) fs founds)
 
 pub analyses_are_over_cells : AnalysesAreOverCells
 analyses_are_over_cells ps sss g t =

@@ -30,6 +30,7 @@ use Rattle.laws_lines.proofs.HullVars.{Any, hull_neat, closure_neat}
 use Rattle.laws_lines.proofs.FormVars.{FormOf, compared_given, none_neat, infeasible_neat}
 use Rattle.fx_lists.proofs.Numbers.{same_is as nat_same, nat_eq_same}
 use Rattle.fx_lists.proofs.Booleans.{clash as clashes}
+use Rattle.preconditions.proofs.TransformerAlgebra.HasLaws.{others_in}
 
 -- ---- a transformer over such cells, of tidied rows
 
@@ -197,18 +198,6 @@ apply_neat ok t s d h =
 
 -- ---- a choice
 
-pub others_has : (cs ds : List ℕ) (c : ℕ) → has (others cs ds) c ≡ true → has cs c ≡ true
-others_has [] ds c h = h
-others_has (d ∷ cs) ds c h = go (has ds d) h (others_has cs ds c)
-  where
-    kept : (b : Bool) → (b || has (others cs ds) c) ≡ true → (has (others cs ds) c ≡ true → has cs c ≡ true) → (b || has cs c) ≡ true
-    kept true e ih = refl
-    kept false e ih = ih e
-
-    go : (b : Bool) → has (if b then others cs ds else d ∷ others cs ds) c ≡ true → (has (others cs ds) c ≡ true → has cs c ≡ true) → (nat_eq d c || has cs c) ≡ true
-    go true e ih = or_right (nat_eq d c) (has cs c) (ih e)
-    go false e ih = kept (nat_eq d c) e ih
-
 pub equals_given : (ok : ℕ → Type 0) (cs ds : List ℕ) → ((c : ℕ) → has ds c ≡ true → (has cs c ≡ true) × ok c) → AreGiven (IsHalfOf ok cs) (equals ds)
 equals_given ok cs [] f = tt
 equals_given ok cs (d ∷ ds) f =
@@ -218,7 +207,7 @@ equals_given ok cs (d ∷ ds) f =
 pub complete_neat : (ok : ℕ → Type 0) (cs : List ℕ) (t : Transformer) → ((c : ℕ) → has cs c ≡ true → ok c) → ((c : ℕ) → has t.cells c ≡ true → has cs c ≡ true) → IsDone ok t → IsNeat (IsHalfOf ok cs) (complete cs t)
 complete_neat ok cs t f g d =
     push_rows_neat (IsHalfOf ok cs) t.system (equals (others cs t.cells)) (system_more (IsHalfOf ok t.cells) (IsHalfOf ok cs) (half_more ok t.cells cs g) t.system d.system)
-    (equals_given ok cs (others cs t.cells) (λ c e. let i = others_has cs t.cells c e in (i, f c i)))
+    (equals_given ok cs (others cs t.cells) (λ c e. let i = others_in cs t.cells c e in (i, f c i)))
 
 abbrev pub AreDone : (ℕ → Type 0) → List Transformer → Type 0
 AreDone ok [] = Unit {0}

@@ -33,11 +33,13 @@ use Rattle.laws_lines.specs.Variables.{EachVar, IsCellOf}
 use Rattle.laws_lines.proofs.RowVars.{each_more, Given}
 use Rattle.laws_lines.proofs.SystemVars.{IsNeat, AreGiven, all-append, system_more, push_rows_neat, of_rows_neat, project_neat, rename_neat, renamed_given}
 use Rattle.laws_lines.proofs.FormVars.{FormOf, affine_over, compared_given}
-use Rattle.laws_lines.proofs.CallVars.{Every, Allows, one_back, aux_front, rows_in, neat_in}
+use Rattle.laws_lines.proofs.CallVars.{Allows, aux_front, rows_in, neat_in}
 use Rattle.laws_lines.proofs.StatementVars.{Scope}
 use Rattle.laws_lines.proofs.HoldVars.{AreNeat, some_neat}
 use Rattle.fx_lists.proofs.Booleans.{clash}
 use Rattle.elimination.proofs.ClosedLaws.{rows_weaker as all_more}
+use Rattle.fx_lists.proofs.Every.{Anything}
+use Rattle.in_out_regions.proofs.RegionTranslation.PieceLaws.{one_right}
 
 -- INTEGER scalar dummies have such numbers, where the first of the symbols has the number n
 abbrev pub DummiesFrom : (ℕ → Type 0) → ℕ → List SymbolTree → Type 0
@@ -52,7 +54,7 @@ module _ (ok : ℕ → Type 0) (m : ScopeTree) (a : Allows ok m) (c : HoldingSit
   Told (Phi x) = ⊥
   Told (Aux x) = ⊥
 
-  cell_told : (v : Var) → IsCellOf Every v → Told v
+  cell_told : (v : Var) → IsCellOf Anything v → Told v
   cell_told (Cell x) h = tt
   cell_told (Exit x) h = absurd h
   cell_told (Phi x) h = absurd h
@@ -86,7 +88,7 @@ module _ (ok : ℕ → Type 0) (m : ScopeTree) (a : Allows ok m) (c : HoldingSit
   Said ns w = IsCellOf ok w ⊎ IsOneOf w (auxiliaries_in ns)
 
   said_more : (x : Naming) (ns : List Naming) (w : Var) → Said ns w → Said (x ∷ ns) w
-  said_more x ns w s = ⊎_elim (λ i. inl i) (λ i. inr (one_back w (auxiliary_of x.to) (auxiliaries_in ns) i)) s
+  said_more x ns w s = ⊎_elim (λ i. inl i) (λ i. inr (one_right w (auxiliary_of x.to) (auxiliaries_in ns) i)) s
 
   names_said : (n : ℕ) (vs : List Var) (v : Var) → Told v → IsOneOf v vs → Said (names_from m c n vs) (renamed_by (names_from m c n vs) v)
   names_said n [] v h i = absurd i
@@ -108,19 +110,19 @@ module _ (ok : ℕ → Type 0) (m : ScopeTree) (a : Allows ok m) (c : HoldingSit
       go true e ih = here e
       go false e ih = said_more new ns (renamed_by ns v) (ih (rest e))
 
-  form_told : (p : Place) → FormOf (IsCellOf Every) (form_at c p)
+  form_told : (p : Place) → FormOf (IsCellOf Anything) (form_at c p)
   form_told (Local g o) = tt
   form_told (Dummy d) = go (actual_of c.actuals d)
     where
-      go : (o : Option ExprTree) → FormOf (IsCellOf Every) (form_in c.caller o)
+      go : (o : Option ExprTree) → FormOf (IsCellOf Anything) (form_in c.caller o)
       go None = tt
-      go (Some e) = affine_over (IsCellOf Every) c.caller.scalars (λ x b k. tt) e
+      go (Some e) = affine_over (IsCellOf Anything) c.caller.scalars (λ x b k. tt) e
   form_told (Block b o) = tt
   form_told (Constant k) = tt
 
-  row_told : (n : ℕ) → ok n → (f : Option Affine) → FormOf (IsCellOf Every) f → AreGiven Told (row_for n f)
+  row_told : (n : ℕ) → ok n → (f : Option Affine) → FormOf (IsCellOf Anything) f → AreGiven Told (row_for n f)
   row_told n k None h = tt
-  row_told n k (Some f) h = (compared_given Told true (var_form (Exit n)) f (f.constant -ℤ pos 0) (k, tt) (each_more (IsCellOf Every) Told cell_told f.terms h.1), tt)
+  row_told n k (Some f) h = (compared_given Told true (var_form (Exit n)) f (f.constant -ℤ pos 0) (k, tt) (each_more (IsCellOf Anything) Told cell_told f.terms h.1), tt)
 
   dummy_told : (n : ℕ) (s : SymbolTree) → ((d : ℕ) → is_int_scalar s ≡ true → s.place ≡ Dummy d → ok n) → AreGiven Told (row_of c n s)
   dummy_told n s f = scalar (is_int_scalar s) refl
@@ -139,7 +141,7 @@ module _ (ok : ℕ → Type 0) (m : ScopeTree) (a : Allows ok m) (c : HoldingSit
   rows_told n [] d = tt
   rows_told n (s ∷ ss) d = all-append (Given Told) (row_of c n s) (rows_from c (suc n) ss) (dummy_told n s d.0) (rows_told (suc n) ss d.1)
 
-  pub site_neat : DummiesFrom ok 1 m.symbols → IsNeat (IsCellOf Every) c.value → IsNeat (IsCellOf ok) (site_entry m c)
+  pub site_neat : DummiesFrom ok 1 m.symbols → IsNeat (IsCellOf Anything) c.value → IsNeat (IsCellOf ok) (site_entry m c)
   site_neat d h =
       let rs = rows_from c 1 m.symbols in
       let vs = with_rows (with_rows [] c.value.rows) rs in
@@ -149,7 +151,7 @@ module _ (ok : ℕ → Type 0) (m : ScopeTree) (a : Allows ok m) (c : HoldingSit
       let T = λ (v : Var). Told v × IsOneOf v vs in
       let told = rows_told 1 m.symbols d in
       let first = rows_more (with_rows [] c.value.rows) vs c.value.rows (λ u k. kept-rows u (with_rows [] c.value.rows) rs k) (rows_covered [] c.value.rows) in
-      let renamed = rename_neat T S ns (λ v i. names_said n vs v i.0 i.1) c.value (neat_in Told vs c.value (system_more (IsCellOf Every) Told cell_told c.value h) first) in
+      let renamed = rename_neat T S ns (λ v i. names_said n vs v i.0 i.1) c.value (neat_in Told vs c.value (system_more (IsCellOf Anything) Told cell_told c.value h) first) in
       let over = all_more (Given Told) (λ r. EachVar Told r.terms) (λ r g. g.1) rs told in
       let rows = renamed_given T S (renamed_by ns) (λ v i. names_said n vs v i.0 i.1) rs (rows_in Told vs rs over (rows_covered (with_rows [] c.value.rows) rs)) in
       let pushed = push_rows (rename_all ns c.value) (map (renamed_row (renamed_by ns)) rs) in
@@ -161,7 +163,7 @@ module _ (ok : ℕ → Type 0) (m : ScopeTree) (a : Allows ok m) (c : HoldingSit
 -- what holds at each of some CALLs
 abbrev pub SitesOf : List HoldingSite → Type 0
 SitesOf [] = Unit {0}
-SitesOf (c ∷ cs) = IsNeat (IsCellOf Every) c.value × SitesOf cs
+SitesOf (c ∷ cs) = IsNeat (IsCellOf Anything) c.value × SitesOf cs
 
 entries_neat : (ok : ℕ → Type 0) (m : ScopeTree) → Allows ok m → DummiesFrom ok 1 m.symbols → (cs : List HoldingSite) → SitesOf cs → AreNeat ok (map (site_entry m) cs)
 entries_neat ok m a d [] h = tt

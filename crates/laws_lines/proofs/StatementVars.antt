@@ -27,7 +27,8 @@ use Rattle.laws_lines.proofs.SystemVars.{IsNeat, meet_neat}
 use Rattle.laws_lines.proofs.FormVars.{FormOf, affine_over, condition_over, none_neat}
 use Rattle.laws_lines.proofs.RuleVars.{IsDone, AreDone, none_has, test_done, unchanging_done, nowhere_done, forgotten_done, assign_done, followed_done, one_of_done, cells_ok}
 use Rattle.laws_lines.proofs.LoopVars.{IsLoopOf, loop_done}
-use Rattle.laws_lines.proofs.CallVars.{Allows, named_cell_ok, one_cell_ok, append_has, SummaryOf, call_done}
+use Rattle.laws_lines.proofs.CallVars.{Allows, named_cell_ok, one_cell_ok, SummaryOf, call_done}
+use Rattle.preconditions.proofs.TransformerAlgebra.HasLaws.{has_either}
 
 -- each of some results at statements
 abbrev pub AllAt : {T : Type 0} → (T → Type 0) → List (At T) → Type 0
@@ -83,7 +84,7 @@ module _ (ok : ℕ → Type 0) (m : ScopeTree) (a : Scope ok m) where
   read_ok tree.no_exprs c h = none_has ok c h
   read_ok (tree.more_exprs e es) c h =
       ⊎_elim (λ i. one_cell_ok ok (named_cell m.scalars e) (λ d k. named_cell_ok ok m a.allows e d k) c i) (λ i. read_ok es c i)
-      (append_has (one_cell (named_cell m.scalars e)) (named_cells m.scalars es) c h)
+      (has_either (one_cell (named_cell m.scalars e)) (named_cells m.scalars es) c h)
 
   where_done : (s : System) (t : Transformer) → IsNeat (IsCellOf ok) s → IsDone ok t → IsDone ok (where_holds s t)
   where_done s t h d = followed_done ok (test s) t (test_done ok s h) d

@@ -1,6 +1,5 @@
 -- The names of the symbols of a module are those of the names that its statements tell of, in their order.
-use Rattle.std.proofs.Common.{◌≡◌, ℕ, ◌+◌, Bool, true, false, List, [], ◌∷◌, ◌++◌, Ok, refl, ap, ◌∙◌}
-use Rattle.std.specs.Prelude.{if◌then◌else◌, bytes_eq}
+use Rattle.std.proofs.Common.{◌≡◌, ℕ, ◌+◌, Bool, true, false, List, [], ◌∷◌, Ok, refl, ap, ◌∙◌}
 use Rattle.f77_ast.specs.DeclTrees.{SettingTree, DeclTree, ParsedTree}
 use Rattle.f77_ast.specs.DeclTrees as decl
 use Rattle.f77_ast.specs.declared.constant.Constant.{Constant}
@@ -23,24 +22,12 @@ use Rattle.laws_programs.proofs.SymbolTables.KeptNames.{Said, with_said, Typed, 
 use Rattle.laws_programs.proofs.SymbolTables.Values.{chosen, as_chosen, is_taken, judged}
 use Rattle.laws_programs.proofs.SymbolTables.Answers.{answered_by, lines_in, names_in, layout_in}
 use Rattle.laws_programs.proofs.Storage.ParameterLaws.{same_name}
+use Rattle.laws_programs.proofs.Layouts.DifferLaws.{names_changed}
 
 -- ---- entries
 
-pub names-last : (es : List EntryTree) (e : EntryTree) → entry_names (es ++ e ∷ []) ≡ entry_names es ++ e.name ∷ []
-names-last [] e = refl
-names-last (x ∷ es) e = ap (λ (ns : List (List ℕ)). x.name ∷ ns) (names-last es e)
-
--- what is said of a name leaves the names
-pub names_stay : (x : List ℕ) (f : EntryTree → EntryTree) → ((e : EntryTree) → (f e).name ≡ e.name) → (es : List EntryTree) → entry_names (changed x f es) ≡ entry_names es
-names_stay x f same [] = refl
-names_stay x f same (e ∷ es) = go (bytes_eq x e.name) (names_stay x f same es)
-  where
-    go : (b : Bool) → entry_names (changed x f es) ≡ entry_names es → entry_names (if b then f e ∷ es else e ∷ changed x f es) ≡ e.name ∷ entry_names es
-    go true k = ap (λ (n : List ℕ). n ∷ entry_names es) (same e)
-    go false k = ap (λ (ns : List (List ℕ)). e.name ∷ ns) k
-
 pub said_stay : (x : List ℕ) (w : Said) (es : List EntryTree) → entry_names (changed x (with_said w) es) ≡ entry_names es
-said_stay x w es = names_stay x (with_said w) (same_name w) es
+said_stay x w es = names_changed x (with_said w) (same_name w) es
 
 -- ---- the values that PARAMETER gives
 
@@ -48,7 +35,7 @@ abbrev names_of : Valued → List (List ℕ)
 names_of v = entry_names v.table.entries
 
 value_stay : (x : List ℕ) (c : Constant) (es : List EntryTree) → entry_names (changed x (with_value c) es) ≡ entry_names es
-value_stay x c es = names_stay x (with_value c) (λ e. refl) es
+value_stay x c es = names_changed x (with_value c) (λ e. refl) es
 
 typed_stay : (k : Kind) (x : List ℕ) (c : Constant) (line : ℕ) (v : Valued) → names_of (given_typed k x c line v) ≡ names_of v
 typed_stay Int x (constant.Int i) line v = value_stay x (constant.Int i) v.table.entries

@@ -13,8 +13,9 @@ use Rattle.f77_meaning.specs.Modules.{symbol_names}
 use Rattle.laws_programs.proofs.SymbolTables.KeptNames.{Said, with_said, decls_keep, stmts_keep}
 use Rattle.laws_programs.proofs.SymbolTables.Answers.{lines_in}
 use Rattle.laws_lines.specs.NameLaws.{NamesAreDistinct}
-use Rattle.laws_lines.proofs.SymbolNames.{names-last, names_stay, said_stay, names_of_symbols}
+use Rattle.laws_lines.proofs.SymbolNames.{said_stay, names_of_symbols}
 use Rattle.fx_lists.proofs.Lists.{other_way as turned}
+use Rattle.laws_programs.proofs.Layouts.DifferLaws.{names_more, names_changed}
 
 -- ---- distinct names
 
@@ -63,10 +64,10 @@ seen_apart x line es d = go (is_some (find x es)) refl
   where
     go : (b : Bool) → is_some (find x es) ≡ b → AreApart (if b then es else es ++ fresh x line ∷ [])
     go true q = d
-    go false q = subst Distinct (sym (names-last es (fresh x line))) (distinct-last x (entry_names es) d (none_apart x es q))
+    go false q = subst Distinct (sym (names_more es (fresh x line))) (distinct-last x (entry_names es) d (none_apart x es q))
 
 changed_apart : (x : List ℕ) (f : EntryTree → EntryTree) → ((e : EntryTree) → (f e).name ≡ e.name) → (es : List EntryTree) → AreApart es → AreApart (changed x f es)
-changed_apart x f same es d = subst Distinct (sym (names_stay x f same es)) d
+changed_apart x f same es d = subst Distinct (sym (names_changed x f same es)) d
 
 said_apart : (x : List ℕ) (w : Said) (es : List EntryTree) → AreApart es → AreApart (changed x (with_said w) es)
 said_apart x w es d = subst Distinct (sym (said_stay x w es)) d

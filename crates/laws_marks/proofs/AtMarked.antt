@@ -7,7 +7,7 @@ use Rattle.system_text.specs.SystemText.{name_at}
 use Rattle.f77_ast.specs.Trees.{ExprTree, StmtTrees, LoopTree}
 use Rattle.f77_ast.specs.Trees as tree
 use Rattle.f77_ast.specs.DeclTrees.{ParsedTree}
-use Rattle.f77_ast.specs.StatementNumbers.{loop_numbers, IsNumbered}
+use Rattle.f77_ast.specs.StatementNumbers.{loop_numbers, HasNumbers}
 use Rattle.f77_ast.specs.Store.{Content, Store}
 use Rattle.f77_ast.specs.Faults.{Locked}
 use Rattle.f77_ast.specs.Runs.{Event, Answer}
@@ -58,7 +58,6 @@ use Rattle.laws_marks.specs.Dead.{index_name}
 use Rattle.laws_marks.specs.Named.{AreNamesOf, NamesStand, ModuleNamesStand, PlacesStand, ModulePlacesStand, MarkedLoopIsDead, NamesAreCopied}
 use Rattle.laws_marks.specs.Units.{IsPassing}
 use Rattle.laws_marks.proofs.Written.{name_means}
-use Rattle.laws_marks.proofs.UnitsStanding.{each_of_all}
 use Rattle.laws_marks.specs.Known.{LoopIsKnown, MarkedLoopIsKnown, AllMarkedLoopsAreKnown}
 use Rattle.laws_marks.proofs.Private.{stored_place, name_private}
 use Rattle.laws_marks.specs.Rests.{occurrence_of}
@@ -68,6 +67,7 @@ use Rattle.laws_marks.proofs.Unbroken.{IsUnbroken}
 use Rattle.laws_marks.proofs.Dos.{all_dos}
 use Rattle.laws_marks.proofs.Units.{units, nameless_outside, nameless_local}
 use Rattle.laws_marks.proofs.Fitted.{Stands, IsFixed, is_free, body_fine, own_cleared, own_valueless, hidden_private, nameless_unwritten, owned}
+use Rattle.call_graph.proofs.EachLaws.{each_of_all}
 
 in_map : (f : ℕ → List ℕ) (n : ℕ) (ns : List ℕ) → In n ns → In (f n) (map f ns)
 in_map f n [] i = elim i [ ]
@@ -102,7 +102,7 @@ module _ (begin : LoopsBegin) (hold : LoopsHold) (copied : NamesAreCopied) (ps :
     pub placed : Each (PlacesOf e) (all_marks g (outs_of ps sss g))
     pub dead : AllMarkedLoopsAreDead (known_of ps sss) g (all_marks g (outs_of ps sss g)) (occurrence_of e later)
 
-  module _ (of_marks : AreOfMarks (all_marks g (outs_of ps sss g)) d) (modules : Each (λ (f : ModuleResults). IsIn (known_of ps sss) f.known) (all_marks g (outs_of ps sss g))) (numbered : (k : Known) → IsIn (known_of ps sss) k → IsNumbered k.read.body) (k : Known) (is_in : IsIn (known_of ps sss) k) (xs : List Known) (behind : Each (IsIn (known_of ps sss)) xs)
+  module _ (of_marks : AreOfMarks (all_marks g (outs_of ps sss g)) d) (modules : Each (λ (f : ModuleResults). IsIn (known_of ps sss) f.known) (all_marks g (outs_of ps sss g))) (numbered : (k : Known) → IsIn (known_of ps sss) k → HasNumbers k.read.body) (k : Known) (is_in : IsIn (known_of ps sss) k) (xs : List Known) (behind : Each (IsIn (known_of ps sss)) xs)
       (distinct : Distinct (map of (k ∷ xs))) (st : Stands (program_of (known_of ps sss) g) turns (of k) (map of xs)) where
     abbrev sc : MarkedScope
     sc = marked_scope (of k) turns d (meanings (map of xs) turns) (marked_meanings (map of xs) turns d)

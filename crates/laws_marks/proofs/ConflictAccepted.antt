@@ -6,7 +6,7 @@ use Rattle.affine_systems.specs.declared.row.System.{System}
 use Rattle.f77_ast.specs.Trees.{LoopTree}
 use Rattle.f77_ast.specs.DeclTrees.{ParsedTree}
 use Rattle.f77_ast.specs.Store.{Store}
-use Rattle.f77_ast.specs.StatementNumbers.{IsNumbered}
+use Rattle.f77_ast.specs.StatementNumbers.{HasNumbers}
 use Rattle.f77_ast.specs.Programs.{program_plan}
 use Rattle.f77_ast.specs.declared.variable.Variable.{Variable as Named}
 use Rattle.f77_ast.specs.declared.variable.Unit.{Unit as BlockUnit}
@@ -31,11 +31,9 @@ use Rattle.loop_marker.specs.privatizer.Uses.{ins_in}
 use Rattle.loop_marker.specs.module_phases.ScalarPhases.{scope_of, Analysis, analyses}
 use Rattle.loop_marker.specs.dependence_test.Body.{body_of}
 use Rattle.laws_programs.specs.Programs.{IsProgram}
-use Rattle.laws_programs.proofs.Numbers.{is_numbered}
 use Rattle.laws_programs.proofs.Sources.{all_built}
 use Rattle.laws_programs.proofs.Tables.{programs_are_linked}
-use Rattle.laws_programs.proofs.Whole.{numbers_go_up, modules_are_read}
-use Rattle.laws_programs.proofs.SymbolTables.ShapeLaws.{bodies_are_shaped}
+use Rattle.laws_programs.proofs.Whole.{modules_are_read}
 use Rattle.laws_programs.specs.roundtrip_programs.ModuleTexts.Cards.{statements_of}
 use Rattle.call_graph.specs.CallsIn.{Each}
 use Rattle.laws_analyses.specs.Statements.Results.{found_in}
@@ -45,20 +43,15 @@ use Rattle.laws_analyses.specs.Calls.Parts.{Blocks, Part}
 use Rattle.laws_analyses.specs.Calls.ProgramLaws.{routines, AnalysedProgram, ProgramHolds}
 use Rattle.laws_analyses.specs.Parts.{scope_in, part_of}
 use Rattle.laws_analyses.specs.Analysed.{part_named}
-use Rattle.laws_analyses.specs.CallLaws.{Settled}
 use Rattle.laws_analyses.specs.JumpLaws.{JumpsStayInside}
 use Rattle.laws_analyses.specs.Results.{callees_of_all, analysed_entry, analysed_sites}
 use Rattle.laws_analyses.specs.ScalarLaws.{NamesAgree, AcceptedDataStaysInLocals}
 use Rattle.laws_analyses.proofs.Analyses.{Located, all_located, holds_are}
-use Rattle.laws_analyses.proofs.CallLists.{each_more, each_both as each_and}
 use Rattle.laws_analyses.proofs.IntegerLaws.{integers_fit}
 use Rattle.laws_analyses.proofs.MainLaws.{main_from, built_at}
 use Rattle.laws_analyses.proofs.Modules.{module_named_is}
-use Rattle.laws_analyses.proofs.Programs.{Ready}
-use Rattle.laws_analyses.proofs.Subscripts.{built_have}
-use Rattle.laws_analyses.proofs.TargetLaws.{body_lacks_none}
 use Rattle.laws_analyses.proofs.UnitLaws.{module_at}
-use Rattle.laws_analyses.proofs.Whole.{analyses_follow}
+use Rattle.laws_analyses.proofs.Whole.{analyses_follow, settled as is_settled, ready as is_ready}
 use Rattle.laws_analyses.specs.Regions.Accepted.{summaries_of as reads_of}
 use Rattle.laws_analyses.specs.Regions.Programs.{regions_in_part}
 use Rattle.laws_marks.specs.InPrograms.{ins_in_part}
@@ -82,6 +75,7 @@ use Rattle.laws_marks.proofs.ConflictEach.{plan_more}
 use Rattle.laws_marks.proofs.ConflictModules.{loops_hold}
 use Rattle.laws_programs.proofs.Effects.Once.{main_of_linked as some_main}
 use Rattle.laws_analyses.proofs.Regions.Accepted.{cards_of_held}
+use Rattle.call_graph.proofs.EachLaws.{each_both as each_and, each_more}
 
 -- ---- programs with what tables and layouts give
 
@@ -99,7 +93,7 @@ each_known u P cs (f ∷ fs) h = (h.0, each_known u P (with_callee (with_ins u c
 
 -- ---- what is claimed of a part is what is claimed of its module
 
-module _ (ps : List ParsedTree) (sss : List (List SymbolTree)) (g : Graph) (l : IsLinked ps sss g) (numbered : (i : ℕ) (p : ParsedTree) (ss : List SymbolTree) → IsModule ps sss i p ss → IsNumbered p.module_read.body) where
+module _ (ps : List ParsedTree) (sss : List (List SymbolTree)) (g : Graph) (l : IsLinked ps sss g) (numbered : (i : ℕ) (p : ParsedTree) (ss : List SymbolTree) → IsModule ps sss i p ss → HasNumbers p.module_read.body) where
   abbrev ks : List Known
   ks = known_of ps sss
 
@@ -186,20 +180,6 @@ module _ (ps : List ParsedTree) (sss : List (List SymbolTree)) (g : Graph) (l : 
 -- ---- programs that are read
 
 module _ (names : NamesAgree) (stays : JumpsStayInside) (ps : List ParsedTree) (sss : List (List SymbolTree)) (g : Graph) (x : IsProgram ps sss g) where
-  settled : (i : ℕ) (p : ParsedTree) (ss : List SymbolTree) → IsModule ps sss i p ss → Settled g p ss
-  settled i p ss m =
-      let table = (programs_are_linked ps sss g x).1 i p ss m in
-      let built = built_at ps (all_built x.lines ps x.parsed) i p m.parsed in
-      record {
-        agrees = names p ss g.untracked table;
-        stays = stays x.lines ps x.parsed i p m.parsed;
-        numbered = is_numbered p.module_read.body (numbers_go_up x.lines ps x.parsed i p m.parsed);
-        targets = body_lacks_none ss p.module_read built.well.body built.formed (bodies_are_shaped p ss table);
-      }
-
-  ready : (i : ℕ) (p : ParsedTree) (ss : List SymbolTree) → IsModule ps sss i p ss → Ready g p ss
-  ready i p ss m = record { settled = settled i p ss m; subscripts = built_have p (built_at ps (all_built x.lines ps x.parsed) i p m.parsed) }
-
   all_hold : LinkLaws → ProgramHolds → AcceptedDataStaysInLocals → LocalsAreSavedTogether → InEachExecution (known_of ps sss) g (AllLoopsHold (known_of ps sss) g (all_ins g (all_regions g (analyses (known_of ps sss) g))))
   all_hold laws holds lies together turns input =
       let ks = known_of ps sss in
@@ -212,18 +192,18 @@ module _ (names : NamesAgree) (stays : JumpsStayInside) (ps : List ParsedTree) (
       let main = known r.parsed r.table in
       let is = known_module ps sss r.at r.parsed r.table r.is_module in
       let alone = (modules_are_read x.lines ps sss x.parsed x.tables r.at main is).main r.main in
-      let analysed = analyses_follow ps sss g linked.0 (λ i p ss m. (settled i p ss m).numbered) in
+      let analysed = analyses_follow ps sss g linked.0 (λ i p ss m. (is_settled names stays ps sss g x i p ss m).numbered) in
       let initialised = lies x.lines ps sss x.parsed x.tables in
       let fit = integers_fit x.lines ps sss x.parsed x.tables in
       let plain = λ (i : ℕ) (p : ParsedTree) (ss : List SymbolTree) (m : IsModule ps sss i p ss). (modules_are_read x.lines ps sss x.parsed x.tables i (known p ss) (known_module ps sss i p ss m)).name in
       let told = λ (i : ℕ) (p : ParsedTree) (ss : List SymbolTree) (m : IsModule ps sss i p ss). (let built = built_at ps (all_built x.lines ps x.parsed) i p m.parsed in names_told p ss built.well (cards_of_held (statements_of p.module_read) built.formed) (linked.1 i p ss m)) in
       let blocks = λ (i : ℕ) (p : ParsedTree) (ss : List SymbolTree) (m : IsModule ps sss i p ss). (let built = built_at ps (all_built x.lines ps x.parsed) i p m.parsed in blocks_told p ss (cards_of_held (statements_of p.module_read) built.formed) (linked.1 i p ss m)) in
-      let whole = program ps sss g linked.0 linked.1 ready cs sites entry analysed initialised r.at r.parsed r.table r.is_module r.is_main r.main alone in
-      let is_program = program_is ps sss g linked.0 linked.1 ready cs sites entry analysed initialised r.at r.parsed r.table r.is_module r.is_main r.main alone in
+      let whole = program ps sss g linked.0 linked.1 (is_ready names stays ps sss g x) cs sites entry analysed initialised r.at r.parsed r.table r.is_module r.is_main r.main alone in
+      let is_program = program_is ps sss g linked.0 linked.1 (is_ready names stays ps sss g x) cs sites entry analysed initialised r.at r.parsed r.table r.is_module r.is_main r.main alone in
       let each = loops_of laws holds _ cs sites of (may_name ps sss g) _ _ _ whole ks g (reads_of g (analyses ks g)) (summaries_of g (analyses ks g))
-      (main_laid ps sss g linked.0 linked.1 x.tables ready analysed fit together plain told blocks r.at r.parsed r.table r.is_module)
-      (all_laid ps sss g linked.0 linked.1 x.tables ready analysed fit together plain told blocks) is_program in
-      plan_more (EachLoopHolds ks g cs (reads_of g (analyses ks g)) (summaries_of g (analyses ks g)) of) (AllLoopsHold ks g (all_ins g (all_regions g (analyses ks g)))) (λ y h. follows ps sss g linked.0 (λ i p ss m. (settled i p ss m).numbered) y h) (program_plan (program_of ks g) turns) (program_of ks g).initial input (each turns input)
+      (main_laid ps sss g linked.0 linked.1 x.tables (is_ready names stays ps sss g x) analysed fit together plain told blocks r.at r.parsed r.table r.is_module)
+      (all_laid ps sss g linked.0 linked.1 x.tables (is_ready names stays ps sss g x) analysed fit together plain told blocks) is_program in
+      plan_more (EachLoopHolds ks g cs (reads_of g (analyses ks g)) (summaries_of g (analyses ks g)) of) (AllLoopsHold ks g (all_ins g (all_regions g (analyses ks g)))) (λ y h. follows ps sss g linked.0 (λ i p ss m. (is_settled names stays ps sss g x i p ss m).numbered) y h) (program_plan (program_of ks g) turns) (program_of ks g).initial input (each turns input)
 
 -- where what is said of names, of DATA, of jumps, of links, of saved locals and of preconditions holds, what is known of loops holds in every run of a program that is read
 pub read_loops_hold : NamesAgree → AcceptedDataStaysInLocals → JumpsStayInside → LinkLaws → LocalsAreSavedTogether → ProgramHolds → ReadLoopsHold

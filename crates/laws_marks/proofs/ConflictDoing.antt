@@ -22,7 +22,6 @@ use Rattle.f77_ast.specs.declared.results.At.{At}
 use Rattle.f77_meaning.specs.Occurrences.{places_in}
 use Rattle.affine_forms.specs.Conditions.{no_rows}
 use Rattle.affine_forms.specs.Claims.{unit_in, numbers_of}
-use Rattle.affine_forms.proofs.FormLaws.{kept_is}
 use Rattle.preconditions.specs.transformer_algebra.declared.loop_parts.LoopParts.{LoopParts}
 use Rattle.preconditions.specs.transformer_algebra.Loops.{next, iteration, goes_up}
 use Rattle.preconditions.specs.transformer_algebra.Claims.{Scene, HoldsAt, Kept, Chain, none_yet, then_iteration, Tracks, NotBeyond}
@@ -66,6 +65,7 @@ use Rattle.laws_marks.proofs.ConflictEach.{plan_looked}
 use Rattle.laws_marks.proofs.ConflictLists.{Again, iterations_reached, AllNoSets, jumps_no_sets}
 use Rattle.fx_lists.proofs.Numbers.{nat_eq_same}
 use Rattle.f77_ast.specs.Shapes.{is_return}
+use Rattle.f77_ast.proofs.KeptNumbers.{kept_is}
 
 module _ (k : Frame) (sound : Sound k.base) (C0 D0 : Claim) (Fits : Locks → (ℕ → Bool) → Type 0) (base : (locked : Locks) (still : ℕ → Bool) → Fits locked still → Fit k.sc.names k.scalar k.at (scene k.base) locked still) (more_fits : (locked : Locks) (still : ℕ → Bool) (x : List ℕ) (v : ℕ) → k.sc.names x ≡ Variable v → k.scalar x ≡ true → Fits locked still → Fits (lock locked (k.at v).first Locked) (also still (k.at v).first)) (I : Store → Type 0) (acc : List (At (List Region))) (called : Called) where
   solid : (locked : Locks) (still : ℕ → Bool) → Fits locked still → (x : List ℕ) (v : ℕ) → k.sc.names x ≡ Variable v → k.scalar x ≡ true → 0 < (k.at v).extent

@@ -17,7 +17,6 @@ use Rattle.preconditions.specs.transformers.Statement as transformers
 use Rattle.in_out_regions.specs.region_sets.declared.region.Region.{Region}
 use Rattle.in_out_regions.specs.region_sets.Sets.{unite_all}
 use Rattle.in_out_regions.specs.region_sets.Lists.{all_inexact, all_forgetting, all_accesses, in_any_order, numbers, set_at}
-use Rattle.in_out_regions.proofs.RegionSets.StepLaws.{in_left, in_right}
 use Rattle.in_out_regions.specs.array_regions.Calls.{Called}
 use Rattle.in_out_regions.specs.Known.{KnownTree}
 use Rattle.in_out_regions.specs.Lists.{before_rest, ins_in_order, list_in}
@@ -28,7 +27,8 @@ use Rattle.laws_marks.specs.InFrames.{Frame}
 use Rattle.laws_marks.specs.InKnowns.{known_in}
 use Rattle.laws_marks.proofs.InStanding.{in_found}
 use Rattle.laws_marks.proofs.ConflictWhats.{stmt_whats, part_whats, list_whats, arms_whats, arm_whats, else_whats, loop_whats}
-use Rattle.laws_analyses.proofs.CallLists.{each_joined as each_join}
+use Rattle.preconditions.proofs.TransformerAlgebra.Members.{in_left, in_right}
+use Rattle.call_graph.proofs.EachLaws.{each_joined as each_join}
 
 -- ---- the results of the body of a DO are among those of the module
 

@@ -162,7 +162,7 @@ module _ (k : Frame) (sound : Sound k.base) (C0 D0 : Claim) (Fits : Locks → (�
     ins_are = ins_same C0 D0 k Fits I acc called all distinct body pa.base.numbers among (set_at acc)
 
     first_in : (it : Iteration) (u : ℕ) → LiesInSet (scene k.base) (elements_in k) AtIn is (numbers_of it.start) u → LiesInSet (scene_in k.m k.at) (elements_with k.ks k.g k.m.symbols k.at) AtIn is (numbers_of it.start) u
-    first_in it u l = (let w = lies_back k l.region (numbers_of it.start) u l.lies in record { region = l.region; is_one = l.is_one; kind = l.kind; lies = record { phi = w.phi; there = w.there; piece = w.piece; is_one = w.is_one; described = w.described } })
+    first_in it u l = (let w = lies_back k l.region (numbers_of it.start) u l.lies in record { region = l.region; is_one = l.is_one; kind = l.kind; lies = record { phi = w.phi; there = w.there; described = w.described } })
 
     iteration_is : (j : ℕ) (it : Iteration) → slice_get its j ≡ Some it → IterationIs k.ks k.g k.m k.at d z it
     iteration_is j it e =
@@ -170,7 +170,7 @@ module _ (k : Frame) (sound : Sound k.base) (C0 D0 : Claim) (Fits : Locks → (�
         record {
           head = h.holds;
           steady = steady j it e;
-          accesses = λ a u t. (let l = h.accesses a u t in record { region = l.region; is_one = l.is_one; kind = l.kind; lies = record { phi = l.lies.phi; there = l.lies.there; piece = l.lies.piece; is_one = l.lies.is_one; described = l.lies.described } });
+          accesses = λ a u t. (let l = h.accesses a u t in record { region = l.region; is_one = l.is_one; kind = l.kind; lies = record { phi = l.lies.phi; there = l.lies.there; described = l.lies.described } });
           firsts = λ u t. subst (λ rs. LiesInSet (scene_in k.m k.at) (elements_with k.ks k.g k.m.symbols k.at) AtIn rs (numbers_of it.start) u) (sym ins_are) (first_in it u (h.firsts u t));
           leaves = h.leaves;
         }

@@ -93,7 +93,7 @@ module _ (k : Frame) (locked : Locks) (units : UnitsFit k locked) (b : LoopBody)
     is_one = w.is_one;
     kind = w.kind;
     variable = w.variable;
-    lies = lies_in k w.region (numbers_of it.start) u (narrow.named w.region w.is_one) (record { phi = w.lies.phi; there = w.lies.there; piece = w.lies.piece; is_one = w.lies.is_one; described = w.lies.described });
+    lies = lies_in k w.region (numbers_of it.start) u (narrow.named w.region w.is_one) (record { phi = w.lies.phi; there = w.lies.there; described = w.lies.described });
   }
 
   module _ (v : Variable) (kinds : Kinds) (no_conflict : kept_system k.m.symbols b v kinds ≡ None) (i j : ℕ) (less : i < j) (y z : Iteration) (p : Known k locked b g x first last i y) (q : Known k locked b g x first last j z) (u : ℕ) (m : Meet k.ks k.g k.m k.at b.regions v kinds y z u) where

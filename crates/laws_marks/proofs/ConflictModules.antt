@@ -14,7 +14,7 @@ use Rattle.f77_ast.specs.Plans.{Flow, Plan, Ends, Within, ◌▹◌}
 use Rattle.f77_ast.specs.Executions.{run_of, Claim}
 use Rattle.f77_ast.specs.Calls.{Dummy, Actual, Meaning, scalars_bound, arrays_bound, lock_doubly, in_place, in_dummies, doubly_reached, forget_all, after_call, actuals, places_of, own_units, lock_own, call_plan}
 use Rattle.f77_ast.specs.Statements.{spot, execution, body_plan, do_plan}
-use Rattle.f77_ast.specs.StatementNumbers.{list_numbers, IsNumbered}
+use Rattle.f77_ast.specs.StatementNumbers.{list_numbers, HasNumbers}
 use Rattle.f77_ast.specs.Programs.{Program, scope, body_of, called, meanings, program_plan}
 use Rattle.f77_ast.proofs.StepLaws.{at_end_more, at_end_true}
 use Rattle.f77_ast.specs.declared.variable.Variable.{Variable as Named}
@@ -89,7 +89,7 @@ use Rattle.laws_marks.proofs.ConflictReaching.{Owed, CallReaches, list_reached}
 use Rattle.laws_marks.proofs.ConflictWhats.{list_whats, as_loop, no_list, each_found}
 use Rattle.call_graph.specs.Visible.{is_local}
 
--- statements are numbered from 1
+-- no statement has the number 0
 none_zero : (ns : List ℕ) → ((i n : ℕ) → slice_get ns i ≡ Some n → 0 < n) → has ns 0 ≡ false
 none_zero [] h = refl
 none_zero (n ∷ ns) h =
@@ -97,8 +97,8 @@ none_zero (n ∷ ns) h =
     let other : nat_eq n 0 ≡ false = ne_eqb n 0 (λ q. absurd (omega (arith, l, q))) in
     ap (λ b. b || has ns 0) other ∙ none_zero ns (λ i m e. h (suc i) m e)
 
-pub numbered_above : (body : StmtTrees) → IsNumbered body → has (list_numbers body) 0 ≡ false
-numbered_above body h = none_zero (list_numbers body) (λ i n e. (let q = h i n e in omega (arith, q)))
+pub numbered_above : (body : StmtTrees) → HasNumbers body → has (list_numbers body) 0 ≡ false
+numbered_above body h = none_zero (list_numbers body) h.above
 
 -- a unit that is in no dummy is not reached twice
 none_doubly : (ds : List Dummy) (at : Places) (common : ℕ → Bool) (u : ℕ) → ((i : ℕ) (d : Dummy) → slice_get ds i ≡ Some d → in_place (at d.symbol) u ≡ false) → doubly_reached ds at common u ≡ false

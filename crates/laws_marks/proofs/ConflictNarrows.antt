@@ -21,9 +21,10 @@ use Rattle.laws_lines.proofs.RuleVars.{IsDone}
 use Rattle.laws_lines.proofs.PhaseVars.{value_is}
 use Rattle.laws_marks.specs.InFrames.{Frame, rank}
 use Rattle.laws_marks.specs.InUnits.{IsNarrow}
-use Rattle.laws_marks.proofs.InNarrow.{AnyCell, Upto, IsUpto}
+use Rattle.laws_marks.proofs.InNarrow.{Upto, IsUpto}
 use Rattle.laws_marks.proofs.InNarrowed.{list_narrowed}
 use Rattle.laws_marks.proofs.InSets.{IsFit, CallsFit, at_fits, may_of, narrow_of}
+use Rattle.fx_lists.proofs.Every.{Anything}
 
 named_such : (such : Var → Type 0) (v : Var) (ts : List Term) → EachVar such ts → in_terms v ts ≡ true → such v
 named_such such v [] h e = cc
@@ -46,7 +47,7 @@ pub record AreNarrow (k : Frame) (rs : List Region) : Type 0 where
   pub named : (r : Region) → In r rs → k.may_name r.variable ≡ true
   pub narrow : (r : Region) → In r rs → (s : System) → In s r.pieces → IsNarrow (rank k.ks k.g k.m.symbols r.variable) s
 
-pub bodies_narrow : (k : Frame) (done : (n : ℕ) → IsDone AnyCell (k.does n)) (body : StmtTrees) → CallsFit (may_of k) k.m k.does k.calls done (list_calls body) → (ss : StmtTrees) → AreNarrow k (list_regions k.does (accesses_at (at_list body k.m k.does k.calls)) false ss)
+pub bodies_narrow : (k : Frame) (done : (n : ℕ) → IsDone Anything (k.does n)) (body : StmtTrees) → CallsFit (may_of k) k.m k.does k.calls done (list_calls body) → (ss : StmtTrees) → AreNarrow k (list_regions k.does (accesses_at (at_list body k.m k.does k.calls)) false ss)
 bodies_narrow k done body f ss = record {
   named = λ r i. (all r i).0;
   narrow = λ r i s j. narrow_of (rank k.ks k.g k.m.symbols r.variable) s ((all r i).1 s j);

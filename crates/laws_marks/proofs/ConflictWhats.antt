@@ -11,9 +11,10 @@ use Rattle.preconditions.specs.transformer_algebra.Cells.{has}
 use Rattle.preconditions.specs.transformers.Statement.{at}
 use Rattle.loop_marker.specs.dependence_test.Finding.{or_loop, the_loop, loop_in}
 use Rattle.call_graph.specs.CallsIn.{Each}
-use Rattle.laws_analyses.proofs.Regions.Standing.{Distinct, distinct_parts, has_parts as none_parts}
-use Rattle.laws_analyses.proofs.CallLists.{each_joined as each_join}
+use Rattle.laws_analyses.proofs.Regions.Standing.{Distinct, distinct_parts}
 use Rattle.fx_lists.proofs.Numbers.{same_is as nat_same, nat_eq_same}
+use Rattle.call_graph.proofs.EachLaws.{each_joined as each_join}
+use Rattle.preconditions.proofs.TransformerAlgebra.HasLaws.{has_parts as none_parts, has_left, has_right}
 
 -- ---- statements
 
@@ -67,18 +68,6 @@ as_loop (tree.print es) = None
 as_loop (tree.read es) = None
 
 -- ---- where a number is not found there is no DO with it
-
-has_left : (ns ms : List ℕ) (n : ℕ) → has ns n ≡ true → has (ns ++ ms) n ≡ true
-has_left [] ms n h = absurd (true≢false (sym h))
-has_left (a ∷ ns) ms n h = go (nat_eq a n) h (λ q. has_left ns ms n q)
-  where
-    go : (b : Bool) → (b || has ns n) ≡ true → (has ns n ≡ true → has (ns ++ ms) n ≡ true) → (b || has (ns ++ ms) n) ≡ true
-    go true q f = refl
-    go false q f = f q
-
-has_right : (ns ms : List ℕ) (n : ℕ) → has ms n ≡ true → has (ns ++ ms) n ≡ true
-has_right [] ms n h = h
-has_right (a ∷ ns) ms n h = or_right (nat_eq a n) (has (ns ++ ms) n) (has_right ns ms n h)
 
 neither : (o q : Option LoopTree) → o ≡ None → q ≡ None → or_loop o q ≡ None
 neither None q e f = f

@@ -21,6 +21,7 @@ use Rattle.f77_ast.specs.declared.marks.Private.{Private}
 use Rattle.f77_ast.specs.declared.marks.Private.TheVariants.{Yes}
 use Rattle.in_out_regions.specs.region_sets.declared.region.Access.TheVariants.{Out}
 use Rattle.in_out_regions.specs.region_sets.Claims.{Elements, LiesInSet}
+use Rattle.in_out_regions.proofs.RegionSets.DescribedLaws.{by_piece}
 use Rattle.loop_marker.specs.dependence_test.Body.{or_no_rows, system_at}
 use Rattle.loop_marker.specs.dependence_test.Finding.{loop_in}
 use Rattle.loop_marker.specs.module_phases.OutPhases.{ModuleOuts}
@@ -91,9 +92,7 @@ module _ (ks : List Known) (g : Graph) (m : ScopeTree) (t : ModuleTree) (ss : Li
             lies = record {
               phi = d.phi;
               there = ap (λ b. if b then Some y else None) itself ∙ ap Some same;
-              piece = d.describes.piece;
-              is_one = d.describes.is_one;
-              described = λ p st hs. d.describes.holds p (λ c. st c refl) hs;
+              described = by_piece all_cells numbers d.phi d.describes.piece o.region.pieces d.describes.is_one (λ p st hs. d.describes.holds p (λ c. st c refl) hs);
             };
           }
 

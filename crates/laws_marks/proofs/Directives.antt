@@ -20,7 +20,6 @@ use Rattle.loop_marker.specs.module_phases.ScalarPhases.{scope_of}
 use Rattle.loop_marker.specs.dependence_test.Finding.{loop_in}
 use Rattle.laws_programs.specs.Programs.{IsProgram}
 use Rattle.call_graph.specs.CallsIn.{Each}
-use Rattle.laws_analyses.proofs.CallLists.{each_more}
 use Rattle.laws_analyses.proofs.Modules.{IsIn}
 use Rattle.laws_marks.specs.ConflictAccepted.{CopiesAreSole}
 use Rattle.laws_marks.specs.ConflictClaims.{loop_with}
@@ -31,12 +30,12 @@ use Rattle.laws_marks.specs.Dead.{MarkIsDead}
 use Rattle.laws_marks.specs.Units.{ModuleUnitsStand}
 use Rattle.laws_marks.specs.Named.{NamesStand, ModuleNamesStand, ModulePlacesStand, MarkedLoopIsDead}
 use Rattle.laws_marks.specs.DeadLaws.{outs_of, AllUnitsStand, AllMarksAreDead, AllNamesStand, AllMarkedLoopsAreDead, ReadUnitsStand, ReadMarksAreDead, ReadNamesStand}
-use Rattle.laws_marks.proofs.UnitsStanding.{each_of_all}
 use Rattle.laws_marks.proofs.Loops.{loop_is_dead}
 use Rattle.laws_marks.proofs.Merging.{Joined, merged}
 use Rattle.laws_marks.proofs.Named.{names_stand, places_stand}
 use Rattle.laws_marks.proofs.Modules.{each_two, no_entry, with_their_marks, MarksStand, marks_stand}
 use Rattle.laws_analyses.proofs.Claimed.{all_of_each}
+use Rattle.call_graph.proofs.EachLaws.{each_more, each_of_all}
 
 module _ (ps : List ParsedTree) (sss : List (List SymbolTree)) (g : Graph) (x : IsProgram ps sss g) (copies : CopiesAreSole) where
   -- each is one of the program

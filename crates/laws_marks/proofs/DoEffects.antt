@@ -6,8 +6,8 @@ use Rattle.f77_ast.specs.declared.results.At.{At}
 use Rattle.preconditions.specs.transformers.Statement.{at}
 use Rattle.call_graph.specs.CallsIn.{Each}
 use Rattle.laws_analyses.proofs.Statements.Placing.{each_parts}
-use Rattle.laws_analyses.proofs.CallLists.{each_joined}
 use Rattle.laws_marks.proofs.ConflictWhats.{stmt_whats, part_whats, list_whats, arms_whats, arm_whats, else_whats, loop_whats}
+use Rattle.call_graph.proofs.EachLaws.{each_joined}
 
 -- of a statement, if it is a DO
 abbrev pub OfDo : (ℕ → LoopTree → Type 0) → ℕ → WhatTree → Type 0

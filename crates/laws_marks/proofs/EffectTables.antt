@@ -8,7 +8,6 @@ use Rattle.f77_ast.specs.declared.variable.Unit.{Unit as BlockUnit}
 use Rattle.f77_ast.specs.Symbols.{SymbolTree, number_from}
 use Rattle.call_graph.specs.declared.graph.Graph.{Graph}
 use Rattle.f77_meaning.specs.Modules.{Known, known_of}
-use Rattle.f77_meaning.proofs.UnitLaws.{number_least}
 use Rattle.in_out_regions.specs.effects.List.{Callees}
 use Rattle.in_out_regions.specs.effects.Modules.{cumulated_of}
 use Rattle.preconditions.specs.transformers.Given.{Callees as TransformerCallees}
@@ -24,13 +23,14 @@ use Rattle.laws_programs.specs.Storage.Programs.{IsLinked}
 use Rattle.laws_analyses.proofs.Founds.{ModuleOf, module_of_is}
 use Rattle.laws_analyses.proofs.Orders.{NotIn, Sorted, order_sorted}
 use Rattle.laws_analyses.proofs.Passes.{next as passes_next, run as passed, run_is}
-use Rattle.laws_analyses.proofs.CallLists.{each_more}
 use Rattle.preconditions.specs.transformer_algebra.Laws.{In, here, there}
 use Rattle.laws_marks.proofs.OutSummaries.{next, run, outs_are}
 use Rattle.laws_marks.specs.DeadLaws.{outs_of}
 use Rattle.fx_lists.proofs.Texts.{turned, same_name}
 use Rattle.fx_lists.proofs.Lists.{map_reverse}
-use Rattle.laws_programs.proofs.Effects.BottomUp.{other_name}
+use Rattle.f77_ast.proofs.NumberedNames.{number_from-least}
+use Rattle.call_graph.proofs.EachLaws.{each_more}
+use Rattle.laws_analyses.proofs.Modules.{modules_at}
 
 -- ---- the module of a name
 
@@ -45,7 +45,7 @@ named_from n (y ∷ ks) x = go (bytes_eq x y.read.name) refl (named_from (suc n)
     moved : (o : Option ℕ) → number_from (suc n) (module_names ks) x ≡ o → at_from (suc n) ks o ≡ at_from n (y ∷ ks) o
     moved None e = refl
     moved (Some i) e =
-        let least = number_least (suc n) i (module_names ks) x e in
+        let least = number_from-least (suc n) i (module_names ks) x e in
         let less : i - n ≡ suc (i - suc n) = omega (arith, least) in
         sym (ap (slice_get (y ∷ ks)) less)
 
@@ -84,16 +84,11 @@ passed_known : (u : List BlockUnit) (done : List Analysis) (fs : List Found) →
 passed_known u done [] = refl
 passed_known u done (f ∷ fs) = ap (λ zs. f.known ∷ zs) (passed_known u (done ++ passes_next u done f ∷ []) fs)
 
--- those of these names
-abbrev named : List Known → List (List ℕ) → List Known
-named ks [] = []
-named ks (x ∷ xs) = option_to_list (module_of ks x) ++ named ks xs
-
-founds_named : (u : List BlockUnit) (ks : List Known) (cs : TransformerCallees) (xs : List (List ℕ)) → map found_known (founds_in u ks cs xs) ≡ named ks xs
+founds_named : (u : List BlockUnit) (ks : List Known) (cs : TransformerCallees) (xs : List (List ℕ)) → map found_known (founds_in u ks cs xs) ≡ modules_at ks xs
 founds_named u ks cs [] = refl
 founds_named u ks cs (x ∷ xs) = go (module_of ks x) (λ ds. founds_named u ks ds xs)
   where
-    go : (o : Option Known) → ((ds : TransformerCallees) → map found_known (founds_in u ks ds xs) ≡ named ks xs) → map found_known (option_to_list (maybe_found u cs o) ++ founds_in u ks (with_found (maybe_found u cs o) cs) xs) ≡ option_to_list o ++ named ks xs
+    go : (o : Option Known) → ((ds : TransformerCallees) → map found_known (founds_in u ks ds xs) ≡ modules_at ks xs) → map found_known (option_to_list (maybe_found u cs o) ++ founds_in u ks (with_found (maybe_found u cs o) cs) xs) ≡ option_to_list o ++ modules_at ks xs
     go None ih = ih (with_found None cs)
     go (Some k) ih = ap (λ zs. k ∷ zs) (ih (with_found (Some (found_of u cs k)) cs))
 
@@ -104,7 +99,7 @@ module _ (ps : List ParsedTree) (sss : List (List SymbolTree)) (g : Graph) where
   abbrev founds : List Found
   founds = founds_in g.untracked (known_of ps sss) no_found g.order
 
-  outs_named : map outs_known (reverse (outs_of ps sss g)) ≡ named (known_of ps sss) g.order
+  outs_named : map outs_known (reverse (outs_of ps sss g)) ≡ modules_at (known_of ps sss) g.order
   outs_named =
       let as' = analyses (known_of ps sss) g in
       let fs = founds_in g.untracked (known_of ps sss) no_found g.order in
@@ -191,20 +186,20 @@ module _ (ps : List ParsedTree) (sss : List (List SymbolTree)) (g : Graph) where
       none_yet xs n.1 h.1,
     )
 
-  all_made : (xs : List (List ℕ)) → Sorted ps sss xs → (cs : Callees) → Each (λ y. cs y ≡ None) xs → (fs : List ModuleOuts) → map outs_known fs ≡ named (known_of ps sss) xs → Each (IsMade g (known_of ps sss) xs cs) (found_in g.untracked cs fs)
+  all_made : (xs : List (List ℕ)) → Sorted ps sss xs → (cs : Callees) → Each (λ y. cs y ≡ None) xs → (fs : List ModuleOuts) → map outs_known fs ≡ modules_at (known_of ps sss) xs → Each (IsMade g (known_of ps sss) xs cs) (found_in g.untracked cs fs)
   all_made [] s cs h [] e = tt
   all_made [] s cs h (f ∷ fs) e = absurd (let z : outs_known f ∷ map outs_known fs ≡ [] = e in grind arith)
   all_made (x ∷ xs) s cs h fs e = go (module_of (known_of ps sss) x) refl fs e (λ ds k fs' e'. all_made xs s.2 ds k fs' e')
     where
-      go : (o : Option Known) → module_of (known_of ps sss) x ≡ o → (fs : List ModuleOuts) → map outs_known fs ≡ option_to_list o ++ named (known_of ps sss) xs →
-          ((ds : Callees) → Each (λ y. ds y ≡ None) xs → (fs' : List ModuleOuts) → map outs_known fs' ≡ named (known_of ps sss) xs → Each (IsMade g (known_of ps sss) xs ds) (found_in g.untracked ds fs')) →
+      go : (o : Option Known) → module_of (known_of ps sss) x ≡ o → (fs : List ModuleOuts) → map outs_known fs ≡ option_to_list o ++ modules_at (known_of ps sss) xs →
+          ((ds : Callees) → Each (λ y. ds y ≡ None) xs → (fs' : List ModuleOuts) → map outs_known fs' ≡ modules_at (known_of ps sss) xs → Each (IsMade g (known_of ps sss) xs ds) (found_in g.untracked ds fs')) →
           Each (IsMade g (known_of ps sss) (x ∷ xs) cs) (found_in g.untracked cs fs)
       go None q fs e ih = each_more (IsMade g (known_of ps sss) xs cs) (IsMade g (known_of ps sss) (x ∷ xs) cs) (found_in g.untracked cs fs) (later x xs cs cs s.0 (none_more x cs q h.0)) (ih cs h.1 fs e)
-      go (Some k) q [] e ih = absurd (let z : [] ≡ k ∷ named (known_of ps sss) xs = e in grind arith)
+      go (Some k) q [] e ih = absurd (let z : [] ≡ k ∷ modules_at (known_of ps sss) xs = e in grind arith)
       go (Some k) q (f ∷ fs) e ih =
-          let z : outs_known f ∷ map outs_known fs ≡ k ∷ named (known_of ps sss) xs = e in
+          let z : outs_known f ∷ map outs_known fs ≡ k ∷ modules_at (known_of ps sss) xs = e in
           let same : outs_known f ≡ k = cc in
-          let rest : map outs_known fs ≡ named (known_of ps sss) xs = cc in
+          let rest : map outs_known fs ≡ modules_at (known_of ps sss) xs = cc in
           let r : module_of (known_of ps sss) x ≡ Some (known_in f) = q ∙ ap Some (sym same) in
           let ds = with_callee (with_marks g.untracked cs f) cs in (
             first x cs f r xs,

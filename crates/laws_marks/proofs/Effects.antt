@@ -4,7 +4,7 @@ use Rattle.std.specs.Prelude.{slice_get}
 use Rattle.std.proofs.lemmas.Bool.{or_parts, or_from}
 use Rattle.f77_ast.specs.Trees.{StmtTree, WhatTree, ArmTree, ArmTrees, ElseTree, LoopTree, StmtTrees}
 use Rattle.f77_ast.specs.Trees as tree
-use Rattle.f77_ast.specs.StatementNumbers.{stmt_numbers, part_numbers, list_numbers, arms_numbers, arm_numbers, else_numbers, loop_numbers, IsNumbered}
+use Rattle.f77_ast.specs.StatementNumbers.{stmt_numbers, part_numbers, list_numbers, arms_numbers, arm_numbers, else_numbers, loop_numbers, HasNumbers}
 use Rattle.f77_ast.specs.Symbols.{SymbolTree}
 use Rattle.f77_ast.specs.declared.effect_set.EffectSet.{EffectSet}
 use Rattle.f77_ast.specs.declared.results.At.{At}
@@ -14,14 +14,14 @@ use Rattle.in_out_regions.specs.effects.List.{Callees, stmt_effect, with_parts, 
 use Rattle.preconditions.specs.transformers.Lists.{value_at, number_of}
 use Rattle.loop_marker.specs.Jumps.{stops, has_io, may_stop, may_have_io, body_of}
 use Rattle.call_graph.specs.CallsIn.{Each}
-use Rattle.laws_analyses.specs.Statements.Laws.{InOrder}
+use Rattle.laws_analyses.specs.Statements.Laws.{HaveOwnNumbers}
 use Rattle.laws_analyses.proofs.Statements.MainResults.{found_at}
-use Rattle.laws_analyses.proofs.Statements.NumberLaws.{ids, in_order}
+use Rattle.laws_analyses.proofs.Statements.NumberLaws.{ids, own_numbers}
 use Rattle.laws_analyses.proofs.Statements.Placing.{each_parts}
-use Rattle.laws_analyses.proofs.CallLists.{each_joined}
 use Rattle.laws_analyses.proofs.Regions.Numbering.{ids_parts}
 use Rattle.laws_marks.proofs.ConflictWhats.{stmt_whats, part_whats, list_whats, arms_whats, arm_whats, else_whats, loop_whats}
 use Rattle.laws_marks.proofs.DoEffects.{DoIs, list_dos}
+use Rattle.call_graph.proofs.EachLaws.{each_joined}
 
 -- the effects that results give the statement of a number
 pub record GivenAt (es : List (At EffectSet)) (n : ℕ) (e : EffectSet) : Type 0 where
@@ -150,10 +150,10 @@ module _ (cs : Callees) (ss : List SymbolTree) where
   from_place P [] f = tt
   from_place P (a ∷ as') f = (f zero a refl, from_place P as' (λ i b e. f (suc i) b e))
 
-  pub dos_calm : (body : StmtTrees) → IsNumbered body → Each (DoIs (DoIsCalm (at_list body cs ss))) (list_whats body)
+  pub dos_calm : (body : StmtTrees) → HasNumbers body → Each (DoIs (DoIsCalm (at_list body cs ss))) (list_whats body)
   dos_calm body numbered =
       let es = at_list body cs ss in
-      let order : InOrder (at_list body cs ss) = in_order (at_list body cs ss) body (r_list body) numbered in
+      let own : HaveOwnNumbers (at_list body cs ss) = own_numbers (at_list body cs ss) body (r_list body) numbered in
       list_dos (Given es) (DoIsCalm es) (do_calm es) body
       (list_told (λ (a : At EffectSet). GivenAt (at_list body cs ss) a.id a.value) body
-      (from_place (λ (a : At EffectSet). GivenAt (at_list body cs ss) a.id a.value) es (λ i a e. (let q = found_at es i a order e in record { above = q.0; place = i; given = e; found = q.1 }))))
+      (from_place (λ (a : At EffectSet). GivenAt (at_list body cs ss) a.id a.value) es (λ i a e. (let q = found_at es i a own e in record { above = q.0; place = i; given = e; found = q.1 }))))

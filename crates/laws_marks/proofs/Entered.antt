@@ -32,13 +32,7 @@ use Rattle.preconditions.specs.transformer_algebra.Cells.{has}
 use Rattle.laws_interleavings.specs.MarkedStatements.{MarkedScope, MarkedMeaning, one_of, count, own_walk, own_in}
 use Rattle.laws_interleavings.specs.MarkedPrograms.{Directives, marked_scope, marked_called, marked_meanings}
 use Rattle.laws_interleavings.proofs.Runs.{run_bind, on_from, stays_whole}
-
-pub none_parts : (ns ms : List ℕ) (c : ℕ) → has (ns ++ ms) c ≡ false → (has ns c ≡ false) × (has ms c ≡ false)
-none_parts [] ms c h = (refl, h)
-none_parts (n ∷ ns) ms c h =
-    let z = or_parts (nat_eq n c) (has (ns ++ ms) c) h in
-    let y = none_parts ns ms c z.1 in
-    (or_from (nat_eq n c) (has ns c) z.0 y.0, y.1)
+use Rattle.preconditions.proofs.TransformerAlgebra.HasLaws.{has_parts}
 
 -- lost: of a module by its name, that it is entered by no plan here
 module _ (lost : List ℕ → Bool) where
@@ -199,7 +193,7 @@ module _ (lost : List ℕ → Bool) where
       what_enters (tree.assign a b) n label o p locked = enters_first (assigned a b sc.plain.names at locked) (λ o. plan.Ends Normal) (λ o. tt)
       what_enters (tree.block_if arms rest) n label o p locked =
           let z = or_parts (walk_arms (own_walk sc u) arms) (walk_else (own_walk sc u) rest) o in
-          let y = none_parts (arms_numbers arms) (else_numbers rest) 0 p in
+          let y = has_parts (arms_numbers arms) (else_numbers rest) 0 p in
           arms_enter arms z.0 y.0 (else_plan rest sc.plain at locked) locked (else_enters rest z.1 y.1 locked)
       what_enters (tree.logical_if test s) n label o p locked = enters_first (value test sc.plain.names at) _ (λ c. enters_if (is_true c.number) (statement_plan s sc.plain at locked) (plan.Ends Normal) (stmt_enters s o p locked) tt)
       what_enters (tree.do_loop l) n label o p locked = do_enters l o p locked
@@ -218,7 +212,7 @@ module _ (lost : List ℕ → Bool) where
       arms_enter tree.no_arms o p rest locked h = h
       arms_enter (tree.more_arms (tree.arm test body) more) o p rest locked h =
           let z = or_parts (walk_list (own_walk sc u) body) (walk_arms (own_walk sc u) more) o in
-          let y = none_parts (list_numbers body) (arms_numbers more) 0 p in
+          let y = has_parts (list_numbers body) (arms_numbers more) 0 p in
           enters_first (value test sc.plain.names at) _
           (λ c. enters_if (is_true c.number) (list_plan sc.plain.turns (parts body sc.plain at locked)) (arms_plan more sc.plain at locked rest) (list_enters sc.plain.turns (parts body sc.plain at locked) (parts_enter body z.0 y.0 locked)) (arms_enter more z.1 y.1 rest locked h))
 
@@ -235,7 +229,7 @@ module _ (lost : List ℕ → Bool) where
       parts_enter tree.no_stmts o p locked = tt
       parts_enter (tree.more_stmts s ss) o p locked =
           let z = or_parts (walk_stmt (own_walk sc u) s) (walk_list (own_walk sc u) ss) o in
-          let y = none_parts (stmt_numbers s) (list_numbers ss) 0 p in
+          let y = has_parts (stmt_numbers s) (list_numbers ss) 0 p in
           (stmt_enters s z.0 y.0 locked, parts_enter ss z.1 y.1 locked)
 
     pub body_enters : (ss : StmtTrees) → own_in sc ss u ≡ false → has (list_numbers ss) 0 ≡ false → (locked : Locks) → EntersNone (body_plan ss sc.plain at locked)

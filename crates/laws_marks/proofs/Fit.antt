@@ -20,8 +20,9 @@ use Rattle.laws_interleavings.specs.Sound.{OnGave}
 use Rattle.laws_interleavings.specs.Holds.{later_events, MarksHold}
 use Rattle.laws_interleavings.proofs.Runs.{run_bind, on_from, stays_whole}
 use Rattle.laws_marks.specs.ConflictExecutions.{Execution}
-use Rattle.laws_interleavings.proofs.Plans.Fine.{Yields, Any, yields_any}
+use Rattle.laws_interleavings.proofs.Plans.Fine.{Yields, yields_any}
 use Rattle.laws_marks.specs.Rests.{EachWithRest}
+use Rattle.fx_lists.proofs.Every.{Anything}
 
 module _ (C : Execution → List Event → Type 0) where
   -- its marked loops hold where the claim holds of it
@@ -121,7 +122,7 @@ module _ (C : Execution → List Event → Type 0) where
   fit_first P (steps.Arrive p t) f y n = fit_first P t f y n
 
   pub fit_after : {A : Type 0} (t : Steps A) (f : A → MarkedPlan) → ((a : A) → Fit (f a)) → Fit (steps_first t f)
-  fit_after t f n = fit_first Any t f (yields_any t) (λ a q. n a)
+  fit_after t f n = fit_first Anything t f (yields_any t) (λ a q. n a)
 
   fit_normal : (f : Flow) (t : MarkedPlan) → Fit t → Fit (when_normal f t)
   fit_normal Normal t h = h

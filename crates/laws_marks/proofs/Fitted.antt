@@ -8,7 +8,7 @@ use Rattle.std.proofs.Math.Nat.{zero-div}
 use Rattle.std.proofs.lemmas.Slice.Eq.{bytes_eq-Decides}
 use Rattle.f77_ast.specs.Trees.{StmtTrees}
 use Rattle.f77_ast.specs.DeclTrees.{ParsedTree}
-use Rattle.f77_ast.specs.StatementNumbers.{list_numbers, IsNumbered}
+use Rattle.f77_ast.specs.StatementNumbers.{list_numbers, HasNumbers}
 use Rattle.f77_ast.specs.Store.{Content, Store}
 use Rattle.f77_ast.specs.Faults.{Fault, Locked}
 use Rattle.f77_ast.specs.Runs.{Event, Arrived, Read, Wrote, Printed, Took}
@@ -31,7 +31,6 @@ use Rattle.f77_meaning.proofs.UnitLaws.{temporaries_are_recognisable}
 use Rattle.preconditions.specs.transformer_algebra.Cells.{has}
 use Rattle.preconditions.specs.transformer_algebra.Laws.{In, here, there}
 use Rattle.laws_programs.specs.Programs.{IsProgram}
-use Rattle.laws_programs.proofs.Numbers.{is_numbered}
 use Rattle.call_graph.specs.CallsIn.{Each}
 use Rattle.laws_analyses.proofs.Modules.{IsIn}
 use Rattle.laws_analyses.specs.Regions.Shown.{is_lost, is_hidden}
@@ -156,7 +155,7 @@ module _ (ps : List ParsedTree) (sss : List (List SymbolTree)) (g : Graph) (x : 
   not_lost_named : (k : Known) → IsIn (known_of ps sss) k → (u : ℕ) → list_any (λ v. nat_eq v u) (of k).locals ≡ false → is_lost_of N u (known_of ps sss) k.read.name ≡ false
   not_lost_named k h u e = same_named k h (known_of ps sss) (λ i z q. record { at = i; is_module = q }) u e
 
-  all_entered : (u : ℕ) (numbered : (k : Known) → IsIn (known_of ps sss) k → IsNumbered k.read.body) (xs : List Known) → Each (IsIn (known_of ps sss)) xs → AreEntered (is_lost_of N u (known_of ps sss)) u (map of xs)
+  all_entered : (u : ℕ) (numbered : (k : Known) → IsIn (known_of ps sss) k → HasNumbers k.read.body) (xs : List Known) → Each (IsIn (known_of ps sss)) xs → AreEntered (is_lost_of N u (known_of ps sss)) u (map of xs)
   all_entered u numbered [] h = tt
   all_entered u numbered (k ∷ xs) h = (record { numbers = numbered_above k.read.body (numbered k h.0); locals = λ e. not_lost_named k h.0 u e }, all_entered u numbered xs h.1)
 
@@ -166,7 +165,7 @@ module _ (ps : List ParsedTree) (sss : List (List SymbolTree)) (g : Graph) (x : 
 
   -- ---- the loop
 
-  module _ (numbered : (k : Known) → IsIn (known_of ps sss) k → IsNumbered k.read.body) (k : Known) (is_in : IsIn (known_of ps sss) k) (xs : List Known) (behind : Each (IsIn (known_of ps sss)) xs) (distinct : Distinct (map of (k ∷ xs))) (st : Stands P turns (of k) (map of xs)) where
+  module _ (numbered : (k : Known) → IsIn (known_of ps sss) k → HasNumbers k.read.body) (k : Known) (is_in : IsIn (known_of ps sss) k) (xs : List Known) (behind : Each (IsIn (known_of ps sss)) xs) (distinct : Distinct (map of (k ∷ xs))) (st : Stands P turns (of k) (map of xs)) where
     abbrev sc : MarkedScope
     sc = marked_scope (of k) turns d (meanings (map of xs) turns) (marked_meanings (map of xs) turns d)
 

@@ -26,11 +26,9 @@ use Rattle.in_out_regions.specs.Modules.{ins_with}
 use Rattle.loop_marker.specs.module_phases.InPhases.{ModuleIns, ins_found, all_ins}
 use Rattle.loop_marker.specs.module_phases.ScalarPhases.{scope_of, Analysis, analyses}
 use Rattle.laws_programs.specs.Programs.{AreTables, IsProgram}
-use Rattle.laws_programs.proofs.Numbers.{is_numbered}
 use Rattle.laws_programs.proofs.Sources.{all_built}
 use Rattle.laws_programs.proofs.Tables.{programs_are_linked}
-use Rattle.laws_programs.proofs.Whole.{numbers_go_up, modules_are_read}
-use Rattle.laws_programs.proofs.SymbolTables.ShapeLaws.{bodies_are_shaped}
+use Rattle.laws_programs.proofs.Whole.{modules_are_read}
 use Rattle.laws_programs.specs.roundtrip_programs.Statements.Phrased.{IsPhrase}
 use Rattle.laws_programs.specs.roundtrip_programs.ModuleTexts.Cards.{Card, statements_of}
 use Rattle.laws_programs.proofs.RoundtripPrograms.ModuleTexts.Kept.{Held}
@@ -46,26 +44,23 @@ use Rattle.laws_analyses.specs.Calls.Parts.{Blocks, Part}
 use Rattle.laws_analyses.specs.Calls.Sites.{lookup}
 use Rattle.laws_analyses.specs.Parts.{blocks_in, part_of}
 use Rattle.laws_analyses.specs.Analysed.{part_named, AreAnalysed}
-use Rattle.laws_analyses.specs.CallLaws.{Settled}
 use Rattle.laws_analyses.specs.JumpLaws.{JumpsStayInside}
 use Rattle.laws_analyses.specs.Results.{callees_of_all, analysed_entry, analysed_sites}
 use Rattle.laws_analyses.specs.ScalarLaws.{NamesAgree, AcceptedDataStaysInLocals}
 use Rattle.laws_analyses.proofs.Analyses.{Located, all_located, analysis_of_module}
-use Rattle.laws_analyses.proofs.CallLists.{each_in, each_more}
+use Rattle.laws_analyses.proofs.CallLists.{each_in}
 use Rattle.laws_analyses.proofs.Founds.{Calls}
 use Rattle.laws_analyses.proofs.IntegerLaws.{integers_fit}
 use Rattle.laws_analyses.proofs.MainLaws.{main_from, built_at}
 use Rattle.laws_analyses.proofs.Modules.{IsIn, subs, subs_in, module_named_is}
 use Rattle.laws_analyses.proofs.Passes.{name_of}
 use Rattle.laws_analyses.proofs.Programs.{Ready}
-use Rattle.laws_analyses.proofs.Subscripts.{built_have}
-use Rattle.laws_analyses.proofs.TargetLaws.{body_lacks_none}
 use Rattle.laws_analyses.proofs.ThroughoutLaws.{throughout_more}
 use Rattle.laws_analyses.proofs.UnitLaws.{module_at}
-use Rattle.laws_analyses.proofs.Whole.{analyses_follow}
+use Rattle.laws_analyses.proofs.Whole.{analyses_follow, settled as is_settled, ready as is_ready}
 use Rattle.laws_lines.specs.Laws.{IsTracked}
 use Rattle.laws_lines.specs.Halves.{IsHalfOf}
-use Rattle.laws_lines.proofs.PhaseVars.{EachOf, AnalysisOk, analyses_ok, found_done}
+use Rattle.laws_lines.proofs.PhaseVars.{AnalysisOk, analyses_ok, found_done}
 use Rattle.laws_lines.proofs.RuleVars.{IsDone}
 use Rattle.laws_lines.proofs.SystemVars.{system_more}
 use Rattle.laws_analyses.specs.Regions.Settings.{has_colon}
@@ -83,25 +78,26 @@ use Rattle.laws_marks.specs.InPrograms.{ins_in_part, EachInHolds}
 use Rattle.laws_marks.specs.InTogether.{LocalsAreSavedTogether}
 use Rattle.laws_marks.proofs.InBelow.{Stands, AllBelow, subs_below, all_stand}
 use Rattle.laws_marks.proofs.InLayouts.{such, may_name, module_laid, call_names}
-use Rattle.laws_marks.proofs.InNarrow.{AnyCell}
 use Rattle.laws_marks.proofs.InSummaries.{Placed, called_summary, summaries_are, ins_placed}
 use Rattle.laws_marks.proofs.InWhole.{GoesIn, GoesFrom, LaidPart, LaidParts, program_ins_hold}
 use Rattle.laws_programs.proofs.RoundtripPrograms.ModuleTexts.Cards.{Any as AnyLabel}
 use Rattle.laws_programs.proofs.Effects.Once.{main_of_linked as some_main}
 use Rattle.laws_programs.proofs.RoundtripPrograms.Body.{AreCards}
+use Rattle.fx_lists.proofs.Every.{Anything, Every}
+use Rattle.call_graph.proofs.EachLaws.{each_more}
 
 -- ---- transformers over cells
 
-half_any : (ok : ℕ → Type 0) (cs : List ℕ) (v : Var) → IsHalfOf ok cs v → IsHalfOf AnyCell cs v
+half_any : (ok : ℕ → Type 0) (cs : List ℕ) (v : Var) → IsHalfOf ok cs v → IsHalfOf Anything cs v
 half_any ok cs (Cell c) h = tt
 half_any ok cs (Exit c) h = h
 half_any ok cs (Phi c) h = h
 half_any ok cs (Aux c) h = h
 
-any_done : (ok : ℕ → Type 0) (t : Transformer) → IsDone ok t → IsDone AnyCell t
-any_done ok t d = record { cells = λ c h. tt; system = system_more (IsHalfOf ok t.cells) (IsHalfOf AnyCell t.cells) (half_any ok t.cells) t.system d.system }
+any_done : (ok : ℕ → Type 0) (t : Transformer) → IsDone ok t → IsDone Anything t
+any_done ok t d = record { cells = λ c h. tt; system = system_more (IsHalfOf ok t.cells) (IsHalfOf Anything t.cells) (half_any ok t.cells) t.system d.system }
 
-of_back : {T : Type 0} (P : T → Type 0) (xs ys : List T) → EachOf P (xs ++ ys) → EachOf P ys
+of_back : {T : Type 0} (P : T → Type 0) (xs ys : List T) → Every P (xs ++ ys) → Every P ys
 of_back P [] ys h = h
 of_back P (x ∷ xs) ys h = of_back P xs ys h.1
 
@@ -150,14 +146,14 @@ module _ (ps : List ParsedTree) (sss : List (List SymbolTree)) (g : Graph) (l : 
       (subst (λ (z : Known). is x.0.found.known.read.name z.read.name ≡ Some (record { symbols = z.symbols; value = (ins_in_part g (callees_of_all (known_of ps sss) g) (rs z.read.name) (is z.read.name) (part z)).summary })) y.2 f)
 
   -- its transformers are over cells
-  module_done : (i : ℕ) (p : ParsedTree) (ss : List SymbolTree) → IsModule ps sss i p ss → (n : ℕ) → IsDone AnyCell ((part (known p ss)).found.transformer n)
+  module_done : (i : ℕ) (p : ParsedTree) (ss : List SymbolTree) → IsModule ps sss i p ss → (n : ℕ) → IsDone Anything ((part (known p ss)).found.transformer n)
   module_done i p ss m n =
       let x = analysis_of_module ps sss g l i p ss m in
       let a = x.0 in
       let r = x.1 in
-      let ok = (of_back (AnalysisOk g.untracked) r.front (a ∷ r.rest) (subst (EachOf (AnalysisOk g.untracked)) r.parts (analyses_ok ps sss g tables))).0 in
-      let own : IsDone AnyCell (transformer_at a.found.own.at n) = any_done (IsTracked g.untracked a.found.known) (transformer_at a.found.own.at n) (found_done (IsTracked g.untracked a.found.known) a.found.own.at ok.found.at n) in
-      subst (λ (k : Known). IsDone AnyCell ((part k).found.transformer n)) x.2 (subst (λ (t : Results Transformer). IsDone AnyCell (transformer_at t.at n)) r.good.own own)
+      let ok = (of_back (AnalysisOk g.untracked) r.front (a ∷ r.rest) (subst (Every (AnalysisOk g.untracked)) r.parts (analyses_ok ps sss g tables))).0 in
+      let own : IsDone Anything (transformer_at a.found.own.at n) = any_done (IsTracked g.untracked a.found.known) (transformer_at a.found.own.at n) (found_done (IsTracked g.untracked a.found.known) a.found.own.at ok.found.at n) in
+      subst (λ (k : Known). IsDone Anything ((part k).found.transformer n)) x.2 (subst (λ (t : Results Transformer). IsDone Anything (transformer_at t.at n)) r.good.own own)
 
   module _ (fit : AllConstantsFit ps sss) (together : LocalsAreSavedTogether) (plain : (i : ℕ) (p : ParsedTree) (ss : List SymbolTree) → IsModule ps sss i p ss → is_plain p.module_read.name ≡ true) (told : (i : ℕ) (p : ParsedTree) (ss : List SymbolTree) → IsModule ps sss i p ss → (n : ℕ) (s : SymbolTree) → symbol_at ss n ≡ Some s → has_colon s.name ≡ false) (blocks : (i : ℕ) (p : ParsedTree) (ss : List SymbolTree) → IsModule ps sss i p ss → (n : ℕ) (s : SymbolTree) (y : List ℕ) (o : ℕ) → symbol_at ss n ≡ Some s → s.place ≡ place.Block y o → has_colon y ≡ false) where
     -- ---- a CALL
@@ -241,20 +237,6 @@ module _ (ps : List ParsedTree) (sss : List (List SymbolTree)) (g : Graph) (l : 
 -- ---- programs
 
 module _ (names : NamesAgree) (stays : JumpsStayInside) (ps : List ParsedTree) (sss : List (List SymbolTree)) (g : Graph) (x : IsProgram ps sss g) where
-  pub settled : (i : ℕ) (p : ParsedTree) (ss : List SymbolTree) → IsModule ps sss i p ss → Settled g p ss
-  settled i p ss m =
-      let table = (programs_are_linked ps sss g x).1 i p ss m in
-      let built = built_at ps (all_built x.lines ps x.parsed) i p m.parsed in
-      record {
-        agrees = names p ss g.untracked table;
-        stays = stays x.lines ps x.parsed i p m.parsed;
-        numbered = is_numbered p.module_read.body (numbers_go_up x.lines ps x.parsed i p m.parsed);
-        targets = body_lacks_none ss p.module_read built.well.body built.formed (bodies_are_shaped p ss table);
-      }
-
-  pub ready : (i : ℕ) (p : ParsedTree) (ss : List SymbolTree) → IsModule ps sss i p ss → Ready g p ss
-  ready i p ss m = record { settled = settled i p ss m; subscripts = built_have p (built_at ps (all_built x.lines ps x.parsed) i p m.parsed) }
-
   -- IN regions hold in every run
   pub all_hold : LinkLaws → AcceptedDataStaysInLocals → LocalsAreSavedTogether → InEveryRun (known_of ps sss) g (AllInsHold (known_of ps sss) g (all_ins g (all_regions g (analyses (known_of ps sss) g))))
   all_hold laws lies together turns input =
@@ -268,18 +250,18 @@ module _ (names : NamesAgree) (stays : JumpsStayInside) (ps : List ParsedTree) (
       let main = known r.parsed r.table in
       let is = known_module ps sss r.at r.parsed r.table r.is_module in
       let alone = (modules_are_read x.lines ps sss x.parsed x.tables r.at main is).main r.main in
-      let analysed = analyses_follow ps sss g linked.0 (λ i p ss m. (settled i p ss m).numbered) in
+      let analysed = analyses_follow ps sss g linked.0 (λ i p ss m. (is_settled names stays ps sss g x i p ss m).numbered) in
       let initialised = lies x.lines ps sss x.parsed x.tables in
       let fit = integers_fit x.lines ps sss x.parsed x.tables in
       let plain = λ (i : ℕ) (p : ParsedTree) (ss : List SymbolTree) (m : IsModule ps sss i p ss). (modules_are_read x.lines ps sss x.parsed x.tables i (known p ss) (known_module ps sss i p ss m)).name in
       let told = λ (i : ℕ) (p : ParsedTree) (ss : List SymbolTree) (m : IsModule ps sss i p ss). (let built = built_at ps (all_built x.lines ps x.parsed) i p m.parsed in names_told p ss built.well (cards_of_held (statements_of p.module_read) built.formed) (linked.1 i p ss m)) in
       let blocks = λ (i : ℕ) (p : ParsedTree) (ss : List SymbolTree) (m : IsModule ps sss i p ss). (let built = built_at ps (all_built x.lines ps x.parsed) i p m.parsed in blocks_told p ss (cards_of_held (statements_of p.module_read) built.formed) (linked.1 i p ss m)) in
-      let whole = program ps sss g linked.0 linked.1 ready cs sites entry analysed initialised r.at r.parsed r.table r.is_module r.is_main r.main alone in
-      let is_program = program_is ps sss g linked.0 linked.1 ready cs sites entry analysed initialised r.at r.parsed r.table r.is_module r.is_main r.main alone in
+      let whole = program ps sss g linked.0 linked.1 (is_ready names stays ps sss g x) cs sites entry analysed initialised r.at r.parsed r.table r.is_module r.is_main r.main alone in
+      let is_program = program_is ps sss g linked.0 linked.1 (is_ready names stays ps sss g x) cs sites entry analysed initialised r.at r.parsed r.table r.is_module r.is_main r.main alone in
       let each = program_ins_hold laws _ cs sites of (may_name ps sss g) _ _ _ whole ks g (reads_of g (analyses ks g)) (summaries_of g (analyses ks g))
-      (main_laid ps sss g linked.0 linked.1 x.tables ready analysed fit together plain told blocks r.at r.parsed r.table r.is_module)
-      (all_laid ps sss g linked.0 linked.1 x.tables ready analysed fit together plain told blocks) is_program in
-      throughout_more (EachInHolds ks g cs (reads_of g (analyses ks g)) (summaries_of g (analyses ks g)) of) (AllInsHold ks g (all_ins g (all_regions g (analyses ks g)))) (λ y h. follows ps sss g linked.0 linked.1 x.tables ready analysed y h) (program_plan (program_of ks g) turns) (program_of ks g).initial input (λ f z j. []) (each turns input)
+      (main_laid ps sss g linked.0 linked.1 x.tables (is_ready names stays ps sss g x) analysed fit together plain told blocks r.at r.parsed r.table r.is_module)
+      (all_laid ps sss g linked.0 linked.1 x.tables (is_ready names stays ps sss g x) analysed fit together plain told blocks) is_program in
+      throughout_more (EachInHolds ks g cs (reads_of g (analyses ks g)) (summaries_of g (analyses ks g)) of) (AllInsHold ks g (all_ins g (all_regions g (analyses ks g)))) (λ y h. follows ps sss g linked.0 linked.1 x.tables (is_ready names stays ps sss g x) analysed y h) (program_plan (program_of ks g) turns) (program_of ks g).initial input (λ f z j. []) (each turns input)
 
 -- where what is said of names, of DATA, of jumps, of links and of saved locals holds, IN regions hold in every run of a program that is read
 pub read_ins_hold : NamesAgree → AcceptedDataStaysInLocals → JumpsStayInside → LinkLaws → LocalsAreSavedTogether → ReadInsHold

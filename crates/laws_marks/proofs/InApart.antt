@@ -48,22 +48,17 @@ use Rattle.laws_analyses.proofs.SiteLaws.{no_bounds_back as none_bound}
 use Rattle.fx_lists.proofs.Booleans.{and_from as and_both}
 use Rattle.fx_lists.proofs.Options.{none_some_2 as none_some}
 use Rattle.fx_lists.proofs.Numbers.{same_is as nat_same, nat_eq_same}
+use Rattle.fx_lists.proofs.Lists.{same_head, same_tail}
 
 -- ---- subscripts
 
-head_same : (n m : ℤ) (ns ms : List ℤ) → (n ∷ ns) ≡ (m ∷ ms) → n ≡ m
-head_same n m ns ms e = cc
-
-tail_same : (n m : ℤ) (ns ms : List ℤ) → (n ∷ ns) ≡ (m ∷ ms) → ns ≡ ms
-tail_same n m ns ms e = cc
-
 listed_same : (n k : ℕ) (phi psi : ℕ → ℤ) → listed_from k n phi ≡ listed_from k n psi → (i : ℕ) → k ≤ i → i < k + n → phi i ≡ psi i
 listed_same zero k phi psi e i l h = absurd (omega (arith, l, h))
-listed_same (suc n) k phi psi e i l h = go (nat_lt k i) refl l (λ m. listed_same n (suc k) phi psi (tail_same (phi k) (psi k) (listed_from (suc k) n phi) (listed_from (suc k) n psi) e) i m (omega (arith, h)))
+listed_same (suc n) k phi psi e i l h = go (nat_lt k i) refl l (λ m. listed_same n (suc k) phi psi (same_tail (phi k) (psi k) (listed_from (suc k) n phi) (listed_from (suc k) n psi) e) i m (omega (arith, h)))
   where
     go : (b : Bool) → nat_lt k i ≡ b → k ≤ i → (suc k ≤ i → phi i ≡ psi i) → phi i ≡ psi i
     go true q w ih = ih (grind (arith, nat_tests, q))
-    go false q w ih = let same : k ≡ i = grind (arith, nat_tests, q, w) in subst (λ j. phi j ≡ psi j) same (head_same (phi k) (psi k) (listed_from (suc k) n phi) (listed_from (suc k) n psi) e)
+    go false q w ih = let same : k ≡ i = grind (arith, nat_tests, q, w) in subst (λ j. phi j ≡ psi j) same (same_head (phi k) (psi k) (listed_from (suc k) n phi) (listed_from (suc k) n psi) e)
 
 record At (p : Place) (phi : ℕ → ℤ) (u : ℕ) : Type 0 where
   offset : ℕ

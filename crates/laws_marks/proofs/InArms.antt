@@ -18,7 +18,7 @@ use Rattle.preconditions.specs.transformer_algebra.Laws.{In, here, there}
 use Rattle.in_out_regions.specs.region_sets.declared.region.Access.TheVariants.{In as AtIn}
 use Rattle.in_out_regions.specs.region_sets.declared.region.Region.{Region}
 use Rattle.in_out_regions.specs.region_sets.Sets.{unite_all}
-use Rattle.in_out_regions.proofs.RegionSets.StepLaws.{in_left, in_right, in_either, in_map, of_map}
+use Rattle.in_out_regions.proofs.RegionSets.StepLaws.{in_either, in_map, of_map}
 use Rattle.in_out_regions.specs.array_regions.declared.arms.Reached.{Reached}
 use Rattle.in_out_regions.specs.array_regions.Arms.{always, if_true, if_false, past_arms, under_tests, all_met, tests_reads}
 use Rattle.in_out_regions.specs.array_regions.Reads.{reads}
@@ -39,6 +39,7 @@ use Rattle.laws_marks.specs.InUnits.{AreOf}
 use Rattle.laws_marks.specs.InKnowns.{known_in}
 use Rattle.laws_marks.proofs.InTaking.{NoWrites, no_writes_none, free_none, free_both, first_holds_then, first_holds_left, first_holds_both, first_holds_wider, first_sharp_none, first_sharp_more, first_sharp_first, first_sharp_last, first_sharp_append, first_more, first_gathered, first_broke, first_normal, seen_first, seen_sharp}
 use Rattle.laws_marks.proofs.InQuiet.{looked_quiet}
+use Rattle.preconditions.proofs.TransformerAlgebra.Members.{in_left, in_right}
 
 in_all : (rs qs : List Region) (r : Region) → ((q : Region) → In q rs → In q qs) → In r (all_in rs) → In r (all_in qs)
 in_all [] qs r f i = elim i [ ]

@@ -25,7 +25,9 @@ use Rattle.in_out_regions.specs.region_sets.declared.range.Range.{Range}
 use Rattle.in_out_regions.specs.region_sets.declared.region.Region.{Region}
 use Rattle.in_out_regions.specs.region_sets.Regions.{remade, any_weak, all_exact, systems}
 use Rattle.in_out_regions.specs.region_sets.Naming.{in_rows, named_cells, has_none}
-use Rattle.in_out_regions.specs.region_sets.Claims.{HoldsSome, Elements, Accessed, LiesIn, IsSharp, InRange, Iteration, Begins}
+use Rattle.hull_projection.specs.Unions.{HoldsSome}
+use Rattle.in_out_regions.specs.region_sets.Claims.{AreNumbers, DescribedBy, Elements, Accessed, LiesIn, IsSharp, InRange, Iteration, Begins}
+use Rattle.in_out_regions.proofs.RegionSets.DescribedLaws.{at_start}
 use Rattle.in_out_regions.proofs.RegionSets.NameLaws.{Agree, flip, rows_agree, has_named, has_others}
 use Rattle.in_out_regions.proofs.RegionSets.StepLaws.{in_map}
 use Rattle.in_out_regions.proofs.RegionSets.BackLaws.{push_weak, project_weak, rename_all_back, push_rows_back}
@@ -209,13 +211,14 @@ module _ (m : Scene) (g : Range) (x : ℕ → ℤ) (a b : ℤ) (bg : Begins m g 
 
   -- a unit that lies in a region where an iteration begins lies in it within the range, too
   pub ranged_lies : (tracked : Bool) → m.tracked g.index ≡ tracked → (at : Elements) (r : Region) (n : ℤ) (k : ℕ) (y : ℕ → ℤ) (u : ℕ) → Iteration m g x a b n k y → LiesIn m at r y u → LiesIn m at (in_range tracked g r) y u
-  ranged_lies tracked q at r n k y u it l = record {
-    phi = l.phi;
-    there = l.there;
-    piece = push_rows l.piece (index_rows tracked g);
-    is_one = in_map (λ s. push_rows s (index_rows tracked g)) l.piece r.pieces l.is_one;
-    described = λ p st ph. push_rows_holds l.piece (index_rows tracked g) p (l.described p st ph) (rows_of_index tracked q n k y p it st);
-  }
+  ranged_lies tracked q at r n k y u it l = record { phi = l.phi; there = l.there; described = λ o e. ranged o e (l.described o e) }
+    where
+      ranged : (o : ℕ → ℤ) → AreNumbers m y o → DescribedBy r.pieces o l.phi → DescribedBy (map (λ s. push_rows s (index_rows tracked g)) r.pieces) o l.phi
+      ranged o e d = record {
+        piece = push_rows d.piece (index_rows tracked g);
+        is_one = in_map (λ s. push_rows s (index_rows tracked g)) d.piece r.pieces d.is_one;
+        holds = λ p c ph. push_rows_holds d.piece (index_rows tracked g) p (d.holds p c ph) (rows_of_index tracked q n k y p it (at_start m y o p e c));
+      }
 
   ranged_back : (rs : List Row) (p : Point) (ss : List System) → any_weak (map (λ s. push_rows s rs) ss) ≡ false → HoldsSome p (map (λ s. push_rows s rs) ss) → HoldsSome p ss
   ranged_back rs p [] w h = absurd h

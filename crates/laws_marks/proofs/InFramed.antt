@@ -56,7 +56,7 @@ module _ (k : Frame) where
   -- ---- back
 
   pub lies_back : (r : Region) (x : ℕ → ℤ) (u : ℕ) → LiesIn (scene k.base) (elements_in k r.variable) r x u → LiesIn (scene k.base) (elements_at k.base r.variable) r x u
-  lies_back r x u l = record { phi = l.phi; there = element_of r.variable l.phi u l.there; piece = l.piece; is_one = l.is_one; described = l.described }
+  lies_back r x u l = record { phi = l.phi; there = element_of r.variable l.phi u l.there; described = l.described }
 
   pub sharp_back : (r : Region) (x : ℕ → ℤ) (c : ℕ → Bool) → IsSharp (scene k.base) (elements_in k r.variable) r x c → IsSharp (scene k.base) (elements_at k.base r.variable) r x c
   sharp_back r x c l e p st h = (let w = l e p st h in record { unit = w.unit; there = element_of r.variable _ w.unit w.there; is_so = w.is_so })

@@ -11,7 +11,7 @@ use Rattle.in_out_regions.specs.region_sets.declared.region.Region.{Region}
 use Rattle.in_out_regions.specs.region_sets.Regions.{remade, hull_of}
 use Rattle.in_out_regions.specs.region_sets.Sets.{region_cmp, live_pieces, with_pieces, with_region, with_live, with_regions, live, unite_all}
 use Rattle.in_out_regions.specs.region_sets.Unite.{all_within, unite}
-use Rattle.in_out_regions.specs.region_sets.Claims.{HoldsSome}
+use Rattle.hull_projection.specs.Unions.{HoldsSome}
 use Rattle.in_out_regions.proofs.RegionSets.SetLaws.{live_some as live_points}
 
 -- each of a list

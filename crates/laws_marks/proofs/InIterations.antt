@@ -17,8 +17,9 @@ use Rattle.in_out_regions.specs.region_sets.declared.region.Region.{Region}
 use Rattle.in_out_regions.specs.region_sets.Regions.{remade, any_weak}
 use Rattle.in_out_regions.specs.region_sets.Subtract.{left_of, all_left_exactly, unless_empty, all_apart, subtract}
 use Rattle.in_out_regions.specs.region_sets.Loops.{over_loop}
-use Rattle.in_out_regions.specs.region_sets.Claims.{HoldsSome, Elements, Accessed, LiesIn, LiesInSet, IsSharp, Places, AreByOrder, InRange, Iteration, Begins}
-use Rattle.in_out_regions.proofs.RegionSets.StepLaws.{in_left, in_right, in_either}
+use Rattle.hull_projection.specs.Unions.{HoldsSome}
+use Rattle.in_out_regions.specs.region_sets.Claims.{Elements, Accessed, LiesIn, LiesInSet, IsSharp, Places, AreByOrder, InRange, Iteration, Begins}
+use Rattle.in_out_regions.proofs.RegionSets.StepLaws.{in_either}
 use Rattle.in_out_regions.proofs.RegionSets.PieceLaws.{loop_has, loop_sharp}
 use Rattle.in_out_regions.proofs.RegionSets.SubtractLaws.{subtract_keeps, subtract_exact}
 use Rattle.in_out_regions.specs.array_regions.References.{scalar}
@@ -26,9 +27,11 @@ use Rattle.in_out_regions.specs.Writes.{write_of, is_write_beside, is_overlapped
 use Rattle.in_out_regions.specs.ListClaims.{AreWritten, IsWithinWrites}
 use Rattle.in_out_regions.specs.Loops.{in_range, earlier, less_earlier, in_iteration, over_maybe, unless_index, all_iterations}
 use Rattle.laws_marks.proofs.InGathering.{EachOne}
-use Rattle.laws_marks.proofs.InRests.{WriteOf, write_found, SharpUnless}
+use Rattle.laws_marks.proofs.InRests.{SharpUnless}
 use Rattle.laws_marks.proofs.InEarlier.{Known, known_of, begun_at, starts_at, Earlier, back_at, back_starts, earlier_has, earlier_sharp, ranged_lies, ranged_sharp}
 use Rattle.f77_ast.specs.Variables.{same_variable}
+use Rattle.preconditions.proofs.TransformerAlgebra.Members.{in_left, in_right}
+use Rattle.in_out_regions.proofs.WriteLaws.{write_found, Found as WriteOf}
 
 -- ---- what is made of a region keeps its variable and its kind
 
@@ -90,7 +93,7 @@ module _ (ss : List SymbolTree) (m : Scene) (at : Places) (by_order : AreByOrder
           ranged = ranged_lies m g x a b bg tracked is_tracked (at r.variable) r n k y u it l
 
           go : (o : Option Region) → earlier tracked g (write_of r.variable ws) ≡ o → MatchOption (less_earlier o ss ws (in_range tracked g r)) ⊥ (λ q. LiesIn m (at r.variable) q y u)
-          go None e = record { phi = ranged.phi; there = ranged.there; piece = ranged.piece; is_one = ranged.is_one; described = ranged.described }
+          go None e = record { phi = ranged.phi; there = ranged.there; described = ranged.described }
           go (Some e) h = subtract_keeps (in_range tracked g r) e m (at r.variable) y written sharp u spared ranged
             where
               f : Found r.variable e
@@ -101,7 +104,7 @@ module _ (ss : List SymbolTree) (m : Scene) (at : Places) (by_order : AreByOrder
                   earlier_sharp m g x a b bg tracked is_tracked f.write e f.known n k y it (at r.variable) written
                   (λ i l. (let p = past f.known.step f.known.is_step i l in (
                     record { number = p.number; is_it = p.is_it; store = p.store; iteration = p.iteration },
-                    subst (λ (z : Elements). IsSharp m z f.write p.store written) (sym (by_order r.variable f.write.variable f.found.place)) (p.writes f.write f.found.is_one f.found.kind),
+                    subst (λ (z : Elements). IsSharp m z f.write p.store written) (sym (by_order r.variable f.write.variable f.found.order)) (p.writes f.write f.found.is_one f.found.kind),
                   )))
 
       -- then it lies in the DO's

@@ -25,7 +25,7 @@ use Rattle.f77_meaning.specs.Claims.{size_in, block_place, saved_place, fixed_by
 use Rattle.f77_meaning.specs.Laws.{IsKnown, is_own, area_of, IsDeclaredBelow}
 use Rattle.f77_meaning.specs.Linked.{numbering, room_for, declares, reaches, is_common}
 use Rattle.f77_meaning.specs.Modules.{Known, known_of, fixed, fixed_place, dummies_from, symbol_names, fixed_maybe, lost_units, all_lost}
-use Rattle.f77_meaning.proofs.LinkLaws.{any_found, found_any, common_is_of_blocks}
+use Rattle.f77_meaning.proofs.LinkLaws.{any_found, common_is_of_blocks}
 use Rattle.f77_meaning.proofs.LinkedLaws.{linked_have_blocks}
 use Rattle.f77_meaning.proofs.ModuleLaws.{offsets_fit, variables_occupy_their_storage, shared_by_table}
 use Rattle.f77_meaning.proofs.UnitLaws.{units_differ, temporaries_are_recognisable}
@@ -63,6 +63,7 @@ use Rattle.laws_marks.proofs.InRooms.{blocks_fit}
 use Rattle.laws_marks.proofs.Apart.{lost_here, lost_among, LostAt}
 use Rattle.f77_ast.proofs.StorageLaws.{from_number as numbered_place, to_number as next_symbol}
 use Rattle.call_graph.specs.Visible.{is_local}
+use Rattle.fx_lists.proofs.Lookups.{any_at}
 
 -- ---- lists
 
@@ -404,7 +405,7 @@ module _ (ps : List ParsedTree) (sss : List (List SymbolTree)) (g : Graph) where
           let x = saved_unit X n y u r w in
           let q = r.parsed.module_read.name in
           or_left (list_any (λ z. (reaches (length ks) g.edges X z.read.name && not (bytes_eq X z.read.name)) && belongs_to N z.read.name u) ks) (is_own_unit N u && belongs_to N X u)
-          (found_any (λ z. (reaches (length ks) g.edges X z.read.name && not (bytes_eq X z.read.name)) && belongs_to N z.read.name u) ks r.at (known r.parsed r.table) (known_module ps sss r.at r.parsed r.table r.is_module)
+          (any_at (λ z. (reaches (length ks) g.edges X z.read.name && not (bytes_eq X z.read.name)) && belongs_to N z.read.name u) ks r.at (known r.parsed r.table) (known_module ps sss r.at r.parsed r.table r.is_module)
           (and_from (leads X q && not (bytes_eq X q)) (belongs_to N q u)
           (and_from (leads X q) (not (bytes_eq X q)) (subst (λ z. leads X z ≡ true) (sym r.is_named) r.reached) (ap not (subst (λ z. bytes_eq X z ≡ false) (sym r.is_named) r.other)))
           (subst (λ z. belongs_to N z u ≡ true) (sym r.is_named) (mine n r.storage u x))))
@@ -434,7 +435,7 @@ module _ (ps : List ParsedTree) (sss : List (List SymbolTree)) (g : Graph) where
       lost_owned : (u : ℕ) → IsLost ks g X u → k.owns u ≡ true
       lost_owned u i' =
           let t = lost_of X u i' in
-          found_any (λ z. reaches (length ks) g.edges X z.read.name && belongs_to N z.read.name u) ks i (known p ss) (known_module ps sss i p ss m) (and_from (leads X X) (belongs_to N X u) itself (mine X t.storage u t.unit))
+          any_at (λ z. reaches (length ks) g.edges X z.read.name && belongs_to N z.read.name u) ks i (known p ss) (known_module ps sss i p ss m) (and_from (leads X X) (belongs_to N X u) itself (mine X t.storage u t.unit))
 
       no_expression : (v : Named) → such X v ≡ true → IsFixed k v → (u : ℕ) → HasUnit (lies_at ks g k v) u → is_own_unit N u ≡ false
       no_expression (Own v) h f u w = go (own_lies v f)
@@ -561,7 +562,7 @@ module _ (ps : List ParsedTree) (sss : List (List SymbolTree)) (g : Graph) where
           let b = and_parts (leads called w && not (bytes_eq called w)) (bytes_eq w n && kept_named f.item.symbols (number_from 1 (symbol_names f.item.symbols) y)) f.holds in
           let c = and_parts (leads called w) (not (bytes_eq called w)) b.0 in
           and_from (is_told (Saved n y)) (list_any (λ z. (leads caller z.read.name && not (bytes_eq caller z.read.name)) && (bytes_eq z.read.name n && kept_named z.symbols (number_from 1 (symbol_names z.symbols) y))) ks) a.0
-          (found_any (λ z. (leads caller z.read.name && not (bytes_eq caller z.read.name)) && (bytes_eq z.read.name n && kept_named z.symbols (number_from 1 (symbol_names z.symbols) y))) ks f.place f.item f.is_item
+          (any_at (λ z. (leads caller z.read.name && not (bytes_eq caller z.read.name)) && (bytes_eq z.read.name n && kept_named z.symbols (number_from 1 (symbol_names z.symbols) y))) ks f.place f.item f.is_item
           (and_from (leads caller w && not (bytes_eq caller w)) (bytes_eq w n && kept_named f.item.symbols (number_from 1 (symbol_names f.item.symbols) y)) (and_from (leads caller w) (not (bytes_eq caller w)) (on w c.0) (ap not (apart w c.0))) b.1))
 
       blocks_named : (y : List ℕ) → such called (Block y) ≡ true → such caller (Block y) ≡ true
@@ -570,13 +571,13 @@ module _ (ps : List ParsedTree) (sss : List (List SymbolTree)) (g : Graph) where
           let f = any_found (λ z. leads called z.read.name && declares y z) ks a.1 in
           let b = and_parts (leads called f.item.read.name) (declares y f.item) f.holds in
           and_from (is_told (Block y)) (list_any (λ z. leads caller z.read.name && declares y z) ks) a.0
-          (found_any (λ z. leads caller z.read.name && declares y z) ks f.place f.item f.is_item (and_from (leads caller f.item.read.name) (declares y f.item) (on f.item.read.name b.0) b.1))
+          (any_at (λ z. leads caller z.read.name && declares y z) ks f.place f.item f.is_item (and_from (leads caller f.item.read.name) (declares y f.item) (on f.item.read.name b.0) b.1))
 
       block_named : (n : ℕ) (s : SymbolTree) (y : List ℕ) (o : ℕ) → symbol_at tt' n ≡ Some s → s.place ≡ place.Block y o → such caller (Block y) ≡ true
       block_named n s y o e lies =
           and_from (is_told (Block y)) (list_any (λ z. leads caller z.read.name && declares y z) ks) (ap not (blocks j q tt' mq n s y o e lies))
-          (found_any (λ z. leads caller z.read.name && declares y z) ks j (known q tt') (known_module ps sss j q tt' mq)
-          (and_from (leads caller called) (declares y (known q tt')) (on called reached) (found_any (λ (z : SymbolTree). is_in y z.place) tt' (n - 1) s (numbered_place tt' n s e) (ap (is_in y) lies ∙ (bytes_eq-Decides y y).1 refl))))
+          (any_at (λ z. leads caller z.read.name && declares y z) ks j (known q tt') (known_module ps sss j q tt' mq)
+          (and_from (leads caller called) (declares y (known q tt')) (on called reached) (any_at (λ (z : SymbolTree). is_in y z.place) tt' (n - 1) s (numbered_place tt' n s e) (ap (is_in y) lies ∙ (bytes_eq-Decides y y).1 refl))))
 
       saved_named : (n : ℕ) (s : SymbolTree) → symbol_at tt' n ≡ Some s → is_local s.place ≡ true → s.saved ≡ true → such caller (Saved called s.name) ≡ true
       saved_named n s e local kept =
@@ -584,7 +585,7 @@ module _ (ps : List ParsedTree) (sss : List (List SymbolTree)) (g : Graph) where
           let there' : kept_named tt' (number_from 1 (symbol_names tt') s.name) ≡ true = ap (kept_named tt') number ∙ (ap is_kept_local e ∙ and_from (is_local s.place) s.saved local kept) in
           and_from (is_told (Saved called s.name)) (list_any (λ z. (leads caller z.read.name && not (bytes_eq caller z.read.name)) && (bytes_eq z.read.name called && kept_named z.symbols (number_from 1 (symbol_names z.symbols) s.name))) ks)
           (and_from (is_plain called) (not (has_colon s.name)) (plain j q tt' mq) (ap not (told j q tt' mq n s e)))
-          (found_any (λ z. (leads caller z.read.name && not (bytes_eq caller z.read.name)) && (bytes_eq z.read.name called && kept_named z.symbols (number_from 1 (symbol_names z.symbols) s.name))) ks j (known q tt') (known_module ps sss j q tt' mq)
+          (any_at (λ z. (leads caller z.read.name && not (bytes_eq caller z.read.name)) && (bytes_eq z.read.name called && kept_named z.symbols (number_from 1 (symbol_names z.symbols) s.name))) ks j (known q tt') (known_module ps sss j q tt' mq)
           (and_from (leads caller called && not (bytes_eq caller called)) (bytes_eq called called && kept_named tt' (number_from 1 (symbol_names tt') s.name)) (and_from (leads caller called) (not (bytes_eq caller called)) (on called reached) (ap not (apart called reached)))
           (and_from (bytes_eq called called) (kept_named tt' (number_from 1 (symbol_names tt') s.name)) ((bytes_eq-Decides called called).1 refl) there')))
 

@@ -36,9 +36,10 @@ use Rattle.laws_lines.proofs.RowVars.{each-combined, Given}
 use Rattle.laws_lines.proofs.SystemVars.{AreGiven, all-append}
 use Rattle.laws_lines.proofs.FormVars.{FormOf, affine_over, compared_given}
 use Rattle.laws_marks.specs.InFrames.{bounds_count, rank}
-use Rattle.laws_marks.proofs.InNarrow.{AnyCell, Upto}
+use Rattle.laws_marks.proofs.InNarrow.{Upto}
 use Rattle.laws_marks.proofs.InNarrowed.{MayName, FormAt, form_at, constant_at, high_at, low_given, high_given, subscripts_given}
 use Rattle.f77_ast.proofs.StorageLaws.{to_number as next_symbol}
+use Rattle.fx_lists.proofs.Every.{Anything}
 
 -- ---- forms
 
@@ -67,17 +68,17 @@ module _ (n : ℕ) where
   equation_given (Some f) None h i = tt
   equation_given (Some f) (Some g) h i = compared_given (Upto n) true f g (g.constant -ℤ f.constant) h i
 
-  named_upto : (r : ℕ) (v : Var) → IsCellOf AnyCell v → Upto n (named r v)
+  named_upto : (r : ℕ) (v : Var) → IsCellOf Anything v → Upto n (named r v)
   named_upto r (Cell i) h = tt
   named_upto r (Exit i) h = absurd h
   named_upto r (Phi i) h = absurd h
   named_upto r (Aux i) h = absurd h
 
-  terms_at : (r : ℕ) (f : Option Affine) (ts : List Term) → FormAt n f → EachVar (IsCellOf AnyCell) ts → FormAt n (named_terms r f ts)
+  terms_at : (r : ℕ) (f : Option Affine) (ts : List Term) → FormAt n f → EachVar (IsCellOf Anything) ts → FormAt n (named_terms r f ts)
   terms_at r f [] h k = h
   terms_at r f (t ∷ ts) h k = terms_at r (sum_of f t.factor (Some (var_form (named r t.var)))) ts (sum_at f t.factor (Some (var_form (named r t.var))) h (named_upto r t.var k.0, tt)) k.1
 
-  named_at : (r : ℕ) (f : Option Affine) → FormOf (IsCellOf AnyCell) f → FormAt n (named_form r f)
+  named_at : (r : ℕ) (f : Option Affine) → FormOf (IsCellOf Anything) f → FormAt n (named_form r f)
   named_at r None h = tt
   named_at r (Some f) h = terms_at r (limited (affine [] f.constant)) f.terms (limited_at (affine [] f.constant) tt) h.1
 
@@ -87,13 +88,13 @@ module _ (n : ℕ) where
 
   module _ (c : SidesTree) where
     caller_at : (e : ExprTree) → FormAt n (affine_of c.caller.scalars e)
-    caller_at e = form_at n (affine_of c.caller.scalars e) (affine_over (IsCellOf AnyCell) c.caller.scalars (λ x i q. tt) e)
+    caller_at e = form_at n (affine_of c.caller.scalars e) (affine_over (IsCellOf Anything) c.caller.scalars (λ x i q. tt) e)
 
     actual_at : (e : ExprTree) → FormAt n (actual_bound c e)
     actual_at e = among_at c.changed (affine_of c.caller.scalars e) (caller_at e)
 
     dummy_at : (r : ℕ) (e : ExprTree) → FormAt n (named_form r (dummy_bound c e))
-    dummy_at r e = named_at r (affine_of c.callee.scalars e) (affine_over (IsCellOf AnyCell) c.callee.scalars (λ x i q. tt) e)
+    dummy_at r e = named_at r (affine_of c.callee.scalars e) (affine_over (IsCellOf Anything) c.callee.scalars (λ x i q. tt) e)
 
     -- ---- dimension by dimension
 

@@ -20,7 +20,6 @@ use Rattle.f77_ast.specs.Shared.{overlap}
 use Rattle.f77_meaning.specs.Accesses.{is_written, is_read_first}
 use Rattle.affine_forms.specs.Conditions.{no_rows}
 use Rattle.affine_forms.specs.Claims.{unit_in, numbers_of}
-use Rattle.affine_forms.proofs.FormLaws.{kept_is}
 use Rattle.preconditions.specs.transformer_algebra.declared.transformer.Transformer.{Transformer}
 use Rattle.preconditions.specs.transformer_algebra.declared.loop_parts.LoopParts.{LoopParts}
 use Rattle.preconditions.specs.transformer_algebra.Loops.{next, iteration}
@@ -63,6 +62,7 @@ use Rattle.laws_marks.proofs.InLists.{are_written}
 use Rattle.fx_lists.proofs.Numbers.{same_is as nat_same, nat_eq_same}
 use Rattle.f77_ast.specs.Variables.{same_variable}
 use Rattle.f77_ast.proofs.SameLaws.{cmp_if as same_order}
+use Rattle.f77_ast.proofs.KeptNumbers.{kept_is}
 
 -- what a lock more leaves free was free
 pub lock_free : (k : Frame) (locked : Locks) (u : ℕ) (f : Fault) (es : List Event) → IsFree k (lock locked u f) es → IsFree k locked es

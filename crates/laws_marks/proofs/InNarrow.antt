@@ -34,10 +34,7 @@ use Rattle.laws_lines.proofs.FormVars.{IsFormOf, FormOf, compared_given, infeasi
 use Rattle.laws_lines.proofs.RuleVars.{IsDone, unchanging_done, assign_done, followed_done, iterate_done}
 use Rattle.laws_lines.proofs.Regions.PutVars.{OrExit, put_neat}
 use Rattle.elimination.proofs.ClosedLaws.{rows_weaker as all_more}
-
--- whatever cells are named
-abbrev pub AnyCell : ℕ → Type 0
-AnyCell c = Unit {0}
+use Rattle.fx_lists.proofs.Every.{Anything}
 
 -- a subscript is one of the first n
 abbrev pub Upto : ℕ → Var → Type 0
@@ -49,20 +46,20 @@ Upto n (Aux i) = Unit {0}
 abbrev pub IsUpto : ℕ → System → Type 0
 IsUpto n s = IsNeat (Upto n) s
 
-pub cell_upto : (n : ℕ) (v : Var) → IsCellOf AnyCell v → Upto n v
+pub cell_upto : (n : ℕ) (v : Var) → IsCellOf Anything v → Upto n v
 cell_upto n (Cell c) h = tt
 cell_upto n (Exit c) h = absurd h
 cell_upto n (Phi c) h = absurd h
 cell_upto n (Aux c) h = absurd h
 
-half_upto : (n : ℕ) (cs : List ℕ) (v : Var) → IsHalfOf AnyCell cs v → Upto n v
+half_upto : (n : ℕ) (cs : List ℕ) (v : Var) → IsHalfOf Anything cs v → Upto n v
 half_upto n cs (Cell c) h = tt
 half_upto n cs (Exit c) h = tt
 half_upto n cs (Phi c) h = absurd h
 half_upto n cs (Aux c) h = absurd h
 
-done_upto : (n : ℕ) (t : Transformer) → IsDone AnyCell t → IsUpto n t.system
-done_upto n t d = system_more (IsHalfOf AnyCell t.cells) (Upto n) (half_upto n t.cells) t.system d.system
+done_upto : (n : ℕ) (t : Transformer) → IsDone Anything t → IsUpto n t.system
+done_upto n t d = system_more (IsHalfOf Anything t.cells) (Upto n) (half_upto n t.cells) t.system d.system
 
 exits_upto : (n : ℕ) (cs : List ℕ) (v : Var) → Upto n v → Upto n (renamed_by (to_exits cs) v)
 exits_upto n [] v h = h
@@ -90,7 +87,7 @@ hull_upto n (s ∷ ss) k = all_hull n s ss (k s here) (λ r i. k r (there i))
 
 -- ---- before a transformer
 
-module _ (n : ℕ) (t : Transformer) (done : IsDone AnyCell t) where
+module _ (n : ℕ) (t : Transformer) (done : IsDone Anything t) where
   pub compose_upto : (s : System) → IsUpto n s → IsUpto n (compose_piece t s).system
   compose_upto s h = go (named_cells t.cells s)
     where
@@ -110,28 +107,28 @@ module _ (n : ℕ) (t : Transformer) (done : IsDone AnyCell t) where
 -- ---- at a DO
 
 pub record IsRangeOver (g : Range) : Type 0 where
-  pub first : FormOf (IsCellOf AnyCell) g.first
-  pub last : FormOf (IsCellOf AnyCell) g.last
-  pub turn : IsDone AnyCell g.turn
+  pub first : FormOf (IsCellOf Anything) g.first
+  pub last : FormOf (IsCellOf Anything) g.last
+  pub turn : IsDone Anything g.turn
 
 module _ (n : ℕ) (g : Range) (range : IsRangeOver g) where
-  form_s : (f : Affine) → IsFormOf (IsCellOf AnyCell) f → EachVar (Upto n) f.terms
-  form_s f h = each_more (IsCellOf AnyCell) (Upto n) (cell_upto n) f.terms h.1
+  form_s : (f : Affine) → IsFormOf (IsCellOf Anything) f → EachVar (Upto n) f.terms
+  form_s f h = each_more (IsCellOf Anything) (Upto n) (cell_upto n) f.terms h.1
 
   within_s : (s : ℤ) (f h : Affine) → EachVar (Upto n) f.terms → EachVar (Upto n) h.terms → Given (Upto n) (within_row s f h)
   within_s s f h i j =
       if_cases (Given (Upto n)) (goes_up s) (at_most_row f h) (at_most_row h f) (λ e. compared_given (Upto n) false f h (h.constant -ℤ f.constant) i j) (λ e. compared_given (Upto n) false h f (f.constant -ℤ h.constant) j i)
 
-  step_s : (s : ℤ) (f : Affine) → IsFormOf (IsCellOf AnyCell) f → AreGiven (Upto n) (step_rows s f)
+  step_s : (s : ℤ) (f : Affine) → IsFormOf (IsCellOf Anything) f → AreGiven (Upto n) (step_rows s f)
   step_s s f h =
       if_cases (AreGiven (Upto n)) (nat_lt 1 (unsigned_abs s)) (same_row (start_of s) f ∷ (at_least_0 (Aux 1) ∷ [])) []
       (λ e. (compared_given (Upto n) true (start_of s) f (f.constant -ℤ pos 0) (tt, (tt, tt)) (form_s f h), (((refl, tt, tt), (tt, tt)), tt))) (λ e. tt)
 
-  first_s : (s : ℤ) (f : Option Affine) → FormOf (IsCellOf AnyCell) f → AreGiven (Upto n) (first_rows s f)
+  first_s : (s : ℤ) (f : Option Affine) → FormOf (IsCellOf Anything) f → AreGiven (Upto n) (first_rows s f)
   first_s s None h = tt
   first_s s (Some f) h = (within_s s f index_form (form_s f h) (tt, tt), step_s s f h)
 
-  last_s : (s : ℤ) (f : Option Affine) → FormOf (IsCellOf AnyCell) f → AreGiven (Upto n) (last_rows s f)
+  last_s : (s : ℤ) (f : Option Affine) → FormOf (IsCellOf Anything) f → AreGiven (Upto n) (last_rows s f)
   last_s s None h = tt
   last_s s (Some f) h = (within_s s index_form f (tt, tt) (form_s f h), tt)
 
@@ -139,24 +136,24 @@ module _ (n : ℕ) (g : Range) (range : IsRangeOver g) where
   counted_s None = tt
   counted_s (Some s) = all-append (Given (Upto n)) (first_rows s g.first) (last_rows s g.last) (first_s s g.first range.first) (last_s s g.last range.last)
 
-  first_done : IsDone AnyCell (first_assignment g)
+  first_done : IsDone Anything (first_assignment g)
   first_done = go (has g.turn.cells g.index)
     where
-      form : (s : Option ℤ) → FormOf (IsCellOf AnyCell) (if_counted s g.first)
+      form : (s : Option ℤ) → FormOf (IsCellOf Anything) (if_counted s g.first)
       form None = tt
       form (Some s) = range.first
 
-      go : (b : Bool) → IsDone AnyCell (if b then assign g.index (if_counted g.step g.first) else identity_transformer)
-      go true = assign_done AnyCell g.index (if_counted g.step g.first) tt (form g.step)
-      go false = unchanging_done AnyCell
+      go : (b : Bool) → IsDone Anything (if b then assign g.index (if_counted g.step g.first) else identity_transformer)
+      go true = assign_done Anything g.index (if_counted g.step g.first) tt (form g.step)
+      go false = unchanging_done Anything
 
-  all_done : IsDone AnyCell (iterations g)
-  all_done = followed_done AnyCell (first_assignment g) (iterate g.turn) first_done (iterate_done AnyCell g.turn range.turn)
+  all_done : IsDone Anything (iterations g)
+  all_done = followed_done Anything (first_assignment g) (iterate g.turn) first_done (iterate_done Anything g.turn range.turn)
 
   iterations_s : IsUpto n (iterations_at g)
-  iterations_s = rename_neat (IsHalfOf AnyCell (iterations g).cells) (Upto n) (naming (Exit g.index) (Aux 0) ∷ []) one (iterations g).system all_done.system
+  iterations_s = rename_neat (IsHalfOf Anything (iterations g).cells) (Upto n) (naming (Exit g.index) (Aux 0) ∷ []) one (iterations g).system all_done.system
     where
-      one : (v : Var) → IsHalfOf AnyCell (iterations g).cells v → Upto n (renamed_by (naming (Exit g.index) (Aux 0) ∷ []) v)
+      one : (v : Var) → IsHalfOf Anything (iterations g).cells v → Upto n (renamed_by (naming (Exit g.index) (Aux 0) ∷ []) v)
       one v h = go (var_eq v (Exit g.index))
         where
           go : (b : Bool) → Upto n (if b then Aux 0 else v)

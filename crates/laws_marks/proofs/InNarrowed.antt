@@ -65,8 +65,9 @@ use Rattle.laws_lines.proofs.RuleVars.{IsDone, forgotten_done, without_neat}
 use Rattle.laws_analyses.specs.Regions.Settings.{is_told}
 use Rattle.laws_analyses.proofs.Regions.Told.{told_same}
 use Rattle.laws_marks.specs.InFrames.{bounds_count, rank}
-use Rattle.laws_marks.proofs.InNarrow.{AnyCell, Upto, IsUpto, cell_upto, hull_upto, compose_upto, IsRangeOver, loop_upto}
+use Rattle.laws_marks.proofs.InNarrow.{Upto, IsUpto, cell_upto, hull_upto, compose_upto, IsRangeOver, loop_upto}
 use Rattle.laws_programs.proofs.Effects.Named.{equal_key}
+use Rattle.fx_lists.proofs.Every.{Anything}
 
 -- ---- regions
 
@@ -127,7 +128,7 @@ module _ (may : MayName) (ss : List SymbolTree) where
         of_map (λ (q : Shadow). q.system) (IsUpto (rank may.ks may.g ss r.variable)) (map f r.pieces) (λ q j. of_map f (λ (w : Shadow). IsUpto (rank may.ks may.g ss r.variable) w.system) r.pieces (λ p l. g (rank may.ks may.g ss r.variable) p (h.1 p l)) q j) s i,
   )
 
-  pub composed_narrowed : (t : Transformer) → IsDone AnyCell t → (rs : List Region) → AreNarrowed may ss rs → AreNarrowed may ss (all_composed t rs)
+  pub composed_narrowed : (t : Transformer) → IsDone Anything t → (rs : List Region) → AreNarrowed may ss rs → AreNarrowed may ss (all_composed t rs)
   composed_narrowed t d rs h r i = of_map (λ (q : Region). compose q t) (IsNarrowed may ss) rs (λ q j. shadows_narrowed (compose_piece t) (λ n s k. compose_upto n t d s k) false q (h q j)) r i
 
   pub looped_narrowed : (g : Range) → IsRangeOver g → (rs : List Region) → AreNarrowed may ss rs → AreNarrowed may ss (all_over g rs)
@@ -186,7 +187,7 @@ module _ (may : MayName) (ss : List SymbolTree) where
       let others = kept_narrowed rs (λ w i. h w (there i)) in
       if_cases (AreNarrowed may ss) (is_access r.kind) (r ∷ accesses rs) (accesses rs) (λ e. more_narrowed r (accesses rs) (h r here) others) (λ e. others)
 
-  module _ (t : ℕ → Transformer) (done : (n : ℕ) → IsDone AnyCell (t n)) (as' : List (At (List Region))) (fine : (n : ℕ) (rs : List Region) → value_at as' n ≡ Some rs → AreNarrowed may ss rs) where
+  module _ (t : ℕ → Transformer) (done : (n : ℕ) → IsDone Anything (t n)) (as' : List (At (List Region))) (fine : (n : ℕ) (rs : List Region) → value_at as' n ≡ Some rs → AreNarrowed may ss rs) where
     at_narrowed : (n : ℕ) → AreNarrowed may ss (accesses_at as' n)
     at_narrowed n = kept_narrowed (or_none (value_at as' n)) (go (value_at as' n) refl)
       where
@@ -215,16 +216,16 @@ module _ (may : MayName) (ss : List SymbolTree) where
 
 -- ---- names, elements and expressions
 
-names_any : (m : ScopeTree) → NamesCells (IsCellOf AnyCell) m.scalars
+names_any : (m : ScopeTree) → NamesCells (IsCellOf Anything) m.scalars
 names_any m x c e = tt
 
 abbrev pub FormAt : ℕ → Option Affine → Type 0
 FormAt n None = Unit {0}
 FormAt n (Some f) = EachVar (Upto n) f.terms
 
-pub form_at : (n : ℕ) (o : Option Affine) → FormOf (IsCellOf AnyCell) o → FormAt n o
+pub form_at : (n : ℕ) (o : Option Affine) → FormOf (IsCellOf Anything) o → FormAt n o
 form_at n None h = tt
-form_at n (Some f) h = each_more (IsCellOf AnyCell) (Upto n) (cell_upto n) f.terms h.1
+form_at n (Some f) h = each_more (IsCellOf Anything) (Upto n) (cell_upto n) f.terms h.1
 
 pub constant_at : (n : ℕ) (w : ConstantValue) → FormAt n (constant_form w)
 constant_at n (Is (Int i)) = tt
@@ -259,7 +260,7 @@ module _ (may : MayName) (m : ScopeTree) where
   subscripts_given n k (tree.more_exprs e es) [] l h = tt
   subscripts_given n k (tree.more_exprs e es) (b ∷ bs) l h =
       all-append (Given (Upto n)) (dimension_rows m.scalars.value (affine_of m.scalars e) b k) (subscript_rows m (suc k) es bs)
-      (dimension_given n m.scalars.value (affine_of m.scalars e) b k (l, omega (arith, h)) (form_at n (affine_of m.scalars e) (affine_over (IsCellOf AnyCell) m.scalars (names_any m) e)))
+      (dimension_given n m.scalars.value (affine_of m.scalars e) b k (l, omega (arith, h)) (form_at n (affine_of m.scalars e) (affine_over (IsCellOf Anything) m.scalars (names_any m) e)))
       (subscripts_given n (suc k) es bs (omega arith) (omega (arith, h)))
 
   pub scalar_one : (x : Access) (n : ℕ) → AreNarrowed may m.symbols (scalar x n ∷ [])
@@ -378,18 +379,18 @@ module _ (may : MayName) (m : ScopeTree) where
       let others = all_composed (item_does m e) (reading es m) in
       united_narrowed may m.symbols (inner_reads e m ++ (named e m Write ++ others))
       (join (inner_reads e m) (named e m Write ++ others) (inner_narrowed e)
-      (join (named e m Write) others (named_narrowed e Write) (composed_narrowed may m.symbols (item_does m e) (forgotten_done AnyCell (one_cell (named_cell m.scalars e)) (λ c h. tt)) (reading es m) (reading_narrowed es))))
+      (join (named e m Write) others (named_narrowed e Write) (composed_narrowed may m.symbols (item_does m e) (forgotten_done Anything (one_cell (named_cell m.scalars e)) (λ c h. tt)) (reading es m) (reading_narrowed es))))
 
   -- ---- parts of an IF
 
   abbrev pub ReachedOk : Reached → Type 0
-  ReachedOk w = IsNeat (IsCellOf AnyCell) w.system
+  ReachedOk w = IsNeat (IsCellOf Anything) w.system
 
   pub true_ok : (e : ExprTree) (w : Reached) → ReachedOk w → ReachedOk (if_true m e w)
-  true_ok e w h = meet_neat (IsCellOf AnyCell) w.system (condition_of m.scalars e).yes h (condition_over (IsCellOf AnyCell) m.scalars (names_any m) e).0
+  true_ok e w h = meet_neat (IsCellOf Anything) w.system (condition_of m.scalars e).yes h (condition_over (IsCellOf Anything) m.scalars (names_any m) e).0
 
   false_ok : (e : ExprTree) (w : Reached) → ReachedOk w → ReachedOk (if_false m e w)
-  false_ok e w h = meet_neat (IsCellOf AnyCell) w.system (condition_of m.scalars e).no h (condition_over (IsCellOf AnyCell) m.scalars (names_any m) e).1
+  false_ok e w h = meet_neat (IsCellOf Anything) w.system (condition_of m.scalars e).no h (condition_over (IsCellOf Anything) m.scalars (names_any m) e).1
 
   pub into_ok : (x : ArmTree) (w : Reached) → ReachedOk w → ReachedOk (into_arm x m w)
   into_ok (tree.arm e body) w h = true_ok e w h
@@ -402,12 +403,12 @@ module _ (may : MayName) (m : ScopeTree) where
   all_past_ok (tree.more_arms x rest) w h = all_past_ok rest (past_arm x m w) (past_ok x w h)
 
   pub always_ok : ReachedOk always
-  always_ok = none_neat (IsCellOf AnyCell)
+  always_ok = none_neat (IsCellOf Anything)
 
   pub met_narrowed : (w : Reached) → ReachedOk w → (rs : List Region) → AreNarrowed may m.symbols rs → AreNarrowed may m.symbols (all_met w rs)
   met_narrowed w h rs k r i =
       of_map (under_tests w) (IsNarrowed may m.symbols) rs
-      (λ q j. each_narrowed may m.symbols (λ p. meet p w.system) (λ n s l. meet_neat (Upto n) s w.system l (system_more (IsCellOf AnyCell) (Upto n) (cell_upto n) w.system h)) false q (k q j)) r i
+      (λ q j. each_narrowed may m.symbols (λ p. meet p w.system) (λ n s l. meet_neat (Upto n) s w.system l (system_more (IsCellOf Anything) (Upto n) (cell_upto n) w.system h)) false q (k q j)) r i
 
   arm_reads_narrowed : (x : ArmTree) (w : Reached) → ReachedOk w → AreNarrowed may m.symbols (arm_reads x m w)
   arm_reads_narrowed (tree.arm e body) w h = met_narrowed w h (reads e m) (reads_narrowed e)

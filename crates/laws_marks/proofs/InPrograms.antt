@@ -51,7 +51,7 @@ use Rattle.call_graph.specs.CallsIn.{CallAt, Each, list_calls}
 use Rattle.laws_analyses.specs.Statements.Results.{pre_in}
 use Rattle.laws_analyses.proofs.Statements.Ends.{throughout}
 use Rattle.laws_analyses.proofs.Statements.MainResults.{each_found_at}
-use Rattle.laws_analyses.proofs.Statements.NumberLaws.{in_order}
+use Rattle.laws_analyses.proofs.Statements.NumberLaws.{own_numbers}
 use Rattle.laws_analyses.proofs.Calls.Enter.{Fits, begin_fits, more_fits}
 use Rattle.laws_analyses.specs.Calls.Parts.{Blocks, Part, nth, in_bound, places_in as dummy_places, still_in, Sane}
 use Rattle.laws_analyses.specs.Calls.ProgramLaws.{routines, Analysed, AnalysedParts, AnalysedProgram}
@@ -89,7 +89,6 @@ use Rattle.laws_marks.proofs.InClaimed.{visible_first, in_set_holds}
 use Rattle.laws_marks.proofs.InEntering.{EnteringIn, dummies_named, entering_same, entering_broke, entering_body, both_holds, both_sharp, summary_in_holds}
 use Rattle.laws_marks.proofs.InFirsts.{lost_split}
 use Rattle.laws_marks.proofs.InFramed.{by_order, element_of}
-use Rattle.laws_marks.proofs.InNarrow.{AnyCell}
 use Rattle.laws_marks.proofs.InQuiet.{looked_quiet}
 use Rattle.laws_marks.proofs.InRunning.{frame}
 use Rattle.laws_marks.proofs.InSets.{may_of, IsFit, sets_fit}
@@ -97,6 +96,7 @@ use Rattle.laws_marks.proofs.InStanding.{i_list, FoundR, OwesIn, CallFirst, Stan
 use Rattle.laws_marks.proofs.InStatements.{body_first}
 use Rattle.laws_marks.proofs.InSummed.{summary_lies, summary_sharp}
 use Rattle.laws_marks.proofs.InTaking.{NoWrites, free_none, free_both, first_holds_left, seen_first}
+use Rattle.fx_lists.proofs.Every.{Anything}
 
 -- what is lost where a module is entered is lost by a module of that name
 pub entry_lost : (ks : List Known) (g : Graph) (m : List ℕ) (u : ℕ) → is_lost ks g (Arrived (spot m 0) ∷ []) u ≡ true → IsLost ks g m u
@@ -144,7 +144,7 @@ module _ (ks : List Known) (g : Graph) (b : Blocks) (cs : Callees) (sites : List
   -- what is asked of a module: its layout, cells in its transformers, and its CALLs with these modules below
   pub record IsReady (k : Part) : Type 0 where
     pub laid : Laid ks g k (may_name k)
-    pub done : (n : ℕ) → IsDone AnyCell (k.found.transformer n)
+    pub done : (n : ℕ) → IsDone Anything (k.found.transformer n)
 
   -- ---- a module
 
@@ -183,7 +183,7 @@ module _ (ks : List Known) (g : Graph) (b : Blocks) (cs : Callees) (sites : List
       pub found_sets : Each (FoundR C D started (Fits b k ps at) I (regions_in_part g cs (rs k.routine.name) k).at (ins_called g cs (is k.routine.name) k)) (regions.at_list k.routine.body k.scope k.found.transformer (called_in g cs (rs k.routine.name) k))
       found_sets =
           each_found_at (FoundR C D started (Fits b k ps at) I (regions_in_part g cs (rs k.routine.name) k).at (ins_called g cs (is k.routine.name) k)) (regions.at_list k.routine.body k.scope k.found.transformer (called_in g cs (rs k.routine.name) k))
-          (in_order (regions.at_list k.routine.body k.scope k.found.transformer (called_in g cs (rs k.routine.name) k)) k.routine.body (r_list k.scope k.found.transformer (called_in g cs (rs k.routine.name) k) k.routine.body) analysed.numbered) (λ a n v. ap or_none v)
+          (own_numbers (regions.at_list k.routine.body k.scope k.found.transformer (called_in g cs (rs k.routine.name) k)) k.routine.body (r_list k.scope k.found.transformer (called_in g cs (rs k.routine.name) k) k.routine.body) analysed.numbered) (λ a n v. ap or_none v)
 
       -- each execution is claimed
       pub claimed : (j : ℕ) (set : List Region) → value_at (ins.at_list k.routine.body T) (suc j) ≡ Some set → (locked : Locks) (s : Store) (q : Ran Flow) → FirstShown started false locked set s q.answer q.trace → D (spot k.routine.name (suc j)) at s q
@@ -199,7 +199,7 @@ module _ (ks : List Known) (g : Graph) (b : Blocks) (cs : Callees) (sites : List
 
       owes_each : Each (OwesIn C D started (Fits b k ps at) I (regions_in_part g cs (rs k.routine.name) k).at (ins_called g cs (is k.routine.name) k)) (ins.at_list k.routine.body T)
       owes_each =
-          each_found_at (OwesIn C D started (Fits b k ps at) I (regions_in_part g cs (rs k.routine.name) k).at (ins_called g cs (is k.routine.name) k)) (ins.at_list k.routine.body T) (in_order (ins.at_list k.routine.body T) k.routine.body (i_list T k.routine.body) analysed.numbered)
+          each_found_at (OwesIn C D started (Fits b k ps at) I (regions_in_part g cs (rs k.routine.name) k).at (ins_called g cs (is k.routine.name) k)) (ins.at_list k.routine.body T) (own_numbers (ins.at_list k.routine.body T) k.routine.body (i_list T k.routine.body) analysed.numbered)
           (λ a n v. one a.id a.value n v)
         where
           one : (i : ℕ) (set : List Region) → 0 < i → value_at (ins.at_list k.routine.body T) i ≡ Some set → (locked : Locks) (s : Store) (q : Ran Flow) → FirstShown started false locked set s q.answer q.trace → D (spot k.routine.name i) at s q

@@ -1,7 +1,7 @@
 -- What the IN regions of a statement, and of what follows it, say of both.
 use Rattle.std.proofs.Common.{◌≡◌, ⊎_elim, ℕ, ℤ, List, [], ◌∷◌, ◌++◌, ◌&&◌, Option, Some, None, Bool, true, false, refl, sym, ◌∙◌, subst, ap, Ordering}
 use Rattle.std.specs.Prelude.{not, MatchOption, if◌then◌else◌, option_to_list}
-use Rattle.std.specs.declared.cmp.Ordering.TheVariants.{Less, Equal, Greater}
+use Rattle.std.specs.declared.cmp.Ordering.TheVariants.{Less, Greater}
 use Rattle.std.specs.Ordering.{is_eq}
 use Rattle.std.proofs.lemmas.Bool.{and_parts, not-true}
 use Rattle.affine_systems.specs.declared.row.Var.TheVariants.{Phi}
@@ -9,56 +9,30 @@ use Rattle.affine_systems.specs.declared.row.System.{System}
 use Rattle.affine_systems.specs.Points.{Point}
 use Rattle.f77_ast.specs.declared.variable.Variable.{Variable}
 use Rattle.f77_ast.specs.Symbols.{SymbolTree}
-use Rattle.f77_ast.specs.Variables.{variable_cmp, same_variable}
 use Rattle.preconditions.specs.transformer_algebra.declared.transformer.Transformer.{Transformer}
 use Rattle.preconditions.specs.transformer_algebra.Claims.{Scene, AtStart, Does}
 use Rattle.preconditions.specs.transformer_algebra.Laws.{In, here, there}
 use Rattle.in_out_regions.specs.region_sets.declared.region.Access.{Access}
-use Rattle.in_out_regions.specs.region_sets.declared.region.Access.TheVariants.{Read, Write, In as AtIn, Out}
 use Rattle.in_out_regions.specs.region_sets.declared.region.Region.{Region}
 use Rattle.in_out_regions.specs.region_sets.Regions.{remade, any_weak}
 use Rattle.in_out_regions.specs.region_sets.Subtract.{left_of, all_left_exactly, unless_empty, all_apart, subtract}
 use Rattle.in_out_regions.specs.region_sets.Compose.{compose}
 use Rattle.in_out_regions.specs.region_sets.Sets.{unite_all}
 use Rattle.in_out_regions.specs.region_sets.Lists.{all_composed}
-use Rattle.in_out_regions.specs.region_sets.Claims.{HoldsSome, Elements, Accessed, LiesIn, LiesInSet, IsSharp, IsSharpSet, Places, AreByOrder}
+use Rattle.hull_projection.specs.Unions.{HoldsSome}
+use Rattle.in_out_regions.specs.region_sets.Claims.{Elements, Accessed, LiesIn, LiesInSet, IsSharp, IsSharpSet, Places, AreByOrder}
 use Rattle.in_out_regions.proofs.RegionSets.SetLaws.{gathered_units, gathered_sharp}
-use Rattle.in_out_regions.proofs.RegionSets.StepLaws.{in_left, in_right, in_either, in_map, of_map}
+use Rattle.in_out_regions.proofs.RegionSets.StepLaws.{in_either, in_map, of_map}
 use Rattle.in_out_regions.proofs.RegionSets.PieceLaws.{compose_moves, compose_sharp}
 use Rattle.in_out_regions.proofs.RegionSets.SubtractLaws.{subtract_keeps, subtract_exact}
-use Rattle.in_out_regions.specs.Kinds.{is_write}
-use Rattle.in_out_regions.specs.Writes.{is_write_of, write_of, is_overlapped}
+use Rattle.in_out_regions.specs.Writes.{write_of, is_overlapped}
 use Rattle.in_out_regions.specs.Lists.{less_write, all_unwritten, unless_overlapped, all_unless_overlapped, before_rest}
 use Rattle.in_out_regions.specs.ListClaims.{AreWritten, IsDescribed, IsWithinWrites, IsFirstOf}
 use Rattle.laws_marks.proofs.InGathering.{EachOne, gathered_so}
-use Rattle.f77_ast.proofs.SameLaws.{cmp_if as same_order}
+use Rattle.preconditions.proofs.TransformerAlgebra.Members.{in_left, in_right}
+use Rattle.in_out_regions.proofs.WriteLaws.{write_found}
 
 -- ---- the WRITE region of a variable
-
-pub write_kind : (a : Access) → is_write a ≡ true → a ≡ Write
-write_kind Read e = cc
-write_kind Write e = refl
-write_kind AtIn e = cc
-write_kind Out e = cc
-
-pub record WriteOf (v : Variable) (ws : List Region) (w : Region) : Type 0 where
-  pub is_one : In w ws
-  pub kind : w.kind ≡ Write
-  pub place : variable_cmp v w.variable ≡ Equal
-
-pub write_found : (v : Variable) (ws : List Region) (w : Region) → write_of v ws ≡ Some w → WriteOf v ws w
-write_found v [] w e = absurd (cc)
-write_found v (u ∷ ws) w e = go (is_write_of v u) refl e (λ q. write_found v ws w q)
-  where
-    later : WriteOf v ws w → WriteOf v (u ∷ ws) w
-    later h = record { is_one = there h.is_one; kind = h.kind; place = h.place }
-
-    go : (b : Bool) → is_write_of v u ≡ b → (if b then Some u else write_of v ws) ≡ Some w → (write_of v ws ≡ Some w → WriteOf v ws w) → WriteOf v (u ∷ ws) w
-    go true h q ih =
-        let both = and_parts (is_write u.kind) (same_variable v u.variable) h in
-        let one : u ≡ w = cc in
-        subst (λ z. WriteOf v (u ∷ ws) z) one (record { is_one = here; kind = write_kind u.kind both.0; place = same_order v u.variable both.1 })
-    go false h q ih = later (ih q)
 
 module _ (ss : List SymbolTree) (m : Scene) (at : Places) (by_order : AreByOrder at) where
   -- ---- what is exact no more
@@ -68,7 +42,7 @@ module _ (ss : List SymbolTree) (m : Scene) (at : Places) (by_order : AreByOrder
     region = unless_overlapped ss ws l.region;
     is_one = in_map (unless_overlapped ss ws) l.region rs l.is_one;
     kind = l.kind;
-    lies = record { phi = l.lies.phi; there = l.lies.there; piece = l.lies.piece; is_one = l.lies.is_one; described = l.lies.described };
+    lies = record { phi = l.lies.phi; there = l.lies.there; described = l.lies.described };
   }
 
   -- sharp where nothing is written that shares units with the variable
@@ -130,7 +104,7 @@ module _ (ss : List SymbolTree) (m : Scene) (at : Places) (by_order : AreByOrder
       go None e = (refl, refl, l)
       go (Some w) e =
           let f = write_found r.variable ws w e in
-          let same : at r.variable ≡ at w.variable = by_order r.variable w.variable f.place in
+          let same : at r.variable ≡ at w.variable = by_order r.variable w.variable f.order in
           both (subtract r w) (kept_as r w) (subtract_keeps r w m (at r.variable) x written (subst (λ (a : Elements). IsSharp m a w x written) (sym same) (h w f.is_one f.kind)) u n l)
         where
           both : (o : Option Region) → MatchOption o (Unit {0}) (λ q. (q.kind ≡ r.kind) × (q.variable ≡ r.variable)) → MatchOption o ⊥ (λ q. LiesIn m (at r.variable) q x u) → InOption r.kind r.variable x u o

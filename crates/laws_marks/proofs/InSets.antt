@@ -44,8 +44,9 @@ use Rattle.laws_lines.proofs.PhaseVars.{value_is}
 use Rattle.laws_marks.specs.InFrames.{Frame, rank}
 use Rattle.laws_marks.specs.InUnits.{IsNarrow, SetFits, SetsFit}
 use Rattle.laws_marks.proofs.InUnique.{Ordered, gathered_ordered, inexact_ordered, one_write_of}
-use Rattle.laws_marks.proofs.InNarrow.{AnyCell, Upto, IsUpto, IsRangeOver}
+use Rattle.laws_marks.proofs.InNarrow.{Upto, IsUpto, IsRangeOver}
 use Rattle.laws_marks.proofs.InNarrowed.{MayName, AreNarrowed, inner_narrowed, none_narrowed, both_narrowed, more_narrowed, united_narrowed, looped_narrowed, list_narrowed, scalar_one, named_narrowed, reads_narrowed, all_reads_narrowed, maybe_narrowed, assignment_narrowed, reading_narrowed, ReachedOk, true_ok, into_ok, past_ok, all_past_ok, always_ok, met_narrowed, tests_narrowed}
+use Rattle.fx_lists.proofs.Every.{Anything}
 
 -- ---- systems of such rows
 
@@ -91,24 +92,24 @@ list_ordered t f whole body =
     order (n ∷ ns) = gathered_ordered (f n ++ all_composed (t n) (in_order t f ns))
 
 -- c: what a CALL accesses
-module _ (may : MayName) (m : ScopeTree) (t : ℕ → Transformer) (c : Called) (done : (n : ℕ) → IsDone AnyCell (t n)) where
+module _ (may : MayName) (m : ScopeTree) (t : ℕ → Transformer) (c : Called) (done : (n : ℕ) → IsDone Anything (t n)) where
   abbrev F : List Region → Type 0
   F rs = IsFit may m.symbols rs
 
   abbrev join : (rs qs : List Region) → AreNarrowed may m.symbols rs → AreNarrowed may m.symbols qs → AreNarrowed may m.symbols (rs ++ qs)
   join rs qs h k = both_narrowed may m.symbols rs qs h k
 
-  each_done : (body : StmtTrees) → AreDone AnyCell (each_at t body)
+  each_done : (body : StmtTrees) → AreDone Anything (each_at t body)
   each_done tree.no_stmts = tt
   each_done (tree.more_stmts s rest) = (done (number_of s), each_done rest)
 
-  any_scope : Scope AnyCell m
+  any_scope : Scope Anything m
   any_scope = record { allows = record { names = λ x c e. tt; units = λ b o c e. tt }; flags = λ c e. tt }
 
   range_is : (l : LoopTree) → IsRangeOver (range_of l m t)
   range_is (tree.loop index first last step body) =
-      let parts = parts_of_loop AnyCell m any_scope (tree.loop index first last step body) (list_at t false body) (list_done AnyCell false body (each_at t body) (each_done body)) in
-      record { first = parts.first; last = parts.last; turn = iteration_done AnyCell (loop_parts m (tree.loop index first last step body) (list_at t false body)) parts }
+      let parts = parts_of_loop Anything m any_scope (tree.loop index first last step body) (list_at t false body) (list_done Anything false body (each_at t body) (each_done body)) in
+      record { first = parts.first; last = parts.last; turn = iteration_done Anything (loop_parts m (tree.loop index first last step body) (list_at t false body)) parts }
 
   loop_reads_narrowed : (l : LoopTree) → AreNarrowed may m.symbols (loop_reads l m)
   loop_reads_narrowed (tree.loop index first last step body) =
@@ -220,7 +221,7 @@ module _ (may : MayName) (m : ScopeTree) (t : ℕ → Transformer) (c : Called) 
 abbrev pub may_of : Frame → MayName
 may_of k = record { ks = k.ks; g = k.g; such = k.may_name; own = k.own; told = k.told }
 
-module _ (k : Frame) (done : (n : ℕ) → IsDone AnyCell (k.does n)) where
+module _ (k : Frame) (done : (n : ℕ) → IsDone Anything (k.does n)) where
   pub set_fits : (rs : List Region) → IsFit (may_of k) k.m.symbols rs → SetFits k rs
   set_fits rs h = record { named = λ r i. (h.1 r i).0; one = λ w i e. one_write_of rs h.0 w i e; narrow = λ w i e s j. narrow_of (rank k.ks k.g k.m.symbols w.variable) s ((h.1 w i).1 s j) }
 

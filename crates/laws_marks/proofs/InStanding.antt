@@ -18,7 +18,6 @@ use Rattle.preconditions.specs.transformers.Lists.{list_at}
 use Rattle.preconditions.specs.transformers.Statement as transformers
 use Rattle.in_out_regions.specs.region_sets.declared.region.Region.{Region}
 use Rattle.in_out_regions.specs.region_sets.Sets.{unite_all}
-use Rattle.in_out_regions.proofs.RegionSets.StepLaws.{in_right}
 use Rattle.in_out_regions.specs.region_sets.Lists.{or_none, accesses, accesses_at, all_composed, in_order, all_forgetting, all_accesses, all_inexact, in_any_order, numbers, list_regions, set_at}
 use Rattle.in_out_regions.specs.array_regions.Statement as regions
 use Rattle.in_out_regions.specs.array_regions.Calls.{Called}
@@ -36,6 +35,7 @@ use Rattle.laws_marks.specs.InFrames.{Frame}
 use Rattle.laws_marks.specs.InShown.{FirstShown}
 use Rattle.laws_marks.specs.InUnits.{UnitsFit}
 use Rattle.laws_marks.specs.InKnowns.{known_in}
+use Rattle.preconditions.proofs.TransformerAlgebra.Members.{in_right}
 
 -- ---- numbers
 

@@ -35,7 +35,7 @@ use Rattle.in_out_regions.specs.region_sets.declared.region.Access.TheVariants.{
 use Rattle.in_out_regions.specs.region_sets.declared.region.Region.{Region}
 use Rattle.in_out_regions.specs.region_sets.Sets.{unite_all}
 use Rattle.in_out_regions.specs.region_sets.Lists.{accesses_at, list_regions, set_at}
-use Rattle.in_out_regions.proofs.RegionSets.StepLaws.{in_right, in_either}
+use Rattle.in_out_regions.proofs.RegionSets.StepLaws.{in_either}
 use Rattle.in_out_regions.specs.array_regions.declared.arms.Reached.{Reached}
 use Rattle.in_out_regions.specs.array_regions.Arms.{always, past_arms, if_false}
 use Rattle.in_out_regions.specs.array_regions.References.{scalar}
@@ -85,6 +85,7 @@ use Rattle.laws_marks.proofs.InLists.{Both, Taken, ordered, row_first, Each_firs
 use Rattle.laws_marks.proofs.InLoops.{Looped, Bodied, loop_first}
 use Rattle.laws_marks.proofs.InStanding.{StandsStmt, StandsParts, StandsList, StandsArms, StandsElse, InAt, in_at, in_within, in_next, in_arms, in_if, body_same, in_found}
 use Rattle.f77_ast.specs.Shapes.{is_return}
+use Rattle.preconditions.proofs.TransformerAlgebra.Members.{in_right}
 
 -- more units are locked
 pub units_lock : (k : Frame) (locked : Locks) (u : ℕ) (f : Fault) → UnitsFit k locked → UnitsFit k (lock locked u f)

@@ -13,12 +13,12 @@ use Rattle.loop_marker.specs.module_phases.RegionPhases.{ModuleRegions, no_calle
 use Rattle.loop_marker.specs.module_phases.InPhases.{ModuleIns, with_callee, ins_found, with_ins, found_in, all_ins}
 use Rattle.call_graph.specs.CallsIn.{Each}
 use Rattle.laws_programs.specs.Storage.Programs.{IsLinked}
-use Rattle.laws_analyses.proofs.CallLists.{each_joined}
 use Rattle.laws_analyses.proofs.Founds.{Calls}
 use Rattle.laws_analyses.proofs.Passes.{NoAnalysis, name_of}
 use Rattle.laws_analyses.specs.Regions.Accepted.{after as reads_after, behind, summaries_of as reads_of}
 use Rattle.laws_analyses.proofs.Regions.Summaries.{found_back, found_is, each_back, behind_here, is_behind, Stand, stands_at, all_stand, once, summaries_are as reads_are}
 use Rattle.laws_marks.specs.InAccepted.{after, summaries_of}
+use Rattle.call_graph.proofs.EachLaws.{each_joined}
 
 module _ (u : List BlockUnit) where
   -- ---- IN from the last module to the first

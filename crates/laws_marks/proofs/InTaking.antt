@@ -110,7 +110,7 @@ of_first P (r ∷ rs) h q i = go (is_read_kind r.kind) refl i (λ o j. of_first 
 
 module _ (k : Frame) where
   as_in_lies : (r : Region) (x : ℕ → ℤ) (u : ℕ) → LiesIn (scene k.base) (elements_in k r.variable) r x u → LiesIn (scene k.base) (elements_in k r.variable) (as_in r) x u
-  as_in_lies r x u l = record { phi = l.phi; there = l.there; piece = l.piece; is_one = l.is_one; described = l.described }
+  as_in_lies r x u l = record { phi = l.phi; there = l.there; described = l.described }
 
   as_in_sharp : (r : Region) (x : ℕ → ℤ) (c : ℕ → Bool) → IsSharp (scene k.base) (elements_in k r.variable) r x c → IsSharp (scene k.base) (elements_in k r.variable) (as_in r) x c
   as_in_sharp r x c h e p st g = h (and_parts r.exact (not (any_weak r.pieces)) e).0 p st g

@@ -34,9 +34,10 @@ use Rattle.laws_lines.specs.Variables.{IsCellOf}
 use Rattle.laws_lines.proofs.SystemVars.{AreGiven, given_again, tidy_neat, push_rows_neat, rename_neat}
 use Rattle.laws_lines.proofs.FormVars.{affine_over, compared_given, none_neat}
 use Rattle.laws_lines.proofs.CallVars.{neat_in}
-use Rattle.laws_marks.proofs.InNarrow.{AnyCell, Upto, IsUpto, project_upto}
+use Rattle.laws_marks.proofs.InNarrow.{Upto, IsUpto, project_upto}
 use Rattle.laws_marks.proofs.InNarrowed.{FormAt, form_at as formed_at}
 use Rattle.laws_lines.proofs.Regions.PutVars.{GivenIf, NormalGiven, normal_given, all_given}
+use Rattle.fx_lists.proofs.Every.{Anything}
 
 module _ (n : ℕ) where
   -- ---- names
@@ -82,7 +83,7 @@ module _ (n : ℕ) where
       where
         go : (o : Option ExprTree) → FormAt n (form_in c.caller o)
         go None = tt
-        go (Some e) = formed_at n (affine_of c.caller.scalars e) (affine_over (IsCellOf AnyCell) c.caller.scalars (λ x i q. tt) e)
+        go (Some e) = formed_at n (affine_of c.caller.scalars e) (affine_over (IsCellOf Anything) c.caller.scalars (λ x i q. tt) e)
     cell_at (Some (Block b o)) = go (tracked_at c.caller b o)
       where
         go : (i : Option ℕ) → FormAt n (cell_form i)

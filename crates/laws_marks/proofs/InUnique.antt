@@ -20,10 +20,10 @@ use Rattle.in_out_regions.specs.region_sets.Unite.{all_within, unite}
 use Rattle.in_out_regions.specs.region_sets.Lists.{inexact, all_inexact}
 use Rattle.in_out_regions.specs.Kinds.{is_write}
 use Rattle.in_out_regions.specs.Writes.{is_write_of, write_of}
-use Rattle.laws_marks.proofs.InRests.{write_kind}
 use Rattle.in_out_regions.proofs.RegionSets.SetLaws.{with_any as maybe_of}
-use Rattle.fx_lists.proofs.Orders.{then_nothing}
+use Rattle.fx_lists.proofs.Orders.{then_nothing, no_equal_less}
 use Rattle.f77_ast.proofs.SameLaws.{cmp_if as same_order}
+use Rattle.in_out_regions.proofs.WriteLaws.{write_if}
 
 -- ---- the order of regions
 
@@ -127,9 +127,6 @@ inexact_ordered (r ∷ rs) h = (ahead r rs h.0, inexact_ordered rs h.1)
 
 -- ---- so it is found by its variable
 
-same_less : {A : Type 0} → Equal ≡ Less → A
-same_less e = absurd (cc)
-
 pub one_write_of : (ws : List Region) → Ordered ws → (w : Region) → In w ws → w.kind ≡ Write → write_of w.variable ws ≡ Some w
 one_write_of [] h w i k = elim i [ ]
 one_write_of (u ∷ ws) h w here k = ap (λ b. if b then Some u else write_of u.variable ws) (ap₂ (λ a b. a && b) (ap is_write k) (ap is_eq (itself u.variable)))
@@ -139,8 +136,8 @@ one_write_of (u ∷ ws) h w (there i) k = go (is_write_of w.variable u) refl (on
     go false q ih = ih
     go true q ih =
         let a = and_parts (is_write u.kind) (same_variable w.variable u.variable) q in
-        let kinds : u.kind ≡ w.kind = write_kind u.kind a.0 ∙ sym k in
+        let kinds : u.kind ≡ w.kind = write_if u.kind a.0 ∙ sym k in
         let first : nat_cmp (access_number u.kind) (access_number w.kind) ≡ Equal = ap (λ z. nat_cmp (access_number z) (access_number w.kind)) kinds ∙ tied_itself nat_cmp_total (access_number w.kind) in
         let second : variable_cmp u.variable w.variable ≡ Equal = tied_back variable_total w.variable u.variable (same_order w.variable u.variable a.1) in
         let tie : region_cmp u w ≡ Equal = ap₂ (λ x y. ordering_then x y) first second in
-        same_less (sym tie ∙ h.0 w i)
+        no_equal_less (sym tie ∙ h.0 w i)

@@ -23,7 +23,6 @@ use Rattle.f77_names.specs.Kinds.{kinds_of, kind_of_name}
 use Rattle.f77_names.specs.Entries.{EntryTree, fresh, find, entry_names, seen, changed, with_dummy, with_value, as_parameter, of_entry, value_among}
 use Rattle.f77_names.specs.Declaring.{Told, dummy_told, dummies_told, decls_told}
 use Rattle.f77_names.specs.Tables.{NameTable, no_names, entry_kind, is_real, kind_in, in_common_too, check_entry, check_entries, told_of, table_of, check_names}
-use Rattle.f77_names.proofs.NamesLaws.{number_from-least}
 use Rattle.f77_checks.specs.Parameters.{Valued, is_bad_parameter, given_typed, given_const_value, setting_valued, settings_valued, decl_valued, decls_valued}
 use Rattle.storage_layout.specs.Symbols.{valued}
 use Rattle.laws_programs.proofs.SymbolTables.Answers.{Answered, lines_in, names_in, found_none, values_none, names_none}
@@ -35,7 +34,8 @@ use Rattle.laws_programs.proofs.SymbolTables.Values.{chosen, as_chosen, is_taken
 use Rattle.laws_programs.proofs.Layouts.DifferLaws.{names_differ}
 use Rattle.laws_marks.proofs.InMarks.{IsMild, IsSet, Sets, SomeSets, decls_keep, stmts_keep}
 use Rattle.laws_programs.proofs.Storage.ParameterLaws.{same_name, valued_kind}
-use Rattle.storage_layout.proofs.EarlyLaws.{noted_none}
+use Rattle.fx_lists.proofs.Refused.{none_refused}
+use Rattle.f77_ast.proofs.NumberedNames.{number_from-least}
 
 -- ---- names that are found
 
@@ -130,8 +130,8 @@ module _ (S : List ℕ → Type 0) where
 -- ---- no name is REAL
 
 not_real : (ks : List Kind) (e : EntryTree) (c : Option ℕ) (o : Option Refusal) → in_common_too e c (refuse_if (is_real (entry_kind ks e)) e.line RealName o) ≡ None → is_real (entry_kind ks e) ≡ false
-not_real ks e None o q = (noted_none (is_real (entry_kind ks e)) e.line RealName o q).0
-not_real ks e (Some line) o q = (noted_none (is_real (entry_kind ks e)) e.line RealName o (noted_none (is_some e.dummy || e.parameter) line CommonTwice (refuse_if (is_real (entry_kind ks e)) e.line RealName o) q).1).0
+not_real ks e None o q = (none_refused (is_real (entry_kind ks e)) e.line RealName o q).0
+not_real ks e (Some line) o q = (none_refused (is_real (entry_kind ks e)) e.line RealName o (none_refused (is_some e.dummy || e.parameter) line CommonTwice (refuse_if (is_real (entry_kind ks e)) e.line RealName o) q).1).0
 
 none_real : (ks : List Kind) (es : List EntryTree) (o : Option Refusal) → check_entries ks es o ≡ None → (y : List ℕ) (e : EntryTree) → find y es ≡ Some e → is_real (entry_kind ks e) ≡ false
 unfolding find
@@ -185,7 +185,7 @@ module _ (ks : List Kind) where
             (h.valued y e f (ap (λ (z : EntryTree). z.parameter) a ∙ m))
 
     bad : (line : ℕ) (v : Valued) → (is_bad_parameter line v).found ≡ None → ⊥
-    bad line v e = true≢false ((noted_none true line BadParameter v.found e).0)
+    bad line v e = true≢false ((none_refused true line BadParameter v.found e).0)
 
     -- of a REAL name nothing is found
     real_kept : (v : Valued) → kind_in v.table x ≡ Real → Stand Next v → Stand R v

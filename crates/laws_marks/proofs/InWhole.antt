@@ -28,10 +28,10 @@ use Rattle.laws_analyses.proofs.Regions.Whole.{part_goes}
 use Rattle.laws_marks.specs.InLaid.{Laid, NamesGo}
 use Rattle.laws_marks.specs.InPrograms.{ins_for, EachInHolds}
 use Rattle.laws_marks.proofs.InCarried.{may_in, summary_narrowed, link_named, call_fit}
-use Rattle.laws_marks.proofs.InNarrow.{AnyCell}
 use Rattle.laws_marks.proofs.InNarrowed.{AreNarrowed}
 use Rattle.laws_marks.proofs.InPrograms.{IsReady, SendsFirstFrom, PartFirst, PartsFirst, carried_ins_hold}
 use Rattle.laws_marks.proofs.InSets.{IsFit, lists, at_fits}
+use Rattle.fx_lists.proofs.Every.{Anything}
 
 -- ---- what tables and layouts give
 
@@ -51,7 +51,7 @@ module _ (ks : List Known) (g : Graph) (b : Blocks) (cs : Callees) (rs is : List
     pub regular : RegularPart b cs rs ks g below k
     pub laid : Laid ks g k (may_name k)
     -- transformers are over cells
-    pub done : (n : ℕ) → IsDone AnyCell (k.found.transformer n)
+    pub done : (n : ℕ) → IsDone Anything (k.found.transformer n)
     pub calls : Each (λ (c : CallAt). GoesFrom k c.callee (lookup below c.callee)) (list_calls k.routine.body)
 
   -- modules, each before those that it calls

@@ -21,7 +21,8 @@ use Rattle.preconditions.specs.transformer_algebra.Laws.{In, here, there}
 use Rattle.in_out_regions.specs.region_sets.declared.region.Access.TheVariants.{Write}
 use Rattle.in_out_regions.specs.region_sets.declared.region.Region.{Region}
 use Rattle.in_out_regions.specs.region_sets.Naming.{in_rows}
-use Rattle.in_out_regions.specs.region_sets.Claims.{HoldsSome, LiesInSet}
+use Rattle.hull_projection.specs.Unions.{HoldsSome}
+use Rattle.in_out_regions.specs.region_sets.Claims.{DescribedBy, LiesInSet}
 use Rattle.in_out_regions.proofs.RegionSets.NameLaws.{rows_agree}
 use Rattle.in_out_regions.specs.Kinds.{is_write}
 use Rattle.in_out_regions.specs.Writes.{write_of, is_write_beside, is_overlapped}
@@ -56,16 +57,19 @@ module _ (k : Frame) (locked : Locks) (units : UnitsFit k locked) (ws : List Reg
       same : v ≡ l.region.variable → IsDescribed v ws p
       same q =
           subst (λ z. MatchOption z ⊥ (λ w. HoldsSome p w.pieces)) (sym (ap (λ z. write_of z ws) q ∙ fit.one l.region l.is_one l.kind))
-          (some_point p l.lies.piece l.region.pieces l.lies.is_one (rows_agree l.lies.piece.rows (resubscripted p l.lies.phi) p agree (l.lies.described (resubscripted p l.lies.phi) (λ c t. st c t) (λ i. refl))))
+          (some_point p d.piece l.region.pieces d.is_one (rows_agree d.piece.rows (resubscripted p l.lies.phi) p agree (d.holds (resubscripted p l.lies.phi) (λ c. refl) (λ i. refl))))
         where
+          d : DescribedBy l.region.pieces (λ c. p (Cell c)) l.lies.phi
+          d = l.lies.described (λ c. p (Cell c)) st
+
           here_too : elements_in k l.region.variable (λ i. p (Phi i)) ≡ Some u
           here_too = subst (λ (z : Variable). elements_in k z (λ i. p (Phi i)) ≡ Some u) q e
 
-          agree : (z : Var) → in_rows z l.lies.piece.rows ≡ true → resubscripted p l.lies.phi z ≡ p z
+          agree : (z : Var) → in_rows z d.piece.rows ≡ true → resubscripted p l.lies.phi z ≡ p z
           agree (Cell c) n = refl
           agree (Exit c) n = refl
           agree (Phi i) n =
-              let b = fit.narrow l.region l.is_one l.kind l.lies.piece l.lies.is_one i n in
+              let b = fit.narrow l.region l.is_one l.kind d.piece d.is_one i n in
               units.once l.region.variable l.lies.phi (λ j. p (Phi j)) u l.lies.there here_too i b.0 b.1
           agree (Aux c) n = refl
 

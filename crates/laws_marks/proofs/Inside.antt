@@ -26,15 +26,16 @@ use Rattle.laws_programs.proofs.Ordered.{BelowOrdered, LoopOrdered, ArmsOrdered,
 use Rattle.laws_programs.proofs.Sources.{is_built}
 use Rattle.call_graph.specs.CallsIn.{Each}
 use Rattle.laws_analyses.specs.Statements.Leads.{loop_leads}
-use Rattle.laws_analyses.proofs.CallLists.{each_joined}
 use Rattle.laws_analyses.proofs.Insides.{Inside, first_part, second_part, list_part}
 use Rattle.laws_analyses.proofs.Members.{Member}
 use Rattle.laws_analyses.proofs.Sizes.{goings_by, goings_body, goings_arms, goings_else, goings_in, goings_few}
 use Rattle.laws_analyses.proofs.Steps.{Never, Own, InLabels, step_then, lands_step, list_step_in, list_step, what_step, body_step, arms_step, else_step}
 use Rattle.laws_marks.proofs.InFirsts.{not_so}
 use Rattle.laws_marks.proofs.ConflictWhats.{stmt_whats, part_whats, list_whats, arms_whats, arm_whats, else_whats, loop_whats}
-use Rattle.laws_marks.proofs.Outward.{loop_out, list_keeps, arms_keeps, else_keeps, body_stands, apart_from, block_parts, whole_inside}
+use Rattle.laws_marks.proofs.Outward.{loop_out, list_keeps, arms_keeps, else_keeps, body_stands, apart_from, whole_inside}
 use Rattle.laws_marks.proofs.DoEffects.{OfDo, DoIs}
+use Rattle.call_graph.proofs.EachLaws.{each_joined}
+use Rattle.laws_programs.proofs.RoundtripPrograms.ModuleTexts.Counting.{block-arms}
 
 -- of a DO
 abbrev pub LeadsBeyond : ℕ → LoopTree → Type 0
@@ -83,7 +84,7 @@ module _ (F : List Landing) (G : List Going) (reach : AllReach F G) where
         let j = second_part F G [] o p r (Own label) Never 0 (m + k) (m + k) (omega arith) i (lands_step label o) both in (
           tt,
           each_joined Ours (arms_whats arms) (else_whats other)
-              (arms_dos n arms (block_parts n arms a.parts) f.0 p (first_part F G [] p q r Never Never m k (m + k) refl j s t) (λ x z. ends x (else_keeps other q x z)))
+              (arms_dos n arms (block-arms n arms a.parts) f.0 p (first_part F G [] p q r Never Never m k (m + k) refl j s t) (λ x z. ends x (else_keeps other q x z)))
               (else_dos (last_arms n arms) other a.last f.1 q (second_part F G [] p q r Never Never m k (m + k) refl j s t) ends),
         )
     what_dos n id label (logical_if e (stmt inner own_label w)) a f o i ends = (tt, plain_dos inner w f.1)

@@ -12,7 +12,7 @@ use Rattle.f77_ast.specs.Loops.{Range}
 use Rattle.f77_ast.specs.Plans.{Flow, Plan}
 use Rattle.f77_ast.specs.Writes.{Locks}
 use Rattle.f77_ast.specs.Executions.{run_of}
-use Rattle.f77_ast.specs.StatementNumbers.{list_numbers, IsNumbered}
+use Rattle.f77_ast.specs.StatementNumbers.{list_numbers, HasNumbers}
 use Rattle.f77_ast.specs.Statements.{do_plan}
 use Rattle.f77_ast.specs.Programs.{program_plan}
 use Rattle.f77_ast.specs.Symbols.{SymbolTree}
@@ -49,13 +49,12 @@ use Rattle.laws_programs.specs.Effects.Summaries.{before, no_summary, bottom_up}
 use Rattle.laws_programs.specs.Storage.Programs.{IsModule}
 use Rattle.laws_programs.specs.Laws.{AllAreOfPrograms}
 use Rattle.laws_programs.specs.Programs.{IsProgram}
-use Rattle.laws_programs.proofs.Numbers.{is_numbered}
+use Rattle.laws_programs.proofs.Numbers.{has_numbers}
 use Rattle.laws_programs.proofs.Sources.{all_of}
 use Rattle.laws_programs.proofs.Tables.{programs_are_linked}
 use Rattle.laws_programs.proofs.Whole.{numbers_go_up}
 use Rattle.call_graph.specs.CallsIn.{Each}
 use Rattle.laws_programs.specs.roundtrip_programs.Statements.Formed.{Each as EachOf}
-use Rattle.laws_analyses.proofs.CallLists.{each_more, each_joined}
 use Rattle.laws_analyses.proofs.UnitLaws.{module_at}
 use Rattle.laws_analyses.proofs.Regions.Programs.{distinct_numbers}
 use Rattle.laws_analyses.specs.Regions.Settings.{elements_with}
@@ -73,7 +72,6 @@ use Rattle.laws_marks.proofs.MarkedEnding.{ends_quietly, loop_is_quiet}
 use Rattle.laws_marks.specs.Dead.{index_name}
 use Rattle.laws_marks.specs.Units.{UnitsStand, ModuleUnitsStand, index_in}
 use Rattle.laws_marks.specs.DeadLaws.{outs_of, AllUnitsStand, ReadUnitsStand}
-use Rattle.laws_marks.proofs.UnitsStanding.{each_of_all}
 use Rattle.laws_marks.proofs.Marks.{list_marks, FoundAt, found_at}
 use Rattle.laws_marks.proofs.Own.{passing}
 use Rattle.laws_marks.specs.Verdicts.{IsCleared, SaysParallel}
@@ -89,6 +87,7 @@ use Rattle.laws_marks.proofs.Verdicts.{says_parallel}
 use Rattle.laws_analyses.proofs.Passes.{each_reversed as each_reverse}
 use Rattle.laws_marks.proofs.Modules.{each_two}
 use Rattle.laws_analyses.proofs.Claimed.{all_of_each}
+use Rattle.call_graph.proofs.EachLaws.{each_more, each_of_all}
 
 -- ---- lists
 
@@ -111,7 +110,7 @@ record IsFound (g : Graph) (f : ModuleResults) (n : ℕ) (l : LoopTree) (ns : Li
   calm : IsCalm f.effects.at n
   beyond : LeadsBeyond n l
 
-module _ (ks : List Known) (g : Graph) (xs : List (List ℕ)) (f : ModuleResults) (made : IsMade g ks xs no_callees f) (numbered : IsNumbered f.known.read.body) (all_beyond : AllLeadBeyond f.known.read.body) where
+module _ (ks : List Known) (g : Graph) (xs : List (List ℕ)) (f : ModuleResults) (made : IsMade g ks xs no_callees f) (numbered : HasNumbers f.known.read.body) (all_beyond : AllLeadBeyond f.known.read.body) where
   record MarkOf (a : At Mark) : Type 0 where
     label : Option ℕ
     loop : LoopTree
@@ -209,7 +208,7 @@ module _ (ps : List ParsedTree) (sss : List (List SymbolTree)) (g : Graph) (x : 
 
   record Stands (f : ModuleResults) : Type 0 where
     made : IsMade g (known_of ps sss) g.order no_callees f
-    numbered : IsNumbered f.known.read.body
+    numbered : HasNumbers f.known.read.body
     beyond : AllLeadBeyond f.known.read.body
 
   abbrev BodyLeads : ParsedTree → Type 0
@@ -228,7 +227,7 @@ module _ (ps : List ParsedTree) (sss : List (List SymbolTree)) (g : Graph) (x : 
           let m = module_at ps sss h.at f.known h.is_module in
           record {
             made = h;
-            numbered = subst (λ (k : Known). IsNumbered k.read.body) m.same (is_numbered m.parsed.module_read.body (numbers_go_up x.lines ps x.parsed h.at m.parsed m.is_module.parsed));
+            numbered = subst (λ (k : Known). HasNumbers k.read.body) m.same (has_numbers m.parsed.module_read.body (numbers_go_up x.lines ps x.parsed h.at m.parsed m.is_module.parsed));
             beyond = subst (λ (k : Known). AllLeadBeyond k.read.body) m.same (at_place ps (all_of BodyLeads one_leads x.lines ps x.parsed) h.at m.parsed m.is_module.parsed);
           }
 

@@ -2,7 +2,7 @@
 use Rattle.std.proofs.Common.{◌≡◌, ℕ, List, Option, Some, refl, sym, ap, ◌∙◌, subst}
 use Rattle.f77_ast.specs.Trees.{LoopTree}
 use Rattle.f77_ast.specs.Trees as tree
-use Rattle.f77_ast.specs.StatementNumbers.{IsNumbered}
+use Rattle.f77_ast.specs.StatementNumbers.{HasNumbers}
 use Rattle.f77_ast.specs.declared.results.At.{At}
 use Rattle.call_graph.specs.declared.graph.Graph.{Graph}
 use Rattle.f77_meaning.specs.Modules.{Known, symbol_names}
@@ -28,7 +28,7 @@ knowledge g f =
     let a = (phases_of f).known.known.analysis in
     knowledge_of k.read k.symbols (symbol_names k.symbols) (scope_of g.untracked k) f.effects.at a.found.own.at a.holds.at f.regions.at f.ins.at f.outs.at
 
-module _ (g : Graph) (f : ModuleResults) (numbered : IsNumbered f.known.read.body) (is : f.marks ≡ marks_found g.untracked (phases_of f) f.effects) where
+module _ (g : Graph) (f : ModuleResults) (numbered : HasNumbers f.known.read.body) (is : f.marks ≡ marks_found g.untracked (phases_of f) f.effects) where
   abbrev k : Known
   k = f.known
 

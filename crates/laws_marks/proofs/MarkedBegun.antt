@@ -20,7 +20,7 @@ use Rattle.f77_meaning.specs.Processes.{Marked, number_in}
 use Rattle.laws_interleavings.specs.Iterations.{on_store, begun, whole_loop}
 use Rattle.laws_interleavings.specs.Sound.{NoTake}
 use Rattle.laws_interleavings.proofs.Runs.{run_bind, on_from, stays_whole, after_part as part_answer}
-use Rattle.laws_interleavings.proofs.Loops.{IsNormalAnswer, kept_same, rest_of_loop, iterations_left, iteration_normal}
+use Rattle.laws_interleavings.proofs.Loops.{IsNormalAnswer, rest_of_loop, iterations_left, iteration_normal}
 use Rattle.laws_interleavings.proofs.Same.{free_run}
 use Rattle.laws_interleavings.proofs.LaterReads.{trace_from, trace_splits}
 use Rattle.laws_marks.specs.ConflictIterations.{Iteration, after_part, iterations_since}
@@ -28,6 +28,7 @@ use Rattle.laws_marks.proofs.ConflictCuts.{NoSets}
 use Rattle.laws_marks.proofs.ConflictLists.{AllNoSets, jumps_no_sets}
 use Rattle.laws_marks.specs.MarkedBegun.{iterations_of, did_in, iteration_at, AreBegun}
 use Rattle.f77_ast.proofs.Shared.{steps_then}
+use Rattle.f77_ast.proofs.KeptNumbers.{kept_is}
 
 -- ---- bodies
 
@@ -125,7 +126,7 @@ module _ (m : Marked) (s : Store) (normal : (whole_loop m s).answer ≡ Gave Nor
 
       go : (o : Option ℤ) → kept (number a +ℤ m.step) ≡ o → kept (number a +ℤ m.step) ≡ Some (number a +ℤ m.step)
       go None q = absurd (subst IsNormalAnswer (sym (sym after ∙ (iterations_left m s normal a (suc k) e).0) ∙ ap (λ o. (run (steps_of (next_plan k a o)) (Whole y) []).answer) q) tt)
-      go (Some z) q = q ∙ ap Some (sym (kept_same (number a +ℤ m.step) z q))
+      go (Some z) q = q ∙ ap Some (sym (kept_is (number a +ℤ m.step) z q))
 
   -- so many iterations, from one on
   abbrev some_from : ℕ → ℕ → List Iteration

@@ -42,9 +42,9 @@ use Rattle.laws_interleavings.proofs.Plans.Uses.{serve}
 use Rattle.laws_marks.specs.MarkedBegun.{iterations_of, did_in, iteration_at, AreBegun}
 use Rattle.laws_marks.specs.MarkedFit.{LoopIsFit, IsDeadAfter}
 use Rattle.laws_marks.proofs.MarkedBegun.{body_no_sets, iteration_takes, are_begun}
-use Rattle.laws_marks.proofs.MarkedShared.{or_here, eq_same, shared_read, shared_write, written_writes, quiet_more, stays}
+use Rattle.laws_marks.proofs.MarkedShared.{eq_same, shared_read, shared_write, written_writes, quiet_more, stays}
 use Rattle.fx_lists.proofs.Numbers.{apart_of}
-use Rattle.fx_lists.proofs.Booleans.{or_there}
+use Rattle.fx_lists.proofs.Booleans.{or_there, not_first, or_here}
 use Rattle.f77_ast.proofs.SameLaws.{same_itself}
 
 -- ---- own units
@@ -53,10 +53,6 @@ private_of : (a b c : Bool) → (not a && (not b && c)) ≡ true → c ≡ true
 private_of true b c e = absurd (true≢false (sym e))
 private_of false true c e = absurd (true≢false (sym e))
 private_of false false c e = e
-
-no_index : (a b : Bool) → (not a && b) ≡ true → a ≡ false
-no_index true b e = absurd (true≢false (sym e))
-no_index false b e = refl
 
 no_name : (a b c : Bool) → (not a && (not b && c)) ≡ true → b ≡ false
 no_name true b c e = absurd (true≢false (sym e))
@@ -79,11 +75,11 @@ module _ (ks : List Known) (g : Graph) (k : ScopeTree) (at : Places) (d : KnownL
   -- ---- units of no name
 
   undefined_at : (u : ℕ) → is_own m u ≡ true → (j : ℕ) → j ≤ m.count → HasNoValue (begun m s j) u
-  undefined_at u o zero l = ap (λ c. c.tag) (put_other s m.index (content Int m.first) u (apart_of m.index u (no_index (nat_eq u m.index) _ o))) ∙ h.own_before u o
+  undefined_at u o zero l = ap (λ c. c.tag) (put_other s m.index (content Int m.first) u (apart_of m.index u (not_first (nat_eq u m.index) _ o))) ∙ h.own_before u o
   undefined_at u o (suc j) l =
       let q = on_store (steps_of m.body) (begun m s j) in
       let left : AtEnd q.answer (store_of q.memory) q.input (Ending u) = h.cleared u o (begun m s j) [] (undefined_at u o j (omega (arith, l))) in
-      ap (λ c. c.tag) (put_other (store_of q.memory) m.index (content Int (number_in m.first m.step (suc j))) u (apart_of m.index u (no_index (nat_eq u m.index) _ o)))
+      ap (λ c. c.tag) (put_other (store_of q.memory) m.index (content Int (number_in m.first m.step (suc j))) u (apart_of m.index u (not_first (nat_eq u m.index) _ o)))
       ∙ subst (λ a. AtEnd a (store_of q.memory) q.input (Ending u)) (ends j l) left
 
   -- ---- no two iterations meet

@@ -38,7 +38,6 @@ use Rattle.laws_marks.specs.ConflictExecutions.{Execution}
 use Rattle.laws_marks.specs.Dead.{uses_in, CopiesLieInOwn, PrivatesAreDead, MarkedIsDead, MarkIsDead, index_name}
 use Rattle.laws_marks.specs.Units.{ModuleUnitsStand}
 use Rattle.laws_marks.specs.DeadLaws.{outs_of, AllUnitsStand, AllCopiesLieInOwn, AllPrivatesAreDead, AllMarksAreDead, ReadUnitsStand, ReadCopiesLieInOwn, ReadPrivatesAreDead}
-use Rattle.laws_marks.proofs.UnitsStanding.{each_of_all}
 use Rattle.laws_marks.proofs.Dead.{dead_if}
 use Rattle.laws_marks.proofs.Marked.{knowledge, index_same, says}
 use Rattle.laws_marks.proofs.Marks.{Says, none_of_it}
@@ -47,6 +46,7 @@ use Rattle.laws_marks.proofs.Own.{passing}
 use Rattle.laws_marks.proofs.Modules.{each_two, no_entry, with_their_marks, MarksStand, marks_stand}
 use Rattle.laws_analyses.proofs.Claimed.{all_of_each}
 use Rattle.in_out_regions.specs.region_sets.Lists.{set_at}
+use Rattle.call_graph.proofs.EachLaws.{each_of_all}
 
 module _ (ps : List ParsedTree) (sss : List (List SymbolTree)) (g : Graph) (x : IsProgram ps sss g) (copies : CopiesAreSole) where
   module _ (p : Spot) (at : Places) (t : Plan) (s : Store) (i : List Content) (later : List Event) where

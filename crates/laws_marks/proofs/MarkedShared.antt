@@ -14,12 +14,9 @@ use Rattle.laws_interleavings.specs.Strict.{Quiet}
 use Rattle.laws_interleavings.specs.Sound.{NoTake}
 use Rattle.laws_interleavings.proofs.Stores.{put_other}
 use Rattle.fx_lists.proofs.Numbers.{apart_of}
-use Rattle.fx_lists.proofs.Booleans.{or_there, or_neither as or_false}
+use Rattle.fx_lists.proofs.Booleans.{or_there, or_neither as or_false, or_here}
 
 -- ---- Booleans
-
-pub or_here : (a b : Bool) → a ≡ true → (a || b) ≡ true
-or_here a b e = rw e refl
 
 pub eq_same : (u v : ℕ) → u ≡ v → nat_eq v u ≡ true
 eq_same u v e = grind (arith, nat_tests)

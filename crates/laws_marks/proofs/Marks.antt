@@ -31,10 +31,10 @@ use Rattle.loop_marker.specs.Variables.{indexes_in, written_in, is_of_some}
 use Rattle.f77_ast.specs.Variables.{union, same_variable}
 use Rattle.call_graph.specs.CallsIn.{Each}
 use Rattle.laws_analyses.proofs.Statements.Placing.{each_parts}
-use Rattle.laws_analyses.proofs.CallLists.{each_joined}
 use Rattle.laws_marks.proofs.ConflictWhats.{stmt_whats, part_whats, list_whats, arms_whats, else_whats, loop_whats}
 use Rattle.laws_marks.proofs.Outs.{in_both}
 use Rattle.f77_ast.proofs.SameLaws.{same_itself}
+use Rattle.call_graph.proofs.EachLaws.{each_joined}
 
 -- ---- verdicts
 

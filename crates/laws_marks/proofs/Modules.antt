@@ -4,7 +4,7 @@ use Rattle.std.specs.Prelude.{reverse}
 use mathlib.Core.List.{reverse-cons}
 use Rattle.f77_ast.specs.Trees.{LoopTree, StmtTrees}
 use Rattle.f77_ast.specs.DeclTrees.{ParsedTree}
-use Rattle.f77_ast.specs.StatementNumbers.{IsNumbered}
+use Rattle.f77_ast.specs.StatementNumbers.{HasNumbers}
 use Rattle.f77_ast.specs.Symbols.{SymbolTree}
 use Rattle.call_graph.specs.declared.graph.Graph.{Graph}
 use Rattle.f77_meaning.specs.Modules.{Known, known_of}
@@ -23,14 +23,13 @@ use Rattle.loop_marker.specs.Phases.{phases_of, no_callees, with_callee, with_ma
 use Rattle.loop_marker.specs.module_phases.ScalarPhases.{Analysis, analyses, scope_of}
 use Rattle.loop_marker.specs.dependence_test.Finding.{loop_in}
 use Rattle.laws_programs.specs.Programs.{IsProgram}
-use Rattle.laws_programs.proofs.Numbers.{is_numbered}
+use Rattle.laws_programs.proofs.Numbers.{has_numbers}
 use Rattle.laws_programs.proofs.Tables.{programs_are_linked}
 use Rattle.laws_programs.proofs.Whole.{numbers_go_up}
 use Rattle.call_graph.specs.CallsIn.{Each}
 use Rattle.laws_programs.specs.Storage.Programs.{IsLinked, known}
 use Rattle.laws_analyses.specs.Claims.{AnalysisHolds, AnalysesHold}
 use Rattle.laws_analyses.proofs.Analyses.{Located, all_located}
-use Rattle.laws_analyses.proofs.CallLists.{each_more, each_joined}
 use Rattle.laws_analyses.proofs.Modules.{IsIn}
 use Rattle.laws_analyses.proofs.UnitLaws.{module_at}
 use Rattle.laws_marks.specs.ConflictAccepted.{CopiesAreSole}
@@ -38,13 +37,13 @@ use Rattle.laws_marks.proofs.ConflictModules.{numbered_above}
 use Rattle.laws_marks.proofs.ConflictWhats.{no_list}
 use Rattle.laws_marks.proofs.OutSummaries.{front_outs, outs_at, Placed, outs_placed}
 use Rattle.laws_marks.specs.DeadLaws.{outs_of}
-use Rattle.laws_marks.proofs.UnitsStanding.{each_of_all}
 use Rattle.laws_marks.proofs.Marks.{found_at}
 use Rattle.laws_marks.proofs.Outs.{AreWritten, IsWrittenAt, list_written}
 use Rattle.laws_marks.proofs.Own.{TablesTell}
 use Rattle.laws_marks.proofs.PrivateTables.{tables_tell}
 use Rattle.laws_analyses.proofs.Passes.{each_reversed as each_reverse}
 use Rattle.in_out_regions.specs.region_sets.Lists.{set_at}
+use Rattle.call_graph.proofs.EachLaws.{each_more, each_of_all}
 
 -- ---- lists
 
@@ -84,7 +83,7 @@ module _ (ps : List ParsedTree) (sss : List (List SymbolTree)) (g : Graph) (x : 
   pub record Stands (f : ModuleOuts) : Type 0 where
     pub tables : TablesTell (known_of ps sss) g f.known.known.analysis.found.known
     pub is_in : IsIn (known_of ps sss) f.known.known.analysis.found.known
-    pub numbered : IsNumbered f.known.known.analysis.found.known.read.body
+    pub numbered : HasNumbers f.known.known.analysis.found.known.read.body
     pub written : (n : ℕ) (rs : List Region) → value_at f.outs.at n ≡ Some rs → AreWritten (set_at f.known.known.regions.at n) rs
     pub analysed : (y : Occurrence) → AnalysesHold g (analyses (known_of ps sss) g) y → f.known.known.analysis.found.known.read.name ≡ y.spot.module_name → AnalysisHolds g f.known.known.analysis y
 
@@ -96,11 +95,11 @@ module _ (ps : List ParsedTree) (sss : List (List SymbolTree)) (g : Graph) (x : 
   one_stands front a rest e =
       let r = (each_back (Located ps sss g linked (analyses (known_of ps sss) g)) front (a ∷ rest) (subst (Each (Located ps sss g linked (analyses (known_of ps sss) g))) e (all_located ps sss g linked))).0 in
       let w = module_at ps sss r.good.at a.found.known r.good.is_module in
-      let body : IsNumbered (known w.parsed w.table).read.body = is_numbered w.parsed.module_read.body (numbers_go_up x.lines ps x.parsed r.good.at w.parsed w.is_module.parsed) in
+      let body : HasNumbers (known w.parsed w.table).read.body = has_numbers w.parsed.module_read.body (numbers_go_up x.lines ps x.parsed r.good.at w.parsed w.is_module.parsed) in
       record {
         tables = subst (λ (k : Known). TablesTell (known_of ps sss) g k) w.same (tables_tell ps sss g x copies linked (programs_are_linked ps sss g x).1 r.good.at w.parsed w.table w.is_module);
         is_in = record { at = r.good.at; is_module = r.good.is_module };
-        numbered = subst (λ (k : Known). IsNumbered k.read.body) w.same body;
+        numbered = subst (λ (k : Known). HasNumbers k.read.body) w.same body;
         written = λ n rs v. set_written g (sites_of g.untracked (front_outs g [] front (a ∷ rest)) a.found.known.read.name) (outs_at g front a rest).known n rs v;
         analysed = λ y h n. (each_back (λ (b : Analysis). b.found.known.read.name ≡ y.spot.module_name → AnalysisHolds g b y) front (a ∷ rest) (subst (Each (λ (b : Analysis). b.found.known.read.name ≡ y.spot.module_name → AnalysisHolds g b y)) e (each_of_all (λ (b : Analysis). b.found.known.read.name ≡ y.spot.module_name → AnalysisHolds g b y) (analyses (known_of ps sss) g) h))).0 n;
       }

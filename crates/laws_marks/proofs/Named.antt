@@ -5,7 +5,7 @@ use Rattle.f77_ast.specs.Trees.{LoopTree}
 use Rattle.f77_ast.specs.Trees as tree
 use Rattle.f77_ast.specs.Places.{Meant, Constant, Variable, Function, Names, Place, Places}
 use Rattle.f77_ast.specs.Calls.{Dummy, in_place}
-use Rattle.f77_ast.specs.StatementNumbers.{IsNumbered}
+use Rattle.f77_ast.specs.StatementNumbers.{HasNumbers}
 use Rattle.f77_ast.specs.declared.variable.Variable.TheVariants.{Own}
 use Rattle.affine_systems.specs.declared.row.System.{System}
 use Rattle.call_graph.specs.declared.graph.Graph.{Graph}
@@ -91,7 +91,7 @@ head_same ps m t rs (tree.loop index first last step body) = refl
 
 -- ---- a DO
 
-module _ (ks : List Known) (g : Graph) (f : ModuleResults) (numbered : IsNumbered f.known.read.body) (is : f.marks ≡ marks_found g.untracked (phases_of f) f.effects) (tell : TablesTell ks g f.known) (x : Execution) (e : ModuleUnitsStand ks g (phases_of f).known x)
+module _ (ks : List Known) (g : Graph) (f : ModuleResults) (numbered : HasNumbers f.known.read.body) (is : f.marks ≡ marks_found g.untracked (phases_of f) f.effects) (tell : TablesTell ks g f.known) (x : Execution) (e : ModuleUnitsStand ks g (phases_of f).known x)
     (l : LoopTree) (is_do : loop_in x.spot.statement f.known.read.body ≡ Some l) (ns : List ℕ) (v : value_at f.marks x.spot.statement ≡ Some (Parallel ns)) where
   abbrev k : Known
   k = f.known

@@ -18,8 +18,7 @@ use Rattle.laws_marks.specs.Inactive.{IsOfSome, IsInactive}
 use Rattle.laws_marks.proofs.Apart.{linked}
 use Rattle.laws_marks.proofs.Spots.{AllNamed}
 use Rattle.laws_programs.proofs.Effects.Once.{NamesOnce, main_of_linked as some_main, fewer}
-use Rattle.fx_lists.proofs.Texts.{same_name as same_bytes}
-use Rattle.laws_programs.proofs.Effects.BottomUp.{other_name}
+use Rattle.fx_lists.proofs.Texts.{same_name as same_bytes, unequal_texts}
 
 -- ---- names in a list
 
@@ -131,7 +130,7 @@ module _ (all : List Known) (g : Graph) where
 
 -- the main program and the subroutines of a program have different names
 pub names_distinct : (ps : List ParsedTree) (sss : List (List SymbolTree)) (g : Graph) → IsProgram ps sss g → Distinct (routine (known_of ps sss) g (main_of (known_of ps sss)) ∷ subroutines (known_of ps sss) g g.order)
-names_distinct ps sss g x = (λ y n. other_name y (main_of (known_of ps sss)).read.name (apart y n), subs_distinct (known_of ps sss) g ps sss once g.order (order_sorted ps sss g (linked ps sss g x)))
+names_distinct ps sss g x = (λ y n. unequal_texts y (main_of (known_of ps sss)).read.name (apart y n), subs_distinct (known_of ps sss) g ps sss once g.order (order_sorted ps sss g (linked ps sss g x)))
   where
     once : NamesOnce (known_of ps sss)
     once = names_once ps sss g (linked ps sss g x)

@@ -62,7 +62,7 @@ use Rattle.laws_analyses.specs.JumpLaws.{JumpsStayInside}
 use Rattle.laws_analyses.specs.Results.{callees_of_all, analysed_entry, analysed_sites}
 use Rattle.laws_analyses.specs.ScalarLaws.{NamesAgree, AcceptedDataStaysInLocals}
 use Rattle.laws_analyses.proofs.Analyses.{Located, all_located, analysis_of_module}
-use Rattle.laws_analyses.proofs.CallLists.{each_in, each_more}
+use Rattle.laws_analyses.proofs.CallLists.{each_in}
 use Rattle.laws_analyses.proofs.Founds.{Calls}
 use Rattle.laws_analyses.proofs.IntegerLaws.{integers_fit}
 use Rattle.laws_analyses.proofs.MainLaws.{main_from, built_at}
@@ -71,7 +71,7 @@ use Rattle.laws_analyses.proofs.Passes.{name_of}
 use Rattle.laws_analyses.proofs.Programs.{Ready}
 use Rattle.laws_analyses.proofs.ThroughoutLaws.{throughout_more}
 use Rattle.laws_analyses.proofs.UnitLaws.{module_at, scope_is}
-use Rattle.laws_analyses.proofs.Whole.{analyses_follow}
+use Rattle.laws_analyses.proofs.Whole.{analyses_follow, settled, ready}
 use Rattle.laws_analyses.specs.Regions.Accepted.{after as reads_after, summaries_of as reads_of}
 use Rattle.laws_analyses.specs.Regions.Settings.{is_told}
 use Rattle.laws_analyses.proofs.Regions.Carrying.{LinkLaws}
@@ -83,7 +83,7 @@ use Rattle.laws_analyses.proofs.Regions.ToldBlocks.{blocks_told}
 use Rattle.laws_analyses.proofs.Regions.ToldSymbols.{names_told}
 use Rattle.laws_marks.specs.InAccepted.{after, summaries_of}
 use Rattle.laws_marks.specs.InTogether.{LocalsAreSavedTogether}
-use Rattle.laws_marks.proofs.InAccepted.{settled, ready, main_laid, all_laid}
+use Rattle.laws_marks.proofs.InAccepted.{main_laid, all_laid}
 use Rattle.laws_marks.proofs.InLayouts.{leads, kept_named, such, may_name}
 use Rattle.laws_marks.proofs.InSummaries.{summaries_are}
 use Rattle.laws_marks.specs.OutAccepted.{used_run, used_for, AllOutsHold, ReadOutsHold}
@@ -96,6 +96,7 @@ use Rattle.laws_analyses.proofs.Claimed.{all_of_each as all_each}
 use Rattle.laws_programs.proofs.Effects.Once.{main_of_linked as some_main}
 use Rattle.laws_analyses.proofs.Regions.Accepted.{cards_of_held}
 use Rattle.in_out_regions.specs.region_sets.Lists.{set_at}
+use Rattle.call_graph.proofs.EachLaws.{each_more}
 
 -- what holds of each at its own name
 each_at : (P : List ℕ → CallAt → Type 0) (cs : List CallAt) → ((x : List ℕ) → Each (P x) cs) → Each (λ a. P a.callee a) cs

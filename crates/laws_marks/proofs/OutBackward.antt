@@ -40,7 +40,6 @@ use Rattle.preconditions.specs.transformers.Given.{Callees}
 use Rattle.preconditions.specs.transformers.Modules.{transformers_of}
 use Rattle.in_out_regions.specs.region_sets.Naming.{in_terms, in_rows}
 use Rattle.in_out_regions.specs.region_sets.Claims.{Elements}
-use Rattle.in_out_regions.proofs.RegionSets.StepLaws.{in_left, in_right}
 use Rattle.in_out_regions.specs.call_equations.declared.link.Link.{Link}
 use Rattle.in_out_regions.specs.call_equations.Sides.{SidesTree, changed_cells}
 use Rattle.in_out_regions.specs.call_equations.Forms.{equation}
@@ -82,6 +81,7 @@ use Rattle.laws_programs.proofs.Effects.Like.{like_found}
 use Rattle.call_graph.specs.Visible.{is_local}
 use Rattle.f77_ast.specs.Variables.{same_variable}
 use Rattle.f77_ast.proofs.SameLaws.{same_itself}
+use Rattle.preconditions.proofs.TransformerAlgebra.Members.{in_left, in_right}
 
 -- ---- what rows name
 

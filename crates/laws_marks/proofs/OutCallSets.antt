@@ -12,10 +12,10 @@ use Rattle.in_out_regions.specs.array_regions.Calls.{Called}
 use Rattle.in_out_regions.specs.array_regions.Loops.{Found}
 use Rattle.in_out_regions.specs.array_regions.Statement.{what_set, at_stmt, at_parts, at_list, at_arms, at_arm, at_else, at_loop}
 use Rattle.call_graph.specs.CallsIn.{CallAt, Each, stmt_calls, what_calls, list_calls, arms_calls, arm_calls, else_calls, loop_calls}
-use Rattle.laws_analyses.specs.Statements.Laws.{InOrder}
+use Rattle.laws_analyses.specs.Statements.Laws.{HaveOwnNumbers}
 use Rattle.laws_analyses.proofs.Statements.MainResults.{each_found_at}
-use Rattle.laws_analyses.proofs.CallLists.{each_joined}
 use Rattle.laws_analyses.proofs.Statements.Placing.{each_parts}
+use Rattle.call_graph.proofs.EachLaws.{each_joined}
 
 module _ (m : ScopeTree) (t : Found) (c : Called) (P : At (List Region) → Type 0) (Q : CallAt → Type 0) (f : (n : ℕ) (x : List ℕ) (es : ExprTrees) → P (at n (c x es)) → Q (record { number = n; callee = x; actuals = es })) where
   mutual
@@ -54,7 +54,7 @@ module _ (m : ScopeTree) (t : Found) (c : Called) (P : At (List Region) → Type
     loop_sets (tree.loop index first last step body) h = list_sets body h
 
 -- of each CALL
-pub call_sets : (m : ScopeTree) (t : Found) (c : Called) (body : StmtTrees) → InOrder (at_list body m t c) → Each (λ (a : CallAt). set_at (at_list body m t c) a.number ≡ c a.callee a.actuals) (list_calls body)
-call_sets m t c body order =
+pub call_sets : (m : ScopeTree) (t : Found) (c : Called) (body : StmtTrees) → HaveOwnNumbers (at_list body m t c) → Each (λ (a : CallAt). set_at (at_list body m t c) a.number ≡ c a.callee a.actuals) (list_calls body)
+call_sets m t c body own =
     list_sets m t c (λ a. value_at (at_list body m t c) a.id ≡ Some a.value) (λ a. set_at (at_list body m t c) a.number ≡ c a.callee a.actuals) (λ n x es h. ap or_none h) body
-    (each_found_at (λ a. value_at (at_list body m t c) a.id ≡ Some a.value) (at_list body m t c) order (λ a n e. e))
+    (each_found_at (λ a. value_at (at_list body m t c) a.id ≡ Some a.value) (at_list body m t c) own (λ a n e. e))

@@ -15,7 +15,7 @@ use Rattle.tracked_cells.specs.Standing.{has_bounds}
 use Rattle.affine_systems.specs.declared.row.Row.{Row}
 use Rattle.affine_forms.specs.declared.affine.Affine.{Affine}
 use Rattle.preconditions.specs.transformer_algebra.Laws.{In, here, there}
-use Rattle.in_out_regions.proofs.RegionSets.StepLaws.{in_left, in_right, in_either}
+use Rattle.in_out_regions.proofs.RegionSets.StepLaws.{in_either}
 use Rattle.in_out_regions.specs.call_equations.declared.link.Link.{Link}
 use Rattle.in_out_regions.specs.call_equations.Sides.{SidesTree}
 use Rattle.in_out_regions.specs.call_equations.Links.{by_position, aligned_or, variable_link, subscripts_link, is_constant, variable_at, element_at, variable_of, element_of, expr_link, link_of}
@@ -24,6 +24,7 @@ use Rattle.in_out_regions.specs.region_translation.Names.{turned_rows}
 use Rattle.in_out_regions.specs.region_translation.Units.{end_of, meet, units_of, reach_by, reach, reach_each, are_covered}
 use Rattle.in_out_regions.specs.region_translation.Links.{link, if_actual, dummy_link, dummy_links, common_link, in_block, common_links, place_units, all_units}
 use Rattle.f77_ast.specs.Variables.{same_variable}
+use Rattle.preconditions.proofs.TransformerAlgebra.Members.{in_left, in_right}
 
 -- ---- symbols by their numbers
 

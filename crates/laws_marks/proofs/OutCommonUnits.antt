@@ -22,7 +22,7 @@ use Rattle.in_out_regions.specs.call_equations.Rows.{constant_form}
 use Rattle.in_out_regions.specs.call_equations.Forms.{zero as zero_form, offset, equation}
 use Rattle.in_out_regions.specs.call_equations.Positions.{number_in, high_number, size_between, size_of, sum_with}
 use Rattle.in_out_regions.specs.region_translation.Claims.{elements_of, ConstantsFit, EachDim, LastMayBeOpen}
-use Rattle.in_out_regions.proofs.RegionTranslation.FormLaws.{equation_is, sum_value, offset_value, number_value, var_value}
+use Rattle.in_out_regions.proofs.RegionTranslation.FormLaws.{equation_is, sum_value, offset_value, number_value}
 use Rattle.in_out_regions.proofs.RegionTranslation.ArrayLaws.{lin, Filled, Within, placed, located, within_total, filled_of, digits, digits_are}
 use Rattle.in_out_regions.proofs.RegionTranslation.ElementLaws.{element_of, spot_is}
 use Rattle.in_out_regions.specs.region_translation.Links.{by_row}
@@ -31,6 +31,7 @@ use Rattle.in_out_regions.specs.region_translation.CalleeClaims.{MatchesBoth, Ha
 use Rattle.in_out_regions.proofs.RegionTranslation.PositionLaws.{size_is, last_sum}
 use Rattle.fx_lists.proofs.Numbers.{times_0}
 use Rattle.fx_lists.proofs.Options.{some_is, none_some}
+use Rattle.affine_forms.proofs.RowValues.{var_value}
 
 -- ---- the place of an element, by constant bounds
 

@@ -30,7 +30,6 @@ use Rattle.in_out_regions.specs.region_sets.declared.region.Region.{Region}
 use Rattle.in_out_regions.specs.region_sets.Sets.{unite_all}
 use Rattle.in_out_regions.specs.region_sets.Claims.{Elements, Places as AllElements, AreByOrder, LiesIn, LiesInSet}
 use Rattle.in_out_regions.proofs.RegionSets.SetLaws.{gathered_units}
-use Rattle.in_out_regions.proofs.RegionSets.StepLaws.{in_right}
 use Rattle.in_out_regions.specs.call_equations.declared.link.Link.{Link}
 use Rattle.in_out_regions.specs.call_equations.Sides.{SidesTree, changed_cells}
 use Rattle.in_out_regions.specs.call_equations.Links.{link_of}
@@ -83,6 +82,7 @@ use Rattle.in_out_regions.specs.region_sets.Lists.{set_at}
 use Rattle.f77_ast.specs.Variables.{same_variable}
 use Rattle.f77_ast.proofs.SameLaws.{cmp_to_same, cmp_if, same_itself}
 use Rattle.laws_programs.proofs.Effects.Named.{equal_key}
+use Rattle.preconditions.proofs.TransformerAlgebra.Members.{in_right}
 
 -- ---- one of a set, by its variable
 

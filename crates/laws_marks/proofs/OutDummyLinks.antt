@@ -25,7 +25,7 @@ use Rattle.in_out_regions.specs.region_translation.Names.{turned_name, turned_ro
 use Rattle.in_out_regions.specs.region_translation.Links.{link}
 use Rattle.in_out_regions.specs.region_translation.CalleeClaims.{MatchesBoth, HasOuter, HasUnit, LinkHolds}
 use Rattle.in_out_regions.specs.region_translation.CalleeLaws.{AreTold}
-use Rattle.in_out_regions.proofs.RegionTranslation.CalleeLinkLaws.{turned_row_holds, turned_rows_hold}
+use Rattle.in_out_regions.proofs.RegionTranslation.CalleeLinkLaws.{turned_row_holds, turned_rows_hold, outward_point, at_cell, is_behind, at_subscript}
 use Rattle.fx_lists.proofs.Booleans.{clash as clashes}
 
 -- a subscript of the caller's variable is one of the first q
@@ -38,26 +38,7 @@ is_within q (Aux n) = true
 -- ---- a dummy
 
 module _ (m e : Scene) (q r : ℕ) (x y psi chi : ℕ → ℤ) (p : Point) where
-  -- with the names of the equations from the callee to the caller
-  abbrev outward_point : Var → ℤ
-  outward_point (Cell n) = x (m.unit n)
-  outward_point (Exit n) = p (Exit n)
-  outward_point (Phi n) = chi n
-  outward_point (Aux n) = if nat_lt r n then y (e.unit ((n - r) - 1)) else psi n
-
-  at_cell : (n : ℕ) → outward_point (cell_name r n) ≡ y (e.unit n)
-  at_cell n = ap (λ (b : Bool). if b then y (e.unit (((suc r + n) - r) - 1)) else psi (suc r + n)) (behind r n) ∙ ap (λ k. y (e.unit k)) (back_again r n)
-
-  not_behind : (k : ℕ) → nat_le k r ≡ true → nat_lt r k ≡ false
-  not_behind k h = let g : k ≤ r = grind (arith, nat_tests) in grind (arith, nat_tests)
-
-  is_behind : (k : ℕ) → nat_le k r ≡ false → nat_lt r k ≡ true
-  is_behind k h = let g : r < k = grind (arith, nat_tests) in grind (arith, nat_tests)
-
-  at_subscript : (k : ℕ) → nat_le k r ≡ true → outward_point (Aux k) ≡ psi k
-  at_subscript k h = ap (λ (b : Bool). if b then y (e.unit ((k - r) - 1)) else psi k) (not_behind k h)
-
-  reads : MatchesBoth m e q x y p → HasSubscripts psi p → ((k : ℕ) → 0 < k → k ≤ q → p (Aux k) ≡ chi k) → (v : Var) → is_within q v ≡ true → outward_point v ≡ p (turned_name r q v)
+  reads : MatchesBoth m e q x y p → HasSubscripts psi p → ((k : ℕ) → 0 < k → k ≤ q → p (Aux k) ≡ chi k) → (v : Var) → is_within q v ≡ true → outward_point m e q r x y psi chi p v ≡ p (turned_name r q v)
   reads both inner outer (Cell n) o = sym (both.outside n)
   reads both inner outer (Exit n) o = refl
   reads both inner outer (Phi k) o = let parts = and_parts (nat_lt 0 k) (nat_le k q) o in sym (outer k (positive parts.0) (at_most parts.1))
@@ -69,9 +50,9 @@ module _ (m e : Scene) (q r : ℕ) (x y psi chi : ℕ → ℤ) (p : Point) where
       at_most h = grind (arith, nat_tests)
   reads both inner outer (Aux n) o = go (nat_le n r) refl
     where
-      go : (b : Bool) → nat_le n r ≡ b → outward_point (Aux n) ≡ p (if b then Phi n else Cell ((n - r) - 1))
-      go true g = at_subscript n g ∙ sym (inner n)
-      go false g = ap (λ (b : Bool). if b then y (e.unit ((n - r) - 1)) else psi n) (is_behind n g) ∙ sym (both.inside ((n - r) - 1))
+      go : (b : Bool) → nat_le n r ≡ b → outward_point m e q r x y psi chi p (Aux n) ≡ p (if b then Phi n else Cell ((n - r) - 1))
+      go true g = at_subscript m e q r x y psi chi p n g ∙ sym (inner n)
+      go false g = ap (λ (b : Bool). if b then y (e.unit ((n - r) - 1)) else psi n) (is_behind m e q r x y psi chi p n g) ∙ sym (both.inside ((n - r) - 1))
 
 pub dummy_back_holds : (m e : Scene) (q : ℕ) (x y : ℕ → ℤ) (outer inner : Elements) (l : Link) → outward.LinkHolds m e x y outer inner l → l.moved ≡ true → ((v : Var) → in_rows v l.rows ≡ true → is_within q v ≡ true) → AreTold q outer → (v : Variable) →
     LinkHolds m e q x y outer inner (link v true (turned_rows l.rank q l.rows))

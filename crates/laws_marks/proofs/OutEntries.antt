@@ -77,7 +77,8 @@ use Rattle.laws_marks.proofs.OutModules.{looked_yields}
 use Rattle.laws_marks.proofs.OutMoves.{lies_right}
 use Rattle.laws_marks.proofs.OutNeeds.{nothing_later, is_element, unhidden, touched}
 use Rattle.laws_marks.proofs.OutRuns.{events_join}
-use Rattle.laws_marks.proofs.OutStrictParts.{MeaningStrict, strict_after_call, arrays_tagged, scalars_tagged}
+use Rattle.laws_marks.proofs.OutStrictParts.{MeaningStrict, strict_after_call}
+use Rattle.laws_interleavings.proofs.Plans.Fine.{arrays_tagged, scalars_tagged}
 use Rattle.laws_marks.proofs.OutWriteSets.{list_fits}
 use Rattle.call_graph.specs.Visible.{is_visible_to_callers}
 
@@ -229,7 +230,7 @@ module _ (ks : List Known) (g : Graph) (b : Blocks) (cs : Callees) (sites : List
       looked s =
           looked_yields (arrays_bound k.routine.dummies ps k.routine.names (dummy_places k ps)) s (λ a es. firsts.Looked_so ks g b cs sites rs is of may_name turns k sane regular enters joins ready below analysed named callee free ps go_calls go_first fit_calls s a es) (TagsStand k.routine.names)
           (firsts.looked ks g b cs sites rs is of may_name turns k sane regular enters joins ready below analysed named callee free ps go_calls go_first fit_calls s)
-          (arrays_tagged Lost k.routine.dummies ps k.routine.names (dummy_places k ps) out_part.tagged.dummies (scalars_tagged Lost k.routine.names k.routine.dummies ps k.routine.fixed out_part.tagged.dummies out_part.tagged.fixed))
+          (arrays_tagged k.routine.dummies ps k.routine.names (dummy_places k ps) out_part.tagged.dummies (scalars_tagged k.routine.names k.routine.dummies ps k.routine.fixed out_part.tagged.dummies out_part.tagged.fixed))
 
       module _ (s : Store) (at : Places) (bound : Bound g b k sane ps s at) (ok : TagsStand k.routine.names at) where
         abbrev Shows : List Event → Type 0

@@ -36,7 +36,7 @@ use Rattle.call_graph.specs.CallsIn.{Each, list_calls}
 use Rattle.laws_analyses.specs.Statements.Activation.{Ended}
 use Rattle.laws_analyses.specs.Statements.Leads.{list_leads}
 use Rattle.laws_analyses.proofs.Statements.MainResults.{each_found_at}
-use Rattle.laws_analyses.proofs.Statements.NumberLaws.{in_order}
+use Rattle.laws_analyses.proofs.Statements.NumberLaws.{own_numbers}
 use Rattle.laws_analyses.proofs.Calls.Enter.{Fits, begin_fits, more_fits}
 use Rattle.laws_analyses.specs.Calls.Parts.{Blocks, Part, still_in, Sane}
 use Rattle.laws_analyses.specs.Calls.ProgramLaws.{Analysed}
@@ -146,7 +146,7 @@ module _ (ks : List Known) (g : Graph) (b : Blocks) (cs : Callees) (sites : List
 
       owes_each : Each (OwesOut C D O Lost Started (Fits b k ps at) I acc isets osets calls) (at_list true k.routine.body U OutOf)
       owes_each =
-          each_found_at (OwesOut C D O Lost Started (Fits b k ps at) I acc isets osets calls) (at_list true k.routine.body U OutOf) (in_order (at_list true k.routine.body U OutOf) k.routine.body (o_list U true k.routine.body OutOf) analysed.numbered)
+          each_found_at (OwesOut C D O Lost Started (Fits b k ps at) I acc isets osets calls) (at_list true k.routine.body U OutOf) (own_numbers (at_list true k.routine.body U OutOf) k.routine.body (o_list U true k.routine.body OutOf) analysed.numbered)
           (λ a n v. record { found = ap or_none v; owes = one a.id a.value n v })
         where
           one : (i : ℕ) (set : List Region) → 0 < i → value_at osets i ≡ Some set → (s : Store) (q : Ran Flow) (later : List Event) → OutShown Started set s q.trace later → O (record { spot = spot k.routine.name i; places = at; start = s; ran = q; later = later })
@@ -155,7 +155,7 @@ module _ (ks : List Known) (g : Graph) (b : Blocks) (cs : Callees) (sites : List
 
       found_ins : Each (FoundI C D O Lost Started (Fits b k ps at) I acc isets osets calls) (ins.at_list k.routine.body T)
       found_ins =
-          each_found_at (FoundI C D O Lost Started (Fits b k ps at) I acc isets osets calls) (ins.at_list k.routine.body T) (in_order (ins.at_list k.routine.body T) k.routine.body (i_list T k.routine.body) analysed.numbered) (λ a n v. ap or_none v)
+          each_found_at (FoundI C D O Lost Started (Fits b k ps at) I acc isets osets calls) (ins.at_list k.routine.body T) (own_numbers (ins.at_list k.routine.body T) k.routine.body (i_list T k.routine.body) analysed.numbered) (λ a n v. ap or_none v)
 
       module _ (calls_first : firsts.CallsFirst ks g b cs sites rs is of may_name turns k sane regular enters joins ready below analysed named callee free ps began at bound calls_go) (calls_fit : firsts.CallsFit ks g b cs sites rs is of may_name turns k sane regular enters joins ready below analysed named callee free ps began at bound calls_go) (calls_out : CallsOut) (ok : TagsStand k.routine.names at) (locked : Locks) (ent : Entered k ps locked) (offers : OffersLocked ks g k ps locked) where
         abbrev inner : Locks

@@ -29,7 +29,8 @@ use Rattle.in_out_regions.specs.region_sets.declared.region.Region.{Region}
 use Rattle.in_out_regions.specs.region_sets.Regions.{remade, any_weak}
 use Rattle.in_out_regions.specs.region_sets.Sets.{live_pieces, with_pieces, live}
 use Rattle.in_out_regions.specs.region_sets.Lists.{all_composed, numbers, set_at}
-use Rattle.in_out_regions.specs.region_sets.Claims.{HoldsSome, LiesInSet, IsSharp, IsSharpSet, Places}
+use Rattle.hull_projection.specs.Unions.{HoldsSome}
+use Rattle.in_out_regions.specs.region_sets.Claims.{LiesInSet, IsSharp, IsSharpSet, Places}
 use Rattle.in_out_regions.specs.Lists.{all_unwritten}
 use Rattle.in_out_regions.specs.ListClaims.{AreWritten}
 use Rattle.loop_marker.specs.out_regions.declared.rest.Rest.{Rest}

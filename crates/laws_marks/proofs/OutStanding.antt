@@ -21,7 +21,6 @@ use Rattle.preconditions.specs.transformers.Statement as transformers
 use Rattle.in_out_regions.specs.region_sets.declared.region.Region.{Region}
 use Rattle.in_out_regions.specs.region_sets.Lists.{all_forgetting, all_inexact, in_any_order, numbers, set_at}
 use Rattle.in_out_regions.specs.region_sets.Sets.{unite_all}
-use Rattle.in_out_regions.proofs.RegionSets.StepLaws.{in_right}
 use Rattle.in_out_regions.specs.array_regions.Calls.{Called}
 use Rattle.in_out_regions.specs.Known.{KnownTree}
 use Rattle.in_out_regions.specs.Lists.{before_rest, ins_in_order, list_in}
@@ -40,6 +39,7 @@ use Rattle.laws_marks.specs.InKnowns.{known_in}
 use Rattle.laws_marks.proofs.InStanding.{in_found, accesses_same}
 use Rattle.laws_marks.specs.OutShown.{OutShown, IsHanded}
 use Rattle.laws_marks.proofs.OutHands.{Hands}
+use Rattle.preconditions.proofs.TransformerAlgebra.Members.{in_right}
 
 -- ---- IN of a list, by sets that are looked up elsewhere and are the same
 

@@ -1,5 +1,5 @@
 -- Expressions, statements and modules read no unit without a value, but for a fault.
-use Rattle.std.proofs.Common.{◌≡◌, ℕ, zero, suc, List, [], ◌∷◌, Bool, true, false, refl, ap, ◌∙◌, Option, Some, None, ℤ, ◌+ℤ◌, nat_le, nat_eq, bytes_eq, true≢false, ◌&&◌}
+use Rattle.std.proofs.Common.{◌≡◌, ℕ, zero, suc, List, [], ◌∷◌, Bool, true, false, refl, ap, ◌∙◌, Option, Some, None, ℤ, ◌+ℤ◌, nat_le, bytes_eq, true≢false, ◌&&◌}
 use Rattle.std.specs.Prelude.{if◌then◌else◌, pos}
 use Rattle.std.specs.Ordering.{int_eq}
 use Rattle.f77_ast.specs.Trees.{ExprTree, ExprTrees, StmtTree, WhatTree, ArmTree, ArmTrees, ElseTree, LoopTree, StmtTrees}
@@ -9,7 +9,7 @@ use Rattle.f77_ast.specs.Faults.{Fault, Arithmetic, Unset, Bounds, Input, Locked
 use Rattle.f77_ast.specs.Steps.{Faulty, Wants, OutOfTurns, Shown, Value, Text, Steps, ◌>>=◌}
 use Rattle.f77_ast.specs.Steps as steps
 use Rattle.f77_ast.specs.Numbers.{unary_tag, unary_number, binary_tag, binary_number, Intrinsic, intrinsic_named, intrinsic_number, is_true, kept}
-use Rattle.f77_ast.specs.Places.{Meant, Constant, Variable, Function, Names, Dim, Place, Places, scalar_place, total_size, element_in}
+use Rattle.f77_ast.specs.Places.{Meant, Constant, Variable, Function, Names, Dim, Place, Places, total_size, element_in}
 use Rattle.f77_ast.specs.Values.{fault, given, read_unit, unit_after, element_unit, name_value, intrinsic_value, element_value, value, values, Target, to, name_target, element_target, target, shown, all_shown}
 use Rattle.f77_ast.specs.Writes.{Locks, lock, written, write, assigned, is_value, taken, items_read}
 use Rattle.f77_ast.specs.Plans.{Flow, Normal, Jump, Returned, Stopped, Plan, Ends, Breaks, Look, Set, Hold, Forget, Show, Take, Within, ◌▹◌, first, on_normal}
@@ -19,9 +19,9 @@ use Rattle.f77_ast.specs.Calls.{stored, rest_after, name_actual, element_actual,
 use Rattle.f77_ast.specs.Statements.{Scope, statement_plan, execution, arms_plan, arm_plan, else_plan, do_plan, parts, body_plan}
 use Rattle.f77_ast.specs.Programs.{Routine, scope, body_of, called, meanings}
 use Rattle.laws_interleavings.specs.Faults.{IsFault, StepsFault}
-use Rattle.laws_interleavings.specs.Typed.{HasTag, TagsStand, DummiesTagged, IsNoDummy, IsTagged}
+use Rattle.laws_interleavings.specs.Typed.{HasTag, TagsStand, DummiesTagged, IsTagged}
 use Rattle.laws_marks.specs.OutRests.{IsStrict, AreStrict, Follows}
-use Rattle.laws_interleavings.proofs.Plans.Fine.{no_undefined, fault_first, fault_after, fault_then, Yields, yields_any, Any, yields_then}
+use Rattle.laws_interleavings.proofs.Plans.Fine.{no_undefined, fault_first, fault_after, fault_then, Yields, dummy_tagged, arrays_tagged, scalars_tagged}
 
 module _ (lost : ℕ → Bool) where
   -- ---- one after another
@@ -391,51 +391,15 @@ module _ (lost : ℕ → Bool) where
       go false true = tt
       go false false = tt
 
-  tag_given : (p : Place) (t : Tag) (ds : List Dim) → HasTag t → Yields (λ (q : Place). HasTag q.tag) (array_place p t ds)
-  tag_given p t ds h = go (is_open ds) (nat_le (total_size ds) p.extent)
-    where
-      go : (a b : Bool) → Yields {A = Place} (λ (q : Place). HasTag q.tag) (if a then steps.Done (array_at p t ds (open_extent p ds)) else if b then steps.Done (array_at p t ds (total_size ds)) else fault Bounds)
-      go true b = h
-      go false true = h
-      go false false = tt
-
-  put_tagged : (w : Names) (at : Places) (n : ℕ) (p : Place) → TagsStand w at → HasTag p.tag → TagsStand w (put at n p)
-  put_tagged w at n p ok h x v e = go (nat_eq v n)
-    where
-      go : (b : Bool) → HasTag (if b then p else at v).tag
-      go true = h
-      go false = ok x v e
-
   strict_dummy : (d : Dummy) (p : Place) (ds : List Dim) (at : Places) → AreStrict lost (dummy_bound d p ds at)
   strict_dummy d p [] at = tt
   strict_dummy d p (m ∷ ms) at = strict_after (array_place p d.tag (m ∷ ms)) (λ q. steps.Done (put at d.symbol q)) (strict_array p d.tag (m ∷ ms)) (λ q. tt)
-
-  dummy_tagged : (w : Names) (d : Dummy) (p : Place) (ds : List Dim) (at : Places) → HasTag d.tag → TagsStand w at → Yields (TagsStand w) (dummy_bound d p ds at)
-  dummy_tagged w d p [] at h ok = ok
-  dummy_tagged w d p (m ∷ ms) at h ok = yields_then (λ (q : Place). HasTag q.tag) (TagsStand w) (array_place p d.tag (m ∷ ms)) (λ q. steps.Done (put at d.symbol q)) (tag_given p d.tag (m ∷ ms) h) (λ q i. put_tagged w at d.symbol q ok i)
 
   strict_arrays : (ds : List Dummy) (ps : List Place) (w : Names) (at : Places) → DummiesTagged ds → TagsStand w at → AreStrict lost (arrays_bound ds ps w at)
   strict_arrays [] ps w at h ok = tt
   strict_arrays (d ∷ ds) ps w at h ok =
       strict_after (dims_read d.bounds w at) (λ ms. dummy_bound d (first_place ps) ms at >>= arrays_bound ds (other_places ps) w) (strict_dims d.bounds w at ok)
       (λ ms. strict_after_so (TagsStand w) (dummy_bound d (first_place ps) ms at) (arrays_bound ds (other_places ps) w) (strict_dummy d (first_place ps) ms at) (dummy_tagged w d (first_place ps) ms at h.0 ok) (λ at' ok'. strict_arrays ds (other_places ps) w at' h.1 ok'))
-
-  pub arrays_tagged : (ds : List Dummy) (ps : List Place) (w : Names) (at : Places) → DummiesTagged ds → TagsStand w at → Yields (TagsStand w) (arrays_bound ds ps w at)
-  arrays_tagged [] ps w at h ok = ok
-  arrays_tagged (d ∷ ds) ps w at h ok =
-      yields_then Any (TagsStand w) (dims_read d.bounds w at) (λ ms. dummy_bound d (first_place ps) ms at >>= arrays_bound ds (other_places ps) w) (yields_any (dims_read d.bounds w at))
-      (λ ms u. yields_then (TagsStand w) (TagsStand w) (dummy_bound d (first_place ps) ms at) (arrays_bound ds (other_places ps) w) (dummy_tagged w d (first_place ps) ms at h.0 ok) (λ at' ok'. arrays_tagged ds (other_places ps) w at' h.1 ok'))
-
-  scalar_tagged : (ds : List Dummy) (ps : List Place) (at : Places) → DummiesTagged ds → (v : ℕ) → (IsNoDummy ds v → HasTag (at v).tag) → HasTag (scalars_bound ds ps at v).tag
-  scalar_tagged [] ps at h v f = f tt
-  scalar_tagged (d ∷ ds) ps at h v f = go (nat_eq v d.symbol) refl (λ e. scalar_tagged ds (other_places ps) at h.1 v (λ n. f (e, n)))
-    where
-      go : (b : Bool) → nat_eq v d.symbol ≡ b → (nat_eq v d.symbol ≡ false → HasTag (scalars_bound ds (other_places ps) at v).tag) → HasTag (if b then scalar_place (first_place ps).first d.tag else scalars_bound ds (other_places ps) at v).tag
-      go true e ih = h.0
-      go false e ih = ih e
-
-  pub scalars_tagged : (w : Names) (ds : List Dummy) (ps : List Place) (at : Places) → DummiesTagged ds → ((x : List ℕ) (v : ℕ) → w x ≡ Variable v → IsNoDummy ds v → HasTag (at v).tag) → TagsStand w (scalars_bound ds ps at)
-  scalars_tagged w ds ps at h f x v e = scalar_tagged ds ps at h v (f x v e)
 
   pub strict_body : (r : Routine) (turns : ℕ) (callee : List ℕ → Meaning) → IsTagged r → ((n i : ℕ) → lost (r.own_unit n i) ≡ false) → ((x : List ℕ) → MeaningStrict (callee x)) → (ps : List Place) (at : Places) (locked : Locks) → TagsStand r.names at → IsStrict lost (body_of r turns callee ps at locked)
   strict_body r turns callee tagged own h ps at locked ok =

@@ -1,7 +1,6 @@
 -- In a run that no fault ends, nothing reads a unit without a value before it has one again.
-use Rattle.std.proofs.Common.{◌≡◌, ◌⊎◌, ⊎_elim, ℕ, List, ◌++◌, Bool, true, false, ◌&&◌, ◌||◌, refl, sym, ap, ◌∙◌, subst, true≢false, nat_eq, arith}
+use Rattle.std.proofs.Common.{◌≡◌, ◌⊎◌, ⊎_elim, ℕ, List, ◌++◌, Bool, true, false, ◌&&◌, ◌||◌, refl, sym, ap, ◌∙◌, subst, true≢false, nat_eq}
 use Rattle.std.specs.Prelude.{not, if◌then◌else◌}
-use Rattle.std.proofs.lemmas.Bool.Decides.{nat_tests}
 use Rattle.f77_ast.specs.Store.{Undefined, Content, Store, put, undefined}
 use Rattle.f77_ast.specs.Steps.{Faulty, Wants, OutOfTurns}
 use Rattle.f77_ast.specs.Runs.{Event, Memory, Answer, Gave, Broke, Ran, store_of, first_of, rest_of}
@@ -13,10 +12,7 @@ use Rattle.laws_marks.proofs.InFirsts.{not_so, first_split, written_left, writte
 use Rattle.laws_interleavings.specs.Faults.{IsFault}
 use Rattle.laws_marks.specs.OutRests.{IsStrict}
 use Rattle.laws_marks.proofs.OutRuns.{on_from, run_after}
-use Rattle.fx_lists.proofs.Numbers.{same_is as nat_same}
-
-flip : (v u : ℕ) → nat_eq v u ≡ false → nat_eq u v ≡ false
-flip v u h = grind (arith, nat_tests)
+use Rattle.fx_lists.proofs.Numbers.{same_is as nat_same, swapped}
 
 put_off : (s : Store) (v u : ℕ) (c : Content) → nat_eq u v ≡ false → put s v c u ≡ s u
 put_off s v u c h = ap (λ b. if b then c else s u) h
@@ -60,7 +56,7 @@ module _ (lost : ℕ → Bool) where
           fin : (a : Answer Flow) (m : Memory) (j : List Content) → AtEnd a (store_of m) j (λ f y o. true ≡ false → (y u).tag ≡ Undefined)
           fin (Gave f) m j = λ w. absurd (true≢false w)
           fin (Broke b) m j = tt
-      go false e ih = ih (ap (λ y. y.tag) (put_off s v u x (flip v u e)) ∙ d)
+      go false e ih = ih (ap (λ y. y.tag) (put_off s v u x (swapped v u e)) ∙ d)
   unread (Hold v x t) h u l s i d c = unread t h.1 u l (put s v x) i (ap (λ y. y.tag) (put_off s v u x (not_so (nat_eq u v) (λ e. true≢false (sym l ∙ (ap lost (nat_same u v e) ∙ h.0))))) ∙ d) c
   unread (Forget v t) h u l s i d c = unread t h u l (put s v (undefined (s v))) i (go (nat_eq u v)) c
     where

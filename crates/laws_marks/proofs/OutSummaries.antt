@@ -12,7 +12,6 @@ use Rattle.preconditions.specs.call_translation.Sites.{SiteTree}
 use Rattle.loop_marker.specs.module_phases.ScalarPhases.{Analysis}
 use Rattle.preconditions.specs.transformer_algebra.Laws.{In, here, there}
 use Rattle.in_out_regions.specs.region_sets.declared.region.Region.{Region}
-use Rattle.in_out_regions.proofs.RegionSets.StepLaws.{in_left, in_right}
 use Rattle.in_out_regions.specs.array_regions.Calls.{Callees as Summaries}
 use Rattle.loop_marker.specs.module_phases.RegionPhases.{ModuleRegions, no_callees, with_regions, all_regions}
 use Rattle.loop_marker.specs.module_phases.InPhases.{ModuleIns, with_callee, with_ins, found_in, all_ins}
@@ -22,12 +21,13 @@ use Rattle.in_out_regions.specs.call_equations.Sides.{SidesTree}
 use Rattle.loop_marker.specs.module_phases.declared.out_site.OutSite.{OutSite}
 use Rattle.loop_marker.specs.module_phases.OutPhases.{ModuleOuts, Caller, call_site, stmt_sites, what_sites, list_sites, arms_sites, arm_sites, else_sites, loop_sites, sides_at, handed_each, handed_by, handed_down, used_after, with_outs, caller_of, body_of, sites_of, outs_from, all_outs}
 use Rattle.call_graph.specs.CallsIn.{CallAt, Each, stmt_calls, what_calls, list_calls, arms_calls, arm_calls, else_calls, loop_calls}
-use Rattle.laws_analyses.proofs.CallLists.{each_joined}
 use Rattle.laws_analyses.proofs.Passes.{NoAnalysis, name_of}
 use Rattle.laws_analyses.specs.Regions.Accepted.{after as reads_after}
 use Rattle.laws_analyses.proofs.Regions.Summaries.{found_back, found_is}
 use Rattle.laws_marks.specs.InAccepted.{after}
 use Rattle.laws_marks.specs.OutAccepted.{used_run}
+use Rattle.preconditions.proofs.TransformerAlgebra.Members.{in_left, in_right}
+use Rattle.call_graph.proofs.EachLaws.{each_joined}
 
 -- ---- the CALLs of a module
 

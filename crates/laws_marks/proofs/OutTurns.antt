@@ -18,7 +18,6 @@ use Rattle.f77_meaning.specs.Accesses.{is_read_first}
 use Rattle.f77_meaning.specs.Occurrences.{Occurrence}
 use Rattle.affine_forms.specs.Conditions.{no_rows}
 use Rattle.affine_forms.specs.Claims.{unit_in, numbers_of}
-use Rattle.affine_forms.proofs.FormLaws.{kept_is}
 use Rattle.preconditions.specs.transformer_algebra.declared.transformer.Transformer.{Transformer}
 use Rattle.preconditions.specs.transformer_algebra.declared.loop_parts.LoopParts.{LoopParts}
 use Rattle.preconditions.specs.transformer_algebra.Loops.{next, iteration}
@@ -59,6 +58,7 @@ use Rattle.laws_marks.proofs.OutMoves.{out_lies, lies_left, lies_right, forgotte
 use Rattle.laws_marks.proofs.OutLater.{later_lies}
 use Rattle.laws_marks.proofs.OutNeeds.{nothing_later, need_cases, needs_none, needs_right, first_seen}
 use Rattle.fx_lists.proofs.Numbers.{nat_eq_same}
+use Rattle.f77_ast.proofs.KeptNumbers.{kept_is}
 
 module _ (k : Frame) (sound : Sound k.base) (D : Claim) (O : Occurrence → Type 0) (lost : ℕ → Bool) (locked : Locks) (still : ℕ → Bool) (fit : Fit k.sc.names k.scalar k.at (scene k.base) locked still) (units : UnitsFit k locked) (index : List ℕ) (lp : LoopParts) (named : k.sc.names index ≡ Variable lp.index) (bare : k.scalar index ≡ true) (known : (scene k.base).tracked lp.index ≡ lp.tracked) (trs : Tracks (scene k.base) lp.body.cells) (ws is : List Region) (body : Plan) (goes : List ℕ → Bool) (ret : Bool) (x : Store) (a b c : ℤ) (I : Store → Type 0) (free : locked (unit_in k.at lp.index) ≡ None) where
   abbrev e : Scene

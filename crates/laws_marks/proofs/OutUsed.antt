@@ -1,5 +1,5 @@
 -- What is used of WRITE regions: a unit that lies in one of them, and in a region of what may be read later, lies in it.
-use Rattle.std.proofs.Common.{◌≡◌, ⊎_elim, ℕ, List, [], ◌∷◌, ◌++◌, map, Some, None, Bool, true, false, refl, sym, ap, ◌∙◌, subst, true≢false}
+use Rattle.std.proofs.Common.{◌≡◌, ⊎_elim, ℕ, ℤ, List, [], ◌∷◌, ◌++◌, map, Some, None, Bool, true, false, refl, sym, ap, ◌∙◌, subst, true≢false}
 use Rattle.std.specs.Prelude.{if◌then◌else◌}
 use Rattle.std.specs.Ordering.{is_eq}
 use Rattle.std.proofs.lemmas.Bool.{or_left, or_right}
@@ -21,22 +21,24 @@ use Rattle.in_out_regions.specs.region_sets.declared.region.Region.{Region}
 use Rattle.in_out_regions.specs.region_sets.Regions.{region, hull_of}
 use Rattle.in_out_regions.specs.region_sets.Sets.{live_pieces}
 use Rattle.in_out_regions.specs.region_sets.Naming.{in_rows}
-use Rattle.in_out_regions.specs.region_sets.Claims.{HasSubscripts, Describes, LiesIn, LiesInSet}
+use Rattle.in_out_regions.specs.region_sets.Claims.{HasSubscripts, AreNumbers, DescribedBy, LiesIn, LiesInSet}
+use Rattle.in_out_regions.proofs.RegionSets.DescribedLaws.{stored, none_by}
+use Rattle.in_out_regions.proofs.RegionSets.SetLaws.{live_by}
 use Rattle.in_out_regions.proofs.RegionSets.NameLaws.{rows_agree}
-use Rattle.in_out_regions.proofs.RegionSets.StepLaws.{in_left, in_right, in_map}
+use Rattle.in_out_regions.proofs.RegionSets.StepLaws.{in_map}
 use Rattle.in_out_regions.specs.Kinds.{is_write}
 use Rattle.loop_marker.specs.out_regions.Used.{as_out, is_used_beside, used_pieces, unless_empty, met_with, used_of, if_write, used}
 use Rattle.loop_marker.specs.out_regions.Lists.{writes}
 use Rattle.laws_analyses.specs.Regions.Settings.{scene}
 use Rattle.laws_marks.specs.InFrames.{Frame, elements_in, rank}
 use Rattle.laws_marks.specs.InUnits.{UnitsFit, IsNarrow}
-use Rattle.laws_marks.proofs.InRests.{write_kind}
 use Rattle.laws_marks.proofs.InUnique.{itself}
 use Rattle.laws_marks.proofs.InWithin.{resubscripted}
 use Rattle.laws_marks.specs.OutShown.{LiesAs}
-use Rattle.laws_marks.proofs.OutMoves.{in_live}
 use Rattle.in_out_regions.proofs.RegionSets.UniteLaws.{hull_has as in_hull}
 use Rattle.f77_ast.specs.Variables.{same_variable}
+use Rattle.preconditions.proofs.TransformerAlgebra.Members.{in_left, in_right}
+use Rattle.in_out_regions.proofs.WriteLaws.{write_if}
 
 -- ---- lists of regions
 
@@ -75,10 +77,13 @@ of_writes P (r ∷ rs) h w i = go (is_write r.kind) refl i (λ j. of_writes P rs
     front q (there j) p f = f j
 
     go : (b : Bool) → is_write r.kind ≡ b → In w (if b then r ∷ writes rs else writes rs) → (In w (writes rs) → P w) → P w
-    go true e j ih = front w j (h r here (write_kind r.kind e)) ih
+    go true e j ih = front w j (h r here (write_if r.kind e)) ih
     go false e j ih = ih j
 
 -- ---- what is used
+
+none_in : (d : System) → In d [] → ⊥
+none_in d i = elim i [ ]
 
 module _ (k : Frame) (locked : Locks) (units : UnitsFit k locked) (us : List Region) (s : Store) where
   -- each piece names the subscripts of the variable alone
@@ -90,36 +95,47 @@ module _ (k : Frame) (locked : Locks) (units : UnitsFit k locked) (us : List Reg
       there_too : elements_in k w.variable o.lies.phi ≡ Some u
       there_too = subst (λ (v : Variable). elements_in k v o.lies.phi ≡ Some u) (sym q) o.lies.there
 
-      agree : (p : Point) → HasSubscripts o.lies.phi p → (z : Var) → in_rows z l.piece.rows ≡ true → resubscripted p l.phi z ≡ p z
-      agree p ph (Cell c) n = refl
-      agree p ph (Exit c) n = refl
-      agree p ph (Phi i) n = (let b = narrow l.piece l.is_one i n in units.once w.variable l.phi o.lies.phi u l.there there_too i b.0 b.1 ∙ sym (ph i))
-      agree p ph (Aux c) n = refl
+      agree : (p : Point) → HasSubscripts o.lies.phi p → (d : System) → In d w.pieces → (z : Var) → in_rows z d.rows ≡ true → resubscripted p l.phi z ≡ p z
+      agree p ph d j (Cell c) n = refl
+      agree p ph d j (Exit c) n = refl
+      agree p ph d j (Phi i) n = (let b = narrow d j i n in units.once w.variable l.phi o.lies.phi u l.there there_too i b.0 b.1 ∙ sym (ph i))
+      agree p ph d j (Aux c) n = refl
 
-      described : (qs : List System) → In o.lies.piece qs → Describes (scene k.base) (meet l.piece (hull_of qs)) (numbers_of s) o.lies.phi
-      described qs i p st ph = meet_holds p l.piece (hull_of qs) (
-        rows_agree l.piece.rows (resubscripted p l.phi) p (agree p ph) (l.described (resubscripted p l.phi) (λ c t. st c t) (λ i. refl)),
-        in_hull p o.lies.piece qs i (o.lies.described p st ph),
-      )
+      -- numbers of all cells
+      abbrev AreAll : (ℕ → ℤ) → Type 0
+      AreAll n = AreNumbers (scene k.base) (numbers_of s) n
 
-      kept : (d : System) (ss : List System) → In d ss → Describes (scene k.base) d (numbers_of s) o.lies.phi → LiesAs k w.variable (unless_empty w ss) s u
-      kept d [] i h = elim i [ ]
-      kept d (c ∷ ss) i h = record { region = region w.variable Out false (c ∷ ss); is_one = here; kind = refl; same = refl; lies = record { phi = o.lies.phi; there = there_too; piece = d; is_one = i; described = h } }
+      abbrev units_now : ℕ → ℤ
+      units_now = stored (scene k.base) (numbers_of s)
 
-      met_some : (qs : List System) → In o.lies.piece qs → LiesAs k w.variable (met_with w qs) s u
-      met_some [] i = elim i [ ]
+      met_by : (n : ℕ → ℤ) → DescribedBy w.pieces n l.phi → (qs : List System) → (d : DescribedBy o.region.pieces n o.lies.phi) → In d.piece qs → DescribedBy (map (λ z. meet z (hull_of qs)) w.pieces) n o.lies.phi
+      met_by n c qs d i = record {
+        piece = meet c.piece (hull_of qs);
+        is_one = in_map (λ z. meet z (hull_of qs)) c.piece w.pieces c.is_one;
+        holds = λ p h ph. meet_holds p c.piece (hull_of qs) (
+          rows_agree c.piece.rows (resubscripted p l.phi) p (agree p ph c.piece c.is_one) (c.holds (resubscripted p l.phi) (λ j. h j) (λ j. refl)),
+          in_hull p d.piece qs i (d.holds p h ph),
+        );
+      }
+
+      kept : (ss : List System) → ((n : ℕ → ℤ) → AreAll n → DescribedBy ss n o.lies.phi) → LiesAs k w.variable (unless_empty w ss) s u
+      kept [] h = none_by units_now o.lies.phi (h units_now (λ c t. refl))
+      kept (c ∷ ss) h = record { region = region w.variable Out false (c ∷ ss); is_one = here; kind = refl; same = refl; lies = record { phi = o.lies.phi; there = there_too; described = h } }
+
+      met_some : (qs : List System) → ((n : ℕ → ℤ) (d : DescribedBy o.region.pieces n o.lies.phi) → In d.piece qs) → LiesAs k w.variable (met_with w qs) s u
+      met_some [] i = absurd (none_in (o.lies.described units_now (λ c t. refl)).piece (i units_now (o.lies.described units_now (λ c t. refl))))
       met_some (c ∷ qs) i =
-          kept (meet l.piece (hull_of (c ∷ qs))) (live_pieces (map (λ z. meet z (hull_of (c ∷ qs))) w.pieces))
-          (in_live (scene k.base) (meet l.piece (hull_of (c ∷ qs))) (map (λ z. meet z (hull_of (c ∷ qs))) w.pieces) (numbers_of s) o.lies.phi (described (c ∷ qs) i) (in_map (λ z. meet z (hull_of (c ∷ qs))) l.piece w.pieces l.is_one)) (described (c ∷ qs) i)
+          kept (live_pieces (map (λ z. meet z (hull_of (c ∷ qs))) w.pieces))
+          (λ n a. live_by (map (λ z. meet z (hull_of (c ∷ qs))) w.pieces) n o.lies.phi (met_by n (l.described n a) (c ∷ qs) (o.lies.described n a) (i n (o.lies.described n a))))
 
       met : LiesAs k w.variable (met_with w (used_pieces w.variable us)) s u
-      met = met_some (used_pieces w.variable us) (pieces_in w.variable us o.region o.lies.piece o.is_one q o.lies.is_one)
+      met = met_some (used_pieces w.variable us) (λ n d. pieces_in w.variable us o.region d.piece o.is_one q d.is_one)
 
     used_one : LiesAs k w.variable (used_of k.m.symbols us w) s u
     used_one = go (is_used_beside k.m.symbols us w.variable) refl
       where
         go : (b : Bool) → is_used_beside k.m.symbols us w.variable ≡ b → LiesAs k w.variable (if b then as_out w ∷ [] else met_with w (used_pieces w.variable us)) s u
-        go true e = record { region = as_out w; is_one = here; kind = refl; same = refl; lies = record { phi = l.phi; there = l.there; piece = l.piece; is_one = l.is_one; described = l.described } }
+        go true e = record { region = as_out w; is_one = here; kind = refl; same = refl; lies = record { phi = l.phi; there = l.there; described = l.described } }
         go false e = ⊎_elim met (λ c. absurd (true≢false (sym (beside_by k.m.symbols us w.variable o.region o.is_one c) ∙ e))) (units.apart w.variable o.region.variable l.phi o.lies.phi u l.there o.lies.there free)
 
   as_left : (v : Variable) (rs qs : List Region) (u : ℕ) → LiesAs k v rs s u → LiesAs k v (rs ++ qs) s u

@@ -21,7 +21,7 @@ use Rattle.in_out_regions.specs.region_translation.Units.{size_in}
 use Rattle.in_out_regions.specs.region_translation.Callee.{to_callee}
 use Rattle.call_graph.specs.CallsIn.{CallAt, Each, list_calls}
 use Rattle.laws_analyses.specs.Statements.Results.{pre_in}
-use Rattle.laws_analyses.proofs.Statements.NumberLaws.{in_order}
+use Rattle.laws_analyses.proofs.Statements.NumberLaws.{own_numbers}
 use Rattle.laws_analyses.specs.Calls.Parts.{Blocks, Part, Sane}
 use Rattle.laws_analyses.specs.Calls.ProgramLaws.{routines, Analysed, AnalysedParts, AnalysedProgram}
 use Rattle.laws_analyses.specs.Calls.Sites.{CoversFrom, Covers, lookup}
@@ -98,7 +98,7 @@ module _ (ks : List Known) (g : Graph) (b : Blocks) (cs : Callees) (rs is : List
       sets : Each (λ (c : CallAt). set_at (regions_in_part g cs (rs h.routine.name) h).at c.number ≡ called_in g cs (rs h.routine.name) h c.callee c.actuals) (list_calls h.routine.body)
       sets =
           let c = called_in g cs (rs h.routine.name) h in
-          call_sets h.scope h.found.transformer c h.routine.body (in_order (at_list h.routine.body h.scope h.found.transformer c) h.routine.body (r_list h.scope h.found.transformer c h.routine.body) analysed.numbered)
+          call_sets h.scope h.found.transformer c h.routine.body (own_numbers (at_list h.routine.body h.scope h.found.transformer c) h.routine.body (r_list h.scope h.found.transformer c h.routine.body) analysed.numbered)
 
       pub part_out : PartOut ks g b cs sites rs is us of may_name turns below h sane first
       part_out = record { part = po.part; downs = all_down (list_calls h.routine.body) analysed.calls p.regular.calls p.calls sets po.tells }

@@ -15,12 +15,12 @@ use Rattle.laws_lines.proofs.StatementVars.{AllAt}
 use Rattle.call_graph.specs.CallsIn.{list_calls}
 use Rattle.laws_marks.specs.InFrames.{Frame, rank}
 use Rattle.laws_marks.specs.InUnits.{IsNarrow, SetFits}
-use Rattle.laws_marks.proofs.InNarrow.{AnyCell}
 use Rattle.laws_marks.proofs.InNarrowed.{AreNarrowed, IsNarrowed, none_narrowed, both_narrowed, composed_narrowed, united_narrowed, list_narrowed}
 use Rattle.laws_marks.proofs.InSets.{may_of, IsFit, narrow_of, list_ordered, set_fits, at_fits, CallsFit}
 use Rattle.laws_marks.proofs.OutUsed.{of_writes}
+use Rattle.fx_lists.proofs.Every.{Anything}
 
-module _ (k : Frame) (done : (n : ℕ) → IsDone AnyCell (k.does n)) (body : StmtTrees) (calls : CallsFit (may_of k) k.m k.does k.calls done (list_calls body)) where
+module _ (k : Frame) (done : (n : ℕ) → IsDone Anything (k.does n)) (body : StmtTrees) (calls : CallsFit (may_of k) k.m k.does k.calls done (list_calls body)) where
   abbrev acc : List (At (List Region))
   acc = at_list body k.m k.does k.calls
 

@@ -19,8 +19,8 @@ use Rattle.loop_marker.specs.out_regions.Lists.{writes, used_behind, rest_of, fi
 use Rattle.loop_marker.specs.out_regions.Statement.{body_out, only_out, loop_out, at_parts, at_arms, at_arm, at_else, at_any, at_used, at_rest, at_first, at_list}
 use Rattle.loop_marker.specs.out_regions.Used.{all_out, is_used_beside, used_pieces, unless_empty, met_with, used_of, if_write, used}
 use Rattle.call_graph.specs.CallsIn.{Each}
-use Rattle.laws_analyses.proofs.CallLists.{each_joined}
 use Rattle.in_out_regions.specs.region_sets.Lists.{set_at}
+use Rattle.call_graph.proofs.EachLaws.{each_joined}
 
 -- an OUT region, and a region of its variable among these
 pub record Written (ws : List Region) (r : Region) : Type 0 where

@@ -1,5 +1,5 @@
 -- GO TOs that lead out of a list that is executed in its order name no label in it, at whatever depth: each statement with the label of a GO TO stands in a list around it.
-use Rattle.std.proofs.Common.{◌≡◌, ◌⊎◌, inl, inr, ⊎_elim, ℕ, ◌+◌, ◌≤◌, ◌<◌, Bool, true, false, List, [], ◌∷◌, ◌++◌, nat_eq, Option, Some, None, refl, sym, ap, ◌∙◌, subst, arith, true≢false}
+use Rattle.std.proofs.Common.{◌≡◌, ◌⊎◌, inl, inr, ⊎_elim, ℕ, ◌+◌, ◌≤◌, ◌<◌, Bool, true, false, List, [], ◌∷◌, nat_eq, Option, Some, None, refl, sym, ap, ◌∙◌, subst, arith, true≢false}
 use Rattle.std.specs.Prelude.{◌||◌, ◌&&◌, not}
 use Rattle.std.specs.List.{list_all}
 use Rattle.std.proofs.lemmas.Bool.{and_parts, or_left, or_right, or_parts}
@@ -13,7 +13,7 @@ use Rattle.laws_programs.proofs.RoundtripPrograms.ModuleTexts.Outlines.{Going, O
 use Rattle.laws_programs.proofs.RoundtripPrograms.ModuleTexts.TreeOutlines.{outline_by, outline_body, outline_arms, outline_else, outline_in}
 use Rattle.laws_programs.proofs.RoundtripPrograms.ModuleTexts.Shown as lists
 use Rattle.laws_programs.proofs.RoundtripPrograms.ModuleTexts.Reached.{AllReach}
-use Rattle.laws_programs.specs.roundtrip_programs.ModuleTexts.Numbered.{last_of, last_arms, last_in, NumberedBelow, NumberedBody, NumberedBlock, NumberedArms, NumberedElse, AreNumbered}
+use Rattle.laws_programs.specs.roundtrip_programs.ModuleTexts.Numbered.{last_of, last_arms, last_in, NumberedBelow, NumberedBody, NumberedArms, NumberedElse, AreNumbered}
 use Rattle.laws_programs.proofs.Ordered.{BelowOrdered, LoopOrdered, ArmsOrdered, ElseOrdered, ListOrdered}
 use Rattle.preconditions.specs.transformer_algebra.Cells.{has, others}
 use Rattle.preconditions.specs.transformers.Jumps.{before_labels, labels, goes_to, list_has, early_return, unstructured}
@@ -28,6 +28,8 @@ use Rattle.laws_marks.proofs.InFirsts.{not_so}
 use Rattle.laws_marks.specs.OutLabels.{EachOutward, IsOutward, PartsOutward, StmtsOutward, ArmsOutward, ElseOutward, LoopOutward}
 use Rattle.fx_lists.proofs.Booleans.{or_split}
 use Rattle.fx_lists.proofs.Numbers.{same_is as nat_same, nat_eq_same}
+use Rattle.preconditions.proofs.TransformerAlgebra.HasLaws.{has_either}
+use Rattle.laws_programs.proofs.RoundtripPrograms.ModuleTexts.Counting.{block-arms}
 
 only : (l m : ℕ) → has (l ∷ []) m ≡ true → l ≡ m
 only l m h = or_split (nat_eq l m) false h (λ e. nat_same l m e) (λ e. absurd (true≢false (sym e)))
@@ -255,10 +257,6 @@ split_labels : (label : Option ℕ) (ls : List ℕ) (l : ℕ) → has (before_la
 split_labels None ls l h = inr h
 split_labels (Some k) ls l h = or_split (nat_eq k l) (has ls l) h (λ e. inl (ap Some (nat_same k l e))) (λ e. inr e)
 
-has_split : (ls ms : List ℕ) (l : ℕ) → has (ls ++ ms) l ≡ true → (has ls l ≡ true) ⊎ (has ms l ≡ true)
-has_split [] ms l h = inr h
-has_split (k ∷ ls) ms l h = or_split (nat_eq k l) (has (ls ++ ms) l) h (λ e. inl (or_left (nat_eq k l) (has ls l) e)) (λ e. ⊎_elim (λ a. inl (or_right (nat_eq k l) (has ls l) a)) (λ a. inr a) (has_split ls ms l e))
-
 -- a label directly in a list
 listed : (t : StmtTrees) (o : Outline) (l : ℕ) → has (labels t) l ≡ true → StandsHere o (outline_in t o) l
 listed no_stmts o l h = absurd (true≢false (sym h))
@@ -296,10 +294,6 @@ bare_none : (label : Option ℕ) (w : WhatTree) → label ≡ None → IsWhat w 
 bare_none None w e f l h = plain_none w f l h
 bare_none (Some k) w e f l h = cc
 
-pub block_parts : (n : ℕ) (arms : ArmTrees) → NumberedBlock n arms → NumberedArms n arms
-block_parts n no_arms a = tt
-block_parts n (more_arms (arm test body) others) a = record { below = a.below; parts = a.parts }
-
 -- what stands in a list within
 within_from : (body : StmtTrees) (o : Outline) (l : ℕ) → (has (labels body) l ≡ true) ⊎ Stands (begins o) (outline_in body (begins o)) l → Stands o (leaves (outline_in body (begins o))) l
 within_from body o l h = ⊎_elim here inside h
@@ -314,7 +308,7 @@ mutual
   list_stands : (n : ℕ) (t : StmtTrees) → AreNumbered n t → ListOrdered n t → (o : Outline) (l : ℕ) → has (list_labels t) l ≡ true → (has (labels t) l ≡ true) ⊎ Stands o (outline_in t o) l
   list_stands n no_stmts a f o l h = absurd (true≢false (sym h))
   list_stands n (more_stmts (stmt id label w) rest) a f o l h =
-      ⊎_elim (λ e. first e (λ q. what_stands (n + 1) label w a.first.below f.0.1 o l q)) (λ e. later (list_stands (last_of n (stmt id label w)) rest a.behind f.1 (outline_by label w o) l e)) (has_split (before_labels label (what_labels w)) (list_labels rest) l h)
+      ⊎_elim (λ e. first e (λ q. what_stands (n + 1) label w a.first.below f.0.1 o l q)) (λ e. later (list_stands (last_of n (stmt id label w)) rest a.behind f.1 (outline_by label w o) l e)) (has_either (before_labels label (what_labels w)) (list_labels rest) l h)
     where
       mine : label ≡ Some l → has (before_labels label (labels rest)) l ≡ true
       mine e = subst (λ b. has (before_labels b (labels rest)) l ≡ true) (sym e) (or_left (nat_eq l l) (has (labels rest) l) (nat_eq_same l))
@@ -337,7 +331,7 @@ mutual
       let r = outline_else other q in
       let c = (lands_step label o).count in
       let d = (arms_step arms p).count in
-      ⊎_elim (λ e. stands_more o q r l (λ x m. else_keeps other q x m) (stands_from o p q l c (arms_stand n arms (block_parts n arms a.parts) f.0 p l e))) (λ e. stands_from o q r l (omega (arith, c, d)) (else_stands (last_arms n arms) other a.last f.1 q l e)) (has_split (arms_labels arms) (else_labels other) l h)
+      ⊎_elim (λ e. stands_more o q r l (λ x m. else_keeps other q x m) (stands_from o p q l c (arms_stand n arms (block-arms n arms a.parts) f.0 p l e))) (λ e. stands_from o q r l (omega (arith, c, d)) (else_stands (last_arms n arms) other a.last f.1 q l e)) (has_either (arms_labels arms) (else_labels other) l h)
   what_stands n label (logical_if e (stmt id own_label w)) a f o l h = absurd (bare_none own_label w a.bare f.1 l h)
   what_stands n label (do_loop d) a f o l h = stands_from o (lands label o) (outline_body d (lands label o)) l (lands_step label o).count (body_stands n d a f (lands label o) l h)
   what_stands n label (call c es) a f o l h = absurd (true≢false (sym h))
@@ -356,7 +350,7 @@ mutual
   arms_stand n (more_arms (arm test body) rest) a f o l h =
       let p = leaves (outline_in body (begins o)) in
       let c = (list_step_in o (outline_in body (begins o)) (InLabels body) (goings_in body) (list_step body (begins o))).count in
-      ⊎_elim (λ e. stands_more o p (outline_arms rest p) l (λ x m. arms_keeps rest p x m) (within_from body o l (list_stands n body a.below f.0 (begins o) l e))) (λ e. stands_from o p (outline_arms rest p) l c (arms_stand (last_in n body) rest a.parts f.1 p l e)) (has_split (list_labels body) (arms_labels rest) l h)
+      ⊎_elim (λ e. stands_more o p (outline_arms rest p) l (λ x m. arms_keeps rest p x m) (within_from body o l (list_stands n body a.below f.0 (begins o) l e))) (λ e. stands_from o p (outline_arms rest p) l c (arms_stand (last_in n body) rest a.parts f.1 p l e)) (has_either (list_labels body) (arms_labels rest) l h)
 
   else_stands : (n : ℕ) (other : ElseTree) → NumberedElse n other → ElseOrdered n other → (o : Outline) (l : ℕ) → has (else_labels other) l ≡ true → Stands o (outline_else other o) l
   else_stands n no_else a f o l h = absurd (true≢false (sym h))
@@ -453,7 +447,7 @@ module _ (F : List Landing) (G : List Going) (reach : AllReach F G) where
         let k = goings_else other in
         let both = step_then p q r Never Never Never m k (λ l x. x) (λ l x. x) s t in
         let j = second_part F G [] o p r (Own label) Never 0 (m + k) (m + k) (omega arith) i (lands_step label o) both in (
-          arms_parts n arms (block_parts n arms a.parts) f.0 p (first_part F G [] p q r Never Never m k (m + k) refl j s t) (λ x z. ends x (else_keeps other q x z)),
+          arms_parts n arms (block-arms n arms a.parts) f.0 p (first_part F G [] p q r Never Never m k (m + k) refl j s t) (λ x z. ends x (else_keeps other q x z)),
           else_parts (last_arms n arms) other a.last f.1 q (second_part F G [] p q r Never Never m k (m + k) refl j s t) ends,
         )
     what_parts n label (logical_if e (stmt id own_label w)) a f o i ends = plain_parts w f.1

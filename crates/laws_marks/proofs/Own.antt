@@ -47,6 +47,7 @@ use Rattle.laws_marks.specs.Units.{IsPassing, UnitsStand, ModuleUnitsStand}
 use Rattle.laws_marks.proofs.Elements.{HasElement}
 use Rattle.laws_marks.proofs.Outs.{AreWritten}
 use Rattle.call_graph.specs.Visible.{is_local}
+use Rattle.fx_lists.proofs.Booleans.{or_neither}
 
 -- ---- names that allow copies
 
@@ -110,13 +111,9 @@ element_at ks g tracked x u r l =
 
 -- ---- what is visible at a statement
 
-hidden_nowhere : (b c : Bool) → (b || c) ≡ false → (b ≡ false) × (c ≡ false)
-hidden_nowhere true c e = cc
-hidden_nowhere false c e = (refl, e)
-
 none_passes : (ks : List Known) (g : Graph) (x : Occurrence) (j : ℕ) (u : ℕ) → x.spot.statement ≡ suc j → is_hidden ks g x.ran.trace u ≡ false → is_visible ks g x u ≡ true
 none_passes ks g x j u at h =
-    let q = hidden_nowhere (is_own_unit (numbering ks g) u) (is_lost ks g x.ran.trace u) h in
+    let q = or_neither (is_own_unit (numbering ks g) u) (is_lost ks g x.ran.trace u) h in
     and_from (not (is_own_unit (numbering ks g) u)) (not (is_passing ks g x u)) (ap not q.0) (ap not (none ks q.1))
   where
     no_entry : (m : List ℕ) → is_entry_of m x.spot ≡ false
@@ -135,7 +132,7 @@ none_passes ks g x j u at h =
         let lost = list_any (λ v. nat_eq v u) (all_lost (numbering ks g) k.read.name k.symbols k.symbols) in
         let F : Known → Bool = λ z. is_entered z.read.name x.ran.trace && list_any (λ v. nat_eq v u) (all_lost (numbering ks g) z.read.name z.symbols z.symbols) in
         let G : Known → Bool = λ z. (is_entry_of z.read.name x.spot || is_entered z.read.name x.ran.trace) && list_any (λ v. nat_eq v u) (all_lost (numbering ks g) z.read.name z.symbols z.symbols) in
-        let o = hidden_nowhere (F k) (list_any F qs) e in
+        let o = or_neither (F k) (list_any F qs) e in
         let first : G k ≡ false = ap (λ b. (b || is_entered k.read.name x.ran.trace) && lost) (no_entry k.read.name) ∙ o.0 in
         ap (λ b. b || list_any G qs) first ∙ none qs o.1
 

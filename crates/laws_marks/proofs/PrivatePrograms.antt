@@ -26,12 +26,12 @@ use Rattle.laws_marks.specs.OutClaims.{OutRegionsHold}
 use Rattle.laws_marks.specs.Dead.{CopiesLieInOwn, PrivatesAreDead}
 use Rattle.laws_marks.specs.Units.{ModuleUnitsStand}
 use Rattle.laws_marks.specs.DeadLaws.{outs_of, AllUnitsStand, AllCopiesLieInOwn, AllPrivatesAreDead, ReadUnitsStand, ReadCopiesLieInOwn}
-use Rattle.laws_marks.proofs.UnitsStanding.{each_of_all}
 use Rattle.laws_marks.proofs.Dead.{privates_dead}
 use Rattle.laws_marks.proofs.Merging.{Joined, merged, throughout_both}
 use Rattle.laws_marks.proofs.Own.{copies_lie}
 use Rattle.laws_marks.proofs.Modules.{Stands, stands, no_entry}
 use Rattle.laws_analyses.proofs.Claimed.{all_of_each}
+use Rattle.call_graph.proofs.EachLaws.{each_of_all}
 
 module _ (ps : List ParsedTree) (sss : List (List SymbolTree)) (g : Graph) (x : IsProgram ps sss g) (copies : CopiesAreSole) where
   -- ---- OUT regions of the variable itself

@@ -1,8 +1,7 @@
 -- Programs that are read, with directives that are marks: what is claimed of marked loops holds along their runs, and so these do the same by any schedule.
-use Rattle.std.proofs.Common.{◌≡◌, ◌⊎◌, inl, inr, ⊎_elim, ℕ, true, List, [], ◌∷◌, map, refl, sym, ap, subst, bytes_eq}
-use Rattle.std.proofs.lemmas.Slice.Eq.{bytes_eq-Decides}
+use Rattle.std.proofs.Common.{◌≡◌, ◌⊎◌, inl, inr, ⊎_elim, ℕ, List, [], ◌∷◌, map, sym, ap, subst}
 use Rattle.f77_ast.specs.DeclTrees.{ParsedTree}
-use Rattle.f77_ast.specs.StatementNumbers.{IsNumbered}
+use Rattle.f77_ast.specs.StatementNumbers.{HasNumbers}
 use Rattle.f77_ast.specs.Store.{Content}
 use Rattle.f77_ast.specs.Runs.{Event, Answer, Gave, Broke, Ran}
 use Rattle.f77_ast.specs.Plans.{Flow, Normal, Jump, Returned, Stopped, Plan}
@@ -16,7 +15,7 @@ use Rattle.f77_meaning.specs.Linked.{numbering, routine, main_of, subroutines, p
 use Rattle.loop_marker.specs.Results.{ModuleResults}
 use Rattle.loop_marker.specs.Phases.{all_marks}
 use Rattle.laws_programs.specs.Programs.{IsProgram}
-use Rattle.laws_programs.proofs.Numbers.{is_numbered}
+use Rattle.laws_programs.proofs.Numbers.{has_numbers}
 use Rattle.laws_programs.proofs.Whole.{numbers_go_up}
 use Rattle.laws_programs.specs.Storage.Programs.{known}
 use Rattle.laws_programs.proofs.Storage.ModuleLaws.{known_module}
@@ -51,6 +50,7 @@ use Rattle.laws_marks.proofs.Fitted.{Stands}
 use Rattle.laws_marks.proofs.AtMarked.{Claimed, PlacesOf, routine_holds}
 use Rattle.laws_marks.proofs.Runs.{in_runs}
 use Rattle.laws_programs.proofs.Effects.Once.{main_of_linked as some_main}
+use Rattle.fx_lists.proofs.Texts.{same_name}
 
 -- ---- runs that end
 
@@ -71,16 +71,13 @@ record Suffix (p : Program) (turns : ℕ) (rs : List Routine) : Type 0 where
   apart : (u : ℕ) → AllApart u p.others → AllApart u rs
   inactive : (y : List ℕ) (u : ℕ) → Named rs y → IsInactive rs y u → IsInactive (p.main ∷ p.others) y u
 
-itself : (y : List ℕ) → bytes_eq y y ≡ true
-itself y = (bytes_eq-Decides y y).1 refl
-
 stands_of : (p : Program) (turns : ℕ) (r : Routine) (rs : List Routine) → Suffix p turns (r ∷ rs) → Stands p turns r rs
 stands_of p turns r rs s = record {
   tagged = s.tagged.1;
   ends = s.ends.2;
   inside = λ u h. inr (s.some u (⊎_elim (λ e. inl (inr e)) (λ z. inr z) h));
   apart = λ u a. (s.apart u a).1;
-  inactive = λ u h. s.inactive r.name u (inl (itself r.name)) (inl (itself r.name, h));
+  inactive = λ u h. s.inactive r.name u (inl (same_name r.name)) (inl (same_name r.name, h));
 }
 
 rest_of_suffix : (p : Program) (turns : ℕ) (r : Routine) (rs : List Routine) → Distinct (r ∷ rs) → Suffix p turns (r ∷ rs) → Suffix p turns rs
@@ -114,10 +111,10 @@ module _ (begin : LoopsBegin) (hold : LoopsHold) (copied : NamesAreCopied) (type
   abbrev C : Execution → List Event → Type 0
   C = Claimed begin hold copied ps sss g x turns d
 
-  numbered : (k : Known) → IsIn (known_of ps sss) k → IsNumbered k.read.body
+  numbered : (k : Known) → IsIn (known_of ps sss) k → HasNumbers k.read.body
   numbered k h =
       let m = module_at ps sss h.at k h.is_module in
-      subst (λ (z : Known). IsNumbered z.read.body) m.same (is_numbered m.parsed.module_read.body (numbers_go_up x.lines ps x.parsed h.at m.parsed m.is_module.parsed))
+      subst (λ (z : Known). HasNumbers z.read.body) m.same (has_numbers m.parsed.module_read.body (numbers_go_up x.lines ps x.parsed h.at m.parsed m.is_module.parsed))
 
   others_are : map of others ≡ P.others
   others_are = subs_are (known_of ps sss) g g.order
@@ -154,7 +151,7 @@ module _ (begin : LoopsBegin) (hold : LoopsHold) (copied : NamesAreCopied) (type
     ends = suffix.ends;
     inside = λ u h. ⊎_elim inl (λ s. inr (suffix.some u s)) h;
     apart = suffix.apart;
-    inactive = λ u h. inl (itself P.main.name, ⊎_elim inl (λ s. inr (suffix.some u s)) h);
+    inactive = λ u h. inl (same_name P.main.name, ⊎_elim inl (λ s. inr (suffix.some u s)) h);
   }
 
   main_holds : RoutineHolds turns d (units N) C P.main P.others

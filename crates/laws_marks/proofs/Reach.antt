@@ -14,7 +14,7 @@ use Rattle.laws_analyses.proofs.Statements.Ends.{more}
 use Rattle.laws_interleavings.specs.Typed.{IsTagged, AllTagged}
 use Rattle.laws_interleavings.specs.Plans.Cleared.{HasNoValue, Cleared, OffPlaces, EndsWell, MeaningCleared, AllApart, AllEnd}
 use Rattle.laws_interleavings.proofs.Plans.Fine.{scalars_tagged}
-use Rattle.laws_interleavings.proofs.Plans.Cleared.{other, forgotten, scalars_off, cleared_forget_all, cleared_module, cleared_meanings}
+use Rattle.laws_interleavings.proofs.Plans.Cleared.{forgotten, scalars_off, cleared_forget_all, cleared_module, cleared_meanings}
 use Rattle.laws_marks.specs.ConflictExecutions.{Execution, AtEachExecution}
 use Rattle.laws_marks.proofs.ConflictEach.{plan_after}
 use Rattle.laws_marks.proofs.Apart.{FixedOff}
@@ -53,7 +53,7 @@ module _ (u : ℕ) (A : List ℕ → Type 0) where
 
       body_cleared : Cleared u does
       body_cleared =
-          cleared_module u turns z r rs tagged clear well ps at locked o (scalars_tagged (other u) (other u) r.names r.dummies ps r.fixed tagged.dummies tagged.fixed)
+          cleared_module u turns z r rs tagged clear well ps at locked o (scalars_tagged r.names r.dummies ps r.fixed tagged.dummies tagged.fixed)
           (scalars_off u locked r.names r.dummies ps r.fixed z o (λ x v e d k. fixed x v e d))
 
       body_each : Each u A does

@@ -36,9 +36,6 @@ use Rattle.laws_marks.specs.RunLaws.{MarksHoldInRuns}
 use Rattle.laws_marks.specs.Loops.{StmtDos, WhatDos, LoopDos, ArmsDos, ArmDos, ElseDos, ListDos, AreOff, MarkedDoHolds, IsOutside, AreOutside, RoutineHolds, RoutinesHold}
 use Rattle.laws_marks.proofs.Fit.{Direct, Fit, held, fit_unmarked, fit_then, fit_first, fit_after, fit_if, PartsFit, fit_list, fit_iterations, fit_begins, first_marks}
 
-all : ℕ → Bool
-all u = true
-
 -- what holds of each unit
 yields_all : {A : Type 0} (units : ℕ → Type 0) (P : ℕ → A → Type 0) (t : Steps A) → ((u : ℕ) → units u → Yields (P u) t) → Yields (λ a. (u : ℕ) → units u → P u a) t
 yields_all units P (steps.Done a) h = h
@@ -156,7 +153,7 @@ module _ (units : List Routine → ℕ → Type 0) (more : (r : Routine) (rs : L
       Fit C (marked_body r (scope_in r rs) ps at locked)
   fit_body r rs tagged d h ps at locked o ok off =
       fit_first C (λ at'. TagsStand r.names at' × AreOff (units (r ∷ rs)) locked r.names at') (arrays_bound r.dummies ps r.names at) _
-      (yields_with (TagsStand r.names) (AreOff (units (r ∷ rs)) locked r.names) (arrays_bound r.dummies ps r.names at) (arrays_tagged all all r.dummies ps r.names at tagged.dummies ok)
+      (yields_with (TagsStand r.names) (AreOff (units (r ∷ rs)) locked r.names) (arrays_bound r.dummies ps r.names at) (arrays_tagged r.dummies ps r.names at tagged.dummies ok)
       (yields_all (units (r ∷ rs)) (λ u. Off u locked r.names) (arrays_bound r.dummies ps r.names at) (λ u e. arrays_off u locked r.dummies ps r.names at (zero_off (r ∷ rs) u e) (o u e) (off u e))))
       (λ at' q. fit_list C turns (marked_parts r.body (scope_in r rs) at' (lock_doubly locked r.dummies at' r.common))
       (fit_parts (units (r ∷ rs)) C (scope_in r rs) h at' q.0 r.body d (lock_doubly locked r.dummies at' r.common)
@@ -167,7 +164,7 @@ module _ (units : List Routine → ℕ → Type 0) (more : (r : Routine) (rs : L
       let at = scalars_bound r.dummies ps r.fixed in (
         inl
             (fit_forget C r.locals (marked_body r (scope_in r rs) ps at locked)
-            (fit_body r rs tagged d h ps at locked o (scalars_tagged all all r.names r.dummies ps r.fixed tagged.dummies tagged.fixed)
+            (fit_body r rs tagged d h ps at locked o (scalars_tagged r.names r.dummies ps r.fixed tagged.dummies tagged.fixed)
             (λ u e. scalars_off u locked r.names r.dummies ps r.fixed (zero_off (r ∷ rs) u e) (o u e) (λ x v g k m. out u e x v g k)))),
         λ f. fit_unmarked C (after_call r.locals f),
       )

@@ -158,14 +158,14 @@ module _ (u : ℕ) where
     spared_module r rs tagged h ps at locked o ok off =
         fine_first_so (other u) all (λ at'. TagsStand r.names at' × Off u locked r.names at') (arrays_bound r.dummies ps r.names at) (λ at'. body_plan r.body (scope r turns (meanings rs turns)) at' (lock_doubly locked r.dummies at' r.common))
         (fine_arrays (other u) all r.dummies ps r.names at tagged.dummies ok)
-        (yields_with (TagsStand r.names) (Off u locked r.names) (arrays_bound r.dummies ps r.names at) (arrays_tagged (other u) all r.dummies ps r.names at tagged.dummies ok) (arrays_off u locked r.dummies ps r.names at z o off))
+        (yields_with (TagsStand r.names) (Off u locked r.names) (arrays_bound r.dummies ps r.names at) (arrays_tagged r.dummies ps r.names at tagged.dummies ok) (arrays_off u locked r.dummies ps r.names at z o off))
         (λ at' q. spared_body (scope r turns (meanings rs turns)) h at' q.0 r.body (lock_doubly locked r.dummies at' r.common) (off_more u locked (lock_doubly locked r.dummies at' r.common) r.names at' (doubly_none u locked r.dummies at' r.common) q.1))
 
     spared_called : (r : Routine) (rs : List Routine) → IsTagged r → IsOutside u r → CallsSpared rs → MeaningSpared (called r turns (meanings rs turns))
     spared_called r rs tagged out h ps locked o =
         let at = scalars_bound r.dummies ps r.fixed in (
           fine_forget (other u) all r.locals (owned r.locals) (body_of r turns (meanings rs turns) ps at locked)
-              (spared_module r rs tagged h ps at locked o (scalars_tagged (other u) all r.names r.dummies ps r.fixed tagged.dummies tagged.fixed)
+              (spared_module r rs tagged h ps at locked o (scalars_tagged r.names r.dummies ps r.fixed tagged.dummies tagged.fixed)
               (scalars_off u locked r.names r.dummies ps r.fixed z o (λ x v g k m. out x v g k))),
           λ f. fine_after_call (other u) all r.locals (owned r.locals) f,
         )

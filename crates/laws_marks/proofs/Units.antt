@@ -1,8 +1,8 @@
 -- Units of expressions that are actuals, and of locals that are not saved, are no units of the variables of modules that do not have them.
-use Rattle.std.proofs.Common.{◌≡◌, ◌⊎◌, inl, inr, ⊎_elim, ℕ, zero, suc, ◌+◌, ◌-◌, ◌<◌, ◌≤◌, Bool, true, false, ◌||◌, List, [], ◌∷◌, ◌++◌, map, Option, Some, None, refl, sym, ap, ap₂, ◌∙◌, subst, arith, nat_eq, true≢false}
-use Rattle.std.specs.Prelude.{not, if◌then◌else◌, nat_le, nat_lt, slice_get, bytes_eq}
+use Rattle.std.proofs.Common.{◌≡◌, ◌⊎◌, inl, inr, ⊎_elim, ℕ, ◌+◌, ◌-◌, ◌<◌, ◌≤◌, Bool, true, false, List, [], ◌∷◌, map, Option, Some, None, refl, sym, ap, ap₂, ◌∙◌, subst, arith, nat_eq, true≢false}
+use Rattle.std.specs.Prelude.{not, if◌then◌else◌, nat_le, nat_lt, bytes_eq}
 use Rattle.std.specs.List.{list_any}
-use Rattle.std.proofs.lemmas.Bool.{and_from, and_parts, or_right, eqb-true}
+use Rattle.std.proofs.lemmas.Bool.{and_from, and_parts, eqb-true}
 use Rattle.std.proofs.lemmas.Bool.Decides.{nat_tests}
 use Rattle.std.proofs.lemmas.Slice.Eq.{bytes_eq-Decides}
 use Rattle.f77_ast.specs.DeclTrees.{ParsedTree}
@@ -37,6 +37,7 @@ use Rattle.laws_marks.specs.Loops.{IsOutside, AreOutside}
 use Rattle.laws_marks.proofs.Spared.{AllOutside}
 use Rattle.f77_ast.proofs.StorageLaws.{from_number as numbered_place}
 use Rattle.call_graph.specs.Visible.{is_local}
+use Rattle.laws_programs.proofs.Effects.Passing.{among_units, of_symbols}
 
 -- ---- units by the modules at hand
 
@@ -92,38 +93,10 @@ local_area w (place.Block b o) e = cc
 local_area w (place.Dummy k) e = cc
 local_area w (place.Constant v) e = cc
 
-among_units : (first n u : ℕ) → first ≤ u → u < first + n → list_any (λ v. nat_eq v u) (units_from first n) ≡ true
-among_units first zero u l m = absurd (omega (arith, l, m))
-among_units first (suc n) u l m = go (nat_eq first u) refl (λ k. among_units (suc first) n u k (omega (arith, m)))
-  where
-    more : (a b : ℕ) → a ≤ b → nat_eq a b ≡ false → suc a ≤ b
-    more a b l e = grind (arith, nat_tests, l, e)
-
-    go : (b : Bool) → nat_eq first u ≡ b → (suc first ≤ u → list_any (λ v. nat_eq v u) (units_from (suc first) n) ≡ true) → (b || list_any (λ v. nat_eq v u) (units_from (suc first) n)) ≡ true
-    go true e ih = refl
-    go false e ih = ih (more first u l e)
-
-any_left : (f : ℕ → Bool) (xs ys : List ℕ) → list_any f xs ≡ true → list_any f (xs ++ ys) ≡ true
-any_left f [] ys h = absurd (true≢false (sym h))
-any_left f (x ∷ xs) ys h = go (f x) h (λ q. any_left f xs ys q)
-  where
-    go : (b : Bool) → (b || list_any f xs) ≡ true → (list_any f xs ≡ true → list_any f (xs ++ ys) ≡ true) → (b || list_any f (xs ++ ys)) ≡ true
-    go true e ih = refl
-    go false e ih = ih e
-
-any_right : (f : ℕ → Bool) (xs ys : List ℕ) → list_any f ys ≡ true → list_any f (xs ++ ys) ≡ true
-any_right f [] ys h = h
-any_right f (x ∷ xs) ys h = or_right (f x) (list_any f (xs ++ ys)) (any_right f xs ys h)
-
-among_lost : (n : Numbering) (w : List ℕ) (ss rest : List SymbolTree) (i : ℕ) (s : SymbolTree) (u : ℕ) → slice_get rest i ≡ Some s → list_any (λ v. nat_eq v u) (lost_units n w ss s s.place) ≡ true → list_any (λ v. nat_eq v u) (all_lost n w ss rest) ≡ true
-among_lost n w ss [] i s u e h = cc
-among_lost n w ss (t ∷ rest) zero s u e h = (let same : t ≡ s = cc in any_left (λ v. nat_eq v u) (lost_units n w ss t t.place) (all_lost n w ss rest) (subst (λ (q : SymbolTree). list_any (λ v. nat_eq v u) (lost_units n w ss q q.place) ≡ true) (sym same) h))
-among_lost n w ss (t ∷ rest) (suc i) s u e h = any_right (λ v. nat_eq v u) (lost_units n w ss t t.place) (all_lost n w ss rest) (among_lost n w ss rest i s u e h)
-
 -- a unit in the place of such a local is one of those of its module
 lost_there : (n : Numbering) (w : List ℕ) (ss : List SymbolTree) (v : ℕ) (p : IsPassing ss v) (u : ℕ) → in_place (fixed_maybe n w ss (symbol_at ss v)) u ≡ true → list_any (λ c. nat_eq c u) (all_lost n w ss ss) ≡ true
 lost_there n w ss v p u h =
-    among_lost n w ss ss (v - 1) p.symbol u (numbered_place ss v p.symbol p.is_symbol)
+    of_symbols n w ss ss (v - 1) p.symbol u (numbered_place ss v p.symbol p.is_symbol)
     (in_units p.symbol.place refl (subst (λ o. in_place (fixed_maybe n w ss o) u ≡ true) p.is_symbol h))
   where
     le-from : (a b : ℕ) → nat_le a b ≡ true → a ≤ b

@@ -1,9 +1,8 @@
 -- Programs that are read: what is claimed of the units of variables holds at each DO, in every run.
-use Rattle.std.proofs.Common.{◌≡◌, ℕ, zero, suc, List, [], ◌∷◌, ◌++◌, arith, sym, ap, ◌∙◌, subst}
-use Rattle.std.specs.Prelude.{All}
+use Rattle.std.proofs.Common.{◌≡◌, ℕ, List, ◌∷◌, ◌++◌, sym, ap, ◌∙◌, subst}
 use Rattle.f77_ast.specs.DeclTrees.{ParsedTree}
 use Rattle.f77_ast.specs.Programs.{program_plan}
-use Rattle.f77_ast.specs.StatementNumbers.{IsNumbered}
+use Rattle.f77_ast.specs.StatementNumbers.{HasNumbers}
 use Rattle.f77_ast.specs.Symbols.{SymbolTree}
 use Rattle.f77_ast.specs.declared.results.Results.{Results}
 use Rattle.call_graph.specs.declared.graph.Graph.{Graph}
@@ -28,11 +27,10 @@ use Rattle.laws_analyses.specs.JumpLaws.{JumpsStayInside}
 use Rattle.laws_analyses.specs.Results.{callees_of_all, analysed_entry, analysed_sites}
 use Rattle.laws_analyses.specs.ScalarLaws.{NamesAgree, AcceptedDataStaysInLocals}
 use Rattle.laws_analyses.proofs.Analyses.{Located, all_located}
-use Rattle.laws_analyses.proofs.CallLists.{each_more}
 use Rattle.laws_analyses.proofs.IntegerLaws.{integers_fit}
 use Rattle.laws_analyses.proofs.MainLaws.{main_from, built_at}
 use Rattle.laws_analyses.proofs.Modules.{module_named_is}
-use Rattle.laws_analyses.proofs.Whole.{analyses_follow}
+use Rattle.laws_analyses.proofs.Whole.{analyses_follow, settled, ready}
 use Rattle.laws_analyses.specs.Regions.Accepted.{after, summaries_of as reads_of}
 use Rattle.laws_analyses.specs.Regions.Programs.{regions_in_part}
 use Rattle.laws_analyses.proofs.Regions.Carrying.{LinkLaws}
@@ -42,7 +40,7 @@ use Rattle.laws_analyses.proofs.Regions.ToldBlocks.{blocks_told}
 use Rattle.laws_analyses.proofs.Regions.ToldSymbols.{names_told}
 use Rattle.laws_marks.specs.InAccepted.{summaries_of}
 use Rattle.laws_marks.specs.InTogether.{LocalsAreSavedTogether}
-use Rattle.laws_marks.proofs.InAccepted.{settled, ready, all_laid, main_laid}
+use Rattle.laws_marks.proofs.InAccepted.{all_laid, main_laid}
 use Rattle.laws_marks.proofs.InLayouts.{may_name}
 use Rattle.laws_marks.proofs.InWhole.{part_first, parts_first}
 use Rattle.laws_marks.specs.ConflictExecutions.{Execution}
@@ -56,16 +54,13 @@ use Rattle.laws_analyses.proofs.Claimed.{all_of_each}
 use Rattle.laws_programs.proofs.Effects.Once.{main_of_linked as some_main}
 use Rattle.laws_analyses.proofs.Regions.Accepted.{cards_of_held}
 use Rattle.in_out_regions.specs.region_sets.Lists.{set_at}
+use Rattle.call_graph.proofs.EachLaws.{each_more}
 
 -- ---- lists
 
-pub each_of_all : {T : Type 0} (P : T → Type 0) (xs : List T) → All P xs → Each P xs
-each_of_all P [] h = tt
-each_of_all P (y ∷ xs) h = (h zero y (omega arith), each_of_all P xs (λ k d lt. h (suc k) d (omega (arith, lt))))
-
 -- ---- what is claimed of a part is what is claimed of its module
 
-module _ (ps : List ParsedTree) (sss : List (List SymbolTree)) (g : Graph) (l : IsLinked ps sss g) (numbered : (i : ℕ) (p : ParsedTree) (ss : List SymbolTree) → IsModule ps sss i p ss → IsNumbered p.module_read.body) where
+module _ (ps : List ParsedTree) (sss : List (List SymbolTree)) (g : Graph) (l : IsLinked ps sss g) (numbered : (i : ℕ) (p : ParsedTree) (ss : List SymbolTree) → IsModule ps sss i p ss → HasNumbers p.module_read.body) where
   abbrev rs : List ℕ → Summaries
   rs = reads_of g (analyses (known_of ps sss) g)
 

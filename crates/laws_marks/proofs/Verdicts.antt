@@ -25,7 +25,6 @@ use Rattle.f77_ast.specs.declared.marks.Reason.{Reason}
 use Rattle.in_out_regions.specs.region_sets.declared.region.Access.{Access}
 use Rattle.in_out_regions.specs.region_sets.declared.region.Access.TheVariants.{Write}
 use Rattle.in_out_regions.specs.region_sets.declared.region.Region.{Region}
-use Rattle.in_out_regions.proofs.RegionSets.StepLaws.{in_left, in_right}
 use Rattle.loop_marker.specs.dependence_test.declared.body.LoopBody.{LoopBody}
 use Rattle.loop_marker.specs.dependence_test.Conflicts.{kept_system}
 use Rattle.loop_marker.specs.privatizer.Names.{may_copy}
@@ -38,11 +37,12 @@ use Rattle.loop_marker.specs.Jumps.{is_jumped_to, may_stop, may_jump, may_have_i
 use Rattle.loop_marker.specs.Marks.{Knowledge, is_in_bounds, index_is_bad, with_kind, keeps, kept_kinds, or_of_index, kinds_of, unless_named, copy_answer, with_own, by_answer, by_kinds, verdict_of, by_verdict, marked, by_variables, has_step, by_index, by_step, by_io, mark_of}
 use Rattle.loop_marker.specs.Variables.{own_variable, index_of, the_indexes, in_order_with, indexes_in, is_write, written_in, is_among, is_of_some}
 use Rattle.call_graph.specs.CallsIn.{Each}
-use Rattle.laws_analyses.proofs.CallLists.{each_joined}
 use Rattle.laws_marks.specs.Verdicts.{IsOneOf, IsCleared, SaysParallel}
 use Rattle.laws_marks.proofs.Dead.{copy_of as yes_copy}
 use Rattle.laws_marks.proofs.Marks.{copied_yes, unnamed_yes, serial_no, unless, only_if}
 use Rattle.fx_lists.proofs.Orders.{at_equal, same_numbers}
+use Rattle.preconditions.proofs.TransformerAlgebra.Members.{in_left, in_right}
+use Rattle.call_graph.proofs.EachLaws.{each_joined}
 
 -- ---- variables
 

@@ -23,13 +23,14 @@ use Rattle.laws_analyses.proofs.Statements.Ends.{more}
 use Rattle.laws_interleavings.specs.Typed.{TagsStand, IsTagged}
 use Rattle.laws_interleavings.specs.Plans.Fine.{AreFine}
 use Rattle.laws_interleavings.specs.Plans.Cleared.{HasNoValue, Ending, Cleared, OffPlaces, Off, EndsWell, MeaningCleared}
-use Rattle.laws_interleavings.proofs.Plans.Fine.{Yields, yields_any, Any, fine_value, fine_range_of, fine_name_target, fine_all_shown, fine_actuals, fine_arrays, arrays_tagged, scalars_tagged}
+use Rattle.laws_interleavings.proofs.Plans.Fine.{Yields, yields_any, fine_value, fine_range_of, fine_name_target, fine_all_shown, fine_actuals, fine_arrays, arrays_tagged, scalars_tagged}
 use Rattle.laws_interleavings.proofs.Plans.Cleared.{other, is_other, put_off, keeps, Aims, name_aims, off_more, lock_none, own_none, doubly_none, held_locked, ActualsOff, actuals_off, places_off, assigned_off, items_off, cleared_what, cleared_stmt, cleared_body, scalars_off, arrays_off, yields_both}
 use Rattle.laws_marks.specs.ConflictExecutions.{Execution, AtEachExecution}
 use Rattle.laws_marks.proofs.ConflictEach.{plan_first, plan_called}
 use Rattle.laws_marks.proofs.ConflictLists.{Stays, Again, PartsAre, jumps_reached, iterations_reached}
 use Rattle.laws_marks.specs.Inactive.{HasNone}
 use Rattle.laws_marks.proofs.Apart.{FixedOff}
+use Rattle.fx_lists.proofs.Every.{Anything}
 
 module _ (u : ℕ) (A : List ℕ → Type 0) where
   -- the claim of an execution
@@ -99,7 +100,7 @@ module _ (u : ℕ) (A : List ℕ → Type 0) where
 
     each_head : (index : List ℕ) (e1 e2 : ExprTree) (e3 : Option ExprTree) (body : StmtTrees) (locked : Locks) → Off u locked sc.names at → ((l : Locks) → Off u l sc.names at → Parts (parts body sc at l)) → Each (do_plan (tree.loop index e1 e2 e3 body) sc at locked)
     each_head index e1 e2 e3 body locked off p =
-        each_first Any (range_of e1 e2 e3 sc.names at) _ (fine_range_of (other u) (other u) e1 e2 e3 sc.names at ok) (yields_any (range_of e1 e2 e3 sc.names at))
+        each_first Anything (range_of e1 e2 e3 sc.names at) _ (fine_range_of (other u) (other u) e1 e2 e3 sc.names at ok) (yields_any (range_of e1 e2 e3 sc.names at))
         (λ r n. each_first (Aims u locked) (name_target (sc.names index) at) _ (fine_name_target (other u) (other u) (sc.names index) at) (name_aims u locked (sc.names index) at (off index))
         (λ t h. begin r t.unit (locked t.unit) refl h))
       where
@@ -134,18 +135,18 @@ module _ (u : ℕ) (A : List ℕ → Type 0) where
       )
 
       each_what : (w : WhatTree) (n : ℕ) (locked : Locks) → Off u locked sc.names at → Each (execution w n sc at locked)
-      each_what (tree.assign a b) n locked off = each_first Any (assigned a b sc.names at locked) (λ o. Ends Normal) (assigned_off u a b sc.names at locked ok off) (yields_any (assigned a b sc.names at locked)) (λ o h s e i. tt)
+      each_what (tree.assign a b) n locked off = each_first Anything (assigned a b sc.names at locked) (λ o. Ends Normal) (assigned_off u a b sc.names at locked ok off) (yields_any (assigned a b sc.names at locked)) (λ o h s e i. tt)
       each_what (tree.block_if arms rest) n locked off = each_arms arms (else_plan rest sc at locked) locked off (each_else rest locked off)
       each_what (tree.logical_if test s) n locked off =
-          each_first Any (value test sc.names at) _ (fine_value (other u) (other u) test sc.names at ok) (yields_any (value test sc.names at)) (λ c h. each_if (is_true c.number) (statement_plan s sc at locked) (Ends Normal) (each_stmt s locked off) (λ s e i. tt))
+          each_first Anything (value test sc.names at) _ (fine_value (other u) (other u) test sc.names at ok) (yields_any (value test sc.names at)) (λ c h. each_if (is_true c.number) (statement_plan s sc at locked) (Ends Normal) (each_stmt s locked off) (λ s e i. tt))
       each_what (tree.do_loop l) n locked off = each_do l locked off
       each_what (tree.call x es) n locked off = each_call n x es locked off
       each_what (tree.goto l) n locked off = λ s e i. tt
       each_what tree.continue n locked off = λ s e i. tt
       each_what tree.return n locked off = λ s e i. tt
       each_what (tree.stop text) n locked off = λ s e i. tt
-      each_what (tree.print es) n locked off = each_first Any (all_shown es sc.names at) (λ xs. Show xs (Ends Normal)) (fine_all_shown (other u) (other u) es sc.names at ok) (yields_any (all_shown es sc.names at)) (λ xs h s e i. tt)
-      each_what (tree.read es) n locked off = each_first Any (items_read es sc.names at locked) (λ o. Ends Normal) (items_off u es sc.names at locked ok off) (yields_any (items_read es sc.names at locked)) (λ o h s e i. tt)
+      each_what (tree.print es) n locked off = each_first Anything (all_shown es sc.names at) (λ xs. Show xs (Ends Normal)) (fine_all_shown (other u) (other u) es sc.names at ok) (yields_any (all_shown es sc.names at)) (λ xs h s e i. tt)
+      each_what (tree.read es) n locked off = each_first Anything (items_read es sc.names at locked) (λ o. Ends Normal) (items_off u es sc.names at locked ok off) (yields_any (items_read es sc.names at locked)) (λ o h s e i. tt)
 
       each_arms : (arms : ArmTrees) (rest : Plan) (locked : Locks) → Off u locked sc.names at → Each rest → Each (arms_plan arms sc at locked rest)
       each_arms tree.no_arms rest locked off h = h
@@ -153,7 +154,7 @@ module _ (u : ℕ) (A : List ℕ → Type 0) where
 
       each_arm : (a : ArmTree) (rest : Plan) (locked : Locks) → Off u locked sc.names at → Each rest → Each (arm_plan a sc at locked rest)
       each_arm (tree.arm test body) rest locked off h =
-          each_first Any (value test sc.names at) _ (fine_value (other u) (other u) test sc.names at ok) (yields_any (value test sc.names at)) (λ c g. each_if (is_true c.number) (list_plan sc.turns (parts body sc at locked)) rest (each_list (parts body sc at locked) (each_parts body locked off)) h)
+          each_first Anything (value test sc.names at) _ (fine_value (other u) (other u) test sc.names at ok) (yields_any (value test sc.names at)) (λ c g. each_if (is_true c.number) (list_plan sc.turns (parts body sc at locked)) rest (each_list (parts body sc at locked) (each_parts body locked off)) h)
 
       each_else : (o : ElseTree) (locked : Locks) → Off u locked sc.names at → Each (else_plan o sc at locked)
       each_else tree.no_else locked off = λ s e i. tt
@@ -183,8 +184,8 @@ module _ (u : ℕ) (A : List ℕ → Type 0) where
         ((n k : ℕ) → nat_eq (r.own_unit n k) u ≡ false) ⊎ ((x : List ℕ) → Wild (meanings rs turns x)) → (ps : List Place) (locked : Locks) → OffPlaces u locked ps → Each (body_of r turns (meanings rs turns) ps (scalars_bound r.dummies ps r.fixed) locked)
     each_module r rs tagged fixed clear well each own ps locked o =
         let at = scalars_bound r.dummies ps r.fixed in
-        let ok = scalars_tagged (other u) (other u) r.names r.dummies ps r.fixed tagged.dummies tagged.fixed in
+        let ok = scalars_tagged r.names r.dummies ps r.fixed tagged.dummies tagged.fixed in
         let off = scalars_off u locked r.names r.dummies ps r.fixed z o (λ x v e d k. fixed x v e d) in
         each_first (λ at'. TagsStand r.names at' × Off u locked r.names at') (arrays_bound r.dummies ps r.names at) (λ at'. body_plan r.body (scope r turns (meanings rs turns)) at' (lock_doubly locked r.dummies at' r.common)) (fine_arrays (other u) (other u) r.dummies ps r.names at tagged.dummies ok)
-        (yields_both u (TagsStand r.names) (Off u locked r.names) (arrays_bound r.dummies ps r.names at) (arrays_tagged (other u) (other u) r.dummies ps r.names at tagged.dummies ok) (arrays_off u locked r.dummies ps r.names at z o off))
+        (yields_both u (TagsStand r.names) (Off u locked r.names) (arrays_bound r.dummies ps r.names at) (arrays_tagged r.dummies ps r.names at tagged.dummies ok) (arrays_off u locked r.dummies ps r.names at z o off))
         (λ at' q. each_body (scope r turns (meanings rs turns)) clear well each own at' q.0 r.body (lock_doubly locked r.dummies at' r.common) (off_more u locked (lock_doubly locked r.dummies at' r.common) r.names at' (doubly_none u locked r.dummies at' r.common) q.1))

@@ -29,7 +29,7 @@ use Rattle.laws_programs.proofs.SymbolTables.JudgedShapes.{expr_shaped}
 use Rattle.laws_programs.proofs.SymbolTables.Answers.{Answered, lines_in, layout_in, found_none}
 use Rattle.laws_programs.specs.Effects.Trees.{StandsBare}
 use Rattle.laws_programs.specs.Effects.Tables.{IsBound, IsHigh, AreBounds, AllBounds}
-use Rattle.storage_layout.proofs.EarlyLaws.{noted_none}
+use Rattle.fx_lists.proofs.Refused.{none_refused}
 
 -- ---- no array element
 
@@ -48,12 +48,12 @@ varies (Is c) = false
 varies Faults = false
 varies Varies = true
 
-unary_steady : (o : UnaryOp) (w : ConstantValue) → varies (unary_const_value o w) ≡ false → varies w ≡ false
+pub unary_steady : (o : UnaryOp) (w : ConstantValue) → varies (unary_const_value o w) ≡ false → varies w ≡ false
 unary_steady o (Is c) h = refl
 unary_steady o Faults h = refl
 unary_steady o Varies h = h
 
-binary_steady : (o : BinaryOp) (v w : ConstantValue) → varies (binary_const_value o v w) ≡ false → (varies v ≡ false) × (varies w ≡ false)
+pub binary_steady : (o : BinaryOp) (v w : ConstantValue) → varies (binary_const_value o v w) ≡ false → (varies v ≡ false) × (varies w ≡ false)
 binary_steady o Varies w h = let z : true ≡ false = h in cc
 binary_steady o Faults Varies h = (refl, h)
 binary_steady o Faults Faults h = (refl, refl)
@@ -142,7 +142,7 @@ module _ (t : NameTable) (ss : List SymbolTree) (bare : (x : List ℕ) → has_s
   shape_holds : (dummy : Bool) (s : Option ShapeTree) (o : Option Refusal) → check_shape t dummy s o ≡ None → AreBounds (bounds_in s) ss
   shape_holds dummy None o j = tt
   shape_holds dummy (Some s) o j =
-      let r = noted_none (is_bad_shape t dummy s.bounds) s.line BadDimension (check_bounds t s.bounds s.line o) j in
+      let r = none_refused (is_bad_shape t dummy s.bounds) s.line BadDimension (check_bounds t s.bounds s.line o) j in
       let few = or_parts (nat_lt 7 (length s.bounds)) (has_bad_bound t dummy s.bounds || is_too_big (dims_of t s.bounds)) r.0 in
       let good = or_parts (has_bad_bound t dummy s.bounds) (is_too_big (dims_of t s.bounds)) few.1 in
       bounds_hold dummy s.bounds s.line o r.1 good.0

@@ -4,7 +4,7 @@ use Rattle.std.specs.Prelude.{slice_get}
 use Rattle.f77_ast.specs.Trees.{StmtTree, stmt, WhatTree, assign, block_if, logical_if, do_loop, call, goto, continue, return, stop, print, read, arm, ArmTrees, no_arms, more_arms, ElseTree, no_else, otherwise, LoopTree, loop, StmtTrees, no_stmts, more_stmts}
 use Rattle.roundtrip_programs.specs.Statements.Phrased.{IsWhat}
 use Rattle.roundtrip_programs.specs.ModuleTexts.Numbered.{last_of, last_by, last_body, last_arms, last_else, last_in}
-use Rattle.f77_ast.specs.StatementNumbers.{stmt_numbers, part_numbers, list_numbers, arms_numbers, else_numbers, loop_numbers, StandOnce, IsNumbered}
+use Rattle.f77_ast.specs.StatementNumbers.{stmt_numbers, part_numbers, list_numbers, arms_numbers, else_numbers, loop_numbers, StandOnce, HasNumbers}
 use Rattle.laws_programs.specs.Programs.{GoUp}
 use Rattle.laws_programs.proofs.Ordered.{StmtOrdered, BelowOrdered, LoopOrdered, ArmsOrdered, ElseOrdered, ListOrdered}
 
@@ -81,7 +81,10 @@ number_at n (y ∷ ys) (suc i) x h e = let r = number_at (n + 1) ys i x h.1 e in
 pub once : (n : ℕ) (xs : List ℕ) → GoUp n xs → StandOnce xs
 once n xs h i j x e f = let a = number_at n xs i x h e in let b = number_at n xs j x h f in omega (arith, a, b)
 
--- ---- they are 1, 2, 3 and so on
+-- ---- so a body whose numbers go up from 1 has numbers
 
-pub is_numbered : (body : StmtTrees) → GoUp 1 (list_numbers body) → IsNumbered body
-is_numbered body h i n e = let r = number_at 1 (list_numbers body) i n h e in omega (arith, r)
+pub has_numbers : (body : StmtTrees) → GoUp 1 (list_numbers body) → HasNumbers body
+has_numbers body h = record {
+  once = once 1 (list_numbers body) h;
+  above = λ i n e. (let r = number_at 1 (list_numbers body) i n h e in omega (arith, r));
+}

@@ -25,6 +25,7 @@ use Rattle.base_values.proofs.NamesBack.{own_read_back, block_read_back, saved_r
 use Rattle.laws_marks.proofs.InUnique.{Ordered, itself}
 use Rattle.base_values.proofs.Options.{each_map as each_more}
 use Rattle.laws_stored.proofs.Lists.{each-append}
+use Rattle.fx_lists.proofs.Orders.{no_equal_less}
 
 -- ---- what is written of a variable
 
@@ -71,9 +72,6 @@ same_key access.Out access.Write x y e = let q : 79 ≡ 87 = ap head e in absurd
 same_key access.Out access.In x y e = let q : 79 ≡ 73 = ap head e in absurd (omega (arith, q))
 same_key access.Out access.Out x y e = record { kinds = refl; texts = ap (λ (l : List ℕ). tail (tail (tail (tail l)))) e }
 
-not_less : {X : Type 0} → Equal ≡ Less → X
-not_less e = absurd (cc)
-
 module _ (names : List (List ℕ)) (are : AreNames names) where
   abbrev Named : Region → Type 0
   Named r = VariableFits names r.variable
@@ -93,7 +91,7 @@ module _ (names : List (List ℕ)) (are : AreNames names) where
   of_others : (r : Region) (rs : List Region) → Named r → Each Named rs → ((q : Region) → In q rs → region_cmp r q ≡ Less) → OfNone rs (region_key names r)
   of_others r [] h k f = tt
   of_others r (q ∷ qs) h k f = (
-    false_from_ne_true (bytes_eq (region_key names q) (region_key names r)) (λ e. not_less (sym (tie r q h k.0 ((bytes_eq-Decides (region_key names q) (region_key names r)).0 e)) ∙ f q here)),
+    false_from_ne_true (bytes_eq (region_key names q) (region_key names r)) (λ e. no_equal_less (sym (tie r q h k.0 ((bytes_eq-Decides (region_key names q) (region_key names r)).0 e)) ∙ f q here)),
     of_others r qs h k.1 (λ w i. f w (there i)),
   )
 

@@ -20,9 +20,9 @@ use Rattle.loop_marker.specs.Phases.{phases_of, analysis_in, known_in, all_marks
 use Rattle.loop_marker.specs.Phases as marks
 use Rattle.laws_programs.specs.Programs.{AreTables}
 use Rattle.laws_lines.specs.Laws.{AnalysisIsOver}
-use Rattle.laws_lines.proofs.PhaseVars.{EachOf, analyses_are_over_cells}
+use Rattle.laws_lines.proofs.PhaseVars.{analyses_are_over_cells}
 use Rattle.laws_lines.specs.Regions.Laws.{SetsAreOver, RegionsAreOver}
-use Rattle.laws_lines.proofs.Regions.ProgramRegions.{Any, any_named, ModuleFine, modules_fine, regions_of, regions_are_over_places}
+use Rattle.laws_lines.proofs.Regions.ProgramRegions.{any_named, ModuleFine, modules_fine, regions_of, regions_are_over_places}
 use Rattle.laws_lines.proofs.Ins.InPrograms.{InsFine, ins_fine, ins_with, ins_are_over_places}
 use Rattle.laws_lines.proofs.Outs.OutPrograms.{outs_with, outs_are_over_places}
 use Rattle.session_texts.specs.pipsmake_meaning.ResultEntries.{results_of_modules, name_in}
@@ -42,6 +42,7 @@ use Rattle.laws_stored.proofs.Order.{SetsOrdered, regions_ordered, ins_ordered, 
 use Rattle.laws_stored.proofs.Marks.{marks_fit, marks_numbers}
 use Rattle.laws_stored.proofs.Phases.{of_all, of_both, of_more, FoundGood, analyses_good, RegionsGood, all_regions_good, InsGood, all_ins_good, FittingSets, OutsGood, all_outs_good, EffectsGood, all_effects_good, marks_with, MarksAre, all_marks_are}
 use Rattle.laws_stored.proofs.Fitting.{of_each, ids_are, named_sets, each_transformer, one_transformer, each_system, one_system, sets_fit}
+use Rattle.fx_lists.proofs.Every.{Anything, Every}
 
 -- ---- what holds of the results of a module
 
@@ -52,7 +53,7 @@ record InsTold (untracked : List BlockUnit) (f : ModuleIns) : Type 0 where
   fitting : FittingSets f.known
   places : RegionsAreOver untracked f.known
   in_places : SetsAreOver untracked f.known.analysis.found.known f.ins
-  in_fine : InsFine Any untracked f
+  in_fine : InsFine Anything untracked f
 
 -- by all of them
 pub record EntryTold (untracked : List BlockUnit) (f : ModuleResults) : Type 0 where
@@ -62,7 +63,7 @@ pub record EntryTold (untracked : List BlockUnit) (f : ModuleResults) : Type 0 w
   effects : EffectsGood f
   marks : MarksAre untracked f
 
-module _ (ps : List ParsedTree) (sss : List (List SymbolTree)) (g : Graph) (tables : AreTables ps sss) (named : EachOf ModuleNamed (known_of ps sss)) where
+module _ (ps : List ParsedTree) (sss : List (List SymbolTree)) (g : Graph) (tables : AreTables ps sss) (named : Every ModuleNamed (known_of ps sss)) where
   abbrev ks : List Known
   ks = known_of ps sss
 
@@ -82,14 +83,14 @@ module _ (ps : List ParsedTree) (sss : List (List SymbolTree)) (g : Graph) (tabl
   Over f = AnalysisIsOver g.untracked f.analysis
 
   abbrev Told : ModuleRegions → Type 0
-  Told f = ModuleFine Any g.untracked f × (RegionsAreOver g.untracked f × Over f)
+  Told f = ModuleFine Anything g.untracked f × (RegionsAreOver g.untracked f × Over f)
 
-  regions_good : EachOf RegionsGood fs
+  regions_good : Every RegionsGood fs
   regions_good = all_regions_good g as' (analyses_good ks g named)
 
-  regions_told : EachOf Told fs
+  regions_told : Every Told fs
   regions_told =
-      of_both (ModuleFine Any g.untracked) (λ f. RegionsAreOver g.untracked f × Over f) fs (modules_fine Any ps sss g tables (any_named ks))
+      of_both (ModuleFine Anything g.untracked) (λ f. RegionsAreOver g.untracked f × Over f) fs (modules_fine Anything ps sss g tables (any_named ks))
       (of_both (RegionsAreOver g.untracked) Over fs (of_all (RegionsAreOver g.untracked) fs (regions_are_over_places ps sss g tables))
       (regions_of (AnalysisIsOver g.untracked) g as' (of_all (AnalysisIsOver g.untracked) as' (analyses_are_over_cells ps sss g tables))))
 
@@ -97,13 +98,13 @@ module _ (ps : List ParsedTree) (sss : List (List SymbolTree)) (g : Graph) (tabl
   InOver f = SetsAreOver g.untracked f.known.analysis.found.known f.ins
 
   abbrev InParts : ModuleIns → Type 0
-  InParts f = InsGood f × (Told f.known × (InOver f × InsFine Any g.untracked f))
+  InParts f = InsGood f × (Told f.known × (InOver f × InsFine Anything g.untracked f))
 
-  in_parts : EachOf InParts is
+  in_parts : Every InParts is
   in_parts =
-      of_both InsGood (λ f. Told f.known × (InOver f × InsFine Any g.untracked f)) is (all_ins_good g fs regions_good)
-      (of_both (λ (f : ModuleIns). Told f.known) (λ f. InOver f × InsFine Any g.untracked f) is (ins_with Told g fs regions_told)
-      (of_both InOver (InsFine Any g.untracked) is (of_all InOver is (ins_are_over_places ps sss g tables)) (ins_fine Any ps sss g tables (any_named ks))))
+      of_both InsGood (λ f. Told f.known × (InOver f × InsFine Anything g.untracked f)) is (all_ins_good g fs regions_good)
+      (of_both (λ (f : ModuleIns). Told f.known) (λ f. InOver f × InsFine Anything g.untracked f) is (ins_with Told g fs regions_told)
+      (of_both InOver (InsFine Anything g.untracked) is (of_all InOver is (ins_are_over_places ps sss g tables)) (ins_fine Anything ps sss g tables (any_named ks))))
 
   in_told : (f : ModuleIns) → InParts f → InsTold g.untracked f
   in_told f h = record {
@@ -115,7 +116,7 @@ module _ (ps : List ParsedTree) (sss : List (List SymbolTree)) (g : Graph) (tabl
     in_fine = h.1.1.1;
   }
 
-  ins_told : EachOf (InsTold g.untracked) is
+  ins_told : Every (InsTold g.untracked) is
   ins_told = of_more InParts (InsTold g.untracked) in_told is in_parts
 
   abbrev OutOver : ModuleOuts → Type 0
@@ -124,7 +125,7 @@ module _ (ps : List ParsedTree) (sss : List (List SymbolTree)) (g : Graph) (tabl
   abbrev OutParts : ModuleOuts → Type 0
   OutParts f = InsTold g.untracked f.known × (OutsGood f × OutOver f)
 
-  out_parts : EachOf OutParts os
+  out_parts : Every OutParts os
   out_parts =
       of_both (λ (f : ModuleOuts). InsTold g.untracked f.known) (λ f. OutsGood f × OutOver f) os (outs_with (InsTold g.untracked) g is ins_told)
       (of_both OutsGood OutOver os (all_outs_good g is (of_more (InsTold g.untracked) (λ (f : ModuleIns). InsGood f × FittingSets f.known) (λ f h. (h.good, h.fitting)) is ins_told))
@@ -136,7 +137,7 @@ module _ (ps : List ParsedTree) (sss : List (List SymbolTree)) (g : Graph) (tabl
   entry_told : (f : ModuleResults) → EntryParts f → EntryTold g.untracked f
   entry_told f h = record { ins = h.0.0; outs = h.0.1.0; out_places = h.0.1.1; effects = h.1.0; marks = h.1.1 }
 
-  pub entries_told : EachOf (EntryTold g.untracked) (results_of_modules ks g)
+  pub entries_told : Every (EntryTold g.untracked) (results_of_modules ks g)
   entries_told =
       let es = all_marks g os in
       of_more EntryParts (EntryTold g.untracked) entry_told es

@@ -32,11 +32,10 @@ use Rattle.laws_lines.specs.Variables.{EachVar, IsOver, IsCellOf}
 use Rattle.laws_lines.specs.Halves.{IsHalfOf, IsTransformerOf}
 use Rattle.laws_lines.specs.Laws.{IsTracked}
 use Rattle.laws_lines.proofs.StatementVars.{AllAt}
-use Rattle.laws_lines.proofs.PhaseVars.{EachOf}
 use Rattle.laws_lines.specs.Regions.Places.{IsPlaceOf, IsOne}
 use Rattle.laws_lines.specs.Regions.Laws.{AreOverPlaces, SetsAreOver}
 use Rattle.laws_lines.proofs.Regions.RegionVars.{AreFine}
-use Rattle.laws_lines.proofs.Regions.ProgramRegions.{Any, IsNamedHere, SetsFine}
+use Rattle.laws_lines.proofs.Regions.ProgramRegions.{IsNamedHere, SetsFine}
 use Rattle.base_json.specs.Scopes.{ScopeTree, is_symbol, cells_alone, with_exits, with_phi}
 use Rattle.base_values.specs.Naming.{Each, AreNames, VariableFits, VarFits, RowNames, SystemFits}
 use Rattle.base_values.specs.Words.{result_with}
@@ -51,10 +50,11 @@ use Rattle.laws_stored.proofs.Phases.{of_all, SetsSuch}
 use Rattle.laws_lines.proofs.LineBack.{cell_number}
 use Rattle.fx_lists.proofs.Lists.{map_length}
 use Rattle.fx_lists.proofs.Numbers.{same_is as nat_same}
+use Rattle.fx_lists.proofs.Every.{Anything, Every}
 
 -- ---- lists
 
-each_got : {A : Type 0} (P : A → Type 0) (xs : List A) → EachOf P xs → Each P xs
+each_got : {A : Type 0} (P : A → Type 0) (xs : List A) → Every P xs → Each P xs
 each_got P [] h = tt
 each_got P (x ∷ xs) h = (h.0, each_got P xs h.1)
 
@@ -153,21 +153,21 @@ module _ (names : List (List ℕ)) (few : length names < 2 ^ 32) (such : ℕ →
   regions_fit are K kind right rs h o d = (each_region K kind right rs h o, ordered_apart names are rs (variables_fit K rs h) d)
 
 -- its symbols are those of the module
-called_fits : (k : Known) (v : Variable) → IsCalled v → IsNamedHere Any k v → VariableFits (symbol_names k.symbols) v
+called_fits : (k : Known) (v : Variable) → IsCalled v → IsNamedHere Anything k v → VariableFits (symbol_names k.symbols) v
 called_fits k (Own n) h i = between (symbol_names k.symbols) n i.0 i.1
 called_fits k (Block b) h i = h
 called_fits k (Saved m x) h i = h
 
-named_regions : (K : Access → Type 0) (k : Known) (ok : ℕ → Type 0) (rs : List Region) → AreSuch IsCalled K rs → AreFine (IsNamedHere Any k) ok rs → AreSuch (VariableFits (symbol_names k.symbols)) K rs
+named_regions : (K : Access → Type 0) (k : Known) (ok : ℕ → Type 0) (rs : List Region) → AreSuch IsCalled K rs → AreFine (IsNamedHere Anything k) ok rs → AreSuch (VariableFits (symbol_names k.symbols)) K rs
 named_regions K k ok [] h f = tt
 named_regions K k ok (r ∷ rs) h f = ((called_fits k r.variable h.0.0 f.0.0, h.0.1, h.0.2), named_regions K k ok rs h.1 f.1)
 
-named_at : (K : Access → Type 0) (k : Known) (ok : ℕ → Type 0) (xs : List (At (List Region))) → Each (λ (a : At (List Region)). AreSuch IsCalled K a.value) xs → AllAt (AreFine (IsNamedHere Any k) ok) xs
+named_at : (K : Access → Type 0) (k : Known) (ok : ℕ → Type 0) (xs : List (At (List Region))) → Each (λ (a : At (List Region)). AreSuch IsCalled K a.value) xs → AllAt (AreFine (IsNamedHere Anything k) ok) xs
     → Each (λ (a : At (List Region)). AreSuch (VariableFits (symbol_names k.symbols)) K a.value) xs
 named_at K k ok [] h f = tt
 named_at K k ok (x ∷ xs) h f = (named_regions K k ok x.value h.0 f.0, named_at K k ok xs h.1 f.1)
 
-pub named_sets : (K : Access → Type 0) (untracked : List BlockUnit) (k : Known) (sets : Results (List Region)) → SetsSuch (AreSuch IsCalled K) sets → SetsFine Any untracked k sets → SetsSuch (AreSuch (VariableFits (symbol_names k.symbols)) K) sets
+pub named_sets : (K : Access → Type 0) (untracked : List BlockUnit) (k : Known) (sets : Results (List Region)) → SetsSuch (AreSuch IsCalled K) sets → SetsFine Anything untracked k sets → SetsSuch (AreSuch (VariableFits (symbol_names k.symbols)) K) sets
 named_sets K untracked k sets h f = (named_at K k (IsTracked untracked k) sets.at h.0 f.at, named_regions K k (IsTracked untracked k) sets.summary h.1 f.summary)
 
 -- ---- results

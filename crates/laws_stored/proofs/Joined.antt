@@ -9,7 +9,6 @@ use Rattle.session_texts.specs.pipsmake_rules.declared.kind.Kind.{Kind}
 use Rattle.session_texts.specs.pipsmake_rules.declared.kind.Kind.TheVariants as kind
 use Rattle.session_texts.specs.pipsmake_rules.Neighbours.{has_name}
 use Rattle.laws_programs.proofs.Layouts.BlockChains.{blocks_have_a_chain}
-use Rattle.laws_lines.proofs.PhaseVars.{EachOf}
 use Rattle.session_texts.specs.pipsmake_meaning.ResultEntries.{results_of_modules, name_in, results_for}
 use Rattle.laws_database.specs.ResultEquations.{FollowsFrom}
 use Rattle.laws_database.proofs.ResultFollows.{results_follow}
@@ -39,6 +38,8 @@ use Rattle.laws_stored.proofs.Entries.{EntryTold, entries_told, names_of, EntryF
 use Rattle.laws_database.proofs.Same.{read_is}
 use Rattle.laws_database.proofs.Whole.{text_named}
 use Rattle.f77_meaning.proofs.SymbolNames.{few_names}
+use Rattle.fx_lists.proofs.Every.{Every}
+use Rattle.fx_lists.proofs.Options.{some_is}
 
 -- ---- names
 
@@ -67,16 +68,13 @@ linked_result ts x f e = go (links_in ts) refl e
     go (Ok g) q w = (g, q)
     go (Err a) q w = cc
 
-results_of_program : (P : ModuleResults → Type 0) (fs : List ModuleResults) (x : List ℕ) (f : ModuleResults) → EachOf P fs → results_for fs x ≡ Some f → P f
+results_of_program : (P : ModuleResults → Type 0) (fs : List ModuleResults) (x : List ℕ) (f : ModuleResults) → Every P fs → results_for fs x ≡ Some f → P f
 results_of_program P [] x f h e = cc
 results_of_program P (d ∷ fs) x f h e = go (bytes_eq (name_in d) x) e (results_of_program P fs x f h.1)
   where
     go : (b : Bool) → (if b then Some d else results_for fs x) ≡ Some f → (results_for fs x ≡ Some f → P f) → P f
     go true q ih = let same : d ≡ f = cc in subst P same h.0
     go false q ih = ih q
-
-entry_is : (a b : ModuleResults) → Some a ≡ Some b → a ≡ b
-entry_is a b e = cc
 
 -- they fit the module
 record NameFits (m : ReadModule) (f : ModuleResults) : Type 0 where
@@ -91,12 +89,12 @@ module _ (ts : List ModuleText) (ms : AreModules ts) (x : List ℕ) (m : ReadMod
       let g = link.0 in
       let r = read_at ts ms x named.there in
       let h : Entry ts g x r.read = entry_of ts g link.1 x r in
-      let same : h.entry ≡ f = entry_is h.entry f (sym h.result ∙ w) in
+      let same : h.entry ≡ f = some_is h.entry f (sym h.result ∙ w) in
       let module_same : r.read ≡ m = read_is r.read m (sym r.is_read ∙ e) in
       let is : h.entry.known ≡ known m = h.is_of ∙ ap known module_same in
       let read = all_read ts ms in
       let ks = known_in ts in
-      let each : EachOf ModuleNamed ks = each_of ModuleNamed ks (modules_named blocks_have_a_chain (trees_in ts) (tables_in ts) read.built read.tabled) in
+      let each : Every ModuleNamed ks = each_of ModuleNamed ks (modules_named blocks_have_a_chain (trees_in ts) (tables_in ts) read.built read.tabled) in
       let all = results_of_modules ks g in
       let told = results_of_program (EntryTold g.untracked) all x h.entry (entries_told (trees_in ts) (tables_in ts) g read.tabled each) h.said in
       let follows = said_each (FollowsFrom g all) all x h.entry (results_follow (trees_in ts) (tables_in ts) g (linked ts g link.1)) h.said in

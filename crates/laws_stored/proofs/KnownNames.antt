@@ -30,9 +30,10 @@ use Rattle.laws_programs.proofs.RoundtripPrograms.ModuleTexts.Kept.{Held, Each-a
 use Rattle.laws_programs.proofs.SymbolTables.KeptNames.{Said, with_said, Typed, Shaped, Shared, Parameter, Saved, Initial, Nothing}
 use Rattle.laws_programs.proofs.SymbolTables.Answers.{lines_in}
 use Rattle.laws_programs.proofs.Sources.{IsBuilt}
-use Rattle.laws_lines.proofs.SymbolNames.{names-last, names_stay, said_stay, names_of_symbols}
+use Rattle.laws_lines.proofs.SymbolNames.{said_stay, names_of_symbols}
 use Rattle.laws_stored.proofs.NamesIn.{expr_names, exprs_names, maybe_names, all_names, what_names, extent_names, entity_names, setting_names, common_names, group_names, data_names, save_names, decl_names, phrase_names}
 use Rattle.laws_programs.proofs.RoundtripPrograms.ModuleTexts.Cards.{Any as AnyLabel}
+use Rattle.laws_programs.proofs.Layouts.DifferLaws.{names_more, names_changed}
 
 module _ (Name : List ℕ → Type 0) where
   abbrev Names : List (List ℕ) → Type 0
@@ -63,7 +64,7 @@ module _ (Name : List ℕ → Type 0) where
     where
       go : (b : Bool) → AreTold (if b then es else es ++ fresh x line ∷ [])
       go true = d
-      go false = subst Names (sym (names-last es (fresh x line))) (Each-append Name (entry_names es) (x ∷ []) d (record { first = n; others = tt }))
+      go false = subst Names (sym (names_more es (fresh x line))) (Each-append Name (entry_names es) (x ∷ []) d (record { first = n; others = tt }))
 
   said_told : (x : List ℕ) (w : Said) (es : List EntryTree) → AreTold es → AreTold (changed x (with_said w) es)
   said_told x w es d = subst Names (sym (said_stay x w es)) d
@@ -72,7 +73,7 @@ module _ (Name : List ℕ → Type 0) where
   dummies_in [] n line t h d = d
   dummies_in (x ∷ xs) n line t h d =
       let es = seen x line t.entries in
-      dummies_in xs (suc n) line (dummy_told x n line t) h.others (subst Names (sym (names_stay x (with_dummy n) (λ e. refl) es)) (seen_told x line t.entries h.first d))
+      dummies_in xs (suc n) line (dummy_told x n line t) h.others (subst Names (sym (names_changed x (with_dummy n) (λ e. refl) es)) (seen_told x line t.entries h.first d))
 
   module _ (fs : List Function) where
     -- ---- expressions

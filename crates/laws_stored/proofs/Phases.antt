@@ -42,7 +42,6 @@ use Rattle.laws_analyses.proofs.Statements.NumberLaws.{ids, t_list, p_list}
 use Rattle.laws_analyses.proofs.Regions.Numbering.{r_list, ids_parts}
 use Rattle.laws_marks.proofs.InStanding.{i_list}
 use Rattle.laws_marks.proofs.OutNumbers.{o_list}
-use Rattle.laws_lines.proofs.PhaseVars.{EachOf, each-append as of-append, each_reverse, got_each}
 use Rattle.base_json.specs.Scopes.{is_short_name}
 use Rattle.base_values.specs.Naming.{Each, VariableFits}
 use Rattle.laws_stored.proofs.Symbols.{ModuleNamed}
@@ -57,22 +56,23 @@ use Rattle.laws_stored.proofs.Ins.{IsIn, I, ins_such}
 use Rattle.laws_stored.proofs.Outs.{IsOut, outs_such}
 use Rattle.laws_stored.proofs.CalleeLinks.{used_after_such}
 use Rattle.fx_lists.proofs.Texts.{same_name_2 as same_name}
+use Rattle.fx_lists.proofs.Every.{Every, every_joined as of-append, every_turned, every_at}
 
 -- ---- lists
 
-pub of_all : {X : Type 0} (P : X → Type 0) (xs : List X) → All P xs → EachOf P xs
+pub of_all : {X : Type 0} (P : X → Type 0) (xs : List X) → All P xs → Every P xs
 of_all P [] h = tt
 of_all P (x ∷ xs) h = (h zero x (omega arith), of_all P xs (λ k d l. h (suc k) d (omega (arith, l))))
 
-pub of_both : {X : Type 0} (P Q : X → Type 0) (xs : List X) → EachOf P xs → EachOf Q xs → EachOf (λ x. P x × Q x) xs
+pub of_both : {X : Type 0} (P Q : X → Type 0) (xs : List X) → Every P xs → Every Q xs → Every (λ x. P x × Q x) xs
 of_both P Q [] h k = tt
 of_both P Q (x ∷ xs) h k = ((h.0, k.0), of_both P Q xs h.1 k.1)
 
-pub of_more : {X : Type 0} (P Q : X → Type 0) → ((x : X) → P x → Q x) → (xs : List X) → EachOf P xs → EachOf Q xs
+pub of_more : {X : Type 0} (P Q : X → Type 0) → ((x : X) → P x → Q x) → (xs : List X) → Every P xs → Every Q xs
 of_more P Q f [] h = tt
 of_more P Q f (x ∷ xs) h = (f x h.0, of_more P Q f xs h.1)
 
-pub each_of : {X : Type 0} (P : X → Type 0) (xs : List X) → Each P xs → EachOf P xs
+pub each_of : {X : Type 0} (P : X → Type 0) (xs : List X) → Each P xs → Every P xs
 each_of P [] h = tt
 each_of P (x ∷ xs) h = (h.0, each_of P xs h.1)
 
@@ -105,22 +105,22 @@ more_foreign f cs h c x = go (bytes_eq f.known.read.name x)
     go true = record { symbols = h.named.1; value = h.summary_foreign }
     go false = c x
 
-founds_good : (untracked : List BlockUnit) (ks : List Known) → ((x : List ℕ) (k : Known) → module_of ks x ≡ Some k → ModuleNamed k) → (cs : given.Callees) (xs : List (List ℕ)) → CalleesForeign cs → EachOf FoundGood (scalars.found_in untracked ks cs xs)
+founds_good : (untracked : List BlockUnit) (ks : List Known) → ((x : List ℕ) (k : Known) → module_of ks x ≡ Some k → ModuleNamed k) → (cs : given.Callees) (xs : List (List ℕ)) → CalleesForeign cs → Every FoundGood (scalars.found_in untracked ks cs xs)
 founds_good untracked ks known cs [] c = tt
 founds_good untracked ks known cs (x ∷ xs) c = go (module_of ks x) refl (λ ds d. founds_good untracked ks known ds xs d)
   where
-    go : (o : Option Known) → module_of ks x ≡ o → ((ds : given.Callees) → CalleesForeign ds → EachOf FoundGood (scalars.found_in untracked ks ds xs)) → EachOf FoundGood (option_to_list (maybe_found untracked cs o) ++ scalars.found_in untracked ks (scalars.with_callee (maybe_found untracked cs o) cs) xs)
+    go : (o : Option Known) → module_of ks x ≡ o → ((ds : given.Callees) → CalleesForeign ds → Every FoundGood (scalars.found_in untracked ks ds xs)) → Every FoundGood (option_to_list (maybe_found untracked cs o) ++ scalars.found_in untracked ks (scalars.with_callee (maybe_found untracked cs o) cs) xs)
     go None e ih = ih (scalars.with_callee None cs) (λ y. c y)
     go (Some k) e ih =
         let f = found_good untracked cs k (known x k e) c in
         (f, ih (scalars.with_callee (Some (found_of untracked cs k)) cs) (more_foreign (found_of untracked cs k) cs f c))
 
-module_is : (ks : List Known) → EachOf ModuleNamed ks → (x : List ℕ) (k : Known) → module_of ks x ≡ Some k → ModuleNamed k
+module_is : (ks : List Known) → Every ModuleNamed ks → (x : List ℕ) (k : Known) → module_of ks x ≡ Some k → ModuleNamed k
 module_is ks h x k e = go (place_of ks x) e
   where
     go : (o : Option ℕ) → module_at ks o ≡ Some k → ModuleNamed k
     go None q = cc
-    go (Some i) q = got_each ModuleNamed ks i k h q
+    go (Some i) q = every_at ModuleNamed ks i k h q
 
 -- ---- what holds
 
@@ -138,16 +138,16 @@ analysis_good untracked cs f h =
     let e = entry_fits f.known.read.main m cs in
     record { found = h; fits = preconditions.at_list_fits m t true f.known.read.body entry e; entry_fits = e; numbers = p_list m t true f.known.read.body entry }
 
-from_good : (untracked : List BlockUnit) (done : List Analysis) (fs : List Found) → EachOf AnalysisGood done → EachOf FoundGood fs → EachOf AnalysisGood (analyses_from untracked done fs)
+from_good : (untracked : List BlockUnit) (done : List Analysis) (fs : List Found) → Every AnalysisGood done → Every FoundGood fs → Every AnalysisGood (analyses_from untracked done fs)
 from_good untracked done [] d h = d
 from_good untracked done (f ∷ fs) d h =
     let cs = sites_of untracked done f.known.read.name in
     from_good untracked (done ++ analysis_of untracked cs f ∷ []) fs (of-append AnalysisGood done (analysis_of untracked cs f ∷ []) d (analysis_good untracked cs f h.0, tt)) h.1
 
-pub analyses_good : (ks : List Known) (g : Graph) → EachOf ModuleNamed ks → EachOf AnalysisGood (analyses ks g)
+pub analyses_good : (ks : List Known) (g : Graph) → Every ModuleNamed ks → Every AnalysisGood (analyses ks g)
 analyses_good ks g h =
     let fs = scalars.found_in g.untracked ks scalars.no_callees g.order in
-    from_good g.untracked [] (reverse fs) tt (each_reverse FoundGood fs (founds_good g.untracked ks (module_is ks h) scalars.no_callees g.order (λ x. tt)))
+    from_good g.untracked [] (reverse fs) tt (every_turned FoundGood fs (founds_good g.untracked ks (module_is ks h) scalars.no_callees g.order (λ x. tt)))
 
 -- ---- READ and WRITE
 
@@ -175,15 +175,15 @@ more_regions f cs h c x = go (bytes_eq name x) refl
     go true e = record { name = subst (λ (y : List ℕ). is_short_name y ≡ true) (same_name name x e) h.analysis.found.named.0; symbols = h.analysis.found.named.1; value = h.sets.1 }
     go false e = c x
 
-found_regions : (untracked : List BlockUnit) (cs : Callees) (as' : List Analysis) → CalleesSuch IsAccess cs → EachOf AnalysisGood as' → EachOf RegionsGood (regions.found_in untracked cs as')
+found_regions : (untracked : List BlockUnit) (cs : Callees) (as' : List Analysis) → CalleesSuch IsAccess cs → Every AnalysisGood as' → Every RegionsGood (regions.found_in untracked cs as')
 found_regions untracked cs [] c h = tt
 found_regions untracked cs (a ∷ as') c h =
     let f = with_regions untracked cs a in
     let first = regions_good untracked cs a h.0 c in
     (first, found_regions untracked (regions.with_callee f cs) as' (more_regions f cs first c) h.1)
 
-pub all_regions_good : (g : Graph) (as' : List Analysis) → EachOf AnalysisGood as' → EachOf RegionsGood (all_regions g as')
-all_regions_good g as' h = found_regions g.untracked regions.no_callees (reverse as') (λ x. tt) (each_reverse AnalysisGood as' h)
+pub all_regions_good : (g : Graph) (as' : List Analysis) → Every AnalysisGood as' → Every RegionsGood (all_regions g as')
+all_regions_good g as' h = found_regions g.untracked regions.no_callees (reverse as') (λ x. tt) (every_turned AnalysisGood as' h)
 
 -- ---- IN
 
@@ -212,14 +212,14 @@ more_ins f cs h c x = go (bytes_eq name x) refl
     go true e = record { name = subst (λ (y : List ℕ). is_short_name y ≡ true) (same_name name x e) h.known.analysis.found.named.0; symbols = h.known.analysis.found.named.1; value = h.sets.1 }
     go false e = c x
 
-found_ins : (untracked : List BlockUnit) (cs : Callees) (fs : List ModuleRegions) → CalleesSuch IsIn cs → EachOf RegionsGood fs → EachOf InsGood (ins.found_in untracked cs fs)
+found_ins : (untracked : List BlockUnit) (cs : Callees) (fs : List ModuleRegions) → CalleesSuch IsIn cs → Every RegionsGood fs → Every InsGood (ins.found_in untracked cs fs)
 found_ins untracked cs [] c h = tt
 found_ins untracked cs (f ∷ fs) c h =
     let n = with_ins untracked cs f in
     let first = ins_good untracked cs f h.0 c in
     (first, found_ins untracked (ins.with_callee n cs) fs (more_ins n cs first c) h.1)
 
-pub all_ins_good : (g : Graph) (fs : List ModuleRegions) → EachOf RegionsGood fs → EachOf InsGood (all_ins g fs)
+pub all_ins_good : (g : Graph) (fs : List ModuleRegions) → Every RegionsGood fs → Every InsGood (all_ins g fs)
 all_ins_good g fs h = found_ins g.untracked regions.no_callees fs (λ x. tt) h
 
 -- ---- OUT
@@ -244,15 +244,15 @@ outs_good g cs f h r =
       numbers = o_list t true k.read.body (body_out t true k.read.body us);
     }
 
-from_outs : (g : Graph) (done : List ModuleOuts) (fs : List ModuleIns) → EachOf OutsGood done → EachOf (λ (f : ModuleIns). InsGood f × FittingSets f.known) fs → EachOf OutsGood (outs_from g done fs)
+from_outs : (g : Graph) (done : List ModuleOuts) (fs : List ModuleIns) → Every OutsGood done → Every (λ (f : ModuleIns). InsGood f × FittingSets f.known) fs → Every OutsGood (outs_from g done fs)
 from_outs g done [] d h = d
 from_outs g done (f ∷ fs) d h =
     let cs = outs.sites_of g.untracked done (name_of f) in
     let new = with_outs g cs f in
     from_outs g (done ++ new ∷ []) fs (of-append OutsGood done (new ∷ []) d (outs_good g cs f h.0.0 h.0.1, tt)) h.1
 
-pub all_outs_good : (g : Graph) (fs : List ModuleIns) → EachOf (λ (f : ModuleIns). InsGood f × FittingSets f.known) fs → EachOf OutsGood (all_outs g fs)
-all_outs_good g fs h = from_outs g [] (reverse fs) tt (each_reverse (λ (f : ModuleIns). InsGood f × FittingSets f.known) fs h)
+pub all_outs_good : (g : Graph) (fs : List ModuleIns) → Every (λ (f : ModuleIns). InsGood f × FittingSets f.known) fs → Every OutsGood (all_outs g fs)
+all_outs_good g fs h = from_outs g [] (reverse fs) tt (every_turned (λ (f : ModuleIns). InsGood f × FittingSets f.known) fs h)
 
 -- ---- effects
 
@@ -313,33 +313,33 @@ more_effects f cs n h c x = go (bytes_eq name x) refl
     go true e = record { name = subst (λ (y : List ℕ). is_short_name y ≡ true) (same_name name x e) n.0; symbols = n.1; value = h.summary }
     go false e = c x
 
-found_effects : (untracked : List BlockUnit) (cs : effect_lists.Callees) (fs : List ModuleOuts) → CalleesNamed cs → EachOf (λ (f : ModuleOuts). ModuleNamed (known_in f)) fs → EachOf EffectsGood (marks.found_in untracked cs fs)
+found_effects : (untracked : List BlockUnit) (cs : effect_lists.Callees) (fs : List ModuleOuts) → CalleesNamed cs → Every (λ (f : ModuleOuts). ModuleNamed (known_in f)) fs → Every EffectsGood (marks.found_in untracked cs fs)
 found_effects untracked cs [] c h = tt
 found_effects untracked cs (f ∷ fs) c h =
     let n = with_marks untracked cs f in
     let first = effects_good untracked cs f c in
     (first, found_effects untracked (marks.with_callee n cs) fs (more_effects n cs h.0 first c) h.1)
 
-pub all_effects_good : (g : Graph) (fs : List ModuleOuts) → EachOf (λ (f : ModuleOuts). ModuleNamed (known_in f)) fs → EachOf EffectsGood (all_marks g fs)
-all_effects_good g fs h = found_effects g.untracked marks.no_callees (reverse fs) (λ x. tt) (each_reverse (λ (f : ModuleOuts). ModuleNamed (known_in f)) fs h)
+pub all_effects_good : (g : Graph) (fs : List ModuleOuts) → Every (λ (f : ModuleOuts). ModuleNamed (known_in f)) fs → Every EffectsGood (all_marks g fs)
+all_effects_good g fs h = found_effects g.untracked marks.no_callees (reverse fs) (λ x. tt) (every_turned (λ (f : ModuleOuts). ModuleNamed (known_in f)) fs h)
 
 -- ---- up to the marks
 
 module _ (W : ModuleOuts → Type 0) where
-  found_with : (untracked : List BlockUnit) (cs : effect_lists.Callees) (fs : List ModuleOuts) → EachOf W fs → EachOf (λ (f : ModuleResults). W (phases_of f)) (marks.found_in untracked cs fs)
+  found_with : (untracked : List BlockUnit) (cs : effect_lists.Callees) (fs : List ModuleOuts) → Every W fs → Every (λ (f : ModuleResults). W (phases_of f)) (marks.found_in untracked cs fs)
   found_with untracked cs [] h = tt
   found_with untracked cs (f ∷ fs) h = (h.0, found_with untracked (marks.with_callee (with_marks untracked cs f) cs) fs h.1)
 
-  pub marks_with : (g : Graph) (fs : List ModuleOuts) → EachOf W fs → EachOf (λ (f : ModuleResults). W (phases_of f)) (all_marks g fs)
-  marks_with g fs h = found_with g.untracked marks.no_callees (reverse fs) (each_reverse W fs h)
+  pub marks_with : (g : Graph) (fs : List ModuleOuts) → Every W fs → Every (λ (f : ModuleResults). W (phases_of f)) (all_marks g fs)
+  marks_with g fs h = found_with g.untracked marks.no_callees (reverse fs) (every_turned W fs h)
 
 -- the marks of each follow from its other results
 pub record MarksAre (untracked : List BlockUnit) (f : ModuleResults) : Type 0 where
   pub are : f.marks ≡ marks.marks_found untracked (phases_of f) f.effects
 
-marks_are : (untracked : List BlockUnit) (cs : effect_lists.Callees) (fs : List ModuleOuts) → EachOf (MarksAre untracked) (marks.found_in untracked cs fs)
+marks_are : (untracked : List BlockUnit) (cs : effect_lists.Callees) (fs : List ModuleOuts) → Every (MarksAre untracked) (marks.found_in untracked cs fs)
 marks_are untracked cs [] = tt
 marks_are untracked cs (f ∷ fs) = (record { are = refl }, marks_are untracked (marks.with_callee (with_marks untracked cs f) cs) fs)
 
-pub all_marks_are : (g : Graph) (fs : List ModuleOuts) → EachOf (MarksAre g.untracked) (all_marks g fs)
+pub all_marks_are : (g : Graph) (fs : List ModuleOuts) → Every (MarksAre g.untracked) (all_marks g fs)
 all_marks_are g fs = marks_are g.untracked marks.no_callees (reverse fs)

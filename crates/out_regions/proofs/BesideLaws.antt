@@ -1,5 +1,5 @@
 -- OUT of WRITE regions is told by the regions of their variables, and of variables that share units with these.
-use Rattle.std.proofs.Common.{◌≡◌, IfOk, Result, Ok, Err, ℕ, Bool, true, false, ◌&&◌, List, [], ◌∷◌, ◌++◌, map, refl, ap, sym, ◌∙◌, Option, Some, None}
+use Rattle.std.proofs.Common.{◌≡◌, ℕ, Bool, true, false, ◌&&◌, List, [], ◌∷◌, ◌++◌, map, refl, ap, sym, ◌∙◌, Option, Some, None}
 use Rattle.std.specs.Prelude.{◌||◌, if◌then◌else◌, option_to_list}
 use Rattle.affine_systems.specs.declared.row.System.{System}
 use Rattle.f77_ast.specs.declared.variable.Variable.{Variable}
@@ -181,10 +181,6 @@ first-beside k leaving n r out own ins behind later new a b c d e =
     let full = λ (is os : List Region). all_out (all_composed t is) ++ all_out (left_over leaving (all_composed t r.writes) os) in
     e ∙ (ap (λ (zs : List Region). used ss zs own) (d ∙ (ap (λ (zs : List Region). full zs behind) b ∙ ap (full (beside ss own r.ins)) c))
     ∙ (beside-out ss t leaving r.ins r.writes out own ∙ ap (used ss (full r.ins out)) a))
-
-pub ok-to : {T E : Type 0} {P Q : T → Type 0} (r : Result T E) → ((x : T) → P x → Q x) → IfOk r P → IfOk r Q
-ok-to (Ok x) f h = f x h
-ok-to (Err e) f h = tt
 
 -- nothing is left of nothing
 pub nothing-left : (leaving : Bool) (ws out none : List Region) → out ≡ [] → none ≡ [] → none ≡ left_over leaving ws out

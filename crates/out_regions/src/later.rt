@@ -12,7 +12,7 @@ ghost use Rattle.out_regions.specs.Later.{later_from as later_from_is, later_row
 use affine_forms::{Affine, var_form};
 use affine_systems::{Row, System, Var};
 use fx_lists::List;
-use hull_projection::project;
+use hull_projection::project_owned;
 use in_out_regions::region_sets::{
     Range, Region, RegionSet, has_none, named_cells, push_region, push_system, remade,
 };
@@ -80,7 +80,7 @@ fn later_index(alloc: Global, tracked: bool, g: &Range, s: &System) -> Result<Sy
     let named = rename_all(alloc, s, &[name])?;
     let after = push_rows(alloc, &named, later_rows(alloc, tracked, g)?)?;
     let vars = List::from_slice(alloc, &[Var::Aux(2)])?;
-    Ok(project(alloc, &after, &vars)?.system)
+    Ok(project_owned(alloc, after, &vars)?.system)
 }
 
 fn later_piece(alloc: Global, tracked: bool, g: &Range, s: &System) -> Result<System, Memory>

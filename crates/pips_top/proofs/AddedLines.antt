@@ -24,7 +24,6 @@ use Rattle.laws_programs.specs.roundtrip_programs.Texts.Texts.{IsPassedOver}
 use Rattle.laws_programs.specs.roundtrip_programs.Texts.Laws.{AllPassedOver}
 use Rattle.laws_programs.specs.roundtrip_programs.Lines.{IsShown, AreShown, IsClaimLine, LinesArePassedOver}
 use Rattle.laws_programs.specs.Programs.{AreTables}
-use Rattle.laws_lines.proofs.PhaseVars.{got_each}
 use Rattle.laws_lines.specs.Regions.Names.{IsNamed, AreNamed}
 use Rattle.laws_lines.specs.Regions.LineLaws.{RegionLinesPass, AllRegionLinesPass}
 use Rattle.laws_lines.specs.Ins.Laws.{InLinesPass, AllInLinesPass}
@@ -42,6 +41,7 @@ use Rattle.pips_top.proofs.LinesFound.{region_lines_found, scalar_lines_found, c
 use Rattle.pips_top.proofs.Programs.{each_at}
 use Rattle.pips_top.proofs.MarkNames.{MarksNamed, found_named, all_shown}
 use Rattle.pips_top.proofs.Said.{said_at, regions_at, ins_at, outs_at, marks_are}
+use Rattle.fx_lists.proofs.Every.{every_at}
 
 -- ---- the lines of a module
 
@@ -159,9 +159,9 @@ all_said law on_ins on_outs on_marks p t n = from_places (all_marks g os) each
         let here = ins_at g is out.0 (phases_of f) out.1 in
         let at = regions_at g fs here.0 (phases_of f).known here.1 in
         let there = said_at g as' here.0 (phases_of f).known here.1 in
-        let named = got_each (λ (r : ModuleRegions). IsNamed IsShown r.analysis.found.known) fs here.0 (phases_of f).known.known (regions_with (IsNamed IsShown) ks g (each_named IsShown ks n)) at in
-        let told = got_each (ModuleTold IsShown g.untracked) as' there.0 (analysis_in (phases_of f)) (all_told IsShown p.modules p.tables g t n) there.1 in
-        let fine = got_each (ModuleFine IsShown g.untracked) fs here.0 (phases_of f).known.known (modules_fine IsShown p.modules p.tables g t n) at in
+        let named = every_at (λ (r : ModuleRegions). IsNamed IsShown r.analysis.found.known) fs here.0 (phases_of f).known.known (regions_with (IsNamed IsShown) ks g (each_named IsShown ks n)) at in
+        let told = every_at (ModuleTold IsShown g.untracked) as' there.0 (analysis_in (phases_of f)) (all_told IsShown p.modules p.tables g t n) there.1 in
+        let fine = every_at (ModuleFine IsShown g.untracked) fs here.0 (phases_of f).known.known (modules_fine IsShown p.modules p.tables g t n) at in
         let names = names_shown f.known.symbols named.1 in
         let marks = subst (MarksNamed IsShown (symbol_names f.known.symbols)) (sym (marks_are g os j f e)) (found_named IsShown g.untracked (phases_of f) f.effects told fine) in
         record {

@@ -4,7 +4,7 @@ use Rattle.std.specs.Prelude.{slice_get, is_some, IsSome}
 use Rattle.f77_ast.specs.Trees.{StmtTrees}
 use Rattle.f77_ast.specs.DeclTrees.{ModuleTree}
 use Rattle.f77_ast.specs.declared.variable.Unit.{Unit as BlockUnit}
-use Rattle.f77_ast.specs.StatementNumbers.{list_numbers, IsNumbered}
+use Rattle.f77_ast.specs.StatementNumbers.{list_numbers, HasNumbers}
 use Rattle.f77_ast.specs.declared.results.At.{At}
 use Rattle.f77_ast.specs.declared.results.Results.{Results}
 use Rattle.f77_meaning.specs.Modules.{known_of}
@@ -29,12 +29,12 @@ use Rattle.laws_programs.specs.roundtrip_programs.ModuleTexts.Numbered.{last_in}
 use Rattle.laws_programs.specs.roundtrip_programs.Statements.Formed.{Each}
 use Rattle.laws_programs.specs.Programs.{IsProgram}
 use Rattle.laws_programs.proofs.Sources.{IsBuilt, all_built}
-use Rattle.laws_programs.proofs.Numbers.{is_numbered}
+use Rattle.laws_programs.proofs.Numbers.{has_numbers}
 use Rattle.laws_programs.proofs.Tables.{programs_are_linked}
 use Rattle.laws_programs.proofs.Whole.{numbers_go_up}
 use Rattle.call_graph.specs.CallsIn.{Each as EachOne}
 use Rattle.laws_analyses.proofs.Statements.MainResults.{found_at}
-use Rattle.laws_analyses.proofs.Statements.NumberLaws.{ids, in_order}
+use Rattle.laws_analyses.proofs.Statements.NumberLaws.{ids, own_numbers}
 use Rattle.laws_analyses.specs.Coverage.{IsWhole, AreWhole}
 use Rattle.laws_analyses.specs.Laws.{AnalysesAreWhole}
 use Rattle.laws_analyses.specs.Regions.Claims.{set_in}
@@ -53,10 +53,11 @@ use Rattle.pips_top.specs.Shown.{results_of_program}
 use Rattle.pips_top.proofs.DirectivesFound.{module_there}
 use Rattle.pips_top.proofs.DirectiveMarks.{marks_rise, marks_count, value_there}
 use Rattle.pips_top.proofs.EntryClaims.{of_scalars_at}
-use Rattle.pips_top.proofs.Marking.{numbers}
 use Rattle.pips_top.proofs.ModulesSaid.{each_own, known_back}
 use Rattle.pips_top.proofs.Programs.{is_program}
 use Rattle.pips_top.proofs.Said.{said_once}
+use Rattle.call_graph.proofs.EachLaws.{each_place}
+use Rattle.laws_lines.proofs.Marks.Cases.{numbers}
 
 -- ---- results at statements
 
@@ -66,17 +67,17 @@ at_number (b ∷ as') zero n e = let one : b.id ≡ n = cc in (b, refl, one)
 at_number (b ∷ as') (suc j) n e = at_number as' j n e
 
 -- where there is one at each statement
-has_value : {T : Type 0} (as' : List (At T)) (body : StmtTrees) → ids as' ≡ list_numbers body → IsNumbered body → (j n : ℕ) → slice_get (list_numbers body) j ≡ Some n → IsSome (value_at as' n)
+has_value : {T : Type 0} (as' : List (At T)) (body : StmtTrees) → ids as' ≡ list_numbers body → HasNumbers body → (j n : ℕ) → slice_get (list_numbers body) j ≡ Some n → IsSome (value_at as' n)
 has_value as' body e h j n q =
     let b = at_number as' j n (ap (λ ns. slice_get ns j) e ∙ q) in
-    let f = found_at as' j b.0 (in_order as' body e h) b.1 in
+    let f = found_at as' j b.0 (own_numbers as' body e h) b.1 in
     ap is_some (ap (value_at as') (sym b.2) ∙ f.1)
 
 set_there : (r : Results (List Region)) (n : ℕ) → IsSome (value_at r.at n) → IsSome (set_in r n)
 set_there r zero h = refl
 set_there r (suc n) h = h
 
-has_set : (r : Results (List Region)) (body : StmtTrees) → ids r.at ≡ list_numbers body → IsNumbered body → HasEach (list_numbers body) (set_in r)
+has_set : (r : Results (List Region)) (body : StmtTrees) → ids r.at ≡ list_numbers body → HasNumbers body → HasEach (list_numbers body) (set_in r)
 has_set r body e h j n q = set_there r n (has_value r.at body e h j n q)
 
 -- ---- sets of regions at statements
@@ -106,21 +107,16 @@ mark_number (b ∷ ms) (suc j) n e = mark_number ms j n e
 
 -- ---- modules
 
-one_of : {A : Type 0} (P : A → Type 0) (xs : List A) (j : ℕ) (x : A) → EachOne P xs → slice_get xs j ≡ Some x → P x
-one_of P [] j x h e = cc
-one_of P (y ∷ xs) zero x h e = let same : y ≡ x = cc in subst P same h.0
-one_of P (y ∷ xs) (suc j) x h e = one_of P xs j x h.1 e
-
 module _ (p : ProgramTree) (i : IsProgram p.modules p.tables p.graph) (whole : AreWhole (known_of p.modules p.tables) (analyses (known_of p.modules p.tables) p.graph)) (follow : EachOne (FollowsFrom p.graph (results_of_program p)) (results_of_program p)) where
   abbrev built : Each IsBuilt p.modules
   built = all_built i.lines p.modules i.parsed
 
   -- its statements are numbered
-  numbered : (j : ℕ) (f : ModuleResults) → slice_get (results_of_program p) j ≡ Some f → IsNumbered f.known.read.body
+  numbered : (j : ℕ) (f : ModuleResults) → slice_get (results_of_program p) j ≡ Some f → HasNumbers f.known.read.body
   numbered j f e =
       let k = known_back p whole j f e in
       let m = module_there p.modules p.tables k.0 f.known k.1 in
-      subst (λ (t : ModuleTree). IsNumbered t.body) m.2 (is_numbered m.0.module_read.body (numbers_go_up i.lines p.modules i.parsed k.0 m.0 m.1))
+      subst (λ (t : ModuleTree). HasNumbers t.body) m.2 (has_numbers m.0.module_read.body (numbers_go_up i.lines p.modules i.parsed k.0 m.0 m.1))
 
   covered_at : (j : ℕ) (f : ModuleResults) → slice_get (results_of_program p) j ≡ Some f → IsCovered f
   covered_at j f e =
@@ -128,7 +124,7 @@ module _ (p : ProgramTree) (i : IsProgram p.modules p.tables p.graph) (whole : A
       let fs = results_of_program p in
       let body = f.known.read.body in
       let n = numbered j f e in
-      let from = one_of (FollowsFrom p.graph (results_of_program p)) (results_of_program p) j f follow e in
+      let from = each_place (FollowsFrom p.graph (results_of_program p)) (results_of_program p) j f follow e in
       let rise = marks_rise p whole built j f e in
       let count = marks_count p whole built j f e in
       record {

@@ -6,7 +6,7 @@ use Rattle.f77_ast.specs.DeclTrees.{ModuleTree}
 use Rattle.f77_meaning.specs.Modules.{known_of, symbol_names}
 use Rattle.f77_ast.specs.declared.results.At.{At}
 use Rattle.system_text.specs.SystemText.{name_at}
-use Rattle.in_out_regions.specs.transformer_algebra.Laws.{In, here, there}
+use Rattle.in_out_regions.specs.transformer_algebra.Laws.{In}
 use Rattle.in_out_regions.specs.transformers.Lists.{first_at, or_first, value_at}
 use Rattle.pipsmake_base.specs.module_phases.ScalarPhases.{analyses}
 use Rattle.pipsmake_base.specs.module_phases.RegionPhases.{all_regions}
@@ -31,8 +31,10 @@ use Rattle.pips_top.specs.Shown.{results_of_program}
 use Rattle.pips_top.proofs.BlockNames.{formed}
 use Rattle.pips_top.proofs.Said.{marks_are}
 use Rattle.pips_top.proofs.ModulesSaid.{known_back}
-use Rattle.pips_top.proofs.Marking.{numbers, body_cards, found_numbers, got}
+use Rattle.pips_top.proofs.Marking.{body_cards, found_numbers, got}
 use Rattle.pips_top.proofs.DirectivesFound.{module_there}
+use Rattle.in_out_regions.proofs.TransformerAlgebra.Members.{in_at}
+use Rattle.laws_lines.proofs.Marks.Cases.{numbers}
 
 -- ---- marks by their numbers, which go up
 
@@ -71,11 +73,6 @@ value_there ms k a b m h e = at (nat_eq m.id 0) refl
     at false q = at_place (slice_get ms (m.id - 1)) refl
 
 -- ---- modules
-
-in_list : {A : Type 0} (xs : List A) (j : ℕ) (x : A) → slice_get xs j ≡ Some x → In x xs
-in_list [] j x e = cc
-in_list (y ∷ xs) zero x e = let same : y ≡ x = cc in subst (λ z. In x (z ∷ xs)) (sym same) here
-in_list (y ∷ xs) (suc j) x e = there (in_list xs j x e)
 
 -- the DO with this number in the module of this name is parallel, with these names of its private variables
 abbrev pub IsFoundMark : List ModuleResults → List ℕ → ℕ → List (List ℕ) → Type 0
@@ -116,7 +113,7 @@ directive_marks p whole built x n xs e =
     let a = d.among in
     let rise = marks_rise p whole built d.place f d.there in (
       f,
-      in_list (results_of_program p) d.place f d.there,
+      in_at (results_of_program p) d.place f d.there,
       d.name,
       (a.private, value_there f.marks a.place 0 (last_in 0 f.known.read.body) (record { id = n; value = Parallel a.private }) rise a.mark, a.named),
     )

@@ -20,16 +20,9 @@ use Rattle.pipsmake_base.specs.Saving.{stored_kinds, fresh_keys, stored_keys}
 use Rattle.pips_top.specs.Based.{all_keys}
 use Rattle.pipsmake_base.proofs.LawsDatabase.Whole.{graph_in_order}
 use Rattle.pipsmake_base.proofs.PipsmakeDb.UpToDate.{puts_keep, puts_hold as puts_have}
+use Rattle.pipsmake_base.proofs.PipsmakeDb.WalkedLists.{front_holds}
 
 -- ---- results in lists
-
-there_before : (ks more : List Key) (k : Key) → holds ks k ≡ true → holds (ks ++ more) k ≡ true
-there_before [] more k e = cc
-there_before (j ∷ js) more k e = go (same_key j k) e (there_before js more k)
-  where
-    go : (b : Bool) → (b || holds js k) ≡ true → (holds js k ≡ true → holds (js ++ more) k ≡ true) → (b || holds (js ++ more) k) ≡ true
-    go true f later = refl
-    go false f later = later f
 
 -- a result of a list has a place there
 record HasPlace (ks : List Key) (k : Key) : Type 0 where
@@ -88,9 +81,9 @@ module _ (ts : List ModuleText) (x : List ℕ) where
       let q3 = and_parts (holds t.before (key kind.CallGraph (codes "*"))) _ q2.1 in
       let q4 = and_parts (holds t.before (key kind.Effects x)) _ q3.1 in
       let up : (k : Key) → holds before k ≡ true → holds (walk_in ts (key kind.Printed x)) k ≡ true =
-      λ k e. subst (λ ks. holds ks k ≡ true) (sym last) (there_before before (key kind.Printed x ∷ []) k e) in
+      λ k e. subst (λ ks. holds ks k ≡ true) (sym last) (front_holds before (key kind.Printed x ∷ []) k e) in
       let effects : holds (walk_in ts (key kind.Printed x)) (key kind.Effects x) ≡ true =
-      subst (λ ks. holds ks (key kind.Effects x) ≡ true) (sym at) (there_before t.before (key kind.Transformers x ∷ (t.after ++ key kind.Printed x ∷ [])) (key kind.Effects x) q4.0) in (
+      subst (λ ks. holds ks (key kind.Effects x) ≡ true) (sym at) (front_holds t.before (key kind.Transformers x ∷ (t.after ++ key kind.Printed x ∷ [])) (key kind.Effects x) q4.0) in (
         effects,
         (up (key kind.Transformers x) p4.0, (up (key kind.Preconditions x) p5.0, (up (key kind.Regions x) p6.0, (up (key kind.InRegions x) p7.0, (up (key kind.OutRegions x) p8.0, (up (key kind.Marks x) p9.0, tt)))))),
       )

@@ -16,7 +16,6 @@ use Rattle.laws_lines.specs.NameLaws.{NamesAreWords}
 use Rattle.laws_lines.specs.Regions.LineLaws.{RegionLinesMean, RegionLinesMeanRegions}
 use Rattle.laws_lines.specs.Ins.Laws.{InLinesMean, InLinesMeanRegions}
 use Rattle.laws_lines.specs.Outs.Laws.{OutLinesMean, OutLinesMeanRegions}
-use Rattle.laws_lines.proofs.PhaseVars.{got_each}
 use Rattle.laws_lines.proofs.Regions.LinesMean.{tables_named}
 use Rattle.laws_lines.proofs.Regions.ProgramRegions.{ModuleFine, ModuleTold, regions_with, all_told, modules_fine}
 use Rattle.laws_lines.specs.RegionTexts.Printed.{IsPlain}
@@ -33,6 +32,7 @@ use Rattle.pips_top.proofs.MarkNames.{MarksNamed, found_named, marks_read}
 use Rattle.pips_top.proofs.ModulesSaid.{Once, own_found}
 use Rattle.pips_top.proofs.Said.{regions_at, said_at, ins_at, outs_at, marks_are, said_once}
 use Rattle.laws_lines.proofs.ProgramLines.{HasNames}
+use Rattle.fx_lists.proofs.Every.{every_at}
 
 -- the lines of a module
 lines_read : (show : Show) (f : ModuleResults) → LinesMeanResults (analysis_in (phases_of f)) → RegionLinesMean (phases_of f).known.known → InLinesMean (phases_of f).known → OutLinesMean (phases_of f)
@@ -61,9 +61,9 @@ lines_from whole back words blocks on_regions on_ins on_outs directives obstacle
     let there = regions_at p.graph regions here.0 (phases_of f).known here.1 in
     let u = p.graph.untracked in
     let names = symbol_names f.known.symbols in
-    let told = got_each (ModuleTold IsPlain u) found at.0 (analysis_in (phases_of f)) (all_told IsPlain p.modules p.tables p.graph i.tables plain) at.1 in
-    let fine = got_each (ModuleFine IsPlain u) regions here.0 (phases_of f).known.known (modules_fine IsPlain p.modules p.tables p.graph i.tables plain) there in
-    let are = got_each (λ (r : ModuleRegions). HasNames r.analysis.found.known) regions here.0 (phases_of f).known.known (regions_with HasNames (known_of p.modules p.tables) p.graph (tables_named p.modules p.tables i.tables named)) there in
+    let told = every_at (ModuleTold IsPlain u) found at.0 (analysis_in (phases_of f)) (all_told IsPlain p.modules p.tables p.graph i.tables plain) at.1 in
+    let fine = every_at (ModuleFine IsPlain u) regions here.0 (phases_of f).known.known (modules_fine IsPlain p.modules p.tables p.graph i.tables plain) there in
+    let are = every_at (λ (r : ModuleRegions). HasNames r.analysis.found.known) regions here.0 (phases_of f).known.known (regions_with HasNames (known_of p.modules p.tables) p.graph (tables_named p.modules p.tables i.tables named)) there in
     let marks = subst (MarksNamed IsPlain names) (sym (marks_are p.graph outs j f there_is)) (found_named IsPlain u (phases_of f) f.effects told fine) in
     lines_read show f (each_at LinesMeanResults found read at.0 (analysis_in (phases_of f)) at.1) (each_at RegionLinesMean regions means here.0 (phases_of f).known.known there)
     (each_at InLinesMean ins in_means here.0 (phases_of f).known here.1) (each_at OutLinesMean outs out_means out.0 (phases_of f) out.1) (marks_read directives obstacles IsPlain names are f.marks marks))

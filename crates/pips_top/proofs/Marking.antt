@@ -1,5 +1,5 @@
 -- The marks of the modules of a program that was read are as the law of whole texts asks.
-use Rattle.std.proofs.Common.{◌≡◌, ℕ, zero, suc, Bool, true, false, List, [], ◌∷◌, ◌++◌, map, Option, Some, None, refl, sym, ap, ◌∙◌, subst}
+use Rattle.std.proofs.Common.{◌≡◌, ℕ, zero, suc, Bool, true, false, List, [], ◌∷◌, ◌++◌, Option, Some, None, refl, sym, ap, ◌∙◌, subst}
 use Rattle.std.specs.Prelude.{slice_get}
 use Rattle.f77_ast.specs.declared.places.Part.TheVariants as parts
 use Rattle.f77_ast.specs.DeclTrees.{ModuleTree, ParsedTree}
@@ -35,7 +35,6 @@ use Rattle.laws_lines.proofs.Marks.MarkNumbers.{marks_numbers}
 use Rattle.laws_programs.proofs.Sources.{IsBuilt}
 use Rattle.laws_programs.specs.Programs.{AreTables}
 use Rattle.laws_analyses.specs.Coverage.{AreWhole}
-use Rattle.laws_lines.proofs.PhaseVars.{EachOf, got_each}
 use Rattle.pips_top.specs.Program.{ProgramTree}
 use Rattle.pipsmake_base.specs.pipsmake_meaning.ResultEntries.{results_for}
 use Rattle.pipsmake_base.specs.laws_database.ProgramTexts.{lines_with}
@@ -50,6 +49,8 @@ use Rattle.pips_top.proofs.Said.{marks_are}
 use Rattle.pips_top.proofs.ModulesSaid.{IsOwn, each_own, known_there}
 use Rattle.pips_top.proofs.AddedLines.{IsSaid}
 use Rattle.laws_lines.proofs.ProgramLines.{HasNames}
+use Rattle.fx_lists.proofs.Every.{Every, every_at}
+use Rattle.laws_lines.proofs.Marks.Cases.{numbers}
 
 -- ---- the lines that are added to a module: those of its marks behind others
 
@@ -95,9 +96,6 @@ unfolding statements_of
 body_cards m k =
     right_of (title_cards m ++ decl_cards 0 m.decls) (cards_in m.body) (left_of (title_cards m ++ decl_cards 0 m.decls ++ cards_in m.body) (card parts.End None end_module ∷ []) k)
 
-abbrev pub numbers : List (At Mark) → List ℕ
-numbers ms = map (λ (m : At Mark). m.id) ms
-
 pub found_numbers : (u : List BlockUnit) (f : ModuleOuts) (e : Results EffectSet) → AreNumbered 0 (known_in f).read.body → AreCards (cards_in (known_in f).read.body) → numbers (marks_found u f e) ≡ loops_in (known_in f).read.body
 found_numbers u f e n c =
     let k = known_in f in
@@ -128,7 +126,7 @@ each_from P [] h = tt
 each_from P (x ∷ xs) h = record { first = h zero x refl; others = each_from P xs (λ j y e. h (suc j) y e) }
 
 module _ (p : ProgramTree) (show : Show) (whole : AreWhole (known_of p.modules p.tables) (analyses (known_of p.modules p.tables) p.graph)) (tables : AreTables p.modules p.tables)
-    (built : Each IsBuilt p.modules) (are : EachOf HasNames (known_of p.modules p.tables)) (said : Each IsSaid (results_of_program p)) where
+    (built : Each IsBuilt p.modules) (are : Every HasNames (known_of p.modules p.tables)) (said : Each IsSaid (results_of_program p)) where
   abbrev ks : List Known
   ks = known_of p.modules p.tables
 
@@ -147,7 +145,7 @@ module _ (p : ProgramTree) (show : Show) (whole : AreWhole (known_of p.modules p
       let found = marks_are p.graph outs own.place f own.there in
       let count = found_numbers p.graph.untracked (phases_of f) f.effects (subst (λ (t : ModuleTree). AreNumbered 0 t.body) read b.well.body) (subst (λ (t : ModuleTree). AreCards (cards_in t.body)) read (body_cards m.module_read (formed m b))) in
       let here : IsGood show m.module_read (Some f) = record {
-        named = subst HasNames (sym own.known) (got_each HasNames ks i this are k);
+        named = subst HasNames (sym own.known) (every_at HasNames ks i this are k);
         shown = is.names;
         marking = record { each = ap numbers found ∙ count ∙ ap (λ (t : ModuleTree). loops_in t.body) (sym read); numbered = numbered names f.marks is.named };
       } in

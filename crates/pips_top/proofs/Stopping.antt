@@ -1,9 +1,8 @@
 -- A status that comes before writing: its cause, and what the definitions answer.
-use Rattle.std.proofs.Common.{◌≡◌, ℕ, ◌≤◌, ◌<◌, ◌⊎◌, inl, inr, List, [], ◌∷◌, length, codes, ap, sym, ◌∙◌, refl, subst, true, Option, Some, None, IsSomeAnd, Result, Ok, Err, map, Bool, false, append-nil, arith}
+use Rattle.std.proofs.Common.{◌≡◌, ℕ, ◌≤◌, ◌<◌, ◌⊎◌, inl, inr, List, [], ◌∷◌, length, codes, ap, sym, ◌∙◌, refl, subst, true, Option, Some, None, IsSomeAnd, Result, Ok, Err, map, Bool, false, arith}
 use Rattle.std.proofs.lemmas.Grind.{common_steps}
 use Rattle.fx_base.specs.Counts.{Rose}
 use Rattle.fx_base.specs.Files.{Files, bytes_of}
-use Rattle.fx_base.specs.Sink.{appended}
 use Rattle.fx_base.specs.declared.store.Role.TheVariants.{Input, Base as BaseRole}
 use Rattle.fx_base.specs.declared.store.Fetched.TheVariants as fetched
 use Rattle.command_words.specs.Options.{Accepts}
@@ -36,6 +35,7 @@ use Rattle.pips_top.specs.declared.status.Status.{Status}
 use Rattle.pips_top.specs.declared.status.Status.TheVariants.{Done, Refused, Usage, NoInput, TooLong, ReadFault, WriteFault, BadBase, StaleBase, BaseFault, Memory}
 use Rattle.pips_top.proofs.Endings.{told, got_absent, got_long, ends_got, opened_from, opened_long, opened_bad, ends_opened, ends_unkept, ends_refused}
 use Rattle.pips_top.proofs.Soundness.{held_input, not_refused}
+use Rattle.fx_base.proofs.SinkLemmas.{appended-nothing}
 
 -- no job ends so
 never : (P : Job → Type 0) → ((job : Job) → P job → ⊥) → (o : Option Job) → IsSomeAnd o P → ⊥
@@ -166,18 +166,13 @@ too_long_job job held old new line is (inl h) = long_job job held old new (codes
 too_long_job job held old new line is (inr (inl (i, h))) = long_base_job job held old new (codes "pips: too long ") line is i h
 too_long_job job held old new line is (inr (inr h)) = room_job job held old new line is h
 
--- what each job that ends so comes to, the words come to
-appended-nil : (old : Option (List ℕ)) → appended old [] ≡ old
-appended-nil None = refl
-appended-nil (Some bytes) = ap Some (append-nil bytes)
-
 abbrev EndsSo : Job → Files → Status → Stored → Stored → Type 0
 EndsSo job held s old new = EndsJob job held s [] None × Untouched old new
 
 of_jobs : (P : Job → Type 0) (held : Files) (s : Status) (old new : Stored) (before after : Option (List ℕ)) → old.files ≡ Some held → after ≡ before → ((job : Job) → P job → EndsSo job held s old new) → (o : Option Job)
     → IsSomeAnd o P → EndsFor o held s before after new.files
 of_jobs P held s old new before after is out h None d = elim d [ ]
-of_jobs P held s old new before after is out h (Some job) d = ([], None, (h job d).0, out ∙ sym (appended-nil before), (h job d).1 ∙ is)
+of_jobs P held s old new before after is out h (Some job) d = ([], None, (h job d).0, out ∙ sym (appended-nothing before), (h job d).1 ∙ is)
 
 usage_for : (o : Option Job) (held : Files) (before after : Option (List ℕ)) (files : Option Files) → o ≡ None → after ≡ before → files ≡ Some held → EndsFor o held Usage before after files
 usage_for None held before after files e out same = (refl, out, same)

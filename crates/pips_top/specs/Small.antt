@@ -62,6 +62,9 @@ parsed = record {
         stmt 3 (Some 10) (assign (name (codes "K")) (binary Add (name (codes "K")) (name (codes "I")))) ∷ []))))
         ∷ stmt 4 None (print (exprs_of (name (codes "K") ∷ [])))
         ∷ []);
+    function = None;
+    references = [];
+    whiles = [];
   };
   places = record {
     spots =

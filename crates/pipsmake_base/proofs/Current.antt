@@ -1,35 +1,22 @@
 -- Sessions keep fresh results up to date.
-use Rattle.std.proofs.Common.{◌≡◌, ◌⊎◌, ℕ, Bool, true, false, List, [], ◌∷◌, ◌++◌, Some, refl, sym, ap, ◌∙◌, subst}
+use Rattle.std.proofs.Common.{◌≡◌, ◌⊎◌, ℕ, Bool, true, false, List, [], ◌∷◌, ◌++◌, sym, subst}
 use Rattle.std.specs.Prelude.{if◌then◌else◌}
 use Rattle.pipsmake_db.specs.pipsmake_rules.declared.kind.Kind.{Kind}
 use Rattle.pipsmake_db.specs.pipsmake_rules.declared.kind.Kind.TheVariants as kind
 use Rattle.pipsmake_db.specs.pipsmake_rules.declared.key.Key.{Key}
 use Rattle.pipsmake_db.specs.pipsmake_rules.Keys.{holds}
 use Rattle.call_graph.specs.CallsIn.{Each}
-use Rattle.pipsmake_db.specs.pipsmake_meaning.Texts.{ModuleText}
 use Rattle.pipsmake_db.specs.laws_database.Laws.{walk_in}
-use Rattle.pipsmake_db.specs.pipsmake_meaning.Session.{Makings, needs_in, SameText, SameValue, UpToDate, made_now, none_made}
+use Rattle.pipsmake_db.specs.pipsmake_meaning.Session.{SameText, SameValue, UpToDate, made_now, none_made}
 use Rattle.pipsmake_db.specs.Answers.{MakesIn}
 use Rattle.pipsmake_db.specs.Calls.{key}
 use Rattle.pipsmake_db.specs.Fresh.{key_put, keys_put}
 use Rattle.pipsmake_db.specs.State.{State}
 use Rattle.pipsmake_base.specs.Saved.{texts_in, keys_in}
 use Rattle.pipsmake_base.specs.Current.{FreshIsCurrent, FirstIsCurrent, LoadedIsCurrent, MakingStaysCurrent, LosingStaysCurrent, PrintingStaysCurrent}
-use Rattle.pipsmake_base.proofs.Lists.{all_held, each_map, each_join}
-use Rattle.pipsmake_db.proofs.UpToDate.{same_text, same_values, walk_is_current}
-
--- ---- what was made at the present texts is up to date
-
-module _ (made : Makings) (ts : List ModuleText) (now : List Key) where
-  up_made : (k : Key) → holds now k ≡ true → UpToDate (made_now made ts now) ts k
-  up_made k e = record { old = ts; was_made = ap (λ b. if b then Some ts else made k.kind k.name) e; text = same_text k.kind k.name ts; needs = refl; values = same_values ts (needs_in ts k) }
-
-  up_stays : (k : Key) → UpToDate made ts k → UpToDate (made_now made ts now) ts k
-  up_stays k u = go (holds now k) refl
-    where
-      go : (b : Bool) → holds now k ≡ b → UpToDate (made_now made ts now) ts k
-      go true e = up_made k e
-      go false e = record { old = u.old; was_made = ap (λ b. if b then Some ts else made k.kind k.name) e ∙ u.was_made; text = u.text; needs = u.needs; values = u.values }
+use Rattle.pipsmake_base.proofs.Lists.{all_held}
+use Rattle.pipsmake_db.proofs.UpToDate.{walk_is_current, up_made, up_stays}
+use Rattle.call_graph.proofs.EachLaws.{each_more, each_joined}
 
 -- ---- fresh results
 
@@ -38,7 +25,7 @@ each_put P k ks h p = go (holds ks k)
   where
     go : (b : Bool) → Each P (if b then ks else ks ++ k ∷ [])
     go true = h
-    go false = each_join P ks (k ∷ []) h (p, tt)
+    go false = each_joined P ks (k ∷ []) h (p, tt)
 
 each_puts : (P : Key → Type 0) (js ks : List Key) → Each P ks → Each P js → Each P (keys_put ks js)
 each_puts P [] ks h p = h
@@ -48,10 +35,10 @@ pub first_is_current : FirstIsCurrent
 first_is_current = tt
 
 pub loaded_is_current : LoadedIsCurrent
-loaded_is_current b = each_map (λ k. holds (keys_in b) k ≡ true) (UpToDate (made_now none_made (texts_in b) (keys_in b)) (texts_in b)) (keys_in b) (up_made none_made (texts_in b) (keys_in b)) (all_held (keys_in b))
+loaded_is_current b = each_more (λ k. holds (keys_in b) k ≡ true) (UpToDate (made_now none_made (texts_in b) (keys_in b)) (texts_in b)) (keys_in b) (up_made none_made (texts_in b) (keys_in b)) (all_held (keys_in b))
 
 pub losing_stays_current : LosingStaysCurrent
-losing_stays_current s now f = each_map (UpToDate s.made s.texts) (UpToDate (made_now s.made s.texts now) s.texts) s.fresh (up_stays s.made s.texts now) f
+losing_stays_current s now f = each_more (UpToDate s.made s.texts) (UpToDate (made_now s.made s.texts now) s.texts) s.fresh (up_stays s.made s.texts now) f
 
 pub making_stays_current : MakingStaysCurrent
 making_stays_current s k now f m = each_puts (UpToDate (made_now s.made s.texts now) s.texts) (walk_in s.texts k) s.fresh (losing_stays_current s now f) (walk_is_current s.made s.texts (walk_in s.texts k) now m)

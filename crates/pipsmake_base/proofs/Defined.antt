@@ -22,7 +22,7 @@ use Rattle.pipsmake_db.specs.State.{State, texts_of, memo_cells_in, IsIn}
 use Rattle.pipsmake_db.proofs.ShowLaws.{asked_defined}
 use Rattle.pipsmake_base.proofs.StoredCan.{current_can}
 use Rattle.pipsmake_db.proofs.UpToDate.{walk_is_current}
-use Rattle.pipsmake_base.proofs.Lists.{each_map, each_pair}
+use Rattle.call_graph.proofs.EachLaws.{each_both, each_more}
 
 can_stored : (ts : List ModuleText) (k : Kind) (x : List ℕ) → IsStored k → AreLinked ts × (has_name (names_in ts) x ≡ true) → CanMake ts k x
 can_stored ts kind.Parsed x s c = absurd s
@@ -77,7 +77,7 @@ module _ (tables_law : TablesIgnorePlaces) (graphs_law : GraphsIgnorePlaces) (ol
       let ups = walk_is_current s.made s.texts (walk_in s.texts k) now l.made in
       let cans = walk_can s.texts ms k can_now in
       let all : Each (IsDefined (memo_cells_in new) s.texts) (walk_in s.texts k) =
-      each_map (λ j. UpToDate (made_now s.made s.texts now) s.texts j × CanMake s.texts j.kind j.name) (IsDefined (memo_cells_in new) s.texts) (walk_in s.texts k)
+      each_more (λ j. UpToDate (made_now s.made s.texts now) s.texts j × CanMake s.texts j.kind j.name) (IsDefined (memo_cells_in new) s.texts) (walk_in s.texts k)
       (λ j p. kept_is_defined tables_law graphs_law (memo_cells_in new) s.texts (made_now s.made s.texts now) l.next.stands j p.0 p.1)
-      (each_pair (UpToDate (made_now s.made s.texts now) s.texts) (λ (j : Key). CanMake s.texts j.kind j.name) (walk_in s.texts k) ups cans) in
+      (each_both (UpToDate (made_now s.made s.texts now) s.texts) (λ (j : Key). CanMake s.texts j.kind j.name) (walk_in s.texts k) ups cans) in
       asked_defined (memo_cells_in new) s.texts k all ∙ ap (λ ts. definition ts k.kind k.name) (sym i.texts)

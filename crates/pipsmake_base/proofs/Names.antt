@@ -10,7 +10,7 @@ use Rattle.pipsmake_db.specs.pipsmake_rules.Neighbours.{has_name}
 use Rattle.base_json.specs.Distinct.{are_new}
 use Rattle.pipsmake_db.specs.base_values.Modules.{ModuleNames}
 use Rattle.pipsmake_db.proofs.BaseValues.Options.{Decides-leb}
-use Rattle.pipsmake_db.proofs.BaseValues.RowsBack.{if_true, when_true}
+use Rattle.pipsmake_db.proofs.BaseValues.RowsBack.{when_true}
 use Rattle.base_text.specs.Modules.{module_names_in, names_read, names_if, names_of, names_each, known, names_at}
 use Rattle.pipsmake_db.specs.pipsmake_meaning.Definitions.{module_named}
 use Rattle.pipsmake_db.specs.pipsmake_meaning.Texts.{ModuleText, ReadModule, module_read, IsModule, AreModules, names_in, text_of}
@@ -18,6 +18,7 @@ use Rattle.laws_stored.specs.Laws.{IsCounted, ShortTextsAreCounted}
 use Rattle.pipsmake_base.specs.Saving.{module_of, AreShort}
 use Rattle.base_text.proofs.Names.{none_more}
 use Rattle.fx_lists.proofs.Texts.{apart_back as apart}
+use Rattle.fx_lists.proofs.Booleans.{chosen}
 
 -- ---- names that differ
 
@@ -89,7 +90,7 @@ module _ (counted : ShortTextsAreCounted) where
   one_named t is short =
       let few : nat_lt (length is.found.table) 4294967296 ≡ true = (Decides-ltb (length is.found.table) 4294967296).1 (counted t.text is.found is.is_read short) in
       let named : bytes_eq is.found.module_is.module_read.name t.name ≡ true = (bytes_decides is.found.module_is.module_read.name t.name).1 is.is_named in
-      if_true (nat_le (length t.text) 16777216) (option_and_then (names_if t.name) (module_read t.text)) None ((Decides-leb (length t.text) 16777216).1 short)
+      chosen (nat_le (length t.text) 16777216) (option_and_then (names_if t.name) (module_read t.text)) None ((Decides-leb (length t.text) 16777216).1 short)
       ∙ ap (option_and_then (names_if t.name)) is.is_read
       ∙ when_true (bytes_eq is.found.module_is.module_read.name t.name && nat_lt (length is.found.table) 4294967296) (names_read is.found)
       (and_from (bytes_eq is.found.module_is.module_read.name t.name) (nat_lt (length is.found.table) 4294967296) named few)

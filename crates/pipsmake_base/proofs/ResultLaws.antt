@@ -27,6 +27,7 @@ use Rattle.pipsmake_base.proofs.Defined.{stored_value}
 use Rattle.pipsmake_base.proofs.StoredLaws.{stored_back}
 use Rattle.pipsmake_base.specs.Saving.{stored_result, kept_results, result_saved}
 use Rattle.pipsmake_db.proofs.LawsDatabase.Keeping.{held}
+use Rattle.fx_lists.proofs.Options.{some_is}
 
 -- ---- a value of a stored kind
 
@@ -36,12 +37,9 @@ record IsStoredAs (v : Value) (k : Kind) : Type 0 where
   pub is : stored_in v ≡ Some value
   pub kind : kind_of value ≡ k
 
-one_value : (a b : Value) → Some a ≡ Some b → a ≡ b
-one_value a b e = cc
-
 mapped_as : {A : Type 0} (f : A → Value) (g : A → StoredValue) (o : Option A) (v : Value) (k : Kind) → ((a : A) → stored_in (f a) ≡ Some (g a)) → ((a : A) → kind_of (g a) ≡ k) → option_map f o ≡ Some v → IsStoredAs v k
 mapped_as f g None v k s h e = cc
-mapped_as f g (Some a) v k s h e = let same : f a ≡ v = one_value (f a) v e in record { value = g a; is = ap stored_in (sym same) ∙ s a; kind = h a }
+mapped_as f g (Some a) v k s h e = let same : f a ≡ v = some_is (f a) v e in record { value = g a; is = ap stored_in (sym same) ∙ s a; kind = h a }
 
 stored_as : (ts : List ModuleText) (k : Kind) (x : List ℕ) (v : Value) → IsStored k → definition ts k x ≡ Some v → IsStoredAs v k
 stored_as ts kind.Parsed x v s e = absurd s

@@ -31,7 +31,7 @@ use Rattle.pipsmake_base.specs.Saved.{key_at, value_in}
 use Rattle.pipsmake_base.specs.Taken.{IsGivenAt, HasFirst, OthersDefined, Taken, SlotsStay, SeesFirst, SeesResults, SeesNeed, SeesNeeds, need_at, IsStoredKey, SeesStamps, LinksFor, KeepsResults}
 use Rattle.fx_lists.proofs.Booleans.{no_both as clash}
 use Rattle.pipsmake_db.proofs.LawsDatabase.Keeping.{held, holds_other}
-use Rattle.pipsmake_base.proofs.Lists.{each_map, each_join}
+use Rattle.call_graph.proofs.EachLaws.{each_more, each_joined}
 
 -- ---- memo cells that stay
 
@@ -62,7 +62,7 @@ pub first_stays : (old new : MemoCells) (d : Valuation) → SlotsStay old new �
 first_stays old new d g j h = record { value = h.value; is = h.is; at = g (result j.kind) j.name 0 h.value h.at }
 
 pub firsts_stay : (old new : MemoCells) (d : Valuation) → SlotsStay old new → (ks : List Key) → Each (HasFirst old d) ks → Each (HasFirst new d) ks
-firsts_stay old new d g ks h = each_map (HasFirst old d) (HasFirst new d) ks (first_stays old new d g) h
+firsts_stay old new d g ks h = each_more (HasFirst old d) (HasFirst new d) ks (first_stays old new d g) h
 
 pub stay_same : (sh : MemoCells) → SlotsStay sh sh
 stay_same sh item x i w e = e
@@ -114,7 +114,7 @@ module _ (old new : MemoCells) (k : Key) (v : Value) (sees : SeenIn old new (res
   some_seen : (ts : List ModuleText) (d : Valuation) (seen kept : List Key) → d k.kind k.name ≡ Some v → TakenSome old ts d seen kept → TakenSome new ts d (seen ++ k ∷ []) kept
   some_seen ts d seen kept is t = record {
     keeps = given_may_be_seen old new ts d (result k.kind) k.name v 0 t.keeps sees;
-    first = each_join (HasFirst new d) seen (k ∷ []) (firsts_stay old new d seen_stay seen t.first) (record { value = v; is = is; at = sees.sees.at }, tt);
+    first = each_joined (HasFirst new d) seen (k ∷ []) (firsts_stay old new d seen_stay seen t.first) (record { value = v; is = is; at = sees.sees.at }, tt);
     kept_are = λ j x. ap is_some (kept_same (record { kind = j; name = x })) ∙ t.kept_are j x;
   }
 

@@ -45,7 +45,7 @@ use Rattle.pipsmake_base.proofs.Ordered.{all_found, none_found, some_found}
 use Rattle.pipsmake_base.proofs.StoredCan.{stored_can}
 use Rattle.fx_lists.proofs.Booleans.{no_both as clash}
 use Rattle.pipsmake_db.proofs.LawsDatabase.Keeping.{held}
-use Rattle.pipsmake_base.proofs.Lists.{each_join}
+use Rattle.call_graph.proofs.EachLaws.{each_joined}
 
 -- ---- what is stored where it is stored, and else what is defined
 
@@ -142,11 +142,11 @@ by_kind_needed : (ks : List Kind) (xs : List (List ℕ)) → list_all is_needed 
 by_kind_needed [] xs e = tt
 by_kind_needed (k ∷ ks) xs e =
     let p = and_parts (is_needed k) (list_all is_needed ks) e in
-    each_join NeededKey (map (λ x. key_of k x) xs) (by_kind ks xs) (of_kind_needed k xs p.0) (by_kind_needed ks xs p.1)
+    each_joined NeededKey (map (λ x. key_of k x) xs) (by_kind ks xs) (of_kind_needed k xs p.0) (by_kind_needed ks xs p.1)
 
 by_module_needed : (ks : List Kind) (xs : List (List ℕ)) → list_all is_needed ks ≡ true → Each NeededKey (by_module ks xs)
 by_module_needed ks [] e = tt
-by_module_needed ks (x ∷ xs) e = each_join NeededKey (keys_of ks x) (by_module ks xs) (keys_needed ks x e) (by_module_needed ks xs e)
+by_module_needed ks (x ∷ xs) e = each_joined NeededKey (keys_of ks x) (by_module ks xs) (keys_needed ks x e) (by_module_needed ks xs e)
 
 all_needed : (ts : List ModuleText) (k : Key) → Each NeededKey (needs_in ts k)
 all_needed ts k =
@@ -154,9 +154,9 @@ all_needed ts k =
     let program : List Key = by_kind (program_needs k.kind) (names_in ts) in
     let callees : List Key = by_module (callee_needs k.kind) (callees_of (graph_of ts) k.name) in
     let callers : List Key = by_module (caller_needs k.kind) (callers_of (graph_of ts) k.name) in
-    each_join NeededKey ((own ++ program) ++ callees) callers
-    (each_join NeededKey (own ++ program) callees
-    (each_join NeededKey own program (keys_needed (own_needs k.kind) k.name (own_needed k.kind)) (by_kind_needed (program_needs k.kind) (names_in ts) (program_needed k.kind)))
+    each_joined NeededKey ((own ++ program) ++ callees) callers
+    (each_joined NeededKey (own ++ program) callees
+    (each_joined NeededKey own program (keys_needed (own_needs k.kind) k.name (own_needed k.kind)) (by_kind_needed (program_needs k.kind) (names_in ts) (program_needed k.kind)))
     (by_module_needed (callee_needs k.kind) (callees_of (graph_of ts) k.name) (callee_needed k.kind)))
     (by_module_needed (caller_needs k.kind) (callers_of (graph_of ts) k.name) (caller_needed k.kind))
 

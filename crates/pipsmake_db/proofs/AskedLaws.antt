@@ -22,6 +22,7 @@ use Rattle.pipsmake_db.specs.Calls.{key, Makes, MakesLinked, MakesNamed, Shows, 
 use Rattle.pipsmake_db.specs.State.{texts_of}
 use Rattle.pipsmake_db.proofs.LinkLaws.{are_linked}
 use Rattle.session_texts.proofs.PipsmakeRules.Shared.{named_back as kind_of-name}
+use Rattle.fx_lists.proofs.Texts.{unequal_texts}
 
 -- ---- the kind of a name
 
@@ -29,16 +30,9 @@ find-none : (p : Kind → Bool) (ks : List Kind) → ((k : Kind) → p k ≡ fal
 find-none p [] h = refl
 find-none p (k ∷ ks) h = ap (λ b. if b then Some k else find p ks) (h k) ∙ find-none p ks h
 
-pub unequal : (y x : List ℕ) → (y ≡ x → ⊥) → bytes_eq y x ≡ false
-unequal y x d = go (bytes_eq y x) refl
-  where
-    go : (b : Bool) → bytes_eq y x ≡ b → b ≡ false
-    go true e = absurd (d ((bytes_decides y x).0 e))
-    go false e = refl
-
 pub kind_is : (x : List ℕ) (o : Option Kind) → IfSome o (λ k. name_of k ≡ x) → IfNone o ((k : Kind) → name_of k ≢ x) → o ≡ kind_with x
 kind_is x (Some k) e n = sym (ap kind_with (sym e) ∙ kind_of-name k)
-kind_is x None e n = sym (find-none (λ k. bytes_eq (name_of k) x) kinds (λ k. unequal (name_of k) x (n k)))
+kind_is x None e n = sym (find-none (λ k. bytes_eq (name_of k) x) kinds (λ k. unequal_texts (name_of k) x (n k)))
 
 -- ---- the owner of a result
 

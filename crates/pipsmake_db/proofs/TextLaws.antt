@@ -21,8 +21,7 @@ use Rattle.pipsmake_db.specs.declared.texts.Seen.{Seen}
 use Rattle.pipsmake_db.specs.Texts.{StandsStill, RestsOnSame, SeesText, IsPlaced, ArePlaced, KeepsInTurn, KeepsTexts, TextsStay, ForgetsGone, StaysWithout, StandsWithout}
 use Rattle.pipsmake_db.specs.State.{made_without_all, gone_of}
 use Rattle.pipsmake_db.proofs.RestLaws.{rests_seen}
-use Rattle.pipsmake_db.proofs.AskedLaws.{unequal as is_false}
-use Rattle.fx_lists.proofs.Texts.{differs as not_same}
+use Rattle.fx_lists.proofs.Texts.{differs as not_same, unequal_texts as is_false}
 
 -- ---- memo cells that stay
 

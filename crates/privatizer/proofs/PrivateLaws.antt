@@ -1,9 +1,7 @@
 -- Where each iteration may have its own copy of a variable, no unit of it lies in the IN regions of the body, nor in the OUT regions of the DO.
-use Rattle.std.proofs.Common.{◌≡◌, ℕ, List, [], ◌∷◌, ◌&&◌, Bool, true, false, Option, Some, None, refl, ℤ, pos}
+use Rattle.std.proofs.Common.{◌≡◌, List, [], ◌∷◌, ◌&&◌, Bool, true, false, Option, Some, None, refl}
 use Rattle.std.specs.Prelude.{not}
 use Rattle.std.proofs.lemmas.Bool.{or_parts}
-use Rattle.affine_systems.specs.declared.row.Var.{Var}
-use Rattle.affine_systems.specs.declared.row.Var.TheVariants.{Cell, Exit, Phi, Aux}
 use Rattle.affine_systems.specs.declared.row.System.{System}
 use Rattle.affine_systems.specs.Calls.{meet}
 use Rattle.affine_systems.proofs.CallLaws.{meet_holds}
@@ -19,6 +17,7 @@ use Rattle.f77_ast.specs.declared.marks.Private.TheVariants.{Yes, Name, Carried,
 use Rattle.in_out_regions.specs.region_sets.declared.region.Access.{Access}
 use Rattle.in_out_regions.specs.region_sets.declared.region.Access.TheVariants as access
 use Rattle.in_out_regions.specs.region_sets.declared.region.Region.{Region}
+use Rattle.in_out_regions.proofs.RegionSets.DescribedLaws.{arrival, stored}
 use Rattle.privatizer.specs.Uses.{Uses}
 use Rattle.privatizer.specs.Names.{may_copy}
 use Rattle.privatizer.specs.Private.{may_hold, some_may_hold, region_may, may_lie, is_carried, is_live, private_by, private_in, private_at}
@@ -51,21 +50,15 @@ none_of p v (q ∷ rs) r s e (there i) same j = none_of p v rs r s (or_parts (re
 
 -- ---- no unit lies in them
 
--- cells and subscripts
-abbrev point : (ℕ → ℤ) → (ℕ → ℤ) → Var → ℤ
-point f phi (Cell c) = f c
-point f phi (Exit c) = pos 0
-point f phi (Phi k) = phi k
-point f phi (Aux n) = pos 0
-
 none_lies : (p : System) (v : Variable) (rs : List Region) (k : Access) → may_lie p v rs ≡ false → NoneLies p k rs v
 none_lies p v rs k e m at x h units contained u alone = go (units u) refl
   where
     go : (b : Bool) → units u ≡ b → b ≡ false
     go true q =
         let l = contained u q in
-        let w = point (λ c. x (m.unit c)) l.lies.phi in
-        absurd (refuted_none w (meet l.lies.piece p).rows (none_of p v rs l.region l.lies.piece e l.is_one (alone l.region.variable l.lies.phi l.lies.there) l.lies.is_one) (meet_holds w l.lies.piece p (l.lies.described w (λ c t. refl) (λ i. refl), h w (λ c t. refl))))
+        let d = l.lies.described (stored m x) (λ c t. refl) in
+        let w = arrival (stored m x) l.lies.phi in
+        absurd (refuted_none w (meet d.piece p).rows (none_of p v rs l.region d.piece e l.is_one (alone l.region.variable l.lies.phi l.lies.there) d.is_one) (meet_holds w d.piece p (d.holds w (λ c. refl) (λ i. refl), h w (λ c t. refl))))
     go false q = refl
 
 by_is_private : (a b c : Bool) (u : Uses) (v : Variable) → is_carried u v ≡ b → is_live u v ≡ c → private_by a b c ≡ Yes → IsPrivate u v

@@ -13,6 +13,7 @@ use Rattle.in_out_regions.specs.region_sets.Lists.{or_none}
 use Rattle.in_out_regions.specs.Lists.{list_in}
 use Rattle.dependence_test.specs.Body.{head_of}
 use Rattle.privatizer.specs.Uses.{head_in, ins_in}
+use Rattle.fx_lists.proofs.Booleans.{or_here}
 
 pub head_made : (l : Loop) (ps : List (At System)) (s : System) → s ≡ head_of ps (stmt_trees (out-Loop l).body) → s ≡ head_in ps (loop_tree l)
 head_made l ps s e = e ∙ sym (ap (λ (y : LoopTree). head_in ps y) (loop_tree-out l))
@@ -22,15 +23,11 @@ ins_made l ss t f g rs e = e ∙ sym (ap (λ (y : LoopTree). ins_in ss t f g y) 
 
 pub ruleset bodies = (head_made, ins_made)
 
-pub or_true : (b c : Bool) → b ≡ true → (b || c) ≡ true
-or_true true c e = refl
-or_true false c e = cc
-
 pub or_false : (b c : Bool) → b ≡ false → (b || c) ≡ c
 or_false true c e = cc
 or_false false c e = refl
 
-pub ruleset parts = (or_true, or_false)
+pub ruleset parts = (or_here, or_false)
 
 -- ---- sets that are looked up
 

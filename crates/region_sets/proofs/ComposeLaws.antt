@@ -28,7 +28,8 @@ use Rattle.transformers.proofs.TransformerAlgebra.CellLaws.{exit_same}
 use Rattle.hull_projection.proofs.ClosureLaws.{rows_elsewhere}
 use Rattle.region_sets.specs.Naming.{in_terms, in_rows, named_cells, to_exits, exit_vars}
 use Rattle.region_sets.specs.Compose.{is_other_exit, has_other_exit, is_exit_row, exit_row, on_row, put_exits, composed_with, put_or_led, through_transformer, compose_piece}
-use Rattle.region_sets.specs.Claims.{HasSubscripts, Describes}
+use Rattle.region_sets.specs.Claims.{HasSubscripts, AreNumbers, HasCells, Describes}
+use Rattle.region_sets.proofs.DescribedLaws.{at_start, moved, moved_cells}
 use Rattle.region_sets.proofs.NameLaws.{Agree, flip, terms_agree, rows_agree, has_named, named_has, exit_of_named, cell_of_other, stays_exit, stays_phi, stays_aux}
 use Rattle.region_sets.proofs.NilLaws.{off_terms}
 use Rattle.region_sets.proofs.BackLaws.{tidy_weak, rename_all_back}
@@ -262,21 +263,23 @@ module _ (m : Scene) (t : Transformer) (x y : ℕ → ℤ) (d : Does m t x y) (s
   nothing_named e p (Phi c) n = refl
   nothing_named e p (Aux c) n = refl
 
-  pub piece_describes : (phi : ℕ → ℤ) → Describes m s y phi → Describes m (compose_piece t s).system x phi
-  piece_describes phi l = subst (λ (z : Shadow). Describes m z.system x phi) (composed_is ns) (go ns refl (put_exits ns t.system.rows renamed) refl)
+  pub piece_describes : (n phi : ℕ → ℤ) → AreNumbers m x n → Describes s (moved m t.cells y n) phi → Describes (compose_piece t s).system n phi
+  piece_describes n phi a l = subst (λ (z : Shadow). Describes z.system n phi) (composed_is ns) (go ns refl (put_exits ns t.system.rows renamed) refl)
     where
-      after_holds : (p : Point) (all : List ℕ) → AtStart m x p → HasSubscripts phi p → HoldsAll (after_cells t.cells yc (ends_at all yc p)) s.rows
-      after_holds p all st ph = l (after_cells t.cells yc (ends_at all yc p)) (starts_after p (ends_at all yc p) st (λ c. refl)) ph
+      after_holds : (p : Point) (all : List ℕ) → HasCells n p → HasSubscripts phi p → HoldsAll (after_cells t.cells yc (ends_at all yc p)) s.rows
+      after_holds p all h ph = l (after_cells t.cells yc (ends_at all yc p)) (moved_cells m t.cells y n p h) ph
 
-      go : (cs : List ℕ) → ns ≡ cs → (w : Option System) → put_exits ns t.system.rows renamed ≡ w → Describes m (by_cells cs w).system x phi
-      go [] e w q = λ p st ph. rows_agree s.rows (after_cells t.cells yc p) p (nothing_named e p) (l (after_cells t.cells yc p) (starts_after p p st (λ c. refl)) ph)
-      go (c ∷ cs) e (Some b) q = λ p st ph.
-          let w = result ns (λ z h. h) renamed b q in
-          tidy_holds p b (rows_elsewhere (at_named p) p b.rows (off_named b w p) (w.forward p (relates_all p st) (to_renamed p ns (λ z h. h) (after_holds p ns st ph))))
-      go (c ∷ cs) e None q = λ p st ph.
+      go : (cs : List ℕ) → ns ≡ cs → (w : Option System) → put_exits ns t.system.rows renamed ≡ w → Describes (by_cells cs w).system n phi
+      go [] e w q = λ p h ph. rows_agree s.rows (after_cells t.cells yc p) p (nothing_named e p) (l (after_cells t.cells yc p) (moved_cells m t.cells y n p h) ph)
+      go (c ∷ cs) e (Some b) q = λ p h ph.
+          let w = result ns (λ z g. g) renamed b q in
+          let st : AtStart m x p = at_start m x n p a h in
+          tidy_holds p b (rows_elsewhere (at_named p) p b.rows (off_named b w p) (w.forward p (relates_all p st) (to_renamed p ns (λ z g. g) (after_holds p ns h ph))))
+      go (c ∷ cs) e None q = λ p h ph.
+          let st : AtStart m x p = at_start m x n p a h in
           subst (λ (z : List ℕ). HoldsAll p (composed_with z t s).rows) e
           (project_keeps (meet renamed t.system) (exit_vars t.cells) (at_all p) p (λ v f. ends_off t.cells yc p v f)
-          (meet_holds (at_all p) renamed t.system (to_renamed p t.cells (named_has t.cells s) (after_holds p t.cells st ph), relates_all p st)))
+          (meet_holds (at_all p) renamed t.system (to_renamed p t.cells (named_has t.cells s) (after_holds p t.cells h ph), relates_all p st)))
 
   -- a point after, for one before
   pub record After (p : Point) : Type 0 where

@@ -1,4 +1,5 @@
 pub mod Steps
+pub mod DescribedLaws
 pub mod NameLaws
 pub mod BackLaws
 pub mod UniteLaws

@@ -34,12 +34,14 @@ use Rattle.transformers.proofs.TransformerAlgebra.TurnLaws.{kept_chain, does_clo
 use Rattle.region_sets.specs.declared.range.Range.{Range}
 use Rattle.region_sets.specs.Naming.{in_rows, named_cells, to_exits, exit_vars}
 use Rattle.region_sets.specs.Loops.{index_form, start_of, step_rows, first_rows, last_rows, counted_rows, range_rows, is_counted, first_assignment, iterations, iterations_at, at_index, loop_vars, composed_with, through_loop, loop_piece}
-use Rattle.region_sets.specs.Claims.{Describes, InRange, Iteration, Begins}
+use Rattle.region_sets.specs.Claims.{HasSubscripts, AreNumbers, HasCells, Describes, InRange, Iteration, Begins}
+use Rattle.region_sets.proofs.DescribedLaws.{arrival, at_start}
 use Rattle.region_sets.proofs.NameLaws.{Agree, flip, rows_agree, has_named, named_has, has_others, others_has, exit_of_named, cell_of_other, stays_exit, stays_phi, stays_aux}
 use Rattle.region_sets.proofs.BackLaws.{push_weak, project_weak, rename_all_back, push_rows_back}
 use Rattle.region_sets.proofs.ComposeLaws.{ends_at, ends_off}
 use Rattle.fx_lists.proofs.Numbers.{same_is as nat_same, nat_eq_same}
 use Rattle.fx_lists.proofs.Booleans.{clash as clashes}
+use Rattle.affine_forms.proofs.RowValues.{same_back}
 
 -- ---- the index, by its name
 
@@ -109,9 +111,6 @@ within_holds s f g p h = go (goes_up s) h
 pub at_most_back : (f g : Affine) (p : Point) → Holds p (at_most_row f g) → form_value p f ≤ℤ form_value p g
 at_most_back f g p h = let v = value-combined p (pos 1) f.terms (negsuc 0) g.terms in omega (arith, ints, v, h)
 
-pub same_back : (f g : Affine) (p : Point) → Holds p (same_row f g) → form_value p f ≡ form_value p g
-same_back f g p h = let v = value-combined p (pos 1) f.terms (negsuc 0) g.terms in omega (arith, ints, v, h)
-
 pub within_back : (s : ℤ) (f g : Affine) (p : Point) → Holds p (within_row s f g) → NotBeyond (goes_up s) (form_value p f) (form_value p g)
 within_back s f g p h = go (goes_up s) h
   where
@@ -174,6 +173,10 @@ in_turn i n cs y p (Cell c) = if nat_eq i c then n else if has cs c then y c els
 in_turn i n cs y p (Exit c) = p (Exit c)
 in_turn i n cs y p (Phi k) = p (Phi k)
 in_turn i n cs y p (Aux j) = p (Aux j)
+
+-- the numbers of all cells there, from those at the DO
+abbrev pub turn_numbers : Scene → Range → ℤ → (ℕ → ℤ) → (ℕ → ℤ) → ℕ → ℤ
+turn_numbers m g n y o c = if nat_eq g.index c then n else if has g.turn.cells c then y (m.unit c) else o c
 
 turn_off : (n : ℤ) (k : ℕ) (p : Point) (v : Var) → (IsOneOf v loop_vars → ⊥) → p v ≡ with_turn n k p v
 turn_off n k p (Cell c) f = refl
@@ -256,23 +259,29 @@ module _ (m : Scene) (g : Range) (x : ℕ → ℤ) (a b : ℤ) (bg : Begins m g 
   does_turns : (n : ℤ) (k : ℕ) (y : ℕ → ℤ) → Iteration m g x a b n k y → Does m (iterations g) x y
   does_turns n k y it = does_then m (first_assignment g) (iterate g.turn) x it.begin y (does_begun n k y it) (does_closed m g.turn it.begin y bg.tracks it.chain)
 
+  abbrev yc : (ℕ → ℤ) → ℕ → ℤ
+  yc y c = y (m.unit c)
+
+  abbrev in_it : ℤ → (ℕ → ℤ) → Point → Var → ℤ
+  in_it n y q = in_turn g.index n g.turn.cells (yc y) q
+
+  starts_turn : (n : ℤ) (k : ℕ) (y : ℕ → ℤ) (p q : Point) → Iteration m g x a b n k y → AtStart m x p → ((c : ℕ) → q (Cell c) ≡ p (Cell c)) → AtStart m y (in_it n y q)
+  starts_turn n k y p q it st e c h = go (nat_eq g.index c) refl (has g.turn.cells c) refl
+    where
+      go : (i : Bool) → nat_eq g.index c ≡ i → (j : Bool) → has g.turn.cells c ≡ j → (if i then n else if j then y (m.unit c) else q (Cell c)) ≡ y (m.unit c)
+      go true d j f = sym (subst (λ (z : ℕ). y (m.unit z) ≡ n) (nat_same g.index c d) it.number)
+      go false d true f = refl
+      go false d false f = e c ∙ (st c h ∙ sym ((kept_chain m g.turn it.begin y it.chain).cells c h f ∙ it.wrote.cells c h d))
+
+  turn_cells : (n : ℤ) (y o : ℕ → ℤ) (p : Point) → HasCells o p → HasCells (turn_numbers m g n y o) (in_it n y p)
+  turn_cells n y o p h c = ap (λ (z : ℤ). if nat_eq g.index c then n else if has g.turn.cells c then y (m.unit c) else z) (h c)
+
+  pub turn_are : (n : ℤ) (k : ℕ) (y o : ℕ → ℤ) → Iteration m g x a b n k y → AreNumbers m x o → AreNumbers m y (turn_numbers m g n y o)
+  turn_are n k y o it e = starts_turn n k y (arrival o o) (arrival o o) it e (λ c. refl)
+
   module _ (s : System) where
     abbrev ns : List ℕ
     ns = named_cells (others g.turn.cells (g.index ∷ [])) s
-
-    abbrev yc : (ℕ → ℤ) → ℕ → ℤ
-    yc y c = y (m.unit c)
-
-    abbrev in_it : ℤ → (ℕ → ℤ) → Point → Var → ℤ
-    in_it n y q = in_turn g.index n g.turn.cells (yc y) q
-
-    starts_turn : (n : ℤ) (k : ℕ) (y : ℕ → ℤ) (p q : Point) → Iteration m g x a b n k y → AtStart m x p → ((c : ℕ) → q (Cell c) ≡ p (Cell c)) → AtStart m y (in_it n y q)
-    starts_turn n k y p q it st e c h = go (nat_eq g.index c) refl (has g.turn.cells c) refl
-      where
-        go : (i : Bool) → nat_eq g.index c ≡ i → (j : Bool) → has g.turn.cells c ≡ j → (if i then n else if j then y (m.unit c) else q (Cell c)) ≡ y (m.unit c)
-        go true d j f = sym (subst (λ (z : ℕ). y (m.unit z) ≡ n) (nat_same g.index c d) it.number)
-        go false d true f = refl
-        go false d false f = e c ∙ (st c h ∙ sym ((kept_chain m g.turn it.begin y it.chain).cells c h f ∙ it.wrote.cells c h d))
 
     -- where no other changed cell is named
     plain : ns ≡ [] → (n : ℤ) (y : ℕ → ℤ) (q : Point) → q (Aux 0) ≡ n → Agree (λ v. in_rows v s.rows) (in_it n y q) (λ v. q (renamed_by (naming (Cell g.index) (Aux 0) ∷ []) v))
@@ -313,19 +322,26 @@ module _ (m : Scene) (g : Range) (x : ℕ → ℤ) (a b : ℤ) (bg : Begins m g 
     moving n y p h0 (Phi c) r = sym (ap (ended y p) (ap (renamed_by (to_exits ns)) (no_cell (Phi c) g.index (phi_no_cell c g.index)) ∙ stays_phi ns c))
     moving n y p h0 (Aux c) r = sym (ap (ended y p) (ap (renamed_by (to_exits ns)) (no_cell (Aux c) g.index (aux_no_cell c g.index)) ∙ stays_aux ns c))
 
-    pub piece_of_turn : (n : ℤ) (k : ℕ) (y : ℕ → ℤ) → Iteration m g x a b n k y → (phi : ℕ → ℤ) → Describes m s y phi → Describes m (loop_piece g s).system x phi
-    piece_of_turn n k y it phi l = go ns refl
+    pub piece_of_turn :
+        (n : ℤ) (k : ℕ) (y : ℕ → ℤ) → Iteration m g x a b n k y → (o phi : ℕ → ℤ) → AreNumbers m x o → Describes s (turn_numbers m g n y o) phi →
+        Describes (loop_piece g s).system o phi
+    piece_of_turn n k y it o phi are l = go ns refl
       where
-        go : (cs : List ℕ) → ns ≡ cs → Describes m (through_loop cs g s).system x phi
-        go [] e = λ p st ph.
+        at_turn : (p : Point) → HasCells o p → HasSubscripts phi p → HoldsAll (in_it n y p) s.rows
+        at_turn p h ph = l (in_it n y p) (turn_cells n y o p h) ph
+
+        go : (cs : List ℕ) → ns ≡ cs → Describes (through_loop cs g s).system o phi
+        go [] e = λ p hc ph.
+            let st : AtStart m x p = at_start m x o p are hc in
             let p1 = with_turn n k p in
-            let here = rename_all_holds (naming (Cell g.index) (Aux 0) ∷ []) s p1 (rows_agree s.rows (in_it n y p1) (λ v. p1 (renamed_by (naming (Cell g.index) (Aux 0) ∷ []) v)) (plain e n y p1 refl) (l (in_it n y p1) (starts_turn n k y p p1 it st (λ c. refl)) ph)) in
+            let here = rename_all_holds (naming (Cell g.index) (Aux 0) ∷ []) s p1 (rows_agree s.rows (in_it n y p1) (λ v. p1 (renamed_by (naming (Cell g.index) (Aux 0) ∷ []) v)) (plain e n y p1 refl) (at_turn p1 hc ph)) in
             project_keeps (push_rows (at_index g.index s) (range_rows g)) loop_vars p1 p (λ v f. turn_off n k p v f)
             (push_rows_holds (at_index g.index s) (range_rows g) p1 here (rows_hold n k p1 it.range st refl refl))
-        go (c ∷ cs) e = λ p st ph.
+        go (c ∷ cs) e = λ p hc ph.
+            let st : AtStart m x p = at_start m x o p are hc in
             let p1 = with_turn n k p in
             let p2 = ended y p1 in
-            let at_p2 = l (in_it n y p2) (starts_turn n k y p p2 it st (λ c. refl)) ph in
+            let at_p2 = at_turn p2 hc ph in
             let here = rename_all_holds (to_exits ns) (at_index g.index s) p2 (rename_all_holds (naming (Cell g.index) (Aux 0) ∷ []) s (λ v. p2 (renamed_by (to_exits ns) v)) (rows_agree s.rows (in_it n y p2) (λ v. p2 (stands v)) (moving n y p1 refl) at_p2)) in
             let turned = rename_all_holds (naming (Exit g.index) (Aux 0) ∷ []) (iterations g).system p2 ((does_turns n k y it).relates (λ v. p2 (renamed_by (naming (Exit g.index) (Aux 0) ∷ []) v)) (starts p st) (ends p)) in
             subst (λ (z : List ℕ). HoldsAll p (project (composed_with z g s) loop_vars).system.rows) e

@@ -12,10 +12,12 @@ use Rattle.region_sets.specs.declared.region.Region.{Region}
 use Rattle.region_sets.specs.Regions.{any_weak, all_exact, systems}
 use Rattle.region_sets.specs.Compose.{compose_piece, compose}
 use Rattle.region_sets.specs.Loops.{loop_piece, over_loop}
-use Rattle.region_sets.specs.Claims.{HoldsSome, Accessed}
+use Rattle.hull_projection.specs.Unions.{HoldsSome}
+use Rattle.region_sets.specs.Claims.{AreNumbers, DescribedBy, Accessed}
 use Rattle.region_sets.specs.Laws.{MovesUnits, MovesSharp, HasIterations, HasIterationsAlone}
+use Rattle.region_sets.proofs.DescribedLaws.{moved, moved_are}
 use Rattle.region_sets.proofs.ComposeLaws.{piece_describes, piece_back}
-use Rattle.region_sets.proofs.LoopLaws.{piece_of_turn, piece_turned}
+use Rattle.region_sets.proofs.LoopLaws.{turn_numbers, turn_are, piece_of_turn, piece_turned}
 
 pub in_systems : (f : System → Shadow) (s : System) (ss : List System) → In s ss → In (f s).system (systems (map f ss))
 in_systems f s [] i = elim i [ ]
@@ -52,13 +54,14 @@ exactly f r h =
     record { region = b.0; each = b.1; strong = not-true (any_weak (systems (map f r.pieces))) a.1 }
 
 pub compose_moves : (r : Region) (t : Transformer) → MovesUnits t r (compose r t)
-compose_moves r t m at x y d u l = record {
-  phi = l.phi;
-  there = l.there;
-  piece = (compose_piece t l.piece).system;
-  is_one = in_systems (compose_piece t) l.piece r.pieces l.is_one;
-  described = piece_describes m t x y d l.piece l.phi l.described;
-}
+compose_moves r t m at x y d u l = record { phi = l.phi; there = l.there; described = λ n a. composed n a (l.described (moved m t.cells y n) (moved_are m t.cells t.foreign x y n d.kept a)) }
+  where
+    composed : (n : ℕ → ℤ) → AreNumbers m x n → DescribedBy r.pieces (moved m t.cells y n) l.phi → DescribedBy (compose r t).pieces n l.phi
+    composed n a w = record {
+      piece = (compose_piece t w.piece).system;
+      is_one = in_systems (compose_piece t) w.piece r.pieces w.is_one;
+      holds = piece_describes m t x y d w.piece n l.phi a w.holds;
+    }
 
 pub compose_sharp : (r : Region) (t : Transformer) → MovesSharp t r (compose r t)
 compose_sharp r t m at x y d accessed sharp e p st h =
@@ -68,13 +71,14 @@ compose_sharp r t m at x y d accessed sharp e p st h =
     subst (λ (phi : ℕ → ℤ). Accessed at accessed phi) (λ i j. q.same j i) (sharp k.region q.point q.starts (w.back q.point q.holds))
 
 pub loop_has : (r : Region) (g : Range) → HasIterations g r (over_loop r g)
-loop_has r g m at x a b bg n k y it u l = record {
-  phi = l.phi;
-  there = l.there;
-  piece = (loop_piece g l.piece).system;
-  is_one = in_systems (loop_piece g) l.piece r.pieces l.is_one;
-  described = piece_of_turn m g x a b bg l.piece n k y it l.phi l.described;
-}
+loop_has r g m at x a b bg n k y it u l = record { phi = l.phi; there = l.there; described = λ o e. looped o e (l.described (turn_numbers m g n y o) (turn_are m g x a b bg n k y o it e)) }
+  where
+    looped : (o : ℕ → ℤ) → AreNumbers m x o → DescribedBy r.pieces (turn_numbers m g n y o) l.phi → DescribedBy (over_loop r g).pieces o l.phi
+    looped o e w = record {
+      piece = (loop_piece g w.piece).system;
+      is_one = in_systems (loop_piece g) w.piece r.pieces w.is_one;
+      holds = piece_of_turn m g x a b bg w.piece n k y it o l.phi e w.holds;
+    }
 
 pub loop_sharp : (r : Region) (g : Range) → HasIterationsAlone g r (over_loop r g)
 loop_sharp r g m at x a b accessed bg every e p st h =

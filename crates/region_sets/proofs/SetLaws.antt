@@ -1,11 +1,8 @@
 -- What gathering keeps: each unit stays in a region of its kind, and what exact regions say stays so.
-use Rattle.std.proofs.Common.{◌≡◌, ℕ, ℤ, pos, ◌<◌, List, [], ◌∷◌, ◌++◌, Bool, true, false, refl, sym, subst, ◌∙◌, inl, inr, ⊎_elim, ◌⊎◌, Ordering}
+use Rattle.std.proofs.Common.{◌≡◌, ℕ, ℤ, List, [], ◌∷◌, ◌++◌, Bool, true, false, refl, sym, subst, ◌∙◌, inl, inr, ⊎_elim, ◌⊎◌, Ordering}
 use Rattle.std.specs.Prelude.{if◌then◌else◌, not}
 use Rattle.std.specs.declared.cmp.Ordering.TheVariants.{Less, Equal, Greater}
 use Rattle.std.specs.Ordering.{MatchOrdering, nat_cmp, ordering_then, match_ordering}
-use Rattle.std.proofs.lemmas.Cmp.{ranked}
-use Rattle.affine_systems.specs.declared.row.Var.{Var}
-use Rattle.affine_systems.specs.declared.row.Var.TheVariants.{Cell, Exit, Phi, Aux}
 use Rattle.affine_systems.specs.declared.row.System.{System}
 use Rattle.affine_systems.specs.Points.{Point}
 use Rattle.hull_projection.specs.Refute.{refuted}
@@ -19,11 +16,13 @@ use Rattle.region_sets.specs.declared.region.Region.{Region}
 use Rattle.region_sets.specs.Regions.{any_weak, remade, hull_of}
 use Rattle.region_sets.specs.Sets.{access_number, region_cmp, live_pieces, with_pieces, with_region, with_live, with_regions, live, unite_all}
 use Rattle.region_sets.specs.Unite.{all_within, unite}
-use Rattle.region_sets.specs.Claims.{HoldsSome, Describes, Elements, LiesIn, IsSharp, Places, AreByOrder, LiesInSet, IsSharpSet}
+use Rattle.hull_projection.specs.Unions.{HoldsSome}
+use Rattle.region_sets.specs.Claims.{Describes, DescribedBy, Elements, LiesIn, IsSharp, Places, AreByOrder, LiesInSet, IsSharpSet}
 use Rattle.region_sets.specs.Laws.{HasAll, HasUnits, IsAsSharp}
 use Rattle.std.proofs.lemmas.Bool.{and_parts}
+use Rattle.region_sets.proofs.DescribedLaws.{arrival, stored}
 use Rattle.region_sets.proofs.UniteLaws.{unite_has, unite_exact}
-use Rattle.fx_lists.proofs.Orders.{at_equal, then_equal}
+use Rattle.fx_lists.proofs.Orders.{then_equal, same_numbers}
 use Rattle.fx_lists.proofs.Booleans.{clash as clashes}
 
 none_in : {A : Type 0} {B : Type 0} (a : A) → In a [] → B
@@ -31,18 +30,11 @@ none_in a i = elim i [ ]
 
 -- ---- pieces that are refuted
 
--- a point with these subscripts at these numbers
-abbrev pub arrival : Scene → (ℕ → ℤ) → (ℕ → ℤ) → Var → ℤ
-arrival m phi x (Cell c) = x (m.unit c)
-arrival m phi x (Exit c) = pos 0
-arrival m phi x (Phi k) = phi k
-arrival m phi x (Aux n) = pos 0
-
-pub not_refuted : (m : Scene) (s : System) (x phi : ℕ → ℤ) → Describes m s x phi → refuted s.rows ≡ false
-not_refuted m s x phi d = go (refuted s.rows) refl
+not_refuted : (s : System) (n phi : ℕ → ℤ) → Describes s n phi → refuted s.rows ≡ false
+not_refuted s n phi d = go (refuted s.rows) refl
   where
     go : (b : Bool) → refuted s.rows ≡ b → b ≡ false
-    go true e = absurd (refuted_none (arrival m phi x) s.rows e (d (arrival m phi x) (λ c t. refl) (λ k. refl)))
+    go true e = absurd (refuted_none (arrival n phi) s.rows e (d (arrival n phi) (λ c. refl) (λ k. refl)))
     go false e = refl
 
 live_in : (s : System) (ss : List System) → In s ss → refuted s.rows ≡ false → In s (live_pieces ss)
@@ -58,6 +50,10 @@ live_in s (u ∷ ss) (there i) e = go (refuted u.rows) (live_in s ss i e)
     go true k = k
     go false k = there k
 
+-- a piece that describes subscripts is not refuted
+pub live_by : (ss : List System) (n phi : ℕ → ℤ) → DescribedBy ss n phi → DescribedBy (live_pieces ss) n phi
+live_by ss n phi d = record { piece = d.piece; is_one = live_in d.piece ss d.is_one (not_refuted d.piece n phi d.holds); holds = d.holds }
+
 pub live_some : (p : Point) (ss : List System) → HoldsSome p (live_pieces ss) → HoldsSome p ss
 live_some p [] h = h
 live_some p (s ∷ ss) h = go (refuted s.rows) h (λ k. live_some p ss k)
@@ -70,13 +66,11 @@ abbrev alive : Region → Region
 alive r = remade r r.exact (live_pieces r.pieces)
 
 lies_alive : (m : Scene) (at : Elements) (r : Region) (x : ℕ → ℤ) (u : ℕ) → LiesIn m at r x u → LiesIn m at (alive r) x u
-lies_alive m at r x u l = record {
-  phi = l.phi;
-  there = l.there;
-  piece = l.piece;
-  is_one = live_in l.piece r.pieces l.is_one (not_refuted m l.piece x l.phi l.described);
-  described = l.described;
-}
+lies_alive m at r x u l = record { phi = l.phi; there = l.there; described = λ n a. live_by r.pieces n l.phi (l.described n a) }
+
+-- what describes it at the numbers of the units
+described_now : (m : Scene) (at : Elements) (r : Region) (x : ℕ → ℤ) (u : ℕ) (l : LiesIn m at r x u) → DescribedBy r.pieces (stored m x) l.phi
+described_now m at r x u l = l.described (stored m x) (λ c t. refl)
 
 sharp_alive : (m : Scene) (at : Elements) (r : Region) (x : ℕ → ℤ) (accessed : ℕ → Bool) → IsSharp m at r x accessed → IsSharp m at (alive r) x accessed
 sharp_alive m at r x accessed s e p st h = s (and_parts r.exact (not (any_weak (live_pieces r.pieces))) e).0 p st (live_some p r.pieces h)
@@ -91,9 +85,6 @@ with_any P r [] k none h n = n
 with_any P r (u ∷ ss) k none h n = h
 
 -- ---- the order of regions
-
-same_numbers : (i j : ℕ) → nat_cmp i j ≡ Equal → i ≡ j
-same_numbers i j e = at_equal (i < j) (i ≡ j) (j < i) (nat_cmp i j) (ranked i j (nat_cmp i j) refl) e
 
 same_access : (a b : Access) → access_number a ≡ access_number b → a ≡ b
 same_access Read Read e = refl
@@ -142,9 +133,10 @@ united_place at e a b p q = go (all_within a.pieces b.pieces) (all_within b.piec
     go false false = p
 
 lies_within : (m : Scene) (at : Elements) (r a : Region) (x : ℕ → ℤ) (u : ℕ) → HasAll r a → LiesIn m at a x u → LiesIn m at r x u
-lies_within m at r a x u h l =
-    let w = h l.piece l.is_one in
-    record { phi = l.phi; there = l.there; piece = w.piece; is_one = w.is_one; described = λ p st ph. w.has p (l.described p st ph) }
+lies_within m at r a x u h l = record { phi = l.phi; there = l.there; described = λ n e. within n (l.described n e) }
+  where
+    within : (n : ℕ → ℤ) → DescribedBy a.pieces n l.phi → DescribedBy r.pieces n l.phi
+    within n d = let w = h d.piece d.is_one in record { piece = w.piece; is_one = w.is_one; holds = λ p c ph. w.has p (d.holds p c ph) }
 
 united_sharp : (m : Scene) (at : Elements) (a b : Region) (x : ℕ → ℤ) (accessed : ℕ → Bool) → IsSharp m at a x accessed → IsSharp m at b x accessed → IsSharp m at (unite a b) x accessed
 united_sharp m at a b x accessed s t e p st h = ⊎_elim (λ k. s k.0 p st (k.1 p h)) (λ k. t k.0 p st (k.1 p h)) (unite_exact a b e)
@@ -208,7 +200,8 @@ module _ (m : Scene) (at : Places) (by_order : AreByOrder at) (k : Access) (x : 
   lies_put_alive : (r : Region) (qs : List Region) → r.kind ≡ k → LiesIn m (at r.variable) r x u → Lies (with_live r qs)
   lies_put_alive r qs e l =
       let a = lies_alive m (at r.variable) r x u l in
-      with_some Lies r (live_pieces r.pieces) (λ s. with_region s qs) qs a.piece a.is_one (lies_put (alive r) qs e a)
+      let d = described_now m (at r.variable) (alive r) x u a in
+      with_some Lies r (live_pieces r.pieces) (λ s. with_region s qs) qs d.piece d.is_one (lies_put (alive r) qs e a)
 
   lies_beside_alive : (r : Region) (qs : List Region) → Lies qs → Lies (with_live r qs)
   lies_beside_alive r qs l = with_any Lies r (live_pieces r.pieces) (λ s. with_region s qs) qs (lies_beside (alive r) qs l) l
@@ -224,7 +217,10 @@ module _ (m : Scene) (at : Places) (by_order : AreByOrder at) (k : Access) (x : 
   lies_live [] l = l
   lies_live (r ∷ rs) l =
       ⊎_elim
-      (λ h. let a = lies_alive m (at r.variable) r x u h.1 in with_some Lies r (live_pieces r.pieces) (λ s. s ∷ live rs) (live rs) a.piece a.is_one (lies_here (alive r) (live rs) h.0 a))
+      (λ h.
+      let a = lies_alive m (at r.variable) r x u h.1 in
+      let d = described_now m (at r.variable) (alive r) x u a in
+      with_some Lies r (live_pieces r.pieces) (λ s. s ∷ live rs) (live rs) d.piece d.is_one (lies_here (alive r) (live rs) h.0 a))
       (λ h. let t = lies_live rs h in with_any Lies r (live_pieces r.pieces) (λ s. s ∷ live rs) (live rs) (lies_later (alive r) (live rs) t) t)
       (lies_split r rs l)
 

@@ -12,28 +12,21 @@ use Rattle.transformers.specs.transformer_algebra.Laws.{In, here, there}
 use Rattle.transformers.specs.transformer_algebra.Claims.{Scene, Kept}
 use Rattle.transformers.specs.Jumps.{unstructured}
 use Rattle.transformers.specs.Lists.{list_at}
-use Rattle.transformers.proofs.TransformerAlgebra.RuleLaws.{old_point, old_off, at_old}
+use Rattle.transformers.proofs.TransformerAlgebra.RuleLaws.{old_point, old_off}
 use Rattle.region_sets.specs.declared.region.Access.{Access}
 use Rattle.region_sets.specs.declared.region.Region.{Region}
 use Rattle.region_sets.specs.Compose.{compose}
 use Rattle.region_sets.specs.Sets.{unite_all}
 use Rattle.region_sets.specs.Lists.{all_composed, in_order, forgetting, all_forgetting, all_accesses, inexact, in_any_order, numbers, list_regions}
-use Rattle.region_sets.specs.Claims.{Describes, Places, LiesIn, IsSharp, IsSharpSet, arrived, past, no_more, before_more}
+use Rattle.region_sets.specs.Claims.{Describes, DescribedBy, Places, LiesIn, IsSharp, IsSharpSet, arrived, past, no_more, before_more}
 use Rattle.region_sets.specs.Laws.{HasSteps, HasStepsAlone, HasAnyStep, NoneExact, HasList, HasListAlone}
+use Rattle.region_sets.proofs.DescribedLaws.{moved, moved_cells, moved_are}
 use Rattle.region_sets.proofs.PieceLaws.{compose_moves, compose_sharp}
 use Rattle.region_sets.proofs.SetLaws.{gathered_units, gathered_sharp}
 use Rattle.fx_lists.proofs.Booleans.{clash as clashes}
+use Rattle.transformers.proofs.TransformerAlgebra.Members.{in_left, in_right}
 
 -- ---- of two lists
-
-pub in_left : {A : Type 0} (a : A) (as' bs : List A) → In a as' → In a (as' ++ bs)
-in_left a [] bs i = elim i [ ]
-in_left a (b ∷ as') bs here = here
-in_left a (b ∷ as') bs (there i) = there (in_left a as' bs i)
-
-pub in_right : {A : Type 0} (a : A) (as' bs : List A) → In a bs → In a (as' ++ bs)
-in_right a [] bs i = i
-in_right a (b ∷ as') bs i = there (in_right a as' bs i)
 
 pub in_either : {A : Type 0} (a : A) (as' bs : List A) → In a (as' ++ bs) → In a as' ⊎ In a bs
 in_either a [] bs i = inr i
@@ -83,19 +76,14 @@ order_sharp t f (n ∷ ns) m at o x accessed (before_more {y = y} s d a) =
 
 -- ---- in any order
 
-forgotten_describes : (m : Scene) (cs : List ℕ) (us : List BlockUnit) (s : System) (x y phi : ℕ → ℤ) → Kept m cs us x y → Describes m s y phi → Describes m (without cs s) x phi
-forgotten_describes m cs us s x y phi k d p st ph =
-    let back : Kept m cs us y x = record { cells = λ c r e. sym (k.cells c r e); foreign = λ v r e. sym (k.foreign v r e) } in
-    project_keeps s (cell_vars cs) (old_point m cs y p) p (λ w f. old_off m cs y p w f) (d (old_point m cs y p) (at_old m cs us y x p back st) (λ i. ph i))
+pub forgotten_describes : (m : Scene) (cs : List ℕ) (s : System) (y n phi : ℕ → ℤ) → Describes s (moved m cs y n) phi → Describes (without cs s) n phi
+forgotten_describes m cs s y n phi d p h ph = project_keeps s (cell_vars cs) (old_point m cs y p) p (λ w f. old_off m cs y p w f) (d (old_point m cs y p) (moved_cells m cs y n p h) (λ i. ph i))
+
+pub forgotten_by : (m : Scene) (cs : List ℕ) (ss : List System) (y n phi : ℕ → ℤ) → DescribedBy ss (moved m cs y n) phi → DescribedBy (map (without cs) ss) n phi
+forgotten_by m cs ss y n phi w = record { piece = without cs w.piece; is_one = in_map (without cs) w.piece ss w.is_one; holds = forgotten_describes m cs w.piece y n phi w.holds }
 
 forgotten_lies : (m : Scene) (at : Places) (cs : List ℕ) (us : List BlockUnit) (r : Region) (x y : ℕ → ℤ) (u : ℕ) → Kept m cs us x y → LiesIn m (at r.variable) r y u → LiesIn m (at r.variable) (forgetting cs r) x u
-forgotten_lies m at cs us r x y u k l = record {
-  phi = l.phi;
-  there = l.there;
-  piece = without cs l.piece;
-  is_one = in_map (without cs) l.piece r.pieces l.is_one;
-  described = forgotten_describes m cs us l.piece x y l.phi k l.described;
-}
+forgotten_lies m at cs us r x y u k l = record { phi = l.phi; there = l.there; described = λ n a. forgotten_by m cs r.pieces y n l.phi (l.described (moved m cs y n) (moved_are m cs us x y n k a)) }
 
 in_accesses : (f : ℕ → List Region) (n : ℕ) (ns : List ℕ) (r : Region) → In n ns → In r (f n) → In r (all_accesses f ns)
 in_accesses f n [] r i h = elim i [ ]
@@ -117,7 +105,7 @@ any_units cs f ns m at o k n i us x y kept u l =
       region = inexact w.region;
       is_one = in_map inexact w.region (unite_all free) w.is_one;
       kind = w.kind;
-      lies = record { phi = z.phi; there = z.there; piece = z.piece; is_one = z.is_one; described = z.described };
+      lies = record { phi = z.phi; there = z.there; described = z.described };
     }
 
 pub any_inexact : (cs : List ℕ) (f : ℕ → List Region) (ns : List ℕ) → NoneExact (in_any_order cs f ns)

@@ -17,10 +17,11 @@ use Rattle.region_sets.specs.declared.region.Region.{Region}
 use Rattle.region_sets.specs.Regions.{any_weak, remade}
 use Rattle.region_sets.specs.Subtract.{less_from, less_one, less_each, less_all, before_left, left_of, all_left_exactly, unless_empty, are_apart, all_apart, subtract}
 use Rattle.transformers.specs.transformer_algebra.Laws.{In, here, there}
-use Rattle.transformers.specs.transformer_algebra.Claims.{Scene, AtStart}
-use Rattle.region_sets.specs.Claims.{HoldsSome, HasSubscripts, Describes, LiesIn}
+use Rattle.hull_projection.specs.Unions.{HoldsSome}
+use Rattle.transformers.specs.transformer_algebra.Claims.{AtStart}
+use Rattle.region_sets.specs.Claims.{HasSubscripts, AreNumbers, HasCells, Describes, DescribedBy, LiesIn}
 use Rattle.region_sets.specs.Laws.{KeepsRest, HasRestAlone}
-use Rattle.region_sets.proofs.SetLaws.{arrival}
+use Rattle.region_sets.proofs.DescribedLaws.{arrival, stored, at_start, none_by}
 use Rattle.fx_lists.proofs.Options.{none_some, some_is}
 use Rattle.fx_lists.proofs.Booleans.{clash as clashes}
 
@@ -47,24 +48,19 @@ left_more : (s : System) (o : Option System) (ss : List System) → In s ss → 
 left_more s None ss i = i
 left_more s (Some q) ss i = there i
 
-record Left (m : Scene) (x phi : ℕ → ℤ) (ss : List System) : Type 0 where
-  piece : System
-  is_one : In piece ss
-  described : Describes m piece x phi
-
-left_of_one : (m : Scene) (x phi : ℕ → ℤ) (q : System) (ss more : List System) → Describes m q x phi → ((p : Point) → AtStart m x p → HasSubscripts phi p → HoldsSome p ss → ⊥) → Left m x phi (before_left (less_all q ss).system more)
-left_of_one m x phi q ss more d n = go (less_all q ss).system (λ p st ph. each_stays p (difference (Some q) true) ss (d p st ph) (n p st ph))
+left_of_one : (x phi : ℕ → ℤ) (q : System) (ss more : List System) → Describes q x phi → ((p : Point) → HasCells x p → HasSubscripts phi p → HoldsSome p ss → ⊥) → DescribedBy (before_left (less_all q ss).system more) x phi
+left_of_one x phi q ss more d n = go (less_all q ss).system (λ p st ph. each_stays p (difference (Some q) true) ss (d p st ph) (n p st ph))
   where
-    go : (o : Option System) → ((p : Point) → AtStart m x p → HasSubscripts phi p → Has p o) → Left m x phi (before_left o more)
-    go None f = absurd (f (arrival m phi x) (λ c t. refl) (λ k. refl))
-    go (Some s) f = record { piece = s; is_one = here; described = f }
+    go : (o : Option System) → ((p : Point) → HasCells x p → HasSubscripts phi p → Has p o) → DescribedBy (before_left o more) x phi
+    go None f = absurd (f (arrival x phi) (λ c. refl) (λ k. refl))
+    go (Some s) f = record { piece = s; is_one = here; holds = f }
 
-left_stays : (m : Scene) (x phi : ℕ → ℤ) (q : System) (ps ss : List System) → In q ps → Describes m q x phi → ((p : Point) → AtStart m x p → HasSubscripts phi p → HoldsSome p ss → ⊥) → Left m x phi (left_of ps ss)
-left_stays m x phi q [] ss i d n = elim i [ ]
-left_stays m x phi q (u ∷ ps) ss here d n = left_of_one m x phi q ss (left_of ps ss) d n
-left_stays m x phi q (u ∷ ps) ss (there i) d n =
-    let l = left_stays m x phi q ps ss i d n in
-    record { piece = l.piece; is_one = left_more l.piece (less_all u ss).system (left_of ps ss) l.is_one; described = l.described }
+left_stays : (x phi : ℕ → ℤ) (q : System) (ps ss : List System) → In q ps → Describes q x phi → ((p : Point) → HasCells x p → HasSubscripts phi p → HoldsSome p ss → ⊥) → DescribedBy (left_of ps ss) x phi
+left_stays x phi q [] ss i d n = elim i [ ]
+left_stays x phi q (u ∷ ps) ss here d n = left_of_one x phi q ss (left_of ps ss) d n
+left_stays x phi q (u ∷ ps) ss (there i) d n =
+    let l = left_stays x phi q ps ss i d n in
+    record { piece = l.piece; is_one = left_more l.piece (less_all u ss).system (left_of ps ss) l.is_one; holds = l.holds }
 
 pub subtract_keeps : (a b : Region) → KeepsRest a b (subtract a b)
 subtract_keeps a b m at x accessed sharp u off l = go b.exact refl
@@ -77,13 +73,16 @@ subtract_keeps a b m at x accessed sharp u off l = go b.exact refl
         let k : a.unit ≡ u = some_is a.unit u (sym a.there ∙ (same ∙ l.there)) in
         clashes (accessed u) (ap accessed (sym k) ∙ a.is_so) off
 
-    some_left : (e : Bool) (ss : List System) → Left m x l.phi ss → MatchOption (unless_empty a e ss) ⊥ (λ r. LiesIn m at r x u)
-    some_left e [] k = elim k.is_one [ ]
-    some_left e (s ∷ ss) k = record { phi = l.phi; there = l.there; piece = k.piece; is_one = k.is_one; described = k.described }
+    left : b.exact ≡ true → (n : ℕ → ℤ) → AreNumbers m x n → DescribedBy (left_of a.pieces b.pieces) n l.phi
+    left e n i = let d = l.described n i in left_stays n l.phi d.piece a.pieces b.pieces d.is_one d.holds (λ p h ph. none e p (at_start m x n p i h) ph)
+
+    some_left : (e : Bool) (ss : List System) → ((n : ℕ → ℤ) → AreNumbers m x n → DescribedBy ss n l.phi) → MatchOption (unless_empty a e ss) ⊥ (λ r. LiesIn m at r x u)
+    some_left e [] k = none_by (stored m x) l.phi (k (stored m x) (λ c t. refl))
+    some_left e (s ∷ ss) k = record { phi = l.phi; there = l.there; described = k }
 
     go : (e : Bool) → b.exact ≡ e → MatchOption (if e then unless_empty a (a.exact && all_left_exactly a.pieces b.pieces) (left_of a.pieces b.pieces) else Some (remade a (a.exact && all_apart a.pieces b.pieces) a.pieces)) ⊥ (λ r. LiesIn m at r x u)
-    go true e = some_left (a.exact && all_left_exactly a.pieces b.pieces) (left_of a.pieces b.pieces) (left_stays m x l.phi l.piece a.pieces b.pieces l.is_one l.described (none e))
-    go false e = record { phi = l.phi; there = l.there; piece = l.piece; is_one = l.is_one; described = l.described }
+    go true e = some_left (a.exact && all_left_exactly a.pieces b.pieces) (left_of a.pieces b.pieces) (left e)
+    go false e = record { phi = l.phi; there = l.there; described = l.described }
 
 -- ---- nothing else
 

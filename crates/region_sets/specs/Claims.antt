@@ -1,10 +1,11 @@
 -- What regions say of the units of storage. A claim is one on each point that has the numbers of the tracked cells; so what a system says of other
 -- variables does not matter.
-use Rattle.std.specs.Prelude.{◌≡◌, ◌⊎◌, ℕ, Bool, true, List, [], ◌∷◌, Option, Some, ℤ, pos, ◌+ℤ◌, ◌*ℤ◌}
+use Rattle.std.specs.Prelude.{◌≡◌, ℕ, Bool, true, List, [], ◌∷◌, Option, Some, ℤ, pos, ◌+ℤ◌, ◌*ℤ◌}
 use Rattle.std.specs.declared.cmp.Ordering.TheVariants.{Equal}
-use Rattle.affine_systems.specs.declared.row.Var.TheVariants.{Phi}
+use Rattle.affine_systems.specs.declared.row.Var.TheVariants.{Cell, Phi}
 use Rattle.affine_systems.specs.declared.row.System.{System}
 use Rattle.affine_systems.specs.Points.{Point, HoldsAll}
+use Rattle.hull_projection.specs.Unions.{HoldsSome}
 use Rattle.transformers.specs.transformer_algebra.Cells.{has}
 use Rattle.transformers.specs.transformer_algebra.Loops.{goes_up}
 use Rattle.transformers.specs.transformer_algebra.Laws.{In}
@@ -16,30 +17,37 @@ use Rattle.region_sets.specs.declared.range.Range.{Range}
 use Rattle.region_sets.specs.declared.region.Access.{Access}
 use Rattle.region_sets.specs.declared.region.Region.{Region}
 
--- a point is one of a piece
-abbrev pub HoldsSome : Point → List System → Type 0
-HoldsSome p [] = ⊥
-HoldsSome p (s ∷ ss) = HoldsAll p s.rows ⊎ HoldsSome p ss
-
 -- the subscripts have these numbers
 abbrev pub HasSubscripts : (ℕ → ℤ) → Point → Type 0
 HasSubscripts phi p = (k : ℕ) → p (Phi k) ≡ phi k
 
--- a system describes these subscripts at these numbers
-abbrev pub Describes : Scene → System → (ℕ → ℤ) → (ℕ → ℤ) → Type 0
-Describes m s x phi = (p : Point) → AtStart m x p → HasSubscripts phi p → HoldsAll p s.rows
+-- numbers of all cells: those of the units, as far as cells are tracked
+abbrev pub AreNumbers : Scene → (ℕ → ℤ) → (ℕ → ℤ) → Type 0
+AreNumbers m x n = (c : ℕ) → m.tracked c ≡ true → n c ≡ x (m.unit c)
+
+-- the cells have these numbers
+abbrev pub HasCells : (ℕ → ℤ) → Point → Type 0
+HasCells n p = (c : ℕ) → p (Cell c) ≡ n c
+
+-- a system describes these subscripts where the cells have these numbers, whatever the other variables are
+abbrev pub Describes : System → (ℕ → ℤ) → (ℕ → ℤ) → Type 0
+Describes s n phi = (p : Point) → HasCells n p → HasSubscripts phi p → HoldsAll p s.rows
+
+-- one of the systems does
+pub record DescribedBy (ss : List System) (n phi : ℕ → ℤ) : Type 0 where
+  pub piece : System
+  pub is_one : In piece ss
+  pub holds : Describes piece n phi
 
 -- the unit of the element with these subscripts, where it is in bounds; of a scalar, whatever the subscripts
 abbrev pub Elements : Type 0
 Elements = (ℕ → ℤ) → Option ℕ
 
--- a unit is that of an element that a piece of the region describes at these numbers
+-- a unit is that of an element that the region describes: for any numbers of all cells one of its pieces does
 pub record LiesIn (m : Scene) (at : Elements) (r : Region) (x : ℕ → ℤ) (u : ℕ) : Type 0 where
   pub phi : ℕ → ℤ
   pub there : at phi ≡ Some u
-  pub piece : System
-  pub is_one : In piece r.pieces
-  pub described : Describes m piece x phi
+  pub described : (n : ℕ → ℤ) → AreNumbers m x n → DescribedBy r.pieces n phi
 
 -- the subscripts are those of an element in bounds, which is accessed
 pub record Accessed (at : Elements) (accessed : ℕ → Bool) (phi : ℕ → ℤ) : Type 0 where

@@ -13,7 +13,8 @@ use Rattle.region_sets.specs.declared.range.Range.{Range}
 use Rattle.region_sets.specs.declared.region.Region.{Region}
 use Rattle.region_sets.specs.declared.region.Access.{Access}
 use Rattle.region_sets.specs.Lists.{numbers}
-use Rattle.region_sets.specs.Claims.{HoldsSome, Elements, LiesIn, IsSharp, Places, AreByOrder, LiesInSet, IsSharpSet, Reached, AllSharp, InRange, Iteration, Begins}
+use Rattle.hull_projection.specs.Unions.{HoldsSome}
+use Rattle.region_sets.specs.Claims.{Elements, LiesIn, IsSharp, Places, AreByOrder, LiesInSet, IsSharpSet, Reached, AllSharp, InRange, Iteration, Begins}
 
 -- ---- of two regions
 

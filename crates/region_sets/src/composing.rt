@@ -16,7 +16,7 @@ use crate::region::{copy_system, push_system, remade};
 use affine_systems::terms::factor_of;
 use affine_systems::{Row, System, Term, Var, meet, tidy};
 use fx_lists::List;
-use hull_projection::{Shadow, project};
+use hull_projection::{Shadow, project_owned};
 use std::alloc::{AllocError as Memory, Global};
 use transformers::transformer_algebra::{Transformer, rename_all};
 
@@ -110,7 +110,7 @@ fn composed_with(
     let after = rename_all(alloc, s, names.as_slice())?;
     let both = meet(alloc, &after, &t.system)?;
     let vars = exit_vars(alloc, t.cells.as_slice())?;
-    Ok(project(alloc, &both, &vars)?.system)
+    Ok(project_owned(alloc, both, &vars)?.system)
 }
 
 /// Where these are the changed cells that the system names.

@@ -11,7 +11,7 @@ use crate::region::{push_system, remade};
 use crate::{Range, Region};
 use affine_systems::{System, Var, meet};
 use fx_lists::List;
-use hull_projection::{Shadow, project};
+use hull_projection::{Shadow, project_owned};
 use std::alloc::{AllocError as Memory, Global};
 use transformers::transformer_algebra::{
     Naming, Transformer, assign, has, identity_transformer, iterate, others, push_rows, rename_all,
@@ -99,7 +99,7 @@ fn composed_with(alloc: Global, cells: &[u32], g: &Range, s: &System) -> Result<
     let there = iterations_at(alloc, g, &some)?;
     let both = meet(alloc, &within, &there)?;
     let vars = exit_vars(alloc, some.cells.as_slice())?;
-    Ok(project(alloc, &both, &vars)?.system)
+    Ok(project_owned(alloc, both, &vars)?.system)
 }
 
 /// Where these are the changed cells that the system names beside the index.
@@ -113,7 +113,7 @@ fn through_loop(alloc: Global, cells: &[u32], g: &Range, s: &System) -> Result<S
     if has_none(cells) {
         let indexed = at_index(alloc, g.index, s)?;
         let within = push_rows(alloc, &indexed, range_rows(alloc, g)?)?;
-        let left = project(alloc, &within, &vars)?;
+        let left = project_owned(alloc, within, &vars)?;
         return Ok(Shadow {
             system: left.system,
             exact: left.exact && is_counted(g),
@@ -121,7 +121,7 @@ fn through_loop(alloc: Global, cells: &[u32], g: &Range, s: &System) -> Result<S
     }
     let there = composed_with(alloc, cells, g, s)?;
     Ok(Shadow {
-        system: project(alloc, &there, &vars)?.system,
+        system: project_owned(alloc, there, &vars)?.system,
         exact: false,
     })
 }

@@ -1,6 +1,6 @@
 -- Places of elements, as sums, and the subscripts of an element by its number (ANSI X3.9-1978 §5.4.3).
 use Rattle.std.proofs.Common.{◌≡◌, ℕ, zero, suc, ◌+◌, ◌*◌, ◌<◌, ◌≤◌, ◌/◌, ◌%◌, List, [], ◌∷◌, length, Option, Some, None, Bool, true, false, ◌&&◌, refl, sym, ap, ap₂, ◌∙◌, subst, arith, ℤ, pos, negsuc, neg_ℤ, ◌+ℤ◌, ◌-ℤ◌, ◌*ℤ◌, ◌≤ℤ◌, nat_lt, nat_eq}
-use Rattle.std.specs.Prelude.{if◌then◌else◌, int_le, option_map}
+use Rattle.std.specs.Prelude.{if◌then◌else◌, option_map}
 use Rattle.std.proofs.lemmas.Int.{ints}
 use Rattle.std.proofs.lemmas.Bool.{and_parts}
 use Rattle.std.proofs.lemmas.Bool.Decides.{nat_tests}
@@ -10,7 +10,8 @@ use Rattle.f77_ast.specs.Places.{Dim, Place, as_count, size_from, dim_size, tota
 use Rattle.f77_ast.specs.Calls.{ends_open, is_open}
 use Rattle.region_translation.specs.Claims.{listed_from, elements_of, IsClosed, LastMayBeOpen}
 use Rattle.f77_ast.proofs.Shared.{counted}
-use Rattle.affine_forms.proofs.ConditionLaws.{most_true as le_true}
+use Rattle.fx_lists.proofs.Numbers.{at_most_true as le_true, at_most_is}
+use Rattle.fx_lists.proofs.Options.{some_is}
 
 -- ---- places of elements, by their subscripts from the k-th on
 
@@ -66,14 +67,8 @@ Within [] n = n < 1
 Within (d ∷ []) n = BelowHigh (d.low +ℤ pos n) d.high
 Within (d ∷ (e ∷ ds)) n = (m : ℕ) → dim_size d * m ≤ n → Within (e ∷ ds) m
 
-pub some_same : {A : Type 0} (a b : A) → Some a ≡ Some b → a ≡ b
-some_same a b q = grind arith
-
 pub none_some : {A : Type 0} (a : A) → None ≡ Some a → ⊥
 none_some a q = grind arith
-
-pub true_le : (m n : ℤ) → m ≤ℤ n → int_le m n ≡ true
-true_le m n e = grind (arith, ints)
 
 high_true : (n : ℤ) (h : Option ℤ) → at_most n h ≡ true → BelowHigh n h
 high_true n None e = tt
@@ -81,13 +76,13 @@ high_true n (Some h) e = le_true n h e
 
 true_high : (n : ℤ) (h : Option ℤ) → BelowHigh n h → at_most n h ≡ true
 true_high n None e = refl
-true_high n (Some h) e = true_le n h e
+true_high n (Some h) e = at_most_is n h e
 
 pub in_dim : (d : Dim) (n : ℤ) → dim_has d n ≡ true → InDim d n
 in_dim d n e = let k = and_parts _ _ e in (le_true d.low n k.0, high_true n d.high k.1)
 
 pub dim_in : (d : Dim) (n : ℤ) → InDim d n → dim_has d n ≡ true
-dim_in d n i = ap₂ (λ x y. x && y) (true_le d.low n i.0) (true_high n d.high i.1)
+dim_in d n i = ap₂ (λ x y. x && y) (at_most_is d.low n i.0) (true_high n d.high i.1)
 
 offset : (d : Dim) (n : ℤ) → d.low ≤ℤ n → pos (as_count (n -ℤ d.low)) ≡ n -ℤ d.low
 offset d n h = counted (n -ℤ d.low) (omega (arith, ints))
@@ -107,7 +102,7 @@ column d z n m rest h e s =
     together a b = omega (arith, ints)
 
 pub placed : (ds : List Dim) (k : ℕ) (phi : ℕ → ℤ) (n : ℕ) → place_in ds k phi ≡ Some n → Placed_at ds k phi n
-placed [] k phi n e = record { bounds = tt; sum = ap pos (some_same 0 n e) }
+placed [] k phi n e = record { bounds = tt; sum = ap pos (some_is 0 n e) }
 placed (d ∷ ds) k phi n e = go (dim_has d (phi k)) refl e (place_in ds (suc k) phi) refl (placed ds (suc k) phi)
   where
     go : (b : Bool) → dim_has d (phi k) ≡ b → (if b then in_column d (phi k) (place_in ds (suc k) phi) else None) ≡ Some n → (w : Option ℕ) → place_in ds (suc k) phi ≡ w → ((m : ℕ) → place_in ds (suc k) phi ≡ Some m → Placed_at ds (suc k) phi m) → Placed_at (d ∷ ds) k phi n
@@ -116,7 +111,7 @@ placed (d ∷ ds) k phi n e = go (dim_has d (phi k)) refl e (place_in ds (suc k)
     go true h q (Some m) f ih =
         let i = in_dim d (phi k) h in
         let p = ih m f in
-        let s = some_same _ n (sym (ap (in_column d (phi k)) f) ∙ q) in
+        let s = some_is _ n (sym (ap (in_column d (phi k)) f) ∙ q) in
         record { bounds = (i, p.bounds); sum = column d (phi k) n m (lin ds (suc k) phi) i.0 p.sum s }
 
 -- ---- and the other way

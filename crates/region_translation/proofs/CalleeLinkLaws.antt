@@ -69,22 +69,22 @@ turned_rows_hold r q p (a ∷ rs) h = (append_all p (turned_normal r q (normal f
 
 module _ (m e : Scene) (q r : ℕ) (x y psi chi : ℕ → ℤ) (p : Point) where
   -- with the names of the equations from the callee to the caller
-  abbrev outward_point : Var → ℤ
+  abbrev pub outward_point : Var → ℤ
   outward_point (Cell n) = x (m.unit n)
   outward_point (Exit n) = p (Exit n)
   outward_point (Phi n) = chi n
   outward_point (Aux n) = if nat_lt r n then y (e.unit ((n - r) - 1)) else psi n
 
-  at_cell : (n : ℕ) → outward_point (cell_name r n) ≡ y (e.unit n)
+  pub at_cell : (n : ℕ) → outward_point (cell_name r n) ≡ y (e.unit n)
   at_cell n = ap (λ (b : Bool). if b then y (e.unit (((suc r + n) - r) - 1)) else psi (suc r + n)) (behind r n) ∙ ap (λ k. y (e.unit k)) (back_again r n)
 
   not_behind : (k : ℕ) → nat_le k r ≡ true → nat_lt r k ≡ false
   not_behind k h = let g : k ≤ r = grind (arith, nat_tests) in grind (arith, nat_tests)
 
-  is_behind : (k : ℕ) → nat_le k r ≡ false → nat_lt r k ≡ true
+  pub is_behind : (k : ℕ) → nat_le k r ≡ false → nat_lt r k ≡ true
   is_behind k h = let g : r < k = grind (arith, nat_tests) in grind (arith, nat_tests)
 
-  at_subscript : (k : ℕ) → nat_le k r ≡ true → outward_point (Aux k) ≡ psi k
+  pub at_subscript : (k : ℕ) → nat_le k r ≡ true → outward_point (Aux k) ≡ psi k
   at_subscript k h = ap (λ (b : Bool). if b then y (e.unit ((k - r) - 1)) else psi k) (not_behind k h)
 
   reads : MatchesBoth m e q x y p → HasSubscripts psi p → ((k : ℕ) → 0 < k → k ≤ q → p (Aux k) ≡ chi k) → (v : Var) → is_of_both q v ≡ true → outward_point v ≡ p (turned_name r q v)

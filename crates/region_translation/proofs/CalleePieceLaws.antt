@@ -1,7 +1,7 @@
 -- A system that describes subscripts at the CALL is one that describes those of the callee's variable where the callee begins.
 use Rattle.std.proofs.Common.{◌≡◌, ℕ, suc, ◌+◌, ◌-◌, ◌<◌, ◌≤◌, List, [], ◌∷◌, ◌++◌, ◌&&◌, Bool, true, false, refl, sym, ap, ◌∙◌, subst, arith, ℤ, nat_lt, Option, Some, None, ◌⊎◌, inl, inr}
-use Rattle.std.specs.Prelude.{if◌then◌else◌, nat_le, nat_eq, not, slice_get, option_to_list}
-use Rattle.std.proofs.lemmas.Bool.{and_parts, ne_eqb}
+use Rattle.std.specs.Prelude.{if◌then◌else◌, nat_le, not, slice_get, option_to_list}
+use Rattle.std.proofs.lemmas.Bool.{and_parts}
 use Rattle.std.proofs.lemmas.Bool.Decides.{nat_tests}
 use Rattle.affine_systems.specs.declared.row.Var.{Var}
 use Rattle.affine_systems.specs.declared.row.Var.TheVariants.{Cell, Exit, Phi, Aux}
@@ -28,6 +28,7 @@ use Rattle.call_translation.specs.Actuals.{actual_of, form_in}
 use Rattle.call_translation.specs.transformer_algebra.Claims.{Scene, AtStart, Means}
 use Rattle.region_sets.specs.Naming.{in_rows}
 use Rattle.region_sets.specs.Claims.{HasSubscripts, Describes}
+use Rattle.region_sets.proofs.DescribedLaws.{stored}
 use Rattle.region_sets.proofs.NameLaws.{rows_agree}
 use Rattle.call_equations.specs.Sides.{SidesTree}
 use Rattle.call_equations.specs.Forms.{equation}
@@ -35,7 +36,7 @@ use Rattle.call_equations.specs.Cells.{form_at, form_of, cell_name, named, named
 use Rattle.region_translation.specs.Pieces.{standing, names_of, is_own, are_own}
 use Rattle.region_translation.specs.Claims.{FormsMean}
 use Rattle.region_translation.proofs.NamingLaws.{is_row_var, name_is, one_own, behind, back_again}
-use Rattle.region_translation.proofs.FormLaws.{var_value, equation_is, named_value}
+use Rattle.region_translation.proofs.FormLaws.{equation_is, named_value}
 use Rattle.region_translation.specs.declared.links.CalleeLink.{CalleeLink}
 use Rattle.region_translation.specs.Values.{with_cells, dummy_row, place_row, symbol_row, value_rows_from, value_rows, is_scalar_dummy, goes_away, going_away}
 use Rattle.region_translation.specs.CalleePieces.{with_names, joined, without_caller, piece_in_callee}
@@ -43,6 +44,8 @@ use Rattle.region_translation.specs.CalleeClaims.{DummiesAreTracked, MatchesBoth
 use Rattle.fx_lists.proofs.Numbers.{plus-none as number_first}
 use Rattle.fx_lists.proofs.Booleans.{clash as clashes}
 use Rattle.fx_lists.proofs.Options.{some_is, none_some}
+use Rattle.affine_forms.proofs.RowValues.{var_value}
+use Rattle.f77_ast.proofs.StorageLaws.{to_number}
 
 -- ---- variables that go away
 
@@ -70,12 +73,6 @@ cells_some (Some f) g e = go (has_no_terms f.terms) e
 
 number_next : (n k : ℕ) → suc n + k ≡ n + suc k
 number_next n k = omega arith
-
-at_number : (ss : List SymbolTree) (n : ℕ) (s : SymbolTree) → slice_get ss n ≡ Some s → symbol_at ss (suc n) ≡ Some s
-at_number ss n s e =
-    let low : suc n - 1 ≡ n = omega arith in
-    let some : nat_eq (suc n) 0 ≡ false = ne_eqb (suc n) 0 (λ q. omega arith) in
-    ap (λ (b : Bool). if b then None else slice_get ss (suc n - 1)) some ∙ ap (slice_get ss) low ∙ e
 
 module _ (c : SidesTree) (q : ℕ) (m e : Scene) (x y : ℕ → ℤ) (forms : FormsMean c m e x y) where
   -- ---- what scalar dummies are
@@ -113,7 +110,7 @@ module _ (c : SidesTree) (q : ℕ) (m e : Scene) (x y : ℕ → ℤ) (forms : Fo
   rows_hold n (s ∷ ss) h z j =
       let first : slice_get c.callee.symbols n ≡ Some s = sym (ap (slice_get c.callee.symbols) (number_first n)) ∙ h 0 in
       (append_all z (option_to_list (symbol_row c q (suc n) s)) (value_rows_from c q (suc n) ss)).0
-      (symbol_holds (suc n) s (at_number c.callee.symbols n s first) z j, rows_hold (suc n) ss (λ k. ap (slice_get c.callee.symbols) (number_next n k) ∙ h (suc k)) z j)
+      (symbol_holds (suc n) s (to_number c.callee.symbols n s first) z j, rows_hold (suc n) ss (λ k. ap (slice_get c.callee.symbols) (number_next n k) ∙ h (suc k)) z j)
 
   number_none : (k : ℕ) → 0 + k ≡ k
   number_none k = omega arith
@@ -211,7 +208,7 @@ module _ (c : SidesTree) (q : ℕ) (m e : Scene) (x y : ℕ → ℤ) (forms : Fo
 
     pub piece_describes :
         (s : System) → ((p : Point) → MatchesBoth m e q x y p → HasSubscripts psi p → HasOuter l q phi p → HoldsAll p l.rows) →
-        Describes m s x phi → Describes e (piece_in_callee c l.moved q l.rows s) y psi
+        Describes s (stored m x) phi → (p : Point) → AtStart e y p → HasSubscripts psi p → HoldsAll p (piece_in_callee c l.moved q l.rows s).rows
     piece_describes s rows d p st ph = go (are_own l.moved q (row_vars s.rows)) refl
       where
         go : (b : Bool) → are_own l.moved q (row_vars s.rows) ≡ b → HoldsAll p (if b then without_caller c (joined c q l.rows (with_names l.moved q s)) else no_rows).rows
@@ -219,5 +216,5 @@ module _ (c : SidesTree) (q : ℕ) (m e : Scene) (x y : ℕ → ℤ) (forms : Fo
         go true o =
             without_holds (joined c q l.rows (with_names l.moved q s)) p st ph
             (joined_holds (with_names l.moved q s) p
-            (names_hold s o p (d (called p) (λ k t. refl) (λ k. refl)))
+            (names_hold s o p (d (called p) (λ k. refl) (λ k. refl)))
             (rows (both p) (matches p) (λ k. refl) (outer_is p)))

@@ -5,6 +5,7 @@ use Rattle.call_translation.specs.transformer_algebra.Laws.{In, here, there}
 use Rattle.region_sets.specs.declared.region.Region.{Region}
 use Rattle.region_sets.specs.Claims.{Elements, LiesIn}
 use Rattle.region_sets.proofs.SetLaws.{gathered_units}
+use Rattle.region_sets.proofs.DescribedLaws.{stored, by_piece}
 use Rattle.call_equations.specs.Sides.{SidesTree}
 use Rattle.region_translation.specs.Claims.{FormsMean}
 use Rattle.region_translation.specs.declared.links.CalleeLink.{CalleeLink}
@@ -25,12 +26,13 @@ lies_by_link :
     LinkHolds m e (subscripts_of c r.variable) x y outer inner l → (u : ℕ) → HasUnit inner u → LiesIn m outer r x u → LiesIn e inner (by_link c r l) y u
 lies_by_link c r m e x y outer inner l forms dummies lh u has w =
     let q = subscripts_of c r.variable in
+    let d = w.described (stored m x) (λ n t. refl) in
+    let psi = lh.to w.phi u w.there has in
     record {
-      phi = lh.to w.phi u w.there has;
+      phi = psi;
       there = lh.there w.phi u w.there has;
-      piece = piece_in_callee c l.moved q l.rows w.piece;
-      is_one = in_map (piece_in_callee c l.moved q l.rows) w.piece r.pieces w.is_one;
-      described = piece_describes c q m e x y forms l dummies w.phi (lh.to w.phi u w.there has) (λ f k. lh.stays f w.phi u w.there has k) w.piece (λ p a b d. lh.holds w.phi u w.there has p a b d) w.described;
+      described = by_piece e y psi (piece_in_callee c l.moved q l.rows d.piece) (map (piece_in_callee c l.moved q l.rows) r.pieces) (in_map (piece_in_callee c l.moved q l.rows) d.piece r.pieces d.is_one)
+          (piece_describes c q m e x y forms l dummies w.phi psi (λ f k. lh.stays f w.phi u w.there has k) d.piece (λ p a b h. lh.holds w.phi u w.there has p a b h) d.holds);
     }
 
 pub units_sent : (size : List ℕ → ℕ) (c : SidesTree) (r : Region) → SendsUnits size c r (to_callee size c r)

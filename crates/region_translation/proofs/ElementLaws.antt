@@ -1,5 +1,5 @@
 -- Elements by their numbers, links between variables that have the same elements, and an element for a scalar.
-use Rattle.std.proofs.Common.{◌≡◌, ℕ, suc, ◌+◌, ◌<◌, ◌≤◌, List, [], ◌∷◌, Option, Some, None, Bool, true, false, refl, sym, ap, ◌∙◌, subst, arith, ℤ, pos, ◌+ℤ◌, ◌≤ℤ◌, nat_lt, nat_eq, true≢false}
+use Rattle.std.proofs.Common.{◌≡◌, ℕ, suc, ◌+◌, ◌<◌, ◌≤◌, List, [], ◌∷◌, Option, Some, None, Bool, true, false, refl, sym, ap, ◌∙◌, subst, arith, ℤ, pos, ◌≤ℤ◌, nat_lt, nat_eq, true≢false}
 use Rattle.std.specs.Prelude.{if◌then◌else◌, option_map, is_some}
 use Rattle.std.proofs.lemmas.Int.{ints}
 use Rattle.std.proofs.lemmas.Bool.{and_parts}
@@ -28,10 +28,11 @@ use Rattle.call_equations.specs.Rows.{constant_form, low_rows, high_rows, high_f
 use Rattle.call_equations.specs.Positions.{number_in, high_number}
 use Rattle.region_translation.specs.Claims.{elements_of, ConstantsFit, EachDim, SubscriptsMean}
 use Rattle.region_translation.specs.Laws.{SameElementsHold, ScalarLinkHolds, ElementLinkHolds}
-use Rattle.region_translation.proofs.FormLaws.{same_back, var_value}
-use Rattle.region_translation.proofs.ArrayLaws.{some_same, none_some, in_dim, InDim, BelowHigh, InDims, place_in, unit_in, elements_are}
+use Rattle.region_translation.proofs.ArrayLaws.{none_some, in_dim, InDim, BelowHigh, InDims, place_in, unit_in, elements_are}
 use Rattle.fx_lists.proofs.Numbers.{nat_eq_same}
 use Rattle.fx_lists.proofs.Booleans.{clash as clashes}
+use Rattle.affine_forms.proofs.RowValues.{same_back, var_value, constant_value}
+use Rattle.fx_lists.proofs.Options.{some_is}
 
 -- ---- elements by their numbers
 
@@ -45,7 +46,7 @@ pub element_of : (p : Place) (phi : ℕ → ℤ) (u : ℕ) → elements_of p phi
 element_of p phi u e = go (place_in p.dims 1 phi) refl (sym (elements_are p phi) ∙ e)
   where
     one : (n : ℕ) → place_in p.dims 1 phi ≡ Some n → (b : Bool) → nat_lt n p.extent ≡ b → option_map (λ j. p.first + j) (if b then Some n else None) ≡ Some u → Element p phi u
-    one n f true g h = record { number = n; small = grind (arith, nat_tests); is = f; unit = some_same (p.first + n) u h }
+    one n f true g h = record { number = n; small = grind (arith, nat_tests); is = f; unit = some_is (p.first + n) u h }
     one n f false g h = absurd (none_some u h)
 
     go : (w : Option ℕ) → place_in p.dims 1 phi ≡ w → unit_in p w ≡ Some u → Element p phi u
@@ -79,7 +80,7 @@ flat_place p phi e = ap (λ (ds : List Dim). place_in ds 1 phi) e
 flat_unit : (d : Place) (psi : ℕ → ℤ) (u : ℕ) → d.dims ≡ [] → elements_of d psi ≡ Some u → d.first ≡ u
 flat_unit d psi u e h =
     let k = element_of d psi u h in
-    let z : 0 ≡ k.number = some_same 0 k.number (sym (flat_place d psi e) ∙ k.is) in
+    let z : 0 ≡ k.number = some_is 0 k.number (sym (flat_place d psi e) ∙ k.is) in
     no_more d.first k.number u z k.unit
   where
     no_more : (a n u : ℕ) → 0 ≡ n → a + n ≡ u → a ≡ u
@@ -168,17 +169,11 @@ subscripted c m x (tree.more_exprs a es) (n ∷ ns) (b ∷ bs) (d ∷ ds) w v f 
 
 -- ---- constant bounds
 
-number_form : (q : Point) (n : ℤ) → form_value q (affine [] n) ≡ n
-number_form q n = one n
-  where
-    one : (n : ℤ) → pos 0 +ℤ n ≡ n
-    one n = omega (arith, ints)
-
 low_holds : (value : List ℕ → Option Constant) (b : BoundTree) (d : Dim) (k : ℕ) (q : Point) → ConstantsFit value b d → d.low ≤ℤ q (Phi k) → HoldsAll q (low_rows (constant_form (const_value value b.low)) k)
 low_holds value b d k q f l = go (const_value value b.low) refl
   where
     go : (w : ConstantValue) → const_value value b.low ≡ w → HoldsAll q (low_rows (constant_form w) k)
-    go (Is (Int n)) e = (at_most_holds (affine [] n) (var_form (Phi k)) q (below (form_value q (affine [] n)) n d.low (q (Phi k)) (form_value q (var_form (Phi k))) (number_form q n) (f.low n (ap number_in e)) (var_value q (Phi k)) l), tt)
+    go (Is (Int n)) e = (at_most_holds (affine [] n) (var_form (Phi k)) q (below (form_value q (affine [] n)) n d.low (q (Phi k)) (form_value q (var_form (Phi k))) (constant_value q n) (f.low n (ap number_in e)) (var_value q (Phi k)) l), tt)
       where
         below : (a n d z w : ℤ) → a ≡ n → d ≡ n → w ≡ z → d ≤ℤ z → a ≤ℤ w
         below a n d z w e f g h = omega (arith, ints)
@@ -196,7 +191,7 @@ high_holds value b d k q f l = go b.high refl
     one a g (Is (Int n)) e =
         let h : d.high ≡ Some n = f.high n (ap (high_number value) g ∙ ap number_in e) in
         let i : q (Phi k) ≤ℤ n = subst (BelowHigh (q (Phi k))) h l in
-        (at_most_holds (var_form (Phi k)) (affine [] n) q (above (form_value q (affine [] n)) n (q (Phi k)) (form_value q (var_form (Phi k))) (number_form q n) (var_value q (Phi k)) i), tt)
+        (at_most_holds (var_form (Phi k)) (affine [] n) q (above (form_value q (affine [] n)) n (q (Phi k)) (form_value q (var_form (Phi k))) (constant_value q n) (var_value q (Phi k)) i), tt)
     one a g (Is (Log t)) e = tt
     one a g Faults e = tt
     one a g Varies e = tt
@@ -243,7 +238,7 @@ in_extent p ns k e = go (position p.dims ns) refl e
   where
     one : (n : ℕ) → position p.dims ns ≡ Some n → (b : Bool) → nat_lt n p.extent ≡ b → (if b then Some n else None) ≡ Some k → (position p.dims ns ≡ Some k) × (k < p.extent)
     one n f true g h =
-        let same = some_same n k h in
+        let same = some_is n k h in
         let l : n < p.extent = grind (arith, nat_tests) in
         (f ∙ ap (λ (j : ℕ). Some j) same, subst (λ j. j < p.extent) same l)
     one n f false g h = absurd (none_some k h)

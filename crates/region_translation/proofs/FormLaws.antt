@@ -12,13 +12,13 @@ use Rattle.affine_systems.specs.Terms.{has_no_terms}
 use Rattle.affine_systems.specs.Rows.{combined_terms}
 use Rattle.affine_systems.specs.Normal.{is_small, are_small}
 use Rattle.affine_systems.specs.Points.{Point, value, Holds}
-use Rattle.affine_systems.proofs.Basics.{int_eq-true, distributes}
+use Rattle.affine_systems.proofs.Basics.{distributes}
 use Rattle.affine_systems.proofs.ElimLaws.{value-combined}
 use Rattle.affine_systems.proofs.TidyLaws.{has_no_terms-true}
 use Rattle.affine_forms.specs.declared.affine.Affine.{Affine}
 use Rattle.affine_forms.specs.Forms.{affine, limited, sum_of}
 use Rattle.affine_forms.specs.Claims.{form_value}
-use Rattle.affine_forms.specs.Comparisons.{var_form, difference, same_row}
+use Rattle.affine_forms.specs.Comparisons.{var_form, same_row}
 use Rattle.affine_forms.proofs.RowLaws.{same_holds}
 use Rattle.call_translation.specs.transformer_algebra.Claims.{Scene, AtStart, Means}
 use Rattle.call_equations.specs.Sides.{SidesTree}
@@ -26,6 +26,8 @@ use Rattle.call_equations.specs.Forms.{offset, less, is_zero, equation}
 use Rattle.call_equations.specs.Cells.{var_in_caller, terms_in_caller, in_caller, named, named_terms, named_form}
 use Rattle.region_translation.specs.Claims.{FormsMean}
 use Rattle.fx_lists.proofs.Options.{some_is, none_some}
+use Rattle.fx_lists.proofs.Numbers.{is_number}
+use Rattle.affine_forms.proofs.RowValues.{same_back, var_value}
 
 -- ---- small forms
 
@@ -41,12 +43,6 @@ number_value q n h e = sym (ap (form_value q) (limited_is (affine [] n) h e)) �
   where
     nothing : (n : ℤ) → pos 0 +ℤ n ≡ n
     nothing n = omega (arith, ints)
-
-pub var_value : (q : Point) (v : Var) → form_value q (var_form v) ≡ q v
-var_value q v = one (q v)
-  where
-    one : (x : ℤ) → ((pos 1 *ℤ x) +ℤ pos 0) +ℤ pos 0 ≡ x
-    one x = omega (arith, ints)
 
 -- ---- sums
 
@@ -116,7 +112,7 @@ zero_same q o u e = go (less o u) refl e
     nothing : (h : Affine) → (has_no_terms h.terms && int_eq h.constant (pos 0)) ≡ true → form_value q h ≡ pos 0
     nothing h k =
         let a = and_parts (has_no_terms h.terms) (int_eq h.constant (pos 0)) k in
-        ap (λ ts. value q ts +ℤ h.constant) (has_no_terms-true h.terms a.0) ∙ ap (λ z. pos 0 +ℤ z) (int_eq-true h.constant (pos 0) a.1)
+        ap (λ ts. value q ts +ℤ h.constant) (has_no_terms-true h.terms a.0) ∙ ap (λ z. pos 0 +ℤ z) (is_number h.constant (pos 0) a.1)
 
     go : (w : Option Affine) → less o u ≡ w → is_zero w ≡ true → Same q o u
     go None f k = absurd (false_true k)
@@ -128,12 +124,6 @@ zero_same q o u e = go (less o u) refl e
         record { first = s.first; second = s.second; is_first = s.is_first; is_second = s.is_second; same = no_difference (form_value q s.first) (form_value q s.second) (form_value q h) s.total (nothing h k) }
 
 -- ---- equations
-
-pub same_back : (f g : Affine) (q : Point) → Holds q (same_row f g) → form_value q f ≡ form_value q g
-same_back f g q h = sums (value q f.terms) f.constant (value q g.terms) g.constant (value q (difference f g)) (value-combined q (pos 1) f.terms (negsuc 0) g.terms) h
-  where
-    sums : (a b x y d : ℤ) → d ≡ (pos 1 *ℤ a) +ℤ (negsuc 0 *ℤ x) → d ≡ y -ℤ b → a +ℤ b ≡ x +ℤ y
-    sums a b x y d e k = omega (arith, ints)
 
 pub record Equation (o u : Option Affine) (row : Row) : Type 0 where
   pub first : Affine

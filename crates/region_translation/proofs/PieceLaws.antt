@@ -29,6 +29,7 @@ use Rattle.affine_forms.specs.Conditions.{no_rows}
 use Rattle.call_translation.specs.transformer_algebra.Claims.{Scene, AtStart, Means}
 use Rattle.region_sets.specs.Naming.{in_rows}
 use Rattle.region_sets.specs.Claims.{HasSubscripts, Describes}
+use Rattle.region_sets.proofs.DescribedLaws.{stored}
 use Rattle.region_sets.proofs.NameLaws.{rows_agree}
 use Rattle.region_sets.proofs.BackLaws.{tidy_weak, push_weak, project_weak, rename_all_back, push_rows_back}
 use Rattle.call_equations.specs.declared.link.Link.{Link}
@@ -334,7 +335,7 @@ module _ (c : SidesTree) (l : Link) (m e : Scene) (x y : ℕ → ℤ) (forms : F
   pub piece_describes :
       (s : System) (phi psi : ℕ → ℤ) → (l.moved ≡ false → (k : ℕ) → psi k ≡ phi k) →
       ((q : Point) → Matches m e l.rank x y q → HasSubscripts psi q → HasInner l phi q → HoldsAll q l.rows) →
-      Describes e s y phi → Describes m (piece_in_caller c l s).system x psi
+      Describes s (stored e y) phi → (p : Point) → AtStart m x p → HasSubscripts psi p → HoldsAll p (piece_in_caller c l s).system.rows
   piece_describes s phi psi flat rows d p st ph = go (are_own l.moved l.rank (row_vars s.rows)) refl
     where
       same : l.moved ≡ false → (k : ℕ) → p (Phi k) ≡ phi k
@@ -344,7 +345,7 @@ module _ (c : SidesTree) (l : Link) (m e : Scene) (x y : ℕ → ℤ) (forms : F
       go false o = tt
       go true o =
           linked_describes (linked l s) phi p st
-          (linked_holds s o phi p same (d (entered phi p) (λ k t. refl) (λ k. refl)) (rows (between phi p) (matches phi p st) (λ k. ph k) (inner_is phi p same)))
+          (linked_holds s o phi p same (d (entered phi p) (λ k. refl) (λ k. refl)) (rows (between phi p) (matches phi p st) (λ k. ph k) (inner_is phi p same)))
 
   -- ---- from the CALL
 

@@ -26,11 +26,12 @@ use Rattle.call_equations.specs.Forms.{zero as zero_form, offset}
 use Rattle.call_equations.specs.Cells.{named, named_form, actual_bound, dummy_bound}
 use Rattle.call_equations.specs.Positions.{number_in, high_number, size_between, size_of, sum_with, whole_position, element_position, dummy_position, block_position}
 use Rattle.region_translation.specs.Claims.{Matches, ConstantsFit, BoundMeans, EachDim, AtEntry}
-use Rattle.region_translation.proofs.FormLaws.{sum_value, offset_value, named_value, number_value, var_value}
+use Rattle.region_translation.proofs.FormLaws.{sum_value, offset_value, named_value, number_value}
 use Rattle.region_translation.proofs.ArrayLaws.{lin, InSize, Leading, Filled}
 use Rattle.region_translation.proofs.ElementLaws.{Reads, Subscripted, no_more, one_more}
 use Rattle.fx_lists.proofs.Numbers.{times_0}
 use Rattle.fx_lists.proofs.Options.{some_is, none_some}
+use Rattle.affine_forms.proofs.RowValues.{var_value}
 
 -- ---- sizes
 

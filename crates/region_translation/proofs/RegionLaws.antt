@@ -14,6 +14,7 @@ use Rattle.region_translation.specs.Caller.{by_link, to_caller}
 use Rattle.region_translation.specs.Claims.{FormsMean, LinkHolds, inner_of}
 use Rattle.region_translation.specs.Laws.{SendsUnits, SendsSharp}
 use Rattle.region_translation.proofs.PieceLaws.{entered, piece_describes, piece_source}
+use Rattle.region_sets.proofs.DescribedLaws.{stored, by_piece}
 use Rattle.region_sets.proofs.PieceLaws.{in_systems, made}
 
 record Exactly (c : SidesTree) (r : Region) (l : Link) : Type 0 where
@@ -32,13 +33,15 @@ exactly c r l h =
 
 module _ (c : SidesTree) (r : Region) (m e : Scene) (x y : ℕ → ℤ) (outer inner : Elements) (l : Link) (forms : FormsMean c m e x y) (lh : LinkHolds m e x y outer inner l) where
   lies_by_link : (u : ℕ) → LiesIn e inner r y u → LiesIn m outer (by_link c r l) x u
-  lies_by_link u w = record {
-    phi = lh.to w.phi u w.there;
-    there = lh.there w.phi u w.there;
-    piece = (piece_in_caller c l w.piece).system;
-    is_one = in_systems (piece_in_caller c l) w.piece r.pieces w.is_one;
-    described = piece_describes c l m e x y forms w.piece w.phi (lh.to w.phi u w.there) (λ q k. lh.stays q w.phi u w.there k) (λ q a b d. lh.holds w.phi u w.there q a b d) w.described;
-  }
+  lies_by_link u w =
+      let d = w.described (stored e y) (λ n t. refl) in
+      let psi = lh.to w.phi u w.there in
+      record {
+        phi = psi;
+        there = lh.there w.phi u w.there;
+        described = by_piece m x psi (piece_in_caller c l d.piece).system (systems (map (piece_in_caller c l) r.pieces)) (in_systems (piece_in_caller c l) d.piece r.pieces d.is_one)
+            (piece_describes c l m e x y forms d.piece w.phi psi (λ q k. lh.stays q w.phi u w.there k) (λ q a b h. lh.holds w.phi u w.there q a b h) d.holds);
+      }
 
   sharp_by_link : (accessed : ℕ → Bool) → IsSharp e inner r y accessed → IsSharp m outer (by_link c r l) x accessed
   sharp_by_link accessed sharp ex p st h =

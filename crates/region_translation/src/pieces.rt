@@ -16,7 +16,7 @@ use affine_systems::{Row, System, Var, tidy};
 use call_equations::{CallSides, Link, cell_name, form_of};
 use call_translation::transformer_algebra::{Naming, push_rows, rename_all};
 use fx_lists::List;
-use hull_projection::{Shadow, add_rows, project};
+use hull_projection::{Shadow, add_rows, project, project_owned};
 use region_sets::put_row;
 use std::alloc::{AllocError as Memory, Global};
 
@@ -215,7 +215,7 @@ fn without_all(
     }
     let known = project(alloc, s, formless)?.system;
     Ok(Shadow {
-        system: project(alloc, &known, subscripts)?.system,
+        system: project_owned(alloc, known, subscripts)?.system,
         exact: false,
     })
 }

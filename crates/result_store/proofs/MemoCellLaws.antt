@@ -11,6 +11,7 @@ use Rattle.result_store.specs.declared.value.Value as code
 use Rattle.result_store.specs.Fits.{ValueFits}
 use Rattle.result_store.specs.Values.{value_tree}
 use Rattle.result_store.proofs.ListLaws.{all_at, all_more}
+use Rattle.fx_lists.proofs.Lookups.{get_last}
 
 abbrev trees : List code.Value → List Value
 trees vs = map value_tree vs
@@ -35,10 +36,6 @@ is_new_before v (u ∷ vs) (suc n) w h e d new =
 
 -- ---- a value that is seen
 
-slice_get-last : {A : Type 0} (xs : List A) (x : A) → slice_get (xs ++ x ∷ []) (length xs) ≡ Some x
-slice_get-last [] x = refl
-slice_get-last (y ∷ xs) x = slice_get-last xs x
-
 length-trees : (vs : List code.Value) → length (trees vs) ≡ length vs
 length-trees [] = refl
 length-trees (v ∷ vs) = ap suc (length-trees vs)
@@ -51,7 +48,7 @@ sees_new vs ws k v n e z new =
     let grown : trees ws ≡ trees vs ++ value_tree v ∷ [] = ap trees e ∙ map-append value_tree vs (v ∷ []) in
     record {
       values = inr (grown, new);
-      at = ap (λ us. slice_get us n) grown ∙ ap (slice_get (trees vs ++ value_tree v ∷ [])) (z ∙ sym (length-trees vs)) ∙ slice_get-last (trees vs) (value_tree v);
+      at = ap (λ us. slice_get us n) grown ∙ ap (slice_get (trees vs ++ value_tree v ∷ [])) (z ∙ sym (length-trees vs)) ∙ get_last (trees vs) (value_tree v);
       kept = refl;
     }
 

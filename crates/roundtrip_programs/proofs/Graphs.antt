@@ -14,7 +14,7 @@ use Rattle.fx_lists.specs.declared.code.Code.TheVariants.{TwoMains, ModuleTwice}
 use Rattle.call_graph.specs.declared.refusal.Fault.{Fault}
 use Rattle.call_graph.specs.declared.refusal.Fault.TheVariants as fault
 use Rattle.call_graph.specs.Faults.{or_fault, unless}
-use Rattle.call_graph.specs.Modules.{names_of, module_line, too_many_at, too_many, is_place, twice_from, name_twice, second_main, main_twice, no_main}
+use Rattle.call_graph.specs.Modules.{most_modules, names_of, module_line, too_many_at, too_many, is_place, twice_from, name_twice, second_main, main_twice, no_main}
 use Rattle.call_graph.specs.Calls.{calls_of}
 use Rattle.call_graph.specs.Callees.{against_found, against_at, call_cause, or_later, first_in, unfit_at, unfit_from, all_places, all_edges}
 use Rattle.call_graph.specs.Recursion.{reaches, cyclic_in, cyclic_at, cyclic_from}
@@ -54,7 +54,7 @@ too_many_by None = record { same = refl }
 too_many_by (Some p) = record { same = refl }
 
 too_many_same : (ps : List ParsedTree) → SameFault (too_many ps) (too_many (bares ps))
-too_many_same ps = subst (λ o. SameFault (too_many ps) (too_many_at o)) (sym (slice_get-map bare ps 64)) (too_many_by (slice_get ps 64))
+too_many_same ps = subst (λ o. SameFault (too_many ps) (too_many_at o)) (sym (slice_get-map bare ps most_modules)) (too_many_by (slice_get ps most_modules))
 
 twice_by : (b : Bool) (k : ℕ) (p : ParsedTree) (f g : Option Fault) → SameFault f g
     → SameFault (if b then f else Some (fault.At k (module_line p) ModuleTwice)) (if b then g else Some (fault.At k 0 ModuleTwice))

@@ -9,12 +9,14 @@ use Rattle.f77_ast.specs.declared.decl.Letters.{Letters}
 use Rattle.f77_ast.specs.declared.decl.ImplicitPart.{ImplicitPart}
 use Rattle.f77_ast.specs.declared.decl.SaveItem.{SaveItem}
 use Rattle.f77_ast.specs.declared.decl.SaveItem.TheVariants.{Name, Block}
-use Rattle.f77_ast.specs.Trees.{ExprTree, StmtTrees}
+use Rattle.f77_ast.specs.declared.module.FunctionForm.{FunctionForm}
+use Rattle.f77_ast.specs.declared.module.FunctionForm.TheVariants as form
+use Rattle.f77_ast.specs.Trees.{ExprTree}
 use Rattle.f77_ast.specs.DeclTrees.{ExtentTree, EntityTree, SettingTree, CommonTree, DataValueTree, DataTree, DeclTree, implicit, integer, logical, dimension, parameter, common, equivalence, save, initial, ModuleTree}
 use Rattle.same_values.specs.Tests.{same_bool, expr_test}
 use Rattle.same_values.specs.SymbolTests.{maybe_test, scalar_number}
 use Rattle.same_values.specs.StmtTests.{number_test, stmts_test}
-use Rattle.same_values.specs.DeclTests.{letters_test, implicit_test, implicits_test, extent_test, entity_test, setting_test, common_test, item_test, value_test, data_test, decl_test, module_test}
+use Rattle.same_values.specs.DeclTests.{letters_test, implicit_test, implicits_test, extent_test, entity_test, setting_test, common_test, item_test, value_test, data_test, decl_test, form_number, function_test, heading_test, module_test}
 use Rattle.same_values.proofs.TestLaws.{same_bool-true, same_bool_self, expr_decides}
 use Rattle.same_values.proofs.StmtLaws.{number-true, number_self, maybe-true, maybe_self, stmts_decide}
 
@@ -265,23 +267,85 @@ decl_self (initial x) = (pointwise_decides {E = data_test} group_decides x x).1 
 pub decl_decides : (a b : DeclTree) → (decl_test a b ≡ true → a ≡ b) × (a ≡ b → decl_test a b ≡ true)
 decl_decides a b = (decl-true a b, λ e. subst (λ c. decl_test a c ≡ true) e (decl_self a))
 
-module-true : (a b : ModuleTree) → module_test a b ≡ true → a ≡ b
-module-true a b e =
-    let h5 = and_parts (bytes_eq a.name b.name && same_bool a.main b.main && same_bool a.titled b.titled && pointwise bytes_eq a.dummies b.dummies && pointwise decl_test a.decls b.decls) (stmts_test a.body b.body) e in
-    let h4 = and_parts (bytes_eq a.name b.name && same_bool a.main b.main && same_bool a.titled b.titled && pointwise bytes_eq a.dummies b.dummies) (pointwise decl_test a.decls b.decls) h5.0 in
+form-true : (a b : FunctionForm) → nat_eq (form_number a) (form_number b) ≡ true → a ≡ b
+form-true form.Plain form.Plain e = refl
+form-true form.Plain form.Integer e = cc
+form-true form.Plain form.Logical e = cc
+form-true form.Integer form.Plain e = cc
+form-true form.Integer form.Integer e = refl
+form-true form.Integer form.Logical e = cc
+form-true form.Logical form.Plain e = cc
+form-true form.Logical form.Integer e = cc
+form-true form.Logical form.Logical e = refl
+
+function-true : (a b : Option FunctionForm) → function_test a b ≡ true → a ≡ b
+function-true None None e = refl
+function-true None (Some g) e = cc
+function-true (Some f) None e = cc
+function-true (Some f) (Some g) e = ap Some (form-true f g e)
+
+function_self : (a : Option FunctionForm) → function_test a a ≡ true
+function_self None = refl
+function_self (Some f) = eq-eqb (form_number f) (form_number f) refl
+
+-- ---- modules
+
+numbers_decide : (a b : List ℕ) → (pointwise nat_eq a b ≡ true → a ≡ b) × (a ≡ b → pointwise nat_eq a b ≡ true)
+numbers_decide a b = pointwise_decides {E = nat_eq} (λ m n. (eqb-true m n, eq-eqb m n)) a b
+
+record SameHeading (a b : ModuleTree) : Type 0 where
+  pub name : a.name ≡ b.name
+  pub main : a.main ≡ b.main
+  pub titled : a.titled ≡ b.titled
+  pub dummies : a.dummies ≡ b.dummies
+  pub function : a.function ≡ b.function
+
+heading-true : (a b : ModuleTree) → heading_test a b ≡ true → SameHeading a b
+heading-true a b e =
+    let h4 = and_parts (bytes_eq a.name b.name && same_bool a.main b.main && same_bool a.titled b.titled && pointwise bytes_eq a.dummies b.dummies) (function_test a.function b.function) e in
     let h3 = and_parts (bytes_eq a.name b.name && same_bool a.main b.main && same_bool a.titled b.titled) (pointwise bytes_eq a.dummies b.dummies) h4.0 in
     let h2 = and_parts (bytes_eq a.name b.name && same_bool a.main b.main) (same_bool a.titled b.titled) h3.0 in
     let h1 = and_parts (bytes_eq a.name b.name) (same_bool a.main b.main) h2.0 in
-    let mk : List ℕ → Bool → Bool → List (List ℕ) → List DeclTree → StmtTrees → ModuleTree = λ x0 x1 x2 x3 x4 x5. record { name = x0; main = x1; titled = x2; dummies = x3; decls = x4; body = x5 } in
-    ap (λ x. mk x a.main a.titled a.dummies a.decls a.body) ((bytes_decides a.name b.name).0 h1.0)
-    ∙ ap (λ x. mk b.name x a.titled a.dummies a.decls a.body) (same_bool-true a.main b.main h1.1)
-    ∙ ap (λ x. mk b.name b.main x a.dummies a.decls a.body) (same_bool-true a.titled b.titled h2.1)
-    ∙ ap (λ x. mk b.name b.main b.titled x a.decls a.body) ((pointwise_decides {E = bytes_eq} bytes_decides a.dummies b.dummies).0 h3.1)
-    ∙ ap (λ x. mk b.name b.main b.titled b.dummies x a.body) ((pointwise_decides {E = decl_test} decl_decides a.decls b.decls).0 h4.1)
-    ∙ ap (λ x. mk b.name b.main b.titled b.dummies b.decls x) ((stmts_decide a.body b.body).0 h5.1)
+    record {
+      name = (bytes_decides a.name b.name).0 h1.0;
+      main = same_bool-true a.main b.main h1.1;
+      titled = same_bool-true a.titled b.titled h2.1;
+      dummies = (pointwise_decides {E = bytes_eq} bytes_decides a.dummies b.dummies).0 h3.1;
+      function = function-true a.function b.function h4.1;
+    }
+
+heading_self : (a : ModuleTree) → heading_test a a ≡ true
+heading_self a =
+    and_from (bytes_eq a.name a.name && same_bool a.main a.main && same_bool a.titled a.titled && pointwise bytes_eq a.dummies a.dummies) (function_test a.function a.function)
+    (and_from (bytes_eq a.name a.name && same_bool a.main a.main && same_bool a.titled a.titled) (pointwise bytes_eq a.dummies a.dummies)
+    (and_from (bytes_eq a.name a.name && same_bool a.main a.main) (same_bool a.titled a.titled)
+    (and_from (bytes_eq a.name a.name) (same_bool a.main a.main) ((bytes_decides a.name a.name).1 refl) (same_bool_self a.main))
+    (same_bool_self a.titled))
+    ((pointwise_decides {E = bytes_eq} bytes_decides a.dummies a.dummies).1 refl))
+    (function_self a.function)
+
+module-true : (a b : ModuleTree) → module_test a b ≡ true → a ≡ b
+module-true a b e =
+    let h4 = and_parts (heading_test a b && pointwise decl_test a.decls b.decls && stmts_test a.body b.body && pointwise nat_eq a.references b.references) (pointwise nat_eq a.whiles b.whiles) e in
+    let h3 = and_parts (heading_test a b && pointwise decl_test a.decls b.decls && stmts_test a.body b.body) (pointwise nat_eq a.references b.references) h4.0 in
+    let h2 = and_parts (heading_test a b && pointwise decl_test a.decls b.decls) (stmts_test a.body b.body) h3.0 in
+    let h1 = and_parts (heading_test a b) (pointwise decl_test a.decls b.decls) h2.0 in
+    let h = heading-true a b h1.0 in
+    let d = (pointwise_decides {E = decl_test} decl_decides a.decls b.decls).0 h1.1 in
+    let s = (stmts_decide a.body b.body).0 h2.1 in
+    let r = (numbers_decide a.references b.references).0 h3.1 in
+    let w = (numbers_decide a.whiles b.whiles).0 h4.1 in
+    λ i. record { name = h.name i; main = h.main i; titled = h.titled i; dummies = h.dummies i; decls = d i; body = s i; function = h.function i; references = r i; whiles = w i }
 
 module_self : (a : ModuleTree) → module_test a a ≡ true
-module_self a = and_from (bytes_eq a.name a.name && same_bool a.main a.main && same_bool a.titled a.titled && pointwise bytes_eq a.dummies a.dummies && pointwise decl_test a.decls a.decls) (stmts_test a.body a.body) (and_from (bytes_eq a.name a.name && same_bool a.main a.main && same_bool a.titled a.titled && pointwise bytes_eq a.dummies a.dummies) (pointwise decl_test a.decls a.decls) (and_from (bytes_eq a.name a.name && same_bool a.main a.main && same_bool a.titled a.titled) (pointwise bytes_eq a.dummies a.dummies) (and_from (bytes_eq a.name a.name && same_bool a.main a.main) (same_bool a.titled a.titled) (and_from (bytes_eq a.name a.name) (same_bool a.main a.main) ((bytes_decides a.name a.name).1 refl) (same_bool_self a.main)) (same_bool_self a.titled)) ((pointwise_decides {E = bytes_eq} bytes_decides a.dummies a.dummies).1 refl)) ((pointwise_decides {E = decl_test} decl_decides a.decls a.decls).1 refl)) ((stmts_decide a.body a.body).1 refl)
+module_self a =
+    and_from (heading_test a a && pointwise decl_test a.decls a.decls && stmts_test a.body a.body && pointwise nat_eq a.references a.references) (pointwise nat_eq a.whiles a.whiles)
+    (and_from (heading_test a a && pointwise decl_test a.decls a.decls && stmts_test a.body a.body) (pointwise nat_eq a.references a.references)
+    (and_from (heading_test a a && pointwise decl_test a.decls a.decls) (stmts_test a.body a.body)
+    (and_from (heading_test a a) (pointwise decl_test a.decls a.decls) (heading_self a) ((pointwise_decides {E = decl_test} decl_decides a.decls a.decls).1 refl))
+    ((stmts_decide a.body a.body).1 refl))
+    ((numbers_decide a.references a.references).1 refl))
+    ((numbers_decide a.whiles a.whiles).1 refl)
 
 pub module_decides : (a b : ModuleTree) → (module_test a b ≡ true → a ≡ b) × (a ≡ b → module_test a b ≡ true)
 module_decides a b = (module-true a b, λ e. subst (λ c. module_test a c ≡ true) e (module_self a))

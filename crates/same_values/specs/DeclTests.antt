@@ -1,10 +1,12 @@
 -- Whether two specification statements, and two modules, are the same, part by part.
-use Rattle.std.specs.Prelude.{Bool, true, false, ◌&&◌, nat_eq, bytes_eq, List, Option, Some, None}
+use Rattle.std.specs.Prelude.{ℕ, Bool, true, false, ◌&&◌, nat_eq, bytes_eq, List, Option, Some, None}
 use Rattle.std.specs.Cmp.Lexicographic.{pointwise}
 use Rattle.f77_ast.specs.declared.decl.Letters.{Letters}
 use Rattle.f77_ast.specs.declared.decl.ImplicitPart.{ImplicitPart}
 use Rattle.f77_ast.specs.declared.decl.SaveItem.{SaveItem}
 use Rattle.f77_ast.specs.declared.decl.SaveItem.TheVariants.{Name, Block}
+use Rattle.f77_ast.specs.declared.module.FunctionForm.{FunctionForm}
+use Rattle.f77_ast.specs.declared.module.FunctionForm.TheVariants.{Plain, Integer, Logical}
 use Rattle.f77_ast.specs.Trees.{ExprTree}
 use Rattle.f77_ast.specs.DeclTrees.{ExtentTree, EntityTree, SettingTree, CommonTree, DataValueTree, DataTree, DeclTree, implicit, integer, logical, dimension, parameter, common, equivalence, save, initial, ModuleTree}
 use Rattle.same_values.specs.Tests.{same_bool, expr_test, test_some}
@@ -159,6 +161,20 @@ decl_test (equivalence x) d = test_some (λ y. pointwise (pointwise expr_test) x
 decl_test (save x) d = test_some (λ y. pointwise item_test x y) (save_in d)
 decl_test (initial x) d = test_some (λ y. pointwise data_test x y) (initial_in d)
 
+-- each form has another number
+abbrev pub form_number : FunctionForm → ℕ
+form_number Plain = 0
+form_number Integer = 1
+form_number Logical = 2
+
+abbrev pub function_test : Option FunctionForm → Option FunctionForm → Bool
+function_test None None = true
+function_test None (Some g) = false
+function_test (Some f) None = false
+function_test (Some f) (Some g) = nat_eq (form_number f) (form_number g)
+
+abbrev pub heading_test : ModuleTree → ModuleTree → Bool
+heading_test a b = bytes_eq a.name b.name && same_bool a.main b.main && same_bool a.titled b.titled && pointwise bytes_eq a.dummies b.dummies && function_test a.function b.function
+
 abbrev pub module_test : ModuleTree → ModuleTree → Bool
-module_test a b =
-    bytes_eq a.name b.name && same_bool a.main b.main && same_bool a.titled b.titled && pointwise bytes_eq a.dummies b.dummies && pointwise decl_test a.decls b.decls && stmts_test a.body b.body
+module_test a b = heading_test a b && pointwise decl_test a.decls b.decls && stmts_test a.body b.body && pointwise nat_eq a.references b.references && pointwise nat_eq a.whiles b.whiles

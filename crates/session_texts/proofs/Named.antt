@@ -14,6 +14,7 @@ use Rattle.session_texts.specs.Kept.{AreKept}
 use Rattle.session_texts.proofs.AtPlaces.{number_later, part_first}
 use Rattle.session_texts.proofs.Keeping.{tree_in, table_in}
 use Rattle.fx_lists.proofs.Texts.{turned as either_way}
+use Rattle.fx_lists.proofs.Lists.{slice_get-map}
 
 abbrev text_in : ModuleText → List ℕ
 text_in t = t.text
@@ -57,11 +58,6 @@ module _ {B : Type 0} (f : ReadModule → B) where
   part_named ts ms x =
       ap (λ o. option_map f (option_and_then module_read o)) (text_is ts x) ∙ part_by ts ms (number_from 0 (names_in ts) x)
 
-map_there : {A B : Type 0} (g : A → B) (xs : List A) (k : ℕ) → slice_get (map g xs) k ≡ option_map g (slice_get xs k)
-map_there g [] k = refl
-map_there g (x ∷ xs) zero = refl
-map_there g (x ∷ xs) (suc k) = map_there g xs k
-
 -- ---- what is kept of a name
 
 module _ (texts : List Kept) (names : List (List ℕ)) (trees : List Parsed) (tables : List (List Symbol)) (kept : AreKept (map text_record texts) names trees tables) (x : List ℕ) where
@@ -75,7 +71,7 @@ module _ (texts : List Kept) (names : List (List ℕ)) (trees : List Parsed) (ta
   text_missing e = text_kept None e
 
   pub text_found : (k : ℕ) → number_from 0 names x ≡ Some k → text_of (map text_record texts) x ≡ option_map (λ (t : Kept). t.text) (slice_get texts k)
-  text_found k e = text_kept (Some k) e ∙ ap (option_map text_in) (map_there text_record texts k) ∙ own (slice_get texts k)
+  text_found k e = text_kept (Some k) e ∙ ap (option_map text_in) (slice_get-map text_record texts k) ∙ own (slice_get texts k)
     where
       own : (o : Option Kept) → option_map text_in (option_map text_record o) ≡ option_map (λ (t : Kept). t.text) o
       own None = refl
@@ -91,7 +87,7 @@ module _ (texts : List Kept) (names : List (List ℕ)) (trees : List Parsed) (ta
       part_named tree_in (map text_record texts) kept.modules x
       ∙ ap (λ n. option_and_then (λ j. slice_get (map tree_in (modules_in (map text_record texts))) j) n) (number_is ∙ e)
       ∙ ap (λ ps. slice_get ps k) (sym kept.trees_are)
-      ∙ map_there parsed_tree trees k
+      ∙ slice_get-map parsed_tree trees k
 
   pub table_missing : number_from 0 names x ≡ None → option_map table_in (module_named (map text_record texts) x) ≡ None
   table_missing e =
@@ -103,16 +99,16 @@ module _ (texts : List Kept) (names : List (List ℕ)) (trees : List Parsed) (ta
       part_named table_in (map text_record texts) kept.modules x
       ∙ ap (λ n. option_and_then (λ j. slice_get (map table_in (modules_in (map text_record texts))) j) n) (number_is ∙ e)
       ∙ ap (λ ps. slice_get ps k) (sym kept.tables_are)
-      ∙ map_there (map symbol_tree) tables k
+      ∙ slice_get-map (map symbol_tree) tables k
 
 -- ---- at a place
 
 module _ (texts : List Kept) (names : List (List ℕ)) (trees : List Parsed) (tables : List (List Symbol)) (kept : AreKept (map text_record texts) names trees tables) where
   pub text_at : (k : ℕ) → slice_get (map text_record texts) k ≡ option_map text_record (slice_get texts k)
-  text_at k = map_there text_record texts k
+  text_at k = slice_get-map text_record texts k
 
   pub tree_at : (k : ℕ) → slice_get (trees_in (map text_record texts)) k ≡ option_map parsed_tree (slice_get trees k)
-  tree_at k = ap (λ ps. slice_get ps k) (sym kept.trees_are) ∙ map_there parsed_tree trees k
+  tree_at k = ap (λ ps. slice_get ps k) (sym kept.trees_are) ∙ slice_get-map parsed_tree trees k
 
   pub table_at : (k : ℕ) → slice_get (tables_in (map text_record texts)) k ≡ option_map (map symbol_tree) (slice_get tables k)
-  table_at k = ap (λ ps. slice_get ps k) (sym kept.tables_are) ∙ map_there (map symbol_tree) tables k
+  table_at k = ap (λ ps. slice_get ps k) (sym kept.tables_are) ∙ slice_get-map (map symbol_tree) tables k

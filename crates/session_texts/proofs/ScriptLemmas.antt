@@ -10,19 +10,17 @@ use Rattle.session_texts.specs.declared.command.Line.{Line}
 use Rattle.session_texts.specs.declared.command.Line.TheVariants.{Blank, Heading, Whole}
 use Rattle.session_texts.specs.Words.{words_of, count_of}
 use Rattle.session_texts.specs.Commands.{heading, line_of, source_text, from_line, commands_after, commands_of, IsWithin, AreWithin}
+use Rattle.fx_lists.proofs.Numbers.{one_less}
 
 -- ---- the lines of a source
 
-before : (n : ℕ) → suc n - 1 ≡ n
-before n = omega arith
-
 source_text-take : (n : ℕ) (line : List ℕ) (lines : List (List ℕ)) → 0 < n → source_text (take n (line ∷ lines)) ≡ (line ++ 10 ∷ []) ++ source_text (take (n - 1) lines)
 source_text-take zero line lines h = absurd (omega arith)
-source_text-take (suc n) line lines h = ap (λ k. (line ++ 10 ∷ []) ++ source_text (take k lines)) (sym (before n))
+source_text-take (suc n) line lines h = ap (λ k. (line ++ 10 ∷ []) ++ source_text (take k lines)) (sym (one_less n))
 
 drop-line : (n : ℕ) (line : List ℕ) (lines : List (List ℕ)) → 0 < n → drop n (line ∷ lines) ≡ drop (n - 1) lines
 drop-line zero line lines h = absurd (omega arith)
-drop-line (suc n) line lines h = ap (λ k. drop k lines) (sym (before n))
+drop-line (suc n) line lines h = ap (λ k. drop k lines) (sym (one_less n))
 
 -- one line of a source is taken
 pub source_more : (n : ℕ) (line : List ℕ) (old new : List (List ℕ)) → 0 < n → old ≡ line ∷ new → source_text (take n old) ≡ (line ++ 10 ∷ []) ++ source_text (take (n - 1) new)
@@ -41,7 +39,7 @@ commands_skip (suc n) (line ∷ lines) = go (nat_eq (suc n) 0) refl (commands_sk
     go : (b : Bool) → nat_eq (suc n) 0 ≡ b → commands_after n lines ≡ commands_after 0 (drop n lines)
         → (if b then from_line (line_of (words_of line)) lines (λ k. commands_after k lines) else commands_after (suc n - 1) lines) ≡ commands_after 0 (drop n lines)
     go true e ih = absurd (omega (arith, eqb-true (suc n) 0 e))
-    go false e ih = ap (λ k. commands_after k lines) (before n) ∙ ih
+    go false e ih = ap (λ k. commands_after k lines) (one_less n) ∙ ih
 
 abbrev at_line : List (List ℕ) → Line → List Command
 at_line lines said = from_line said lines (λ k. commands_after k lines)

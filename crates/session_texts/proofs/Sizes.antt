@@ -14,7 +14,7 @@ use Rattle.fixed_form.specs.Reading.{Rest, label_of, with_comment, with_initial,
 use Rattle.fixed_form.proofs.CardLemmas.{length-front, length-filled}
 use Rattle.f77_parser.specs.Statements.{length_of, characters}
 use Rattle.f77_parser.proofs.SizeLemmas.{stripped-short, chosen, outcome-lines, room, with_line-room as line-long, with_comment-room}
-use Rattle.fx_lists.proofs.Lists.{each_short}
+use Rattle.fx_lists.proofs.Lists.{each_short, if_short}
 
 -- ---- short lines
 
@@ -94,12 +94,8 @@ lines_of-bytes (b ∷ bs) =
     one_of (nat_eq b line_feed) ([] ∷ lines_of bs) (onto_first b (lines_of bs)) (length (b ∷ bs) + 1)
     (omega (arith, lines_of-bytes bs)) (omega (arith, onto_first-bytes b (lines_of bs) (length bs) (lines_of-bytes bs)))
 
-two_of : (t : Bool) (a b : List ℕ) (n : ℕ) → length a ≤ n → length b ≤ n → length (if t then a else b) ≤ n
-two_of true a b n h i = h
-two_of false a b n h i = i
-
 unless_return-short : (b : ℕ) (l : List ℕ) → length (unless_return b l) ≤ length l + 1
-unless_return-short b [] = two_of (nat_eq b carriage_return) [] (b ∷ []) 1 (omega arith) (omega arith)
+unless_return-short b [] = if_short (nat_eq b carriage_return) [] (b ∷ []) 1 (omega arith) (omega arith)
 unless_return-short b (c ∷ cs) = omega arith
 
 without_returns-short : (l : List ℕ) → length (without_returns l) ≤ length l

@@ -46,7 +46,7 @@ tree_again by p = ap (λ ss. record p { places = record p.places { spots = ss } 
 
 -- ---- one module
 
-read_alone : (text : List ℕ) (p : ParsedTree) (table : List SymbolTree) → IsReadAs text (p ∷ []) → symbols_of p ≡ Ok table → module_read text ≡ Some (record { module_is = p; table = table })
+pub read_alone : (text : List ℕ) (p : ParsedTree) (table : List SymbolTree) → IsReadAs text (p ∷ []) → symbols_of p ≡ Ok table → module_read text ≡ Some (record { module_is = p; table = table })
 read_alone text p table r e =
     let read : modules_of text ≡ Ok (p ∷ []) = ap (λ l. and_then (lines_or l) parse_of) r.lined ∙ r.parsed in
     ap one_module read ∙ ap (with_table p) e

@@ -1,9 +1,10 @@
 //! The modules of one text beside one another: how many there are, their names, and their main programs.
 ghost use Rattle.std.specs.Prelude.{◌≡◌, ◌≤◌, length, map, option_map, IfOk};
 ghost use Rattle.f77_ast.specs.PlainDecl.{parsed_tree};
-ghost use Rattle.call_graph.specs.Modules.{module_line, too_many, is_place, names_of, twice_from, main_twice};
+ghost use Rattle.call_graph.specs.Modules.{most_modules, module_line, too_many, is_place, names_of, twice_from, main_twice};
 ghost use Rattle.session_texts.specs.Sources.{refusal_for, source_refusal};
 
+use call_graph::MOST_MODULES;
 use f77_ast::Parsed;
 use f77_parser::ModuleTrees;
 use fx_lists::{Code, Refusal};
@@ -20,11 +21,11 @@ fn module_line(parsed: &Parsed) -> u32
     }
 }
 
-/// The 65th module.
+/// The first module after the most that a program may have.
 fn too_many(modules: &ModuleTrees) -> Option<Refusal>
     ensures { result ≡ option_map refusal_for (too_many (map parsed_tree modules.now)) }
 {
-    let extra = modules.get(64)?;
+    let extra = modules.get(MOST_MODULES)?;
     Some(Refusal {
         line: module_line(extra),
         code: Code::TooManyModules,
@@ -42,7 +43,7 @@ fn is_place(place: u32, found: Option<u32>) -> bool
 
 /// The first module whose name an earlier one has.
 fn name_twice(modules: &ModuleTrees, names: &Names) -> Option<Refusal>
-    requires { length modules.now ≤ 64 }
+    requires { length modules.now ≤ most_modules }
     ensures { result ≡ option_map refusal_for (twice_from 0 names.now (map parsed_tree modules.now)) }
 {
     let mut place = 0u32;
@@ -62,7 +63,7 @@ fn name_twice(modules: &ModuleTrees, names: &Names) -> Option<Refusal>
 
 /// The second main program.
 fn main_twice(modules: &ModuleTrees) -> Option<Refusal>
-    requires { length modules.now ≤ 64 }
+    requires { length modules.now ≤ most_modules }
     ensures { result ≡ option_map refusal_for (main_twice (map parsed_tree modules.now)) }
 {
     let mut place = 0u32;

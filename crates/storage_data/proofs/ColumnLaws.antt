@@ -5,22 +5,13 @@ use Rattle.std.proofs.lemmas.Int.{ints}
 use Rattle.std.proofs.lemmas.Bool.{and_parts, and_from}
 use Rattle.f77_ast.specs.Places.{Dim, as_count, size_from, dim_size, at_most, dim_has, in_column, position}
 use Rattle.storage_data.specs.Laws.{IsNext, FirstElementHasNumberZero, NextElementHasNextNumber}
+use Rattle.fx_lists.proofs.Numbers.{at_most_true, at_most_is}
 
 -- ---- numbers
 
-le_true : (a b : ℤ) → a ≤ℤ b → int_le a b ≡ true
-le_true a b h = go (int_le a b) refl
-  where
-    go : (c : Bool) → int_le a b ≡ c → int_le a b ≡ true
-    go true e = e
-    go false e = absurd (grind (arith, ints))
-
-le_is : (a b : ℤ) → int_le a b ≡ true → a ≤ℤ b
-le_is a b e = grind (arith, ints)
-
 lower_at_most : (low n : ℤ) (o : Option ℤ) → low ≤ℤ n → at_most n o ≡ true → at_most low o ≡ true
 lower_at_most low n None h e = refl
-lower_at_most low n (Some high) h e = let to = le_is n high e in le_true low high (omega (arith, ints))
+lower_at_most low n (Some high) h e = let to = at_most_true n high e in at_most_is low high (omega (arith, ints))
 
 none_between : (n : ℤ) → as_count (n -ℤ n) ≡ 0
 none_between n = let none : n -ℤ n ≡ pos 0 = omega (arith, ints) in ap as_count none
@@ -39,7 +30,7 @@ one_more low n h =
 low_fits : (d : Dim) (n : ℤ) → dim_has d n ≡ true → dim_has d d.low ≡ true
 low_fits d n t =
     let p = and_parts (int_le d.low n) (at_most n d.high) t in
-    and_from (int_le d.low d.low) (at_most d.low d.high) (le_true d.low d.low (omega (arith, ints))) (lower_at_most d.low n d.high (le_is d.low n p.0) p.1)
+    and_from (int_le d.low d.low) (at_most d.low d.high) (at_most_is d.low d.low (omega (arith, ints))) (lower_at_most d.low n d.high (at_most_true d.low n p.0) p.1)
 
 -- the element with the lower bound in this dimension
 at_low : (d : Dim) (n : ℤ) (o : Option ℕ) (j : ℕ) → dim_has d n ≡ true → o ≡ Some j → (if dim_has d d.low then in_column d d.low o else None) ≡ Some (dim_size d * j)
@@ -70,8 +61,8 @@ next_element_has_next_number (d ∷ ds) (n ∷ ns) (m ∷ ms) k e h = go (dim_ha
     up : (j : ℕ) → dim_has d n ≡ true → position ds ns ≡ Some j → as_count (n -ℤ d.low) + dim_size d * j ≡ k → at_most m d.high ≡ true → m ≡ n +ℤ pos 1 → ns ≡ ms → position (d ∷ ds) (m ∷ ms) ≡ Some (suc k)
     up j t q f a b c =
         let p = and_parts (int_le d.low n) (at_most n d.high) t in
-        let from = le_is d.low n p.0 in
-        let fits = and_from (int_le d.low m) (at_most m d.high) (le_true d.low m (omega (arith, ints))) a in
+        let from = at_most_true d.low n p.0 in
+        let fits = and_from (int_le d.low m) (at_most m d.high) (at_most_is d.low m (omega (arith, ints))) a in
         let more : as_count (m -ℤ d.low) ≡ suc (as_count (n -ℤ d.low)) = ap (λ z. as_count (z -ℤ d.low)) b ∙ one_more d.low n from in
         let all : as_count (m -ℤ d.low) + dim_size d * j ≡ suc k = omega (arith, more, f) in
         ap (λ x. if x then in_column d m (position ds ms) else None) fits ∙ ap (in_column d m) (ap (position ds) (sym c) ∙ q) ∙ ap Some all
@@ -79,7 +70,7 @@ next_element_has_next_number (d ∷ ds) (n ∷ ns) (m ∷ ms) k e h = go (dim_ha
     carry : (j : ℕ) → dim_has d n ≡ true → as_count (n -ℤ d.low) + dim_size d * j ≡ k → d.high ≡ Some n → m ≡ d.low → position ds ms ≡ Some (suc j) → position (d ∷ ds) (m ∷ ms) ≡ Some (suc k)
     carry j t f a b r =
         let p = and_parts (int_le d.low n) (at_most n d.high) t in
-        let from = le_is d.low n p.0 in
+        let from = at_most_true d.low n p.0 in
         let size : dim_size d ≡ suc (as_count (n -ℤ d.low)) = ap (size_from d.low) a ∙ count_next (n -ℤ d.low) (omega (arith, ints)) in
         let column : dim_size d * suc j ≡ suc k = omega (arith, mul-suc (dim_size d) j, size, f) in
         ap (λ z. position (d ∷ ds) (z ∷ ms)) b ∙ at_low d n (position ds ms) (suc j) t r ∙ ap Some column

@@ -1,15 +1,12 @@
 -- No block begins before its first unit where EQUIVALENCE is not refused for it.
 use Rattle.std.proofs.Common.{◌≡◌, ℕ, zero, suc, ◌+◌, Bool, true, false, pos, ◌≤ℤ◌, List, [], ◌∷◌, Option, Some, None, ◌⊎◌, inl, inr, refl, sym, ap, ◌∙◌, subst, arith}
-use Rattle.std.specs.Prelude.{◌<ℤ◌, ◌&&◌, ◌||◌, int_lt, slice_get, slice_set, if◌then◌else◌}
-use Rattle.std.specs.List.{list_any}
+use Rattle.std.specs.Prelude.{◌<ℤ◌, ◌&&◌, int_lt, slice_get, slice_set, if◌then◌else◌}
 use Rattle.std.proofs.lemmas.Int.{ints}
-use Rattle.std.proofs.lemmas.Bool.{or_right as or_true, and_from as and_true}
+use Rattle.std.proofs.lemmas.Bool.{and_from as and_true}
 use Rattle.f77_ast.specs.Trees.{ExprTree}
 use Rattle.f77_ast.specs.DeclTrees.{EntityTree, CommonTree, DeclTree}
 use Rattle.f77_ast.specs.DeclTrees as decl
-use Rattle.fx_lists.specs.declared.code.Code.{Code}
 use Rattle.fx_lists.specs.declared.code.Code.TheVariants.{EquivalenceClash, EquivalenceExtendsBack}
-use Rattle.fx_lists.specs.declared.refusal.Refusal.{Refusal}
 use Rattle.f77_names.specs.declared.lines.Sited.TheVariants.{Decl}
 use Rattle.fx_lists.specs.Refusals.{refuse_if}
 use Rattle.f77_names.specs.Lines.{LineTable, line_or}
@@ -27,18 +24,14 @@ use Rattle.storage_layout.specs.declared.equivalences.Grouping.{Grouping}
 use Rattle.storage_layout.specs.declared.equivalences.Shared.{Shared}
 use Rattle.storage_layout.specs.Blocks.{block_number, with_block, sits_in_block, put_at, put_there, member_put, members_put, part_put, parts_put, decl_put, decls_put}
 use Rattle.storage_layout.specs.Equivalences.{may_join, clashes, unit_joined, at_place, named_joined, items_joined, extends_back, place_extends, name_extends, items_extend, begun, group_shared, groups_shared, decl_shared, decls_shared}
+use Rattle.fx_lists.proofs.Lookups.{any_at}
+use Rattle.fx_lists.proofs.Refused.{none_refused}
 
 -- no variable lies in a block before its first unit
 abbrev pub NoneBefore : List OffsetNode → Type 0
 NoneBefore ss = (n : ℕ) (s : OffsetNode) → slice_get ss n ≡ Some s → is_block s.home ≡ true → pos 0 ≤ℤ s.offset
 
 -- ---- tests on lists
-
-any_at : {X : Type 0} (f : X → Bool) (xs : List X) (k : ℕ) (x : X) → slice_get xs k ≡ Some x → f x ≡ true → list_any f xs ≡ true
-any_at f [] zero x e t = cc
-any_at f [] (suc k) x e t = cc
-any_at f (y ∷ xs) zero x e t = let same : y ≡ x = cc in ap (λ b. b || list_any f xs) (ap f same ∙ t)
-any_at f (y ∷ xs) (suc k) x e t = or_true (f y) (list_any f xs) (any_at f xs k x e t)
 
 set_get : {X : Type 0} (xs : List X) (i : ℕ) (v : X) (n : ℕ) (x : X) → slice_get (slice_set xs i v) n ≡ Some x → (slice_get xs n ≡ Some x) ⊎ (v ≡ x)
 set_get [] i v zero x e = cc
@@ -175,11 +168,6 @@ items_step t all (i ∷ is) g sub h =
 
 -- ---- a group
 
-pub noted_none : (b : Bool) (line : ℕ) (c : Code) (o : Option Refusal) → refuse_if b line c o ≡ None → (b ≡ false) × (o ≡ None)
-unfolding refuse_if
-noted_none true line c o e = cc
-noted_none false line c o e = (refl, e)
-
 name_back : (t : NameTable) (ss : List OffsetNode) (o : Option (List ℕ)) (j : ℕ) (r : OffsetNode) → place_maybe t o ≡ Some j → slice_get ss j ≡ Some r → extends_back ss (Some r) ≡ true → name_extends t ss o ≡ true
 name_back t ss None j r p f b = cc
 name_back t ss (Some x) j r p f b = ap (place_extends ss) p ∙ ap (extends_back ss) f ∙ b
@@ -208,8 +196,8 @@ IsSound s = s.late ≡ None → NoneBefore s.group.offset_nodes
 
 group_sound : (t : NameTable) (is : List ExprTree) (line : ℕ) (s : Shared) → IsSound s → IsSound (group_shared t is line s)
 group_sound t is line s h e =
-    let last = noted_none (items_extend t (items_joined t is (begun s.group)).offset_nodes is) line EquivalenceExtendsBack (refuse_if (items_joined t is (begun s.group)).clash line EquivalenceClash s.late) e in
-    let first = noted_none (items_joined t is (begun s.group)).clash line EquivalenceClash s.late last.1 in
+    let last = none_refused (items_extend t (items_joined t is (begun s.group)).offset_nodes is) line EquivalenceExtendsBack (refuse_if (items_joined t is (begun s.group)).clash line EquivalenceClash s.late) e in
+    let first = none_refused (items_joined t is (begun s.group)).clash line EquivalenceClash s.late last.1 in
     ends_none t is (items_joined t is (begun s.group)) (items_step t is is (begun s.group) (λ k i f. (k, f)) (fresh (h first.1))) last.0
   where
     fresh : NoneBefore s.group.offset_nodes → Taken t is (begun s.group)

@@ -42,6 +42,9 @@ parsed ds right = record {
     dummies = [];
     decls = ds;
     body = more_stmts (stmt 1 None (assign i right)) no_stmts;
+    function = None;
+    references = [];
+    whiles = [];
   };
   places = record { spots = spots; closing = [] };
 }

@@ -19,7 +19,7 @@ use Rattle.storage_layout.specs.declared.equivalences.Anchor.{Anchor}
 use Rattle.storage_layout.specs.declared.equivalences.Grouping.{Grouping}
 use Rattle.storage_layout.specs.declared.equivalences.Shared.{Shared}
 use Rattle.storage_layout.specs.Equivalences.{may_join, clashes, unit_joined, at_place, named_joined, items_joined, items_extend, begun, group_shared, groups_shared, decl_shared, decls_shared}
-use Rattle.storage_layout.proofs.EarlyLaws.{noted_none}
+use Rattle.fx_lists.proofs.Refused.{none_refused}
 
 module _ (P : List OffsetNode → Type 0) (step : (ss : List OffsetNode) (m : ℕ) (p : ℤ) (n : ℕ) (q : ℤ) → P ss → P (joined ss m p n q).offset_nodes) (t : NameTable) where
   unit_keeps : (a : Option Anchor) (k u : ℕ) (g : Grouping) → P g.offset_nodes → P (unit_joined a k u g).offset_nodes
@@ -94,7 +94,7 @@ joins t (Some x) u g e = go (may_join (find x t.entries)) refl e
     go true m c = placed m (place_of t x) refl (ap (λ b. if b then at_place (place_of t x) u g else clashes g) m) c
     go false m c = cc
 
-unit_back : (a : Option Anchor) (k u : ℕ) (g : Grouping) → (unit_joined a k u g).clash ≡ false → g.clash ≡ false
+pub unit_back : (a : Option Anchor) (k u : ℕ) (g : Grouping) → (unit_joined a k u g).clash ≡ false → g.clash ≡ false
 unit_back None k u g e = e
 unit_back (Some a) k u g e = (or_parts g.clash (joined g.offset_nodes a.place (pos a.unit) k (pos u)).clash e).0
 
@@ -112,8 +112,8 @@ pub record Quiet (t : NameTable) (is : List ExprTree) (s : Shared) : Type 0 wher
 pub group_quiet : (t : NameTable) (is : List ExprTree) (line : ℕ) (s : Shared) → (group_shared t is line s).late ≡ None → Quiet t is s
 group_quiet t is line s e =
     let g = items_joined t is (begun s.group) in
-    let last = noted_none (items_extend t g.offset_nodes is) line EquivalenceExtendsBack (refuse_if g.clash line EquivalenceClash s.late) e in
-    let first = noted_none g.clash line EquivalenceClash s.late last.1 in
+    let last = none_refused (items_extend t g.offset_nodes is) line EquivalenceExtendsBack (refuse_if g.clash line EquivalenceClash s.late) e in
+    let first = none_refused g.clash line EquivalenceClash s.late last.1 in
     record { calm = first.0; before = first.1 }
 
 pub groups_quiet : (t : NameTable) (gs : List (List ExprTree)) (line : ℕ) (s : Shared) → (groups_shared t gs line s).late ≡ None → s.late ≡ None

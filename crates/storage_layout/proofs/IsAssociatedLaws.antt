@@ -4,7 +4,6 @@ use Rattle.std.specs.Prelude.{slice_get, slice_set, bytes_eq, if◌then◌else�
 use Rattle.f77_ast.specs.DeclTrees.{EntityTree, CommonTree, DeclTree}
 use Rattle.f77_ast.specs.DeclTrees as decl
 use Rattle.f77_ast.specs.Symbols.{number_from}
-use Rattle.f77_names.proofs.NamesLaws.{number_from-least}
 use Rattle.f77_names.specs.Entries.{EntryTree, place_in}
 use Rattle.f77_names.specs.Tables.{NameTable}
 use Rattle.storage_data.specs.declared.offset_node.Home.TheVariants.{Block}
@@ -15,6 +14,7 @@ use Rattle.storage_layout.specs.declared.blocks.Laid.{Laid}
 use Rattle.storage_layout.specs.Blocks.{block_number, with_block, sits_in_block, put_at, put_there, member_put, members_put, part_put, parts_put, decl_put, decls_put}
 use Rattle.storage_layout.specs.Symbols.{alone, laid}
 use Rattle.storage_layout.proofs.GroupLaws.{IsAssociated}
+use Rattle.f77_ast.proofs.NumberedNames.{number_from-least}
 
 -- ---- offset nodes that are free
 

@@ -7,7 +7,6 @@ use Rattle.f77_ast.specs.DeclTrees.{EntityTree, CommonTree, DeclTree}
 use Rattle.f77_ast.specs.DeclTrees as decl
 use Rattle.f77_ast.specs.Symbols.{number_from}
 use Rattle.f77_ast.proofs.NumbersLaws.{number_from-append}
-use Rattle.f77_names.proofs.NamesLaws.{number_from-least}
 use Rattle.f77_names.specs.Entries.{place_in}
 use Rattle.f77_names.specs.Tables.{NameTable}
 use Rattle.storage_data.specs.declared.offset_node.Home.TheVariants.{Block}
@@ -21,6 +20,8 @@ use Rattle.storage_layout.specs.Symbols.{alone, laid}
 use Rattle.storage_layout.specs.Laws.{AreDistinct, InARow, HasRow, no_block, a_row, MembersLieInARow}
 use Rattle.storage_layout.proofs.StayLaws.{BlocksRemain}
 use Rattle.storage_layout.proofs.IsAssociatedLaws.{free_offset_node, none_sits}
+use Rattle.fx_lists.proofs.Lookups.{set_here, set_other, get_last, get_more}
+use Rattle.f77_ast.proofs.NumberedNames.{one_number}
 
 -- ---- lists
 
@@ -29,41 +30,6 @@ set_length [] zero v = refl
 set_length [] (suc i) v = refl
 set_length (x ∷ xs) zero v = refl
 set_length (x ∷ xs) (suc i) v = ap suc (set_length xs i v)
-
-pub set_here : {X : Type 0} (xs : List X) (i : ℕ) (v x : X) → slice_get xs i ≡ Some x → slice_get (slice_set xs i v) i ≡ Some v
-set_here [] zero v x e = cc
-set_here [] (suc i) v x e = cc
-set_here (y ∷ xs) zero v x e = refl
-set_here (y ∷ xs) (suc i) v x e = set_here xs i v x e
-
-pub set_other : {X : Type 0} (xs : List X) (i k : ℕ) (v : X) → (i ≡ k → ⊥) → slice_get (slice_set xs i v) k ≡ slice_get xs k
-set_other [] zero k v h = refl
-set_other [] (suc i) k v h = refl
-set_other (y ∷ xs) zero zero v h = absurd (h refl)
-set_other (y ∷ xs) zero (suc k) v h = refl
-set_other (y ∷ xs) (suc i) zero v h = refl
-set_other (y ∷ xs) (suc i) (suc k) v h = set_other xs i k v (λ q. h (ap suc q))
-
-pub get_more : {X : Type 0} (xs : List X) (i : ℕ) (v x : X) → slice_get xs i ≡ Some x → slice_get (xs ++ v ∷ []) i ≡ Some x
-get_more [] zero v x e = cc
-get_more [] (suc i) v x e = cc
-get_more (y ∷ xs) zero v x e = e
-get_more (y ∷ xs) (suc i) v x e = get_more xs i v x e
-
-get_last : {X : Type 0} (xs : List X) (v : X) → slice_get (xs ++ v ∷ []) (length xs) ≡ Some v
-get_last [] v = refl
-get_last (y ∷ xs) v = get_last xs v
-
--- two names with one number are one
-pub one_number : (n k : ℕ) (ys : List (List ℕ)) (x y : List ℕ) → number_from n ys x ≡ Some k → number_from n ys y ≡ Some k → x ≡ y
-one_number n k [] x y e f = cc
-one_number n k (z ∷ ys) x y e f = go (bytes_eq x z) (bytes_eq y z) refl refl e f (one_number (suc n) k ys x y)
-  where
-    go : (b c : Bool) → bytes_eq x z ≡ b → bytes_eq y z ≡ c → (if b then Some n else number_from (suc n) ys x) ≡ Some k → (if c then Some n else number_from (suc n) ys y) ≡ Some k → (number_from (suc n) ys x ≡ Some k → number_from (suc n) ys y ≡ Some k → x ≡ y) → x ≡ y
-    go true true p q a b ih = (bytes_eq-Decides x z).0 p ∙ sym ((bytes_eq-Decides y z).0 q)
-    go true false p q a b ih = let same : n ≡ k = cc in let low = number_from-least (suc n) k ys y b in absurd (omega (arith, same, low))
-    go false true p q a b ih = let same : n ≡ k = cc in let low = number_from-least (suc n) k ys x a in absurd (omega (arith, same, low))
-    go false false p q a b ih = ih a b
 
 -- ---- lists of names
 

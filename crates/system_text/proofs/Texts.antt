@@ -1,10 +1,11 @@
 -- Texts cut at marks that do not stand in their pieces.
-use Rattle.std.proofs.Common.{◌≡◌, ℕ, true, false, List, [], ◌∷◌, ◌++◌, refl, sym, ap, ◌∙◌, append-nil, eq-eqb, Some, None}
+use Rattle.std.proofs.Common.{◌≡◌, ℕ, false, List, [], ◌∷◌, ◌++◌, refl, sym, ap, ◌∙◌, append-nil, Some, None}
 use Rattle.std.specs.Prelude.{nat_eq, option_map, bytes_eq, codes}
 use Rattle.std.proofs.lemmas.Slice.Eq.{bytes_eq-Decides}
 use Rattle.std.proofs.lemmas.Bool.{false_from_ne_true}
 use Rattle.system_text.specs.SystemText.{each_after}
 use Rattle.system_text.specs.Reading.{Bytes, cut, longer, pieces}
+use Rattle.fx_lists.proofs.Numbers.{same_number}
 
 -- the mark does not stand in the text
 abbrev pub IsFree : ℕ → Bytes → Type 0
@@ -23,13 +24,10 @@ pub free-each_after : (m : ℕ) (mark : Bytes) (xs : List Bytes) → IsFree m ma
 free-each_after m mark [] h k = tt
 free-each_after m mark (x ∷ xs) h k = free-append m mark (x ++ each_after mark xs) h (free-append m x (each_after mark xs) k.0 (free-each_after m mark xs h k.1))
 
-itself : (m : ℕ) → nat_eq m m ≡ true
-itself m = eq-eqb m m refl
-
 -- ---- the first mark
 
 pub cut-at : (m : ℕ) (x t : Bytes) → IsFree m x → cut m (x ++ (m ∷ t)) ≡ Some (x, t)
-cut-at m [] t h = rw (itself m)
+cut-at m [] t h = rw (same_number m)
 cut-at m (c ∷ cs) t h = rw h.0 (ap (option_map (λ (p : Bytes × Bytes). (c ∷ p.0, p.1))) (cut-at m cs t h.1))
 
 pub cut-none : (m : ℕ) (x : Bytes) → IsFree m x → cut m x ≡ None
@@ -46,7 +44,7 @@ pieces-first : (m : ℕ) (x t : Bytes) (ys : List Bytes) → IsFree m x → piec
 pieces-first m x t ys h e = pieces-behind m x t [] ys h e ∙ ap (λ z. z ∷ ys) (append-nil x)
 
 pieces-next : (m : ℕ) (t : Bytes) (ys : List Bytes) → pieces m t ≡ ys → pieces m (m ∷ t) ≡ [] ∷ ys
-pieces-next m t ys e = rw (itself m) (ap (λ zs. [] ∷ zs) e)
+pieces-next m t ys e = rw (same_number m) (ap (λ zs. [] ∷ zs) e)
 
 pub pieces-one : (m : ℕ) (x : Bytes) → IsFree m x → pieces m x ≡ x ∷ []
 pieces-one m x h = ap (pieces m) (sym (append-nil x)) ∙ pieces-first m x [] [] h refl

@@ -2,7 +2,7 @@
 use Rattle.std.proofs.Common.{◌≡◌, ℕ, List, [], ◌∷◌, ◌||◌, Bool, true, false, refl, sym, ap, ap₂, ◌∙◌, subst, arith, nat_eq, nat_lt, true≢false, ◌⊎◌, inl, inr, ⊎_elim, Ordering}
 use Rattle.std.specs.Prelude.{if◌then◌else◌, filter}
 use Rattle.std.specs.declared.cmp.Ordering.TheVariants.{Less, Equal, Greater}
-use Rattle.std.specs.Ordering.{match_ordering, ordering_then, nat_cmp}
+use Rattle.std.specs.Ordering.{match_ordering, nat_cmp}
 use Rattle.std.specs.Cmp.Lexicographic.{slice_cmp}
 use Rattle.std.proofs.lemmas.Bool.Decides.{nat_tests}
 use Rattle.std.proofs.lemmas.Map.Lookups.{exact_unsigned, exact_bytes}
@@ -15,8 +15,9 @@ use Rattle.f77_ast.specs.declared.variable.Unit.{Unit as BlockUnit}
 use Rattle.transformer_algebra.specs.Cells.{has, with_cell, with_cells, joined_cells}
 use Rattle.transformer_algebra.specs.Units.{unit_cmp, with_unit, with_units, joined_units}
 use Rattle.transformer_algebra.specs.Claims.{IsIn}
-use Rattle.fx_lists.proofs.Booleans.{clash as clashes, or_turned as or_assoc, or_swap}
+use Rattle.fx_lists.proofs.Booleans.{clash as clashes, or_turned as or_assoc, or_swap, with_false}
 use Rattle.fx_lists.proofs.Numbers.{nat_eq_same, same_is as nat_same}
+use Rattle.fx_lists.proofs.Orders.{then_equal}
 
 -- ---- numbers
 
@@ -25,10 +26,6 @@ use Rattle.fx_lists.proofs.Numbers.{nat_eq_same, same_is as nat_same}
 or_same : (a b : Bool) → (a || b) ≡ (a || (a || b))
 or_same true b = refl
 or_same false b = refl
-
-or_none : (a : Bool) → a ≡ (a || false)
-or_none true = refl
-or_none false = refl
 
 has-with_cell : (c d : ℕ) (ds : List ℕ) → has (with_cell d ds) c ≡ (nat_eq d c || has ds c)
 has-with_cell c d [] = refl
@@ -45,7 +42,7 @@ has-with_cells c ds (d ∷ cs) =
     has-with_cells c (with_cell d ds) cs ∙ (ap (λ b. has cs c || b) (has-with_cell c d ds) ∙ (or_swap (has cs c) (nat_eq d c) (has ds c) ∙ sym (or_assoc (nat_eq d c) (has cs c) (has ds c))))
 
 pub has-joined : (cs ds : List ℕ) (c : ℕ) → has (joined_cells cs ds) c ≡ (has cs c || has ds c)
-has-joined cs ds c = has-with_cells c (with_cells [] cs) ds ∙ (ap (λ b. has ds c || b) (has-with_cells c [] cs ∙ sym (or_none (has cs c))) ∙ comm (has ds c) (has cs c))
+has-joined cs ds c = has-with_cells c (with_cells [] cs) ds ∙ (ap (λ b. has ds c || b) (has-with_cells c [] cs ∙ sym (with_false (has cs c))) ∙ comm (has ds c) (has cs c))
   where
     comm : (a b : Bool) → (a || b) ≡ (b || a)
     comm true true = refl
@@ -78,14 +75,9 @@ joined_in as' bs c e = or_cases (has as' c) (has bs c) (sym (has-joined as' bs c
 
 -- ---- units
 
-both_equal : (a b : Ordering) → ordering_then a b ≡ Equal → (a ≡ Equal) × (b ≡ Equal)
-both_equal Less b e = let k : ⊥ = cc in absurd k
-both_equal Equal b e = (refl, e)
-both_equal Greater b e = let k : ⊥ = cc in absurd k
-
 same_unit : (u v : BlockUnit) → unit_cmp u v ≡ Equal → u ≡ v
 same_unit u v e =
-    let q = both_equal (slice_cmp nat_cmp u.block v.block) (nat_cmp u.offset v.offset) e in
+    let q = then_equal (slice_cmp nat_cmp u.block v.block) (nat_cmp u.offset v.offset) e in
     let unit : List ℕ → ℕ → BlockUnit = λ b o. record { block = b; offset = o } in
     ap₂ unit (exact_bytes u.block v.block q.0) (exact_unsigned u.offset v.offset q.1)
 

@@ -24,6 +24,15 @@ IsAux (Exit c) = ⊥
 IsAux (Phi c) = ⊥
 IsAux (Aux c) = Unit {0}
 
+-- no subscript is renamed
+pub phi_stays : (cs : List ℕ) (n : ℕ) → renamed_by (to_cells cs) (Phi n) ≡ Phi n
+phi_stays [] n = refl
+phi_stays (c ∷ cs) n = go (var_eq (Phi n) (Exit c)) refl (phi_stays cs n)
+  where
+    go : (b : Bool) → var_eq (Phi n) (Exit c) ≡ b → renamed_by (to_cells cs) (Phi n) ≡ Phi n → (if b then Cell c else renamed_by (to_cells cs) (Phi n)) ≡ Phi n
+    go true e ih = let q = var_eq-true (Phi n) (Exit c) e in absurd (cc)
+    go false e ih = ih
+
 same_cells : (ds : List ℕ) (c d : ℕ) → c ≡ d → has ds c ≡ has ds d
 same_cells ds c d e = ap (has ds) e
 

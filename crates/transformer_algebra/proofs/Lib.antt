@@ -11,3 +11,5 @@ pub mod GivenSteps
 pub mod Steps
 pub mod KeepLaws
 pub mod Shared
+pub mod Members
+pub mod HasLaws

@@ -7,7 +7,7 @@ use crate::halves::{first_names, middle, second_names};
 use crate::{Transformer, fresh_over, joined_cells, joined_units, rename_all};
 use affine_systems::{System, meet};
 use fx_lists::List;
-use hull_projection::project;
+use hull_projection::project_owned;
 use std::alloc::{AllocError as Memory, Global};
 
 /// Where the auxiliary variables in between are numbered from the first on.
@@ -31,7 +31,7 @@ fn followed_from(
     let other = rename_all(alloc, &b.system, names.as_slice())?;
     let met = meet(alloc, &one, &other)?;
     let vars = List::from_vec(middle(alloc, first, again, cells)?);
-    Ok(project(alloc, &met, &vars)?.system)
+    Ok(project_owned(alloc, met, &vars)?.system)
 }
 
 /// The composition of two transformers: what the first and then the second does. Memory also where there are no numbers

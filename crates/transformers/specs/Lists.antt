@@ -1,13 +1,13 @@
 -- The transformer of a list, from those of its statements.
-use Rattle.std.specs.Prelude.{ℕ, Bool, nat_eq, List, [], ◌∷◌, Option, Some, None, if◌then◌else◌}
+use Rattle.std.specs.Prelude.{ℕ, Bool, List, [], ◌∷◌, Option, Some, None, if◌then◌else◌}
 use Rattle.f77_ast.specs.Trees.{StmtTree, StmtTrees}
 use Rattle.f77_ast.specs.Trees as tree
-use Rattle.f77_ast.specs.Shared.{numbered}
 use Rattle.f77_ast.specs.declared.results.At.{At}
 use Rattle.affine_forms.specs.Conditions.{no_rows}
 use Rattle.call_translation.specs.transformer_algebra.declared.transformer.Transformer.{Transformer}
 use Rattle.call_translation.specs.transformer_algebra.Transformers.{transformer, identity_transformer, followed, all_cells, all_units}
 use Rattle.transformers.specs.Jumps.{unstructured}
+pub use Rattle.f77_ast.specs.ResultLists.{first_at, or_first, value_at}
 
 -- ---- lists
 
@@ -29,18 +29,6 @@ abbrev pub list_of : Bool → StmtTrees → List Transformer → Transformer
 list_of whole body ts = if unstructured whole body then in_any_order ts else in_order ts
 
 -- ---- results at statements
-
-abbrev pub first_at : {T : Type 0} → ℕ → List (At T) → Option T
-first_at n [] = None
-first_at n (a ∷ as') = if nat_eq a.id n then Some a.value else first_at n as'
-
-abbrev pub or_first : {T : Type 0} → Option (At T) → ℕ → List (At T) → Option T
-or_first None n as' = first_at n as'
-or_first (Some a) n as' = if nat_eq a.id n then Some a.value else first_at n as'
-
--- the result at the statement of a number: that at its place, where that is its own, or the first with this number
-abbrev pub value_at : {T : Type 0} → List (At T) → ℕ → Option T
-value_at as' n = or_first (numbered as' n) n as'
 
 abbrev pub or_unchanging : Option Transformer → Transformer
 or_unchanging None = identity_transformer

@@ -16,7 +16,7 @@ use call_translation::transformer_algebra::Transformer;
 use call_translation::{CellScope, tracked_of};
 use f77_ast::{EffectSet, Place, Results, Summaries, Symbols};
 use fx_lists::List;
-use hull_projection::{add_rows, project};
+use hull_projection::{add_rows, project_owned};
 use std::alloc::{AllocError as Memory, Global};
 
 /// Whether callers see a symbol: a dummy, or a variable of a block.
@@ -86,7 +86,7 @@ fn summary_of(alloc: Global, symbols: &Symbols, whole: Transformer) -> Result<Tr
     Ok(Transformer {
         cells: seen_cells(alloc, symbols, whole.cells.as_slice())?,
         foreign: whole.foreign,
-        system: project(alloc, &whole.system, &hidden)?.system,
+        system: project_owned(alloc, whole.system, &hidden)?.system,
     })
 }
 

@@ -14,10 +14,10 @@ use Rattle.affine_systems.proofs.ItemSteps.{item_at as all_at}
 use Rattle.work_area.specs.declared.slot.Slot.{Slot}
 use Rattle.work_area.specs.Slots.{item_in, items_in}
 use Rattle.std.proofs.Math.Nat.{mul-le-mul}
-use Rattle.affine_systems.proofs.LastLaws.{keep_has}
+use Rattle.affine_systems.proofs.LastLaws.{keep_has, append_items}
 use Rattle.work_area.specs.Outcomes.{paired_items}
 use Rattle.work_area.specs.Tables.{MadeBelow}
-use Rattle.work_area.proofs.AllLaws.{all_appended, all_sorted, all_once, all_collapsed, all_dropped, all_removed}
+use Rattle.work_area.proofs.AllLaws.{all_sorted, all_once, all_collapsed, all_dropped, all_removed}
 use Rattle.work_area.proofs.Swaps.{item_read, length-items_in}
 use Rattle.elimination.proofs.ClosedLaws.{length-keep}
 use Rattle.elimination.proofs.FormLaws.{all_taken}
@@ -93,7 +93,7 @@ pivoted_below m is at l k h =
     let b = all_at P is at false_item h l in
     taken_below (m + 512) (next_made is) e rest (unit_var e.row.terms)
     (omega (arith, a, k, l, length-append (take at is) (drop (suc at) is), length-take at is, length-drop (suc at) is)) (omega (arith, b))
-    (below_more m (m + 512) rest (omega arith) (all_appended P (take at is) (drop (suc at) is) (all_taken P at is h) (all_dropped P (suc at) is h)))
+    (below_more m (m + 512) rest (omega arith) (append_items P (take at is) (drop (suc at) is) (all_taken P at is h) (all_dropped P (suc at) is h)))
 
 pub cancelled_below : (m n : ℕ) (e : Item) (v : Var) (is : List Item) → n + length is ≤ m → MadeBelow m is → MadeBelow m (all_cancelled n e v is)
 cancelled_below m n e v [] l h = tt
@@ -117,7 +117,7 @@ pairs_below : (m n : ℕ) (v : Var) (lows ups : List Item) → n + length lows *
 pairs_below m n v [] ups l = tt
 pairs_below m n v (low ∷ lows) ups l =
     let k : n + length ups + length lows * length ups ≤ m = omega (arith, l) in
-    all_appended (λ i. i.made < m) (with_uppers n v low ups) (pairs (n + length ups) v lows ups) (uppers_below m n v low ups (omega (arith, k))) (pairs_below m (n + length ups) v lows ups k)
+    append_items (λ i. i.made < m) (with_uppers n v low ups) (pairs (n + length ups) v lows ups) (uppers_below m n v low ups (omega (arith, k))) (pairs_below m (n + length ups) v lows ups k)
 
 pub paired_below : (m : ℕ) (v : Var) (is : List Item) → length is ≤ 512 → MadeBelow m is → MadeBelow (m + 512 * 512) (paired_items (next_made is) v is)
 paired_below m v is l h =
@@ -128,7 +128,7 @@ paired_below m v is l h =
     let x : length lows ≤ 512 = omega (arith, length-keep (is_lower v) is, l) in
     let y : length ups ≤ 512 = omega (arith, length-keep (is_upper v) is, l) in
     let p : length lows * length ups ≤ 512 * 512 = mul-le-mul x y in
-    all_appended (λ i. i.made < n) (keep (is_without v) is) (pairs (next_made is) v lows ups)
+    append_items (λ i. i.made < n) (keep (is_without v) is) (pairs (next_made is) v lows ups)
     (keep_has (λ i. i.made < n) (is_without v) is (below_more m n is (omega arith) h)) (pairs_below n (next_made is) v lows ups (omega (arith, a, p)))
 
 pub taken_form_below : (m : ℕ) (is : List Item) → 0 < m → MadeBelow m is → MadeBelow m (take row_limit (in_form false is))

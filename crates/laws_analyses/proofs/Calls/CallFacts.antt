@@ -30,10 +30,10 @@ use Rattle.laws_analyses.proofs.Calls.BeginLaws.{begin_dummies}
 use Rattle.laws_analyses.specs.Calls.Parts.{Blocks, Part, DummyOf, NoDummy, nth, in_bound, places_in, far_in, scene_in, reach, still_in, Sane}
 use Rattle.laws_analyses.specs.Calls.Sites.{Site, Entered}
 use Rattle.laws_analyses.proofs.Calls.Bound.{scalars_fixed, scalars_dummy, Made, Offered, offered_to}
-use Rattle.laws_analyses.proofs.Calls.Enter.{or_cases, bool_cases, find_dummy, Fits}
+use Rattle.laws_analyses.proofs.Calls.Enter.{or_cases, find_dummy, Fits}
 use Rattle.laws_analyses.proofs.Calls.Actuals.{Stands, as_name, as_part, as_value, StandFor, StandsAt, stands_at, stands_back, nth_place, own_more, own_less, OwnUnit, own_unit_of}
 use Rattle.fx_lists.proofs.Numbers.{same_is as nat_same}
-use Rattle.fx_lists.proofs.Booleans.{clash as clashes}
+use Rattle.fx_lists.proofs.Booleans.{clash as clashes, bool_cases}
 
 -- a module that runs is a scene of its table
 pub scene_of : (b : Blocks) (k : Part) → Sane b k → (ps : List Place) (at : Places) → Made k.routine.dummies ps (places_in k ps) at → IsSceneOf k.scope (scene_in b k ps at)

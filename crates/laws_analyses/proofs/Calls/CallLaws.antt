@@ -37,8 +37,8 @@ use Rattle.laws_analyses.specs.Calls.Scenes.{outside}
 use Rattle.laws_analyses.specs.Calls.Bindings.{NamesCell, Runs}
 use Rattle.laws_analyses.proofs.Calls.PointLaws.{lifted, lifted_off, lifted_plain, IsNamed, StandsFor, Named, Filled, filled, found}
 use Rattle.laws_analyses.proofs.Calls.TableLaws.{nothing_some}
-use Rattle.laws_analyses.proofs.Calls.ListLaws.{cells_of_has}
 use Rattle.laws_analyses.proofs.Calls.KeptLaws.{found_unit, kept_call}
+use Rattle.preconditions.proofs.CallTranslation.CallerCells.{cells_of_has}
 
 -- ---- what stands for a variable of the callee
 

@@ -18,15 +18,11 @@ use Rattle.laws_analyses.specs.Calls.Sites.{Entered}
 use Rattle.laws_analyses.proofs.Calls.Bound.{scalars_fixed, scalars_dummy, AsArray, Made, bound_at}
 use Rattle.laws_analyses.proofs.UnitLaws.{in_own}
 use Rattle.fx_lists.proofs.Numbers.{nat_eq_same, same_is as nat_same}
-use Rattle.fx_lists.proofs.Booleans.{clash as clashes}
+use Rattle.fx_lists.proofs.Booleans.{clash as clashes, bool_cases}
 
 pub or_cases : (a b : Bool) (X : Type 0) → (a || b) ≡ true → (a ≡ true → X) → (b ≡ true → X) → X
 or_cases true b X h f g = f refl
 or_cases false b X h f g = g h
-
-pub bool_cases : (b : Bool) (X : Type 0) → (b ≡ true → X) → (b ≡ false → X) → X
-bool_cases true X f g = f refl
-bool_cases false X f g = g refl
 
 -- ---- dummies
 

@@ -15,8 +15,9 @@ use Rattle.preconditions.specs.transformers.Modules.{is_seen, is_visible_to_call
 use Rattle.laws_analyses.specs.Calls.Scenes.{outside, IsInBlock}
 use Rattle.laws_analyses.specs.Calls.Bindings.{IsDummy, Binds, Reached, passed_to, shared_with, passed_by, untouched, FarReached, far_shared_with, far_passed_by, far_untouched, Runs}
 use Rattle.laws_analyses.proofs.Calls.TableLaws.{tracked_at_cell, tracked_at_finds}
-use Rattle.laws_analyses.proofs.Calls.ListLaws.{cells_of_has, unit_cells_has, hidden_has, units_of_has}
+use Rattle.laws_analyses.proofs.Calls.ListLaws.{unit_cells_has, hidden_has, units_of_has}
 use Rattle.fx_lists.proofs.Booleans.{clash as clashes}
+use Rattle.preconditions.proofs.CallTranslation.CallerCells.{cells_of_has}
 
 -- ---- the same units
 

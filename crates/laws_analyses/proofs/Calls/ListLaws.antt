@@ -1,45 +1,21 @@
 -- Which cells and units a CALL lists as changed.
-use Rattle.std.proofs.Common.{◌≡◌, ℕ, List, [], ◌∷◌, ◌++◌, ◌||◌, Option, Some, Bool, true, false, refl, sym, ap, ◌∙◌, subst, inl, inr, ⊎_elim, nat_eq}
+use Rattle.std.proofs.Common.{◌≡◌, ℕ, List, [], ◌∷◌, ◌++◌, ◌||◌, Some, Bool, true, false, refl, sym, ap, ◌∙◌, inl, inr, ⊎_elim, nat_eq}
 use Rattle.std.specs.Prelude.{if◌then◌else◌}
-use Rattle.std.proofs.lemmas.Bool.{or_right}
 use Rattle.f77_ast.specs.declared.symbol.Place.TheVariants.{Block}
 use Rattle.f77_ast.specs.declared.variable.Unit.{Unit as BlockUnit}
 use Rattle.f77_ast.specs.Shared.{place_at}
 use Rattle.preconditions.specs.transformer_algebra.Cells.{has}
 use Rattle.preconditions.specs.transformer_algebra.Claims.{IsIn}
 use Rattle.preconditions.specs.call_translation.Common.{tracked_at, declares}
-use Rattle.preconditions.specs.call_translation.Actuals.{one_cell}
-use Rattle.preconditions.specs.call_translation.Call.{CallTree, cell_at}
-use Rattle.preconditions.specs.call_translation.Summary.{unit_cell, unit_cells, cells_of, if_hidden, hidden_units, unit_of, units_of}
+use Rattle.preconditions.specs.call_translation.Call.{CallTree}
+use Rattle.preconditions.specs.call_translation.Summary.{unit_cell, unit_cells, if_hidden, hidden_units, unit_of, units_of}
 use Rattle.laws_analyses.specs.Calls.Scenes.{IsInBlock}
 use Rattle.fx_lists.proofs.Booleans.{clash as clashes}
-use Rattle.fx_lists.proofs.Numbers.{same_is as nat_same, nat_eq_same}
+use Rattle.fx_lists.proofs.Numbers.{same_is as nat_same}
+use Rattle.preconditions.proofs.TransformerAlgebra.HasLaws.{has_left, has_right}
+use Rattle.preconditions.proofs.CallTranslation.CallerCells.{has_one}
 
 -- ---- cells
-
-has_left : (as' bs : List ℕ) (c : ℕ) → has as' c ≡ true → has (as' ++ bs) c ≡ true
-has_left [] bs c h = clashes false h refl
-has_left (a ∷ as') bs c h = go (nat_eq a c) h (λ k. has_left as' bs c k)
-  where
-    go : (b : Bool) → (b || has as' c) ≡ true → (has as' c ≡ true → has (as' ++ bs) c ≡ true) → (b || has (as' ++ bs) c) ≡ true
-    go true k ih = refl
-    go false k ih = ih k
-
-has_right : (as' bs : List ℕ) (c : ℕ) → has bs c ≡ true → has (as' ++ bs) c ≡ true
-has_right [] bs c h = h
-has_right (a ∷ as') bs c h = or_right (nat_eq a c) (has (as' ++ bs) c) (has_right as' bs c h)
-
-has_one : (o : Option ℕ) (c : ℕ) → o ≡ Some c → has (one_cell o) c ≡ true
-has_one o c e = subst (λ (p : Option ℕ). has (one_cell p) c ≡ true) (sym e) (ap (λ b. b || false) (nat_eq_same c))
-
--- a cell of the caller that is one of these cells of the callee
-pub cells_of_has : (c : CallTree) (ds : List ℕ) (d v : ℕ) → has ds d ≡ true → cell_at c (place_at c.symbols d) ≡ Some v → has (cells_of c ds) v ≡ true
-cells_of_has c [] d v h e = clashes false h refl
-cells_of_has c (a ∷ ds) d v h e = go (nat_eq a d) refl h (λ k. cells_of_has c ds d v k e)
-  where
-    go : (b : Bool) → nat_eq a d ≡ b → (b || has ds d) ≡ true → (has ds d ≡ true → has (cells_of c ds) v ≡ true) → has (one_cell (cell_at c (place_at c.symbols a)) ++ cells_of c ds) v ≡ true
-    go true q k ih = has_left (one_cell (cell_at c (place_at c.symbols a))) (cells_of c ds) v (has_one (cell_at c (place_at c.symbols a)) v (ap (λ j. cell_at c (place_at c.symbols j)) (nat_same a d q) ∙ e))
-    go false q k ih = has_right (one_cell (cell_at c (place_at c.symbols a))) (cells_of c ds) v (ih k)
 
 -- a cell of the caller at one of these units
 pub unit_cells_has : (c : CallTree) (us : List BlockUnit) (u : BlockUnit) (v : ℕ) → IsIn u us → tracked_at c.caller u.block u.offset ≡ Some v → has (unit_cells c us) v ≡ true

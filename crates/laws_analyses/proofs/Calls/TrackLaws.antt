@@ -1,5 +1,5 @@
 -- The cells that a CALL lists as changed are tracked.
-use Rattle.std.proofs.Common.{◌≡◌, ℕ, List, [], ◌∷◌, ◌++◌, ◌||◌, Option, Some, None, Bool, true, false, refl, ap, ◌⊎◌, inl, inr, ⊎_elim, nat_eq}
+use Rattle.std.proofs.Common.{◌≡◌, ℕ, List, [], ◌∷◌, ◌||◌, Option, Some, None, Bool, true, false, refl, ap, ◌⊎◌, ⊎_elim, nat_eq}
 use Rattle.f77_ast.specs.Trees.{ExprTree, ExprTrees}
 use Rattle.f77_ast.specs.Trees as tree
 use Rattle.f77_ast.specs.declared.symbol.Place.{Place}
@@ -20,14 +20,7 @@ use Rattle.preconditions.specs.call_translation.Summary.{unit_cell, unit_cells, 
 use Rattle.laws_analyses.proofs.Calls.TableLaws.{nothing_some, tracked_at_cell}
 use Rattle.fx_lists.proofs.Booleans.{clash as clashes}
 use Rattle.fx_lists.proofs.Numbers.{same_is as nat_same}
-
-has_either : (as' bs : List ℕ) (c : ℕ) → has (as' ++ bs) c ≡ true → (has as' c ≡ true) ⊎ (has bs c ≡ true)
-has_either [] bs c h = inr h
-has_either (a ∷ as') bs c h = go (nat_eq a c) h (λ k. has_either as' bs c k)
-  where
-    go : (b : Bool) → (b || has (as' ++ bs) c) ≡ true → (has (as' ++ bs) c ≡ true → (has as' c ≡ true) ⊎ (has bs c ≡ true)) → ((b || has as' c) ≡ true) ⊎ (has bs c ≡ true)
-    go true k ih = inl refl
-    go false k ih = ih k
+use Rattle.preconditions.proofs.TransformerAlgebra.HasLaws.{has_either}
 
 one_is : (o : Option ℕ) (c : ℕ) → has (one_cell o) c ≡ true → o ≡ Some c
 one_is None c h = clashes false h refl

@@ -51,25 +51,23 @@ use Rattle.laws_programs.proofs.Storage.CallLaws.{calls_are_listed}
 use Rattle.laws_programs.proofs.Storage.ModuleLaws.{known_module}
 use Rattle.laws_programs.proofs.Storage.OwnerLaws.{expression_below}
 use Rattle.laws_programs.specs.Programs.{IsProgram}
-use Rattle.laws_programs.proofs.Numbers.{is_numbered}
 use Rattle.laws_programs.specs.roundtrip_programs.Statements.Formed as formed
 use Rattle.laws_programs.specs.roundtrip_programs.Statements.Phrased.{IsPhrase}
 use Rattle.laws_programs.specs.roundtrip_programs.ModuleTexts.Cards.{Card, statements_of}
 use Rattle.laws_programs.proofs.RoundtripPrograms.ModuleTexts.Kept.{Held}
 use Rattle.laws_programs.proofs.Sources.{all_built}
 use Rattle.laws_programs.proofs.Tables.{programs_are_linked}
-use Rattle.laws_programs.proofs.Whole.{numbers_go_up, modules_are_read}
+use Rattle.laws_programs.proofs.Whole.{modules_are_read}
 use Rattle.call_graph.specs.CallsIn.{CallAt, Each, list_calls}
 use Rattle.laws_analyses.specs.Calls.Parts.{Blocks, Part, NoDummy}
 use Rattle.laws_analyses.specs.Calls.Sites.{lookup}
 use Rattle.laws_analyses.specs.Parts.{blocks_in, part_of}
 use Rattle.laws_analyses.specs.Analysed.{module_named, part_named, AreAnalysed}
-use Rattle.laws_analyses.specs.CallLaws.{Settled}
 use Rattle.laws_analyses.specs.JumpLaws.{JumpsStayInside}
 use Rattle.laws_analyses.specs.Results.{callees_of_all, analysed_entry, analysed_sites}
 use Rattle.laws_analyses.specs.ScalarLaws.{NamesAgree, AcceptedDataStaysInLocals}
 use Rattle.laws_analyses.proofs.Analyses.{Located, all_located, analysis_of_module}
-use Rattle.laws_analyses.proofs.CallLists.{each_in, each_more}
+use Rattle.laws_analyses.proofs.CallLists.{each_in}
 use Rattle.laws_analyses.proofs.DummyLaws.{told, listed_dummy}
 use Rattle.laws_analyses.proofs.Founds.{Calls}
 use Rattle.laws_analyses.proofs.IntegerLaws.{integers_fit}
@@ -78,11 +76,9 @@ use Rattle.laws_analyses.proofs.Modules.{IsIn, subs, subs_in, module_named_is}
 use Rattle.laws_analyses.proofs.NameLaws.{name_number}
 use Rattle.laws_analyses.proofs.Passes.{name_of}
 use Rattle.laws_analyses.proofs.Programs.{Ready}
-use Rattle.laws_analyses.proofs.Subscripts.{built_have}
-use Rattle.laws_analyses.proofs.TargetLaws.{body_lacks_none}
 use Rattle.laws_analyses.proofs.ThroughoutLaws.{throughout_more}
 use Rattle.laws_analyses.proofs.UnitLaws.{module_at}
-use Rattle.laws_analyses.proofs.Whole.{analyses_follow}
+use Rattle.laws_analyses.proofs.Whole.{analyses_follow, settled as is_settled, ready as is_ready}
 use Rattle.laws_analyses.specs.Regions.Claims.{RegionsHold}
 use Rattle.laws_analyses.specs.Regions.Programs.{regions_in_part, EachRegionHolds, Regular, Joins, Sends, SendsFrom, RegularPart, RegularParts, ProgramRegionsHold}
 use Rattle.laws_analyses.specs.Regions.Settings.{has_colon, is_told}
@@ -101,6 +97,7 @@ use Rattle.laws_analyses.proofs.Regions.Summaries.{Placed, called_summary, summa
 use Rattle.laws_programs.proofs.RoundtripPrograms.ModuleTexts.Cards.{Any as AnyLabel}
 use Rattle.laws_programs.proofs.Effects.Once.{main_of_linked as some_main}
 use Rattle.laws_programs.proofs.RoundtripPrograms.Body.{AreCards}
+use Rattle.call_graph.proofs.EachLaws.{each_more}
 
 -- ---- a module
 
@@ -342,20 +339,6 @@ module _ (ps : List ParsedTree) (sss : List (List SymbolTree)) (g : Graph) (l : 
 -- ---- programs
 
 module _ (names : NamesAgree) (stays : JumpsStayInside) (ps : List ParsedTree) (sss : List (List SymbolTree)) (g : Graph) (x : IsProgram ps sss g) where
-  settled : (i : ℕ) (p : ParsedTree) (ss : List SymbolTree) → IsModule ps sss i p ss → Settled g p ss
-  settled i p ss m =
-      let table = (programs_are_linked ps sss g x).1 i p ss m in
-      let built = built_at ps (all_built x.lines ps x.parsed) i p m.parsed in
-      record {
-        agrees = names p ss g.untracked table;
-        stays = stays x.lines ps x.parsed i p m.parsed;
-        numbered = is_numbered p.module_read.body (numbers_go_up x.lines ps x.parsed i p m.parsed);
-        targets = body_lacks_none ss p.module_read built.well.body built.formed (bodies_are_shaped p ss table);
-      }
-
-  ready : (i : ℕ) (p : ParsedTree) (ss : List SymbolTree) → IsModule ps sss i p ss → Ready g p ss
-  ready i p ss m = record { settled = settled i p ss m; subscripts = built_have p (built_at ps (all_built x.lines ps x.parsed) i p m.parsed) }
-
   -- regions hold in every run
   pub all_hold : ProgramRegionsHold → AcceptedDataStaysInLocals →
       InEveryRun (known_of ps sss) g (AllRegionsHold (known_of ps sss) g (all_regions g (analyses (known_of ps sss) g)))
@@ -370,18 +353,18 @@ module _ (names : NamesAgree) (stays : JumpsStayInside) (ps : List ParsedTree) (
       let main = known r.parsed r.table in
       let is = known_module ps sss r.at r.parsed r.table r.is_module in
       let alone = (modules_are_read x.lines ps sss x.parsed x.tables r.at main is).main r.main in
-      let analysed = analyses_follow ps sss g linked.0 (λ i p ss m. (settled i p ss m).numbered) in
+      let analysed = analyses_follow ps sss g linked.0 (λ i p ss m. (is_settled names stays ps sss g x i p ss m).numbered) in
       let initialised = lies x.lines ps sss x.parsed x.tables in
       let fit = integers_fit x.lines ps sss x.parsed x.tables in
       let plain = λ (i : ℕ) (p : ParsedTree) (ss : List SymbolTree) (m : IsModule ps sss i p ss). (modules_are_read x.lines ps sss x.parsed x.tables i (known p ss) (known_module ps sss i p ss m)).name in
       let told = λ (i : ℕ) (p : ParsedTree) (ss : List SymbolTree) (m : IsModule ps sss i p ss). (let built = built_at ps (all_built x.lines ps x.parsed) i p m.parsed in names_told p ss built.well (cards_of_held (statements_of p.module_read) built.formed) (linked.1 i p ss m)) in
       let blocks = λ (i : ℕ) (p : ParsedTree) (ss : List SymbolTree) (m : IsModule ps sss i p ss). (let built = built_at ps (all_built x.lines ps x.parsed) i p m.parsed in blocks_told p ss (cards_of_held (statements_of p.module_read) built.formed) (linked.1 i p ss m)) in
-      let whole = program ps sss g linked.0 linked.1 ready cs sites entry analysed initialised r.at r.parsed r.table r.is_module r.is_main r.main alone in
-      let is_program = program_is ps sss g linked.0 linked.1 ready cs sites entry analysed initialised r.at r.parsed r.table r.is_module r.is_main r.main alone in
+      let whole = program ps sss g linked.0 linked.1 (is_ready names stays ps sss g x) cs sites entry analysed initialised r.at r.parsed r.table r.is_module r.is_main r.main alone in
+      let is_program = program_is ps sss g linked.0 linked.1 (is_ready names stays ps sss g x) cs sites entry analysed initialised r.at r.parsed r.table r.is_module r.is_main r.main alone in
       let each = holds _ cs sites of _ _ _ whole ks g (summaries_of g (analyses ks g))
-      (regular_part ps sss g linked.0 linked.1 ready analysed fit plain told blocks (subs ks g.order) (subs_in ks g.order) main (record { at = r.at; is_module = is }))
-      (regular_parts ps sss g linked.0 linked.1 ready analysed fit plain told blocks (subs ks g.order) (subs_in ks g.order)) is_program in
-      throughout_more (EachRegionHolds ks g cs (summaries_of g (analyses ks g)) of) (AllRegionsHold ks g (all_regions g (analyses ks g))) (λ y h. follows ps sss g linked.0 linked.1 ready analysed y h) (program_plan (program_of ks g) turns) (program_of ks g).initial input (λ f z j. []) (each turns input)
+      (regular_part ps sss g linked.0 linked.1 (is_ready names stays ps sss g x) analysed fit plain told blocks (subs ks g.order) (subs_in ks g.order) main (record { at = r.at; is_module = is }))
+      (regular_parts ps sss g linked.0 linked.1 (is_ready names stays ps sss g x) analysed fit plain told blocks (subs ks g.order) (subs_in ks g.order)) is_program in
+      throughout_more (EachRegionHolds ks g cs (summaries_of g (analyses ks g)) of) (AllRegionsHold ks g (all_regions g (analyses ks g))) (λ y h. follows ps sss g linked.0 linked.1 (is_ready names stays ps sss g x) analysed y h) (program_plan (program_of ks g) turns) (program_of ks g).initial input (λ f z j. []) (each turns input)
 
 pub read_regions_hold : NamesAgree → AcceptedDataStaysInLocals → JumpsStayInside → ProgramRegionsHold → ReadRegionsHold
 read_regions_hold names lies stays holds ps sss g x = all_hold names stays ps sss g x holds lies

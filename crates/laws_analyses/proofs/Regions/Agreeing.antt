@@ -17,7 +17,7 @@ module _ (m : Scene) (x y : ℕ → ℤ) (same : (c : ℕ) → m.tracked c ≡ t
   means_alike (Some f) n h = λ p st. h p (λ c t. st c t ∙ same c t)
 
   lies_alike : (e : Elements) (r : Region) (u : ℕ) → LiesIn m e r x u → LiesIn m e r y u
-  lies_alike e r u l = record { phi = l.phi; there = l.there; piece = l.piece; is_one = l.is_one; described = λ p st ph. l.described p (λ c t. st c t ∙ same c t) ph }
+  lies_alike e r u l = record { phi = l.phi; there = l.there; described = λ n a. l.described n (λ c t. a c t ∙ same c t) }
 
   pub set_alike : (at : Places) (a : Access) (rs : List Region) (u : ℕ) → LiesInSet m at a rs x u → LiesInSet m at a rs y u
   set_alike at a rs u l = record { region = l.region; is_one = l.is_one; kind = l.kind; lies = lies_alike (at l.region.variable) l.region u l.lies }

@@ -18,7 +18,7 @@ use Rattle.preconditions.specs.transformer_algebra.Claims.{HoldsAt}
 use Rattle.preconditions.specs.transformer_algebra.Laws.{In}
 use Rattle.in_out_regions.specs.region_sets.declared.region.Region.{Region}
 use Rattle.in_out_regions.specs.region_sets.Lists.{accesses_at, list_regions}
-use Rattle.in_out_regions.proofs.RegionSets.StepLaws.{in_left, in_right, in_either}
+use Rattle.in_out_regions.proofs.RegionSets.StepLaws.{in_either}
 use Rattle.in_out_regions.specs.array_regions.declared.arms.Reached.{Reached}
 use Rattle.in_out_regions.specs.array_regions.Arms.{always, if_true, if_false, past_arms, all_met, tests_reads, if_set}
 use Rattle.in_out_regions.specs.array_regions.Reads.{reads}
@@ -33,6 +33,7 @@ use Rattle.laws_analyses.proofs.Regions.Conditions.{Tells, tells_leads}
 use Rattle.laws_analyses.proofs.Regions.Expressions.{Seen, value_looks}
 use Rattle.laws_analyses.proofs.Regions.Meeting.{Off, set_met, all_sharp_met, all_sharp_off, holds_true, holds_false, off_true, off_false, test_off_true, test_off_false}
 use Rattle.laws_analyses.proofs.Regions.Showing.{shown_broke, shown_more, shown_gathered}
+use Rattle.preconditions.proofs.TransformerAlgebra.Members.{in_left, in_right}
 
 module _ (k : Setting) (sound : Sound k) (solid : (x : List ℕ) (v : ℕ) → k.sc.names x ≡ Variable v → k.scalar x ≡ true → 0 < (k.at v).extent) where
   -- what the value of a test tells, both ways

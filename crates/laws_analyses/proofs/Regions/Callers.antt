@@ -15,7 +15,8 @@ use Rattle.in_out_regions.specs.region_sets.declared.region.Region.{Region}
 use Rattle.in_out_regions.specs.region_sets.Regions.{any_weak}
 use Rattle.in_out_regions.specs.region_sets.Naming.{named_cells, has_none}
 use Rattle.in_out_regions.specs.region_sets.Sets.{unite_all}
-use Rattle.in_out_regions.specs.region_sets.Claims.{HoldsSome, Places, AreByOrder, LiesIn, LiesInSet, IsSharp, IsSharpSet}
+use Rattle.hull_projection.specs.Unions.{HoldsSome}
+use Rattle.in_out_regions.specs.region_sets.Claims.{DescribedBy, Places, AreByOrder, LiesIn, LiesInSet, IsSharp, IsSharpSet}
 use Rattle.in_out_regions.proofs.RegionSets.SetLaws.{gathered_units, gathered_sharp}
 use Rattle.in_out_regions.proofs.RegionSets.StepLaws.{in_map}
 use Rattle.in_out_regions.specs.array_regions.Entry.{symbols_reads, locals, names_none, for_callers, seen, summary_of}
@@ -48,13 +49,10 @@ of_seen P ss cs (r ∷ rs) h q i = go (is_visible_to_callers ss r.variable) q i 
 
 module _ (m : Scene) (at : Places) (by : AreByOrder at) (x : ℕ → ℤ) where
   pub callers_lie : (cs : List ℕ) (r : Region) (u : ℕ) → LiesIn m (at r.variable) r x u → LiesIn m (at r.variable) (for_callers cs r) x u
-  callers_lie cs r u l = record {
-    phi = l.phi;
-    there = l.there;
-    piece = without cs l.piece;
-    is_one = in_map (without cs) l.piece r.pieces l.is_one;
-    described = λ p st ph. without_keeps cs l.piece p (l.described p st ph);
-  }
+  callers_lie cs r u l = record { phi = l.phi; there = l.there; described = λ n a. for_them n (l.described n a) }
+    where
+      for_them : (n : ℕ → ℤ) → DescribedBy r.pieces n l.phi → DescribedBy (map (without cs) r.pieces) n l.phi
+      for_them n d = record { piece = without cs d.piece; is_one = in_map (without cs) d.piece r.pieces d.is_one; holds = λ p c ph. without_keeps cs d.piece p (d.holds p c ph) }
 
   pub callers_sharp : (cs : List ℕ) (r : Region) (c : ℕ → Bool) → IsSharp m (at r.variable) r x c → IsSharp m (at r.variable) (for_callers cs r) x c
   callers_sharp cs r c h e p st g =

@@ -1,5 +1,5 @@
 -- Units that lie in a region, and what an exact one says, as they are claimed of executions.
-use Rattle.std.proofs.Common.{◌≡◌, ℕ, ◌+◌, ℤ, pos, Bool, true, List, [], ◌∷◌, Option, Some, None, length, refl, subst, ◌∙◌, inl, inr}
+use Rattle.std.proofs.Common.{◌≡◌, ℕ, ◌+◌, ℤ, pos, Bool, true, List, [], ◌∷◌, Option, Some, None, length, refl, subst, inl, inr}
 use Rattle.std.specs.Prelude.{option_map}
 use Rattle.affine_systems.specs.declared.row.Var.{Var}
 use Rattle.affine_systems.specs.declared.row.Var.TheVariants.{Cell, Exit, Phi, Aux}
@@ -8,7 +8,7 @@ use Rattle.affine_systems.specs.Points.{Point, HoldsAll}
 use Rattle.f77_ast.specs.Places.{Place, element_in}
 use Rattle.f77_meaning.specs.Claims.{place_of, OfElement, ElementIs}
 use Rattle.preconditions.specs.transformer_algebra.Laws.{In, here, there}
-use Rattle.in_out_regions.specs.region_sets.Claims.{HoldsSome}
+use Rattle.hull_projection.specs.Unions.{HoldsSome}
 use Rattle.laws_analyses.specs.Regions.Claims.{listed}
 use Rattle.laws_analyses.specs.Regions.Laws.{LiesAsClaimed, SharpAsClaimed}
 
@@ -40,7 +40,7 @@ lies_claimed ks g tracked far place x r u l =
       λ n a. record {
         phi = l.phi;
         is_list = refl;
-        describes = record { piece = l.piece; is_one = l.is_one; holds = λ p c ph. l.described p (λ k t. c k ∙ a k t) ph };
+        describes = l.described n a;
       },
     )
 

@@ -78,7 +78,7 @@ module _ (k : Setting) (p : Spot) (s : Store) (q : Ran Flow) (later : List Event
       go false h = cc
 
   pub lies_one : (r : Region) (u : ℕ) → LiesIn (scene k) (elements_at k r.variable) r (numbers_of s) u → claims.LiesIn k.ks k.g (is_cell k.m.tracked) x u (as_region k.ks k.g k.at r)
-  lies_one r u l = lies_claimed k.ks k.g (is_cell k.m.tracked) k.far k.place x r u (record { phi = l.phi; there = there_claimed r.variable l.phi u l.there; piece = l.piece; is_one = l.is_one; described = l.described })
+  lies_one r u l = lies_claimed k.ks k.g (is_cell k.m.tracked) k.far k.place x r u (record { phi = l.phi; there = there_claimed r.variable l.phi u l.there; described = l.described })
 
   pub sharp_one : (r : Region) (test : ℕ → Bool) → IsSharp (scene k) (elements_at k r.variable) r (numbers_of s) test → claims.IsExact k.ks k.g (is_cell k.m.tracked) x test (as_region k.ks k.g k.at r)
   sharp_one r test h = sharp_claimed k.ks k.g (is_cell k.m.tracked) k.far k.place x test r (λ e w st hs. (let y = h e w st hs in record { unit = y.unit; there = there_claimed r.variable _ y.unit y.there; is_so = y.is_so }))

@@ -35,9 +35,10 @@ use Rattle.affine_forms.specs.Claims.{AtStart, Means, form_value, unit_in, numbe
 use Rattle.affine_forms.proofs.ValueLaws.{HasConstantValue, given_leads, value_leads}
 use Rattle.in_out_regions.proofs.RegionSets.BackLaws.{meet_weak}
 use Rattle.affine_forms.proofs.ConditionLaws.{truth_of}
-use Rattle.in_out_regions.proofs.RegionSets.LoopLaws.{at_most_back, same_back}
-use Rattle.in_out_regions.proofs.RegionTranslation.ArrayLaws.{true_le as most_back}
+use Rattle.in_out_regions.proofs.RegionSets.LoopLaws.{at_most_back}
 use Rattle.f77_ast.proofs.Shared.{truth_true}
+use Rattle.affine_forms.proofs.RowValues.{same_back}
+use Rattle.fx_lists.proofs.Numbers.{at_most_is as most_back}
 
 less_back : (m n : ℤ) → (m +ℤ pos 1) ≤ℤ n → int_lt m n ≡ true
 less_back m n e = grind (arith, ints)

@@ -27,20 +27,21 @@ use Rattle.f77_ast.specs.Shared.{symbol_at}
 use Rattle.affine_forms.specs.declared.affine.Affine.{Affine}
 use Rattle.affine_forms.specs.Forms.{affine, affine_of}
 use Rattle.affine_forms.specs.Comparisons.{var_form, same_row}
-use Rattle.affine_forms.specs.Claims.{form_value, numbers_of}
+use Rattle.affine_forms.specs.Claims.{numbers_of}
 use Rattle.affine_forms.proofs.RowLaws.{at_most_holds, same_holds}
 use Rattle.preconditions.specs.transformer_algebra.Claims.{AtStart, Means}
-use Rattle.preconditions.specs.transformer_algebra.Laws.{here}
 use Rattle.in_out_regions.specs.region_sets.declared.region.Access.{Access}
 use Rattle.in_out_regions.specs.region_sets.Claims.{LiesIn, IsSharp}
+use Rattle.in_out_regions.proofs.RegionSets.DescribedLaws.{by_only}
 use Rattle.in_out_regions.specs.array_regions.Rows.{constant_form, low_rows, high_form, high_rows, dimension_rows, subscript_rows, all_affine}
 use Rattle.in_out_regions.specs.array_regions.References.{scalar, array_at}
 use Rattle.laws_analyses.specs.Regions.Claims.{listed_from, listed, elements_of}
 use Rattle.laws_analyses.specs.Regions.Settings.{Setting, scene, is_stored, elements_if, elements_at, DimFits, DimsFit, HasSymbol}
 use Rattle.preconditions.proofs.TransformerAlgebra.LoopLaws.{var_value}
-use Rattle.in_out_regions.proofs.RegionSets.LoopLaws.{same_back}
 use Rattle.in_out_regions.proofs.RegionTranslation.ElementLaws.{phi_from}
 use Rattle.fx_lists.proofs.Numbers.{nat_eq_same}
+use Rattle.affine_forms.proofs.RowValues.{same_back, constant_value}
+use Rattle.fx_lists.proofs.Lists.{same_head, same_tail}
 
 -- ---- scalars
 
@@ -67,7 +68,7 @@ stored_there k v h phi u e = ap (λ b. elements_if b (k.at v) phi) h ∙ e
 
 module _ (k : Setting) (v : ℕ) (stored : is_stored (symbol_at k.m.symbols v) ≡ true) (flat : (k.at v).dims ≡ []) (solid : 0 < (k.at v).extent) where
   pub scalar_lies : (a : Access) (x : ℕ → ℤ) → LiesIn (scene k) (elements_at k (Own v)) (scalar a v) x (k.at v).first
-  scalar_lies a x = record { phi = λ i. pos 0; there = stored_there k v stored (λ i. pos 0) (k.at v).first (scalar_there (k.at v) (λ i. pos 0) flat solid); piece = system [] false; is_one = here; described = λ p st ph. tt }
+  scalar_lies a x = record { phi = λ i. pos 0; there = stored_there k v stored (λ i. pos 0) (k.at v).first (scalar_there (k.at v) (λ i. pos 0) flat solid); described = by_only (scene k) x (λ i. pos 0) (system [] false) (λ p st ph. tt) }
 
   pub scalar_sharp : (a : Access) (x : ℕ → ℤ) (c : ℕ → Bool) → c (k.at v).first ≡ true → IsSharp (scene k) (elements_at k (Own v)) (scalar a v) x c
   scalar_sharp a x c h e p st g = record { unit = (k.at v).first; there = stored_there k v stored (λ i. p (Phi i)) (k.at v).first (scalar_there (k.at v) (λ i. p (Phi i)) flat solid); is_so = h }
@@ -94,15 +95,9 @@ abbrev Subscripts : ℕ → List ℤ → Point → Type 0
 Subscripts j [] p = Unit {0}
 Subscripts j (n ∷ ns) p = (p (Phi j) ≡ n) × Subscripts (suc j) ns p
 
-heads : (a b : ℤ) (as' bs : List ℤ) → (a ∷ as') ≡ (b ∷ bs) → a ≡ b
-heads a b as' bs e = cc
-
-tails : (a b : ℤ) (as' bs : List ℤ) → (a ∷ as') ≡ (b ∷ bs) → as' ≡ bs
-tails a b as' bs e = cc
-
 subscripts_of : (ns : List ℤ) (j : ℕ) (p : Point) → listed_from j (length ns) (λ i. p (Phi i)) ≡ ns → Subscripts j ns p
 subscripts_of [] j p e = tt
-subscripts_of (n ∷ ns) j p e = (heads (p (Phi j)) n (listed_from (suc j) (length ns) (λ i. p (Phi i))) ns e, subscripts_of ns (suc j) p (tails (p (Phi j)) n (listed_from (suc j) (length ns) (λ i. p (Phi i))) ns e))
+subscripts_of (n ∷ ns) j p e = (same_head (p (Phi j)) n (listed_from (suc j) (length ns) (λ i. p (Phi i))) ns e, subscripts_of ns (suc j) p (same_tail (p (Phi j)) n (listed_from (suc j) (length ns) (λ i. p (Phi i))) ns e))
 
 listed_of : (ns : List ℤ) (j : ℕ) (p : Point) → Subscripts j ns p → listed_from j (length ns) (λ i. p (Phi i)) ≡ ns
 listed_of [] j p h = refl
@@ -146,9 +141,6 @@ in_length (d ∷ ds) [] h = absurd h
 in_length (d ∷ ds) (n ∷ ns) h = ap suc (in_length ds ns h.1)
 
 -- ---- rows
-
-constant_value : (p : Point) (c : ℤ) → form_value p (affine [] c) ≡ c
-constant_value p c = omega (arith, ints)
 
 module _ (k : Setting) (s : Store) where
   -- the values of subscripts are those of their forms
@@ -236,9 +228,8 @@ module _ (k : Setting) (s : Store) where
     element_lies a = record {
       phi = phi_from ns 1;
       there = stored_there k v stored (phi_from ns 1) ((k.at v).first + o) (at_listed (phi_from ns 1) (listed_phi ns 1));
-      piece = of_rows (subscript_rows k.m 1 es bs);
-      is_one = here;
-      described = λ p st ph. of_rows_holds (subscript_rows k.m 1 es bs) p (rows_hold es bs (k.at v).dims ns p 1 st fit means in_dims (subscripts_of ns 1 p (ap (λ (phi : ℕ → ℤ). listed (length ns) phi) (λ i j. ph j i) ∙ listed_phi ns 1)));
+      described = by_only (scene k) (numbers_of s) (phi_from ns 1) (of_rows (subscript_rows k.m 1 es bs))
+          (λ p st ph. of_rows_holds (subscript_rows k.m 1 es bs) p (rows_hold es bs (k.at v).dims ns p 1 st fit means in_dims (subscripts_of ns 1 p (ap (λ (phi : ℕ → ℤ). listed (length ns) phi) (λ i j. ph j i) ∙ listed_phi ns 1))));
     }
 
     pub element_sharp : (a : Access) (c : ℕ → Bool) → c ((k.at v).first + o) ≡ true → IsSharp (scene k) (elements_at k (Own v)) (array_at k.m a v es bs) (numbers_of s) c

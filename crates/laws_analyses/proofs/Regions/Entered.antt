@@ -2,9 +2,7 @@
 use Rattle.std.proofs.Common.{◌≡◌, ℕ, zero, suc, ◌+◌, ◌-◌, ◌<◌, Bool, true, false, not, ◌&&◌, ◌||◌, List, [], ◌∷◌, ◌++◌, length, map, Option, Some, None, Ok, refl, sym, ap, ap₂, ◌∙◌, subst, arith, true≢false}
 use Rattle.std.specs.Prelude.{if◌then◌else◌, ◌*◌, is_some, nat_eq, nat_lt, bytes_eq, slice_get}
 use Rattle.std.specs.List.{list_any}
-use Rattle.std.proofs.lemmas.Bool.{and_from, and_parts, or_parts, or_right, not-false, eq-eqb}
-use Rattle.f77_ast.specs.declared.expr.UnaryOp.{UnaryOp}
-use Rattle.f77_ast.specs.declared.expr.BinaryOp.{BinaryOp}
+use Rattle.std.proofs.lemmas.Bool.{and_from, and_parts, or_parts, not-false, eq-eqb}
 use Rattle.f77_ast.specs.Trees.{ExprTree, ExprTrees}
 use Rattle.f77_ast.specs.Trees as tree
 use Rattle.f77_ast.specs.DeclTrees.{ParsedTree}
@@ -13,7 +11,7 @@ use Rattle.f77_ast.specs.declared.constant.Constant.{Constant}
 use Rattle.f77_ast.specs.declared.constant.Constant.TheVariants.{Int, Log}
 use Rattle.f77_ast.specs.declared.constant.ConstantValue.{ConstantValue}
 use Rattle.f77_ast.specs.declared.constant.ConstantValue.TheVariants.{Is, Faults, Varies}
-use Rattle.f77_ast.specs.Constants.{turns_logical, gives_logical, unary_const_value, binary_const_value, named_const_value, const_value}
+use Rattle.f77_ast.specs.Constants.{turns_logical, gives_logical, named_const_value, const_value}
 use Rattle.f77_ast.specs.declared.symbol.Place.{Place}
 use Rattle.f77_ast.specs.declared.symbol.Place.TheVariants as place
 use Rattle.f77_ast.specs.Symbols.{BoundTree, SymbolTree, constant_in, constant_at, value_in}
@@ -32,8 +30,7 @@ use Rattle.tracked_cells.specs.Tracked.{tracked_of}
 use Rattle.call_graph.specs.declared.graph.Graph.{Graph}
 use Rattle.f77_meaning.specs.Areas.{Numbering, block, group, unit_at}
 use Rattle.f77_meaning.specs.Modules.{Known, known_of, as_number, constant_high, dim_of, bound_of, as_dummy, dummies_from, laid_at, fixed_place, fixed_maybe, fixed, units_from, lost_units, all_lost}
-use Rattle.f77_meaning.proofs.LinkLaws.{found_any}
-use Rattle.preconditions.specs.transformer_algebra.Laws.{In, here, there}
+use Rattle.preconditions.specs.transformer_algebra.Laws.{here, there}
 use Rattle.preconditions.specs.call_translation.Scopes.{ScopeTree}
 use Rattle.preconditions.specs.transformers.Given.{Callees}
 use Rattle.affine_systems.specs.declared.row.System.{System}
@@ -63,11 +60,13 @@ use Rattle.laws_analyses.proofs.DummyLaws.{listed, told, listed_dummy}
 use Rattle.laws_analyses.specs.Regions.Programs.{OpenLast, ConstantIs, ConstantsAre, FixedFits}
 use Rattle.laws_analyses.specs.Regions.Entries.{is_bare, maybe_bare, are_bare, all_bare, bounds_reads, dummies_reads, Enters}
 use Rattle.laws_analyses.proofs.Regions.Names.{Found, missing, at_place, found}
-use Rattle.laws_programs.proofs.Bounds.{maybe_back, bounds_back, no_bounds as no_shape, varies}
+use Rattle.laws_programs.proofs.Bounds.{maybe_back, bounds_back, no_bounds as no_shape, varies, unary_steady, binary_steady}
 use Rattle.f77_ast.proofs.StorageLaws.{from_number as numbered_place, to_number as next_symbol}
-use Rattle.storage_layout.proofs.EarlyLaws.{noted_none}
 use Rattle.call_graph.specs.Visible.{is_local}
 use Rattle.laws_programs.proofs.Effects.Passing.{of_symbols as lost_among}
+use Rattle.fx_lists.proofs.Refused.{none_refused}
+use Rattle.fx_lists.proofs.Lookups.{any_at}
+use Rattle.preconditions.proofs.TransformerAlgebra.Members.{in_at}
 
 -- ---- no array element
 
@@ -81,20 +80,6 @@ is_flat (tree.paren e) = is_flat e
 is_flat (tree.unary o e) = is_flat e
 is_flat (tree.binary o a b) = is_flat a && is_flat b
 is_flat (tree.chars x) = false
-
-unary_steady : (o : UnaryOp) (w : ConstantValue) → varies (unary_const_value o w) ≡ false → varies w ≡ false
-unary_steady o (Is c) h = refl
-unary_steady o Faults h = refl
-unary_steady o Varies h = h
-
-binary_steady : (o : BinaryOp) (v w : ConstantValue) → varies (binary_const_value o v w) ≡ false → (varies v ≡ false) × (varies w ≡ false)
-binary_steady o Varies w h = absurd (true≢false h)
-binary_steady o Faults Varies h = absurd (true≢false h)
-binary_steady o Faults Faults h = (refl, refl)
-binary_steady o Faults (Is d) h = (refl, refl)
-binary_steady o (Is c) Varies h = absurd (true≢false h)
-binary_steady o (Is c) Faults h = (refl, refl)
-binary_steady o (Is c) (Is d) h = (refl, refl)
 
 flat_steady : (v : List ℕ → Option Constant) (e : ExprTree) → varies (const_value v e) ≡ false → is_flat e ≡ true
 flat_steady v (tree.int n) h = refl
@@ -300,7 +285,7 @@ module _ (ss : List SymbolTree) (flags : List Bool) where
     shape_checked : (dummy : Bool) (s : Option ShapeTree) (o : Option Refusal) → check_shape t dummy s o ≡ None → Checked dummy (bounds_in s)
     shape_checked dummy None o j = record { bare_bounds = refl; no_reads = λ d. refl; constant = λ d. tt; open_last = tt }
     shape_checked dummy (Some s) o j =
-        let r = noted_none (is_bad_shape t dummy s.bounds) s.line BadDimension (check_bounds t s.bounds s.line o) j in
+        let r = none_refused (is_bad_shape t dummy s.bounds) s.line BadDimension (check_bounds t s.bounds s.line o) j in
         let few = or_parts (nat_lt 7 (length s.bounds)) (has_bad_bound t dummy s.bounds || is_too_big (dims_of t s.bounds)) r.0 in
         let good = or_parts (has_bad_bound t dummy s.bounds) (is_too_big (dims_of t s.bounds)) few.1 in
         record {
@@ -413,18 +398,6 @@ units_place first zero j h = absurd (omega (arith, h))
 units_place first (suc n) zero h = ap Some (omega arith)
 units_place first (suc n) (suc j) h = units_place (suc first) n j (omega (arith, h)) ∙ ap Some (omega arith)
 
-any_left : (p : ℕ → Bool) (xs ys : List ℕ) → list_any p xs ≡ true → list_any p (xs ++ ys) ≡ true
-any_left p [] ys h = absurd (true≢false (sym h))
-any_left p (x ∷ xs) ys h = go (p x) h (any_left p xs ys)
-  where
-    go : (b : Bool) → (b || list_any p xs) ≡ true → (list_any p xs ≡ true → list_any p (xs ++ ys) ≡ true) → (b || list_any p (xs ++ ys)) ≡ true
-    go true q ih = refl
-    go false q ih = ih q
-
-any_right : (p : ℕ → Bool) (xs ys : List ℕ) → list_any p ys ≡ true → list_any p (xs ++ ys) ≡ true
-any_right p [] ys h = h
-any_right p (x ∷ xs) ys h = or_right (p x) (list_any p (xs ++ ys)) (any_right p xs ys h)
-
 -- a unit of a local that is not saved
 local_lost : (n : Numbering) (k : Known) (v : ℕ) (s : SymbolTree) (j : ℕ) → symbol_at k.symbols v ≡ Some s → is_local s.place ≡ true → s.saved ≡ false → j < (fixed n k v).extent → list_any (λ w. nat_eq w ((fixed n k v).first + j)) (all_lost n k.read.name k.symbols k.symbols) ≡ true
 local_lost n k v s j e l kept h = go s.place refl l
@@ -439,18 +412,13 @@ local_lost n k v s j e l kept h = go s.place refl l
         let extent = ap (λ z. z.extent) there in
         let u : (fixed n k v).first + j ≡ unit_at n (group k.read.name g) o + j = ap (λ z. z + j) first in
         let inside : j < units_in k.symbols s = omega (arith, h, extent) in
-        let units = found_any (λ w. nat_eq w (unit_at n (group k.read.name g) o + j)) (units_from (unit_at n (group k.read.name g) o) (units_in k.symbols s)) j (unit_at n (group k.read.name g) o + j) (units_place (unit_at n (group k.read.name g) o) (units_in k.symbols s) j inside) (eq-eqb (unit_at n (group k.read.name g) o + j) (unit_at n (group k.read.name g) o + j) refl) in
+        let units = any_at (λ w. nat_eq w (unit_at n (group k.read.name g) o + j)) (units_from (unit_at n (group k.read.name g) o) (units_in k.symbols s)) j (unit_at n (group k.read.name g) o + j) (units_place (unit_at n (group k.read.name g) o) (units_in k.symbols s) j inside) (eq-eqb (unit_at n (group k.read.name g) o + j) (unit_at n (group k.read.name g) o + j) refl) in
         let here : list_any (λ w. nat_eq w (unit_at n (group k.read.name g) o + j)) (lost_units n k.read.name k.symbols s (place.Local g o)) ≡ true = ap (λ b. list_any (λ w. nat_eq w (unit_at n (group k.read.name g) o + j)) (if b then [] else units_from (unit_at n (group k.read.name g) o) (units_in k.symbols s))) kept ∙ units in
         subst (λ y. list_any (λ w. nat_eq w y) (all_lost n k.read.name k.symbols k.symbols) ≡ true) (sym u)
         (lost_among n k.read.name k.symbols k.symbols (v - 1) s (unit_at n (group k.read.name g) o + j) (numbered_place k.symbols v s e) (ap (λ p. list_any (λ w. nat_eq w (unit_at n (group k.read.name g) o + j)) (lost_units n k.read.name k.symbols s p)) q ∙ here))
     go (place.Dummy m) q l = absurd (true≢false (sym l))
     go (place.Block b o) q l = absurd (true≢false (sym l))
     go (place.Constant c) q l = absurd (true≢false (sym l))
-
-in_place_of : {T : Type 0} (xs : List T) (i : ℕ) (x : T) → slice_get xs i ≡ Some x → In x xs
-in_place_of [] i x e = cc
-in_place_of (y ∷ xs) zero x e = let same : y ≡ x = cc in subst (λ z. In z (y ∷ xs)) same here
-in_place_of (y ∷ xs) (suc i) x e = there (in_place_of xs i x e)
 
 -- ---- a module
 
@@ -529,7 +497,7 @@ module _ (ps : List ParsedTree) (sss : List (List SymbolTree)) (g : Graph) (i : 
     local = local_no_dummy;
     lost = λ n s j e l kept h. record {
       known = known p ss;
-      is_one = in_place_of (known_of ps sss) i (known p ss) (known_module ps sss i p ss is_module);
+      is_one = in_at (known_of ps sss) i (known p ss) (known_module ps sss i p ss is_module);
       named = refl;
       lost = local_lost (units ps sss g) (known p ss) n s j e l kept h;
     };

@@ -13,12 +13,13 @@ use Rattle.in_out_regions.specs.region_sets.Sets.{unite_all}
 use Rattle.in_out_regions.specs.region_sets.Lists.{all_composed}
 use Rattle.in_out_regions.specs.region_sets.Claims.{Elements, Places as Elements_of, Accessed, LiesIn, LiesInSet, IsSharp, IsSharpSet}
 use Rattle.in_out_regions.proofs.RegionSets.SetLaws.{gathered_units, gathered_sharp}
-use Rattle.in_out_regions.proofs.RegionSets.StepLaws.{in_left, in_right, in_either, in_map, of_map}
+use Rattle.in_out_regions.proofs.RegionSets.StepLaws.{in_either, in_map, of_map}
 use Rattle.in_out_regions.proofs.RegionSets.PieceLaws.{compose_moves, compose_sharp}
 use Rattle.laws_analyses.specs.Regions.Settings.{Setting, scene, elements_at}
 use Rattle.laws_analyses.specs.Regions.Shown.{accessed, Holds, Sharp}
 use Rattle.laws_analyses.proofs.Regions.Told.{by_order}
 use Rattle.laws_analyses.proofs.Regions.Traces.{accessed_left, accessed_right, accessed_none, touches_cases}
+use Rattle.preconditions.proofs.TransformerAlgebra.Members.{in_left, in_right}
 
 -- ---- units
 

@@ -29,7 +29,7 @@ use Rattle.in_out_regions.specs.region_sets.declared.region.Access.TheVariants.{
 use Rattle.in_out_regions.specs.region_sets.declared.region.Region.{Region}
 use Rattle.in_out_regions.specs.region_sets.Lists.{is_access, accesses_at, all_composed, in_order, in_any_order, numbers, list_regions}
 use Rattle.in_out_regions.specs.region_sets.Sets.{unite_all}
-use Rattle.in_out_regions.proofs.RegionSets.StepLaws.{in_right, any_units, any_inexact}
+use Rattle.in_out_regions.proofs.RegionSets.StepLaws.{any_units, any_inexact}
 use Rattle.in_out_regions.specs.array_regions.Statement.{what_set, at_stmt, at_list}
 use Rattle.laws_analyses.specs.Statements.Good.{Ending}
 use Rattle.laws_analyses.specs.Statements.Leads.{stmt_leads}
@@ -48,6 +48,7 @@ use Rattle.laws_analyses.proofs.Regions.Standing.{Distinct}
 use Rattle.laws_analyses.proofs.Regions.Numbering.{in_accesses, to_accesses, accesses_found}
 use Rattle.fx_lists.proofs.Booleans.{clash as clashes}
 use Rattle.f77_ast.specs.Shapes.{is_return}
+use Rattle.preconditions.proofs.TransformerAlgebra.Members.{in_right}
 
 -- I: what holds at each store of the module
 module _ (k : Setting) (D : Claim) (I : Store → Type 0) where

@@ -14,7 +14,6 @@ use Rattle.f77_ast.specs.Executions.{Claim}
 use Rattle.f77_ast.specs.Loops.{iteration_count, iterations_from}
 use Rattle.affine_forms.specs.Conditions.{no_rows}
 use Rattle.affine_forms.specs.Claims.{unit_in, numbers_of}
-use Rattle.affine_forms.proofs.FormLaws.{kept_is}
 use Rattle.preconditions.specs.transformer_algebra.declared.transformer.Transformer.{Transformer}
 use Rattle.preconditions.specs.transformer_algebra.declared.loop_parts.LoopParts.{LoopParts}
 use Rattle.preconditions.specs.transformer_algebra.Cells.{has}
@@ -55,6 +54,7 @@ use Rattle.laws_analyses.proofs.Regions.Places.{first_place, next_place, next_af
 use Rattle.laws_analyses.proofs.Regions.Turns.{Turn_ends, turns_go}
 use Rattle.fx_lists.proofs.Numbers.{same_is as nat_same, nat_eq_same}
 use Rattle.fx_lists.proofs.Booleans.{clash as clashes}
+use Rattle.f77_ast.proofs.KeptNumbers.{kept_is}
 
 -- the value that the index takes next
 stepped_means : (e : Scene) (i : ℕ) (o : Option ℤ) (x : ℕ → ℤ) (m c : ℤ) → e.tracked i ≡ true → x (e.unit i) ≡ m → StepIs o c → Means e (stepped i o) x (m +ℤ c)

@@ -13,7 +13,9 @@ use Rattle.preconditions.specs.call_translation.Scopes.{ScopeTree}
 use Rattle.in_out_regions.specs.region_sets.declared.region.Access.{Access}
 use Rattle.in_out_regions.specs.region_sets.declared.region.Region.{Region}
 use Rattle.in_out_regions.specs.region_sets.Regions.{any_weak}
-use Rattle.in_out_regions.specs.region_sets.Claims.{Elements, Places, HoldsSome, LiesIn, LiesInSet, IsSharp, IsSharpSet}
+use Rattle.hull_projection.specs.Unions.{HoldsSome}
+use Rattle.in_out_regions.specs.region_sets.Claims.{Elements, Places, AreNumbers, DescribedBy, LiesIn, LiesInSet, IsSharp, IsSharpSet}
+use Rattle.in_out_regions.proofs.RegionSets.DescribedLaws.{at_start}
 use Rattle.in_out_regions.proofs.RegionSets.BackLaws.{meet_weak}
 use Rattle.in_out_regions.proofs.RegionSets.StepLaws.{in_map, of_map}
 use Rattle.in_out_regions.specs.array_regions.declared.arms.Reached.{Reached}
@@ -35,13 +37,14 @@ module _ (m : Scene) (x : ℕ → ℤ) where
   Off w = w.exact ≡ true → w.system.weak ≡ false → (p : Point) → AtStart m x p → HoldsAll p w.system.rows → ⊥
 
   pub lies_met : (e : Elements) (w : Reached) (r : Region) (u : ℕ) → HoldsAt m w.system x → LiesIn m e r x u → LiesIn m e (under_tests w r) x u
-  lies_met e w r u h l = record {
-    phi = l.phi;
-    there = l.there;
-    piece = meet l.piece w.system;
-    is_one = in_map (λ (q : System). meet q w.system) l.piece r.pieces l.is_one;
-    described = λ p st ph. meet_holds p l.piece w.system (l.described p st ph, h p st);
-  }
+  lies_met e w r u h l = record { phi = l.phi; there = l.there; described = λ n a. met n a (l.described n a) }
+    where
+      met : (n : ℕ → ℤ) → AreNumbers m x n → DescribedBy r.pieces n l.phi → DescribedBy (met_pieces w.system r.pieces) n l.phi
+      met n a d = record {
+        piece = meet d.piece w.system;
+        is_one = in_map (λ (q : System). meet q w.system) d.piece r.pieces d.is_one;
+        holds = λ p c ph. meet_holds p d.piece w.system (d.holds p c ph, h p (at_start m x n p a c));
+      }
 
   sharp_parts : (w : Reached) (r : Region) → (under_tests w r).exact ≡ true → (r.exact ≡ true) × (w.exact ≡ true) × (any_weak (met_pieces w.system r.pieces) ≡ false)
   sharp_parts w r e =

@@ -24,6 +24,7 @@ use Rattle.laws_programs.specs.SymbolTables.Shapes.{symbol_named}
 use Rattle.laws_analyses.specs.Statements.Laws.{scope_of, is_scalar_symbol, scalar_at, is_scalar}
 use Rattle.laws_analyses.specs.Regions.Settings.{DimsFit}
 use Rattle.f77_ast.proofs.StorageLaws.{to_number as next_symbol}
+use Rattle.fx_lists.proofs.Booleans.{not_first}
 
 -- ---- the first symbol with a name, or none
 
@@ -47,10 +48,6 @@ pub data Stands (ss : List SymbolTree) (x : List ℕ) : Type 0 where
   as_function : (n : ℕ) (s : SymbolTree) → number_from 1 (symbol_names ss) x ≡ Some n → symbol_at ss n ≡ Some s → has_bounds s.bounds ≡ false → names ss x ≡ Function → Stands ss x
   as_constant : (n : ℕ) (s : SymbolTree) (c : Content) → number_from 1 (symbol_names ss) x ≡ Some n → symbol_at ss n ≡ Some s → is_constant s.place ≡ true → names ss x ≡ Constant c → Stands ss x
   as_variable : (n : ℕ) (s : SymbolTree) → number_from 1 (symbol_names ss) x ≡ Some n → symbol_at ss n ≡ Some s → is_constant s.place ≡ false → (is_some (intrinsic_named x) ≡ true → has_bounds s.bounds ≡ true) → names ss x ≡ Variable n → Stands ss x
-
-no_array : (b i : Bool) → (not b && i) ≡ true → b ≡ false
-no_array true i h = absurd (true≢false (sym h))
-no_array false i h = refl
 
 an_array : (b i : Bool) → (not b && i) ≡ false → i ≡ true → b ≡ true
 an_array true i h e = refl
@@ -79,7 +76,7 @@ stands ss x = go (found 1 ss x)
         by_place (place.Constant v) r f w = as_constant k s _ q symbol (ap is_constant r) w
 
         by_function : (b : Bool) → is_function s ≡ b → Stands ss x
-        by_function true r = as_function k s q symbol (no_array (has_bounds s.bounds) (is_some (intrinsic_named s.name)) r) (means ∙ ap (λ b. if b then Function else meant_by s.scalar k s.place) r)
+        by_function true r = as_function k s q symbol (not_first (has_bounds s.bounds) (is_some (intrinsic_named s.name)) r) (means ∙ ap (λ b. if b then Function else meant_by s.scalar k s.place) r)
         by_function false r =
             by_place s.place refl (λ f. an_array (has_bounds s.bounds) (is_some (intrinsic_named s.name)) r (ap (λ y. is_some (intrinsic_named y)) (sym m) ∙ f))
             (means ∙ ap (λ b. if b then Function else meant_by s.scalar k s.place) r)

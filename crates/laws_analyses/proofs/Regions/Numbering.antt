@@ -1,5 +1,5 @@
 -- Sets of regions that are looked up by the numbers of statements.
-use Rattle.std.proofs.Common.{◌≡◌, ℕ, zero, suc, ◌-◌, List, [], ◌∷◌, ◌++◌, Option, Some, None, Bool, true, false, refl, sym, ap, ◌∙◌, subst, nat_eq}
+use Rattle.std.proofs.Common.{◌≡◌, ℕ, ◌-◌, List, [], ◌∷◌, ◌++◌, Option, Some, None, Bool, true, false, refl, sym, ap, ◌∙◌, subst, nat_eq}
 use Rattle.std.specs.Prelude.{if◌then◌else◌, slice_get}
 use Rattle.f77_ast.specs.Trees.{StmtTree, WhatTree, ArmTree, ArmTrees, ElseTree, LoopTree, StmtTrees}
 use Rattle.f77_ast.specs.Trees as tree
@@ -18,6 +18,7 @@ use Rattle.call_graph.specs.CallsIn.{Each}
 use Rattle.laws_analyses.proofs.Statements.NumberLaws.{ids}
 use Rattle.laws_analyses.proofs.Regions.Standing.{Distinct, each_first}
 use Rattle.fx_lists.proofs.Numbers.{same_is as nat_same}
+use Rattle.call_graph.proofs.EachLaws.{each_place}
 
 -- ---- numbers of statements
 
@@ -67,11 +68,6 @@ each_in : {T : Type 0} (P : T → Type 0) (xs : List T) (a : T) → Each P xs �
 each_in P [] a h i = elim i [ ]
 each_in P (x ∷ xs) a h here = h.0
 each_in P (x ∷ xs) a h (there i) = each_in P xs a h.1 i
-
-each_place : {T : Type 0} (P : T → Type 0) (xs : List T) (i : ℕ) (a : T) → Each P xs → slice_get xs i ≡ Some a → P a
-each_place P [] i a h e = cc
-each_place P (x ∷ xs) zero a h e = let same : x ≡ a = cc in subst P same h.0
-each_place P (x ∷ xs) (suc i) a h e = each_place P xs i a h.1 e
 
 module _ {T : Type 0} (as' : List (At T)) (d : Distinct (ids as')) where
   firsts : Each (λ (a : At T). first_at a.id as' ≡ Some a.value) as'

@@ -34,12 +34,13 @@ use Rattle.laws_analyses.specs.Parts.{scope_in, blocks_in, part_of}
 use Rattle.laws_analyses.specs.Analysed.{part_named, AreAnalysed}
 use Rattle.laws_analyses.proofs.DummyLaws.{none_listed}
 use Rattle.laws_analyses.proofs.UnitLaws.{module_at, scope_is}
-use Rattle.laws_analyses.proofs.CallLists.{each_both, each_more, each_in}
+use Rattle.laws_analyses.proofs.CallLists.{each_in}
 use Rattle.laws_analyses.proofs.Subscripts.{HaveSubscripts}
 use Rattle.laws_analyses.proofs.Saneness.{module_sane}
 use Rattle.laws_analyses.proofs.SiteLaws.{call_site}
 use Rattle.laws_analyses.proofs.Modules.{IsIn, subs, subs_in, subs_are, module_named_is}
 use Rattle.laws_analyses.proofs.Programs.{Ready}
+use Rattle.call_graph.proofs.EachLaws.{each_both, each_more}
 
 module _ (ps : List ParsedTree) (sss : List (List SymbolTree)) (g : Graph) (l : IsLinked ps sss g) (laid : AreLaidOut ps sss) (ready : (i : ℕ) (p : ParsedTree) (ss : List SymbolTree) → IsModule ps sss i p ss → Ready g p ss) (cs : Callees) (sites : List ℕ → List HoldingSite) (entry : Known → System) (analysed : AreAnalysed (known_of ps sss) g cs sites entry) where
   abbrev ks : List Known

@@ -1,7 +1,6 @@
 -- The modules of a program, from the last to the first: their statements have the claims of their regions, and callers see what their summaries say.
-use Rattle.std.proofs.Common.{◌≡◌, ℕ, zero, suc, ◌+◌, ◌<◌, ◌≤◌, List, [], ◌∷◌, ◌++◌, map, ◌⊎◌, ⊎_elim, ◌||◌, Option, Some, None, Bool, true, false, refl, sym, ap, ◌∙◌, subst, arith, ℤ, nat_eq, true≢false}
+use Rattle.std.proofs.Common.{◌≡◌, ℕ, zero, suc, ◌<◌, List, [], ◌∷◌, ◌++◌, map, ◌⊎◌, ⊎_elim, ◌||◌, Option, Some, None, Bool, true, false, refl, sym, ap, ◌∙◌, subst, arith, ℤ, nat_eq, true≢false}
 use Rattle.std.specs.Prelude.{if◌then◌else◌, slice_get, bytes_eq, MatchOption}
-use Rattle.std.proofs.lemmas.Bool.Decides.{nat_tests}
 use Rattle.std.proofs.lemmas.Slice.Eq.{bytes_eq-Decides}
 use Rattle.affine_systems.specs.declared.row.System.{System}
 use Rattle.f77_ast.specs.Trees.{ExprTrees, StmtTrees}
@@ -13,7 +12,7 @@ use Rattle.f77_ast.specs.Plans.{Flow, Normal, Jump, Returned, Stopped, Plan, End
 use Rattle.f77_ast.specs.Executions.{run_of, AtEndOf, Claim}
 use Rattle.f77_ast.specs.Calls.{Dummy, Actual, Meaning, scalars_bound, arrays_bound, lock_doubly, forget_all, after_call, actuals, places_of, call_plan}
 use Rattle.f77_ast.specs.Statements.{spot, body_plan}
-use Rattle.f77_ast.specs.StatementNumbers.{list_numbers, IsNumbered}
+use Rattle.f77_ast.specs.StatementNumbers.{list_numbers, StandOnce, HasNumbers}
 use Rattle.f77_ast.specs.Programs.{Program, scope, body_of, called, meanings, program_plan}
 use Rattle.f77_ast.proofs.StepLaws.{at_end_true}
 use Rattle.f77_ast.specs.Symbols.{BoundTree}
@@ -46,7 +45,7 @@ use Rattle.laws_analyses.specs.Statements.Placed.{Found}
 use Rattle.laws_analyses.specs.Statements.Results.{pre_in}
 use Rattle.laws_analyses.proofs.Statements.Ends.{both, throughout}
 use Rattle.laws_analyses.proofs.Statements.MainResults.{each_found_at}
-use Rattle.laws_analyses.proofs.Statements.NumberLaws.{in_order, t_list}
+use Rattle.laws_analyses.proofs.Statements.NumberLaws.{own_numbers, t_list}
 use Rattle.laws_analyses.proofs.Calls.AllLaws.{call_rules_hold}
 use Rattle.laws_analyses.proofs.Calls.Bound.{Made, arrays_leads, scalars_fixed, scalars_dummy}
 use Rattle.laws_analyses.proofs.Calls.Enter.{Fits, find_dummy, begin_fits, more_fits}
@@ -81,25 +80,27 @@ use Rattle.laws_analyses.proofs.Regions.CalledShown.{AtEntry, Bound, CalledShown
 use Rattle.laws_analyses.proofs.Regions.Calling.{Carries, OfferedHere, none_goes, some_goes}
 use Rattle.laws_analyses.proofs.Regions.Statements.{body_goes}
 use Rattle.laws_analyses.proofs.SiteLaws.{no_bounds_back as no_bounds_map}
+use Rattle.fx_lists.proofs.Numbers.{same_is as nat_same}
 
--- ---- numbers from 1 differ
+-- ---- numbers that stand once differ
 
-numbers_differ : (ns : List ℕ) (j : ℕ) → ((i n : ℕ) → slice_get ns i ≡ Some n → n ≡ suc (j + i)) → Distinct ns × ((m : ℕ) → m ≤ j → has ns m ≡ false)
-numbers_differ [] j h = (tt, λ m l. refl)
-numbers_differ (n ∷ ns) j h =
-    let here : n ≡ suc j = (let e = h zero n refl in omega (arith, e)) in
-    let r = numbers_differ ns (suc j) (λ i m e. (let q = h (suc i) m e in omega (arith, q))) in
-    ((r.1 n (omega (arith, here)), r.0), λ m l. above m l here r.1)
+none_has : (ns : List ℕ) (n : ℕ) → ((j : ℕ) → slice_get ns j ≡ Some n → ⊥) → has ns n ≡ false
+none_has [] n h = refl
+none_has (m ∷ ns) n h = go (nat_eq m n) refl (none_has ns n (λ j e. h (suc j) e))
   where
-    above : (m : ℕ) → m ≤ j → n ≡ suc j → ((y : ℕ) → y ≤ suc j → has ns y ≡ false) → (nat_eq n m || has ns m) ≡ false
-    above m l e f = go (nat_eq n m) refl
-      where
-        go : (b : Bool) → nat_eq n m ≡ b → (b || has ns m) ≡ false
-        go true q = absurd (grind (arith, nat_tests))
-        go false q = f m (omega (arith, l))
+    go : (c : Bool) → nat_eq m n ≡ c → has ns n ≡ false → (c || has ns n) ≡ false
+    go true q ih = absurd (h zero (ap Some (nat_same m n q)))
+    go false q ih = ih
 
-pub distinct_numbers : (body : StmtTrees) → IsNumbered body → Distinct (list_numbers body)
-distinct_numbers body h = (numbers_differ (list_numbers body) 0 (λ i n e. (let q = h i n e in omega (arith, q)))).0
+differ : (ns : List ℕ) → StandOnce ns → Distinct ns
+differ [] h = tt
+differ (n ∷ ns) h = (
+  none_has ns n (λ j e. (let q = h zero (suc j) n refl e in omega (arith, q))),
+  differ ns (λ i j m e f. (let q = h (suc i) (suc j) m e f in omega (arith, q))),
+)
+
+pub distinct_numbers : (body : StmtTrees) → HasNumbers body → Distinct (list_numbers body)
+distinct_numbers body h = differ (list_numbers body) h.once
 
 -- ---- plans that forget
 
@@ -175,7 +176,7 @@ module _ (ks : List Known) (g : Graph) (b : Blocks) (cs : Callees) (sites : List
       pub found_each : Each (λ (a : At Transformer). (0 < a.id) × (k.found.transformer a.id ≡ a.value)) (transformers.at_list k.routine.body k.scope cs true)
       found_each =
           subst (λ (r : Found). Each (λ (a : At Transformer). (0 < a.id) × (r.transformer a.id ≡ a.value)) (transformers.at_list k.routine.body k.scope cs true)) (sym analysed.found)
-          (each_found_at _ (transformers_of k.routine.body k.scope cs).at (in_order (transformers_of k.routine.body k.scope cs).at k.routine.body (t_list k.scope cs k.routine.body true) analysed.numbered) (λ a n v. (n, ap or_unchanging v)))
+          (each_found_at _ (transformers_of k.routine.body k.scope cs).at (own_numbers (transformers_of k.routine.body k.scope cs).at k.routine.body (t_list k.scope cs k.routine.body true) analysed.numbered) (λ a n v. (n, ap or_unchanging v)))
 
       abbrev sets : List (At (List Region))
       sets = at_list k.routine.body k.scope k.found.transformer (calls_in k)
@@ -194,7 +195,7 @@ module _ (ks : List Known) (g : Graph) (b : Blocks) (cs : Callees) (sites : List
 
       owes_each : Each (λ (a : At (List Region)). (s : Store) (q : Ran Flow) → Shown here false a.value s q.answer q.trace → D (spot k.routine.name a.id) at s q) sets
       owes_each =
-          each_found_at (λ (a : At (List Region)). (s : Store) (q : Ran Flow) → Shown here false a.value s q.answer q.trace → D (spot k.routine.name a.id) at s q) sets (in_order sets k.routine.body (r_list k.scope k.found.transformer (calls_in k) k.routine.body) analysed.numbered)
+          each_found_at (λ (a : At (List Region)). (s : Store) (q : Ran Flow) → Shown here false a.value s q.answer q.trace → D (spot k.routine.name a.id) at s q) sets (own_numbers sets k.routine.body (r_list k.scope k.found.transformer (calls_in k) k.routine.body) analysed.numbered)
           (λ a n v. one a.id a.value n v)
         where
           one : (i : ℕ) (set : List Region) → 0 < i → value_at (at_list k.routine.body k.scope k.found.transformer (calls_in k)) i ≡ Some set → (s : Store) (q : Ran Flow) → Shown here false set s q.answer q.trace → D (spot k.routine.name i) at s q

@@ -1,7 +1,7 @@
 -- A CALL in a program that is read: variables of blocks and saved locals of what is called, as its caller has them.
-use Rattle.std.proofs.Common.{◌≡◌, ℕ, zero, suc, ◌-◌, ◌≤◌, ℤ, List, [], ◌∷◌, length, map, Option, Some, None, Bool, true, false, Ok, refl, sym, ap, ap₂, ◌∙◌, arith, nat_eq}
+use Rattle.std.proofs.Common.{◌≡◌, ℕ, zero, suc, ◌-◌, ℤ, List, [], ◌∷◌, length, map, Option, Some, None, Bool, true, false, Ok, refl, sym, ap, ap₂, ◌∙◌, arith}
 use Rattle.std.specs.Prelude.{if◌then◌else◌, slice_get}
-use Rattle.std.proofs.lemmas.Bool.{and_parts, eqb-true}
+use Rattle.std.proofs.lemmas.Bool.{and_parts}
 use Rattle.f77_ast.specs.Trees.{ExprTree}
 use Rattle.f77_ast.specs.DeclTrees.{ParsedTree}
 use Rattle.f77_ast.specs.Calls.{Dummy}
@@ -21,6 +21,7 @@ use Rattle.laws_analyses.specs.Calls.Parts.{NoDummy}
 use Rattle.laws_analyses.proofs.DummyLaws.{told}
 use Rattle.laws_analyses.specs.Regions.Claims.{elements_of}
 use Rattle.laws_programs.proofs.Effects.Like.{same_const_value, like_found}
+use Rattle.f77_ast.proofs.StorageLaws.{at_number}
 
 -- ---- dimensions by bounds that are the same
 
@@ -51,13 +52,6 @@ pub same_elements : (p q : Place) → p.first ≡ q.first → p.extent ≡ q.ext
 same_elements p q a b c phi = λ i. elements_of (record { first = a i; extent = b i; tag = p.tag; dims = c i }) phi
 
 -- ---- the first that is like it, with its bounds
-
-numbered_at : (ss : List SymbolTree) (m : ℕ) (t : SymbolTree) → 1 ≤ m → slice_get ss (m - 1) ≡ Some t → symbol_at ss m ≡ Some t
-numbered_at ss m t low i = go (nat_eq m 0) refl
-  where
-    go : (c : Bool) → nat_eq m 0 ≡ c → (if c then None else slice_get ss (m - 1)) ≡ Some t
-    go true z = let y : m ≡ 0 = eqb-true m 0 z in absurd (omega (arith, y, low))
-    go false z = i
 
 bounds_alike : (n j : ℕ) (ts : List SymbolTree) (b : List ℕ) (o : ℕ) (cs : List SymbolTree) (s : SymbolTree) (ss : List SymbolTree) (t : SymbolTree) → first_like n ts b o cs s ss ≡ Some j → slice_get ts (j - n) ≡ Some t → same_bounds (value_in cs) s.bounds (value_in ss) t.bounds ≡ true
 bounds_alike n j [] b o cs s ss t e h = cc
@@ -106,7 +100,7 @@ pub record LikeIt (g : Numbering) (h k : Known) (m n : ℕ) (y : List ℕ) (o : 
 pub like_it : (g : Numbering) (h k : Known) (n m : ℕ) (s : SymbolTree) (y : List ℕ) (o : ℕ) → symbol_at k.symbols n ≡ Some s → s.place ≡ place.Block y o → first_like 1 h.symbols y o k.symbols s h.symbols ≡ Some m → LikeIt g h k m n y o
 like_it g h k n m s y o e b f =
     let r = like_found 1 m h.symbols y o k.symbols s h.symbols f in
-    let there : symbol_at h.symbols m ≡ Some r.0 = numbered_at h.symbols m r.0 r.1 r.2 in
+    let there : symbol_at h.symbols m ≡ Some r.0 = at_number h.symbols m r.0 r.1 r.2 in
     let dims : map (dim_of k.symbols) s.bounds ≡ map (dim_of h.symbols) r.0.bounds = dims_same k.symbols h.symbols s.bounds r.0.bounds (bounds_alike 1 m h.symbols y o k.symbols s h.symbols r.0 f r.2) in
     record {
       symbol = r.0;

@@ -6,11 +6,12 @@ use Rattle.preconditions.specs.transformer_algebra.Laws.{In, here, there}
 use Rattle.in_out_regions.specs.region_sets.declared.region.Access.{Access}
 use Rattle.in_out_regions.specs.region_sets.declared.region.Region.{Region}
 use Rattle.in_out_regions.specs.region_sets.Claims.{Places, LiesIn, LiesInSet, IsSharp, IsSharpSet}
-use Rattle.in_out_regions.proofs.RegionSets.StepLaws.{in_left, in_right, in_either}
+use Rattle.in_out_regions.proofs.RegionSets.StepLaws.{in_either}
 use Rattle.in_out_regions.specs.call_equations.Sides.{SidesTree}
 use Rattle.in_out_regions.specs.region_translation.Caller.{to_caller}
 use Rattle.in_out_regions.specs.array_regions.Calls.{all_in_caller}
 use Rattle.in_out_regions.proofs.ListLaws.{in_option as in_one, option_in as of_one}
+use Rattle.preconditions.proofs.TransformerAlgebra.Members.{in_left, in_right}
 
 module _ (c : SidesTree) where
   -- a region that is sent

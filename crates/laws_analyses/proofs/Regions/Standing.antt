@@ -1,5 +1,5 @@
 -- Statements of a module, with what is known of them by their numbers.
-use Rattle.std.proofs.Common.{◌≡◌, ℕ, ◌<◌, List, [], ◌∷◌, ◌++◌, ◌||◌, ◌&&◌, Option, Some, Bool, true, false, refl, sym, ap, ap₂, ◌∙◌, nat_eq, true≢false}
+use Rattle.std.proofs.Common.{◌≡◌, ℕ, ◌<◌, List, [], ◌∷◌, ◌++◌, ◌||◌, ◌&&◌, Option, Some, Bool, true, false, refl, sym, ap, ap₂, ◌∙◌, nat_eq}
 use Rattle.std.specs.Prelude.{if◌then◌else◌}
 use Rattle.std.proofs.lemmas.Bool.{or_parts, or_left, or_right}
 use Rattle.affine_systems.specs.declared.row.System.{System}
@@ -37,20 +37,13 @@ use Rattle.laws_analyses.specs.Regions.Shown.{Shown}
 use Rattle.laws_analyses.proofs.Regions.Rules.{Goes}
 use Rattle.fx_lists.proofs.Numbers.{same_is as nat_same, nat_eq_same}
 use Rattle.fx_lists.proofs.Booleans.{clash as clashes}
+use Rattle.preconditions.proofs.TransformerAlgebra.HasLaws.{has_parts}
 
 -- ---- numbers that differ
 
 abbrev pub Distinct : List ℕ → Type 0
 Distinct [] = Unit {0}
 Distinct (n ∷ ns) = (has ns n ≡ false) × Distinct ns
-
-pub has_parts : (ns ms : List ℕ) (n : ℕ) → has (ns ++ ms) n ≡ false → (has ns n ≡ false) × (has ms n ≡ false)
-has_parts [] ms n h = (refl, h)
-has_parts (a ∷ ns) ms n h = go (nat_eq a n) h (λ q. has_parts ns ms n q)
-  where
-    go : (b : Bool) → (b || has (ns ++ ms) n) ≡ false → (has (ns ++ ms) n ≡ false → (has ns n ≡ false) × (has ms n ≡ false)) → ((b || has ns n) ≡ false) × (has ms n ≡ false)
-    go true q f = absurd (true≢false q)
-    go false q f = f q
 
 pub distinct_parts : (ns ms : List ℕ) → Distinct (ns ++ ms) → Distinct ns × Distinct ms
 distinct_parts [] ms h = (tt, h)

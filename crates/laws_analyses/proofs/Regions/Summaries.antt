@@ -18,7 +18,7 @@ use Rattle.laws_analyses.proofs.Founds.{Calls, found_in_order}
 use Rattle.laws_analyses.proofs.Orders.{NotIn, order_sorted}
 use Rattle.laws_analyses.proofs.Passes.{NoAnalysis, next, run, name_of}
 use Rattle.laws_analyses.specs.Regions.Accepted.{after, behind, summaries_of}
-use Rattle.laws_analyses.proofs.CallLists.{each_joined as each_both}
+use Rattle.call_graph.proofs.EachLaws.{each_joined as each_both}
 
 pub each_back : {T : Type 0} (P : T → Type 0) (xs ys : List T) → Each P (xs ++ ys) → Each P ys
 each_back P [] ys h = h

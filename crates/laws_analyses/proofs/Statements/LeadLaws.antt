@@ -9,6 +9,7 @@ use Rattle.preconditions.specs.transformers.Jumps.{labels, stmt_has, parts_have,
 use Rattle.laws_analyses.specs.Statements.Leads.{stmt_leads, what_leads, each_leads, arms_lead, arm_leads, else_leads, loop_leads}
 use Rattle.fx_lists.proofs.Booleans.{or_map, clash as clashes}
 use Rattle.fx_lists.proofs.Numbers.{same_is as nat_same}
+use Rattle.preconditions.proofs.TransformerAlgebra.HasLaws.{others_in}
 
 -- what is among the first and not among the second
 pub in_others : (ls ms : List ℕ) (l : ℕ) → has ls l ≡ true → has ms l ≡ false → has (others ls ms) l ≡ true
@@ -20,18 +21,6 @@ in_others (a ∷ ls) ms l h k = go (has ms a) refl (nat_eq a l) refl h (λ q. in
     go true p false q r ih = ih r
     go false p true q r ih = or_left (nat_eq a l) (has (others ls ms) l) q
     go false p false q r ih = or_right (nat_eq a l) (has (others ls ms) l) (ih r)
-
-pub others_in : (ls ms : List ℕ) (l : ℕ) → has (others ls ms) l ≡ true → has ls l ≡ true
-others_in [] ms l h = h
-others_in (a ∷ ls) ms l h = go (has ms a) h (λ q. others_in ls ms l q)
-  where
-    split : (c : Bool) → (c || has (others ls ms) l) ≡ true → (has (others ls ms) l ≡ true → has ls l ≡ true) → (c || has ls l) ≡ true
-    split true r ih = refl
-    split false r ih = ih r
-
-    go : (b : Bool) → has (if b then others ls ms else a ∷ others ls ms) l ≡ true → (has (others ls ms) l ≡ true → has ls l ≡ true) → (nat_eq a l || has ls l) ≡ true
-    go true r ih = or_right (nat_eq a l) (has ls l) (ih r)
-    go false r ih = split (nat_eq a l) r ih
 
 abbrev Sub : List ℕ → List ℕ → Type 0
 Sub ms ls = (l : ℕ) → has ms l ≡ true → has ls l ≡ true

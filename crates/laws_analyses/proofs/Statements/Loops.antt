@@ -14,7 +14,6 @@ use Rattle.f77_ast.specs.Executions.{Claim}
 use Rattle.f77_ast.specs.Loops.{iteration_count, iterations_from}
 use Rattle.f77_ast.specs.declared.variable.Unit.{Unit as BlockUnit}
 use Rattle.affine_forms.specs.Claims.{unit_in, numbers_of}
-use Rattle.affine_forms.proofs.FormLaws.{kept_is}
 use Rattle.preconditions.specs.transformer_algebra.declared.transformer.Transformer.{Transformer}
 use Rattle.preconditions.specs.transformer_algebra.declared.loop_parts.LoopParts.{LoopParts}
 use Rattle.preconditions.specs.transformer_algebra.Cells.{has}
@@ -37,6 +36,7 @@ use Rattle.laws_analyses.proofs.Statements.Tracks.{turn_tracks}
 use Rattle.laws_analyses.proofs.Statements.Counts.{NotZero, count_more, count_none}
 use Rattle.fx_lists.proofs.Numbers.{same_is as nat_same, nat_eq_same}
 use Rattle.fx_lists.proofs.Booleans.{clash as clashes}
+use Rattle.f77_ast.proofs.KeptNumbers.{kept_is}
 
 -- the units that stay, and the unit of the index
 abbrev pub also : (ℕ → Bool) → ℕ → ℕ → Bool

@@ -11,8 +11,8 @@ use Rattle.preconditions.specs.transformers.Jumps.{is_end, unstructured}
 use Rattle.preconditions.specs.transformers.Statement as transformers
 use Rattle.preconditions.specs.Statement as preconditions
 use Rattle.preconditions.specs.Statement.{PreconditionList, if_true, past_arm, past_arms, each_iteration, throughout, after}
-use Rattle.f77_ast.specs.StatementNumbers.{stmt_numbers, part_numbers, list_numbers, arms_numbers, arm_numbers, else_numbers, loop_numbers, IsNumbered}
-use Rattle.laws_analyses.specs.Statements.Laws.{InOrder}
+use Rattle.f77_ast.specs.StatementNumbers.{stmt_numbers, part_numbers, list_numbers, arms_numbers, arm_numbers, else_numbers, loop_numbers, HasNumbers}
+use Rattle.laws_analyses.specs.Statements.Laws.{HaveOwnNumbers}
 
 abbrev pub ids : {T : Type 0} → List (At T) → List ℕ
 ids [] = []
@@ -22,13 +22,19 @@ ids_parts : {T : Type 0} (xs ys : List (At T)) (ms ns : List ℕ) → ids xs ≡
 ids_parts [] ys ms ns e f = subst (λ m. ids ys ≡ m ++ ns) e f
 ids_parts (x ∷ xs) ys ms ns e f = subst (λ m. (x.id ∷ ids (xs ++ ys)) ≡ m ++ ns) e (ap (λ l. x.id ∷ l) (ids_parts xs ys (ids xs) ns refl f))
 
-pub in_order : {T : Type 0} (as' : List (At T)) (body : StmtTrees) → ids as' ≡ list_numbers body → IsNumbered body → InOrder as'
-in_order as' body e h i a q = h i a.id (ap (λ ns. slice_get ns i) (sym e) ∙ at as' i a q)
+pub own_numbers : {T : Type 0} (as' : List (At T)) (body : StmtTrees) → ids as' ≡ list_numbers body → HasNumbers body → HaveOwnNumbers as'
+own_numbers {T} as' body e h = record {
+  once = λ i j a b q r s. h.once i j a.id (number i a q) (number j b r ∙ ap Some (sym s));
+  above = λ i a q. h.above i a.id (number i a q);
+}
   where
     at : {T : Type 0} (xs : List (At T)) (i : ℕ) (a : At T) → slice_get xs i ≡ Some a → slice_get (ids xs) i ≡ Some a.id
     at [] i a q = cc
     at (x ∷ xs) zero a q = let same : x ≡ a = cc in ap (λ y. Some y.id) same
     at (x ∷ xs) (suc i) a q = at xs i a q
+
+    number : (i : ℕ) (a : At T) → slice_get as' i ≡ Some a → slice_get (list_numbers body) i ≡ Some a.id
+    number i a q = ap (λ ns. slice_get ns i) (sym e) ∙ at as' i a q
 
 module _ (m : ScopeTree) (cs : Callees) where
   mutual

@@ -18,7 +18,7 @@ use Rattle.preconditions.specs.Entry.{main_entry}
 use Rattle.preconditions.specs.transformers.Jumps.{list_has}
 use Rattle.laws_analyses.specs.Statements.Targets.{lacks_targets}
 use Rattle.call_graph.specs.CallsIn.{CallAt, Each, list_calls}
-use Rattle.f77_ast.specs.StatementNumbers.{IsNumbered}
+use Rattle.f77_ast.specs.StatementNumbers.{HasNumbers}
 use Rattle.laws_analyses.specs.Statements.Results.{SystemHolds, Relates, found_in, pre_in}
 use Rattle.laws_analyses.specs.Calls.Entries.{BeginsWithData}
 use Rattle.laws_analyses.specs.Calls.Parts.{Blocks, Part, summary, scene_in, Sane}
@@ -47,8 +47,8 @@ routines ks = map (λ k. k.routine) ks
 -- it owes, where what holds there by these results holds
 pub record Analysed (b : Blocks) (cs : Callees) (sites : List ℕ → List HoldingSite) (below : List Part) (k : Part) : Type 0 where
   pub found : k.found ≡ record { pre = pre_in k.routine.body k.scope cs k.entry; transformer = found_in k.routine.body k.scope cs }
-  -- statements are numbered from 1 in the order of the text
-  pub numbered : IsNumbered k.routine.body
+  -- its statements have numbers of their own, which are not 0
+  pub numbered : HasNumbers k.routine.body
   -- left sides, items of READ and indices of DO are scalars or elements with subscripts, as reading makes them
   pub targets : list_has (lacks_targets k.scalar) k.routine.body ≡ false
   pub calls : Each (λ (c : CallAt). Covers b cs sites below k c.callee c.actuals (pre_in k.routine.body k.scope cs k.entry c.number)) (list_calls k.routine.body)

@@ -2,7 +2,7 @@
 use Rattle.std.specs.Prelude.{◌≡◌, ℕ, zero, suc, ◌+◌, ℤ, Bool, true, false, List, [], ◌∷◌, length, Option, Some, MatchOption, option_map}
 use Rattle.affine_systems.specs.declared.row.Var.TheVariants.{Cell, Phi}
 use Rattle.affine_systems.specs.declared.row.System.{System}
-use Rattle.affine_systems.specs.Points.{Point, HoldsAll}
+use Rattle.affine_systems.specs.Points.{Point}
 use Rattle.f77_ast.specs.Places.{Place, Places, element_in}
 use Rattle.f77_ast.specs.Claims.{number_in}
 use Rattle.f77_ast.specs.declared.results.Results.{Results}
@@ -18,7 +18,8 @@ use Rattle.in_out_regions.specs.region_sets.declared.region.Access.{Access}
 use Rattle.in_out_regions.specs.region_sets.declared.region.Access.TheVariants.{Read, Write}
 use Rattle.in_out_regions.specs.region_sets.declared.region.Access.TheVariants as access
 use Rattle.in_out_regions.specs.region_sets.declared.region.Region.{Region as Found}
-use Rattle.in_out_regions.specs.region_sets.Claims.{HasSubscripts, HoldsSome, Elements}
+use Rattle.hull_projection.specs.Unions.{HoldsSome}
+use Rattle.in_out_regions.specs.region_sets.Claims.{DescribedBy, Elements}
 
 -- ---- subscripts
 
@@ -36,17 +37,11 @@ elements_of p phi = option_map (λ k. p.first + k) (element_in p (listed (length
 
 -- ---- regions
 
--- one of the systems holds at each point with these numbers of cells and these subscripts
-pub record Describes (ss : List System) (n : Numbers) (phi : ℕ → ℤ) : Type 0 where
-  pub piece : System
-  pub is_one : In piece ss
-  pub holds : (p : Point) → ((c : ℕ) → p (Cell c) ≡ n c) → HasSubscripts phi p → HoldsAll p piece.rows
-
 -- a list has as many subscripts as the variable has dimensions: a scalar none, a block one
 pub record DescribesList (rank : ℕ) (ss : List System) (n : Numbers) (subscripts : List ℤ) : Type 0 where
   pub phi : ℕ → ℤ
   pub is_list : listed rank phi ≡ subscripts
-  pub describes : Describes ss n phi
+  pub describes : DescribedBy ss n phi
 
 abbrev pub as_region : List Known → Graph → Places → Found → Region
 as_region ks g at r = record {

@@ -1,5 +1,5 @@
 -- What is claimed of the runs of a main program that calls no module.
-use Rattle.std.specs.Prelude.{◌≡◌, ℕ, suc, ℤ, Bool, true, false, not, ◌&&◌, ◌||◌, List, [], ◌∷◌, map, length, Option, Some, None, slice_get}
+use Rattle.std.specs.Prelude.{◌≡◌, ℕ, ◌<◌, ℤ, Bool, true, false, not, ◌&&◌, ◌||◌, List, [], ◌∷◌, map, length, Option, Some, None, slice_get}
 use Rattle.affine_systems.specs.declared.row.System.{System}
 use Rattle.f77_ast.specs.Store.{Store}
 use Rattle.f77_ast.specs.declared.symbol.Place.{Place}
@@ -30,7 +30,7 @@ use Rattle.preconditions.specs.Entry.{main_entry}
 use Rattle.laws_analyses.specs.Statements.Targets.{lacks_targets}
 use Rattle.preconditions.specs.Modules.{preconditions_of}
 use Rattle.call_graph.specs.CallsIn.{list_calls}
-use Rattle.f77_ast.specs.StatementNumbers.{IsNumbered}
+use Rattle.f77_ast.specs.StatementNumbers.{HasNumbers}
 use Rattle.laws_analyses.specs.Statements.Results.{found_in, ScalarsHold}
 
 -- a module with a flag for each symbol whether it is a tracked cell, as analyses look at it
@@ -78,9 +78,10 @@ abbrev pub FirstValue : List InitialRun → ℤ → Type 0
 FirstValue [] n = Unit {0}
 FirstValue (r ∷ rs) n = n ≡ r.value
 
--- results stand at statements that are numbered from 1
-abbrev pub InOrder : {T : Type 0} → List (At T) → Type 0
-InOrder {T = T} as' = (i : ℕ) (a : At T) → slice_get as' i ≡ Some a → a.id ≡ suc i
+-- each of these results has a number of its own, which is not 0
+pub record HaveOwnNumbers {T : Type 0} (as' : List (At T)) : Type 0 where
+  pub once : (i j : ℕ) (a b : At T) → slice_get as' i ≡ Some a → slice_get as' j ≡ Some b → a.id ≡ b.id → i ≡ j
+  pub above : (i : ℕ) (a : At T) → slice_get as' i ≡ Some a → 0 < a.id
 
 -- a main program of modules that are linked, which calls none
 pub record IsMainAlone (ks : List Known) (g : Graph) (k : Known) (flags : List Bool) : Type 0 where
@@ -96,7 +97,7 @@ pub record IsMainAlone (ks : List Known) (g : Graph) (k : Known) (flags : List B
   pub cells : (n : ℕ) → is_cell flags n ≡ true → IsAlone k n
   -- what names are taken for is what they stand for, as reading makes it: a LOGICAL constant is 0 or 1
   pub agrees : Agrees (names k.symbols) (scope_of k.symbols flags).scalars (is_cell flags)
-  pub numbered : IsNumbered k.read.body
+  pub numbered : HasNumbers k.read.body
   -- tracked cells begin with what DATA says
   pub values : (n : ℕ) (s : SymbolTree) → symbol_at k.symbols n ≡ Some s → is_cell flags n ≡ true → FirstValue s.initial (initial ks g (fixed (numbering ks g) k n).first).number
 

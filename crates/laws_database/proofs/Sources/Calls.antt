@@ -12,19 +12,20 @@ use Rattle.f77_parser.specs.Statements.{marks_of}
 use Rattle.f77_parser.specs.Building.{add_all, no_statements, build_module}
 use Rattle.call_graph.specs.declared.calls.Called.{Called}
 use Rattle.call_graph.specs.Actuals.{actuals_of}
+use Rattle.call_graph.specs.Modules.{has_spot}
 use Rattle.call_graph.specs.Calls.{with_list, with_stmt, with_what, with_arms, with_else, with_loop, calls_of}
 use Rattle.laws_programs.specs.roundtrip_programs.Statements.Formed.{Each}
-use Rattle.laws_programs.specs.roundtrip_programs.Statements.Phrased.{IsWhat, IsPhrase}
+use Rattle.laws_programs.specs.roundtrip_programs.Statements.Phrased.{IsWhat}
 use Rattle.laws_programs.specs.roundtrip_programs.ModuleTexts.Cards.{Card, card, within, cards_of, cards_by, body_cards, block_cards, part_cards, else_cards, cards_in, title_cards, decl_cards, statements_of}
 use Rattle.laws_programs.specs.roundtrip_programs.ModuleTexts.Numbered.{last_of, last_by, last_body, last_arms, last_else, last_in, IsInner, IsNumbered, NumberedBelow, NumberedBody, NumberedBlock, NumberedArms, NumberedElse, AreNumbered}
-use Rattle.laws_programs.proofs.RoundtripPrograms.ModuleTexts.Kept.{Each-append, Held, each-map}
+use Rattle.laws_programs.proofs.RoundtripPrograms.ModuleTexts.Kept.{Each-append, each-map}
 use Rattle.laws_programs.proofs.RoundtripPrograms.ModuleTexts.Steady.{no-fault}
 use Rattle.laws_programs.proofs.RoundtripPrograms.ModuleTexts.Counting.{start_of}
 use Rattle.laws_programs.proofs.RoundtripPrograms.ModuleTexts.Well.{all-go, all-closed, nothing-goes}
 use Rattle.laws_programs.specs.roundtrip_programs.Texts.Texts.{IsReadAs}
 use Rattle.laws_programs.proofs.Sources.{OfBuilt, is_built, all_of}
-use Rattle.laws_database.proofs.Sources.Spots.{has_spot, built-spotted}
-use Rattle.laws_programs.proofs.RoundtripPrograms.ModuleTexts.Cards.{Any as AnyLabel}
+use Rattle.laws_database.proofs.Sources.Spots.{built-spotted}
+use Rattle.laws_programs.proofs.Ordered.{AllFormed, split}
 
 -- ---- numbers go up
 
@@ -66,13 +67,6 @@ record InRange (count : ℕ) (c : Called) : Type 0 where
   least : 1 ≤ c.at
   most : c.at ≤ count
 
-abbrev AllHeld : List Card → Type 0
-AllHeld xs = Each (Held AnyLabel IsPhrase) xs
-
-held-parts : (xs ys : List Card) → AllHeld (xs ++ ys) → AllHeld xs × AllHeld ys
-held-parts [] ys h = (tt, h)
-held-parts (x ∷ xs) ys h = let r = held-parts xs ys h.others in (record { first = h.first; others = r.0 }, r.1)
-
 module _ (count : ℕ) (ss : List SymbolTree) where
   abbrev AllIn : List Called → Type 0
   AllIn cs = Each (InRange count) cs
@@ -94,20 +88,20 @@ module _ (count : ℕ) (ss : List SymbolTree) where
   in-inner id (print es) cs h l m a = a
   in-inner id (read es) cs h l m a = a
 
-  in-if : (n id : ℕ) (label : Option ℕ) (e : ExprTree) (s : StmtTree) (cs : List Called) → IsInner n s → AllHeld (within id label e s ∷ []) → n + 1 ≤ count → AllIn cs → AllIn (with_stmt s ss cs)
+  in-if : (n id : ℕ) (label : Option ℕ) (e : ExprTree) (s : StmtTree) (cs : List Called) → IsInner n s → AllFormed (within id label e s ∷ []) → n + 1 ≤ count → AllIn cs → AllIn (with_stmt s ss cs)
   in-if n id label e (stmt inner own w) cs h f m a = in-inner inner w cs f.first.1.inner (omega (arith, h.number)) (omega (arith, h.number, m)) a
 
   mutual
-    in-stmt : (n : ℕ) (s : StmtTree) (cs : List Called) → IsNumbered n s → AllHeld (cards_of s) → last_of n s ≤ count → AllIn cs → AllIn (with_stmt s ss cs)
+    in-stmt : (n : ℕ) (s : StmtTree) (cs : List Called) → IsNumbered n s → AllFormed (cards_of s) → last_of n s ≤ count → AllIn cs → AllIn (with_stmt s ss cs)
     in-stmt n (stmt id label w) cs h f m a = in-what n id label w cs h.number h.below f m a
 
     -- a statement that follows so many
-    in-what : (n id : ℕ) (label : Option ℕ) (w : WhatTree) (cs : List Called) → id ≡ n + 1 → NumberedBelow (n + 1) w → AllHeld (cards_by id label w) → last_by (n + 1) w ≤ count → AllIn cs
+    in-what : (n id : ℕ) (label : Option ℕ) (w : WhatTree) (cs : List Called) → id ≡ n + 1 → NumberedBelow (n + 1) w → AllFormed (cards_by id label w) → last_by (n + 1) w ≤ count → AllIn cs
         → AllIn (with_what w id ss cs)
     in-what n id label (assign v e) cs i h f m a = a
     in-what n id label (block_if arms other) cs i h f m a =
         let b = in-block (n + 1) id label arms (else_cards id other ++ card (parts.Close id) None end_if ∷ []) cs h.parts f (omega (arith, up-else (last_arms (n + 1) arms) other, m)) a in
-        in-else (last_arms (n + 1) arms) id other (with_arms arms ss cs) h.last (held-parts (else_cards id other) (card (parts.Close id) None end_if ∷ []) b.1).0 m b.0
+        in-else (last_arms (n + 1) arms) id other (with_arms arms ss cs) h.last (split (else_cards id other) (card (parts.Close id) None end_if ∷ []) b.1).0 m b.0
     in-what n id label (logical_if e s) cs i h f m a = in-if (n + 1) id label e s cs h f m a
     in-what n id label (do_loop l) cs i h f m a = in-body (n + 1) id l cs h f.others m a
     in-what n id label (call c es) cs i h f m a = in-call id (record { at = id; callee = c; actuals = actuals_of es ss }) cs refl (omega (arith, i)) (omega (arith, i, m)) a
@@ -118,33 +112,33 @@ module _ (count : ℕ) (ss : List SymbolTree) where
     in-what n id label (print es) cs i h f m a = a
     in-what n id label (read es) cs i h f m a = a
 
-    in-body : (n id : ℕ) (l : LoopTree) (cs : List Called) → NumberedBody n l → AllHeld (body_cards id l) → last_body n l ≤ count → AllIn cs → AllIn (with_loop l ss cs)
-    in-body n id (loop index first last step body) cs h f m a = in-list n body cs h (held-parts (cards_in body) (card (parts.Close id) None end_do ∷ []) f).0 m a
+    in-body : (n id : ℕ) (l : LoopTree) (cs : List Called) → NumberedBody n l → AllFormed (body_cards id l) → last_body n l ≤ count → AllIn cs → AllIn (with_loop l ss cs)
+    in-body n id (loop index first last step body) cs h f m a = in-list n body cs h (split (cards_in body) (card (parts.Close id) None end_do ∷ []) f).0 m a
 
-    in-block : (n id : ℕ) (label : Option ℕ) (arms : ArmTrees) (end : List Card) (cs : List Called) → NumberedBlock n arms → AllHeld (block_cards id label arms end) → last_arms n arms ≤ count → AllIn cs
-        → AllIn (with_arms arms ss cs) × AllHeld end
+    in-block : (n id : ℕ) (label : Option ℕ) (arms : ArmTrees) (end : List Card) (cs : List Called) → NumberedBlock n arms → AllFormed (block_cards id label arms end) → last_arms n arms ≤ count → AllIn cs
+        → AllIn (with_arms arms ss cs) × AllFormed end
     in-block n id label no_arms end cs h f m a = absurd h
     in-block n id label (more_arms (arm test body) others) end cs h f m a =
-        let g = held-parts (cards_in body) (part_cards id 1 others end) f.others in
+        let g = split (cards_in body) (part_cards id 1 others end) f.others in
         in-arms (last_in n body) id 1 others end (with_list body ss cs) h.parts g.1 m
         (in-list n body cs h.below g.0 (omega (arith, up-arms (last_in n body) others, m)) a)
 
-    in-arms : (n id place : ℕ) (arms : ArmTrees) (end : List Card) (cs : List Called) → NumberedArms n arms → AllHeld (part_cards id place arms end) → last_arms n arms ≤ count → AllIn cs
-        → AllIn (with_arms arms ss cs) × AllHeld end
+    in-arms : (n id place : ℕ) (arms : ArmTrees) (end : List Card) (cs : List Called) → NumberedArms n arms → AllFormed (part_cards id place arms end) → last_arms n arms ≤ count → AllIn cs
+        → AllIn (with_arms arms ss cs) × AllFormed end
     in-arms n id place no_arms end cs h f m a = (a, f)
     in-arms n id place (more_arms (arm test body) others) end cs h f m a =
-        let g = held-parts (cards_in body) (part_cards id (place + 1) others end) f.others in
+        let g = split (cards_in body) (part_cards id (place + 1) others end) f.others in
         in-arms (last_in n body) id (place + 1) others end (with_list body ss cs) h.parts g.1 m
         (in-list n body cs h.below g.0 (omega (arith, up-arms (last_in n body) others, m)) a)
 
-    in-else : (n id : ℕ) (other : ElseTree) (cs : List Called) → NumberedElse n other → AllHeld (else_cards id other) → last_else n other ≤ count → AllIn cs → AllIn (with_else other ss cs)
+    in-else : (n id : ℕ) (other : ElseTree) (cs : List Called) → NumberedElse n other → AllFormed (else_cards id other) → last_else n other ≤ count → AllIn cs → AllIn (with_else other ss cs)
     in-else n id no_else cs h f m a = a
     in-else n id (otherwise body) cs h f m a = in-list n body cs h f.others m a
 
-    in-list : (n : ℕ) (body : StmtTrees) (cs : List Called) → AreNumbered n body → AllHeld (cards_in body) → last_in n body ≤ count → AllIn cs → AllIn (with_list body ss cs)
+    in-list : (n : ℕ) (body : StmtTrees) (cs : List Called) → AreNumbered n body → AllFormed (cards_in body) → last_in n body ≤ count → AllIn cs → AllIn (with_list body ss cs)
     in-list n no_stmts cs h f m a = a
     in-list n (more_stmts s others) cs h f m a =
-        let g = held-parts (cards_of s) (cards_in others) f in
+        let g = split (cards_of s) (cards_in others) f in
         in-list (last_of n s) others (with_stmt s ss cs) h.behind g.1 m
         (in-stmt n s cs h.first g.0 (omega (arith, up-list (last_of n s) others, m)) a)
 
@@ -157,12 +151,12 @@ HasLine p c = has_spot c.at p.places.spots ≡ true
 abbrev pub CallsHaveLines : ParsedTree → Type 0
 CallsHaveLines p = (ss : List SymbolTree) → Each (HasLine p) (calls_of p ss)
 
-body-held : (p : ParsedTree) → AllHeld (statements_of p.module_read) → AllHeld (cards_in p.module_read.body)
+body-held : (p : ParsedTree) → AllFormed (statements_of p.module_read) → AllFormed (cards_in p.module_read.body)
 unfolding statements_of
 body-held p h =
     let m = p.module_read in
     let whole = title_cards m ++ decl_cards 0 m.decls ++ cards_in m.body in
-    (held-parts (title_cards m ++ decl_cards 0 m.decls) (cards_in m.body) (held-parts whole (card parts.End None end_module ∷ []) h).0).1
+    (split (title_cards m ++ decl_cards 0 m.decls) (cards_in m.body) (split whole (card parts.End None end_module ∷ []) h).0).1
 
 built : OfBuilt CallsHaveLines
 unfolding build_module

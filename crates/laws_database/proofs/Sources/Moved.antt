@@ -4,6 +4,7 @@ use Rattle.std.specs.Prelude.{slice_get, option_map, Option, Some, None, Result,
 use Rattle.std.proofs.lemmas.Option.{slice_get-map}
 use Rattle.f77_ast.specs.DeclTrees.{ParsedTree}
 use Rattle.f77_ast.specs.Symbols.{SymbolTree, number_from}
+use Rattle.f77_ast.specs.Hidden.{carrier_in}
 use Rattle.fx_lists.specs.declared.code.Code.{Code}
 use Rattle.fx_lists.specs.declared.code.Code.TheVariants.{Recursion}
 use Rattle.call_graph.specs.declared.calls.Called.{Called}
@@ -11,7 +12,7 @@ use Rattle.call_graph.specs.declared.graph.Graph.{Graph}
 use Rattle.call_graph.specs.declared.refusal.Fault.{Fault}
 use Rattle.call_graph.specs.declared.refusal.Fault.TheVariants as fault
 use Rattle.call_graph.specs.Faults.{or_fault, unless}
-use Rattle.call_graph.specs.Modules.{names_of, statement_line, too_many_at, too_many, is_place, twice_from, name_twice, second_main, main_twice, no_main}
+use Rattle.call_graph.specs.Modules.{most_modules, names_of, statement_line, has_spot, carrier_or, call_line, too_many_at, too_many, is_place, twice_from, name_twice, second_main, main_twice, no_main}
 use Rattle.call_graph.specs.Calls.{calls_of, all_calls}
 use Rattle.call_graph.specs.Callees.{against_found, against_at, call_cause, or_later, first_in, unfit_at, unfit_from, all_places}
 use Rattle.call_graph.specs.Recursion.{reaches, is_back, cyclic_in, cyclic_at, cyclic_from}
@@ -19,7 +20,7 @@ use Rattle.call_graph.specs.Links.{program_calls, callees_of, unfit, cyclic, gra
 use Rattle.laws_programs.specs.roundtrip_programs.Statements.Formed.{Each}
 use Rattle.laws_programs.specs.roundtrip_programs.Pieces.Moved.{moved}
 use Rattle.session_texts.specs.Sources.{refusal_for, source_refusal}
-use Rattle.laws_database.proofs.Sources.Spots.{has_spot, line_moved}
+use Rattle.laws_database.proofs.Sources.Spots.{line_moved, has_moved}
 use Rattle.laws_database.proofs.Sources.Calls.{CallsHaveLines}
 
 -- each of the second modules is that of the first, its lines counted on by so many, which the place of the module says; the first has this place
@@ -74,7 +75,7 @@ no-more (Some p) None e h = cc
 no-more (Some p) (Some q) e h = cc
 
 not-too-many : (ps qs : List ParsedTree) → map bare ps ≡ map bare qs → too_many qs ≡ None → too_many ps ≡ None
-not-too-many ps qs e h = no-more (slice_get ps 64) (slice_get qs 64) (sym (slice_get-map bare ps 64) ∙ ap (λ xs. slice_get xs 64) e ∙ slice_get-map bare qs 64) h
+not-too-many ps qs e h = no-more (slice_get ps most_modules) (slice_get qs most_modules) (sym (slice_get-map bare ps most_modules) ∙ ap (λ xs. slice_get xs most_modules) e ∙ slice_get-map bare qs most_modules) h
 
 go-on : (b c : Bool) (f g : Option Fault) (x y : Fault) → b ≡ c → (if c then g else Some y) ≡ None → (g ≡ None → f ≡ None) → (if b then f else Some x) ≡ None
 go-on true true f g x y e h i = i h
@@ -126,8 +127,15 @@ main-moved by k (p ∷ ps) (q ∷ qs) h =
     main-by by p.module_read.main q.module_read.main (no_main ps) (no_main qs) (ap (λ x. x.module_read.main) (sym h.0)) (main-moved by (suc k) ps qs h.1)
 
 -- the line of a statement that has one
-line-at : (by n : ℕ) (p q : ParsedTree) → q ≡ moved by p → has_spot n p.places.spots ≡ true → statement_line n p.places.spots + by ≡ statement_line n q.places.spots
-line-at by n p q e h = sym (line_moved by n p.places.spots h) ∙ ap (λ x. statement_line n x.places.spots) (sym e)
+own-line : (n : ℕ) (p : ParsedTree) → has_spot n p.places.spots ≡ true → call_line n p ≡ statement_line n p.places.spots
+own-line n p h = ap (λ b. statement_line (if b then n else carrier_or n (carrier_in n p.module_read.body)) p.places.spots) h
+
+line-at : (by n : ℕ) (p q : ParsedTree) → q ≡ moved by p → has_spot n p.places.spots ≡ true → call_line n p + by ≡ call_line n q
+line-at by n p q e h =
+    ap (λ x. x + by) (own-line n p h)
+    ∙ sym (line_moved by n p.places.spots h)
+    ∙ sym (own-line n (moved by p) (has_moved by n p.places.spots ∙ h))
+    ∙ ap (call_line n) (sym e)
 
 -- ---- CALLs that do not fit
 

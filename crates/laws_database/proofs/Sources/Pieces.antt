@@ -17,7 +17,7 @@ use Rattle.session_texts.specs.Sources.{named_texts}
 use Rattle.laws_database.specs.Sources.Whole.{lines_before}
 use Rattle.laws_database.proofs.Sources.Calls.{CallsHaveLines, calls_have_lines}
 use Rattle.laws_database.proofs.Sources.Moved.{AreMoved, moved_later}
-use Rattle.laws_database.proofs.TextPieces.{read-by}
+use Rattle.session_texts.proofs.SourceTexts.{read_alone}
 
 -- so many lines of the source come before the text at a place
 abbrev pub before_of : List ModuleText → ℕ → ℕ
@@ -47,7 +47,7 @@ read-as law (p ∷ ps) (m ∷ ms) (table ∷ tables) h k =
     let found : ReadModule = record { module_is = alone; table = table } in
     let us = named_texts ps ms in
     let ts = named_texts (p ∷ ps) (m ∷ ms) in
-    let read : module_read p.text ≡ Some found = read-by p.text alone table h.0.read (law m alone table same k.0) in
+    let read : module_read p.text ≡ Some found = read_alone p.text alone table h.0.read (law m alone table same k.0) in
     let all : modules_in ts ≡ found ∷ modules_in us = ap (λ o. option_to_list o ++ modules_in us) read in
     let rest = read-as law ps ms tables h.1 k.1 in
     let first : ReadAs ts (found ∷ modules_in us) (m ∷ ms) (table ∷ tables) = record {

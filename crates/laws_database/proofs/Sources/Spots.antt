@@ -1,5 +1,5 @@
 -- Each executable statement of a module that is built has its line.
-use Rattle.std.proofs.Common.{◌≡◌, ℕ, ◌+◌, ◌≤◌, Bool, true, false, ◌||◌, List, [], ◌∷◌, ◌++◌, map, refl, arith, if◌then◌else◌}
+use Rattle.std.proofs.Common.{◌≡◌, ℕ, ◌+◌, ◌≤◌, Bool, true, false, ◌||◌, List, [], ◌∷◌, ◌++◌, map, refl, ap, arith, if◌then◌else◌}
 use Rattle.std.proofs.lemmas.Bool.Decides.{nat_tests}
 use Rattle.std.specs.Prelude.{Option, Some, None, nat_eq, length}
 use Rattle.std.proofs.lemmas.Bool.{or_left, or_right}
@@ -10,14 +10,10 @@ use Rattle.f77_statements.specs.Phrases.{PhraseTree, program, subroutine, specif
 use Rattle.f77_parser.specs.Statements.{StatementTree}
 use Rattle.f77_parser.specs.SoFar.{OpeningTree, opening_loop, branches, AroundTree, SoFar, spot, add_spot, add_executable, add_logical_if, open_block, leave_block, is_loop_to, leave_loops, end_loops_at, close_innermost, close_block}
 use Rattle.f77_parser.specs.Building.{next_part, divide_innermost, add_continue, add_phrase, add_statement, add_all, no_statements}
-use Rattle.call_graph.specs.Modules.{is_statement, statement_line}
+use Rattle.call_graph.specs.Modules.{is_statement, statement_line, has_spot}
 use Rattle.laws_programs.specs.roundtrip_programs.Pieces.Moved.{moved_spot}
 
 -- ---- a statement that has a line
-
-abbrev pub has_spot : ℕ → List Spot → Bool
-has_spot n [] = false
-has_spot n (q ∷ qs) = is_statement n q.part || has_spot n qs
 
 pub line_moved : (by n : ℕ) (qs : List Spot) → has_spot n qs ≡ true → statement_line n (map (moved_spot by) qs) ≡ statement_line n qs + by
 line_moved by n [] h = cc
@@ -27,6 +23,10 @@ line_moved by n (q ∷ qs) h = go (is_statement n q.part) h (line_moved by n qs)
         → (if b then q.first + by else statement_line n (map (moved_spot by) qs)) ≡ (if b then q.first else statement_line n qs) + by
     go true e ih = refl
     go false e ih = ih e
+
+pub has_moved : (by n : ℕ) (qs : List Spot) → has_spot n (map (moved_spot by) qs) ≡ has_spot n qs
+has_moved by n [] = refl
+has_moved by n (q ∷ qs) = ap (λ b. is_statement n q.part || b) (has_moved by n qs)
 
 -- ---- the statements so far
 

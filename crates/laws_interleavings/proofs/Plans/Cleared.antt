@@ -27,8 +27,9 @@ use Rattle.laws_interleavings.proofs.Stores.{put_other}
 use Rattle.laws_interleavings.specs.Typed.{TagsStand, IsTagged, AllTagged, IsNoDummy}
 use Rattle.laws_interleavings.specs.Plans.Fine.{AreFine}
 use Rattle.laws_interleavings.specs.Plans.Cleared.{HasNoValue, Ending, Cleared, OffPlace, OffPlaces, Off, IsNoJump, EndsWell, MeaningCleared, IsApartFrom, AllApart, AllEnd}
-use Rattle.laws_interleavings.proofs.Plans.Fine.{Yields, yields_then, yields_any, Any, fine_after, fine_after_so, fine_given, fine_value, fine_values, fine_range_of, fine_target, fine_all_shown, fine_name_target, fine_arrays, arrays_tagged, scalars_tagged}
+use Rattle.laws_interleavings.proofs.Plans.Fine.{Yields, yields_then, yields_any, fine_after, fine_after_so, fine_given, fine_value, fine_values, fine_range_of, fine_target, fine_all_shown, fine_name_target, fine_arrays, arrays_tagged, scalars_tagged}
 use Rattle.f77_ast.proofs.Shared.{steps_then}
+use Rattle.fx_lists.proofs.Every.{Anything}
 
 module _ (u : ℕ) where
   -- another unit
@@ -151,7 +152,7 @@ module _ (u : ℕ) where
   cleared_iterations (suc k) n step x body o h =
       cleared_then body (λ f. on_normal f (first (given Int (kept (n +ℤ step))) (λ c. Set x c (iterations_from k c.number step x body)))) h
       (λ f. normal_goes f (first (given Int (kept (n +ℤ step))) (λ c. Set x c (iterations_from k c.number step x body)))
-      (cleared_first Any (given Int (kept (n +ℤ step))) (λ c. Set x c (iterations_from k c.number step x body)) (fine_given other other Int (kept (n +ℤ step))) (yields_any (given Int (kept (n +ℤ step)))) (λ c a. cleared_set x c (iterations_from k c.number step x body) o (cleared_iterations k c.number step x body o h))))
+      (cleared_first Anything (given Int (kept (n +ℤ step))) (λ c. Set x c (iterations_from k c.number step x body)) (fine_given other other Int (kept (n +ℤ step))) (yields_any (given Int (kept (n +ℤ step)))) (λ c a. cleared_set x c (iterations_from k c.number step x body) o (cleared_iterations k c.number step x body o h))))
 
   -- ---- targets
 
@@ -214,7 +215,7 @@ module _ (u : ℕ) where
   target_aims locked (tree.int n) w at off = tt
   target_aims locked (tree.log b) w at off = tt
   target_aims locked (tree.name x) w at off = name_aims locked (w x) at (off x)
-  target_aims locked (tree.element x es) w at off = yields_then Any (Aims locked) (values es w at) (element_target (w x) at) (yields_any (values es w at)) (λ ns n. element_aims locked (w x) at ns (off x))
+  target_aims locked (tree.element x es) w at off = yields_then Anything (Aims locked) (values es w at) (element_target (w x) at) (yields_any (values es w at)) (λ ns n. element_aims locked (w x) at ns (off x))
   target_aims locked (tree.paren e) w at off = tt
   target_aims locked (tree.unary o e) w at off = tt
   target_aims locked (tree.binary o a b) w at off = tt
@@ -351,7 +352,7 @@ module _ (u : ℕ) where
       go (Some k) = inside k (nat_lt k p.extent) refl
 
   value_stored_off : (locked : Locks) (e : ExprTree) (w : Names) (at : Places) (x : ℕ) → Yields (ActualOff locked) (value e w at >>= stored x)
-  value_stored_off locked e w at x = yields_then Any (ActualOff locked) (value e w at) (stored x) (yields_any (value e w at)) (λ c n. stored_off locked x c)
+  value_stored_off locked e w at x = yields_then Anything (ActualOff locked) (value e w at) (stored x) (yields_any (value e w at)) (λ c n. stored_off locked x c)
 
   name_off : (locked : Locks) (m : Meant) (at : Places) (x : ℕ) → ((v : ℕ) → m ≡ Variable v → OffPlace u locked (at v)) → Yields (ActualOff locked) (name_actual m at x)
   name_off locked (Constant c) at x off = stored_off locked x c
@@ -360,7 +361,7 @@ module _ (u : ℕ) where
 
   element_actual_off : (locked : Locks) (m : Meant) (e : ExprTree) (es : ExprTrees) (w : Names) (at : Places) (x : ℕ) → ((v : ℕ) → m ≡ Variable v → OffPlace u locked (at v)) → Yields (ActualOff locked) (element_actual m e es w at x)
   element_actual_off locked (Constant c) e es w at x off = tt
-  element_actual_off locked (Variable v) e es w at x off = yields_then Any (ActualOff locked) (values es w at) (λ ns. rest_after (at v) (element_in (at v) ns)) (yields_any (values es w at)) (λ ns n. rest_off locked (at v) ns (off v refl))
+  element_actual_off locked (Variable v) e es w at x off = yields_then Anything (ActualOff locked) (values es w at) (λ ns. rest_after (at v) (element_in (at v) ns)) (yields_any (values es w at)) (λ ns n. rest_off locked (at v) ns (off v refl))
   element_actual_off locked Function e es w at x off = value_stored_off locked e w at x
 
   actual_off : (locked : Locks) (e : ExprTree) (w : Names) (at : Places) (x : ℕ) → Off u locked w at → Yields (ActualOff locked) (actual e w at x)
@@ -440,7 +441,7 @@ module _ (u : ℕ) where
   value_held e w at x ok s i n =
       let q = run (value e w at) (Whole s) i in
       leads_then (value e w at) (stored x) s i (λ a z j. HeldOr (a ∷ []) z)
-      (at_end_more q.answer (store_of q.memory) q.input (λ c z j. Unit {0} × HasNoValue z u) (λ c z j. Leads (stored x c) z j (λ a y l. HeldOr (a ∷ []) y)) (λ c z j h. stored_held x c z j h.1) (keeps Any (value e w at) (fine_value other other e w at ok) (yields_any (value e w at)) s i n))
+      (at_end_more q.answer (store_of q.memory) q.input (λ c z j. Unit {0} × HasNoValue z u) (λ c z j. Leads (stored x c) z j (λ a y l. HeldOr (a ∷ []) y)) (λ c z j h. stored_held x c z j h.1) (keeps Anything (value e w at) (fine_value other other e w at ok) (yields_any (value e w at)) s i n))
 
   rest_held : (p : Place) (o : Option ℕ) (s : Store) (i : List Content) → HasNoValue s u → Leads (rest_after p o) s i (λ a z j. HeldOr (a ∷ []) z)
   rest_held p None s i n = tt
@@ -456,7 +457,7 @@ module _ (u : ℕ) where
   element_held (Variable v) e es w at x ok s i n =
       let q = run (values es w at) (Whole s) i in
       leads_then (values es w at) (λ ns. rest_after (at v) (element_in (at v) ns)) s i (λ a z j. HeldOr (a ∷ []) z)
-      (at_end_more q.answer (store_of q.memory) q.input (λ c z j. Unit {0} × HasNoValue z u) (λ ns z j. Leads (rest_after (at v) (element_in (at v) ns)) z j (λ a y l. HeldOr (a ∷ []) y)) (λ ns z j h. rest_held (at v) (element_in (at v) ns) z j h.1) (keeps Any (values es w at) (fine_values other other es w at ok) (yields_any (values es w at)) s i n))
+      (at_end_more q.answer (store_of q.memory) q.input (λ c z j. Unit {0} × HasNoValue z u) (λ ns z j. Leads (rest_after (at v) (element_in (at v) ns)) z j (λ a y l. HeldOr (a ∷ []) y)) (λ ns z j h. rest_held (at v) (element_in (at v) ns) z j h.1) (keeps Anything (values es w at) (fine_values other other es w at ok) (yields_any (values es w at)) s i n))
   element_held Function e es w at x ok s i n = value_held e w at x ok s i n
 
   actual_held : (e : ExprTree) (w : Names) (at : Places) (x : ℕ) → TagsStand w at → (s : Store) (i : List Content) → HasNoValue s u → Leads (actual e w at x) s i (λ a z j. HeldOr (a ∷ []) z)
@@ -569,7 +570,7 @@ module _ (u : ℕ) where
   module _ (sc : Scope) (callee : (x : List ℕ) → MeaningCleared u (sc.callee x)) (well : (x : List ℕ) → EndsWell (sc.callee x)) (at : Places) (ok : TagsStand sc.names at) where
     cleared_head : (index : List ℕ) (e1 e2 : ExprTree) (e3 : Option ExprTree) (body : StmtTrees) (locked : Locks) → Off u locked sc.names at → ((l : Locks) → Off u l sc.names at → PartsCleared (parts body sc at l)) → Cleared u (do_plan (tree.loop index e1 e2 e3 body) sc at locked)
     cleared_head index e1 e2 e3 body locked off p =
-        cleared_first Any (range_of e1 e2 e3 sc.names at) _ (fine_range_of other other e1 e2 e3 sc.names at ok) (yields_any (range_of e1 e2 e3 sc.names at))
+        cleared_first Anything (range_of e1 e2 e3 sc.names at) _ (fine_range_of other other e1 e2 e3 sc.names at ok) (yields_any (range_of e1 e2 e3 sc.names at))
         (λ r n. cleared_first (Aims locked) (name_target (sc.names index) at) _ (fine_name_target other other (sc.names index) at) (name_aims locked (sc.names index) at (off index))
         (λ t h. begin r t.unit (locked t.unit) refl h))
       where
@@ -588,18 +589,18 @@ module _ (u : ℕ) where
       cleared_stmt (tree.stmt n label w) locked off = cleared_within (execution w n sc at locked) (λ f. Ends f) (cleared_what w n locked off) ends
 
       pub cleared_what : (w : WhatTree) (n : ℕ) (locked : Locks) → Off u locked sc.names at → Cleared u (execution w n sc at locked)
-      cleared_what (tree.assign a b) n locked off = cleared_first Any (assigned a b sc.names at locked) (λ o. Ends Normal) (assigned_off a b sc.names at locked ok off) (yields_any (assigned a b sc.names at locked)) (λ o h s i z. z)
+      cleared_what (tree.assign a b) n locked off = cleared_first Anything (assigned a b sc.names at locked) (λ o. Ends Normal) (assigned_off a b sc.names at locked ok off) (yields_any (assigned a b sc.names at locked)) (λ o h s i z. z)
       cleared_what (tree.block_if arms rest) n locked off = cleared_arms arms (else_plan rest sc at locked) locked off (cleared_else rest locked off)
       cleared_what (tree.logical_if test s) n locked off =
-          cleared_first Any (value test sc.names at) _ (fine_value other other test sc.names at ok) (yields_any (value test sc.names at)) (λ c h. cleared_if (is_true c.number) (statement_plan s sc at locked) (Ends Normal) (cleared_stmt s locked off) (λ s i n. n))
+          cleared_first Anything (value test sc.names at) _ (fine_value other other test sc.names at ok) (yields_any (value test sc.names at)) (λ c h. cleared_if (is_true c.number) (statement_plan s sc at locked) (Ends Normal) (cleared_stmt s locked off) (λ s i n. n))
       cleared_what (tree.do_loop l) n locked off = cleared_do l locked off
       cleared_what (tree.call x es) n locked off = cleared_call (sc.callee x) locked es sc.names at (sc.own_unit n) ok off (callee x) (well x)
       cleared_what (tree.goto l) n locked off = λ s i z. z
       cleared_what tree.continue n locked off = λ s i z. z
       cleared_what tree.return n locked off = λ s i z. z
       cleared_what (tree.stop text) n locked off = λ s i z. tt
-      cleared_what (tree.print es) n locked off = cleared_first Any (all_shown es sc.names at) (λ xs. Show xs (Ends Normal)) (fine_all_shown other other es sc.names at ok) (yields_any (all_shown es sc.names at)) (λ xs h s i z. z)
-      cleared_what (tree.read es) n locked off = cleared_first Any (items_read es sc.names at locked) (λ o. Ends Normal) (items_off es sc.names at locked ok off) (yields_any (items_read es sc.names at locked)) (λ o h s i z. z)
+      cleared_what (tree.print es) n locked off = cleared_first Anything (all_shown es sc.names at) (λ xs. Show xs (Ends Normal)) (fine_all_shown other other es sc.names at ok) (yields_any (all_shown es sc.names at)) (λ xs h s i z. z)
+      cleared_what (tree.read es) n locked off = cleared_first Anything (items_read es sc.names at locked) (λ o. Ends Normal) (items_off es sc.names at locked ok off) (yields_any (items_read es sc.names at locked)) (λ o h s i z. z)
 
       cleared_arms : (arms : ArmTrees) (rest : Plan) (locked : Locks) → Off u locked sc.names at → Cleared u rest → Cleared u (arms_plan arms sc at locked rest)
       cleared_arms tree.no_arms rest locked off h = h
@@ -607,7 +608,7 @@ module _ (u : ℕ) where
 
       cleared_arm : (a : ArmTree) (rest : Plan) (locked : Locks) → Off u locked sc.names at → Cleared u rest → Cleared u (arm_plan a sc at locked rest)
       cleared_arm (tree.arm test body) rest locked off h =
-          cleared_first Any (value test sc.names at) _ (fine_value other other test sc.names at ok) (yields_any (value test sc.names at)) (λ c g. cleared_if (is_true c.number) (list_plan sc.turns (parts body sc at locked)) rest (cleared_list sc.turns (parts body sc at locked) (cleared_parts body locked off)) h)
+          cleared_first Anything (value test sc.names at) _ (fine_value other other test sc.names at ok) (yields_any (value test sc.names at)) (λ c g. cleared_if (is_true c.number) (list_plan sc.turns (parts body sc at locked)) rest (cleared_list sc.turns (parts body sc at locked) (cleared_parts body locked off)) h)
 
       cleared_else : (o : ElseTree) (locked : Locks) → Off u locked sc.names at → Cleared u (else_plan o sc at locked)
       cleared_else tree.no_else locked off = λ s i n. n
@@ -693,7 +694,7 @@ module _ (u : ℕ) where
   pub arrays_off : (locked : Locks) (ds : List Dummy) (ps : List Place) (w : Names) (at : Places) → nat_eq 0 u ≡ false → OffPlaces u locked ps → Off u locked w at → Yields (Off u locked w) (arrays_bound ds ps w at)
   arrays_off locked [] ps w at z o off = off
   arrays_off locked (d ∷ ds) ps w at z o off =
-      yields_then Any (Off u locked w) (dims_read d.bounds w at) (λ ms. dummy_bound d (first_place ps) ms at >>= arrays_bound ds (other_places ps) w) (yields_any (dims_read d.bounds w at))
+      yields_then Anything (Off u locked w) (dims_read d.bounds w at) (λ ms. dummy_bound d (first_place ps) ms at >>= arrays_bound ds (other_places ps) w) (yields_any (dims_read d.bounds w at))
       (λ ms n. yields_then (Off u locked w) (Off u locked w) (dummy_bound d (first_place ps) ms at) (arrays_bound ds (other_places ps) w) (dummy_off locked w d (first_place ps) ms at (first_off locked ps z o) off) (λ at' off'. arrays_off locked ds (other_places ps) w at' z (others_off locked ps o) off'))
 
   pub yields_both : {A : Type 0} (P Q : A → Type 0) (t : Steps A) → Yields P t → Yields Q t → Yields (λ a. P a × Q a) t
@@ -721,7 +722,7 @@ module _ (u : ℕ) where
     pub cleared_module : (r : Routine) (rs : List Routine) → IsTagged r → CallsCleared rs → CallsEnd rs → (ps : List Place) (at : Places) (locked : Locks) → OffPlaces u locked ps → TagsStand r.names at → Off u locked r.names at → Cleared u (body_of r turns (meanings rs turns) ps at locked)
     cleared_module r rs tagged h well ps at locked o ok off =
         cleared_first (λ at'. TagsStand r.names at' × Off u locked r.names at') (arrays_bound r.dummies ps r.names at) (λ at'. body_plan r.body (scope r turns (meanings rs turns)) at' (lock_doubly locked r.dummies at' r.common)) (fine_arrays other other r.dummies ps r.names at tagged.dummies ok)
-        (yields_both (TagsStand r.names) (Off u locked r.names) (arrays_bound r.dummies ps r.names at) (arrays_tagged other other r.dummies ps r.names at tagged.dummies ok) (arrays_off locked r.dummies ps r.names at z o off))
+        (yields_both (TagsStand r.names) (Off u locked r.names) (arrays_bound r.dummies ps r.names at) (arrays_tagged r.dummies ps r.names at tagged.dummies ok) (arrays_off locked r.dummies ps r.names at z o off))
         (λ at' q. cleared_body (scope r turns (meanings rs turns)) h well at' q.0 r.body (lock_doubly locked r.dummies at' r.common) (off_more locked (lock_doubly locked r.dummies at' r.common) r.names at' (doubly_none locked r.dummies at' r.common) q.1))
 
     -- by a local of the module, or by none of its variables
@@ -760,7 +761,7 @@ module _ (u : ℕ) where
         by_apart f =
             let off = scalars_off locked r.names r.dummies ps r.fixed z o (λ x v e d k. f x v e d) in
             cleared_within body (after_call r.locals)
-            (cleared_forget_all r.locals (body_of r turns (meanings rs turns) ps at locked) (cleared_module r rs tagged h well ps at locked o (scalars_tagged other other r.names r.dummies ps r.fixed tagged.dummies tagged.fixed) off))
+            (cleared_forget_all r.locals (body_of r turns (meanings rs turns) ps at locked) (cleared_module r rs tagged h well ps at locked o (scalars_tagged r.names r.dummies ps r.fixed tagged.dummies tagged.fixed) off))
             (call_goes r.locals) s i n
 
     pub cleared_meanings : (rs : List Routine) → AllTagged rs → AllApart u rs → AllEnd turns rs → CallsCleared rs

@@ -27,6 +27,7 @@ use Rattle.laws_interleavings.specs.MarkedPrograms.{Directives, marked_scope, ma
 use Rattle.laws_interleavings.specs.Faults.{IsFault, StepsFault}
 use Rattle.laws_interleavings.specs.Typed.{HasTag, TagsStand, DummiesTagged, IsNoDummy, IsTagged, AllTagged}
 use Rattle.laws_interleavings.specs.Plans.Fine.{IsFine, AreFine, Frees, MeaningFine}
+use Rattle.fx_lists.proofs.Every.{Anything}
 
 pub no_undefined : (t c : Tag) → HasTag t → c ≡ Undefined → same_tag t c ≡ false
 no_undefined t c h e = ap (same_tag t) e ∙ h
@@ -93,11 +94,7 @@ yields_then P Q (steps.Show xs t) f h n = yields_then P Q t f h n
 yields_then P Q (steps.Take k) f h n = λ o. yields_then P Q (k o) f (h o) n
 yields_then P Q (steps.Arrive p t) f h n = yields_then P Q t f h n
 
--- nothing is said of it
-abbrev pub Any : {A : Type 0} → A → Type 0
-Any a = Unit {0}
-
-pub yields_any : {A : Type 0} (t : Steps A) → Yields Any t
+pub yields_any : {A : Type 0} (t : Steps A) → Yields Anything t
 yields_any (steps.Done a) = tt
 yields_any (steps.Breaks b) = tt
 yields_any (steps.Look u k) = λ c. yields_any (k c)
@@ -107,6 +104,44 @@ yields_any (steps.Forget u t) = yields_any t
 yields_any (steps.Show xs t) = yields_any t
 yields_any (steps.Take k) = λ o. yields_any (k o)
 yields_any (steps.Arrive p t) = yields_any t
+
+-- ---- tags
+
+tag_given : (p : Place) (t : Tag) (ds : List Dim) → HasTag t → Yields (λ (q : Place). HasTag q.tag) (array_place p t ds)
+tag_given p t ds h = go (is_open ds) (nat_le (total_size ds) p.extent)
+  where
+    go : (a b : Bool) → Yields {A = Place} (λ (q : Place). HasTag q.tag) (if a then steps.Done (array_at p t ds (open_extent p ds)) else if b then steps.Done (array_at p t ds (total_size ds)) else fault Bounds)
+    go true b = h
+    go false true = h
+    go false false = tt
+
+put_tagged : (w : Names) (at : Places) (n : ℕ) (p : Place) → TagsStand w at → HasTag p.tag → TagsStand w (put at n p)
+put_tagged w at n p ok h x v e = go (nat_eq v n)
+  where
+    go : (b : Bool) → HasTag (if b then p else at v).tag
+    go true = h
+    go false = ok x v e
+
+pub dummy_tagged : (w : Names) (d : Dummy) (p : Place) (ds : List Dim) (at : Places) → HasTag d.tag → TagsStand w at → Yields (TagsStand w) (dummy_bound d p ds at)
+dummy_tagged w d p [] at h ok = ok
+dummy_tagged w d p (m ∷ ms) at h ok = yields_then (λ (q : Place). HasTag q.tag) (TagsStand w) (array_place p d.tag (m ∷ ms)) (λ q. steps.Done (put at d.symbol q)) (tag_given p d.tag (m ∷ ms) h) (λ q i. put_tagged w at d.symbol q ok i)
+
+pub arrays_tagged : (ds : List Dummy) (ps : List Place) (w : Names) (at : Places) → DummiesTagged ds → TagsStand w at → Yields (TagsStand w) (arrays_bound ds ps w at)
+arrays_tagged [] ps w at h ok = ok
+arrays_tagged (d ∷ ds) ps w at h ok =
+    yields_then Anything (TagsStand w) (dims_read d.bounds w at) (λ ms. dummy_bound d (first_place ps) ms at >>= arrays_bound ds (other_places ps) w) (yields_any (dims_read d.bounds w at))
+    (λ ms u. yields_then (TagsStand w) (TagsStand w) (dummy_bound d (first_place ps) ms at) (arrays_bound ds (other_places ps) w) (dummy_tagged w d (first_place ps) ms at h.0 ok) (λ at' ok'. arrays_tagged ds (other_places ps) w at' h.1 ok'))
+
+scalar_tagged : (ds : List Dummy) (ps : List Place) (at : Places) → DummiesTagged ds → (v : ℕ) → (IsNoDummy ds v → HasTag (at v).tag) → HasTag (scalars_bound ds ps at v).tag
+scalar_tagged [] ps at h v f = f tt
+scalar_tagged (d ∷ ds) ps at h v f = go (nat_eq v d.symbol) refl (λ e. scalar_tagged ds (other_places ps) at h.1 v (λ n. f (e, n)))
+  where
+    go : (b : Bool) → nat_eq v d.symbol ≡ b → (nat_eq v d.symbol ≡ false → HasTag (scalars_bound ds (other_places ps) at v).tag) → HasTag (if b then scalar_place (first_place ps).first d.tag else scalars_bound ds (other_places ps) at v).tag
+    go true e ih = h.0
+    go false e ih = ih e
+
+pub scalars_tagged : (w : Names) (ds : List Dummy) (ps : List Place) (at : Places) → DummiesTagged ds → ((x : List ℕ) (v : ℕ) → w x ≡ Variable v → IsNoDummy ds v → HasTag (at v).tag) → TagsStand w (scalars_bound ds ps at)
+scalars_tagged w ds ps at h f x v e = scalar_tagged ds ps at h v (f x v e)
 
 module _ (free own : ℕ → Bool) where
   -- ---- one after another
@@ -454,7 +489,7 @@ module _ (free own : ℕ → Bool) where
   rest_owned p (Some k) = λ e. absurd (true≢false (sym e))
 
   value_owned : (e : ExprTree) (w : Names) (at : Places) (u : ℕ) → own u ≡ true → Yields ActualOwned (value e w at >>= stored u)
-  value_owned e w at u h = yields_then Any ActualOwned (value e w at) (stored u) (yields_any (value e w at)) (λ c n. stored_owned u h c)
+  value_owned e w at u h = yields_then Anything ActualOwned (value e w at) (stored u) (yields_any (value e w at)) (λ c n. stored_owned u h c)
 
   name_owned : (w : Meant) (at : Places) (u : ℕ) → own u ≡ true → Yields ActualOwned (name_actual w at u)
   name_owned (Constant c) at u h = stored_owned u h c
@@ -463,7 +498,7 @@ module _ (free own : ℕ → Bool) where
 
   element_owned : (m : Meant) (e : ExprTree) (es : ExprTrees) (w : Names) (at : Places) (u : ℕ) → own u ≡ true → Yields ActualOwned (element_actual m e es w at u)
   element_owned (Constant c) e es w at u h = tt
-  element_owned (Variable v) e es w at u h = yields_then Any ActualOwned (values es w at) (λ ns. rest_after (at v) (element_in (at v) ns)) (yields_any (values es w at)) (λ ns n. rest_owned (at v) (element_in (at v) ns))
+  element_owned (Variable v) e es w at u h = yields_then Anything ActualOwned (values es w at) (λ ns. rest_after (at v) (element_in (at v) ns)) (yields_any (values es w at)) (λ ns n. rest_owned (at v) (element_in (at v) ns))
   element_owned Function e es w at u h = value_owned e w at u h
 
   actual_owned : (e : ExprTree) (w : Names) (at : Places) (u : ℕ) → own u ≡ true → Yields ActualOwned (actual e w at u)
@@ -602,51 +637,15 @@ module _ (free own : ℕ → Bool) where
       go false true = tt
       go false false = tt
 
-  tag_given : (p : Place) (t : Tag) (ds : List Dim) → HasTag t → Yields (λ (q : Place). HasTag q.tag) (array_place p t ds)
-  tag_given p t ds h = go (is_open ds) (nat_le (total_size ds) p.extent)
-    where
-      go : (a b : Bool) → Yields {A = Place} (λ (q : Place). HasTag q.tag) (if a then steps.Done (array_at p t ds (open_extent p ds)) else if b then steps.Done (array_at p t ds (total_size ds)) else fault Bounds)
-      go true b = h
-      go false true = h
-      go false false = tt
-
-  put_tagged : (w : Names) (at : Places) (n : ℕ) (p : Place) → TagsStand w at → HasTag p.tag → TagsStand w (put at n p)
-  put_tagged w at n p ok h x v e = go (nat_eq v n)
-    where
-      go : (b : Bool) → HasTag (if b then p else at v).tag
-      go true = h
-      go false = ok x v e
-
   pub fine_dummy : (d : Dummy) (p : Place) (ds : List Dim) (at : Places) → AreFine free own (dummy_bound d p ds at)
   fine_dummy d p [] at = tt
   fine_dummy d p (m ∷ ms) at = fine_after (array_place p d.tag (m ∷ ms)) (λ q. steps.Done (put at d.symbol q)) (fine_array p d.tag (m ∷ ms)) (λ q. tt)
-
-  dummy_tagged : (w : Names) (d : Dummy) (p : Place) (ds : List Dim) (at : Places) → HasTag d.tag → TagsStand w at → Yields (TagsStand w) (dummy_bound d p ds at)
-  dummy_tagged w d p [] at h ok = ok
-  dummy_tagged w d p (m ∷ ms) at h ok = yields_then (λ (q : Place). HasTag q.tag) (TagsStand w) (array_place p d.tag (m ∷ ms)) (λ q. steps.Done (put at d.symbol q)) (tag_given p d.tag (m ∷ ms) h) (λ q i. put_tagged w at d.symbol q ok i)
 
   pub fine_arrays : (ds : List Dummy) (ps : List Place) (w : Names) (at : Places) → DummiesTagged ds → TagsStand w at → AreFine free own (arrays_bound ds ps w at)
   fine_arrays [] ps w at h ok = tt
   fine_arrays (d ∷ ds) ps w at h ok =
       fine_after (dims_read d.bounds w at) (λ ms. dummy_bound d (first_place ps) ms at >>= arrays_bound ds (other_places ps) w) (fine_dims d.bounds w at ok)
       (λ ms. fine_after_so (TagsStand w) (dummy_bound d (first_place ps) ms at) (arrays_bound ds (other_places ps) w) (fine_dummy d (first_place ps) ms at) (dummy_tagged w d (first_place ps) ms at h.0 ok) (λ at' ok'. fine_arrays ds (other_places ps) w at' h.1 ok'))
-
-  pub arrays_tagged : (ds : List Dummy) (ps : List Place) (w : Names) (at : Places) → DummiesTagged ds → TagsStand w at → Yields (TagsStand w) (arrays_bound ds ps w at)
-  arrays_tagged [] ps w at h ok = ok
-  arrays_tagged (d ∷ ds) ps w at h ok =
-      yields_then Any (TagsStand w) (dims_read d.bounds w at) (λ ms. dummy_bound d (first_place ps) ms at >>= arrays_bound ds (other_places ps) w) (yields_any (dims_read d.bounds w at))
-      (λ ms u. yields_then (TagsStand w) (TagsStand w) (dummy_bound d (first_place ps) ms at) (arrays_bound ds (other_places ps) w) (dummy_tagged w d (first_place ps) ms at h.0 ok) (λ at' ok'. arrays_tagged ds (other_places ps) w at' h.1 ok'))
-
-  scalar_tagged : (ds : List Dummy) (ps : List Place) (at : Places) → DummiesTagged ds → (v : ℕ) → (IsNoDummy ds v → HasTag (at v).tag) → HasTag (scalars_bound ds ps at v).tag
-  scalar_tagged [] ps at h v f = f tt
-  scalar_tagged (d ∷ ds) ps at h v f = go (nat_eq v d.symbol) refl (λ e. scalar_tagged ds (other_places ps) at h.1 v (λ n. f (e, n)))
-    where
-      go : (b : Bool) → nat_eq v d.symbol ≡ b → (nat_eq v d.symbol ≡ false → HasTag (scalars_bound ds (other_places ps) at v).tag) → HasTag (if b then scalar_place (first_place ps).first d.tag else scalars_bound ds (other_places ps) at v).tag
-      go true e ih = h.0
-      go false e ih = ih e
-
-  pub scalars_tagged : (w : Names) (ds : List Dummy) (ps : List Place) (at : Places) → DummiesTagged ds → ((x : List ℕ) (v : ℕ) → w x ≡ Variable v → IsNoDummy ds v → HasTag (at v).tag) → TagsStand w (scalars_bound ds ps at)
-  scalars_tagged w ds ps at h f x v e = scalar_tagged ds ps at h v (f x v e)
 
   module _ (turns : ℕ) (marks : Directives) where
     abbrev pub scope_in : Routine → List Routine → MarkedScope

@@ -272,13 +272,13 @@ module _ (turns : ℕ) (marks : Directives) where
 
   strict_body : (r : Routine) (rs : List Routine) → IsTagged r → AllTagged rs → CallsStrict rs → (ps : List Place) (at : Places) (locked : Locks) → TagsStand r.names at → StrictPlan (marked_body r (scope_in r rs) ps at locked)
   strict_body r rs tagged rest h ps at locked ok =
-      strict_first_so (TagsStand r.names) (arrays_bound r.dummies ps r.names at) _ (fine_arrays all all r.dummies ps r.names at tagged.dummies ok) (arrays_tagged all all r.dummies ps r.names at tagged.dummies ok)
+      strict_first_so (TagsStand r.names) (arrays_bound r.dummies ps r.names at) _ (fine_arrays all all r.dummies ps r.names at tagged.dummies ok) (arrays_tagged r.dummies ps r.names at tagged.dummies ok)
       (λ at' ok'. strict_list turns (marked_parts r.body (scope_in r rs) at' (lock_doubly locked r.dummies at' r.common)) (strict_parts (scope_in r rs) h (fine_meanings all all turns marks rs rest) at' ok' r.body (lock_doubly locked r.dummies at' r.common)))
 
   strict_called : (r : Routine) (rs : List Routine) → IsTagged r → AllTagged rs → CallsStrict rs → (ps : List Place) (locked : Locks) → StrictPlan ((marked_called r (scope_in r rs)).does ps locked)
   strict_called r rs tagged rest h ps locked =
       let at = scalars_bound r.dummies ps r.fixed in
-      (strict_forget r.locals (marked_body r (scope_in r rs) ps at locked) (strict_body r rs tagged rest h ps at locked (scalars_tagged all all r.names r.dummies ps r.fixed tagged.dummies tagged.fixed)), strict_after r.locals)
+      (strict_forget r.locals (marked_body r (scope_in r rs) ps at locked) (strict_body r rs tagged rest h ps at locked (scalars_tagged r.names r.dummies ps r.fixed tagged.dummies tagged.fixed)), strict_after r.locals)
 
   strict_meanings : (rs : List Routine) → AllTagged rs → CallsStrict rs
   strict_meanings [] o x = λ ps locked. tt

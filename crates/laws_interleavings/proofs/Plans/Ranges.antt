@@ -18,12 +18,11 @@ use Rattle.f77_ast.specs.Writes.{is_value, no_locks}
 use Rattle.f77_ast.specs.Plans.{Plan, steps_of}
 use Rattle.f77_ast.specs.Programs.{Routine, Program, program_plan, meanings, program_run}
 use Rattle.laws_interleavings.specs.Plans.Touched.{AnyUnit, InRange, Ranged, Suits, EachUnit, Keeps, AllKeep, HasNumbers, AllHaveNumbers, StoreInRange, EventsInRange}
-use Rattle.laws_interleavings.proofs.Plans.Touching.{AllNumbers, IsClosed, Good, Any, good_steps, each_meanings, each_body_of}
+use Rattle.laws_interleavings.proofs.Plans.Touching.{AllNumbers, IsClosed, Good, good_steps, each_meanings, each_body_of}
+use Rattle.fx_lists.proofs.Options.{some_is}
+use Rattle.fx_lists.proofs.Every.{Anything}
 
 -- ---- numbers
-
-is_same : (m n : ℤ) → Some m ≡ Some n → m ≡ n
-is_same m n e = cc
 
 kept_range : (n m : ℤ) → kept n ≡ Some m → InRange m
 kept_range n m = go (in_range n) refl
@@ -32,11 +31,11 @@ kept_range n m = go (in_range n) refl
     none e = cc
 
     go : (b : Bool) → in_range n ≡ b → (if b then Some n else None) ≡ Some m → InRange m
-    go true e q = subst InRange (is_same n m q) e
+    go true e q = subst InRange (some_is n m q) e
     go false e q = absurd (none q)
 
 given_range : (k m : ℤ) → InRange k → Some k ≡ Some m → InRange m
-given_range k m h e = subst InRange (is_same k m e) h
+given_range k m h e = subst InRange (some_is k m e) h
 
 truth_range : (b : Bool) → InRange (truth b)
 truth_range true = refl
@@ -165,7 +164,7 @@ put_range s u c h l x = go (nat_eq x u)
 abbrev pub on : {A : Type 0} → Steps A → Store → List Content → Ran A
 on t s i = run t (Whole s) i
 
-ranged : {A : Type 0} (t : Steps A) → Good AnyUnit InRange Any t → (s : Store) → StoreInRange s → (i : List Content) → EventsInRange (on t s i).trace × StoreInRange (store_of (on t s i).memory)
+ranged : {A : Type 0} (t : Steps A) → Good AnyUnit InRange Anything t → (s : Store) → StoreInRange s → (i : List Content) → EventsInRange (on t s i).trace × StoreInRange (store_of (on t s i).memory)
 ranged (Done a) h s l i = (tt, l)
 ranged (Breaks b) h s l i = (tt, l)
 ranged (Look u k) h s l i = let e = ranged (k (s u)) (h.1 (s u) (l u)) s l i in ((l u, e.0), e.1)

@@ -15,8 +15,9 @@ use Rattle.f77_ast.specs.Statements.{Scope, statement_plan}
 use Rattle.f77_ast.specs.Programs.{Routine, meanings}
 use Rattle.f77_meaning.specs.Accesses.{is_read, is_written}
 use Rattle.laws_interleavings.specs.Plans.Touched.{IsOther, AnyNumber, Avoids, Suits, Leaves, AllLeaves, OptionLeaves, StatementLeaves, WhatLeaves, ArmsLeaves, ArmLeaves, ElseLeaves, LoopLeaves, ListLeaves, MeaningAvoids, AnyName, BoundsLeaves, DummiesLeaves, AllKeep, AllUnused, DifferAt, RunsAlike}
-use Rattle.laws_interleavings.proofs.Plans.Touching.{IsClosed, Good, Any, good_steps, each_meanings, each_statement}
+use Rattle.laws_interleavings.proofs.Plans.Touching.{IsClosed, Good, good_steps, each_meanings, each_statement}
 use Rattle.laws_interleavings.proofs.Plans.Ranges.{on}
+use Rattle.fx_lists.proofs.Every.{Anything}
 
 put_other : (s : Store) (u : ℕ) (c : Content) (x : ℕ) → nat_eq u x ≡ false → put s u c x ≡ s x
 put_other s u c x e = grind (arith, nat_tests)
@@ -43,7 +44,7 @@ differ_put v u c s z d x e = go (nat_eq x u)
 differ_forget : (v u : ℕ) (s z : Store) → nat_eq u v ≡ false → DifferAt v s z → DifferAt v (put s u (undefined (s u))) (put z u (undefined (z u)))
 differ_forget v u s z n d = subst (λ c. DifferAt v (put s u (undefined (s u))) (put z u c)) (ap undefined (d u n)) (differ_put v u (undefined (s u)) s z d)
 
-alike : {A : Type 0} (v : ℕ) (t : Steps A) → Good (IsOther v) AnyNumber Any t → (s z : Store) → DifferAt v s z → (i : List Content) → Alike v t t s z i
+alike : {A : Type 0} (v : ℕ) (t : Steps A) → Good (IsOther v) AnyNumber Anything t → (s z : Store) → DifferAt v s z → (i : List Content) → Alike v t t s z i
 alike v (Done a) h s z d i = record { answer = refl; input = refl; trace = refl; ends = d; stays = refl; unread = refl; unwritten = refl }
 alike v (Breaks b) h s z d i = record { answer = refl; input = refl; trace = refl; ends = d; stays = refl; unread = refl; unwritten = refl }
 alike v (Look u k) h s z d i =

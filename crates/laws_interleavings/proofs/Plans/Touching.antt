@@ -24,6 +24,7 @@ use Rattle.f77_ast.specs.Statements.{Scope, statement_plan, execution, arms_plan
 use Rattle.f77_ast.specs.Programs.{Routine, scope, body_of, called, meanings}
 use Rattle.laws_interleavings.specs.Typed.{IsNoDummy}
 use Rattle.laws_interleavings.specs.Plans.Touched.{EachStep, Reaches, AllReach, Suits, Leaves, AllLeaves, OptionLeaves, StatementLeaves, WhatLeaves, ArmsLeaves, ArmLeaves, ElseLeaves, LoopLeaves, ListLeaves, MeaningKeeps, AnyName, BoundsLeaves, DummiesLeaves, EachUnit, Keeps, AllKeep}
+use Rattle.fx_lists.proofs.Every.{Anything}
 
 abbrev pub AllNumbers : (ℤ → Type 0) → List ℤ → Type 0
 AllNumbers N [] = Unit {0}
@@ -126,10 +127,6 @@ open_small p ds = go (nat_eq (total_size ds) 0)
     go true = none
     go false = all
 
--- nothing is said of what a computation gives
-abbrev pub Any : {A : Type 0} → A → Type 0
-Any a = Unit {0}
-
 module _ (U : ℕ → Type 0) (N : ℤ → Type 0) where
   scalar_reaches : (x : ℕ) (t : Tag) → U x → Reaches U (scalar_place x t)
   scalar_reaches x t h = (h, λ u e. subst U (in_scalar x t u e) h)
@@ -182,7 +179,7 @@ module _ (U : ℕ → Type 0) (N : ℤ → Type 0) where
   each_then (Within p at t k) f h n = (h.0, λ g. each_then (k g) f (h.1 g) n)
 
   -- the steps of a plan
-  pub good_steps : (t : Plan) → EachStep U N t → Good {A = Flow} Any (steps_of t)
+  pub good_steps : (t : Plan) → EachStep U N t → Good {A = Flow} Anything (steps_of t)
   good_steps (Ends f) h = tt
   good_steps (Breaks b) h = tt
   good_steps (Look u k) h = (h.0, λ c i. good_steps (k c) (h.1 c i))
@@ -191,7 +188,7 @@ module _ (U : ℕ → Type 0) (N : ℤ → Type 0) where
   good_steps (Forget u t) h = (h.0, good_steps t h.1)
   good_steps (Show xs t) h = good_steps t h
   good_steps (Take k) h = λ o. good_steps (k o) (h o)
-  good_steps (Within p at t k) h = good_after Any Any (steps_of t) (λ f. steps_of (k f)) (good_steps t h.0) (λ f i. good_steps (k f) (h.1 f))
+  good_steps (Within p at t k) h = good_after Anything Anything (steps_of t) (λ f. steps_of (k f)) (good_steps t h.0) (λ f i. good_steps (k f) (h.1 f))
 
   abbrev HasNumber : Content → Type 0
   HasNumber c = N c.number
@@ -282,10 +279,10 @@ module _ (U : ℕ → Type 0) (N : ℤ → Type 0) where
       good_target (tree.binary o a b) h = tt
       good_target (tree.chars x) h = tt
 
-      good_value_shown : (e : ExprTree) → Leaves Fits N e → Good {A = Shown} Any (value e w at >>= λ c. steps.Done (Value c))
-      good_value_shown e h = good_after HasNumber Any (value e w at) (λ c. steps.Done (Value c)) (good_value e h) (λ c i. tt)
+      good_value_shown : (e : ExprTree) → Leaves Fits N e → Good {A = Shown} Anything (value e w at >>= λ c. steps.Done (Value c))
+      good_value_shown e h = good_after HasNumber Anything (value e w at) (λ c. steps.Done (Value c)) (good_value e h) (λ c i. tt)
 
-      good_shown : (e : ExprTree) → Leaves Fits N e → Good {A = Shown} Any (shown e w at)
+      good_shown : (e : ExprTree) → Leaves Fits N e → Good {A = Shown} Anything (shown e w at)
       good_shown (tree.chars x) h = tt
       good_shown (tree.int n) h = good_value_shown (tree.int n) h
       good_shown (tree.log b) h = good_value_shown (tree.log b) h
@@ -295,36 +292,36 @@ module _ (U : ℕ → Type 0) (N : ℤ → Type 0) where
       good_shown (tree.unary o e) h = good_value_shown (tree.unary o e) h
       good_shown (tree.binary o a b) h = good_value_shown (tree.binary o a b) h
 
-      good_all_shown : (es : ExprTrees) → AllLeaves Fits N es → Good {A = List Shown} Any (all_shown es w at)
+      good_all_shown : (es : ExprTrees) → AllLeaves Fits N es → Good {A = List Shown} Anything (all_shown es w at)
       good_all_shown tree.no_exprs h = tt
       good_all_shown (tree.more_exprs e es) h =
-          good_after Any Any (shown e w at) (λ x. all_shown es w at >>= λ xs. steps.Done (x ∷ xs)) (good_shown e h.0) (λ x i. good_after Any Any (all_shown es w at) (λ xs. steps.Done (x ∷ xs)) (good_all_shown es h.1) (λ xs j. tt))
+          good_after Anything Anything (shown e w at) (λ x. all_shown es w at >>= λ xs. steps.Done (x ∷ xs)) (good_shown e h.0) (λ x i. good_after Anything Anything (all_shown es w at) (λ xs. steps.Done (x ∷ xs)) (good_all_shown es h.1) (λ xs j. tt))
 
-      good_write : (locked : Locks) (u : ℕ) (c : Content) → U u → N c.number → Good {A = Unit {0}} Any (write locked u c)
+      good_write : (locked : Locks) (u : ℕ) (c : Content) → U u → N c.number → Good {A = Unit {0}} Anything (write locked u c)
       good_write locked u c h n = go (locked u)
         where
-          go : (o : Option Fault) → Good {A = Unit {0}} Any (written o u c)
+          go : (o : Option Fault) → Good {A = Unit {0}} Anything (written o u c)
           go None = (h, n, tt)
           go (Some f) = tt
 
-      good_assigned : (a b : ExprTree) (locked : Locks) → Leaves Fits N a → Leaves Fits N b → Good {A = Unit {0}} Any (assigned a b w at locked)
+      good_assigned : (a b : ExprTree) (locked : Locks) → Leaves Fits N a → Leaves Fits N b → Good {A = Unit {0}} Anything (assigned a b w at locked)
       good_assigned a b locked h k =
-          good_after HasNumber Any (value b w at) (λ c. target a w at >>= λ t. write locked t.unit (content t.tag c.number)) (good_value b k)
-          (λ c i. good_after Aims Any (target a w at) (λ t. write locked t.unit (content t.tag c.number)) (good_target a h) (λ t j. good_write locked t.unit (content t.tag c.number) j i))
+          good_after HasNumber Anything (value b w at) (λ c. target a w at >>= λ t. write locked t.unit (content t.tag c.number)) (good_value b k)
+          (λ c i. good_after Aims Anything (target a w at) (λ t. write locked t.unit (content t.tag c.number)) (good_target a h) (λ t j. good_write locked t.unit (content t.tag c.number) j i))
 
-      good_taken : (locked : Locks) (t : Target) (o : Option Content) → U t.unit → Good {A = Unit {0}} Any (taken locked t o)
+      good_taken : (locked : Locks) (t : Target) (o : Option Content) → U t.unit → Good {A = Unit {0}} Anything (taken locked t o)
       good_taken locked t None h = tt
       good_taken locked t (Some c) h = go (same_tag t.tag c.tag && is_value t.tag c.number) refl
         where
-          go : (b : Bool) → (same_tag t.tag c.tag && is_value t.tag c.number) ≡ b → Good {A = Unit {0}} Any (if b then write locked t.unit c else fault Input)
+          go : (b : Bool) → (same_tag t.tag c.tag && is_value t.tag c.number) ≡ b → Good {A = Unit {0}} Anything (if b then write locked t.unit c else fault Input)
           go true e = good_write locked t.unit c h (ok.input t.tag c.number (and_parts (same_tag t.tag c.tag) (is_value t.tag c.number) e).1)
           go false e = tt
 
-      good_items : (es : ExprTrees) (locked : Locks) → AllLeaves Fits N es → Good {A = Unit {0}} Any (items_read es w at locked)
+      good_items : (es : ExprTrees) (locked : Locks) → AllLeaves Fits N es → Good {A = Unit {0}} Anything (items_read es w at locked)
       good_items tree.no_exprs locked h = tt
       good_items (tree.more_exprs e es) locked h =
-          good_after Aims Any (target e w at) (λ t. steps.Take (taken locked t) >>= λ o. items_read es w at locked) (good_target e h.0)
-          (λ t i. λ o. good_after Any Any (taken locked t o) (λ u. items_read es w at locked) (good_taken locked t o i) (λ u j. good_items es locked h.1))
+          good_after Aims Anything (target e w at) (λ t. steps.Take (taken locked t) >>= λ o. items_read es w at locked) (good_target e h.0)
+          (λ t i. λ o. good_after Anything Anything (taken locked t o) (λ u. items_read es w at locked) (good_taken locked t o i) (λ u j. good_items es locked h.1))
 
       abbrev Begins : Range → Type 0
       Begins r = N r.from
@@ -336,11 +333,11 @@ module _ (U : ℕ → Type 0) (N : ℤ → Type 0) where
           go true = tt
           go false = h
 
-      good_step : (e : Option ExprTree) → OptionLeaves Fits N e → Good {A = Content} Any (step_value e w at)
+      good_step : (e : Option ExprTree) → OptionLeaves Fits N e → Good {A = Content} Anything (step_value e w at)
       good_step None h = tt
       good_step (Some e) h = less (value e w at) (good_value e h)
         where
-          less : (t : Steps Content) → Good HasNumber t → Good {A = Content} Any t
+          less : (t : Steps Content) → Good HasNumber t → Good {A = Content} Anything t
           less (steps.Done a) h = tt
           less (steps.Breaks b) h = tt
           less (steps.Look u k) h = (h.0, λ c i. less (k c) (h.1 c i))
@@ -355,7 +352,7 @@ module _ (U : ℕ → Type 0) (N : ℤ → Type 0) where
       good_range_of e1 e2 e3 h1 h2 h3 =
           good_after HasNumber Begins (value e1 w at) (λ a. value e2 w at >>= λ b. step_value e3 w at >>= λ c. range a.number b.number c.number) (good_value e1 h1)
           (λ a i. good_after HasNumber Begins (value e2 w at) (λ b. step_value e3 w at >>= λ c. range a.number b.number c.number) (good_value e2 h2)
-          (λ b j. good_after Any Begins (step_value e3 w at) (λ c. range a.number b.number c.number) (good_step e3 h3) (λ c l. good_range a.number b.number c.number i)))
+          (λ b j. good_after Anything Begins (step_value e3 w at) (λ c. range a.number b.number c.number) (good_step e3 h3) (λ c l. good_range a.number b.number c.number i)))
 
       -- ---- actuals
 
@@ -418,15 +415,15 @@ module _ (U : ℕ → Type 0) (N : ℤ → Type 0) where
 
       -- ---- bounds
 
-      good_high : (o : Option ExprTree) → OptionLeaves Fits N o → Good {A = Option ℤ} Any (high_value o w at)
+      good_high : (o : Option ExprTree) → OptionLeaves Fits N o → Good {A = Option ℤ} Anything (high_value o w at)
       good_high None h = tt
-      good_high (Some e) h = good_after HasNumber Any (value e w at) (λ c. steps.Done (Some c.number)) (good_value e h) (λ c i. tt)
+      good_high (Some e) h = good_after HasNumber Anything (value e w at) (λ c. steps.Done (Some c.number)) (good_value e h) (λ c i. tt)
 
-      good_dims : (bs : List BoundTree) → BoundsLeaves Fits N bs → Good {A = List Dim} Any (dims_read bs w at)
+      good_dims : (bs : List BoundTree) → BoundsLeaves Fits N bs → Good {A = List Dim} Anything (dims_read bs w at)
       good_dims [] h = tt
       good_dims (b ∷ bs) h =
-          good_after HasNumber Any (value b.low w at) _ (good_value b.low h.0)
-          (λ m i. good_after Any Any (high_value b.high w at) _ (good_high b.high h.1) (λ n j. good_after Any Any (dims_read bs w at) _ (good_dims bs h.2) (λ ds k. tt)))
+          good_after HasNumber Anything (value b.low w at) _ (good_value b.low h.0)
+          (λ m i. good_after Anything Anything (high_value b.high w at) _ (good_high b.high h.1) (λ n j. good_after Anything Anything (dims_read bs w at) _ (good_dims bs h.2) (λ ds k. tt)))
 
     -- ---- lists
 
@@ -515,7 +512,7 @@ module _ (U : ℕ → Type 0) (N : ℤ → Type 0) where
         each_statement (tree.stmt n label w) locked h = (each_what w n locked h, λ f. tt)
 
         each_what : (w : WhatTree) (n : ℕ) (locked : Locks) → WhatLeaves Named N w → EachStep U N (execution w n sc at locked)
-        each_what (tree.assign a b) n locked h = good_first Any (assigned a b sc.names at locked) (λ o. Ends Normal) (good_assigned sc.names at a b locked h.0 h.1) (λ o i. tt)
+        each_what (tree.assign a b) n locked h = good_first Anything (assigned a b sc.names at locked) (λ o. Ends Normal) (good_assigned sc.names at a b locked h.0 h.1) (λ o i. tt)
         each_what (tree.block_if arms rest) n locked h = each_arms arms (else_plan rest sc at locked) locked h.0 (each_else rest locked h.1)
         each_what (tree.logical_if test s) n locked h =
             good_first HasNumber (value test sc.names at) (λ c. if is_true c.number then statement_plan s sc at locked else Ends Normal) (good_value sc.names at test h.0) (λ c i. either (is_true c.number) (statement_plan s sc at locked) (Ends Normal) (each_statement s locked h.1) tt)
@@ -527,8 +524,8 @@ module _ (U : ℕ → Type 0) (N : ℤ → Type 0) where
         each_what tree.continue n locked h = tt
         each_what tree.return n locked h = tt
         each_what (tree.stop text) n locked h = tt
-        each_what (tree.print es) n locked h = good_first Any (all_shown es sc.names at) (λ xs. Show xs (Ends Normal)) (good_all_shown sc.names at es h) (λ xs i. tt)
-        each_what (tree.read es) n locked h = good_first Any (items_read es sc.names at locked) (λ o. Ends Normal) (good_items sc.names at es locked h) (λ o i. tt)
+        each_what (tree.print es) n locked h = good_first Anything (all_shown es sc.names at) (λ xs. Show xs (Ends Normal)) (good_all_shown sc.names at es h) (λ xs i. tt)
+        each_what (tree.read es) n locked h = good_first Anything (items_read es sc.names at locked) (λ o. Ends Normal) (good_items sc.names at es locked h) (λ o i. tt)
 
         each_arms : (arms : ArmTrees) (rest : Plan) (locked : Locks) → ArmsLeaves Named N arms → EachStep U N rest → EachStep U N (arms_plan arms sc at locked rest)
         each_arms tree.no_arms rest locked h k = k
@@ -607,7 +604,7 @@ module _ (U : ℕ → Type 0) (N : ℤ → Type 0) where
         good_arrays : (ds : List Dummy) (ps : List Place) (at : Places) → DummiesLeaves AnyName N ds → AllReach U ps → AllSuit at → Good AllSuit (arrays_bound ds ps w at)
         good_arrays [] ps at l o h = h
         good_arrays (d ∷ ds) ps at l o h =
-            good_after Any AllSuit (dims_read d.bounds w at) (λ ms. dummy_bound d (first_place ps) ms at >>= arrays_bound ds (other_places ps) w) (good_dims w at d.bounds (named_bounds (λ x. Suits U N at (w x)) N h d.bounds l.0))
+            good_after Anything AllSuit (dims_read d.bounds w at) (λ ms. dummy_bound d (first_place ps) ms at >>= arrays_bound ds (other_places ps) w) (good_dims w at d.bounds (named_bounds (λ x. Suits U N at (w x)) N h d.bounds l.0))
             (λ ms i. good_after AllSuit AllSuit (dummy_bound d (first_place ps) ms at) (arrays_bound ds (other_places ps) w) (good_dummy d (first_place ps) ms at (first_reaches ps o) h) (λ at' h'. good_arrays ds (other_places ps) at' l.1 (others_reach ps o) h'))
 
       pub each_body_of : (r : Routine) (turns : ℕ) (callee : List ℕ → Meaning) → Keeps U N r → ((x : List ℕ) → MeaningKeeps U N (callee x)) → (ps : List Place) (at : Places) (locked : Locks) → AllReach U ps → ((x : List ℕ) → Suits U N at (r.names x)) → EachStep U N (body_of r turns callee ps at locked)

@@ -18,24 +18,25 @@ use Rattle.laws_lines.specs.RegionTexts.Laws.{RegionLinesArePassedOver}
 use Rattle.laws_lines.specs.RegionTexts.Printed.{IsPlain}
 use Rattle.laws_programs.specs.Programs.{AreTables}
 use Rattle.laws_lines.specs.Laws.{IsTracked}
-use Rattle.laws_lines.proofs.PhaseVars.{EachOf, each_all}
+use Rattle.laws_lines.proofs.PhaseVars.{each_all}
 use Rattle.laws_lines.specs.Regions.Names.{IsNamed, AreNamed}
 use Rattle.laws_lines.proofs.Regions.AccessVars.{Fine}
 use Rattle.laws_lines.proofs.Regions.CallRegions.{CalleesFine}
-use Rattle.laws_lines.proofs.Regions.ProgramRegions.{scope_flags, found_done, few_at, regions_of, regions_with, SetsFine, ModuleFine, ModuleTold, map_long, more_callees, each_named, all_told, modules_fine, Any, any_named, sets_over}
+use Rattle.laws_lines.proofs.Regions.ProgramRegions.{scope_flags, found_done, few_at, regions_of, regions_with, SetsFine, ModuleFine, ModuleTold, map_long, more_callees, each_named, all_told, modules_fine, any_named, sets_over}
 use Rattle.laws_lines.proofs.Regions.LinesMean.{sets_mean, tables_named}
 use Rattle.laws_lines.proofs.Regions.LinesPass.{sets_pass}
 use Rattle.laws_lines.specs.Ins.Laws.{InsAreOver, InsAreOverPlaces, InLinesMean, InLinesMeanRegions, InLinesPass, AllInLinesPass}
 use Rattle.laws_lines.proofs.Ins.InStatements.{call_in_fine, ins_at_fine, ins_summary_fine}
 use Rattle.laws_lines.proofs.ProgramLines.{HasNames}
+use Rattle.fx_lists.proofs.Every.{Anything, Every}
 
 -- what holds of each module with its regions holds of each with its IN regions
 module _ (W : ModuleRegions → Type 0) where
-  ins_from : (untracked : List BlockUnit) (cs : Callees) (fs : List ModuleRegions) → EachOf W fs → EachOf (λ (f : ModuleIns). W f.known) (found_in untracked cs fs)
+  ins_from : (untracked : List BlockUnit) (cs : Callees) (fs : List ModuleRegions) → Every W fs → Every (λ (f : ModuleIns). W f.known) (found_in untracked cs fs)
   ins_from untracked cs [] h = tt
   ins_from untracked cs (f ∷ fs) h = (h.0, ins_from untracked (with_callee (with_ins untracked cs f) cs) fs h.1)
 
-  pub ins_with : (g : Graph) (fs : List ModuleRegions) → EachOf W fs → EachOf (λ (f : ModuleIns). W f.known) (all_ins g fs)
+  pub ins_with : (g : Graph) (fs : List ModuleRegions) → Every W fs → Every (λ (f : ModuleIns). W f.known) (all_ins g fs)
   ins_with g fs h = ins_from g.untracked no_callees fs h
 
 module _ (Name : List ℕ → Type 0) where
@@ -65,18 +66,18 @@ module _ (Name : List ℕ → Type 0) where
       }
 
   -- modules in an order in which callees come before callers, each with the summaries of those before it
-  found_fine : (untracked : List BlockUnit) (cs : Callees) (fs : List ModuleRegions) → CalleesFine Name cs → EachOf (RegionsTold untracked) fs → EachOf (InsFine untracked) (found_in untracked cs fs)
+  found_fine : (untracked : List BlockUnit) (cs : Callees) (fs : List ModuleRegions) → CalleesFine Name cs → Every (RegionsTold untracked) fs → Every (InsFine untracked) (found_in untracked cs fs)
   found_fine untracked cs [] callees h = tt
   found_fine untracked cs (f ∷ fs) callees h =
       let n = with_ins untracked cs f in
       let first = module_fine untracked cs f h.0 callees in
       (first, found_fine untracked (with_callee n cs) fs (more_callees Name untracked f.analysis.found.known n.ins cs h.0.told.named first callees) h.1)
 
-  both_told : (untracked : List BlockUnit) (fs : List ModuleRegions) → EachOf (λ (f : ModuleRegions). ModuleTold Name untracked f.analysis) fs → EachOf (ModuleFine Name untracked) fs → EachOf (RegionsTold untracked) fs
+  both_told : (untracked : List BlockUnit) (fs : List ModuleRegions) → Every (λ (f : ModuleRegions). ModuleTold Name untracked f.analysis) fs → Every (ModuleFine Name untracked) fs → Every (RegionsTold untracked) fs
   both_told untracked [] h k = tt
   both_told untracked (f ∷ fs) h k = (record { told = h.0; fine = k.0 }, both_told untracked fs h.1 k.1)
 
-  pub ins_fine : (ps : List ParsedTree) (sss : List (List SymbolTree)) (g : Graph) → AreTables ps sss → AreNamed Name (known_of ps sss) → EachOf (InsFine g.untracked) (all_ins g (all_regions g (analyses (known_of ps sss) g)))
+  pub ins_fine : (ps : List ParsedTree) (sss : List (List SymbolTree)) (g : Graph) → AreTables ps sss → AreNamed Name (known_of ps sss) → Every (InsFine g.untracked) (all_ins g (all_regions g (analyses (known_of ps sss) g)))
   ins_fine ps sss g t n =
       let as' = analyses (known_of ps sss) g in
       let fs = all_regions g as' in
@@ -87,9 +88,9 @@ module _ (Name : List ℕ → Type 0) where
 pub ins_are_over_places : InsAreOverPlaces
 ins_are_over_places ps sss g t =
     let ks = known_of ps sss in
-    each_all (InsFine Any g.untracked) (InsAreOver g.untracked) (λ f. sets_over g.untracked f.known.analysis.found.known f.ins) (all_ins g (all_regions g (analyses ks g))) (ins_fine Any ps sss g t (any_named ks))
+    each_all (InsFine Anything g.untracked) (InsAreOver g.untracked) (λ f. sets_over g.untracked f.known.analysis.found.known f.ins) (all_ins g (all_regions g (analyses ks g))) (ins_fine Anything ps sss g t (any_named ks))
 
-each_mean : (untracked : List BlockUnit) (fs : List ModuleIns) → EachOf (InsFine IsPlain untracked) fs → EachOf (λ (f : ModuleIns). HasNames f.known.analysis.found.known) fs → EachOf InLinesMean fs
+each_mean : (untracked : List BlockUnit) (fs : List ModuleIns) → Every (InsFine IsPlain untracked) fs → Every (λ (f : ModuleIns). HasNames f.known.analysis.found.known) fs → Every InLinesMean fs
 each_mean untracked [] h k = tt
 each_mean untracked (f ∷ fs) h k = (sets_mean untracked f.known.analysis.found.known f.ins h.0 k.0, each_mean untracked fs h.1 k.1)
 
@@ -100,7 +101,7 @@ in_lines_mean_regions ps sss g t w n =
     let ns = all_ins g fs in
     each_all InLinesMean InLinesMean (λ f h. h) ns (each_mean g.untracked ns (ins_fine IsPlain ps sss g t n) (ins_with (λ (f : ModuleRegions). HasNames f.analysis.found.known) g fs (regions_with HasNames ks g (tables_named ps sss t w))))
 
-each_passes : RegionLinesArePassedOver → (untracked : List BlockUnit) (fs : List ModuleIns) → EachOf (λ (f : ModuleIns). IsNamed IsShown f.known.analysis.found.known) fs → EachOf (InsFine IsShown untracked) fs → EachOf InLinesPass fs
+each_passes : RegionLinesArePassedOver → (untracked : List BlockUnit) (fs : List ModuleIns) → Every (λ (f : ModuleIns). IsNamed IsShown f.known.analysis.found.known) fs → Every (InsFine IsShown untracked) fs → Every InLinesPass fs
 each_passes law untracked [] n h = tt
 each_passes law untracked (f ∷ fs) n h = (sets_pass law untracked f.known.analysis.found.known f.ins n.0 h.0, each_passes law untracked fs n.1 h.1)
 

@@ -33,6 +33,7 @@ use Rattle.laws_lines.specs.Marks.ClaimsRead.{is_claim, Claim, claims_from, clai
 use Rattle.laws_lines.specs.Marks.ClaimLaws.{ClaimsReadBack}
 use Rattle.laws_lines.proofs.Marks.Rows.{AreOthers, rows_count}
 use Rattle.laws_lines.proofs.Marks.Found.{own_rows, lines_of_rows, own_others, lines_are, row_count}
+use Rattle.fx_lists.proofs.Numbers.{below_is}
 
 -- ---- claims among lines
 
@@ -145,9 +146,6 @@ of_middle part a b c p q =
     ∙ ap (λ (x : List Standing). x ++ claims_of part c) (of_both part a b ∙ ap (λ (x : List Standing). x ++ claims_of part b) (of_none part a p))
     ∙ ap (λ (x : List Standing). claims_of part b ++ x) (of_none part c q)
     ∙ append-nil (claims_of part b)
-
-below_is : (a b : ℕ) → a < b → nat_lt a b ≡ true
-below_is a b l = (Decides-ltb a b).1 l
 
 not_below : (b : Bool) (x y : ℕ) → nat_lt x y ≡ b → y ≤ x → b ≡ false
 not_below true x y e l = let m = (Decides-ltb x y).0 e in absurd (omega (arith, l, m))

@@ -30,10 +30,10 @@ use Rattle.laws_programs.specs.roundtrip_programs.Texts.Laws.{AllPassedOver}
 use Rattle.laws_programs.proofs.RoundtripPrograms.Texts.Read.{IsSourced, IsParsed, AreParsed, all-parsed}
 use Rattle.laws_programs.proofs.RoundtripPrograms.Texts.Sources.{AreKept}
 use Rattle.laws_programs.proofs.RoundtripPrograms.Texts.SpotsKept.{SpotsKept, comments-kept, behind-kept, inner-behind}
-use Rattle.laws_programs.proofs.RoundtripPrograms.Texts.Rows.{Row, added_lines, lines_at, row_of, rows_of, module_rows, all_rows, last_closing}
+use Rattle.laws_programs.proofs.RoundtripPrograms.Texts.Rows.{added_lines, lines_at, row_of, rows_of, module_rows, all_rows, last_closing}
 use Rattle.laws_programs.proofs.RoundtripPrograms.Texts.RowsBack.{read_rows, line_behind, lines_behind}
 use Rattle.laws_programs.proofs.RoundtripPrograms.Texts.Standing.{inner_spots, own_spots, spots_of, built-spots}
-use Rattle.laws_programs.proofs.RoundtripPrograms.Texts.Whole.{IsSound, all-sound, all_again, again-written, closing-kept, parsed-back, module-filled as module_filled}
+use Rattle.laws_programs.proofs.RoundtripPrograms.Texts.Whole.{IsSound, all-sound, all_again, again-written, closing-kept, parsed-back, module-filled as module_filled, again-closing}
 use Rattle.laws_lines.specs.Marks.WholeLaws.{TextsAreWrittenAgain}
 use Rattle.laws_lines.proofs.Marks.Unique.{one_reading}
 use Rattle.laws_lines.proofs.Marks.InnerSpots.{Bare, InnerHolds, AllInner, ArePhrases, built_bare}
@@ -137,10 +137,6 @@ module_calm p h =
 abbrev IsOfTrees : (ParsedTree → List Added) → Type 0
 IsOfTrees added = (p q : ParsedTree) → q.module_read ≡ p.module_read → added q ≡ added p
 
-again_closing : (closing : List (List ℕ)) (ss : List StatementTree) → (build_module closing ss).places.closing ≡ closing
-unfolding build_module
-again_closing closing ss = refl
-
 one_text : (added : ParsedTree → List Added) (n : ℕ) (p : ParsedTree) (closing : List (List ℕ)) → IsOfTrees added → Each IsPassedOver (added p) → IsParsed p → IsSound p → closing ≡ p.places.closing
     → text_of added (build_module closing (read_rows n (module_rows added p))) ≡ text_of added p
 one_text added n p closing t a h s c =
@@ -157,14 +153,10 @@ one_text added n p closing t a h s c =
     ∙ ap (λ (x : List ℕ). x ++ lines_text q.places.closing)
     (ap (λ x. page_text by x (statements_of m)) (built-spots m closing own s.well w)
     ∙ same_page by (added_lines first (added p)) p.places.spots (statements_of m) n (λ x. added_dropped first (added p) x a) s.spots (module_calm p h))
-    ∙ ap (λ (x : List (List ℕ)). page_text by p.places.spots (statements_of m) ++ lines_text x) (again_closing closing own ∙ c)
+    ∙ ap (λ (x : List (List ℕ)). page_text by p.places.spots (statements_of m) ++ lines_text x) (again-closing closing own ∙ c)
     ∙ sym (written_by_cards p.places m (added p) s.well)
 
 -- ---- all modules
-
-rows_filled : (added : Part → List (List ℕ)) (spots : List Spot) (cs : List Card) (end : Card) (n : ℕ) (more : List Row) → is_none_of (read_rows n (rows_of added spots (cs ++ end ∷ []) ++ more)) ≡ false
-rows_filled added spots [] end n more = refl
-rows_filled added spots (c ∷ cs) end n more = refl
 
 all_texts : (added : ParsedTree → List Added) (closing : List (List ℕ)) (ps : List ParsedTree) (n : ℕ) → IsOfTrees added → AllPassedOver added ps → AreParsed ps → Each IsSound ps → closing ≡ last_closing ps
     → modules_text added (all_again added closing n ps) ≡ modules_text added ps

@@ -51,8 +51,6 @@ use Rattle.laws_lines.specs.Variables.{EachVar}
 use Rattle.laws_lines.proofs.RowVars.{Given}
 use Rattle.laws_lines.proofs.SystemVars.{IsNeat, AreGiven, all-append, renamed_given}
 use Rattle.laws_lines.proofs.FormVars.{FormOf, var_of}
-use Rattle.laws_lines.proofs.CallVars.{Every}
-use Rattle.laws_lines.proofs.PhaseVars.{EachOf}
 use Rattle.system_text.specs.Printed.{IsNumber}
 use Rattle.laws_lines.specs.Regions.Names.{PlaceNamed, SymbolNamed}
 use Rattle.laws_lines.specs.Regions.Places.{IsPlaceOf, IsOne}
@@ -65,10 +63,11 @@ use Rattle.laws_lines.proofs.Regions.CallRegions.{numbered_named}
 use Rattle.laws_lines.proofs.Outs.CalleePieces.{IsJoined, linked_joined, every_scope, piece_neat}
 use Rattle.fx_lists.proofs.Lists.{each_append as both_all}
 use Rattle.f77_ast.specs.Variables.{same_variable}
+use Rattle.fx_lists.proofs.Every.{Anything, Every}
 
 -- ---- equations the other way round
 
-turned_joined : (r q : ℕ) → r ≤ 7 → (v : Var) → IsLinkedOf Every v → IsJoined (turned_name r q v)
+turned_joined : (r q : ℕ) → r ≤ 7 → (v : Var) → IsLinkedOf Anything v → IsJoined (turned_name r q v)
 turned_joined r q short (Cell n) h = tt
 turned_joined r q short (Exit n) h = absurd h
 turned_joined r q short (Phi n) h = tt
@@ -78,7 +77,7 @@ turned_joined r q short (Aux n) h = go (nat_le n r) refl
     go true e = let l : n ≤ r = grind (arith, nat_tests) in (h, omega (arith, l, short))
     go false e = tt
 
-names_joined : (r q : ℕ) → r ≤ 7 → (ts : List Term) → EachVar (IsLinkedOf Every) ts → (v : Var) → IsLinkedOf Every v → IsJoined (renamed_by (turned_names r q ts) v)
+names_joined : (r q : ℕ) → r ≤ 7 → (ts : List Term) → EachVar (IsLinkedOf Anything) ts → (v : Var) → IsLinkedOf Anything v → IsJoined (renamed_by (turned_names r q ts) v)
 names_joined r q short [] h v i = linked_joined v i
 names_joined r q short (t ∷ ts) h v i = go (var_eq v t.var) (names_joined r q short ts h.1 v i)
   where
@@ -86,16 +85,16 @@ names_joined r q short (t ∷ ts) h v i = go (var_eq v t.var) (names_joined r q 
     go true ih = turned_joined r q short t.var h.0
     go false ih = ih
 
-normal_turned : (r q : ℕ) → r ≤ 7 → (n : Normal) → NormalGiven (IsLinkedOf Every) n → AreGiven IsJoined (turned_normal r q n)
-normal_turned r q short (Kept e) h = renamed_given (IsLinkedOf Every) IsJoined (renamed_by (turned_names r q e.terms)) (names_joined r q short e.terms h.1) (e ∷ []) (h.1, tt)
+normal_turned : (r q : ℕ) → r ≤ 7 → (n : Normal) → NormalGiven (IsLinkedOf Anything) n → AreGiven IsJoined (turned_normal r q n)
+normal_turned r q short (Kept e) h = renamed_given (IsLinkedOf Anything) IsJoined (renamed_by (turned_names r q e.terms)) (names_joined r q short e.terms h.1) (e ∷ []) (h.1, tt)
 normal_turned r q short Always h = tt
 normal_turned r q short Never h = ((tt, tt), tt)
 normal_turned r q short TooBig h = tt
 
-rows_turned : (r q : ℕ) → r ≤ 7 → (es : List Row) → AreGiven (IsLinkedOf Every) es → AreGiven IsJoined (turned_rows r q es)
+rows_turned : (r q : ℕ) → r ≤ 7 → (es : List Row) → AreGiven (IsLinkedOf Anything) es → AreGiven IsJoined (turned_rows r q es)
 rows_turned r q short [] h = tt
 rows_turned r q short (e ∷ es) h =
-    all-append (Given IsJoined) (turned_normal r q (normal false e)) (turned_rows r q es) (normal_turned r q short (normal false e) (normal_given (IsLinkedOf Every) e h.0)) (rows_turned r q short es h.1)
+    all-append (Given IsJoined) (turned_normal r q (normal false e)) (turned_rows r q es) (normal_turned r q short (normal false e) (normal_given (IsLinkedOf Anything) e h.0)) (rows_turned r q short es h.1)
 
 -- ---- a link has no more subscripts than the variable of the callee
 
@@ -205,7 +204,7 @@ abbrev pub HasSeven : SymbolTree → Type 0
 HasSeven s = length s.bounds ≤ 7
 
 module _ (Name : List ℕ → Type 0) (c : SidesTree) (few : FewBounds c.caller.symbols) (long : length c.caller.symbols ≡ length c.caller.names) (table : AllByRecursion (SymbolNamed Name) c.caller.symbols)
-    (title : Name c.name) (inner : AllByRecursion (SymbolNamed Name) c.callee.symbols) (seven : EachOf HasSeven c.callee.symbols) (fewer : FewBounds c.callee.symbols) (size : length c.callee.symbols ≡ length c.callee.names) where
+    (title : Name c.name) (inner : AllByRecursion (SymbolNamed Name) c.callee.symbols) (seven : Every HasSeven c.callee.symbols) (fewer : FewBounds c.callee.symbols) (size : length c.callee.symbols ≡ length c.callee.names) where
   abbrev N : Variable → Type 0
   N = IsNamedBy Name c.callee.names
 
@@ -222,7 +221,7 @@ module _ (Name : List ℕ → Type 0) (c : SidesTree) (few : FewBounds c.caller.
 
   -- dummies
 
-  actual_linked : (v : Variable) (q n : ℕ) → IsNumber c.callee.names n → (o : Option Link) → MaybeLink Name Every c (every_scope c.caller) few long o → IsShort o → AreLinked (if_actual v q n o)
+  actual_linked : (v : Variable) (q n : ℕ) → IsNumber c.callee.names n → (o : Option Link) → MaybeLink Name Anything c (every_scope c.caller) few long o → IsShort o → AreLinked (if_actual v q n o)
   actual_linked v q n i None h k = tt
   actual_linked v q n i (Some l) h k =
       if_cases AreLinked (same_variable v l.variable) (link (Own n) true (turned_rows l.rank q l.rows) ∷ []) [] (λ e. (record { named = i; rows = rows_turned l.rank q k l.rows h.rows }, tt)) (λ e. tt)
@@ -230,7 +229,7 @@ module _ (Name : List ℕ → Type 0) (c : SidesTree) (few : FewBounds c.caller.
   dummy_linked : (v : Variable) (q n : ℕ) → IsNumber c.callee.names n → (p : Place) → AreLinked (dummy_link c v q n p)
   dummy_linked v q n i (Local g o) = tt
   dummy_linked v q n i (Dummy d) =
-      actual_linked v q n i (link_of c (Own n)) (link_ok Name Every c (every_scope c.caller) few long title (numbered_named Name c.callee.symbols inner) c.callee.names (Own n) i)
+      actual_linked v q n i (link_of c (Own n)) (link_ok Name Anything c (every_scope c.caller) few long title (numbered_named Name c.callee.symbols inner) c.callee.names (Own n) i)
       (symbol_short c (symbol_at c.callee.symbols n) (λ s e. fewer n s e))
   dummy_linked v q n i (Block b o) = tt
   dummy_linked v q n i (Value k) = tt
@@ -255,7 +254,7 @@ module _ (Name : List ℕ → Type 0) (c : SidesTree) (few : FewBounds c.caller.
       if_cases AreLinked (bytes_eq x b && meet (units_of c.callee.symbols o s) u) (common_link c v f n b o s ∷ []) [] (λ e. (common_linked v f n b o s w i h, tt)) (λ e. tt)
   block_linked v b u f n s (Value k) w i h = tt
 
-  commons_linked : (v : Variable) (b : List ℕ) (u : Units) (f : Option Affine) (n : ℕ) (ss : List SymbolTree) → FormOf IsJoined f → n + length ss ≤ length c.callee.names → EachOf HasSeven ss → AreLinked (common_links c v b u f n ss)
+  commons_linked : (v : Variable) (b : List ℕ) (u : Units) (f : Option Affine) (n : ℕ) (ss : List SymbolTree) → FormOf IsJoined f → n + length ss ≤ length c.callee.names → Every HasSeven ss → AreLinked (common_links c v b u f n ss)
   commons_linked v b u f n [] w h k = tt
   commons_linked v b u f n (s ∷ ss) w h k =
       both_all IsLinked (in_block c v b u f (suc n) s s.place) (common_links c v b u f (suc n) ss) (block_linked v b u f (suc n) s s.place w (omega arith, omega (arith, h)) k.0)
@@ -308,11 +307,11 @@ module _ (Name : List ℕ → Type 0) (c : SidesTree) (few : FewBounds c.caller.
   one_to P Q f g (s ∷ (q ∷ qs)) h = absurd h
 
   module _ (ok : ℕ → Type 0) (dummies : (n : ℕ) → is_scalar_dummy (symbol_at c.callee.symbols n) ≡ true → ok n) where
-    each_fine : (r : Region) → IsFine (IsNamedBy Name c.caller.names) Every r → (ls : List CalleeLink) → AreLinked ls → AreFine N ok (map (by_link c r) ls)
+    each_fine : (r : Region) → IsFine (IsNamedBy Name c.caller.names) Anything r → (ls : List CalleeLink) → AreLinked ls → AreFine N ok (map (by_link c r) ls)
     each_fine r h [] k = tt
     each_fine r h (l ∷ ls) k =
         let q = subscripts_of c r.variable in
-        ((k.0.named, one_to (IsNeat (IsPlaceOf Every)) (IsNeat (IsPlaceOf ok)) (piece_in_callee c l.moved q l.rows) (piece_neat Name c few long ok dummies l.moved q l.rows k.0.rows) r.pieces h.1), each_fine r h ls k.1)
+        ((k.0.named, one_to (IsNeat (IsPlaceOf Anything)) (IsNeat (IsPlaceOf ok)) (piece_in_callee c l.moved q l.rows) (piece_neat Name c few long ok dummies l.moved q l.rows k.0.rows) r.pieces h.1), each_fine r h ls k.1)
 
-    pub in_callee_fine : (units : List ℕ → ℕ) (r : Region) → IsFine (IsNamedBy Name c.caller.names) Every r → AreFine N ok (to_callee units c r)
+    pub in_callee_fine : (units : List ℕ → ℕ) (r : Region) → IsFine (IsNamedBy Name c.caller.names) Anything r → AreFine N ok (to_callee units c r)
     in_callee_fine units r h = united_fine N ok (map (by_link c r) (callee_links units c r.variable)) (each_fine r h (callee_links units c r.variable) (links_fine units r.variable h.0))

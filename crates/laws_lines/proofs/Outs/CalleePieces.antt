@@ -34,13 +34,14 @@ use Rattle.laws_lines.specs.Variables.{IsCellOf}
 use Rattle.laws_lines.proofs.RowVars.{Given}
 use Rattle.laws_lines.proofs.SystemVars.{IsNeat, AreGiven, all-append, system_more, push_rows_neat, project_neat, rename_neat}
 use Rattle.laws_lines.proofs.FormVars.{FormOf, var_of, affine_over, none_neat}
-use Rattle.laws_lines.proofs.CallVars.{Every, neat_in}
+use Rattle.laws_lines.proofs.CallVars.{neat_in}
 use Rattle.laws_lines.proofs.StatementVars.{Scope}
 use Rattle.laws_lines.specs.Regions.Places.{IsPlaceOf}
 use Rattle.laws_lines.proofs.Regions.AccessVars.{FewBounds}
 use Rattle.laws_lines.proofs.Regions.CalleeVars.{IsLinkedOf}
 use Rattle.laws_lines.proofs.Regions.LinkVars.{MaybeRow, equation_given, form_more, named_formed}
 use Rattle.fx_lists.proofs.Booleans.{clash as clashes}
+use Rattle.fx_lists.proofs.Every.{Anything}
 
 -- a cell or a subscript of the callee, or what was the caller's
 abbrev pub IsJoined : Var → Type 0
@@ -49,48 +50,48 @@ IsJoined (Exit n) = ⊥
 IsJoined (Phi n) = (0 < n) × (n ≤ 7)
 IsJoined (Aux n) = Unit {0}
 
-pub linked_joined : (v : Var) → IsLinkedOf Every v → IsJoined v
+pub linked_joined : (v : Var) → IsLinkedOf Anything v → IsJoined v
 linked_joined (Cell n) h = tt
 linked_joined (Exit n) h = absurd h
 linked_joined (Phi n) h = h
 linked_joined (Aux n) h = tt
 
 -- whatever cells a scope has
-pub every_scope : (m : ScopeTree) → Scope Every m
+pub every_scope : (m : ScopeTree) → Scope Anything m
 every_scope m = record { allows = record { names = λ x c e. tt; units = λ b o c e. tt }; flags = λ c e. tt }
 
 -- ---- names
 
-stands : (moved : Bool) (q : ℕ) (v : Var) → IsPlaceOf Every v → IsJoined (standing moved q v)
+stands : (moved : Bool) (q : ℕ) (v : Var) → IsPlaceOf Anything v → IsJoined (standing moved q v)
 stands moved q (Cell n) h = tt
 stands moved q (Exit n) h = absurd h
 stands true q (Phi n) h = tt
 stands false q (Phi n) h = h
 stands moved q (Aux n) h = absurd h
 
-named_neat : (moved : Bool) (q : ℕ) (s : System) → IsNeat (IsPlaceOf Every) s → IsNeat IsJoined (with_names moved q s)
+named_neat : (moved : Bool) (q : ℕ) (s : System) → IsNeat (IsPlaceOf Anything) s → IsNeat IsJoined (with_names moved q s)
 named_neat moved q s h =
     let vs = row_vars s.rows in
-    rename_neat (λ v. IsPlaceOf Every v × IsOneOf v vs) IsJoined (names_of moved q vs)
-    (λ v i. subst IsJoined (sym (name_is moved q vs v i.1)) (stands moved q v i.0)) s (neat_in (IsPlaceOf Every) vs s h (rows_covered [] s.rows))
+    rename_neat (λ v. IsPlaceOf Anything v × IsOneOf v vs) IsJoined (names_of moved q vs)
+    (λ v i. subst IsJoined (sym (name_is moved q vs v i.1)) (stands moved q v i.0)) s (neat_in (IsPlaceOf Anything) vs s h (rows_covered [] s.rows))
 
 -- ---- what scalar dummies are
 
-cells_form : (o : Option Affine) → FormOf (IsCellOf Every) o → FormOf (IsCellOf Every) (with_cells o)
+cells_form : (o : Option Affine) → FormOf (IsCellOf Anything) o → FormOf (IsCellOf Anything) (with_cells o)
 cells_form None h = tt
-cells_form (Some f) h = if_cases (FormOf (IsCellOf Every)) (has_no_terms f.terms) None (Some f) (λ e. tt) (λ e. h)
+cells_form (Some f) h = if_cases (FormOf (IsCellOf Anything)) (has_no_terms f.terms) None (Some f) (λ e. tt) (λ e. h)
 
 module _ (Name : List ℕ → Type 0) (c : SidesTree) (few : FewBounds c.caller.symbols) (long : length c.caller.symbols ≡ length c.caller.names) where
-  actual_form : (o : Option ExprTree) → FormOf (IsCellOf Every) (form_in c.caller o)
+  actual_form : (o : Option ExprTree) → FormOf (IsCellOf Anything) (form_in c.caller o)
   actual_form None = tt
-  actual_form (Some e) = affine_over (IsCellOf Every) c.caller.scalars (λ x n q. tt) e
+  actual_form (Some e) = affine_over (IsCellOf Anything) c.caller.scalars (λ x n q. tt) e
 
   dummy_given : (q n d : ℕ) → MaybeRow IsJoined (dummy_row c q n d)
   dummy_given q n d =
       let f = with_cells (form_in c.caller (actual_of c.actuals d)) in
       equation_given IsJoined (Some (var_form (Cell n))) (named_form q f) (var_of IsJoined (Cell n) tt)
-      (form_more (IsLinkedOf Every) IsJoined linked_joined (named_form q f)
-      (named_formed Name Every c (every_scope c.caller) few long q f (cells_form (form_in c.caller (actual_of c.actuals d)) (actual_form (actual_of c.actuals d)))))
+      (form_more (IsLinkedOf Anything) IsJoined linked_joined (named_form q f)
+      (named_formed Name Anything c (every_scope c.caller) few long q f (cells_form (form_in c.caller (actual_of c.actuals d)) (actual_form (actual_of c.actuals d)))))
 
   place_given : (q n : ℕ) (p : Place) → MaybeRow IsJoined (place_row c q n p)
   place_given q n (Local g o) = tt
@@ -146,7 +147,7 @@ module _ (Name : List ℕ → Type 0) (c : SidesTree) (few : FewBounds c.caller.
         system_more (λ w. (IsJoined w × IsOneOf w vs) × (IsOneOf w (going_away c vs) → ⊥)) (IsPlaceOf ok) (left vs) (project s (going_away c vs)).system
         (project_neat (λ v. IsJoined v × IsOneOf v vs) s (going_away c vs) (neat_in IsJoined vs s h (rows_covered [] s.rows)))
 
-    pub piece_neat : (moved : Bool) (q : ℕ) (rs : List Row) → AreGiven IsJoined rs → (s : System) → IsNeat (IsPlaceOf Every) s → IsNeat (IsPlaceOf ok) (piece_in_callee c moved q rs s)
+    pub piece_neat : (moved : Bool) (q : ℕ) (rs : List Row) → AreGiven IsJoined rs → (s : System) → IsNeat (IsPlaceOf Anything) s → IsNeat (IsPlaceOf ok) (piece_in_callee c moved q rs s)
     piece_neat moved q rs g s h =
         if_cases (IsNeat (IsPlaceOf ok)) (are_own moved q (row_vars s.rows)) (without_caller c (joined c q rs (with_names moved q s))) no_rows
         (λ e. left_neat (joined c q rs (with_names moved q s)) (joined_neat q rs (with_names moved q s) g (named_neat moved q s h))) (λ e. none_neat (IsPlaceOf ok))

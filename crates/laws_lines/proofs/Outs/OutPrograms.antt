@@ -43,12 +43,11 @@ use Rattle.laws_programs.specs.Storage.Programs.{known}
 use Rattle.laws_programs.proofs.Storage.CallLaws.{dummies_are_tracked}
 use Rattle.laws_programs.proofs.Storage.FlagLaws.{cells_have_flags}
 use Rattle.laws_lines.specs.Laws.{IsTracked}
-use Rattle.laws_lines.proofs.CallVars.{Every}
-use Rattle.laws_lines.proofs.PhaseVars.{EachOf, each-append, each_all, each_reverse, value_is}
+use Rattle.laws_lines.proofs.PhaseVars.{each_all, value_is}
 use Rattle.laws_lines.specs.Regions.Names.{SymbolNamed, IsNamed, AreNamed}
 use Rattle.laws_lines.proofs.Regions.RegionVars.{IsFine, AreFine}
 use Rattle.laws_lines.proofs.Regions.AccessVars.{IsNamedBy, FewBounds}
-use Rattle.laws_lines.proofs.Regions.ProgramRegions.{scope_flags, found_done, few_at, regions_of, regions_with, IsNamedHere, SetsFine, ModuleFine, ModuleTold, map_long, any_fine, each_named, all_told, modules_fine, Any, any_named, sets_over}
+use Rattle.laws_lines.proofs.Regions.ProgramRegions.{scope_flags, found_done, few_at, regions_of, regions_with, IsNamedHere, SetsFine, ModuleFine, ModuleTold, map_long, any_fine, each_named, all_told, modules_fine, any_named, sets_over}
 use Rattle.laws_lines.proofs.Regions.LinesMean.{sets_mean, tables_named}
 use Rattle.laws_lines.proofs.Regions.LinesPass.{sets_pass}
 use Rattle.laws_lines.proofs.Ins.InSets.{set_fine}
@@ -60,6 +59,7 @@ use Rattle.laws_lines.proofs.Outs.OutStatements.{outs_at_fine, outs_summary_fine
 use Rattle.fx_lists.proofs.Lists.{each_append as both_all}
 use Rattle.laws_lines.proofs.ProgramLines.{HasNames}
 use Rattle.in_out_regions.specs.region_sets.Lists.{set_at}
+use Rattle.fx_lists.proofs.Every.{Anything, Anything as Every, Every as EachOf, every_joined, every_turned}
 
 -- ---- scalar dummies are tracked
 
@@ -224,7 +224,7 @@ module _ (Name : List ℕ → Type 0) where
   from_fine g done (f ∷ fs) d h =
       let cs = sites_of g.untracked done (name_of f) in
       let new = with_outs g cs f in
-      from_fine g (done ++ new ∷ []) fs (each-append (OutsTold g.untracked) done (new ∷ []) d (module_fine g f cs h.0 (sites_fine g.untracked done (name_of f) d), tt)) h.1
+      from_fine g (done ++ new ∷ []) fs (every_joined (OutsTold g.untracked) done (new ∷ []) d (module_fine g f cs h.0 (sites_fine g.untracked done (name_of f) d), tt)) h.1
 
   all_ins_told : (untracked : List BlockUnit) (fs : List ModuleIns) → EachOf (λ (f : ModuleIns). ModuleTold Name untracked f.known.analysis) fs → EachOf (λ (f : ModuleIns). ModuleFine Name untracked f.known) fs → EachOf (InsFine Name untracked) fs
       → EachOf (λ (f : ModuleIns). HasDummies untracked f.known.analysis.found.known) fs → EachOf (InsTold untracked) fs
@@ -244,7 +244,7 @@ module _ (Name : List ℕ → Type 0) where
       (ins_with (λ (f : ModuleRegions). HasDummies g.untracked f.analysis.found.known) g fs (regions_with (HasDummies g.untracked) ks g (all_dummies g ps sss t)))
 
   outs_told : (ps : List ParsedTree) (sss : List (List SymbolTree)) (g : Graph) → AreTables ps sss → AreNamed Name (known_of ps sss) → EachOf (OutsTold g.untracked) (all_outs g (found_ins ps sss g))
-  outs_told ps sss g t n = let fs = found_ins ps sss g in from_fine g [] (reverse fs) tt (each_reverse (InsTold g.untracked) fs (ins_told ps sss g t n))
+  outs_told ps sss g t n = let fs = found_ins ps sss g in from_fine g [] (reverse fs) tt (every_turned (InsTold g.untracked) fs (ins_told ps sss g t n))
 
   told_fine : (untracked : List BlockUnit) (fs : List ModuleOuts) → EachOf (OutsTold untracked) fs → EachOf (OutsFine untracked) fs
   told_fine untracked [] h = tt
@@ -260,10 +260,10 @@ module _ (W : ModuleIns → Type 0) where
   outs_from_with g done [] d h = d
   outs_from_with g done (f ∷ fs) d h =
       let new = with_outs g (sites_of g.untracked done (name_of f)) f in
-      outs_from_with g (done ++ new ∷ []) fs (each-append (λ (x : ModuleOuts). W x.known) done (new ∷ []) d (h.0, tt)) h.1
+      outs_from_with g (done ++ new ∷ []) fs (every_joined (λ (x : ModuleOuts). W x.known) done (new ∷ []) d (h.0, tt)) h.1
 
   pub outs_with : (g : Graph) (fs : List ModuleIns) → EachOf W fs → EachOf (λ (f : ModuleOuts). W f.known) (all_outs g fs)
-  outs_with g fs h = outs_from_with g [] (reverse fs) tt (each_reverse W fs h)
+  outs_with g fs h = outs_from_with g [] (reverse fs) tt (every_turned W fs h)
 
 -- ---- the laws
 
@@ -271,7 +271,7 @@ pub outs_are_over_places : OutsAreOverPlaces
 outs_are_over_places ps sss g t =
     let ks = known_of ps sss in
     let ns = all_outs g (all_ins g (all_regions g (analyses ks g))) in
-    each_all (OutsFine Any g.untracked) (OutsAreOver g.untracked) (λ f. sets_over g.untracked f.known.known.analysis.found.known f.outs) ns (told_fine Any g.untracked ns (outs_told Any ps sss g t (any_named ks)))
+    each_all (OutsFine Anything g.untracked) (OutsAreOver g.untracked) (λ f. sets_over g.untracked f.known.known.analysis.found.known f.outs) ns (told_fine Anything g.untracked ns (outs_told Anything ps sss g t (any_named ks)))
 
 each_mean : (untracked : List BlockUnit) (fs : List ModuleOuts) → EachOf (OutsFine IsPlain untracked) fs → EachOf (λ (f : ModuleOuts). HasNames f.known.known.analysis.found.known) fs → EachOf OutLinesMean fs
 each_mean untracked [] h k = tt

@@ -5,9 +5,7 @@ use Rattle.std.specs.List.{AllByRecursion}
 use Rattle.affine_systems.specs.declared.row.Var.{Var}
 use Rattle.affine_systems.specs.declared.row.Var.TheVariants.{Cell, Exit, Phi, Aux}
 use Rattle.affine_systems.specs.declared.row.System.{System}
-use Rattle.affine_systems.specs.Terms.{var_eq}
 use Rattle.affine_systems.specs.Calls.{meet}
-use Rattle.affine_systems.proofs.TermLaws.{var_eq-true}
 use Rattle.affine_systems.proofs.Basics.{if_cases}
 use Rattle.hull_projection.specs.Laws.{IsOneOf}
 use Rattle.hull_projection.specs.Project.{project}
@@ -20,7 +18,7 @@ use Rattle.preconditions.specs.transformer_algebra.declared.transformer.Transfor
 use Rattle.preconditions.specs.transformer_algebra.Cells.{has}
 use Rattle.preconditions.specs.transformer_algebra.Halves.{to_cells}
 use Rattle.preconditions.specs.transformer_algebra.Transformers.{without, apply}
-use Rattle.preconditions.proofs.TransformerAlgebra.HalfLaws.{to_cells_cell, to_cells_exit}
+use Rattle.preconditions.proofs.TransformerAlgebra.HalfLaws.{to_cells_cell, to_cells_exit, phi_stays}
 use Rattle.in_out_regions.specs.region_sets.declared.range.Range.{Range}
 use Rattle.in_out_regions.specs.region_sets.declared.region.Region.{Region}
 use Rattle.in_out_regions.specs.region_sets.Regions.{hull_of}
@@ -43,15 +41,6 @@ use Rattle.laws_lines.proofs.Ins.InSets.{unwritten_fine}
 use Rattle.laws_lines.proofs.Ins.Iterations.{within_given, beyond_given, form_s, renamed_s}
 use Rattle.fx_lists.proofs.Lists.{each_append as both_all}
 use Rattle.f77_ast.specs.Variables.{same_variable}
-
--- no subscript is renamed
-phi_stays : (cs : List ℕ) (n : ℕ) → renamed_by (to_cells cs) (Phi n) ≡ Phi n
-phi_stays [] n = refl
-phi_stays (c ∷ cs) n = go (var_eq (Phi n) (Exit c)) refl (phi_stays cs n)
-  where
-    go : (b : Bool) → var_eq (Phi n) (Exit c) ≡ b → renamed_by (to_cells cs) (Phi n) ≡ Phi n → (if b then Cell c else renamed_by (to_cells cs) (Phi n)) ≡ Phi n
-    go true e ih = let q = var_eq-true (Phi n) (Exit c) e in absurd (cc)
-    go false e ih = ih
 
 -- ---- what is used
 

@@ -1,8 +1,8 @@
 -- The line of a region is read as that region.
-use Rattle.std.proofs.Common.{◌≡◌, ℕ, Bool, true, false, List, [], ◌∷◌, ◌++◌, map, Some, None, refl, sym, ap, eq-eqb, ◌∙◌}
+use Rattle.std.proofs.Common.{◌≡◌, ℕ, Bool, true, false, List, [], ◌∷◌, ◌++◌, map, Some, None, refl, sym, ap, ◌∙◌}
 use Rattle.std.specs.Prelude.{nat_eq, ◌||◌, codes, bytes_eq}
 use Rattle.std.specs.List.{list_all, IsDistinct, AllByRecursion}
-use Rattle.std.proofs.lemmas.Bool.{and_parts, ne_eqb}
+use Rattle.std.proofs.lemmas.Bool.{and_parts}
 use Rattle.std.proofs.lemmas.List.Folds.{list_all-append}
 use Rattle.affine_systems.specs.declared.row.Row.{Row}
 use Rattle.affine_systems.specs.declared.row.System.{System}
@@ -26,6 +26,7 @@ use Rattle.laws_lines.specs.RegionTexts.Printed.{AreOther, IsPlain, IsCalled, Is
 use Rattle.laws_lines.specs.RegionTexts.Laws.{RegionLinesReadBack, OneSystemLinesReadBack, FittingRegionsAreOrdered}
 use Rattle.laws_lines.proofs.RegionTexts.Joined.{all_rows, pieces-back}
 use Rattle.fx_lists.proofs.Booleans.{alone}
+use Rattle.fx_lists.proofs.Numbers.{swapped}
 
 -- ---- names of symbols
 
@@ -48,18 +49,15 @@ plain_made : (x : Bytes) → IsPlain x → IsMade x
 plain_made [] h = tt
 plain_made (c ∷ cs) h = let p = and_parts (in_name c) (list_all in_name cs) h in (p.0, plain_made cs p.1)
 
-nat_eq_turned : (c m : ℕ) → nat_eq c m ≡ false → nat_eq m c ≡ false
-nat_eq_turned c m h = ne_eqb m c (λ e. let f : nat_eq c m ≡ true = eq-eqb c m (sym e) in cc)
-
 -- ---- variables
 
 no_front : (m : ℕ) (x t : Bytes) → IsMade x → in_name m ≡ false → nat_eq m 58 ≡ false → after (m ∷ []) (x ++ 58 ∷ t) ≡ None
 no_front m [] t h e f = rw f refl
-no_front m (c ∷ cs) t h e f = let g : nat_eq m c ≡ false = nat_eq_turned c m (other_character c m h.0 e) in rw g refl
+no_front m (c ∷ cs) t h e f = let g : nat_eq m c ≡ false = swapped c m (other_character c m h.0 e) in rw g refl
 
 no_front_alone : (m : ℕ) (x : Bytes) → IsMade x → in_name m ≡ false → after (m ∷ []) x ≡ None
 no_front_alone m [] h e = refl
-no_front_alone m (c ∷ cs) h e = let g : nat_eq m c ≡ false = nat_eq_turned c m (other_character c m h.0 e) in rw g refl
+no_front_alone m (c ∷ cs) h e = let g : nat_eq m c ≡ false = swapped c m (other_character c m h.0 e) in rw g refl
 
 own-back : (names : List Bytes) (n : ℕ) → AreOther names → IsNumber names n → read_variable names (name_at names n) ≡ Some (Own n)
 own-back names n h k =

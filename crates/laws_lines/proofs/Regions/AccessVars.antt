@@ -1,6 +1,6 @@
 -- The variables of the regions of names, elements, expressions and simple statements.
-use Rattle.std.proofs.Common.{◌≡◌, ℕ, suc, ◌+◌, ◌<◌, ◌≤◌, Bool, true, false, List, [], ◌∷◌, ◌++◌, length, Option, Some, None, pos, arith, refl}
-use Rattle.std.specs.Prelude.{◌-ℤ◌, if◌then◌else◌, bytes_eq}
+use Rattle.std.proofs.Common.{◌≡◌, ℕ, suc, ◌+◌, ◌<◌, ◌≤◌, true, false, List, [], ◌∷◌, ◌++◌, length, Option, Some, None, pos, arith, refl}
+use Rattle.std.specs.Prelude.{◌-ℤ◌}
 use Rattle.affine_systems.specs.declared.row.Var.{Var}
 use Rattle.affine_systems.specs.declared.row.Var.TheVariants.{Cell, Exit, Phi, Aux}
 use Rattle.affine_systems.specs.Calls.{meet}
@@ -45,6 +45,7 @@ use Rattle.system_text.specs.Printed.{IsNumber}
 use Rattle.laws_lines.specs.Regions.Places.{IsPlaceOf}
 use Rattle.laws_lines.proofs.Regions.RegionVars.{map_all, IsFine, AreFine, composed_fine, mapped_fine, united_fine}
 use Rattle.fx_lists.proofs.Lists.{each_append as both_all}
+use Rattle.f77_ast.proofs.NumberedNames.{number_from-between}
 
 -- a symbol of these names, or what has a name of which something holds
 abbrev pub IsNamedBy : (List ℕ → Type 0) → List (List ℕ) → Variable → Type 0
@@ -52,22 +53,9 @@ IsNamedBy Name names (Own n) = IsNumber names n
 IsNamedBy Name names (Block b) = Name b
 IsNamedBy Name names (Saved s x) = Name s × Name x
 
--- the number of a name is that of a symbol
-named_between : (n : ℕ) (ys : List (List ℕ)) (x : List ℕ) (k : ℕ) → number_from n ys x ≡ Some k → (n ≤ k) × (k < n + length ys)
-named_between n [] x k e = cc
-named_between n (y ∷ ys) x k e = go (bytes_eq x y) e (named_between (suc n) ys x k)
-  where
-    go : (b : Bool) → (if b then Some n else number_from (suc n) ys x) ≡ Some k → (number_from (suc n) ys x ≡ Some k → (suc n ≤ k) × (k < suc n + length ys)) → (n ≤ k) × (k < n + suc (length ys))
-    go true q ih = let same : n ≡ k = cc in (omega (arith, same), omega (arith, same))
-    go false q ih =
-        let r = ih q in
-        let least = r.0 in
-        let most = r.1 in
-        (omega (arith, least), omega (arith, most))
-
 pub named_number : (names : List (List ℕ)) (x : List ℕ) (k : ℕ) → number_from 1 names x ≡ Some k → IsNumber names k
 named_number names x k e =
-    let r = named_between 1 names x k e in
+    let r = number_from-between 1 names x k e in
     let least = r.0 in
     let most = r.1 in
     (omega (arith, least), omega (arith, most))

@@ -17,7 +17,6 @@ use Rattle.in_out_regions.specs.region_translation.Pieces.{piece_in_caller}
 use Rattle.in_out_regions.specs.region_translation.Caller.{by_link, to_caller}
 use Rattle.in_out_regions.specs.array_regions.Calls.{Callees, actual_reads, actuals_reads, sides, all_in_caller, summary_in_caller, call_set}
 use Rattle.laws_lines.proofs.SystemVars.{IsNeat}
-use Rattle.laws_lines.proofs.CallVars.{Every}
 use Rattle.laws_lines.proofs.StatementVars.{Scope}
 use Rattle.laws_lines.specs.Regions.Names.{SymbolNamed}
 use Rattle.laws_lines.specs.Regions.Places.{IsPlaceOf, IsOne}
@@ -26,6 +25,7 @@ use Rattle.laws_lines.proofs.Regions.AccessVars.{IsNamedBy, FewBounds, Fine, rea
 use Rattle.laws_lines.proofs.Regions.CalleeVars.{piece_neat}
 use Rattle.laws_lines.proofs.Regions.LinkVars.{MaybeNamed, MaybeLink, link_ok}
 use Rattle.fx_lists.proofs.Lists.{each_append as both_all}
+use Rattle.fx_lists.proofs.Every.{Anything}
 
 got_named : (Name : List ℕ → Type 0) (ss : List SymbolTree) (k : ℕ) → AllByRecursion (SymbolNamed Name) ss → MaybeNamed Name (slice_get ss k)
 got_named Name [] k h = tt
@@ -46,7 +46,7 @@ pub record SummaryFine (Name : List ℕ → Type 0) (x : List ℕ) (s : SummaryT
   pub title : Name x
   pub table : AllByRecursion (SymbolNamed Name) s.symbols
   pub names : List (List ℕ)
-  pub value : AreFine (IsNamedBy Name names) Every s.value
+  pub value : AreFine (IsNamedBy Name names) Anything s.value
 
 abbrev pub MaybeFine : (List ℕ → Type 0) → List ℕ → Option (SummaryTree (List Region)) → Type 0
 MaybeFine Name x None = Unit {0}
@@ -83,11 +83,11 @@ module _ (Name : List ℕ → Type 0) (ok : ℕ → Type 0) (m : ScopeTree) (a :
       abbrev c : SidesTree
       c = sides m changed untracked x es s.symbols
 
-      maybe_fine : (r : Region) (o : Option Link) → MaybeLink Name ok c a few long o → IsOne (IsNeat (IsPlaceOf Every)) r.pieces → F (option_to_list (option_map (by_link c r) o))
+      maybe_fine : (r : Region) (o : Option Link) → MaybeLink Name ok c a few long o → IsOne (IsNeat (IsPlaceOf Anything)) r.pieces → F (option_to_list (option_map (by_link c r) o))
       maybe_fine r None h k = tt
-      maybe_fine r (Some l) h k = ((h.named, one_shadow (IsNeat (IsPlaceOf Every)) (IsNeat (IsPlaceOf ok)) (piece_in_caller c l) (piece_neat ok c a.allows l h.flat h.rows) r.pieces k), tt)
+      maybe_fine r (Some l) h k = ((h.named, one_shadow (IsNeat (IsPlaceOf Anything)) (IsNeat (IsPlaceOf ok)) (piece_in_caller c l) (piece_neat ok c a.allows l h.flat h.rows) r.pieces k), tt)
 
-      pub all_fine_in : (rs : List Region) → AreFine (IsNamedBy Name fine.names) Every rs → F (all_in_caller c rs)
+      pub all_fine_in : (rs : List Region) → AreFine (IsNamedBy Name fine.names) Anything rs → F (all_in_caller c rs)
       all_fine_in [] h = tt
       all_fine_in (r ∷ rs) h =
           join (option_to_list (to_caller c r)) (all_in_caller c rs)

@@ -39,7 +39,7 @@ use Rattle.laws_lines.specs.Variables.{IsCellOf}
 use Rattle.laws_lines.proofs.RowVars.{each_more, Given}
 use Rattle.laws_lines.proofs.SystemVars.{IsNeat, AreGiven, given_again, system_more, rows_without, tidy_neat, project_neat, push_rows_neat, rename_neat}
 use Rattle.laws_lines.proofs.FormVars.{FormOf, affine_over, compared_given, none_neat}
-use Rattle.laws_lines.proofs.CallVars.{Every, Allows, neat_in}
+use Rattle.laws_lines.proofs.CallVars.{Allows, neat_in}
 use Rattle.laws_lines.specs.Regions.Places.{IsPlaceOf}
 use Rattle.laws_lines.proofs.Regions.PutVars.{NormalGiven, normal_given, all_given}
 use Rattle.in_out_regions.proofs.RegionTranslation.PieceLaws.{one_left, one_right, subscript_in}
@@ -47,6 +47,8 @@ use Rattle.fx_lists.proofs.Booleans.{clash as clashes}
 use Rattle.fx_lists.proofs.Options.{some_is, none_some}
 use Rattle.in_out_regions.specs.region_sets.Putting.{put_in_all}
 use Rattle.in_out_regions.proofs.RegionSets.PutLaws.{all_gone}
+use Rattle.fx_lists.proofs.Every.{Anything}
+use Rattle.fx_lists.proofs.Numbers.{below_false}
 
 -- a place of the caller, or the name of a subscript or of a cell of the callee
 abbrev pub IsLinkedOf : (ℕ → Type 0) → Var → Type 0
@@ -70,29 +72,26 @@ place_linked ok (Aux n) h = absurd h
 -- ---- names
 
 -- what stands for a variable of the callee
-stands : (ok : ℕ → Type 0) (moved : Bool) (r : ℕ) (v : Var) → IsPlaceOf Every v → IsLinkedOf ok (standing moved r v)
+stands : (ok : ℕ → Type 0) (moved : Bool) (r : ℕ) (v : Var) → IsPlaceOf Anything v → IsLinkedOf ok (standing moved r v)
 stands ok moved r (Cell n) h = omega arith
 stands ok moved r (Exit n) h = absurd h
 stands ok true r (Phi n) h = h.0
 stands ok false r (Phi n) h = h
 stands ok moved r (Aux n) h = absurd h
 
-linked_neat : (ok : ℕ → Type 0) (l : Link) → AreGiven (IsLinkedOf ok) l.rows → (s : System) → IsNeat (IsPlaceOf Every) s → IsNeat (IsLinkedOf ok) (linked l s)
+linked_neat : (ok : ℕ → Type 0) (l : Link) → AreGiven (IsLinkedOf ok) l.rows → (s : System) → IsNeat (IsPlaceOf Anything) s → IsNeat (IsLinkedOf ok) (linked l s)
 linked_neat ok l g s h =
     let vs = row_vars s.rows in
     let ns = names_of l.moved l.rank vs in
     push_rows_neat (IsLinkedOf ok) (rename_all ns s) l.rows
-    (rename_neat (λ v. IsPlaceOf Every v × IsOneOf v vs) (IsLinkedOf ok) ns
-    (λ v i. subst (IsLinkedOf ok) (sym (name_is l.moved l.rank vs v i.1)) (stands ok l.moved l.rank v i.0)) s (neat_in (IsPlaceOf Every) vs s h (rows_covered [] s.rows)))
+    (rename_neat (λ v. IsPlaceOf Anything v × IsOneOf v vs) (IsLinkedOf ok) ns
+    (λ v i. subst (IsLinkedOf ok) (sym (name_is l.moved l.rank vs v i.1)) (stands ok l.moved l.rank v i.0)) s (neat_in (IsPlaceOf Anything) vs s h (rows_covered [] s.rows)))
     g
 
 -- ---- lists of variables
 
 positive : (r n : ℕ) → nat_lt r n ≡ true → 0 < n
 positive r n e = let g : r < n = grind (arith, nat_tests) in omega (arith, g)
-
-not_behind : (r n : ℕ) → nat_lt r n ≡ false → n ≤ r
-not_behind r n e = grind (arith, nat_tests)
 
 aux_is : (j k : ℕ) → Aux j ≡ Aux k → j ≡ k
 aux_is j k e = aux_same j k (true-var_eq (Aux j) (Aux k) e)
@@ -244,7 +243,7 @@ module _ (ok : ℕ → Type 0) (c : SidesTree) (a : Allows ok c.caller) where
       where
         go : (b : Bool) → nat_lt l.rank n ≡ b → ⊥
         go true e = t.1 (n, refl, e, f)
-        go false e = g (in_subscripts n t.0 (not_behind l.rank n e))
+        go false e = g (in_subscripts n t.0 (below_false l.rank n e))
 
     linked_piece_neat : (s : System) → IsNeat S s → IsNeat (IsPlaceOf ok) (linked_piece c l s).system
     linked_piece_neat s h = go (none_of s) refl
@@ -261,7 +260,7 @@ module _ (ok : ℕ → Type 0) (c : SidesTree) (a : Allows ok c.caller) where
             system_more (λ w. A w × (IsOneOf w (subscripts l) → ⊥)) (IsPlaceOf ok) (λ w p. left s w p.0.0 (λ i. p.0.1 (subst (IsOneOf w) e i)) p.1) (project b (subscripts l)).system
             (project_neat A b (subscripts l) (project_neat (T s) t (v ∷ vs) (tidied s h)))
 
-    pub piece_neat : AreGiven S l.rows → (s : System) → IsNeat (IsPlaceOf Every) s → IsNeat (IsPlaceOf ok) (piece_in_caller c l s).system
+    pub piece_neat : AreGiven S l.rows → (s : System) → IsNeat (IsPlaceOf Anything) s → IsNeat (IsPlaceOf ok) (piece_in_caller c l s).system
     piece_neat g s h =
         if_cases (λ (x : Shadow). IsNeat (IsPlaceOf ok) x.system) (are_own l.moved l.rank (row_vars s.rows)) (linked_piece c l (linked l s)) (shadow no_rows false)
         (λ e. linked_piece_neat (linked l s) (linked_neat ok l g s h)) (λ e. none_neat (IsPlaceOf ok))

@@ -35,9 +35,10 @@ use Rattle.laws_programs.proofs.SymbolTables.Answers.{Answered, answered_by, lin
 use Rattle.laws_programs.proofs.SymbolTables.KeptNames.{Said, with_said, expr_keeps, stmts_keep}
 use Rattle.laws_programs.proofs.SymbolTables.StatementRefusals.{int_back, int_expr_back, step_back, arms_back, else_back, stmts_back}
 use Rattle.laws_programs.proofs.SymbolTables.Values.{chosen, as_chosen, is_taken, judged}
-use Rattle.laws_lines.proofs.SymbolNames.{names-last, said_stay, names_of_symbols}
+use Rattle.laws_lines.proofs.SymbolNames.{said_stay, names_of_symbols}
 use Rattle.laws_lines.specs.Regions.Indexes.{has_other_index, counts_other, IndexesAreSymbols}
-use Rattle.storage_layout.proofs.EarlyLaws.{noted_none}
+use Rattle.fx_lists.proofs.Refused.{none_refused}
+use Rattle.laws_programs.proofs.Layouts.DifferLaws.{names_more}
 
 -- ---- names that are put into the table
 
@@ -77,21 +78,21 @@ seen_there x line es = go (is_some (find x es)) refl
   where
     go : (b : Bool) → is_some (find x es) ≡ b → IsTold x (if b then es else es ++ fresh x line ∷ [])
     go true q = found_there 1 x es q
-    go false q = subst (λ (ns : List (List ℕ)). is_none (number_from 1 ns x) ≡ false) (sym (names-last es (fresh x line))) (last_one 1 x (entry_names es))
+    go false q = subst (λ (ns : List (List ℕ)). is_none (number_from 1 ns x) ≡ false) (sym (names_more es (fresh x line))) (last_one 1 x (entry_names es))
 
 seen_keeps : (y x : List ℕ) (line : ℕ) (es : List EntryTree) → IsTold y es → IsTold y (seen x line es)
 seen_keeps y x line es h = go (is_some (find x es))
   where
     go : (b : Bool) → IsTold y (if b then es else es ++ fresh x line ∷ [])
     go true = h
-    go false = subst (λ (ns : List (List ℕ)). is_none (number_from 1 ns y) ≡ false) (sym (names-last es (fresh x line))) (before 1 y (entry_names es) (x ∷ []) h)
+    go false = subst (λ (ns : List (List ℕ)). is_none (number_from 1 ns y) ≡ false) (sym (names_more es (fresh x line))) (before 1 y (entry_names es) (x ∷ []) h)
 
 said_keeps : (y x : List ℕ) (w : Said) (es : List EntryTree) → IsTold y es → IsTold y (changed x (with_said w) es)
 said_keeps y x w es h = subst (λ (ns : List (List ℕ)). is_none (number_from 1 ns y) ≡ false) (sym (said_stay x w es)) h
 
 -- what is written is no function
 no_function : (f : Option Function) (t : NameTable) (x : List ℕ) (line : ℕ) (o : Option Refusal) → name_written f t x line o ≡ None → f ≡ None
-no_function (Some f) t x line o e = let wrong : true ≡ false = (noted_none true line AssignToConstant o e).0 in cc
+no_function (Some f) t x line o e = let wrong : true ≡ false = (none_refused true line AssignToConstant o e).0 in cc
 no_function None t x line o e = refl
 
 -- ---- statements that are not refused, of which the table tells

@@ -35,7 +35,7 @@ use Rattle.laws_lines.proofs.TableNames.{names_are_distinct}
 use Rattle.laws_lines.proofs.RowVars.{Neat}
 use Rattle.laws_lines.proofs.SystemVars.{IsNeat}
 use Rattle.laws_lines.proofs.LineBack.{neat_ordered, cell_number}
-use Rattle.laws_lines.proofs.PhaseVars.{EachOf, each_all, value_is}
+use Rattle.laws_lines.proofs.PhaseVars.{each_all, value_is}
 use Rattle.laws_lines.specs.Regions.Places.{IsPlaceOf, IsOne}
 use Rattle.laws_lines.specs.Regions.Lines.{is_phi, HaveNoPhi, IsRegionLine}
 use Rattle.laws_lines.specs.Regions.LineLaws.{lines_in, RegionsAreReadable, SetLinesMean, RegionLinesMean, RegionLinesMeanRegions}
@@ -46,6 +46,7 @@ use Rattle.laws_lines.proofs.Regions.ProgramRegions.{IsNamedHere, SetsFine, Modu
 use Rattle.laws_lines.proofs.ProgramLines.{HasNames}
 use Rattle.fx_lists.proofs.Lists.{map_length, each_append as both_all}
 use Rattle.elimination.proofs.ClosedLaws.{rows_weaker as all_more}
+use Rattle.fx_lists.proofs.Every.{Every}
 
 -- ---- names that are none of subscripts
 
@@ -191,13 +192,13 @@ sets_mean untracked k sets h are none =
       all_lines names sets (sets_told untracked k sets h other) k.read,
     )
 
-pub tables_named : (ps : List ParsedTree) (sss : List (List SymbolTree)) → AreTables ps sss → All AreWords sss → EachOf HasNames (known_of ps sss)
+pub tables_named : (ps : List ParsedTree) (sss : List (List SymbolTree)) → AreTables ps sss → All AreWords sss → Every HasNames (known_of ps sss)
 tables_named [] sss t w = tt
 tables_named (p ∷ ps) [] t w = tt
 tables_named (p ∷ ps) (ss ∷ sss) t w =
     (record { each = w zero ss (omega arith); distinct = names_are_distinct p ss t.0 }, tables_named ps sss t.1 (λ k d l. w (suc k) d (omega (arith, l))))
 
-each_means : (untracked : List BlockUnit) (fs : List ModuleRegions) → EachOf (ModuleFine IsPlain untracked) fs → EachOf (λ (f : ModuleRegions). HasNames f.analysis.found.known) fs → EachOf RegionLinesMean fs
+each_means : (untracked : List BlockUnit) (fs : List ModuleRegions) → Every (ModuleFine IsPlain untracked) fs → Every (λ (f : ModuleRegions). HasNames f.analysis.found.known) fs → Every RegionLinesMean fs
 each_means untracked [] h k = tt
 each_means untracked (f ∷ fs) h k = (sets_mean untracked f.analysis.found.known f.regions h.0 k.0, each_means untracked fs h.1 k.1)
 

@@ -22,13 +22,14 @@ use Rattle.laws_programs.specs.roundtrip_programs.Texts.Texts.{IsPassedOver}
 use Rattle.laws_programs.specs.roundtrip_programs.Lines.{IsShown, AreShown}
 use Rattle.laws_lines.specs.RegionTexts.Laws.{IsShownVariable, RegionLinesArePassedOver}
 use Rattle.laws_lines.specs.Laws.{IsTracked}
-use Rattle.laws_lines.proofs.PhaseVars.{EachOf, each_all, value_is}
+use Rattle.laws_lines.proofs.PhaseVars.{each_all, value_is}
 use Rattle.laws_lines.specs.Regions.Names.{SymbolNamed, IsNamed}
 use Rattle.laws_lines.specs.Regions.LineLaws.{SetLinesPass, RegionLinesPass, AllRegionLinesPass}
 use Rattle.laws_lines.proofs.Regions.AccessVars.{IsNamedBy}
 use Rattle.laws_lines.proofs.Regions.RegionVars.{AreFine}
 use Rattle.laws_lines.proofs.Regions.ProgramRegions.{SetsFine, ModuleFine, modules_fine, each_named, regions_with}
 use Rattle.fx_lists.proofs.Lists.{each_append}
+use Rattle.fx_lists.proofs.Every.{Every}
 
 abbrev AreShownRegions : List Region → Type 0
 AreShownRegions rs = AllByRecursion (λ (r : Region). IsShownVariable r.variable) rs
@@ -128,7 +129,7 @@ sets_pass law untracked k sets named h =
       summary = fine_shown names ok sets.summary h.summary;
     }) k.read.main k.read.body
 
-each_passes : RegionLinesArePassedOver → (untracked : List BlockUnit) (fs : List ModuleRegions) → EachOf (λ (f : ModuleRegions). IsNamed IsShown f.analysis.found.known) fs → EachOf (ModuleFine IsShown untracked) fs → EachOf RegionLinesPass fs
+each_passes : RegionLinesArePassedOver → (untracked : List BlockUnit) (fs : List ModuleRegions) → Every (λ (f : ModuleRegions). IsNamed IsShown f.analysis.found.known) fs → Every (ModuleFine IsShown untracked) fs → Every RegionLinesPass fs
 each_passes law untracked [] n h = tt
 each_passes law untracked (f ∷ fs) n h = (sets_pass law untracked f.analysis.found.known f.regions n.0 h.0, each_passes law untracked fs n.1 h.1)
 

@@ -34,7 +34,6 @@ use Rattle.laws_lines.specs.Variables.{EachVar, IsCellOf}
 use Rattle.laws_lines.proofs.RowVars.{each_more, each-combined, Given}
 use Rattle.laws_lines.proofs.SystemVars.{AreGiven, all-append}
 use Rattle.laws_lines.proofs.FormVars.{IsFormOf, FormOf, var_of, affine_over, compared_given}
-use Rattle.laws_lines.proofs.CallVars.{Every}
 use Rattle.laws_lines.proofs.StatementVars.{Scope}
 use Rattle.system_text.specs.Printed.{IsNumber}
 use Rattle.laws_lines.specs.Regions.Names.{PlaceNamed, SymbolNamed}
@@ -42,6 +41,7 @@ use Rattle.laws_lines.specs.Regions.Places.{IsPlaceOf}
 use Rattle.laws_lines.proofs.Regions.AccessVars.{IsNamedBy, named_number, FewBounds, dimension_given, subscripts_given}
 use Rattle.laws_lines.proofs.Regions.CalleeVars.{IsLinkedOf, cell_linked, place_linked}
 use Rattle.elimination.proofs.ClosedLaws.{rows_weaker as all_more}
+use Rattle.fx_lists.proofs.Every.{Anything}
 
 -- ---- sums of forms
 
@@ -130,24 +130,24 @@ module _ (Name : List ℕ → Type 0) (ok : ℕ → Type 0) (c : SidesTree) (a :
   actual_bound_form : (e : ExprTree) → F (actual_bound c e)
   actual_bound_form e = unless_form S c.changed (affine_of c.caller.scalars e) (actual_form e)
 
-  named_var : (r : ℕ) (v : Var) → IsCellOf Every v → S (named r v)
+  named_var : (r : ℕ) (v : Var) → IsCellOf Anything v → S (named r v)
   named_var r (Cell n) h = omega arith
   named_var r (Exit n) h = absurd h
   named_var r (Phi n) h = absurd h
   named_var r (Aux n) h = absurd h
 
-  terms_form : (r : ℕ) (o : Option Affine) (ts : List Term) → F o → EachVar (IsCellOf Every) ts → F (named_terms r o ts)
+  terms_form : (r : ℕ) (o : Option Affine) (ts : List Term) → F o → EachVar (IsCellOf Anything) ts → F (named_terms r o ts)
   terms_form r o [] h k = h
   terms_form r o (t ∷ ts) h k =
       let f = Some (var_form (named r t.var)) in
       terms_form r (sum_of o t.factor f) ts (sum_form S o t.factor f h (var_of S (named r t.var) (named_var r t.var k.0))) k.1
 
-  pub named_formed : (r : ℕ) (o : Option Affine) → FormOf (IsCellOf Every) o → F (named_form r o)
+  pub named_formed : (r : ℕ) (o : Option Affine) → FormOf (IsCellOf Anything) o → F (named_form r o)
   named_formed r None h = tt
   named_formed r (Some f) h = terms_form r (limited (affine [] f.constant)) f.terms (limited_of S (affine [] f.constant) (tt, tt)) h.1
 
   dummy_bound_form : (r : ℕ) (e : ExprTree) → F (named_form r (dummy_bound c e))
-  dummy_bound_form r e = named_formed r (dummy_bound c e) (affine_over (IsCellOf Every) c.callee.scalars (λ x n q. tt) e)
+  dummy_bound_form r e = named_formed r (dummy_bound c e) (affine_over (IsCellOf Anything) c.callee.scalars (λ x n q. tt) e)
 
   -- ---- positions
 

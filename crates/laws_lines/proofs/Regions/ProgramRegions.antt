@@ -21,10 +21,9 @@ use Rattle.f77_ast.specs.declared.symbol.Place.{Place}
 use Rattle.f77_ast.specs.declared.symbol.Place.TheVariants.{Local, Dummy, Block, Constant}
 use Rattle.f77_ast.specs.declared.variable.Unit.{Unit as BlockUnit}
 use Rattle.f77_ast.specs.declared.variable.Variable.{Variable}
-use Rattle.laws_lines.proofs.PhaseVars.{EachOf, each-append, each_all, each_reverse, got_each, AnalysisOk, analyses_ok, value_is, named_flag, unit_flag, set_cell, Flag}
+use Rattle.laws_lines.proofs.PhaseVars.{each_all, AnalysisOk, analyses_ok, value_is, named_flag, unit_flag, set_cell, Flag}
 use Rattle.laws_lines.proofs.RuleVars.{IsDone, unchanging_done}
 use Rattle.laws_lines.proofs.StatementVars.{AllAt, Scope}
-use Rattle.laws_lines.proofs.CallVars.{Every}
 use Rattle.laws_lines.proofs.SystemVars.{IsNeat, neat_over, system_more}
 use Rattle.laws_lines.specs.Laws.{IsTracked}
 use Rattle.laws_lines.specs.Variables.{IsOver}
@@ -63,7 +62,8 @@ use Rattle.preconditions.specs.transformers.Given as given
 use Rattle.preconditions.specs.transformers.Jumps.{list_has}
 use Rattle.preconditions.specs.transformers.Lists.{value_at, or_unchanging, transformer_at}
 use Rattle.laws_lines.proofs.Outs.CalleeLinks.{HasSeven as HasFew}
-use Rattle.storage_layout.proofs.EarlyLaws.{noted_none}
+use Rattle.fx_lists.proofs.Refused.{none_refused}
+use Rattle.fx_lists.proofs.Every.{Anything, Anything as Every, Every as EachOf, every_joined, every_turned, every_at}
 
 -- ---- the tracked cells of a module
 
@@ -97,7 +97,7 @@ seven n h = grind (arith, nat_tests)
 shape_few : (t : NameTable) (dummy : Bool) (s : Option ShapeTree) (o : Option Refusal) → check_shape t dummy s o ≡ None → length (bounds_in s) ≤ 7
 shape_few t dummy None o j = omega arith
 shape_few t dummy (Some s) o j =
-    let r = noted_none (is_bad_shape t dummy s.bounds) s.line BadDimension (check_bounds t s.bounds s.line o) j in
+    let r = none_refused (is_bad_shape t dummy s.bounds) s.line BadDimension (check_bounds t s.bounds s.line o) j in
     seven (length s.bounds) (or_parts (nat_lt 7 (length s.bounds)) (has_bad_bound t dummy s.bounds || is_too_big (dims_of t s.bounds)) r.0).0
 
 all_few : (t : NameTable) (l : Layout) (n : ℕ) (es : List EntryTree) (o : Option Refusal) → check_shapes t es o ≡ None → EachOf HasFew (symbols_from l n es)
@@ -119,7 +119,7 @@ few_at ss h n s e = go (nat_eq n 0) e
   where
     go : (b : Bool) → (if b then None else slice_get ss (n - 1)) ≡ Some s → length s.bounds ≤ 7
     go true q = cc
-    go false q = got_each HasFew ss (n - 1) s h q
+    go false q = every_at HasFew ss (n - 1) s h q
 
 -- so it is of the symbols of a module; and the index of each DO is one of them
 abbrev pub IsTold : Known → Type 0
@@ -138,7 +138,7 @@ module _ (W : Analysis → Type 0) where
   regions_from untracked cs (a ∷ as') h = (h.0, regions_from untracked (with_callee (with_regions untracked cs a) cs) as' h.1)
 
   pub regions_of : (g : Graph) (as' : List Analysis) → EachOf W as' → EachOf (λ (f : ModuleRegions). W f.analysis) (all_regions g as')
-  regions_of g as' h = regions_from g.untracked regions.no_callees (reverse as') (each_reverse W as' h)
+  regions_of g as' h = regions_from g.untracked regions.no_callees (reverse as') (every_turned W as' h)
 
 module _ (W : Known → Type 0) where
   module_with : (ks : List Known) → EachOf W ks → (x : List ℕ) (k : Known) → module_of ks x ≡ Some k → W k
@@ -146,7 +146,7 @@ module _ (W : Known → Type 0) where
     where
       go : (o : Option ℕ) → module_at ks o ≡ Some k → W k
       go None q = cc
-      go (Some i) q = got_each W ks i k h q
+      go (Some i) q = every_at W ks i k h q
 
   founds_with : (untracked : List BlockUnit) (ks : List Known) → EachOf W ks → (cs : given.Callees) (xs : List (List ℕ)) → EachOf (λ (f : Found). W f.known) (scalars.found_in untracked ks cs xs)
   founds_with untracked ks h cs [] = tt
@@ -160,12 +160,12 @@ module _ (W : Known → Type 0) where
   from_with untracked done [] d h = d
   from_with untracked done (f ∷ fs) d h =
       let new = analysis_of untracked (sites_of untracked done f.known.read.name) f in
-      from_with untracked (done ++ new ∷ []) fs (each-append (λ (a : Analysis). W a.found.known) done (new ∷ []) d (h.0, tt)) h.1
+      from_with untracked (done ++ new ∷ []) fs (every_joined (λ (a : Analysis). W a.found.known) done (new ∷ []) d (h.0, tt)) h.1
 
   analyses_with : (ks : List Known) (g : Graph) → EachOf W ks → EachOf (λ (a : Analysis). W a.found.known) (analyses ks g)
   analyses_with ks g h =
       let fs = scalars.found_in g.untracked ks scalars.no_callees g.order in
-      from_with g.untracked [] (reverse fs) tt (each_reverse (λ (f : Found). W f.known) fs (founds_with g.untracked ks h scalars.no_callees g.order))
+      from_with g.untracked [] (reverse fs) tt (every_turned (λ (f : Found). W f.known) fs (founds_with g.untracked ks h scalars.no_callees g.order))
 
   -- so it is of each module with its regions
   pub regions_with : (ks : List Known) (g : Graph) → EachOf W ks → EachOf (λ (f : ModuleRegions). W f.analysis.found.known) (all_regions g (analyses ks g))
@@ -290,37 +290,34 @@ module _ (Name : List ℕ → Type 0) where
   pub modules_fine : (ps : List ParsedTree) (sss : List (List SymbolTree)) (g : Graph) → AreTables ps sss → AreNamed Name (known_of ps sss) → EachOf (ModuleFine g.untracked) (all_regions g (analyses (known_of ps sss) g))
   modules_fine ps sss g t n =
       let as' = analyses (known_of ps sss) g in
-      found_fine g.untracked regions.no_callees (reverse as') (λ x. tt) (each_reverse (ModuleTold g.untracked) as' (all_told ps sss g t n))
+      found_fine g.untracked regions.no_callees (reverse as') (λ x. tt) (every_turned (ModuleTold g.untracked) as' (all_told ps sss g t n))
 
 -- ---- whatever names are
 
-abbrev pub Any : List ℕ → Type 0
-Any x = Unit {0}
-
-any_table : (ss : List SymbolTree) → AllByRecursion (SymbolNamed Any) ss
+any_table : (ss : List SymbolTree) → AllByRecursion (SymbolNamed Anything) ss
 any_table [] = tt
 any_table (s ∷ ss) = ((tt, place s.place), any_table ss)
   where
-    place : (p : Place) → PlaceNamed Any p
+    place : (p : Place) → PlaceNamed Anything p
     place (Local g o) = tt
     place (Dummy n) = tt
     place (Block b o) = tt
     place (Constant v) = tt
 
-pub any_named : (ks : List Known) → AreNamed Any ks
+pub any_named : (ks : List Known) → AreNamed Anything ks
 any_named [] = tt
 any_named (k ∷ ks) = ((tt, any_table k.symbols), any_named ks)
 
-pub sets_over : (untracked : List BlockUnit) (k : Known) (sets : Results (List Region)) → SetsFine Any untracked k sets → SetsAreOver untracked k sets
+pub sets_over : (untracked : List BlockUnit) (k : Known) (sets : Results (List Region)) → SetsFine Anything untracked k sets → SetsAreOver untracked k sets
 sets_over untracked k sets h =
     let ok = IsTracked untracked k in
-    let each = at_each (AreFine (IsNamedHere Any k) ok) (AreOverPlaces untracked k) (all_over (IsNamedHere Any k) ok) sets.at h.at in
+    let each = at_each (AreFine (IsNamedHere Anything k) ok) (AreOverPlaces untracked k) (all_over (IsNamedHere Anything k) ok) sets.at h.at in
     record {
       at = each_all (λ (x : At (List Region)). AreOverPlaces untracked k x.value) (λ (x : At (List Region)). AreOverPlaces untracked k x.value) (λ x i. i) sets.at each;
-      summary = all_over (IsNamedHere Any k) ok sets.summary h.summary;
+      summary = all_over (IsNamedHere Anything k) ok sets.summary h.summary;
     }
 
 pub regions_are_over_places : RegionsAreOverPlaces
 regions_are_over_places ps sss g t =
     let ks = known_of ps sss in
-    each_all (ModuleFine Any g.untracked) (RegionsAreOver g.untracked) (λ f. sets_over g.untracked f.analysis.found.known f.regions) (all_regions g (analyses ks g)) (modules_fine Any ps sss g t (any_named ks))
+    each_all (ModuleFine Anything g.untracked) (RegionsAreOver g.untracked) (λ f. sets_over g.untracked f.analysis.found.known f.regions) (all_regions g (analyses ks g)) (modules_fine Anything ps sss g t (any_named ks))

@@ -28,7 +28,6 @@ use Rattle.laws_programs.proofs.Effects.Access.{Access, Allowed, Under, into_und
 use Rattle.laws_programs.proofs.Effects.Fine.{Always, Fine, Doing, fine_first}
 use Rattle.laws_programs.proofs.Effects.Orders.{list_fine, forget_fine, after_call_fine}
 use Rattle.laws_programs.proofs.Effects.Opens.{Wherever, Opens, opens_first, opens_forget}
-use Rattle.laws_programs.proofs.Effects.Meant.{at_number}
 use Rattle.laws_programs.proofs.Effects.Units.{AreAt, LetsAll, Allows, allows_all, OwnAreFree, own_free, own_free_more}
 use Rattle.laws_programs.proofs.Effects.Plain.{PlainEffect}
 use Rattle.laws_programs.proofs.Effects.PlainStatements.{PlainCallee, plain_stmt}
@@ -42,6 +41,7 @@ use Rattle.laws_programs.proofs.Effects.Arrays.{AfterAll, arrays_do}
 use Rattle.laws_programs.proofs.Effects.Entered.{first_at, Keeps, keeps_first, keeps_at, entered}
 use Rattle.laws_programs.proofs.Effects.Inside.{whole, lets_below, bounds_at_places, bounds_offered, offered_below}
 use Rattle.laws_programs.proofs.Effects.Held.{statement_claims, entry_claim}
+use Rattle.f77_ast.proofs.StorageLaws.{at_number}
 
 -- what is known of a CALL: it fits what it calls, whose summary names variables by names that tell them apart
 abbrev pub Asked : List Known → (List ℕ → Callees) → Known → List ℕ → ExprTrees → Type 0

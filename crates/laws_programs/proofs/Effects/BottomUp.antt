@@ -23,16 +23,9 @@ use Rattle.laws_programs.proofs.Effects.Members.{member_at}
 use Rattle.laws_programs.proofs.Effects.Once.{NamesOnce, names_once}
 use Rattle.laws_programs.proofs.Effects.Callees.{callee_of, known_here}
 use Rattle.laws_programs.proofs.Effects.Sound.{all_has, one_or_before, one_on, below_rows}
-use Rattle.fx_lists.proofs.Texts.{same_name}
+use Rattle.fx_lists.proofs.Texts.{same_name, unequal_texts}
 
 -- ---- names
-
-pub other_name : (x y : List ℕ) → (x ≡ y → ⊥) → bytes_eq x y ≡ false
-other_name x y ne = go (bytes_eq x y) refl
-  where
-    go : (b : Bool) → bytes_eq x y ≡ b → b ≡ false
-    go true e = absurd (ne ((bytes_eq-Decides x y).0 e))
-    go false e = refl
 
 fewer : (k : Known) (ks : List Known) → NamesOnce (k ∷ ks) → NamesOnce ks
 fewer k ks once i j a b h m n = let z = once (suc i) (suc j) a b h m n in omega (arith, z)
@@ -43,7 +36,7 @@ name_found (l ∷ ks) zero k once e =
     let same : l ≡ k = cc in
     ap (λ b. if b then Some l else with_name ks k.read.name) ((bytes_eq-Decides l.read.name k.read.name).1 (ap (λ z. z.read.name) same)) ∙ ap Some same
 name_found (l ∷ ks) (suc i) k once e =
-    ap (λ b. if b then Some l else with_name ks k.read.name) (other_name l.read.name k.read.name (λ q. let z = once 0 (suc i) l k refl e q in absurd (omega (arith, z))))
+    ap (λ b. if b then Some l else with_name ks k.read.name) (unequal_texts l.read.name k.read.name (λ q. let z = once 0 (suc i) l k refl e q in absurd (omega (arith, z))))
     ∙ name_found ks i k (fewer l ks once) e
 
 names_match : (ps : List ParsedTree) (sss : List (List SymbolTree)) (a : ℕ) → length ps ≡ length sss → slice_get (names_of ps) a ≡ option_map (λ k. k.read.name) (slice_get (known_of ps sss) a)
@@ -98,7 +91,7 @@ module _ (ps : List ParsedTree) (sss : List (List SymbolTree)) (g : Graph) (same
     its_name = names_match ps sss a same ∙ ap (option_map (λ x. x.read.name)) is
 
     other_module : (i : ℕ) (k : Known) → slice_get ks i ≡ Some k → (a ≡ i → ⊥) → bytes_eq k.read.name ka.read.name ≡ false
-    other_module i k e ne = other_name k.read.name ka.read.name (λ q. ne (sym (once i a k ka e is q)))
+    other_module i k e ne = unequal_texts k.read.name ka.read.name (λ q. ne (sym (once i a k ka e is q)))
 
     -- it has the summaries so far
     pub its_tables : tables ka.read.name ≡ cs

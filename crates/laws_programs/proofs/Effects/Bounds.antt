@@ -23,10 +23,11 @@ use Rattle.laws_programs.specs.Effects.Tables.{IsBound, IsHigh, AreBounds, AllBo
 use Rattle.laws_programs.proofs.Effects.Named.{Stands, in_union}
 use Rattle.laws_programs.proofs.Effects.Kept.{kept_bounds, kept_symbols}
 use Rattle.laws_programs.proofs.Effects.Access.{Reading, Allowed}
-use Rattle.laws_programs.proofs.Effects.Fine.{Doing, Anything, doing_bind}
+use Rattle.laws_programs.proofs.Effects.Fine.{Doing, doing_bind}
 use Rattle.laws_programs.proofs.Effects.Orders.{given_does}
 use Rattle.laws_programs.proofs.Effects.Meant.{IsVariable, meant}
 use Rattle.laws_programs.proofs.Effects.Values.{of_type_does, stands_own}
+use Rattle.fx_lists.proofs.Every.{Anything}
 
 -- scalars of a list of variables, at their first units, may be read
 abbrev pub LetsScalars : List SymbolTree → Places → Allowed → List Named → Type 0

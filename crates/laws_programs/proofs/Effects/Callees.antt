@@ -18,9 +18,9 @@ use Rattle.f77_meaning.specs.Modules.{Known, known_of}
 use Rattle.f77_meaning.specs.Laws.{FitsCall}
 use Rattle.f77_meaning.proofs.LinkedLaws.{linked_calls_fit}
 use Rattle.laws_programs.proofs.Effects.Members.{In, index_of}
-use Rattle.laws_programs.proofs.Effects.Passing.{any_left, any_right}
 use Rattle.laws_programs.proofs.Effects.Once.{known_at, own_places, once_of}
 use Rattle.laws_programs.proofs.Storage.EdgeLaws.{put_has as put_itself}
+use Rattle.fx_lists.proofs.Lists.{any_left}
 
 -- ---- places of callees
 

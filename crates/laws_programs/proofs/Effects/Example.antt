@@ -52,10 +52,10 @@ abbrev symbols_a : List SymbolTree
 symbols_a = symbol (codes "X") scalar.Int (bound (int (pos 1)) (Some (name (codes "J"))) ∷ []) (place.Dummy 1) false [] ∷ symbol (codes "J") scalar.Int [] (place.Block (codes "B") 0) false [] ∷ symbol (codes "L") scalar.Int [] (place.Local 1 0) false [] ∷ []
 
 abbrev parsed : ParsedTree
-parsed = record { module_read = record { name = codes "P"; main = true; titled = true; dummies = []; decls = []; body = body_p }; places = record { spots = []; closing = [] } }
+parsed = record { module_read = record { name = codes "P"; main = true; titled = true; dummies = []; decls = []; body = body_p; function = None; references = []; whiles = [] }; places = record { spots = []; closing = [] } }
 
 abbrev callee : ParsedTree
-callee = record { module_read = record { name = codes "A"; main = false; titled = true; dummies = codes "X" ∷ []; decls = []; body = body_a }; places = record { spots = []; closing = [] } }
+callee = record { module_read = record { name = codes "A"; main = false; titled = true; dummies = codes "X" ∷ []; decls = []; body = body_a; function = None; references = []; whiles = [] }; places = record { spots = []; closing = [] } }
 
 abbrev programs : List ParsedTree
 programs = parsed ∷ callee ∷ []

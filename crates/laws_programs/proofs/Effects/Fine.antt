@@ -37,10 +37,6 @@ Doing (steps.Show xs t) A P = A Talking × Doing t A P
 Doing (steps.Take k) A P = A Talking × ((o : Option Content) → Doing (k o) A P)
 Doing (steps.Arrive p t) A P = Doing t A P
 
--- nothing is said of what they give
-abbrev pub Anything : {B : Type 0} → B → Type 0
-Anything b = Unit {0}
-
 -- ---- one after the other
 
 pub doing_bind : {B D : Type 0} (m : Steps B) (f : B → Steps D) (A : Allowed) (P : B → Type 0) (Q : D → Type 0) → Doing m A P → ((b : B) → P b → Doing (f b) A Q) → Doing (m >>= f) A Q

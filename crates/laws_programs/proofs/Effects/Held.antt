@@ -22,7 +22,7 @@ use Rattle.effects.specs.List.{Callees, at as result_at, at_list}
 use Rattle.effects.specs.Modules.{cumulated_of}
 use Rattle.laws_programs.specs.Effects.Claims.{is_stopped, is_unit_of_some, EffectsHold, IsOfModule}
 use Rattle.laws_programs.proofs.Effects.Named.{Stands}
-use Rattle.laws_programs.proofs.Effects.Members.{index_of, any_at}
+use Rattle.laws_programs.proofs.Effects.Members.{index_of}
 use Rattle.laws_programs.proofs.Effects.Access.{Stopping, Allowed, Passing, Under, into_under}
 use Rattle.laws_programs.proofs.Effects.Fine.{Always}
 use Rattle.laws_programs.proofs.Effects.Traces.{along_more, fine_along, Lost, AnswerIn, Traced, traced}
@@ -31,6 +31,7 @@ use Rattle.laws_programs.proofs.Effects.Units.{Has, Allows}
 use Rattle.laws_programs.proofs.Effects.Plain.{IsPlain, ArePlain, same_variable, PlainEffect}
 use Rattle.laws_programs.proofs.Effects.Passing.{has_lost, passing}
 use Rattle.laws_programs.proofs.Effects.Statements.{ClaimsAt}
+use Rattle.fx_lists.proofs.Lookups.{any_at}
 
 -- ---- units that are not visible
 

@@ -1,8 +1,7 @@
 -- A name that stands for a variable: its symbol, and its number for effects.
 use Rattle.std.proofs.Common.{◌≡◌, ℕ, zero, suc, ◌-◌, ◌≤◌, Bool, true, false, List, [], ◌∷◌, Option, Some, None, refl, sym, ap, ◌∙◌, subst, arith}
-use Rattle.std.specs.Prelude.{if◌then◌else◌, bytes_eq, nat_eq, slice_get}
+use Rattle.std.specs.Prelude.{if◌then◌else◌, bytes_eq, slice_get}
 use Rattle.std.proofs.lemmas.Slice.Eq.{bytes_eq-Decides}
-use Rattle.std.proofs.lemmas.Bool.{eqb-true}
 use Rattle.f77_ast.specs.declared.decl.Scalar.{Scalar}
 use Rattle.f77_ast.specs.Places.{Variable, Function}
 use Rattle.f77_ast.specs.declared.symbol.Place.{Place}
@@ -11,8 +10,9 @@ use Rattle.f77_ast.specs.Symbols.{SymbolTree, number_from}
 use Rattle.f77_ast.specs.Shared.{symbol_at}
 use Rattle.call_graph.specs.Actuals.{symbol_with_name}
 use Rattle.f77_meaning.specs.Modules.{symbol_names, is_function, meant_by, meant_at, meant_in, names}
-use Rattle.f77_meaning.proofs.UnitLaws.{number_least}
 use Rattle.effects.specs.Names.{variable_number, number_of}
+use Rattle.f77_ast.proofs.NumberedNames.{number_from-least}
+use Rattle.f77_ast.proofs.StorageLaws.{at_number}
 
 -- no constant
 abbrev pub IsVariable : Place → Type 0
@@ -45,16 +45,9 @@ found n m (t ∷ ss) x e = go (bytes_eq x t.name) refl e (found (suc n) m ss x)
         (t, ap (slice_get (t ∷ ss)) z, refl, sym ((bytes_eq-Decides x t.name).0 q), ap (λ j. variable_number j t) same)
     go false q h ih =
         let r = ih h in
-        let low : suc n ≤ m = number_least (suc n) m (symbol_names ss) x h in
+        let low : suc n ≤ m = number_from-least (suc n) m (symbol_names ss) x h in
         let z : m - n ≡ suc (m - suc n) = omega (arith, low) in
         (r.0, ap (slice_get (t ∷ ss)) z ∙ r.1, r.2, r.3, r.4)
-
-pub at_number : (ss : List SymbolTree) (m : ℕ) (s : SymbolTree) → 1 ≤ m → slice_get ss (m - 1) ≡ Some s → symbol_at ss m ≡ Some s
-at_number ss m s low e = go (nat_eq m 0) refl
-  where
-    go : (b : Bool) → nat_eq m 0 ≡ b → (if b then None else slice_get ss (m - 1)) ≡ Some s
-    go true q = let z : m ≡ 0 = eqb-true m 0 q in absurd (omega (arith, z, low))
-    go false q = e
 
 by_place : (t : Scalar) (m n : ℕ) (p : Place) → meant_by t m p ≡ Variable n → (m ≡ n) × IsVariable p
 by_place t m n (place.Local g o) e = (cc, tt)
@@ -79,7 +72,7 @@ meant ss x n e = go (number_from 1 (symbol_names ss) x) refl e
     with_symbol m q h =
         let r = found 1 m ss x q in
         let s = r.0 in
-        let here = at_number ss m s (number_least 1 m (symbol_names ss) x q) r.1 in
+        let here = at_number ss m s (number_from-least 1 m (symbol_names ss) x q) r.1 in
         let k = by_symbol s m n (is_function s) (subst (λ o. meant_at m o ≡ Variable n) here h) in
         record {
           symbol = s;

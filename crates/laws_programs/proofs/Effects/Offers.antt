@@ -26,11 +26,12 @@ use Rattle.laws_programs.specs.Effects.Trees.{StandsIndexed, IsActual, AreActual
 use Rattle.laws_programs.proofs.Effects.Named.{Stands}
 use Rattle.laws_programs.proofs.Effects.Kept.{kept_actuals}
 use Rattle.laws_programs.proofs.Effects.Access.{Reading, Allowed}
-use Rattle.laws_programs.proofs.Effects.Fine.{Doing, Anything, doing_bind}
+use Rattle.laws_programs.proofs.Effects.Fine.{Doing, doing_bind}
 use Rattle.laws_programs.proofs.Effects.Meant.{StandsFor, meant}
 use Rattle.laws_programs.proofs.Effects.Units.{within_bounds, IsKnownBy, known_variable, ScalarsReach, Lets, lets_second}
 use Rattle.laws_programs.proofs.Effects.Values.{stands_own, stands_array, in_extent, not_function, intrinsic_does, value_does, values_does}
 use Rattle.f77_meaning.proofs.ModuleLaws.{in_laid as in_bounds}
+use Rattle.fx_lists.proofs.Every.{Anything}
 
 -- a part of what a variable of the caller reaches, which is not empty unless a whole array is offered
 pub record IsLent (k : Known) (at : Places) (e : ExprTree) (p : Place) : Type 0 where

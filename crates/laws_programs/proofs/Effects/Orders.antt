@@ -11,7 +11,8 @@ use Rattle.f77_ast.specs.Loops.{iterations_from}
 use Rattle.f77_ast.specs.Calls.{forget_all, after_call}
 use Rattle.f77_meaning.specs.Occurrences.{Occurrence}
 use Rattle.laws_programs.proofs.Effects.Access.{Writing, Allowed, EndsIn, Passing}
-use Rattle.laws_programs.proofs.Effects.Fine.{Fine, Doing, Anything, fine_first, fine_then}
+use Rattle.laws_programs.proofs.Effects.Fine.{Fine, Doing, fine_first, fine_then}
+use Rattle.fx_lists.proofs.Every.{Anything}
 
 abbrev pub AllFine : List Part → Passing → (Occurrence → Type 0) → Allowed → Type 0
 AllFine [] L C A = Unit {0}

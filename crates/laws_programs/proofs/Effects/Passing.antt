@@ -1,8 +1,8 @@
 -- Units that pass away with the activations of modules, and what else goes out of a module.
-use Rattle.std.proofs.Common.{◌≡◌, ◌⊎◌, inl, inr, ℕ, zero, suc, ◌+◌, ◌-◌, ◌≤◌, ◌<◌, Bool, true, false, List, [], ◌∷◌, ◌++◌, Some, refl, sym, ap, ◌∙◌, subst, arith}
+use Rattle.std.proofs.Common.{◌≡◌, ◌⊎◌, inl, inr, ℕ, zero, suc, ◌+◌, ◌-◌, ◌≤◌, ◌<◌, Bool, true, false, List, [], ◌∷◌, Some, refl, sym, ap, ◌∙◌, subst, arith}
 use Rattle.std.specs.Prelude.{if◌then◌else◌, ◌||◌, nat_eq, slice_get}
 use Rattle.std.specs.List.{list_any}
-use Rattle.std.proofs.lemmas.Bool.{or_right, eq-eqb}
+use Rattle.std.proofs.lemmas.Bool.{eq-eqb}
 use Rattle.f77_ast.specs.Places.{Places}
 use Rattle.f77_ast.specs.Calls.{in_place}
 use Rattle.f77_ast.specs.declared.symbol.Place.{Place as SymbolPlace}
@@ -24,6 +24,7 @@ use Rattle.laws_programs.proofs.Effects.Callers.{fixed_at}
 use Rattle.f77_ast.proofs.StorageLaws.{from_number as numbered_place}
 use Rattle.f77_meaning.proofs.ModuleLaws.{in_laid as in_bounds}
 use Rattle.call_graph.specs.Visible.{place_is_visible_to_callers, symbol_goes_out, is_visible_to_callers}
+use Rattle.fx_lists.proofs.Lists.{any_left, any_right}
 
 -- a unit of a local, not saved, of the module
 abbrev pub has_lost : List Known → Graph → Known → ℕ → Bool
@@ -35,19 +36,7 @@ passing ks g p u = (i : ℕ) × (k : Known) × (slice_get ks i ≡ Some k) × (i
 
 -- ---- which units these are
 
-pub any_left : {X : Type 0} (p : X → Bool) (xs ys : List X) → list_any p xs ≡ true → list_any p (xs ++ ys) ≡ true
-any_left p [] ys h = cc
-any_left p (x ∷ xs) ys h = go (p x) h (any_left p xs ys)
-  where
-    go : (b : Bool) → (b || list_any p xs) ≡ true → (list_any p xs ≡ true → list_any p (xs ++ ys) ≡ true) → (b || list_any p (xs ++ ys)) ≡ true
-    go true q ih = refl
-    go false q ih = ih q
-
-pub any_right : {X : Type 0} (p : X → Bool) (xs ys : List X) → list_any p ys ≡ true → list_any p (xs ++ ys) ≡ true
-any_right p [] ys h = h
-any_right p (x ∷ xs) ys h = or_right (p x) (list_any p (xs ++ ys)) (any_right p xs ys h)
-
-among_units : (first count u : ℕ) → first ≤ u → u < first + count → list_any (λ v. nat_eq v u) (units_from first count) ≡ true
+pub among_units : (first count u : ℕ) → first ≤ u → u < first + count → list_any (λ v. nat_eq v u) (units_from first count) ≡ true
 among_units first zero u h i = absurd (omega (arith, h, i))
 among_units first (suc n) u h i = go (nat_eq first u) refl (among_units (suc first) n u)
   where

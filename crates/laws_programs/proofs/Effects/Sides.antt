@@ -21,9 +21,10 @@ use Rattle.effects.specs.Statement.{step_reads}
 use Rattle.laws_programs.specs.Effects.Trees.{StandsBare, StandsIndexed, IsShaped, AreShaped, OfMaybe}
 use Rattle.laws_programs.proofs.Effects.Kept.{kept_reads, kept_items, kept_named}
 use Rattle.laws_programs.proofs.Effects.Access.{Reading, Writing, Talking, Allowed}
-use Rattle.laws_programs.proofs.Effects.Fine.{Doing, Anything, doing_bind}
+use Rattle.laws_programs.proofs.Effects.Fine.{Doing, doing_bind}
 use Rattle.laws_programs.proofs.Effects.Units.{ScalarsReach, Lets, lets_first, lets_second}
 use Rattle.laws_programs.proofs.Effects.Values.{scalar_let, element_let, value_does, values_does}
+use Rattle.fx_lists.proofs.Every.{Anything}
 
 -- the unit may be written
 abbrev pub MayWrite : Allowed → Target → Type 0

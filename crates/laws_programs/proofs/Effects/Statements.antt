@@ -31,13 +31,14 @@ use Rattle.laws_programs.specs.Effects.Trees.{AreActuals, AskedOfCall, StmtFits,
 use Rattle.laws_programs.proofs.Effects.Members.{In, in_left, in_right}
 use Rattle.laws_programs.proofs.Effects.Kept.{kept_tests}
 use Rattle.laws_programs.proofs.Effects.Access.{Reading, Allowed, Passing, Under, into_under}
-use Rattle.laws_programs.proofs.Effects.Fine.{Always, Fine, Doing, Anything, fine_first}
+use Rattle.laws_programs.proofs.Effects.Fine.{Always, Fine, Doing, fine_first}
 use Rattle.laws_programs.proofs.Effects.Orders.{AllFine, list_fine, turns_fine}
 use Rattle.laws_programs.proofs.Effects.Units.{ScalarsReach, Lets, lets_second, LetsAll, lets_one, lets_other, lets_more, Allows, allows_all, OwnAreFree, own_free, own_free_more}
 use Rattle.laws_programs.proofs.Effects.Values.{value_does}
 use Rattle.laws_programs.proofs.Effects.Sides.{MayWrite, name_target_does, assigned_does, write_does, items_do, all_shown_do, range_of_does}
 use Rattle.laws_programs.proofs.Effects.Plain.{PlainEffect}
 use Rattle.laws_programs.proofs.Effects.Parts.{kept_list, kept_arms, kept_else}
+use Rattle.fx_lists.proofs.Every.{Anything}
 
 -- a claim on the executions of a module's statements, with these effects at them
 abbrev pub ClaimsAt : List Known → Graph → Known → Passing → (Occurrence → Type 0) → Places → List (At EffectSet) → Type 0

@@ -24,10 +24,11 @@ use Rattle.laws_programs.specs.Effects.Trees.{StandsBare, StandsIndexed, IsShape
 use Rattle.laws_programs.proofs.Effects.Named.{Stands}
 use Rattle.laws_programs.proofs.Effects.Kept.{kept_reads}
 use Rattle.laws_programs.proofs.Effects.Access.{Access, Reading, Allowed}
-use Rattle.laws_programs.proofs.Effects.Fine.{Doing, Anything, doing_bind}
+use Rattle.laws_programs.proofs.Effects.Fine.{Doing, doing_bind}
 use Rattle.laws_programs.proofs.Effects.Orders.{given_does}
 use Rattle.laws_programs.proofs.Effects.Meant.{StandsFor, meant}
 use Rattle.laws_programs.proofs.Effects.Units.{within_bounds, known_variable, ScalarsReach, Lets, lets_first, lets_second}
+use Rattle.fx_lists.proofs.Every.{Anything}
 
 -- ---- names
 

@@ -19,7 +19,6 @@ use Rattle.f77_names.specs.Functions.{arrays_named}
 use Rattle.f77_names.specs.Entries.{EntryTree, find, place_in, of_entry, changed, with_value}
 use Rattle.f77_names.specs.Declaring.{Told, dummies_told, decls_told}
 use Rattle.f77_names.specs.Tables.{NameTable, entry_kind, is_real, no_names, told_of, in_common_too, check_entry, check_entries, table_of, check_names}
-use Rattle.f77_names.proofs.NamesLaws.{number_from-least}
 use Rattle.f77_checks.specs.Dimensions.{is_bad_shape, check_bounds, check_shape, check_shapes}
 use Rattle.storage_data.specs.declared.offset_node.Home.TheVariants.{Block}
 use Rattle.storage_data.specs.Units.{place_of, units_by, units_of_entry, units_of}
@@ -46,7 +45,8 @@ use Rattle.laws_programs.proofs.Layouts.ValueKeeps.{values_keep}
 use Rattle.laws_programs.proofs.Layouts.SizeLaws.{ShapeFits, entry_known}
 use Rattle.laws_programs.proofs.Storage.UnitLaws.{units_are}
 use Rattle.fx_lists.proofs.Options.{not_found as no_some}
-use Rattle.storage_layout.proofs.EarlyLaws.{noted_none}
+use Rattle.fx_lists.proofs.Refused.{none_refused}
+use Rattle.f77_ast.proofs.NumberedNames.{number_from-least}
 
 -- ---- entries
 
@@ -57,7 +57,7 @@ Plain e = is_some e.common ≡ true → (e.dummy ≡ None) × (e.parameter ≡ f
 common_plain : (e : EntryTree) (c : Option ℕ) (o : Option Refusal) → in_common_too e c o ≡ None → is_some c ≡ true → (e.dummy ≡ None) × (e.parameter ≡ false)
 common_plain e None o q h = cc
 common_plain e (Some line) o q h =
-    let parts = or_parts (is_some e.dummy) e.parameter (noted_none (is_some e.dummy || e.parameter) line CommonTwice o q).0 in
+    let parts = or_parts (is_some e.dummy) e.parameter (none_refused (is_some e.dummy || e.parameter) line CommonTwice o q).0 in
     (no_some e.dummy parts.0, parts.1)
 
 judged_plain : (ks : List Kind) (es : List EntryTree) (o : Option Refusal) → check_entries ks es o ≡ None → AllFound Plain es
@@ -70,7 +70,7 @@ judged_plain ks (x ∷ es) o q y e h = go (bytes_eq y x.name) h (judged_plain ks
     go false k ih = ih k
 
 shape_fits : (t : NameTable) (x : EntryTree) (o : Option Refusal) → check_shape t (is_some x.dummy) x.shape o ≡ None → ShapeFits t x
-shape_fits t x o q s w = (noted_none (is_bad_shape t (is_some x.dummy) s.bounds) s.line BadDimension (check_bounds t s.bounds s.line o) (ap (λ z. check_shape t (is_some x.dummy) z o) (sym w) ∙ q)).0
+shape_fits t x o q s w = (none_refused (is_bad_shape t (is_some x.dummy) s.bounds) s.line BadDimension (check_bounds t s.bounds s.line o) (ap (λ z. check_shape t (is_some x.dummy) z o) (sym w) ∙ q)).0
 
 shapes_found : (t : NameTable) (es : List EntryTree) (o : Option Refusal) → check_shapes t es o ≡ None → AllFound (ShapeFits t) es
 unfolding find

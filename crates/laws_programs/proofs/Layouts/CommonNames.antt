@@ -13,7 +13,7 @@ use Rattle.f77_names.specs.Declaring.{Told, bound_of, shaped, extents_seen, exte
 use Rattle.laws_programs.proofs.SymbolTables.NameRefusals.{decls_back}
 use Rattle.laws_programs.proofs.SymbolTables.KeptNames.{Said, with_said, Typed, Shaped, Shared, Parameter, Saved, Initial, Nothing, expr_keeps, decls_keep}
 use Rattle.laws_programs.proofs.Storage.ParameterLaws.{same_name}
-use Rattle.storage_layout.proofs.EarlyLaws.{noted_none}
+use Rattle.fx_lists.proofs.Refused.{none_refused}
 
 -- ---- a name stays in COMMON
 
@@ -167,7 +167,7 @@ module _ (fs : List Function) where
   pub member_new : (e : EntityTree) (line : ℕ) (t : Told) → (members_told fs (e ∷ []) line t).found ≡ None → IsNew e line t
   member_new e line t q =
       let u = before_common e line t in
-      let new = (noted_none (has_common e.name u.entries) line CommonTwice u.found q).0 in
+      let new = (none_refused (has_common e.name u.entries) line CommonTwice u.found q).0 in
       record {
         before = λ h. (let still = decls_keep (InCommon e.name) (seen_shared e.name) (said_shared e.name) fs (λ s. Some line) (decl.dimension (e ∷ []) ∷ []) 0 t h in let z : true ≡ false = sym still ∙ new in cc);
         after = becomes e.name line u.entries (shaped_found e.name e.name e.bounds line (entity_seen fs e line t) (extents_found e.name e.bounds line (seen e.name line t.entries) (self_found e.name line t.entries)));

@@ -59,7 +59,7 @@ none_there n x (e ∷ es) h = go (bytes_eq x e.name) h (none_there (suc n) x es)
     go true k ih = cc
     go false k ih = ih k
 
-names_more : (es : List EntryTree) (z : EntryTree) → entry_names (es ++ z ∷ []) ≡ entry_names es ++ z.name ∷ []
+pub names_more : (es : List EntryTree) (z : EntryTree) → entry_names (es ++ z ∷ []) ≡ entry_names es ++ z.name ∷ []
 names_more [] z = refl
 names_more (e ∷ es) z = ap (λ ys. e.name ∷ ys) (names_more es z)
 
@@ -76,7 +76,7 @@ seen_differ x line es h = go (is_some (find x es)) refl
 
 -- ---- more is said of a name
 
-names_changed : (x : List ℕ) (g : EntryTree → EntryTree) → ((e : EntryTree) → (g e).name ≡ e.name) → (es : List EntryTree) → entry_names (changed x g es) ≡ entry_names es
+pub names_changed : (x : List ℕ) (g : EntryTree → EntryTree) → ((e : EntryTree) → (g e).name ≡ e.name) → (es : List EntryTree) → entry_names (changed x g es) ≡ entry_names es
 names_changed x g names [] = refl
 names_changed x g names (e ∷ es) = go (bytes_eq x e.name) (names_changed x g names es)
   where

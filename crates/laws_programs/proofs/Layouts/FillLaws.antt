@@ -28,7 +28,7 @@ use Rattle.laws_programs.proofs.SymbolTables.Answers.{filled_back}
 use Rattle.laws_programs.specs.Layout.Layout.{data_in, data_lists}
 use Rattle.laws_programs.proofs.Layouts.DealLaws.{slots, values, AllFit, all_left, all_right, dealt_fits}
 use Rattle.laws_programs.proofs.Layouts.LineLaws.{item_other}
-use Rattle.storage_layout.proofs.EarlyLaws.{noted_none}
+use Rattle.fx_lists.proofs.Refused.{none_refused}
 
 -- ---- items without a fault are not open
 
@@ -48,7 +48,7 @@ covers_closed t place (tree.chars x) = refl
 
 both_none : (a b : Option Refusal) → both a b ≡ None → (a ≡ None) × (b ≡ None)
 both_none None b e = (refl, e)
-both_none (Some r) b e = let z = (noted_none true r.line r.code b e).0 in cc
+both_none (Some r) b e = let z = (none_refused true r.line r.code b e).0 in cc
 
 module _ (t : NameTable) (ss : List OffsetNode) (known : (x : List ℕ) (e : EntryTree) (k : ℕ) → find x t.entries ≡ Some e → is_barred e (slice_get ss k) ≡ false → (ds : List Dim) × (dims_in t e ≡ Some ds)) where
   closed : (i : ExprTree) → item_fault t i 0 ≡ None → is_open (target_of t ss i) ≡ false
@@ -96,9 +96,9 @@ module _ (t : NameTable) (ss : List OffsetNode) (known : (x : List ℕ) (e : Ent
       turned false h = cc
 
       one : (a b : Bool) → list_any is_open cs ≡ b → (c : Bool) → not (nat_eq (units_in cs) (values_in rs)) ≡ c → (let r : Filled = if a then mismatch true line f else if b then f else if c then mismatch true line f else given t ss cs rs line f in r.found) ≡ None → AllFit (let r : Filled = if a then mismatch true line f else if b then f else if c then mismatch true line f else given t ss cs rs line f in r.pieces) (slots cs) (values rs)
-      one true b q c z h = let no = (noted_none true line InitialMismatch f.found h).0 in cc
+      one true b q c z h = let no = (none_refused true line InitialMismatch f.found h).0 in cc
       one false true q c z h = let no : true ≡ false = sym q ∙ shut h in cc
-      one false false q true z h = let no = (noted_none true line InitialMismatch f.found h).0 in cc
+      one false false q true z h = let no = (none_refused true line InitialMismatch f.found h).0 in cc
       one false false q false z h = all_right f.pieces (dealt cs rs) (slots cs) (values rs) (dealt_fits cs rs (eqb-true (units_in cs) (values_in rs) (turned (nat_eq (units_in cs) (values_in rs)) z)))
 
   group_fits : (g : DataTree) (line : ℕ) (f : Filled) → (group_filled t ss g line f).found ≡ None → GivesAll (group_filled t ss g line f).pieces g
@@ -189,7 +189,7 @@ module _ (t : NameTable) (ss : List OffsetNode) (known : (x : List ℕ) (e : Ent
   targets_shut cs rs line f shut e = one (list_any is_excluded cs) refl (list_any is_open cs) refl (not (nat_eq (units_in cs) (values_in rs))) e
     where
       one : (a : Bool) → list_any is_excluded cs ≡ a → (b : Bool) → list_any is_open cs ≡ b → (c : Bool) → (let r : Filled = if a then mismatch true line f else if b then f else if c then mismatch true line f else given t ss cs rs line f in r.found) ≡ None → (list_any is_excluded cs ≡ false) × (list_any is_open cs ≡ false)
-      one true p b q c h = let no = (noted_none true line InitialMismatch f.found h).0 in cc
+      one true p b q c h = let no = (none_refused true line InitialMismatch f.found h).0 in cc
       one false p true q c h = let no : true ≡ false = sym q ∙ shut h in cc
       one false p false q c h = (p, q)
 

@@ -17,8 +17,8 @@ use Rattle.storage_layout.specs.Blocks.{block_number, with_block, sits_in_block,
 use Rattle.storage_layout.specs.Symbols.{alone, laid}
 use Rattle.storage_layout.specs.Statements.{commons_in, commons, members_in, members, Has}
 use Rattle.laws_programs.specs.Layout.Layout.{in_block}
-use Rattle.storage_layout.proofs.RowLaws.{one_number}
 use Rattle.laws_programs.proofs.Layouts.ChainLaws.{has_left, has_right, name_at, name_placed, Linked, HomesLink}
+use Rattle.f77_ast.proofs.NumberedNames.{one_number}
 
 module _ (ds : List DeclTree) (t : NameTable) where
   -- a variable in a block is a member of it

@@ -37,10 +37,10 @@ use Rattle.laws_programs.specs.Layout.Laws.{OthersBeginUndefined}
 use Rattle.laws_programs.proofs.Layouts.CommonLaws.{placed_symbol}
 use Rattle.laws_programs.proofs.Layouts.ItemLaws.{position_same}
 use Rattle.laws_programs.proofs.Layouts.ChainLaws.{has_left, has_right}
-use Rattle.storage_layout.proofs.RowLaws.{one_number}
 use Rattle.laws_programs.proofs.Layouts.RunValues.{Gives, PiecesGive, initial_back, value_given}
 use Rattle.laws_programs.proofs.Layouts.DealLaws.{Slot, slots_from, slots_of, slots, SomeFits}
 use Rattle.laws_programs.proofs.Layouts.DealBack.{IsSlot, dealt_slots}
+use Rattle.f77_ast.proofs.NumberedNames.{one_number}
 
 -- ---- from pieces to the lists of DATA
 

@@ -33,7 +33,7 @@ use Rattle.storage_layout.specs.Equivalences.{may_join, clashes, unit_joined, at
 use Rattle.storage_layout.specs.Symbols.{alone, laid, unshared, shared}
 use Rattle.laws_programs.proofs.Storage.PieceLaws.{entry_placed, closed_entry}
 use Rattle.laws_programs.proofs.Storage.PositionLaws.{position_below}
-use Rattle.storage_layout.proofs.RowLaws.{set_here, set_other, get_more}
+use Rattle.fx_lists.proofs.Lookups.{set_here, set_other, get_more}
 
 -- the units of a name, by its place
 abbrev pub units_at : NameTable → ℕ → ℕ

@@ -28,7 +28,7 @@ use Rattle.laws_programs.proofs.Layouts.DealLaws.{Slot, SomeFits}
 use Rattle.laws_programs.proofs.Layouts.DealBack.{fits_either}
 use Rattle.storage_layout.proofs.GroupLaws.{IsAssociated}
 use Rattle.laws_programs.proofs.Layouts.OnceLaws.{Alone, HasOffsetNode, HaveOffsetNodes, dealt_alone}
-use Rattle.storage_layout.proofs.EarlyLaws.{noted_none}
+use Rattle.fx_lists.proofs.Refused.{none_refused}
 
 -- each value is a constant
 abbrev pub Typed : List Piece → Type 0
@@ -96,7 +96,7 @@ module _ (t : NameTable) (ss : List OffsetNode) (seated : IsAssociated t ss) whe
       go false true c e = h
       go false false true e = record { alone = h.alone; typed = h.typed }
       go false false false e =
-          let parts = or_parts (list_any (is_mistyped t) (dealt cs rs)) (meet_twice f.stretches (stretches_of ss cs)) (noted_none (list_any (is_mistyped t) (dealt cs rs) || meet_twice f.stretches (stretches_of ss cs)) line InitialMismatch f.found e).0 in
+          let parts = or_parts (list_any (is_mistyped t) (dealt cs rs)) (meet_twice f.stretches (stretches_of ss cs)) (none_refused (list_any (is_mistyped t) (dealt cs rs) || meet_twice f.stretches (stretches_of ss cs)) line InitialMismatch f.found e).0 in
           record { alone = dealt_alone ss cs rs f.pieces f.stretches offset_nodes parts.1 h.alone; typed = typed_joined f.pieces (dealt cs rs) h.typed (typed_new t (dealt cs rs) parts.0) }
 
   groups_good : (gs : List DataTree) (line : ℕ) (f : Filled) → (groups_filled t ss gs line f).found ≡ None → Good f → Good (groups_filled t ss gs line f)

@@ -1,7 +1,7 @@
 -- Which actual goes to which dummy.
-use Rattle.std.proofs.Common.{◌≡◌, ℕ, zero, suc, ◌-◌, ◌≤◌, Bool, true, false, not, List, [], ◌∷◌, length, map, Option, Some, None, refl, sym, ap, ◌∙◌, arith}
+use Rattle.std.proofs.Common.{◌≡◌, ℕ, zero, suc, ◌-◌, Bool, true, false, not, List, [], ◌∷◌, length, map, Option, Some, None, refl, sym, ap, ◌∙◌, arith}
 use Rattle.std.specs.Prelude.{if◌then◌else◌, bytes_eq, nat_eq, is_some, ◌&&◌, slice_get}
-use Rattle.std.proofs.lemmas.Bool.{and_parts, not-true, ne_eqb}
+use Rattle.std.proofs.lemmas.Bool.{and_parts, not-true}
 use Rattle.f77_ast.specs.declared.decl.Scalar.{Scalar}
 use Rattle.f77_ast.specs.declared.decl.Scalar.TheVariants as scalar
 use Rattle.f77_ast.specs.Trees.{ExprTree, ExprTrees}
@@ -20,9 +20,10 @@ use Rattle.tracked_cells.specs.Standing.{has_bounds}
 use Rattle.call_graph.specs.declared.actuals.Offer.TheVariants as offer
 use Rattle.call_graph.specs.Actuals.{symbol_with_name, is_array, is_scalar_of, suits, fits, actual_of, actuals_of, all_fit, type_of, type_of_symbol, element_type, name_offer, place_offer, element_offer, offer_of}
 use Rattle.f77_meaning.specs.Modules.{tag_of, is_function, meant_by, meant_at, meant_in, symbol_names, names}
-use Rattle.f77_meaning.proofs.UnitLaws.{number_least}
 use Rattle.laws_programs.specs.SymbolTables.Laws.{NoDummies, DummiesFirst}
 use Rattle.laws_programs.specs.Storage.Calls.{IsNamed, IsMisread, indexed, constant_array, Takes, takes_scalar, takes_array, takes_element, takes_value, misread, Args}
+use Rattle.f77_ast.proofs.NumberedNames.{number_from-least}
+use Rattle.f77_ast.proofs.StorageLaws.{at_number}
 
 -- ---- the symbol of a name
 
@@ -42,7 +43,7 @@ numbered n (y ∷ ss) x s e = go (bytes_eq x y.name) refl e (numbered (suc n) ss
         record { number = n; is_number = ap (λ b. if b then Some n else number_from (suc n) (symbol_names ss) x) t; is_symbol = ap (slice_get (y ∷ ss)) none ∙ h }
     go false t h ih =
         let r = ih h in
-        let least = number_least (suc n) r.number (symbol_names ss) x r.is_number in
+        let least = number_from-least (suc n) r.number (symbol_names ss) x r.is_number in
         let less : r.number - n ≡ suc (r.number - suc n) = omega (arith, least) in
         record { number = r.number; is_number = ap (λ b. if b then Some n else number_from (suc n) (symbol_names ss) x) t ∙ r.is_number; is_symbol = ap (slice_get (y ∷ ss)) less ∙ r.is_symbol }
 
@@ -54,9 +55,6 @@ no_number n (y ∷ ss) x e = go (bytes_eq x y.name) e (no_number (suc n) ss x)
     go true h ih = cc
     go false h ih = ih h
 
-pub symbol_from : (ss : List SymbolTree) (v : ℕ) (s : SymbolTree) → 1 ≤ v → slice_get ss (v - 1) ≡ Some s → symbol_at ss v ≡ Some s
-symbol_from ss v s h e = ap (λ b. if b then None else slice_get ss (v - 1)) (ne_eqb v 0 (λ z. absurd (omega (arith, h, z)))) ∙ e
-
 -- what a name with a symbol stands for
 pub record Meaning (ss : List SymbolTree) (x : List ℕ) (s : SymbolTree) : Type 0 where
   pub number : ℕ
@@ -66,7 +64,7 @@ pub record Meaning (ss : List SymbolTree) (x : List ℕ) (s : SymbolTree) : Type
 pub meaning : (ss : List SymbolTree) (x : List ℕ) (s : SymbolTree) → symbol_with_name ss x ≡ Some s → Meaning ss x s
 meaning ss x s e =
     let r = numbered 1 ss x s e in
-    let is = symbol_from ss r.number s (number_least 1 r.number (symbol_names ss) x r.is_number) r.is_symbol in
+    let is = at_number ss r.number s (number_from-least 1 r.number (symbol_names ss) x r.is_number) r.is_symbol in
     record { number = r.number; is_symbol = is; meant = ap (meant_in ss) r.is_number ∙ ap (meant_at r.number) is }
 
 pub no_meaning : (ss : List SymbolTree) (x : List ℕ) → symbol_with_name ss x ≡ None → names ss x ≡ Function

@@ -11,6 +11,7 @@ use Rattle.f77_ast.specs.Runs.{Whole, run}
 use Rattle.f77_ast.specs.Places.{Meant, Constant, Variable, Function, Names, Place, Places, element_in}
 use Rattle.f77_ast.specs.Values.{fault, given, of_type, read_unit, unit_after, element_unit, name_value, intrinsic_value, element_value, value, values}
 use Rattle.f77_ast.specs.Executions.{AtEndOf}
+use Rattle.fx_lists.proofs.Every.{Anything}
 
 -- it looks at units and does nothing else, and this holds of what it gives, whatever it finds
 abbrev pub Asks : {A : Type 0} → (A → Type 0) → Steps A → Type 0
@@ -59,56 +60,53 @@ asks_run P (Arrive p t) s i h = absurd h
 
 -- ---- expressions
 
-abbrev pub Any : {A : Type 0} → A → Type 0
-Any a = Unit {0}
-
-given_asks : (t : Tag) (o : Option ℤ) → Asks Any (given t o)
+given_asks : (t : Tag) (o : Option ℤ) → Asks Anything (given t o)
 given_asks t None = tt
 given_asks t (Some n) = tt
 
-typed_asks : (t : Tag) (c : Content) → Asks Any (of_type t c)
+typed_asks : (t : Tag) (c : Content) → Asks Anything (of_type t c)
 typed_asks t c = go (same_tag t c.tag)
   where
-    go : (b : Bool) → Asks Any (if b then Done c else fault Unset)
+    go : (b : Bool) → Asks Anything (if b then Done c else fault Unset)
     go true = tt
     go false = tt
 
-read_asks : (t : Tag) (u : ℕ) → Asks Any (read_unit t u)
+read_asks : (t : Tag) (u : ℕ) → Asks Anything (read_unit t u)
 read_asks t u = λ c. typed_asks t c
 
-name_asks : (m : Meant) (at : Places) → Asks Any (name_value m at)
+name_asks : (m : Meant) (at : Places) → Asks Anything (name_value m at)
 name_asks (Constant c) at = tt
 name_asks (Variable v) at = read_asks (at v).tag (at v).first
 name_asks Function at = tt
 
-after_asks : (u : ℕ) (o : Option ℕ) → Asks Any (unit_after u o)
+after_asks : (u : ℕ) (o : Option ℕ) → Asks Anything (unit_after u o)
 after_asks u None = tt
 after_asks u (Some k) = tt
 
-intrinsic_asks : (f : Option Intrinsic) (ns : List ℤ) → Asks Any (intrinsic_value f ns)
+intrinsic_asks : (f : Option Intrinsic) (ns : List ℤ) → Asks Anything (intrinsic_value f ns)
 intrinsic_asks None ns = tt
 intrinsic_asks (Some f) ns = given_asks Int (intrinsic_number f ns)
 
-element_asks : (m : Meant) (x : List ℕ) (at : Places) (ns : List ℤ) → Asks Any (element_value m x at ns)
+element_asks : (m : Meant) (x : List ℕ) (at : Places) (ns : List ℤ) → Asks Anything (element_value m x at ns)
 element_asks (Constant c) x at ns = tt
-element_asks (Variable v) x at ns = asks_then Any Any (element_unit (at v) ns) (read_unit (at v).tag) (after_asks (at v).first (element_in (at v) ns)) (λ u h. read_asks (at v).tag u)
+element_asks (Variable v) x at ns = asks_then Anything Anything (element_unit (at v) ns) (read_unit (at v).tag) (after_asks (at v).first (element_in (at v) ns)) (λ u h. read_asks (at v).tag u)
 element_asks Function x at ns = intrinsic_asks (intrinsic_named x) ns
 
 module _ (w : Names) (at : Places) where
   mutual
-    pub value_asks : (e : ExprTree) → Asks Any (value e w at)
+    pub value_asks : (e : ExprTree) → Asks Anything (value e w at)
     value_asks (tree.int n) = tt
     value_asks (tree.log b) = tt
     value_asks (tree.name x) = name_asks (w x) at
-    value_asks (tree.element x es) = asks_then Any Any (values es w at) (element_value (w x) x at) (values_ask es) (λ ns h. element_asks (w x) x at ns)
+    value_asks (tree.element x es) = asks_then Anything Anything (values es w at) (element_value (w x) x at) (values_ask es) (λ ns h. element_asks (w x) x at ns)
     value_asks (tree.paren e) = value_asks e
-    value_asks (tree.unary o e) = asks_then Any Any (value e w at) (λ c. given (unary_tag o) (unary_number o c.number)) (value_asks e) (λ c h. given_asks (unary_tag o) (unary_number o c.number))
+    value_asks (tree.unary o e) = asks_then Anything Anything (value e w at) (λ c. given (unary_tag o) (unary_number o c.number)) (value_asks e) (λ c h. given_asks (unary_tag o) (unary_number o c.number))
     value_asks (tree.binary o a b) =
-        asks_then Any Any (value a w at) (λ c. value b w at >>= λ d. given (binary_tag o) (binary_number o c.number d.number)) (value_asks a)
-        (λ c h. asks_then Any Any (value b w at) (λ d. given (binary_tag o) (binary_number o c.number d.number)) (value_asks b) (λ d k. given_asks (binary_tag o) (binary_number o c.number d.number)))
+        asks_then Anything Anything (value a w at) (λ c. value b w at >>= λ d. given (binary_tag o) (binary_number o c.number d.number)) (value_asks a)
+        (λ c h. asks_then Anything Anything (value b w at) (λ d. given (binary_tag o) (binary_number o c.number d.number)) (value_asks b) (λ d k. given_asks (binary_tag o) (binary_number o c.number d.number)))
     value_asks (tree.chars x) = tt
 
-    pub values_ask : (es : ExprTrees) → Asks Any (values es w at)
+    pub values_ask : (es : ExprTrees) → Asks Anything (values es w at)
     values_ask tree.no_exprs = tt
     values_ask (tree.more_exprs e es) =
-        asks_then Any Any (value e w at) (λ c. values es w at >>= λ ns. Done (c.number ∷ ns)) (value_asks e) (λ c h. asks_then Any Any (values es w at) (λ ns. Done (c.number ∷ ns)) (values_ask es) (λ ns k. tt))
+        asks_then Anything Anything (value e w at) (λ c. values es w at >>= λ ns. Done (c.number ∷ ns)) (value_asks e) (λ c h. asks_then Anything Anything (values es w at) (λ ns. Done (c.number ∷ ns)) (values_ask es) (λ ns k. tt))

@@ -19,7 +19,7 @@ use Rattle.call_graph.proofs.LinkLaws.{length-all_places}
 use Rattle.f77_meaning.specs.Areas.{block, is_unit_of}
 use Rattle.f77_meaning.specs.Modules.{Known, known_of}
 use Rattle.f77_meaning.specs.Linked.{numbering, declares, callees, reaches, is_common}
-use Rattle.f77_meaning.proofs.LinkLaws.{any_found, found_any}
+use Rattle.f77_meaning.proofs.LinkLaws.{any_found}
 use Rattle.f77_meaning.proofs.LinkedLaws.{linked_calls_fit, is_graph as graph_is}
 use Rattle.laws_programs.specs.Storage.Programs.{IsLinked, IsModule}
 use Rattle.laws_programs.specs.Storage.Below.{leads_to, HasCall, CallGraphIsAcyclic, ReachabilityIsTransitive, CommonIsShared}
@@ -27,6 +27,7 @@ use Rattle.laws_programs.proofs.Storage.ModuleLaws.{place_of_name}
 use Rattle.laws_programs.proofs.Storage.RankLaws.{rank, rank_falls, rank_below}
 use Rattle.laws_programs.proofs.Storage.EdgeLaws.{HasEdge, callee_edge, edge_callee, CallOf, edge_call, call_edge, callees_have}
 use Rattle.fx_lists.proofs.Lists.{got_below as slice_within}
+use Rattle.fx_lists.proofs.Lookups.{any_at}
 
 -- ---- lengths
 
@@ -50,7 +51,7 @@ module _ (es : List Edge) where
       go (inl e) ih = at_once (suc (suc n)) x y e
       go (inr a) ih =
           let f = any_found (λ z. reaches n es z y) (callees es x) a in
-          or_right (bytes_eq x y) (list_any (λ z. reaches (suc n) es z y) (callees es x)) (found_any (λ z. reaches (suc n) es z y) (callees es x) f.place f.item f.is_item (ih f.item f.holds))
+          or_right (bytes_eq x y) (list_any (λ z. reaches (suc n) es z y) (callees es x)) (any_at (λ z. reaches (suc n) es z y) (callees es x) f.place f.item f.is_item (ih f.item f.holds))
 
   many_more : (k n : ℕ) (x y : List ℕ) → reaches n es x y ≡ true → (m : ℕ) → m ≡ k + n → reaches m es x y ≡ true
   many_more zero n x y h m e = let same : n ≡ m = omega (arith, e) in subst (λ i. reaches i es x y ≡ true) same h
@@ -171,4 +172,4 @@ common_is_shared ps sss g l i p ss m x u c h =
     let here = λ (k : Known). list_any (λ b. declares b.name k && is_unit_of (numbering ks g) (block b.name) u) g.blocks in
     let f = any_found (λ k. reaches (length ks) g.edges x k.read.name && here k) ks h in
     let both = and_parts (reaches (length ks) g.edges x f.item.read.name) (here f.item) f.holds in
-    found_any (λ k. reaches (length ks) g.edges p.module_read.name k.read.name && here k) ks f.place f.item f.is_item (and_from (reaches (length ks) g.edges p.module_read.name f.item.read.name) (here f.item) (lead_on ps sss g l i p ss m x f.item.read.name c both.0) both.1)
+    any_at (λ k. reaches (length ks) g.edges p.module_read.name k.read.name && here k) ks f.place f.item f.is_item (and_from (reaches (length ks) g.edges p.module_read.name f.item.read.name) (here f.item) (lead_on ps sss g l i p ss m x f.item.read.name c both.0) both.1)

@@ -17,7 +17,9 @@ use Rattle.f77_ast.specs.declared.symbol.Place.TheVariants as place
 use Rattle.f77_ast.specs.Symbols.{SymbolTree}
 use Rattle.f77_meaning.specs.Modules.{tag_of, bound_of, as_dummy, dummies_from}
 use Rattle.laws_programs.specs.Storage.Activations.{Binds, binds_scalar, binds_array, AllBind, is_dummy, Entered, PlacesAreBound}
-use Rattle.laws_programs.proofs.Storage.AskLaws.{Asks, Any, asks_then, asks_weaker, asks_run, value_asks}
+use Rattle.laws_programs.proofs.Storage.AskLaws.{Asks, asks_then, asks_weaker, asks_run, value_asks}
+use Rattle.fx_lists.proofs.Every.{Anything}
+use Rattle.fx_lists.proofs.Numbers.{swapped}
 
 -- ---- the numbers of dummies rise
 
@@ -54,9 +56,6 @@ put_there at k p = ap (λ b. if b then p else at k) (eq-eqb k k refl)
 put_elsewhere : (at : Places) (k v : ℕ) (p : Place) → nat_eq v k ≡ false → put at k p v ≡ at v
 put_elsewhere at k v p e = ap (λ b. if b then p else at v) e
 
-turned : (a b : ℕ) → nat_eq a b ≡ false → nat_eq b a ≡ false
-turned a b h = ne_eqb b a (λ e. let t = eq-eqb a b (sym e) in let z : true ≡ false = sym t ∙ h in cc)
-
 -- each lies as a scalar
 abbrev AsScalars : List Dummy → List Place → Places → Type 0
 AsScalars [] ps at = Unit {0}
@@ -78,7 +77,7 @@ scalars_leave : (ds : List Dummy) (ps : List Place) (at : Places) (v : ℕ) → 
 scalars_leave [] ps at v h = refl
 scalars_leave (d ∷ ds) ps at v h =
     let parts = or_parts (nat_eq d.symbol v) (is_dummy ds v) h in
-    put_elsewhere (scalars_bound ds (other_places ps) at) d.symbol v (scalar_place (first_place ps).first d.tag) (turned d.symbol v parts.0) ∙ scalars_leave ds (other_places ps) at v parts.1
+    put_elsewhere (scalars_bound ds (other_places ps) at) d.symbol v (scalar_place (first_place ps).first d.tag) (swapped d.symbol v parts.0) ∙ scalars_leave ds (other_places ps) at v parts.1
 
 -- ---- arrays
 
@@ -89,15 +88,15 @@ Matches [] (m ∷ ms) = ⊥
 Matches (b ∷ bs) [] = ⊥
 Matches (b ∷ bs) (m ∷ ms) = Unit {0}
 
-high_asks : (e : Option ExprTree) (w : Names) (at : Places) → Asks Any (high_value e w at)
+high_asks : (e : Option ExprTree) (w : Names) (at : Places) → Asks Anything (high_value e w at)
 high_asks None w at = tt
-high_asks (Some e) w at = asks_then Any Any (value e w at) (λ c. Done (Some c.number)) (value_asks w at e) (λ c h. tt)
+high_asks (Some e) w at = asks_then Anything Anything (value e w at) (λ c. Done (Some c.number)) (value_asks w at e) (λ c h. tt)
 
 dims_ask : (bs : List BoundTree) (w : Names) (at : Places) → Asks (Matches bs) (dims_read bs w at)
 dims_ask [] w at = tt
 dims_ask (b ∷ bs) w at =
-    asks_then Any (Matches (b ∷ bs)) (value b.low w at) (λ m. high_value b.high w at >>= λ n. dims_read bs w at >>= λ ds. Done (record { low = m.number; high = n } ∷ ds)) (value_asks w at b.low)
-    (λ m h. asks_then Any (Matches (b ∷ bs)) (high_value b.high w at) (λ n. dims_read bs w at >>= λ ds. Done (record { low = m.number; high = n } ∷ ds)) (high_asks b.high w at)
+    asks_then Anything (Matches (b ∷ bs)) (value b.low w at) (λ m. high_value b.high w at >>= λ n. dims_read bs w at >>= λ ds. Done (record { low = m.number; high = n } ∷ ds)) (value_asks w at b.low)
+    (λ m h. asks_then Anything (Matches (b ∷ bs)) (high_value b.high w at) (λ n. dims_read bs w at >>= λ ds. Done (record { low = m.number; high = n } ∷ ds)) (high_asks b.high w at)
     (λ n k. asks_then (Matches bs) (Matches (b ∷ bs)) (dims_read bs w at) (λ ds. Done (record { low = m.number; high = n } ∷ ds)) (dims_ask bs w at) (λ ds q. tt)))
 
 -- an array at its actual
@@ -158,7 +157,7 @@ arrays_ask n (d ∷ ds) ps w at r h =
         let kept = all.others d.symbol (not_lower (suc d.symbol) d.symbol ds r.1 (omega arith)) in
         record {
           binds = (subst (Binds d (first_place ps)) (sym kept) b.binds, all.binds);
-          others = λ v k. (let parts = or_parts (nat_eq d.symbol v) (is_dummy ds v) k in all.others v parts.1 ∙ b.others v (turned d.symbol v parts.0));
+          others = λ v k. (let parts = or_parts (nat_eq d.symbol v) (is_dummy ds v) k in all.others v parts.1 ∙ b.others v (swapped d.symbol v parts.0));
         }
 
 pub places_are_bound : PlacesAreBound

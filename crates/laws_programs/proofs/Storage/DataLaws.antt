@@ -28,13 +28,13 @@ use Rattle.laws_programs.proofs.SymbolTables.Answers.{Answered, names_in, shared
 use Rattle.laws_programs.proofs.SymbolTables.EntryLaws.{EntryOf, entry_of}
 use Rattle.laws_programs.specs.Storage.Initial.{LiesInside}
 use Rattle.laws_programs.specs.Storage.DataLaws.{ConstantsFit, DataStaysInLocals}
-use Rattle.laws_programs.proofs.Storage.EveryLaws.{Every, every_at}
 use Rattle.laws_programs.proofs.Storage.RunLaws.{Within, RunFits, PieceFits, runs_fit}
 use Rattle.laws_programs.proofs.Storage.PieceLaws.{PieceOf, pieces_fit}
 use Rattle.laws_programs.proofs.Storage.ParameterLaws.{Right, no_value, a_value, names_right}
 use Rattle.laws_programs.proofs.Storage.UnitLaws.{units_are}
 use Rattle.fx_lists.proofs.Options.{not_found as none_dummy}
 use Rattle.f77_ast.proofs.StorageLaws.{from_number as numbered_place}
+use Rattle.fx_lists.proofs.Every.{Every, every_at}
 
 -- ---- where a name with DATA lies
 

@@ -1,8 +1,8 @@
 -- The tracked cells that are found at units of blocks.
-use Rattle.std.proofs.Common.{◌≡◌, ℕ, zero, suc, ◌+◌, ◌-◌, ◌<◌, ◌≤◌, Bool, true, false, List, [], ◌∷◌, map, Option, Some, None, ◌⊎◌, inl, inr, refl, sym, ap, ◌∙◌, subst, arith}
-use Rattle.std.specs.Prelude.{if◌then◌else◌, bytes_eq, nat_eq, nat_le, nat_lt, ◌&&◌, slice_get}
+use Rattle.std.proofs.Common.{◌≡◌, ℕ, zero, suc, ◌-◌, ◌<◌, ◌≤◌, Bool, true, false, List, [], ◌∷◌, map, Option, Some, None, ◌⊎◌, inl, inr, refl, sym, ap, ◌∙◌, subst, arith}
+use Rattle.std.specs.Prelude.{if◌then◌else◌, bytes_eq, nat_eq, ◌&&◌, slice_get}
 use Rattle.std.specs.List.{list_any}
-use Rattle.std.proofs.lemmas.Bool.{and_parts, and_from, eqb-true, eq-eqb, leb-true, ltb-true, le-leb, lt-ltb, cases_eq}
+use Rattle.std.proofs.lemmas.Bool.{and_parts, and_from, eqb-true, eq-eqb, le-leb, lt-ltb, cases_eq}
 use Rattle.std.proofs.lemmas.Slice.Eq.{bytes_eq-Decides}
 use Rattle.f77_ast.specs.DeclTrees.{ParsedTree}
 use Rattle.f77_ast.specs.Store as tag
@@ -16,7 +16,7 @@ use Rattle.f77_ast.specs.Symbols.{SymbolTree}
 use Rattle.f77_ast.specs.Units.{units_in}
 use Rattle.f77_ast.specs.Shared.{symbol_at}
 use Rattle.tracked_cells.specs.Equivalences.{equivalenced_names}
-use Rattle.tracked_cells.specs.Standing.{reaches, place_has, stands_at}
+use Rattle.tracked_cells.specs.Standing.{place_has, stands_at}
 use Rattle.tracked_cells.specs.Untracked.{untracked_of}
 use Rattle.tracked_cells.specs.Tracked.{is_tracked}
 use Rattle.call_graph.specs.declared.graph.Graph.{Graph}
@@ -25,7 +25,7 @@ use Rattle.f77_meaning.specs.Modules.{known_of, fixed}
 use Rattle.f77_meaning.specs.Linked.{offset_in, initial}
 use Rattle.f77_meaning.specs.Laws.{area_of}
 use Rattle.f77_meaning.proofs.LinkLaws.{any_found}
-use Rattle.f77_meaning.proofs.CommonCellLaws.{common_cells_are_cells}
+use Rattle.f77_meaning.proofs.CommonCellLaws.{common_cells_are_cells, stands_there}
 use Rattle.affine_forms.specs.Scalars.{is_cell}
 use Rattle.call_translation.specs.Scopes.{ScopeTree}
 use Rattle.call_translation.specs.Common.{is_unit, tracked_from, tracked_at, declares}
@@ -121,19 +121,6 @@ cells_are_found ps sss g l i p ss m scope is n s b o c at =
         let no = cells_stand_alone ps sss g l i p ss m n s (block b) c (ap (area_of p.module_read.name) at) k (unit_at (units ps sss g) (block b) o) q (in_block ps sss g p ss n s b o c at) in
         let z : true ≡ false = sym (in_block ps sss g p ss k t b o d h) ∙ no in
         cc
-
--- a scalar that stands at a unit of a block begins there
-stands_there : (b : List ℕ) (o : ℕ) (q : Place) → place_has q 1 (place.Block b o) ≡ true → q ≡ place.Block b o
-stands_there b o (place.Local h r) e = cc
-stands_there b o (place.Dummy d) e = cc
-stands_there b o (place.Block y r) e =
-    let p = and_parts (bytes_eq y b) (reaches r 1 o) e in
-    let q = and_parts (nat_le r o) (nat_lt o (r + 1)) p.1 in
-    let low = leb-true r o q.0 in
-    let high = ltb-true o (r + 1) q.1 in
-    let same : r ≡ o = omega (arith, low, high) in
-    ap (λ z. place.Block z r) ((bytes_eq-Decides y b).0 p.0) ∙ ap (place.Block b) same
-stands_there b o (place.Constant v) e = cc
 
 pub common_scalars_are_tracked_together : CommonScalarsAreTrackedTogether
 common_scalars_are_tracked_together ps sss g l i j p q ss tt' m mq scope is n s b o c at d =

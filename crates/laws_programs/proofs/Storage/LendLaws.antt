@@ -15,7 +15,8 @@ use Rattle.f77_ast.specs.Executions.{AtEndOf}
 use Rattle.f77_ast.specs.Symbols.{SymbolTree}
 use Rattle.f77_meaning.specs.Modules.{names}
 use Rattle.laws_programs.specs.Storage.Lending.{Lends, lends_variable, lends_element, lends_value, AllLend, ActualsLend}
-use Rattle.laws_programs.proofs.Storage.AskLaws.{Asks, Any, value_asks, values_ask}
+use Rattle.laws_programs.proofs.Storage.AskLaws.{Asks, value_asks, values_ask}
+use Rattle.fx_lists.proofs.Every.{Anything}
 
 -- ---- what a computation gives, whatever it does to the store
 
@@ -53,7 +54,7 @@ gives_run P (Take k) s i h = gives_run P (k (runs.first_of i)) s (runs.rest_of i
 gives_run P (Arrive p t) s i h = gives_run P t s i h
 
 -- what only looks gives so, too
-asks_give : {A : Type 0} (t : Steps A) → Asks Any t → Gives Any t
+asks_give : {A : Type 0} (t : Steps A) → Asks Anything t → Gives Anything t
 asks_give (Done a) h = tt
 asks_give (Breaks b) h = tt
 asks_give (Look u k) h = λ c. asks_give (k c) (h c)
@@ -79,7 +80,7 @@ module _ (ss : List SymbolTree) (at : Places) where
   LendsTo e u x = Lends ss at e u x.place
 
   value_lends : (e : ExprTree) (f : ExprTree) (u : ℕ) → Gives (LendsTo e u) (value f (names ss) at >>= stored u)
-  value_lends e f u = gives_then Any (LendsTo e u) (value f (names ss) at) (stored u) (asks_give (value f (names ss) at) (value_asks (names ss) at f)) (λ c h. lends_value c.tag refl)
+  value_lends e f u = gives_then Anything (LendsTo e u) (value f (names ss) at) (stored u) (asks_give (value f (names ss) at) (value_asks (names ss) at f)) (λ c h. lends_value c.tag refl)
 
   name_lends : (x : List ℕ) (u : ℕ) (m : Meant) → names ss x ≡ m → Gives (LendsTo (tree.name x) u) (name_actual m at u)
   name_lends x u (Constant c) e = lends_value c.tag refl
@@ -89,7 +90,7 @@ module _ (ss : List SymbolTree) (at : Places) where
   element_lends : (x : List ℕ) (es : ExprTrees) (u : ℕ) (m : Meant) → names ss x ≡ m → Gives (LendsTo (tree.element x es) u) (element_actual m (tree.element x es) es (names ss) at u)
   element_lends x es u (Constant c) e = tt
   element_lends x es u (Variable v) e =
-      gives_then Any (LendsTo (tree.element x es) u) (values es (names ss) at) (λ ns. rest_after (at v) (element_in (at v) ns)) (asks_give (values es (names ss) at) (values_ask (names ss) at es)) (λ ns h. rest (element_in (at v) ns) (λ k q. within_less (at v) (position (at v).dims ns) k q))
+      gives_then Anything (LendsTo (tree.element x es) u) (values es (names ss) at) (λ ns. rest_after (at v) (element_in (at v) ns)) (asks_give (values es (names ss) at) (values_ask (names ss) at es)) (λ ns h. rest (element_in (at v) ns) (λ k q. within_less (at v) (position (at v).dims ns) k q))
     where
       rest : (o : Option ℕ) → ((k : ℕ) → o ≡ Some k → k < (at v).extent) → Gives (LendsTo (tree.element x es) u) (rest_after (at v) o)
       rest None f = tt

@@ -20,13 +20,14 @@ use Rattle.f77_meaning.specs.Modules.{known_of, is_function, meant_by, meant_at,
 use Rattle.f77_meaning.specs.Linked.{is_common}
 use Rattle.f77_meaning.specs.Laws.{area_of, IsDeclaredBelow}
 use Rattle.f77_meaning.proofs.ModuleLaws.{variables_occupy_their_storage, offsets_fit}
-use Rattle.f77_meaning.proofs.LinkLaws.{found_any, common_is_of_blocks}
+use Rattle.f77_meaning.proofs.LinkLaws.{common_is_of_blocks}
 use Rattle.laws_programs.specs.Storage.Programs.{IsCell, known}
 use Rattle.laws_programs.specs.Storage.CellLaws.{units}
 use Rattle.laws_programs.specs.Storage.Activations.{is_dummy, CommonNamesAreCommon}
 use Rattle.laws_programs.proofs.Storage.ModuleLaws.{declared, known_module, area_known}
 use Rattle.laws_programs.proofs.Storage.BelowLaws.{at_once}
 use Rattle.f77_ast.proofs.StorageLaws.{from_number as numbered_place}
+use Rattle.fx_lists.proofs.Lookups.{any_at}
 
 -- ---- COMMON
 
@@ -55,7 +56,7 @@ common_names_are_common ps sss g l i p ss m n u s b o e at h =
     let fits = offsets_fit ks (known p ss) n s (declared ps sss i p ss m n s e) in
     let stand = standing 1 g.blocks b is_known in
     let here = at_once g.edges (length ks) p.module_read.name p.module_read.name ((bytes_eq-Decides p.module_read.name p.module_read.name).1 refl) in
-    let has = found_any (λ z. is_in stand.the_block.name z.place) ss (n - 1) s (numbered_place ss n s e) (ap (is_in stand.the_block.name) at ∙ (bytes_eq-Decides b stand.the_block.name).1 (sym stand.is_named)) in
+    let has = any_at (λ z. is_in stand.the_block.name z.place) ss (n - 1) s (numbered_place ss n s e) (ap (is_in stand.the_block.name) at ∙ (bytes_eq-Decides b stand.the_block.name).1 (sym stand.is_named)) in
     let below : IsDeclaredBelow ks g p.module_read.name b = record { module_at = i; by = known p ss; is_module = known_module ps sss i p ss m; reached = here; block_at = stand.place; the_block = stand.the_block; is_block = stand.is_block; is_named = stand.is_named; declared = has } in
     ap (is_common ks g p.module_read.name) x.unit ∙ (common_is_of_blocks ks g p.module_read.name (block b) x.distance is_known (omega (arith, fits, x.below))).1 (b, refl, below)
 

@@ -17,7 +17,7 @@ use Rattle.f77_meaning.specs.Linked.{room_for, declares, reaches, is_common}
 use Rattle.f77_meaning.specs.Laws.{area_of}
 use Rattle.f77_meaning.proofs.UnitLaws.{same_place, temporaries_are_recognisable}
 use Rattle.f77_meaning.proofs.ModuleLaws.{has_room, variables_occupy_their_storage, offsets_fit}
-use Rattle.f77_meaning.proofs.LinkLaws.{any_found, found_any}
+use Rattle.f77_meaning.proofs.LinkLaws.{any_found}
 use Rattle.laws_programs.specs.Storage.Programs.{IsLinked, IsModule, known}
 use Rattle.laws_programs.specs.Storage.CellLaws.{units}
 use Rattle.laws_programs.proofs.Storage.ModuleLaws.{known_module, declared, own_known}
@@ -28,16 +28,14 @@ use Rattle.laws_programs.proofs.Storage.LyingLaws.{variable_of, Lying, lying_dum
 use Rattle.laws_programs.specs.Storage.Owners.{belongs_to, owns, owns_below}
 use Rattle.laws_programs.specs.Storage.OwnerLaws.{VariablesLie, VariablesAreHidden, ExpressionsAreBelow, BelowIsOwned, OwnedIsPrivate, OwnedIsInNoBlock, CalledOwnsBelow, CalledOwnsNoExpression}
 use Rattle.laws_programs.proofs.Storage.AreaLaws.{group_owner, own_owner, no_owner, block_rest}
+use Rattle.fx_lists.proofs.Lookups.{any_at}
+use Rattle.fx_lists.proofs.Booleans.{never_both}
 
 -- ---- owners
 
 none_any : {A : Type 0} (f : A → Bool) (xs : List A) → ((x : A) (i : ℕ) → slice_get xs i ≡ Some x → f x ≡ false) → list_any f xs ≡ false
 none_any f [] h = refl
 none_any f (x ∷ xs) h = or_from (f x) (list_any f xs) (h x zero refl) (none_any f xs (λ y i e. h y (suc i) e))
-
-and_false : (a b : Bool) → (a ≡ true → b ≡ false) → (a && b) ≡ false
-and_false true b h = h refl
-and_false false b h = refl
 
 pub owned_is_private : OwnedIsPrivate
 owned_is_private ps sss g x y u h = go (cases_Bool (is_common (known_of ps sss) g y u))
@@ -60,7 +58,7 @@ pub owned_is_in_no_block : OwnedIsInNoBlock
 owned_is_in_no_block ps sss g x b o h =
     let N = units ps sss g in
     none_any (λ z. reaches (length (known_of ps sss)) g.edges x z.read.name && belongs_to N z.read.name (unit_at N (block b) o)) (known_of ps sss)
-    (λ z i e. and_false (reaches (length (known_of ps sss)) g.edges x z.read.name) (belongs_to N z.read.name (unit_at N (block b) o)) (λ r. no_owner N z.read.name (unit_at N (block b) o) (block_rest N b (unit_at N (block b) o) (div-mul-add (area_number N (block b)) N.room o h))))
+    (λ z i e. never_both (reaches (length (known_of ps sss)) g.edges x z.read.name) (belongs_to N z.read.name (unit_at N (block b) o)) (λ r. no_owner N z.read.name (unit_at N (block b) o) (block_rest N b (unit_at N (block b) o) (div-mul-add (area_number N (block b)) N.room o h))))
 
 module _ (ps : List ParsedTree) (sss : List (List SymbolTree)) (g : Graph) (l : IsLinked ps sss g) (i : ℕ) (p : ParsedTree) (ss : List SymbolTree) (m : IsModule ps sss i p ss) where
   abbrev ks : List Known
@@ -81,7 +79,7 @@ module _ (ps : List ParsedTree) (sss : List (List SymbolTree)) (g : Graph) (l : 
   same_name y e = same_place N.modules X y (own_known ps sss g i p ss m 0 0) (eqb-true (place_in N.modules X) (place_in N.modules y) e)
 
   itself : (u : ℕ) → belongs_to N X u ≡ true → owns ks g X u ≡ true
-  itself u e = found_any (λ z. reaches (length ks) g.edges X z.read.name && belongs_to N z.read.name u) ks i (known p ss) (known_module ps sss i p ss m) (and_from (reaches (length ks) g.edges X X) (belongs_to N X u) here e)
+  itself u e = any_at (λ z. reaches (length ks) g.edges X z.read.name && belongs_to N z.read.name u) ks i (known p ss) (known_module ps sss i p ss m) (and_from (reaches (length ks) g.edges X X) (belongs_to N X u) here e)
 
   expression_mine : (call spot : ℕ) → belongs_to N X (unit_at N (own X call spot) 0) ≡ true
   expression_mine call spot = own_owner N X X call spot 0 (has_room ks) ∙ eq-eqb (place_in N.modules X) (place_in N.modules X) refl
@@ -99,7 +97,7 @@ module _ (ps : List ParsedTree) (sss : List (List SymbolTree)) (g : Graph) (l : 
           let f = any_found (λ k. (reaches (length ks) g.edges X k.read.name && not (bytes_eq X k.read.name)) && belongs_to N k.read.name u) ks a in
           let q = and_parts (reaches (length ks) g.edges X f.item.read.name && not (bytes_eq X f.item.read.name)) (belongs_to N f.item.read.name u) f.holds in
           let r = (and_parts (reaches (length ks) g.edges X f.item.read.name) (not (bytes_eq X f.item.read.name)) q.0).0 in
-          found_any (λ z. reaches (length ks) g.edges X z.read.name && belongs_to N z.read.name u) ks f.place f.item f.is_item (and_from (reaches (length ks) g.edges X f.item.read.name) (belongs_to N f.item.read.name u) r q.1)
+          any_at (λ z. reaches (length ks) g.edges X z.read.name && belongs_to N z.read.name u) ks f.place f.item f.is_item (and_from (reaches (length ks) g.edges X f.item.read.name) (belongs_to N f.item.read.name u) r q.1)
       go (inr b) = itself u (and_parts (is_own_unit N u) (belongs_to N X u) b).1
 
   -- ---- variables
@@ -132,7 +130,7 @@ module _ (ps : List ParsedTree) (sss : List (List SymbolTree)) (g : Graph) (l : 
   none_below : (u : ℕ) → ((y : List ℕ) → bytes_eq X y ≡ false → belongs_to N y u ≡ false) → (is_own_unit N u && belongs_to N X u) ≡ false → owns_below ks g X u ≡ false
   none_below u f e =
       or_from (list_any (λ k. (reaches (length ks) g.edges X k.read.name && not (bytes_eq X k.read.name)) && belongs_to N k.read.name u) ks) (is_own_unit N u && belongs_to N X u)
-      (none_any (λ k. (reaches (length ks) g.edges X k.read.name && not (bytes_eq X k.read.name)) && belongs_to N k.read.name u) ks (λ k j q. and_false (reaches (length ks) g.edges X k.read.name && not (bytes_eq X k.read.name)) (belongs_to N k.read.name u) (λ r. f k.read.name (not-true (bytes_eq X k.read.name) (and_parts (reaches (length ks) g.edges X k.read.name) (not (bytes_eq X k.read.name)) r).1)))) e
+      (none_any (λ k. (reaches (length ks) g.edges X k.read.name && not (bytes_eq X k.read.name)) && belongs_to N k.read.name u) ks (λ k j q. never_both (reaches (length ks) g.edges X k.read.name && not (bytes_eq X k.read.name)) (belongs_to N k.read.name u) (λ r. f k.read.name (not-true (bytes_eq X k.read.name) (and_parts (reaches (length ks) g.edges X k.read.name) (not (bytes_eq X k.read.name)) r).1)))) e
 
   pub variable_hidden : (v u : ℕ) → Lying ss v → is_dummy (dummies_from 1 ss) v ≡ false → in_place (fixed N (known p ss) v) u ≡ true → owns_below ks g X u ≡ false
   variable_hidden v u (lying_dummy d) n has = let z : true ≡ false = sym d ∙ n in cc
@@ -145,7 +143,7 @@ module _ (ps : List ParsedTree) (sss : List (List SymbolTree)) (g : Graph) (l : 
           go : (nat_eq (place_in N.modules X) (place_in N.modules y) ≡ true) ⊎ (nat_eq (place_in N.modules X) (place_in N.modules y) ≡ false) → nat_eq (place_in N.modules X) (place_in N.modules y) ≡ false
           go (inl t) = let z : true ≡ false = sym ((bytes_eq-Decides X y).1 (same_name y t)) ∙ q in cc
           go (inr c) = c
-  variable_hidden v u (lying_common s b o e f k) n has = none_below u (λ y q. common_free v u s b o e f has y) (and_false (is_own_unit N u) (belongs_to N X u) (λ r. common_free v u s b o e f has X))
+  variable_hidden v u (lying_common s b o e f k) n has = none_below u (λ y q. common_free v u s b o e f has y) (never_both (is_own_unit N u) (belongs_to N X u) (λ r. common_free v u s b o e f has X))
 
   -- ---- what is called
 
@@ -159,7 +157,7 @@ module _ (ps : List ParsedTree) (sss : List (List SymbolTree)) (g : Graph) (l : 
       let q = and_parts (reaches (length ks) g.edges x f.item.read.name) (belongs_to N f.item.read.name u) f.holds in
       let on = lead_on ps sss g l i p ss m x f.item.read.name c q.0 in
       or_left (list_any (λ k. (reaches (length ks) g.edges X k.read.name && not (bytes_eq X k.read.name)) && belongs_to N k.read.name u) ks) (is_own_unit N u && belongs_to N X u)
-      (found_any (λ k. (reaches (length ks) g.edges X k.read.name && not (bytes_eq X k.read.name)) && belongs_to N k.read.name u) ks f.place f.item f.is_item
+      (any_at (λ k. (reaches (length ks) g.edges X k.read.name && not (bytes_eq X k.read.name)) && belongs_to N k.read.name u) ks f.place f.item f.is_item
       (and_from (reaches (length ks) g.edges X f.item.read.name && not (bytes_eq X f.item.read.name)) (belongs_to N f.item.read.name u) (and_from (reaches (length ks) g.edges X f.item.read.name) (not (bytes_eq X f.item.read.name)) on (differs f.item.read.name q.0)) q.1))
     where
       differs : (y : List ℕ) → reaches (length ks) g.edges x y ≡ true → not (bytes_eq X y) ≡ true
@@ -172,7 +170,7 @@ module _ (ps : List ParsedTree) (sss : List (List SymbolTree)) (g : Graph) (l : 
   pub called_owns_none : (x : List ℕ) (call spot : ℕ) → HasCall p ss x → owns ks g x (unit_at N (own X call spot) 0) ≡ false
   called_owns_none x call spot c =
       none_any (λ z. reaches (length ks) g.edges x z.read.name && belongs_to N z.read.name (unit_at N (own X call spot) 0)) ks
-      (λ z j e. and_false (reaches (length ks) g.edges x z.read.name) (belongs_to N z.read.name (unit_at N (own X call spot) 0)) (λ r. own_owner N z.read.name X call spot 0 (has_room ks) ∙ other z.read.name r))
+      (λ z j e. never_both (reaches (length ks) g.edges x z.read.name) (belongs_to N z.read.name (unit_at N (own X call spot) 0)) (λ r. own_owner N z.read.name X call spot 0 (has_room ks) ∙ other z.read.name r))
     where
       other : (y : List ℕ) → reaches (length ks) g.edges x y ≡ true → nat_eq (place_in N.modules X) (place_in N.modules y) ≡ false
       other y r = go (cases_Bool (nat_eq (place_in N.modules X) (place_in N.modules y)))

@@ -25,7 +25,6 @@ use Rattle.laws_programs.proofs.SymbolTables.KeptNames.{Said, with_said, Typed, 
 use Rattle.laws_programs.proofs.SymbolTables.Values.{chosen, as_chosen, is_taken, judged}
 use Rattle.laws_programs.proofs.SymbolTables.Answers.{lines_in, names_in}
 use Rattle.laws_programs.proofs.SymbolTables.FoundNames.{AllFound, Changed, find_changed, table_found}
-use Rattle.laws_programs.proofs.Storage.EveryLaws.{Every}
 
 -- ---- a name stays a PARAMETER
 

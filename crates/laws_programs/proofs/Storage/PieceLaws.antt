@@ -17,7 +17,6 @@ use Rattle.f77_names.specs.declared.lines.Sited.TheVariants.{Decl}
 use Rattle.f77_names.specs.Lines.{LineTable, line_or}
 use Rattle.f77_names.specs.Entries.{ShapeTree, EntryTree, find, place_in}
 use Rattle.f77_names.specs.Tables.{NameTable}
-use Rattle.f77_names.proofs.NamesLaws.{number_from-least}
 use Rattle.f77_checks.specs.Dimensions.{const_value_in, dim_to, dim_from, dim_up_to, dim_of, with_dim, dims_of, is_bad_shape, entry_dims, dims_in}
 use Rattle.storage_data.specs.declared.offset_node.OffsetNode.{OffsetNode}
 use Rattle.storage_data.specs.declared.targets.Target.{Target}
@@ -30,9 +29,10 @@ use Rattle.storage_data.specs.Items.{item_name, item_fault, numbers_of, position
 use Rattle.storage_data.specs.Initials.{is_excluded, is_open, covers_element, covers, is_barred, entry_target, named_target, target_of, targets_of, units_in, values_in, run_of, with_run, runs_of, Dealt, with_piece, piece_of, taken, taken_for, dealt, stretches_of, unfilled, mismatch, given, targets_filled, faulted, group_filled, groups_filled, decl_filled, decls_filled}
 use Rattle.storage_layout.specs.Symbols.{filled}
 use Rattle.laws_programs.proofs.SymbolTables.Answers.{lines_in, names_in, shared_in, filled_in}
-use Rattle.laws_programs.proofs.Storage.EveryLaws.{Every, every_joined}
 use Rattle.laws_programs.proofs.Storage.RunLaws.{Within}
 use Rattle.laws_programs.proofs.Storage.PositionLaws.{Closed, position_below}
+use Rattle.f77_ast.proofs.NumberedNames.{number_from-least}
+use Rattle.fx_lists.proofs.Every.{Every, every_joined}
 
 -- ---- entries
 

@@ -7,7 +7,8 @@ use Rattle.f77_ast.specs.declared.constant.Constant.{Constant}
 use Rattle.f77_ast.specs.declared.symbol.InitialRun.{InitialRun}
 use Rattle.storage_data.specs.declared.deals.Piece.{Piece}
 use Rattle.storage_data.specs.Runs.{place_before, placed, run_of, with_value, with_piece, pieces_for, is_next, one_run, behind, all_behind, as_runs, runs_of, initial_of}
-use Rattle.laws_programs.proofs.Storage.EveryLaws.{Every, every_inserted, every_turned}
+use Rattle.laws_programs.proofs.Storage.EveryLaws.{every_inserted}
+use Rattle.fx_lists.proofs.Every.{Every, every_turned}
 
 pub record Within (end : ℕ) (offset count : ℕ) : Type 0 where
   pub some : 0 < count

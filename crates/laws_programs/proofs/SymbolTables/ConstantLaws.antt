@@ -31,7 +31,7 @@ use Rattle.laws_programs.proofs.SymbolTables.KeptNames.{Said, with_said, Typed, 
 use Rattle.laws_programs.proofs.SymbolTables.Values.{chosen, as_chosen, is_taken, judged, shape_noted, chosen_back, const_value_back, values_back, decl_back, settings_back, setting_back}
 use Rattle.laws_programs.proofs.SymbolTables.Answers.{Answered, lines_in, names_in, layout_in, answered_by, found_none, values_none}
 use Rattle.laws_programs.proofs.SymbolTables.FoundNames.{AllFound, Changed, find_changed, table_found}
-use Rattle.storage_layout.proofs.EarlyLaws.{noted_none}
+use Rattle.fx_lists.proofs.Refused.{none_refused}
 
 -- a name has no value, or no bounds
 abbrev Flat : EntryTree → Type 0
@@ -77,7 +77,7 @@ chosen_flat : (b : Bool) (s : SettingTree) (line : ℕ) (v : Valued) → (chosen
 chosen_flat true s line v e d = d
 chosen_flat false s line v e d =
     let quiet = expr_back v.table s.value line (shape_noted s line v).found (const_value_back s.name (const_value (value_among v.table.entries) s.value) line (judged s line v) e) in
-    const_value_flat s.name (const_value (value_among v.table.entries) s.value) line (judged s line v) (noted_none (has_shape s.name v.table.entries) line NotAnArray v.found quiet).0 d
+    const_value_flat s.name (const_value (value_among v.table.entries) s.value) line (judged s line v) (none_refused (has_shape s.name v.table.entries) line NotAnArray v.found quiet).0 d
 
 setting_flat : (s : SettingTree) (line : ℕ) (v : Valued) → (setting_valued s line v).found ≡ None → AllFound Flat v.table.entries → AllFound Flat (setting_valued s line v).table.entries
 setting_flat s line v e d = subst (λ (z : Valued). AllFound Flat z.table.entries) (sym (as_chosen s line v)) (chosen_flat (is_taken s v) s line v (ap (λ z. z.found) (sym (as_chosen s line v)) ∙ e) d)

@@ -15,7 +15,7 @@ use Rattle.f77_names.specs.Tables.{NameTable, no_names, told_of, table_of, check
 use Rattle.laws_programs.proofs.SymbolTables.NameRefusals.{decls_back, dummies_back, entries_back}
 use Rattle.laws_programs.proofs.SymbolTables.KeptNames.{decls_keep, stmts_keep}
 use Rattle.laws_programs.proofs.SymbolTables.Marks.{Dummies, mark, marks, nones, dummy_marks, seen_dummies, said_dummies}
-use Rattle.storage_layout.proofs.EarlyLaws.{noted_none}
+use Rattle.fx_lists.proofs.Refused.{none_refused}
 
 -- ---- one dummy more
 
@@ -82,7 +82,7 @@ all_told : (xs : List (List ℕ)) (n line : ℕ) (t : Told) → AllDummies t.ent
 all_told [] n line t all e = sym (append-nil (marks t.entries))
 all_told (x ∷ xs) n line t all e =
     let first = dummies_back xs (suc n) line (dummy_told x n line t) e in
-    let new = noted_none (has_dummy x (seen x line t.entries)) line DeclaredTwice t.found first in
+    let new = none_refused (has_dummy x (seen x line t.entries)) line DeclaredTwice t.found first in
     let is = one_more x line n t.entries all new.0 in
     let more = λ (y : List ℕ) (z : EntryTree) (h : find y (dummy_told x n line t).entries ≡ Some z). all_more x line n t.entries all y z (ap (find y) (sym is) ∙ h) in
     all_told xs (suc n) line (dummy_told x n line t) more e

@@ -1,6 +1,6 @@
 -- What stands in an EQUIVALENCE is no dummy.
 use Rattle.std.proofs.Common.{◌≡◌, ℕ, zero, suc, ◌+◌, Bool, true, false, List, [], ◌∷◌, ◌++◌, length, Option, Some, None, ◌⊎◌, inl, inr, refl, sym, ap, ◌∙◌, subst}
-use Rattle.std.specs.Prelude.{if◌then◌else◌, bytes_eq, is_some, not, ◌||◌, pos, slice_get}
+use Rattle.std.specs.Prelude.{if◌then◌else◌, bytes_eq, is_some, not, ◌||◌, slice_get}
 use Rattle.std.specs.List.{list_any}
 use Rattle.std.proofs.lemmas.Bool.{or_parts, or_left, or_right}
 use Rattle.std.proofs.lemmas.Slice.Eq.{bytes_eq-Decides}
@@ -18,13 +18,11 @@ use Rattle.f77_names.specs.Entries.{EntryTree, find, of_entry, has_dummy}
 use Rattle.f77_names.specs.Tables.{NameTable}
 use Rattle.tracked_cells.specs.Equivalences.{equivalenced_names}
 use Rattle.tracked_cells.specs.Equivalences as names
-use Rattle.storage_data.specs.OffsetNodes.{joined}
 use Rattle.storage_data.specs.Units.{place_of}
 use Rattle.storage_data.specs.Items.{item_name, item_position}
-use Rattle.storage_layout.specs.declared.equivalences.Anchor.{Anchor}
 use Rattle.storage_layout.specs.declared.equivalences.Grouping.{Grouping}
 use Rattle.storage_layout.specs.declared.equivalences.Shared.{Shared}
-use Rattle.storage_layout.specs.Equivalences.{may_join, clashes, after_join, unit_joined, at_place, named_joined, items_joined, items_extend, begun, group_shared, groups_shared, decl_shared, decls_shared}
+use Rattle.storage_layout.specs.Equivalences.{may_join, clashes, after_join, at_place, named_joined, items_joined, items_extend, begun, group_shared, groups_shared, decl_shared, decls_shared}
 use Rattle.storage_layout.specs.Symbols.{shared, unshared}
 use Rattle.storage_layout.specs.Table.{Layout, place_in, symbols_from, unless_dummy, unless_value}
 use Rattle.laws_programs.specs.SymbolTables.Laws.{DummiesStandAlone}
@@ -32,8 +30,7 @@ use Rattle.laws_programs.proofs.SymbolTables.Marks.{Dummies, marked, mark, marks
 use Rattle.laws_programs.proofs.SymbolTables.Answers.{Answered, lines_in, names_in, found_in, laid_in, shared_in, layout_in, answered_by, names_have_dummies}
 use Rattle.laws_programs.proofs.SymbolTables.DummyLaws.{no_dummy_offset_node}
 use Rattle.laws_programs.proofs.SymbolTables.EntryLaws.{EntryOf, entry_of}
-use Rattle.storage_layout.proofs.GroupKeeps.{items_back, group_quiet, groups_quiet, decl_quiet, decls_quiet, Quiet}
-use Rattle.storage_layout.proofs.EarlyLaws.{noted_none}
+use Rattle.storage_layout.proofs.GroupKeeps.{items_back, group_quiet, groups_quiet, decl_quiet, decls_quiet, Quiet, unit_back}
 
 in_either : (f : List ℕ → Bool) (xs ys : List (List ℕ)) → list_any f (xs ++ ys) ≡ true → (list_any f xs ≡ true) ⊎ (list_any f ys ≡ true)
 in_either f [] ys h = inr h
@@ -44,10 +41,6 @@ in_either f (x ∷ xs) ys h = go (f x) refl h (in_either f xs ys)
     go false e k ih = elim (ih k) [ inl a ↦ inl (or_right (f x) (list_any f xs) a) | inr b ↦ inr b ]
 
 -- ---- what clashes stays so
-
-unit_back : (a : Option Anchor) (p u : ℕ) (g : Grouping) → (unit_joined a p u g).clash ≡ false → g.clash ≡ false
-unit_back None p u g e = e
-unit_back (Some a) p u g e = (or_parts g.clash (joined g.offset_nodes a.place (pos a.unit) p (pos u)).clash e).0
 
 at_back : (o u : Option ℕ) (g : Grouping) → (at_place o u g).clash ≡ false → g.clash ≡ false
 at_back None u g e = cc

@@ -19,7 +19,7 @@ use Rattle.f77_checks.specs.Expressions.{sort_of, is_int, is_log, is_chars, fits
 use Rattle.f77_checks.specs.Statements.{target_sort, name_written, element_written, check_target, check_targets, bare_actual, check_actual, no_chars, check_actuals, check_item, check_items, check_assignment, check_step, check_stmt, check_what, check_arm, check_arms, check_else, check_loop, check_stmts}
 use Rattle.laws_programs.specs.SymbolTables.Shapes.{Shaped, AllShaped, ShapedActual, ShapedActuals, ShapedStep, ShapedStmt, ShapedWhat, ShapedArms, ShapedArm, ShapedElse, ShapedLoop, ShapedList}
 use Rattle.laws_programs.proofs.SymbolTables.StatementRefusals.{noted_back, wants_back, int_back, counted_back, no_chars_back, expr_back, subscripts_back, int_expr_back, log_expr_back, target_back, targets_back, actual_back, actuals_back, item_back, items_back, stmt_back, arm_back, arms_back, else_back, step_back, stmts_back}
-use Rattle.storage_layout.proofs.EarlyLaws.{noted_none}
+use Rattle.fx_lists.proofs.Refused.{none_refused}
 
 -- a name with some has as many bounds, or is a function
 abbrev pub Indexed : NameTable → List ℕ → ExprTrees → Type 0
@@ -27,14 +27,14 @@ Indexed t x es = (dimensions_of t x ≡ Some (count es)) ⊎ ((dimensions_of t x
 
 module _ (t : NameTable) (bare : List ℕ → Type 0) (indexed : List ℕ → ExprTrees → Type 0) (is_bare : (x : List ℕ) → has_shape x t.entries ≡ false → bare x) (is_indexed : (x : List ℕ) (es : ExprTrees) → Indexed t x es → indexed x es) where
   bare_is : (f : Option Function) (array : Bool) (line : ℕ) (o : Option Refusal) → check_bare f array line o ≡ None → array ≡ false
-  bare_is None array line o e = (noted_none array line NotAnArray o e).0
-  bare_is (Some f) array line o e = let z : true ≡ false = (noted_none true line SubscriptCount o e).0 in cc
+  bare_is None array line o e = (none_refused array line NotAnArray o e).0
+  bare_is (Some f) array line o e = let z : true ≡ false = (none_refused true line SubscriptCount o e).0 in cc
 
   indexed_is : (x : List ℕ) (es : ExprTrees) (m : Option ℕ) (f : Option Function) (line : ℕ) (o : Option Refusal) → dimensions_of t x ≡ m → function_of t.arrays x ≡ f → check_count m f (count es) line o ≡ None → Indexed t x es
-  indexed_is x es None None line o d h e = let z : true ≡ false = (noted_none true line NotAnArray o e).0 in cc
+  indexed_is x es None None line o d h e = let z : true ≡ false = (none_refused true line NotAnArray o e).0 in cc
   indexed_is x es None (Some f) line o d h e = inr (d, (f, h))
   indexed_is x es (Some m) f line o d h e =
-      let same = eqb-true (count es) m (not-false (nat_eq (count es) m) (noted_none (not (nat_eq (count es) m)) line SubscriptCount o e).0) in
+      let same = eqb-true (count es) m (not-false (nat_eq (count es) m) (none_refused (not (nat_eq (count es) m)) line SubscriptCount o e).0) in
       inl (d ∙ ap Some (sym same))
 
   mutual
@@ -67,11 +67,11 @@ module _ (t : NameTable) (bare : List ℕ → Type 0) (indexed : List ℕ → Ex
   -- ---- what is written to, actuals, items
 
   name_target : (f : Option Function) (x : List ℕ) (line : ℕ) (o : Option Refusal) → name_written f t x line o ≡ None → bare x
-  name_target (Some f) x line o e = let z : true ≡ false = (noted_none true line AssignToConstant o e).0 in cc
+  name_target (Some f) x line o e = let z : true ≡ false = (none_refused true line AssignToConstant o e).0 in cc
   name_target None x line o e = is_bare x (bare_is (function_of t.arrays x) (has_shape x t.entries) line (refuse_if (is_parameter x t.entries) line AssignToConstant o) e)
 
   element_target : (f : Option Function) (x : List ℕ) (es : ExprTrees) (line : ℕ) (o : Option Refusal) → element_written f t x es line o ≡ None → Shaped bare indexed (tree.element x es)
-  element_target (Some f) x es line o e = let z : true ≡ false = (noted_none true line AssignToConstant o (subscripts_back t es line (refuse_if true line AssignToConstant o) e)).0 in cc
+  element_target (Some f) x es line o e = let z : true ≡ false = (none_refused true line AssignToConstant o (subscripts_back t es line (refuse_if true line AssignToConstant o) e)).0 in cc
   element_target None x es line o e = expr_shaped (tree.element x es) line (refuse_if (is_parameter x t.entries) line AssignToConstant o) e
 
   target_shaped : (x : ExprTree) (line : ℕ) (o : Option Refusal) → check_target t x line o ≡ None → Shaped bare indexed x

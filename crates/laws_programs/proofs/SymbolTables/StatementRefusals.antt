@@ -17,10 +17,10 @@ use Rattle.f77_names.specs.Tables.{NameTable}
 use Rattle.f77_checks.specs.declared.sort.Sort.{Sort}
 use Rattle.f77_checks.specs.Expressions.{sort_of, is_int, is_log, is_chars, fits, count, check_bare, check_name, dimensions_of, check_call, check_count, wants_int, wants_log, wants, check_expr, check_subscripts, check_int, check_log}
 use Rattle.f77_checks.specs.Statements.{target_sort, name_written, element_written, check_target, check_targets, bare_actual, check_actual, no_chars, check_actuals, check_item, check_items, check_assignment, check_step, check_stmt, check_what, check_arm, check_arms, check_else, check_loop, check_stmts}
-use Rattle.storage_layout.proofs.EarlyLaws.{noted_none}
+use Rattle.fx_lists.proofs.Refused.{none_refused}
 
 pub noted_back : (b : Bool) (line : ℕ) (c : Code) (o : Option Refusal) → refuse_if b line c o ≡ None → o ≡ None
-noted_back b line c o e = (noted_none b line c o e).1
+noted_back b line c o e = (none_refused b line c o e).1
 
 -- ---- expressions
 

@@ -3,7 +3,6 @@ use Rattle.std.proofs.Common.{◌≡◌, ℕ, zero, suc, ◌+◌, ◌-◌, ◌*�
 use Rattle.std.specs.Prelude.{nat_le, ◌&&◌, Ok, Err, is_some}
 use Rattle.std.specs.List.{list_all}
 use Rattle.std.proofs.lemmas.Bool.{and_parts, and_from, le-leb, leb-true, leb-false, or_left}
-use Rattle.std.proofs.lemmas.List.{length-drop}
 use Rattle.std.proofs.lemmas.List.Folds.{list_all-append}
 use Rattle.fx_lists.specs.declared.code.Code.{Code}
 use Rattle.fx_lists.specs.declared.code.Code.TheVariants.{NonAscii, Tab, BadLabelField, TooManyContinuations}
@@ -16,9 +15,9 @@ use Rattle.fixed_form.specs.Cards.{is_comment, is_dropped, card, columns, is_ini
 use Rattle.fixed_form.specs.Faults.{fault_of, continuation_fault, begun_behind, continuations_of, first_fault, or_later}
 use Rattle.fixed_form.specs.Reading.{Rest, before_statements, with_comment, with_initial, with_continuation, rest_from, ends_well, outcome, reading}
 use Rattle.fixed_form.specs.TextLines.{text_lines}
-use Rattle.fixed_form.proofs.CardLemmas.{length-front, length-filled}
 use Rattle.roundtrip_programs.specs.Cards.Good.{AreBodies}
 use Rattle.roundtrip_programs.specs.Cards.Laws.{BodiesAreShort}
+use Rattle.f77_parser.proofs.SizeLemmas.{columns-66}
 
 -- ---- stripping
 
@@ -55,9 +54,6 @@ stripped_allowed (b ∷ bs) q h =
     strip_allowed q (is_space b) b bs p.0 (λ r. stripped_allowed bs r p.1)
 
 -- ---- columns
-
-columns_length : (line : List ℕ) → length (columns (card line)) ≡ 66
-columns_length line = omega (arith, length-drop {A = ℕ} 6 (card line), length-filled _ (length-front line))
 
 drop_allowed : (n : ℕ) (t : List ℕ) → list_all is_allowed t ≡ true → list_all is_allowed (drop n t) ≡ true
 drop_allowed zero t h = h
@@ -135,10 +131,10 @@ card_fine : (i : Bool) (begun : Option Begun) (n : ℕ) (line : List ℕ) (rest 
     → Fine begun (if i then with_initial n (card line) rest else with_continuation n (card line) rest)
 card_fine true begun n line rest e f h =
     let p = faultless_card begun (card line) f in
-    initial_fine (is_initial (card line)) begun n (card line) rest e (columns_length line) p.allowed h.short h.allowed h.bodies
+    initial_fine (is_initial (card line)) begun n (card line) rest e (columns-66 line) p.allowed h.short h.allowed h.bodies
 card_fine false begun n line rest e f h =
     let p = faultless_card begun (card line) f in
-    continuation_fine (is_initial (card line)) begun n (card line) rest e (columns_length line) p.allowed (p.next e) h.short h.allowed h.bodies
+    continuation_fine (is_initial (card line)) begun n (card line) rest e (columns-66 line) p.allowed (p.next e) h.short h.allowed h.bodies
 
 later_none : (n : ℕ) (o : Option Code) (x : Option (ℕ × Code)) → or_later n o x ≡ None → (o ≡ None) × (x ≡ None)
 later_none n None x h = (refl, h)

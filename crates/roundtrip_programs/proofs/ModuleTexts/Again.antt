@@ -50,4 +50,7 @@ built_again m closing ss well written =
     ∙ ap (λ ls. all_turned ls no_statements) written
     ∙ sym (all_made-turned (statements_of m) no_statements)
     ∙ made m well)
-    ∙ ap (λ x. record m { body = x }) (stmts_of-list_of m.body)
+    ∙ ap (λ x. record m { body = x; function = None; references = []; whiles = [] }) (stmts_of-list_of m.body)
+    ∙ ap (λ x. record m { function = x; references = []; whiles = [] }) (sym well.no_function)
+    ∙ ap (λ x. record m { references = x; whiles = [] }) (sym well.no_references)
+    ∙ ap (λ x. record m { whiles = x }) (sym well.no_whiles)

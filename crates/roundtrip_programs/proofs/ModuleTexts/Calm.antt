@@ -23,17 +23,13 @@ use Rattle.f77_structure.specs.Terminals.{spoiled, spoiled_run, ends_one, spoil,
 use Rattle.f77_structure.specs.Steps.{is_else, next_arm, divided_in, part, end_block}
 pub use Rattle.f77_structure.proofs.Roles.{ended_by-found, stood-found, jumped-found, landed-found}
 use Rattle.f77_structure.proofs.Roles.{left-found}
+use Rattle.fx_lists.proofs.Refused.{none_refused}
 
 pub some-none : {A : Type 0} (x : A) → Some x ≡ None → ⊥
 some-none x h = cc
 
 pub true-false : true ≡ false → ⊥
 true-false h = cc
-
-pub noted-none : (w : Bool) (line : ℕ) (f : Code) (found : Option Refusal) → refuse_if w line f found ≡ None → (w ≡ false) × (found ≡ None)
-unfolding refuse_if
-noted-none true line f found h = absurd (some-none _ h)
-noted-none false line f found h = (refl, h)
 
 -- nothing is noted, and what was found stays
 pub noted-same : (w : Bool) (line : ℕ) (f : Code) (found : Option Refusal) → refuse_if w line f found ≡ None → refuse_if w line f found ≡ found
@@ -64,10 +60,10 @@ pub down-found : (what : Sought) (os : List Open) (b : Blocks) → (down_to what
 down-found what [] b h = h
 down-found what (o ∷ os) b h =
     either (λ x. x.found ≡ None → b.found ≡ None) (fits what o.kind) b (down_to what os (left_one o os (record b { found = refuse_unclosed o b.found })))
-    (λ e. e) (λ e. (noted-none _ _ _ _ (down-found what os (left_one o os (record b { found = refuse_unclosed o b.found })) e)).1) h
+    (λ e. e) (λ e. (none_refused _ _ _ _ (down-found what os (left_one o os (record b { found = refuse_unclosed o b.found })) e)).1) h
 
 stray-none : (line : ℕ) (b : Blocks) → (stray line b).found ≡ None → ⊥
-stray-none line b h = true-false (noted-none true _ _ _ h).0
+stray-none line b h = true-false (none_refused true _ _ _ h).0
 
 pub divided-found : (next : Kind) (line : ℕ) (first : Option Open) (b : Blocks) → (next_arm next line first b).found ≡ None → b.found ≡ None
 divided-found next line None b h = absurd (stray-none line b h)
@@ -106,7 +102,7 @@ pub down-calm : (what : Sought) (os : List Open) (b : Blocks) → Fresh os → (
 down-calm what [] b f h = (refl, tt)
 down-calm what (o ∷ os) b f h =
     kept-if (fits what o.kind) (down_to what os (left_one o os (record b { found = refuse_unclosed o b.found }))) b h
-    (λ e. true-false (ap not (sym f) ∙ (noted-none _ _ _ _ (down-found what os (left_one o os (record b { found = refuse_unclosed o b.found })) e)).0))
+    (λ e. true-false (ap not (sym f) ∙ (none_refused _ _ _ _ (down-found what os (left_one o os (record b { found = refuse_unclosed o b.found })) e)).0))
 
 pub record Divides (next : Kind) (line : ℕ) (o : Open) (b : Blocks) : Type 0 where
   pub is_if : is_if o.kind ≡ true
@@ -152,7 +148,7 @@ ended-calm what within line b f h =
 
 pub entered-calm : (kind : Kind) (line : ℕ) (b : Blocks) → (enter_block kind line b).found ≡ None → (enter_block kind line b ≡ push_block kind line b) × (b.found ≡ None) × (nat_le 64 (length b.stack) ≡ false)
 entered-calm kind line b h =
-    let n = noted-none _ _ _ _ h in
+    let n = none_refused _ _ _ _ h in
     (ap (λ f. push_block kind line (record b { found = f })) (noted-same (nat_le 64 (length b.stack)) line TooDeep b.found h), n.1, n.0)
 
 -- ---- last statements
@@ -166,7 +162,7 @@ Unspoiled b x = x.found ≡ None → (b.found ≡ None) × (x ≡ b)
 
 spoil-calm : (l line : ℕ) (b : Blocks) → Unspoiled b (spoil l line b)
 spoil-calm l line b h =
-    let n = noted-none _ _ _ _ h in (
+    let n = none_refused _ _ _ _ h in (
       n.1,
       ap (λ s. record b { stack = s; found = refuse_if (ends_one l (first_of b.stack)) line BadTerminal b.found }) (run-same l b.stack n.0)
           ∙ ap (λ f. record b { found = f }) (noted-same _ line BadTerminal b.found h),
@@ -175,7 +171,7 @@ spoil-calm l line b h =
 behind-calm : (l line : ℕ) (os : List Open) (b : Blocks) → b.stack ≡ os → Unspoiled b (spoil_behind l line os b)
 behind-calm l line [] b e h = (h, refl)
 behind-calm l line (o ∷ os) b e h =
-    let n = noted-none _ _ _ _ h in (
+    let n = none_refused _ _ _ _ h in (
       n.1,
       ap (λ s. record b { stack = o ∷ s; found = refuse_if (ends_one l (first_of os)) line BadTerminal b.found }) (run-same l os n.0)
           ∙ ap (λ s. record b { stack = s; found = refuse_if (ends_one l (first_of os)) line BadTerminal b.found }) (sym e)

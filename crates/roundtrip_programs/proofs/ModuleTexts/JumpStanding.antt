@@ -10,9 +10,9 @@ use Rattle.f77_structure.specs.declared.blocks.Blocks.{Blocks}
 use Rattle.f77_structure.specs.declared.blocks.Landing.{Landing}
 use Rattle.f77_structure.specs.Lists.{first_of}
 use Rattle.f77_structure.specs.Blocks.{left_one, push_block, list_at, add_landing, keep_jump}
-use Rattle.f77_structure.proofs.Places.{more-last}
 use Rattle.roundtrip_programs.proofs.ModuleTexts.Outlines.{Outline, innermost, outer, lands, goes, begins, leaves}
 use Rattle.roundtrip_programs.proofs.ModuleTexts.Shown.{path_of, Within, span, ShowsIn, Before, Shows, ended-before, ended-behind, begun-before, begun-behind, new-list, ended-open, begun-open, kept-at, kept-more}
+use Rattle.fx_lists.proofs.Lookups.{get_last}
 
 -- from places before n on to those before k, and from m on to l on
 pub later : (os : List Open) (at n m k l : ℕ) (b : Blocks) (x : Outline) → ShowsIn os at n m b x → n ≤ k → m ≤ l → ShowsIn os at k l b x
@@ -102,7 +102,7 @@ begins-shown kind line at n b x l s =
       jumps = kept-at n n b.spans (b.spans ++ new ∷ []) b.jumps x.goings (le_refl n)
           (λ q ks h w. begun-before b.spans b.place q ks (omega (arith, s.place)) w) s.jumps;
       stack = record {
-        own = more-last b.spans new;
+        own = get_last b.spans new;
         other = new-list b.spans (at + 1) (path_of b.stack) (s.now (at + 1) (le_refl (at + 1)));
         outer = begun-open b.spans new b.stack s.stack;
       };

@@ -129,7 +129,7 @@ module _ (M : Option ℕ → Type 0) (S P : PhraseTree → Type 0) (k : Kind M S
 
   -- the title, as it is in a module
   abbrev titled : SoFar → ModuleTree
-  titled p = record { name = p.heading.name; main = p.heading.main; titled = p.heading.titled; dummies = p.heading.dummies; decls = []; body = trees.no_stmts }
+  titled p = record { name = p.heading.name; main = p.heading.main; titled = p.heading.titled; dummies = p.heading.dummies; decls = []; body = trees.no_stmts; function = None; references = []; whiles = [] }
 
   pub record Holds (p : SoFar) : Type 0 where
     pub title : AllCards (title_cards (titled p))

@@ -10,10 +10,11 @@ use Rattle.f77_structure.specs.declared.blocks.Jump.{Jump}
 use Rattle.fx_lists.specs.Refusals.{refuse_if}
 use Rattle.f77_structure.specs.Jumps.{stands, reaches, check_jump, all_judged}
 use Rattle.roundtrip_programs.specs.Statements.Formed.{Each}
-use Rattle.roundtrip_programs.proofs.ModuleTexts.Calm.{true-false, noted-none}
+use Rattle.roundtrip_programs.proofs.ModuleTexts.Calm.{true-false}
 use Rattle.roundtrip_programs.proofs.ModuleTexts.Steady.{judged-found}
 use Rattle.roundtrip_programs.proofs.ModuleTexts.Outlines.{Going}
 use Rattle.roundtrip_programs.proofs.ModuleTexts.Shown.{has, Within, AreKept}
+use Rattle.fx_lists.proofs.Refused.{none_refused}
 
 -- each statement with the label of the GO TO stands in a list that contains the GO TO
 abbrev meets : List Landing → Going → Bool
@@ -33,8 +34,8 @@ reaches-meets spans j g (x ∷ ls) e w =
 judged-by : (s r : Bool) (line : ℕ) (found : Option Refusal)
     → (if s then refuse_if (not r) line JumpIntoBlock found else refuse_if true line LabelMissing found) ≡ None → (s ≡ true) × (r ≡ true)
 judged-by true true line found h = (refl, refl)
-judged-by true false line found h = absurd (true-false (noted-none _ _ _ _ h).0)
-judged-by false r line found h = absurd (true-false (noted-none _ _ _ _ h).0)
+judged-by true false line found h = absurd (true-false (none_refused _ _ _ _ h).0)
+judged-by false r line found h = absurd (true-false (none_refused _ _ _ _ h).0)
 
 pub judged-reach : (n : ℕ) (spans : List Span) (landings : List Landing) (js : List Jump) (gs : List Going) (found : Option Refusal) → AreKept n spans js gs
     → all_judged spans landings js found ≡ None → AllReach landings gs

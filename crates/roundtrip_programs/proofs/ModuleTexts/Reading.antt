@@ -17,7 +17,7 @@ use Rattle.f77_parser.specs.Building.{add_statement, add_all, no_statements}
 use Rattle.roundtrip_programs.specs.Statements.Formed.{Each}
 use Rattle.roundtrip_programs.specs.ModuleTexts.Cards.{Card}
 use Rattle.roundtrip_programs.specs.ModuleTexts.ModuleLaws.{IsStatement}
-use Rattle.roundtrip_programs.proofs.ModuleTexts.Calm.{true-false, noted-none}
+use Rattle.roundtrip_programs.proofs.ModuleTexts.Calm.{true-false}
 use Rattle.roundtrip_programs.proofs.ModuleTexts.Steady.{step-calm, all-found}
 use Rattle.roundtrip_programs.proofs.ModuleTexts.Matched.{phrase-matched}
 use Rattle.roundtrip_programs.proofs.ModuleTexts.Kept.{Each-append}
@@ -26,6 +26,7 @@ use Rattle.roundtrip_programs.proofs.ModuleTexts.Tally.{listed, labels_of, count
 use Rattle.roundtrip_programs.proofs.ModuleTexts.Standing.{executed, AreStarted}
 use Rattle.roundtrip_programs.proofs.ModuleTexts.Adding.{heading_by, AddsBy, phrase-adds}
 use Rattle.roundtrip_programs.proofs.Written.Beginning.{found-before as order-found}
+use Rattle.fx_lists.proofs.Refused.{none_refused}
 
 -- ---- a statement in which no fault is found
 
@@ -46,10 +47,10 @@ pub record Passes (label : Option ℕ) (m : Mark) (o : Order) (next : Order) : T
 
 passes-by : (label : Option ℕ) (m : Mark) (o : Order) → (counted m (keep_label m.line label o)).found ≡ None → Passes label m o (counted m (keep_label m.line label o))
 passes-by None m o h =
-    let x = noted-none _ _ _ _ h in let y = noted-none _ _ _ _ x.1 in let z = noted-none _ _ _ _ y.1 in
+    let x = none_refused _ _ _ _ h in let y = none_refused _ _ _ _ x.1 in let z = none_refused _ _ _ _ y.1 in
     record { before = z.1; few = x.0; order = y.0; unused = tt; labels = sym (append-nil o.labels); count = refl; main = refl; begun = refl }
 passes-by (Some l) m o h =
-    let x = noted-none _ _ _ _ h in let y = noted-none _ _ _ _ x.1 in let z = noted-none _ _ _ _ y.1 in let u = noted-none _ _ _ _ z.1 in
+    let x = none_refused _ _ _ _ h in let y = none_refused _ _ _ _ x.1 in let z = none_refused _ _ _ _ y.1 in let u = none_refused _ _ _ _ z.1 in
     record { before = u.1; few = x.0; order = y.0; unused = u.0; labels = refl; count = refl; main = refl; begun = refl }
 
 passes : (m : Mark) (o : Order) → (check_next m o).found ≡ None → Passes (label_in m) m o (check_next m o)

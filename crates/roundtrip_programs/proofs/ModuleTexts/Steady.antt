@@ -23,7 +23,8 @@ use Rattle.f77_structure.specs.Order.{order_of}
 use Rattle.f77_structure.specs.First.{first_fault}
 use Rattle.f77_structure.specs.Checks.{fault_of}
 use Rattle.f77_structure.proofs.AsCode.{as_code}
-use Rattle.roundtrip_programs.proofs.ModuleTexts.Calm.{true-false, noted-none, down-found, part-found, ended-found, entered-calm, stood-found, jumped-found, landed-found, spoiled-calm}
+use Rattle.roundtrip_programs.proofs.ModuleTexts.Calm.{true-false, down-found, part-found, ended-found, entered-calm, stood-found, jumped-found, landed-found, spoiled-calm}
+use Rattle.fx_lists.proofs.Refused.{none_refused}
 
 role-found : (role : Role) (label : Option ℕ) (line : ℕ) (b : Blocks) → (by_role role label line b).found ≡ None → b.found ≡ None
 role-found Program label line b h = h
@@ -58,8 +59,8 @@ all-found place (m ∷ ms) b h = (step-calm place m b (all-found (place + 1) ms 
 
 judged-by : (s r : Bool) (line : ℕ) (found : Option Refusal)
     → (if s then refuse_if (not r) line JumpIntoBlock found else refuse_if true line LabelMissing found) ≡ None → found ≡ None
-judged-by true r line found h = (noted-none _ _ _ _ h).1
-judged-by false r line found h = (noted-none _ _ _ _ h).1
+judged-by true r line found h = (none_refused _ _ _ _ h).1
+judged-by false r line found h = (none_refused _ _ _ _ h).1
 
 pub judged-found : (spans : List Span) (landings : List Landing) (js : List Jump) (found : Option Refusal) → all_judged spans landings js found ≡ None → found ≡ None
 judged-found spans landings [] found h = h
@@ -68,7 +69,7 @@ judged-found spans landings (j ∷ js) found h =
 
 first-none : (a b : Option Refusal) → first_fault a b ≡ None → (a ≡ None) × (b ≡ None)
 first-none None b h = (refl, h)
-first-none (Some f) b h = absurd (true-false (noted-none true _ _ _ h).0)
+first-none (Some f) b h = absurd (true-false (none_refused true _ _ _ h).0)
 
 pub no-fault : (ms : List Mark) → fault_of ms ≡ None → (order_of ms ≡ None) × (block_fault (blocks_of ms) ≡ None) × ((blocks_of ms).found ≡ None)
 no-fault ms h =

@@ -79,4 +79,4 @@ built_well closing begun s e i h =
     let g = all-go ss 0 no_statements nothing_open i nothing-goes f in
     let p = add_all ss no_statements in
     let P : List AroundTree → Type 0 = λ xs. AreNumbered (start_of xs) (stmts_of p.list) in
-    record { title = g.counts.heading; body = subst P (all-closed begun s 0 no_statements nothing_open e i nothing-goes f) g.counts.list }
+    record { title = g.counts.heading; body = subst P (all-closed begun s 0 no_statements nothing_open e i nothing-goes f) g.counts.list; no_function = refl; no_references = refl; no_whiles = refl }

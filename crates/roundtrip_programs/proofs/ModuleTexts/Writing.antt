@@ -32,6 +32,7 @@ use Rattle.roundtrip_programs.specs.ModuleTexts.OrderLaws.{IsFlat, OrderAgain}
 use Rattle.roundtrip_programs.proofs.ModuleTexts.Tally.{listed, label_at, labels_of, count_of, IsQuiet, StandsBehind, IsBehind, labels-append, count-append, AreNew}
 use Rattle.roundtrip_programs.proofs.ModuleTexts.Standing.{around_cards}
 use Rattle.roundtrip_programs.proofs.ModuleTexts.Reading.{Orders, all-ordered, nothing-ordered}
+use Rattle.fx_lists.proofs.Booleans.{never_both}
 
 -- ---- statements at these lines
 
@@ -67,10 +68,6 @@ and-false : (v w : Bool) → w ≡ false → (v && w) ≡ false
 and-false true w e = e
 and-false false w e = refl
 
-and-quiet : (main r : Bool) → (main ≡ true → r ≡ false) → (main && r) ≡ false
-and-quiet true r h = h refl
-and-quiet false r h = refl
-
 not-past : (n : ℕ) → n ≤ 4096 → nat_lt 4096 n ≡ false
 not-past n h = grind (arith, nat_tests)
 
@@ -84,15 +81,15 @@ in-order : (role : Role) (begun main : Bool) (count : ℕ) → StandsBehind role
 in-order Program begun main count b h = absurd b
 in-order Subroutine begun main count b h = absurd b
 in-order Specification begun main count b h = absurd b
-in-order (Plain a) begun main count b h = record { order = and-quiet main (returns_in (Plain a)) h; same = refl }
-in-order (LogicalIf a) begun main count b h = record { order = and-quiet main (returns_in (LogicalIf a)) h; same = refl }
-in-order BlockIf begun main count b h = record { order = and-quiet main false h; same = refl }
-in-order ElseIf begun main count b h = record { order = and-quiet main false h; same = refl }
-in-order Else begun main count b h = record { order = and-quiet main false h; same = refl }
-in-order EndIf begun main count b h = record { order = and-quiet main false h; same = refl }
-in-order (Do t) begun main count b h = record { order = and-quiet main false h; same = refl }
-in-order EndDo begun main count b h = record { order = and-quiet main false h; same = refl }
-in-order End begun main count b h = record { order = and-quiet main false h; same = refl }
+in-order (Plain a) begun main count b h = record { order = never_both main (returns_in (Plain a)) h; same = refl }
+in-order (LogicalIf a) begun main count b h = record { order = never_both main (returns_in (LogicalIf a)) h; same = refl }
+in-order BlockIf begun main count b h = record { order = never_both main false h; same = refl }
+in-order ElseIf begun main count b h = record { order = never_both main false h; same = refl }
+in-order Else begun main count b h = record { order = never_both main false h; same = refl }
+in-order EndIf begun main count b h = record { order = never_both main false h; same = refl }
+in-order (Do t) begun main count b h = record { order = never_both main false h; same = refl }
+in-order EndDo begun main count b h = record { order = never_both main false h; same = refl }
+in-order End begun main count b h = record { order = never_both main false h; same = refl }
 
 -- behind a statement, where these labels and so many statements come
 record Onward (m : Mark) (o next : Order) (rest : List ℕ) (k : ℕ) : Type 0 where

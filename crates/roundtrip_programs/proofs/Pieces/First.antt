@@ -18,7 +18,7 @@ use Rattle.f77_parser.specs.Modules.{ends_module, closing_at, module_read, modul
 use Rattle.fixed_form.specs.Pieces.{end_lines}
 use Rattle.roundtrip_programs.proofs.Pieces.Ends.{end-is, ends-read}
 use Rattle.roundtrip_programs.proofs.Pieces.Parsing.{AreRead, all-read, read-after}
-use Rattle.fx_lists.proofs.Booleans.{chosen as chosen-true}
+use Rattle.fx_lists.proofs.Booleans.{chosen as chosen-true, not_chosen}
 
 -- ---- statements that are not END, and the first that is
 
@@ -220,16 +220,12 @@ modules-prefixed closing done begun (s ∷ ss) =
     ∙ ap (λ y. if ends_module s.phrase then prefixed done (and_then r g) else y) (modules-prefixed closing done (begun ++ s ∷ []) ss)
     ∙ prefixed-through done (ends_module s.phrase) (and_then r g) (modules_from closing [] (begun ++ s ∷ []) ss)
 
-chosen-false : {A : Type 0} (b : Bool) (x y : A) → b ≡ false → (if b then x else y) ≡ y
-chosen-false true x y e = cc
-chosen-false false x y e = refl
-
 -- a module goes up to its END
 pub up-to-end : (closing : List (List ℕ)) (begun pre : List StatementTree) (e : StatementTree) (post : List StatementTree) → AllInner pre → ends_module e.phrase ≡ true
     → modules_from closing [] begun (pre ++ e ∷ post) ≡ and_then (module_read (closing_at (is_none_of post) closing) (begun ++ (pre ++ e ∷ []))) (λ p. modules_from closing (p ∷ []) [] post)
 up-to-end closing begun [] e post i h = chosen-true (ends_module e.phrase) _ _ h
 up-to-end closing begun (s ∷ pre) e post i h =
-    chosen-false (ends_module s.phrase) _ _ i.first
+    not_chosen (ends_module s.phrase) _ _ i.first
     ∙ up-to-end closing (begun ++ s ∷ []) pre e post i.others h
     ∙ ap (λ xs. and_then (module_read (closing_at (is_none_of post) closing) xs) (λ p. modules_from closing (p ∷ []) [] post)) (append_assoc begun (s ∷ []) (pre ++ e ∷ []))
 

@@ -12,6 +12,7 @@ use Rattle.fixed_form.specs.Cards.{is_comment, is_dropped, card, columns, is_ini
 use Rattle.fixed_form.specs.Faults.{fault_of, has_bad_field, starts_quoted, is_quoted, continuation_fault, continuations_of, begun_behind, or_later, first_fault}
 use Rattle.fixed_form.specs.Reading.{rest_from}
 use Rattle.roundtrip_programs.proofs.Pieces.Cutting.{line_by, given}
+use Rattle.fx_lists.proofs.Booleans.{bool_cases}
 
 pub none-at : (b : Bool) (o : Option Code) (n : ℕ) (x y : Option (ℕ × Code)) → (if b then x else or_later n o y) ≡ None → (b ≡ true → x ≡ None) × (b ≡ false → o ≡ None) × (b ≡ false → y ≡ None)
 none-at true o n x y h = (λ e. h, λ e. cc, λ e. cc)
@@ -42,10 +43,6 @@ faultless-front (l ∷ ls) more begun n h =
     all-none (is_comment l) (fault_of begun (card l)) n _ _
     (λ e. faultless-front ls more begun (n + 1) (p.0 e)) p.1 (λ e. faultless-front ls more (Some (begun_behind begun (card l))) (n + 1) (p.2 e))
 
-back-by : (b : Bool) (P : Type 0) → (b ≡ true → P) → (b ≡ false → P) → P
-back-by true P f g = f refl
-back-by false P f g = g refl
-
 abbrev Behind : List (List ℕ) → Type 0
 Behind ls = (begun : Option Begun) × (n : ℕ) × (first_fault begun n ls ≡ None)
 
@@ -54,7 +51,7 @@ unfolding first_fault
 faultless-back [] more begun n h = (begun, n, h)
 faultless-back (l ∷ ls) more begun n h =
     let p = none-at (is_comment l) (fault_of begun (card l)) n _ _ h in
-    back-by (is_comment l) (Behind more)
+    bool_cases (is_comment l) (Behind more)
     (λ e. faultless-back ls more begun (n + 1) (p.0 e)) (λ e. faultless-back ls more (Some (begun_behind begun (card l))) (n + 1) (p.2 e))
 
 -- ---- an initial line has nothing to do with what was begun before it

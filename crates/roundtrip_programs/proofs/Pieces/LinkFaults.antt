@@ -11,7 +11,7 @@ use Rattle.fx_lists.specs.declared.code.Code.TheVariants.{TwoMains, ModuleTwice}
 use Rattle.call_graph.specs.declared.refusal.Fault.{Fault}
 use Rattle.call_graph.specs.declared.refusal.Fault.TheVariants as fault
 use Rattle.call_graph.specs.Faults.{or_fault, unless}
-use Rattle.call_graph.specs.Modules.{names_of, module_line, too_many_at, too_many, is_place, twice_from, name_twice, second_main, main_twice, no_main}
+use Rattle.call_graph.specs.Modules.{most_modules, names_of, module_line, too_many_at, too_many, is_place, twice_from, name_twice, second_main, main_twice, no_main}
 use Rattle.call_graph.specs.Calls.{calls_of}
 use Rattle.call_graph.specs.Callees.{against_found, against_at, call_cause, or_later, first_in, unfit_at, unfit_from, all_places}
 use Rattle.call_graph.specs.Recursion.{reaches, cyclic_in, cyclic_at, cyclic_from}
@@ -44,7 +44,7 @@ too-many-by None = refl
 too-many-by (Some p) = refl
 
 too-many-same : (ps : List ParsedTree) → Same (too_many ps) (too_many (bares ps))
-too-many-same ps = record { same = too-many-by (slice_get ps 64) ∙ ap (λ o. shown (too_many_at o)) (sym (slice_get-map bare ps 64)) }
+too-many-same ps = record { same = too-many-by (slice_get ps most_modules) ∙ ap (λ o. shown (too_many_at o)) (sym (slice_get-map bare ps most_modules)) }
 
 twice-by : (b : Bool) (k : ℕ) (p : ParsedTree) (f g : Option Fault) → shown f ≡ shown g
     → shown (if b then f else Some (fault.At k (module_line p) ModuleTwice)) ≡ shown (if b then g else Some (fault.At k 0 ModuleTwice))

@@ -114,7 +114,7 @@ built-moved : (by : ℕ) (closing : List (List ℕ)) (ss : List StatementTree) �
 unfolding build_module
 built-moved by closing ss =
     ap (λ p. record {
-      module_read = record { name = p.heading.name; main = p.heading.main; titled = p.heading.titled; dummies = p.heading.dummies; decls = p.decls; body = stmts_of p.list };
+      module_read = record { name = p.heading.name; main = p.heading.main; titled = p.heading.titled; dummies = p.heading.dummies; decls = p.decls; body = stmts_of p.list; function = None; references = []; whiles = [] };
       places = record { spots = p.spots; closing = closing };
     }) (all-moved by ss no_statements)
 

@@ -1,8 +1,9 @@
 -- The lines of the first lines of a text, and of what follows them.
-use Rattle.std.proofs.Common.{◌≡◌, ℕ, zero, suc, ◌-◌, List, [], ◌∷◌, ◌++◌, map, take, drop, refl, ap, ◌∙◌, arith, length, Bool, true, false, nat_eq, if◌then◌else◌}
+use Rattle.std.proofs.Common.{◌≡◌, ℕ, zero, suc, ◌-◌, List, [], ◌∷◌, ◌++◌, map, take, drop, refl, ap, ◌∙◌, length, Bool, true, false, nat_eq, if◌then◌else◌}
 use Rattle.std.proofs.Math.Dec.{eqb-suc-zero}
 use Rattle.fixed_form.specs.TextLines.{lines_of, onto_first, text_lines, without_returns}
 use Rattle.fixed_form.specs.Cuts.{first_lines, after_lines, lines_after}
+use Rattle.fx_lists.proofs.Numbers.{one_less}
 
 onto-take : (b j : ℕ) (ls : List (List ℕ)) → onto_first b (take (suc j) ls) ≡ take (suc j) (onto_first b ls)
 onto-take b zero [] = refl
@@ -14,15 +15,12 @@ onto-drop b zero [] = refl
 onto-drop b (suc j) [] = refl
 onto-drop b j (l ∷ ls) = refl
 
-less-one : (j : ℕ) → suc j - 1 ≡ j
-less-one j = omega arith
-
 -- ---- the first lines
 
 first-step : (c : Bool) (b j : ℕ) (bs : List ℕ) → lines_of (first_lines j bs) ≡ take j (lines_of bs) → lines_of (first_lines (suc j) bs) ≡ take (suc j) (lines_of bs)
     → (if c then [] ∷ lines_of (first_lines (if c then suc j - 1 else suc j) bs) else onto_first b (lines_of (first_lines (if c then suc j - 1 else suc j) bs)))
     ≡ take (suc j) (if c then [] ∷ lines_of bs else onto_first b (lines_of bs))
-first-step true b j bs h g = ap (λ k. [] ∷ lines_of (first_lines k bs)) (less-one j) ∙ ap (λ ls. [] ∷ ls) h
+first-step true b j bs h g = ap (λ k. [] ∷ lines_of (first_lines k bs)) (one_less j) ∙ ap (λ ls. [] ∷ ls) h
 first-step false b j bs h g = ap (onto_first b) g ∙ onto-take b j (lines_of bs)
 
 unless-none : (z : Bool) (b : ℕ) (front : List ℕ) → z ≡ false → (if z then [] else b ∷ front) ≡ b ∷ front
@@ -41,7 +39,7 @@ lines-first (suc j) (b ∷ bs) =
 
 after-step : (c : Bool) (b j : ℕ) (bs : List ℕ) → lines_of (after_lines j bs) ≡ drop j (lines_of bs) → lines_of (after_lines (suc j) bs) ≡ drop (suc j) (lines_of bs)
     → lines_of (after_lines (if c then suc j - 1 else suc j) bs) ≡ drop (suc j) (if c then [] ∷ lines_of bs else onto_first b (lines_of bs))
-after-step true b j bs h g = ap (λ k. lines_of (after_lines k bs)) (less-one j) ∙ h
+after-step true b j bs h g = ap (λ k. lines_of (after_lines k bs)) (one_less j) ∙ h
 after-step false b j bs h g = g ∙ onto-drop b j (lines_of bs)
 
 unless-all : (z : Bool) (all rest : List ℕ) → z ≡ false → (if z then all else rest) ≡ rest

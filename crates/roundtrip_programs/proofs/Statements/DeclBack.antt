@@ -39,9 +39,10 @@ use Rattle.roundtrip_programs.proofs.Statements.Compact.{solid_end}
 use Rattle.roundtrip_programs.proofs.Statements.Forms.{by_keyword}
 use Rattle.roundtrip_programs.proofs.Statements.ListsBack.{items_end, ending_back, calm_end}
 use Rattle.roundtrip_programs.proofs.Statements.TitleBack.{others_balanced, EndsName}
-use Rattle.roundtrip_programs.proofs.Statements.EntityBack.{entity_balanced, entities_listed, Anything, arrays_listed}
+use Rattle.roundtrip_programs.proofs.Statements.EntityBack.{entity_balanced, entities_listed, arrays_listed}
 use Rattle.roundtrip_programs.proofs.Statements.SmallParts.{part_balanced, parts_listed, setting_balanced, settings_listed, saved_balanced, saved_listed, group_balanced, groups_listed}
 use Rattle.fx_lists.proofs.Lists.{lacks_at}
+use Rattle.fx_lists.proofs.Every.{Anything}
 
 -- a list behind a keyword
 pub list_balanced : {A : Type 0} (text : A → List ℕ) (P : A → Type 0) → ((x : A) → P x → (d : Kind) → Balanced d (text x)) → (xs : List A) → Each P xs → Balanced listed (joined_by text xs)

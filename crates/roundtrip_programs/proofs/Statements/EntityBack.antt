@@ -23,6 +23,7 @@ use Rattle.roundtrip_programs.proofs.Statements.Balanced.{Kind, deep, Balanced, 
 use Rattle.roundtrip_programs.proofs.Statements.Compact.{name_balanced}
 use Rattle.roundtrip_programs.proofs.Statements.ListsBack.{ending_back}
 use Rattle.roundtrip_programs.proofs.Statements.TitleBack.{others_balanced}
+use Rattle.fx_lists.proofs.Every.{Anything}
 
 -- ---- balanced
 
@@ -140,9 +141,6 @@ entity_back n (x ∷ xs) w h t k c =
 
 pub entities_listed : Listed comma entity entity_text Calm IsEntity
 entities_listed = record { back = λ e h t k c. entity_back e.name e.bounds h.name h.bounds t k c; at_comma = calm_comma; goes_on = λ x u k h. refl }
-
-abbrev pub Anything : List ℕ → Type 0
-Anything t = Unit {0}
 
 pub arrays_listed : Listed comma array entity_text Anything IsArray
 arrays_listed = record { back = λ e h t k c. array_back e.name e.bounds h.name h.bounds t k; at_comma = λ u. tt; goes_on = λ x u k h. refl }

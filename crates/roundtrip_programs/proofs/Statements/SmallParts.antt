@@ -32,7 +32,7 @@ use Rattle.roundtrip_programs.proofs.Statements.Balanced.{Kind, deep, Balanced, 
 use Rattle.roundtrip_programs.proofs.Statements.Compact.{name_balanced, variable_balanced}
 use Rattle.roundtrip_programs.proofs.Statements.TitleBack.{others_balanced, EndsName}
 use Rattle.roundtrip_programs.proofs.Statements.ListsBack.{variables_listed, ending_back}
-use Rattle.roundtrip_programs.proofs.Statements.EntityBack.{Anything}
+use Rattle.fx_lists.proofs.Every.{Anything}
 
 -- ---- IMPLICIT
 

@@ -21,7 +21,6 @@ use Rattle.roundtrip_programs.proofs.Statements.Phrases.{statements_read_back}
 use Rattle.roundtrip_programs.specs.ModuleTexts.Cards.{Card, statements_of}
 use Rattle.roundtrip_programs.specs.ModuleTexts.ModuleLaws.{IsStatement, AreWritten, of_statement, of_card}
 use Rattle.roundtrip_programs.proofs.ModuleTexts.Alone.{some-first, first-same}
-use Rattle.roundtrip_programs.proofs.ModuleTexts.Calm.{noted-none}
 use Rattle.roundtrip_programs.proofs.ModuleTexts.Kept.{each-map}
 use Rattle.roundtrip_programs.proofs.ModuleTexts.Steady.{no-fault}
 use Rattle.roundtrip_programs.specs.ModuleTexts.DepthLaws.{FlatStatement, FlatCard}
@@ -31,6 +30,7 @@ use Rattle.roundtrip_programs.proofs.ModuleTexts.Writing.{order_again}
 use Rattle.roundtrip_programs.proofs.ModuleTexts.JumpsAgain.{jumps_again}
 use Rattle.roundtrip_programs.proofs.Texts.Read.{IsSourced, AreSourced, IsParsed}
 use Rattle.roundtrip_programs.proofs.Written.Beginning.{found-before as all-ordered-found}
+use Rattle.fx_lists.proofs.Refused.{none_refused}
 
 -- ---- no statement of a module without a fault is too deep
 
@@ -39,12 +39,12 @@ IsShallow s = s.deep ≡ false
 
 labelled-found : (line : ℕ) (label : Option ℕ) (o : Order) → (keep_label line label o).found ≡ None → o.found ≡ None
 labelled-found line None o h = h
-labelled-found line (Some l) o h = (noted-none _ _ _ _ h).1
+labelled-found line (Some l) o h = (none_refused _ _ _ _ h).1
 
 ordered-found : (m : Mark) (o : Order) → (check_next m o).found ≡ None → (m.deep ≡ false) × (o.found ≡ None)
 unfolding check_next
 ordered-found m o h =
-    let d = noted-none m.deep _ _ _ (noted-none _ _ _ _ (noted-none _ _ _ _ h).1).1 in
+    let d = none_refused m.deep _ _ _ (none_refused _ _ _ _ (none_refused _ _ _ _ h).1).1 in
     (d.0, labelled-found m.line (label_in m) o d.1)
 
 all-shallow : (ss : List StatementTree) (o : Order) → (all_ordered (marks_of ss) o).found ≡ None → Each IsShallow ss

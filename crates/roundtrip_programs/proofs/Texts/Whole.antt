@@ -199,7 +199,7 @@ all-same added closing (p ∷ ps) n h =
 
 -- ---- and written as the same text
 
-rows-filled : (added : Part → List (List ℕ)) (spots : List Spot) (cs : List Card) (end : Card) (n : ℕ) (more : List Row) → is_none_of (read_rows n (rows_of added spots (cs ++ end ∷ []) ++ more)) ≡ false
+pub rows-filled : (added : Part → List (List ℕ)) (spots : List Spot) (cs : List Card) (end : Card) (n : ℕ) (more : List Row) → is_none_of (read_rows n (rows_of added spots (cs ++ end ∷ []) ++ more)) ≡ false
 rows-filled added spots [] end n more = refl
 rows-filled added spots (c ∷ cs) end n more = refl
 
@@ -209,7 +209,7 @@ module-filled added p n more =
     let m = p.module_read in
     rows-filled (added_lines (first_part m) (added p)) p.places.spots (title_cards m ++ decl_cards 0 m.decls ++ cards_in m.body) (card parts.End None end_module) n more
 
-again-closing : (closing : List (List ℕ)) (ss : List StatementTree) → (build_module closing ss).places.closing ≡ closing
+pub again-closing : (closing : List (List ℕ)) (ss : List StatementTree) → (build_module closing ss).places.closing ≡ closing
 unfolding build_module
 again-closing closing ss = refl
 

@@ -17,7 +17,7 @@ use Rattle.f77_parser.specs.Roles.{role_of}
 use Rattle.f77_parser.specs.Statements.{StatementTree, mark_of, marks_of}
 use Rattle.f77_parser.specs.SoFar.{OpeningTree, opening_loop, branches, AroundTree, SoFar, spot, add_spot, add_executable, add_logical_if, open_block, what_of, leave_block, is_loop_to, leave_loops, end_loops_at, close_innermost, close_block}
 use Rattle.f77_parser.specs.Building.{add_specification, divide_innermost, add_continue, add_phrase, add_statement, add_all}
-use Rattle.roundtrip_programs.proofs.ModuleTexts.Calm.{noted-none}
+use Rattle.fx_lists.proofs.Refused.{none_refused}
 
 -- ---- the first executable statement
 
@@ -249,10 +249,10 @@ pub record Taken (m : Mark) (o next : Order) : Type 0 where
 
 taken-by : (label : Option ℕ) (m : Mark) (o : Order) → (counted m (keep_label m.line label o)).found ≡ None → Taken m o (counted m (keep_label m.line label o))
 taken-by None m o h =
-    let x = noted-none _ _ _ _ h in let y = noted-none _ _ _ _ x.1 in let z = noted-none _ _ _ _ y.1 in
+    let x = none_refused _ _ _ _ h in let y = none_refused _ _ _ _ x.1 in let z = none_refused _ _ _ _ y.1 in
     record { before = z.1; order = y.0; count = refl; begun = refl }
 taken-by (Some l) m o h =
-    let x = noted-none _ _ _ _ h in let y = noted-none _ _ _ _ x.1 in let z = noted-none _ _ _ _ y.1 in let u = noted-none _ _ _ _ z.1 in
+    let x = none_refused _ _ _ _ h in let y = none_refused _ _ _ _ x.1 in let z = none_refused _ _ _ _ y.1 in let u = none_refused _ _ _ _ z.1 in
     record { before = u.1; order = y.0; count = refl; begun = refl }
 
 pub taken : (m : Mark) (o : Order) → (check_next m o).found ≡ None → Taken m o (check_next m o)

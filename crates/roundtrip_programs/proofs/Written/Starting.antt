@@ -13,8 +13,9 @@ use Rattle.f77_parser.specs.Modules.{ends_module}
 use Rattle.f77_parser.specs.Statements.{StatementTree, mark_of}
 use Rattle.f77_parser.specs.SoFar.{spot, add_spot, add_executable, add_logical_if, open_block}
 use Rattle.f77_parser.specs.Building.{add_statement, no_statements}
-use Rattle.roundtrip_programs.proofs.ModuleTexts.Calm.{true-false, noted-none, stood-found}
+use Rattle.roundtrip_programs.proofs.ModuleTexts.Calm.{true-false, stood-found}
 use Rattle.roundtrip_programs.proofs.Written.Beginning.{Start, with_title, with_decl, with_statement, part_at, Begins, Leads}
+use Rattle.fx_lists.proofs.Refused.{none_refused}
 
 -- what a module begins with, and the first spot is its own
 pub record Starts (s : StatementTree) : Type 0 where
@@ -23,7 +24,7 @@ pub record Starts (s : StatementTree) : Type 0 where
   pub leads : Leads (spot (part_at start) s.first s.comments) (add_statement s no_statements).spots
 
 stray : (line : ℕ) (code : Code) (found : Option Refusal) → refuse_if true line code found ≡ None → ⊥
-stray line code found h = true-false (noted-none true line code found h).0
+stray line code found h = true-false (none_refused true line code found h).0
 
 one-least : 1 ≤ 1
 one-least = omega arith

@@ -89,6 +89,10 @@ TitleFits true true name dummies = dummies ≡ []
 TitleFits true false name dummies = record { alone : dummies ≡ []; unnamed : name ≡ codes "MAIN" }
 TitleFits false titled name dummies = titled ≡ false
 
+-- a main program or a subroutine in which no block IF stands for a statement of another form
 pub record IsWell (m : ModuleTree) : Type 0 where
   pub title : TitleFits m.main m.titled m.name m.dummies
   pub body : AreNumbered 0 m.body
+  pub no_function : m.function ≡ None
+  pub no_references : m.references ≡ []
+  pub no_whiles : m.whiles ≡ []

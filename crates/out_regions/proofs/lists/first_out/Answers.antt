@@ -6,8 +6,9 @@ use Rattle.out_regions.specs.Beside.{beside}
 use Rattle.out_regions.specs.Contexts.{known_in}
 use Rattle.out_regions.specs.Lists.{left_over}
 use Rattle.out_regions.specs.Used.{all_out, used}
-use Rattle.out_regions.proofs.BesideLaws.{ok-to, first-beside}
+use Rattle.out_regions.proofs.BesideLaws.{first-beside}
 use Rattle.out_regions.proofs.lists.first_out.Goals as goal
+use Rattle.fx_lists.proofs.Options.{if_ok}
 
 pub returns-clause-defined : goal.returns-clause-defined
 returns-clause-defined c =
@@ -22,7 +23,7 @@ returns-clause-defined c =
     ∙ (ap (λ (is : List Region). full does is c.as_slice-writes.result.now c.as_slice-5.result.now) c.as_slice-4.ensures
     ∙ (ap (λ (ws : List Region). full does c.in_ok-ins.ins ws c.as_slice-5.result.now) c.as_slice-writes.ensures
     ∙ ap (λ (os : List Region). full does c.in_ok-ins.ins r.writes os) c.as_slice-5.ensures))) in
-    ok-to c.used.result
+    if_ok c.used.result
     (λ rs e. first-beside k c.args.leaving c.args.id r c.args.out.now c.in_ok-own.own c.in_ok-ins.ins c.in_ok-out.out c.in_ok-later.later rs c.in_ok-own.ensures.defined
     (c.in_ok-ins.ensures.defined ∙ ap₂ (beside ss) c.as_slice.ensures c.as_slice-2.ensures)
     (c.in_ok-out.ensures.defined ∙ ap (λ (ws : List Region). beside ss ws c.args.out.now) c.as_slice-3.ensures) later (e ∙ ap₂ (used ss) c.as_slice-6.ensures c.as_slice-7.ensures))

@@ -1,14 +1,14 @@
 use Rattle.std.proofs.Common.{◌≡◌, ◌+◌, ◌≤◌, length, map}
 use Rattle.std.specs.Prelude.{option_map}
 use Rattle.f77_ast.specs.PlainDecl.{parsed_tree}
-use Rattle.call_graph.specs.Modules.{second_main, main_twice}
+use Rattle.call_graph.specs.Modules.{most_modules, second_main, main_twice}
 use Rattle.session_texts.specs.Sources.{refusal_for}
 use Rattle.session_texts.proofs.checks.main_twice.Given as goal
 
 abbrev pub invariant-loop-rest : goal.invariant-loop-rest
 invariant-loop-rest l = record {
   same : option_map refusal_for (second_main l.place l.found (map parsed_tree l.rest)) ≡ option_map refusal_for (main_twice (map parsed_tree l.fn.modules));
-  room : l.place + length l.rest ≤ 64;
+  room : l.place + length l.rest ≤ most_modules;
 }
 
 abbrev pub decreases-loop-rest : goal.decreases-loop-rest
