@@ -74,7 +74,7 @@ def program_is_added(pick, lines):
 
 
 def many_modules_are_added(pick, lines):
-    for k in range(pick.choice([60, 61, 62, 63, 64])):
+    for k in range(pick.choice([252, 253, 254, 255, 256])):
         lines += [f'      SUBROUTINE MANY{k}', '      END']
 
 

@@ -3,7 +3,7 @@
 
     python3 bench/call_speed.py [PATH_TO_PIPS]
 
-16, 32 and 64 modules in a chain, each of which does something to an array of its own, to one in COMMON and to a dummy, which it hands on whole, by its
+16, 32, 64 and 256 modules in a chain, each of which does something to an array of its own, to one in COMMON and to a dummy, which it hands on whole, by its
 columns and by its elements; then one module of 64, 256 and 1,024 CALLs. Each line: the case, the bytes in and out, the processor seconds (the least of
 three runs, with the start of the program) and the greatest memory in MiB.
 """
@@ -39,7 +39,7 @@ def calls(count):
 
 def main(*words):
     binary = binary_of(words)
-    for modules in (16, 32, 64):
+    for modules in (16, 32, 64, 256):
         report(f'{modules} modules in a chain', binary, chain(modules), ['--show', 'all'])
     for count in (64, 256, 1024):
         report(f'{count} CALLs of one module', binary, calls(count), ['--show', 'all'])

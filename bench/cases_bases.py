@@ -3,23 +3,23 @@
 
     python3 bench/cases_bases.py [SEEDS]
 
-The bases are those that sessions on programs by hand and random ones keep, with all results or some. From them come damaged ones: other shapes, keys, versions,
-names, rows, numbers, orders, and texts that end too soon.
+The bases are those that sessions on programs by hand and random ones keep, with all results or some, each in version 2 and in version 1. From them come damaged ones: other shapes, keys,
+versions, format numbers, names, rows, numbers, orders, and texts that end too soon. A table has each version and each format number alone.
 """
 import json
 import random
+import re
 import sys
 from collections import Counter
 
-from reference import load, write_cases
+from reference import STAGE, VERSION_1, load, write_cases
 
-STAGE = 'cut-off'
 base_file, programs, session = map(load, ['base', 'programs', 'session'])
 
 # bytes of the text of a base with some results, and of one with all
 LONGEST = 3_500
 # the smallest text: one module without results
-SMALLEST = b'{"modules":[{"name":"MAIN","text":"      END\\n"}],"pips":1,"results":[]}'
+SMALLEST = b'{"modules":[{"name":"MAIN","text":"      END\\n"}],"pips":2,"results":[]}'
 
 BY_HAND = [
     '      END\n',
@@ -49,11 +49,16 @@ def base_of(text):
     return db.save()
 
 
-def with_some(base, r):
+def in_version_1(base):
+    """The text of a base, without format numbers."""
+    return base_file.base_write(base, VERSION_1)
+
+
+def with_some(base, r, stage=STAGE):
     """The text of the base with so many of its results, at random, that it is not too long."""
     results = list(base.results)
     while True:
-        text = base_file.base_write(base_file.Base(base.modules, base.names, results), STAGE)
+        text = base_file.base_write(base_file.Base(base.modules, base.names, results), stage)
         if len(text) <= LONGEST or not results:
             return text
         results.pop(r.randrange(len(results)))
@@ -130,8 +135,39 @@ def other_part(value, r):
 
 
 def other_version(value, r):
-    value['pips'] = r.choice([0, 2, 7, -1, 2 ** 63, 1.0, '1', None, 2 ** 64, True])
+    value['pips'] = r.choice([0, 1, 1, 2, 2, 3, 7, -1, 2 ** 63, 1.0, '1', None, 2 ** 64, True])
     return value
+
+
+# in the place of a version or of a format number; the last one is not there
+NUMBERS = [0, 1, 2, 3, 7, -1, 2 ** 63, 2 ** 64 - 1, 2 ** 64, 1.0, 2.5, '1', '2', None, True, [1], 'missing']
+
+
+def with_number(value, key, number):
+    """Another number of a version or a format."""
+    if number == 'missing':
+        value.pop(key, None)
+    else:
+        value[key] = number
+
+
+def other_format(value, r):
+    """Another format number, or none, of one result or a few."""
+    for result in r.sample(value['results'], min(len(value['results']), r.choice([1, 1, 2, 3]))):
+        with_number(result, 'format', r.choice(NUMBERS))
+    return value
+
+
+def format_besides(value, r):
+    """Another format number beside another damage."""
+    return r.choice([other_part, other_name, other_text, twice, swapped, other_kind, key_more, key_missing, with_row(too_big)])(other_format(value, r), r)
+
+
+def raised(value, r):
+    """A format number that is not known, or one below 1, and beside it a number of a row that is too big or another damage."""
+    if value['results']:
+        r.choice(value['results'])['format'] = r.choice([0, 2, 2])
+    return r.choice([with_row(too_big), other_format, other_text, dropped])(value, r)
 
 
 def other_name(value, r):
@@ -210,7 +246,7 @@ def other_variable(row, r):
     term[0], term[1] = r.choice('cxpa'), r.choice([term[1], 0, 99, 255, 256, 2 ** 32])
 
 
-BY_VALUE = [number_at_random, key_missing, key_more, other_part, other_version, other_name, other_text, twice, swapped, other_kind, dropped, less_of_it,
+BY_VALUE = [number_at_random, key_missing, key_more, other_part, other_version, other_format, format_besides, raised, other_name, other_text, twice, swapped, other_kind, dropped, less_of_it,
             *map(with_row, (too_big, big_factor, not_reduced, turned, other_order, no_terms, other_variable))]
 
 
@@ -234,22 +270,55 @@ def with_blanks(text, r):
 
 
 def key_twice(text, r):
-    return text.replace(b'"pips":1', r.choice([b'"pips":2,"pips":1', b'"pips":1,"pips":2', b'"pips":1,"pips":1', b'"\\u0070ips":1', b'"pips":1e0', b'"pips":-1', b'"pips":01']), 1)
+    """The version or a format number comes twice, or is written otherwise."""
+    found = list(re.finditer(rb'"(pips|format)":([0-9]+)', text))
+    if not found:
+        return text
+    m = r.choice(found + found[-1:] * 2)
+    key, number = m.groups()
+    forms = [b'"K":3,"K":N', b'"K":N,"K":3', b'"K":0,"K":N', b'"K":N,"K":N', b'"K":N,"K":1', b'"\\u00%02xX":N' % key[0], b'"K":Ne0', b'"K":-N', b'"K":0N', b'"K":N.0', b'"K":"N"', b'"K": N ']
+    return text[:m.start()] + r.choice(forms).replace(b'K', key).replace(b'X', key[1:]).replace(b'N', number) + text[m.end():]
 
 
 BY_TEXT = [cut, other_byte, with_blanks, key_twice]
 
 ALONE = [b'', b'{}', b'[]', b'null', b'{"pips":7}', b'{"pips":7.0}', b'{"pips":-1}', b'{"pips":1}', b'7', b'"pips"', b'{"modules":[', b'{"pips":18446744073709551615}', b'{"pips":18446744073709551616}',
-         b'[' * 127 + b']' * 127, b'[' * 128 + b']' * 128, b'{"pips":2,"a":' + b'[' * 126 + b']' * 126 + b'}', b'{"pips":2,"a":' + b'[' * 127 + b']' * 127 + b'}', b'1e400', b'\xef\xbb\xbf{}', b'"\\ud800"', b'{"pips":2,"x":"\xff"}',
-         b'{"modules":[],"pips":1,"results":[]}', b'{"modules":[],"pips":1,"results":[{"kind":"MARKS","name":"P","value":[]}]}']
+         b'[' * 127 + b']' * 127, b'[' * 128 + b']' * 128, b'1e400', b'\xef\xbb\xbf{}', b'"\\ud800"', b'{"pips":3,"x":"\xff"}',
+         *[b'{"pips":%d,"a":' % version + b'[' * depth + b']' * depth + b'}' for version in (2, 3) for depth in (126, 127)],
+         b'{"modules":[],"pips":1,"results":[]}', b'{"modules":[],"pips":2,"results":[]}', b'{"modules":[],"pips":1,"results":[{"kind":"MARKS","name":"P","value":[]}]}',
+         b'{"modules":[],"pips":2,"results":[{"format":1,"kind":"MARKS","name":"P","value":[]}]}']
+
+# what stands for the results of a base of version 2 that has nothing else: a format number that is not known goes before all other faults, but for texts that are no JSON
+RESULTS = [b'[{"format":2,"kind":"MARKS"}]', b'[{"format":1,"kind":"MARKS"}]', b'[{"format":0,"kind":"MARKS"}]', b'[{"format":2,"kind":"PRINTED"}]', b'[{"format":2,"kind":"marks"}]', b'[{"format":2}]', b'[{"format":2,"kind":7}]',
+           b'[{"format":2.0,"kind":"MARKS"}]', b'[{"format":2e0,"kind":"MARKS"}]', b'[{"format":18446744073709551615,"kind":"MARKS"}]', b'[{"format":18446744073709551616,"kind":"MARKS"}]',
+           b'[{"format":-9223372036854775808,"kind":"MARKS"}]', b'[0,[],{},{"format":2,"kind":"MARKS","more":[]}]', b'[{"format":0,"kind":"MARKS"},{"format":2,"kind":"EFFECTS"}]', b'{"format":2,"kind":"MARKS"}',
+           b'[[{"format":2,"kind":"MARKS"}]]', b'{"0":{"format":2,"kind":"MARKS"}}', b'[{"format":2,"format":1,"kind":"MARKS"}]', b'[{"format":1,"format":2,"kind":"MARKS"}]', b'[{"format":2,"kind":"MARKS"}', b'[{"kind":"MARKS","format":2},]']
+ALONE += [b'{"pips":%d,"results":%s}' % (version, results) for version in (2, 1) for results in RESULTS] + [b'{"pips":3,"results":[{"format":0,"kind":"MARKS"}]}', b'{"results":[{"format":2,"kind":"MARKS"}]}']
+
+
+def table(text, old):
+    """A base with each number as its version, also one of version 1; and with each as the format number of its first result, and some as that of each other."""
+    for data in (text, old):
+        for number in NUMBERS:
+            value = json.loads(data)
+            with_number(value, 'pips', number)
+            yield text_of(value)
+    for place in range(len(json.loads(text)['results'])):
+        for number in NUMBERS if place == 0 else (0, 1, 2, 'missing'):
+            value = json.loads(text)
+            with_number(value['results'][place], 'format', number)
+            yield text_of(value)
+
+
+def text_of(value):
+    return json.dumps(value, ensure_ascii=False, separators=(',', ':'), sort_keys=True).encode('utf-8', 'surrogatepass')
 
 
 def damaged(texts, r):
     """Texts, each with what was done to it."""
     for damage in BY_VALUE:
         for text in r.sample(texts, min(len(texts), 13)):
-            value = damage(json.loads(text), r)
-            yield damage.__name__, json.dumps(value, ensure_ascii=False, separators=(',', ':'), sort_keys=True).encode('utf-8', 'surrogatepass')
+            yield damage.__name__, text_of(damage(json.loads(text), r))
     for damage in BY_TEXT:
         for text in r.sample(texts, min(len(texts), 20)):
             yield damage.__name__, damage(text, r)
@@ -273,13 +342,15 @@ def main(seeds=40):
     bases = [base_of(text) for text in BY_HAND]
     others = [base for base in map(base_of, random_texts(seeds)) if base]
     texts = [base_file.base_write(base, STAGE) for base in bases]
-    small = [with_some(base, r) for base in bases + others]
-    cases = [('whole', text, None) for text in texts + small] + [('alone', text, None) for text in ALONE]
+    small = [with_some(base, r, stage) for base in bases + others for stage in (STAGE, VERSION_1)]
+    cases = [('whole', text, None) for text in [*texts, in_version_1(bases[1]), *small]] + [('alone', text, None) for text in ALONE]
+    cases += [('table', text, None) for text in table(texts[0], in_version_1(bases[0]))]
     cases += [(kind, text, None) for kind, text in damaged(small, r) if b'\n==' not in text and not text.startswith(b'==')]
-    for text in [SMALLEST, *texts]:
+    for text in [SMALLEST, *texts, in_version_1(bases[1])]:
         base = base_file.base_read(text, STAGE)
+        written = len(base_file.base_write(base, STAGE))
         bare = len(base_file.base_write(base_file.Base(base.modules, base.names, []), STAGE))
-        cases += [('limit', text, limit) for limit in sorted({len(text), len(text) - 1, bare, bare - 1})]
+        cases += [('limit', text, limit) for limit in sorted({written, written - 1, bare, bare - 1})]
     seen = Counter()
     given, wanted = [], []
     for kind, text, limit in cases:

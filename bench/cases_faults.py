@@ -3,14 +3,16 @@
 
     python3 bench/cases_faults.py
 
-Runs over stores and sinks of which calls fail, bases that are cut, edited or of another version, and texts that are cut, deep or long: each group of the table below is one function.
+Runs over stores and sinks of which calls fail, bases that are cut, edited, stored or of another version, and texts that are cut, deep or long: each group of the table below is one function.
+It stops where a stored base of tests/bases is not the one that the reference makes today (bench/stored_bases.py).
 """
 import json
 import sys
 from collections import Counter
 from dataclasses import dataclass, field
 
-from reference import STAGE, load, whole, write_cases
+import stored_bases
+from reference import STAGE, VERSION_1, load, whole, write_cases
 
 BASE = ['--base', 'b.json']
 pips = load('pips')
@@ -85,19 +87,28 @@ def status_text(status):
     return status.name.encode()
 
 
-def base_of(text):
-    return whole([*BASE, 'p.f'], {'p.f': text})[3]['b.json']
+def base_of(text, stage=STAGE):
+    return whole([*BASE, 'p.f'], {'p.f': text}, stage)[3]['b.json']
 
 
 def changed(base, change):
     """The text of a base whose JSON value was changed."""
     value = json.loads(base)
     change(value)
+    return text_of(value)
+
+
+def text_of(value):
     return json.dumps(value, ensure_ascii=False, separators=(',', ':'), sort_keys=True).encode()
 
 
+def entry(value, kind, name):
+    """A result with its kind, name and format number."""
+    return next(r for r in value['results'] if (r['kind'], r['name']) == (kind, name))
+
+
 def result(value, kind, name):
-    return next(r for r in value['results'] if (r['kind'], r['name']) == (kind, name))['value']
+    return entry(value, kind, name)['value']
 
 
 # ---- damaged bases
@@ -111,10 +122,36 @@ def prefixes():
 
 def versions_and_shapes():
     base = base_of(SMALLEST)
-    for other in [base, base + b'\n', b' ' + base, base.replace(b'"pips":1', b'"pips":7'), base.replace(b'"pips":1,', b''), base.replace(b'"pips":1', b'"pips":"1"'), base.replace(b'"name":"MAIN"', b'"name":"P"', 1),
-                  base.replace(b'"name":"MAIN"', b'"name":"main"', 1), base.replace(b'"results":[', b'"more":0,"results":['), base[:-2] + b']}}', b'{}', b'[]', b'null', b'{"pips":7}', SMALLEST]:
+    for other in [base, base + b'\n', b' ' + base, base.replace(b'"pips":2', b'"pips":7'), base.replace(b'"pips":2,', b''), base.replace(b'"pips":2', b'"pips":"2"'), base.replace(b'"name":"MAIN"', b'"name":"P"', 1),
+                  base.replace(b'"name":"MAIN"', b'"name":"main"', 1), base.replace(b'"results":[', b'"more":0,"results":['), base[:-2] + b']}}', b'{}', b'[]', b'null', b'{"pips":7}', SMALLEST, *of_two_versions(base)]:
         yield Case([*BASE, 'p.f'], {'p.f': SMALLEST, 'b.json': other})
         yield Case([*BASE, '--session', 's'], {'s': b'make MARKS MAIN\n', 'b.json': other})
+
+
+def of_two_versions(base):
+    """A base of version 1, and what is neither of version 1 nor of version 2."""
+    old = base_of(SMALLEST, VERSION_1)
+    return [old, b' ' + old, old.replace(b'"pips":1', b'"pips":2'), base.replace(b'"pips":2', b'"pips":1'), old.replace(b'"pips":1', b'"pips":"1"'), old.replace(b'"pips":1', b'"pips":0'), base.replace(b'"pips":2', b'"pips":3'),
+            base.replace(b'"format":1,', b'', 1), old.replace(b'{"kind"', b'{"format":1,"kind"', 1), b'{"pips":3}', b'{"pips":2}']
+
+
+def format_numbers():
+    """Other format numbers of one result or two."""
+    base = base_of(SMALLEST)
+    for number in (0, 2, 3, -1, 2 ** 63, 2 ** 64 - 1, 2 ** 64, 1.0, '1', None, [1]):
+        for kind in ('EFFECTS', 'REGIONS', 'MARKS') if number in (0, 2) else ('PRECONDITIONS',):
+            yield Case([*BASE, 'p.f'], {'p.f': SMALLEST, 'b.json': changed(base, lambda value: entry(value, kind, 'MAIN').update(format=number))})
+    for low, high in (('EFFECTS', 'MARKS'), ('MARKS', 'EFFECTS')):
+        def low_and_high(value):
+            entry(value, low, 'MAIN')['format'], entry(value, high, 'MAIN')['format'] = 0, 2
+        yield Case([*BASE, 'p.f'], {'p.f': SMALLEST, 'b.json': changed(base, low_and_high)})
+    # a number that is not known beside a key more, a module of another name, a text that is refused, another order
+    for change in (lambda value: value.update(more=0), lambda value: value['modules'][0].update(name='P'), lambda value: value['modules'][0].update(text='      EMD\n'), lambda value: value['results'].reverse()):
+        for number in (1, 2):
+            def both(value):
+                entry(value, 'EFFECTS', 'MAIN')['format'] = number
+                change(value)
+            yield Case([*BASE, '--verify', 'p.f'], {'p.f': SMALLEST, 'b.json': changed(base, both)})
 
 
 def big_numbers():
@@ -124,6 +161,12 @@ def big_numbers():
         def bound(value):
             result(value, 'PRECONDITIONS', 'INC')['entry']['rows'][0][1] = number
         yield Case([*BASE, 'p.f'], {'p.f': CALLEE, 'b.json': changed(base, bound)})
+    def higher(value):
+        entry(value, 'PRECONDITIONS', 'INC')['format'] = 2
+        bound(value)
+    for number in (2 ** 62, 1.5):
+        yield Case([*BASE, 'p.f'], {'p.f': CALLEE, 'b.json': changed(base, higher)})
+        yield Case([*BASE, 'p.f'], {'p.f': CALLEE, 'b.json': changed(base_of(CALLEE, VERSION_1), bound)})
 
 
 def edited(value):
@@ -149,15 +192,45 @@ def edited_bases():
         held = {'p.f': CALLEE, 's': b'show PRECONDITIONS INC\nprint\n', 'b.json': changed(base, change)}
         for words in ([*BASE, 'p.f'], [*BASE, '--verify', 'p.f'], [*BASE, '--verify', '--session', 's'], [*BASE, '--session', 's'], [*BASE, '--verify', 'q.f']):
             yield Case(words, held)
+    # a result of each kind; the first of those that are made otherwise is named
+    for kinds in [[kind] for kind in OTHERWISE] + [['MARKS', 'IN_REGIONS'], ['OUT_REGIONS', 'REGIONS']]:
+        def otherwise(value):
+            for kind in kinds:
+                OTHERWISE[kind](result(value, kind, 'INC'))
+        yield Case([*BASE, '--verify', 'p.f'], {'p.f': CALLEE, 'b.json': changed(base, otherwise)})
+    old = base_of(CALLEE, VERSION_1)
+    for change in (edited, marks_alone, in_order):
+        for words in ([*BASE, 'p.f'], [*BASE, '--verify', 'p.f']):
+            yield Case(words, {'p.f': CALLEE, 'b.json': changed(old, change)})
     # a base is looked at before the text is; with none held nothing is stale
     yield Case([*BASE, '--verify', 'p.f'], {'p.f': b'', 'b.json': changed(base, edited)})
     yield Case([*BASE, '--verify', 'p.f'], {'p.f': CALLEE})
     yield Case([*BASE, '--verify', 'p.f'], {'p.f': CALLEE, 'b.json': base})
     # results of texts that do not link
-    alone = json.dumps({'modules': [{'name': 'INC', 'text': CALLEE.decode().split('      END\n')[1] + '      END\n'}], 'pips': 1, 'results': [r for r in json.loads(base)['results'] if r['name'] == 'INC']},
-                       separators=(',', ':'), sort_keys=True).encode()
-    yield Case([*BASE, '--verify', 'p.f'], {'p.f': CALLEE, 'b.json': alone})
-    yield Case([*BASE, 'p.f'], {'p.f': CALLEE, 'b.json': alone})
+    alone = {'modules': [{'name': 'INC', 'text': CALLEE.decode().split('      END\n')[1] + '      END\n'}], 'pips': 2, 'results': [r for r in json.loads(base)['results'] if r['name'] == 'INC']}
+    yield Case([*BASE, '--verify', 'p.f'], {'p.f': CALLEE, 'b.json': text_of(alone)})
+    yield Case([*BASE, 'p.f'], {'p.f': CALLEE, 'b.json': text_of(alone)})
+
+
+# what makes another result of one of each kind
+OTHERWISE = {
+    'EFFECTS': lambda value: value['summary'].update(stops=True),
+    'TRANSFORMERS': lambda value: value['summary']['system'].update(weak=True),
+    'PRECONDITIONS': lambda value: value['entry']['rows'].clear(),
+    'REGIONS': lambda value: value['summary'][0].update(exact=not value['summary'][0]['exact']),
+    'IN_REGIONS': lambda value: value['summary'].reverse(),
+    'OUT_REGIONS': lambda value: value['summary'].append({'exact': False, 'kind': 'OUT', 'of': 'A', 'system': {'rows': [], 'weak': False}}),
+    'MARKS': lambda value: value[0].__setitem__(1, ['PARALLEL', 'I']),
+}
+
+
+def bases_of_today():
+    """The stored bases of a program that has all that results of each kind may have: what is made today is what is stored, no stored kind is made again, and the base is kept in version 2."""
+    for line in stored_bases.faults(stored_bases.stored_bases()):
+        sys.exit(line)
+    for name, base in stored_bases.stored_bases().items():
+        held = {'p.f': stored_bases.program(), 's': b'print\n', 'b.json': base}
+        yield Case(['--show', 'bare', *BASE, '--verify', '--session', 's'], held)
 
 
 # ---- bases in use
@@ -172,12 +245,15 @@ def bases_in_use():
         CALLEE, callee + main, main.replace(b'100)', b'90)') + callee, main + callee.replace(b'+1\n', b'+2\n'), b'C remark\n' + CALLEE, CALLEE.lower(), CALLEE.replace(b'I=1', b'J=1').replace(b'A(I)', b'A(J)'),
         CALLEE + more, more + CALLEE, main, callee, b'', CALLEE.replace(b'CALL INC(B,100)', b'CALL INC(B)'),
     ]
+    old = base_of(CALLEE, VERSION_1)
     for text in texts:
         yield Case([*BASE, 'p.f'], {'p.f': text, 'b.json': base})
         yield Case(['--show', 'why', *BASE, '--verify', 'p.f'], {'p.f': text, 'b.json': base})
+    for text in texts[:4] + texts[-4:]:
+        yield Case(['--show', 'bare', *BASE, 'p.f'], {'p.f': text, 'b.json': old})
     part = whole([*BASE, '--session', 's'], {'s': b'source 11\n' + CALLEE + b'make PRECONDITIONS INC\n'})[3]['b.json']
     for script in (b'', b'make MARKS INC\n', b'show MARKS INC\nprint\n', b'drop P\nshow EFFECTS INC\n', b'source 0\nmake MARKS P\n', b'source 4\n' + more + b'make MARKS MORE\nprint\n', b'source 1\n      I=(\nprint\n', b'make MARKS NONE\n'):
-        for held in (base, part):
+        for held in (base, part, *[old] * (script[:4] in (b'', b'make', b'drop'))):
             yield Case([*BASE, '--session', 's'], {'s': script, 'b.json': held})
     yield Case([*BASE, '--verify', 'p.f'], {'p.f': CALLEE, 'b.json': part})
     yield Case([*BASE, 'p.f'], {'p.f': callee + main, 'b.json': part})
@@ -187,7 +263,7 @@ def bases_in_use():
 
 def failing_stores():
     base = base_of(CALLEE)
-    for held in ({'p.f': CALLEE}, {'p.f': CALLEE, 'b.json': base}, {}):
+    for held in ({'p.f': CALLEE}, {'p.f': CALLEE, 'b.json': base}, {'p.f': SMALLEST, 'b.json': base_of(SMALLEST, VERSION_1)}, {}):
         for call in range(4):
             yield Case(['p.f'], held, store=call)
             yield Case([*BASE, 'p.f'], held, store=call)
@@ -254,7 +330,7 @@ def short_sources():
         yield Case([*BASE, '--session', 's'], {'s': script})
 
 
-GROUPS = [prefixes, versions_and_shapes, big_numbers, edited_bases, bases_in_use, failing_stores, failing_outs, failing_errs, words, cut_texts, deep_and_long, short_sources]
+GROUPS = [prefixes, versions_and_shapes, format_numbers, big_numbers, edited_bases, bases_of_today, bases_in_use, failing_stores, failing_outs, failing_errs, words, cut_texts, deep_and_long, short_sources]
 
 
 def main():

@@ -15,7 +15,7 @@ from types import SimpleNamespace
 from effect_programs import effect_programs
 from graph_programs import graph_programs
 from loop_programs import loop_programs
-from reference import load, write_cases
+from reference import STAGE, load, write_cases
 from region_answers import with_ins
 from scalar_programs import scalar_programs
 from storage_programs import BY_HAND, in_pairs, random_programs, text_of as storage_text
@@ -26,7 +26,7 @@ SCALARS = 140_000
 # the number of loops of which conflicts are asked for
 LOOPS = 500
 
-layout, loops, model, pipeline, printer, read, reader, regions, scalars = map(load, ['layout', 'loops', 'model', 'pipeline', 'printer', 'read', 'reader', 'regions', 'scalars'])
+layout, loops, model, pipeline, printer, read, reader, regions, scalars, stages = map(load, ['layout', 'loops', 'model', 'pipeline', 'printer', 'read', 'reader', 'regions', 'scalars', 'stages'])
 
 
 # ---- texts
@@ -80,7 +80,7 @@ def storage_lines(text):
 # ---- graphs
 
 def linked_lines(parsed, tables):
-    graph = layout.link(parsed, tables)
+    graph = layout.link(parsed, tables, stages.most_modules(STAGE))
     yield ' '.join(['order'] + list(graph.order))
     for edge in graph.edges:
         yield f'call {edge.caller} {edge.at} {edge.callee}'

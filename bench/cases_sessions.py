@@ -9,11 +9,8 @@ import os
 import sys
 from collections import Counter
 
-from reference import TOP, whole, write_cases
+from reference import STAGE, TOP, whole, write_cases
 from session_programs import sessions
-
-# the stage at which the reference answers as sessions do
-STAGE = 'cut-off'
 
 
 def content(*path):

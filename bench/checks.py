@@ -51,6 +51,7 @@ def checks():
     yield 'each must-fail edit can be applied', passes('bench/edits.py', '--check')
     yield 'crates.txt names what is used, and has few paths', passes('bench/crates.py')
     yield 'few lemmas stand in two crates', passes('bench/lemmas.py')
+    yield 'the stored bases of tests/bases are those of today', passes('bench/stored_bases.py')
     for name in REPORTED:
         yield f'the report of examples/{name}.f', reported(name)
     yield 'README.md shows examples/demo.f', shows_the_example()

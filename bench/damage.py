@@ -4,7 +4,7 @@ same base afterwards.
 
     python3 bench/damage.py COUNT SEED [PATH_TO_PIPS [JOBS [FIRST [PART..]]]]       # PATH_TO_PIPS `reference`: the reference as a program, to try the script
 
-COUNT bases that the reference keeps for small programs, damaged as JSON values (bench/cases_bases.py) or as bytes (flipped, cut, dropped, doubled, numbers edited, pieces exchanged), each opened with
+COUNT bases of version 2 or 1 that the reference keeps for small programs, damaged as JSON values (bench/cases_bases.py) or as bytes (flipped, cut, dropped, doubled, numbers edited, pieces exchanged), each opened with
 its program or with another one, with a script, or with `--verify`; and COUNT texts and scripts, damaged as bytes and lines. Prints how the runs ended. A run that differs is written to the
 folder for temporary files. Results that nobody would make can be such that the reference has no answer; of these only crashes are looked for. Others are such that nothing says what is made of them,
 regions that name a subscript which their variable does not have: where their answers differ they are counted apart.
@@ -17,7 +17,7 @@ import sys
 from functools import cache, partial
 
 import reference
-from cases_bases import BY_HAND, BY_TEXT, BY_VALUE
+from cases_bases import BY_HAND, BY_TEXT, BY_VALUE, text_of
 from changed_programs import Changes, made_program
 from command_runs import BASE, Step, compare, program_of
 from session_agreement import as_bytes, shown
@@ -129,13 +129,13 @@ def program_text(number):
 
 
 @cache
-def base_of(number):
+def base_of(number, stage=reference.STAGE):
     """The base that a run on a program of the pool keeps, or a session on it; None where the program is refused."""
     text = as_bytes(program_text(number))
     if number % 3 == 0:
         script = f'source {len(text.splitlines())}\n'.encode() + text + b'show MARKS P\n'
-        return reference.whole([*BASE, '--session', 's'], {'s': script})[3].get('b.json')
-    return reference.whole([*BASE, 'p.f'], {'p.f': text})[3].get('b.json')
+        return reference.whole([*BASE, '--session', 's'], {'s': script}, stage)[3].get('b.json')
+    return reference.whole([*BASE, 'p.f'], {'p.f': text}, stage)[3].get('b.json')
 
 
 def with_fewer(pick, value):
@@ -143,10 +143,6 @@ def with_fewer(pick, value):
     while value['results'] and len(json.dumps(value)) > LONGEST:
         value['results'].pop(pick.randrange(len(value['results'])))
     return value
-
-
-def text_of(value):
-    return json.dumps(value, ensure_ascii=False, separators=(',', ':'), sort_keys=True).encode('utf-8', 'surrogatepass')
 
 
 def damaged_base(pick, data):
@@ -202,7 +198,8 @@ def base_steps(seed, number):
     pick = random.Random(f'{seed} {number}')
     chosen = usable(pick)
     text = as_bytes(program_text(chosen if pick.random() < .8 else usable(pick)))
-    files = {'b.json': damaged_base(pick, base_of(chosen)), 'p.f': text, 's': pick.choice([b'', b'print\n', b'show MARKS P\nprint\n', b'make PRINTED P\n'])}
+    stage = reference.VERSION_1 if pick.random() < .4 else reference.STAGE
+    files = {'b.json': damaged_base(pick, base_of(chosen, stage)), 'p.f': text, 's': pick.choice([b'', b'print\n', b'show MARKS P\nprint\n', b'make PRINTED P\n'])}
     verify = ['--verify'] if pick.random() < .4 else []
     use = ['--session', 's'] if pick.random() < .3 else ['p.f']
     words = [*shown(pick), *BASE, *verify, *use]

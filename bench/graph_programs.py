@@ -150,7 +150,7 @@ def by_hand():
         whole(['SUBROUTINE C'], ['SUBROUTINE B', 'CALL C'], ['SUBROUTINE A', 'CALL C', 'CALL B'], ['PROGRAM P', 'CALL B', 'CALL A']),
         whole(main, ['SUBROUTINE S', 'CALL S']), whole(main, ['SUBROUTINE S', 'CALL P']), whole(['PROGRAM P', 'CALL P']),
         whole(['CALL MAIN']), whole(['SUBROUTINE MAIN'], ['K=1']), whole(['SUBROUTINE S']), '',
-        many(64, 1, 99), many(65, 1, 99), many(65, 2, 99), many(65, 0, 99), many(65, 1, 7), many(64, 1, 7), many(64, 2, 99), many(64, 0, 99),
+        many(65, 1, 999), many(256, 1, 999), many(257, 1, 999), many(257, 2, 999), many(257, 0, 999), many(257, 1, 7), many(65, 1, 7), many(65, 2, 999), many(65, 0, 999),
         # blocks in the order of their names, the blank one first; the largest size counts
         whole(['PROGRAM P', 'COMMON /ZZ/ I,J //K(3)', 'COMMON /A/ L'], ['SUBROUTINE S', 'COMMON /ZZ/ I(9) //K', 'COMMON /AB/ M']),
         # what untracks a unit: an array, a LOGICAL, an EQUIVALENCE, none here, another member that reaches it

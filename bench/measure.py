@@ -1,11 +1,20 @@
-"""Times the built program on a text: what it writes, the least processor seconds of three runs, and the greatest memory so far."""
+"""Times the built program on a text: what it writes, the least processor seconds of three runs, and the greatest memory of them."""
 import os
 import resource
 import subprocess
 import sys
 import tempfile
+from dataclasses import dataclass
 
 TOP = os.path.dirname(os.path.dirname(os.path.abspath(__file__)))
+RUNS = 3
+
+
+@dataclass
+class Measured:
+    out: int
+    seconds: float
+    mib: float
 
 
 def binary_of(words):
@@ -19,25 +28,33 @@ def processor_seconds():
     return used.ru_utime + used.ru_stime
 
 
+def one_run(binary, place, words):
+    """A run on the file p.f of a folder."""
+    out, err = os.path.join(place, 'out'), os.path.join(place, 'err')
+    with open(out, 'wb') as to_out, open(err, 'wb') as to_err:
+        begun = subprocess.Popen([binary, *words, os.path.join(place, 'p.f')], stdin=subprocess.DEVNULL, stdout=to_out, stderr=to_err)
+        _, status, used = os.wait4(begun.pid, 0)
+        begun.returncode = os.waitstatus_to_exitcode(status)
+    if begun.returncode:
+        with open(err, encoding='latin-1') as said:
+            sys.exit(f'status {begun.returncode}: {said.read()}')
+    return Measured(os.path.getsize(out), used.ru_utime + used.ru_stime, used.ru_maxrss / 1024)
+
+
 def measured(binary, text, words=()):
     with tempfile.TemporaryDirectory() as place:
-        path = os.path.join(place, 'p.f')
-        with open(path, 'w') as f:
-            f.write(text)
-        best = None
-        for _ in range(3):
-            start = processor_seconds()
-            done = subprocess.run([binary, *words, path], stdout=subprocess.PIPE, stderr=subprocess.PIPE)
-            seconds = processor_seconds() - start
-            if done.returncode != 0:
-                sys.exit(f'status {done.returncode}: {done.stderr.decode()}')
-            best = seconds if best is None else min(best, seconds)
-    return len(done.stdout), best, resource.getrusage(resource.RUSAGE_CHILDREN).ru_maxrss / 1024
+        with open(os.path.join(place, 'p.f'), 'w') as file:
+            file.write(text)
+        runs = [one_run(binary, place, words) for _ in range(RUNS)]
+    return Measured(runs[0].out, min(run.seconds for run in runs), max(run.mib for run in runs))
+
+
+def line_of(name, text, answer):
+    return f'{name}: in {len(text)}, out {answer.out}, {answer.seconds:.3f} s, {answer.mib:.1f} MiB'
 
 
 def report(name, binary, text, words=()):
-    out, seconds, memory = measured(binary, text, words)
-    print(f'{name}: in {len(text)}, out {out}, {seconds:.3f} s, {memory:.1f} MiB')
+    print(line_of(name, text, measured(binary, text, words)), flush=True)
 
 
 def folded(statement):

@@ -7,7 +7,7 @@ model, pipeline, printer, read, regions = map(load, ['model', 'pipeline', 'print
 
 def region_module_lines(view, sets):
     yield f'module {view.module.name}'
-    for before, added in printer.result_lines(view, sets):
+    for before, added in printer.region_lines(view, sets):
         yield f'{before} {added}'
     for number in sorted(sets.at):
         yield f'{number}'

@@ -202,10 +202,14 @@ IMPORTS = [
         'bound', 'initial_run', 'symbol', 'main_module', 'subroutine', 'edge', 'block_of', 'graph', 'stmts_of', 'arms_of', 'Arrives',
         'Reads', 'Writes', 'Prints', 'Takes', 'ending', 'end_of', 'seen_in']),
 ]
+# what stands in one file: the file that has no input for all others, and that of proofs whose program is the one of a text
+FIRST = 'active_variable'
+NO_INPUT = ('Rattle.f77_meaning.proofs.cases.ActiveVariable', ['input'])
+ELSEWHERE = {'lent_block': ('Rattle.f77_meaning.proofs.ClaimCases', ['module_p', 'module_s'])}
 
 
-def imports(body):
-    """Of these, those that the body names."""
+def imports(body, shared):
+    """Of these those that the body names, and then what is shared."""
     words = set(re.findall(r'[^\s(){},;]+', re.sub(r'"[^"]*"', '', body)))
     lines = []
     for module, names in IMPORTS:
@@ -216,6 +220,7 @@ def imports(body):
         used = [n for n in names if n.strip('◌') in words]
         if used:
             lines.append(f'use {module}.{{{", ".join(used)}}}')
+    lines += [f'use {module}.{{{", ".join(names)}}}' for module, names in shared]
     return '\n'.join(lines) + '\n'
 
 
@@ -230,22 +235,29 @@ def case(name, read, interp):
     return program, [interp.contents(v) for v in inputs], run, about
 
 
+def shared_by(name, inputs):
+    """What the file of a text takes from other files."""
+    found = [ELSEWHERE[name]] if name in ELSEWHERE else []
+    return found + ([NO_INPUT] if not inputs and name != FIRST else [])
+
+
 def file_of(name, program, inputs, run, about):
-    modules = [p.module for p in program.parsed]
+    modules, shared = [p.module for p in program.parsed], shared_by(name, inputs)
     names = [f'module_{m.name.lower()}' for m in modules]
     lines = []
     for module, symbols, x in zip(modules, program.tables, names):
         lines.append(f'abbrev {x} : Known\n{x} = {known(module, symbols)}\n')
     lines.append(f'abbrev modules : List Known\nmodules = {" ∷ ".join(names)} ∷ []\n')
     lines.append(f'abbrev links : Graph\nlinks = {graph(program.graph)}\n')
-    lines.append(f'abbrev input : List Content\ninput = {listed([content(c) for c in inputs])}\n')
+    lines.append(f'abbrev {"pub " if name == FIRST else ""}input : List Content\ninput = {listed([content(c) for c in inputs])}\n')
     lines.append('abbrev at : Area → ℕ → ℕ\nat a o = unit_at (numbering modules links) a o\n')
     rest = listed([content(c) for c in rest_of(run)])
     lines.append(f'ends : end_of modules links {TURNS} input ≡ ending ({answer(run.outcome)}) {rest}\nends = refl\n')
     events = '\n    ∷ '.join(events_of(run) + ['[]'])
     lines.append(f'sees : seen_in modules links {TURNS} input ≡\n    {events}\nsees = refl')
-    body = '\n'.join(lines) + '\n'
-    return f'-- {name}.f: {about}\n{imports(body)}\n{body}'
+    taken = tuple(f'abbrev {x} :' for _, found in shared for x in found)
+    body = '\n'.join(part for part in lines if not part.startswith(taken)) + '\n'
+    return f'-- {name}.f: {about}\n{imports(chr(10).join(lines), shared)}\n{body}'
 
 
 def main(words):

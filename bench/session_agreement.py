@@ -5,7 +5,7 @@
 
 COUNT sessions of up to 30 commands, half of them with a base, which two or three of them use one after another; and COUNT uses of a base: a program, then the same one with
 a module changed, taken away, brought back or in another place, or with modules in another order, each with what `--show` and `--verify` give, now and then with a session between that
-makes some of the results. Modules change as in bench/changed_programs.py. Last COUNT lines of words, most of which are refused: options twice, with values behind `=` or without, `--`, words that are no
+makes some of the results. Nearly half of the runs find a base of version 1, of the program as it is, as it was before, or as a session left it. Modules change as in bench/changed_programs.py. Last COUNT lines of words, most of which are refused: options twice, with values behind `=` or without, `--`, words that are no
 UTF-8. Prints how the runs ended. A run that differs is written to the folder for temporary files. PARTs: sessions, bases, words; all of them unless some are named.
 """
 import random
@@ -47,14 +47,28 @@ def script_of(pick, names):
     return ''.join(line + '\n' for line in lines + ['print'] * pick.randrange(2))
 
 
+def of_version_1(text, script=None):
+    """The file of a base as it was kept before, of a text or of a session on it; none where the text is refused."""
+    words, files = (['p.f'], {'p.f': text}) if script is None else (['--session', 's'], {'s': f'source {len(text.splitlines())}\n'.encode() + text + script})
+    base = reference.whole([*BASE, *words], files, reference.VERSION_1)[3].get('b.json')
+    return {} if base is None else {'b.json': base}
+
+
 def base_steps(number):
-    """A program, and what becomes of it, with one base."""
+    """A program, and what becomes of it, with one base, which now and then is of version 1."""
     pick = random.Random(number)
     program = random_program(reference.load('programs'), number) if number % 8 == 0 else made_program(number)
+    before = as_bytes(program.text())
     for _ in range(pick.choice([2, 3, 3, 4])):
-        yield Step(shown(pick) + BASE + verified(pick) + ['p.f'], {'p.f': as_bytes(program.text())})
+        text = as_bytes(program.text())
+        old = {}
+        if pick.random() < .45:
+            script = as_bytes(script_of(pick, list(names_of(program)))) if pick.random() < .3 else None
+            old = of_version_1(before if pick.random() < .7 else text, script)
+        yield Step(shown(pick) + BASE + verified(pick) + ['p.f'], {'p.f': text, **old})
         if pick.random() < .2:
-            yield Step(BASE + verified(pick) + ['--session', 's'], {'s': as_bytes(script_of(pick, list(names_of(program))))})
+            yield Step(BASE + verified(pick) + ['--session', 's'], {'s': as_bytes(script_of(pick, list(names_of(program)))), **(old if pick.random() < .5 else {})})
+        before = text
         program.step()
 
 

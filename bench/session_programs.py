@@ -18,7 +18,7 @@ REFUSED = [
     ['INTEGER A(0)', 'END'], ['PARAMETER (N=1/0)', 'END'], ['COMMON I,I', 'END'], ['INTEGER A(2)', 'EQUIVALENCE (A(1),A(2))', 'END'],
     ['COMMON /B/ I', 'INTEGER A(2)', 'EQUIVALENCE (I,A(2))', 'END'], ['DATA I/1,2/', 'END'], ['INTEGER A(2)', 'A(1,1)=0', 'END'], ['LOGICAL L', 'L=1', 'END'],
     ['PARAMETER (N=1)', 'N=2', 'END'], ['I(1)=2', 'END'], ['END', 'END'], ['PROGRAM P', 'END', 'SUBROUTINE P', 'END'], ['SUBROUTINE S', 'END', 'SUBROUTINE S', 'END'],
-    ['SUBROUTINE Z%d' % k if part == 0 else 'END' for k in range(65) for part in (0, 1)],
+    ['SUBROUTINE Z%d' % k if part == 0 else 'END' for k in range(257) for part in (0, 1)],
 ]
 BAD = ['frob', 'make', 'make MARKS', 'make MARKS P Q', 'show', 'show MARKS', 'show MARKS P 1', 'source', 'source X', 'source -1', 'source 12345678', 'source 1 2',
        'drop', 'drop P Q', 'print P', 'print all', 'printer', 'make\x00P', '"print"', 'so urce 1']
@@ -39,6 +39,11 @@ def lines(statements):
 
 def source(found):
     return [f'source {len(found)}'] + found
+
+
+def some_modules(first, end):
+    """A source of empty subroutines."""
+    return source(lines(text for k in range(first, end) for text in [f'SUBROUTINE M{k}', 'END']))
 
 
 class Maker:
@@ -183,7 +188,8 @@ def by_hand():
                  P1 + lines(['SUBROUTINE S(K)', 'CALL T', 'END', 'SUBROUTINE T', 'CALL S(1)', 'END']), S1]:
         yield source(text) + ['make PARSED S', 'make SYMBOLS P', 'make EFFECTS S', 'show MARKS S', 'show LINES S', 'print', 'make CALLGRAPH *', 'make CALLGRAPH P', 'make MARKS R']
     yield both + source(lines(['PROGRAM Q', 'I=1', 'END'])) + ['print', 'make MARKS P', 'show PRINTED Q', 'drop P', 'print', 'drop S', 'print']
-    yield both + [part for k in range(8) for part in source(lines(text for j in range(8) for text in [f'SUBROUTINE M{k}{j}', 'END']))] + ['make CALLGRAPH *', 'drop M00', 'make CALLGRAPH *', 'drop M77', 'make MARKS M76']
+    # 256 modules, and one more, until one of them is dropped
+    yield both + some_modules(0, 254) + ['make CALLGRAPH *'] + some_modules(254, 255) + ['make CALLGRAPH *', 'drop M0', 'make CALLGRAPH *', 'make MARKS M254']
     # each code of a text
     for text in REFUSED:
         yield both + source(lines(text)) + ['make CALLGRAPH *']

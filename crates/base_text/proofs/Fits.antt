@@ -1,10 +1,10 @@
 -- A base that is read is in the grammar.
-use Rattle.std.proofs.Common.{◌≡◌, ℕ, ◌<◌, Bool, true, false, ◌&&◌, List, [], Option, Some, None, option_map, option_and_then, Result, Ok, Err, refl, sym, subst, if◌then◌else◌}
-use Rattle.std.specs.Prelude.{codes, nat_lt}
+use Rattle.std.proofs.Common.{◌≡◌, ℕ, ℤ, pos, ◌<◌, Bool, true, false, List, [], ◌∷◌, Option, Some, None, option_map, option_and_then, Result, Ok, Err, refl, sym, subst, if◌then◌else◌}
+use Rattle.std.specs.Prelude.{codes, nat_lt, int_lt}
 use Rattle.std.specs.Str.{chars}
 use Rattle.std.proofs.lemmas.Bool.Decides.{Decides-ltb}
 use Rattle.serde_json.specs.Data.{Data}
-use Rattle.serde_json.specs.Find.{as_str}
+use Rattle.serde_json.specs.Find.{get, as_str}
 use Rattle.session_texts.specs.pipsmake_rules.declared.kind.Kind.{Kind}
 use Rattle.base_json.specs.Shapes.{has_members, member_as, list_as, when, is_latin, latin, text_of}
 use Rattle.base_json.specs.Distinct.{are_new}
@@ -12,7 +12,7 @@ use Rattle.base_values.specs.Modules.{ModuleNames}
 use Rattle.base_values.specs.Naming.{Each, AreBytes}
 use Rattle.base_values.specs.Read.{stored_of}
 use Rattle.base_values.specs.Sizes.{is_small_value}
-use Rattle.base_values.proofs.Options.{and_then_some, map_some, when_some, if_some, each_map, each_both, each_all, list_read}
+use Rattle.base_values.proofs.Options.{and_then_some, map_some, when_some, if_some, then_read, map_read, if_read, when_read, each_map, each_both, each_all, list_read}
 use Rattle.base_values.proofs.ReadLaws.{member_some, read_fits}
 use Rattle.base_text.specs.declared.base.BaseModule.{BaseModule}
 use Rattle.base_text.specs.declared.base.StoredResult.{StoredResult}
@@ -20,10 +20,16 @@ use Rattle.base_text.specs.declared.base.Base.{Base}
 use Rattle.base_text.specs.declared.refusal.BaseRefusal.{BaseRefusal}
 use Rattle.base_text.specs.declared.refusal.BaseRefusal.TheVariants.{WrongVersion, NumberTooBig}
 use Rattle.base_text.specs.Modules.{KnownNames, known, known_in, names_at, names_each, module_names_in}
-use Rattle.base_text.specs.Order.{are_in_order}
-use Rattle.base_text.specs.Read.{base_module, module_of, stored_result, kind_in, result_in, result_of, results_of, base, version_of, is_first, is_another, base_with, base_at, data_of, are_small, if_small, base_in, base_of}
+use Rattle.base_text.specs.declared.entries.Entry.{Entry}
+use Rattle.base_text.specs.declared.entries.Entry.TheVariants.{Current, Old}
+use Rattle.base_text.specs.declared.version.Version.{Version}
+use Rattle.base_text.specs.Formats.{format_of}
+use Rattle.base_text.specs.Order.{in_order_by, are_in_order}
+use Rattle.base_text.specs.Entries.{kind_in, format_in, count_of, stored_result, entry_in, entry_with, entry_of, entry_name, entry_kind, entries_of, current, results_of}
+use Rattle.base_text.specs.Read.{base_module, module_of, base, version_of, is_another, base_with, base_at, data_of, are_small, if_small, base_in, base_of}
 use Rattle.base_text.specs.Grammar.{HasBytes, ResultFits, IsBase}
 use Rattle.base_text.specs.Laws.{ReadIsInGrammar}
+use Rattle.base_text.proofs.EntryLaws.{current_ordered}
 
 -- ---- modules
 
@@ -51,55 +57,74 @@ module_bytes d m e =
 abbrev IfSmall : KnownNames → StoredResult → Type 0
 IfSmall k r = is_small_value r.value ≡ true → ResultFits k r
 
-in_fits : (k : KnownNames) (kind : Kind) (x : List ℕ) (d : Data) (r : StoredResult) → result_in k kind x d ≡ Some r → IfSmall k r
-in_fits k kind x d r e =
-    let a = and_then_some (λ n. option_map (stored_result x) (member_as (stored_of n kind) (codes "value") d)) (names_at k x) r e in
-    let n : ModuleNames = a.0 in
-    let b = map_some (stored_result x) (member_as (stored_of n kind) (codes "value") d) r a.2 in
-    let c = member_some (stored_of n kind) (codes "value") d b.0 b.1 in
-    subst (IfSmall k) b.2 (λ small. record { names = n; of_module = a.1; fits = (read_fits n kind c.0 b.0 c.1 small).1 })
+abbrev EntryFits : KnownNames → Entry → Type 0
+EntryFits k (Current r) = IfSmall k r
+EntryFits k (Old x kind) = Unit {0}
 
-result_fits : (k : KnownNames) (d : Data) (r : StoredResult) → result_of k d ≡ Some r → IfSmall k r
-result_fits k d r e =
-    let a = if_some (has_members 3 d) _ r e in
-    let b = and_then_some (λ kind. option_and_then (λ x. result_in k kind x d) (member_as text_of (codes "name") d)) (member_as kind_in (codes "kind") d) r a.1 in
-    let c = and_then_some (λ x. result_in k b.0 x d) (member_as text_of (codes "name") d) r b.2 in
-    in_fits k b.0 c.0 d r c.2
+in_fits : (k : KnownNames) (n : ModuleNames) (kind : Kind) (x : List ℕ) (f : ℤ) (d : Data) (e : Entry) → names_at k x ≡ Some n → entry_in n kind x f d ≡ Some e → EntryFits k e
+in_fits k n kind x f d e at q = go (int_lt f (pos (format_of kind))) q
+  where
+    go : (b : Bool) → (if b then Some (Old x kind) else option_map (λ v. Current (stored_result x v)) (stored_of n kind d)) ≡ Some e → EntryFits k e
+    go true h = let same : Old x kind ≡ e = cc in subst (EntryFits k) same tt
+    go false h =
+        map_read (EntryFits k) (λ v. Current (stored_result x v)) (stored_of n kind d) e h
+        (λ v read small. record { names = n; of_module = at; fits = (read_fits n kind d v read small).1 })
+
+with_format : (v : Version) (k : KnownNames) (d : Data) (kind : Kind) (x : List ℕ) (e : Entry) → entry_with v k d kind x ≡ Some e → EntryFits k e
+with_format v k d kind x e q =
+    then_read (EntryFits k e) (λ f. option_and_then (λ n. member_as (entry_in n kind x f) (codes "value") d) (names_at k x)) (format_in v d) e q (λ f eq e1.
+    then_read (EntryFits k e) (λ n. member_as (entry_in n kind x f) (codes "value") d) (names_at k x) e e1 (λ n at e2.
+    then_read (EntryFits k e) (entry_in n kind x f) (get (codes "value") d) e e2 (λ value there e3. in_fits k n kind x f value e at e3)))
+
+entry_fits : (v : Version) (k : KnownNames) (d : Data) (e : Entry) → entry_of v k d ≡ Some e → EntryFits k e
+entry_fits v k d e q =
+    if_read (EntryFits k e) (has_members (count_of v) d) _ e q (λ e1.
+    then_read (EntryFits k e) (λ kind. option_and_then (λ x. entry_with v k d kind x) (member_as text_of (codes "name") d)) (member_as kind_in (codes "kind") d) e e1 (λ kind ek e2.
+    then_read (EntryFits k e) (λ x. entry_with v k d kind x) (member_as text_of (codes "name") d) e e2 (λ x ex e3. with_format v k d kind x e e3)))
+
+current_fit : (k : KnownNames) (es : List Entry) → Each (EntryFits k) es → Each (IfSmall k) (current es)
+current_fit k [] h = tt
+current_fit k (Current r ∷ es) h = (h.0, current_fit k es h.1)
+current_fit k (Old x kind ∷ es) h = current_fit k es h.1
 
 record ReadResults (k : KnownNames) (rs : List StoredResult) : Type 0 where
   pub fit : are_small rs ≡ true → Each (ResultFits k) rs
   pub ordered : are_in_order k.names rs ≡ true
 
-results_fit : (k : KnownNames) (d : Data) (rs : List StoredResult) → results_of k d ≡ Some rs → ReadResults k rs
-results_fit k d rs e =
-    let a = and_then_some (λ qs. when (are_in_order k.names qs) qs) (list_as (result_of k) d) rs e in
-    let b = when_some (are_in_order k.names a.0) a.0 rs a.2 in
-    let each = list_read (result_of k) (IfSmall k) (result_fits k) d a.0 a.1 in
-    subst (ReadResults k) b.1 (record {
-      fit = λ small. each_both (IfSmall k) (λ (r : StoredResult). is_small_value r.value ≡ true) (ResultFits k) (λ r f s. f s) a.0 each (each_all (λ (r : StoredResult). is_small_value r.value) a.0 small);
-      ordered = b.0;
-    })
+entries_fit : (k : KnownNames) (es : List Entry) → Each (EntryFits k) es → in_order_by entry_name entry_kind k.names es ≡ true → ReadResults k (current es)
+entries_fit k es h e = record {
+  fit = λ small. each_both (IfSmall k) (λ (r : StoredResult). is_small_value r.value ≡ true) (ResultFits k) (λ r f s. f s) (current es) (current_fit k es h) (each_all (λ (r : StoredResult). is_small_value r.value) (current es) small);
+  ordered = current_ordered k.names es e;
+}
+
+results_fit : (v : Version) (k : KnownNames) (d : Data) (rs : List StoredResult) → results_of v k d ≡ Some rs → ReadResults k rs
+results_fit v k d rs e =
+    map_read (ReadResults k) current (entries_of v k d) rs e (λ es read.
+    then_read (ReadResults k (current es)) (λ qs. when (in_order_by entry_name entry_kind k.names qs) qs) (list_as (entry_of v k) d) es read (λ qs each e1.
+    when_read (λ ps. ReadResults k (current ps)) (in_order_by entry_name entry_kind k.names qs) qs es e1 (λ ordered.
+    entries_fit k qs (list_read (entry_of v k) (EntryFits k) (entry_fits v k) d qs each) ordered)))
 
 -- ---- a base
 
-with_fits : (d : Data) (ms : List BaseModule) (b : Base) → Each HasBytes ms → base_with d ms ≡ Some b → are_small b.results ≡ true → IsBase b
-with_fits d ms b bytes e small =
-    let a = and_then_some (λ k. option_map (base ms) (member_as (results_of k) (codes "results") d)) (known_in ms) b e in
+with_fits : (d : Data) (v : Version) (ms : List BaseModule) (b : Base) → Each HasBytes ms → base_with d v ms ≡ Some b → are_small b.results ≡ true → IsBase b
+with_fits d v ms b bytes e small =
+    let a = and_then_some (λ k. option_map (base ms) (member_as (results_of v k) (codes "results") d)) (known_in ms) b e in
     let k : KnownNames = a.0 in
-    let c = map_some (base ms) (member_as (results_of k) (codes "results") d) b a.2 in
+    let c = map_some (base ms) (member_as (results_of v k) (codes "results") d) b a.2 in
     let n = if_some (are_new [] (module_names_in ms)) (option_map (known ms) (names_each ms)) k a.1 in
     let f = map_some (known ms) (names_each ms) k n.1 in
-    let r = member_some (results_of k) (codes "results") d c.0 c.1 in
-    let read : ReadResults (known ms f.0) c.0 = subst (λ (j : KnownNames). ReadResults j c.0) (sym f.2) (results_fit k r.0 c.0 r.1) in
+    let r = member_some (results_of v k) (codes "results") d c.0 c.1 in
+    let read : ReadResults (known ms f.0) c.0 = subst (λ (j : KnownNames). ReadResults j c.0) (sym f.2) (results_fit v k r.0 c.0 r.1) in
     subst (λ (x : Base). are_small x.results ≡ true → IsBase x) c.2
     (λ s. record { bytes = bytes; found = f.0; are_modules = f.1; once = n.0; fit = read.fit s; ordered = read.ordered }) small
 
 at_fits : (d : Data) (b : Base) → base_at d ≡ Some b → are_small b.results ≡ true → IsBase b
 at_fits d b e small =
-    let a = if_some (has_members 3 d && is_first (version_of d)) _ b e in
-    let m = and_then_some (base_with d) (member_as (list_as module_of) (codes "modules") d) b a.1 in
-    let l = member_some (list_as module_of) (codes "modules") d m.0 m.1 in
-    with_fits d m.0 b (list_read module_of HasBytes module_bytes l.0 m.0 l.1) m.2 small
+    if_read (IsBase b) (has_members 3 d) _ b e (λ e1.
+    then_read (IsBase b) (λ v. option_and_then (base_with d v) (member_as (list_as module_of) (codes "modules") d)) (version_of d) b e1 (λ v ev e2.
+    then_read (IsBase b) (base_with d v) (member_as (list_as module_of) (codes "modules") d) b e2 (λ ms em e3.
+    let l = member_some (list_as module_of) (codes "modules") d ms em in
+    with_fits d v ms b (list_read module_of HasBytes module_bytes l.0 ms l.1) e3 small)))
 
 small_only : (t : Bool) (x b : Base) → (let r : Result Base BaseRefusal = if t then Ok x else Err NumberTooBig in r) ≡ Ok b → (t ≡ true) × (x ≡ b)
 small_only true x b e = (refl, cc)
@@ -117,7 +142,7 @@ other_version false r b e = e
 
 in_grammar : (o : Option Data) (b : Base) → base_in o ≡ Ok b → IsBase b
 in_grammar None b e = cc
-in_grammar (Some d) b e = if_small_fits d (base_at d) b refl (other_version (is_another (version_of d)) (if_small (base_at d)) b e)
+in_grammar (Some d) b e = if_small_fits d (base_at d) b refl (other_version (is_another d) (if_small (base_at d)) b e)
 
 pub read_is_in_grammar : ReadIsInGrammar
 unfolding base_of

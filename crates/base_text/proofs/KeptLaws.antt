@@ -1,7 +1,6 @@
 -- What is kept of a base within a limit.
 use Rattle.std.proofs.Common.{◌≡◌, ℕ, ◌<◌, ◌≤◌, Bool, true, false, List, [], length, Some, None, Ok, refl, sym, subst, ap, ◌∙◌, arith}
 use Rattle.std.specs.Prelude.{nat_le}
-use Rattle.std.proofs.lemmas.Bool.{false_from_ne_true}
 use Rattle.base_json.specs.Shapes.{when}
 use Rattle.base_values.proofs.Options.{Decides-leb}
 use Rattle.base_values.proofs.RowsBack.{when_true}

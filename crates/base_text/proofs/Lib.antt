@@ -3,6 +3,8 @@ pub mod ModuleLaws
 pub mod Names
 pub mod KnownLaws
 pub mod OrderLaws
+pub mod EntryLaws
+pub mod FormatLaws
 pub mod Back
 pub mod Sizes
 pub mod Fits

@@ -4,7 +4,6 @@ use Rattle.std.specs.Prelude.{◌≢◌, bytes_eq, find, IfSome, IfNone}
 use Rattle.std.proofs.lemmas.Bool.{false_from_ne_true}
 use Rattle.std.proofs.lemmas.Slice.Eq.{bytes_eq-Decides}
 use Rattle.session_texts.specs.pipsmake_rules.declared.kind.Kind.{Kind}
-use Rattle.session_texts.specs.pipsmake_rules.declared.kind.Kind.TheVariants.{Parsed, Lines, Symbols, CallGraph, Effects, Transformers, Preconditions, Regions, InRegions, OutRegions, Marks, Printed}
 use Rattle.session_texts.specs.pipsmake_rules.Kinds.{name_of, kinds, kind_with}
 use Rattle.session_texts.proofs.PipsmakeRules.Shared.{named_back}
 

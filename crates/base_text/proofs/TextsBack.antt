@@ -20,6 +20,7 @@ use Rattle.base_values.proofs.TextsBack.{list_is_back, text_is_back, stored_back
 use Rattle.base_text.specs.declared.base.BaseModule.{BaseModule}
 use Rattle.base_text.specs.declared.base.StoredResult.{StoredResult}
 use Rattle.base_text.specs.declared.base.Base.{Base}
+use Rattle.base_text.specs.Formats.{format_of}
 use Rattle.base_text.specs.Modules.{known, names_each, module_names_in}
 use Rattle.base_text.specs.Read.{base, data_of, base_in, base_of}
 use Rattle.base_text.specs.Written.{no_names, module_data, result_data, data_with, base_data}
@@ -27,6 +28,7 @@ use Rattle.base_text.specs.Grammar.{HasBytes, ResultFits, IsBase}
 use Rattle.base_text.proofs.KnownLaws.{known_same, found_names, found_bytes}
 use Rattle.base_text.proofs.Sizes.{base_within}
 use Rattle.base_text.proofs.Texts.{data_some}
+use Rattle.base_text.proofs.FormatLaws.{format_fits}
 use Rattle.base_text.proofs.Back.{written_is_read}
 
 module_is_back : (m : BaseModule) → HasBytes m → IsBack (module_data m)
@@ -47,17 +49,17 @@ result_is_back : (ms : List BaseModule) (ns : List ModuleNames) → Each HasByte
 result_is_back ms ns h e r f l =
     let at = and_then_some (slice_get ns) (number_from 0 (module_names_in ms) r.name) f.names f.of_module in
     let value = stored_back f.names r.value (found_names ms ns r.name f.names e f.of_module) f.fits l in
-    object_back (member_back refl (kind_is_back r.value) (member_back refl (text_is_back r.name (found_bytes 0 ms r.name at.0 h at.1))
-    (member_back refl (subst (λ o. IsBack (stored_data (unwrap_or o no_names).names r.value)) (sym f.of_module) value) no_members_back)))
+    object_back (member_back refl (number_back (format_of (kind_of r.value)) (format_fits (kind_of r.value))) (member_back refl (kind_is_back r.value) (member_back refl (text_is_back r.name (found_bytes 0 ms r.name at.0 h at.1))
+    (member_back refl (subst (λ o. IsBack (stored_data (unwrap_or o no_names).names r.value)) (sym f.of_module) value) no_members_back))))
 
 base_is_back : (b : Base) → IsBase b → Each (λ (r : StoredResult). NumbersFit r.value) b.results → IsBack (base_data b)
 base_is_back b h l =
     let k = known b.modules h.found in
     let each = each_both (ResultFits k) (λ (r : StoredResult). NumbersFit r.value) (λ r. IsBack (result_data k r)) (result_is_back b.modules h.found h.bytes h.are_modules) b.results h.fit l in
     let results = subst (λ j. IsBack (list_data (map (result_data j) b.results))) (sym (known_same b.modules h.found h.are_modules)) (list_is_back (result_data k) b.results each) in
-    let one : 1 < 2 ^ 64 = omega arith in
+    let two : 2 < 2 ^ 64 = omega arith in
     object_back (member_back refl (list_is_back module_data b.modules (each_map HasBytes (λ m. IsBack (module_data m)) module_is_back b.modules h.bytes))
-    (member_back refl (number_back 1 one) (member_back refl results no_members_back)))
+    (member_back refl (number_back 2 two) (member_back refl results no_members_back)))
 
 -- what a text that was written is read as
 pub text_read : (ms : List BaseModule) (rs : List StoredResult) (t : List ℕ) → t ≡ compact_text (data_with ms rs) → Each (λ (r : StoredResult). NumbersFit r.value) rs → IsBase (base ms rs) → base_of t ≡ Ok (base ms rs)

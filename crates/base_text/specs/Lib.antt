@@ -1,6 +1,8 @@
 pub mod Gives
+pub mod Formats
 pub mod Modules
 pub mod Order
+pub mod Entries
 pub mod Read
 pub mod Written
 pub mod Grammar

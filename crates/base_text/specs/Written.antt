@@ -1,6 +1,6 @@
--- A base as JSON data and as a text.
+-- A base as JSON data and as a text, in version 2 of its grammar.
 use Rattle.std.specs.Prelude.{ℕ, if◌then◌else◌, nat_le, List, [], map, length, Option, unwrap_or, codes}
-use Rattle.serde_json.specs.Data.{Data, string, object, no_members, member}
+use Rattle.serde_json.specs.Data.{Data, string, object, Members, no_members, member}
 use Rattle.serde_json.specs.Written.{compact_text}
 use Rattle.session_texts.specs.pipsmake_rules.Kinds.{name_of}
 use Rattle.base_json.specs.Shapes.{when}
@@ -11,6 +11,7 @@ use Rattle.base_values.specs.Written.{stored_data}
 use Rattle.base_text.specs.declared.base.BaseModule.{BaseModule}
 use Rattle.base_text.specs.declared.base.StoredResult.{StoredResult}
 use Rattle.base_text.specs.declared.base.Base.{Base}
+use Rattle.base_text.specs.Formats.{format_of}
 use Rattle.base_text.specs.Modules.{KnownNames, known, names_at, names_of}
 
 abbrev pub module_data : BaseModule → Data
@@ -29,15 +30,19 @@ known_or_none ms = known ms (map names_or_none ms)
 abbrev pub names_for : KnownNames → List ℕ → ModuleNames
 names_for k x = unwrap_or (names_at k x) no_names
 
--- with the names of the symbols of its module
+-- the value is with the names of the symbols of its module
+abbrev pub kind_and_value : KnownNames → StoredResult → Members
+kind_and_value k r =
+    member (codes "kind") (string (name_of (kind_of r.value))) (member (codes "name") (text_data r.name)
+    (member (codes "value") (stored_data (names_for k r.name).names r.value) no_members))
+
+-- in the current format of its kind
 abbrev pub result_data : KnownNames → StoredResult → Data
-result_data k r =
-    object (member (codes "kind") (string (name_of (kind_of r.value))) (member (codes "name") (text_data r.name)
-    (member (codes "value") (stored_data (names_for k r.name).names r.value) no_members)))
+result_data k r = object (member (codes "format") (number_data (format_of (kind_of r.value))) (kind_and_value k r))
 
 abbrev pub data_with : List BaseModule → List StoredResult → Data
 data_with ms rs =
-    object (member (codes "modules") (list_data (map module_data ms)) (member (codes "pips") (number_data 1)
+    object (member (codes "modules") (list_data (map module_data ms)) (member (codes "pips") (number_data 2)
     (member (codes "results") (list_data (map (result_data (known_or_none ms)) rs)) no_members)))
 
 abbrev pub base_data : Base → Data
@@ -65,5 +70,5 @@ kept b limit = when (nat_le (length (base_text (kept_base b limit))) limit) (bas
 -- with what results may name
 abbrev pub data_for : KnownNames → List BaseModule → List StoredResult → Data
 data_for k ms rs =
-    object (member (codes "modules") (list_data (map module_data ms)) (member (codes "pips") (number_data 1)
+    object (member (codes "modules") (list_data (map module_data ms)) (member (codes "pips") (number_data 2)
     (member (codes "results") (list_data (map (result_data k) rs)) no_members)))

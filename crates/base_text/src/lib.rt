@@ -2,14 +2,16 @@
 #![tactic(auto)]
 
 mod base;
+mod entries;
+mod formats;
 mod known;
 mod laws;
 mod modules;
 mod order;
 mod read;
 mod refusal;
-mod results;
 mod taken;
+mod version;
 mod write;
 
 pub use base::{Base, BaseModule, StoredResult};

@@ -13,7 +13,7 @@ pub enum BaseRefusal {
     /// It is no JSON (60).
     #[error("not JSON")]
     NotJson,
-    /// It is an object whose `pips` is another whole number than 1 (62).
+    /// It is an object whose `pips` is another whole number than 1 and 2, or of version 2 with a result of a later format than the current one of its kind (62).
     #[error("another version")]
     WrongVersion,
     /// It has another shape, or says what cannot be: a row that is not normalised, a text that is not the one module of its name, a name twice, a result of no

@@ -6,6 +6,7 @@ ghost use Rattle.base_text.specs.Modules.{known_in, known_names, table_names};
 ghost use Rattle.base_text.specs.Read.{base, base_of};
 ghost use Rattle.base_text.specs.Grammar.{HasBytes, ResultFits, IsBase};
 
+use crate::formats::format_of;
 use crate::known::Known;
 use crate::modules::Table;
 use crate::order::are_in_order;
@@ -44,8 +45,13 @@ impl Take<Known> for StoredResult {
         scope: &Known,
         from: &mut Cursor<'_>,
     ) -> Result<StoredResult, DecodeError> {
-        from.word(b"{\"kind\":")?;
+        from.word(b"{\"format\":")?;
+        let format = from.short_number()?;
+        from.word(b",\"kind\":")?;
         let kind = take_kind(alloc, from)?;
+        if format != format_of(kind) {
+            return Err(DecodeError::Shape);
+        }
         from.word(b",\"name\":")?;
         let name = from.name(alloc)?;
         from.word(b",\"value\":")?;
@@ -70,7 +76,7 @@ fn take_results(
     known: &Known,
     from: &mut Cursor<'_>,
 ) -> Result<List<StoredResult>, DecodeError> {
-    from.word(b",\"pips\":1,\"results\":")?;
+    from.word(b",\"pips\":2,\"results\":")?;
     let results: List<StoredResult> = take_list(alloc, known, from)?;
     from.word(b"}")?;
     if from.is_at_end() {

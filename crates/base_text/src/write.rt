@@ -9,9 +9,10 @@ ghost use Rattle.base_values.specs.Ranges.{NumbersFit};
 ghost use Rattle.base_values.specs.Written.{stored_data};
 ghost use Rattle.base_text.specs.Modules.{known_names};
 ghost use Rattle.base_text.specs.Read.{base_of, base};
-ghost use Rattle.base_text.specs.Written.{module_data, names_for, known_or_none, result_data, data_for, base_text, kept_base, kept};
+ghost use Rattle.base_text.specs.Written.{module_data, names_for, known_or_none, kind_and_value, result_data, data_for, base_text, kept_base, kept};
 ghost use Rattle.base_text.specs.Grammar.{IsBase};
 
+use crate::formats::format_of;
 use crate::known::Known;
 use crate::{Base, BaseModule, StoredResult};
 use base_json::{Put, put_list, put_number, put_value, text_value};
@@ -69,18 +70,34 @@ fn put_found(
     }
 }
 
+/// Appends the kind of a result, its name, what was found and the brace behind them.
+#[tactic(auto, unfolding(serde_json::proofs::OnLiterals::serde_json_on_literals))]
+fn put_kind_and_value(
+    alloc: Global,
+    known: &Known,
+    stored: &StoredResult,
+    out: &mut Text,
+) -> Result<(), Memory>
+    ensures { OnOk result (out.new ≡ out.old ++ members_text true (kind_and_value (known_names known.now) stored.now)) }
+{
+    out.append(b",\"kind\":")?;
+    put_kind(alloc, kind_of(&stored.value), out)?;
+    out.append(b",\"name\":")?;
+    put_text(alloc, &stored.name, out)?;
+    out.append(b",\"value\":")?;
+    put_found(alloc, known, stored, out)?;
+    out.push(b'}')
+}
+
 impl Put<Known> for StoredResult {
     ghost data_of = { λ k r. result_data (known_names k) r };
 
     #[tactic(auto, unfolding(serde_json::proofs::OnLiterals::serde_json_on_literals))]
     fn put(&self, alloc: Global, scope: &Known, out: &mut Text) -> Result<(), Memory> {
-        out.append(b"{\"kind\":")?;
-        put_kind(alloc, kind_of(&self.value), out)?;
-        out.append(b",\"name\":")?;
-        put_text(alloc, &self.name, out)?;
-        out.append(b",\"value\":")?;
-        put_found(alloc, scope, self, out)?;
-        out.push(b'}')
+        let format = format_of(kind_of(&self.value));
+        out.append(b"{\"format\":")?;
+        put_number(alloc, u64::from(format), out)?;
+        put_kind_and_value(alloc, scope, self, out)
     }
 }
 
@@ -92,10 +109,10 @@ fn put_version_and_results(
     results: &List<StoredResult>,
     out: &mut Text,
 ) -> Result<(), Memory>
-    ensures { OnOk result (out.new ≡ out.old ++ members_text true (member (codes "pips") (number_data 1) (member (codes "results") (list_data (map (result_data (known_names known.now)) results.now)) no_members))) }
+    ensures { OnOk result (out.new ≡ out.old ++ members_text true (member (codes "pips") (number_data 2) (member (codes "results") (list_data (map (result_data (known_names known.now)) results.now)) no_members))) }
 {
     out.append(b",\"pips\":")?;
-    put_number(alloc, 1, out)?;
+    put_number(alloc, 2, out)?;
     out.append(b",\"results\":")?;
     put_list(alloc, known, results.as_slice(), out)?;
     out.push(b'}')

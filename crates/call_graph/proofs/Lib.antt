@@ -1,6 +1,7 @@
 pub mod ActualLaws
 pub mod TableLaws
 pub mod OrderLaws
+mod RankLaws
 pub mod SizeLaws
 pub mod LinkLaws
 pub mod CycleLaws

@@ -53,7 +53,7 @@ call_line n p = statement_line (if has_spot n p.places.spots then n else carrier
 
 -- so many modules at most
 abbrev pub most_modules : ℕ
-most_modules = 64
+most_modules = 256
 
 abbrev pub too_many_at : Option ParsedTree → Option Fault
 too_many_at None = None

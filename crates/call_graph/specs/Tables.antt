@@ -1,6 +1,8 @@
--- Which modules lead to which, as rows of a table.
-use Rattle.std.specs.Prelude.{ℕ, zero, suc, Bool, false, ◌||◌, nat_eq, List, [], ◌∷◌, length, slice_index_or}
-use Rattle.std.specs.List.{list_any}
+-- Which modules lead to which, as rows of a table; and ranks of modules, which fall along each CALL where no calls lead back.
+use Rattle.std.specs.Prelude.{ℕ, zero, suc, Bool, true, false, ◌||◌, ◌&&◌, nat_eq, nat_lt, List, [], ◌∷◌, length, slice_index_or, Option, Some, None}
+use Rattle.std.specs.List.{list_any, list_all}
+use Rattle.f77_ast.specs.Symbols.{number_from}
+use Rattle.call_graph.specs.declared.calls.Called.{Called}
 
 abbrev pub cell : List (List Bool) → ℕ → ℕ → Bool
 cell table from to = slice_index_or (slice_index_or table from []) to false
@@ -25,3 +27,30 @@ longer css table = rows_from table (length css) 0 css
 abbrev pub table_after : ℕ → List (List ℕ) → List (List Bool) → List (List Bool)
 table_after zero css table = table
 table_after (suc t) css table = table_after t css (longer css table)
+
+-- ---- ranks
+
+abbrev pub rank : List ℕ → ℕ → ℕ
+rank ranks k = slice_index_or ranks k 0
+
+-- these modules have lower ranks
+abbrev pub are_below : List ℕ → ℕ → List ℕ → Bool
+are_below ranks limit cs = list_all (λ c. nat_lt (rank ranks c) limit) cs
+
+-- each of these modules calls modules of lower ranks; the first has the place k
+abbrev pub fall_from : List ℕ → ℕ → List (List ℕ) → Bool
+fall_from ranks k [] = true
+fall_from ranks k (cs ∷ css) = are_below ranks (rank ranks k) cs && fall_from ranks (suc k) css
+
+abbrev pub is_below : List ℕ → ℕ → Option ℕ → Bool
+is_below ranks limit None = true
+is_below ranks limit (Some c) = nat_lt (rank ranks c) limit
+
+-- the callees of these CALLs have lower ranks, where they are modules
+abbrev pub calls_below : List ℕ → ℕ → List (List ℕ) → List Called → Bool
+calls_below ranks limit names [] = true
+calls_below ranks limit names (c ∷ cs) = is_below ranks limit (number_from 0 names c.callee) && calls_below ranks limit names cs
+
+abbrev pub calls_fall : List ℕ → ℕ → List (List ℕ) → List (List Called) → Bool
+calls_fall ranks k names [] = true
+calls_fall ranks k names (cs ∷ css) = calls_below ranks (rank ranks k) names cs && calls_fall ranks (suc k) names css

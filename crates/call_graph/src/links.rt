@@ -116,7 +116,7 @@ fn link_few(
 }
 
 /// The graph of a program from its modules, each with its table of symbols. Err is the first refusal in this order: more than
-/// 64 modules, a name twice, a second main program, no main program, a CALL that does not fit, recursion (codes 57, 52, 51, 50,
+/// 256 modules, a name twice, a second main program, no main program, a CALL that does not fit, recursion (codes 57, 52, 51, 50,
 /// 53 to 55, 56).
 pub fn link(
     alloc: Global,

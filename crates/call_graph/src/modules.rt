@@ -48,7 +48,7 @@ fn statement_line(spots: &[Spot], id: StmtId) -> u32
 }
 
 /// The most modules of a program.
-pub const MOST_MODULES: usize = 64;
+pub const MOST_MODULES: usize = 256;
 
 /// Whether an executable statement has a line of its own.
 fn has_spot(spots: &[Spot], id: StmtId) -> bool

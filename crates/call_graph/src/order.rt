@@ -47,7 +47,7 @@ fn first_ready(order: &List<u32>, callees: &List<List<u32>>) -> Option<u32>
 
 /// The modules in order, by their places. For each the order so far is gone through; modules are few.
 #[tactic(auto, using(crate::proofs::OrderLaws::order_steps))]
-fn order_of(alloc: Global, callees: &List<List<u32>>) -> Result<List<u32>, Memory>
+pub(crate) fn order_of(alloc: Global, callees: &List<List<u32>>) -> Result<List<u32>, Memory>
     requires { length callees.now ≤ most_modules }
     ensures { IfOk result (λ order. order ≡ order_of callees.now) }
 {

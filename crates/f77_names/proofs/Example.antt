@@ -1,9 +1,10 @@
 -- The names of small modules, computed.
-use Rattle.std.proofs.Common.{◌≡◌, List, [], ◌∷◌, None, Some, true, false, refl, pos, ℕ}
+use Rattle.std.proofs.Common.{◌≡◌, List, [], ◌∷◌, ◌+◌, None, Some, true, false, refl, pos, ℕ}
 use Rattle.std.specs.Prelude.{codes, map}
 use Rattle.f77_ast.specs.declared.places.Part.TheVariants.{Decl, Stmt}
 use Rattle.f77_ast.specs.declared.places.Spot.{Spot}
-use Rattle.f77_ast.specs.Trees.{name, int, StmtTrees, stmt, assign, no_stmts, more_stmts}
+use Rattle.f77_ast.specs.declared.module.FunctionForm.TheVariants.{Logical}
+use Rattle.f77_ast.specs.Trees.{name, int, log, no_exprs, more_exprs, StmtTrees, stmt, assign, block_if, call, arm, no_arms, more_arms, no_else, no_stmts, more_stmts}
 use Rattle.f77_ast.specs.DeclTrees.{EntityTree, DeclTree, integer, logical, common, ModuleTree}
 use Rattle.fx_lists.specs.declared.code.Code.TheVariants.{RealName, DeclaredTwice}
 use Rattle.f77_names.specs.declared.kinds.Kind.TheVariants.{Int, Log}
@@ -57,3 +58,34 @@ logical_x = refl
 integer_l : kind_in (table_of (lines_of spots) (declares (logical []))) (codes "L") ≡ Int
 unfolding refuse_if is_before find function_of entry_kind kind_in
 integer_l = refl
+
+-- ---- functions
+
+-- line 5 `I=NEXT(J)`, by its three statements with the first of these numbers
+abbrev takes_next : ℕ → StmtTrees
+takes_next n =
+    more_stmts (stmt 1 None (block_if (more_arms (arm (log true) (
+    more_stmts (stmt n None (assign (name (codes "NEXT")) (int (pos 0)))) (
+    more_stmts (stmt (n + 1) None (call (codes "NEXT") (more_exprs (name (codes "J")) (more_exprs (name (codes "NEXT")) no_exprs)))) (
+    more_stmts (stmt (n + 2) None (assign (name (codes "I")) (name (codes "NEXT")))) no_stmts)))) no_arms) no_else)) no_stmts
+
+reference_in_order : map (λ e. e.name) (table_of (lines_of spots) (module_of [] (takes_next 4097))).entries ≡ codes "I" ∷ codes "NEXT" ∷ codes "J" ∷ []
+unfolding find function_of
+reference_in_order = refl
+
+-- a block IF of the text
+block_in_order : map (λ e. e.name) (table_of (lines_of spots) (module_of [] (takes_next 2))).entries ≡ codes "NEXT" ∷ codes "J" ∷ codes "I" ∷ []
+unfolding find function_of
+block_in_order = refl
+
+-- `LOGICAL FUNCTION K()`
+abbrev function_of_type : List DeclTree → ModuleTree
+function_of_type ds = record (module_of ds no_stmts) { name = codes "K"; main = false; dummies = codes "K" ∷ []; function = Some Logical }
+
+logical_function : kind_in (table_of (lines_of spots) (function_of_type [])) (codes "K") ≡ Log
+unfolding find function_of entry_kind kind_in
+logical_function = refl
+
+type_given_twice : check_names (lines_of spots) (function_of_type (logical (scalar_named (codes "K") ∷ []) ∷ [])) ≡ Some (record { line = 2; code = DeclaredTwice })
+unfolding refuse_if is_before find function_of entry_kind kind_in
+type_given_twice = refl

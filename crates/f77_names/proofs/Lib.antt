@@ -6,3 +6,4 @@ pub mod ToldLaws
 pub mod KindsLaws
 pub mod LinesLaws
 pub mod TableLaws
+pub mod ReferenceLaws

@@ -2,6 +2,7 @@
 use Rattle.std.specs.Prelude.{ℕ, suc, List, Option, Some, None}
 use Rattle.f77_ast.specs.Trees.{ExprTree, ExprTrees, StmtTree, WhatTree, ArmTree, ArmTrees, ElseTree, LoopTree, StmtTrees}
 use Rattle.f77_ast.specs.Trees as tree
+use Rattle.f77_ast.specs.Hidden.{IfForm, block, reference, do_while, form_of_if}
 use Rattle.f77_names.specs.declared.lines.Sited.TheVariants.{Statement, ElseIf}
 use Rattle.f77_names.specs.declared.functions.Function.{Function}
 use Rattle.f77_names.specs.Lines.{LineTable, line_or}
@@ -34,6 +35,16 @@ abbrev pub maybe_seen : List Function → Option ExprTree → ℕ → List Entry
 maybe_seen fs None line es = es
 maybe_seen fs (Some e) line es = expr_seen fs e line es
 
+-- V and F, where a block IF stands for an assignment `V = F(A)` of the value of a function
+abbrev pub head_of : IfForm → Option (ExprTree × List ℕ)
+head_of block = None
+head_of (reference left f actuals) = Some (left, f)
+head_of (do_while label test body) = None
+
+abbrev pub head_seen : List Function → Option (ExprTree × List ℕ) → ℕ → List EntryTree → List EntryTree
+head_seen fs None line es = es
+head_seen fs (Some p) line es = name_seen fs p.1 line (expr_seen fs p.0 line es)
+
 abbrev mutual
   -- a statement within one at this line
   pub stmt_seen : List Function → LineTable → StmtTree → ℕ → List EntryTree → List EntryTree
@@ -41,7 +52,9 @@ abbrev mutual
 
   pub what_seen : List Function → LineTable → WhatTree → ℕ → ℕ → List EntryTree → List EntryTree
   what_seen fs at (tree.assign left right) id line es = expr_seen fs right line (expr_seen fs left line es)
-  what_seen fs at (tree.block_if arms other) id line es = else_seen fs at other line (arms_seen fs at arms id 0 line es)
+  -- `V = F(A)` has V and F before A in the text; the statements of its block IF have no further names
+  what_seen fs at (tree.block_if arms other) id line es =
+      else_seen fs at other line (arms_seen fs at arms id 0 line (head_seen fs (head_of (form_of_if arms other)) line es))
   what_seen fs at (tree.logical_if e s) id line es = stmt_seen fs at s line (expr_seen fs e line es)
   what_seen fs at (tree.do_loop l) id line es = loop_seen fs at l line es
   what_seen fs at (tree.call x rest) id line es = exprs_seen fs rest line es

@@ -2,6 +2,8 @@
 use Rattle.std.specs.Prelude.{ℕ, suc, List, [], ◌∷◌, map, Option, Some, None}
 use Rattle.f77_ast.specs.declared.decl.Scalar.{Scalar}
 use Rattle.f77_ast.specs.declared.decl.Scalar.TheVariants.{Int, Log}
+use Rattle.f77_ast.specs.declared.module.FunctionForm.{FunctionForm}
+use Rattle.f77_ast.specs.declared.module.FunctionForm.TheVariants.{Plain, Integer, Logical}
 use Rattle.f77_ast.specs.declared.decl.SaveItem.{SaveItem}
 use Rattle.f77_ast.specs.declared.decl.SaveItem.TheVariants as item
 use Rattle.f77_ast.specs.Trees.{ExprTree}
@@ -67,6 +69,13 @@ dummy_told x n line t =
 abbrev pub dummies_told : List (List ℕ) → ℕ → ℕ → Told → Told
 dummies_told [] n line t = t
 dummies_told (x ∷ xs) n line t = dummies_told xs (suc n) line (dummy_told x n line t)
+
+-- the type that a FUNCTION statement gives the function (§15.5.1)
+abbrev pub form_told : Option FunctionForm → List ℕ → ℕ → Told → Told
+form_told None x line t = t
+form_told (Some Plain) x line t = t
+form_told (Some Integer) x line t = typed x Int line t
+form_told (Some Logical) x line t = typed x Log line t
 
 -- ---- entities
 

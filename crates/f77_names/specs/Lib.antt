@@ -3,6 +3,7 @@ pub mod Kinds
 pub mod Functions
 pub mod Entries
 pub mod Appearing
+pub mod References
 pub mod Declaring
 pub mod Tables
 pub mod Words

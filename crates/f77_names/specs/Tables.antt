@@ -13,7 +13,7 @@ use Rattle.f77_names.specs.Kinds.{kinds_of, kind_of_name, kind_or}
 use Rattle.f77_names.specs.Functions.{arrays_named}
 use Rattle.f77_names.specs.Entries.{EntryTree, find, of_entry}
 use Rattle.f77_names.specs.Appearing.{stmts_seen}
-use Rattle.f77_names.specs.Declaring.{Told, dummies_told, decls_told}
+use Rattle.f77_names.specs.Declaring.{Told, dummies_told, form_told, decls_told}
 
 -- the names, the types of the letters A to Z, and the functions whose names are those of arrays
 pub record NameTable : Type 0 where
@@ -40,10 +40,14 @@ is_real Real = true
 abbrev pub no_names : Told
 no_names = record { entries = []; found = None }
 
--- dummies come first, then specifications, then executable statements
+-- the dummies, and the type of a function
+abbrev pub title_told : LineTable → ModuleTree → Told
+title_told at m = form_told m.function m.name (line_or at Title 0) (dummies_told m.dummies 1 (line_or at Title 0) no_names)
+
+-- the title comes first, then specifications, then executable statements
 abbrev pub told_of : List Function → LineTable → ModuleTree → Told
 told_of fs at m =
-    let t = decls_told fs at m.decls 0 (dummies_told m.dummies 1 (line_or at Title 0) no_names) in
+    let t = decls_told fs at m.decls 0 (title_told at m) in
     record t { entries = stmts_seen fs at m.body 0 t.entries }
 
 -- a name that is REAL is refused where it is first; a dummy or PARAMETER in COMMON at the COMMON statement

@@ -2,12 +2,14 @@
 //! name is added with its line where it is not there; `line` is that of the statement.
 ghost use Rattle.std.specs.Prelude.{◌≡◌, OnOk, map};
 ghost use Rattle.f77_ast.specs.Plain.{expr_tree, expr_trees};
-ghost use Rattle.f77_ast.specs.PlainStmt.{arm_tree, arm_trees, loop_tree, maybe_tree, stmt_tree, stmt_trees, what_tree};
+ghost use Rattle.f77_ast.specs.Hidden.{form_of_if};
+ghost use Rattle.f77_ast.specs.PlainStmt.{arm_tree, arm_trees, else_tree, loop_tree, maybe_tree, stmt_tree, stmt_trees, what_tree};
 ghost use Rattle.f77_names.specs.Entries.{entry_tree};
-ghost use Rattle.f77_names.specs.Appearing.{arm_seen, arms_seen, expr_seen, exprs_seen, loop_seen, maybe_seen, name_seen, stmt_seen, stmts_seen, what_seen};
+ghost use Rattle.f77_names.specs.Appearing.{arm_seen, arms_seen, expr_seen, exprs_seen, head_of, head_seen, loop_seen, maybe_seen, name_seen, stmt_seen, stmts_seen, what_seen};
 ghost use Rattle.f77_names.specs.Views.{line_in};
 
 use crate::functions::Arrays;
+use crate::reference::head_of_if;
 use crate::{LineTable, Names, Sited};
 use f77_ast::{Arm, Expr, Loop, Stmt, What};
 use fx_lists::{List, Text};
@@ -80,6 +82,25 @@ pub fn see_maybe(
     }
 }
 
+/// Adds the names of the left side and of the function, where a block IF stands for an assignment of the value of a function.
+fn see_head(
+    sight: &Sight,
+    arms: &List<Arm>,
+    other: &Option<List<Stmt>>,
+    line: u32,
+    names: &mut Names,
+) -> Result<(), Memory>
+    ensures { OnOk result (map entry_tree names.new ≡ head_seen sight.now.arrays.now (head_of (form_of_if (arm_trees arms.now) (else_tree other.now))) line (map entry_tree names.old)) }
+{
+    match head_of_if(arms, other) {
+        None => Ok(()),
+        Some((left, function)) => {
+            see_expr(sight, left, line, names)?;
+            see_name(sight, function, line, names)
+        }
+    }
+}
+
 /// A statement within one at this line.
 #[cycle(see_statement)]
 fn see_statement(sight: &Sight, s: &Stmt, line: u32, names: &mut Names) -> Result<(), Memory>
@@ -100,6 +121,7 @@ fn see_what(sight: &Sight, what: &What, id: u32, line: u32, names: &mut Names) -
             see_expr(sight, right, line, names)
         }
         What::If(arms, other) => {
+            see_head(sight, arms, other, line, names)?;
             see_arms(sight, arms, id, line, names)?;
             match other {
                 None => Ok(()),

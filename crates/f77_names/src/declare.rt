@@ -6,13 +6,14 @@ ghost use Rattle.f77_ast.specs.PlainDecl.{common_tree, data_tree, decl_tree, ent
 ghost use Rattle.f77_ast.specs.Symbols.{bound_tree};
 ghost use Rattle.f77_names.specs.Entries.{entry_tree};
 ghost use Rattle.f77_names.specs.Words.{mentioned, said_once};
-ghost use Rattle.f77_names.specs.Declaring.{blocks_told, bound_of, decl_told, decls_told, dummies_told, entity_seen, extents_seen, groups_told, item_told, items_told, low_of, members_told, mention_told, save_told, saves_told, seen_told, setting_told, settings_told, shaped, shaped_entities, targets_told, typed_entities, typed_entity};
+ghost use Rattle.f77_names.specs.Declaring.{blocks_told, bound_of, decl_told, decls_told, dummies_told, entity_seen, extents_seen, form_told, groups_told, item_told, items_told, low_of, members_told, mention_told, save_told, saves_told, seen_told, setting_told, settings_told, shaped, shaped_entities, targets_told, typed_entities, typed_entity};
 ghost use Rattle.f77_names.specs.Views.{line_in, told_tree};
 
 use crate::appear::{Sight, see_expr, see_exprs, see_maybe};
 use crate::{Names, Shape, Sited, Word};
 use f77_ast::{
-    Bound, CommonPart, DataGroup, Decl, Entity, Expr, Extent, SaveItem, Scalar, Setting, copy_expr,
+    Bound, CommonPart, DataGroup, Decl, Entity, Expr, Extent, FunctionForm, SaveItem, Scalar,
+    Setting, copy_expr,
 };
 use fx_lists::{Code, List, Refusal, Text, refuse_if};
 use std::alloc::{AllocError as Memory, Global};
@@ -96,7 +97,7 @@ impl Told {
         self.found = refuse_if(twice, line, code, self.found);
     }
 
-    /// Adds the dummy arguments of a module, numbered from 1; `line` is that of the SUBROUTINE. One that is listed twice is refused
+    /// Adds the dummy arguments of a module, numbered from 1; `line` is that of the title. One that is listed twice is refused
     /// with `DeclaredTwice`. Err also where there are 2^32 - 1 of them.
     #[tactic(auto, using(crate::proofs::ToldLaws::steps))]
     pub fn tell_dummies(
@@ -114,6 +115,19 @@ impl Told {
             number = number.checked_add(1).ok_or(Memory)?;
         }
         Ok(())
+    }
+
+    /// The type that a FUNCTION statement gives the function; `line` is that of the statement. A second type is refused with
+    /// `DeclaredTwice`.
+    pub fn tell_form(&mut self, form: Option<FunctionForm>, name: &Text, line: u32)
+        ensures { told_tree self.new ≡ form_told form name.now line (told_tree self.old) }
+    {
+        let scalar = match form {
+            None | Some(FunctionForm::Plain) => return,
+            Some(FunctionForm::Integer) => Scalar::Int,
+            Some(FunctionForm::Logical) => Scalar::Log,
+        };
+        self.say_once(name, Word::Type(scalar), line, Code::DeclaredTwice);
     }
 
     /// The entity's name and the names of its bounds are seen.

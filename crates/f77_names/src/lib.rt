@@ -8,6 +8,7 @@ mod functions;
 mod kinds;
 mod lines;
 mod names;
+mod reference;
 mod table;
 
 pub use entry::{Entry, Shape, Word};

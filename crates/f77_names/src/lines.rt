@@ -11,7 +11,7 @@ use std::alloc::{AllocError as Memory, Global};
 use std::collections::HashMap;
 use std::hash::Hash;
 
-/// What has a line of its own: PROGRAM or SUBROUTINE; a specification, by its place from 0; an executable statement, by its number
+/// What has a line of its own: PROGRAM, SUBROUTINE or FUNCTION; a specification, by its place from 0; an executable statement, by its number
 /// from 1; an ELSE IF, by the number of its IF and its place among the parts, from 0.
 #[derive(Clone, Copy, PartialEq, Eq)]
 pub enum Sited {

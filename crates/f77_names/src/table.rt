@@ -108,7 +108,9 @@ fn told_of(
         arrays,
         lines,
     };
-    told.tell_dummies(alloc, &module.dummies, lines.line_or(Sited::Title, 0))?;
+    let line = lines.line_or(Sited::Title, 0);
+    told.tell_dummies(alloc, &module.dummies, line)?;
+    told.tell_form(module.function, &module.name, line);
     told.tell_decls(&sight, &module.decls)?;
     see_list(&sight, &module.body, 0, &mut told.names)?;
     Ok(told)

@@ -9,8 +9,11 @@ use Rattle.f77_ast.specs.declared.decl.Scalar.TheVariants.{Int, Log}
 use Rattle.f77_ast.specs.declared.decl.SaveItem.{SaveItem}
 use Rattle.f77_ast.specs.declared.decl.SaveItem.TheVariants as item
 use Rattle.f77_ast.specs.declared.places.Part.TheVariants as parts
+use Rattle.f77_ast.specs.declared.module.FunctionForm.{FunctionForm}
+use Rattle.f77_ast.specs.declared.module.FunctionForm.TheVariants.{Plain, Integer, Logical}
 use Rattle.f77_ast.specs.Trees.{ExprTree, ExprTrees, StmtTree, WhatTree, ArmTrees, ElseTree, LoopTree, StmtTrees}
 use Rattle.f77_ast.specs.Trees as tree
+use Rattle.f77_ast.specs.Hidden.{form_of_if}
 use Rattle.f77_ast.specs.DeclTrees.{ExtentTree, EntityTree, SettingTree, CommonTree, DataTree, DeclTree, ModuleTree, ParsedTree}
 use Rattle.f77_ast.specs.DeclTrees as decl
 use Rattle.f77_exprs.specs.Lexical.{skip_name}
@@ -22,9 +25,9 @@ use Rattle.f77_names.specs.declared.lines.Sited.TheVariants.{Decl, Statement, El
 use Rattle.f77_names.specs.Lines.{LineTable, line_or}
 use Rattle.f77_names.specs.Functions.{function_of, arrays_named}
 use Rattle.f77_names.specs.Entries.{EntryTree, fresh, find, entry_names, seen, changed, with_dummy, as_parameter}
-use Rattle.f77_names.specs.Appearing.{unless_function, name_seen, expr_seen, exprs_seen, maybe_seen, stmt_seen, what_seen, arm_seen, arms_seen, else_seen, loop_seen, stmts_seen}
-use Rattle.f77_names.specs.Declaring.{Told, bound_of, dummy_told, dummies_told, typed, shaped, in_common, extent_seen, extents_seen, entity_seen, typed_entity, typed_entities, shaped_entities, members_told, blocks_told, setting_told, settings_told, mention_told, item_told, items_told, groups_told, targets_told, save_told, saves_told, decl_told, decls_told}
-use Rattle.f77_names.specs.Tables.{no_names, table_of}
+use Rattle.f77_names.specs.Appearing.{unless_function, name_seen, expr_seen, exprs_seen, maybe_seen, head_of, head_seen, stmt_seen, what_seen, arm_seen, arms_seen, else_seen, loop_seen, stmts_seen}
+use Rattle.f77_names.specs.Declaring.{Told, bound_of, dummy_told, dummies_told, form_told, typed, shaped, in_common, extent_seen, extents_seen, entity_seen, typed_entity, typed_entities, shaped_entities, members_told, blocks_told, setting_told, settings_told, mention_told, item_told, items_told, groups_told, targets_told, save_told, saves_told, decl_told, decls_told}
+use Rattle.f77_names.specs.Tables.{no_names, title_told, table_of}
 use Rattle.f77_meaning.specs.Modules.{symbol_names}
 use Rattle.storage_layout.specs.Symbols.{symbols_of}
 use Rattle.laws_programs.specs.roundtrip_programs.Statements.Formed.{IsName, Each, Filled, IsVariable, Rank, Formed, number, logical, constant, scalar, indexed, enclosed, operand, raised, factor, multiplied, term, signed, added, arithmetic, compared, asserted, denied, conjunct, both, disjunct, either, side, equated, none, more}
@@ -44,6 +47,7 @@ use Rattle.laws_lines.specs.NameLaws.{AreWords, NamesAreWords}
 use Rattle.laws_lines.proofs.SymbolNames.{said_stay, names_of_symbols}
 use Rattle.laws_lines.proofs.PhaseVars.{each_all}
 use Rattle.laws_programs.proofs.RoundtripPrograms.Statements.DeclBack.{each_of as each_filled, typed as typed_each}
+use Rattle.laws_programs.proofs.RoundtripPrograms.Heads.{head_parts}
 use Rattle.laws_programs.proofs.RoundtripPrograms.Named.{group_each}
 use Rattle.fx_lists.proofs.Booleans.{or_turned}
 use Rattle.laws_programs.proofs.RoundtripPrograms.ModuleTexts.Cards.{Any as AnyLabel}
@@ -92,6 +96,12 @@ dummies_words [] n line t h d = d
 dummies_words (x ∷ xs) n line t h d =
     let es = seen x line t.entries in
     dummies_words xs (suc n) line (dummy_told x n line t) h.others (subst (Each IsWord) (sym (names_changed x (with_dummy n) (λ e. refl) es)) (seen_words x line t.entries h.first d))
+
+form_words : (o : Option FunctionForm) (x : List ℕ) (line : ℕ) (t : Told) → Words t.entries → Words (form_told o x line t).entries
+form_words None x line t d = d
+form_words (Some Plain) x line t d = d
+form_words (Some Integer) x line t d = said_words x (Typed Int) t.entries d
+form_words (Some Logical) x line t d = said_words x (Typed Log) t.entries d
 
 -- ---- what the grammar gives
 
@@ -177,6 +187,12 @@ module _ (fs : List Function) where
     plain_words (tree.print rest) id line es h d = exprs_words h line es d
     plain_words (tree.read rest) id line es h d = variables_words rest line es h d
 
+    -- the left side and the function of an assignment of the value of a function
+    head_words : (arms : ArmTrees) (other : ElseTree) (id : ℕ) (label : Option ℕ) → AllFormed (cards_by id label (tree.block_if arms other)) → (line : ℕ) (es : List EntryTree) → Words es → Words (head_seen fs (head_of (form_of_if arms other)) line es)
+    head_words arms other id label h line es d =
+        head_parts (Held AnyLabel IsPhrase) (λ o. Words (head_seen fs o line es)) d
+        (λ n i f x zero left a b. name_words f line (expr_seen fs left line es) a.1.left (variable_words left line es b.1.left d)) arms other id label h
+
     mutual
       list_words : (n : ℕ) (t : StmtTrees) → AreNumbered n t → AllFormed (cards_in t) → (line : ℕ) (es : List EntryTree) → Words es → Words (stmts_seen fs at t line es)
       list_words n tree.no_stmts a h line es d = d
@@ -190,8 +206,9 @@ module _ (fs : List Function) where
       what_words : (n : ℕ) (w : WhatTree) (id : ℕ) (label : Option ℕ) → NumberedBelow n w → AllFormed (cards_by id label w) → (line : ℕ) (es : List EntryTree) → Words es → Words (what_seen fs at w id line es)
       what_words n (tree.assign u b) id label a h line es d = plain_words (tree.assign u b) id line es h.first.1 d
       what_words n (tree.block_if arms other) id label a h line es d =
-          let r = block_words n arms id label (else_cards id other ++ card (parts.Close id) None end_if ∷ []) a.parts h line es d in
-          else_words (last_arms n arms) other id a.last (split (else_cards id other) (card (parts.Close id) None end_if ∷ []) r.1).0 line (arms_seen fs at arms id 0 line es) r.0
+          let heads = head_seen fs (head_of (form_of_if arms other)) line es in
+          let r = block_words n arms id label (else_cards id other ++ card (parts.Close id) None end_if ∷ []) a.parts h line heads (head_words arms other id label h line es d) in
+          else_words (last_arms n arms) other id a.last (split (else_cards id other) (card (parts.Close id) None end_if ∷ []) r.1).0 line (arms_seen fs at arms id 0 line heads) r.0
       what_words n (tree.logical_if e (tree.stmt inner own w)) id label a h line es d =
           plain_words w inner (line_or at (Statement inner) line) (expr_seen fs e line es) h.first.1.inner (expr_words h.first.1.test line es d)
       what_words n (tree.do_loop l) id label a h line es d = loop_words n l id label a h line es d
@@ -345,12 +362,13 @@ table_words p b =
     let at = lines_in p in
     let fs = arrays_named m.decls in
     let t = dummies_told m.dummies 1 (line_or at Title 0) no_names in
+    let u = title_told at m in
     let title = title_formed m b.formed in
     let all = (split (title_cards m ++ decl_cards 0 m.decls ++ cards_in m.body) (card parts.End None end_module ∷ []) b.formed).0 in
     let r = split (title_cards m ++ decl_cards 0 m.decls) (cards_in m.body) all in
     let decls = (split (title_cards m) (decl_cards 0 m.decls) r.0).1 in
-    list_words fs at 0 m.body b.well.body r.1 0 (decls_told fs at m.decls 0 t).entries
-    (decls_words fs at m.decls 0 0 t decls (dummies_words m.dummies 1 (line_or at Title 0) no_names (dummies_named m.main m.titled m.name m.dummies b.well.title title) tt))
+    list_words fs at 0 m.body b.well.body r.1 0 (decls_told fs at m.decls 0 u).entries
+    (decls_words fs at m.decls 0 0 u decls (form_words m.function m.name (line_or at Title 0) t (dummies_words m.dummies 1 (line_or at Title 0) no_names (dummies_named m.main m.titled m.name m.dummies b.well.title title) tt)))
 
 -- ---- their tables
 

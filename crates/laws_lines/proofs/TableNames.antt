@@ -8,9 +8,9 @@ use Rattle.f77_names.specs.Lines.{LineTable, line_or}
 use Rattle.f77_names.specs.Functions.{arrays_named}
 use Rattle.f77_names.specs.Entries.{EntryTree, fresh, find, entry_names, seen, changed, with_dummy}
 use Rattle.f77_names.specs.Declaring.{Told, dummy_told, dummies_told, decls_told}
-use Rattle.f77_names.specs.Tables.{no_names, table_of}
+use Rattle.f77_names.specs.Tables.{no_names, title_told, table_of}
 use Rattle.f77_meaning.specs.Modules.{symbol_names}
-use Rattle.laws_programs.proofs.SymbolTables.KeptNames.{Said, with_said, decls_keep, stmts_keep}
+use Rattle.laws_programs.proofs.SymbolTables.KeptNames.{Said, with_said, form_keeps, decls_keep, stmts_keep}
 use Rattle.laws_programs.proofs.SymbolTables.Answers.{lines_in}
 use Rattle.laws_lines.specs.NameLaws.{NamesAreDistinct}
 use Rattle.laws_lines.proofs.SymbolNames.{said_stay, names_of_symbols}
@@ -82,8 +82,9 @@ table_apart : (at : LineTable) (m : ModuleTree) → AreApart (table_of at m).ent
 table_apart at m =
     let fs = arrays_named m.decls in
     let t = dummies_told m.dummies 1 (line_or at Title 0) no_names in
-    stmts_keep AreApart seen_apart said_apart fs at m.body 0 (decls_told fs at m.decls 0 t).entries
-    (decls_keep AreApart seen_apart said_apart fs at m.decls 0 t (dummies_apart m.dummies 1 (line_or at Title 0) no_names tt))
+    let u = title_told at m in
+    stmts_keep AreApart seen_apart said_apart fs at m.body 0 (decls_told fs at m.decls 0 u).entries
+    (decls_keep AreApart seen_apart said_apart fs at m.decls 0 u (form_keeps AreApart seen_apart said_apart fs m.function m.name (line_or at Title 0) t (dummies_apart m.dummies 1 (line_or at Title 0) no_names tt)))
 
 -- ---- its symbols
 

@@ -5,8 +5,11 @@ use Rattle.f77_ast.specs.declared.decl.Scalar.{Scalar}
 use Rattle.f77_ast.specs.declared.decl.Scalar.TheVariants.{Int, Log}
 use Rattle.f77_ast.specs.declared.decl.SaveItem.{SaveItem}
 use Rattle.f77_ast.specs.declared.decl.SaveItem.TheVariants as item
+use Rattle.f77_ast.specs.declared.module.FunctionForm.{FunctionForm}
+use Rattle.f77_ast.specs.declared.module.FunctionForm.TheVariants.{Plain, Integer, Logical}
 use Rattle.f77_ast.specs.Trees.{ExprTree, ExprTrees, StmtTree, WhatTree, ArmTree, ArmTrees, ElseTree, LoopTree, StmtTrees}
 use Rattle.f77_ast.specs.Trees as tree
+use Rattle.f77_ast.specs.Hidden.{form_of_if}
 use Rattle.f77_ast.specs.DeclTrees.{ExtentTree, EntityTree, SettingTree, CommonTree, DataTree, DeclTree}
 use Rattle.f77_ast.specs.DeclTrees as decl
 use Rattle.std.specs.Prelude.{map}
@@ -15,8 +18,8 @@ use Rattle.f77_names.specs.declared.lines.Sited.TheVariants.{Decl, Statement, El
 use Rattle.f77_names.specs.Lines.{LineTable, line_or}
 use Rattle.f77_names.specs.Functions.{function_of}
 use Rattle.f77_names.specs.Entries.{EntryTree, seen, changed, as_parameter}
-use Rattle.f77_names.specs.Appearing.{unless_function, name_seen, expr_seen, exprs_seen, maybe_seen, stmt_seen, what_seen, arm_seen, arms_seen, else_seen, loop_seen, stmts_seen}
-use Rattle.f77_names.specs.Declaring.{Told, bound_of, typed, shaped, in_common, extent_seen, extents_seen, entity_seen, typed_entity, typed_entities, shaped_entities, members_told, blocks_told, setting_told, settings_told, mention_told, item_told, items_told, groups_told, targets_told, save_told, saves_told, decl_told, decls_told}
+use Rattle.f77_names.specs.Appearing.{unless_function, name_seen, expr_seen, exprs_seen, maybe_seen, head_of, head_seen, stmt_seen, what_seen, arm_seen, arms_seen, else_seen, loop_seen, stmts_seen}
+use Rattle.f77_names.specs.Declaring.{Told, bound_of, form_told, typed, shaped, in_common, extent_seen, extents_seen, entity_seen, typed_entity, typed_entities, shaped_entities, members_told, blocks_told, setting_told, settings_told, mention_told, item_told, items_told, groups_told, targets_told, save_told, saves_told, decl_told, decls_told}
 use Rattle.laws_programs.proofs.SymbolTables.KeptNames.{Said, with_said, Typed, Shaped, Shared, Parameter, Saved, Initial, Nothing}
 
 -- anything but that it is a PARAMETER
@@ -78,6 +81,10 @@ module _ (P : List EntryTree → Type 0) (more : (x : List ℕ) (line : ℕ) (es
   maybe_keeps None line es d = d
   maybe_keeps (Some e) line es d = expr_keeps e line es d
 
+  head_keeps : (o : Option (ExprTree × List ℕ)) (line : ℕ) (es : List EntryTree) → P es → P (head_seen fs o line es)
+  head_keeps None line es d = d
+  head_keeps (Some p) line es d = name_keeps p.1 line (expr_seen fs p.0 line es) (expr_keeps p.0 line es d)
+
   module _ (at : LineTable) where
     mutual
       stmt_keeps : (s : StmtTree) (line : ℕ) (es : List EntryTree) → P es → P (stmt_seen fs at s line es)
@@ -85,7 +92,9 @@ module _ (P : List EntryTree → Type 0) (more : (x : List ℕ) (line : ℕ) (es
 
       what_keeps : (w : WhatTree) (id line : ℕ) (es : List EntryTree) → P es → P (what_seen fs at w id line es)
       what_keeps (tree.assign a b) id line es d = expr_keeps b line (expr_seen fs a line es) (expr_keeps a line es d)
-      what_keeps (tree.block_if arms other) id line es d = else_keeps other line (arms_seen fs at arms id 0 line es) (arms_keep arms id 0 line es d)
+      what_keeps (tree.block_if arms other) id line es d =
+          let ds = head_seen fs (head_of (form_of_if arms other)) line es in
+          else_keeps other line (arms_seen fs at arms id 0 line ds) (arms_keep arms id 0 line ds (head_keeps (head_of (form_of_if arms other)) line es d))
       what_keeps (tree.logical_if e s) id line es d = stmt_keeps s line (expr_seen fs e line es) (expr_keeps e line es d)
       what_keeps (tree.do_loop l) id line es d = loop_keeps l line es d
       what_keeps (tree.call x rest) id line es d = exprs_keep rest line es d
@@ -120,6 +129,13 @@ module _ (P : List EntryTree → Type 0) (more : (x : List ℕ) (line : ℕ) (es
       stmts_keep (tree.more_stmts s ss) line es d = stmts_keep ss line (stmt_seen fs at s line es) (stmt_keeps s line es d)
 
   -- ---- specification statements
+
+  -- the type of a function
+  pub form_keeps : (o : Option FunctionForm) (x : List ℕ) (line : ℕ) (t : Told) → P t.entries → P (form_told o x line t).entries
+  form_keeps None x line t d = d
+  form_keeps (Some Plain) x line t d = d
+  form_keeps (Some Integer) x line t d = said x (Typed Int) tt t.entries d
+  form_keeps (Some Logical) x line t d = said x (Typed Log) tt t.entries d
 
   extents_keep : (xs : List ExtentTree) (line : ℕ) (es : List EntryTree) → P es → P (extents_seen fs xs line es)
   extents_keep [] line es d = d

@@ -22,7 +22,7 @@ use Rattle.f77_names.specs.Functions.{arrays_named}
 use Rattle.f77_names.specs.Kinds.{kinds_of, kind_of_name}
 use Rattle.f77_names.specs.Entries.{EntryTree, fresh, find, entry_names, seen, changed, with_dummy, with_value, as_parameter, of_entry, value_among}
 use Rattle.f77_names.specs.Declaring.{Told, dummy_told, dummies_told, decls_told}
-use Rattle.f77_names.specs.Tables.{NameTable, no_names, entry_kind, is_real, kind_in, in_common_too, check_entry, check_entries, told_of, table_of, check_names}
+use Rattle.f77_names.specs.Tables.{NameTable, no_names, title_told, entry_kind, is_real, kind_in, in_common_too, check_entry, check_entries, told_of, table_of, check_names}
 use Rattle.f77_checks.specs.Parameters.{Valued, is_bad_parameter, given_typed, given_const_value, setting_valued, settings_valued, decl_valued, decls_valued}
 use Rattle.storage_layout.specs.Symbols.{valued}
 use Rattle.laws_programs.proofs.SymbolTables.Answers.{Answered, lines_in, names_in, found_none, values_none, names_none}
@@ -32,7 +32,7 @@ use Rattle.laws_programs.proofs.SymbolTables.KeptNames.{Said, with_said, Typed, 
 use Rattle.laws_programs.proofs.SymbolTables.NameRefusals.{entries_back}
 use Rattle.laws_programs.proofs.SymbolTables.Values.{chosen, as_chosen, is_taken, judged, shape_noted, settings_back, values_back}
 use Rattle.laws_programs.proofs.Layouts.DifferLaws.{names_differ}
-use Rattle.laws_marks.proofs.InMarks.{IsMild, IsSet, Sets, SomeSets, decls_keep, stmts_keep}
+use Rattle.laws_marks.proofs.InMarks.{IsMild, IsSet, Sets, SomeSets, form_keeps, decls_keep, stmts_keep}
 use Rattle.laws_programs.proofs.Storage.ParameterLaws.{same_name, valued_kind}
 use Rattle.fx_lists.proofs.Refused.{none_refused}
 use Rattle.f77_ast.proofs.NumberedNames.{number_from-least}
@@ -124,8 +124,9 @@ module _ (S : List ℕ → Type 0) where
   table_marked at m f =
       let fs = arrays_named m.decls in
       let t = dummies_told m.dummies 1 (line_or at Title 0) no_names in
-      stmts_keep Marked seen_marked said_marked S set_marked fs at m.body 0 (decls_told fs at m.decls 0 t).entries
-      (decls_keep Marked seen_marked said_marked S set_marked fs at m.decls f 0 t (dummies_marked m.dummies 1 (line_or at Title 0) no_names none_marked))
+      let u = title_told at m in
+      stmts_keep Marked seen_marked said_marked S set_marked fs at m.body 0 (decls_told fs at m.decls 0 u).entries
+      (decls_keep Marked seen_marked said_marked S set_marked fs at m.decls f 0 u (form_keeps Marked seen_marked said_marked S set_marked fs m.function m.name (line_or at Title 0) t (dummies_marked m.dummies 1 (line_or at Title 0) no_names none_marked)))
 
 -- ---- no name is REAL
 

@@ -6,8 +6,11 @@ use Rattle.f77_ast.specs.declared.decl.Scalar.TheVariants.{Int, Log}
 use Rattle.f77_ast.specs.declared.decl.SaveItem.{SaveItem}
 use Rattle.f77_ast.specs.declared.decl.SaveItem.TheVariants as item
 use Rattle.f77_ast.specs.declared.places.Part.TheVariants as parts
+use Rattle.f77_ast.specs.declared.module.FunctionForm.{FunctionForm}
+use Rattle.f77_ast.specs.declared.module.FunctionForm.TheVariants.{Plain, Integer, Logical}
 use Rattle.f77_ast.specs.Trees.{ExprTree, ExprTrees, StmtTree, WhatTree, ArmTrees, ElseTree, LoopTree, StmtTrees}
 use Rattle.f77_ast.specs.Trees as tree
+use Rattle.f77_ast.specs.Hidden.{form_of_if}
 use Rattle.f77_ast.specs.DeclTrees.{ExtentTree, EntityTree, SettingTree, CommonTree, DataTree, DeclTree, ModuleTree, ParsedTree}
 use Rattle.f77_ast.specs.DeclTrees as decl
 use Rattle.f77_statements.specs.Phrases.{PhraseTree, program, subroutine, end_if, end_do, end_module}
@@ -17,15 +20,16 @@ use Rattle.f77_names.specs.declared.lines.Sited.TheVariants.{Decl, Statement, El
 use Rattle.f77_names.specs.Lines.{LineTable, line_or}
 use Rattle.f77_names.specs.Functions.{function_of, arrays_named}
 use Rattle.f77_names.specs.Entries.{EntryTree, fresh, find, entry_names, seen, changed, with_dummy, as_parameter}
-use Rattle.f77_names.specs.Appearing.{unless_function, name_seen, expr_seen, exprs_seen, maybe_seen, stmt_seen, what_seen, arm_seen, arms_seen, else_seen, loop_seen, stmts_seen}
-use Rattle.f77_names.specs.Declaring.{Told, bound_of, dummy_told, dummies_told, typed, shaped, in_common, extent_seen, extents_seen, entity_seen, typed_entity, typed_entities, shaped_entities, members_told, blocks_told, setting_told, settings_told, mention_told, item_told, items_told, groups_told, targets_told, save_told, saves_told, decl_told, decls_told}
-use Rattle.f77_names.specs.Tables.{no_names, table_of}
+use Rattle.f77_names.specs.Appearing.{unless_function, name_seen, expr_seen, exprs_seen, maybe_seen, head_of, head_seen, stmt_seen, what_seen, arm_seen, arms_seen, else_seen, loop_seen, stmts_seen}
+use Rattle.f77_names.specs.Declaring.{Told, bound_of, dummy_told, dummies_told, form_told, typed, shaped, in_common, extent_seen, extents_seen, entity_seen, typed_entity, typed_entities, shaped_entities, members_told, blocks_told, setting_told, settings_told, mention_told, item_told, items_told, groups_told, targets_told, save_told, saves_told, decl_told, decls_told}
+use Rattle.f77_names.specs.Tables.{no_names, title_told, table_of}
 use Rattle.f77_meaning.specs.Modules.{symbol_names}
 use Rattle.storage_layout.specs.Symbols.{symbols_of}
 use Rattle.laws_programs.specs.roundtrip_programs.Statements.Formed.{Each}
 use Rattle.laws_programs.specs.roundtrip_programs.Statements.Phrased.{IsWhat, IsPhrase}
 use Rattle.laws_programs.specs.roundtrip_programs.ModuleTexts.Cards.{Card, card, cards_of, cards_by, block_cards, part_cards, else_cards, cards_in, title_cards, decl_cards, statements_of}
 use Rattle.laws_programs.specs.roundtrip_programs.ModuleTexts.Numbered.{TitleFits, last_of, last_arms, last_in, IsNumbered, NumberedBelow, NumberedBody, NumberedBlock, NumberedArms, NumberedElse, AreNumbered}
+use Rattle.laws_programs.proofs.RoundtripPrograms.Heads.{head_parts}
 use Rattle.laws_programs.proofs.RoundtripPrograms.ModuleTexts.Kept.{Held, Each-append}
 use Rattle.laws_programs.proofs.SymbolTables.KeptNames.{Said, with_said, Typed, Shaped, Shared, Parameter, Saved, Initial, Nothing}
 use Rattle.laws_programs.proofs.SymbolTables.Answers.{lines_in}
@@ -75,6 +79,12 @@ module _ (Name : List ℕ → Type 0) where
       let es = seen x line t.entries in
       dummies_in xs (suc n) line (dummy_told x n line t) h.others (subst Names (sym (names_changed x (with_dummy n) (λ e. refl) es)) (seen_told x line t.entries h.first d))
 
+  form_in : (o : Option FunctionForm) (x : List ℕ) (line : ℕ) (t : Told) → AreTold t.entries → AreTold (form_told o x line t).entries
+  form_in None x line t d = d
+  form_in (Some Plain) x line t d = d
+  form_in (Some Integer) x line t d = said_told x (Typed Int) t.entries d
+  form_in (Some Logical) x line t d = said_told x (Typed Log) t.entries d
+
   module _ (fs : List Function) where
     -- ---- expressions
 
@@ -120,6 +130,12 @@ module _ (Name : List ℕ → Type 0) where
       plain_in (tree.print rest) id line es f h d = exprs_in rest h line es d
       plain_in (tree.read rest) id line es f h d = exprs_in rest h line es d
 
+      -- the left side and the function of an assignment of the value of a function
+      head_in : (arms : ArmTrees) (other : ElseTree) (id : ℕ) (label : Option ℕ) → AreNaming (cards_by id label (tree.block_if arms other)) → (line : ℕ) (es : List EntryTree) → AreTold es → AreTold (head_seen fs (head_of (form_of_if arms other)) line es)
+      head_in arms other id label h line es d =
+          head_parts (Held AnyLabel IsNaming) (λ o. AreTold (head_seen fs o line es)) d
+          (λ n i f x zero left a b. name_in f line (expr_seen fs left line es) a.1.1.first (expr_in left (apart (expr_names left) (expr_names (tree.name x)) b.1.1).0 line es d)) arms other id label h
+
       mutual
         list_in : (n : ℕ) (t : StmtTrees) → AreNumbered n t → AreNaming (cards_in t) → (line : ℕ) (es : List EntryTree) → AreTold es → AreTold (stmts_seen fs at t line es)
         list_in n tree.no_stmts a h line es d = d
@@ -133,8 +149,9 @@ module _ (Name : List ℕ → Type 0) where
         what_in : (n : ℕ) (w : WhatTree) (id : ℕ) (label : Option ℕ) → NumberedBelow n w → AreNaming (cards_by id label w) → (line : ℕ) (es : List EntryTree) → AreTold es → AreTold (what_seen fs at w id line es)
         what_in n (tree.assign u b) id label a h line es d = plain_in (tree.assign u b) id line es h.first.1.0 h.first.1.1 d
         what_in n (tree.block_if arms other) id label a h line es d =
-            let r = block_in n arms id label (else_cards id other ++ card (parts.Close id) None end_if ∷ []) a.parts h line es d in
-            else_in (last_arms n arms) other id a.last (split (else_cards id other) (card (parts.Close id) None end_if ∷ []) r.1).0 line (arms_seen fs at arms id 0 line es) r.0
+            let heads = head_seen fs (head_of (form_of_if arms other)) line es in
+            let r = block_in n arms id label (else_cards id other ++ card (parts.Close id) None end_if ∷ []) a.parts h line heads (head_in arms other id label h line es d) in
+            else_in (last_arms n arms) other id a.last (split (else_cards id other) (card (parts.Close id) None end_if ∷ []) r.1).0 line (arms_seen fs at arms id 0 line heads) r.0
         what_in n (tree.logical_if e (tree.stmt inner own w)) id label a h line es d =
             let r = apart (expr_names e) (what_names w) h.first.1.1 in
             plain_in w inner (line_or at (Statement inner) line) (expr_seen fs e line es) h.first.1.0.inner r.1 (expr_in e r.0 line es d)
@@ -293,11 +310,12 @@ module _ (Name : List ℕ → Type 0) where
       let at = lines_in p in
       let fs = arrays_named m.decls in
       let t = dummies_told m.dummies 1 (line_or at Title 0) no_names in
+      let u = title_told at m in
       let all = (split (title_cards m ++ decl_cards 0 m.decls ++ cards_in m.body) (card parts.End None end_module ∷ []) c).0 in
       let r = split (title_cards m ++ decl_cards 0 m.decls) (cards_in m.body) all in
       let q = split (title_cards m) (decl_cards 0 m.decls) r.0 in
-      list_in fs at 0 m.body b.well.body r.1 0 (decls_told fs at m.decls 0 t).entries
-      (decls_in fs at m.decls 0 0 t q.1 (dummies_in m.dummies 1 (line_or at Title 0) no_names (dummies_known m.main m.titled m.name m.dummies b.well.title q.0) tt))
+      list_in fs at 0 m.body b.well.body r.1 0 (decls_told fs at m.decls 0 u).entries
+      (decls_in fs at m.decls 0 0 u q.1 (form_in m.function m.name (line_or at Title 0) t (dummies_in m.dummies 1 (line_or at Title 0) no_names (dummies_known m.main m.titled m.name m.dummies b.well.title q.0) tt)))
 
   pub symbols_in : (p : ParsedTree) (ss : List SymbolTree) → IsBuilt p → AreNaming (statements_of p.module_read) → symbols_of p ≡ Ok ss → Each Name (symbol_names ss)
   symbols_in p ss b c e = subst Names (sym (names_of_symbols p ss e)) (table_in p b c)

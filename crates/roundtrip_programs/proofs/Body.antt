@@ -4,6 +4,7 @@ use Rattle.std.specs.Prelude.{if◌then◌else◌, ◌||◌, not}
 use Rattle.f77_ast.specs.declared.places.Part.TheVariants as parts
 use Rattle.f77_ast.specs.Trees.{ExprTree, ExprTrees, StmtTree, WhatTree, ArmTree, ArmTrees, ElseTree, LoopTree, StmtTrees}
 use Rattle.f77_ast.specs.Trees as tree
+use Rattle.f77_ast.specs.Hidden.{form_of_if}
 use Rattle.f77_ast.specs.DeclTrees.{DeclTree, ModuleTree}
 use Rattle.f77_statements.specs.Phrases.{program, subroutine, end_if, end_do, end_module}
 use Rattle.f77_names.specs.declared.functions.Function.{Function}
@@ -11,14 +12,15 @@ use Rattle.f77_names.specs.declared.lines.Sited.TheVariants.{Title, Decl, Statem
 use Rattle.f77_names.specs.Lines.{LineTable, line_or}
 use Rattle.f77_names.specs.Functions.{arrays_named}
 use Rattle.f77_names.specs.Entries.{EntryTree}
-use Rattle.f77_names.specs.Appearing.{name_seen, expr_seen, exprs_seen, maybe_seen, stmt_seen, what_seen, arms_seen, else_seen, stmts_seen}
+use Rattle.f77_names.specs.Appearing.{name_seen, expr_seen, exprs_seen, maybe_seen, head_of, head_seen, stmt_seen, what_seen, arms_seen, else_seen, stmts_seen}
 use Rattle.f77_names.specs.Declaring.{Told, dummies_told, decl_told, decls_told}
-use Rattle.f77_names.specs.Tables.{no_names, table_of}
+use Rattle.f77_names.specs.Tables.{no_names, title_told, table_of}
 use Rattle.roundtrip_programs.specs.Statements.Formed.{IsName, Each}
 use Rattle.roundtrip_programs.specs.Statements.Phrased.{AllVariables, IsWhat, IsPhrase}
 use Rattle.roundtrip_programs.specs.ModuleTexts.Cards.{Card, card, cards_of, cards_by, part_cards, else_cards, cards_in, title_cards, decl_cards, statements_of}
 use Rattle.roundtrip_programs.specs.ModuleTexts.Numbered.{last_of, last_in, last_arms, IsNumbered, NumberedBelow, NumberedArms, NumberedElse, AreNumbered, TitleFits, IsWell}
-use Rattle.roundtrip_programs.proofs.Named.{AreNamed, name_named, all_named, expr_named, maybe_named, variable_named, dummies_named, decl_named}
+use Rattle.roundtrip_programs.proofs.Heads.{head_parts}
+use Rattle.roundtrip_programs.proofs.Named.{AreNamed, name_named, all_named, expr_named, maybe_named, variable_named, dummies_named, form_named, decl_named}
 
 abbrev pub AreCards : List Card → Type 0
 AreCards cs = Each (λ (c : Card). IsPhrase c.phrase) cs
@@ -56,6 +58,13 @@ module _ (P : List ℕ → Type 0) (named : (x : List ℕ) → IsName x → P x)
   simple_named fs at (tree.print rest) id line es k h = all_named P named fs line k es h
   simple_named fs at (tree.read rest) id line es k h = variables_named fs rest line es k h
 
+  -- the left side and the function of an assignment of the value of a function
+  head_named : (fs : List Function) (arms : ArmTrees) (other : ElseTree) (id : ℕ) (label : Option ℕ) (line : ℕ) (es : List EntryTree) → AreCards (cards_by id label (tree.block_if arms other)) → AreNamed P es
+      → AreNamed P (head_seen fs (head_of (form_of_if arms other)) line es)
+  head_named fs arms other id label line es k h =
+      head_parts (λ (c : Card). IsPhrase c.phrase) (λ o. AreNamed P (head_seen fs o line es)) h
+      (λ n i f x zero left a b. name_named P named fs f line (expr_seen fs left line es) a.left (variable_named P named fs left line es b.left h)) arms other id label k
+
   mutual
     stmt_named : (fs : List Function) (at : LineTable) (n : ℕ) (s : StmtTree) (line : ℕ) (es : List EntryTree) → IsNumbered n s → AreCards (cards_of s) → AreNamed P es → AreNamed P (stmt_seen fs at s line es)
     stmt_named fs at n (tree.stmt id label w) line es b k h = what_named fs at (n + 1) w id label (line_or at (Statement id) line) es b.below k h
@@ -68,10 +77,13 @@ module _ (P : List ℕ → Type 0) (named : (x : List ℕ) → IsName x → P x)
         let end = else_cards id other ++ card (parts.Close id) None end_if ∷ [] in
         let parts_behind = part_cards id 1 others end in
         let inner = line_or at (ElseIf id 0) line in
-        let first = stmts_named fs at n body inner (expr_seen fs test inner es) b.parts.below (left_of (cards_in body) parts_behind k.others) (expr_named P named fs test inner es k.first h) in
+        let all = tree.more_arms (tree.arm test body) others in
+        let ds = expr_seen fs test inner (head_seen fs (head_of (form_of_if all other)) line es) in
+        let tested = expr_named P named fs test inner (head_seen fs (head_of (form_of_if all other)) line es) k.first (head_named fs all other id label line es k h) in
+        let first = stmts_named fs at n body inner ds b.parts.below (left_of (cards_in body) parts_behind k.others) tested in
         let behind = right_of (cards_in body) parts_behind k.others in
-        let after = arms_named fs at (last_in n body) others id 1 1 line (stmts_seen fs at body inner (expr_seen fs test inner es)) end b.parts.parts behind first in
-        else_named fs at (last_arms (last_in n body) others) other id line (arms_seen fs at others id 1 line (stmts_seen fs at body inner (expr_seen fs test inner es))) b.last
+        let after = arms_named fs at (last_in n body) others id 1 1 line (stmts_seen fs at body inner ds) end b.parts.parts behind first in
+        else_named fs at (last_arms (last_in n body) others) other id line (arms_seen fs at others id 1 line (stmts_seen fs at body inner ds)) b.last
         (left_of (else_cards id other) (card (parts.Close id) None end_if ∷ []) (part_end id 1 others end behind)) after
     what_named fs at n (tree.logical_if e (tree.stmt inner own w)) id label line es b k h =
         simple_named fs at w inner (line_or at (Statement inner) line) (expr_seen fs e line es) k.first.inner (expr_named P named fs e line es k.first.test h)
@@ -133,6 +145,6 @@ module _ (P : List ℕ → Type 0) (named : (x : List ℕ) → IsName x → P x)
       let heads = left_of (title_cards m ++ decl_cards 0 m.decls) (cards_in m.body) all in
       let dummies = dummies_are_names m.main m.titled m.name m.dummies w.title (left_of (title_cards m) (decl_cards 0 m.decls) heads) in
       let line = line_or at Title 0 in
-      let first = dummies_named P named m.dummies 1 line no_names dummies tt in
-      let told = decls_named fs at m.decls 0 0 (dummies_told m.dummies 1 line no_names) (right_of (title_cards m) (decl_cards 0 m.decls) heads) first in
-      stmts_named fs at 0 m.body 0 (decls_told fs at m.decls 0 (dummies_told m.dummies 1 line no_names)).entries w.body (right_of (title_cards m ++ decl_cards 0 m.decls) (cards_in m.body) all) told
+      let first = form_named P named m.function m.name line (dummies_told m.dummies 1 line no_names) (dummies_named P named m.dummies 1 line no_names dummies tt) in
+      let told = decls_named fs at m.decls 0 0 (title_told at m) (right_of (title_cards m) (decl_cards 0 m.decls) heads) first in
+      stmts_named fs at 0 m.body 0 (decls_told fs at m.decls 0 (title_told at m)).entries w.body (right_of (title_cards m ++ decl_cards 0 m.decls) (cards_in m.body) all) told

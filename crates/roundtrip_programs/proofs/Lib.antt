@@ -15,6 +15,7 @@ mod Tables
 pub mod Graphs
 pub mod Shown
 pub mod Names
+pub mod Heads
 pub mod Named
 pub mod Body
 pub mod Listed

@@ -5,6 +5,8 @@ use Rattle.f77_ast.specs.declared.decl.Scalar.{Scalar}
 use Rattle.f77_ast.specs.declared.decl.Scalar.TheVariants.{Int, Log}
 use Rattle.f77_ast.specs.declared.decl.SaveItem.{SaveItem}
 use Rattle.f77_ast.specs.declared.decl.SaveItem.TheVariants as item
+use Rattle.f77_ast.specs.declared.module.FunctionForm.{FunctionForm}
+use Rattle.f77_ast.specs.declared.module.FunctionForm.TheVariants.{Plain, Integer, Logical}
 use Rattle.f77_ast.specs.Trees.{ExprTree, ExprTrees, StmtTree, WhatTree, ArmTree, ArmTrees, ElseTree, LoopTree, StmtTrees}
 use Rattle.f77_ast.specs.Trees as tree
 use Rattle.f77_ast.specs.DeclTrees.{ExtentTree, EntityTree, SettingTree, CommonTree, DataTree, DeclTree}
@@ -13,7 +15,7 @@ use Rattle.f77_names.specs.declared.functions.Function.{Function}
 use Rattle.f77_names.specs.Functions.{function_of}
 use Rattle.f77_names.specs.Entries.{EntryTree, fresh, find, seen, changed, with_dummy, with_type, with_shape, with_common, as_parameter, as_saved, as_initial}
 use Rattle.f77_names.specs.Appearing.{unless_function, name_seen, expr_seen, exprs_seen, maybe_seen}
-use Rattle.f77_names.specs.Declaring.{Told, typed, shaped, bound_of, in_common, dummy_told, dummies_told, extents_seen, entity_seen, typed_entity, typed_entities, shaped_entities, members_told, blocks_told, setting_told, settings_told, mention_told, item_told, items_told, groups_told, targets_told, save_told, saves_told, decl_told}
+use Rattle.f77_names.specs.Declaring.{Told, typed, shaped, bound_of, in_common, dummy_told, dummies_told, form_told, extents_seen, entity_seen, typed_entity, typed_entities, shaped_entities, members_told, blocks_told, setting_told, settings_told, mention_told, item_told, items_told, groups_told, targets_told, save_told, saves_told, decl_told}
 use Rattle.roundtrip_programs.specs.Statements.Formed.{IsName, Each, Filled, Formed, AllFormed, IsExpression, IsVariable, Rank, number, logical, constant, scalar, indexed, enclosed, operand, raised, factor, multiplied, term, signed, added, arithmetic, compared, asserted, denied, conjunct, both, disjunct, either, side, equated, none, more}
 use Rattle.roundtrip_programs.specs.Statements.Declared.{MaybeExpression, IsExtent, IsEntity, IsArray, IsSetting, IsCommon, IsGroup, IsSaved, IsInitial, AreTyped, IsDecl}
 use Rattle.roundtrip_programs.proofs.Statements.DeclBack.{each_of as filled_each}
@@ -126,6 +128,12 @@ module _ (P : List ℕ → Type 0) (named : (x : List ℕ) → IsName x → P x)
   dummies_named (x ∷ xs) n line t k h =
       dummies_named xs (suc n) line (dummy_told x n line t) k.others
       (changed_named x (with_dummy n) (seen x line t.entries) (λ e. refl) (seen_named x line t.entries k.first h))
+
+  pub form_named : (o : Option FunctionForm) (x : List ℕ) (line : ℕ) (t : Told) → AreNamed P t.entries → AreNamed P (form_told o x line t).entries
+  form_named None x line t h = h
+  form_named (Some Plain) x line t h = h
+  form_named (Some Integer) x line t h = changed_named x (with_type Int) t.entries (λ e. refl) h
+  form_named (Some Logical) x line t h = changed_named x (with_type Log) t.entries (λ e. refl) h
 
   extents_named : (fs : List Function) (xs : List ExtentTree) (line : ℕ) (es : List EntryTree) → Each IsExtent xs → AreNamed P es → AreNamed P (extents_seen fs xs line es)
   extents_named fs [] line es k h = h

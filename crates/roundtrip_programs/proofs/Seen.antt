@@ -2,12 +2,13 @@
 use Rattle.std.proofs.Common.{ℕ, suc, List, Option, Some, None}
 use Rattle.f77_ast.specs.Trees.{ExprTree, ExprTrees, StmtTree, WhatTree, ArmTree, ArmTrees, ElseTree, LoopTree, StmtTrees}
 use Rattle.f77_ast.specs.Trees as tree
+use Rattle.f77_ast.specs.Hidden.{form_of_if}
 use Rattle.f77_names.specs.declared.lines.Sited.TheVariants.{Statement, ElseIf}
 use Rattle.f77_names.specs.declared.functions.Function.{Function}
 use Rattle.f77_names.specs.Lines.{LineTable, line_or}
 use Rattle.f77_names.specs.Functions.{function_of}
 use Rattle.f77_names.specs.Entries.{EntryTree}
-use Rattle.f77_names.specs.Appearing.{unless_function, name_seen, expr_seen, exprs_seen, maybe_seen, stmt_seen, what_seen, arm_seen, arms_seen, else_seen, loop_seen, stmts_seen}
+use Rattle.f77_names.specs.Appearing.{unless_function, name_seen, expr_seen, exprs_seen, maybe_seen, head_of, head_seen, stmt_seen, what_seen, arm_seen, arms_seen, else_seen, loop_seen, stmts_seen}
 use Rattle.roundtrip_programs.proofs.Bare.{no_lines, Bare, seen_same}
 
 unless_same : (f : Option Function) (x : List ℕ) (line : ℕ) {es ds : List EntryTree} → Bare es ds → Bare (unless_function f x line es) (unless_function f x 0 ds)
@@ -36,13 +37,17 @@ pub maybe_same : (fs : List Function) (e : Option ExprTree) (line : ℕ) {es ds 
 maybe_same fs None line h = h
 maybe_same fs (Some e) line h = expr_same fs e line h
 
+head_same : (fs : List Function) (o : Option (ExprTree × List ℕ)) (line : ℕ) {es ds : List EntryTree} → Bare es ds → Bare (head_seen fs o line es) (head_seen fs o 0 ds)
+head_same fs None line h = h
+head_same fs (Some p) line h = name_same fs p.1 line (expr_same fs p.0 line h)
+
 mutual
   stmt_same : (fs : List Function) (at : LineTable) (s : StmtTree) (line : ℕ) {es ds : List EntryTree} → Bare es ds → Bare (stmt_seen fs at s line es) (stmt_seen fs no_lines s 0 ds)
   stmt_same fs at (tree.stmt id label what) line h = what_same fs at what id (line_or at (Statement id) line) h
 
   what_same : (fs : List Function) (at : LineTable) (w : WhatTree) (id line : ℕ) {es ds : List EntryTree} → Bare es ds → Bare (what_seen fs at w id line es) (what_seen fs no_lines w id 0 ds)
   what_same fs at (tree.assign left right) id line h = expr_same fs right line (expr_same fs left line h)
-  what_same fs at (tree.block_if arms other) id line h = else_same fs at other line (arms_same fs at arms id 0 line h)
+  what_same fs at (tree.block_if arms other) id line h = else_same fs at other line (arms_same fs at arms id 0 line (head_same fs (head_of (form_of_if arms other)) line h))
   what_same fs at (tree.logical_if e s) id line h = stmt_same fs at s line (expr_same fs e line h)
   what_same fs at (tree.do_loop l) id line h = loop_same fs at l line h
   what_same fs at (tree.call x rest) id line h = exprs_same fs rest line h

@@ -4,6 +4,8 @@ use Rattle.f77_ast.specs.declared.decl.Scalar.{Scalar}
 use Rattle.f77_ast.specs.declared.decl.Scalar.TheVariants.{Int, Log}
 use Rattle.f77_ast.specs.declared.decl.SaveItem.{SaveItem}
 use Rattle.f77_ast.specs.declared.decl.SaveItem.TheVariants as item
+use Rattle.f77_ast.specs.declared.module.FunctionForm.{FunctionForm}
+use Rattle.f77_ast.specs.declared.module.FunctionForm.TheVariants.{Plain, Integer, Logical}
 use Rattle.f77_ast.specs.Trees.{ExprTree}
 use Rattle.f77_ast.specs.Trees as tree
 use Rattle.f77_ast.specs.DeclTrees.{ExtentTree, EntityTree, SettingTree, CommonTree, DataTree, DeclTree, ModuleTree}
@@ -17,7 +19,7 @@ use Rattle.f77_names.specs.Lines.{LineTable, line_or}
 use Rattle.f77_names.specs.Kinds.{kinds_of}
 use Rattle.f77_names.specs.Functions.{arrays_named}
 use Rattle.f77_names.specs.Entries.{ShapeTree, EntryTree, seen, or_this, with_dummy, with_type, with_shape, with_common, as_parameter, as_saved, as_initial, has_dummy, has_type, has_shape, has_common}
-use Rattle.f77_names.specs.Declaring.{Told, typed, shaped, bound_of, in_common, dummy_told, dummies_told, extents_seen, entity_seen, typed_entities, shaped_entities, members_told, blocks_told, setting_told, settings_told, mention_told, item_told, items_told, groups_told, targets_told, save_told, saves_told, decl_told, decls_told}
+use Rattle.f77_names.specs.Declaring.{Told, typed, shaped, bound_of, in_common, dummy_told, dummies_told, form_told, extents_seen, entity_seen, typed_entities, shaped_entities, members_told, blocks_told, setting_told, settings_told, mention_told, item_told, items_told, groups_told, targets_told, save_told, saves_told, decl_told, decls_told}
 use Rattle.f77_names.specs.Tables.{entry_kind, no_names, told_of, in_common_too, check_entry, check_entries, table_of, check_names}
 use Rattle.roundtrip_programs.proofs.Found.{SameFound, noted_same}
 use Rattle.roundtrip_programs.proofs.Bare.{no_lines, bare, bares, bare_shape, bare_line, bare_table, Bare, of_bare, dummy_bare, type_bare, shape_bare, common_bare, seen_same, changed_same}
@@ -74,6 +76,12 @@ dummy_same x n line {t} {u} h =
 dummies_same : (xs : List (List ℕ)) (n line : ℕ) {t u : Told} → SameTold t u → SameTold (dummies_told xs n line t) (dummies_told xs n 0 u)
 dummies_same [] n line h = h
 dummies_same (x ∷ xs) n line h = dummies_same xs (suc n) line (dummy_same x n line h)
+
+form_same : (o : Option FunctionForm) (x : List ℕ) (line : ℕ) {t u : Told} → SameTold t u → SameTold (form_told o x line t) (form_told o x 0 u)
+form_same None x line h = h
+form_same (Some Plain) x line h = h
+form_same (Some Integer) x line h = typed_same x Int line h
+form_same (Some Logical) x line h = typed_same x Log line h
 
 -- ---- entities
 
@@ -169,7 +177,7 @@ decls_same fs at (d ∷ ds) n h = decls_same fs at ds (suc n) (decl_same fs d (l
 told_same : (fs : List Function) (at : LineTable) (m : ModuleTree) → SameTold (told_of fs at m) (told_of fs no_lines m)
 told_same fs at m =
     let none : SameTold no_names no_names = record { entries = record { is = refl }; found = record { same = refl } } in
-    let t = decls_same fs at m.decls 0 (dummies_same m.dummies 1 (line_or at Title 0) none) in
+    let t = decls_same fs at m.decls 0 (form_same m.function m.name (line_or at Title 0) (dummies_same m.dummies 1 (line_or at Title 0) none)) in
     record { entries = stmts_same fs at m.body 0 t.entries; found = t.found }
 
 pub names_same : (at : LineTable) (m : ModuleTree) → bare_table (table_of at m) ≡ table_of no_lines m

@@ -41,7 +41,7 @@ abbrev pub refusal_for : Fault → Refusal
 refusal_for fault.NoMain = record { line = 1; code = NoMain }
 refusal_for (fault.At place line cause) = record { line = line; code = cause }
 
--- more than 64 modules, a name twice, or two main programs; a text need not have a main program, nor the modules that it calls
+-- more than 256 modules, a name twice, or two main programs; a text need not have a main program, nor the modules that it calls
 abbrev pub source_refusal : List ParsedTree → Option Refusal
 source_refusal ms = option_map refusal_for (or_fault (too_many ms) (or_fault (name_twice ms) (main_twice ms)))
 

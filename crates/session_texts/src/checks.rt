@@ -83,7 +83,7 @@ fn main_twice(modules: &ModuleTrees) -> Option<Refusal>
     None
 }
 
-/// What is wrong with the modules of one text before they are linked: more than 64, a name twice, two main programs, in this order.
+/// What is wrong with the modules of one text before they are linked: more than 256, a name twice, two main programs, in this order.
 pub(crate) fn source_refusal(
     alloc: Global,
     modules: &ModuleTrees,

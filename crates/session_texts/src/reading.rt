@@ -87,7 +87,7 @@ fn sources_with(
 
 /// The modules of a source text of at most 16,777,216 bytes, in its order, each with its text: what follows the END before it up to its own END, the last up
 /// to the end of the text. A text without statements has none. Err is the first refusal: codes 1 to 41 as `pips` reads a text, pass by pass, then more than
-/// 64 modules, a name twice, a second main program (57, 52, 51), each at the first line of its module in this text. Takes time in proportion to the text.
+/// 256 modules, a name twice, a second main program (57, 52, 51), each at the first line of its module in this text. Takes time in proportion to the text.
 #[tactic(auto, using(crate::proofs::Sizes::long_texts), unfolding(crate::specs::Sources::source_modules))]
 pub fn sources_of(alloc: Global, text: &Text) -> Result<List<Source>, ParseRefusal>
     requires fits { length text.now ≤ 16777216 }

@@ -20,13 +20,13 @@ use Rattle.f77_names.specs.Lines.{LineTable, line_or}
 use Rattle.f77_names.specs.Functions.{arrays_named}
 use Rattle.f77_names.specs.Entries.{EntryTree, fresh, find, seen, changed, with_dummy, with_value, value_among}
 use Rattle.f77_names.specs.Declaring.{Told, dummy_told, dummies_told, decls_told}
-use Rattle.f77_names.specs.Tables.{no_names, table_of, check_names, kind_in}
+use Rattle.f77_names.specs.Tables.{no_names, title_told, table_of, check_names, kind_in}
 use Rattle.f77_checks.specs.Parameters.{Valued, given_typed, given_const_value, setting_valued, settings_valued, decl_valued, decls_valued}
 use Rattle.storage_layout.specs.Symbols.{valued, symbols_of}
 use Rattle.storage_layout.specs.Table.{Layout, symbol_of, symbols_from}
 use Rattle.f77_meaning.specs.Modules.{symbol_names}
 use Rattle.laws_programs.proofs.SymbolTables.Answers.{answered_by, lines_in, names_in, layout_in}
-use Rattle.laws_programs.proofs.SymbolTables.KeptNames.{Said, with_said, decls_keep, stmts_keep, Typed, Shaped, Shared, Parameter, Saved, Initial, Nothing}
+use Rattle.laws_programs.proofs.SymbolTables.KeptNames.{Said, with_said, form_keeps, decls_keep, stmts_keep, Typed, Shaped, Shared, Parameter, Saved, Initial, Nothing}
 use Rattle.laws_programs.proofs.SymbolTables.Values.{chosen, as_chosen, is_taken, judged}
 use Rattle.laws_analyses.proofs.Calls.TableLaws.{numbered_at}
 use Rattle.laws_programs.proofs.Storage.ParameterLaws.{same_name}
@@ -94,7 +94,9 @@ table_alone : (at : LineTable) (m : ModuleTree) → Alone (table_of at m).entrie
 table_alone at m =
     let fs = arrays_named m.decls in
     let t = dummies_told m.dummies 1 (line_or at Title 0) no_names in
-    stmts_keep Alone seen_alone said_alone fs at m.body 0 (decls_told fs at m.decls 0 t).entries (decls_keep Alone seen_alone said_alone fs at m.decls 0 t (dummies_alone m.dummies 1 (line_or at Title 0) no_names tt))
+    let u = title_told at m in
+    stmts_keep Alone seen_alone said_alone fs at m.body 0 (decls_told fs at m.decls 0 u).entries
+    (decls_keep Alone seen_alone said_alone fs at m.decls 0 u (form_keeps Alone seen_alone said_alone fs m.function m.name (line_or at Title 0) t (dummies_alone m.dummies 1 (line_or at Title 0) no_names tt)))
 
 -- ---- with the values that PARAMETER gives
 

@@ -5,6 +5,7 @@ use Rattle.std.proofs.lemmas.Bool.{or_from}
 use Rattle.std.proofs.lemmas.Slice.Eq.{bytes_eq-Decides}
 use Rattle.f77_ast.specs.Trees.{ExprTree, StmtTree, WhatTree, ArmTree, ArmTrees, ElseTree, LoopTree, StmtTrees}
 use Rattle.f77_ast.specs.Trees as tree
+use Rattle.f77_ast.specs.Hidden.{form_of_if}
 use Rattle.f77_ast.specs.DeclTrees.{SettingTree, DeclTree, ParsedTree}
 use Rattle.f77_ast.specs.DeclTrees as decl
 use Rattle.f77_ast.specs.declared.constant.Constant.{Constant}
@@ -16,13 +17,13 @@ use Rattle.f77_ast.specs.Symbols.{SymbolTree, number_from}
 use Rattle.f77_names.specs.declared.functions.Function.{Function}
 use Rattle.f77_names.specs.declared.kinds.Kind.{Kind}
 use Rattle.f77_names.specs.declared.kinds.Kind.TheVariants.{Int, Log, Real}
-use Rattle.f77_names.specs.declared.lines.Sited.TheVariants.{Decl, Statement, ElseIf, Title}
+use Rattle.f77_names.specs.declared.lines.Sited.TheVariants.{Decl, Statement, ElseIf}
 use Rattle.f77_names.specs.Lines.{LineTable, line_or}
 use Rattle.f77_names.specs.Functions.{arrays_named, function_of}
 use Rattle.f77_names.specs.Entries.{EntryTree, fresh, find, entry_names, seen, changed, value_among}
-use Rattle.f77_names.specs.Appearing.{unless_function, name_seen, expr_seen, maybe_seen, stmt_seen, what_seen, arm_seen, arms_seen, else_seen, loop_seen, stmts_seen}
-use Rattle.f77_names.specs.Declaring.{dummies_told, decls_told}
-use Rattle.f77_names.specs.Tables.{NameTable, no_names, kind_in, table_of, check_names}
+use Rattle.f77_names.specs.Appearing.{unless_function, name_seen, expr_seen, maybe_seen, head_of, head_seen, stmt_seen, what_seen, arm_seen, arms_seen, else_seen, loop_seen, stmts_seen}
+use Rattle.f77_names.specs.Declaring.{decls_told}
+use Rattle.f77_names.specs.Tables.{NameTable, title_told, kind_in, table_of, check_names}
 use Rattle.f77_checks.specs.Dimensions.{check_shapes}
 use Rattle.f77_checks.specs.Expressions.{wants_int, check_int, check_log}
 use Rattle.f77_checks.specs.Parameters.{Valued, given_typed, given_const_value, setting_valued, settings_valued, decl_valued, decls_valued}
@@ -140,9 +141,10 @@ module _ (t : NameTable) (fs : List Function) (same : t.arrays ≡ fs) (at : Lin
     what_counts : (w : WhatTree) (id line r : ℕ) (o : Option Refusal) → check_what t at w id line o ≡ None → (es : List EntryTree) → Among (what_seen fs at w id r es) → (such w || parts_have such w) ≡ false
     what_counts (tree.assign a b) id line r o e es k = refl
     what_counts (tree.block_if arms other) id line r o e es k =
-        let ds = arms_seen fs at arms id 0 r es in
+        let heads = head_seen fs (head_of (form_of_if arms other)) r es in
+        let ds = arms_seen fs at arms id 0 r heads in
         or_from (arms_have such arms) (else_has such other)
-        (arms_count arms id 0 0 line r o (else_back t at other line (check_arms t at arms id 0 line o) e) es (λ x h. k x (else_told x other r ds h)))
+        (arms_count arms id 0 0 line r o (else_back t at other line (check_arms t at arms id 0 line o) e) heads (λ x h. k x (else_told x other r ds h)))
         (else_counts other line r (check_arms t at arms id 0 line o) e ds k)
     what_counts (tree.logical_if test s) id line r o e es k = stmt_counts s line r (check_log t test line o) e (expr_seen fs test r es) k
     what_counts (tree.do_loop l) id line r o e es k = loop_counts l line r o e es k
@@ -251,7 +253,7 @@ body_counts p ss a =
     let m = p.module_read in
     let v = valued at m in
     let fs = arrays_named m.decls in
-    let told = decls_told fs at m.decls 0 (dummies_told m.dummies 1 (line_or at Title 0) no_names) in
+    let told = decls_told fs at m.decls 0 (title_told at m) in
     stmts_count v.table fs (module_arrays p) at (table_of at m).entries m.body 0 0 (check_shapes v.table v.table.entries v.found) (found_none p ss a) told.entries (λ x h. h)
 
 pub indexes_are_symbols : IndexesAreSymbols

@@ -11,14 +11,12 @@ use Rattle.f77_ast.specs.Units.{units_in}
 use Rattle.fx_lists.specs.declared.code.Code.TheVariants.{RealName, CommonTwice, BadDimension}
 use Rattle.fx_lists.specs.declared.refusal.Refusal.{Refusal}
 use Rattle.f77_names.specs.declared.kinds.Kind.{Kind}
-use Rattle.f77_names.specs.declared.lines.Sited.TheVariants.{Title}
 use Rattle.fx_lists.specs.Refusals.{refuse_if}
-use Rattle.f77_names.specs.Lines.{line_or}
 use Rattle.f77_names.specs.Kinds.{kinds_of}
 use Rattle.f77_names.specs.Functions.{arrays_named}
 use Rattle.f77_names.specs.Entries.{EntryTree, find, place_in, of_entry, changed, with_value}
-use Rattle.f77_names.specs.Declaring.{Told, dummies_told, decls_told}
-use Rattle.f77_names.specs.Tables.{NameTable, entry_kind, is_real, no_names, told_of, in_common_too, check_entry, check_entries, table_of, check_names}
+use Rattle.f77_names.specs.Declaring.{Told, decls_told}
+use Rattle.f77_names.specs.Tables.{NameTable, entry_kind, is_real, title_told, told_of, in_common_too, check_entry, check_entries, table_of, check_names}
 use Rattle.f77_checks.specs.Dimensions.{is_bad_shape, check_bounds, check_shape, check_shapes}
 use Rattle.storage_data.specs.declared.offset_node.Home.TheVariants.{Block}
 use Rattle.storage_data.specs.Units.{place_of, units_by, units_of_entry, units_of}
@@ -154,7 +152,7 @@ block_named names b n h = let same : n - 0 ≡ n = omega arith in ap (slice_get 
 -- ---- a module
 
 abbrev pub told_in : ParsedTree → Told
-told_in p = decls_told (arrays_named p.module_read.decls) (lines_in p) p.module_read.decls 0 (dummies_told p.module_read.dummies 1 (line_or (lines_in p) Title 0) no_names)
+told_in p = decls_told (arrays_named p.module_read.decls) (lines_in p) p.module_read.decls 0 (title_told (lines_in p) p.module_read)
 
 told_quiet : (p : ParsedTree) → check_names (lines_in p) p.module_read ≡ None → (told_in p).found ≡ None
 told_quiet p e =
@@ -191,7 +189,7 @@ shapes_at p e =
 
 -- the names as they are told, before COMMON is looked at
 abbrev first_told : ParsedTree → Told
-first_told p = dummies_told p.module_read.dummies 1 (line_or (lines_in p) Title 0) no_names
+first_told p = title_told (lines_in p) p.module_read
 
 -- no member of COMMON is there twice
 pub distinct_members : (p : ParsedTree) → check_names (lines_in p) p.module_read ≡ None → AreDistinct (names_in p) (common_names p.module_read.decls)

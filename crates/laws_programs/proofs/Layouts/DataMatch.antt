@@ -9,12 +9,9 @@ use Rattle.f77_ast.specs.DeclTrees.{DataTree, ParsedTree}
 use Rattle.f77_ast.specs.Places.{Dim}
 use Rattle.f77_ast.specs.Symbols.{SymbolTree}
 use Rattle.f77_ast.specs.Units.{units_in}
-use Rattle.f77_names.specs.declared.lines.Sited.TheVariants.{Title}
-use Rattle.f77_names.specs.Lines.{line_or}
 use Rattle.f77_names.specs.Functions.{arrays_named}
 use Rattle.f77_names.specs.Entries.{EntryTree, find, with_value}
-use Rattle.f77_names.specs.Declaring.{dummies_told}
-use Rattle.f77_names.specs.Tables.{no_names, table_of, check_names}
+use Rattle.f77_names.specs.Tables.{title_told, table_of, check_names}
 use Rattle.f77_checks.specs.Dimensions.{dims_in}
 use Rattle.storage_data.specs.declared.targets.Target.TheVariants.{Excluded, Open}
 use Rattle.storage_data.specs.Units.{place_of, units_by, units_of_entry, units_of}
@@ -141,7 +138,7 @@ module _ (p : ParsedTree) (ss : List SymbolTree) (a : Answered p ss) (fit : Cons
   all_marked : ListsInData (data_lists p.module_read.decls) (names_in p).entries
   all_marked =
       let m = p.module_read in
-      lists_later (told_in p).entries (names_in p).entries (λ x h. kept_data p x h) (data_lists m.decls) (decls_marked (arrays_named m.decls) (lines_in p) m.decls 0 (dummies_told m.dummies 1 (line_or (lines_in p) Title 0) no_names))
+      lists_later (told_in p).entries (names_in p).entries (λ x h. kept_data p x h) (data_lists m.decls) (decls_marked (arrays_named m.decls) (lines_in p) m.decls 0 (title_told (lines_in p) m))
 
   lists_fill : (gs : List DataTree) → AllByRecursion (GivesAll (names_in p) (shared_in p).group.offset_nodes known_dims (filled_in p).pieces) gs → AllByRecursion (Shut (names_in p) (shared_in p).group.offset_nodes known_dims) gs → ListsInData gs (names_in p).entries → AllByRecursion (GivesItsValues ss) gs
   lists_fill [] h k d = tt

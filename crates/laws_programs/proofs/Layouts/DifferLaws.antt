@@ -10,9 +10,9 @@ use Rattle.f77_names.specs.Lines.{line_or}
 use Rattle.f77_names.specs.Functions.{arrays_named}
 use Rattle.f77_names.specs.Entries.{EntryTree, entry_names, fresh, find, seen, changed, with_dummy, with_value}
 use Rattle.f77_names.specs.Declaring.{Told, dummy_told, dummies_told, decls_told}
-use Rattle.f77_names.specs.Tables.{no_names, table_of, check_names}
+use Rattle.f77_names.specs.Tables.{no_names, title_told, table_of, check_names}
 use Rattle.storage_layout.specs.Symbols.{valued}
-use Rattle.laws_programs.proofs.SymbolTables.KeptNames.{Said, with_said, Typed, Shaped, Shared, Parameter, Saved, Initial, Nothing, decls_keep, stmts_keep}
+use Rattle.laws_programs.proofs.SymbolTables.KeptNames.{Said, with_said, Typed, Shaped, Shared, Parameter, Saved, Initial, Nothing, form_keeps, decls_keep, stmts_keep}
 use Rattle.laws_programs.proofs.SymbolTables.Answers.{lines_in, names_in}
 use Rattle.laws_programs.proofs.Layouts.ValueKeeps.{values_keep}
 use Rattle.laws_programs.proofs.Storage.ParameterLaws.{same_name}
@@ -107,5 +107,7 @@ names_differ p =
     let m = p.module_read in
     let fs = arrays_named m.decls in
     let t = dummies_told m.dummies 1 (line_or at Title 0) no_names in
+    let u = title_told at m in
     values_keep NamesDiffer (λ x c es h. changed_differ x (with_value c) (λ e. refl) es h) at m.decls 0 (record { table = table_of at m; found = check_names at m })
-    (stmts_keep NamesDiffer seen_differ said_differ fs at m.body 0 (decls_told fs at m.decls 0 t).entries (decls_keep NamesDiffer seen_differ said_differ fs at m.decls 0 t (dummies_differ m.dummies 1 (line_or at Title 0) no_names none_differ)))
+    (stmts_keep NamesDiffer seen_differ said_differ fs at m.body 0 (decls_told fs at m.decls 0 u).entries
+    (decls_keep NamesDiffer seen_differ said_differ fs at m.decls 0 u (form_keeps NamesDiffer seen_differ said_differ fs m.function m.name (line_or at Title 0) t (dummies_differ m.dummies 1 (line_or at Title 0) no_names none_differ))))

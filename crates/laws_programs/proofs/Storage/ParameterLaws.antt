@@ -12,13 +12,13 @@ use Rattle.f77_ast.specs.Constants.{const_value}
 use Rattle.f77_names.specs.declared.functions.Function.{Function}
 use Rattle.f77_names.specs.declared.kinds.Kind.{Kind}
 use Rattle.f77_names.specs.declared.kinds.Kind.TheVariants.{Int, Log, Real}
-use Rattle.f77_names.specs.declared.lines.Sited.TheVariants.{Decl, Title}
+use Rattle.f77_names.specs.declared.lines.Sited.TheVariants.{Decl}
 use Rattle.f77_names.specs.Lines.{LineTable, line_or}
 use Rattle.f77_names.specs.Functions.{arrays_named}
 use Rattle.f77_names.specs.Kinds.{kinds_of, kind_of_name}
 use Rattle.f77_names.specs.Entries.{EntryTree, fresh, find, seen, changed, of_entry, is_parameter, as_parameter, with_value, value_among}
-use Rattle.f77_names.specs.Declaring.{Told, dummies_told, setting_told, settings_told, decl_told, decls_told}
-use Rattle.f77_names.specs.Tables.{NameTable, entry_kind, kind_in, no_names, table_of, check_names}
+use Rattle.f77_names.specs.Declaring.{Told, setting_told, settings_told, decl_told, decls_told}
+use Rattle.f77_names.specs.Tables.{NameTable, entry_kind, kind_in, title_told, table_of, check_names}
 use Rattle.f77_checks.specs.Parameters.{Valued, given_typed, given_const_value, setting_valued, settings_valued, decl_valued, decls_valued}
 use Rattle.storage_layout.specs.Symbols.{valued}
 use Rattle.laws_programs.proofs.SymbolTables.KeptNames.{Said, with_said, Typed, Shaped, Shared, Parameter, Saved, Initial, Nothing, expr_keeps, settings_keep, decls_keep, stmts_keep}
@@ -174,7 +174,7 @@ module _ (fs : List Function) where
 table_named : (at : LineTable) (m : ModuleTree) → DeclsAre (λ x. Named x (table_of at m).entries) m.decls
 table_named at m =
     let fs = arrays_named m.decls in
-    let t = dummies_told m.dummies 1 (line_or at Title 0) no_names in
+    let t = title_told at m in
     let u = decls_told fs at m.decls 0 t in
     decls_more (λ x. Named x u.entries) (λ x. Named x (table_of at m).entries) (λ x h. stmts_keep (Named x) (seen_named x) (said_named x) fs at m.body 0 u.entries h) m.decls (decls_named fs at m.decls 0 t)
 

@@ -11,9 +11,9 @@ use Rattle.f77_names.specs.Functions.{arrays_named}
 use Rattle.f77_names.specs.Kinds.{kinds_of}
 use Rattle.f77_names.specs.Entries.{EntryTree, fresh, find, seen, changed, of_entry, has_dummy, with_dummy}
 use Rattle.f77_names.specs.Declaring.{Told, dummy_told, dummies_told, decls_told}
-use Rattle.f77_names.specs.Tables.{NameTable, no_names, told_of, table_of, check_names}
-use Rattle.laws_programs.proofs.SymbolTables.NameRefusals.{decls_back, dummies_back, entries_back}
-use Rattle.laws_programs.proofs.SymbolTables.KeptNames.{decls_keep, stmts_keep}
+use Rattle.f77_names.specs.Tables.{NameTable, no_names, title_told, told_of, table_of, check_names}
+use Rattle.laws_programs.proofs.SymbolTables.NameRefusals.{decls_back, dummies_back, form_back, entries_back}
+use Rattle.laws_programs.proofs.SymbolTables.KeptNames.{form_keeps, decls_keep, stmts_keep}
 use Rattle.laws_programs.proofs.SymbolTables.Marks.{Dummies, mark, marks, nones, dummy_marks, seen_dummies, said_dummies}
 use Rattle.fx_lists.proofs.Refused.{none_refused}
 
@@ -99,9 +99,11 @@ pub told_dummies : (fs : List Function) (at : LineTable) (m : ModuleTree) → (t
 told_dummies fs at m e =
     let n = length m.dummies in
     let t = dummies_told m.dummies 1 (line_or at Title 0) no_names in
-    let quiet = decls_back fs at m.decls 0 t e in
+    let u = title_told at m in
+    let quiet = form_back m.function m.name (line_or at Title 0) t (decls_back fs at m.decls 0 u e) in
     let begin : Dummies n t.entries = record { others = 0; are = all_told m.dummies 1 (line_or at Title 0) no_names none_yet quiet ∙ sym (append-nil (dummy_marks 1 n)) } in
-    stmts_keep (Dummies n) (seen_dummies n) (said_dummies n) fs at m.body 0 (decls_told fs at m.decls 0 t).entries (decls_keep (Dummies n) (seen_dummies n) (said_dummies n) fs at m.decls 0 t begin)
+    stmts_keep (Dummies n) (seen_dummies n) (said_dummies n) fs at m.body 0 (decls_told fs at m.decls 0 u).entries
+    (decls_keep (Dummies n) (seen_dummies n) (said_dummies n) fs at m.decls 0 u (form_keeps (Dummies n) (seen_dummies n) (said_dummies n) fs m.function m.name (line_or at Title 0) t begin))
 
 pub table_dummies : (at : LineTable) (m : ModuleTree) → check_names at m ≡ None → Dummies (length m.dummies) (table_of at m).entries
 table_dummies at m e = told_dummies (arrays_named m.decls) at m (entries_back (kinds_of m.decls) (told_of (arrays_named m.decls) at m).entries (told_of (arrays_named m.decls) at m).found e)

@@ -16,11 +16,11 @@ use Rattle.f77_names.specs.Lines.{LineTable, line_or}
 use Rattle.f77_names.specs.Functions.{arrays_named}
 use Rattle.f77_names.specs.Entries.{EntryTree, fresh, find, seen, changed, with_dummy, with_value, value_among}
 use Rattle.f77_names.specs.Declaring.{Told, dummy_told, dummies_told, decls_told}
-use Rattle.f77_names.specs.Tables.{no_names, told_of, kind_in, table_of, check_names}
+use Rattle.f77_names.specs.Tables.{no_names, title_told, told_of, kind_in, table_of, check_names}
 use Rattle.f77_checks.specs.Parameters.{Valued, given_typed, given_const_value, setting_valued, settings_valued, decl_valued, decls_valued}
 use Rattle.f77_ast.specs.DeclTrees.{ParsedTree}
 use Rattle.storage_layout.specs.Symbols.{valued}
-use Rattle.laws_programs.proofs.SymbolTables.KeptNames.{Said, with_said, decls_keep, stmts_keep, Typed, Shaped, Shared, Parameter, Saved, Initial, Nothing}
+use Rattle.laws_programs.proofs.SymbolTables.KeptNames.{Said, with_said, form_keeps, decls_keep, stmts_keep, Typed, Shaped, Shared, Parameter, Saved, Initial, Nothing}
 use Rattle.laws_programs.proofs.SymbolTables.Values.{chosen, as_chosen, is_taken, judged}
 use Rattle.laws_programs.proofs.SymbolTables.DummiesTold.{found_in}
 use Rattle.laws_programs.proofs.SymbolTables.Answers.{lines_in, names_in}
@@ -105,7 +105,9 @@ module _ (G : EntryTree → Type 0) (new : (x : List ℕ) (line : ℕ) → G (fr
   table_found at m =
       let fs = arrays_named m.decls in
       let t = dummies_told m.dummies 1 (line_or at Title 0) no_names in
-      stmts_keep (AllFound G) more more_said fs at m.body 0 (decls_told fs at m.decls 0 t).entries (decls_keep (AllFound G) more more_said fs at m.decls 0 t (dummies_found m.dummies 1 (line_or at Title 0) no_names (none_found G)))
+      let u = title_told at m in
+      stmts_keep (AllFound G) more more_said fs at m.body 0 (decls_told fs at m.decls 0 u).entries
+      (decls_keep (AllFound G) more more_said fs at m.decls 0 u (form_keeps (AllFound G) more more_said fs m.function m.name (line_or at Title 0) t (dummies_found m.dummies 1 (line_or at Title 0) no_names (none_found G))))
 
   -- with the values that PARAMETER gives
   module _ (as_value : (c : Constant) (e : EntryTree) → G e → G (with_value c e)) where

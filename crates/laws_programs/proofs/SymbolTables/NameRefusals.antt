@@ -1,6 +1,8 @@
 -- A refusal of names stays: where none is left, none was before.
 use Rattle.std.proofs.Common.{◌≡◌, ℕ, suc, Bool, true, false, List, [], ◌∷◌, Option, Some, None, refl}
 use Rattle.std.specs.Prelude.{is_some, ◌||◌}
+use Rattle.f77_ast.specs.declared.module.FunctionForm.{FunctionForm}
+use Rattle.f77_ast.specs.declared.module.FunctionForm.TheVariants.{Plain, Integer, Logical}
 use Rattle.f77_ast.specs.declared.decl.Scalar.{Scalar}
 use Rattle.f77_ast.specs.declared.decl.Scalar.TheVariants.{Int, Log}
 use Rattle.f77_ast.specs.declared.decl.SaveItem.{SaveItem}
@@ -18,7 +20,7 @@ use Rattle.f77_names.specs.declared.lines.Sited.TheVariants.{Decl}
 use Rattle.fx_lists.specs.Refusals.{refuse_if}
 use Rattle.f77_names.specs.Lines.{LineTable, line_or}
 use Rattle.f77_names.specs.Entries.{ShapeTree, EntryTree, seen, has_dummy, has_type, has_shape, has_common, as_initial}
-use Rattle.f77_names.specs.Declaring.{Told, typed, shaped, in_common, dummy_told, dummies_told, entity_seen, typed_entity, typed_entities, shaped_entities, members_told, blocks_told, setting_told, settings_told, item_told, items_told, groups_told, targets_told, save_told, saves_told, decl_told, decls_told}
+use Rattle.f77_names.specs.Declaring.{Told, typed, shaped, in_common, dummy_told, dummies_told, form_told, entity_seen, typed_entity, typed_entities, shaped_entities, members_told, blocks_told, setting_told, settings_told, item_told, items_told, groups_told, targets_told, save_told, saves_told, decl_told, decls_told}
 use Rattle.f77_names.specs.Tables.{NameTable, entry_kind, is_real, in_common_too, check_entry, check_entries}
 use Rattle.f77_checks.specs.Expressions.{check_expr}
 use Rattle.f77_checks.specs.Dimensions.{is_bad_shape, check_maybe, check_bounds, check_shape, check_shapes}
@@ -105,6 +107,12 @@ decls_back fs at (d ∷ ds) n t e = decl_back fs d (line_or at (Decl n) 0) t (de
 pub dummies_back : (xs : List (List ℕ)) (n line : ℕ) (t : Told) → (dummies_told xs n line t).found ≡ None → t.found ≡ None
 dummies_back [] n line t e = e
 dummies_back (x ∷ xs) n line t e = noted_back (has_dummy x (seen x line t.entries)) line DeclaredTwice t.found (dummies_back xs (suc n) line (dummy_told x n line t) e)
+
+pub form_back : (o : Option FunctionForm) (x : List ℕ) (line : ℕ) (t : Told) → (form_told o x line t).found ≡ None → t.found ≡ None
+form_back None x line t e = e
+form_back (Some Plain) x line t e = e
+form_back (Some Integer) x line t e = noted_back (has_type x t.entries) line DeclaredTwice t.found e
+form_back (Some Logical) x line t e = noted_back (has_type x t.entries) line DeclaredTwice t.found e
 
 -- ---- what names are
 

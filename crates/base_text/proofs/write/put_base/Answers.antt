@@ -15,7 +15,7 @@ returns c =
     let modules = 123 ∷ 34 ∷ 109 ∷ 111 ∷ 100 ∷ 117 ∷ 108 ∷ 101 ∷ 115 ∷ 34 ∷ 58 ∷ [] in
     let k = known_names c.args.known.now in
     let texts = compact_text (list_data (map module_data c.args.modules.now)) in
-    let rest = members_text true (member (codes "pips") (number_data 1) (member (codes "results") (list_data (map (result_data k) c.args.results.now)) no_members)) in
+    let rest = members_text true (member (codes "pips") (number_data 2) (member (codes "results") (list_data (map (result_data k) c.args.results.now)) no_members)) in
     let before = c.in_ok-put_list.ensures ∙ (ap (λ ms. c.append.new.self ++ compact_text (list_data (map module_data ms))) c.as_slice.ensures ∙ ap (λ o. o ++ texts) c.in_ok-append.ensures.ok) in
     on_ok_weaker c.put_version_and_results.result
     (λ e. e ∙ (ap (λ o. o ++ rest) before ∙ (append_assoc (c.args.out.now ++ modules) texts rest ∙ append_assoc c.args.out.now modules (texts ++ rest))))

@@ -15,7 +15,7 @@ returns c =
     let results = 44 ∷ 34 ∷ 114 ∷ 101 ∷ 115 ∷ 117 ∷ 108 ∷ 116 ∷ 115 ∷ 34 ∷ 58 ∷ [] in
     let k = known_names c.args.known.now in
     on_ok_weaker c.push.result
-    (joined c.args.out.now c.append.new.self c.put_number.new.out c.append-2.new.self c.put_list.new.out c.push.new.self version (decimal 1) results
+    (joined c.args.out.now c.append.new.self c.put_number.new.out c.append-2.new.self c.put_list.new.out c.push.new.self version (decimal 2) results
     (compact_text (list_data (map (result_data k) c.args.results.now))) (125 ∷ []) c.in_ok-append.ensures.ok c.in_ok-put_number.ensures c.in_ok-append-2.ensures.ok
     (c.in_ok-put_list.ensures ∙ ap (λ rs. c.append-2.new.self ++ compact_text (list_data (map (result_data k) rs))) c.as_slice.ensures))
     c.push.ensures.ok

@@ -2,7 +2,7 @@ use Rattle.std.proofs.Common.{ap, ◌∙◌}
 use Rattle.std.specs.Prelude.{option_and_then}
 use Rattle.session_texts.specs.pipsmake_rules.Kinds.{kind_with}
 use Rattle.base_text.proofs.NamedKinds.{with_name}
-use Rattle.base_text.proofs.results.kind_at.Goals as goal
+use Rattle.base_text.proofs.entries.named_kind.Goals as goal
 
 pub returns-in-Some : goal.returns-in-Some
 returns-in-Some c =

@@ -1,0 +1,512 @@
+C 256 modules
+      SUBROUTINE S0
+      END
+      SUBROUTINE S1
+      END
+      SUBROUTINE S2
+      END
+      SUBROUTINE S3
+      END
+      SUBROUTINE S4
+      END
+      SUBROUTINE S5
+      END
+      SUBROUTINE S6
+      END
+      SUBROUTINE S7
+      END
+      SUBROUTINE S8
+      END
+      SUBROUTINE S9
+      END
+      SUBROUTINE S10
+      END
+      SUBROUTINE S11
+      END
+      SUBROUTINE S12
+      END
+      SUBROUTINE S13
+      END
+      SUBROUTINE S14
+      END
+      SUBROUTINE S15
+      END
+      SUBROUTINE S16
+      END
+      SUBROUTINE S17
+      END
+      SUBROUTINE S18
+      END
+      SUBROUTINE S19
+      END
+      SUBROUTINE S20
+      END
+      SUBROUTINE S21
+      END
+      SUBROUTINE S22
+      END
+      SUBROUTINE S23
+      END
+      SUBROUTINE S24
+      END
+      SUBROUTINE S25
+      END
+      SUBROUTINE S26
+      END
+      SUBROUTINE S27
+      END
+      SUBROUTINE S28
+      END
+      SUBROUTINE S29
+      END
+      SUBROUTINE S30
+      END
+      SUBROUTINE S31
+      END
+      SUBROUTINE S32
+      END
+      SUBROUTINE S33
+      END
+      SUBROUTINE S34
+      END
+      SUBROUTINE S35
+      END
+      SUBROUTINE S36
+      END
+      SUBROUTINE S37
+      END
+      SUBROUTINE S38
+      END
+      SUBROUTINE S39
+      END
+      SUBROUTINE S40
+      END
+      SUBROUTINE S41
+      END
+      SUBROUTINE S42
+      END
+      SUBROUTINE S43
+      END
+      SUBROUTINE S44
+      END
+      SUBROUTINE S45
+      END
+      SUBROUTINE S46
+      END
+      SUBROUTINE S47
+      END
+      SUBROUTINE S48
+      END
+      SUBROUTINE S49
+      END
+      SUBROUTINE S50
+      END
+      SUBROUTINE S51
+      END
+      SUBROUTINE S52
+      END
+      SUBROUTINE S53
+      END
+      SUBROUTINE S54
+      END
+      SUBROUTINE S55
+      END
+      SUBROUTINE S56
+      END
+      SUBROUTINE S57
+      END
+      SUBROUTINE S58
+      END
+      SUBROUTINE S59
+      END
+      SUBROUTINE S60
+      END
+      SUBROUTINE S61
+      END
+      SUBROUTINE S62
+      END
+      SUBROUTINE S63
+      END
+      SUBROUTINE S64
+      END
+      SUBROUTINE S65
+      END
+      SUBROUTINE S66
+      END
+      SUBROUTINE S67
+      END
+      SUBROUTINE S68
+      END
+      SUBROUTINE S69
+      END
+      SUBROUTINE S70
+      END
+      SUBROUTINE S71
+      END
+      SUBROUTINE S72
+      END
+      SUBROUTINE S73
+      END
+      SUBROUTINE S74
+      END
+      SUBROUTINE S75
+      END
+      SUBROUTINE S76
+      END
+      SUBROUTINE S77
+      END
+      SUBROUTINE S78
+      END
+      SUBROUTINE S79
+      END
+      SUBROUTINE S80
+      END
+      SUBROUTINE S81
+      END
+      SUBROUTINE S82
+      END
+      SUBROUTINE S83
+      END
+      SUBROUTINE S84
+      END
+      SUBROUTINE S85
+      END
+      SUBROUTINE S86
+      END
+      SUBROUTINE S87
+      END
+      SUBROUTINE S88
+      END
+      SUBROUTINE S89
+      END
+      SUBROUTINE S90
+      END
+      SUBROUTINE S91
+      END
+      SUBROUTINE S92
+      END
+      SUBROUTINE S93
+      END
+      SUBROUTINE S94
+      END
+      SUBROUTINE S95
+      END
+      SUBROUTINE S96
+      END
+      SUBROUTINE S97
+      END
+      SUBROUTINE S98
+      END
+      SUBROUTINE S99
+      END
+      SUBROUTINE S100
+      END
+      SUBROUTINE S101
+      END
+      SUBROUTINE S102
+      END
+      SUBROUTINE S103
+      END
+      SUBROUTINE S104
+      END
+      SUBROUTINE S105
+      END
+      SUBROUTINE S106
+      END
+      SUBROUTINE S107
+      END
+      SUBROUTINE S108
+      END
+      SUBROUTINE S109
+      END
+      SUBROUTINE S110
+      END
+      SUBROUTINE S111
+      END
+      SUBROUTINE S112
+      END
+      SUBROUTINE S113
+      END
+      SUBROUTINE S114
+      END
+      SUBROUTINE S115
+      END
+      SUBROUTINE S116
+      END
+      SUBROUTINE S117
+      END
+      SUBROUTINE S118
+      END
+      SUBROUTINE S119
+      END
+      SUBROUTINE S120
+      END
+      SUBROUTINE S121
+      END
+      SUBROUTINE S122
+      END
+      SUBROUTINE S123
+      END
+      SUBROUTINE S124
+      END
+      SUBROUTINE S125
+      END
+      SUBROUTINE S126
+      END
+      SUBROUTINE S127
+      END
+      SUBROUTINE S128
+      END
+      SUBROUTINE S129
+      END
+      SUBROUTINE S130
+      END
+      SUBROUTINE S131
+      END
+      SUBROUTINE S132
+      END
+      SUBROUTINE S133
+      END
+      SUBROUTINE S134
+      END
+      SUBROUTINE S135
+      END
+      SUBROUTINE S136
+      END
+      SUBROUTINE S137
+      END
+      SUBROUTINE S138
+      END
+      SUBROUTINE S139
+      END
+      SUBROUTINE S140
+      END
+      SUBROUTINE S141
+      END
+      SUBROUTINE S142
+      END
+      SUBROUTINE S143
+      END
+      SUBROUTINE S144
+      END
+      SUBROUTINE S145
+      END
+      SUBROUTINE S146
+      END
+      SUBROUTINE S147
+      END
+      SUBROUTINE S148
+      END
+      SUBROUTINE S149
+      END
+      SUBROUTINE S150
+      END
+      SUBROUTINE S151
+      END
+      SUBROUTINE S152
+      END
+      SUBROUTINE S153
+      END
+      SUBROUTINE S154
+      END
+      SUBROUTINE S155
+      END
+      SUBROUTINE S156
+      END
+      SUBROUTINE S157
+      END
+      SUBROUTINE S158
+      END
+      SUBROUTINE S159
+      END
+      SUBROUTINE S160
+      END
+      SUBROUTINE S161
+      END
+      SUBROUTINE S162
+      END
+      SUBROUTINE S163
+      END
+      SUBROUTINE S164
+      END
+      SUBROUTINE S165
+      END
+      SUBROUTINE S166
+      END
+      SUBROUTINE S167
+      END
+      SUBROUTINE S168
+      END
+      SUBROUTINE S169
+      END
+      SUBROUTINE S170
+      END
+      SUBROUTINE S171
+      END
+      SUBROUTINE S172
+      END
+      SUBROUTINE S173
+      END
+      SUBROUTINE S174
+      END
+      SUBROUTINE S175
+      END
+      SUBROUTINE S176
+      END
+      SUBROUTINE S177
+      END
+      SUBROUTINE S178
+      END
+      SUBROUTINE S179
+      END
+      SUBROUTINE S180
+      END
+      SUBROUTINE S181
+      END
+      SUBROUTINE S182
+      END
+      SUBROUTINE S183
+      END
+      SUBROUTINE S184
+      END
+      SUBROUTINE S185
+      END
+      SUBROUTINE S186
+      END
+      SUBROUTINE S187
+      END
+      SUBROUTINE S188
+      END
+      SUBROUTINE S189
+      END
+      SUBROUTINE S190
+      END
+      SUBROUTINE S191
+      END
+      SUBROUTINE S192
+      END
+      SUBROUTINE S193
+      END
+      SUBROUTINE S194
+      END
+      SUBROUTINE S195
+      END
+      SUBROUTINE S196
+      END
+      SUBROUTINE S197
+      END
+      SUBROUTINE S198
+      END
+      SUBROUTINE S199
+      END
+      SUBROUTINE S200
+      END
+      SUBROUTINE S201
+      END
+      SUBROUTINE S202
+      END
+      SUBROUTINE S203
+      END
+      SUBROUTINE S204
+      END
+      SUBROUTINE S205
+      END
+      SUBROUTINE S206
+      END
+      SUBROUTINE S207
+      END
+      SUBROUTINE S208
+      END
+      SUBROUTINE S209
+      END
+      SUBROUTINE S210
+      END
+      SUBROUTINE S211
+      END
+      SUBROUTINE S212
+      END
+      SUBROUTINE S213
+      END
+      SUBROUTINE S214
+      END
+      SUBROUTINE S215
+      END
+      SUBROUTINE S216
+      END
+      SUBROUTINE S217
+      END
+      SUBROUTINE S218
+      END
+      SUBROUTINE S219
+      END
+      SUBROUTINE S220
+      END
+      SUBROUTINE S221
+      END
+      SUBROUTINE S222
+      END
+      SUBROUTINE S223
+      END
+      SUBROUTINE S224
+      END
+      SUBROUTINE S225
+      END
+      SUBROUTINE S226
+      END
+      SUBROUTINE S227
+      END
+      SUBROUTINE S228
+      END
+      SUBROUTINE S229
+      END
+      SUBROUTINE S230
+      END
+      SUBROUTINE S231
+      END
+      SUBROUTINE S232
+      END
+      SUBROUTINE S233
+      END
+      SUBROUTINE S234
+      END
+      SUBROUTINE S235
+      END
+      SUBROUTINE S236
+      END
+      SUBROUTINE S237
+      END
+      SUBROUTINE S238
+      END
+      SUBROUTINE S239
+      END
+      SUBROUTINE S240
+      END
+      SUBROUTINE S241
+      END
+      SUBROUTINE S242
+      END
+      SUBROUTINE S243
+      END
+      SUBROUTINE S244
+      END
+      SUBROUTINE S245
+      END
+      SUBROUTINE S246
+      END
+      SUBROUTINE S247
+      END
+      SUBROUTINE S248
+      END
+      SUBROUTINE S249
+      END
+      SUBROUTINE S250
+      END
+      SUBROUTINE S251
+      END
+      SUBROUTINE S252
+      END
+      SUBROUTINE S253
+      END
+      SUBROUTINE S254
+      END
+      END
