@@ -54,6 +54,7 @@ def checks():
     yield 'the stored bases of tests/bases are those of today', passes('bench/stored_bases.py')
     for name in REPORTED:
         yield f'the report of examples/{name}.f', reported(name)
+    yield 'two pages of the report are not too wide', passes('bench/page_width.py')
     yield 'README.md shows examples/demo.f', shows_the_example()
     yield f'README.md has at most {README_LIMIT} bytes', os.path.getsize(os.path.join(TOP, 'README.md')) <= README_LIMIT
 

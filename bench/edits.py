@@ -5,12 +5,13 @@
     bench/edits.py CRATE ..        tries those of these crates, and writes nothing
     bench/edits.py --check         looks only whether each edit can still be applied (seconds)
 
-The work tree has the last commit, so what is not committed is not tried. Each crate with edits is proved there first, which takes hours where
-nothing is kept. The prover must refuse each edit; the status is 0 where it does.
+The work tree has the last commit, so what is not committed is not tried. What `./pips --build` left here is lent to it; without that each crate
+with edits is proved there first, which takes hours. The prover must refuse each edit; the status is 0 where it does.
 """
 import datetime
 import os
 import re
+import shutil
 import subprocess
 import sys
 import tempfile
@@ -99,6 +100,26 @@ def gather(tree: str, crates: List[str]) -> None:
                 os.replace(os.path.join(folder, name), os.path.join(tree, 'crates', crate, 'must-fail', name))
 
 
+def link_or_copy(source: str, to: str) -> None:
+    """A link where the kit replaces a file and never writes into it: in a library, and what was proved of a crate. Else a copy."""
+    if f'{os.sep}rlib{os.sep}' in source or source.endswith('.oantt'):
+        try:
+            os.link(source, to)
+            return
+        except OSError:
+            pass
+    shutil.copy2(source, to)
+
+
+def lend(tree: str) -> None:
+    """Gives the work tree what was built here of each crate. The kit takes it where it is of the same sources."""
+    for crate in os.listdir(os.path.join(tree, 'crates')):
+        for part in ('rlib', 'incremental'):
+            built = os.path.join(TOP, 'crates', crate, 'out', part)
+            if os.path.isdir(built):
+                shutil.copytree(built, os.path.join(tree, 'crates', crate, 'out', part), symlinks=True, copy_function=link_or_copy)
+
+
 def try_all(tree: str, crates: List[str]) -> Tried:
     """Tries the edits of these crates, and passes on what the prover says."""
     tried = Tried()
@@ -139,6 +160,7 @@ def main(words: List[str]) -> int:
         git('worktree', 'add', '--detach', tree, commit)
         try:
             gather(tree, words or list(have))
+            lend(tree)
             tried = try_all(tree, words or list(have))
         finally:
             git('worktree', 'remove', '--force', tree)

@@ -37,12 +37,12 @@ summary:hover { background: var(--card); }
 .bars .yes { background: var(--yes); } .bars .no { background: var(--no); } .bars .first { margin-top: 4px; }
 .text { white-space: pre; flex: 1 1 auto; } .comment .text { color: var(--soft); }
 .loop.yes { background: var(--yes-ground); } .loop.no { background: var(--no-ground); }
-.mark { flex: none; font: 13px/20px system-ui, sans-serif; border-radius: 10px; padding: 0 10px; margin-left: 12px; color: var(--ground); }
+.mark { flex: 0 1 auto; overflow-wrap: anywhere; font: 13px/20px system-ui, sans-serif; border-radius: 10px; padding: 0 10px; margin-left: 12px; color: var(--ground); }
 .mark.yes { background: var(--yes); } .mark.no { background: var(--no); }
 .mark a { color: inherit; }
 .said { margin: 4px 12px 12px 76px; padding: 8px 14px; border-left: 3px solid var(--line); background: var(--card); }
 .said table { border-collapse: collapse; } .said td { vertical-align: top; padding: 1px 18px 1px 0; } .said td:first-child { white-space: nowrap; }
-.said .rows { overflow-wrap: anywhere; }
+.said td:first-child code { white-space: normal; } .said code { overflow-wrap: anywhere; }
 dt { font-weight: 600; margin-top: 12px; } dd { margin: 2px 0 0; max-width: 80ch; }
 """
 
