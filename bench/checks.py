@@ -42,8 +42,22 @@ def shows_the_example():
     return [line[:COLUMN].rstrip() for line in block[:len(source)]] == source and [line[COLUMN:] for line in block] == written[:len(block)]
 
 
+def can_be_executed():
+    """Whether each script that names its interpreter may be executed, as README.md and docs/CONTRIBUTING.md do."""
+    scripts = [os.path.join(TOP, folder, name) for folder in ('bench', 'tools') for name in sorted(os.listdir(os.path.join(TOP, folder))) if name.endswith(('.py', '.sh'))]
+    refused = []
+    for script in scripts:
+        with open(script, 'rb') as file:
+            if file.read(2) == b'#!' and not os.access(script, os.X_OK):
+                refused.append(script)
+    for script in refused:
+        print(f'{os.path.relpath(script, TOP)} may not be executed', file=sys.stderr)
+    return not refused
+
+
 def checks():
     """Each check by its name."""
+    yield 'the scripts may be executed', can_be_executed()
     yield 'the stored programs are packed', passes('bench/pack.py', '--check')
     yield 'the examples of docs/LANGUAGE.md', passes('bench/language.py')
     yield 'the counts of docs/DEFINITIONS.md', passes('bench/believed.py')
