@@ -11,6 +11,7 @@ The kit's `rt lib` locks the library that it proves and all below it. So each wo
 are ready stand as they were built: `rt` takes one whose stamp is that of its sources. What a library left in out/ is then put in its place in
 the repository. Proving a crate over sources alone, which `rt all check` begins with, takes 18 GB for this program.
 """
+import fcntl
 import os
 import shutil
 import subprocess
@@ -24,8 +25,11 @@ from typing import Dict, List, Set
 TOP = os.path.dirname(os.path.dirname(os.path.realpath(__file__)))
 CRATES = os.path.join(TOP, 'crates')
 PROGRAM = 'pips'
+# kB that a proof may take
 MEMORY_OF_ONE = 2_500_000
 SOURCES = ('src', 'specs', 'proofs')
+# how the folder of copies is named
+COPIES = 'copies-'
 
 
 def rows() -> Dict[str, List[str]]:
@@ -108,6 +112,7 @@ def copy_sources(to: str) -> None:
 
 
 def out_of(top: str, name: str) -> str:
+    """Where the kit puts what it makes of a crate."""
     return os.path.join(top, 'crates', name, 'out')
 
 
@@ -160,7 +165,9 @@ class Building:
 
     def prove_all(self, at_once: int) -> bool:
         """Proves what is not ready, the dearest chain first."""
-        way, begun, running = ways(self.order, self.used), set(self.ready), {}  # type: Dict[str, int], Set[str], Dict[Future, str]
+        way = ways(self.order, self.used)
+        begun = set(self.ready)
+        running: Dict[Future, str] = {}
         with ThreadPoolExecutor(at_once) as pool:
             while len(self.ready) < len(self.order):
                 waiting = sorted(self.ready_now(begun), key=lambda name: -way[name])[:at_once - len(running)]
@@ -185,18 +192,29 @@ def build_program(building: Building) -> bool:
     return ran.returncode == 0
 
 
-def main() -> int:
+def build(log: str) -> bool:
+    """Builds what is not current. Whether that is done."""
     used = rows()
     order = libraries_of(PROGRAM, used)
     at_once = jobs_at_once()
-    building = Building(used, order, sys.argv[1], ready=current(order, used))
-    os.makedirs(out_of(TOP, PROGRAM), exist_ok=True)
-    with tempfile.TemporaryDirectory(prefix='copies-', dir=out_of(TOP, PROGRAM)) as room:
+    building = Building(used, order, log, ready=current(order, used))
+    for left in os.listdir(out_of(TOP, PROGRAM)):
+        if left.startswith(COPIES):
+            shutil.rmtree(os.path.join(out_of(TOP, PROGRAM), left))
+    with tempfile.TemporaryDirectory(prefix=COPIES, dir=out_of(TOP, PROGRAM)) as room:
         building.copies = [os.path.join(room, str(k)) for k in range(at_once)]
         if len(building.ready) < len(order):
             for top in building.copies:
                 copy_sources(top)
-        return 0 if building.prove_all(at_once) and build_program(building) else 1
+        return building.prove_all(at_once) and build_program(building)
+
+
+def main() -> int:
+    """One build at a time: a second one in this tree waits, and then finds what the first has built."""
+    os.makedirs(out_of(TOP, PROGRAM), exist_ok=True)
+    with open(os.path.join(out_of(TOP, PROGRAM), 'building'), 'w', encoding='utf-8') as lock:
+        fcntl.flock(lock, fcntl.LOCK_EX)
+        return 0 if build(sys.argv[1]) else 1
 
 
 if __name__ == '__main__':
