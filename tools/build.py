@@ -9,7 +9,7 @@ most one for 2.5 GB of free memory. Lines on standard error say how many librari
 
 The kit's `rt lib` locks the library that it proves and all below it. So each worker has a copy of the sources, in which the libraries that
 are ready stand as they were built: `rt` takes one whose stamp is that of its sources. What a library left in out/ is then put in its place in
-the repository. Proving a crate over sources alone, which `rt all check` begins with, takes 18 GB for this program.
+the repository. `rt all check` would first read the program over the sources of all its libraries, which takes 18 GB.
 """
 import fcntl
 import os
