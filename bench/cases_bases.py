@@ -3,7 +3,7 @@
 
     python3 bench/cases_bases.py [SEEDS]
 
-The bases are those that sessions on programs by hand and random ones keep, with all results or some, each in version 2 and in version 1. From them come damaged ones: other shapes, keys,
+The bases are those that sessions on programs by hand and random ones keep, with all results or some, each in version 2, in version 1, and some in version 2 as it was kept when every kind had the format number 1. From them come damaged ones: other shapes, keys,
 versions, format numbers, names, rows, numbers, orders, and texts that end too soon. A table has each version and each format number alone.
 """
 import json
@@ -12,7 +12,7 @@ import re
 import sys
 from collections import Counter
 
-from reference import STAGE, VERSION_1, load, write_cases
+from reference import FORMATS_1, STAGE, VERSION_1, load, write_cases
 
 base_file, programs, session = map(load, ['base', 'programs', 'session'])
 
@@ -36,9 +36,9 @@ def random_texts(seeds):
         yield programs.make(seed, ('tiny', 'sums', 'refs')[seed % 3])[0]
 
 
-def base_of(text):
+def base_of(text, stage=STAGE):
     """What a session on a text keeps after all results were made; None where the text is refused."""
-    db = session.Db(STAGE)
+    db = session.Db(stage)
     try:
         db.replace_all(text)
         for name in db.names:
@@ -163,10 +163,19 @@ def format_besides(value, r):
     return r.choice([other_part, other_name, other_text, twice, swapped, other_kind, key_more, key_missing, with_row(too_big)])(other_format(value, r), r)
 
 
+def other_pieces(value, r):
+    """Another number of systems of a region: none, some, as many as there may be, or one too many."""
+    found = list(places(value, lambda part: isinstance(part, dict) and isinstance(part.get('pieces'), list)))
+    if found:
+        region = part_at(value, r.choice(found))
+        region['pieces'] = (region['pieces'] * 5)[:r.choice([0, 2, 4, 5, 5])]
+    return value
+
+
 def raised(value, r):
     """A format number that is not known, or one below 1, and beside it a number of a row that is too big or another damage."""
     if value['results']:
-        r.choice(value['results'])['format'] = r.choice([0, 2, 2])
+        r.choice(value['results'])['format'] = r.choice([0, 2, 3])
     return r.choice([with_row(too_big), other_format, other_text, dropped])(value, r)
 
 
@@ -246,7 +255,7 @@ def other_variable(row, r):
     term[0], term[1] = r.choice('cxpa'), r.choice([term[1], 0, 99, 255, 256, 2 ** 32])
 
 
-BY_VALUE = [number_at_random, key_missing, key_more, other_part, other_version, other_format, format_besides, raised, other_name, other_text, twice, swapped, other_kind, dropped, less_of_it,
+BY_VALUE = [number_at_random, key_missing, key_more, other_part, other_version, other_format, format_besides, other_pieces, raised, other_name, other_text, twice, swapped, other_kind, dropped, less_of_it,
             *map(with_row, (too_big, big_factor, not_reduced, turned, other_order, no_terms, other_variable))]
 
 
@@ -289,11 +298,11 @@ ALONE = [b'', b'{}', b'[]', b'null', b'{"pips":7}', b'{"pips":7.0}', b'{"pips":-
          b'{"modules":[],"pips":2,"results":[{"format":1,"kind":"MARKS","name":"P","value":[]}]}']
 
 # what stands for the results of a base of version 2 that has nothing else: a format number that is not known goes before all other faults, but for texts that are no JSON
-RESULTS = [b'[{"format":2,"kind":"MARKS"}]', b'[{"format":1,"kind":"MARKS"}]', b'[{"format":0,"kind":"MARKS"}]', b'[{"format":2,"kind":"PRINTED"}]', b'[{"format":2,"kind":"marks"}]', b'[{"format":2}]', b'[{"format":2,"kind":7}]',
-           b'[{"format":2.0,"kind":"MARKS"}]', b'[{"format":2e0,"kind":"MARKS"}]', b'[{"format":18446744073709551615,"kind":"MARKS"}]', b'[{"format":18446744073709551616,"kind":"MARKS"}]',
-           b'[{"format":-9223372036854775808,"kind":"MARKS"}]', b'[0,[],{},{"format":2,"kind":"MARKS","more":[]}]', b'[{"format":0,"kind":"MARKS"},{"format":2,"kind":"EFFECTS"}]', b'{"format":2,"kind":"MARKS"}',
-           b'[[{"format":2,"kind":"MARKS"}]]', b'{"0":{"format":2,"kind":"MARKS"}}', b'[{"format":2,"format":1,"kind":"MARKS"}]', b'[{"format":1,"format":2,"kind":"MARKS"}]', b'[{"format":2,"kind":"MARKS"}', b'[{"kind":"MARKS","format":2},]']
-ALONE += [b'{"pips":%d,"results":%s}' % (version, results) for version in (2, 1) for results in RESULTS] + [b'{"pips":3,"results":[{"format":0,"kind":"MARKS"}]}', b'{"results":[{"format":2,"kind":"MARKS"}]}']
+RESULTS = [b'[{"format":3,"kind":"MARKS"}]', b'[{"format":1,"kind":"MARKS"}]', b'[{"format":2,"kind":"MARKS"}]', b'[{"format":0,"kind":"MARKS"}]', b'[{"format":2,"kind":"PRINTED"}]', b'[{"format":3,"kind":"marks"}]', b'[{"format":3}]', b'[{"format":3,"kind":7}]',
+           b'[{"format":3.0,"kind":"MARKS"}]', b'[{"format":3e0,"kind":"MARKS"}]', b'[{"format":18446744073709551615,"kind":"MARKS"}]', b'[{"format":18446744073709551616,"kind":"MARKS"}]',
+           b'[{"format":-9223372036854775808,"kind":"MARKS"}]', b'[0,[],{},{"format":3,"kind":"MARKS","more":[]}]', b'[{"format":0,"kind":"MARKS"},{"format":2,"kind":"EFFECTS"}]', b'{"format":3,"kind":"MARKS"}',
+           b'[[{"format":3,"kind":"MARKS"}]]', b'{"0":{"format":3,"kind":"MARKS"}}', b'[{"format":3,"format":2,"kind":"MARKS"}]', b'[{"format":2,"format":3,"kind":"MARKS"}]', b'[{"format":3,"kind":"MARKS"}', b'[{"kind":"MARKS","format":3},]']
+ALONE += [b'{"pips":%d,"results":%s}' % (version, results) for version in (2, 1) for results in RESULTS] + [b'{"pips":3,"results":[{"format":0,"kind":"MARKS"}]}', b'{"results":[{"format":3,"kind":"MARKS"}]}']
 
 
 def table(text, old):
@@ -304,7 +313,7 @@ def table(text, old):
             with_number(value, 'pips', number)
             yield text_of(value)
     for place in range(len(json.loads(text)['results'])):
-        for number in NUMBERS if place == 0 else (0, 1, 2, 'missing'):
+        for number in NUMBERS if place == 0 else (0, 1, 2, 3, 'missing'):
             value = json.loads(text)
             with_number(value['results'][place], 'format', number)
             yield text_of(value)
@@ -326,9 +335,16 @@ def damaged(texts, r):
 
 # ---- answers
 
+def read_base(text):
+    """The base of a text, without the results in older formats."""
+    base = base_file.base_read(text, STAGE)
+    base.results = [stored for stored in base.results if stored.value != base_file.OLD]
+    return base
+
+
 def answer(text, limit=None):
     try:
-        base = base_file.base_read(text, STAGE)
+        base = read_base(text)
     except base_file.BadBase as e:
         return str(e.code).encode()
     if limit is None:
@@ -343,11 +359,12 @@ def main(seeds=40):
     others = [base for base in map(base_of, random_texts(seeds)) if base]
     texts = [base_file.base_write(base, STAGE) for base in bases]
     small = [with_some(base, r, stage) for base in bases + others for stage in (STAGE, VERSION_1)]
+    small += [with_some(base_of(text, FORMATS_1), r, FORMATS_1) for text in BY_HAND]
     cases = [('whole', text, None) for text in [*texts, in_version_1(bases[1]), *small]] + [('alone', text, None) for text in ALONE]
     cases += [('table', text, None) for text in table(texts[0], in_version_1(bases[0]))]
     cases += [(kind, text, None) for kind, text in damaged(small, r) if b'\n==' not in text and not text.startswith(b'==')]
     for text in [SMALLEST, *texts, in_version_1(bases[1])]:
-        base = base_file.base_read(text, STAGE)
+        base = read_base(text)
         written = len(base_file.base_write(base, STAGE))
         bare = len(base_file.base_write(base_file.Base(base.modules, base.names, []), STAGE))
         cases += [('limit', text, limit) for limit in sorted({written, written - 1, bare, bare - 1})]

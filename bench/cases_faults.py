@@ -138,12 +138,12 @@ def of_two_versions(base):
 def format_numbers():
     """Other format numbers of one result or two."""
     base = base_of(SMALLEST)
-    for number in (0, 2, 3, -1, 2 ** 63, 2 ** 64 - 1, 2 ** 64, 1.0, '1', None, [1]):
-        for kind in ('EFFECTS', 'REGIONS', 'MARKS') if number in (0, 2) else ('PRECONDITIONS',):
+    for number in (0, 1, 2, 3, -1, 2 ** 63, 2 ** 64 - 1, 2 ** 64, 1.0, '1', None, [1]):
+        for kind in ('EFFECTS', 'REGIONS', 'MARKS') if number in (0, 1, 2, 3) else ('PRECONDITIONS',):
             yield Case([*BASE, 'p.f'], {'p.f': SMALLEST, 'b.json': changed(base, lambda value: entry(value, kind, 'MAIN').update(format=number))})
     for low, high in (('EFFECTS', 'MARKS'), ('MARKS', 'EFFECTS')):
         def low_and_high(value):
-            entry(value, low, 'MAIN')['format'], entry(value, high, 'MAIN')['format'] = 0, 2
+            entry(value, low, 'MAIN')['format'], entry(value, high, 'MAIN')['format'] = 0, 3
         yield Case([*BASE, 'p.f'], {'p.f': SMALLEST, 'b.json': changed(base, low_and_high)})
     # a number that is not known beside a key more, a module of another name, a text that is refused, another order
     for change in (lambda value: value.update(more=0), lambda value: value['modules'][0].update(name='P'), lambda value: value['modules'][0].update(text='      EMD\n'), lambda value: value['results'].reverse()):
@@ -219,13 +219,13 @@ OTHERWISE = {
     'PRECONDITIONS': lambda value: value['entry']['rows'].clear(),
     'REGIONS': lambda value: value['summary'][0].update(exact=not value['summary'][0]['exact']),
     'IN_REGIONS': lambda value: value['summary'].reverse(),
-    'OUT_REGIONS': lambda value: value['summary'].append({'exact': False, 'kind': 'OUT', 'of': 'A', 'system': {'rows': [], 'weak': False}}),
+    'OUT_REGIONS': lambda value: value['summary'].append({'exact': False, 'kind': 'OUT', 'of': 'A', 'pieces': [{'rows': [], 'weak': False}]}),
     'MARKS': lambda value: value[0].__setitem__(1, ['PARALLEL', 'I']),
 }
 
 
 def bases_of_today():
-    """The stored bases of a program that has all that results of each kind may have: what is made today is what is stored, no stored kind is made again, and the base is kept in version 2."""
+    """The stored bases of a program that has all that results of each kind may have: what is made today is what is stored, what has its present number is not made again, and the base is kept in version 2."""
     for line in stored_bases.faults(stored_bases.stored_bases()):
         sys.exit(line)
     for name, base in stored_bases.stored_bases().items():

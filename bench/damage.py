@@ -198,7 +198,7 @@ def base_steps(seed, number):
     pick = random.Random(f'{seed} {number}')
     chosen = usable(pick)
     text = as_bytes(program_text(chosen if pick.random() < .8 else usable(pick)))
-    stage = reference.VERSION_1 if pick.random() < .4 else reference.STAGE
+    stage = pick.choice([reference.VERSION_1, reference.FORMATS_1]) if pick.random() < .4 else reference.STAGE
     files = {'b.json': damaged_base(pick, base_of(chosen, stage)), 'p.f': text, 's': pick.choice([b'', b'print\n', b'show MARKS P\nprint\n', b'make PRINTED P\n'])}
     verify = ['--verify'] if pick.random() < .4 else []
     use = ['--session', 's'] if pick.random() < .3 else ['p.f']

@@ -17,7 +17,7 @@ BY_HAND = [
     (module('A(L(2))=0', 'K=A(1)'), ['0 C> IN A {PHI1==1} MAY', '0 C> IN L {PHI1==2} EXACT']),
     (module('A(2)=0', 'K=A(1)'), ['0 C> IN A {PHI1==1} EXACT']),
     (module('A(1)=A(1)+1', 'K=A(1)'), ['0 C> IN A {PHI1==1} EXACT']),
-    (module('A(N)=0', 'K=A(M)'), ['0 C> IN A {PHI1==M} MAY', '0 C> IN M {} EXACT', '0 C> IN N {} EXACT']),
+    (module('A(N)=0', 'K=A(M)'), ['0 C> IN A {PHI1==M, N+1<=M} + {PHI1==M, M+1<=N} EXACT', '0 C> IN M {} EXACT', '0 C> IN N {} EXACT']),
     # a cell that changes before it is read in a subscript
     (module('M=3', 'K=A(M)'), ['0 C> IN A {PHI1==3} EXACT']),
     (module('M=N', 'A(M)=0', 'K=A(N)'), ['0 C> IN N {} EXACT']),
@@ -28,12 +28,12 @@ BY_HAND = [
     (module('READ *,K,A(K)'), ['1']),
     (module('READ *,A(N),N'), ['0 C> IN N {} EXACT']),
     (module('READ *,N,A(N),M'), []),
-    (module('READ *,L(1),A(L(1)),B(L(2))'), ['0 C> IN L {PHI1==2} MAY']),
+    (module('READ *,L(1),A(L(1)),B(L(2))'), ['0 C> IN L {PHI1==2} EXACT']),
     (module('PRINT *,A(N),N'), ['0 C> IN A {PHI1==N} EXACT', '0 C> IN N {} EXACT']),
     # tests: each arm where it is reached
-    (module('IF (N.LE.3) K=A(1)', 'IF (N.NE.3) K=A(2)'), ['0 C> IN A {1<=PHI1, PHI1<=2} MAY', '1', ' IN A {PHI1==1, N<=3} EXACT', '2', ' IN A {PHI1==2} MAY']),
+    (module('IF (N.LE.3) K=A(1)', 'IF (N.NE.3) K=A(2)'), ['0 C> IN A {PHI1==1, N<=3} + {PHI1==2} MAY', '1', ' IN A {PHI1==1, N<=3} EXACT', '2', ' IN A {PHI1==2} MAY']),
     (module('IF (N.GT.0) THEN', 'A(1)=0', 'ELSE IF (A(2).GT.0) THEN', 'K=A(1)', 'ELSE', 'K=A(3)', 'END IF'),
-     [' IN A {N<=0, 1<=PHI1, PHI1<=3} MAY', '0 C> IN N {} EXACT']),
+     [' IN A {PHI1==2, N<=0} + {PHI1==1, N<=0} + {PHI1==3, N<=0} MAY', '0 C> IN N {} EXACT']),
     (module('IF (N.GT.0) A(1)=0', 'K=A(1)'), ['0 C> IN A {PHI1==1, N<=0} EXACT']),
     # a DO: what earlier iterations wrote; up, down, over a distance of two
     (module('DO I=2,N', 'A(I)=A(I-1)+B(I)', 'END DO'),

@@ -9,9 +9,9 @@ TOP = os.path.dirname(HERE)
 FOLDER = os.path.join(TOP, 'reference')
 
 # the stage at which the reference answers as the command does today (reference/README.md lists them)
-STAGE = 'base-2'
-# the last stage that keeps bases of version 1
-VERSION_1 = 'verify'
+STAGE = 'pieces'
+# the last stage that keeps bases of version 1, and the last with the format number 1 of every kind
+VERSION_1, FORMATS_1 = 'verify', 'base-2'
 
 
 def load(name):
@@ -19,13 +19,20 @@ def load(name):
     if FOLDER not in sys.path:
         sys.path.append(FOLDER)
     if not os.path.exists(os.path.join(HERE, f'{name}.py')):
-        return importlib.import_module(name)
+        return at_stage(importlib.import_module(name))
     full = f'reference_{name}'
     if full not in sys.modules:
         spec = importlib.util.spec_from_file_location(full, os.path.join(FOLDER, f'{name}.py'))
         sys.modules[full] = importlib.util.module_from_spec(spec)
         spec.loader.exec_module(sys.modules[full])
     return sys.modules[full]
+
+
+def at_stage(module):
+    """The same, with the choice that its own functions do not make by the stage: how many systems a region has."""
+    if module.__name__ == 'regions':
+        module.set_pieces(4 if importlib.import_module('stages').since(STAGE, 'pieces') else 1)
+    return module
 
 
 def as_bytes(text):

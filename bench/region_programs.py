@@ -15,7 +15,7 @@ BY_HAND = [
      ['2 C> WRITE A {1<=PHI1, PHI2<=N, PHI1<=PHI2} EXACT', '3 C> WRITE A {PHI1==I, PHI2<=N, I<=PHI2} EXACT']),
     # two elements apart: what lies between is not written; neighbours
     (['INTEGER A(9)', 'COMMON /B/ A', 'A(1)=0', 'A(5)=0', 'END'], ['1', ' WRITE A {PHI1==1} EXACT']),
-    (['SUBROUTINE S', 'INTEGER A(9)', 'COMMON /B/ A', 'A(1)=0', 'A(5)=0', 'END', 'END'], ['0 C> WRITE A {1<=PHI1, PHI1<=5} MAY', 'summary', ' WRITE A {1<=PHI1, PHI1<=5} MAY']),
+    (['SUBROUTINE S', 'INTEGER A(9)', 'COMMON /B/ A', 'A(1)=0', 'A(5)=0', 'END', 'END'], ['0 C> WRITE A {PHI1==1} + {PHI1==5} EXACT', 'summary', ' WRITE A {PHI1==1} + {PHI1==5} EXACT']),
     # a subscript without a form has its bounds, where they are constant; two dimensions, one of them without a form
     (['INTEGER A(9),L(3)', 'A(L(2))=0', 'END'], [' READ L {PHI1==2} EXACT', ' WRITE A {1<=PHI1, PHI1<=9} MAY']),
     (['INTEGER A(-2:4,5)', 'A(K*K,2)=0', 'END'], [' READ K {} EXACT', ' WRITE A {PHI2==2, 0<=PHI1+2, PHI1<=4} MAY']),
@@ -96,7 +96,7 @@ CALLS = [
     (['COMMON /B/ I,J', 'CALL S', 'END', 'SUBROUTINE S', 'COMMON /B/ I,J', 'EQUIVALENCE (I,K)', 'K=J', 'END'], ['1 C> READ J {} EXACT', '1 C> WRITE I {} EXACT']),
     # saved locals: of the callee, and of what that calls; one with DATA; one that is not saved
     (['CALL T', 'END', 'SUBROUTINE T', 'CALL S', 'END', 'SUBROUTINE S', 'INTEGER K(3)', 'SAVE K', 'IF (K(1).EQ.0) K(2)=1', 'K(1)=1', 'END'],
-     ['0 C> READ S:K {PHI1==1} EXACT', '0 C> WRITE S:K {1<=PHI1, PHI1<=2} MAY', '1 C> READ S:K {PHI1==1} EXACT']),
+     ['0 C> READ S:K {PHI1==1} EXACT', '0 C> WRITE S:K {PHI1==2} + {PHI1==1} MAY', '1 C> READ S:K {PHI1==1} EXACT']),
     (['CALL S', 'END', 'SUBROUTINE S', 'INTEGER K(3),L(3)', 'DATA N /1/', 'K(N)=0', 'L(1)=N', 'END'], ['1 C> READ S:N {} EXACT', '1', ' READ S:N {} EXACT']),
     # cells of the callee without a form in the caller; a dummy twice; an actual twice
     (['INTEGER A(9)', 'CALL S(A,K*K)', 'END', 'SUBROUTINE S(X,N)', 'INTEGER X(9)', 'DO I=2,N', 'X(I)=0', 'END DO', 'END'],

@@ -47,15 +47,15 @@ def script_of(pick, names):
     return ''.join(line + '\n' for line in lines + ['print'] * pick.randrange(2))
 
 
-def of_version_1(text, script=None):
-    """The file of a base as it was kept before, of a text or of a session on it; none where the text is refused."""
+def kept_before(stage, text, script=None):
+    """The file of a base as it was kept at a stage before, of a text or of a session on it; none where the text is refused."""
     words, files = (['p.f'], {'p.f': text}) if script is None else (['--session', 's'], {'s': f'source {len(text.splitlines())}\n'.encode() + text + script})
-    base = reference.whole([*BASE, *words], files, reference.VERSION_1)[3].get('b.json')
+    base = reference.whole([*BASE, *words], files, stage)[3].get('b.json')
     return {} if base is None else {'b.json': base}
 
 
 def base_steps(number):
-    """A program, and what becomes of it, with one base, which now and then is of version 1."""
+    """A program, and what becomes of it, with one base, which now and then is as it was kept before."""
     pick = random.Random(number)
     program = random_program(reference.load('programs'), number) if number % 8 == 0 else made_program(number)
     before = as_bytes(program.text())
@@ -64,7 +64,7 @@ def base_steps(number):
         old = {}
         if pick.random() < .45:
             script = as_bytes(script_of(pick, list(names_of(program)))) if pick.random() < .3 else None
-            old = of_version_1(before if pick.random() < .7 else text, script)
+            old = kept_before(pick.choice([reference.VERSION_1, reference.FORMATS_1]), before if pick.random() < .7 else text, script)
         yield Step(shown(pick) + BASE + verified(pick) + ['p.f'], {'p.f': text, **old})
         if pick.random() < .2:
             yield Step(BASE + verified(pick) + ['--session', 's'], {'s': as_bytes(script_of(pick, list(names_of(program)))), **(old if pick.random() < .5 else {})})

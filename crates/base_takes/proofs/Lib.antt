@@ -1,3 +1,3 @@
 pub mod RowsFit
 pub mod Pairs
-pub mod Pieces
+pub mod ShortNames

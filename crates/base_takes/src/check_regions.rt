@@ -5,13 +5,13 @@ ghost use Rattle.f77_ast.specs.Index.{names_of};
 ghost use Rattle.base_json.specs.Scopes.{cells_alone, with_phi};
 ghost use Rattle.base_values.specs.Naming.{SystemFits};
 ghost use Rattle.base_values.specs.Words.{result_with as result_with_is};
-ghost use Rattle.base_values.specs.Fits.{OnePiece, RegionFits, RegionsFit};
+ghost use Rattle.base_values.specs.Fits.{PiecesFit, RegionFits, RegionsFit};
 
 use crate::check::{Check, check_list};
 use crate::check_names::{KindScope, variable_fits};
 use crate::check_rows::phi_system_fits;
 use affine_systems::System;
-use base_values::are_apart;
+use base_values::{are_apart, are_few};
 use f77_ast::Symbols;
 use fx_lists::List;
 use pipsmake_rules::Kind;
@@ -43,11 +43,12 @@ impl<'a> Check<PhiScope<'a>> for System {
     }
 }
 
-/// Whether it is one system, on cells and subscripts.
-fn is_one_piece(alloc: Global, symbols: &Symbols, pieces: &List<System>) -> Result<bool, Memory>
-    ensures { IfOk result (λ b. b ≡ true → OnePiece (names_of symbols.now) pieces.now) }
+/// Whether they are from one system to four, on cells and subscripts.
+fn pieces_fit(alloc: Global, symbols: &Symbols, pieces: &List<System>) -> Result<bool, Memory>
+    ensures { IfOk result (λ b. b ≡ true → PiecesFit (names_of symbols.now) pieces.now) }
 {
-    if pieces.len() != 1 {
+    let few = are_few(pieces.as_slice());
+    if !few {
         return Ok(false);
     }
     check_list(alloc, &PhiScope { symbols }, pieces)
@@ -65,7 +66,7 @@ impl<'a> Check<KindScope<'a>> for Region {
         if !here {
             return Ok(false);
         }
-        is_one_piece(alloc, scope.symbols, &self.pieces)
+        pieces_fit(alloc, scope.symbols, &self.pieces)
     }
 }
 

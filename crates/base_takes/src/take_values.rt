@@ -7,7 +7,7 @@ use f77_ast::{At, EffectSet, Mark, Results, Symbols, Unit, Variable};
 use fx_lists::List;
 use pipsmake_rules::Kind;
 use region_sets::{Access, Region, RegionSet};
-use std::alloc::{AllocError as Memory, Global};
+use std::alloc::Global;
 use transformer_algebra::Transformer;
 
 /// What stands between what is said of statements and the summary.
@@ -73,13 +73,6 @@ fn take_access(from: &mut Cursor<'_>) -> Result<Access, DecodeError> {
     Ok(Access::Out)
 }
 
-/// A list of one system.
-fn one_piece(alloc: Global, piece: System) -> Result<List<System>, Memory> {
-    let mut pieces = List::new(alloc);
-    pieces.push(piece)?;
-    Ok(pieces)
-}
-
 impl Take<Symbols> for Region {
     fn take(alloc: Global, scope: &Symbols, from: &mut Cursor<'_>) -> Result<Region, DecodeError> {
         from.word(b"{\"exact\":")?;
@@ -88,14 +81,14 @@ impl Take<Symbols> for Region {
         let kind = take_access(from)?;
         from.word(b",\"of\":")?;
         let variable: Variable = Take::take(alloc, scope, from)?;
-        from.word(b",\"system\":")?;
-        let piece: System = Take::take(alloc, scope, from)?;
+        from.word(b",\"pieces\":")?;
+        let pieces: List<System> = take_list(alloc, scope, from)?;
         from.word(b"}")?;
         Ok(Region {
             variable,
             kind,
             exact,
-            pieces: one_piece(alloc, piece)?,
+            pieces,
         })
     }
 }

@@ -32,10 +32,10 @@ pub fn format_of(kind: Kind) -> u32
         Kind::Effects => 1,
         Kind::Transformers => 1,
         Kind::Preconditions => 1,
-        Kind::Regions => 1,
-        Kind::InRegions => 1,
-        Kind::OutRegions => 1,
-        Kind::Marks => 1,
+        Kind::Regions => 2,
+        Kind::InRegions => 2,
+        Kind::OutRegions => 2,
+        Kind::Marks => 2,
         Kind::Printed => 1,
     }
 }

@@ -24,7 +24,7 @@ use Rattle.base_json.specs.Written.{list_data, number_data, whole_data}
 use Rattle.base_json.specs.RowsWritten.{term_data, flag_data, row_data, system_data}
 use Rattle.base_values.specs.declared.stored.StoredValue.{StoredValue}
 use Rattle.base_values.specs.declared.stored.StoredValue.TheVariants as stored
-use Rattle.base_values.specs.Written.{variable_data, variables_data, effects_data, unit_data, transformer_data, piece_of, region_data, regions_data, conflict_data, private_data, reason_data, mark_data, at_data, all_data, results_data, entry_data, stored_data}
+use Rattle.base_values.specs.Written.{variable_data, variables_data, effects_data, unit_data, transformer_data, pieces_data, region_data, regions_data, conflict_data, private_data, reason_data, mark_data, at_data, all_data, results_data, entry_data, stored_data}
 use Rattle.base_values.specs.Laws.{WrittenIsFlat}
 
 abbrev pub IsWithin : ℕ → Data → Type 0
@@ -63,42 +63,45 @@ system_within s = omega (arith, list_within row_data 3 row_within s.rows)
 variables_within : (names : List (List ℕ)) (vs : List Variable) → IsWithin 1 (variables_data names vs)
 variables_within names vs = list_within (variable_data names) 0 (λ v. omega arith) vs
 
-effects_within : (names : List (List ℕ)) (e : EffectSet) → IsWithin 7 (effects_data names e)
+effects_within : (names : List (List ℕ)) (e : EffectSet) → IsWithin 8 (effects_data names e)
 effects_within names e = omega (arith, variables_within names e.reads, variables_within names e.writes)
 
 unit_within : (u : BlockUnit) → IsWithin 1 (unit_data u)
 unit_within u = omega arith
 
-transformer_within : (t : Transformer) → IsWithin 7 (transformer_data t)
+transformer_within : (t : Transformer) → IsWithin 8 (transformer_data t)
 transformer_within t = omega (arith, list_within number_data 0 (λ n. omega arith) t.cells, list_within unit_data 1 unit_within t.foreign, system_within t.system)
 
-region_within : (names : List (List ℕ)) (r : Region) → IsWithin 6 (region_data names r)
-region_within names r = omega (arith, system_within (piece_of r.pieces))
+pieces_within : (ss : List System) → IsWithin 6 (pieces_data ss)
+pieces_within ss = list_within system_data 5 system_within ss
 
-regions_within : (names : List (List ℕ)) (rs : List Region) → IsWithin 7 (regions_data names rs)
-regions_within names rs = list_within (region_data names) 6 (region_within names) rs
+region_within : (names : List (List ℕ)) (r : Region) → IsWithin 7 (region_data names r)
+region_within names r = omega (arith, pieces_within r.pieces)
 
-reason_within : (names : List (List ℕ)) (r : Reason) → IsWithin 7 (reason_data names r)
+regions_within : (names : List (List ℕ)) (rs : List Region) → IsWithin 8 (regions_data names rs)
+regions_within names rs = list_within (region_data names) 7 (region_within names) rs
+
+reason_within : (names : List (List ℕ)) (r : Reason) → IsWithin 8 (reason_data names r)
 reason_within names Jump = omega arith
 reason_within names InputOutput = omega arith
 reason_within names Step = omega arith
 reason_within names Index = omega arith
 reason_within names (Carries v ks p) = omega (arith, list_within conflict_data 0 (λ k. omega arith) ks)
 
-mark_within : (names : List (List ℕ)) (m : Mark) → IsWithin 7 (mark_data names m)
+mark_within : (names : List (List ℕ)) (m : Mark) → IsWithin 8 (mark_data names m)
 mark_within names (Parallel ns) = omega (arith, items_within (private_data names) 0 (λ n. omega arith) ns)
 mark_within names (Serial r) = reason_within names r
 
-at_within : {T : Type 0} (g : T → Data) → ((x : T) → IsWithin 7 (g x)) → (a : At T) → IsWithin 8 (at_data g a)
+at_within : {T : Type 0} (g : T → Data) → ((x : T) → IsWithin 8 (g x)) → (a : At T) → IsWithin 9 (at_data g a)
 at_within g h a = omega (arith, h a.value)
 
-all_within : {T : Type 0} (g : T → Data) → ((x : T) → IsWithin 7 (g x)) → (as' : List (At T)) → IsWithin 9 (all_data g as')
-all_within g h as' = list_within (at_data g) 8 (at_within g h) as'
+all_within : {T : Type 0} (g : T → Data) → ((x : T) → IsWithin 8 (g x)) → (as' : List (At T)) → IsWithin 10 (all_data g as')
+all_within g h as' = list_within (at_data g) 9 (at_within g h) as'
 
-results_within : {T : Type 0} (g : T → Data) → ((x : T) → IsWithin 7 (g x)) → (r : Results T) → IsWithin 12 (results_data g r)
+results_within : {T : Type 0} (g : T → Data) → ((x : T) → IsWithin 8 (g x)) → (r : Results T) → IsWithin 12 (results_data g r)
 results_within g h r = omega (arith, all_within g h r.at, h r.summary)
 
-flat_system : (s : System) → IsWithin 7 (system_data s)
+flat_system : (s : System) → IsWithin 8 (system_data s)
 flat_system s = omega (arith, system_within s)
 
 pub written_is_flat : WrittenIsFlat

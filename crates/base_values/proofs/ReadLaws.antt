@@ -31,9 +31,9 @@ use Rattle.base_values.specs.declared.stored.StoredValue.TheVariants as stored
 use Rattle.base_values.specs.Modules.{ModuleNames}
 use Rattle.base_values.specs.Words.{result_with, access_named, reason_named}
 use Rattle.base_values.specs.Naming.{Each, VariableFits, SystemFits}
-use Rattle.base_values.specs.Read.{effect_set, effects_of, block_unit, unit_in, unit_of, transformer, transformer_of, access_of, region_of, are_apart, regions_of, with_number, numbers_of, conflict_of, answer_of, carried_in, reason_in, mark_by, mark_in, mark_of, at_number, is_number, at_in, at_one, at_each, at_all, results, results_of, value_of, stored_of}
+use Rattle.base_values.specs.Read.{effect_set, effects_of, block_unit, unit_in, unit_of, transformer, transformer_of, access_of, are_few, pieces_of, region_of, are_apart, regions_of, with_number, numbers_of, conflict_of, answer_of, carried_in, reason_in, mark_by, mark_in, mark_of, at_number, is_number, at_in, at_one, at_each, at_all, results, results_of, value_of, stored_of}
 use Rattle.base_values.specs.Sizes.{kind_of, is_small_transformer, is_small_region, are_small_regions, all_small, is_small_value}
-use Rattle.base_values.specs.Fits.{EffectsFit, TransformerFits, OnePiece, RegionFits, RegionsFit, ReasonFits, MarkFits, AllFit, ResultsFit, StoredFits}
+use Rattle.base_values.specs.Fits.{EffectsFit, TransformerFits, PiecesFit, RegionFits, RegionsFit, ReasonFits, MarkFits, AllFit, ResultsFit, StoredFits}
 use Rattle.base_values.specs.Laws.{ReadFits}
 use Rattle.base_values.proofs.Options.{and_then_some, map_some, then_read, map_read, if_read, when_read, each_map, each_both, each_all, each_read, list_read}
 use Rattle.base_values.proofs.RowsBack.{either_some, cell_read, system_read}
@@ -95,6 +95,23 @@ access_read k d a e =
     then_read (same_kind (result_with a) k ≡ true) (λ c. when (same_kind (result_with c) k) c) (option_and_then access_named (as_str d)) a e (λ b eb e1.
     when_read (λ c. same_kind (result_with c) k ≡ true) (same_kind (result_with b) k) b a e1 (λ t. t))
 
+-- a system that is read fits where it is small
+abbrev PieceIfSmall : List (List ℕ) → System → Type 0
+PieceIfSmall names y = is_small_system y ≡ true → SystemFits (with_phi (cells_alone names)) y
+
+-- and so do systems, from one to four
+abbrev PiecesIfSmall : List (List ℕ) → List System → Type 0
+PiecesIfSmall names ss = list_all is_small_system ss ≡ true → PiecesFit names ss
+
+pieces_read : (names : List (List ℕ)) (d : Data) (ss : List System) → pieces_of (cells_alone names) d ≡ Some ss → PiecesIfSmall names ss
+pieces_read names d ss e =
+    let s = with_phi (cells_alone names) in
+    then_read (PiecesIfSmall names ss) (λ qs. when (are_few qs) qs) (list_as (system_of s) d) ss e (λ qs eq e1.
+    when_read (PiecesIfSmall names) (are_few qs) qs ss e1 (λ t small. (
+      each_both (PieceIfSmall names) (λ y. is_small_system y ≡ true) (SystemFits s) (λ y f k. f k) qs (list_read (system_of s) (PieceIfSmall names) (system_read s) d qs eq) (each_all is_small_system qs small),
+      t,
+    )))
+
 -- a region that is read fits where it is small
 abbrev IfSmall : List (List ℕ) → Kind → Region → Type 0
 IfSmall names k r = is_small_region r ≡ true → RegionFits names k r
@@ -105,10 +122,10 @@ region_read names k d r e =
     then_read (IfSmall names k r) _ (member_as as_bool (codes "exact") d) r e1 (λ x ex e2.
     then_read (IfSmall names k r) _ (member_as (access_of k) (codes "kind") d) r e2 (λ a ea e3.
     then_read (IfSmall names k r) _ (member_as (variable_of (cells_alone names)) (codes "of") d) r e3 (λ v ev e4.
-    map_read (IfSmall names k) (λ y. region v a x (y ∷ [])) (member_as (system_of (with_phi (cells_alone names))) (codes "system") d) r e4 (λ y ey small. (
+    map_read (IfSmall names k) (region v a x) (member_as (pieces_of (cells_alone names)) (codes "pieces") d) r e4 (λ ss es small. (
       then_read (VariableFits names v) (variable_of (cells_alone names)) (get (codes "of") d) v ev (λ w ew f. variable_read (cells_alone names) w v f),
       then_read (same_kind (result_with a) k ≡ true) (access_of k) (get (codes "kind") d) a ea (λ w ew f. access_read k w a f),
-      member_small (with_phi (cells_alone names)) (codes "system") d y ey (and_parts (is_small_system y) true small).0,
+      then_read (PiecesFit names ss) (pieces_of (cells_alone names)) (get (codes "pieces") d) ss es (λ w ew f. pieces_read names w ss f small),
     ))))))
 
 -- where they are small, they fit

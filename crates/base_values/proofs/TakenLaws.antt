@@ -11,7 +11,7 @@ use Rattle.affine_systems.specs.declared.row.Row.{Row}
 use Rattle.affine_systems.specs.declared.row.System.{System}
 use Rattle.affine_systems.specs.Given.{Fits}
 use Rattle.affine_systems.proofs.Basics.{if_cases}
-use Rattle.hull_projection.specs.Minus.{AllFit as PiecesFit}
+use Rattle.hull_projection.specs.Minus.{AllFit}
 use Rattle.f77_ast.specs.declared.variable.Unit.{Unit as BlockUnit}
 use Rattle.f77_ast.specs.declared.variable.Variable.{Variable}
 use Rattle.f77_ast.specs.declared.effect_set.EffectSet.{EffectSet}
@@ -39,9 +39,9 @@ use Rattle.base_values.specs.declared.stored.StoredValue.{StoredValue}
 use Rattle.base_values.specs.declared.stored.StoredValue.TheVariants as stored
 use Rattle.base_values.specs.Modules.{ModuleNames}
 use Rattle.base_values.specs.Naming.{Each, SystemFits}
-use Rattle.base_values.specs.Written.{variable_data, effects_data, unit_data, transformer_data, piece_of, region_data, regions_data, conflict_data, private_data, carried_data, reason_data, mark_data, at_data, all_data, results_data, entry_data, stored_data}
+use Rattle.base_values.specs.Written.{variable_data, effects_data, unit_data, transformer_data, pieces_data, region_data, regions_data, conflict_data, private_data, carried_data, reason_data, mark_data, at_data, all_data, results_data, entry_data, stored_data}
 use Rattle.base_values.specs.Sizes.{is_small_transformer, is_small_region, are_small_regions, all_small, is_small_value}
-use Rattle.base_values.specs.Fits.{TransformerFits, OnePiece, RegionFits, RegionsFit, ResultsFit, StoredFits}
+use Rattle.base_values.specs.Fits.{TransformerFits, PiecesFit, RegionFits, RegionsFit, ResultsFit, StoredFits}
 use Rattle.base_values.specs.Laws.{FitsIsSmall, FitsIsTaken, WrittenIsWhole}
 use Rattle.base_values.proofs.Options.{each_map, all_each}
 use Rattle.base_values.proofs.RowsBack.{system_small}
@@ -57,10 +57,8 @@ results_small {T} p P h ns r k =
 transformer_small : (names : List (List ℕ)) (t : Transformer) → TransformerFits names t → is_small_transformer t ≡ true
 transformer_small names t h = system_small (with_exits t.cells (cells_alone names)) t.system h.2
 
-pieces_small : (names : List (List ℕ)) (ps : List System) → OnePiece names ps → list_all is_small_system ps ≡ true
-pieces_small names [] h = absurd h
-pieces_small names (s ∷ []) h = and_from (is_small_system s) true (system_small (with_phi (cells_alone names)) s h) refl
-pieces_small names (s ∷ q ∷ qs) h = absurd h
+pieces_small : (names : List (List ℕ)) (ps : List System) → PiecesFit names ps → list_all is_small_system ps ≡ true
+pieces_small names ps h = let s = with_phi (cells_alone names) in all_each is_small_system ps (each_map (SystemFits s) (λ y. is_small_system y ≡ true) (system_small s) ps h.0)
 
 regions_small : (names : List (List ℕ)) (k : Kind) (rs : List Region) → RegionsFit names k rs → are_small_regions rs ≡ true
 regions_small names k rs h = all_each is_small_region rs (each_map (RegionFits names k) (λ r. is_small_region r ≡ true) (λ r f. pieces_small names r.pieces f.2) rs h.0)
@@ -87,14 +85,13 @@ systems_fit names (a ∷ as') h i d l = place i l (λ j k. systems_fit names as'
   place zero k rest = h.0.0
   place (suc j) k rest = rest j (omega arith)
 
-pieces_fit : (names : List (List ℕ)) (ps : List System) → OnePiece names ps → PiecesFit ps
-pieces_fit names [] h = absurd h
-pieces_fit names (s ∷ []) h = (h.0, tt)
-pieces_fit names (s ∷ q ∷ qs) h = absurd h
+pieces_fit : (names : List (List ℕ)) (ps : List System) → Each (SystemFits (with_phi (cells_alone names))) ps → AllFit ps
+pieces_fit names [] h = tt
+pieces_fit names (s ∷ ss) h = (h.0.0, pieces_fit names ss h.1)
 
 set_fits : (names : List (List ℕ)) (k : Kind) (rs : List Region) → Each (RegionFits names k) rs → SetFits rs
 set_fits names k [] h = tt
-set_fits names k (r ∷ rs) h = (pieces_fit names r.pieces h.0.2, set_fits names k rs h.1)
+set_fits names k (r ∷ rs) h = (pieces_fit names r.pieces h.0.2.0, set_fits names k rs h.1)
 
 sets_fit : (names : List (List ℕ)) (k : Kind) (as' : List (At (List Region))) → Each (λ (a : At (List Region)). RegionsFit names k a.value) as' → SetsFit as'
 sets_fit names k [] h = tt
@@ -163,7 +160,7 @@ transformer_whole t =
     (or_false (has_float (system_data t.system)) false (system_whole t.system) refl))
 
 region_whole : (names : List (List ℕ)) (r : Region) → IsWhole (region_data names r)
-region_whole names r = or_false (has_float (system_data (piece_of r.pieces))) false (system_whole (piece_of r.pieces)) refl
+region_whole names r = or_false (has_float (pieces_data r.pieces)) false (items_whole system_data system_whole r.pieces) refl
 
 regions_whole : (names : List (List ℕ)) (rs : List Region) → IsWhole (regions_data names rs)
 regions_whole names rs = items_whole (region_data names) (region_whole names) rs

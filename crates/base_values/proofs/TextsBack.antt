@@ -40,8 +40,8 @@ use Rattle.base_values.specs.declared.stored.StoredValue.TheVariants as stored
 use Rattle.base_values.specs.Modules.{ModuleNames}
 use Rattle.base_values.specs.Words.{access_word, answer_word}
 use Rattle.base_values.specs.Naming.{Each, AreBytes, AreNames, VariableFits, VarFits, RowNames, SystemFits}
-use Rattle.base_values.specs.Written.{variable_data, variables_data, effects_data, unit_data, transformer_data, piece_of, region_data, regions_data, conflict_data, private_data, reason_data, mark_data, at_data, all_data, results_data, entry_data, stored_data}
-use Rattle.base_values.specs.Fits.{EffectsFit, TransformerFits, OnePiece, RegionFits, RegionsFit, ReasonFits, MarkFits, ResultsFit, StoredFits}
+use Rattle.base_values.specs.Written.{variable_data, variables_data, effects_data, unit_data, transformer_data, pieces_data, region_data, regions_data, conflict_data, private_data, reason_data, mark_data, at_data, all_data, results_data, entry_data, stored_data}
+use Rattle.base_values.specs.Fits.{EffectsFit, TransformerFits, PiecesFit, RegionFits, RegionsFit, ReasonFits, MarkFits, ResultsFit, StoredFits}
 use Rattle.base_values.specs.Ranges.{IdsFit, OffsetsFit, TransformersFit, NumbersFit}
 use Rattle.base_values.proofs.Options.{each_map, each_both}
 use Rattle.base_values.proofs.NamesBack.{scalars_of, bytes_append, name_bytes, short_name, block_bytes, symbol_between, own_bytes}
@@ -139,15 +139,13 @@ access_back Write = word_back (codes "WRITE") refl
 access_back In = word_back (codes "IN") refl
 access_back Out = word_back (codes "OUT") refl
 
-piece_back : (names : List (List ℕ)) → AreNames names → (ps : List System) → OnePiece names ps → IsBack (system_data (piece_of ps))
-piece_back names h [] e = absurd e
-piece_back names h (s ∷ []) e = system_back (with_phi (cells_alone names)) h.few s e
-piece_back names h (s ∷ q ∷ qs) e = absurd e
+pieces_back : (names : List (List ℕ)) → AreNames names → (ps : List System) → PiecesFit names ps → IsBack (pieces_data ps)
+pieces_back names h ps e = let s = with_phi (cells_alone names) in each_back (SystemFits s) system_data (system_back s h.few) ps e.0
 
 region_back : (names : List (List ℕ)) → AreNames names → (k : Kind) (r : Region) → RegionFits names k r → IsBack (region_data names r)
 region_back names h k r e =
     object_back (member_back refl (boolean_back r.exact) (member_back refl (access_back r.kind)
-    (member_back refl (variable_back names h r.variable e.0) (member_back refl (piece_back names h r.pieces e.2) no_members_back))))
+    (member_back refl (variable_back names h r.variable e.0) (member_back refl (pieces_back names h r.pieces e.2) no_members_back))))
 
 regions_back : (names : List (List ℕ)) → AreNames names → (k : Kind) (rs : List Region) → RegionsFit names k rs → IsBack (regions_data names rs)
 regions_back names h k rs e = each_back (RegionFits names k) (region_data names) (region_back names h k) rs e.0

@@ -38,10 +38,10 @@ use Rattle.base_values.specs.declared.stored.StoredValue.TheVariants as stored
 use Rattle.base_values.specs.Modules.{ModuleNames}
 use Rattle.base_values.specs.Words.{access_word, result_with, access_named, conflict_word, conflict_named, answer_word, answer_named}
 use Rattle.base_values.specs.Naming.{Each, AreNames, VariableFits, SystemFits}
-use Rattle.base_values.specs.Read.{effect_set, effects_of, block_unit, unit_of, transformer, transformer_of, access_of, region_of, are_apart, regions_of, with_number, numbers_of, conflict_of, answer_of, mark_in, mark_of, at_number, at_in, at_one, at_each, at_all, results, results_of, value_of, stored_of}
-use Rattle.base_values.specs.Written.{variable_data, variables_data, effects_data, unit_data, transformer_data, piece_of, region_data, regions_data, conflict_data, private_data, carried_data, reason_data, mark_data, at_data, all_data, results_data, entry_data, stored_data}
+use Rattle.base_values.specs.Read.{effect_set, effects_of, block_unit, unit_of, transformer, transformer_of, access_of, are_few, pieces_of, region_of, are_apart, regions_of, with_number, numbers_of, conflict_of, answer_of, mark_in, mark_of, at_number, at_in, at_one, at_each, at_all, results, results_of, value_of, stored_of}
+use Rattle.base_values.specs.Written.{variable_data, variables_data, effects_data, unit_data, transformer_data, pieces_data, region_data, regions_data, conflict_data, private_data, carried_data, reason_data, mark_data, at_data, all_data, results_data, entry_data, stored_data}
 use Rattle.base_values.specs.Sizes.{kind_of}
-use Rattle.base_values.specs.Fits.{EffectsFit, TransformerFits, OnePiece, RegionFits, RegionsFit, ReasonFits, MarkFits, AllFit, ResultsFit, StoredFits}
+use Rattle.base_values.specs.Fits.{EffectsFit, TransformerFits, PiecesFit, RegionFits, RegionsFit, ReasonFits, MarkFits, AllFit, ResultsFit, StoredFits}
 use Rattle.base_values.specs.Laws.{WrittenIsRead}
 use Rattle.base_values.proofs.Options.{each_map, each_to, each_back, list_back}
 use Rattle.base_values.proofs.RowsBack.{when_true, cell_back, system_back}
@@ -89,15 +89,17 @@ named_access Out = refl
 access_back : (k : Kind) (a : Access) → same_kind (result_with a) k ≡ true → access_of k (string (access_word a)) ≡ Some a
 access_back k a e = ap (option_and_then (λ b. when (same_kind (result_with b) k) b)) (named_access a) ∙ when_true (same_kind (result_with a) k) a e
 
+pieces_back : (names : List (List ℕ)) (ss : List System) → AreNames names → PiecesFit names ss → pieces_of (cells_alone names) (pieces_data ss) ≡ Some ss
+pieces_back names ss h f =
+    let s = with_phi (cells_alone names) in
+    ap (option_and_then (λ qs. when (are_few qs) qs)) (list_back (system_of s) system_data ss (each_map (SystemFits s) (λ y. system_of s (system_data y) ≡ Some y) (λ y g. system_back s y h.few g) ss f.0))
+    ∙ when_true (are_few ss) ss f.1
+
 region_back : (names : List (List ℕ)) (k : Kind) (r : Region) → AreNames names → RegionFits names k r → region_of (cells_alone names) k (region_data names r) ≡ Some r
-region_back names k r h f = go r.pieces f.2 where
-  go : (ps : List System) → OnePiece names ps → region_of (cells_alone names) k (region_data names (region r.variable r.kind r.exact ps)) ≡ Some (region r.variable r.kind r.exact ps)
-  go [] g = absurd g
-  go (y ∷ []) g =
-      ap (option_and_then (λ a. option_and_then (λ v. option_map (λ z. region v a r.exact (z ∷ [])) (system_of (with_phi (cells_alone names)) (system_data y))) (variable_of (cells_alone names) (variable_data names r.variable)))) (access_back k r.kind f.1)
-      ∙ (ap (option_and_then (λ v. option_map (λ z. region v r.kind r.exact (z ∷ [])) (system_of (with_phi (cells_alone names)) (system_data y)))) (variable_back (cells_alone names) r.variable h f.0)
-      ∙ ap (option_map (λ z. region r.variable r.kind r.exact (z ∷ []))) (system_back (with_phi (cells_alone names)) y h.few g))
-  go (y ∷ z ∷ zs) g = absurd g
+region_back names k r h f =
+    ap (option_and_then (λ a. option_and_then (λ v. option_map (region v a r.exact) (pieces_of (cells_alone names) (pieces_data r.pieces))) (variable_of (cells_alone names) (variable_data names r.variable)))) (access_back k r.kind f.1)
+    ∙ (ap (option_and_then (λ v. option_map (region v r.kind r.exact) (pieces_of (cells_alone names) (pieces_data r.pieces)))) (variable_back (cells_alone names) r.variable h f.0)
+    ∙ ap (option_map (region r.variable r.kind r.exact)) (pieces_back names r.pieces h f.2))
 
 regions_back : (names : List (List ℕ)) (k : Kind) (rs : List Region) → AreNames names → RegionsFit names k rs → regions_of (cells_alone names) k (regions_data names rs) ≡ Some rs
 regions_back names k rs h f =

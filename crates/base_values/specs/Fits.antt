@@ -1,5 +1,5 @@
 -- When a result fits the module that it belongs to.
-use Rattle.std.specs.Prelude.{◌≡◌, ℕ, true, List, [], ◌∷◌, map}
+use Rattle.std.specs.Prelude.{◌≡◌, ℕ, true, List, map}
 use Rattle.affine_systems.specs.declared.row.System.{System}
 use Rattle.f77_ast.specs.declared.variable.Unit.{Unit as BlockUnit}
 use Rattle.f77_ast.specs.declared.effect_set.EffectSet.{EffectSet}
@@ -20,7 +20,7 @@ use Rattle.base_values.specs.declared.stored.StoredValue.TheVariants as stored
 use Rattle.base_values.specs.Modules.{ModuleNames}
 use Rattle.base_values.specs.Words.{result_with}
 use Rattle.base_values.specs.Naming.{Each, VariableFits, SystemFits}
-use Rattle.base_values.specs.Read.{are_apart}
+use Rattle.base_values.specs.Read.{are_few, are_apart}
 
 -- ---- results
 
@@ -32,14 +32,12 @@ abbrev pub TransformerFits : List (List ℕ) → Transformer → Type 0
 TransformerFits names t =
     Each (λ n. is_symbol names n ≡ true) t.cells × Each (λ (u : BlockUnit). is_block u.block ≡ true) t.foreign × SystemFits (with_exits t.cells (cells_alone names)) t.system
 
--- one system, on cells and subscripts
-abbrev pub OnePiece : List (List ℕ) → List System → Type 0
-OnePiece names [] = ⊥
-OnePiece names (s ∷ []) = SystemFits (with_phi (cells_alone names)) s
-OnePiece names (s ∷ q ∷ qs) = ⊥
+-- from one system to four, on cells and subscripts
+abbrev pub PiecesFit : List (List ℕ) → List System → Type 0
+PiecesFit names ss = Each (SystemFits (with_phi (cells_alone names))) ss × (are_few ss ≡ true)
 
 abbrev pub RegionFits : List (List ℕ) → Kind → Region → Type 0
-RegionFits names k r = VariableFits names r.variable × (same_kind (result_with r.kind) k ≡ true) × OnePiece names r.pieces
+RegionFits names k r = VariableFits names r.variable × (same_kind (result_with r.kind) k ≡ true) × PiecesFit names r.pieces
 
 -- at most one of a variable and kind
 abbrev pub RegionsFit : List (List ℕ) → Kind → List Region → Type 0

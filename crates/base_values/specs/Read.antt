@@ -1,6 +1,6 @@
 -- Results of a module out of JSON data: none where it has another shape, or does not fit the module. The sizes of the numbers of rows are looked at
 -- apart.
-use Rattle.std.specs.Prelude.{ℕ, Bool, true, false, List, [], ◌∷◌, ◌++◌, map, Option, Some, None, option_map, option_and_then, codes, nat_eq, bytes_eq, if◌then◌else◌}
+use Rattle.std.specs.Prelude.{ℕ, Bool, true, false, ◌&&◌, List, [], ◌∷◌, ◌++◌, length, map, Option, Some, None, option_map, option_and_then, codes, nat_eq, nat_lt, bytes_eq, if◌then◌else◌}
 use Rattle.serde_json.specs.Data.{Data}
 use Rattle.serde_json.specs.Find.{as_bool, as_str}
 use Rattle.affine_systems.specs.declared.row.System.{System}
@@ -74,11 +74,18 @@ transformer_of s d =
 abbrev pub access_of : Kind → Data → Option Access
 access_of k d = option_and_then (λ a. when (same_kind (result_with a) k) a) (option_and_then access_named (as_str d))
 
--- its system may name subscripts
+-- from one system to four
+abbrev pub are_few : List System → Bool
+are_few ss = nat_lt 0 (length ss) && nat_lt (length ss) 5
+
+-- the systems of a region, which may name subscripts
+abbrev pub pieces_of : ScopeTree → Data → Option (List System)
+pieces_of s d = option_and_then (λ ss. when (are_few ss) ss) (list_as (system_of (with_phi s)) d)
+
 abbrev pub region_of : ScopeTree → Kind → Data → Option Region
 region_of s k d =
     if has_members 4 d
-    then option_and_then (λ e. option_and_then (λ a. option_and_then (λ v. option_map (λ y. region v a e (y ∷ [])) (member_as (system_of (with_phi s)) (codes "system") d))
+    then option_and_then (λ e. option_and_then (λ a. option_and_then (λ v. option_map (region v a e) (member_as (pieces_of s) (codes "pieces") d))
     (member_as (variable_of s) (codes "of") d)) (member_as (access_of k) (codes "kind") d)) (member_as as_bool (codes "exact") d)
     else None
 

@@ -9,7 +9,6 @@ use Rattle.f77_ast.specs.declared.effect_set.EffectSet.{EffectSet}
 use Rattle.f77_ast.specs.declared.results.At.{At}
 use Rattle.f77_ast.specs.declared.results.Results.{Results}
 use Rattle.preconditions.specs.transformer_algebra.declared.transformer.Transformer.{Transformer}
-use Rattle.affine_forms.specs.Conditions.{infeasible}
 use Rattle.region_sets.specs.declared.region.Region.{Region}
 use Rattle.region_sets.specs.Written.{name_text}
 use Rattle.f77_ast.specs.declared.marks.Kinds.{Kinds}
@@ -44,15 +43,14 @@ transformer_data t =
     object (member (codes "cells") (list_data (map number_data t.cells)) (member (codes "foreign") (list_data (map unit_data t.foreign))
     (member (codes "system") (system_data t.system) no_members)))
 
--- the one system of a region
-abbrev pub piece_of : List System → System
-piece_of [] = infeasible
-piece_of (s ∷ ss) = s
+-- the systems of a region
+abbrev pub pieces_data : List System → Data
+pieces_data ss = list_data (map system_data ss)
 
 abbrev pub region_data : List (List ℕ) → Region → Data
 region_data names r =
     object (member (codes "exact") (boolean r.exact) (member (codes "kind") (string (access_word r.kind))
-    (member (codes "of") (variable_data names r.variable) (member (codes "system") (system_data (piece_of r.pieces)) no_members))))
+    (member (codes "of") (variable_data names r.variable) (member (codes "pieces") (pieces_data r.pieces) no_members))))
 
 abbrev pub regions_data : List (List ℕ) → List Region → Data
 regions_data names rs = list_data (map (region_data names) rs)

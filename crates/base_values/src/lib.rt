@@ -24,6 +24,6 @@ pub use names::{Names, Numbers, numbers_in};
 pub use put::{put_stored, value_text};
 pub use ranges::numbers_fit;
 pub use read::stored_at;
-pub use regions::are_apart;
+pub use regions::{are_apart, are_few};
 pub use sizes::is_small_value;
 pub use stored::{StoredValue, kind_of};

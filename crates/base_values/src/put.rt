@@ -5,11 +5,10 @@ ghost use Rattle.serde_json.specs.Written.{compact_text, members_text};
 ghost use Rattle.f77_ast.specs.Index.{names_of};
 ghost use Rattle.base_json.specs.RowsWritten.{system_data};
 ghost use Rattle.base_values.specs.Words.{access_word};
-ghost use Rattle.base_values.specs.Written.{at_data, effects_data, entry_data, mark_data, piece_of, region_data, regions_data, results_data, stored_data, transformer_data, unit_data, variable_data, variables_data};
+ghost use Rattle.base_values.specs.Written.{at_data, effects_data, entry_data, mark_data, pieces_data, region_data, regions_data, results_data, stored_data, transformer_data, unit_data, variable_data, variables_data};
 
 use crate::StoredValue;
 use crate::scope::SymbolNames;
-use affine_forms::infeasible;
 use affine_systems::System;
 use base_json::{Encode, Put, put_flag, put_list, put_number, put_system, put_value, text_value};
 use f77_ast::{At, EffectSet, Mark, Results, Symbols, Unit, Variable};
@@ -106,30 +105,20 @@ fn put_access(access: Access, out: &mut Text) -> Result<(), Memory>
     }
 }
 
-/// Appends the first of some systems; the infeasible one where there is none.
-fn put_piece(alloc: Global, pieces: &[System], out: &mut Text) -> Result<(), Memory>
-    ensures { OnOk result (out.new ≡ out.old ++ compact_text (system_data (piece_of pieces.now))) }
-{
-    match pieces {
-        [] => put_system(alloc, &infeasible(alloc)?, out),
-        [piece, ..] => put_system(alloc, piece, out),
-    }
-}
-
-/// Appends the members `of` and `system` of a region, and the brace behind them.
+/// Appends the members `of` and `pieces` of a region, and the brace behind them.
 #[tactic(auto, unfolding(serde_json::proofs::OnLiterals::serde_json_on_literals))]
-fn put_of_and_system(
+fn put_of_and_pieces(
     alloc: Global,
     scope: &SymbolNames<'_>,
     region: &Region,
     out: &mut Text,
 ) -> Result<(), Memory>
-    ensures { OnOk result (out.new ≡ out.old ++ members_text true (member (codes "of") (variable_data (names_of scope.now.symbols.now) region.now.variable) (member (codes "system") (system_data (piece_of region.now.pieces)) no_members))) }
+    ensures { OnOk result (out.new ≡ out.old ++ members_text true (member (codes "of") (variable_data (names_of scope.now.symbols.now) region.now.variable) (member (codes "pieces") (pieces_data region.now.pieces) no_members))) }
 {
     out.append(b",\"of\":")?;
     region.variable.put(alloc, scope, out)?;
-    out.append(b",\"system\":")?;
-    put_piece(alloc, region.pieces.as_slice(), out)?;
+    out.append(b",\"pieces\":")?;
+    put_list(alloc, scope, region.pieces.as_slice(), out)?;
     out.push(b'}')
 }
 
@@ -142,7 +131,7 @@ impl<'a> Put<SymbolNames<'a>> for Region {
         put_flag(self.exact, out)?;
         out.append(b",\"kind\":")?;
         put_access(self.kind, out)?;
-        put_of_and_system(alloc, scope, self, out)
+        put_of_and_pieces(alloc, scope, self, out)
     }
 }
 

@@ -1,21 +1,23 @@
 //! Regions out of JSON values.
-ghost use Rattle.std.specs.Prelude.{◌≡◌, ◌++◌, ◌∷◌, [], IfOk, map, codes, option_and_then};
+ghost use Rattle.std.specs.Prelude.{◌≡◌, ◌++◌, IfOk, map, codes, option_and_then};
 ghost use Rattle.serde_json.specs.View.{view};
 ghost use Rattle.pipsmake_rules.specs.Kinds.{same_kind};
 ghost use Rattle.f77_ast.specs.Index.{names_of};
 ghost use Rattle.region_sets.specs.Written.{access_text as access_text_is};
 ghost use Rattle.base_json.specs.Gives.{Gives};
-ghost use Rattle.base_json.specs.Shapes.{member_as, when};
+ghost use Rattle.base_json.specs.Shapes.{list_as, member_as, when};
 ghost use Rattle.base_json.specs.Scopes.{scope_tree, with_phi};
 ghost use Rattle.base_json.specs.Read.{system_of};
-ghost use Rattle.base_values.specs.Read.{access_of, region_of, regions_of, region_key as region_key_is, are_apart as are_apart_is};
+ghost use Rattle.base_values.specs.Read.{access_of, are_few as are_few_is, pieces_of, region_of, regions_of, region_key as region_key_is, are_apart as are_apart_is};
 ghost use Rattle.base_values.specs.Words.{access_named as access_named_is, result_with as result_with_is};
 
 use crate::scope::ValueScope;
 use crate::variables::put_variable;
 use crate::words::{access_named, result_with};
 use affine_systems::System;
-use base_json::{Decode, DecodeError, Scope, are_distinct, field, has_members, list_at, word};
+use base_json::{
+    Decode, DecodeError, Scope, are_distinct, field, has_members, list_at, member, word,
+};
 use f77_ast::{Symbols, Variable};
 use fx_lists::{List, Text};
 use pipsmake_rules::Kind;
@@ -55,25 +57,56 @@ impl<'a> Decode<ValueScope<'a>> for Access {
     }
 }
 
-/// The system under the key `system`, which may name subscripts.
-fn phi_system(alloc: Global, scope: &ValueScope<'_>, value: &Value) -> Result<System, DecodeError>
-    ensures { Gives result (member_as (system_of (with_phi (scope_tree scope.now.cells))) (codes "system") (view value.now)) }
+/// The systems of an array, which may name subscripts.
+fn phi_systems(
+    alloc: Global,
+    scope: &ValueScope<'_>,
+    value: &Value,
+) -> Result<List<System>, DecodeError>
+    ensures { Gives result (list_as (system_of (with_phi (scope_tree scope.now.cells))) (view value.now)) }
 {
     let scope = Scope {
         symbols: scope.cells.symbols,
         exits: scope.cells.exits,
         phi: true,
     };
-    field(alloc, &scope, value, "system")
+    list_at(alloc, &scope, value)
 }
 
-/// A list of one system.
-fn one_piece(alloc: Global, piece: System) -> Result<List<System>, Memory>
-    ensures { IfOk result (λ pieces. pieces ≡ piece ∷ []) }
+/// Whether they are as many as the systems of a region may be, from one to four.
+pub fn are_few(pieces: &[System]) -> bool
+    ensures { result ≡ are_few_is pieces.now }
 {
-    let mut pieces = List::new(alloc);
-    pieces.push(piece)?;
+    0 < pieces.len() && pieces.len() < 5
+}
+
+/// The systems of a region; Shape where they are none or more than four.
+fn pieces_at(
+    alloc: Global,
+    scope: &ValueScope<'_>,
+    value: &Value,
+) -> Result<List<System>, DecodeError>
+    ensures { Gives result (pieces_of (scope_tree scope.now.cells) (view value.now)) }
+{
+    let pieces = phi_systems(alloc, scope, value)?;
+    if !are_few(pieces.as_slice()) {
+        return Err(DecodeError::Shape);
+    }
     Ok(pieces)
+}
+
+/// The systems under the key `pieces`.
+fn pieces_under(
+    alloc: Global,
+    scope: &ValueScope<'_>,
+    value: &Value,
+) -> Result<List<System>, DecodeError>
+    ensures { Gives result (member_as (pieces_of (scope_tree scope.now.cells)) (codes "pieces") (view value.now)) }
+{
+    match member(value, "pieces") {
+        None => Err(DecodeError::Shape),
+        Some(found) => pieces_at(alloc, scope, found),
+    }
 }
 
 impl<'a> Decode<ValueScope<'a>> for Region {
@@ -86,12 +119,12 @@ impl<'a> Decode<ValueScope<'a>> for Region {
         let exact: bool = field(alloc, scope, value, "exact")?;
         let kind: Access = field(alloc, scope, value, "kind")?;
         let variable: Variable = field(alloc, &scope.cells, value, "of")?;
-        let piece = phi_system(alloc, scope, value)?;
+        let pieces = pieces_under(alloc, scope, value)?;
         Ok(Region {
             variable,
             kind,
             exact,
-            pieces: one_piece(alloc, piece)?,
+            pieces,
         })
     }
 }

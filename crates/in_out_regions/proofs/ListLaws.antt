@@ -19,8 +19,9 @@ use Rattle.array_regions.specs.transformers.Lists.{list_at}
 use Rattle.array_regions.specs.region_sets.declared.region.Access.{Access}
 use Rattle.array_regions.specs.region_sets.declared.region.Region.{Region}
 use Rattle.array_regions.specs.region_sets.Regions.{any_weak, remade}
+use Rattle.array_regions.specs.region_sets.Trim.{trim}
 use Rattle.array_regions.specs.region_sets.Compose.{compose}
-use Rattle.array_regions.specs.region_sets.Subtract.{subtract, unless_empty, left_of, all_left_exactly, all_apart}
+use Rattle.array_regions.specs.region_sets.Subtract.{are_places, less_all, unless_empty, all_left, all_apart, subtract}
 use Rattle.array_regions.specs.region_sets.Sets.{unite_all}
 use Rattle.array_regions.specs.region_sets.Lists.{all_composed, in_any_order, numbers}
 use Rattle.hull_projection.specs.Unions.{HoldsSome}
@@ -49,7 +50,7 @@ abbrev AreAlike : Region → Option Region → Type 0
 AreAlike r o = (q : Region) → o ≡ Some q → IsAlike r q
 
 subtract_alike : (r w : Region) → AreAlike r (subtract r w)
-subtract_alike r w = go w.exact
+subtract_alike r w = go (w.exact && are_places w.pieces)
   where
     some : (e : Bool) (ss : List System) → AreAlike r (Some (remade r e ss))
     some e ss q h = let same : remade r e ss ≡ q = cc in subst (IsAlike r) same (record { variable = refl; kind = refl })
@@ -58,8 +59,8 @@ subtract_alike r w = go w.exact
     left e [] q h = cc
     left e (s ∷ ss) q h = some e (s ∷ ss) q h
 
-    go : (b : Bool) → AreAlike r (if b then unless_empty r (r.exact && all_left_exactly r.pieces w.pieces) (left_of r.pieces w.pieces) else Some (remade r (r.exact && all_apart r.pieces w.pieces) r.pieces))
-    go true = left (r.exact && all_left_exactly r.pieces w.pieces) (left_of r.pieces w.pieces)
+    go : (b : Bool) → AreAlike r (if b then all_left r (less_all r.pieces w.pieces) else Some (remade r (r.exact && all_apart r.pieces w.pieces) r.pieces))
+    go true = let ss = less_all r.pieces w.pieces in left (r.exact && (trim ss).exact) (trim ss).pieces
     go false = some (r.exact && all_apart r.pieces w.pieces) r.pieces
 
 -- the one of an option is one of its list

@@ -3,14 +3,14 @@ ghost use Rattle.laws_lines.specs.Ins.Laws.{AllInLinesPass, InLinesMeanRegions, 
 
 use crate::region_lines_are_passed_over;
 
-/// IN regions of modules have one system each, and speak of subscripts, of which there are seven, and of tracked cells where the statement
-/// begins, and of no other variable.
+/// IN regions of modules have one to four systems each, and speak of subscripts, of which there are seven, and of tracked cells where the
+/// statement begins, and of no other variable.
 pub fn ins_are_over_places()
     ensures { InsAreOverPlaces }
 {}
 
-/// Each IN line of a module is read as just a region that was found there, where the names of its symbols are words, and none is that of a
-/// subscript, and those of modules and blocks are of letters, digits and `_`.
+/// Each IN line of a module is read as a region that was found there, as it is shown: each of its systems has lost a row if any has. The names
+/// of its symbols are words, and none is that of a subscript, and those of modules and blocks are of letters, digits and `_`.
 pub fn in_lines_mean_regions()
     ensures { InLinesMeanRegions }
 {}

@@ -10,8 +10,8 @@ pub fn indexes_are_symbols()
     ensures { IndexesAreSymbols }
 {}
 
-/// READ and WRITE regions of modules have one system each, and speak of subscripts, of which there are seven, and of tracked cells where the
-/// statement begins, and of no other variable.
+/// READ and WRITE regions of modules have one to four systems each, and speak of subscripts, of which there are seven, and of tracked cells
+/// where the statement begins, and of no other variable.
 pub fn regions_are_over_places()
     ensures { RegionsAreOverPlaces }
 {}
@@ -22,8 +22,8 @@ pub fn regions_are_readable()
     ensures { RegionsAreReadable }
 {}
 
-/// Each line of a module is read as just a region that was found there, where the names of its symbols are words, and none is that of a
-/// subscript, and those of modules and blocks are of letters, digits and `_`.
+/// Each line of a module is read as a region that was found there, as it is shown: each of its systems has lost a row if any has. The names of
+/// its symbols are words, and none is that of a subscript, and those of modules and blocks are of letters, digits and `_`.
 pub fn region_lines_mean_regions()
     ensures { RegionLinesMeanRegions }
 {}

@@ -9,7 +9,7 @@ pub fn region_lines_read_back()
     ensures { RegionLinesReadBack }
 {}
 
-/// The line of a region of one system, as the analyses make them, is read as just that region.
+/// The line of a region of one system is read as just that region.
 pub fn one_system_lines_read_back()
     ensures { OneSystemLinesReadBack }
 {}

@@ -1,71 +1,61 @@
--- What holds of each region that is gathered holds of each of the set.
-use Rattle.std.proofs.Common.{◌≡◌, List, [], ◌∷◌, ◌++◌, Bool, true, false, refl, inl, inr, ⊎_elim, Ordering}
-use Rattle.std.specs.Prelude.{if◌then◌else◌}
-use Rattle.std.specs.declared.cmp.Ordering.TheVariants.{Less, Equal, Greater}
-use Rattle.std.specs.Ordering.{match_ordering}
-use Rattle.affine_systems.specs.declared.row.System.{System}
-use Rattle.affine_systems.specs.Points.{Point}
-use Rattle.hull_projection.specs.Refute.{refuted}
-use Rattle.preconditions.specs.transformer_algebra.Laws.{In, here, there}
+-- What exact regions of one variable say, where regions are gathered, those of it say in the set.
+use Rattle.std.proofs.Common.{◌≡◌, ℕ, zero, suc, ℤ, List, Bool, true, false, Option, Some, None, refl, sym, ap, subst}
+use Rattle.std.specs.Prelude.{option_map}
+use Rattle.std.specs.Ordering.{is_eq}
+use Rattle.affine_systems.specs.declared.row.Var.TheVariants.{Phi}
+use Rattle.f77_ast.specs.declared.variable.Variable.{Variable}
+use Rattle.f77_ast.specs.Variables.{same_variable}
+use Rattle.f77_ast.proofs.SameLaws.{cmp_to_same}
+use Rattle.preconditions.specs.transformer_algebra.Claims.{Scene}
+use Rattle.preconditions.specs.transformer_algebra.Laws.{In}
 use Rattle.in_out_regions.specs.region_sets.declared.region.Region.{Region}
-use Rattle.in_out_regions.specs.region_sets.Regions.{remade, hull_of}
-use Rattle.in_out_regions.specs.region_sets.Sets.{region_cmp, live_pieces, with_pieces, with_region, with_live, with_regions, live, unite_all}
-use Rattle.in_out_regions.specs.region_sets.Unite.{all_within, unite}
-use Rattle.hull_projection.specs.Unions.{HoldsSome}
-use Rattle.in_out_regions.proofs.RegionSets.SetLaws.{live_some as live_points}
+use Rattle.in_out_regions.specs.region_sets.Sets.{unite_all}
+use Rattle.in_out_regions.specs.region_sets.Claims.{Accessed, IsSharp, IsSharpSet, Places, AreByOrder}
+use Rattle.in_out_regions.proofs.RegionSets.SetLaws.{gathered_sharp}
 
 -- each of a list
 abbrev pub EachOne : (Region → Type 0) → List Region → Type 0
 EachOne P rs = (r : Region) → In r rs → P r
 
-pub each_none : (P : Region → Type 0) → EachOne P []
-each_none P r i = elim i [ ]
+-- elements of the variable as they are, those of others all at one unit, which counts as accessed
+abbrev tagged : Bool → Option ℕ → Option ℕ
+tagged false o = Some 0
+tagged true o = option_map suc o
 
-pub each_more : (P : Region → Type 0) (r : Region) (rs : List Region) → P r → EachOne P rs → EachOne P (r ∷ rs)
-each_more P r rs h t q here = h
-each_more P r rs h t q (there i) = t q i
+abbrev tagged_test : (ℕ → Bool) → ℕ → Bool
+tagged_test c zero = true
+tagged_test c (suc u) = c u
 
--- P holds of inexact regions, and of one with fewer points where it holds of the region
-module _ (P : Region → Type 0) (inexact : (r : Region) → r.exact ≡ false → P r) (fewer : (r : Region) (ss : List System) → ((p : Point) → HoldsSome p ss → HoldsSome p r.pieces) → P r → P (remade r r.exact ss)) where
-  abbrev E : List Region → Type 0
-  E rs = (r : Region) → In r rs → P r
+module _ (m : Scene) (at : Places) (by_order : AreByOrder at) (x : ℕ → ℤ) (c : ℕ → Bool) (v : Variable) where
+  abbrev beside : Places
+  beside w phi = tagged (same_variable v w) (at w phi)
 
-  united_so : (a b : Region) → P a → P b → P (unite a b)
-  united_so a b h k = go (all_within a.pieces b.pieces) (all_within b.pieces a.pieces)
+  beside_order : AreByOrder beside
+  beside_order w z e =
+      let tags : same_variable v w ≡ same_variable v z = ap is_eq (cmp_to_same v w z e) in
+      let places = by_order w z e in
+      λ i phi. tagged (tags i) (places i phi)
+
+  into : (w : Variable) (phi : ℕ → ℤ) → (same_variable v w ≡ true → Accessed (at w) c phi) → Accessed (beside w) (tagged_test c) phi
+  into w phi h = go (same_variable v w) refl
     where
-      go : (m n : Bool) → P (if m then remade a a.exact a.pieces else if n then remade b b.exact b.pieces else remade a false (hull_of (a.pieces ++ b.pieces) ∷ []))
-      go true n = fewer a a.pieces (λ p i. i) h
-      go false true = fewer b b.pieces (λ p i. i) k
-      go false false = inexact (remade a false (hull_of (a.pieces ++ b.pieces) ∷ [])) refl
+      go : (b : Bool) → same_variable v w ≡ b → Accessed (λ f. tagged b (at w f)) (tagged_test c) phi
+      go false e = record { unit = 0; there = refl; is_so = refl }
+      go true e = let a = h e in record { unit = suc a.unit; there = ap (option_map suc) a.there; is_so = a.is_so }
 
-  alive_so : (r : Region) → P r → P (remade r r.exact (live_pieces r.pieces))
-  alive_so r h = fewer r (live_pieces r.pieces) (λ p i. live_points p r.pieces i) h
-
-  put_so : (r : Region) (qs : List Region) → P r → E qs → E (with_region r qs)
-  put_so r [] h t = each_more P r [] h t
-  put_so r (q ∷ qs) h t = go (region_cmp r q) (put_so r qs h (λ w i. t w (there i)))
+  back : (w : Variable) (phi : ℕ → ℤ) → same_variable v w ≡ true → Accessed (beside w) (tagged_test c) phi → Accessed (at w) c phi
+  back w phi s a = go (at w phi) refl (subst (λ b. tagged b (at w phi) ≡ Some a.unit) s a.there)
     where
-      go : (o : Ordering) → E (with_region r qs) → E (match_ordering o (r ∷ (q ∷ qs)) (unite q r ∷ qs) (q ∷ with_region r qs))
-      go Less ih = each_more P r (q ∷ qs) h t
-      go Equal ih = each_more P (unite q r) qs (united_so q r (t q here) h) (λ w i. t w (there i))
-      go Greater ih = each_more P q (with_region r qs) (t q here) ih
+      go : (o : Option ℕ) → at w phi ≡ o → option_map suc o ≡ Some a.unit → Accessed (at w) c phi
+      go None e q = cc
+      go (Some u) e q = let same : suc u ≡ a.unit = cc in record { unit = u; there = e; is_so = subst (λ n. tagged_test c n ≡ true) (sym same) a.is_so }
 
-  pieces_so : (r : Region) (ss : List System) (k : Region → List Region) (none : List Region) → E (k (remade r r.exact ss)) → E none → E (with_pieces r ss k none)
-  pieces_so r [] k none h n = n
-  pieces_so r (s ∷ ss) k none h n = h
+  -- of this variable, and sharp
+  abbrev pub IsSharpOfIt : Region → Type 0
+  IsSharpOfIt r = same_variable v r.variable ≡ true → IsSharp m (at r.variable) r x c
 
-  put_all_so : (rs qs : List Region) → E qs → E rs → E (with_regions qs rs)
-  put_all_so [] qs h t = h
-  put_all_so (r ∷ rs) qs h t =
-      put_all_so rs (with_live r qs)
-      (pieces_so r (live_pieces r.pieces) (λ s. with_region s qs) qs (put_so (remade r r.exact (live_pieces r.pieces)) qs (alive_so r (t r here)) h) h)
-      (λ w i. t w (there i))
-
-  live_so : (rs : List Region) → E rs → E (live rs)
-  live_so [] t = t
-  live_so (r ∷ rs) t =
-      let u = live_so rs (λ w i. t w (there i)) in
-      pieces_so r (live_pieces r.pieces) (λ s. s ∷ live rs) (live rs) (each_more P (remade r r.exact (live_pieces r.pieces)) (live rs) (alive_so r (t r here)) u) u
-
-  pub gathered_so : (rs : List Region) → EachOne P rs → EachOne P (unite_all rs)
-  gathered_so rs t = live_so (with_regions [] rs) (put_all_so rs [] (each_none P) t)
+  pub gathered_so : (rs : List Region) → EachOne IsSharpOfIt rs → EachOne IsSharpOfIt (unite_all rs)
+  gathered_so rs h r i s e p st g = back r.variable (λ k. p (Phi k)) s (gathered_sharp rs m beside beside_order x (λ k. tagged_test c) each r i e p st g)
+    where
+      each : IsSharpSet m beside rs x (λ k. tagged_test c)
+      each q j f o t w = into q.variable (λ k. o (Phi k)) (λ y. h q j y f o t w)

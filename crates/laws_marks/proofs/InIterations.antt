@@ -1,6 +1,8 @@
 -- From the IN regions of the body of a DO to those of the DO.
 use Rattle.std.proofs.Common.{◌≡◌, ⊎_elim, ℕ, ◌<◌, List, [], ◌∷◌, ◌++◌, ◌&&◌, Bool, true, false, refl, sym, ap, ◌∙◌, subst, ℤ, pos, ◌+ℤ◌, ◌*ℤ◌, Option, Some, None}
 use Rattle.std.specs.Prelude.{not, MatchOption, if◌then◌else◌, is_some}
+use Rattle.std.specs.declared.cmp.Ordering.TheVariants.{Equal}
+use Rattle.std.specs.Ordering.{is_eq}
 use Rattle.std.proofs.lemmas.Bool.{and_parts, or_parts, not-true}
 use Rattle.affine_systems.specs.declared.row.Var.TheVariants.{Phi}
 use Rattle.affine_systems.specs.declared.row.System.{System}
@@ -15,7 +17,8 @@ use Rattle.in_out_regions.specs.region_sets.declared.region.Access.{Access}
 use Rattle.in_out_regions.specs.region_sets.declared.region.Access.TheVariants.{Write}
 use Rattle.in_out_regions.specs.region_sets.declared.region.Region.{Region}
 use Rattle.in_out_regions.specs.region_sets.Regions.{remade, any_weak}
-use Rattle.in_out_regions.specs.region_sets.Subtract.{left_of, all_left_exactly, unless_empty, all_apart, subtract}
+use Rattle.in_out_regions.specs.region_sets.Trim.{trim}
+use Rattle.in_out_regions.specs.region_sets.Subtract.{are_places, less_all, unless_empty, all_left, all_apart, subtract}
 use Rattle.in_out_regions.specs.region_sets.Loops.{over_loop}
 use Rattle.hull_projection.specs.Unions.{HoldsSome}
 use Rattle.in_out_regions.specs.region_sets.Claims.{Elements, Accessed, LiesIn, LiesInSet, IsSharp, Places, AreByOrder, InRange, Iteration, Begins}
@@ -29,9 +32,10 @@ use Rattle.in_out_regions.specs.Loops.{in_range, earlier, less_earlier, in_itera
 use Rattle.laws_marks.proofs.InGathering.{EachOne}
 use Rattle.laws_marks.proofs.InRests.{SharpUnless}
 use Rattle.laws_marks.proofs.InEarlier.{Known, known_of, begun_at, starts_at, Earlier, back_at, back_starts, earlier_has, earlier_sharp, ranged_lies, ranged_sharp}
-use Rattle.f77_ast.specs.Variables.{same_variable}
+use Rattle.f77_ast.specs.Variables.{variable_cmp, same_variable}
+use Rattle.f77_ast.proofs.SameLaws.{cmp_if, cmp_to_same}
 use Rattle.preconditions.proofs.TransformerAlgebra.Members.{in_left, in_right}
-use Rattle.in_out_regions.proofs.WriteLaws.{write_found, Found as WriteOf}
+use Rattle.in_out_regions.proofs.WriteLaws.{write_found, write_same, Found as WriteOf}
 
 -- ---- what is made of a region keeps its variable and its kind
 
@@ -42,14 +46,14 @@ abbrev pub MaybeAs : Region → Option Region → Type 0
 MaybeAs r o = MatchOption o (Unit {0}) (λ q. IsAs r q)
 
 pub subtract_as : (a b : Region) → MaybeAs a (subtract a b)
-subtract_as a b = go b.exact
+subtract_as a b = go (b.exact && are_places b.pieces)
   where
     one : (e : Bool) (ps : List System) → MaybeAs a (unless_empty a e ps)
     one e [] = tt
     one e (p ∷ ps) = (refl, refl)
 
-    go : (c : Bool) → MaybeAs a (if c then unless_empty a (a.exact && all_left_exactly a.pieces b.pieces) (left_of a.pieces b.pieces) else Some (remade a (a.exact && all_apart a.pieces b.pieces) a.pieces))
-    go true = one (a.exact && all_left_exactly a.pieces b.pieces) (left_of a.pieces b.pieces)
+    go : (c : Bool) → MaybeAs a (if c then all_left a (less_all a.pieces b.pieces) else Some (remade a (a.exact && all_apart a.pieces b.pieces) a.pieces))
+    go true = one (a.exact && (trim (less_all a.pieces b.pieces)).exact) (trim (less_all a.pieces b.pieces)).pieces
     go false = (refl, refl)
 
 module _ (ss : List SymbolTree) (m : Scene) (at : Places) (by_order : AreByOrder at) (g : Range) (x : ℕ → ℤ) (a b : ℤ) (bg : Begins m g x a b) (tracked : Bool) (is_tracked : m.tracked g.index ≡ tracked) (ws : List Region) where
@@ -153,18 +157,34 @@ module _ (ss : List SymbolTree) (m : Scene) (at : Places) (by_order : AreByOrder
     all_writes = scalar Write g.index ∷ ws
 
     module _ (first all : ℕ → Bool) (s : ℤ) (is_step : g.step ≡ Some s) (behind : (i : ℕ) → i < k → Behind s i) (reach : (v : Variable) → is_overlapped ss all_writes v ≡ false → same_variable (Own g.index) v ≡ false → (phi : ℕ → ℤ) (u : ℕ) → at v phi ≡ Some u → ((i : ℕ) (l : i < k) → (behind i l).written u ≡ false) → first u ≡ true → all u ≡ true) where
-      pub iteration_sharp : (r : Region) → is_overlapped ss all_writes r.variable ≡ false → same_variable (Own g.index) r.variable ≡ false → IsSharp m (at r.variable) r y first → MatchOption (in_iteration tracked g ss ws r) (Unit {0}) (λ q. IsSharp m (at r.variable) q y all)
-      iteration_sharp r o ni h = go (earlier tracked g (write_of r.variable ws)) refl
+      pub iteration_sharp : (r : Region) (v : Variable) → same_variable v r.variable ≡ true → is_overlapped ss all_writes v ≡ false → same_variable (Own g.index) r.variable ≡ false → IsSharp m (at r.variable) r y first → MatchOption (in_iteration tracked g ss ws r) (Unit {0}) (λ q. IsSharp m (at r.variable) q y all)
+      iteration_sharp r v like o ni h = go (earlier tracked g (write_of r.variable ws)) refl
         where
           ranged : IsSharp m (at r.variable) (in_range tracked g r) y first
           ranged = ranged_sharp m g x a b bg tracked (at r.variable) r y first h
 
-          beside : is_overlapped ss ws r.variable ≡ false
-          beside = (or_parts (is_write_beside ss r.variable (scalar Write g.index)) (is_overlapped ss ws r.variable) o).1
+          beside : is_overlapped ss ws v ≡ false
+          beside = (or_parts (is_write_beside ss v (scalar Write g.index)) (is_overlapped ss ws v) o).1
+
+          -- the order does not tell the variable apart from that of the region
+          tie : variable_cmp v r.variable ≡ Equal
+          tie = cmp_if v r.variable like
+
+          places : at v ≡ at r.variable
+          places = by_order v r.variable tie
+
+          off_index : same_variable (Own g.index) v ≡ false
+          off_index = ap is_eq (cmp_to_same (Own g.index) v r.variable tie) ∙ ni
+
+          -- what an earlier iteration writes of the variable lies in its WRITE region
+          within_here : (i : ℕ) (l : i < k) (p : Point) → AtStart m (behind i l).store p → (u : ℕ) → at r.variable (λ j. p (Phi j)) ≡ Some u → (behind i l).written u ≡ true → MatchOption (write_of r.variable ws) ⊥ (λ w. HoldsSome p w.pieces)
+          within_here i l p st u e wr =
+              subst (λ z. MatchOption z ⊥ (λ w. HoldsSome p w.pieces)) (write_same v r.variable ws tie)
+              ((behind i l).within v beside p st (record { unit = u; there = subst (λ (z : Elements). z (λ j. p (Phi j)) ≡ Some u) (sym places) e; is_so = wr }))
 
           -- a point of which no earlier write is known
           one : (p : Point) → Accessed (at r.variable) first (λ j. p (Phi j)) → ((i : ℕ) (l : i < k) (u : ℕ) → at r.variable (λ j. p (Phi j)) ≡ Some u → (behind i l).written u ≡ true → ⊥) → Accessed (at r.variable) all (λ j. p (Phi j))
-          one p c n = record { unit = c.unit; there = c.there; is_so = reach r.variable o ni (λ j. p (Phi j)) c.unit c.there (λ i l. off ((behind i l).written c.unit) (n i l c.unit c.there)) c.is_so }
+          one p c n = record { unit = c.unit; there = c.there; is_so = reach v o off_index (λ j. p (Phi j)) c.unit (subst (λ (z : Elements). z (λ j. p (Phi j)) ≡ Some c.unit) (sym places) c.there) (λ i l. off ((behind i l).written c.unit) (n i l c.unit c.there)) c.is_so }
             where
               off : (z : Bool) → (z ≡ true → ⊥) → z ≡ false
               off true f = absurd (f refl)
@@ -178,7 +198,7 @@ module _ (ss : List SymbolTree) (m : Scene) (at : Places) (by_order : AreByOrder
               one p (ranged t.0 p st c) (λ i l u here_u wr. untouched none i l p st u here_u wr))
             where
               untouched : is_some (write_of r.variable ws) ≡ false → (i : ℕ) (l : i < k) (p : Point) → AtStart m y p → (u : ℕ) → at r.variable (λ j. p (Phi j)) ≡ Some u → (behind i l).written u ≡ true → ⊥
-              untouched none i l p st u h wr = off (write_of r.variable ws) none ((behind i l).within r.variable beside (begun_at m g x a b bg (behind i l).number (behind i l).store p) (starts_at m g x a b bg n k y (behind i l).number i (behind i l).store p it (behind i l).iteration st) (record { unit = u; there = h; is_so = wr }))
+              untouched none i l p st u h wr = off (write_of r.variable ws) none (within_here i l (begun_at m g x a b bg (behind i l).number (behind i l).store p) (starts_at m g x a b bg n k y (behind i l).number i (behind i l).store p it (behind i l).iteration st) u h wr)
                 where
                   off : (z : Option Region) → is_some z ≡ false → MatchOption z ⊥ (λ v. HoldsSome (begun_at m g x a b bg (behind i l).number (behind i l).store p) v.pieces) → ⊥
                   off None q d = d
@@ -206,8 +226,8 @@ module _ (ss : List SymbolTree) (m : Scene) (at : Places) (by_order : AreByOrder
                 where
                   described : (i : ℕ) (l : i < k) (p : Point) → AtStart m y p → (u : ℕ) → at r.variable (λ j. p (Phi j)) ≡ Some u → (behind i l).written u ≡ true → HoldsSome (back_at m g x a b bg tracked is_tracked f.write e f.known n k y it i (as_earlier i l) p) f.write.pieces
                   described i l p st u h wr =
-                      subst (λ z. MatchOption z ⊥ (λ v. HoldsSome (back_at m g x a b bg tracked is_tracked f.write e f.known n k y it i (as_earlier i l) p) v.pieces)) f.is_write
-                      ((behind i l).within r.variable beside (back_at m g x a b bg tracked is_tracked f.write e f.known n k y it i (as_earlier i l) p) (back_starts m g x a b bg tracked is_tracked f.write e f.known n k y it i (as_earlier i l) p st) (record { unit = u; there = h; is_so = wr }))
+                      subst (λ z. MatchOption z ⊥ (λ w. HoldsSome (back_at m g x a b bg tracked is_tracked f.write e f.known n k y it i (as_earlier i l) p) w.pieces)) f.is_write
+                      (within_here i l (back_at m g x a b bg tracked is_tracked f.write e f.known n k y it i (as_earlier i l) p) (back_starts m g x a b bg tracked is_tracked f.write e f.known n k y it i (as_earlier i l) p st) u h wr)
 
   -- ---- the DO's
 
@@ -215,7 +235,7 @@ module _ (ss : List SymbolTree) (m : Scene) (at : Places) (by_order : AreByOrder
   pub record Turn (is : List Region) (all : ℕ → Bool) (n : ℤ) (k : ℕ) : Type 0 where
     pub begin : ℕ → ℤ
     pub iteration : Iteration m g x a b n k begin
-    pub sharp : (r : Region) → In r is → is_overlapped ss (scalar Write g.index ∷ ws) r.variable ≡ false → same_variable (Own g.index) r.variable ≡ false → MatchOption (in_iteration tracked g ss ws r) (Unit {0}) (λ q. IsSharp m (at r.variable) q begin all)
+    pub sharp : (r : Region) → In r is → (v : Variable) → same_variable v r.variable ≡ true → is_overlapped ss (scalar Write g.index ∷ ws) v ≡ false → same_variable (Own g.index) r.variable ≡ false → MatchOption (in_iteration tracked g ss ws r) (Unit {0}) (λ q. IsSharp m (at r.variable) q begin all)
 
   pub turns_sharp : (is : List Region) (all : ℕ → Bool) → ((s : ℤ) → g.step ≡ Some s → (s ≡ pos 0 → ⊥) × ((n : ℤ) (k : ℕ) → InRange a b s n k → Turn is all n k)) → EachOne (SharpUnless ss m at by_order (scalar Write g.index ∷ ws) x all) (all_iterations tracked g ss ws is)
   turns_sharp [] all h q i = elim i [ ]
@@ -231,9 +251,9 @@ module _ (ss : List SymbolTree) (m : Scene) (at : Places) (by_order : AreByOrder
       first false e None d k j = elim j [ ]
       first false e (Some v) d k j = one q j
         where
-          made : is_overlapped ss (scalar Write g.index ∷ ws) r.variable ≡ false → IsSharp m (at r.variable) (over_loop v g) x all
-          made off = loop_sharp v g m (at r.variable) x a b all bg (λ s z. (let t = h s z in (t.0, λ n i w. (let y = t.1 n i w in record { begin = y.begin; iteration = y.iteration; sharp = subst (λ (u : Option Region). MatchOption u (Unit {0}) (λ p. IsSharp m (at r.variable) p y.begin all)) d (y.sharp r here off e) }))))
+          made : (w : Variable) → same_variable w r.variable ≡ true → is_overlapped ss (scalar Write g.index ∷ ws) w ≡ false → IsSharp m (at r.variable) (over_loop v g) x all
+          made w same off = loop_sharp v g m (at r.variable) x a b all bg (λ s z. (let t = h s z in (t.0, λ n i c. (let y = t.1 n i c in record { begin = y.begin; iteration = y.iteration; sharp = subst (λ (u : Option Region). MatchOption u (Unit {0}) (λ p. IsSharp m (at r.variable) p y.begin all)) d (y.sharp r here w same off e) }))))
 
           one : (o : Region) → In o (over_loop v g ∷ []) → SharpUnless ss m at by_order (scalar Write g.index ∷ ws) x all o
-          one o here = λ off. subst (λ (w : Variable). IsSharp m (at w) (over_loop v g) x all) (sym k.1) (made (ap (is_overlapped ss (scalar Write g.index ∷ ws)) (sym k.1) ∙ off))
+          one o here = λ w same off. subst (λ (z : Variable). IsSharp m (at z) (over_loop v g) x all) (sym k.1) (made w (subst (λ (z : Variable). same_variable w z ≡ true) k.1 same) off)
           one o (there z) = elim z [ ]

@@ -130,7 +130,7 @@ module _ (k : Frame) (sound : Sound k.base) (D : Claim) (locked : Locks) (still 
 
     -- what is made of each region of the body says no more than is read first in these events
     abbrev AllSharp : Store → List Event → Type 0
-    AllSharp y es = (r : Region) → In r is → is_overlapped k.m.symbols writes_all r.variable ≡ false → same_variable (Own lp.index) r.variable ≡ false → MatchOption (in_iteration lp.tracked g k.m.symbols ws r) (Unit {0}) (λ q. IsSharp e (elements_in k r.variable) q (numbers_of y) (first_read es))
+    AllSharp y es = (r : Region) → In r is → (v : Named) → same_variable v r.variable ≡ true → is_overlapped k.m.symbols writes_all v ≡ false → same_variable (Own lp.index) r.variable ≡ false → MatchOption (in_iteration lp.tracked g k.m.symbols ws r) (Unit {0}) (λ q. IsSharp e (elements_in k r.variable) q (numbers_of y) (first_read es))
 
     -- an iteration that has ended
     record Ended_turn (s : ℤ) (i : ℕ) (es : List Event) (wrote : ℕ → Bool) : Type 0 where
@@ -247,7 +247,7 @@ module _ (k : Frame) (sound : Sound k.base) (D : Claim) (locked : Locks) (still 
         to_all u h = first_left u (es ++ fs) (WroteEvent unit (content Int (m +ℤ c)) ∷ []) h
 
         more_sharp : (v : Store) (ds : List Event) → ((u : ℕ) → is_read_first u ds ≡ true → is_read_first u ((es ++ fs) ++ WroteEvent unit (content Int (m +ℤ c)) ∷ []) ≡ true) → AllSharp v ds → AllSharp v ((es ++ fs) ++ WroteEvent unit (content Int (m +ℤ c)) ∷ [])
-        more_sharp v ds f h r o p w = of_option (in_iteration lp.tracked g k.m.symbols ws r) (h r o p w)
+        more_sharp v ds f h r o n same p w = of_option (in_iteration lp.tracked g k.m.symbols ws r) (h r o n same p w)
           where
             of_option : (o : Option Region) → MatchOption o (Unit {0}) (λ q. IsSharp e (elements_in k r.variable) q (numbers_of v) (first_read ds)) → MatchOption o (Unit {0}) (λ q. IsSharp e (elements_in k r.variable) q (numbers_of v) (first_read ((es ++ fs) ++ WroteEvent unit (content Int (m +ℤ c)) ∷ [])))
             of_option None q = tt
@@ -280,10 +280,10 @@ module _ (k : Frame) (sound : Sound k.base) (D : Claim) (locked : Locks) (still 
           iteration = this_turn j m es y i;
           writes = λ w o v ex pt st hh. (let z = are_written k ws y fs ws_fit.named sh.accesses.sharp w o v ex pt st hh in record { unit = z.unit; there = z.there; is_so = written_left z.unit (es ++ fs) (WroteEvent unit (content Int (m +ℤ c)) ∷ []) (written_right z.unit es fs z.is_so) });
           within = within_writes k locked units ws ws_fit y fs sh.accesses.holds free_body;
-          sharp = λ r o p w. iteration_sharp k.m.symbols e (elements_in k) (by_order k) g (numbers_of x) a b begins lp.tracked known ws m i.so_far (numbers_of y) (this_turn j m es y i) (first_read fs) (first_read ((es ++ fs) ++ WroteEvent unit (content Int (m +ℤ c)) ∷ [])) s q
+          sharp = λ r o n same p w. iteration_sharp k.m.symbols e (elements_in k) (by_order k) g (numbers_of x) a b begins lp.tracked known ws m i.so_far (numbers_of y) (this_turn j m es y i) (first_read fs) (first_read ((es ++ fs) ++ WroteEvent unit (content Int (m +ℤ c)) ∷ [])) s q
               (λ l h. (let p = i.past s q l h in record { number = p.number; is_it = p.is_it; store = numbers_of p.store; iteration = p.iteration; written = i.wrote l; within = p.within }))
               (λ v ov nv phi u tu nw fu. to_all u (first_right u es fs (i.spared u (index_off v phi u ov nv tu) nw) fu))
-              r p w (sh.firsts.sharp r o);
+              r n same p w (sh.firsts.sharp r o);
         }
 
         pasts : (s : ℤ) (q : lp.step ≡ Some s) (l : ℕ) (o : Bool) → nat_eq l i.so_far ≡ o → l < suc i.so_far → Ended_turn s l ((es ++ fs) ++ WroteEvent unit (content Int (m +ℤ c)) ∷ []) (λ u. if o then is_written u fs else i.wrote l u)

@@ -8,8 +8,7 @@ use Rattle.affine_systems.specs.declared.row.System.{System}
 use Rattle.affine_systems.specs.Terms.{var_eq}
 use Rattle.affine_systems.specs.Calls.{meet}
 use Rattle.affine_systems.proofs.Basics.{if_cases}
-use Rattle.hull_projection.specs.Hull.{at_least_0, hull}
-use Rattle.hull_projection.specs.Minus.{hull_all}
+use Rattle.hull_projection.specs.Hull.{at_least_0}
 use Rattle.hull_projection.specs.Project.{project}
 use Rattle.hull_projection.specs.Laws.{IsOneOf}
 use Rattle.preconditions.specs.transformer_algebra.Renaming.{naming, renamed_by, rename_all, push_rows}
@@ -18,10 +17,8 @@ use Rattle.affine_forms.specs.Comparisons.{at_most_row, same_row}
 use Rattle.preconditions.specs.transformer_algebra.declared.transformer.Transformer.{Transformer}
 use Rattle.preconditions.specs.transformer_algebra.Cells.{has, others}
 use Rattle.preconditions.specs.transformer_algebra.Transformers.{identity_transformer, assign, iterate}
-use Rattle.preconditions.specs.transformer_algebra.Laws.{In, here, there}
 use Rattle.preconditions.specs.transformer_algebra.Loops.{within_row, goes_up, if_counted}
 use Rattle.in_out_regions.specs.region_sets.declared.range.Range.{Range}
-use Rattle.in_out_regions.specs.region_sets.Regions.{hull_of}
 use Rattle.in_out_regions.specs.region_sets.Naming.{named_cells, to_exits, exit_vars}
 use Rattle.in_out_regions.specs.region_sets.Compose.{put_exits, put_or_led, through_transformer, compose_piece}
 use Rattle.in_out_regions.specs.region_sets.Loops.{index_form, start_of, step_rows, first_rows, last_rows, counted_rows, range_rows, first_assignment, iterations, iterations_at, at_index, loop_vars, composed_with, through_loop, loop_piece}
@@ -29,8 +26,7 @@ use Rattle.laws_lines.specs.Variables.{EachVar, IsCellOf}
 use Rattle.laws_lines.specs.Halves.{IsHalfOf}
 use Rattle.laws_lines.proofs.RowVars.{each_more, Given}
 use Rattle.laws_lines.proofs.SystemVars.{IsNeat, AreGiven, all-append, given_again, system_more, meet_neat, push_rows_neat, project_neat, rename_neat}
-use Rattle.laws_lines.proofs.HullVars.{hull_neat}
-use Rattle.laws_lines.proofs.FormVars.{IsFormOf, FormOf, compared_given, infeasible_neat}
+use Rattle.laws_lines.proofs.FormVars.{IsFormOf, FormOf, compared_given}
 use Rattle.laws_lines.proofs.RuleVars.{IsDone, unchanging_done, assign_done, followed_done, iterate_done}
 use Rattle.laws_lines.proofs.Regions.PutVars.{OrExit, put_neat}
 use Rattle.elimination.proofs.ClosedLaws.{rows_weaker as all_more}
@@ -74,16 +70,6 @@ project_upto n s vs h = system_more (λ w. Upto n w × (IsOneOf w vs → ⊥)) (
 
 given_or : (n : ℕ) (cs : List ℕ) (rs : List Row) → AreGiven (Upto n) rs → AreGiven (OrExit (Upto n) cs) rs
 given_or n cs rs h = all_more (Given (Upto n)) (Given (OrExit (Upto n) cs)) (λ r k. (k.0, each_more (Upto n) (OrExit (Upto n) cs) (λ v i. inl i) r.terms k.1)) rs h
-
--- ---- the hull of several
-
-all_hull : (n : ℕ) (s : System) (ss : List System) → IsUpto n s → ((q : System) → In q ss → IsUpto n q) → IsUpto n (hull_all s ss)
-all_hull n s [] h k = h
-all_hull n s (q ∷ qs) h k = all_hull n (hull s q) qs (hull_neat (Upto n) s q h (k q here)) (λ r i. k r (there i))
-
-pub hull_upto : (n : ℕ) (ss : List System) → ((q : System) → In q ss → IsUpto n q) → IsUpto n (hull_of ss)
-hull_upto n [] k = infeasible_neat (Upto n)
-hull_upto n (s ∷ ss) k = all_hull n s ss (k s here) (λ r i. k r (there i))
 
 -- ---- before a transformer
 

@@ -1,6 +1,6 @@
 -- The systems of the regions of a module name no subscripts but those that their variables have.
 use Rattle.std.proofs.Common.{◌≡◌, ⊎_elim, ℕ, suc, ◌+◌, ◌<◌, ◌≤◌, Bool, true, false, List, [], ◌∷◌, ◌++◌, map, length, Option, Some, None, pos, arith, refl, sym, ap, subst}
-use Rattle.std.specs.Prelude.{if◌then◌else◌, ◌-ℤ◌}
+use Rattle.std.specs.Prelude.{◌&&◌, if◌then◌else◌, ◌-ℤ◌}
 use Rattle.std.specs.declared.cmp.Ordering.{Ordering}
 use Rattle.std.specs.declared.cmp.Ordering.TheVariants.{Less, Equal, Greater}
 use Rattle.std.specs.Ordering.{nat_cmp, ordering_then, match_ordering}
@@ -9,7 +9,6 @@ use Rattle.affine_systems.specs.declared.row.System.{System}
 use Rattle.affine_systems.specs.Calls.{meet}
 use Rattle.affine_systems.proofs.Basics.{if_cases}
 use Rattle.hull_projection.specs.declared.projection.Shadow.{Shadow}
-use Rattle.hull_projection.specs.Refute.{refuted}
 use Rattle.preconditions.specs.transformer_algebra.Renaming.{of_rows}
 use Rattle.f77_ast.specs.Trees.{ExprTree, ExprTrees, ArmTree, ArmTrees, StmtTrees}
 use Rattle.f77_ast.specs.Trees as tree
@@ -42,13 +41,16 @@ use Rattle.in_out_regions.specs.region_sets.declared.range.Range.{Range}
 use Rattle.in_out_regions.specs.region_sets.declared.region.Access.{Access}
 use Rattle.in_out_regions.specs.region_sets.declared.region.Access.TheVariants.{Read, Write}
 use Rattle.in_out_regions.specs.region_sets.declared.region.Region.{Region}
-use Rattle.in_out_regions.specs.region_sets.Regions.{remade, systems, hull_of}
-use Rattle.in_out_regions.specs.region_sets.Unite.{all_within, unite}
-use Rattle.in_out_regions.specs.region_sets.Sets.{access_number, region_cmp, live_pieces, with_pieces, with_region, with_live, with_regions, live, unite_all}
+use Rattle.in_out_regions.specs.region_sets.Regions.{remade, systems}
+use Rattle.in_out_regions.specs.region_sets.Within.{all_within}
+use Rattle.in_out_regions.specs.region_sets.Trim.{trim, or_infeasible, trimmed_to}
+use Rattle.in_out_regions.specs.region_sets.Unite.{unite}
+use Rattle.in_out_regions.specs.region_sets.Sets.{access_number, region_cmp, with_pieces, if_left, with_region, with_trimmed, with_regions, all_trimmed, unite_all}
 use Rattle.in_out_regions.specs.region_sets.Compose.{compose_piece, compose}
 use Rattle.in_out_regions.specs.region_sets.Loops.{loop_piece, over_loop}
 use Rattle.in_out_regions.specs.region_sets.Lists.{is_access, accesses, or_none, accesses_at, all_composed, in_order, forgetting, all_forgetting, all_accesses, inexact, in_any_order, numbers, list_regions}
 use Rattle.in_out_regions.proofs.RegionSets.StepLaws.{in_either, of_map}
+use Rattle.in_out_regions.proofs.RegionSets.KeptLaws.{each_of, are_each, trim_are, trimmed_are}
 use Rattle.in_out_regions.specs.array_regions.declared.arms.Reached.{Reached}
 use Rattle.in_out_regions.specs.array_regions.Rows.{constant_form, low_rows, high_rows, high_form, dimension_rows, subscript_rows}
 use Rattle.in_out_regions.specs.array_regions.References.{is_constant, scalar, scalar_at, array_at, element_at, whole_of, whole, element_of, element, named}
@@ -60,12 +62,13 @@ use Rattle.in_out_regions.specs.array_regions.Loops.{all_over}
 use Rattle.laws_lines.specs.Variables.{EachVar, IsCellOf}
 use Rattle.laws_lines.proofs.RowVars.{each_more, Given}
 use Rattle.laws_lines.proofs.SystemVars.{IsNeat, AreGiven, all-append, system_more, meet_neat, of_rows_neat}
-use Rattle.laws_lines.proofs.FormVars.{FormOf, NamesCells, affine_over, condition_over, compared_given, none_neat}
+use Rattle.laws_lines.proofs.HullVars.{hull_neat}
+use Rattle.laws_lines.proofs.FormVars.{FormOf, NamesCells, affine_over, condition_over, compared_given, infeasible_neat, none_neat}
 use Rattle.laws_lines.proofs.RuleVars.{IsDone, forgotten_done, without_neat}
 use Rattle.laws_analyses.specs.Regions.Settings.{is_told}
 use Rattle.laws_analyses.proofs.Regions.Told.{told_same}
 use Rattle.laws_marks.specs.InFrames.{bounds_count, rank}
-use Rattle.laws_marks.proofs.InNarrow.{Upto, IsUpto, cell_upto, hull_upto, compose_upto, IsRangeOver, loop_upto}
+use Rattle.laws_marks.proofs.InNarrow.{Upto, IsUpto, cell_upto, compose_upto, IsRangeOver, loop_upto}
 use Rattle.laws_programs.proofs.Effects.Named.{equal_key}
 use Rattle.fx_lists.proofs.Every.{Anything}
 
@@ -94,17 +97,15 @@ then_equal Less p e = absurd (cc)
 then_equal Equal p e = e
 then_equal Greater p e = absurd (cc)
 
-live_in : (s : System) (ss : List System) → In s (live_pieces ss) → In s ss
-live_in s [] i = i
-live_in s (q ∷ qs) i = go (refuted q.rows) i (λ j. live_in s qs j)
-  where
-    first : (p : System) → In p (q ∷ live_pieces qs) → (In p (live_pieces qs) → In p qs) → In p (q ∷ qs)
-    first p here ih = here
-    first p (there j) ih = there (ih j)
+-- what trimming makes of systems
+abbrev AreUpto : ℕ → List System → Type 0
+AreUpto n qs = (q : System) → In q qs → IsUpto n q
 
-    go : (b : Bool) → In s (if b then live_pieces qs else q ∷ live_pieces qs) → (In s (live_pieces qs) → In s qs) → In s (q ∷ qs)
-    go true j ih = there (ih j)
-    go false j ih = first s j ih
+trim_upto : (n : ℕ) (qs : List System) → AreUpto n qs → AreUpto n (trim qs).pieces
+trim_upto n qs h = each_of (IsUpto n) (trim qs).pieces (trim_are (IsUpto n) (λ a b. hull_neat (Upto n) a b) qs (are_each (IsUpto n) qs h))
+
+trimmed_upto : (n : ℕ) (qs : List System) → AreUpto n qs → AreUpto n (or_infeasible (trim qs).pieces)
+trimmed_upto n qs h = each_of (IsUpto n) (or_infeasible (trim qs).pieces) (trimmed_are (IsUpto n) (λ a b. hull_neat (Upto n) a b) (infeasible_neat (Upto n)) qs (are_each (IsUpto n) qs h))
 
 module _ (may : MayName) (ss : List SymbolTree) where
   pub none_narrowed : AreNarrowed may ss []
@@ -121,12 +122,13 @@ module _ (may : MayName) (ss : List SymbolTree) where
   pub each_narrowed : (f : System → System) → ((n : ℕ) (s : System) → IsUpto n s → IsUpto n (f s)) → (e : Bool) (r : Region) → IsNarrowed may ss r → IsNarrowed may ss (remade r e (map f r.pieces))
   each_narrowed f g e r h = (h.0, λ s i. of_map f (IsUpto (rank may.ks may.g ss r.variable)) r.pieces (λ q j. g (rank may.ks may.g ss r.variable) q (h.1 q j)) s i)
 
-  shadows_narrowed : (f : System → Shadow) → ((n : ℕ) (s : System) → IsUpto n s → IsUpto n (f s).system) → (e : Bool) (r : Region) → IsNarrowed may ss r → IsNarrowed may ss (remade r e (systems (map f r.pieces)))
-  shadows_narrowed f g e r h = (
-    h.0,
-    λ s i.
-        of_map (λ (q : Shadow). q.system) (IsUpto (rank may.ks may.g ss r.variable)) (map f r.pieces) (λ q j. of_map f (λ (w : Shadow). IsUpto (rank may.ks may.g ss r.variable) w.system) r.pieces (λ p l. g (rank may.ks may.g ss r.variable) p (h.1 p l)) q j) s i,
-  )
+  to_narrowed : (e : Bool) (r : Region) (qs : List System) → may.such r.variable ≡ true → AreUpto (rank may.ks may.g ss r.variable) qs → IsNarrowed may ss (trimmed_to r e qs)
+  to_narrowed e r qs h k = (h, trimmed_upto (rank may.ks may.g ss r.variable) qs k)
+
+  shadows_narrowed : (f : System → Shadow) → ((n : ℕ) (s : System) → IsUpto n s → IsUpto n (f s).system) → (e : Bool) (r : Region) → IsNarrowed may ss r → IsNarrowed may ss (trimmed_to r e (systems (map f r.pieces)))
+  shadows_narrowed f g e r h =
+      to_narrowed e r (systems (map f r.pieces)) h.0
+      (of_map (λ (q : Shadow). q.system) (IsUpto (rank may.ks may.g ss r.variable)) (map f r.pieces) (of_map f (λ (w : Shadow). IsUpto (rank may.ks may.g ss r.variable) w.system) r.pieces (λ p l. g (rank may.ks may.g ss r.variable) p (h.1 p l))))
 
   pub composed_narrowed : (t : Transformer) → IsDone Anything t → (rs : List Region) → AreNarrowed may ss rs → AreNarrowed may ss (all_composed t rs)
   composed_narrowed t d rs h r i = of_map (λ (q : Region). compose q t) (IsNarrowed may ss) rs (λ q j. shadows_narrowed (compose_piece t) (λ n s k. compose_upto n t d s k) false q (h q j)) r i
@@ -137,21 +139,20 @@ module _ (may : MayName) (ss : List SymbolTree) where
   unite_narrowed : (a b : Region) → rank may.ks may.g ss a.variable ≡ rank may.ks may.g ss b.variable → IsNarrowed may ss a → IsNarrowed may ss b → IsNarrowed may ss (unite a b)
   unite_narrowed a b e h k = go (all_within a.pieces b.pieces) (all_within b.pieces a.pieces)
     where
-      one : (s : System) → In s (hull_of (a.pieces ++ b.pieces) ∷ []) → IsUpto (rank may.ks may.g ss a.variable) s
-      one s here = hull_upto (rank may.ks may.g ss a.variable) (a.pieces ++ b.pieces) (λ q i. ⊎_elim (λ j. h.1 q j) (λ j. subst (λ n. IsUpto n q) (sym e) (k.1 q j)) (in_either q a.pieces b.pieces i))
-      one s (there i) = elim i [ ]
+      both : AreUpto (rank may.ks may.g ss a.variable) (a.pieces ++ b.pieces)
+      both q i = ⊎_elim (λ j. h.1 q j) (λ j. subst (λ n. IsUpto n q) (sym e) (k.1 q j)) (in_either q a.pieces b.pieces i)
 
-      go : (m n : Bool) → IsNarrowed may ss (if m then remade a a.exact a.pieces else if n then remade b b.exact b.pieces else remade a false (hull_of (a.pieces ++ b.pieces) ∷ []))
+      go : (m n : Bool) → IsNarrowed may ss (if m then remade a a.exact a.pieces else if n then remade b b.exact b.pieces else trimmed_to a (a.exact && b.exact) (a.pieces ++ b.pieces))
       go true n = h
       go false true = k
-      go false false = (h.0, one)
+      go false false = to_narrowed (a.exact && b.exact) a (a.pieces ++ b.pieces) h.0 both
 
-  pieces_narrowed : (r : Region) (qs : List System) (k : Region → List Region) (none : List Region) → IsNarrowed may ss (remade r r.exact qs) → ((q : Region) → IsNarrowed may ss q → AreNarrowed may ss (k q)) → AreNarrowed may ss none → AreNarrowed may ss (with_pieces r qs k none)
-  pieces_narrowed r [] k none h f g = g
-  pieces_narrowed r (s ∷ qs) k none h f g = f (remade r r.exact (s ∷ qs)) h
+  pieces_narrowed : (r : Region) (e : Bool) (qs : List System) (k : Region → List Region) (none : List Region) → IsNarrowed may ss (remade r e qs) → ((q : Region) → IsNarrowed may ss q → AreNarrowed may ss (k q)) → AreNarrowed may ss none → AreNarrowed may ss (with_pieces r e qs k none)
+  pieces_narrowed r e [] k none h f g = g
+  pieces_narrowed r e (s ∷ qs) k none h f g = f (remade r e (s ∷ qs)) h
 
-  live_one : (r : Region) → IsNarrowed may ss r → IsNarrowed may ss (remade r r.exact (live_pieces r.pieces))
-  live_one r h = (h.0, λ s i. h.1 s (live_in s r.pieces i))
+  left_narrowed : (r : Region) (k : Region → List Region) (none : List Region) → IsNarrowed may ss r → ((q : Region) → IsNarrowed may ss q → AreNarrowed may ss (k q)) → AreNarrowed may ss none → AreNarrowed may ss (if_left r k none)
+  left_narrowed r k none h f g = pieces_narrowed r (r.exact && (trim r.pieces).exact) (trim r.pieces).pieces k none (h.0, trim_upto (rank may.ks may.g ss r.variable) r.pieces h.1) f g
 
   region_narrowed : (r : Region) (qs : List Region) → IsNarrowed may ss r → AreNarrowed may ss qs → AreNarrowed may ss (with_region r qs)
   region_narrowed r [] h k = more_narrowed r [] h k
@@ -167,17 +168,16 @@ module _ (may : MayName) (ss : List SymbolTree) where
 
   all_narrowed : (rs qs : List Region) → AreNarrowed may ss qs → AreNarrowed may ss rs → AreNarrowed may ss (with_regions qs rs)
   all_narrowed [] qs h k = h
-  all_narrowed (r ∷ rs) qs h k =
-      all_narrowed rs (with_live r qs) (pieces_narrowed r (live_pieces r.pieces) (λ s. with_region s qs) qs (live_one r (k r here)) (λ q i. region_narrowed q qs i h) h) (λ w i. k w (there i))
+  all_narrowed (r ∷ rs) qs h k = all_narrowed rs (with_trimmed r qs) (left_narrowed r (λ s. with_region s qs) qs (k r here) (λ q i. region_narrowed q qs i h) h) (λ w i. k w (there i))
 
-  live_narrowed : (rs : List Region) → AreNarrowed may ss rs → AreNarrowed may ss (live rs)
-  live_narrowed [] h = none_narrowed
-  live_narrowed (r ∷ rs) h =
-      let ih = live_narrowed rs (λ w i. h w (there i)) in
-      pieces_narrowed r (live_pieces r.pieces) (λ s. s ∷ live rs) (live rs) (live_one r (h r here)) (λ q i. more_narrowed q (live rs) i ih) ih
+  trimmed_narrowed : (rs : List Region) → AreNarrowed may ss rs → AreNarrowed may ss (all_trimmed rs)
+  trimmed_narrowed [] h = none_narrowed
+  trimmed_narrowed (r ∷ rs) h =
+      let ih = trimmed_narrowed rs (λ w i. h w (there i)) in
+      left_narrowed r (λ s. s ∷ all_trimmed rs) (all_trimmed rs) (h r here) (λ q i. more_narrowed q (all_trimmed rs) i ih) ih
 
   pub united_narrowed : (rs : List Region) → AreNarrowed may ss rs → AreNarrowed may ss (unite_all rs)
-  united_narrowed rs h = live_narrowed (with_regions [] rs) (all_narrowed rs [] none_narrowed h)
+  united_narrowed rs h = trimmed_narrowed (with_regions [] rs) (all_narrowed rs [] none_narrowed h)
 
   -- ---- lists of statements
 

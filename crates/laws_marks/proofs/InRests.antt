@@ -1,8 +1,7 @@
 -- What the IN regions of a statement, and of what follows it, say of both.
-use Rattle.std.proofs.Common.{◌≡◌, ⊎_elim, ℕ, ℤ, List, [], ◌∷◌, ◌++◌, ◌&&◌, Option, Some, None, Bool, true, false, refl, sym, ◌∙◌, subst, ap, Ordering}
+use Rattle.std.proofs.Common.{◌≡◌, ⊎_elim, ℕ, ℤ, List, [], ◌∷◌, ◌++◌, ◌&&◌, Option, Some, None, Bool, true, false, refl, sym, ◌∙◌, subst, ap}
 use Rattle.std.specs.Prelude.{not, MatchOption, if◌then◌else◌, option_to_list}
-use Rattle.std.specs.declared.cmp.Ordering.TheVariants.{Less, Greater}
-use Rattle.std.specs.Ordering.{is_eq}
+use Rattle.std.specs.declared.cmp.Ordering.TheVariants.{Equal}
 use Rattle.std.proofs.lemmas.Bool.{and_parts, not-true}
 use Rattle.affine_systems.specs.declared.row.Var.TheVariants.{Phi}
 use Rattle.affine_systems.specs.declared.row.System.{System}
@@ -15,7 +14,8 @@ use Rattle.preconditions.specs.transformer_algebra.Laws.{In, here, there}
 use Rattle.in_out_regions.specs.region_sets.declared.region.Access.{Access}
 use Rattle.in_out_regions.specs.region_sets.declared.region.Region.{Region}
 use Rattle.in_out_regions.specs.region_sets.Regions.{remade, any_weak}
-use Rattle.in_out_regions.specs.region_sets.Subtract.{left_of, all_left_exactly, unless_empty, all_apart, subtract}
+use Rattle.in_out_regions.specs.region_sets.Trim.{trim}
+use Rattle.in_out_regions.specs.region_sets.Subtract.{are_places, less_all, unless_empty, all_left, all_apart, subtract}
 use Rattle.in_out_regions.specs.region_sets.Compose.{compose}
 use Rattle.in_out_regions.specs.region_sets.Sets.{unite_all}
 use Rattle.in_out_regions.specs.region_sets.Lists.{all_composed}
@@ -30,7 +30,9 @@ use Rattle.in_out_regions.specs.Lists.{less_write, all_unwritten, unless_overlap
 use Rattle.in_out_regions.specs.ListClaims.{AreWritten, IsDescribed, IsWithinWrites, IsFirstOf}
 use Rattle.laws_marks.proofs.InGathering.{EachOne, gathered_so}
 use Rattle.preconditions.proofs.TransformerAlgebra.Members.{in_left, in_right}
-use Rattle.in_out_regions.proofs.WriteLaws.{write_found}
+use Rattle.in_out_regions.proofs.WriteLaws.{write_found, write_same}
+use Rattle.f77_ast.specs.Variables.{variable_cmp, same_variable}
+use Rattle.f77_ast.proofs.SameLaws.{cmp_if, same_itself}
 
 -- ---- the WRITE region of a variable
 
@@ -45,9 +47,9 @@ module _ (ss : List SymbolTree) (m : Scene) (at : Places) (by_order : AreByOrder
     lies = record { phi = l.lies.phi; there = l.lies.there; described = l.lies.described };
   }
 
-  -- sharp where nothing is written that shares units with the variable
+  -- sharp where nothing is written that shares units with the variable, or with one that the order does not tell apart from it
   abbrev pub SharpUnless : List Region → (ℕ → ℤ) → (ℕ → Bool) → Region → Type 0
-  SharpUnless ws x c r = is_overlapped ss ws r.variable ≡ false → IsSharp m (at r.variable) r x c
+  SharpUnless ws x c r = (v : Variable) → same_variable v r.variable ≡ true → is_overlapped ss ws v ≡ false → IsSharp m (at r.variable) r x c
 
   pub overlapped_sharp : (ws rs : List Region) (x : ℕ → ℤ) (c : ℕ → Bool) → EachOne (SharpUnless ws x c) rs → IsSharpSet m at (all_unless_overlapped ss ws rs) x (λ k. c)
   overlapped_sharp ws rs x c h = of_map (unless_overlapped ss ws) (λ (r : Region). IsSharp m (at r.variable) r x c) rs one
@@ -56,18 +58,10 @@ module _ (ss : List SymbolTree) (m : Scene) (at : Places) (by_order : AreByOrder
       one r i e p st g =
           let q = and_parts (r.exact && not (is_overlapped ss ws r.variable)) (not (any_weak r.pieces)) e in
           let z = and_parts r.exact (not (is_overlapped ss ws r.variable)) q.0 in
-          h r i (not-true (is_overlapped ss ws r.variable) z.1) z.0 p st g
+          h r i r.variable (same_itself r.variable) (not-true (is_overlapped ss ws r.variable) z.1) z.0 p st g
 
   gathered_unless : (ws rs : List Region) (x : ℕ → ℤ) (c : ℕ → Bool) → EachOne (SharpUnless ws x c) rs → EachOne (SharpUnless ws x c) (unite_all rs)
-  gathered_unless ws rs x c h =
-      gathered_so (λ (r : Region). is_overlapped ss ws r.variable ≡ false → IsSharp m (at r.variable) r x c)
-      (λ r q o e p st g. absurd (clash r.exact e q))
-      (λ r ps f g o e p st i. g o (and_parts r.exact (not (any_weak ps)) e).0 p st (f p i))
-      rs h
-    where
-      clash : (b : Bool) → b ≡ true → b ≡ false → ⊥
-      clash true e q = cc
-      clash false e q = cc
+  gathered_unless ws rs x c h r i v s o = gathered_so m at by_order x c v rs (λ q j t. h q j v t o) r i s
 
   pub united_unless : (ws rs : List Region) (x : ℕ → ℤ) (c : ℕ → Bool) → EachOne (SharpUnless ws x c) rs → IsSharpSet m at (all_unless_overlapped ss ws (unite_all rs)) x (λ k. c)
   united_unless ws rs x c h = overlapped_sharp ws (unite_all rs) x c (gathered_unless ws rs x c h)
@@ -87,14 +81,14 @@ module _ (ss : List SymbolTree) (m : Scene) (at : Places) (by_order : AreByOrder
   InOption k v x u o = MatchOption o ⊥ (λ r. (r.kind ≡ k) × (r.variable ≡ v) × LiesIn m (at r.variable) r x u)
 
   kept_as : (a b : Region) → MatchOption (subtract a b) (Unit {0}) (λ r. (r.kind ≡ a.kind) × (r.variable ≡ a.variable))
-  kept_as a b = go b.exact
+  kept_as a b = go (b.exact && are_places b.pieces)
     where
       one : (e : Bool) (ps : List System) → MatchOption (unless_empty a e ps) (Unit {0}) (λ r. (r.kind ≡ a.kind) × (r.variable ≡ a.variable))
       one e [] = tt
       one e (p ∷ ps) = (refl, refl)
 
-      go : (c : Bool) → MatchOption (if c then unless_empty a (a.exact && all_left_exactly a.pieces b.pieces) (left_of a.pieces b.pieces) else Some (remade a (a.exact && all_apart a.pieces b.pieces) a.pieces)) (Unit {0}) (λ r. (r.kind ≡ a.kind) × (r.variable ≡ a.variable))
-      go true = one (a.exact && all_left_exactly a.pieces b.pieces) (left_of a.pieces b.pieces)
+      go : (c : Bool) → MatchOption (if c then all_left a (less_all a.pieces b.pieces) else Some (remade a (a.exact && all_apart a.pieces b.pieces) a.pieces)) (Unit {0}) (λ r. (r.kind ≡ a.kind) × (r.variable ≡ a.variable))
+      go true = one (a.exact && (trim (less_all a.pieces b.pieces)).exact) (trim (less_all a.pieces b.pieces)).pieces
       go false = (refl, refl)
 
   less_lies : (ws : List Region) (written : ℕ → Bool) (x : ℕ → ℤ) (u : ℕ) → AreWritten m at ws x written → written u ≡ false → (r : Region) → LiesIn m (at r.variable) r x u → InOption r.kind r.variable x u (less_write (write_of r.variable ws) r)
@@ -132,24 +126,31 @@ module _ (ss : List SymbolTree) (m : Scene) (at : Places) (by_order : AreByOrder
   less_sharp ws x written later all w f r h = go (write_of r.variable ws) refl
     where
       -- a point of which no write is known
-      one : (p : Point) → AtStart m x p → is_overlapped ss ws r.variable ≡ false → (IsDescribed r.variable ws p → ⊥) → Accessed (at r.variable) later (λ k. p (Phi k)) → Accessed (at r.variable) all (λ k. p (Phi k))
-      one p st o n a = record { unit = a.unit; there = a.there; is_so = f a.unit (off (written a.unit) refl) a.is_so }
+      one : (p : Point) → AtStart m x p → (v : Variable) → same_variable v r.variable ≡ true → is_overlapped ss ws v ≡ false → (IsDescribed r.variable ws p → ⊥) → Accessed (at r.variable) later (λ k. p (Phi k)) → Accessed (at r.variable) all (λ k. p (Phi k))
+      one p st v s o n a = record { unit = a.unit; there = a.there; is_so = f a.unit (off (written a.unit) refl) a.is_so }
         where
+          tie : variable_cmp v r.variable ≡ Equal
+          tie = cmp_if v r.variable s
+
+          -- it would be described
+          known : written a.unit ≡ true → IsDescribed v ws p
+          known e = w v o p st (subst (λ (z : Elements). Accessed z written (λ k. p (Phi k))) (sym (by_order v r.variable tie)) (record { unit = a.unit; there = a.there; is_so = e }))
+
           off : (b : Bool) → written a.unit ≡ b → b ≡ false
-          off true e = absurd (n (w r.variable o p st (record { unit = a.unit; there = a.there; is_so = e })))
+          off true e = absurd (n (subst (λ z. MatchOption z ⊥ (λ y. HoldsSome p y.pieces)) (write_same v r.variable ws tie) (known e)))
           off false e = refl
 
       go : (o : Option Region) → write_of r.variable ws ≡ o → MatchOption (less_write o r) (Unit {0}) (λ q. SharpUnless ws x all q)
-      go None e = λ o i p st g. one p st o (λ d. subst (λ z. MatchOption z ⊥ (λ v. HoldsSome p v.pieces)) e d) (h i p st g)
+      go None e = λ v s o i p st g. one p st v s o (λ d. subst (λ z. MatchOption z ⊥ (λ y. HoldsSome p y.pieces)) e d) (h i p st g)
       go (Some v) e = both (subtract r v) (kept_as r v) (subtract_exact r v)
         where
           both : (o : Option Region) → MatchOption o (Unit {0}) (λ q. (q.kind ≡ r.kind) × (q.variable ≡ r.variable)) → MatchOption o (Unit {0}) (λ q. q.exact ≡ true → (r.exact ≡ true) × ((p : Point) → HoldsSome p q.pieces → HoldsSome p r.pieces × (HoldsSome p v.pieces → ⊥))) → MatchOption o (Unit {0}) (λ q. SharpUnless ws x all q)
           both None a b = tt
-          both (Some q) a b = λ o i p st g.
+          both (Some q) a b = λ u same o i p st g.
               (let t = b i in
               let s = t.1 p g in
-              let o' : is_overlapped ss ws r.variable ≡ false = ap (is_overlapped ss ws) (sym a.1) ∙ o in
-              subst (λ (z : Elements). Accessed z all (λ k. p (Phi k))) (ap at (sym a.1)) (one p st o' (λ d. s.1 (subst (λ z. MatchOption z ⊥ (λ y. HoldsSome p y.pieces)) e d)) (h t.0 p st s.0)))
+              let same' : same_variable u r.variable ≡ true = subst (λ (z : Variable). same_variable u z ≡ true) a.1 same in
+              subst (λ (z : Elements). Accessed z all (λ k. p (Phi k))) (ap at (sym a.1)) (one p st u same' o (λ d. s.1 (subst (λ z. MatchOption z ⊥ (λ y. HoldsSome p y.pieces)) e d)) (h t.0 p st s.0)))
 
   unwritten_sharp : (ws : List Region) (x : ℕ → ℤ) (written later all : ℕ → Bool) → IsWithinWrites ss m at ws x written → ((u : ℕ) → written u ≡ false → later u ≡ true → all u ≡ true) → (rs : List Region) → IsSharpSet m at rs x (λ k. later) → EachOne (SharpUnless ws x all) (all_unwritten ws rs)
   unwritten_sharp ws x written later all w f [] h r i = elim i [ ]
@@ -192,7 +193,7 @@ module _ (ss : List SymbolTree) (m : Scene) (at : Places) (by_order : AreByOrder
         (λ q i. ⊎_elim (λ j. now q j) (λ j. unwritten_sharp ws x written later all w f.after moved back q j) (in_either q is (all_unwritten ws moved) i))
       where
         now : (q : Region) → In q is → SharpUnless ws x all q
-        now q j o e p st g = (let a = s q j e p st g in record { unit = a.unit; there = a.there; is_so = f.at_once a.unit a.is_so })
+        now q j v t o e p st g = (let a = s q j e p st g in record { unit = a.unit; there = a.there; is_so = f.at_once a.unit a.is_so })
 
         back : IsSharpSet m at (unite_all (all_composed t rest)) x (λ k. later)
         back = gathered_sharp (all_composed t rest) m at by_order x (λ k. later) (of_map (λ (q : Region). compose q t) (λ (q : Region). IsSharp m (at q.variable) q x later) rest (λ q i. compose_sharp q t m (at q.variable) x y d later (r q i)))

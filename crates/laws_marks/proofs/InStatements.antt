@@ -179,8 +179,8 @@ module _ (k : Frame) (sound : Sound k.base) (C0 D : Claim) (Fits : Locks → (�
                 where
                   each : EachOne (SharpUnless k.m.symbols (scene k.base) (elements_in k) (by_order k) (scalar Write lp.index ∷ ws) (numbers_of x) (first_read (es ++ fs))) all
                   each q j = ⊎_elim
-                      (λ l o e p st c. (let a = seen_sharp k heads x es heads_named n w q l e p st c in record { unit = a.unit; there = a.there; is_so = first_left a.unit es fs a.is_so }))
-                      (λ l o e p st c. (let a = w' q l o e p st c in record { unit = a.unit; there = a.there; is_so = first_right a.unit es fs (n.unwritten a.unit) a.is_so }))
+                      (λ l v s o e p st c. (let a = seen_sharp k heads x es heads_named n w q l e p st c in record { unit = a.unit; there = a.there; is_so = first_left a.unit es fs a.is_so }))
+                      (λ l v s o e p st c. (let a = w' q l v s o e p st c in record { unit = a.unit; there = a.there; is_so = first_right a.unit es fs (n.unwritten a.unit) a.is_so }))
                       (in_either q (all_in heads) over_body j)
 
       at_unit : (r : Range) → RangeIs k.base sound x (solid locked still fit) e1 e2 lp.step r → (u v : ℕ) → u ≡ (k.at v).first → lp.index ≡ v → k.sc.names index ≡ Variable v → (es : List Event) → Holds k.base heads x es → Sharp k.base heads x es → NoWrites es → Goes D (first (write locked u (content Int r.from)) (λ o. iterations_from (iteration_count r.from r.last r.step) r.from r.step u (bodies (lock locked u Locked)))) x (λ f z fs. FirstShown k false locked done x f (es ++ fs))
@@ -252,7 +252,7 @@ module _ (k : Frame) (sound : Sound k.base) (C0 D : Claim) (Fits : Locks → (�
   first_alone ws rs locked z a es h =
       first_more k false locked (unite_all rs) (all_unless_overlapped k.m.symbols ws (unite_all rs)) z a es es
       (λ f u i. overlapped_lies k.m.symbols (scene k.base) (elements_in k) (by_order k) ws (unite_all rs) AtIn (numbers_of z) u (f u i))
-      (λ f. overlapped_sharp k.m.symbols (scene k.base) (elements_in k) (by_order k) ws (unite_all rs) (numbers_of z) (first_read es) (λ r i o. f r i))
+      (λ f. overlapped_sharp k.m.symbols (scene k.base) (elements_in k) (by_order k) ws (unite_all rs) (numbers_of z) (first_read es) (λ r i v s o. f r i))
       (λ f. f) (first_gathered k false locked rs z a es h)
 
   -- the sets of a statement of a list

@@ -14,13 +14,15 @@ use Rattle.f77_ast.specs.Variables.{variable_text, variable_cmp, same_variable}
 use Rattle.preconditions.specs.transformer_algebra.Laws.{In, here, there}
 use Rattle.in_out_regions.specs.region_sets.declared.region.Access.TheVariants.{Write}
 use Rattle.in_out_regions.specs.region_sets.declared.region.Region.{Region}
-use Rattle.in_out_regions.specs.region_sets.Regions.{remade, hull_of}
-use Rattle.in_out_regions.specs.region_sets.Sets.{access_number, region_cmp, live_pieces, with_pieces, with_region, with_live, with_regions, live, unite_all}
-use Rattle.in_out_regions.specs.region_sets.Unite.{all_within, unite}
+use Rattle.in_out_regions.specs.region_sets.Regions.{remade}
+use Rattle.in_out_regions.specs.region_sets.Within.{all_within}
+use Rattle.in_out_regions.specs.region_sets.Trim.{trim, or_infeasible, trimmed_to}
+use Rattle.in_out_regions.specs.region_sets.Unite.{unite}
+use Rattle.in_out_regions.specs.region_sets.Sets.{access_number, region_cmp, if_left, with_region, with_trimmed, with_regions, all_trimmed, unite_all}
 use Rattle.in_out_regions.specs.region_sets.Lists.{inexact, all_inexact}
 use Rattle.in_out_regions.specs.Kinds.{is_write}
 use Rattle.in_out_regions.specs.Writes.{is_write_of, write_of}
-use Rattle.in_out_regions.proofs.RegionSets.SetLaws.{with_any as maybe_of}
+use Rattle.in_out_regions.proofs.RegionSets.SetLaws.{with_any}
 use Rattle.fx_lists.proofs.Orders.{then_nothing, no_equal_less}
 use Rattle.f77_ast.proofs.SameLaws.{cmp_if as same_order}
 use Rattle.in_out_regions.proofs.WriteLaws.{write_if}
@@ -70,10 +72,10 @@ Ordered (q ∷ qs) = Ahead q qs × Ordered qs
 united_of : (P : Region → Type 0) → ((r : Region) (e : Bool) (ss : List System) → P r → P (remade r e ss)) → (a b : Region) → P a → P b → P (unite a b)
 united_of P f a b h k = go (all_within a.pieces b.pieces) (all_within b.pieces a.pieces)
   where
-    go : (m n : Bool) → P (if m then remade a a.exact a.pieces else if n then remade b b.exact b.pieces else remade a false (hull_of (a.pieces ++ b.pieces) ∷ []))
+    go : (m n : Bool) → P (if m then remade a a.exact a.pieces else if n then remade b b.exact b.pieces else trimmed_to a (a.exact && b.exact) (a.pieces ++ b.pieces))
     go true n = f a a.exact a.pieces h
     go false true = f b b.exact b.pieces k
-    go false false = f a false (hull_of (a.pieces ++ b.pieces) ∷ []) h
+    go false false = f a ((a.exact && b.exact) && (trim (a.pieces ++ b.pieces)).exact) (or_infeasible (trim (a.pieces ++ b.pieces)).pieces) h
 
 ahead_more : (x r : Region) (qs : List Region) → region_cmp x r ≡ Less → Ahead x qs → Ahead x (r ∷ qs)
 ahead_more x r qs h t q here = h
@@ -97,24 +99,31 @@ put_ordered r (q ∷ qs) h = go (region_cmp r q) refl (put_ordered r qs h.1)
     go Equal e ih = (united_of (λ w. Ahead w qs) (λ w x ss k. k) q r h.0 (λ w i. region_total.congr r q w e ∙ h.0 w i), h.1)
     go Greater e ih = (put_ahead q r qs h.0 (reversed (region_cmp q r) (sym e ∙ region_total.antisymm r q)), ih)
 
+-- a region with its pieces trimmed
+abbrev as_trimmed : Region → Region
+as_trimmed r = remade r (r.exact && (trim r.pieces).exact) (trim r.pieces).pieces
+
+maybe_of : (P : List Region → Type 0) (r : Region) (k : Region → List Region) (none : List Region) → P (k (as_trimmed r)) → P none → P (if_left r k none)
+maybe_of P r k none h n = with_any P r (r.exact && (trim r.pieces).exact) (trim r.pieces).pieces k none h n
+
 all_ordered : (rs qs : List Region) → Ordered qs → Ordered (with_regions qs rs)
 all_ordered [] qs h = h
-all_ordered (r ∷ rs) qs h = all_ordered rs (with_live r qs) (maybe_of Ordered r (live_pieces r.pieces) (λ s. with_region s qs) qs (put_ordered (remade r r.exact (live_pieces r.pieces)) qs h) h)
+all_ordered (r ∷ rs) qs h = all_ordered rs (with_trimmed r qs) (maybe_of Ordered r (λ s. with_region s qs) qs (put_ordered (as_trimmed r) qs h) h)
 
-live_ahead : (x : Region) (rs : List Region) → Ahead x rs → Ahead x (live rs)
-live_ahead x [] h = h
-live_ahead x (r ∷ rs) h =
-    let ih = live_ahead x rs (λ w i. h w (there i)) in
-    maybe_of (Ahead x) r (live_pieces r.pieces) (λ s. s ∷ live rs) (live rs) (ahead_more x (remade r r.exact (live_pieces r.pieces)) (live rs) (h r here) ih) ih
+trimmed_ahead : (x : Region) (rs : List Region) → Ahead x rs → Ahead x (all_trimmed rs)
+trimmed_ahead x [] h = h
+trimmed_ahead x (r ∷ rs) h =
+    let ih = trimmed_ahead x rs (λ w i. h w (there i)) in
+    maybe_of (Ahead x) r (λ s. s ∷ all_trimmed rs) (all_trimmed rs) (ahead_more x (as_trimmed r) (all_trimmed rs) (h r here) ih) ih
 
-live_ordered : (rs : List Region) → Ordered rs → Ordered (live rs)
-live_ordered [] h = tt
-live_ordered (r ∷ rs) h =
-    let ih = live_ordered rs h.1 in
-    maybe_of Ordered r (live_pieces r.pieces) (λ s. s ∷ live rs) (live rs) (live_ahead r rs h.0, ih) ih
+trimmed_ordered : (rs : List Region) → Ordered rs → Ordered (all_trimmed rs)
+trimmed_ordered [] h = tt
+trimmed_ordered (r ∷ rs) h =
+    let ih = trimmed_ordered rs h.1 in
+    maybe_of Ordered r (λ s. s ∷ all_trimmed rs) (all_trimmed rs) (trimmed_ahead r rs h.0, ih) ih
 
 pub gathered_ordered : (rs : List Region) → Ordered (unite_all rs)
-gathered_ordered rs = live_ordered (with_regions [] rs) (all_ordered rs [] tt)
+gathered_ordered rs = trimmed_ordered (with_regions [] rs) (all_ordered rs [] tt)
 
 pub inexact_ordered : (rs : List Region) → Ordered rs → Ordered (all_inexact rs)
 inexact_ordered [] h = tt

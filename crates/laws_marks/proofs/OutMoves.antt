@@ -1,14 +1,10 @@
 -- Regions of what may be read later, as seen from elsewhere: no unit is lost.
-use Rattle.std.proofs.Common.{◌≡◌, inl, inr, ℕ, ℤ, List, [], ◌∷◌, ◌++◌, map, refl, sym, ap, ◌∙◌}
+use Rattle.std.proofs.Common.{◌≡◌, ℕ, ℤ, List, [], ◌∷◌, ◌++◌, ◌&&◌, map, Bool, refl, sym, ap, ◌∙◌}
 use Rattle.affine_systems.specs.declared.row.Var.TheVariants.{Cell, Phi}
 use Rattle.affine_systems.specs.declared.row.System.{System}
 use Rattle.affine_systems.specs.Calls.{meet}
 use Rattle.affine_systems.specs.Points.{Point, HoldsAll}
 use Rattle.affine_systems.proofs.CallLaws.{meet_holds}
-use Rattle.hull_projection.specs.Hull.{hull}
-use Rattle.hull_projection.specs.Minus.{hull_all}
-use Rattle.hull_projection.proofs.RefuteLaws.{refuted_none}
-use Rattle.hull_projection.proofs.HullLaws.{hull_holds}
 use Rattle.hull_projection.proofs.ProjectLaws.{project_keeps}
 use Rattle.f77_ast.specs.declared.variable.Unit.{Unit as BlockUnit}
 use Rattle.preconditions.specs.transformer_algebra.Renaming.{renamed_by}
@@ -23,9 +19,10 @@ use Rattle.preconditions.proofs.TransformerAlgebra.RuleLaws.{old_point, old_off,
 use Rattle.in_out_regions.specs.region_sets.declared.region.Access.{Access}
 use Rattle.in_out_regions.specs.region_sets.declared.region.Access.TheVariants.{Out}
 use Rattle.in_out_regions.specs.region_sets.declared.region.Region.{Region}
-use Rattle.in_out_regions.specs.region_sets.Regions.{remade, hull_of}
+use Rattle.in_out_regions.specs.region_sets.Regions.{remade}
+use Rattle.in_out_regions.specs.region_sets.Trim.{trim}
 use Rattle.in_out_regions.specs.region_sets.Compose.{compose}
-use Rattle.in_out_regions.specs.region_sets.Sets.{live_pieces, with_pieces, live}
+use Rattle.in_out_regions.specs.region_sets.Sets.{with_pieces, all_trimmed}
 use Rattle.in_out_regions.specs.region_sets.Lists.{all_composed, forgetting, all_forgetting, all_accesses}
 use Rattle.in_out_regions.specs.region_sets.Claims.{AreNumbers, Describes, DescribedBy, LiesIn, LiesInSet, Places}
 use Rattle.in_out_regions.proofs.RegionSets.DescribedLaws.{stored, at_start, none_by, moved, moved_cells, moved_are}
@@ -33,11 +30,8 @@ use Rattle.in_out_regions.proofs.RegionSets.StepLaws.{in_map, forgotten_by}
 use Rattle.in_out_regions.proofs.RegionSets.PieceLaws.{compose_moves}
 use Rattle.loop_marker.specs.out_regions.Used.{as_out, all_out}
 use Rattle.loop_marker.specs.out_regions.Lists.{applied, all_applied}
-use Rattle.in_out_regions.proofs.RegionSets.SetLaws.{live_by}
-use Rattle.in_out_regions.proofs.RegionSets.UniteLaws.{hulled_first as first_hulled, hulled_rest as rest_hulled, hull_has as in_hull}
+use Rattle.in_out_regions.proofs.RegionSets.TrimLaws.{trim_by}
 use Rattle.preconditions.proofs.TransformerAlgebra.Members.{in_left, in_right}
-
--- ---- hulls, and systems that are not refuted
 
 -- ---- regions
 
@@ -53,23 +47,23 @@ module _ (m : Scene) (at : Places) where
   as_later : (q : Region) (rs : List Region) (r : Region) (x : ℕ → ℤ) (u : ℕ) → HasAs rs r x u → HasAs (q ∷ rs) r x u
   as_later q rs r x u h = record { region = h.region; is_one = there h.is_one; kind = h.kind; variable = h.variable; lies = h.lies }
 
-  live_has : (rs : List Region) (r : Region) (x : ℕ → ℤ) (u : ℕ) → In r rs → LiesIn m (at r.variable) r x u → HasAs (live rs) r x u
-  live_has [] r x u i l = elim i [ ]
-  live_has (q ∷ rs) r x u here l = go (live_pieces r.pieces) (λ n a. live_by r.pieces n l.phi (l.described n a))
+  trimmed_has : (rs : List Region) (r : Region) (x : ℕ → ℤ) (u : ℕ) → In r rs → LiesIn m (at r.variable) r x u → HasAs (all_trimmed rs) r x u
+  trimmed_has [] r x u i l = elim i [ ]
+  trimmed_has (q ∷ rs) r x u here l = go (r.exact && (trim r.pieces).exact) (trim r.pieces).pieces (λ n a. trim_by r.pieces n l.phi (l.described n a))
     where
-      go : (ss : List System) → ((n : ℕ → ℤ) → AreNumbers m x n → DescribedBy ss n l.phi) → HasAs (with_pieces r ss (λ o. o ∷ live rs) (live rs)) r x u
-      go [] d = none_by (stored m x) l.phi (d (stored m x) (λ c t. refl))
-      go (s ∷ ss) d = record { region = remade r r.exact (s ∷ ss); is_one = here; kind = refl; variable = refl; lies = record { phi = l.phi; there = l.there; described = d } }
-  live_has (q ∷ rs) r x u (there i) l = go (live_pieces q.pieces) (live_has rs r x u i l)
+      go : (e : Bool) (ss : List System) → ((n : ℕ → ℤ) → AreNumbers m x n → DescribedBy ss n l.phi) → HasAs (with_pieces r e ss (λ o. o ∷ all_trimmed rs) (all_trimmed rs)) r x u
+      go e [] d = none_by (stored m x) l.phi (d (stored m x) (λ c t. refl))
+      go e (s ∷ ss) d = record { region = remade r e (s ∷ ss); is_one = here; kind = refl; variable = refl; lies = record { phi = l.phi; there = l.there; described = d } }
+  trimmed_has (q ∷ rs) r x u (there i) l = go (q.exact && (trim q.pieces).exact) (trim q.pieces).pieces (trimmed_has rs r x u i l)
     where
-      go : (ss : List System) → HasAs (live rs) r x u → HasAs (with_pieces q ss (λ o. o ∷ live rs) (live rs)) r x u
-      go [] h = h
-      go (s ∷ ss) h = as_later (remade q q.exact (s ∷ ss)) (live rs) r x u h
+      go : (e : Bool) (ss : List System) → HasAs (all_trimmed rs) r x u → HasAs (with_pieces q e ss (λ o. o ∷ all_trimmed rs) (all_trimmed rs)) r x u
+      go e [] h = h
+      go e (s ∷ ss) h = as_later (remade q e (s ∷ ss)) (all_trimmed rs) r x u h
 
   pub out_lies : (rs : List Region) (a : Access) (x : ℕ → ℤ) (u : ℕ) → LiesInSet m at a rs x u → LiesInSet m at Out (all_out rs) x u
   out_lies rs a x u l =
-      let h = live_has rs l.region x u l.is_one l.lies in
-      record { region = as_out h.region; is_one = in_map as_out h.region (live rs) h.is_one; kind = refl; lies = record { phi = h.lies.phi; there = h.lies.there; described = h.lies.described } }
+      let h = trimmed_has rs l.region x u l.is_one l.lies in
+      record { region = as_out h.region; is_one = in_map as_out h.region (all_trimmed rs) h.is_one; kind = refl; lies = record { phi = h.lies.phi; there = h.lies.there; described = h.lies.described } }
 
   pub lies_left : (rs qs : List Region) (a : Access) (x : ℕ → ℤ) (u : ℕ) → LiesInSet m at a rs x u → LiesInSet m at a (rs ++ qs) x u
   lies_left rs qs a x u l = record { region = l.region; is_one = in_left l.region rs qs l.is_one; kind = l.kind; lies = l.lies }

@@ -1,10 +1,9 @@
 -- Lists that are executed in their order: what is needed later, handed down to their statements.
-use Rattle.std.proofs.Common.{◌≡◌, inl, inr, ⊎_elim, ℕ, ℤ, List, [], ◌∷◌, ◌++◌, Option, Bool, true, false, refl, sym, ap, ◌∙◌, subst, true≢false, nat_eq}
+use Rattle.std.proofs.Common.{◌≡◌, ⊎_elim, ℕ, ℤ, List, [], ◌∷◌, ◌++◌, ◌&&◌, Option, Bool, true, false, refl, sym, ap, ◌∙◌, subst, true≢false, nat_eq}
 use Rattle.std.specs.Prelude.{if◌then◌else◌, not}
 use Rattle.std.proofs.lemmas.Bool.{or_parts, and_parts, or_left}
 use Rattle.affine_systems.specs.declared.row.System.{System}
 use Rattle.affine_systems.specs.Points.{Point}
-use Rattle.hull_projection.specs.Refute.{refuted}
 use Rattle.f77_ast.specs.Trees.{StmtTree, WhatTree, StmtTrees}
 use Rattle.f77_ast.specs.Trees as tree
 use Rattle.f77_ast.specs.Store.{Content, Store}
@@ -27,7 +26,8 @@ use Rattle.in_out_regions.specs.region_sets.declared.region.Access.{Access}
 use Rattle.in_out_regions.specs.region_sets.declared.region.Access.TheVariants.{Write, In as AtIn, Out}
 use Rattle.in_out_regions.specs.region_sets.declared.region.Region.{Region}
 use Rattle.in_out_regions.specs.region_sets.Regions.{remade, any_weak}
-use Rattle.in_out_regions.specs.region_sets.Sets.{live_pieces, with_pieces, live}
+use Rattle.in_out_regions.specs.region_sets.Trim.{trim}
+use Rattle.in_out_regions.specs.region_sets.Sets.{with_pieces, all_trimmed}
 use Rattle.in_out_regions.specs.region_sets.Lists.{all_composed, numbers, set_at}
 use Rattle.hull_projection.specs.Unions.{HoldsSome}
 use Rattle.in_out_regions.specs.region_sets.Claims.{LiesInSet, IsSharp, IsSharpSet, Places}
@@ -58,23 +58,25 @@ use Rattle.laws_marks.proofs.OutUsed.{used_set}
 use Rattle.laws_marks.proofs.OutNeeds.{nothing_later, need_cases, needs_none, needs_right, unhidden, first_seen}
 use Rattle.laws_marks.proofs.OutLeaving.{stmt_jumps, list_jumps, list_returns, stmt_returns}
 use Rattle.laws_marks.proofs.OutRest.{all_writes, LeadsSo, StmtRan, EachRan, RestRan, no_label, last_return, rest_ran}
-use Rattle.in_out_regions.proofs.RegionSets.SetLaws.{live_some}
+use Rattle.in_out_regions.proofs.RegionSets.TrimLaws.{trim_back}
 use Rattle.fx_lists.proofs.Numbers.{nat_eq_same}
 use Rattle.f77_ast.specs.Shapes.{is_return}
 
--- ---- regions that are not refuted say no more
+-- ---- trimmed regions say no more
 
-sharp_live : (m : Scene) (at : Places) (x : ℕ → ℤ) (c : Access → ℕ → Bool) (rs : List Region) → IsSharpSet m at rs x c → IsSharpSet m at (live rs) x c
-sharp_live m at x c [] h r i = elim i [ ]
-sharp_live m at x c (q ∷ rs) h r i = go (live_pieces q.pieces) (λ p w. live_some p q.pieces w) i (sharp_live m at x c rs (λ o j. h o (there j)) r)
+sharp_trimmed : (m : Scene) (at : Places) (x : ℕ → ℤ) (c : Access → ℕ → Bool) (rs : List Region) → IsSharpSet m at rs x c → IsSharpSet m at (all_trimmed rs) x c
+sharp_trimmed m at x c [] h r i = elim i [ ]
+sharp_trimmed m at x c (q ∷ rs) h r i = go (trim q.pieces).exact (trim q.pieces).pieces (λ e p w. trim_back p q.pieces e w) i (sharp_trimmed m at x c rs (λ o j. h o (there j)) r)
   where
-    front : (o : Region) → In r (o ∷ live rs) → IsSharp m (at o.variable) o x (c o.kind) → (In r (live rs) → IsSharp m (at r.variable) r x (c r.kind)) → IsSharp m (at r.variable) r x (c r.kind)
+    front : (o : Region) → In r (o ∷ all_trimmed rs) → IsSharp m (at o.variable) o x (c o.kind) → (In r (all_trimmed rs) → IsSharp m (at r.variable) r x (c r.kind)) → IsSharp m (at r.variable) r x (c r.kind)
     front o here s f = s
     front o (there j) s f = f j
 
-    go : (ss : List System) → ((p : Point) → HoldsSome p ss → HoldsSome p q.pieces) → In r (with_pieces q ss (λ o. o ∷ live rs) (live rs)) → (In r (live rs) → IsSharp m (at r.variable) r x (c r.kind)) → IsSharp m (at r.variable) r x (c r.kind)
-    go [] f j ih = ih j
-    go (s ∷ ss) f j ih = front (remade q q.exact (s ∷ ss)) j (λ e p st w. h q here (and_parts q.exact (not (any_weak (s ∷ ss))) e).0 p st (f p w)) ih
+    go : (b : Bool) (ss : List System) → (b ≡ true → (p : Point) → HoldsSome p ss → HoldsSome p q.pieces) → In r (with_pieces q (q.exact && b) ss (λ o. o ∷ all_trimmed rs) (all_trimmed rs)) → (In r (all_trimmed rs) → IsSharp m (at r.variable) r x (c r.kind)) → IsSharp m (at r.variable) r x (c r.kind)
+    go b [] f j ih = ih j
+    go b (s ∷ ss) f j ih =
+        front (remade q (q.exact && b) (s ∷ ss)) j
+        (λ e p st w. (let z = and_parts q.exact b (and_parts (q.exact && b) (not (any_weak (s ∷ ss))) e).0 in h q here z.0 p st (f z.1 p w))) ih
 
 -- ---- lists
 
@@ -119,17 +121,17 @@ module _ (k : Frame) (D : Claim) (O : Occurrence → Type 0) (lost : ℕ → Boo
       all_left : Leaves ≡ true → (u : ℕ) → Lies out u → Lies Behind u
       all_left e u l =
           lies_right (scene k.base) (elements_in k) (all_out (all_composed (k.does n) R.ins)) (all_out (left_over Leaves (all_composed (k.does n) R.writes) out)) Out (numbers_of s) u
-          (subst (λ b. Lies (all_out (if b then out else all_unwritten (live (all_composed (k.does n) R.writes)) out)) u) (sym e) (out_lies (scene k.base) (elements_in k) out Out (numbers_of s) u l))
+          (subst (λ b. Lies (all_out (if b then out else all_unwritten (all_trimmed (all_composed (k.does n) R.writes)) out)) u) (sym e) (out_lies (scene k.base) (elements_in k) out Out (numbers_of s) u l))
 
       -- or where exact WRITE regions of what is behind it tell that it is not written there
-      not_written : (written : ℕ → Bool) → AreWritten (scene k.base) (elements_in k) (live (all_composed (k.does n) R.writes)) (numbers_of s) written → (u : ℕ) → written u ≡ false → Lies out u → Lies Behind u
+      not_written : (written : ℕ → Bool) → AreWritten (scene k.base) (elements_in k) (all_trimmed (all_composed (k.does n) R.writes)) (numbers_of s) written → (u : ℕ) → written u ≡ false → Lies out u → Lies Behind u
       not_written written h u f l =
           lies_right (scene k.base) (elements_in k) (all_out (all_composed (k.does n) R.ins)) (all_out (left_over Leaves (all_composed (k.does n) R.writes) out)) Out (numbers_of s) u (go Leaves)
         where
-          go : (b : Bool) → Lies (all_out (if b then out else all_unwritten (live (all_composed (k.does n) R.writes)) out)) u
+          go : (b : Bool) → Lies (all_out (if b then out else all_unwritten (all_trimmed (all_composed (k.does n) R.writes)) out)) u
           go true = out_lies (scene k.base) (elements_in k) out Out (numbers_of s) u l
-          go false = out_lies (scene k.base) (elements_in k) (all_unwritten (live (all_composed (k.does n) R.writes)) out) Out (numbers_of s) u
-              (unwritten_lies k.m.symbols (scene k.base) (elements_in k) (by_order k) (live (all_composed (k.does n) R.writes)) written (numbers_of s) u h f Out out l)
+          go false = out_lies (scene k.base) (elements_in k) (all_unwritten (all_trimmed (all_composed (k.does n) R.writes)) out) Out (numbers_of s) u
+              (unwritten_lies k.m.symbols (scene k.base) (elements_in k) (by_order k) (all_trimmed (all_composed (k.does n) R.writes)) written (numbers_of s) u h f Out out l)
 
       by_rest : (z : Store) (u : ℕ) → Does (scene k.base) (k.does n) (numbers_of s) (numbers_of z) → LiesInSet (scene k.base) (elements_in k) AtIn R.ins (numbers_of z) u → Lies Behind u
       by_rest z u d l =
@@ -143,10 +145,10 @@ module _ (k : Frame) (D : Claim) (O : Occurrence → Type 0) (lost : ℕ → Boo
       after_rest : (z : Store) (a : Answer Flow) (fs later : List Event) → IsLater a later → RestRan k D I acc ins fits locked still whole rest z a fs → Does (scene k.base) (k.does n) (numbers_of s) (numbers_of z) → (u : ℕ) → is_written u fs ≡ false → is_read_first u later ≡ true → Lies out u → Lies Behind u
       after_rest z a fs later il r d u f g l = go Leaves refl
         where
-          sharp : IsSharpSet (scene k.base) (elements_in k) (all_writes k acc fits (numbers rest)) (numbers_of z) (λ b. accessed b fs) → AreWritten (scene k.base) (elements_in k) (live (all_composed (k.does n) R.writes)) (numbers_of s) (λ v. is_written v fs)
+          sharp : IsSharpSet (scene k.base) (elements_in k) (all_writes k acc fits (numbers rest)) (numbers_of z) (λ b. accessed b fs) → AreWritten (scene k.base) (elements_in k) (all_trimmed (all_composed (k.does n) R.writes)) (numbers_of s) (λ v. is_written v fs)
           sharp h q i e =
               subst (λ b. IsSharp (scene k.base) (elements_in k q.variable) q (numbers_of s) (accessed b fs)) e
-              (sharp_live (scene k.base) (elements_in k) (numbers_of s) (λ b. accessed b fs) (all_composed (k.does n) R.writes) (sharp_moved (scene k.base) (elements_in k) (numbers_of s) (k.does n) R.writes (numbers_of z) (λ b. accessed b fs) d h) q i)
+              (sharp_trimmed (scene k.base) (elements_in k) (numbers_of s) (λ b. accessed b fs) (all_composed (k.does n) R.writes) (sharp_moved (scene k.base) (elements_in k) (numbers_of s) (k.does n) R.writes (numbers_of z) (λ b. accessed b fs) d h) q i)
 
           stays : Leaves ≡ false → leaves whole rest ≡ false
           stays e = (or_parts (stmt_leaves whole now) R.leaves e).1
@@ -207,7 +209,7 @@ module _ (k : Frame) (D : Claim) (O : Occurrence → Type 0) (lost : ℕ → Boo
           go true e false t = left (λ o. t)
           go true e true t =
               let o = last_return k D I acc ins fits locked still all whole straight n label w rest x p.moved.0 e in
-              not_written (λ v. is_written v es) (subst (λ rs. AreWritten (scene k.base) (elements_in k) (live (all_composed (k.does n) rs)) (numbers_of s) (λ v. is_written v es)) (sym (none_later rest o.1)) (λ r i. elim i [ ])) u (never (returns_nothing n label w rest x t)) (h u q at_end)
+              not_written (λ v. is_written v es) (subst (λ rs. AreWritten (scene k.base) (elements_in k) (all_trimmed (all_composed (k.does n) rs)) (numbers_of s) (λ v. is_written v es)) (sym (none_later rest o.1)) (λ r i. elim i [ ])) u (never (returns_nothing n label w rest x t)) (h u q at_end)
             where
               never : set_at acc n ≡ [] → is_written u es ≡ false
               never r = absurd (none_in (p.accesses.holds Write u (record { is_so = nd.written; seen = unhidden k locked units u q (p.firsts.free.unlocked u nd.written) es p.firsts.free })))

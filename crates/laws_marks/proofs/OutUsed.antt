@@ -1,6 +1,6 @@
 -- What is used of WRITE regions: a unit that lies in one of them, and in a region of what may be read later, lies in it.
-use Rattle.std.proofs.Common.{◌≡◌, ⊎_elim, ℕ, ℤ, List, [], ◌∷◌, ◌++◌, map, Some, None, Bool, true, false, refl, sym, ap, ◌∙◌, subst, true≢false}
-use Rattle.std.specs.Prelude.{if◌then◌else◌}
+use Rattle.std.proofs.Common.{◌≡◌, ⊎_elim, ℕ, ℤ, List, [], ◌∷◌, ◌++◌, map, Option, Some, None, Bool, true, false, refl, sym, ap, ◌∙◌, subst, true≢false}
+use Rattle.std.specs.Prelude.{if◌then◌else◌, MatchOption}
 use Rattle.std.specs.Ordering.{is_eq}
 use Rattle.std.proofs.lemmas.Bool.{or_left, or_right}
 use Rattle.affine_systems.specs.declared.row.Var.{Var}
@@ -18,16 +18,17 @@ use Rattle.affine_forms.specs.Claims.{numbers_of}
 use Rattle.preconditions.specs.transformer_algebra.Laws.{In, here, there}
 use Rattle.in_out_regions.specs.region_sets.declared.region.Access.TheVariants.{Write, Out}
 use Rattle.in_out_regions.specs.region_sets.declared.region.Region.{Region}
-use Rattle.in_out_regions.specs.region_sets.Regions.{region, hull_of}
-use Rattle.in_out_regions.specs.region_sets.Sets.{live_pieces}
+use Rattle.in_out_regions.specs.region_sets.Regions.{region}
+use Rattle.in_out_regions.specs.region_sets.Trim.{trim}
+use Rattle.in_out_regions.specs.region_sets.Unite.{unite}
 use Rattle.in_out_regions.specs.region_sets.Naming.{in_rows}
 use Rattle.in_out_regions.specs.region_sets.Claims.{HasSubscripts, AreNumbers, DescribedBy, LiesIn, LiesInSet}
 use Rattle.in_out_regions.proofs.RegionSets.DescribedLaws.{stored, none_by}
-use Rattle.in_out_regions.proofs.RegionSets.SetLaws.{live_by}
+use Rattle.in_out_regions.proofs.RegionSets.TrimLaws.{described_within, trim_by}
 use Rattle.in_out_regions.proofs.RegionSets.NameLaws.{rows_agree}
 use Rattle.in_out_regions.proofs.RegionSets.StepLaws.{in_map}
 use Rattle.in_out_regions.specs.Kinds.{is_write}
-use Rattle.loop_marker.specs.out_regions.Used.{as_out, is_used_beside, used_pieces, unless_empty, met_with, used_of, if_write, used}
+use Rattle.loop_marker.specs.out_regions.Used.{as_out, is_used_beside, joined, used_joined, used_in, each_met, unless_empty, met_with, used_of, if_write, used}
 use Rattle.loop_marker.specs.out_regions.Lists.{writes}
 use Rattle.laws_analyses.specs.Regions.Settings.{scene}
 use Rattle.laws_marks.specs.InFrames.{Frame, elements_in, rank}
@@ -35,7 +36,7 @@ use Rattle.laws_marks.specs.InUnits.{UnitsFit, IsNarrow}
 use Rattle.laws_marks.proofs.InUnique.{itself}
 use Rattle.laws_marks.proofs.InWithin.{resubscripted}
 use Rattle.laws_marks.specs.OutShown.{LiesAs}
-use Rattle.in_out_regions.proofs.RegionSets.UniteLaws.{hull_has as in_hull}
+use Rattle.in_out_regions.proofs.RegionSets.UniteLaws.{unite_has}
 use Rattle.f77_ast.specs.Variables.{same_variable}
 use Rattle.preconditions.proofs.TransformerAlgebra.Members.{in_left, in_right}
 use Rattle.in_out_regions.proofs.WriteLaws.{write_if}
@@ -49,15 +50,6 @@ beside_by ss (u ∷ us) v o (there i) e = or_right (overlap ss u.variable v) (is
 
 same_is : (v w : Variable) → v ≡ w → same_variable v w ≡ true
 same_is v w e = subst (λ (z : Variable). same_variable v z ≡ true) e (ap is_eq (itself v))
-
-pieces_in : (v : Variable) (us : List Region) (o : Region) (s : System) → In o us → v ≡ o.variable → In s o.pieces → In s (used_pieces v us)
-pieces_in v [] o s i e j = elim i [ ]
-pieces_in v (u ∷ us) o s here e j = subst (λ b. In s (if b then o.pieces ++ used_pieces v us else used_pieces v us)) (sym (same_is v o.variable e)) (in_left s o.pieces (used_pieces v us) j)
-pieces_in v (u ∷ us) o s (there i) e j = go (same_variable v u.variable) (pieces_in v us o s i e j)
-  where
-    go : (b : Bool) → In s (used_pieces v us) → In s (if b then u.pieces ++ used_pieces v us else used_pieces v us)
-    go true k = in_right s u.pieces (used_pieces v us) k
-    go false k = k
 
 pub write_in : (rs : List Region) (w : Region) → In w rs → w.kind ≡ Write → In w (writes rs)
 write_in [] w i e = elim i [ ]
@@ -80,10 +72,44 @@ of_writes P (r ∷ rs) h w i = go (is_write r.kind) refl i (λ j. of_writes P rs
     go true e j ih = front w j (h r here (write_if r.kind e)) ih
     go false e j ih = ih j
 
--- ---- what is used
+-- ---- what is used of a variable, united
 
-none_in : (d : System) → In d [] → ⊥
-none_in d i = elim i [ ]
+-- a region has the subscripts
+abbrev HasOne : (ℕ → ℤ) → (ℕ → ℤ) → Option Region → Type 0
+HasOne n phi o = MatchOption o ⊥ (λ r. DescribedBy r.pieces n phi)
+
+joined_first : (o : Option Region) (u : Region) (n phi : ℕ → ℤ) → HasOne n phi o → DescribedBy (joined o u).pieces n phi
+joined_first None u n phi h = absurd h
+joined_first (Some r) u n phi h = described_within n phi r.pieces (unite r (as_out u)).pieces (unite_has r (as_out u)).0 h
+
+joined_last : (o : Option Region) (u : Region) (n phi : ℕ → ℤ) → DescribedBy u.pieces n phi → DescribedBy (joined o u).pieces n phi
+joined_last None u n phi d = d
+joined_last (Some r) u n phi d = described_within n phi u.pieces (unite r (as_out u)).pieces (unite_has r (as_out u)).1 d
+
+used_first : (v : Variable) (o : Option Region) (us : List Region) (n phi : ℕ → ℤ) → HasOne n phi o → HasOne n phi (used_joined v o us)
+used_first v o [] n phi h = h
+used_first v o (u ∷ us) n phi h = go (same_variable v u.variable) (used_first v (Some (joined o u)) us n phi (joined_first o u n phi h)) (used_first v o us n phi h)
+  where
+    go : (b : Bool) → HasOne n phi (used_joined v (Some (joined o u)) us) → HasOne n phi (used_joined v o us) → HasOne n phi (if b then used_joined v (Some (joined o u)) us else used_joined v o us)
+    go true h k = h
+    go false h k = k
+
+used_has : (v : Variable) (o : Option Region) (us : List Region) (q : Region) (n phi : ℕ → ℤ) → In q us → v ≡ q.variable → DescribedBy q.pieces n phi → HasOne n phi (used_joined v o us)
+used_has v o [] q n phi i e d = elim i [ ]
+used_has v o (u ∷ us) q n phi here e d =
+    subst (λ b. HasOne n phi (if b then used_joined v (Some (joined o q)) us else used_joined v o us)) (sym (same_is v q.variable e)) (used_first v (Some (joined o q)) us n phi (joined_last o q n phi d))
+used_has v o (u ∷ us) q n phi (there i) e d = go (same_variable v u.variable) (used_has v (Some (joined o u)) us q n phi i e d) (used_has v o us q n phi i e d)
+  where
+    go : (b : Bool) → HasOne n phi (used_joined v (Some (joined o u)) us) → HasOne n phi (used_joined v o us) → HasOne n phi (if b then used_joined v (Some (joined o u)) us else used_joined v o us)
+    go true h k = h
+    go false h k = k
+
+in_met : (c d : System) (ss ts : List System) → In c ss → In d ts → In (meet c d) (each_met ss ts)
+in_met c d [] ts i j = elim i [ ]
+in_met c d (s ∷ ss) ts here j = in_left (meet c d) (map (λ t. meet c t) ts) (each_met ss ts) (in_map (λ t. meet c t) d ts j)
+in_met c d (s ∷ ss) ts (there i) j = in_right (meet c d) (map (λ t. meet s t) ts) (each_met ss ts) (in_met c d ss ts i j)
+
+-- ---- what is used
 
 module _ (k : Frame) (locked : Locks) (units : UnitsFit k locked) (us : List Region) (s : Store) where
   -- each piece names the subscripts of the variable alone
@@ -108,13 +134,13 @@ module _ (k : Frame) (locked : Locks) (units : UnitsFit k locked) (us : List Reg
       abbrev units_now : ℕ → ℤ
       units_now = stored (scene k.base) (numbers_of s)
 
-      met_by : (n : ℕ → ℤ) → DescribedBy w.pieces n l.phi → (qs : List System) → (d : DescribedBy o.region.pieces n o.lies.phi) → In d.piece qs → DescribedBy (map (λ z. meet z (hull_of qs)) w.pieces) n o.lies.phi
-      met_by n c qs d i = record {
-        piece = meet c.piece (hull_of qs);
-        is_one = in_map (λ z. meet z (hull_of qs)) c.piece w.pieces c.is_one;
-        holds = λ p h ph. meet_holds p c.piece (hull_of qs) (
+      met_by : (n : ℕ → ℤ) → DescribedBy w.pieces n l.phi → (ts : List System) → DescribedBy ts n o.lies.phi → DescribedBy (each_met w.pieces ts) n o.lies.phi
+      met_by n c ts d = record {
+        piece = meet c.piece d.piece;
+        is_one = in_met c.piece d.piece w.pieces ts c.is_one d.is_one;
+        holds = λ p h ph. meet_holds p c.piece d.piece (
           rows_agree c.piece.rows (resubscripted p l.phi) p (agree p ph c.piece c.is_one) (c.holds (resubscripted p l.phi) (λ j. h j) (λ j. refl)),
-          in_hull p d.piece qs i (d.holds p h ph),
+          d.holds p h ph,
         );
       }
 
@@ -122,19 +148,19 @@ module _ (k : Frame) (locked : Locks) (units : UnitsFit k locked) (us : List Reg
       kept [] h = none_by units_now o.lies.phi (h units_now (λ c t. refl))
       kept (c ∷ ss) h = record { region = region w.variable Out false (c ∷ ss); is_one = here; kind = refl; same = refl; lies = record { phi = o.lies.phi; there = there_too; described = h } }
 
-      met_some : (qs : List System) → ((n : ℕ → ℤ) (d : DescribedBy o.region.pieces n o.lies.phi) → In d.piece qs) → LiesAs k w.variable (met_with w qs) s u
-      met_some [] i = absurd (none_in (o.lies.described units_now (λ c t. refl)).piece (i units_now (o.lies.described units_now (λ c t. refl))))
-      met_some (c ∷ qs) i =
-          kept (live_pieces (map (λ z. meet z (hull_of (c ∷ qs))) w.pieces))
-          (λ n a. live_by (map (λ z. meet z (hull_of (c ∷ qs))) w.pieces) n o.lies.phi (met_by n (l.described n a) (c ∷ qs) (o.lies.described n a) (i n (o.lies.described n a))))
+      met_some : (v : Option Region) → ((n : ℕ → ℤ) → AreAll n → HasOne n o.lies.phi v) → LiesAs k w.variable (met_with w v) s u
+      met_some None i = absurd (i units_now (λ c t. refl))
+      met_some (Some v) i =
+          kept (trim (each_met w.pieces v.pieces)).pieces
+          (λ n a. trim_by (each_met w.pieces v.pieces) n o.lies.phi (met_by n (l.described n a) v.pieces (i n a)))
 
-      met : LiesAs k w.variable (met_with w (used_pieces w.variable us)) s u
-      met = met_some (used_pieces w.variable us) (λ n d. pieces_in w.variable us o.region d.piece o.is_one q d.is_one)
+      met : LiesAs k w.variable (met_with w (used_in w.variable us)) s u
+      met = met_some (used_in w.variable us) (λ n a. used_has w.variable None us o.region n o.lies.phi o.is_one q (o.lies.described n a))
 
     used_one : LiesAs k w.variable (used_of k.m.symbols us w) s u
     used_one = go (is_used_beside k.m.symbols us w.variable) refl
       where
-        go : (b : Bool) → is_used_beside k.m.symbols us w.variable ≡ b → LiesAs k w.variable (if b then as_out w ∷ [] else met_with w (used_pieces w.variable us)) s u
+        go : (b : Bool) → is_used_beside k.m.symbols us w.variable ≡ b → LiesAs k w.variable (if b then as_out w ∷ [] else met_with w (used_in w.variable us)) s u
         go true e = record { region = as_out w; is_one = here; kind = refl; same = refl; lies = record { phi = l.phi; there = l.there; described = l.described } }
         go false e = ⊎_elim met (λ c. absurd (true≢false (sym (beside_by k.m.symbols us w.variable o.region o.is_one c) ∙ e))) (units.apart w.variable o.region.variable l.phi o.lies.phi u l.there o.lies.there free)
 

@@ -1,8 +1,7 @@
 -- Each OUT region of a statement is of a variable of one of its WRITE regions.
-use Rattle.std.proofs.Common.{◌≡◌, List, [], ◌∷◌, ◌++◌, Bool, true, false, refl}
-use Rattle.std.specs.Prelude.{if◌then◌else◌, map}
+use Rattle.std.proofs.Common.{◌≡◌, List, [], ◌∷◌, ◌++◌, Option, Some, None, Bool, true, false, refl}
+use Rattle.std.specs.Prelude.{if◌then◌else◌}
 use Rattle.affine_systems.specs.declared.row.System.{System}
-use Rattle.affine_systems.specs.Calls.{meet}
 use Rattle.f77_ast.specs.Trees.{WhatTree, ArmTrees, ElseTree, StmtTrees}
 use Rattle.f77_ast.specs.Trees as tree
 use Rattle.f77_ast.specs.Symbols.{SymbolTree}
@@ -11,13 +10,12 @@ use Rattle.preconditions.specs.transformer_algebra.Laws.{In, here, there}
 use Rattle.preconditions.specs.transformers.Jumps.{unstructured}
 use Rattle.in_out_regions.specs.region_sets.declared.region.Access.TheVariants.{Out}
 use Rattle.in_out_regions.specs.region_sets.declared.region.Region.{Region}
-use Rattle.in_out_regions.specs.region_sets.Regions.{hull_of}
-use Rattle.in_out_regions.specs.region_sets.Sets.{live_pieces}
+use Rattle.in_out_regions.specs.region_sets.Trim.{trim}
 use Rattle.in_out_regions.specs.Kinds.{is_write}
 use Rattle.loop_marker.specs.out_regions.Known.{KnownTree}
 use Rattle.loop_marker.specs.out_regions.Lists.{writes, used_behind, rest_of, first_out, rest_out, may_leave, used_around, any_out}
 use Rattle.loop_marker.specs.out_regions.Statement.{body_out, only_out, loop_out, at_parts, at_arms, at_arm, at_else, at_any, at_used, at_rest, at_first, at_list}
-use Rattle.loop_marker.specs.out_regions.Used.{all_out, is_used_beside, used_pieces, unless_empty, met_with, used_of, if_write, used}
+use Rattle.loop_marker.specs.out_regions.Used.{all_out, is_used_beside, used_in, unless_empty, each_met, met_with, used_of, if_write, used}
 use Rattle.call_graph.specs.CallsIn.{Each}
 use Rattle.in_out_regions.specs.region_sets.Lists.{set_at}
 use Rattle.call_graph.proofs.EachLaws.{each_joined}
@@ -46,9 +44,9 @@ alone w [] r j = elim j [ ]
 alone w (t ∷ ts) r here = record { region = w; is_one = here; same = refl; kind = refl }
 alone w (t ∷ ts) r (there j) = elim j [ ]
 
-met : (w : Region) (ps : List System) (r : Region) → In r (met_with w ps) → Written (w ∷ []) r
-met w [] r j = elim j [ ]
-met w (p ∷ ps) r j = alone w (live_pieces (map (λ q. meet q (hull_of (p ∷ ps))) w.pieces)) r j
+met : (w : Region) (o : Option Region) (r : Region) → In r (met_with w o) → Written (w ∷ []) r
+met w None r j = elim j [ ]
+met w (Some u) r j = alone w (trim (each_met w.pieces u.pieces)).pieces r j
 
 beside : (w r : Region) → In r (record { variable = w.variable; kind = Out; exact = false; pieces = w.pieces } ∷ []) → Written (w ∷ []) r
 beside w r here = record { region = w; is_one = here; same = refl; kind = refl }
@@ -57,9 +55,9 @@ beside w r (there j) = elim j [ ]
 used_one : (ss : List SymbolTree) (us : List Region) (w : Region) (r : Region) → In r (used_of ss us w) → Written (w ∷ []) r
 used_one ss us w r i = go (is_used_beside ss us w.variable) i
   where
-    go : (b : Bool) → In r (if b then record { variable = w.variable; kind = Out; exact = false; pieces = w.pieces } ∷ [] else met_with w (used_pieces w.variable us)) → Written (w ∷ []) r
+    go : (b : Bool) → In r (if b then record { variable = w.variable; kind = Out; exact = false; pieces = w.pieces } ∷ [] else met_with w (used_in w.variable us)) → Written (w ∷ []) r
     go true j = beside w r j
-    go false j = met w (used_pieces w.variable us) r j
+    go false j = met w (used_in w.variable us) r j
 
 first_of_more : (ws : List Region) (w r : Region) → Written (w ∷ []) r → Written (w ∷ ws) r
 first_of_more ws w r q = record { region = w; is_one = here; same = one q.region q.is_one q.same; kind = q.kind }

@@ -26,20 +26,22 @@ use Rattle.session_texts.specs.pipsmake_rules.declared.kind.Kind.{Kind}
 use Rattle.session_texts.specs.pipsmake_rules.Kinds.{same_kind}
 use Rattle.in_out_regions.specs.region_sets.declared.region.Access.{Access}
 use Rattle.in_out_regions.specs.region_sets.declared.region.Region.{Region}
+use Rattle.in_out_regions.specs.region_sets.Live.{IsFew}
 use Rattle.laws_analyses.proofs.Statements.NumberLaws.{ids}
 use Rattle.laws_marks.proofs.InUnique.{Ordered}
 use Rattle.laws_lines.specs.Variables.{EachVar, IsOver, IsCellOf}
 use Rattle.laws_lines.specs.Halves.{IsHalfOf, IsTransformerOf}
 use Rattle.laws_lines.specs.Laws.{IsTracked}
 use Rattle.laws_lines.proofs.StatementVars.{AllAt}
-use Rattle.laws_lines.specs.Regions.Places.{IsPlaceOf, IsOne}
+use Rattle.laws_lines.specs.Regions.Places.{IsPlaceOf, AreFew}
 use Rattle.laws_lines.specs.Regions.Laws.{AreOverPlaces, SetsAreOver}
 use Rattle.laws_lines.proofs.Regions.RegionVars.{AreFine}
 use Rattle.laws_lines.proofs.Regions.ProgramRegions.{IsNamedHere, SetsFine}
 use Rattle.base_json.specs.Scopes.{ScopeTree, is_symbol, cells_alone, with_exits, with_phi}
 use Rattle.base_values.specs.Naming.{Each, AreNames, VariableFits, VarFits, RowNames, SystemFits}
 use Rattle.base_values.specs.Words.{result_with}
-use Rattle.base_values.specs.Fits.{TransformerFits, OnePiece, RegionFits, RegionsFit, ResultsFit}
+use Rattle.base_values.specs.Read.{are_few}
+use Rattle.base_values.specs.Fits.{TransformerFits, PiecesFit, RegionFits, RegionsFit, ResultsFit}
 use Rattle.laws_stored.proofs.Symbols.{between}
 use Rattle.laws_stored.proofs.RegionRules.{AreSuch}
 use Rattle.laws_stored.proofs.Foreign.{IsForeign}
@@ -49,7 +51,8 @@ use Rattle.laws_stored.proofs.Apart.{ordered_apart}
 use Rattle.laws_stored.proofs.Phases.{of_all, SetsSuch}
 use Rattle.laws_lines.proofs.LineBack.{cell_number}
 use Rattle.fx_lists.proofs.Lists.{map_length}
-use Rattle.fx_lists.proofs.Numbers.{same_is as nat_same}
+use Rattle.fx_lists.proofs.Booleans.{and_from}
+use Rattle.fx_lists.proofs.Numbers.{below_is, same_is as nat_same}
 use Rattle.fx_lists.proofs.Every.{Anything, Every}
 
 -- ---- lists
@@ -134,22 +137,27 @@ module _ (names : List (List ℕ)) (few : length names < 2 ^ 32) (such : ℕ →
 
   -- ---- regions
 
-  piece_fits : (ss : List System) → AllFit ss → IsOne (IsOver (IsPlaceOf such)) ss → OnePiece names ss
-  piece_fits [] h o = o
-  piece_fits (s ∷ []) h o = (h.0, rows_fit (with_phi (cells_alone names)) (IsPlaceOf such) place_fits s.rows o)
-  piece_fits (s ∷ q ∷ ss) h o = o
+  each_piece : (ss : List System) → AllFit ss → AllByRecursion (IsOver (IsPlaceOf such)) ss → Each (SystemFits (with_phi (cells_alone names))) ss
+  each_piece [] h o = tt
+  each_piece (s ∷ ss) h o = ((h.0, rows_fit (with_phi (cells_alone names)) (IsPlaceOf such) place_fits s.rows o.0), each_piece ss h.1 o.1)
 
-  each_region : (K : Access → Type 0) (kind : Kind) → ((a : Access) → K a → same_kind (result_with a) kind ≡ true) → (rs : List Region) → AreSuch (VariableFits names) K rs → AllByRecursion (λ (r : Region). IsOne (IsOver (IsPlaceOf such)) r.pieces) rs
+  few_are : (ss : List System) → IsFew ss → are_few ss ≡ true
+  few_are ss h = let l = h.1 in and_from (nat_lt 0 (length ss)) (nat_lt (length ss) 5) (below_is 0 (length ss) h.0) (below_is (length ss) 5 (omega (arith, l)))
+
+  pieces_fit : (ss : List System) → AllFit ss → AreFew (IsOver (IsPlaceOf such)) ss → PiecesFit names ss
+  pieces_fit ss h o = (each_piece ss h o.1, few_are ss o.0)
+
+  each_region : (K : Access → Type 0) (kind : Kind) → ((a : Access) → K a → same_kind (result_with a) kind ≡ true) → (rs : List Region) → AreSuch (VariableFits names) K rs → AllByRecursion (λ (r : Region). AreFew (IsOver (IsPlaceOf such)) r.pieces) rs
       → Each (RegionFits names kind) rs
   each_region K kind right [] h o = tt
-  each_region K kind right (r ∷ rs) h o = ((h.0.0, right r.kind h.0.1, piece_fits r.pieces h.0.2 o.0), each_region K kind right rs h.1 o.1)
+  each_region K kind right (r ∷ rs) h o = ((h.0.0, right r.kind h.0.1, pieces_fit r.pieces h.0.2 o.0), each_region K kind right rs h.1 o.1)
 
   variables_fit : (K : Access → Type 0) (rs : List Region) → AreSuch (VariableFits names) K rs → Each (λ (r : Region). VariableFits names r.variable) rs
   variables_fit K [] h = tt
   variables_fit K (r ∷ rs) h = (h.0.0, variables_fit K rs h.1)
 
   pub regions_fit : AreNames names → (K : Access → Type 0) (kind : Kind) → ((a : Access) → K a → same_kind (result_with a) kind ≡ true) → (rs : List Region) → AreSuch (VariableFits names) K rs
-      → AllByRecursion (λ (r : Region). IsOne (IsOver (IsPlaceOf such)) r.pieces) rs → Ordered rs → RegionsFit names kind rs
+      → AllByRecursion (λ (r : Region). AreFew (IsOver (IsPlaceOf such)) r.pieces) rs → Ordered rs → RegionsFit names kind rs
   regions_fit are K kind right rs h o d = (each_region K kind right rs h o, ordered_apart names are rs (variables_fit K rs h) d)
 
 -- its symbols are those of the module

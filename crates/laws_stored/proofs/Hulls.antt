@@ -1,5 +1,5 @@
--- Hulls, closures and differences of systems that fit.
-use Rattle.std.proofs.Common.{suc, Bool, true, false, ◌||◌, List, [], ◌∷◌, ◌++◌, length, map, Option, Some, None, refl, subst}
+-- Hulls, closures and parts of systems that fit.
+use Rattle.std.proofs.Common.{suc, Bool, true, false, ◌||◌, List, [], ◌∷◌, ◌++◌, length, map, refl, subst}
 use Rattle.std.specs.Prelude.{if◌then◌else◌}
 use Rattle.affine_systems.specs.declared.row.Var.{Var}
 use Rattle.affine_systems.specs.declared.row.Term.{Term}
@@ -12,19 +12,19 @@ use Rattle.affine_systems.specs.Items.{items_from, rows_of}
 use Rattle.affine_systems.specs.Tidy.{tidy_items, tidy}
 use Rattle.affine_systems.specs.Eliminate.{eliminate_item, eliminate}
 use Rattle.affine_systems.specs.Given.{IsSmallRow, Fits, ItemsFit, ItemsSmall}
-use Rattle.affine_systems.specs.Calls.{meet, push_row}
+use Rattle.affine_systems.specs.Calls.{push_row}
 use Rattle.affine_systems.proofs.Basics.{if_cases}
 use Rattle.affine_systems.proofs.AscendLaws.{ascends-negated, ascends-negated as negated_ascending}
 use Rattle.affine_systems.proofs.FitLaws.{eliminate_fits, eliminated_fits, items_fit, rows_of-items_from}
 use Rattle.elimination.proofs.ElimSteps.{fit_small}
 use Rattle.hull_projection.specs.declared.eliminations.Left.{Left}
-use Rattle.hull_projection.specs.declared.parts.Minus.{Minus}
 use Rattle.hull_projection.specs.Variables.{in_order, row_vars}
 use Rattle.hull_projection.specs.Refute.{count_pairs, left_after, eliminate_all, all_left, refuted, negations, above, below}
 use Rattle.hull_projection.specs.Fresh.{fresh_after, aux_from, old_vars}
 use Rattle.hull_projection.specs.Hull.{lift_rows, both_vars, lifted_hull, hull}
 use Rattle.hull_projection.specs.Closure.{AreCells, step_rows, same_row, iterations_var, steps, changes_of, is_false, iteration_rows, some_iterations, no_iteration, closure}
-use Rattle.hull_projection.specs.Minus.{AllFit, difference, all_negations, parts, hull_all, minus_parts, minus}
+use Rattle.hull_projection.specs.Clean.{clean}
+use Rattle.hull_projection.specs.Minus.{AllFit, all_negations, parts, apart}
 use Rattle.hull_projection.proofs.CleanLaws.{clean_fits}
 use Rattle.hull_projection.proofs.FitLaws.{few_fits, originals_fit}
 use Rattle.hull_projection.proofs.GivenLaws.{lifted_given, steps_given, all_same_given, turns_given, ordered_cells, left_given}
@@ -67,10 +67,6 @@ hull_fit a b h k =
     (λ e. k)
     (λ e. if_cases Fits (refuted b.rows) a (lifted_hull (fresh_after (both_vars a b)) (both_vars a b) a b) (λ f. h) (λ f. lifted_fits a b h k))
 
-pub hulls_fit : (s : System) (ss : List System) → Fits s → AllFit ss → Fits (hull_all s ss)
-hulls_fit s [] h k = h
-hulls_fit s (t ∷ ts) h k = hulls_fit (hull s t) ts (hull_fit s t h k.0) k.1
-
 -- ---- closures
 
 pub closure_fit : (cs : List Var) (t : System) → AreCells cs → Fits t → Fits (closure cs t)
@@ -89,7 +85,7 @@ closure_fit cs t o h =
     (λ e. clean_fits (eliminate (tidy many) k).system
     (eliminate_fits (tidy many) k (tidy_fit many (given_ascending rows (turns_given n ds s.rows rows ordered (fit_small_rows s changes) refl)))))
 
--- ---- differences
+-- ---- parts outside another system
 
 negations_ascending : (r : Row) → IsAscending r → AreAscending (negations r)
 negations_ascending r h = if_cases AreAscending r.equal (above r ∷ below r ∷ []) (above r ∷ []) (λ e. (negated_ascending r.terms h, (h, tt))) (λ e. (negated_ascending r.terms h, tt))
@@ -104,18 +100,9 @@ parts_fit a (n ∷ ns) h k =
     let ih = parts_fit a ns h k.1 in
     if_cases AllFit (refuted (push_row a n).rows) (parts a ns) (push_row a n ∷ parts a ns) (λ e. ih) (λ e. (push_one_fit a n h k.0, ih))
 
--- what is left, where something is
-abbrev pub LeftFits : Option System → Type 0
-LeftFits None = Unit {0}
-LeftFits (Some s) = Fits s
+cleaned_fit : (ss : List System) → AllFit ss → AllFit (map clean ss)
+cleaned_fit [] h = tt
+cleaned_fit (s ∷ ss) h = (clean_fits s h.0, cleaned_fit ss h.1)
 
-minus_parts_fit : (ss : List System) (w : Bool) → AllFit ss → LeftFits (minus_parts ss w).system
-minus_parts_fit [] w h = tt
-minus_parts_fit (s ∷ []) w h = clean_fits s h.0
-minus_parts_fit (s ∷ (t ∷ ts)) w h = hulls_fit s (t ∷ ts) h.0 h.1
-
-pub minus_fit : (a b : System) → Fits a → Fits b → LeftFits (minus a b).system
-minus_fit a b h k =
-    if_cases (λ (m : Minus). LeftFits m.system) (refuted (meet a b).rows) (difference (Some a) true) (minus_parts (parts a (all_negations b.rows)) (a.weak || b.weak))
-    (λ e. h)
-    (λ e. minus_parts_fit (parts a (all_negations b.rows)) (a.weak || b.weak) (parts_fit a (all_negations b.rows) h (all_ascending b.rows (fit_ascending b k))))
+pub apart_fit : (a b : System) → Fits a → Fits b → AllFit (apart a b)
+apart_fit a b h k = cleaned_fit (parts a (all_negations b.rows)) (parts_fit a (all_negations b.rows) h (all_ascending b.rows (fit_ascending b k)))

@@ -5,8 +5,7 @@ use Rattle.affine_systems.specs.declared.row.Var.TheVariants.{Cell, Aux}
 use Rattle.affine_systems.specs.declared.row.System.{System}
 use Rattle.affine_systems.specs.Given.{Fits}
 use Rattle.affine_systems.proofs.Basics.{if_cases}
-use Rattle.hull_projection.specs.declared.parts.Minus.{Minus}
-use Rattle.hull_projection.specs.Minus.{AllFit, difference}
+use Rattle.hull_projection.specs.Minus.{AllFit}
 use Rattle.hull_projection.proofs.ProjectLaws.{project_fits}
 use Rattle.preconditions.specs.transformer_algebra.Renaming.{naming, rename_all, push_rows}
 use Rattle.f77_ast.specs.Trees.{ExprTree, ExprTrees, StmtTree, WhatTree, ArmTree, ArmTrees, ElseTree, LoopTree, StmtTrees}
@@ -31,7 +30,8 @@ use Rattle.in_out_regions.specs.region_sets.declared.region.Access.{Access}
 use Rattle.in_out_regions.specs.region_sets.declared.region.Access.TheVariants.{Write, In}
 use Rattle.in_out_regions.specs.region_sets.declared.region.Region.{Region}
 use Rattle.in_out_regions.specs.region_sets.Regions.{remade, all_exact, systems}
-use Rattle.in_out_regions.specs.region_sets.Subtract.{less_from, less_one, less_each, less_all, before_left, left_of, all_left_exactly, unless_empty, all_apart, subtract}
+use Rattle.in_out_regions.specs.region_sets.Trim.{trim}
+use Rattle.in_out_regions.specs.region_sets.Subtract.{are_places, less_all, unless_empty, all_left, all_apart, subtract}
 use Rattle.in_out_regions.specs.region_sets.Sets.{unite_all}
 use Rattle.in_out_regions.specs.region_sets.Lists.{is_access, all_composed, in_any_order, numbers, set_at}
 use Rattle.in_out_regions.specs.call_equations.Sides.{changed_cells}
@@ -55,8 +55,8 @@ use Rattle.in_out_regions.specs.Modules.{summary_of, ins_with}
 use Rattle.base_values.specs.Naming.{Each}
 use Rattle.laws_stored.proofs.Lists.{set_found, each-append}
 use Rattle.laws_stored.proofs.Tidied.{IsAscending, AreAscending, ascending-append, meet_fit, push_fit, rename_fit}
-use Rattle.laws_stored.proofs.Hulls.{LeftFits, minus_fit}
 use Rattle.laws_stored.proofs.RulesFit.{none_fit, condition_fits, at_most_ascending, below_ascending}
+use Rattle.laws_stored.proofs.TrimsFit.{trim_fit, less_fit}
 use Rattle.laws_stored.proofs.RegionRules.{mapped_fit, IsSuch, AreSuch, both_such, all_such, all_composed_such, looped_such, united_such, any_such}
 use Rattle.laws_stored.proofs.Links.{IsCalled}
 use Rattle.laws_stored.proofs.Access.{caller_such, MaybeSuch, CalleesSuch, met_such, seen_such, always_fits, into_fits, past_fits, all_past_fit, A, reads_such, inner_such, named_such, actuals_such, loop_reads_such, symbols_such, tests_such, OwnFits, own_fits}
@@ -79,6 +79,11 @@ join rs qs h k = both_such IsCalled IsIn rs qs h k
 abbrev pub SystemsFit : List Region → Type 0
 SystemsFit rs = Each (λ (r : Region). AllFit r.pieces) rs
 
+-- those of a region, where there is one
+abbrev pub MaybeSystems : Option Region → Type 0
+MaybeSystems None = Unit {0}
+MaybeSystems (Some r) = AllFit r.pieces
+
 pub as_in_such : (rs : List Region) → A rs → I (all_in rs)
 as_in_such [] h = tt
 as_in_such (r ∷ rs) h = ((h.0.0, refl, h.0.2), as_in_such rs h.1)
@@ -88,22 +93,6 @@ first_such [] h = tt
 first_such (r ∷ rs) h = let others = first_such rs h.1 in if_cases I (is_read r.kind) (as_in r ∷ first_reads rs) (first_reads rs) (λ e. ((h.0.0, refl, h.0.2), others)) (λ e. others)
 
 -- ---- what is left
-
-left_from_fits : (o : Option System) (m : Minus) (s : System) → LeftFits o → LeftFits m.system → Fits s → LeftFits (less_from o m s).system
-left_from_fits None m s h i k = i
-left_from_fits (Some p) m s h i k = minus_fit p s h k
-
-each_left_fits : (m : Minus) (ss : List System) → LeftFits m.system → AllFit ss → LeftFits (less_each m ss).system
-each_left_fits m [] h k = h
-each_left_fits m (s ∷ ss) h k = each_left_fits (less_one m s) ss (left_from_fits m.system m s h h k.0) k.1
-
-before_fit : (o : Option System) (ps : List System) → LeftFits o → AllFit ps → AllFit (before_left o ps)
-before_fit None ps h k = k
-before_fit (Some p) ps h k = (h, k)
-
-left_fit : (ps ss : List System) → AllFit ps → AllFit ss → AllFit (left_of ps ss)
-left_fit [] ss h k = tt
-left_fit (p ∷ ps) ss h k = before_fit (less_all p ss).system (left_of ps ss) (each_left_fits (difference (Some p) true) ss h.0 k) (left_fit ps ss h.1 k)
 
 module _ (V : Variable → Type 0) (K : Access → Type 0) where
   abbrev pub MaybeRegion : Option Region → Type 0
@@ -116,22 +105,19 @@ module _ (V : Variable → Type 0) (K : Access → Type 0) where
 
   pub subtract_such : (a b : Region) → IsSuch V K a → AllFit b.pieces → MaybeRegion (subtract a b)
   subtract_such a b h k =
-      if_cases MaybeRegion b.exact (unless_empty a (a.exact && all_left_exactly a.pieces b.pieces) (left_of a.pieces b.pieces)) (Some (remade a (a.exact && all_apart a.pieces b.pieces) a.pieces))
-      (λ e. unless_such a (a.exact && all_left_exactly a.pieces b.pieces) (left_of a.pieces b.pieces) h (left_fit a.pieces b.pieces h.2 k)) (λ e. h)
+      let ss = less_all a.pieces b.pieces in
+      if_cases MaybeRegion (b.exact && are_places b.pieces) (all_left a ss) (Some (remade a (a.exact && all_apart a.pieces b.pieces) a.pieces))
+      (λ e. unless_such a (a.exact && (trim ss).exact) (trim ss).pieces h (trim_fit ss (less_fit a.pieces b.pieces h.2 k))) (λ e. h)
 
   maybe_list : (o : Option Region) → MaybeRegion o → AreSuch V K (option_to_list o)
   maybe_list None h = tt
   maybe_list (Some r) h = (h, tt)
 
-  abbrev MaybeFit : Option Region → Type 0
-  MaybeFit None = Unit {0}
-  MaybeFit (Some w) = AllFit w.pieces
-
-  write_fits : (v : Variable) (ws : List Region) → SystemsFit ws → MaybeFit (write_of v ws)
+  write_fits : (v : Variable) (ws : List Region) → SystemsFit ws → MaybeSystems (write_of v ws)
   write_fits v [] h = tt
-  write_fits v (w ∷ ws) h = if_cases MaybeFit (is_write_of v w) (Some w) (write_of v ws) (λ e. h.0) (λ e. write_fits v ws h.1)
+  write_fits v (w ∷ ws) h = if_cases MaybeSystems (is_write_of v w) (Some w) (write_of v ws) (λ e. h.0) (λ e. write_fits v ws h.1)
 
-  less_such : (o : Option Region) (r : Region) → MaybeFit o → IsSuch V K r → MaybeRegion (less_write o r)
+  less_such : (o : Option Region) (r : Region) → MaybeSystems o → IsSuch V K r → MaybeRegion (less_write o r)
   less_such None r h k = k
   less_such (Some w) r h k = subtract_such r w k h
 
@@ -199,10 +185,6 @@ earlier_fits g s =
 all_earlier_fit : (g : Range) (ss : List System) → AllFit (systems (map (earlier_piece g) ss))
 all_earlier_fit g [] = tt
 all_earlier_fit g (s ∷ ss) = (earlier_fits g s, all_earlier_fit g ss)
-
-abbrev MaybeSystems : Option Region → Type 0
-MaybeSystems None = Unit {0}
-MaybeSystems (Some w) = AllFit w.pieces
 
 earlier_maybe : (tracked : Bool) (g : Range) (o : Option Region) → MaybeSystems (earlier tracked g o)
 earlier_maybe tracked g None = tt

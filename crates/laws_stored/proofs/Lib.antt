@@ -2,6 +2,7 @@ pub mod Lists
 pub mod Tidied
 pub mod Hulls
 pub mod RulesFit
+pub mod TrimsFit
 pub mod TransformersFit
 pub mod PreconditionsFit
 pub mod Symbols

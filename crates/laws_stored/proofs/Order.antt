@@ -3,7 +3,6 @@ use Rattle.std.proofs.Common.{◌≡◌, ℕ, Bool, true, false, List, [], ◌�
 use Rattle.std.specs.Prelude.{if◌then◌else◌}
 use Rattle.std.specs.declared.cmp.Ordering.TheVariants.{Less}
 use Rattle.affine_systems.specs.declared.row.System.{System}
-use Rattle.affine_systems.specs.Calls.{meet}
 use Rattle.affine_systems.proofs.Basics.{if_cases}
 use Rattle.f77_ast.specs.Trees.{ExprTree, ExprTrees, StmtTree, WhatTree, ArmTree, ArmTrees, ElseTree, LoopTree, StmtTrees}
 use Rattle.f77_ast.specs.Trees as tree
@@ -20,8 +19,9 @@ use Rattle.preconditions.specs.transformers.Lists.{transformer_at, list_at, numb
 use Rattle.in_out_regions.specs.region_sets.declared.region.Access.{Access}
 use Rattle.in_out_regions.specs.region_sets.declared.region.Access.TheVariants as access
 use Rattle.in_out_regions.specs.region_sets.declared.region.Region.{Region}
-use Rattle.in_out_regions.specs.region_sets.Regions.{region, hull_of}
-use Rattle.in_out_regions.specs.region_sets.Sets.{region_cmp, live_pieces, unite_all}
+use Rattle.in_out_regions.specs.region_sets.Regions.{region}
+use Rattle.in_out_regions.specs.region_sets.Trim.{trim}
+use Rattle.in_out_regions.specs.region_sets.Sets.{region_cmp, unite_all}
 use Rattle.in_out_regions.specs.region_sets.Lists.{accesses_at, all_composed, all_accesses, all_forgetting, in_order, in_any_order, numbers, list_regions, set_at}
 use Rattle.in_out_regions.specs.call_equations.Sides.{changed_cells}
 use Rattle.affine_forms.specs.Scalars.{is_cell}
@@ -43,7 +43,7 @@ use Rattle.in_out_regions.specs.Loops.{all_iterations}
 use Rattle.in_out_regions.specs.Statement as firsts
 use Rattle.in_out_regions.specs.Modules.{ins_with}
 use Rattle.loop_marker.specs.out_regions.Known.{KnownTree}
-use Rattle.loop_marker.specs.out_regions.Used.{as_out, all_out, is_used_beside, used_pieces, is_none, unless_empty, met_with, used_of, if_write, used}
+use Rattle.loop_marker.specs.out_regions.Used.{as_out, all_out, is_used_beside, used_in, is_none, unless_empty, each_met, met_with, used_of, if_write, used}
 use Rattle.loop_marker.specs.out_regions.Lists.{writes, writes_at, rest_of, used_behind, first_out, rest_out, may_leave, used_around, any_out}
 use Rattle.loop_marker.specs.out_regions.Statement.{body_out, loop_out, only_out, at_parts, at_arms, at_arm, at_else, at_loop, at_only, at_any, at_used, at_rest, at_first, at_list}
 use Rattle.loop_marker.specs.out_regions.Modules.{outs_with}
@@ -146,13 +146,12 @@ each_in P (y ∷ ys) h x (there i) = each_in P ys h.1 x i
 -- the regions of one of them
 ones : (P : List Region → Type 0) (ss : List SymbolTree) (us : List Region) (w : Region) → P [] → ((pieces : List System) → is_write w.kind ≡ true → P (region w.variable access.Out false pieces ∷ [])) → P (if_write ss us w)
 ones P ss us w none one =
-    let all = used_pieces w.variable us in
     if_cases P (is_write w.kind) (used_of ss us w) []
-    (λ e. if_cases P (is_used_beside ss us w.variable) (as_out w ∷ []) (met_with w all) (λ f. one w.pieces e)
-    (λ f. if_cases P (is_none all) [] (unless_empty w (live_pieces (map (λ s. meet s (hull_of all)) w.pieces))) (λ g. none)
-    (λ g. if_cases P (is_none (live_pieces (map (λ s. meet s (hull_of all)) w.pieces))) [] (region w.variable access.Out false (live_pieces (map (λ s. meet s (hull_of all)) w.pieces)) ∷ []) (λ q. none)
-    (λ q. one (live_pieces (map (λ s. meet s (hull_of all)) w.pieces)) e))))
-    (λ e. none)
+    (λ e. if_cases P (is_used_beside ss us w.variable) (as_out w ∷ []) (met_with w (used_in w.variable us)) (λ f. one w.pieces e) (λ f. met (used_in w.variable us) e)) (λ e. none)
+  where
+    met : (o : Option Region) → is_write w.kind ≡ true → P (met_with w o)
+    met None e = none
+    met (Some u) e = let qs = (trim (each_met w.pieces u.pieces)).pieces in if_cases P (is_none qs) [] (region w.variable access.Out false qs ∷ []) (λ f. none) (λ f. one qs e)
 
 of_writes : (ss : List SymbolTree) (us all ws : List Region) → ((w : Region) → In w ws → In w all) → Each (IsOfWrite all) (used ss us ws)
 of_writes ss us all [] sub = tt

@@ -26,15 +26,16 @@ use Rattle.in_out_regions.specs.region_sets.declared.range.Range.{Range}
 use Rattle.in_out_regions.specs.region_sets.declared.region.Access.{Access}
 use Rattle.in_out_regions.specs.region_sets.declared.region.Access.TheVariants.{Out}
 use Rattle.in_out_regions.specs.region_sets.declared.region.Region.{Region}
-use Rattle.in_out_regions.specs.region_sets.Regions.{region, hull_of}
-use Rattle.in_out_regions.specs.region_sets.Sets.{live_pieces, live, unite_all}
+use Rattle.in_out_regions.specs.region_sets.Regions.{region}
+use Rattle.in_out_regions.specs.region_sets.Trim.{trim}
+use Rattle.in_out_regions.specs.region_sets.Sets.{all_trimmed, unite_all}
 use Rattle.in_out_regions.specs.region_sets.Lists.{is_access, accesses, accesses_at, all_composed, all_forgetting, all_accesses, numbers, list_regions, set_at}
 use Rattle.in_out_regions.specs.array_regions.Loops.{range_of}
 use Rattle.in_out_regions.specs.array_regions.Entry.{locals, seen}
 use Rattle.in_out_regions.specs.Kinds.{is_write}
 use Rattle.in_out_regions.specs.Lists.{all_unwritten}
 use Rattle.loop_marker.specs.out_regions.Known.{KnownTree}
-use Rattle.loop_marker.specs.out_regions.Used.{as_out, all_out, is_used_beside, used_pieces, is_none, unless_empty, met_with, used_of, if_write, used}
+use Rattle.loop_marker.specs.out_regions.Used.{as_out, all_out, is_used_beside, joined, used_joined, used_in, is_none, unless_empty, each_met, met_with, used_of, if_write, used}
 use Rattle.loop_marker.specs.out_regions.Lists.{writes, writes_at, rest_in, rest_writes, applied, all_applied, rest_of, left_over, used_behind, first_out, rest_out, may_leave, used_around, any_out}
 use Rattle.loop_marker.specs.out_regions.Later.{later_rows_by, later_rows, is_steady, later_index, later_piece, later, all_later}
 use Rattle.loop_marker.specs.out_regions.Statement.{body_writes, body_out, body_in, used_after, loop_out, only_out, at_parts, at_arms, at_arm, at_else, at_loop, at_only, at_any, at_used, at_rest, at_first, at_list}
@@ -43,11 +44,11 @@ use Rattle.base_values.specs.Naming.{Each}
 use Rattle.laws_stored.proofs.Lists.{set_found, each-append}
 use Rattle.laws_stored.proofs.Tidied.{IsAscending, AreAscending, meet_fit, push_fit, rename_fit}
 use Rattle.laws_stored.proofs.RulesFit.{without_fits, apply_fits, at_most_ascending, below_ascending}
-use Rattle.laws_stored.proofs.RegionRules.{mapped_fit, hull_of_fits, IsSuch, AreSuch, both_such, all_such, all_composed_such, forgetting_such, live_such, united_such, order_such, accesses_such, list_such}
+use Rattle.laws_stored.proofs.TrimsFit.{trim_fit}
+use Rattle.laws_stored.proofs.RegionRules.{fit-append, mapped_fit, IsSuch, AreSuch, both_such, all_such, all_composed_such, forgetting_such, unite_such, all_trimmed_such, united_such, order_such, accesses_such, list_such}
 use Rattle.laws_stored.proofs.Links.{IsCalled}
 use Rattle.laws_stored.proofs.Access.{IsAccess, seen_such, OwnFits, own_fits}
-use Rattle.laws_stored.proofs.Ins.{SystemsFit, IsIn, I, unwritten_such, order_in_such, list_in_such, within_ascends, beyond_ascends}
-use Rattle.in_out_regions.proofs.RegionSets.LiveSteps.{live_pieces_fit as live_fit}
+use Rattle.laws_stored.proofs.Ins.{SystemsFit, MaybeSystems, IsIn, I, unwritten_such, order_in_such, list_in_such, within_ascends, beyond_ascends}
 use Rattle.f77_ast.specs.Variables.{same_variable}
 
 abbrev pub IsOut : Access → Type 0
@@ -75,7 +76,7 @@ as_outs [] h = tt
 as_outs (r ∷ rs) h = (h.0, as_outs rs h.1)
 
 pub all_out_such : (rs : List Region) → T rs → T (all_out rs)
-all_out_such rs h = as_outs (live rs) (live_such AnyVariable AnyKind rs h)
+all_out_such rs h = as_outs (all_trimmed rs) (all_trimmed_such AnyVariable AnyKind rs h)
 
 systems : (rs : List Region) → T rs → SystemsFit rs
 systems [] h = tt
@@ -83,15 +84,18 @@ systems (r ∷ rs) h = (h.0.2, systems rs h.1)
 
 -- ---- what is used of WRITE regions
 
-fit-append : (ss ts : List System) → AllFit ss → AllFit ts → AllFit (ss ++ ts)
-fit-append [] ts h k = k
-fit-append (s ∷ ss) ts h k = (h.0, fit-append ss ts h.1 k)
+joined_fits : (o : Option Region) (u : Region) → MaybeSystems o → AllFit u.pieces → AllFit (joined o u).pieces
+joined_fits None u h k = k
+joined_fits (Some r) u h k = (unite_such AnyVariable AnyKind r (as_out u) (tt, tt, h) (tt, tt, k)).2
 
-pieces_fit : (v : Variable) (us : List Region) → T us → AllFit (used_pieces v us)
-pieces_fit v [] h = tt
-pieces_fit v (u ∷ us) h =
-    let ih = pieces_fit v us h.1 in
-    if_cases AllFit (same_variable v u.variable) (u.pieces ++ used_pieces v us) (used_pieces v us) (λ e. fit-append u.pieces (used_pieces v us) h.0.2 ih) (λ e. ih)
+joined_fit : (v : Variable) (o : Option Region) (us : List Region) → MaybeSystems o → T us → MaybeSystems (used_joined v o us)
+joined_fit v o [] h k = h
+joined_fit v o (u ∷ us) h k =
+    if_cases MaybeSystems (same_variable v u.variable) (used_joined v (Some (joined o u)) us) (used_joined v o us) (λ e. joined_fit v (Some (joined o u)) us (joined_fits o u h k.0.2) k.1) (λ e. joined_fit v o us h k.1)
+
+met_fit : (ss ts : List System) → AllFit ss → AllFit ts → AllFit (each_met ss ts)
+met_fit [] ts h k = tt
+met_fit (s ∷ ss) ts h k = fit-append (map (λ t. meet s t) ts) (each_met ss ts) (mapped_fit (λ t. meet s t) (λ t i. meet_fit s t h.0 i) ts k) (met_fit ss ts h.1 k)
 
 module _ (V : Variable → Type 0) where
   abbrev pub O : List Region → Type 0
@@ -103,15 +107,13 @@ module _ (V : Variable → Type 0) where
   unless_such : (w : Region) (ss : List System) → V w.variable → AllFit ss → O (unless_empty w ss)
   unless_such w ss h k = if_cases O (is_none ss) [] (region w.variable Out false ss ∷ []) (λ e. tt) (λ e. ((h, refl, k), tt))
 
-  met_such : (w : Region) (us : List System) → IsSuch V AnyKind w → AllFit us → O (met_with w us)
-  met_such w us h k =
-      let ss = live_pieces (map (λ s. meet s (hull_of us)) w.pieces) in
-      if_cases O (is_none us) [] (unless_empty w ss) (λ e. tt)
-      (λ e. unless_such w ss h.0 (live_fit (map (λ s. meet s (hull_of us)) w.pieces) (mapped_fit (λ s. meet s (hull_of us)) (λ s i. meet_fit s (hull_of us) i (hull_of_fits us k)) w.pieces h.2)))
+  met_such : (w : Region) (o : Option Region) → IsSuch V AnyKind w → MaybeSystems o → O (met_with w o)
+  met_such w None h k = tt
+  met_such w (Some u) h k = let ss = each_met w.pieces u.pieces in unless_such w (trim ss).pieces h.0 (trim_fit ss (met_fit w.pieces u.pieces h.2 k))
 
   used_of_such : (ss : List SymbolTree) (us : List Region) (w : Region) → T us → IsSuch V AnyKind w → O (used_of ss us w)
   used_of_such ss us w h k =
-      if_cases O (is_used_beside ss us w.variable) (as_out w ∷ []) (met_with w (used_pieces w.variable us)) (λ e. ((k.0, refl, k.2), tt)) (λ e. met_such w (used_pieces w.variable us) k (pieces_fit w.variable us h))
+      if_cases O (is_used_beside ss us w.variable) (as_out w ∷ []) (met_with w (used_in w.variable us)) (λ e. ((k.0, refl, k.2), tt)) (λ e. met_such w (used_in w.variable us) k (joined_fit w.variable None us tt h))
 
   pub used_such : (ss : List SymbolTree) (us ws : List Region) → T us → U ws → O (used ss us ws)
   used_such ss us [] h k = tt
@@ -176,7 +178,8 @@ module _ (V : Variable → Type 0) (k : KnownTree) (fit : (n : ℕ) → Fits (k.
   rest_writes_such rest = order_such V AnyKind k.does fit (writes_at k) found_writes (numbers rest)
 
   left_such : (leaving : Bool) (ws out : List Region) → T ws → T out → T (left_over leaving ws out)
-  left_such leaving ws out h i = if_cases T leaving out (all_unwritten (live ws) out) (λ e. i) (λ e. unwritten_such AnyVariable AnyKind (live ws) out (systems (live ws) (live_such AnyVariable AnyKind ws h)) i)
+  left_such leaving ws out h i =
+      let rs = all_trimmed ws in if_cases T leaving out (all_unwritten rs out) (λ e. i) (λ e. unwritten_such AnyVariable AnyKind rs out (systems rs (all_trimmed_such AnyVariable AnyKind ws h)) i)
 
   behind_such : (leaving : Bool) (n : ℕ) (whole : Bool) (rest : StmtTrees) (out : List Region) → P out → T (used_behind k leaving n (rest_of k whole rest) out)
   behind_such leaving n whole rest out h =

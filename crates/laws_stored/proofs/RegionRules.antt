@@ -1,5 +1,5 @@
 -- What rules on regions keep: that each region is of a variable with a name and of a kind, and that its systems are such as calls take.
-use Rattle.std.proofs.Common.{◌≡◌, ℕ, Bool, true, false, List, [], ◌∷◌, ◌++◌, map, Option, Some, None, ℤ, pos, neg_ℤ, ◌*ℤ◌, refl}
+use Rattle.std.proofs.Common.{◌≡◌, ℕ, Bool, true, false, ◌&&◌, List, [], ◌∷◌, ◌++◌, map, Option, Some, None, ℤ, pos, neg_ℤ, ◌*ℤ◌, refl}
 use Rattle.std.specs.Prelude.{if◌then◌else◌, nat_lt, unsigned_abs}
 use Rattle.std.specs.declared.cmp.Ordering.{Ordering}
 use Rattle.std.specs.declared.cmp.Ordering.TheVariants.{Less, Equal, Greater}
@@ -37,19 +37,20 @@ use Rattle.preconditions.specs.transformers.Lists.{list_at}
 use Rattle.in_out_regions.specs.region_sets.declared.range.Range.{Range}
 use Rattle.in_out_regions.specs.region_sets.declared.region.Access.{Access}
 use Rattle.in_out_regions.specs.region_sets.declared.region.Region.{Region}
-use Rattle.in_out_regions.specs.region_sets.Regions.{remade, systems, each_piece, hull_of}
+use Rattle.in_out_regions.specs.region_sets.Regions.{remade, all_exact, systems, each_piece}
 use Rattle.in_out_regions.specs.region_sets.Naming.{in_terms, has_none, named_cells, to_exits, exit_vars}
 use Rattle.in_out_regions.specs.region_sets.Compose.{exit_row, on_row, put_exits, composed_with, put_or_led, compose_piece, compose}
-use Rattle.in_out_regions.specs.region_sets.Unite.{all_within, unite}
-use Rattle.in_out_regions.specs.region_sets.Sets.{region_cmp, live_pieces, with_pieces, with_region, with_live, with_regions, live, unite_all}
+use Rattle.in_out_regions.specs.region_sets.Within.{all_within}
+use Rattle.in_out_regions.specs.region_sets.Trim.{trim, trimmed_to, each_trimmed}
+use Rattle.in_out_regions.specs.region_sets.Unite.{unite}
+use Rattle.in_out_regions.specs.region_sets.Sets.{region_cmp, with_pieces, with_region, with_trimmed, with_regions, all_trimmed, unite_all}
 use Rattle.in_out_regions.specs.region_sets.Loops.{index_form, step_rows, first_rows, last_rows, counted_rows, range_rows, iterations, iterations_at, at_index, loop_vars, through_loop, loop_piece, over_loop}
 use Rattle.in_out_regions.specs.region_sets.Loops as loops
 use Rattle.in_out_regions.specs.region_sets.Lists.{all_composed, in_order, forgetting, all_forgetting, all_accesses, inexact, all_inexact, in_any_order, numbers, list_regions}
 use Rattle.base_values.specs.Naming.{Each}
 use Rattle.laws_stored.proofs.Tidied.{IsAscending, AreAscending, ascending-append, tidy_fit, fit_ascending, meet_fit, push_fit, rename_fit}
-use Rattle.laws_stored.proofs.Hulls.{hulls_fit}
-use Rattle.laws_stored.proofs.RulesFit.{at_most_ascending, same_ascending, infeasible_fit, without_fits}
-use Rattle.in_out_regions.proofs.RegionSets.LiveSteps.{live_pieces_fit as live_fit}
+use Rattle.laws_stored.proofs.RulesFit.{at_most_ascending, same_ascending, without_fits}
+use Rattle.laws_stored.proofs.TrimsFit.{trim_fit, trimmed_fit}
 use Rattle.in_out_regions.specs.region_sets.Putting.{settled_by, normal_form, put_in, before_rows, put_in_all, put_row}
 use Rattle.laws_stored.proofs.Lists.{each-append}
 
@@ -171,7 +172,7 @@ loop_piece_fits g s =
 
 -- ---- regions
 
-fit-append : (ss ts : List System) → AllFit ss → AllFit ts → AllFit (ss ++ ts)
+pub fit-append : (ss ts : List System) → AllFit ss → AllFit ts → AllFit (ss ++ ts)
 fit-append [] ts h k = k
 fit-append (s ∷ ss) ts h k = (h.0, fit-append ss ts h.1 k)
 
@@ -182,10 +183,6 @@ mapped_fit f g (s ∷ ss) h = (g s h.0, mapped_fit f g ss h.1)
 pieces_fit : (f : System → Shadow) → ((s : System) → Fits s → Fits (f s).system) → (ss : List System) → AllFit ss → AllFit (systems (map f ss))
 pieces_fit f g [] h = tt
 pieces_fit f g (s ∷ ss) h = (g s h.0, pieces_fit f g ss h.1)
-
-pub hull_of_fits : (ss : List System) → AllFit ss → Fits (hull_of ss)
-hull_of_fits [] h = infeasible_fit
-hull_of_fits (s ∷ ss) h = hulls_fit s ss h.0 h.1
 
 module _ (V : Variable → Type 0) (K : Access → Type 0) where
   -- of such a variable and such a kind
@@ -205,14 +202,20 @@ module _ (V : Variable → Type 0) (K : Access → Type 0) where
   pub piece_such : (f : System → Shadow) → ((s : System) → Fits s → Fits (f s).system) → (r : Region) → IsSuch r → IsSuch (each_piece f r)
   piece_such f g r h = (h.0, h.1, pieces_fit f g r.pieces h.2)
 
+  made_such : (r : Region) (e : Bool) (ss : List System) → IsSuch r → AllFit ss → IsSuch (trimmed_to r e ss)
+  made_such r e ss h k = (h.0, h.1, trimmed_fit ss k)
+
+  trimmed_such : (f : System → Shadow) → ((s : System) → Fits s → Fits (f s).system) → (r : Region) → IsSuch r → IsSuch (each_trimmed f r)
+  trimmed_such f g r h = made_such r (r.exact && all_exact (map f r.pieces)) (systems (map f r.pieces)) h (pieces_fit f g r.pieces h.2)
+
   pub composed_such : (t : Transformer) → Fits t.system → (r : Region) → IsSuch r → IsSuch (compose r t)
-  composed_such t k r h = piece_such (compose_piece t) (compose_fits t k) r h
+  composed_such t k r h = trimmed_such (compose_piece t) (compose_fits t k) r h
 
   pub all_composed_such : (t : Transformer) → Fits t.system → (rs : List Region) → AreSuch rs → AreSuch (all_composed t rs)
   all_composed_such t k rs h = all_such (λ r. compose r t) (composed_such t k) rs h
 
   pub looped_such : (g : Range) (r : Region) → IsSuch r → IsSuch (over_loop r g)
-  looped_such g r h = piece_such (loop_piece g) (λ s k. loop_piece_fits g s) r h
+  looped_such g r h = trimmed_such (loop_piece g) (λ s k. loop_piece_fits g s) r h
 
   pub forgetting_such : (cs : List ℕ) (rs : List Region) → AreSuch rs → AreSuch (all_forgetting cs rs)
   forgetting_such cs rs h = all_such (forgetting cs) (λ r k. (k.0, k.1, mapped_fit (without cs) (without_fits cs) r.pieces k.2)) rs h
@@ -222,12 +225,12 @@ module _ (V : Variable → Type 0) (K : Access → Type 0) where
 
   -- ---- sets
 
-  unite_such : (a b : Region) → IsSuch a → IsSuch b → IsSuch (unite a b)
+  pub unite_such : (a b : Region) → IsSuch a → IsSuch b → IsSuch (unite a b)
   unite_such a b h k =
-      if_cases IsSuch (all_within a.pieces b.pieces) (remade a a.exact a.pieces) (if all_within b.pieces a.pieces then remade b b.exact b.pieces else remade a false (hull_of (a.pieces ++ b.pieces) ∷ []))
-      (λ e. h)
-      (λ e. if_cases IsSuch (all_within b.pieces a.pieces) (remade b b.exact b.pieces) (remade a false (hull_of (a.pieces ++ b.pieces) ∷ [])) (λ q. k)
-      (λ q. (h.0, h.1, (hull_of_fits (a.pieces ++ b.pieces) (fit-append a.pieces b.pieces h.2 k.2), tt))))
+      let e = a.exact && b.exact in
+      let ss = a.pieces ++ b.pieces in
+      if_cases IsSuch (all_within a.pieces b.pieces) (remade a a.exact a.pieces) (if all_within b.pieces a.pieces then remade b b.exact b.pieces else trimmed_to a e ss) (λ q. h)
+      (λ q. if_cases IsSuch (all_within b.pieces a.pieces) (remade b b.exact b.pieces) (trimmed_to a e ss) (λ i. k) (λ i. made_such a e ss h (fit-append a.pieces b.pieces h.2 k.2)))
 
   ordered_such : (o : Ordering) (xs ys zs : List Region) → AreSuch xs → AreSuch ys → AreSuch zs → AreSuch (match_ordering o xs ys zs)
   ordered_such Less xs ys zs h i k = h
@@ -239,23 +242,26 @@ module _ (V : Variable → Type 0) (K : Access → Type 0) where
   with_one_such r (q ∷ qs) h k =
       ordered_such (region_cmp r q) (r ∷ (q ∷ qs)) (unite q r ∷ qs) (q ∷ with_region r qs) (h, k) (unite_such q r k.0 h, k.1) (k.0, with_one_such r qs h k.1)
 
-  pieces_such : (r : Region) (ss : List System) (k : Region → List Region) (none : List Region) → IsSuch r → AllFit ss → ((q : Region) → IsSuch q → AreSuch (k q)) → AreSuch none → AreSuch (with_pieces r ss k none)
-  pieces_such r [] k none h i f n = n
-  pieces_such r (s ∷ ss) k none h i f n = f (remade r r.exact (s ∷ ss)) (h.0, h.1, i)
+  pieces_such : (r : Region) (e : Bool) (ss : List System) (k : Region → List Region) (none : List Region) → IsSuch r → AllFit ss → ((q : Region) → IsSuch q → AreSuch (k q)) → AreSuch none
+      → AreSuch (with_pieces r e ss k none)
+  pieces_such r e [] k none h i f n = n
+  pieces_such r e (s ∷ ss) k none h i f n = f (remade r e (s ∷ ss)) (h.0, h.1, i)
 
-  with_live_such : (r : Region) (qs : List Region) → IsSuch r → AreSuch qs → AreSuch (with_live r qs)
-  with_live_such r qs h k = pieces_such r (live_pieces r.pieces) (λ s. with_region s qs) qs h (live_fit r.pieces h.2) (λ q i. with_one_such q qs i k) k
+  with_trimmed_such : (r : Region) (qs : List Region) → IsSuch r → AreSuch qs → AreSuch (with_trimmed r qs)
+  with_trimmed_such r qs h k = pieces_such r (r.exact && (trim r.pieces).exact) (trim r.pieces).pieces (λ s. with_region s qs) qs h (trim_fit r.pieces h.2) (λ q i. with_one_such q qs i k) k
 
   with_all_such : (qs rs : List Region) → AreSuch qs → AreSuch rs → AreSuch (with_regions qs rs)
   with_all_such qs [] h k = h
-  with_all_such qs (r ∷ rs) h k = with_all_such (with_live r qs) rs (with_live_such r qs k.0 h) k.1
+  with_all_such qs (r ∷ rs) h k = with_all_such (with_trimmed r qs) rs (with_trimmed_such r qs k.0 h) k.1
 
-  pub live_such : (rs : List Region) → AreSuch rs → AreSuch (live rs)
-  live_such [] h = tt
-  live_such (r ∷ rs) h = let ih = live_such rs h.1 in pieces_such r (live_pieces r.pieces) (λ s. s ∷ live rs) (live rs) h.0 (live_fit r.pieces h.0.2) (λ q i. (i, ih)) ih
+  pub all_trimmed_such : (rs : List Region) → AreSuch rs → AreSuch (all_trimmed rs)
+  all_trimmed_such [] h = tt
+  all_trimmed_such (r ∷ rs) h =
+      let ih = all_trimmed_such rs h.1 in
+      pieces_such r (r.exact && (trim r.pieces).exact) (trim r.pieces).pieces (λ s. s ∷ all_trimmed rs) (all_trimmed rs) h.0 (trim_fit r.pieces h.0.2) (λ q i. (i, ih)) ih
 
   pub united_such : (rs : List Region) → AreSuch rs → AreSuch (unite_all rs)
-  united_such rs h = live_such (with_regions [] rs) (with_all_such [] rs tt h)
+  united_such rs h = all_trimmed_such (with_regions [] rs) (with_all_such [] rs tt h)
 
   -- ---- lists
 

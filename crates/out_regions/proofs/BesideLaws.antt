@@ -1,5 +1,5 @@
 -- OUT of WRITE regions is told by the regions of their variables, and of variables that share units with these.
-use Rattle.std.proofs.Common.{◌≡◌, ℕ, Bool, true, false, ◌&&◌, List, [], ◌∷◌, ◌++◌, map, refl, ap, sym, ◌∙◌, Option, Some, None}
+use Rattle.std.proofs.Common.{◌≡◌, ℕ, Bool, true, false, ◌&&◌, List, [], ◌∷◌, ◌++◌, map, refl, ap, ap₂, sym, ◌∙◌, Option, Some, None}
 use Rattle.std.specs.Prelude.{◌||◌, if◌then◌else◌, option_to_list}
 use Rattle.affine_systems.specs.declared.row.System.{System}
 use Rattle.f77_ast.specs.declared.variable.Variable.{Variable}
@@ -9,15 +9,16 @@ use Rattle.in_out_regions.specs.transformer_algebra.declared.transformer.Transfo
 use Rattle.in_out_regions.specs.region_sets.declared.region.Region.{Region}
 use Rattle.in_out_regions.specs.region_sets.Compose.{compose}
 use Rattle.in_out_regions.specs.region_sets.Regions.{remade}
-use Rattle.in_out_regions.specs.region_sets.Sets.{live, live_pieces, with_pieces}
-use Rattle.in_out_regions.specs.region_sets.Subtract.{unless_empty, left_of, all_left_exactly, all_apart}
+use Rattle.in_out_regions.specs.region_sets.Trim.{trim}
+use Rattle.in_out_regions.specs.region_sets.Sets.{with_pieces, all_trimmed}
+use Rattle.in_out_regions.specs.region_sets.Subtract.{are_places, less_all, unless_empty, all_left, all_apart}
 use Rattle.in_out_regions.specs.region_sets.Lists.{all_composed}
 use Rattle.in_out_regions.specs.Kinds.{is_write}
 use Rattle.in_out_regions.specs.Writes.{write_of}
 use Rattle.in_out_regions.specs.Lists.{less_write, all_unwritten}
 use Rattle.out_regions.specs.declared.rest.Rest.{Rest}
 use Rattle.out_regions.specs.Known.{KnownTree}
-use Rattle.out_regions.specs.Used.{as_out, all_out, is_used_beside, used_pieces, met_with, used_of, if_write, used}
+use Rattle.out_regions.specs.Used.{as_out, all_out, is_used_beside, joined, used_joined, used_in, met_with, used_of, if_write, used}
 use Rattle.out_regions.specs.Lists.{writes_at, left_over, first_out}
 use Rattle.out_regions.specs.Beside.{is_met, kept, beside}
 use Rattle.f77_ast.specs.Variables.{same_variable}
@@ -47,25 +48,32 @@ module _ (q : Variable → Bool) where
     go false h = h
 
   -- a region with some of its pieces, before others
-  kept-pieces : (r : Region) (ps : List System) (rs : List Region) → kept q (with_pieces r ps (λ s. s ∷ rs) rs) ≡ (if q r.variable then with_pieces r ps (λ s. s ∷ kept q rs) (kept q rs) else kept q rs)
-  kept-pieces r [] rs = same (q r.variable) where
+  kept-pieces : (r : Region) (e : Bool) (ps : List System) (rs : List Region) →
+      kept q (with_pieces r e ps (λ s. s ∷ rs) rs) ≡ (if q r.variable then with_pieces r e ps (λ s. s ∷ kept q rs) (kept q rs) else kept q rs)
+  kept-pieces r e [] rs = same (q r.variable) where
     same : (b : Bool) → kept q rs ≡ (if b then kept q rs else kept q rs)
     same true = refl
     same false = refl
-  kept-pieces r (p ∷ ps) rs = refl
+  kept-pieces r e (p ∷ ps) rs = refl
 
-  kept-live : (rs : List Region) → live (kept q rs) ≡ kept q (live rs)
-  kept-live [] = refl
-  kept-live (r ∷ rs) =
-      let ps = live_pieces r.pieces in
-      go (q r.variable) ∙ (ap (λ (zs : List Region). if q r.variable then with_pieces r ps (λ s. s ∷ zs) zs else zs) (kept-live rs) ∙ sym (kept-pieces r ps (live rs)))
-    where
-      go : (b : Bool) → live (if b then r ∷ kept q rs else kept q rs) ≡ (if b then with_pieces r (live_pieces r.pieces) (λ s. s ∷ live (kept q rs)) (live (kept q rs)) else live (kept q rs))
-      go true = refl
-      go false = refl
+  kept-trimmed : (rs : List Region) → all_trimmed (kept q rs) ≡ kept q (all_trimmed rs)
+  kept-trimmed [] = refl
+  kept-trimmed (r ∷ rs) = go (q r.variable) ∙ (ap left (kept-trimmed rs) ∙ sym (kept-pieces r e ps (all_trimmed rs))) where
+    e : Bool
+    e = r.exact && (trim r.pieces).exact
+
+    ps : List System
+    ps = (trim r.pieces).pieces
+
+    left : List Region → List Region
+    left zs = if q r.variable then with_pieces r e ps (λ s. s ∷ zs) zs else zs
+
+    go : (b : Bool) → all_trimmed (if b then r ∷ kept q rs else kept q rs) ≡ (if b then with_pieces r e ps (λ s. s ∷ all_trimmed (kept q rs)) (all_trimmed (kept q rs)) else all_trimmed (kept q rs))
+    go true = refl
+    go false = refl
 
   kept-all-out : (rs : List Region) → all_out (kept q rs) ≡ kept q (all_out rs)
-  kept-all-out rs = ap (map as_out) (kept-live rs) ∙ kept-out (live rs)
+  kept-all-out rs = ap (map as_out) (kept-trimmed rs) ∙ kept-out (all_trimmed rs)
 
   -- what is left of a region
   kept-none : (b : Bool) → kept q [] ≡ (if b then kept q [] else kept q [])
@@ -78,15 +86,15 @@ module _ (q : Variable → Bool) where
 
   kept-less : (o : Option Region) (r : Region) → kept q (option_to_list (less_write o r)) ≡ (if q r.variable then option_to_list (less_write o r) else [])
   kept-less None r = refl
-  kept-less (Some w) r = go w.exact where
+  kept-less (Some w) r = go (w.exact && are_places w.pieces) where
     left : List System
-    left = left_of r.pieces w.pieces
+    left = less_all r.pieces w.pieces
 
     some : Bool → Option Region
-    some b = if b then unless_empty r (r.exact && all_left_exactly r.pieces w.pieces) left else Some (remade r (r.exact && all_apart r.pieces w.pieces) r.pieces)
+    some b = if b then all_left r left else Some (remade r (r.exact && all_apart r.pieces w.pieces) r.pieces)
 
     go : (b : Bool) → kept q (option_to_list (some b)) ≡ (if q r.variable then option_to_list (some b) else [])
-    go true = kept-unless r (r.exact && all_left_exactly r.pieces w.pieces) left
+    go true = kept-unless r (r.exact && (trim left).exact) (trim left).pieces
     go false = refl
 
   kept-unwritten : (ws rs : List Region) → all_unwritten ws (kept q rs) ≡ kept q (all_unwritten ws rs)
@@ -103,7 +111,7 @@ module _ (q : Variable → Bool) where
 
   kept-over : (leaving : Bool) (ws out : List Region) → left_over leaving ws (kept q out) ≡ kept q (left_over leaving ws out)
   kept-over true ws out = refl
-  kept-over false ws out = kept-unwritten (live ws) out
+  kept-over false ws out = kept-unwritten (all_trimmed ws) out
 
 -- ---- what is used of a region is told by what is kept, where that is enough
 
@@ -124,21 +132,21 @@ module _ (ss : List SymbolTree) (q : Variable → Bool) where
       go true = refl
       go false = refl
 
-  kept-used-pieces : (us : List Region) (v : Variable) → ((u : Variable) → same_variable v u ≡ true → q u ≡ true) → used_pieces v (kept q us) ≡ used_pieces v us
-  kept-used-pieces [] v h = refl
-  kept-used-pieces (u ∷ us) v h =
+  kept-joined : (us : List Region) (v : Variable) (o : Option Region) → ((u : Variable) → same_variable v u ≡ true → q u ≡ true) → used_joined v o (kept q us) ≡ used_joined v o us
+  kept-joined [] v o h = refl
+  kept-joined (u ∷ us) v o h =
       go (q u.variable)
-      ∙ (ap (λ b. if b then u.pieces ++ used_pieces v (kept q us) else used_pieces v (kept q us)) (absorbed (q u.variable) (same_variable v u.variable) (h u.variable))
-      ∙ ap (λ (ps : List System). if same_variable v u.variable then u.pieces ++ ps else ps) (kept-used-pieces us v h))
+      ∙ (ap (λ b. if b then used_joined v (Some (joined o u)) (kept q us) else used_joined v o (kept q us)) (absorbed (q u.variable) (same_variable v u.variable) (h u.variable))
+      ∙ ap₂ (λ (m n : Option Region). if same_variable v u.variable then m else n) (kept-joined us v (Some (joined o u)) h) (kept-joined us v o h))
     where
-      go : (b : Bool) → used_pieces v (if b then u ∷ kept q us else kept q us) ≡ (if b && same_variable v u.variable then u.pieces ++ used_pieces v (kept q us) else used_pieces v (kept q us))
+      go : (b : Bool) → used_joined v o (if b then u ∷ kept q us else kept q us) ≡ (if b && same_variable v u.variable then used_joined v (Some (joined o u)) (kept q us) else used_joined v o (kept q us))
       go true = refl
       go false = refl
 
   kept-used-of : (us : List Region) (w : Region) → ((u : Variable) → overlap ss u w.variable ≡ true → q u ≡ true) → ((u : Variable) → same_variable w.variable u ≡ true → q u ≡ true) → used_of ss (kept q us) w ≡ used_of ss us w
   kept-used-of us w h g =
-      ap (λ b. if b then as_out w ∷ [] else met_with w (used_pieces w.variable (kept q us))) (kept-beside us w.variable h)
-      ∙ ap (λ (ps : List System). if is_used_beside ss us w.variable then as_out w ∷ [] else met_with w ps) (kept-used-pieces us w.variable g)
+      ap (λ b. if b then as_out w ∷ [] else met_with w (used_in w.variable (kept q us))) (kept-beside us w.variable h)
+      ∙ ap (λ (o : Option Region). if is_used_beside ss us w.variable then as_out w ∷ [] else met_with w o) (kept-joined us w.variable None g)
 
 or-second : (a b c : Bool) → b ≡ true → (a || (b || c)) ≡ true
 or-second true b c h = refl
@@ -185,6 +193,6 @@ first-beside k leaving n r out own ins behind later new a b c d e =
 -- nothing is left of nothing
 pub nothing-left : (leaving : Bool) (ws out none : List Region) → out ≡ [] → none ≡ [] → none ≡ left_over leaving ws out
 nothing-left true ws out none h g = g ∙ sym h
-nothing-left false ws out none h g = g ∙ sym (ap (all_unwritten (live ws)) h)
+nothing-left false ws out none h g = g ∙ sym (ap (all_unwritten (all_trimmed ws)) h)
 
 pub ruleset nothings = (nothing-left)

@@ -1,4 +1,4 @@
--- From which place on no region of a list has a refuted piece.
+-- From which place on no region of a list has one piece alone that is refuted.
 use Rattle.std.specs.Prelude.{ℕ, ◌≤◌, List, length, drop}
 use Rattle.in_out_regions.specs.region_sets.declared.region.Region.{Region}
 use Rattle.in_out_regions.specs.region_sets.Alive.{AllAlive}

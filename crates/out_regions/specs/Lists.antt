@@ -7,7 +7,7 @@ use Rattle.in_out_regions.specs.transformer_algebra.Transformers.{apply}
 use Rattle.in_out_regions.specs.transformers.Lists.{list_at}
 use Rattle.in_out_regions.specs.region_sets.declared.region.Region.{Region}
 use Rattle.in_out_regions.specs.region_sets.Regions.{remade}
-use Rattle.in_out_regions.specs.region_sets.Sets.{live, unite_all}
+use Rattle.in_out_regions.specs.region_sets.Sets.{all_trimmed, unite_all}
 use Rattle.in_out_regions.specs.region_sets.Lists.{numbers, in_order, all_composed, all_accesses, all_forgetting, set_at}
 use Rattle.in_out_regions.specs.Kinds.{is_write}
 use Rattle.in_out_regions.specs.Lists.{all_unwritten, before_rest, ins_in_order}
@@ -61,7 +61,7 @@ rests_behind k whole (tree.more_stmts s rest) = rest_of k whole rest ∷ rests_b
 
 -- OUT of the list that the rest does not certainly write; where the statement or the rest may leave the list, all of it
 abbrev pub left_over : Bool → List Region → List Region → List Region
-left_over leaving ws out = if leaving then out else all_unwritten (live ws) out
+left_over leaving ws out = if leaving then out else all_unwritten (all_trimmed ws) out
 
 -- what may be read behind a statement with this number: by the rest, or behind the list
 abbrev pub used_behind : KnownTree → Bool → ℕ → Rest → List Region → List Region

@@ -18,8 +18,8 @@ use f77_ast::{Stmt, StmtId};
 use fx_lists::List;
 use in_out_regions::push_unwritten;
 use in_out_regions::region_sets::{
-    Region, RegionSet, all_sets, live_regions as live, push_composed, push_forgetting, push_region,
-    push_regions, push_system, remade, same_pieces,
+    Region, RegionSet, all_sets, push_composed, push_forgetting, push_region, push_regions,
+    push_system, remade, same_pieces, trimmed_regions,
 };
 use in_out_regions::transformer_algebra::{Transformer, apply};
 use in_out_regions::transformers::transformer_at;
@@ -120,7 +120,7 @@ fn left_over(
         push_regions(alloc, &mut left, out)?;
         return Ok(left);
     }
-    let certain = live(alloc, writes)?;
+    let certain = trimmed_regions(alloc, writes)?;
     push_unwritten(alloc, &mut left, certain.as_slice(), out)?;
     Ok(left)
 }

@@ -1,12 +1,12 @@
 //! What of WRITE regions may be read later.
-ghost use Rattle.std.specs.Prelude.{◌≡◌, ◌++◌, map, IfOk, OnOk};
+ghost use Rattle.std.specs.Prelude.{◌≡◌, ◌++◌, map, IfOk, IfSome, OnOk};
 ghost use Rattle.hull_projection.specs.Minus.{AllFit};
 ghost use Rattle.f77_ast.specs.Symbols.{symbol_tree};
 ghost use Rattle.affine_systems.specs.Given.{Fits};
 ghost use Rattle.affine_systems.specs.Calls.{meet as meet_is};
 ghost use Rattle.in_out_regions.specs.region_sets.Regions.{RegionFits};
 ghost use Rattle.in_out_regions.specs.region_sets.Sets.{SetFits};
-ghost use Rattle.out_regions.specs.Used.{as_out as as_out_is, all_out, is_used_beside as is_used_beside_is, used_pieces as used_pieces_is, is_none as is_none_is, unless_empty, met_with, used_of, if_write, used as used_is};
+ghost use Rattle.out_regions.specs.Used.{as_out as as_out_is, all_out, is_used_beside as is_used_beside_is, joined as joined_is, used_in as used_in_is, is_none as is_none_is, unless_empty, each_met as each_met_is, met_with, used_of, if_write, used as used_is};
 ghost use Rattle.out_regions.specs.Alive.{IsAliveFrom};
 
 use affine_systems::{System, meet};
@@ -14,8 +14,8 @@ use f77_ast::{Symbols, Variable, copy_variable, overlaps, same_variable};
 use fx_lists::List;
 use in_out_regions::is_write;
 use in_out_regions::region_sets::{
-    Access, Region, RegionSet, copy_region, hull_of, live_regions as live, pieces_alive,
-    push_copies, push_region, push_system,
+    Access, Region, RegionSet, copy_region, push_region, push_system, trim_after, trimmed_regions,
+    unite,
 };
 use std::alloc::{AllocError as Memory, Global};
 
@@ -34,7 +34,7 @@ fn as_out(alloc: Global, r: &Region) -> Result<Region, Memory>
     })
 }
 
-/// Appends regions as such of OUT, without those that are refuted.
+/// Appends regions as such of OUT, each trimmed, without those of which nothing is left.
 #[tactic(auto, using(crate::proofs::Fitting::fitting))]
 pub fn push_out(alloc: Global, out: &mut RegionSet, set: &[Region]) -> Result<(), Memory>
     requires out { SetFits out.old }
@@ -42,8 +42,8 @@ pub fn push_out(alloc: Global, out: &mut RegionSet, set: &[Region]) -> Result<()
     ensures added { OnOk result (out.new ≡ out.old ++ all_out set.now) }
     ensures fits { OnOk result (SetFits out.new) }
 {
-    let alive = live(alloc, set)?;
-    let mut rest = alive.as_slice();
+    let trimmed = trimmed_regions(alloc, set)?;
+    let mut rest = trimmed.as_slice();
     while let [r, more @ ..] = rest {
         push_region(out, as_out(alloc, r)?)?;
         rest = more;
@@ -65,36 +65,71 @@ fn is_used_beside(symbols: &Symbols, later: &[Region], v: &Variable) -> bool
     false
 }
 
-/// The systems of what is used of a variable.
-#[tactic(auto, using(crate::proofs::Fitting::fitting))]
-fn used_pieces(alloc: Global, v: &Variable, later: &[Region]) -> Result<List<System>, Memory>
-    requires { SetFits later.now }
-    ensures defined { IfOk result (λ ss. ss ≡ used_pieces_is v.now later.now) }
-    ensures fits { IfOk result AllFit }
+/// What is used of a variable, with one region more.
+fn joined(alloc: Global, before: Option<Region>, u: &Region) -> Result<Region, Memory>
+    requires before { IfSome before RegionFits }
+    requires region { RegionFits u.now }
+    ensures defined { IfOk result (λ r. r ≡ joined_is before u.now) }
+    ensures fits { IfOk result RegionFits }
 {
-    let mut pieces = List::new(alloc);
+    let next = as_out(alloc, u)?;
+    match before {
+        None => Ok(next),
+        Some(r) => unite(alloc, &r, &next),
+    }
+}
+
+/// What is used of a variable: its regions, united from left to right.
+fn used_in(alloc: Global, v: &Variable, later: &[Region]) -> Result<Option<Region>, Memory>
+    requires { SetFits later.now }
+    ensures defined { IfOk result (λ o. o ≡ used_in_is v.now later.now) }
+    ensures fits { IfOk result (λ o. IfSome o RegionFits) }
+{
+    let mut all = None;
     let mut rest = later;
     while let [u, more @ ..] = rest {
         if same_variable(v, &u.variable) {
-            push_copies(&mut pieces, u.pieces.as_slice())?;
+            all = Some(joined(alloc, all, u)?);
         }
         rest = more;
     }
-    Ok(pieces)
+    Ok(all)
 }
 
-/// Each system with another.
+/// Adds a system with each of others.
 #[tactic(auto, using(crate::proofs::Fitting::fitting))]
-fn all_met(alloc: Global, pieces: &[System], all: &System) -> Result<List<System>, Memory>
+fn push_met(
+    alloc: Global,
+    out: &mut List<System>,
+    s: &System,
+    systems: &[System],
+) -> Result<(), Memory>
+    requires out { AllFit out.old }
+    requires system { Fits s.now }
+    requires systems { AllFit systems.now }
+    ensures added { OnOk result (out.new ≡ out.old ++ map (meet_is s.now) systems.now) }
+    ensures fits { OnOk result (AllFit out.new) }
+{
+    let mut rest = systems;
+    while let [t, more @ ..] = rest {
+        push_system(out, meet(alloc, s, t)?)?;
+        rest = more;
+    }
+    Ok(())
+}
+
+/// Each system of the first with each of the second.
+#[tactic(auto, using(crate::proofs::Fitting::fitting))]
+fn each_met(alloc: Global, pieces: &[System], systems: &[System]) -> Result<List<System>, Memory>
     requires pieces { AllFit pieces.now }
-    requires all { Fits all.now }
-    ensures defined { IfOk result (λ ss. ss ≡ map (λ s. meet_is s all.now) pieces.now) }
+    requires systems { AllFit systems.now }
+    ensures defined { IfOk result (λ ss. ss ≡ each_met_is pieces.now systems.now) }
     ensures fits { IfOk result AllFit }
 {
     let mut out = List::new(alloc);
     let mut rest = pieces;
     while let [s, more @ ..] = rest {
-        push_system(&mut out, meet(alloc, s, all)?)?;
+        push_met(alloc, &mut out, s, systems)?;
         rest = more;
     }
     Ok(out)
@@ -130,31 +165,28 @@ fn push_pieces(out: &mut RegionSet, w: &Region, pieces: List<System>) -> Result<
     )
 }
 
-/// Adds what of a WRITE region lies within the hull of these systems, where there are any. No piece of the regions from `since` on is refuted.
+/// Adds what a WRITE region has in common with what is used of its variable, if anything. No region from `since` on has one piece alone that is
+/// refuted.
 fn push_within(
     alloc: Global,
     out: &mut RegionSet,
     since: usize,
     w: &Region,
-    later: &[System],
+    later: &Region,
 ) -> Result<(), Memory>
     requires out { SetFits out.old }
     requires alive { IsAliveFrom since out.old }
     requires region { RegionFits w.now }
-    requires later { AllFit later.now }
-    ensures added { OnOk result (out.new ≡ out.old ++ met_with w.now later.now) }
+    requires later { RegionFits later.now }
+    ensures added { OnOk result (out.new ≡ out.old ++ met_with w.now (Some later.now)) }
     ensures fits { OnOk result (SetFits out.new) }
 {
-    if is_none(later) {
-        return Ok(());
-    }
-    let together = hull_of(alloc, later)?;
-    let met = all_met(alloc, w.pieces.as_slice(), &together)?;
-    let pieces = pieces_alive(alloc, &out.as_slice()[since..], &met)?;
-    push_pieces(out, w, pieces)
+    let met = each_met(alloc, w.pieces.as_slice(), later.pieces.as_slice())?;
+    let trimmed = trim_after(alloc, &out.as_slice()[since..], met)?;
+    push_pieces(out, w, trimmed.pieces)
 }
 
-/// Adds what is used of a WRITE region. No piece of the regions from `since` on is refuted; what it returns is such a place, too.
+/// Adds what is used of a WRITE region. No region from `since` on has one piece alone that is refuted; what it returns is such a place, too.
 #[tactic(auto, using(crate::proofs::AliveSteps::alive_steps))]
 fn push_used(
     alloc: Global,
@@ -176,9 +208,13 @@ fn push_used(
         push_region(out, as_out(alloc, w)?)?;
         return Ok(out.len());
     }
-    let pieces = used_pieces(alloc, &w.variable, later)?;
-    push_within(alloc, out, since, w, pieces.as_slice())?;
-    Ok(since)
+    match used_in(alloc, &w.variable, later)? {
+        None => Ok(since),
+        Some(all) => {
+            push_within(alloc, out, since, w, &all)?;
+            Ok(since)
+        }
+    }
 }
 
 /// The same, where it is a WRITE region.
@@ -206,7 +242,7 @@ fn push_if_write(
 }
 
 /// What of the WRITE regions of a set is used, where `later` has what may be read later: all of a variable where one is used that shares units with
-/// it, else what lies within the hull of what is used of it. Each region is compared with all of `later`.
+/// it, else what it has in common with what is used of it. Each region is compared with all of `later`.
 #[tactic(auto, using(crate::proofs::Fitting::fitting, crate::proofs::AliveSteps::alive_steps))]
 pub fn used(
     alloc: Global,

@@ -39,7 +39,7 @@ AllSaidHolds ks g fs x = EachOf (λ f. f.known.read.name ≡ x.spot.module_name 
 abbrev pub AllOutsHold : List Known → Graph → List ModuleResults → Occurrence → Type 0
 AllOutsHold ks g fs x = EachOf (λ f. f.known.read.name ≡ x.spot.module_name → OutRegionsHold ks g (scope_of g.untracked f.known) f.outs x) fs
 
--- a region has one system, on the subscripts and on analysed scalars where the statement begins; it names no other variable
+-- a region has one to four systems, on the subscripts and on analysed scalars where the statement begins; they name no other variable
 pub record PlacesAreOver (g : Graph) (f : ModuleResults) : Type 0 where
   pub regions : SetsAreOver g.untracked f.known f.regions
   pub ins : SetsAreOver g.untracked f.known f.ins
@@ -63,7 +63,7 @@ SaysAll p = AreCovered (known_of p.modules p.tables) (results_of_program p)
 -- ---- lines
 
 -- lines are those of a module; each claim is read, by the names of the symbols, as just what was found there: a precondition, a transformer or, where no symbol is named PHI1 to PHI7, a region,
--- with one line for each region of a DO or a CALL and of the entry; each directive as the names of its private variables
+-- whose line says of all its systems together that rows were lost; there is one line for each region of a DO or a CALL and of the entry; each directive is read as the names of its private variables
 pub record AreRead (show : Show) (f : ModuleResults) (lines : List Added) : Type 0 where
   pub parts : lines ≡ lines_of show f.known (printed_of f)
   pub scalars : EachMeans (scalars_said f) (scalar_lines_of f.known f.transformers f.preconditions)

@@ -2,6 +2,10 @@ pub mod Steps
 pub mod DescribedLaws
 pub mod NameLaws
 pub mod BackLaws
+pub mod TrimLaws
+pub mod KeptLaws
+pub mod TrimSteps
+pub mod WithinSteps
 pub mod UniteLaws
 pub mod SubtractLaws
 pub mod NilLaws

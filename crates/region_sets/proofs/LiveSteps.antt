@@ -4,72 +4,55 @@ use Rattle.std.specs.Prelude.{if◌then◌else◌, not, ◌&&◌}
 use Rattle.std.specs.declared.cmp.Ordering.TheVariants.{Less}
 use Rattle.std.proofs.lemmas.List.{reverse-append, reverse-reverse, take_more}
 use Rattle.affine_systems.specs.declared.row.System.{System}
-use Rattle.affine_systems.proofs.Basics.{if_cases}
 use Rattle.affine_systems.proofs.ItemSteps.{reverse_pushed}
-use Rattle.hull_projection.specs.Minus.{AllFit}
-use Rattle.hull_projection.specs.Refute.{refuted}
 use Rattle.region_sets.specs.declared.region.Region.{Region}
 use Rattle.region_sets.specs.Regions.{RegionFits, region, remade, any_weak}
-use Rattle.region_sets.specs.Sets.{SetFits, ComeBefore, region_cmp, live_pieces, with_pieces, with_region, with_live, with_regions, live}
+use Rattle.region_sets.specs.declared.trimming.Trimmed.{Trimmed}
+use Rattle.region_sets.specs.Trim.{trim}
+use Rattle.region_sets.specs.Sets.{SetFits, ComeBefore, region_cmp, with_pieces, with_region, with_trimmed, with_regions, all_trimmed}
 use Rattle.region_sets.proofs.Steps.{set-push}
-use Rattle.region_sets.proofs.SetSteps.{come_same, come_back, come_chain, come_none, live_more, gather_fits}
+use Rattle.region_sets.proofs.SetSteps.{come_same, come_back, come_chain, come_none, trimmed_more, gather_fits}
+use Rattle.region_sets.proofs.TrimSteps.{trim_known}
 
--- ---- pieces and regions that are not refuted
+-- ---- regions with their pieces trimmed
 
-pub piece_stays : (s : System) (ss : List System) → refuted s.rows ≡ false → live_pieces ss ≡ ss → live_pieces (s ∷ ss) ≡ s ∷ ss
-piece_stays s ss e h = rw e (ap (λ (ts : List System). s ∷ ts) h)
+-- where one is left
+left_some : (r : Region) (e : Bool) (ss : List System) → (ss ≡ [] → ⊥) → remade r e ss ∷ [] ≡ with_pieces r e ss (λ s. s ∷ []) []
+left_some r e [] f = absurd (f refl)
+left_some r e (s ∷ ss) f = refl
 
-pub live_pieces_fit : (ss : List System) → AllFit ss → AllFit (live_pieces ss)
-live_pieces_fit [] h = tt
-live_pieces_fit (s ∷ ss) h = if_cases AllFit (refuted s.rows) (live_pieces ss) (s ∷ live_pieces ss) (λ e. live_pieces_fit ss h.1) (λ e. (h.0, live_pieces_fit ss h.1))
+pub left_none : (r : Region) (t : Trimmed) → t ≡ trim r.pieces → t.pieces ≡ [] → [] ≡ all_trimmed (r ∷ [])
+left_none r t e f = ap (λ (ss : List System). with_pieces r (r.exact && (trim r.pieces).exact) ss (λ s. s ∷ []) []) (sym f ∙ ap (λ (u : Trimmed). u.pieces) e)
 
--- a region of other pieces
-alive_some : (r : Region) (p : System) (ss : List System) → p ∷ ss ≡ live_pieces r.pieces → remade r r.exact (p ∷ ss) ∷ [] ≡ live (r ∷ [])
-alive_some r p ss e = ap (λ (ts : List System). with_pieces r ts (λ s. s ∷ []) []) e
+pub left_is : (r : Region) (t : Trimmed) (us : List System) (b : Bool) → t ≡ trim r.pieces → (t.pieces ≡ [] → ⊥) → us ≡ t.pieces → b ≡ ((r.exact && t.exact) && not (any_weak us)) → region r.variable r.kind b t.pieces ∷ [] ≡ all_trimmed (r ∷ [])
+left_is r t us b e f u x =
+    ap (λ c. region r.variable r.kind c t.pieces ∷ []) (x ∙ ap (λ (ts : List System). (r.exact && t.exact) && not (any_weak ts)) u)
+    ∙ (left_some r (r.exact && t.exact) t.pieces f ∙ ap (λ (v : Trimmed). with_pieces r (r.exact && v.exact) v.pieces (λ s. s ∷ []) []) e)
 
-pub alive_none : (r : Region) (ss : List System) → ss ≡ live_pieces r.pieces → ss ≡ [] → [] ≡ live (r ∷ [])
-alive_none r ss e f = ap (λ (ts : List System). with_pieces r ts (λ s. s ∷ []) []) (sym f ∙ e)
+trimmed_append : (rs ss : List Region) → all_trimmed (rs ++ ss) ≡ all_trimmed rs ++ all_trimmed ss
+trimmed_append [] ss = refl
+trimmed_append (r ∷ rs) ss =
+    trimmed_more r (rs ++ ss)
+    ∙ (ap (λ (us : List Region). all_trimmed (r ∷ []) ++ us) (trimmed_append rs ss)
+    ∙ (sym (append_assoc (all_trimmed (r ∷ [])) (all_trimmed rs) (all_trimmed ss)) ∙ ap (λ (us : List Region). us ++ all_trimmed ss) (sym (trimmed_more r rs))))
 
-alive_more : (r : Region) (ss : List System) → ss ≡ live_pieces r.pieces → (ss ≡ [] → ⊥) → remade r r.exact ss ∷ [] ≡ live (r ∷ [])
-alive_more r [] e f = absurd (f refl)
-alive_more r (p ∷ ss) e f = alive_some r p ss e
-
-pub alive_is : (r : Region) (ss us : List System) (b : Bool) → ss ≡ live_pieces r.pieces → (ss ≡ [] → ⊥) → us ≡ ss → b ≡ (r.exact && not (any_weak us)) → region r.variable r.kind b ss ∷ [] ≡ live (r ∷ [])
-alive_is r ss us b e f u x =
-    ap (λ c. region r.variable r.kind c ss ∷ []) (x ∙ ap (λ (ts : List System). r.exact && not (any_weak ts)) u) ∙ alive_more r ss e f
-
-live_append : (rs ss : List Region) → live (rs ++ ss) ≡ live rs ++ live ss
-live_append [] ss = refl
-live_append (r ∷ rs) ss =
-    live_more r (rs ++ ss)
-    ∙ (ap (λ (us : List Region). live (r ∷ []) ++ us) (live_append rs ss)
-    ∙ (sym (append_assoc (live (r ∷ [])) (live rs) (live ss)) ∙ ap (λ (us : List Region). us ++ live ss) (sym (live_more r rs))))
-
-live_one : (r : Region) → reverse (live (r ∷ [])) ≡ live (r ∷ [])
-live_one r = go (live_pieces r.pieces)
+trimmed_one : (r : Region) → reverse (all_trimmed (r ∷ [])) ≡ all_trimmed (r ∷ [])
+trimmed_one r = go (r.exact && (trim r.pieces).exact) (trim r.pieces).pieces
   where
-    go : (ss : List System) → reverse (with_pieces r ss (λ s. s ∷ []) []) ≡ with_pieces r ss (λ s. s ∷ []) []
-    go [] = refl
-    go (s ∷ ss) = refl
+    go : (e : Bool) (ss : List System) → reverse (with_pieces r e ss (λ s. s ∷ []) []) ≡ with_pieces r e ss (λ s. s ∷ []) []
+    go e [] = refl
+    go e (s ∷ ss) = refl
 
 -- one region more, from the last on
-pub live_back : (left less out new goal : List Region) (r : Region) → left ≡ less ++ r ∷ [] → new ≡ out ++ live (r ∷ []) → live left ++ reverse out ≡ goal → live less ++ reverse new ≡ goal
-live_back left less out new goal r e n h =
-    let x : reverse new ≡ live (r ∷ []) ++ reverse out = ap reverse n ∙ (reverse-append out (live (r ∷ [])) ∙ ap (λ (us : List Region). us ++ reverse out) (live_one r)) in
-    let y : live left ≡ live less ++ live (r ∷ []) = ap live e ∙ live_append less (r ∷ []) in
-    ap (λ (us : List Region). live less ++ us) x
-    ∙ (sym (append_assoc (live less) (live (r ∷ [])) (reverse out)) ∙ (ap (λ (us : List Region). us ++ reverse out) (sym y) ∙ h))
+pub trimmed_back : (left less out new goal : List Region) (r : Region) → left ≡ less ++ r ∷ [] → new ≡ out ++ all_trimmed (r ∷ []) → all_trimmed left ++ reverse out ≡ goal → all_trimmed less ++ reverse new ≡ goal
+trimmed_back left less out new goal r e n h =
+    let x : reverse new ≡ all_trimmed (r ∷ []) ++ reverse out = ap reverse n ∙ (reverse-append out (all_trimmed (r ∷ [])) ∙ ap (λ (us : List Region). us ++ reverse out) (trimmed_one r)) in
+    let y : all_trimmed left ≡ all_trimmed less ++ all_trimmed (r ∷ []) = ap all_trimmed e ∙ trimmed_append less (r ∷ []) in
+    ap (λ (us : List Region). all_trimmed less ++ us) x
+    ∙ (sym (append_assoc (all_trimmed less) (all_trimmed (r ∷ [])) (reverse out)) ∙ (ap (λ (us : List Region). us ++ reverse out) (sym y) ∙ h))
 
-pub live_done : (left out goal : List Region) → left ≡ [] → live left ++ reverse out ≡ goal → reverse out ≡ goal
-live_done left out goal e h = ap (λ (us : List Region). live us ++ reverse out) (sym e) ∙ h
-
-pub live_fits : (rs : List Region) → SetFits rs → SetFits (live rs)
-live_fits [] h = tt
-live_fits (r ∷ rs) h = go (live_pieces r.pieces) (live_pieces_fit r.pieces h.0) (live_fits rs h.1)
-  where
-    go : (ss : List System) → AllFit ss → SetFits (live rs) → SetFits (with_pieces r ss (λ s. s ∷ live rs) (live rs))
-    go [] f later = later
-    go (s ∷ ss) f later = (f, later)
+pub trimmed_done : (left out goal : List Region) → left ≡ [] → all_trimmed left ++ reverse out ≡ goal → reverse out ≡ goal
+trimmed_done left out goal e h = ap (λ (us : List Region). all_trimmed us ++ reverse out) (sym e) ∙ h
 
 -- ---- a set whose last region is taken away
 
@@ -87,37 +70,38 @@ pub reverse_fits : (rs : List Region) → SetFits rs → SetFits (reverse rs)
 reverse_fits [] h = tt
 reverse_fits (r ∷ rs) h = subst SetFits (sym (reverse-append (r ∷ []) rs)) (set-push (reverse rs) r (reverse_fits rs h.1) h.0)
 
-pub ruleset keeping = (piece_stays, alive_is, alive_none, live_back, live_done, live_fits, less_fits, last_fits)
+pub ruleset keeping = (trim_known, left_is, left_none, trimmed_back, trimmed_done, less_fits, last_fits, reverse_fits)
 
--- ---- a region put into a set without its refuted pieces
+-- ---- a region put into a set with its pieces trimmed
 
-pub put_some : (r s : Region) (qs : List Region) → s ∷ [] ≡ live (r ∷ []) → with_region s qs ≡ with_live r qs
-put_some r s qs e = go (live_pieces r.pieces) e
-  where
-    go : (ss : List System) → s ∷ [] ≡ with_pieces r ss (λ t. t ∷ []) [] → with_region s qs ≡ with_pieces r ss (λ t. with_region t qs) qs
-    go [] f = absurd (cc)
-    go (p ∷ ss) f = let same : s ≡ remade r r.exact (p ∷ ss) = cc in ap (λ (t : Region). with_region t qs) same
+module _ (r : Region) (e : Bool) where
+  put_there : (s : Region) (qs : List Region) (ss : List System) → s ∷ [] ≡ with_pieces r e ss (λ t. t ∷ []) [] → with_region s qs ≡ with_pieces r e ss (λ t. with_region t qs) qs
+  put_there s qs [] f = absurd (cc)
+  put_there s qs (p ∷ ss) f = let same : s ≡ remade r e (p ∷ ss) = cc in ap (λ (t : Region). with_region t qs) same
 
-pub put_none : (r : Region) (qs : List Region) → [] ≡ live (r ∷ []) → qs ≡ with_live r qs
-put_none r qs e = go (live_pieces r.pieces) e
-  where
-    go : (ss : List System) → [] ≡ with_pieces r ss (λ t. t ∷ []) [] → qs ≡ with_pieces r ss (λ t. with_region t qs) qs
-    go [] f = refl
-    go (p ∷ ss) f = absurd (cc)
+  put_nowhere : (qs : List Region) (ss : List System) → [] ≡ with_pieces r e ss (λ t. t ∷ []) [] → qs ≡ with_pieces r e ss (λ t. with_region t qs) qs
+  put_nowhere qs [] f = refl
+  put_nowhere qs (p ∷ ss) f = absurd (cc)
 
-pub put_same : (r s : Region) (qs : List Region) → s ∷ [] ≡ live (r ∷ []) → ComeBefore r qs → ComeBefore s qs
-put_same r s qs e h = go (live_pieces r.pieces) e
-  where
-    go : (ss : List System) → s ∷ [] ≡ with_pieces r ss (λ t. t ∷ []) [] → ComeBefore s qs
-    go [] f = absurd (cc)
-    go (p ∷ ss) f = let same : s ≡ remade r r.exact (p ∷ ss) = cc in come_same r s qs r.exact (p ∷ ss) same h
+  before_there : (s : Region) (qs : List Region) (ss : List System) → s ∷ [] ≡ with_pieces r e ss (λ t. t ∷ []) [] → ComeBefore r qs → ComeBefore s qs
+  before_there s qs [] f h = absurd (cc)
+  before_there s qs (p ∷ ss) f h = let same : s ≡ remade r e (p ∷ ss) = cc in come_same r s qs e (p ∷ ss) same h
 
-pub put_back : (r s : Region) (qs : List Region) → s ∷ [] ≡ live (r ∷ []) → ComeBefore s qs → ComeBefore r qs
-put_back r s qs e h = go (live_pieces r.pieces) e
-  where
-    go : (ss : List System) → s ∷ [] ≡ with_pieces r ss (λ t. t ∷ []) [] → ComeBefore r qs
-    go [] f = absurd (cc)
-    go (p ∷ ss) f = let same : s ≡ remade r r.exact (p ∷ ss) = cc in come_back r s qs r.exact (p ∷ ss) same h
+  before_again : (s : Region) (qs : List Region) (ss : List System) → s ∷ [] ≡ with_pieces r e ss (λ t. t ∷ []) [] → ComeBefore s qs → ComeBefore r qs
+  before_again s qs [] f h = absurd (cc)
+  before_again s qs (p ∷ ss) f h = let same : s ≡ remade r e (p ∷ ss) = cc in come_back r s qs e (p ∷ ss) same h
+
+pub put_some : (r s : Region) (qs : List Region) → s ∷ [] ≡ all_trimmed (r ∷ []) → with_region s qs ≡ with_trimmed r qs
+put_some r s qs f = put_there r (r.exact && (trim r.pieces).exact) s qs (trim r.pieces).pieces f
+
+pub put_none : (r : Region) (qs : List Region) → [] ≡ all_trimmed (r ∷ []) → qs ≡ with_trimmed r qs
+put_none r qs f = put_nowhere r (r.exact && (trim r.pieces).exact) qs (trim r.pieces).pieces f
+
+pub put_same : (r s : Region) (qs : List Region) → s ∷ [] ≡ all_trimmed (r ∷ []) → ComeBefore r qs → ComeBefore s qs
+put_same r s qs f h = before_there r (r.exact && (trim r.pieces).exact) s qs (trim r.pieces).pieces f h
+
+pub put_back : (r s : Region) (qs : List Region) → s ∷ [] ≡ all_trimmed (r ∷ []) → ComeBefore s qs → ComeBefore r qs
+put_back r s qs f h = before_again r (r.exact && (trim r.pieces).exact) s qs (trim r.pieces).pieces f h
 
 pub ruleset put_steps = (put_some, put_none, put_same, put_back)
 
@@ -148,7 +132,7 @@ next_before less us set r d at start false u e f h l = subst (λ m. ComeBefore (
 pub first_before : (left set : List Region) (d : Region) → ComeBefore (get_or left (length left - 1) d) (take 0 set)
 first_before left set d = come_none (get_or left (length left - 1) d) set
 
-pub gather_back : (left less set new goal : List Region) (r : Region) → left ≡ less ++ r ∷ [] → new ≡ with_live r set → with_regions set (reverse left) ≡ goal → with_regions new (reverse less) ≡ goal
+pub gather_back : (left less set new goal : List Region) (r : Region) → left ≡ less ++ r ∷ [] → new ≡ with_trimmed r set → with_regions set (reverse left) ≡ goal → with_regions new (reverse less) ≡ goal
 gather_back left less set new goal r e n h =
     ap (λ (qs : List Region). with_regions qs (reverse less)) n ∙ (ap (with_regions set) (sym (ap reverse e ∙ reverse_pushed less (less ++ r ∷ []) r refl)) ∙ h)
 

@@ -1,5 +1,5 @@
 -- Regions that are handed on, before what a transformer describes.
-use Rattle.std.proofs.Common.{◌≡◌, Bool, true, false, List, [], ◌∷◌, ◌++◌, map, reverse, append_assoc, append-nil, ap, ap₂, refl, sym, ◌∙◌}
+use Rattle.std.proofs.Common.{◌≡◌, Bool, true, false, List, [], ◌∷◌, ◌++◌, map, length, reverse, append_assoc, append-nil, ap, ap₂, refl, sym, ◌∙◌, arith}
 use Rattle.std.specs.Prelude.{if◌then◌else◌, not, ◌&&◌}
 use Rattle.std.proofs.lemmas.List.{reverse-reverse}
 use Rattle.affine_systems.specs.declared.row.System.{System}
@@ -12,8 +12,13 @@ use Rattle.region_sets.specs.declared.region.Region.{Region}
 use Rattle.region_sets.specs.Regions.{region, remade, any_weak, all_exact, systems}
 use Rattle.region_sets.specs.Naming.{has_none, named_cells, to_exits}
 use Rattle.region_sets.specs.Compose.{put_or_led, put_exits, compose_piece, compose}
+use Rattle.region_sets.specs.declared.trimming.Trimmed.{Trimmed}
+use Rattle.region_sets.specs.Trim.{or_infeasible, trimmed_to}
+use Rattle.region_sets.specs.Alive.{IsAlive}
 use Rattle.region_sets.specs.Lists.{all_composed}
 use Rattle.region_sets.proofs.Steps.{set-push}
+use Rattle.region_sets.proofs.TrimSteps.{trim_known}
+use Rattle.region_sets.proofs.AliveLaws.{less_alive, last_alive, reverse_alive}
 use Rattle.region_sets.proofs.LiveSteps.{less_fits, last_fits, reverse_fits}
 use Rattle.fx_lists.proofs.Booleans.{and_true}
 
@@ -39,12 +44,19 @@ all_same : (ss : List System) → systems (map (λ (u : System). shadow u true) 
 all_same [] = refl
 all_same (s ∷ ss) = ap (λ (us : List System). s ∷ us) (all_same ss)
 
-pub passed : (r : Region) (t : Transformer) (b : Bool) → map (compose_piece t) r.pieces ≡ map (λ (u : System). shadow u true) r.pieces → b ≡ (r.exact && not (any_weak r.pieces)) → region r.variable r.kind b r.pieces ≡ compose r t
-passed r t b h e =
-    let x : b ≡ ((r.exact && true) && not (any_weak r.pieces)) = e ∙ ap (λ c. c && not (any_weak r.pieces)) (sym (and_true r.exact)) in
-    let y : remade r (r.exact && true) r.pieces ≡ remade r (r.exact && all_exact (map (λ (u : System). shadow u true) r.pieces)) (systems (map (λ (u : System). shadow u true) r.pieces)) =
-    ap₂ (λ c (ss : List System). remade r (r.exact && c) ss) (sym (all_true r.pieces)) (sym (all_same r.pieces)) in
-    ap (λ c. region r.variable r.kind c r.pieces) x ∙ (y ∙ ap (λ (us : List Shadow). remade r (r.exact && all_exact us) (systems us)) (sym h))
+-- a lone piece stays, where it is not refuted
+pub passed : (r : Region) (t : Transformer) (b : Bool) → length r.pieces ≡ 1 → IsAlive r.pieces → map (compose_piece t) r.pieces ≡ map (λ (u : System). shadow u true) r.pieces → b ≡ (r.exact && not (any_weak r.pieces)) → region r.variable r.kind b r.pieces ≡ compose r t
+passed r t b l a h e =
+    ap (λ c. region r.variable r.kind c r.pieces) (e ∙ ap (λ c. c && not (any_weak r.pieces)) (sym (and_true r.exact)))
+    ∙ (ap (λ c. remade r c r.pieces) (ap (λ c. r.exact && c) (sym (all_true r.pieces)))
+    ∙ (stays (r.exact && all_exact (map (λ (u : System). shadow u true) r.pieces)) r.pieces l a
+    ∙ (ap (λ (ss : List System). trimmed_to r (r.exact && all_exact (map (λ (u : System). shadow u true) r.pieces)) ss) (sym (all_same r.pieces))
+    ∙ ap (λ (us : List Shadow). trimmed_to r (r.exact && all_exact us) (systems us)) (sym h))))
+  where
+    stays : (c : Bool) (ss : List System) → length ss ≡ 1 → IsAlive ss → remade r c ss ≡ trimmed_to r c ss
+    stays c [] m k = absurd (omega (arith, m))
+    stays c (s ∷ []) m k = ap (λ d. remade r d (s ∷ [])) (sym (and_true c)) ∙ ap (λ (v : Trimmed). remade r (c && v.exact) (or_infeasible v.pieces)) (trim_known (s ∷ []) (omega arith) k)
+    stays c (s ∷ u ∷ ss) m k = absurd (omega (arith, m))
 
 pub ruleset passing = (pass_step, passed)
 
@@ -62,4 +74,4 @@ move_step t left less out new goal r q e f n h =
 pub move_end : (t : Transformer) (left out goal : List Region) → left ≡ [] → out ++ all_composed t (reverse left) ≡ goal → out ≡ goal
 move_end t left out goal e h = sym (append-nil out) ∙ (ap (λ (us : List Region). out ++ all_composed t (reverse us)) (sym e) ∙ h)
 
-pub ruleset moving = (move_begin, move_step, move_end, less_fits, last_fits, reverse_fits, set-push)
+pub ruleset moving = (move_begin, move_step, move_end, less_fits, last_fits, reverse_fits, less_alive, last_alive, reverse_alive, set-push)

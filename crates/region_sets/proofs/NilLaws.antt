@@ -10,7 +10,6 @@ use Rattle.affine_systems.specs.Terms.{var_eq}
 use Rattle.affine_systems.specs.Points.{Point, value, only, factor_of}
 use Rattle.affine_systems.specs.Tidy.{is_unit, by_row}
 use Rattle.affine_systems.proofs.Basics.{mul_assoc, neg_mul}
-use Rattle.affine_systems.proofs.NormalLaws.{value-divided, value-negated, cancel_scale}
 use Rattle.affine_systems.proofs.ElimLaws.{value-combined}
 use Rattle.affine_systems.proofs.LackLaws.{Nil, factor-only}
 use Rattle.region_sets.specs.Naming.{in_terms}

@@ -3,9 +3,6 @@ use Rattle.std.proofs.Common.{◌≡◌, ℕ, ◌<◌, ◌≤◌, ◌^◌, Bool,
 use Rattle.std.proofs.lemmas.Int.{ints}
 use Rattle.std.proofs.lemmas.Bool.Decides.{nat_tests}
 use Rattle.std.specs.Ordering.{int_eq}
-use Rattle.affine_systems.specs.declared.row.Row.{Row}
-use Rattle.affine_systems.specs.Rows.{AllRows}
-use Rattle.affine_systems.specs.Given.{IsGiven}
 use Rattle.hull_projection.proofs.GivenLaws.{at_least_0_given}
 use Rattle.hull_projection.proofs.VarLaws.{aux_lt}
 use Rattle.affine_forms.specs.Forms.{IsSmallForm}

@@ -1,88 +1,57 @@
 -- What gathering keeps: each unit stays in a region of its kind, and what exact regions say stays so.
 use Rattle.std.proofs.Common.{◌≡◌, ℕ, ℤ, List, [], ◌∷◌, ◌++◌, Bool, true, false, refl, sym, subst, ◌∙◌, inl, inr, ⊎_elim, ◌⊎◌, Ordering}
-use Rattle.std.specs.Prelude.{if◌then◌else◌, not}
+use Rattle.std.specs.Prelude.{if◌then◌else◌, not, ◌&&◌}
 use Rattle.std.specs.declared.cmp.Ordering.TheVariants.{Less, Equal, Greater}
-use Rattle.std.specs.Ordering.{MatchOrdering, nat_cmp, ordering_then, match_ordering}
+use Rattle.std.specs.Ordering.{nat_cmp, match_ordering}
 use Rattle.affine_systems.specs.declared.row.System.{System}
-use Rattle.affine_systems.specs.Points.{Point}
-use Rattle.hull_projection.specs.Refute.{refuted}
-use Rattle.hull_projection.proofs.RefuteLaws.{refuted_none}
 use Rattle.f77_ast.specs.Variables.{variable_cmp}
 use Rattle.transformers.specs.transformer_algebra.Laws.{In, here, there}
 use Rattle.transformers.specs.transformer_algebra.Claims.{Scene}
 use Rattle.region_sets.specs.declared.region.Access.{Access}
 use Rattle.region_sets.specs.declared.region.Access.TheVariants.{Read, Write, In as ReadFirst, Out}
 use Rattle.region_sets.specs.declared.region.Region.{Region}
-use Rattle.region_sets.specs.Regions.{any_weak, remade, hull_of}
-use Rattle.region_sets.specs.Sets.{access_number, region_cmp, live_pieces, with_pieces, with_region, with_live, with_regions, live, unite_all}
-use Rattle.region_sets.specs.Unite.{all_within, unite}
-use Rattle.hull_projection.specs.Unions.{HoldsSome}
-use Rattle.region_sets.specs.Claims.{Describes, DescribedBy, Elements, LiesIn, IsSharp, Places, AreByOrder, LiesInSet, IsSharpSet}
+use Rattle.region_sets.specs.Regions.{any_weak, remade}
+use Rattle.region_sets.specs.Within.{all_within}
+use Rattle.region_sets.specs.Trim.{trim, trimmed_to}
+use Rattle.region_sets.specs.Sets.{access_number, region_cmp, with_pieces, with_region, with_trimmed, with_regions, all_trimmed, unite_all}
+use Rattle.region_sets.specs.Unite.{unite}
+use Rattle.region_sets.specs.Claims.{DescribedBy, Elements, LiesIn, IsSharp, Places, AreByOrder, LiesInSet, IsSharpSet}
 use Rattle.region_sets.specs.Laws.{HasAll, HasUnits, IsAsSharp}
 use Rattle.std.proofs.lemmas.Bool.{and_parts}
-use Rattle.region_sets.proofs.DescribedLaws.{arrival, stored}
+use Rattle.region_sets.proofs.DescribedLaws.{stored}
+use Rattle.region_sets.proofs.TrimLaws.{trim_by, trim_back}
 use Rattle.region_sets.proofs.UniteLaws.{unite_has, unite_exact}
 use Rattle.fx_lists.proofs.Orders.{then_equal, same_numbers}
-use Rattle.fx_lists.proofs.Booleans.{clash as clashes}
 
 none_in : {A : Type 0} {B : Type 0} (a : A) → In a [] → B
 none_in a i = elim i [ ]
 
--- ---- pieces that are refuted
-
-not_refuted : (s : System) (n phi : ℕ → ℤ) → Describes s n phi → refuted s.rows ≡ false
-not_refuted s n phi d = go (refuted s.rows) refl
-  where
-    go : (b : Bool) → refuted s.rows ≡ b → b ≡ false
-    go true e = absurd (refuted_none (arrival n phi) s.rows e (d (arrival n phi) (λ c. refl) (λ k. refl)))
-    go false e = refl
-
-live_in : (s : System) (ss : List System) → In s ss → refuted s.rows ≡ false → In s (live_pieces ss)
-live_in s [] i e = none_in s i
-live_in s (u ∷ ss) here e = go (refuted u.rows) e
-  where
-    go : (b : Bool) → b ≡ false → In u (if b then live_pieces ss else u ∷ live_pieces ss)
-    go true k = clashes true refl k
-    go false k = here
-live_in s (u ∷ ss) (there i) e = go (refuted u.rows) (live_in s ss i e)
-  where
-    go : (b : Bool) → In s (live_pieces ss) → In s (if b then live_pieces ss else u ∷ live_pieces ss)
-    go true k = k
-    go false k = there k
-
--- a piece that describes subscripts is not refuted
-pub live_by : (ss : List System) (n phi : ℕ → ℤ) → DescribedBy ss n phi → DescribedBy (live_pieces ss) n phi
-live_by ss n phi d = record { piece = d.piece; is_one = live_in d.piece ss d.is_one (not_refuted d.piece n phi d.holds); holds = d.holds }
-
-pub live_some : (p : Point) (ss : List System) → HoldsSome p (live_pieces ss) → HoldsSome p ss
-live_some p [] h = h
-live_some p (s ∷ ss) h = go (refuted s.rows) h (λ k. live_some p ss k)
-  where
-    go : (b : Bool) → HoldsSome p (if b then live_pieces ss else s ∷ live_pieces ss) → (HoldsSome p (live_pieces ss) → HoldsSome p ss) → HoldsSome p (s ∷ ss)
-    go true k ih = inr (ih k)
-    go false k ih = ⊎_elim (λ l. inl l) (λ l. inr (ih l)) k
+-- ---- regions with their pieces trimmed
 
 abbrev alive : Region → Region
-alive r = remade r r.exact (live_pieces r.pieces)
+alive r = remade r (r.exact && (trim r.pieces).exact) (trim r.pieces).pieces
 
 lies_alive : (m : Scene) (at : Elements) (r : Region) (x : ℕ → ℤ) (u : ℕ) → LiesIn m at r x u → LiesIn m at (alive r) x u
-lies_alive m at r x u l = record { phi = l.phi; there = l.there; described = λ n a. live_by r.pieces n l.phi (l.described n a) }
+lies_alive m at r x u l = record { phi = l.phi; there = l.there; described = λ n a. trim_by r.pieces n l.phi (l.described n a) }
 
 -- what describes it at the numbers of the units
 described_now : (m : Scene) (at : Elements) (r : Region) (x : ℕ → ℤ) (u : ℕ) (l : LiesIn m at r x u) → DescribedBy r.pieces (stored m x) l.phi
 described_now m at r x u l = l.described (stored m x) (λ c t. refl)
 
 sharp_alive : (m : Scene) (at : Elements) (r : Region) (x : ℕ → ℤ) (accessed : ℕ → Bool) → IsSharp m at r x accessed → IsSharp m at (alive r) x accessed
-sharp_alive m at r x accessed s e p st h = s (and_parts r.exact (not (any_weak (live_pieces r.pieces))) e).0 p st (live_some p r.pieces h)
+sharp_alive m at r x accessed s e p st h =
+    let k = and_parts (r.exact && (trim r.pieces).exact) (not (any_weak (trim r.pieces).pieces)) e in
+    let l = and_parts r.exact (trim r.pieces).exact k.0 in
+    s l.0 p st (trim_back p r.pieces l.1 h)
 
 -- where a piece is left, the region is handed on; where it does not matter, it may be
-with_some : (P : List Region → Type 0) (r : Region) (ss : List System) (k : Region → List Region) (none : List Region) (s : System) → In s ss → P (k (remade r r.exact ss)) → P (with_pieces r ss k none)
-with_some P r [] k none s i h = none_in s i
-with_some P r (u ∷ ss) k none s i h = h
+with_some : (P : List Region → Type 0) (r : Region) (e : Bool) (ss : List System) (k : Region → List Region) (none : List Region) (s : System) → In s ss → P (k (remade r e ss)) → P (with_pieces r e ss k none)
+with_some P r e [] k none s i h = none_in s i
+with_some P r e (u ∷ ss) k none s i h = h
 
-pub with_any : (P : List Region → Type 0) (r : Region) (ss : List System) (k : Region → List Region) (none : List Region) → P (k (remade r r.exact ss)) → P none → P (with_pieces r ss k none)
-with_any P r [] k none h n = n
-with_any P r (u ∷ ss) k none h n = h
+pub with_any : (P : List Region → Type 0) (r : Region) (e : Bool) (ss : List System) (k : Region → List Region) (none : List Region) → P (k (remade r e ss)) → P none → P (with_pieces r e ss k none)
+with_any P r e [] k none h n = n
+with_any P r e (u ∷ ss) k none h n = h
 
 -- ---- the order of regions
 
@@ -119,7 +88,7 @@ fellows at o r q e =
 united_kind : (k : Access) (a b : Region) → a.kind ≡ k → b.kind ≡ k → (unite a b).kind ≡ k
 united_kind k a b p q = go (all_within a.pieces b.pieces) (all_within b.pieces a.pieces)
   where
-    go : (m n : Bool) → (if m then remade a a.exact a.pieces else if n then remade b b.exact b.pieces else remade a false (hull_of (a.pieces ++ b.pieces) ∷ [])).kind ≡ k
+    go : (m n : Bool) → (if m then remade a a.exact a.pieces else if n then remade b b.exact b.pieces else trimmed_to a (a.exact && b.exact) (a.pieces ++ b.pieces)).kind ≡ k
     go true n = p
     go false true = q
     go false false = p
@@ -127,7 +96,7 @@ united_kind k a b p q = go (all_within a.pieces b.pieces) (all_within b.pieces a
 united_place : (at : Places) (e : Elements) (a b : Region) → at a.variable ≡ e → at b.variable ≡ e → at (unite a b).variable ≡ e
 united_place at e a b p q = go (all_within a.pieces b.pieces) (all_within b.pieces a.pieces)
   where
-    go : (m n : Bool) → at (if m then remade a a.exact a.pieces else if n then remade b b.exact b.pieces else remade a false (hull_of (a.pieces ++ b.pieces) ∷ [])).variable ≡ e
+    go : (m n : Bool) → at (if m then remade a a.exact a.pieces else if n then remade b b.exact b.pieces else trimmed_to a (a.exact && b.exact) (a.pieces ++ b.pieces)).variable ≡ e
     go true n = p
     go false true = q
     go false false = p
@@ -139,7 +108,7 @@ lies_within m at r a x u h l = record { phi = l.phi; there = l.there; described 
     within n d = let w = h d.piece d.is_one in record { piece = w.piece; is_one = w.is_one; holds = λ p c ph. w.has p (d.holds p c ph) }
 
 united_sharp : (m : Scene) (at : Elements) (a b : Region) (x : ℕ → ℤ) (accessed : ℕ → Bool) → IsSharp m at a x accessed → IsSharp m at b x accessed → IsSharp m at (unite a b) x accessed
-united_sharp m at a b x accessed s t e p st h = ⊎_elim (λ k. s k.0 p st (k.1 p h)) (λ k. t k.0 p st (k.1 p h)) (unite_exact a b e)
+united_sharp m at a b x accessed s t e p st h = ⊎_elim (λ k. s k.0 p st k.1) (λ k. t k.0 p st k.1) (unite_exact a b e p h)
 
 -- ---- units in sets
 
@@ -197,35 +166,35 @@ module _ (m : Scene) (at : Places) (by_order : AreByOrder at) (k : Access) (x : 
           (lies_split q qs l)
       go Greater c ih = ⊎_elim (λ h. lies_here q (with_region r qs) h.0 h.1) (λ h. lies_later q (with_region r qs) (ih h)) (lies_split q qs l)
 
-  lies_put_alive : (r : Region) (qs : List Region) → r.kind ≡ k → LiesIn m (at r.variable) r x u → Lies (with_live r qs)
+  lies_put_alive : (r : Region) (qs : List Region) → r.kind ≡ k → LiesIn m (at r.variable) r x u → Lies (with_trimmed r qs)
   lies_put_alive r qs e l =
       let a = lies_alive m (at r.variable) r x u l in
       let d = described_now m (at r.variable) (alive r) x u a in
-      with_some Lies r (live_pieces r.pieces) (λ s. with_region s qs) qs d.piece d.is_one (lies_put (alive r) qs e a)
+      with_some Lies r (r.exact && (trim r.pieces).exact) (trim r.pieces).pieces (λ s. with_region s qs) qs d.piece d.is_one (lies_put (alive r) qs e a)
 
-  lies_beside_alive : (r : Region) (qs : List Region) → Lies qs → Lies (with_live r qs)
-  lies_beside_alive r qs l = with_any Lies r (live_pieces r.pieces) (λ s. with_region s qs) qs (lies_beside (alive r) qs l) l
+  lies_beside_alive : (r : Region) (qs : List Region) → Lies qs → Lies (with_trimmed r qs)
+  lies_beside_alive r qs l = with_any Lies r (r.exact && (trim r.pieces).exact) (trim r.pieces).pieces (λ s. with_region s qs) qs (lies_beside (alive r) qs l) l
 
   lies_put_all : (rs qs : List Region) → Lies qs ⊎ Lies rs → Lies (with_regions qs rs)
   lies_put_all [] qs (inl l) = l
   lies_put_all [] qs (inr l) = none_in l.region l.is_one
-  lies_put_all (r ∷ rs) qs (inl l) = lies_put_all rs (with_live r qs) (inl (lies_beside_alive r qs l))
+  lies_put_all (r ∷ rs) qs (inl l) = lies_put_all rs (with_trimmed r qs) (inl (lies_beside_alive r qs l))
   lies_put_all (r ∷ rs) qs (inr l) =
-      lies_put_all rs (with_live r qs) (⊎_elim (λ h. inl (lies_put_alive r qs h.0 h.1)) (λ h. inr h) (lies_split r rs l))
+      lies_put_all rs (with_trimmed r qs) (⊎_elim (λ h. inl (lies_put_alive r qs h.0 h.1)) (λ h. inr h) (lies_split r rs l))
 
-  lies_live : (rs : List Region) → Lies rs → Lies (live rs)
-  lies_live [] l = l
-  lies_live (r ∷ rs) l =
+  lies_trimmed : (rs : List Region) → Lies rs → Lies (all_trimmed rs)
+  lies_trimmed [] l = l
+  lies_trimmed (r ∷ rs) l =
       ⊎_elim
       (λ h.
       let a = lies_alive m (at r.variable) r x u h.1 in
       let d = described_now m (at r.variable) (alive r) x u a in
-      with_some Lies r (live_pieces r.pieces) (λ s. s ∷ live rs) (live rs) d.piece d.is_one (lies_here (alive r) (live rs) h.0 a))
-      (λ h. let t = lies_live rs h in with_any Lies r (live_pieces r.pieces) (λ s. s ∷ live rs) (live rs) (lies_later (alive r) (live rs) t) t)
+      with_some Lies r (r.exact && (trim r.pieces).exact) (trim r.pieces).pieces (λ s. s ∷ all_trimmed rs) (all_trimmed rs) d.piece d.is_one (lies_here (alive r) (all_trimmed rs) h.0 a))
+      (λ h. let t = lies_trimmed rs h in with_any Lies r (r.exact && (trim r.pieces).exact) (trim r.pieces).pieces (λ s. s ∷ all_trimmed rs) (all_trimmed rs) (lies_later (alive r) (all_trimmed rs) t) t)
       (lies_split r rs l)
 
 pub gathered_units : (rs : List Region) → HasUnits rs (unite_all rs)
-gathered_units rs m at o k x u l = lies_live m at o k x u (with_regions [] rs) (lies_put_all m at o k x u rs [] (inr l))
+gathered_units rs m at o k x u l = lies_trimmed m at o k x u (with_regions [] rs) (lies_put_all m at o k x u rs [] (inr l))
 
 -- ---- what exact regions say
 
@@ -279,15 +248,15 @@ module _ (m : Scene) (at : Places) (by_order : AreByOrder at) (x : ℕ → ℤ) 
   sharp_put_all : (rs qs : List Region) → Sharp qs → Sharp rs → Sharp (with_regions qs rs)
   sharp_put_all [] qs s t = s
   sharp_put_all (r ∷ rs) qs s t =
-      sharp_put_all rs (with_live r qs)
-      (with_any Sharp r (live_pieces r.pieces) (λ a. with_region a qs) qs (sharp_put (alive r) qs (alive_one r (first_of r rs t)) s) s)
+      sharp_put_all rs (with_trimmed r qs)
+      (with_any Sharp r (r.exact && (trim r.pieces).exact) (trim r.pieces).pieces (λ a. with_region a qs) qs (sharp_put (alive r) qs (alive_one r (first_of r rs t)) s) s)
       (rest_of r rs t)
 
-  sharp_live : (rs : List Region) → Sharp rs → Sharp (live rs)
-  sharp_live [] s = s
-  sharp_live (r ∷ rs) s =
-      let t = sharp_live rs (rest_of r rs s) in
-      with_any Sharp r (live_pieces r.pieces) (λ a. a ∷ live rs) (live rs) (one_more (alive r) (live rs) (alive_one r (first_of r rs s)) t) t
+  sharp_trimmed : (rs : List Region) → Sharp rs → Sharp (all_trimmed rs)
+  sharp_trimmed [] s = s
+  sharp_trimmed (r ∷ rs) s =
+      let t = sharp_trimmed rs (rest_of r rs s) in
+      with_any Sharp r (r.exact && (trim r.pieces).exact) (trim r.pieces).pieces (λ a. a ∷ all_trimmed rs) (all_trimmed rs) (one_more (alive r) (all_trimmed rs) (alive_one r (first_of r rs s)) t) t
 
 pub gathered_sharp : (rs : List Region) → IsAsSharp rs (unite_all rs)
-gathered_sharp rs m at o x accessed s = sharp_live m at o x accessed (with_regions [] rs) (sharp_put_all m at o x accessed rs [] (no_region m at o x accessed) s)
+gathered_sharp rs m at o x accessed s = sharp_trimmed m at o x accessed (with_regions [] rs) (sharp_put_all m at o x accessed rs [] (no_region m at o x accessed) s)

@@ -1,6 +1,6 @@
 -- A region put into a set in order.
 use Rattle.std.proofs.Common.{◌≡◌, ℕ, zero, suc, ◌+◌, ◌-◌, ◌<◌, ◌≤◌, List, [], ◌∷◌, ◌++◌, length, take, drop, get_or, drop-cons, drop_of_length-le, take_all, take-append-drop, add-one, append_assoc, append-nil, ap, ap₂, refl, sym, ◌∙◌, arith, Ordering, set, subst, Bool}
-use Rattle.std.specs.Prelude.{insert}
+use Rattle.std.specs.Prelude.{◌&&◌, insert}
 use Rattle.std.specs.declared.cmp.Ordering.TheVariants.{Less, Equal, Greater}
 use Rattle.std.specs.Ordering.{nat_cmp, ordering_then, ordering_reverse}
 use Rattle.std.specs.Cmp.{IsTotalOrder}
@@ -12,7 +12,8 @@ use Rattle.std.proofs.lemmas.List.{take_more, take-set, drop-set, get_or_default
 use Rattle.affine_systems.specs.declared.row.System.{System}
 use Rattle.region_sets.specs.declared.region.Region.{Region}
 use Rattle.region_sets.specs.Regions.{RegionFits, remade}
-use Rattle.region_sets.specs.Sets.{SetFits, ComeBefore, access_number, region_cmp, live_pieces, with_pieces, with_region, live}
+use Rattle.region_sets.specs.Sets.{SetFits, ComeBefore, access_number, region_cmp, with_pieces, with_region, all_trimmed}
+use Rattle.region_sets.specs.Trim.{trim}
 use Rattle.region_sets.specs.Unite.{unite}
 use Rattle.region_sets.proofs.Steps.{set-push}
 use Rattle.fx_lists.proofs.Orders.{then_nothing}
@@ -180,11 +181,11 @@ set-set (q ∷ qs) (suc i) r h f = (h.0, set-set qs i r h.1 f)
 
 pub ruleset region_loop = (come_behind, come_more, come_insert, come_set, come_last, region-passed, region-before, region-last, region-same, set-at, set-insert, set-set, set-push)
 
-pub live_more : (r : Region) (rs : List Region) → live (r ∷ rs) ≡ live (r ∷ []) ++ live rs
-live_more r rs = go (live_pieces r.pieces)
+pub trimmed_more : (r : Region) (rs : List Region) → all_trimmed (r ∷ rs) ≡ all_trimmed (r ∷ []) ++ all_trimmed rs
+trimmed_more r rs = go (r.exact && (trim r.pieces).exact) (trim r.pieces).pieces
   where
-    go : (ss : List System) → with_pieces r ss (λ s. s ∷ live rs) (live rs) ≡ with_pieces r ss (λ s. s ∷ live []) (live []) ++ live rs
-    go [] = refl
-    go (s ∷ ss) = refl
+    go : (e : Bool) (ss : List System) → with_pieces r e ss (λ s. s ∷ all_trimmed rs) (all_trimmed rs) ≡ with_pieces r e ss (λ s. s ∷ all_trimmed []) (all_trimmed []) ++ all_trimmed rs
+    go e [] = refl
+    go e (s ∷ ss) = refl
 
-pub ruleset live_loop = (live_more, set-push, append_assoc, append-nil)
+pub ruleset trimmed_loop = (trimmed_more, set-push, append_assoc, append-nil)

@@ -1,5 +1,5 @@
 -- The sets of statements, at the beginning of their list.
-use Rattle.std.proofs.Common.{◌≡◌, ℕ, ℤ, List, [], ◌∷◌, ◌++◌, map, Bool, true, false, refl, sym, subst, inl, inr, ⊎_elim, ◌⊎◌}
+use Rattle.std.proofs.Common.{◌≡◌, ℕ, ℤ, List, [], ◌∷◌, ◌++◌, map, Bool, true, false, refl, sym, subst, ⊎_elim}
 use Rattle.std.specs.Prelude.{if◌then◌else◌}
 use Rattle.affine_systems.specs.declared.row.System.{System}
 use Rattle.f77_ast.specs.Trees.{StmtTrees}
@@ -21,28 +21,11 @@ use Rattle.region_sets.specs.Lists.{all_composed, in_order, forgetting, all_forg
 use Rattle.region_sets.specs.Claims.{Describes, DescribedBy, Places, LiesIn, IsSharp, IsSharpSet, arrived, past, no_more, before_more}
 use Rattle.region_sets.specs.Laws.{HasSteps, HasStepsAlone, HasAnyStep, NoneExact, HasList, HasListAlone}
 use Rattle.region_sets.proofs.DescribedLaws.{moved, moved_cells, moved_are}
+pub use Rattle.region_sets.proofs.TrimLaws.{in_either, in_map, of_map}
 use Rattle.region_sets.proofs.PieceLaws.{compose_moves, compose_sharp}
 use Rattle.region_sets.proofs.SetLaws.{gathered_units, gathered_sharp}
 use Rattle.fx_lists.proofs.Booleans.{clash as clashes}
 use Rattle.transformers.proofs.TransformerAlgebra.Members.{in_left, in_right}
-
--- ---- of two lists
-
-pub in_either : {A : Type 0} (a : A) (as' bs : List A) → In a (as' ++ bs) → In a as' ⊎ In a bs
-in_either a [] bs i = inr i
-in_either a (b ∷ as') bs here = inl here
-in_either a (b ∷ as') bs (there i) = ⊎_elim (λ j. inl (there j)) (λ j. inr j) (in_either a as' bs i)
-
-pub in_map : {A : Type 0} {B : Type 0} (f : A → B) (a : A) (as' : List A) → In a as' → In (f a) (map f as')
-in_map f a [] i = elim i [ ]
-in_map f a (b ∷ as') here = here
-in_map f a (b ∷ as') (there i) = there (in_map f a as' i)
-
--- what is so of what is made of each element is so of each of those
-pub of_map : {A : Type 0} {B : Type 0} (f : A → B) (P : B → Type 0) (as' : List A) → ((a : A) → In a as' → P (f a)) → (b : B) → In b (map f as') → P b
-of_map f P [] h b i = elim i [ ]
-of_map f P (a ∷ as') h b here = h a here
-of_map f P (a ∷ as') h b (there i) = of_map f P as' (λ c j. h c (there j)) b i
 
 -- ---- in order
 

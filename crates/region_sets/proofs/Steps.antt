@@ -1,5 +1,5 @@
 -- Steps of the loops over systems, rows and regions, and what is handed on may be handed on.
-use Rattle.std.proofs.Common.{◌≡◌, ℕ, ◌≤◌, ◌&&◌, ◌||◌, Bool, true, false, Option, Some, None, List, [], ◌∷◌, ◌++◌, append_assoc, append-nil, refl, sym, ap, subst, ◌∙◌, ⊎_elim}
+use Rattle.std.proofs.Common.{◌≡◌, ℕ, ◌≤◌, ◌&&◌, ◌||◌, Bool, true, false, List, [], ◌∷◌, ◌++◌, append_assoc, append-nil, refl, sym, ap, subst, ◌∙◌, ⊎_elim}
 use Rattle.affine_systems.specs.declared.row.Row.{Row}
 use Rattle.affine_systems.specs.declared.row.System.{System}
 use Rattle.affine_systems.specs.Terms.{Ascends, has_no_terms}
@@ -12,8 +12,7 @@ use Rattle.region_sets.specs.declared.region.Region.{Region}
 use Rattle.region_sets.specs.Regions.{RegionFits}
 use Rattle.region_sets.specs.Ready.{IsReady}
 use Rattle.region_sets.specs.Sets.{SetFits}
-use Rattle.region_sets.specs.Subtract.{less_all, before_left, left_of}
-use Rattle.fx_lists.proofs.Booleans.{or_turned as or_assoc, clash as clashes}
+use Rattle.fx_lists.proofs.Booleans.{clash as clashes}
 
 pub fits-push : (ss : List System) (s : System) → AllFit ss → Fits s → AllFit (ss ++ s ∷ [])
 fits-push [] s h f = (f, tt)
@@ -31,17 +30,9 @@ pub and_assoc : (a b c : Bool) → ((a && b) && c) ≡ (a && (b && c))
 and_assoc true b c = refl
 and_assoc false b c = refl
 
--- what is left of the first piece, and of the others
-pub left_more : (p : System) (ps ss : List System) → left_of (p ∷ ps) ss ≡ left_of (p ∷ []) ss ++ left_of ps ss
-left_more p ps ss = go (less_all p ss).system
-  where
-    go : (o : Option System) → before_left o (left_of ps ss) ≡ before_left o [] ++ left_of ps ss
-    go None = refl
-    go (Some s) = refl
-
 pub ruleset fitting = (fits-push, set-push, ready-push, append_assoc, append-nil, and_assoc)
 
-pub ruleset leaving = (fits-push, append_assoc, append-nil, and_assoc, left_more)
+pub ruleset leaving = (fits-push, append_assoc, append-nil)
 
 -- ---- the rows of a system that calls take
 

@@ -1,69 +1,154 @@
 -- What is of the first region alone stays in the difference; an exact one has nothing else.
-use Rattle.std.proofs.Common.{◌≡◌, ℕ, ℤ, pos, List, [], ◌∷◌, ◌||◌, ◌&&◌, Bool, true, false, refl, sym, subst, ap, ◌∙◌, Option, Some, None, inl, inr, ⊎_elim}
+use Rattle.std.proofs.Common.{◌≡◌, ℕ, ℤ, ◌+ℤ◌, ◌*ℤ◌, List, [], ◌∷◌, ◌++◌, map, ◌&&◌, Bool, true, false, refl, sym, subst, ap, ap₂, ◌∙◌, Some, inl, inr, ⊎_elim, true≢false}
 use Rattle.std.specs.Prelude.{if◌then◌else◌, not, MatchOption}
-use Rattle.std.proofs.lemmas.Bool.{or_parts, and_parts, not-true}
+use Rattle.std.proofs.lemmas.Bool.{and_parts, not-true}
 use Rattle.affine_systems.specs.declared.row.Var.{Var}
 use Rattle.affine_systems.specs.declared.row.Var.TheVariants.{Cell, Exit, Phi, Aux}
+use Rattle.affine_systems.specs.declared.row.Term.{Term}
+use Rattle.affine_systems.specs.declared.row.Row.{Row}
 use Rattle.affine_systems.specs.declared.row.System.{System}
-use Rattle.affine_systems.specs.Points.{Point, HoldsAll}
-use Rattle.affine_systems.specs.Calls.{meet}
-use Rattle.affine_systems.proofs.CallLaws.{meet_holds}
-use Rattle.hull_projection.specs.declared.parts.Minus.{Minus}
-use Rattle.hull_projection.specs.Refute.{refuted}
-use Rattle.hull_projection.specs.Minus.{difference, minus, minus_parts, parts, all_negations}
-use Rattle.hull_projection.proofs.RefuteLaws.{refuted_none}
-use Rattle.hull_projection.proofs.MinusLaws.{minus_holds, minus_exact}
+use Rattle.affine_systems.specs.Terms.{negated_terms}
+use Rattle.affine_systems.specs.Rows.{system}
+use Rattle.affine_systems.specs.Points.{Point, value, Meets, Holds, HoldsAll}
+use Rattle.affine_systems.specs.Calls.{push_row, meet}
+use Rattle.affine_systems.proofs.CallLaws.{meet_holds, push_row_holds}
+use Rattle.hull_projection.specs.Refute.{refuted, above, below, negations}
+use Rattle.hull_projection.specs.Clean.{clean}
+use Rattle.hull_projection.specs.Minus.{parts, all_negations, apart}
+use Rattle.hull_projection.specs.Laws.{IsOutside, AreOutside}
+use Rattle.hull_projection.specs.Unions.{HoldsSome}
+use Rattle.hull_projection.proofs.RefuteLaws.{refuted_none, SomeHolds}
+use Rattle.hull_projection.proofs.CleanLaws.{clean_same}
+use Rattle.hull_projection.proofs.MinusLaws.{all_or_not, apart_has}
+use Rattle.transformers.specs.transformer_algebra.Laws.{In, here, there}
+use Rattle.transformers.specs.transformer_algebra.Claims.{AtStart}
+use Rattle.transformers.proofs.TransformerAlgebra.Members.{in_left, in_right}
 use Rattle.region_sets.specs.declared.region.Region.{Region}
 use Rattle.region_sets.specs.Regions.{any_weak, remade}
-use Rattle.region_sets.specs.Subtract.{less_from, less_one, less_each, less_all, before_left, left_of, all_left_exactly, unless_empty, are_apart, all_apart, subtract}
-use Rattle.transformers.specs.transformer_algebra.Laws.{In, here, there}
-use Rattle.hull_projection.specs.Unions.{HoldsSome}
-use Rattle.transformers.specs.transformer_algebra.Claims.{AtStart}
+use Rattle.region_sets.specs.Trim.{trim}
+use Rattle.region_sets.specs.Subtract.{is_place, are_place_terms, are_place_rows, are_places, less_piece, less_one, less_all, unless_empty, all_left, are_apart, all_apart, subtract}
 use Rattle.region_sets.specs.Claims.{HasSubscripts, AreNumbers, HasCells, Describes, DescribedBy, LiesIn}
 use Rattle.region_sets.specs.Laws.{KeepsRest, HasRestAlone}
 use Rattle.region_sets.proofs.DescribedLaws.{arrival, stored, at_start, none_by}
-use Rattle.fx_lists.proofs.Options.{none_some, some_is}
+use Rattle.region_sets.proofs.BackLaws.{tidy_weak}
+use Rattle.region_sets.proofs.TrimLaws.{in_either, of_more, in_map, holds_in, trim_by, Strong, strong_trim}
+use Rattle.fx_lists.proofs.Options.{some_is}
 use Rattle.fx_lists.proofs.Booleans.{clash as clashes}
 
--- ---- options
+-- ---- rows on subscripts and cells
 
--- ---- what stays of one piece
+module _ (n phi : ℕ → ℤ) (p : Point) (cells : HasCells n p) (subscripts : HasSubscripts phi p) where
+  number_placed : (v : Var) → is_place v ≡ true → arrival n phi v ≡ p v
+  number_placed (Cell c) e = sym (cells c)
+  number_placed (Exit c) e = absurd (true≢false (sym e))
+  number_placed (Phi k) e = sym (subscripts k)
+  number_placed (Aux j) e = absurd (true≢false (sym e))
 
-abbrev Has : Point → Option System → Type 0
-Has p o = MatchOption o ⊥ (λ s. HoldsAll p s.rows)
+  value_placed : (ts : List Term) → are_place_terms ts ≡ true → value (arrival n phi) ts ≡ value p ts
+  value_placed [] e = refl
+  value_placed (t ∷ ts) e = let k = and_parts (is_place t.var) (are_place_terms ts) e in ap₂ (λ (a b : ℤ). (t.factor *ℤ a) +ℤ b) (number_placed t.var k.0) (value_placed ts k.1)
 
-one_stays : (p : Point) (m : Minus) (s : System) → Has p m.system → (HoldsAll p s.rows → ⊥) → Has p (less_one m s).system
-one_stays p m s h n = go m.system h
+  -- what holds at the arrival holds at each point with its numbers and subscripts
+  holds_placed : (r : Row) → are_place_terms r.terms ≡ true → Holds (arrival n phi) r → Holds p r
+  holds_placed r e h = subst (λ (x : ℤ). Meets r.equal x r.bound) (value_placed r.terms e) h
+
+negated_places : (ts : List Term) → are_place_terms ts ≡ true → are_place_terms (negated_terms ts) ≡ true
+negated_places [] e = refl
+negated_places (t ∷ ts) e = let k = and_parts (is_place t.var) (are_place_terms ts) e in rw (k.0, negated_places ts k.1) refl
+
+-- a negation that holds at a point
+record Fails (p : Point) (ns : List Row) : Type 0 where
+  row : Row
+  is_one : In row ns
+  holds : Holds p row
+
+found : (p : Point) (ns : List Row) → SomeHolds p ns → Fails p ns
+found p [] h = absurd h
+found p (m ∷ ns) (inl h) = record { row = m; is_one = here; holds = h }
+found p (m ∷ ns) (inr h) = let k = found p ns h in record { row = k.row; is_one = there k.is_one; holds = k.holds }
+
+abbrev IsPlaced : Row → Type 0
+IsPlaced r = are_place_terms r.terms ≡ true
+
+one_negation : (r m : Row) → are_place_terms r.terms ≡ true → In m (negations r) → are_place_terms m.terms ≡ true
+one_negation r m e i = go r.equal i
   where
-    go : (o : Option System) → Has p o → Has p (less_from o m s).system
-    go None k = absurd k
-    go (Some q) k = minus_holds q s p k n
+    go : (b : Bool) → In m (if b then above r ∷ below r ∷ [] else above r ∷ []) → are_place_terms m.terms ≡ true
+    go true j = of_more IsPlaced m (above r) (below r ∷ []) j (negated_places r.terms e) (λ k. of_more IsPlaced m (below r) [] k e (λ l. elim l [ ]))
+    go false j = of_more IsPlaced m (above r) [] j (negated_places r.terms e) (λ k. elim k [ ])
 
-each_stays : (p : Point) (m : Minus) (ss : List System) → Has p m.system → (HoldsSome p ss → ⊥) → Has p (less_each m ss).system
-each_stays p m [] h n = h
-each_stays p m (s ∷ ss) h n = each_stays p (less_one m s) ss (one_stays p m s h (λ k. n (inl k))) (λ k. n (inr k))
+negation_placed : (rs : List Row) (m : Row) → are_place_rows rs ≡ true → In m (all_negations rs) → are_place_terms m.terms ≡ true
+negation_placed [] m e i = elim i [ ]
+negation_placed (r ∷ rs) m e i =
+    let k = and_parts (are_place_terms r.terms) (are_place_rows rs) e in
+    ⊎_elim (λ j. one_negation r m k.0 j) (λ j. negation_placed rs m k.1 j) (in_either m (negations r) (all_negations rs) i)
 
--- what is left of a piece is one of what is left
-left_more : (s : System) (o : Option System) (ss : List System) → In s ss → In s (before_left o ss)
-left_more s None ss i = i
-left_more s (Some q) ss i = there i
+-- ---- what stays of pieces
 
-left_of_one : (x phi : ℕ → ℤ) (q : System) (ss more : List System) → Describes q x phi → ((p : Point) → HasCells x p → HasSubscripts phi p → HoldsSome p ss → ⊥) → DescribedBy (before_left (less_all q ss).system more) x phi
-left_of_one x phi q ss more d n = go (less_all q ss).system (λ p st ph. each_stays p (difference (Some q) true) ss (d p st ph) (n p st ph))
+part_in : (s : System) (m : Row) (ns : List Row) → In m ns → refuted (push_row s m).rows ≡ false → In (push_row s m) (parts s ns)
+part_in s m [] i e = elim i [ ]
+part_in s m (o ∷ ns) here e = go (refuted (push_row s m).rows) e
   where
-    go : (o : Option System) → ((p : Point) → HasCells x p → HasSubscripts phi p → Has p o) → DescribedBy (before_left o more) x phi
-    go None f = absurd (f (arrival x phi) (λ c. refl) (λ k. refl))
-    go (Some s) f = record { piece = s; is_one = here; holds = f }
+    go : (b : Bool) → b ≡ false → In (push_row s m) (if b then parts s ns else push_row s m ∷ parts s ns)
+    go true f = absurd (true≢false f)
+    go false f = here
+part_in s m (o ∷ ns) (there i) e = go (refuted (push_row s o).rows) (part_in s m ns i e)
+  where
+    go : (b : Bool) → In (push_row s m) (parts s ns) → In (push_row s m) (if b then parts s ns else push_row s o ∷ parts s ns)
+    go true j = j
+    go false j = there j
 
-left_stays : (x phi : ℕ → ℤ) (q : System) (ps ss : List System) → In q ps → Describes q x phi → ((p : Point) → HasCells x p → HasSubscripts phi p → HoldsSome p ss → ⊥) → DescribedBy (left_of ps ss) x phi
-left_stays x phi q [] ss i d n = elim i [ ]
-left_stays x phi q (u ∷ ps) ss here d n = left_of_one x phi q ss (left_of ps ss) d n
-left_stays x phi q (u ∷ ps) ss (there i) d n =
-    let l = left_stays x phi q ps ss i d n in
-    record { piece = l.piece; is_one = left_more l.piece (less_all u ss).system (left_of ps ss) l.is_one; holds = l.holds }
+module _ (n phi : ℕ → ℤ) where
+  abbrev Absent : System → Type 0
+  Absent t = (p : Point) → HasCells n p → HasSubscripts phi p → HoldsAll p t.rows → ⊥
+
+  part_stays : (t s : System) → are_place_rows t.rows ≡ true → Absent t → Describes s n phi → DescribedBy (apart s t) n phi
+  part_stays t s e none d = record { piece = clean u; is_one = in_map clean u (parts s (all_negations t.rows)) (part_in s k.row (all_negations t.rows) k.is_one alive); holds = λ p h ph. (clean_same p u).0 (holds p h ph) }
+    where
+      p0 : Point
+      p0 = arrival n phi
+
+      k : Fails p0 (all_negations t.rows)
+      k = found p0 (all_negations t.rows) (⊎_elim (λ h. absurd (none p0 (λ c. refl) (λ i. refl) h)) (λ h. h) (all_or_not p0 t.rows))
+
+      u : System
+      u = push_row s k.row
+
+      holds : Describes u n phi
+      holds p h ph = push_row_holds p s k.row (d p h ph, holds_placed n phi p h ph k.row (negation_placed t.rows k.row e k.is_one) k.holds)
+
+      alive : refuted u.rows ≡ false
+      alive = go (refuted u.rows) refl
+        where
+          go : (b : Bool) → refuted u.rows ≡ b → b ≡ false
+          go true f = absurd (refuted_none p0 u.rows f (holds p0 (λ c. refl) (λ i. refl)))
+          go false f = refl
+
+  piece_stays : (t s : System) → are_place_rows t.rows ≡ true → Absent t → Describes s n phi → DescribedBy (less_piece t s) n phi
+  piece_stays t s e none d = go (refuted (meet s t).rows)
+    where
+      go : (b : Bool) → DescribedBy (if b then s ∷ [] else apart s t) n phi
+      go true = record { piece = s; is_one = here; holds = d }
+      go false = part_stays t s e none d
+
+  in_less : (t s q : System) (ss : List System) → In s ss → In q (less_piece t s) → In q (less_one t ss)
+  in_less t s q [] i j = elim i [ ]
+  in_less t s q (u ∷ ss) here j = in_left q (less_piece t s) (less_one t ss) j
+  in_less t s q (u ∷ ss) (there i) j = in_right q (less_piece t u) (less_one t ss) (in_less t s q ss i j)
+
+  one_stays : (t : System) (ss : List System) → are_place_rows t.rows ≡ true → Absent t → DescribedBy ss n phi → DescribedBy (less_one t ss) n phi
+  one_stays t ss e none d =
+      let k = piece_stays t d.piece e none d.holds in
+      record { piece = k.piece; is_one = in_less t d.piece k.piece ss d.is_one k.is_one; holds = k.holds }
+
+  pub all_stay : (ss ts : List System) → are_places ts ≡ true → ((p : Point) → HasCells n p → HasSubscripts phi p → HoldsSome p ts → ⊥) → DescribedBy ss n phi → DescribedBy (less_all ss ts) n phi
+  all_stay ss [] e none d = d
+  all_stay ss (t ∷ ts) e none d =
+      let k = and_parts (are_place_rows t.rows) (are_places ts) e in
+      all_stay (less_one t ss) ts k.1 (λ p h ph l. none p h ph (inr l)) (one_stays t ss k.0 (λ p h ph l. none p h ph (inl l)) d)
 
 pub subtract_keeps : (a b : Region) → KeepsRest a b (subtract a b)
-subtract_keeps a b m at x accessed sharp u off l = go b.exact refl
+subtract_keeps a b m at x accessed sharp u off l = go (b.exact && are_places b.pieces) refl
   where
     -- what b describes is accessed, and so not u
     none : b.exact ≡ true → (p : Point) → AtStart m x p → HasSubscripts l.phi p → HoldsSome p b.pieces → ⊥
@@ -73,89 +158,65 @@ subtract_keeps a b m at x accessed sharp u off l = go b.exact refl
         let k : a.unit ≡ u = some_is a.unit u (sym a.there ∙ (same ∙ l.there)) in
         clashes (accessed u) (ap accessed (sym k) ∙ a.is_so) off
 
-    left : b.exact ≡ true → (n : ℕ → ℤ) → AreNumbers m x n → DescribedBy (left_of a.pieces b.pieces) n l.phi
-    left e n i = let d = l.described n i in left_stays n l.phi d.piece a.pieces b.pieces d.is_one d.holds (λ p h ph. none e p (at_start m x n p i h) ph)
+    left : (b.exact && are_places b.pieces) ≡ true → (n : ℕ → ℤ) → AreNumbers m x n → DescribedBy (trim (less_all a.pieces b.pieces)).pieces n l.phi
+    left e n i =
+        let k = and_parts b.exact (are_places b.pieces) e in
+        trim_by (less_all a.pieces b.pieces) n l.phi (all_stay n l.phi a.pieces b.pieces k.1 (λ p h ph. none k.0 p (at_start m x n p i h) ph) (l.described n i))
 
     some_left : (e : Bool) (ss : List System) → ((n : ℕ → ℤ) → AreNumbers m x n → DescribedBy ss n l.phi) → MatchOption (unless_empty a e ss) ⊥ (λ r. LiesIn m at r x u)
     some_left e [] k = none_by (stored m x) l.phi (k (stored m x) (λ c t. refl))
     some_left e (s ∷ ss) k = record { phi = l.phi; there = l.there; described = k }
 
-    go : (e : Bool) → b.exact ≡ e → MatchOption (if e then unless_empty a (a.exact && all_left_exactly a.pieces b.pieces) (left_of a.pieces b.pieces) else Some (remade a (a.exact && all_apart a.pieces b.pieces) a.pieces)) ⊥ (λ r. LiesIn m at r x u)
-    go true e = some_left (a.exact && all_left_exactly a.pieces b.pieces) (left_of a.pieces b.pieces) (left e)
+    go : (e : Bool) → (b.exact && are_places b.pieces) ≡ e → MatchOption (if e then all_left a (less_all a.pieces b.pieces) else Some (remade a (a.exact && all_apart a.pieces b.pieces) a.pieces)) ⊥ (λ r. LiesIn m at r x u)
+    go true e = some_left (a.exact && (trim (less_all a.pieces b.pieces)).exact) (trim (less_all a.pieces b.pieces)).pieces (left e)
     go false e = record { phi = l.phi; there = l.there; described = l.described }
 
 -- ---- nothing else
 
-minus_weak : (a b s : System) → (minus a b).system ≡ Some s → s.weak ≡ false → a.weak ≡ false
-minus_weak a b s e w = go (refuted (meet a b).rows) e
+part_weak : (s q : System) (ns : List Row) → In q (map clean (parts s ns)) → q.weak ≡ false → s.weak ≡ false
+part_weak s q [] i w = elim i [ ]
+part_weak s q (m ∷ ns) i w = go (refuted (push_row s m).rows) i (λ j. part_weak s q ns j w)
   where
-    some_same : {A : Type 0} (x y : A) → Some x ≡ Some y → x ≡ y
-    some_same x y q = cc
+    go : (b : Bool) → In q (map clean (if b then parts s ns else push_row s m ∷ parts s ns)) → (In q (map clean (parts s ns)) → s.weak ≡ false) → s.weak ≡ false
+    go true j ih = ih j
+    go false j ih = of_more (λ u. u.weak ≡ false → s.weak ≡ false) q (clean (push_row s m)) (map clean (parts s ns)) j (λ k. tidy_weak (system (s.rows ++ m ∷ []) s.weak) k) (λ k l. ih k) w
 
-    of_parts : (ps : List System) → (minus_parts ps (a.weak || b.weak)).system ≡ Some s → a.weak ≡ false
-    of_parts [] k = absurd (cc)
-    of_parts (u ∷ []) k = let q = ap (λ (z : System). z.weak) (some_same _ _ k) in (or_parts a.weak b.weak (or_parts _ (a.weak || b.weak) (q ∙ w)).1).0
-    of_parts (u ∷ (v ∷ us)) k = let q = ap (λ (z : System). z.weak) (some_same _ _ k) in (or_parts a.weak b.weak (or_parts _ (a.weak || b.weak) (q ∙ w)).1).0
+outside_of : (a b q : System) (ss : List System) → AreOutside a b ss → In q ss → IsOutside a b q
+outside_of a b q [] h i = elim i [ ]
+outside_of a b q (s ∷ ss) h here = h.0
+outside_of a b q (s ∷ ss) h (there i) = outside_of a b q ss h.1 i
 
-    go : (m : Bool) → (if m then difference (Some a) true else minus_parts (parts a (all_negations b.rows)) (a.weak || b.weak)).system ≡ Some s → a.weak ≡ false
-    go true k = ap (λ (z : System). z.weak) (some_same _ _ k) ∙ w
-    go false k = of_parts (parts a (all_negations b.rows)) k
+module _ (p : Point) where
+  abbrev Left : System → System → Type 0
+  Left s t = (s.weak ≡ false) × (HoldsAll p s.rows × (HoldsAll p t.rows → ⊥))
 
--- what a system has that was left exactly
-record Alone (p : Point) (m : Minus) (ss : List System) (t : System) : Type 0 where
-  exact : m.exact ≡ true
-  from : System
-  was : m.system ≡ Some from
-  weak : from.weak ≡ false
-  of_it : HoldsAll p from.rows
-  of_none : HoldsSome p ss → ⊥
+  piece_alone : (t s q : System) → In q (less_piece t s) → q.weak ≡ false → HoldsAll p q.rows → Left s t
+  piece_alone t s q i w h = go (refuted (meet s t).rows) refl i
+    where
+      itself : refuted (meet s t).rows ≡ true → In q (s ∷ []) → Left s t
+      itself e j = of_more (λ u. u.weak ≡ false → HoldsAll p u.rows → Left s t) q s [] j (λ v k. (v, (k, λ l. refuted_none p (meet s t).rows e (meet_holds p s t (k, l))))) (λ k. elim k [ ]) w h
 
-minus_alone : (p : Point) (a b s : System) → (minus a b).exact ≡ true → (minus a b).system ≡ Some s → s.weak ≡ false → HoldsAll p s.rows → HoldsAll p a.rows × (HoldsAll p b.rows → ⊥)
-minus_alone p a b s x e w h = go (minus a b).system e (minus_exact a b x)
-  where
-    go : (o : Option System) → o ≡ Some s → MatchOption o (Unit {0}) (λ u. u.weak ≡ false → (q : Point) → HoldsAll q u.rows → HoldsAll q a.rows × (HoldsAll q b.rows → ⊥)) → HoldsAll p a.rows × (HoldsAll p b.rows → ⊥)
-    go None k f = none_some s k
-    go (Some u) k f = let same = some_is u s k in f (ap (λ (z : System). z.weak) same ∙ w) p (subst (λ (z : System). HoldsAll p z.rows) (sym same) h)
+      go : (b : Bool) → refuted (meet s t).rows ≡ b → In q (if b then s ∷ [] else apart s t) → Left s t
+      go true e j = itself e j
+      go false e j = (part_weak s q (all_negations t.rows) j w, outside_of s t q (apart s t) (apart_has s t).1 j w p h)
 
-each_alone : (p : Point) (m : Minus) (ss : List System) (t : System) → (less_each m ss).exact ≡ true → (less_each m ss).system ≡ Some t → t.weak ≡ false → HoldsAll p t.rows → Alone p m ss t
-each_alone p m [] t x e w h = record { exact = x; from = t; was = e; weak = w; of_it = h; of_none = λ k. k }
-each_alone p m (s ∷ ss) t x e w h = go m.system refl (each_alone p (less_one m s) ss t x e w h)
-  where
-    go : (o : Option System) → m.system ≡ o → Alone p (less_from o m s) ss t → Alone p m (s ∷ ss) t
-    go None k r = none_some r.from (sym k ∙ r.was)
-    go (Some q) k r =
-        let x2 = and_parts (minus q s).exact m.exact r.exact in
-        let both = minus_alone p q s r.from x2.0 r.was r.weak r.of_it in
-        record {
-          exact = x2.1;
-          from = q;
-          was = k;
-          weak = minus_weak q s r.from r.was r.weak;
-          of_it = both.0;
-          of_none = λ l. ⊎_elim both.1 r.of_none l;
-        }
+  one_alone : (t : System) (ss : List System) → Strong p (less_one t ss) → Strong p ss × (HoldsAll p t.rows → ⊥)
+  one_alone t ss k = go ss k.is_one
+    where
+      go : (us : List System) → In k.piece (less_one t us) → Strong p us × (HoldsAll p t.rows → ⊥)
+      go [] i = elim i [ ]
+      go (s ∷ us) i =
+          ⊎_elim
+          (λ j. let l = piece_alone t s k.piece j k.strong k.holds in (record { piece = s; is_one = here; strong = l.0; holds = l.1.0 }, l.1.1))
+          (λ j. let l = go us j in (record { piece = l.0.piece; is_one = there l.0.is_one; strong = l.0.strong; holds = l.0.holds }, l.1))
+          (in_either k.piece (less_piece t s) (less_one t us) i)
 
-abbrev OfFirst : Point → List System → List System → Type 0
-OfFirst p ps ss = HoldsSome p ps × (HoldsSome p ss → ⊥)
-
-left_alone : (p : Point) (ps ss : List System) → all_left_exactly ps ss ≡ true → any_weak (left_of ps ss) ≡ false → HoldsSome p (left_of ps ss) → OfFirst p ps ss
-left_alone p [] ss x w h = absurd h
-left_alone p (q ∷ ps) ss x w h = go (less_all q ss).system refl w h (λ l k. left_alone p ps ss (and_parts (less_all q ss).exact (all_left_exactly ps ss) x).1 l k)
-  where
-    x2 : ((less_all q ss).exact ≡ true) × (all_left_exactly ps ss ≡ true)
-    x2 = and_parts (less_all q ss).exact (all_left_exactly ps ss) x
-
-    more : OfFirst p ps ss → OfFirst p (q ∷ ps) ss
-    more k = (inr k.0, k.1)
-
-    go : (o : Option System) → (less_all q ss).system ≡ o → any_weak (before_left o (left_of ps ss)) ≡ false → HoldsSome p (before_left o (left_of ps ss)) → (any_weak (left_of ps ss) ≡ false → HoldsSome p (left_of ps ss) → OfFirst p ps ss) → OfFirst p (q ∷ ps) ss
-    go None e w h ih = more (ih w h)
-    go (Some t) e w h ih =
-        let w2 = or_parts t.weak (any_weak (left_of ps ss)) w in
-        ⊎_elim
-        (λ k. let r = each_alone p (difference (Some q) true) ss t x2.0 e w2.0 k in (inl (subst (λ (z : System). HoldsAll p z.rows) (sym (some_is q r.from r.was)) r.of_it), r.of_none))
-        (λ k. more (ih w2.1 k))
-        h
+  all_alone : (ss ts : List System) → Strong p (less_all ss ts) → Strong p ss × (HoldsSome p ts → ⊥)
+  all_alone ss [] k = (k, λ l. l)
+  all_alone ss (t ∷ ts) k =
+      let l = all_alone (less_one t ss) ts k in
+      let m = one_alone t ss l.0 in
+      (m.0, λ h. ⊎_elim m.1 l.1 h)
 
 apart_none : (p : Point) (q : System) (ss : List System) → are_apart q ss ≡ true → HoldsAll p q.rows → HoldsSome p ss → ⊥
 apart_none p q [] e h k = k
@@ -163,25 +224,30 @@ apart_none p q (s ∷ ss) e h k =
     let e2 = and_parts (refuted (meet q s).rows) (are_apart q ss) e in
     ⊎_elim (λ l. refuted_none p (meet q s).rows e2.0 (meet_holds p q s (h, l))) (λ l. apart_none p q ss e2.1 h l) k
 
-all_apart_none : (p : Point) (ps ss : List System) → all_apart ps ss ≡ true → HoldsSome p ps → HoldsSome p ss → ⊥
+pub all_apart_none : (p : Point) (ps ss : List System) → all_apart ps ss ≡ true → HoldsSome p ps → HoldsSome p ss → ⊥
 all_apart_none p [] ss e h k = h
 all_apart_none p (q ∷ ps) ss e h k =
     let e2 = and_parts (are_apart q ss) (all_apart ps ss) e in
     ⊎_elim (λ l. apart_none p q ss e2.0 l k) (λ l. all_apart_none p ps ss e2.1 l k) h
 
 pub subtract_exact : (a b : Region) → HasRestAlone a b (subtract a b)
-subtract_exact a b = go b.exact
+subtract_exact a b = go (b.exact && are_places b.pieces)
   where
-    of_left : (ss : List System) → ss ≡ left_of a.pieces b.pieces → MatchOption (unless_empty a (a.exact && all_left_exactly a.pieces b.pieces) ss) (Unit {0}) (λ r. r.exact ≡ true → (a.exact ≡ true) × ((p : Point) → HoldsSome p r.pieces → HoldsSome p a.pieces × (HoldsSome p b.pieces → ⊥)))
+    of_left : (ss : List System) → ss ≡ (trim (less_all a.pieces b.pieces)).pieces → MatchOption (unless_empty a (a.exact && (trim (less_all a.pieces b.pieces)).exact) ss) (Unit {0}) (λ r. r.exact ≡ true → (a.exact ≡ true) × ((p : Point) → HoldsSome p r.pieces → HoldsSome p a.pieces × (HoldsSome p b.pieces → ⊥)))
     of_left [] e = tt
     of_left (s ∷ ss) e = λ x.
-        let x2 = and_parts (a.exact && all_left_exactly a.pieces b.pieces) (not (any_weak (s ∷ ss))) x in
-        let x3 = and_parts a.exact (all_left_exactly a.pieces b.pieces) x2.0 in
-        let w : any_weak (left_of a.pieces b.pieces) ≡ false = subst (λ (z : List System). any_weak z ≡ false) e (not-true (any_weak (s ∷ ss)) x2.1) in
-        (x3.0, λ p h. left_alone p a.pieces b.pieces x3.1 w (subst (λ (z : List System). HoldsSome p z) e h))
+        let us = less_all a.pieces b.pieces in
+        let x2 = and_parts (a.exact && (trim us).exact) (not (any_weak (s ∷ ss))) x in
+        let x3 = and_parts a.exact (trim us).exact x2.0 in
+        let w : any_weak (trim us).pieces ≡ false = subst (λ (z : List System). any_weak z ≡ false) e (not-true (any_weak (s ∷ ss)) x2.1) in (
+          x3.0,
+          λ p h.
+              let k = all_alone p a.pieces b.pieces (strong_trim p us x3.1 w (subst (λ (z : List System). HoldsSome p z) e h)) in
+              (holds_in p k.0.piece a.pieces k.0.is_one k.0.holds, k.1),
+        )
 
-    go : (m : Bool) → HasRestAlone a b (if m then unless_empty a (a.exact && all_left_exactly a.pieces b.pieces) (left_of a.pieces b.pieces) else Some (remade a (a.exact && all_apart a.pieces b.pieces) a.pieces))
-    go true = of_left (left_of a.pieces b.pieces) refl
+    go : (m : Bool) → HasRestAlone a b (if m then all_left a (less_all a.pieces b.pieces) else Some (remade a (a.exact && all_apart a.pieces b.pieces) a.pieces))
+    go true = of_left (trim (less_all a.pieces b.pieces)).pieces refl
     go false = λ x.
         let x2 = and_parts (a.exact && all_apart a.pieces b.pieces) (not (any_weak a.pieces)) x in
         let x3 = and_parts a.exact (all_apart a.pieces b.pieces) x2.0 in

@@ -1,8 +1,15 @@
--- Regions of which no piece is refuted.
-use Rattle.std.specs.Prelude.{◌≡◌, List, [], ◌∷◌}
+-- Regions of which trimming drops nothing where they have one piece.
+use Rattle.std.specs.Prelude.{◌≡◌, false, List, [], ◌∷◌}
+use Rattle.affine_systems.specs.declared.row.System.{System}
+use Rattle.hull_projection.specs.Refute.{refuted}
 use Rattle.region_sets.specs.declared.region.Region.{Region}
-use Rattle.region_sets.specs.Sets.{live_pieces}
+
+-- a piece without others is not refuted
+abbrev pub IsAlive : List System → Type 0
+IsAlive [] = Unit {0}
+IsAlive (s ∷ []) = refuted s.rows ≡ false
+IsAlive (s ∷ (t ∷ ts)) = Unit {0}
 
 abbrev pub AllAlive : List Region → Type 0
 AllAlive [] = Unit {0}
-AllAlive (r ∷ rs) = (live_pieces r.pieces ≡ r.pieces) × AllAlive rs
+AllAlive (r ∷ rs) = IsAlive r.pieces × AllAlive rs

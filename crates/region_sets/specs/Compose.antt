@@ -14,7 +14,7 @@ use Rattle.hull_projection.specs.Project.{shadow, project}
 use Rattle.transformers.specs.transformer_algebra.Renaming.{rename_all}
 use Rattle.transformers.specs.transformer_algebra.declared.transformer.Transformer.{Transformer}
 use Rattle.region_sets.specs.declared.region.Region.{Region}
-use Rattle.region_sets.specs.Regions.{each_piece}
+use Rattle.region_sets.specs.Trim.{each_trimmed}
 use Rattle.region_sets.specs.Naming.{has_none, named_cells, to_exits, exit_vars}
 use Rattle.region_sets.specs.Putting.{put_row}
 
@@ -66,4 +66,4 @@ abbrev pub compose_piece : Transformer → System → Shadow
 compose_piece t s = through_transformer (named_cells t.cells s) t s
 
 abbrev pub compose : Region → Transformer → Region
-compose r t = each_piece (compose_piece t) r
+compose r t = each_trimmed (compose_piece t) r

@@ -31,9 +31,9 @@ HasAll r a = (s : System) → In s a.pieces → WithinOne s r.pieces
 abbrev pub HasBoth : Region → Region → Region → Type 0
 HasBoth a b r = HasAll r a × HasAll r b
 
--- where it is exact, it is one of the two that is exact
+-- where it is exact, each of its points is one of one of the two that is exact
 abbrev pub IsOneExact : Region → Region → Region → Type 0
-IsOneExact a b r = r.exact ≡ true → ((a.exact ≡ true) × ((p : Point) → HoldsSome p r.pieces → HoldsSome p a.pieces)) ⊎ ((b.exact ≡ true) × ((p : Point) → HoldsSome p r.pieces → HoldsSome p b.pieces))
+IsOneExact a b r = r.exact ≡ true → (p : Point) → HoldsSome p r.pieces → ((a.exact ≡ true) × HoldsSome p a.pieces) ⊎ ((b.exact ≡ true) × HoldsSome p b.pieces)
 
 -- a unit that lies in the first stays, unless the second says that it is certainly accessed
 abbrev pub KeepsRest : Region → Region → Option Region → Type 0

@@ -1,6 +1,9 @@
 pub mod Regions
 pub mod Ready
 pub mod Naming
+pub mod Within
+pub mod Trim
+pub mod Joining
 pub mod Unite
 pub mod Subtract
 pub mod Putting

@@ -20,7 +20,7 @@ use Rattle.transformers.specs.transformer_algebra.Transformers.{identity_transfo
 use Rattle.transformers.specs.transformer_algebra.Loops.{within_row, if_counted}
 use Rattle.region_sets.specs.declared.range.Range.{Range}
 use Rattle.region_sets.specs.declared.region.Region.{Region}
-use Rattle.region_sets.specs.Regions.{each_piece}
+use Rattle.region_sets.specs.Trim.{each_trimmed}
 use Rattle.region_sets.specs.Naming.{has_none, named_cells, to_exits, exit_vars}
 
 -- its forms are small, and its iteration's system is one that calls take
@@ -99,4 +99,4 @@ abbrev pub loop_piece : Range → System → Shadow
 loop_piece g s = through_loop (named_cells (others g.turn.cells (g.index ∷ [])) s) g s
 
 abbrev pub over_loop : Region → Range → Region
-over_loop r g = each_piece (loop_piece g) r
+over_loop r g = each_trimmed (loop_piece g) r

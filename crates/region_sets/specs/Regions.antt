@@ -3,9 +3,8 @@
 use Rattle.std.specs.Prelude.{Bool, true, false, not, ◌&&◌, ◌||◌, List, [], ◌∷◌, map}
 use Rattle.affine_systems.specs.declared.row.System.{System}
 use Rattle.hull_projection.specs.declared.projection.Shadow.{Shadow}
-use Rattle.hull_projection.specs.Minus.{AllFit, hull_all}
+use Rattle.hull_projection.specs.Minus.{AllFit}
 use Rattle.f77_ast.specs.declared.variable.Variable.{Variable}
-use Rattle.affine_forms.specs.Conditions.{infeasible}
 use Rattle.region_sets.specs.declared.region.Access.{Access}
 use Rattle.region_sets.specs.declared.region.Region.{Region}
 
@@ -34,8 +33,3 @@ systems ss = map (λ (s : Shadow). s.system) ss
 -- what a rule makes of each piece; exact where the region is and the rule is for each
 abbrev pub each_piece : (System → Shadow) → Region → Region
 each_piece f r = remade r (r.exact && all_exact (map f r.pieces)) (systems (map f r.pieces))
-
--- from left to right; of no systems that without points
-abbrev pub hull_of : List System → System
-hull_of [] = infeasible
-hull_of (s ∷ ss) = hull_all s ss

@@ -12,7 +12,8 @@ ghost use Rattle.region_sets.specs.Laws.{MovesUnits, MovesSharp};
 use crate::Region;
 use crate::naming::{exit_vars, has_none, named_cells, to_exits};
 use crate::putting::put_row;
-use crate::region::{copy_system, push_system, remade};
+use crate::region::{copy_system, push_system};
+use crate::trimming::trimmed_to;
 use affine_systems::terms::factor_of;
 use affine_systems::{Row, System, Term, Var, meet, tidy};
 use fx_lists::List;
@@ -172,12 +173,12 @@ fn of_all(alloc: Global, r: &Region, t: &Transformer) -> Result<Region, Memory>
         push_system(&mut pieces, one.system)?;
         rest = more;
     }
-    remade(r, r.exact && exact, pieces)
+    trimmed_to(alloc, r, r.exact && exact, pieces)
 }
 
 /// The region before what a transformer describes, from one for the values of the analysed scalars after it. Where the transformer's rows do
 /// not say what each changed scalar becomes that the region names, the result has the elements for some values to which it leads, and is not
-/// exact.
+/// exact. The result is trimmed.
 pub fn compose(alloc: Global, r: &Region, t: &Transformer) -> Result<Region, Memory>
     requires region { RegionFits r.now }
     requires transformer { Fits t.now.system }

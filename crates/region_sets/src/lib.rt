@@ -17,12 +17,15 @@ mod sets;
 mod site;
 mod subtracting;
 mod text;
+mod trimming;
 mod uniting;
+mod within;
 
 pub use any_order::{all_sets, in_any_order, numbers, push_forgetting, set_at};
 pub use composing::compose;
 pub use list::{list_regions, push_composed};
-pub use live::none_is_refuted;
+pub use live::{none_is_refuted, regions_are_few};
+pub use living::trim_after;
 pub use loops::over_loop;
 pub use naming::{has_none, named_cells};
 pub use putting::put_row;
@@ -30,11 +33,9 @@ pub use range::Range;
 pub use region::{
     Access, Region, RegionList, RegionSet, copy_region, push_copies, push_system, remade, with_flag,
 };
-pub use sets::{
-    live as live_regions, live_pieces, pieces_alive, push_region, push_regions, same_pieces,
-    unite_all, unite_owned,
-};
+pub use sets::{push_region, push_regions, same_pieces, trimmed_regions, unite_all, unite_owned};
 pub use site::SiteOut;
 pub use subtracting::subtract;
 pub use text::{put_variable, region_line, region_text};
-pub use uniting::{hull_of, unite};
+pub use trimming::{Trimmed, trim, trimmed_to};
+pub use uniting::unite;

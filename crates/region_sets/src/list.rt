@@ -5,6 +5,7 @@ ghost use Rattle.hull_projection.specs.Minus.{AllFit};
 ghost use Rattle.f77_ast.specs.PlainStmt.{stmt_trees};
 ghost use Rattle.transformers.specs.Given.{ResultsFit};
 ghost use Rattle.transformers.specs.Lists.{transformer_at as transformer_at_is};
+ghost use Rattle.region_sets.specs.Alive.{AllAlive};
 ghost use Rattle.region_sets.specs.Laws.{HasList, HasListAlone};
 ghost use Rattle.region_sets.specs.Sets.{SetFits, unite_all as unite_all_is};
 ghost use Rattle.region_sets.specs.Lists.{SetsFit, is_access as is_access_is, accesses, accesses_at, all_composed, in_order as in_order_is, inexact as inexact_is, all_accesses as all_accesses_is, list_regions as list_regions_is};
@@ -99,8 +100,10 @@ fn with_rest(
     requires own { ResultsFit own.now }
     requires at { SetsFit at.now }
     requires rest { SetFits rest }
+    requires alive { AllAlive rest }
     ensures defined { IfOk result (λ qs. qs ≡ unite_all_is (accesses_at at.now id ++ all_composed (transformer_at_is own.now id) rest)) }
     ensures fits { IfOk result SetFits }
+    ensures alive { IfOk result AllAlive }
 {
     let mut all = List::from_vec(Vec::with_capacity(alloc, rest.len())?);
     push_accesses_at(alloc, &mut all, at, id)?;

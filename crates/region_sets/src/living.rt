@@ -1,48 +1,45 @@
-//! Regions that are handed on, without their refuted pieces.
-ghost use Rattle.std.specs.Prelude.{◌≡◌, ◌++◌, ◌∷◌, ◌&&◌, [], true, false, not, option_to_list, IfOk, IfSome, OnOk};
+//! Regions that are handed on, with their pieces trimmed.
+ghost use Rattle.std.specs.Prelude.{◌≡◌, ◌++◌, ◌∷◌, ◌&&◌, [], true, not, option_to_list, IfOk, IfSome, OnOk};
 ghost use Rattle.hull_projection.specs.Minus.{AllFit};
-ghost use Rattle.region_sets.specs.Alive.{AllAlive};
+ghost use Rattle.region_sets.specs.Alive.{IsAlive, AllAlive};
 ghost use Rattle.region_sets.specs.Regions.{RegionFits, any_weak as any_weak_is};
-ghost use Rattle.region_sets.specs.Sets.{SetFits, live_pieces as live_pieces_is, live as live_is};
+ghost use Rattle.region_sets.specs.Trim.{trim as trim_is};
+ghost use Rattle.region_sets.specs.Sets.{SetFits, all_trimmed as all_trimmed_is};
 
 use crate::region::any_weak;
-use crate::sets::{last_has, live_pieces};
-use crate::{Region, RegionSet};
+use crate::sets::last_has;
+use crate::trimming::trim;
+use crate::{Region, RegionSet, Trimmed};
 use affine_systems::System;
 use fx_lists::List;
-use hull_projection::refuted;
 use std::alloc::{AllocError as Memory, Global};
 
-/// Whether a piece is refuted.
+/// Systems, trimmed; a system without others stays where it is known that it is not refuted.
 #[tactic(auto, using(crate::proofs::LiveSteps::keeping))]
-fn any_refuted(alloc: Global, pieces: &[System]) -> Result<bool, Memory>
-    requires { AllFit pieces.now }
-    ensures { IfOk result (λ b. b ≡ false → live_pieces_is pieces.now ≡ pieces.now) }
+fn trim_unless(alloc: Global, known: bool, pieces: List<System>) -> Result<Trimmed, Memory>
+    requires known { known ≡ true → IsAlive pieces }
+    requires pieces { AllFit pieces }
+    ensures defined { IfOk result (λ t. t ≡ trim_is pieces) }
+    ensures fits { IfOk result (λ t. AllFit t.pieces) }
 {
-    let mut rest = pieces;
-    while let [piece, more @ ..] = rest {
-        if refuted(alloc, piece)? {
-            return Ok(true);
-        }
-        rest = more;
+    if known && pieces.len() < 2 {
+        return Ok(Trimmed {
+            pieces,
+            exact: true,
+        });
     }
-    Ok(false)
+    trim(alloc, pieces)
 }
 
-/// The pieces that are not refuted; all of them where that is known.
-fn keep_live(alloc: Global, known: bool, pieces: List<System>) -> Result<List<System>, Memory>
-    requires known { known ≡ true → live_pieces_is pieces ≡ pieces }
+/// Systems, trimmed. One without others that the last of some regions has, too, is not looked at.
+pub fn trim_after(alloc: Global, before: &[Region], pieces: List<System>) -> Result<Trimmed, Memory>
+    requires before { AllAlive before.now }
     requires pieces { AllFit pieces }
-    ensures defined { IfOk result (λ ss. ss ≡ live_pieces_is pieces) }
-    ensures fits { IfOk result AllFit }
+    ensures defined { IfOk result (λ t. t ≡ trim_is pieces) }
+    ensures fits { IfOk result (λ t. AllFit t.pieces) }
 {
-    if known {
-        return Ok(pieces);
-    }
-    if any_refuted(alloc, pieces.as_slice())? {
-        return live_pieces(alloc, pieces.as_slice());
-    }
-    Ok(pieces)
+    let known = last_has(before, &pieces);
+    trim_unless(alloc, known, pieces)
 }
 
 /// Whether a region that is exact stays so with these pieces: none of them is over-approximated.
@@ -52,12 +49,12 @@ pub fn stays_exact(exact: bool, pieces: &[System]) -> bool
     exact && !any_weak(pieces)
 }
 
-/// A region without its refuted pieces, unless all are. None is looked at where it is known that none is refuted.
+/// A region with its pieces trimmed, unless none is left. Nothing is looked at where it is known that a piece without others is not refuted.
 #[tactic(auto, using(crate::proofs::LiveSteps::keeping))]
-pub fn alive(alloc: Global, known: bool, r: Region) -> Result<Option<Region>, Memory>
-    requires known { known ≡ true → live_pieces_is r.pieces ≡ r.pieces }
+pub fn if_left(alloc: Global, known: bool, r: Region) -> Result<Option<Region>, Memory>
+    requires known { known ≡ true → IsAlive r.pieces }
     requires region { RegionFits r }
-    ensures defined { IfOk result (λ o. option_to_list o ≡ live_is (r ∷ [])) }
+    ensures defined { IfOk result (λ o. option_to_list o ≡ all_trimmed_is (r ∷ [])) }
     ensures fits { IfOk result (λ o. IfSome o RegionFits) }
 {
     let Region {
@@ -66,11 +63,13 @@ pub fn alive(alloc: Global, known: bool, r: Region) -> Result<Option<Region>, Me
         exact,
         pieces,
     } = r;
-    let pieces = keep_live(alloc, known, pieces)?;
+    let left = trim_unless(alloc, known, pieces)?;
+    let just = left.exact;
+    let pieces = left.pieces;
     if pieces.is_empty() {
         return Ok(None);
     }
-    let exact = stays_exact(exact, pieces.as_slice());
+    let exact = stays_exact(exact && just, pieces.as_slice());
     Ok(Some(Region {
         variable,
         kind,
@@ -79,32 +78,35 @@ pub fn alive(alloc: Global, known: bool, r: Region) -> Result<Option<Region>, Me
     }))
 }
 
-/// Adds a region without its refuted pieces, unless all are. Pieces that the last region has, too, are not looked at.
-#[tactic(auto, using(crate::proofs::AliveLaws::alive_steps))]
-fn push_alive(alloc: Global, out: &mut Vec<Region>, r: Region) -> Result<(), Memory>
+/// Adds a region with its pieces trimmed, unless none is left. A piece without others that the last region has, too, is not looked at.
+#[tactic(auto, using(crate::proofs::AliveLaws::alive_steps, crate::proofs::Steps::fitting))]
+fn push_trimmed(alloc: Global, out: &mut Vec<Region>, r: Region) -> Result<(), Memory>
     requires alive { AllAlive out.old.items }
+    requires out { SetFits out.old.items }
     requires region { RegionFits r }
-    ensures added { OnOk result (out.new.items ≡ out.old.items ++ live_is (r ∷ [])) }
+    ensures added { OnOk result (out.new.items ≡ out.old.items ++ all_trimmed_is (r ∷ [])) }
+    ensures fits { OnOk result (SetFits out.new.items) }
     ensures alive { OnOk result (AllAlive out.new.items) }
 {
     let known = last_has(out.as_slice(), &r.pieces);
-    if let Some(r) = alive(alloc, known, r)? {
+    if let Some(r) = if_left(alloc, known, r)? {
         out.push(r)?;
     }
     Ok(())
 }
 
-/// The regions of a set that are not refuted, without their refuted pieces.
-#[tactic(auto, using(crate::proofs::LiveSteps::keeping))]
-pub fn live_all(alloc: Global, set: RegionSet) -> Result<RegionSet, Memory>
+/// The regions of a set with their pieces trimmed, without those of which none is left.
+#[tactic(auto, using(crate::proofs::LiveSteps::keeping, crate::proofs::AliveLaws::alive_steps))]
+pub fn all_trimmed(alloc: Global, set: RegionSet) -> Result<RegionSet, Memory>
     requires { SetFits set }
-    ensures defined { IfOk result (λ qs. qs ≡ live_is set) }
+    ensures defined { IfOk result (λ qs. qs ≡ all_trimmed_is set) }
     ensures fits { IfOk result SetFits }
+    ensures alive { IfOk result AllAlive }
 {
     let mut left = set.into_vec();
     let mut out = Vec::with_capacity(alloc, left.len())?;
     while let Some(r) = left.pop() {
-        push_alive(alloc, &mut out, r)?;
+        push_trimmed(alloc, &mut out, r)?;
     }
     out.reverse();
     Ok(List::from_vec(out))

@@ -7,7 +7,8 @@ ghost use Rattle.region_sets.specs.Laws.{HasIterations, HasIterationsAlone};
 
 use crate::loop_rows::range_rows;
 use crate::naming::{exit_vars, has_none, named_cells, to_exits};
-use crate::region::{push_system, remade};
+use crate::region::push_system;
+use crate::trimming::trimmed_to;
 use crate::{Range, Region};
 use affine_systems::{System, Var, meet};
 use fx_lists::List;
@@ -153,12 +154,12 @@ fn of_all(alloc: Global, r: &Region, g: &Range) -> Result<Region, Memory>
         push_system(&mut pieces, one.system)?;
         rest = more;
     }
-    remade(r, r.exact && exact, pieces)
+    trimmed_to(alloc, r, r.exact && exact, pieces)
 }
 
 /// The region of a DO where it begins, from that of its body where an iteration begins: the elements for some value of the DO variable from
 /// the first to the last, in whole steps, as far as these are affine and the step is constant. Not exact where the body's region is not or
-/// names another analysed scalar that changes, where one of these is missing, or where the projection is not exact.
+/// names another analysed scalar that changes, where one of these is missing, or where the projection is not exact. The result is trimmed.
 pub fn over_loop(alloc: Global, r: &Region, g: &Range) -> Result<Region, Memory>
     requires region { RegionFits r.now }
     requires range { RangeFits g.now }

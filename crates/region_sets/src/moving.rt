@@ -3,6 +3,7 @@ ghost use Rattle.std.specs.Prelude.{◌≡◌, ◌++◌, [], true, map, not, IfO
 ghost use Rattle.affine_systems.specs.Given.{Fits};
 ghost use Rattle.affine_systems.specs.declared.row.System.{System as ASystem};
 ghost use Rattle.hull_projection.specs.Project.{shadow};
+ghost use Rattle.region_sets.specs.Alive.{IsAlive, AllAlive};
 ghost use Rattle.region_sets.specs.Compose.{compose as compose_is, compose_piece as compose_piece_is};
 ghost use Rattle.region_sets.specs.Lists.{all_composed};
 ghost use Rattle.region_sets.specs.Naming.{has_none as has_none_is, named_cells as named_cells_is};
@@ -46,15 +47,16 @@ fn all_pass(t: &Transformer, pieces: &[System]) -> bool
     true
 }
 
-/// The region that `compose` makes; its systems are moved where they name no changed cell.
+/// The region that `compose` makes; a system without others is moved where it names no changed cell.
 #[tactic(auto, using(crate::proofs::MoveSteps::passing))]
 fn composed(alloc: Global, r: Region, t: &Transformer) -> Result<Region, Memory>
     requires region { RegionFits r }
+    requires alive { IsAlive r.pieces }
     requires transformer { Fits t.now.system }
     ensures defined { IfOk result (λ q. q ≡ compose_is r t.now) }
     ensures fits { IfOk result RegionFits }
 {
-    if !all_pass(t, r.pieces.as_slice()) {
+    if r.pieces.len() != 1 || !all_pass(t, r.pieces.as_slice()) {
         return compose(alloc, &r, t);
     }
     let Region {
@@ -83,6 +85,7 @@ pub fn push_moved(
     requires out { SetFits out.old }
     requires transformer { Fits t.now.system }
     requires set { SetFits set }
+    requires alive { AllAlive set }
     ensures added { OnOk result (out.new ≡ out.old ++ all_composed t.now set) }
     ensures fits { OnOk result (SetFits out.new) }
 {

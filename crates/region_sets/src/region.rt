@@ -23,7 +23,7 @@ pub enum Access {
 }
 
 /// The elements of a variable whose subscripts (`Phi`, the first is 1) satisfy one of the systems, for the values of the analysed scalars
-/// (`Cell`) where a statement begins; of a scalar, all of it where one of the systems holds. The analyses make regions of one system.
+/// (`Cell`) where a statement begins; of a scalar, all of it where one of the systems holds. The analyses make regions of one to four systems.
 #[derive(PartialEq, Eq, Drop)]
 pub struct Region {
     pub variable: Variable,

@@ -1,20 +1,18 @@
 //! Sets of regions, in order.
 ghost use Rattle.std.specs.Prelude.{◌≡◌, ◌++◌, ◌∷◌, ◌-◌, [], length, reverse, take, slice_index_or, true, if◌then◌else◌, IfOk, OnOk};
-ghost use Rattle.hull_projection.specs.Minus.{AllFit};
 ghost use Rattle.region_sets.specs.Regions.{RegionFits};
-ghost use Rattle.region_sets.specs.Alive.{AllAlive};
+ghost use Rattle.region_sets.specs.Alive.{IsAlive, AllAlive};
 ghost use Rattle.region_sets.specs.Laws.{HasUnits, IsAsSharp};
 ghost use Rattle.std.specs.declared.cmp.Ordering.TheVariants.{Less};
 ghost use Rattle.region_sets.specs.declared.region.Region.{Region as ARegion};
-ghost use Rattle.region_sets.specs.Sets.{SetFits, ComeBefore, access_number as access_number_is, region_cmp, live_pieces as live_pieces_is, with_region as with_region_is, with_live as with_live_is, with_regions, live as live_is, unite_all as unite_all_is};
+ghost use Rattle.region_sets.specs.Sets.{SetFits, ComeBefore, access_number as access_number_is, region_cmp, with_region as with_region_is, with_trimmed as with_trimmed_is, with_regions, all_trimmed as all_trimmed_is, unite_all as unite_all_is};
 
-use crate::living::{alive, live_all};
-use crate::region::{copy_region, copy_system, push_copies, push_system, remade};
+use crate::living::{all_trimmed, if_left};
+use crate::region::copy_region;
 use crate::{Access, Region, RegionSet, unite};
 use affine_systems::System;
 use f77_ast::order;
 use fx_lists::List;
-use hull_projection::refuted;
 use std::alloc::{AllocError as Memory, Global};
 use std::cmp::Ordering;
 
@@ -36,24 +34,6 @@ fn region_order(a: &Region, b: &Region) -> Ordering
     access_number(a.kind)
         .cmp(&access_number(b.kind))
         .then(order(&a.variable, &b.variable))
-}
-
-/// Copies of the pieces that are not refuted.
-#[tactic(auto, using(crate::proofs::Steps::fitting))]
-pub fn live_pieces(alloc: Global, pieces: &[System]) -> Result<List<System>, Memory>
-    requires { AllFit pieces.now }
-    ensures defined { IfOk result (λ ss. ss ≡ live_pieces_is pieces.now) }
-    ensures fits { IfOk result AllFit }
-{
-    let mut out = List::from_vec(Vec::with_capacity(alloc, pieces.len())?);
-    let mut rest = pieces;
-    while let [piece, more @ ..] = rest {
-        if !refuted(alloc, piece)? {
-            push_system(&mut out, copy_system(piece)?)?;
-        }
-        rest = more;
-    }
-    Ok(out)
 }
 
 /// Appends a region; the list is neither sorted nor united by it.
@@ -130,17 +110,17 @@ fn with_region(alloc: Global, set: RegionSet, start: usize, r: Region) -> Result
     })
 }
 
-/// Puts a region into a set, without its refuted pieces, unless all are. All before `start` come before it.
+/// Puts a region into a set, with its pieces trimmed, unless none is left. All before `start` come before it.
 #[tactic(auto, using(crate::proofs::LiveSteps::put_steps))]
-fn with_live(alloc: Global, set: RegionSet, start: usize, r: Region) -> Result<Placed, Memory>
+fn with_trimmed(alloc: Global, set: RegionSet, start: usize, r: Region) -> Result<Placed, Memory>
     requires set { SetFits set }
     requires r { RegionFits r }
     requires before { ComeBefore r (take start set) }
-    ensures defined { IfOk result (λ p. p.set ≡ with_live_is r set) }
+    ensures defined { IfOk result (λ p. p.set ≡ with_trimmed_is r set) }
     ensures fits { IfOk result (λ p. SetFits p.set) }
     ensures before { IfOk result (λ p. ComeBefore r (take p.at p.set)) }
 {
-    match alive(alloc, false, r)? {
+    match if_left(alloc, false, r)? {
         None => Ok(Placed { set, at: start }),
         Some(r) => {
             let placed = with_region(alloc, set, start, r)?;
@@ -166,10 +146,10 @@ pub fn same_pieces(a: &List<System>, b: &List<System>) -> bool
     a == b
 }
 
-/// Whether the last of some regions has these pieces, none of which is then refuted.
+/// Whether the last of some regions has these pieces; one without others is then not refuted.
 pub(crate) fn last_has(before: &[Region], pieces: &List<System>) -> bool
     requires { AllAlive before.now }
-    ensures { result ≡ true → live_pieces_is pieces.now ≡ pieces.now }
+    ensures { result ≡ true → IsAlive pieces.now }
 {
     match before {
         [] => false,
@@ -177,53 +157,35 @@ pub(crate) fn last_has(before: &[Region], pieces: &List<System>) -> bool
     }
 }
 
-/// Copies of the pieces that are not refuted. Those that the last of some regions has, too, are not looked at.
-pub fn pieces_alive(
-    alloc: Global,
-    before: &[Region],
-    pieces: &List<System>,
-) -> Result<List<System>, Memory>
-    requires before { AllAlive before.now }
-    requires pieces { AllFit pieces.now }
-    ensures defined { IfOk result (λ ss. ss ≡ live_pieces_is pieces.now) }
-    ensures fits { IfOk result AllFit }
-{
-    if last_has(before, pieces) {
-        let mut copies = List::new(alloc);
-        push_copies(&mut copies, pieces.as_slice())?;
-        return Ok(copies);
-    }
-    live_pieces(alloc, pieces.as_slice())
-}
-
-/// Adds a region without its refuted pieces, unless all are.
-#[tactic(auto, using(crate::proofs::SetSteps::live_loop, crate::proofs::AliveLaws::alive_steps))]
-fn push_live(alloc: Global, out: &mut RegionSet, r: &Region) -> Result<(), Memory>
+/// Adds a region with its pieces trimmed, unless none is left.
+#[tactic(auto, using(crate::proofs::SetSteps::trimmed_loop, crate::proofs::AliveLaws::alive_steps))]
+fn push_left(alloc: Global, out: &mut RegionSet, r: &Region) -> Result<(), Memory>
     requires out { SetFits out.old }
     requires alive { AllAlive out.old }
     requires r { RegionFits r.now }
-    ensures added { OnOk result (out.new ≡ out.old ++ live_is (r.now ∷ [])) }
+    ensures added { OnOk result (out.new ≡ out.old ++ all_trimmed_is (r.now ∷ [])) }
     ensures fits { OnOk result (SetFits out.new) }
     ensures alive { OnOk result (AllAlive out.new) }
 {
-    let pieces = pieces_alive(alloc, out.as_slice(), &r.pieces)?;
-    if pieces.is_empty() {
-        return Ok(());
+    let known = last_has(out.as_slice(), &r.pieces);
+    let copy = copy_region(alloc, r)?;
+    match if_left(alloc, known, copy)? {
+        None => Ok(()),
+        Some(one) => push_region(out, one),
     }
-    push_region(out, remade(r, r.exact, pieces)?)
 }
 
-/// The regions of a set that are not refuted, without their refuted pieces.
-#[tactic(auto, using(crate::proofs::SetSteps::live_loop))]
-pub fn live(alloc: Global, regions: &[Region]) -> Result<RegionSet, Memory>
+/// The regions of a set with their pieces trimmed, without those of which none is left.
+#[tactic(auto, using(crate::proofs::SetSteps::trimmed_loop))]
+pub fn trimmed_regions(alloc: Global, regions: &[Region]) -> Result<RegionSet, Memory>
     requires { SetFits regions.now }
-    ensures defined { IfOk result (λ qs. qs ≡ live_is regions.now) }
+    ensures defined { IfOk result (λ qs. qs ≡ all_trimmed_is regions.now) }
     ensures fits { IfOk result SetFits }
 {
     let mut out = List::from_vec(Vec::with_capacity(alloc, regions.len())?);
     let mut rest = regions;
     while let [r, more @ ..] = rest {
-        push_live(alloc, &mut out, r)?;
+        push_left(alloc, &mut out, r)?;
         rest = more;
     }
     Ok(out)
@@ -243,16 +205,17 @@ fn gathered(alloc: Global, mut left: Vec<Region>) -> Result<RegionSet, Memory>
     requires { SetFits left.items }
     ensures defined { IfOk result (λ qs. qs ≡ unite_all_is (reverse left.items)) }
     ensures fits { IfOk result SetFits }
+    ensures alive { IfOk result AllAlive }
 {
     let mut set = List::from_vec(Vec::with_capacity(alloc, left.len())?);
     let mut start = 0;
     while let Some(r) = left.pop() {
         let rises = is_last_after(&r, left.as_slice());
-        let placed = with_live(alloc, set, start, r)?;
+        let placed = with_trimmed(alloc, set, start, r)?;
         set = placed.set;
         start = start_at(rises, placed.at);
     }
-    live_all(alloc, set)
+    all_trimmed(alloc, set)
 }
 
 /// Copies of regions, the last first.
@@ -277,6 +240,7 @@ pub fn unite_owned(alloc: Global, regions: RegionSet) -> Result<RegionSet, Memor
     requires { SetFits regions }
     ensures defined { IfOk result (λ qs. qs ≡ unite_all_is regions) }
     ensures fits { IfOk result SetFits }
+    ensures alive { IfOk result AllAlive }
 {
     let mut left = regions.into_vec();
     left.reverse();
@@ -293,8 +257,8 @@ fn all_gathered(alloc: Global, regions: &[Region]) -> Result<RegionSet, Memory>
     gathered(alloc, left)
 }
 
-/// The set of some regions, in the order of `RegionSet`: those of one variable and kind are united from left to right, and systems that are
-/// shown infeasible are left out, with a region that has no other. Each region is compared with those before it, from the place of the last on where
+/// The set of some regions, in the order of `RegionSet`: those of one variable and kind are united from left to right, and each region is trimmed before
+/// and in the set, where one is left out that has no system left. Each region is compared with those before it, from the place of the last on where
 /// it comes after that: linear in regions that are in order already.
 pub fn unite_all(alloc: Global, regions: &[Region]) -> Result<RegionSet, Memory>
     requires { SetFits regions.now }

@@ -1,102 +1,124 @@
 //! A region less another of the same variable.
-ghost use Rattle.std.specs.Prelude.{◌≡◌, ◌++◌, ◌∷◌, [], IfOk, IfSome};
+ghost use Rattle.std.specs.Prelude.{◌≡◌, ◌++◌, IfOk, IfSome};
 ghost use Rattle.affine_systems.specs.Given.{Fits};
 ghost use Rattle.hull_projection.specs.Minus.{AllFit};
 ghost use Rattle.region_sets.specs.Regions.{RegionFits};
-ghost use Rattle.region_sets.specs.Subtract.{less_one as less_one_is, less_each as less_each_is, less_all as less_all_is, left_of, all_left_exactly, unless_empty as unless_empty_is, are_apart as are_apart_is, all_apart as all_apart_is, subtract as subtract_is};
+ghost use Rattle.region_sets.specs.Subtract.{is_place as is_place_is, are_place_terms as are_place_terms_is, are_place_rows as are_place_rows_is, are_places as are_places_is, less_piece, less_one as less_one_is, less_all as less_all_is, unless_empty as unless_empty_is, all_left as all_left_is, are_apart as are_apart_is, all_apart as all_apart_is, subtract as subtract_is};
 ghost use Rattle.region_sets.specs.Laws.{KeepsRest, HasRestAlone};
 
 use crate::Region;
-use crate::region::{push_system, remade, with_flag};
-use affine_systems::{System, meet};
+use crate::region::{copy_system, push_copies, push_system, remade, with_flag};
+use crate::trimming::trim;
+use affine_systems::{Row, System, Term, Var, meet};
 use fx_lists::List;
-use hull_projection::{Minus, minus, refuted};
+use hull_projection::{apart, refuted};
 use std::alloc::{AllocError as Memory, Global};
 
-/// What is left of a system, less one more.
-fn less_one(alloc: Global, m: Minus, s: &System) -> Result<Minus, Memory>
-    requires left { IfSome m.system Fits }
-    requires fits { Fits s.now }
-    ensures defined { IfOk result (λ n. n ≡ less_one_is m s.now) }
-    ensures fits { IfOk result (λ n. IfSome n.system Fits) }
+/// Whether a variable is a subscript or a cell.
+fn is_place(v: Var) -> bool
+    ensures { result ≡ is_place_is v }
 {
-    match &m.system {
-        None => Ok(m),
-        Some(piece) => {
-            let left = minus(alloc, piece, s)?;
-            Ok(Minus {
-                system: left.system,
-                exact: left.exact && m.exact,
-            })
-        }
+    match v {
+        Var::Cell(_) | Var::Phi(_) => true,
+        Var::Exit(_) | Var::Aux(_) => false,
     }
 }
 
-/// What is left of a system, less others, one after the other.
-fn less_all(alloc: Global, piece: &System, systems: &[System]) -> Result<Minus, Memory>
-    requires piece { Fits piece.now }
-    requires systems { AllFit systems.now }
-    ensures defined { IfOk result (λ m. m ≡ less_all_is piece.now systems.now) }
-    ensures fits { IfOk result (λ m. IfSome m.system Fits) }
+fn are_place_terms(terms: &[Term]) -> bool
+    ensures { result ≡ are_place_terms_is terms.now }
 {
-    let mut left = Minus {
-        system: Some(piece.clone()?),
-        exact: true,
-    };
+    let mut rest = terms;
+    while let [t, more @ ..] = rest {
+        if !is_place(t.var) {
+            return false;
+        }
+        rest = more;
+    }
+    true
+}
+
+fn are_place_rows(rows: &[Row]) -> bool
+    ensures { result ≡ are_place_rows_is rows.now }
+{
+    let mut rest = rows;
+    while let [row, more @ ..] = rest {
+        if !are_place_terms(row.terms.as_slice()) {
+            return false;
+        }
+        rest = more;
+    }
+    true
+}
+
+/// Whether all rows are on subscripts and cells alone.
+fn are_places(systems: &[System]) -> bool
+    ensures { result ≡ are_places_is systems.now }
+{
     let mut rest = systems;
     while let [s, more @ ..] = rest {
-        left = less_one(alloc, left, s)?;
+        if !are_place_rows(s.rows.as_slice()) {
+            return false;
+        }
+        rest = more;
+    }
+    true
+}
+
+/// Adds what is left of a piece, less a system.
+#[tactic(auto, using(crate::proofs::Steps::leaving))]
+fn push_less(
+    alloc: Global,
+    out: &mut List<System>,
+    s: &System,
+    piece: &System,
+) -> Result<(), Memory>
+    requires out { AllFit out.old }
+    requires s { Fits s.now }
+    requires piece { Fits piece.now }
+    ensures added { IfOk result (λ _. out.new ≡ out.old ++ less_piece s.now piece.now) }
+    ensures fits { IfOk result (λ _. AllFit out.new) }
+{
+    let both = meet(alloc, piece, s)?;
+    if refuted(alloc, &both)? {
+        return push_system(out, copy_system(piece)?);
+    }
+    let parts = apart(alloc, piece, s)?;
+    push_copies(out, parts.as_slice())
+}
+
+/// What is left of the pieces, less a system.
+#[tactic(auto, using(crate::proofs::Steps::leaving))]
+fn less_one(alloc: Global, s: &System, pieces: &[System]) -> Result<List<System>, Memory>
+    requires s { Fits s.now }
+    requires pieces { AllFit pieces.now }
+    ensures defined { IfOk result (λ ss. ss ≡ less_one_is s.now pieces.now) }
+    ensures fits { IfOk result AllFit }
+{
+    let mut out = List::new(alloc);
+    let mut rest = pieces;
+    while let [piece, more @ ..] = rest {
+        push_less(alloc, &mut out, s, piece)?;
+        rest = more;
+    }
+    Ok(out)
+}
+
+/// What is left of the pieces, less systems, one after the other.
+#[tactic(auto, using(crate::proofs::Steps::leaving))]
+fn less_all(alloc: Global, pieces: &[System], systems: &[System]) -> Result<List<System>, Memory>
+    requires pieces { AllFit pieces.now }
+    requires systems { AllFit systems.now }
+    ensures defined { IfOk result (λ ss. ss ≡ less_all_is pieces.now systems.now) }
+    ensures fits { IfOk result AllFit }
+{
+    let mut left = List::new(alloc);
+    push_copies(&mut left, pieces)?;
+    let mut rest = systems;
+    while let [s, more @ ..] = rest {
+        left = less_one(alloc, s, left.as_slice())?;
         rest = more;
     }
     Ok(left)
-}
-
-/// Adds what is left of a piece, if anything is. Whether it is just that.
-#[tactic(auto, using(crate::proofs::Steps::leaving))]
-fn push_left(
-    alloc: Global,
-    out: &mut List<System>,
-    piece: &System,
-    systems: &[System],
-) -> Result<bool, Memory>
-    requires out { AllFit out.old }
-    requires piece { Fits piece.now }
-    requires systems { AllFit systems.now }
-    ensures exact { IfOk result (λ e. e ≡ (less_all_is piece.now systems.now).exact) }
-    ensures added { IfOk result (λ _. out.new ≡ out.old ++ left_of (piece.now ∷ []) systems.now) }
-    ensures fits { IfOk result (λ _. AllFit out.new) }
-{
-    let left = less_all(alloc, piece, systems)?;
-    let Minus { system, exact } = left;
-    if let Some(s) = system {
-        push_system(out, s)?;
-    }
-    Ok(exact)
-}
-
-/// Adds what is left of each piece. Whether it is just that.
-#[tactic(auto, using(crate::proofs::Steps::leaving))]
-fn push_all_left(
-    alloc: Global,
-    out: &mut List<System>,
-    pieces: &[System],
-    systems: &[System],
-) -> Result<bool, Memory>
-    requires out { AllFit out.old }
-    requires pieces { AllFit pieces.now }
-    requires systems { AllFit systems.now }
-    ensures exact { IfOk result (λ e. e ≡ all_left_exactly pieces.now systems.now) }
-    ensures added { IfOk result (λ _. out.new ≡ out.old ++ left_of pieces.now systems.now) }
-    ensures fits { IfOk result (λ _. AllFit out.new) }
-{
-    let mut all = true;
-    let mut rest = pieces;
-    while let [piece, more @ ..] = rest {
-        let one = push_left(alloc, out, piece, systems)?;
-        all = all && one;
-        rest = more;
-    }
-    Ok(all)
 }
 
 /// Whether a system has no point in common with others, as refutation shows.
@@ -142,24 +164,34 @@ fn unless_empty(r: &Region, exact: bool, pieces: List<System>) -> Result<Option<
     Ok(Some(remade(r, exact, pieces)?))
 }
 
+/// A region of what is left, trimmed, unless nothing is.
+fn all_left(alloc: Global, r: &Region, pieces: List<System>) -> Result<Option<Region>, Memory>
+    requires { AllFit pieces }
+    ensures defined { IfOk result (λ o. o ≡ all_left_is r.now pieces) }
+    ensures fits { IfOk result (λ o. IfSome o RegionFits) }
+{
+    let left = trim(alloc, pieces)?;
+    let just = left.exact;
+    unless_empty(r, r.exact && just, left.pieces)
+}
+
 fn difference_of(alloc: Global, a: &Region, b: &Region) -> Result<Option<Region>, Memory>
     requires first { RegionFits a.now }
     requires second { RegionFits b.now }
     ensures defined { IfOk result (λ o. o ≡ subtract_is a.now b.now) }
     ensures fits { IfOk result (λ o. IfSome o RegionFits) }
 {
-    if b.exact {
-        let mut pieces = List::new(alloc);
-        let just = push_all_left(alloc, &mut pieces, a.pieces.as_slice(), b.pieces.as_slice())?;
-        return unless_empty(a, a.exact && just, pieces);
+    if b.exact && are_places(b.pieces.as_slice()) {
+        let pieces = less_all(alloc, a.pieces.as_slice(), b.pieces.as_slice())?;
+        return all_left(alloc, a, pieces);
     }
     let apart = all_apart(alloc, a.pieces.as_slice(), b.pieces.as_slice())?;
     Ok(Some(with_flag(alloc, a, a.exact && apart)?))
 }
 
 /// The difference of two regions of the same variable, of the kind of the first; it may have more elements, and is None where nothing is
-/// left. Only an exact second region is subtracted. Of another one nothing is, and the result is exact where the first is and both are shown
-/// to have no element in common.
+/// left. Only an exact second region is subtracted: each of its systems from all that is left, which is trimmed at the end. Of another one nothing is, and
+/// the result is exact where the first is and both are shown to have no element in common.
 pub fn subtract(alloc: Global, a: &Region, b: &Region) -> Result<Option<Region>, Memory>
     requires first { RegionFits a.now }
     requires second { RegionFits b.now }

@@ -1,4 +1,4 @@
--- passed_block.f: part of a block as a vector, and a local of the callee
+-- lent_block.f: part of a block as a vector, and a local of the callee
 use Rattle.std.proofs.Common.{◌≡◌, ℕ, List, [], ◌∷◌, None, Some, false, refl, pos}
 use Rattle.std.specs.Prelude.{codes}
 use Rattle.f77_ast.specs.declared.decl.Scalar.TheVariants as scalar

@@ -26,7 +26,7 @@ use Rattle.laws_lines.proofs.SystemVars.{IsNeat, AreGiven, all-append, system_mo
 use Rattle.laws_lines.proofs.FormVars.{IsFormOf, FormOf, compared_given}
 use Rattle.laws_lines.specs.Regions.Places.{IsPlaceOf}
 use Rattle.laws_lines.proofs.Regions.PieceVars.{IsRangeOf}
-use Rattle.laws_lines.proofs.Regions.RegionVars.{one_shadow, IsFine, AreFine, looped_fine, mapped_fine}
+use Rattle.laws_lines.proofs.Regions.RegionVars.{few_shadow, IsFine, AreFine, looped_fine, mapped_fine}
 use Rattle.laws_lines.proofs.Ins.Differences.{MaybeFine, subtract_fine}
 use Rattle.laws_lines.proofs.Ins.InSets.{write_fine}
 use Rattle.fx_lists.proofs.Lists.{each_append as both_all}
@@ -119,7 +119,7 @@ module _ (N : Variable → Type 0) (ok : ℕ → Type 0) (g : Range) (range : Is
   exact_fine : ok g.index → (w : Region) → IsFine N ok w → MaybeFine N ok (if_exact w (map (earlier_piece g) w.pieces))
   exact_fine i w h =
       if_cases (MaybeFine N ok) (all_exact (map (earlier_piece g) w.pieces)) (Some (remade w true (systems (map (earlier_piece g) w.pieces)))) None
-      (λ e. (h.0, one_shadow (IsNeat P) (IsNeat P) (earlier_piece g) (piece_place i) w.pieces h.1)) (λ e. tt)
+      (λ e. (h.0, few_shadow (IsNeat P) (IsNeat P) (earlier_piece g) (piece_place i) w.pieces h.1)) (λ e. tt)
 
   earlier_fine : (o : Option Region) → MaybeFine N ok o → MaybeFine N ok (earlier tracked g o)
   earlier_fine None h = tt

@@ -7,7 +7,6 @@ use Rattle.affine_systems.specs.declared.row.Var.{Var}
 use Rattle.affine_systems.specs.declared.row.Var.TheVariants.{Cell, Exit, Phi, Aux}
 use Rattle.affine_systems.specs.declared.row.Term.{Term}
 use Rattle.affine_systems.specs.declared.row.Row.{Row}
-use Rattle.affine_systems.specs.declared.row.System.{System}
 use Rattle.affine_systems.specs.Terms.{var_eq}
 use Rattle.affine_systems.specs.Normal.{Normal, Kept, Always, Never, TooBig, normal}
 use Rattle.affine_systems.proofs.Basics.{if_cases}
@@ -53,9 +52,9 @@ use Rattle.laws_lines.proofs.SystemVars.{IsNeat, AreGiven, all-append, renamed_g
 use Rattle.laws_lines.proofs.FormVars.{FormOf, var_of}
 use Rattle.system_text.specs.Printed.{IsNumber}
 use Rattle.laws_lines.specs.Regions.Names.{PlaceNamed, SymbolNamed}
-use Rattle.laws_lines.specs.Regions.Places.{IsPlaceOf, IsOne}
+use Rattle.laws_lines.specs.Regions.Places.{IsPlaceOf}
 use Rattle.laws_lines.proofs.Regions.PutVars.{NormalGiven, normal_given}
-use Rattle.laws_lines.proofs.Regions.RegionVars.{IsFine, AreFine, united_fine}
+use Rattle.laws_lines.proofs.Regions.RegionVars.{few_map, IsFine, AreFine, united_fine}
 use Rattle.laws_lines.proofs.Regions.AccessVars.{IsNamedBy, named_number, FewBounds}
 use Rattle.laws_lines.proofs.Regions.CalleeVars.{IsLinkedOf}
 use Rattle.laws_lines.proofs.Regions.LinkVars.{limited_of, sum_form, offset_form, before_form, MaybeRow, equation_given, MaybeNamed, LinkOk, MaybeLink, link_ok}
@@ -301,17 +300,12 @@ module _ (Name : List ℕ → Type 0) (c : SidesTree) (few : FewBounds c.caller.
 
   -- ---- a region
 
-  one_to : (P Q : System → Type 0) (f : System → System) → ((s : System) → P s → Q (f s)) → (ss : List System) → IsOne P ss → IsOne Q (map f ss)
-  one_to P Q f g [] h = absurd h
-  one_to P Q f g (s ∷ []) h = g s h
-  one_to P Q f g (s ∷ (q ∷ qs)) h = absurd h
-
   module _ (ok : ℕ → Type 0) (dummies : (n : ℕ) → is_scalar_dummy (symbol_at c.callee.symbols n) ≡ true → ok n) where
     each_fine : (r : Region) → IsFine (IsNamedBy Name c.caller.names) Anything r → (ls : List CalleeLink) → AreLinked ls → AreFine N ok (map (by_link c r) ls)
     each_fine r h [] k = tt
     each_fine r h (l ∷ ls) k =
         let q = subscripts_of c r.variable in
-        ((k.0.named, one_to (IsNeat (IsPlaceOf Anything)) (IsNeat (IsPlaceOf ok)) (piece_in_callee c l.moved q l.rows) (piece_neat Name c few long ok dummies l.moved q l.rows k.0.rows) r.pieces h.1), each_fine r h ls k.1)
+        ((k.0.named, few_map (IsNeat (IsPlaceOf Anything)) (IsNeat (IsPlaceOf ok)) (piece_in_callee c l.moved q l.rows) (piece_neat Name c few long ok dummies l.moved q l.rows k.0.rows) r.pieces h.1), each_fine r h ls k.1)
 
     pub in_callee_fine : (units : List ℕ → ℕ) (r : Region) → IsFine (IsNamedBy Name c.caller.names) Anything r → AreFine N ok (to_callee units c r)
     in_callee_fine units r h = united_fine N ok (map (by_link c r) (callee_links units c r.variable)) (each_fine r h (callee_links units c r.variable) (links_fine units r.variable h.0))

@@ -1,5 +1,5 @@
 -- The variables of OUT regions: of what is used of WRITE regions, of what later iterations read, and of the rest of a list.
-use Rattle.std.proofs.Common.{◌≡◌, ◌⊎◌, inl, inr, ⊎_elim, ℕ, Bool, true, false, ◌&&◌, ◌||◌, List, [], ◌∷◌, ◌++◌, map, Option, Some, None, refl, sym, subst}
+use Rattle.std.proofs.Common.{◌≡◌, ◌⊎◌, inl, inr, ⊎_elim, ℕ, ◌≤◌, Bool, true, false, List, [], ◌∷◌, length, map, Option, Some, None, arith, refl, sym, subst}
 use Rattle.std.specs.Prelude.{if◌then◌else◌, ℤ}
 use Rattle.std.specs.List.{AllByRecursion}
 use Rattle.affine_systems.specs.declared.row.Var.{Var}
@@ -21,22 +21,23 @@ use Rattle.preconditions.specs.transformer_algebra.Transformers.{without, apply}
 use Rattle.preconditions.proofs.TransformerAlgebra.HalfLaws.{to_cells_cell, to_cells_exit, phi_stays}
 use Rattle.in_out_regions.specs.region_sets.declared.range.Range.{Range}
 use Rattle.in_out_regions.specs.region_sets.declared.region.Region.{Region}
-use Rattle.in_out_regions.specs.region_sets.Regions.{hull_of}
-use Rattle.in_out_regions.specs.region_sets.Sets.{live, live_pieces}
+use Rattle.in_out_regions.specs.region_sets.Trim.{trim}
+use Rattle.in_out_regions.specs.region_sets.Sets.{all_trimmed}
+use Rattle.in_out_regions.proofs.RegionSets.TrimLaws.{trim_few}
 use Rattle.in_out_regions.specs.Kinds.{is_write}
 use Rattle.in_out_regions.specs.Lists.{all_unwritten}
-use Rattle.loop_marker.specs.out_regions.Used.{as_out, all_out, is_used_beside, used_pieces, is_none, unless_empty, met_with, used_of, if_write, used}
+use Rattle.loop_marker.specs.out_regions.Used.{as_out, all_out, is_used_beside, joined, used_joined, used_in, each_met, unless_empty, met_with, used_of, if_write, used}
 use Rattle.loop_marker.specs.out_regions.Lists.{writes, applied, all_applied, left_over}
 use Rattle.loop_marker.specs.out_regions.Later.{later_from, later_rows_by, later_rows, is_steady, later_index, later_piece, later, all_later}
 use Rattle.laws_lines.specs.Variables.{IsCellOf}
 use Rattle.laws_lines.specs.Halves.{IsHalfOf}
 use Rattle.laws_lines.proofs.SystemVars.{IsNeat, AreGiven, system_more, meet_neat, push_rows_neat, project_neat, rename_neat}
-use Rattle.laws_lines.proofs.FormVars.{FormOf, infeasible_neat}
+use Rattle.laws_lines.proofs.FormVars.{FormOf}
 use Rattle.laws_lines.proofs.RuleVars.{IsDone, without_neat}
-use Rattle.laws_lines.specs.Regions.Places.{IsPlaceOf, IsOne}
+use Rattle.laws_lines.specs.Regions.Places.{IsPlaceOf}
 use Rattle.laws_lines.proofs.Regions.PieceVars.{IsRangeOf}
-use Rattle.laws_lines.proofs.Regions.RegionVars.{map_all, one_map, AtMostOne, one_live, IsFine, AreFine, mapped_fine, all_live}
-use Rattle.laws_lines.proofs.Ins.Differences.{one_of, hulls_neat}
+use Rattle.laws_lines.proofs.Regions.RegionVars.{map_all, trim_neat, IsFine, AreFine, mapped_fine, unite_fine, all_trimmed_fine}
+use Rattle.laws_lines.proofs.Ins.Differences.{MaybeFine}
 use Rattle.laws_lines.proofs.Ins.InSets.{unwritten_fine}
 use Rattle.laws_lines.proofs.Ins.Iterations.{within_given, beyond_given, form_s, renamed_s}
 use Rattle.fx_lists.proofs.Lists.{each_append as both_all}
@@ -52,33 +53,38 @@ module _ (N : Variable → Type 0) (ok : ℕ → Type 0) where
   F rs = AreFine N ok rs
 
   pub out_fine : (rs : List Region) → F rs → F (all_out rs)
-  out_fine rs h = map_all (IsFine N ok) as_out (λ r i. i) (live rs) (all_live N ok rs h)
+  out_fine rs h = map_all (IsFine N ok) as_out (λ r i. i) (all_trimmed rs) (all_trimmed_fine N ok rs h)
 
-  pieces_used : (v : Variable) (us : List Region) → F us → AllByRecursion (IsNeat P) (used_pieces v us)
-  pieces_used v [] h = tt
-  pieces_used v (u ∷ us) h =
-      let others = pieces_used v us h.1 in
-      if_cases (AllByRecursion (IsNeat P)) (same_variable v u.variable) (u.pieces ++ used_pieces v us) (used_pieces v us) (λ e. both_all (IsNeat P) u.pieces (used_pieces v us) (one_of P u.pieces h.0.1) others) (λ e. others)
+  joined_fine : (o : Option Region) (u : Region) → MaybeFine N ok o → IsFine N ok u → IsFine N ok (joined o u)
+  joined_fine None u h k = k
+  joined_fine (Some r) u h k = unite_fine N ok r (as_out u) h k
 
-  hull_used : (ss : List System) → AllByRecursion (IsNeat P) ss → IsNeat P (hull_of ss)
-  hull_used [] h = infeasible_neat P
-  hull_used (s ∷ ss) h = hulls_neat P s ss h.0 h.1
+  in_fine : (v : Variable) (o : Option Region) (us : List Region) → MaybeFine N ok o → F us → MaybeFine N ok (used_joined v o us)
+  in_fine v o [] h k = h
+  in_fine v o (u ∷ us) h k =
+      if_cases (MaybeFine N ok) (same_variable v u.variable) (used_joined v (Some (joined o u)) us) (used_joined v o us) (λ e. in_fine v (Some (joined o u)) us (joined_fine o u h k.0) k.1) (λ e. in_fine v o us h k.1)
 
-  empty_fine : (w : Region) (ss : List System) → N w.variable → AtMostOne (IsNeat P) ss → F (unless_empty w ss)
-  empty_fine w [] n h = tt
-  empty_fine w (s ∷ []) n h = ((n, h), tt)
-  empty_fine w (s ∷ (q ∷ qs)) n h = absurd h
+  meets_neat : (s : System) (ts : List System) → IsNeat P s → AllByRecursion (IsNeat P) ts → AllByRecursion (IsNeat P) (map (λ t. meet s t) ts)
+  meets_neat s [] h k = tt
+  meets_neat s (t ∷ ts) h k = (meet_neat P s t h k.0, meets_neat s ts h k.1)
 
-  met_fine : (w : Region) (us : List System) → IsFine N ok w → AllByRecursion (IsNeat P) us → F (met_with w us)
-  met_fine w us h k =
-      let met = map (λ s. meet s (hull_of us)) w.pieces in
-      if_cases F (is_none us) [] (unless_empty w (live_pieces met)) (λ e. tt)
-      (λ e. empty_fine w (live_pieces met) h.0 (one_live (IsNeat P) met (one_map (IsNeat P) (λ s. meet s (hull_of us)) (λ s i. meet_neat P s (hull_of us) i (hull_used us k)) w.pieces h.1)))
+  each_neat : (ss ts : List System) → AllByRecursion (IsNeat P) ss → AllByRecursion (IsNeat P) ts → AllByRecursion (IsNeat P) (each_met ss ts)
+  each_neat [] ts h k = tt
+  each_neat (s ∷ ss) ts h k = both_all (IsNeat P) (map (λ t. meet s t) ts) (each_met ss ts) (meets_neat s ts h.0 k) (each_neat ss ts h.1 k)
+
+  empty_fine : (w : Region) (ss : List System) → N w.variable → length ss ≤ 4 → AllByRecursion (IsNeat P) ss → F (unless_empty w ss)
+  empty_fine w [] n l h = tt
+  empty_fine w (s ∷ ss) n l h = ((n, ((omega arith, l), h)), tt)
+
+  met_fine : (w : Region) (o : Option Region) → IsFine N ok w → MaybeFine N ok o → F (met_with w o)
+  met_fine w None h k = tt
+  met_fine w (Some u) h k =
+      let met = each_met w.pieces u.pieces in
+      empty_fine w (trim met).pieces h.0 (trim_few met) (trim_neat P met (each_neat w.pieces u.pieces h.1.1 k.1.1))
 
   used_of_fine : (ss : List SymbolTree) (us : List Region) (w : Region) → F us → IsFine N ok w → F (used_of ss us w)
   used_of_fine ss us w h k =
-      let pieces = used_pieces w.variable us in
-      if_cases F (is_used_beside ss us w.variable) (as_out w ∷ []) (met_with w pieces) (λ e. (k, tt)) (λ e. met_fine w pieces k (pieces_used w.variable us h))
+      if_cases F (is_used_beside ss us w.variable) (as_out w ∷ []) (met_with w (used_in w.variable us)) (λ e. (k, tt)) (λ e. met_fine w (used_in w.variable us) k (in_fine w.variable None us tt h))
 
   pub used_fine : (ss : List SymbolTree) (us ws : List Region) → F us → F ws → F (used ss us ws)
   used_fine ss us [] h k = tt
@@ -92,7 +98,7 @@ module _ (N : Variable → Type 0) (ok : ℕ → Type 0) where
   -- ---- a list that may be left
 
   pub left_over_fine : (leaving : Bool) (ws out : List Region) → F ws → F out → F (left_over leaving ws out)
-  left_over_fine leaving ws out h k = if_cases F leaving out (all_unwritten (live ws) out) (λ e. k) (λ e. unwritten_fine N ok (live ws) out (all_live N ok ws h) k)
+  left_over_fine leaving ws out h k = if_cases F leaving out (all_unwritten (all_trimmed ws) out) (λ e. k) (λ e. unwritten_fine N ok (all_trimmed ws) out (all_trimmed_fine N ok ws h) k)
 
   -- ---- after a statement
 

@@ -20,7 +20,8 @@ use Rattle.tracked_cells.specs.Standing.{has_bounds}
 use Rattle.affine_forms.specs.declared.affine.Affine.{Affine}
 use Rattle.affine_forms.specs.Forms.{affine_of}
 use Rattle.affine_forms.specs.Comparisons.{var_form}
-use Rattle.affine_forms.specs.Conditions.{condition_of}
+use Rattle.affine_forms.specs.Conditions.{no_rows, condition_of}
+use Rattle.preconditions.specs.transformer_algebra.Renaming.{of_rows}
 use Rattle.preconditions.specs.call_translation.Scopes.{ScopeTree}
 use Rattle.preconditions.specs.call_translation.Actuals.{named_cell, one_cell}
 use Rattle.in_out_regions.specs.region_sets.declared.region.Access.{Access}
@@ -43,7 +44,7 @@ use Rattle.laws_lines.proofs.CallVars.{named_cell_ok, one_cell_ok}
 use Rattle.laws_lines.proofs.StatementVars.{Scope}
 use Rattle.system_text.specs.Printed.{IsNumber}
 use Rattle.laws_lines.specs.Regions.Places.{IsPlaceOf}
-use Rattle.laws_lines.proofs.Regions.RegionVars.{map_all, IsFine, AreFine, composed_fine, mapped_fine, united_fine}
+use Rattle.laws_lines.proofs.Regions.RegionVars.{map_all, one_few, IsFine, AreFine, composed_fine, mapped_fine, united_fine}
 use Rattle.fx_lists.proofs.Lists.{each_append as both_all}
 use Rattle.f77_ast.proofs.NumberedNames.{number_from-between}
 
@@ -129,13 +130,14 @@ module _ (Name : List ℕ → Type 0) (ok : ℕ → Type 0) (m : ScopeTree) (a :
 
   scalar_fine : (x : Access) (n : ℕ) → IsNumber m.names n → (s : Option SymbolTree) → Fine (scalar_at x n s)
   scalar_fine x n i None = tt
-  scalar_fine x n i (Some s) = if_cases Fine (is_constant s.place) [] (scalar x n ∷ []) (λ e. tt) (λ e. ((i, none_neat P), tt))
+  scalar_fine x n i (Some s) = if_cases Fine (is_constant s.place) [] (scalar x n ∷ []) (λ e. tt) (λ e. ((i, one_few (IsNeat P) no_rows (none_neat P)), tt))
 
   element_fine : (x : Access) (n : ℕ) → IsNumber m.names n → (es : ExprTrees) (s : Option SymbolTree) → symbol_at m.symbols n ≡ s → Fine (element_at m x n es s)
   element_fine x n i es None q = tt
   element_fine x n i es (Some s) q =
       let l = few n s q in
-      if_cases Fine (has_bounds s.bounds) (array_at m x n es s.bounds ∷ []) [] (λ e. ((i, of_rows_neat P (subscript_rows m 1 es s.bounds) (subscripts_given 1 es s.bounds (omega arith) (omega (arith, l)))), tt)) (λ e. tt)
+      let rows = subscript_rows m 1 es s.bounds in
+      if_cases Fine (has_bounds s.bounds) (array_at m x n es s.bounds ∷ []) [] (λ e. ((i, one_few (IsNeat P) (of_rows rows) (of_rows_neat P rows (subscripts_given 1 es s.bounds (omega arith) (omega (arith, l))))), tt)) (λ e. tt)
 
   whole_fine : (x : Access) (y : List ℕ) → Fine (whole m x y)
   whole_fine x y = go (number_from 1 m.names y) refl

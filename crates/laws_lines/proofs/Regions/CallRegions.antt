@@ -19,8 +19,8 @@ use Rattle.in_out_regions.specs.array_regions.Calls.{Callees, actual_reads, actu
 use Rattle.laws_lines.proofs.SystemVars.{IsNeat}
 use Rattle.laws_lines.proofs.StatementVars.{Scope}
 use Rattle.laws_lines.specs.Regions.Names.{SymbolNamed}
-use Rattle.laws_lines.specs.Regions.Places.{IsPlaceOf, IsOne}
-use Rattle.laws_lines.proofs.Regions.RegionVars.{one_shadow, IsFine, AreFine, united_fine}
+use Rattle.laws_lines.specs.Regions.Places.{IsPlaceOf, AreFew}
+use Rattle.laws_lines.proofs.Regions.RegionVars.{few_shadow, IsFine, AreFine, united_fine}
 use Rattle.laws_lines.proofs.Regions.AccessVars.{IsNamedBy, FewBounds, Fine, reads_fine, all_fine}
 use Rattle.laws_lines.proofs.Regions.CalleeVars.{piece_neat}
 use Rattle.laws_lines.proofs.Regions.LinkVars.{MaybeNamed, MaybeLink, link_ok}
@@ -41,7 +41,7 @@ numbered_named Name ss h n = go (nat_eq n 0)
 
 -- ---- summaries
 
--- of the module of this name: whatever symbols it has, its regions have one system each, on subscripts and cells
+-- of the module of this name: whatever symbols it has, its regions have one to four systems each, on subscripts and cells
 pub record SummaryFine (Name : List ℕ → Type 0) (x : List ℕ) (s : SummaryTree (List Region)) : Type 0 where
   pub title : Name x
   pub table : AllByRecursion (SymbolNamed Name) s.symbols
@@ -83,9 +83,9 @@ module _ (Name : List ℕ → Type 0) (ok : ℕ → Type 0) (m : ScopeTree) (a :
       abbrev c : SidesTree
       c = sides m changed untracked x es s.symbols
 
-      maybe_fine : (r : Region) (o : Option Link) → MaybeLink Name ok c a few long o → IsOne (IsNeat (IsPlaceOf Anything)) r.pieces → F (option_to_list (option_map (by_link c r) o))
+      maybe_fine : (r : Region) (o : Option Link) → MaybeLink Name ok c a few long o → AreFew (IsNeat (IsPlaceOf Anything)) r.pieces → F (option_to_list (option_map (by_link c r) o))
       maybe_fine r None h k = tt
-      maybe_fine r (Some l) h k = ((h.named, one_shadow (IsNeat (IsPlaceOf Anything)) (IsNeat (IsPlaceOf ok)) (piece_in_caller c l) (piece_neat ok c a.allows l h.flat h.rows) r.pieces k), tt)
+      maybe_fine r (Some l) h k = ((h.named, few_shadow (IsNeat (IsPlaceOf Anything)) (IsNeat (IsPlaceOf ok)) (piece_in_caller c l) (piece_neat ok c a.allows l h.flat h.rows) r.pieces k), tt)
 
       pub all_fine_in : (rs : List Region) → AreFine (IsNamedBy Name fine.names) Anything rs → F (all_in_caller c rs)
       all_fine_in [] h = tt

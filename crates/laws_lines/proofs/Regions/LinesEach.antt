@@ -13,11 +13,12 @@ use Rattle.in_out_regions.specs.region_sets.declared.region.Region.{Region}
 use Rattle.result_lines.specs.RegionLines.{line_of, set_lines, found_lines, stmt_lines, list_lines, arms_lines, else_lines, loop_lines, entry_lines, region_lines_of}
 use Rattle.system_text.specs.Reading.{Bytes}
 use Rattle.laws_lines.specs.RegionTexts.Reading.{read_region_line}
+use Rattle.laws_lines.specs.RegionTexts.Printed.{as_shown}
 use Rattle.laws_lines.specs.Regions.Lines.{regions_at, regions_found, the_shown, entry_regions, shown_regions, IsLineOf}
 
--- the line of a region is read as that region
+-- the line of a region is read as that region, as it is shown
 abbrev pub IsTold : List Bytes → Region → Type 0
-IsTold names r = read_region_line names (line_of names r) ≡ Some r
+IsTold names r = read_region_line names (line_of names r) ≡ Some (as_shown r)
 
 -- so it is of each region of the set of a statement, and of that of the module
 pub record AreTold (names : List Bytes) (sets : Results (List Region)) : Type 0 where

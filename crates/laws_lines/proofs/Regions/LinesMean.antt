@@ -1,9 +1,8 @@
 -- The lines of the regions of a module are read as what was found.
-use Rattle.std.proofs.Common.{◌≡◌, inl, inr, ℕ, zero, suc, Bool, true, false, ◌||◌, List, [], ◌∷◌, ◌++◌, length, Some, arith, refl, ap, ◌∙◌}
-use Rattle.std.specs.Prelude.{All, map, bytes_eq}
+use Rattle.std.proofs.Common.{◌≡◌, ℕ, zero, suc, Bool, true, false, ◌||◌, List, [], ◌∷◌, ◌++◌, length, arith, refl}
+use Rattle.std.specs.Prelude.{All, bytes_eq}
 use Rattle.std.specs.List.{AllByRecursion, IsDistinct, list_all, list_any}
 use Rattle.std.proofs.lemmas.Bool.{and_from, and_parts, or_parts}
-use Rattle.std.proofs.lemmas.Bool.Decides.{nat_tests}
 use Rattle.f77_ast.specs.DeclTrees.{ParsedTree}
 use Rattle.affine_systems.specs.declared.row.Var.{Var}
 use Rattle.affine_systems.specs.declared.row.Var.TheVariants.{Cell, Exit, Phi, Aux}
@@ -16,17 +15,15 @@ use Rattle.f77_ast.specs.declared.variable.Variable.TheVariants.{Own, Block, Sav
 use Rattle.f77_ast.specs.Symbols.{SymbolTree}
 use Rattle.f77_meaning.specs.Modules.{Known, known_of, symbol_names}
 use Rattle.affine_forms.specs.Scalars.{is_cell}
-use Rattle.preconditions.specs.transformer_algebra.Laws.{In, here, there}
 use Rattle.loop_marker.specs.module_phases.ScalarPhases.{scope_of, analyses}
 use Rattle.loop_marker.specs.module_phases.RegionPhases.{ModuleRegions, all_regions}
 use Rattle.in_out_regions.specs.region_sets.declared.region.Region.{Region}
 use Rattle.system_text.specs.Printed.{is_name, IsNumber, AreNames}
 use Rattle.laws_lines.specs.RegionTexts.Reading.{phi_names}
 use Rattle.laws_lines.specs.RegionTexts.Printed.{AreOther, IsPlaced, ArePlaced, IsOfPlaces, IsPlain, IsCalled, IsReadable}
-use Rattle.laws_lines.specs.RegionTexts.Added.{AreReadable, IsThere, MeansRegion}
-use Rattle.laws_lines.proofs.RegionTexts.LineBack.{same_shown, one_system_lines_read_back}
+use Rattle.laws_lines.specs.RegionTexts.Added.{AreReadable}
+use Rattle.laws_lines.proofs.RegionTexts.LineBack.{region_lines_read_back}
 use Rattle.laws_lines.proofs.RegionTexts.AddedBack.{added_lines_read_back}
-use Rattle.f77_printer.specs.declared.added.Added.{Added}
 use Rattle.laws_programs.specs.Programs.{AreTables}
 use Rattle.laws_lines.specs.NameLaws.{AreWords}
 use Rattle.laws_lines.specs.Variables.{EachVar}
@@ -36,12 +33,12 @@ use Rattle.laws_lines.proofs.RowVars.{Neat}
 use Rattle.laws_lines.proofs.SystemVars.{IsNeat}
 use Rattle.laws_lines.proofs.LineBack.{neat_ordered, cell_number}
 use Rattle.laws_lines.proofs.PhaseVars.{each_all, value_is}
-use Rattle.laws_lines.specs.Regions.Places.{IsPlaceOf, IsOne}
-use Rattle.laws_lines.specs.Regions.Lines.{is_phi, HaveNoPhi, IsRegionLine}
-use Rattle.laws_lines.specs.Regions.LineLaws.{lines_in, RegionsAreReadable, SetLinesMean, RegionLinesMean, RegionLinesMeanRegions}
+use Rattle.laws_lines.specs.Regions.Places.{IsPlaceOf, AreFew}
+use Rattle.laws_lines.specs.Regions.Lines.{is_phi, HaveNoPhi}
+use Rattle.laws_lines.specs.Regions.LineLaws.{RegionsAreReadable, SetLinesMean, RegionLinesMean, RegionLinesMeanRegions}
 use Rattle.laws_lines.proofs.Regions.LinesEach.{IsTold, AreTold, all_lines}
 use Rattle.laws_lines.proofs.Regions.AccessVars.{IsNamedBy}
-use Rattle.laws_lines.proofs.Regions.RegionVars.{AreFine}
+use Rattle.laws_lines.proofs.Regions.RegionVars.{few_more, AreFine}
 use Rattle.laws_lines.proofs.Regions.ProgramRegions.{IsNamedHere, SetsFine, ModuleFine, modules_fine, regions_with}
 use Rattle.laws_lines.proofs.ProgramLines.{HasNames}
 use Rattle.fx_lists.proofs.Lists.{map_length, each_append as both_all}
@@ -93,11 +90,6 @@ tracked_number untracked k n h =
 
 -- ---- regions that are read as they were written
 
-one_piece : (P : System → Type 0) (ss : List System) → IsOne P ss → (s : System) × (ss ≡ s ∷ [])
-one_piece P [] h = absurd h
-one_piece P (s ∷ []) h = (s, refl)
-one_piece P (s ∷ (q ∷ qs)) h = absurd h
-
 module _ (untracked : List BlockUnit) (k : Known) where
   abbrev names : List (List ℕ)
   names = symbol_names k.symbols
@@ -119,18 +111,13 @@ module _ (untracked : List BlockUnit) (k : Known) where
   system_placed s h =
       (neat_ordered (IsPlaceOf ok) s h, all_more (Neat false (IsPlaceOf ok)) (λ r. ArePlaced names r.terms) (λ r i. terms_placed r.terms i.1) s.rows h)
 
-  one_placed : (ss : List System) → IsOne (IsNeat (IsPlaceOf ok)) ss → AllByRecursion (IsOfPlaces names) ss
-  one_placed [] h = absurd h
-  one_placed (s ∷ []) h = (system_placed s h, tt)
-  one_placed (s ∷ (q ∷ qs)) h = absurd h
-
   called : (v : Variable) → IsNamedBy IsPlain names v → IsCalled names v
   called (Own n) h = h
   called (Block b) h = h
   called (Saved s x) h = h
 
-  readable : (r : Region) → IsNamedBy IsPlain names r.variable → IsOne (IsNeat (IsPlaceOf ok)) r.pieces → IsReadable names r
-  readable r h k = record { variable = called r.variable h; systems = one_placed r.pieces k }
+  readable : (r : Region) → IsNamedBy IsPlain names r.variable → AreFew (IsNeat (IsPlaceOf ok)) r.pieces → IsReadable names r
+  readable r h k = record { variable = called r.variable h; systems = (few_more (IsNeat (IsPlaceOf ok)) (IsOfPlaces names) system_placed r.pieces k).1 }
 
   all_readable : (rs : List Region) → AreFine (IsNamedBy IsPlain names) ok rs → AllByRecursion (IsReadable names) rs
   all_readable [] h = tt
@@ -138,38 +125,9 @@ module _ (untracked : List BlockUnit) (k : Known) where
 
   all_told : AreOther names → (rs : List Region) → AreFine (IsNamedBy IsPlain names) ok rs → AllByRecursion (IsTold names) rs
   all_told other [] h = tt
-  all_told other (r ∷ rs) h =
-      let one = one_piece (IsNeat (IsPlaceOf ok)) r.pieces h.0.1 in
-      (one_system_lines_read_back names r one.0 one.1 other (readable r h.0.0 h.0.1), all_told other rs h.1)
+  all_told other (r ∷ rs) h = (region_lines_read_back names r other (readable r h.0.0 h.0.1), all_told other rs h.1)
 
 -- ---- modules
-
-in_one : (such : Var → Type 0) (rs : List Region) (r : Region) → In r rs → AllByRecursion (λ (q : Region). IsOne (IsNeat such) q.pieces) rs → IsOne (IsNeat such) r.pieces
-in_one such [] r i h = elim i [ ]
-in_one such (q ∷ rs) r here h = h.0
-in_one such (q ∷ rs) r (there i) h = in_one such rs r i h.1
-
-ones : (N : Variable → Type 0) (ok : ℕ → Type 0) (rs : List Region) → AreFine N ok rs → AllByRecursion (λ (q : Region). IsOne (IsNeat (IsPlaceOf ok)) q.pieces) rs
-ones N ok [] h = tt
-ones N ok (r ∷ rs) h = (h.0.1, ones N ok rs h.1)
-
-module _ (untracked : List BlockUnit) (known : Known) (sets : Results (List Region)) (fine : SetsFine IsPlain untracked known sets) where
-  abbrev N : Variable → Type 0
-  N = IsNamedHere IsPlain known
-
-  abbrev tracked : ℕ → Type 0
-  tracked = IsTracked untracked known
-
-  there_one : (n : ℕ) (r : Region) → IsThere sets n r → IsOne (IsNeat (IsPlaceOf tracked)) r.pieces
-  there_one n r (inl i) = in_one (IsPlaceOf tracked) i.0 r i.2 (ones N tracked i.0 (value_is (AreFine N tracked) sets.at n i.0 fine.at i.1))
-  there_one n r (inr i) = in_one (IsPlaceOf tracked) sets.summary r i.1 (ones N tracked sets.summary fine.summary)
-
-  all_just : (xs : List Added) → AllByRecursion (MeansRegion (symbol_names known.symbols) sets) xs → AllByRecursion (IsRegionLine (symbol_names known.symbols) sets) xs
-  all_just [] h = tt
-  all_just (x ∷ xs) h =
-      let r = h.0.0 in
-      let one = one_piece (IsNeat (IsPlaceOf tracked)) r.pieces (there_one x.before r h.0.2) in
-      ((r, h.0.1 ∙ ap Some (same_shown r one.0 one.1), h.0.2), all_just xs h.1)
 
 sets_readable : (untracked : List BlockUnit) (k : Known) (sets : Results (List Region)) → SetsFine IsPlain untracked k sets → AreReadable (symbol_names k.symbols) sets
 sets_readable untracked k sets h = record {
@@ -177,7 +135,7 @@ sets_readable untracked k sets h = record {
   summary = all_readable untracked k sets.summary h.summary;
 }
 
--- the line of each of its regions is read as that region
+-- the line of each of its regions is read as that region, as it is shown
 sets_told : (untracked : List BlockUnit) (k : Known) (sets : Results (List Region)) → SetsFine IsPlain untracked k sets → AreOther (symbol_names k.symbols) → AreTold (symbol_names k.symbols) sets
 sets_told untracked k sets h other = record {
   at = λ n rs e. all_told untracked k other rs (value_is (AreFine (IsNamedHere IsPlain k) (IsTracked untracked k)) sets.at n rs h.at e);
@@ -188,7 +146,7 @@ pub sets_mean : (untracked : List BlockUnit) (k : Known) (sets : Results (List R
 sets_mean untracked k sets h are none =
     let names = symbol_names k.symbols in
     let other = others names are none in (
-      all_just untracked k sets h (lines_in k sets) (added_lines_read_back k.read.main k.read.body names sets other (sets_readable untracked k sets h)),
+      added_lines_read_back k.read.main k.read.body names sets other (sets_readable untracked k sets h),
       all_lines names sets (sets_told untracked k sets h other) k.read,
     )
 

@@ -2,7 +2,6 @@
 use Rattle.affine_forms.specs.Scalars.{flag_of, is_cell, if_cell}
 use Rattle.affine_systems.specs.declared.row.Var.{Var}
 use Rattle.affine_systems.specs.declared.row.Var.TheVariants.{Cell, Exit, Phi, Aux}
-use Rattle.affine_systems.specs.declared.row.System.{System}
 use Rattle.call_graph.specs.declared.graph.Graph.{Graph}
 use Rattle.preconditions.specs.call_translation.Common.{is_unit}
 use Rattle.in_out_regions.specs.array_regions.Calls.{Callees}
@@ -31,12 +30,12 @@ use Rattle.laws_programs.specs.Programs.{AreTables}
 use Rattle.laws_lines.proofs.Regions.AccessVars.{IsNamedBy, FewBounds, Fine}
 use Rattle.laws_lines.proofs.Regions.CallRegions.{MaybeFine, CalleesFine, call_fine}
 use Rattle.laws_lines.proofs.Regions.Indexes.{indexes_are_symbols}
-use Rattle.laws_lines.proofs.Regions.RegionVars.{AreFine}
+use Rattle.laws_lines.proofs.Regions.RegionVars.{few_more, AreFine}
 use Rattle.laws_lines.proofs.Regions.StatementRegions.{list_at_fine, summary_fine}
 use Rattle.laws_lines.specs.Regions.Indexes.{counts_other}
 use Rattle.laws_lines.specs.Regions.Names.{PlaceNamed, SymbolNamed, IsNamed, AreNamed}
 use Rattle.laws_lines.specs.Regions.Laws.{AreOverPlaces, SetsAreOver, RegionsAreOver, RegionsAreOverPlaces}
-use Rattle.laws_lines.specs.Regions.Places.{IsPlaceOf, IsOne}
+use Rattle.laws_lines.specs.Regions.Places.{IsPlaceOf, AreFew}
 use Rattle.laws_programs.proofs.SymbolTables.Answers.{Answered, lines_in, layout_in, found_none, answered_by}
 use Rattle.laws_programs.proofs.SymbolTables.NameRefusals.{shapes_back}
 use Rattle.laws_programs.proofs.SymbolTables.StatementRefusals.{stmts_back}
@@ -173,14 +172,9 @@ module _ (W : Known → Type 0) where
 
 -- ---- the regions of its modules
 
-one_over : (such : Var → Type 0) (ss : List System) → IsOne (IsNeat such) ss → IsOne (IsOver such) ss
-one_over such [] h = absurd h
-one_over such (s ∷ []) h = neat_over such s h
-one_over such (s ∷ (q ∷ qs)) h = absurd h
-
-all_over : (N : Variable → Type 0) (ok : ℕ → Type 0) (rs : List Region) → AreFine N ok rs → AllByRecursion (λ (r : Region). IsOne (IsOver (IsPlaceOf ok)) r.pieces) rs
+all_over : (N : Variable → Type 0) (ok : ℕ → Type 0) (rs : List Region) → AreFine N ok rs → AllByRecursion (λ (r : Region). AreFew (IsOver (IsPlaceOf ok)) r.pieces) rs
 all_over N ok [] h = tt
-all_over N ok (r ∷ rs) h = (one_over (IsPlaceOf ok) r.pieces h.0.1, all_over N ok rs h.1)
+all_over N ok (r ∷ rs) h = (few_more (IsNeat (IsPlaceOf ok)) (IsOver (IsPlaceOf ok)) (neat_over (IsPlaceOf ok)) r.pieces h.0.1, all_over N ok rs h.1)
 
 at_each : {T : Type 0} (P Q : T → Type 0) → ((x : T) → P x → Q x) → (xs : List (At T)) → AllAt P xs → EachOf (λ (x : At T). Q x.value) xs
 at_each P Q f [] h = tt
@@ -236,15 +230,10 @@ module _ (Name : List ℕ → Type 0) where
   any_cell ok (Phi n) h = h
   any_cell ok (Aux n) h = absurd h
 
-  one_more : (P Q : System → Type 0) → ((s : System) → P s → Q s) → (ss : List System) → IsOne P ss → IsOne Q ss
-  one_more P Q f [] h = absurd h
-  one_more P Q f (s ∷ []) h = f s h
-  one_more P Q f (s ∷ (q ∷ qs)) h = absurd h
-
   pub any_fine : (N : Variable → Type 0) (ok : ℕ → Type 0) (rs : List Region) → AreFine N ok rs → AreFine N Every rs
   any_fine N ok [] h = tt
   any_fine N ok (r ∷ rs) h =
-      ((h.0.0, one_more (IsNeat (IsPlaceOf ok)) (IsNeat (IsPlaceOf Every)) (system_more (IsPlaceOf ok) (IsPlaceOf Every) (any_cell ok)) r.pieces h.0.1), any_fine N ok rs h.1)
+      ((h.0.0, few_more (IsNeat (IsPlaceOf ok)) (IsNeat (IsPlaceOf Every)) (system_more (IsPlaceOf ok) (IsPlaceOf Every) (any_cell ok)) r.pieces h.0.1), any_fine N ok rs h.1)
 
   pub more_callees : (untracked : List BlockUnit) (k : Known) (sets : Results (List Region)) (cs : Callees) → IsNamed Name k → SetsFine untracked k sets → CalleesFine Name cs
       → CalleesFine Name (λ x. if bytes_eq k.read.name x then Some (record { symbols = k.symbols; value = sets.summary }) else cs x)

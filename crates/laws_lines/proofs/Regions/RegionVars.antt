@@ -1,5 +1,5 @@
 -- The variables of regions and of sets of regions.
-use Rattle.std.proofs.Common.{◌≡◌, ℕ, Bool, false, List, [], ◌∷◌, ◌++◌, Option, Some, None, refl}
+use Rattle.std.proofs.Common.{◌≡◌, ℕ, ◌≤◌, Bool, false, ◌&&◌, List, [], ◌∷◌, ◌++◌, length, Option, Some, None, arith, refl}
 use Rattle.std.specs.Prelude.{if◌then◌else◌, map}
 use Rattle.std.specs.List.{AllByRecursion}
 use Rattle.std.specs.declared.cmp.Ordering.{Ordering}
@@ -9,7 +9,6 @@ use Rattle.affine_systems.specs.declared.row.Var.{Var}
 use Rattle.affine_systems.specs.declared.row.System.{System}
 use Rattle.affine_systems.proofs.Basics.{if_cases}
 use Rattle.hull_projection.specs.declared.projection.Shadow.{Shadow}
-use Rattle.hull_projection.specs.Refute.{refuted}
 use Rattle.f77_ast.specs.Trees.{StmtTrees}
 use Rattle.f77_ast.specs.declared.variable.Variable.{Variable}
 use Rattle.f77_ast.specs.declared.results.At.{At}
@@ -19,18 +18,24 @@ use Rattle.preconditions.specs.transformers.Jumps.{unstructured}
 use Rattle.preconditions.specs.transformers.Lists.{value_at, list_at}
 use Rattle.in_out_regions.specs.region_sets.declared.range.Range.{Range}
 use Rattle.in_out_regions.specs.region_sets.declared.region.Region.{Region}
-use Rattle.in_out_regions.specs.region_sets.Regions.{remade, systems, hull_of}
-use Rattle.in_out_regions.specs.region_sets.Unite.{all_within, unite}
-use Rattle.in_out_regions.specs.region_sets.Sets.{region_cmp, live_pieces, with_pieces, with_region, with_live, with_regions, live, unite_all}
+use Rattle.in_out_regions.specs.region_sets.Regions.{remade, systems}
+use Rattle.in_out_regions.specs.region_sets.Live.{IsFew}
+use Rattle.in_out_regions.specs.region_sets.Trim.{trim, or_infeasible, trimmed_to}
+use Rattle.in_out_regions.specs.region_sets.Within.{all_within}
+use Rattle.in_out_regions.specs.region_sets.Unite.{unite}
+use Rattle.in_out_regions.specs.region_sets.Sets.{region_cmp, with_pieces, if_left, with_region, with_trimmed, with_regions, all_trimmed, unite_all}
 use Rattle.in_out_regions.specs.region_sets.Compose.{compose_piece, compose}
 use Rattle.in_out_regions.specs.region_sets.Loops.{loop_piece, over_loop}
 use Rattle.in_out_regions.specs.region_sets.Lists.{is_access, accesses, or_none, accesses_at, all_composed, in_order, forgetting, all_forgetting, all_accesses, inexact, in_any_order, numbers, list_regions}
+use Rattle.in_out_regions.proofs.RegionSets.TrimLaws.{trim_few}
+use Rattle.in_out_regions.proofs.RegionSets.KeptLaws.{trim_are, trimmed_are}
 use Rattle.laws_lines.proofs.SystemVars.{IsNeat}
+use Rattle.laws_lines.proofs.FormVars.{infeasible_neat}
 use Rattle.laws_lines.proofs.HullVars.{hull_neat}
 use Rattle.laws_lines.proofs.RuleVars.{IsDone, without_neat}
-use Rattle.laws_lines.specs.Regions.Places.{IsPlaceOf, IsOne}
+use Rattle.laws_lines.specs.Regions.Places.{IsPlaceOf, AreFew}
 use Rattle.laws_lines.proofs.Regions.PieceVars.{IsRangeOf, compose_neat, loop_neat}
-use Rattle.fx_lists.proofs.Lists.{each_append as both_all}
+use Rattle.fx_lists.proofs.Lists.{map_length, each_append as both_all}
 
 -- ---- lists
 
@@ -38,66 +43,91 @@ pub map_all : {A : Type 0} (P : A → Type 0) (f : A → A) → ((x : A) → P x
 map_all P f g [] h = tt
 map_all P f g (x ∷ xs) h = (g x h.0, map_all P f g xs h.1)
 
--- ---- one system
+-- ---- one to four systems
 
-pub one_map : (P : System → Type 0) (f : System → System) → ((s : System) → P s → P (f s)) → (ss : List System) → IsOne P ss → IsOne P (map f ss)
-one_map P f g [] h = absurd h
-one_map P f g (s ∷ []) h = g s h
-one_map P f g (s ∷ (q ∷ qs)) h = absurd h
+pub one_few : (P : System → Type 0) (s : System) → P s → AreFew P (s ∷ [])
+one_few P s h = ((omega arith, omega arith), (h, tt))
 
-pub one_shadow : (P Q : System → Type 0) (f : System → Shadow) → ((s : System) → P s → Q (f s).system) → (ss : List System) → IsOne P ss → IsOne Q (systems (map f ss))
-one_shadow P Q f g [] h = absurd h
-one_shadow P Q f g (s ∷ []) h = g s h
-one_shadow P Q f g (s ∷ (q ∷ qs)) h = absurd h
+each_map : (P Q : System → Type 0) (f : System → System) → ((s : System) → P s → Q (f s)) → (ss : List System) → AllByRecursion P ss → AllByRecursion Q (map f ss)
+each_map P Q f g [] h = tt
+each_map P Q f g (s ∷ ss) h = (g s h.0, each_map P Q f g ss h.1)
 
-one_hull : (such : Var → Type 0) (ss qs : List System) → IsOne (IsNeat such) ss → IsOne (IsNeat such) qs → IsNeat such (hull_of (ss ++ qs))
-one_hull such [] qs h k = absurd h
-one_hull such (s ∷ (r ∷ rs)) qs h k = absurd h
-one_hull such (s ∷ []) [] h k = absurd k
-one_hull such (s ∷ []) (q ∷ []) h k = hull_neat such s q h k
-one_hull such (s ∷ []) (q ∷ (r ∷ rs)) h k = absurd k
+pub few_map : (P Q : System → Type 0) (f : System → System) → ((s : System) → P s → Q (f s)) → (ss : List System) → AreFew P ss → AreFew Q (map f ss)
+few_map P Q f g ss h =
+    let n = map_length f ss in
+    let some = h.0.0 in
+    let four = h.0.1 in
+    ((omega (arith, n, some), omega (arith, n, four)), each_map P Q f g ss h.1)
 
--- none or one
-abbrev pub AtMostOne : (System → Type 0) → List System → Type 0
-AtMostOne P [] = Unit {0}
-AtMostOne P (s ∷ []) = P s
-AtMostOne P (s ∷ (q ∷ qs)) = ⊥
+each_shadow : (P Q : System → Type 0) (f : System → Shadow) → ((s : System) → P s → Q (f s).system) → (ss : List System) → AllByRecursion P ss → AllByRecursion Q (systems (map f ss))
+each_shadow P Q f g [] h = tt
+each_shadow P Q f g (s ∷ ss) h = (g s h.0, each_shadow P Q f g ss h.1)
 
-pub one_live : (P : System → Type 0) (ss : List System) → IsOne P ss → AtMostOne P (live_pieces ss)
-one_live P [] h = absurd h
-one_live P (s ∷ []) h = if_cases (AtMostOne P) (refuted s.rows) [] (s ∷ []) (λ e. tt) (λ e. h)
-one_live P (s ∷ (q ∷ qs)) h = absurd h
+pub few_shadow : (P Q : System → Type 0) (f : System → Shadow) → ((s : System) → P s → Q (f s).system) → (ss : List System) → AreFew P ss → AreFew Q (systems (map f ss))
+few_shadow P Q f g ss h =
+    let n = map_length (λ (q : Shadow). q.system) (map f ss) in
+    let m = map_length f ss in
+    let some = h.0.0 in
+    let four = h.0.1 in
+    ((omega (arith, n, m, some), omega (arith, n, m, four)), each_shadow P Q f g ss h.1)
 
--- ---- regions of such variables, each of one system over such places
+each_more : (P Q : System → Type 0) → ((s : System) → P s → Q s) → (ss : List System) → AllByRecursion P ss → AllByRecursion Q ss
+each_more P Q f [] h = tt
+each_more P Q f (s ∷ ss) h = (f s h.0, each_more P Q f ss h.1)
+
+pub few_more : (P Q : System → Type 0) → ((s : System) → P s → Q s) → (ss : List System) → AreFew P ss → AreFew Q ss
+few_more P Q f ss h = (h.0, each_more P Q f ss h.1)
+
+-- ---- what trimming leaves
+
+pub trim_neat : (such : Var → Type 0) (ss : List System) → AllByRecursion (IsNeat such) ss → AllByRecursion (IsNeat such) (trim ss).pieces
+trim_neat such ss h = trim_are (IsNeat such) (hull_neat such) ss h
+
+few_or : (ss : List System) → length ss ≤ 4 → IsFew (or_infeasible ss)
+few_or [] h = (omega arith, omega arith)
+few_or (s ∷ ss) h = (omega arith, h)
+
+trimmed_few : (such : Var → Type 0) (ss : List System) → AllByRecursion (IsNeat such) ss → AreFew (IsNeat such) (or_infeasible (trim ss).pieces)
+trimmed_few such ss h = (few_or (trim ss).pieces (trim_few ss), trimmed_are (IsNeat such) (hull_neat such) (infeasible_neat such) ss h)
+
+-- ---- regions of such variables, each of one to four systems over such places
 
 module _ (N : Variable → Type 0) (ok : ℕ → Type 0) where
+  abbrev P : System → Type 0
+  P = IsNeat (IsPlaceOf ok)
+
   abbrev pub IsFine : Region → Type 0
-  IsFine r = N r.variable × IsOne (IsNeat (IsPlaceOf ok)) r.pieces
+  IsFine r = N r.variable × AreFew (IsNeat (IsPlaceOf ok)) r.pieces
 
   abbrev pub AreFine : List Region → Type 0
   AreFine rs = AllByRecursion IsFine rs
 
   pub composed_fine : (t : Transformer) → IsDone ok t → (r : Region) → IsFine r → IsFine (compose r t)
-  composed_fine t d r h = (h.0, one_shadow (IsNeat (IsPlaceOf ok)) (IsNeat (IsPlaceOf ok)) (compose_piece t) (compose_neat ok t d) r.pieces h.1)
+  composed_fine t d r h = (h.0, trimmed_few (IsPlaceOf ok) (systems (map (compose_piece t) r.pieces)) (each_shadow P P (compose_piece t) (compose_neat ok t d) r.pieces h.1.1))
 
   pub looped_fine : (g : Range) → IsRangeOf ok g → (r : Region) → IsFine r → IsFine (over_loop r g)
-  looped_fine g p r h = (h.0, one_shadow (IsNeat (IsPlaceOf ok)) (IsNeat (IsPlaceOf ok)) (loop_piece g) (loop_neat ok g p) r.pieces h.1)
+  looped_fine g p r h = (h.0, trimmed_few (IsPlaceOf ok) (systems (map (loop_piece g) r.pieces)) (each_shadow P P (loop_piece g) (loop_neat ok g p) r.pieces h.1.1))
 
   -- another system for each
   pub mapped_fine : (f : System → System) → ((s : System) → IsNeat (IsPlaceOf ok) s → IsNeat (IsPlaceOf ok) (f s)) → (e : Bool) (r : Region) → IsFine r → IsFine (remade r e (map f r.pieces))
-  mapped_fine f g e r h = (h.0, one_map (IsNeat (IsPlaceOf ok)) f g r.pieces h.1)
+  mapped_fine f g e r h = (h.0, few_map P P f g r.pieces h.1)
 
-  unite_fine : (a b : Region) → IsFine a → IsFine b → IsFine (unite a b)
+  pub unite_fine : (a b : Region) → IsFine a → IsFine b → IsFine (unite a b)
   unite_fine a b h k =
-      if_cases IsFine (all_within a.pieces b.pieces) (remade a a.exact a.pieces) (if all_within b.pieces a.pieces then remade b b.exact b.pieces else remade a false (hull_of (a.pieces ++ b.pieces) ∷ [])) (λ e. h)
-      (λ e. if_cases IsFine (all_within b.pieces a.pieces) (remade b b.exact b.pieces) (remade a false (hull_of (a.pieces ++ b.pieces) ∷ [])) (λ i. k) (λ i. (h.0, one_hull (IsPlaceOf ok) a.pieces b.pieces h.1 k.1)))
+      let both = trimmed_to a (a.exact && b.exact) (a.pieces ++ b.pieces) in
+      if_cases IsFine (all_within a.pieces b.pieces) (remade a a.exact a.pieces) (if all_within b.pieces a.pieces then remade b b.exact b.pieces else both) (λ e. h)
+      (λ e. if_cases IsFine (all_within b.pieces a.pieces) (remade b b.exact b.pieces) both (λ i. k)
+      (λ i. (h.0, trimmed_few (IsPlaceOf ok) (a.pieces ++ b.pieces) (both_all P a.pieces b.pieces h.1.1 k.1.1))))
 
   -- ---- sets
 
-  pieces_fine : (r : Region) → N r.variable → (ss : List System) → AtMostOne (IsNeat (IsPlaceOf ok)) ss → (k : Region → List Region) (none : List Region) → ((q : Region) → IsFine q → AreFine (k q)) → AreFine none → AreFine (with_pieces r ss k none)
-  pieces_fine r n [] h k none f g = g
-  pieces_fine r n (s ∷ []) h k none f g = f (remade r r.exact (s ∷ [])) (n, h)
-  pieces_fine r n (s ∷ (q ∷ qs)) h k none f g = absurd h
+  pieces_fine : (r : Region) → N r.variable → (e : Bool) (ss : List System) → length ss ≤ 4 → AllByRecursion P ss → (k : Region → List Region) (none : List Region) → ((q : Region) → IsFine q → AreFine (k q)) → AreFine none
+      → AreFine (with_pieces r e ss k none)
+  pieces_fine r n e [] l h k none f g = g
+  pieces_fine r n e (s ∷ ss) l h k none f g = f (remade r e (s ∷ ss)) (n, ((omega arith, l), h))
+
+  left_fine : (r : Region) → IsFine r → (k : Region → List Region) (none : List Region) → ((q : Region) → IsFine q → AreFine (k q)) → AreFine none → AreFine (if_left r k none)
+  left_fine r h k none f g = pieces_fine r h.0 (r.exact && (trim r.pieces).exact) (trim r.pieces).pieces (trim_few r.pieces) (trim_neat (IsPlaceOf ok) r.pieces h.1.1) k none f g
 
   region_fine : (r : Region) (qs : List Region) → IsFine r → AreFine qs → AreFine (with_region r qs)
   region_fine r [] h k = (h, tt)
@@ -108,21 +138,19 @@ module _ (N : Variable → Type 0) (ok : ℕ → Type 0) where
       go Equal ih = (unite_fine q r k.0 h, k.1)
       go Greater ih = (k.0, ih)
 
-  live_fine : (r : Region) (qs : List Region) → IsFine r → AreFine qs → AreFine (with_live r qs)
-  live_fine r qs h k = pieces_fine r h.0 (live_pieces r.pieces) (one_live (IsNeat (IsPlaceOf ok)) r.pieces h.1) (λ s. with_region s qs) qs (λ q i. region_fine q qs i k) k
+  trimmed_fine : (r : Region) (qs : List Region) → IsFine r → AreFine qs → AreFine (with_trimmed r qs)
+  trimmed_fine r qs h k = left_fine r h (λ s. with_region s qs) qs (λ q i. region_fine q qs i k) k
 
   regions_fine : (qs rs : List Region) → AreFine qs → AreFine rs → AreFine (with_regions qs rs)
   regions_fine qs [] h k = h
-  regions_fine qs (r ∷ rs) h k = regions_fine (with_live r qs) rs (live_fine r qs k.0 h) k.1
+  regions_fine qs (r ∷ rs) h k = regions_fine (with_trimmed r qs) rs (trimmed_fine r qs k.0 h) k.1
 
-  pub all_live : (rs : List Region) → AreFine rs → AreFine (live rs)
-  all_live [] h = tt
-  all_live (r ∷ rs) h =
-      let others = all_live rs h.1 in
-      pieces_fine r h.0.0 (live_pieces r.pieces) (one_live (IsNeat (IsPlaceOf ok)) r.pieces h.0.1) (λ s. s ∷ live rs) (live rs) (λ q i. (i, others)) others
+  pub all_trimmed_fine : (rs : List Region) → AreFine rs → AreFine (all_trimmed rs)
+  all_trimmed_fine [] h = tt
+  all_trimmed_fine (r ∷ rs) h = let others = all_trimmed_fine rs h.1 in left_fine r h.0 (λ s. s ∷ all_trimmed rs) (all_trimmed rs) (λ q i. (i, others)) others
 
   pub united_fine : (rs : List Region) → AreFine rs → AreFine (unite_all rs)
-  united_fine rs h = all_live (with_regions [] rs) (regions_fine [] rs tt h)
+  united_fine rs h = all_trimmed_fine (with_regions [] rs) (regions_fine [] rs tt h)
 
   -- ---- lists of statements
 

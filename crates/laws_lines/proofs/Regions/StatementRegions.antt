@@ -27,6 +27,8 @@ use Rattle.in_out_regions.specs.array_regions.Loops.{range_of, loop_reads, all_o
 use Rattle.in_out_regions.specs.array_regions.Calls.{Called}
 use Rattle.in_out_regions.specs.array_regions.Statement.{stmt_set, what_set, arm_sets, arm_set, else_set, body_set, at_stmt, at_parts, at_list, at_arms, at_arm, at_else, at_loop, list_set}
 use Rattle.in_out_regions.specs.array_regions.Entry.{bounds_reads, symbols_reads, locals, for_callers, seen, summary_of}
+use Rattle.affine_forms.specs.Conditions.{no_rows}
+use Rattle.laws_lines.proofs.SystemVars.{IsNeat}
 use Rattle.laws_lines.proofs.FormVars.{none_neat}
 use Rattle.laws_lines.proofs.RuleVars.{IsDone, AreDone, without_neat}
 use Rattle.laws_lines.proofs.LoopVars.{iteration_done}
@@ -36,7 +38,7 @@ use Rattle.system_text.specs.Printed.{IsNumber}
 use Rattle.laws_lines.specs.Regions.Indexes.{has_other_index, counts_other}
 use Rattle.laws_lines.specs.Regions.Places.{IsPlaceOf}
 use Rattle.laws_lines.proofs.Regions.PieceVars.{IsRangeOf}
-use Rattle.laws_lines.proofs.Regions.RegionVars.{map_all, IsFine, looped_fine, mapped_fine, united_fine, at_fine, list_fine}
+use Rattle.laws_lines.proofs.Regions.RegionVars.{map_all, one_few, IsFine, looped_fine, mapped_fine, united_fine, at_fine, list_fine}
 use Rattle.laws_lines.proofs.Regions.AccessVars.{IsNamedBy, named_number, FewBounds, Fine, reads_fine, maybe_fine, assignment_fine, printing_fine, reading_fine, ReachedOk, into_ok, past_ok, all_past_ok, always_ok, met_fine, tests_fine, if_fine}
 use Rattle.fx_lists.proofs.Lists.{each_append as both_all}
 use Rattle.call_graph.specs.Visible.{is_visible_to_callers}
@@ -85,7 +87,7 @@ module _ (Name : List ℕ → Type 0) (ok : ℕ → Type 0) (m : ScopeTree) (a :
       let over = all_over (range_of l m t) rs in
       united_fine IsNamedOne ok (loop_reads l m ++ (scalar Write (range_of l m t).index ∷ over))
       (join (loop_reads l m) (scalar Write (range_of l m t).index ∷ over) (loop_reads_fine l)
-      ((index_number l i, none_neat (IsPlaceOf ok)), map_all (IsFine IsNamedOne ok) (λ r. over_loop r (range_of l m t)) (looped_fine IsNamedOne ok (range_of l m t) (range_is l)) rs h))
+      ((index_number l i, one_few (IsNeat (IsPlaceOf ok)) no_rows (none_neat (IsPlaceOf ok))), map_all (IsFine IsNamedOne ok) (λ r. over_loop r (range_of l m t)) (looped_fine IsNamedOne ok (range_of l m t) (range_is l)) rs h))
 
   -- ---- statements
 

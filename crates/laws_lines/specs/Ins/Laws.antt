@@ -16,7 +16,7 @@ use Rattle.laws_lines.specs.Regions.Names.{AreNamed}
 use Rattle.laws_lines.specs.Regions.Laws.{SetsAreOver}
 use Rattle.laws_lines.specs.Regions.LineLaws.{SetLinesMean, SetLinesPass}
 
--- each has one system, on subscripts and tracked cells of the module
+-- each has one to four systems, each on subscripts and tracked cells of the module
 abbrev pub InsAreOver : List BlockUnit → ModuleIns → Type 0
 InsAreOver untracked f = SetsAreOver untracked f.known.analysis.found.known f.ins
 
@@ -24,7 +24,7 @@ InsAreOver untracked f = SetsAreOver untracked f.known.analysis.found.known f.in
 abbrev pub InsAreOverPlaces : Type 0
 InsAreOverPlaces = (ps : List ParsedTree) (sss : List (List SymbolTree)) (g : Graph) → AreTables ps sss → All (InsAreOver g.untracked) (all_ins g (all_regions g (analyses (known_of ps sss) g)))
 
--- each line is read as just a region that was found there, where no symbol is named as a subscript
+-- each line is read as a region that was found there, as it is shown, where no symbol is named as a subscript
 abbrev pub InLinesMean : ModuleIns → Type 0
 InLinesMean f = SetLinesMean f.known.analysis.found.known f.ins
 

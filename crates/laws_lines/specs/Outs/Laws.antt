@@ -17,7 +17,7 @@ use Rattle.laws_lines.specs.Regions.Names.{AreNamed}
 use Rattle.laws_lines.specs.Regions.Laws.{SetsAreOver}
 use Rattle.laws_lines.specs.Regions.LineLaws.{SetLinesMean, SetLinesPass}
 
--- each has one system, on subscripts and tracked cells of the module
+-- each has one to four systems, each on subscripts and tracked cells of the module
 abbrev pub OutsAreOver : List BlockUnit → ModuleOuts → Type 0
 OutsAreOver untracked f = SetsAreOver untracked f.known.known.analysis.found.known f.outs
 
@@ -25,7 +25,7 @@ OutsAreOver untracked f = SetsAreOver untracked f.known.known.analysis.found.kno
 abbrev pub OutsAreOverPlaces : Type 0
 OutsAreOverPlaces = (ps : List ParsedTree) (sss : List (List SymbolTree)) (g : Graph) → AreTables ps sss → All (OutsAreOver g.untracked) (all_outs g (all_ins g (all_regions g (analyses (known_of ps sss) g))))
 
--- each line is read as just a region that was found there, where no symbol is named as a subscript
+-- each line is read as a region that was found there, as it is shown, where no symbol is named as a subscript
 abbrev pub OutLinesMean : ModuleOuts → Type 0
 OutLinesMean f = SetLinesMean f.known.known.analysis.found.known f.outs
 

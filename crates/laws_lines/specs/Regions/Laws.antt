@@ -14,11 +14,11 @@ use Rattle.loop_marker.specs.module_phases.ScalarPhases.{analyses}
 use Rattle.laws_programs.specs.Programs.{AreTables}
 use Rattle.laws_lines.specs.Variables.{IsOver}
 use Rattle.laws_lines.specs.Laws.{IsTracked}
-use Rattle.laws_lines.specs.Regions.Places.{IsPlaceOf, IsOne}
+use Rattle.laws_lines.specs.Regions.Places.{IsPlaceOf, AreFew}
 
--- each has one system, on subscripts and tracked cells of the module
+-- each has one to four systems, each on subscripts and tracked cells of the module
 abbrev pub AreOverPlaces : List BlockUnit → Known → List Region → Type 0
-AreOverPlaces untracked k rs = AllByRecursion (λ (r : Region). IsOne (IsOver (IsPlaceOf (IsTracked untracked k))) r.pieces) rs
+AreOverPlaces untracked k rs = AllByRecursion (λ (r : Region). AreFew (IsOver (IsPlaceOf (IsTracked untracked k))) r.pieces) rs
 
 -- of the set of each statement, and of that which callers see
 pub record SetsAreOver (untracked : List BlockUnit) (k : Known) (sets : Results (List Region)) : Type 0 where

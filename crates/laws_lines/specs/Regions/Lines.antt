@@ -11,7 +11,8 @@ use Rattle.preconditions.specs.transformers.Lists.{value_at}
 use Rattle.result_lines.specs.ScalarLines.{says_changes}
 use Rattle.in_out_regions.specs.region_sets.declared.region.Region.{Region}
 use Rattle.laws_lines.specs.RegionTexts.Reading.{phi_names, read_region_line}
-use Rattle.laws_lines.specs.RegionTexts.Added.{IsThere}
+use Rattle.laws_lines.specs.RegionTexts.Printed.{as_shown}
+use Rattle.laws_lines.specs.RegionTexts.Added.{MeansRegion}
 
 -- PHI1 to PHI7, as subscripts are written
 abbrev pub is_phi : List ℕ → Bool
@@ -20,10 +21,6 @@ is_phi x = list_any (bytes_eq x) phi_names
 -- no symbol is named so: else a line does not tell the symbol from the subscript
 abbrev pub HaveNoPhi : List (List ℕ) → Type 0
 HaveNoPhi names = list_any is_phi names ≡ false
-
--- a line is read as just a region that was found there
-abbrev pub IsRegionLine : List (List ℕ) → Results (List Region) → Added → Type 0
-IsRegionLine names sets x = (r : Region) × (read_region_line names x.line ≡ Some r) × IsThere sets x.before r
 
 -- ---- the regions of a module that have lines
 
@@ -61,11 +58,11 @@ shown_regions m sets = entry_regions m.main sets.summary ++ walk_list (the_shown
 
 -- ---- their lines
 
--- a line stands before the statement of the region, and is read as just this region
+-- a line stands before the statement of the region, and is read as just this region, as it is shown: its one flag for lost rows is for each system
 abbrev pub IsLineOf : List (List ℕ) → Added → At Region → Type 0
-IsLineOf names x r = (x.before ≡ r.id) × (read_region_line names x.line ≡ Some r.value)
+IsLineOf names x r = (x.before ≡ r.id) × (read_region_line names x.line ≡ Some (as_shown r.value))
 
--- where no symbol is named as a subscript: each of some lines is read as just a region that was found there, and there is one line for each region that is shown, in their order
+-- where no symbol is named as a subscript: each of some lines is read as a region that was found there, as it is shown, and there is one line for each region that is shown, in their order
 abbrev pub AreRegionLines : Known → Results (List Region) → List Added → Type 0
 AreRegionLines k sets lines =
-    HaveNoPhi (symbol_names k.symbols) → AllByRecursion (IsRegionLine (symbol_names k.symbols) sets) lines × AllZip (IsLineOf (symbol_names k.symbols)) lines (shown_regions k.read sets)
+    HaveNoPhi (symbol_names k.symbols) → AllByRecursion (MeansRegion (symbol_names k.symbols) sets) lines × AllZip (IsLineOf (symbol_names k.symbols)) lines (shown_regions k.read sets)

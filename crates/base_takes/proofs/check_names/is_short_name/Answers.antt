@@ -1,5 +1,5 @@
 use Rattle.std.proofs.Common.{sym, ◌∙◌, arith}
-use Rattle.base_takes.proofs.Pieces.{block_name}
+use Rattle.base_takes.proofs.ShortNames.{block_name}
 use Rattle.base_takes.proofs.check_names.is_short_name.Goals as goal
 
 pub returns : goal.returns

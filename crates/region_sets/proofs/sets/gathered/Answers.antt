@@ -3,8 +3,8 @@ use Rattle.region_sets.specs.Sets.{with_regions}
 use Rattle.region_sets.proofs.LiveSteps.{start_of_last, gather_back, less_fits, next_before}
 use Rattle.region_sets.proofs.sets.gathered.Goals as goal
 
-pub with_live-requires-clause-before : goal.with_live-requires-clause-before
-with_live-requires-clause-before c = start_of_last c.loop-r.left.items c.pop.new.self.items c.loop-r.set c.in-Some.r c.loop-r.start c.in-Some.ensures.items c.loop-r.invariant.before
+pub with_trimmed-requires-clause-before : goal.with_trimmed-requires-clause-before
+with_trimmed-requires-clause-before c = start_of_last c.loop-r.left.items c.pop.new.self.items c.loop-r.set c.in-Some.r c.loop-r.start c.in-Some.ensures.items c.loop-r.invariant.before
 
 pub loop-r-preserved : goal.loop-r-preserved
 loop-r-preserved c = record {

@@ -3,7 +3,7 @@ use Rattle.std.proofs.lemmas.Result.{IfOk-weaker}
 use Rattle.f77_ast.specs.Index.{names_of}
 use Rattle.pipsmake_rules.specs.Kinds.{same_kind}
 use Rattle.base_values.specs.Words.{result_with}
-use Rattle.base_values.specs.Fits.{OnePiece, RegionFits}
+use Rattle.base_values.specs.Fits.{PiecesFit, RegionFits}
 use Rattle.base_takes.proofs.check_regions.RegionCheckKindScope.check.Goals as goal
 
 pub returns : goal.returns
@@ -13,4 +13,4 @@ returns c =
     let r = c.args.self.now in
     let named : c.variable_fits-named.result ≡ true = cc in
     let here : same_kind (result_with r.kind) s.kind ≡ true = cc in
-    IfOk-weaker c.is_one_piece.result (λ b. b ≡ true → OnePiece names r.pieces) (λ b. b ≡ true → RegionFits names s.kind r) (λ b f e. (c.variable_fits-named.ensures named, here, f e)) c.is_one_piece.ensures
+    IfOk-weaker c.pieces_fit.result (λ b. b ≡ true → PiecesFit names r.pieces) (λ b. b ≡ true → RegionFits names s.kind r) (λ b f e. (c.variable_fits-named.ensures named, here, f e)) c.pieces_fit.ensures
