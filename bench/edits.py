@@ -1,12 +1,13 @@
 #!/usr/bin/env python3
 """The must-fail edits of the repository, those of the gate (crates/*/must-fail) and those that it leaves out for their cost (tests/edits).
 
-    bench/edits.py                 tries each edit in a work tree of its own, and writes tests/edits/LAST
-    bench/edits.py CRATE ..        tries those of these crates, and writes nothing
-    bench/edits.py --check         looks only whether each edit can still be applied (seconds)
+    bench/edits.py [--kept] [CRATE ..]     tries the edits of these crates, or of all, in a work tree of the last commit, and writes a line of each crate into tests/edits/LAST
+    bench/edits.py --left                  names the crates whose edits were never all tried, as LAST has it
+    bench/edits.py --check                 looks only whether each edit can still be applied (seconds)
 
-The work tree has the last commit, so what is not committed is not tried. What `./pips --build` left here is lent to it; without that each crate
-with edits is proved there first, which takes hours. The prover must refuse each edit; the status is 0 where it does.
+The work tree has the last commit, so what is not committed is not tried. What `./pips --build` left here is lent to it; with --kept it takes what a gate on this machine has kept instead. Without either each crate
+with edits is proved there first, which takes hours. The prover must refuse each edit; the status is 0 where it does. A line of LAST: the crate, the commit and the date, how many edits were tried and refused, and
+the minutes that it took; below it, indented, what was said of each that was not refused.
 """
 import datetime
 import os
@@ -22,6 +23,7 @@ from typing import Dict, List, Tuple
 TOP = os.path.dirname(os.path.dirname(os.path.abspath(__file__)))
 EDITS = os.path.join('tests', 'edits')
 LAST = os.path.join(EDITS, 'LAST')
+HEAD = 'crate commit date tried refused minutes'
 
 
 @dataclass
@@ -120,18 +122,19 @@ def lend(tree: str) -> None:
                 shutil.copytree(built, os.path.join(tree, 'crates', crate, 'out', part), symlinks=True, copy_function=link_or_copy)
 
 
-def try_all(tree: str, crates: List[str]) -> Tried:
-    """Tries the edits of these crates, and passes on what the prover says."""
+def try_crate(tree: str, crate: str, kept: bool) -> Tried:
+    """Tries the edits of a crate, and passes on what the prover says."""
     tried = Tried()
-    running = subprocess.Popen(['rt', 'must-fail', *crates], cwd=tree, stdout=subprocess.PIPE, stderr=subprocess.STDOUT, text=True, errors='replace')
+    running = subprocess.Popen(['rt', 'ci' if kept else 'must-fail', crate], cwd=tree, stdout=subprocess.PIPE, stderr=subprocess.STDOUT, text=True, errors='replace')
     for line in running.stdout:
-        print(line, end='', flush=True)
-        if re.search(r': refused, as it must be', line):
-            tried.refused += 1
-        elif re.search(r': (NOT REFUSED|BAD EDIT|NOT TRIED)', line):
-            tried.others.append(line.strip())
+        if f'{crate}/' in line and '.edit: ' in line:
+            print(line, end='', flush=True)
+            if re.search(r': refused, as it must be', line):
+                tried.refused += 1
+            else:
+                tried.others.append(line.strip())
     if running.wait() and not tried.others:
-        tried.others.append('rt must-fail failed')
+        tried.others.append('rt failed')
     return tried
 
 
@@ -139,34 +142,66 @@ def git(*words: str) -> str:
     return subprocess.run(['git', '-C', TOP, *words], stdout=subprocess.PIPE, check=True, text=True).stdout.strip()
 
 
-def record(commit: str, tried: Tried, minutes: float) -> None:
-    """Keeps what a run over all edits found."""
-    lines = [f'commit {commit}', f'date {datetime.date.today().isoformat()}', f'tried {tried.refused + len(tried.others)}', f'refused {tried.refused}', f'minutes {minutes:.0f}']
+# ---- what was found
+
+def recorded() -> Dict[str, List[str]]:
+    """The lines of LAST of each crate."""
+    found: Dict[str, List[str]] = {}
+    if os.path.exists(os.path.join(TOP, LAST)):
+        with open(os.path.join(TOP, LAST), encoding='utf-8') as file:
+            crate = ''
+            for line in file.read().splitlines()[1:]:
+                crate = crate if line.startswith(' ') else line.split()[0]
+                found.setdefault(crate, []).append(line)
+    return found
+
+
+def record(crate: str, commit: str, tried: Tried, minutes: float) -> None:
+    """Keeps what was found of the edits of a crate."""
+    found = recorded()
+    count = tried.refused + len(tried.others)
+    found[crate] = [f'{crate} {commit} {datetime.date.today().isoformat()} {count} {tried.refused} {minutes:.1f}'] + [f'  {line}' for line in tried.others]
     with open(os.path.join(TOP, LAST), 'w', encoding='utf-8') as file:
-        file.write('\n'.join(lines + tried.others) + '\n')
+        file.write('\n'.join([HEAD] + [line for name in sorted(found) for line in found[name]]) + '\n')
 
 
-def main(words: List[str]) -> int:
-    if words == ['--check']:
-        return check()
-    have = edits_of(TOP)
-    unknown = [word for word in words if word not in have]
-    if unknown:
-        print(f'no edits of {" ".join(unknown)}', file=sys.stderr)
-        return 2
-    start, commit = time.monotonic(), git('rev-parse', 'HEAD')
+def left() -> int:
+    """Prints each crate of which LAST has fewer edits than there are."""
+    found = recorded()
+    missing = [crate for crate, files in edits_of(TOP).items() if crate not in found or int(found[crate][0].split()[3]) < len(files)]
+    print(' '.join(missing) or 'the edits of each crate were tried')
+    return int(bool(missing))
+
+
+def try_in_tree(crates: List[str], kept: bool) -> int:
+    """Tries the edits of these crates in a work tree, one crate after another."""
+    commit, failed = git('rev-parse', '--short=8', 'HEAD'), 0
     with tempfile.TemporaryDirectory(prefix='edits-') as room:
         tree = os.path.join(room, 'tree')
         git('worktree', 'add', '--detach', tree, commit)
         try:
-            gather(tree, words or list(have))
-            lend(tree)
-            tried = try_all(tree, words or list(have))
+            gather(tree, crates)
+            if not kept:
+                lend(tree)
+            for crate in crates:
+                start = time.monotonic()
+                tried = try_crate(tree, crate, kept)
+                record(crate, commit, tried, (time.monotonic() - start) / 60)
+                failed += len(tried.others)
         finally:
             git('worktree', 'remove', '--force', tree)
-    if not words:
-        record(commit, tried, (time.monotonic() - start) / 60)
-    return int(bool(tried.others))
+    return int(failed > 0)
+
+
+def main(words: List[str]) -> int:
+    if words in (['--check'], ['--left']):
+        return check() if words == ['--check'] else left()
+    have, crates = edits_of(TOP), [word for word in words if word != '--kept']
+    unknown = [word for word in crates if word not in have]
+    if unknown:
+        print(f'no edits of {" ".join(unknown)}', file=sys.stderr)
+        return 2
+    return try_in_tree(crates or list(have), '--kept' in words)
 
 
 if __name__ == '__main__':
