@@ -5,7 +5,7 @@ written is given to the built program again, with the same words, and has to com
     python3 bench/agreement.py COUNT [PATH_TO_PIPS [PROFILE..]]
 
 The texts are those of reference/programs.py, of each of its profiles. Half of them are damaged at one place or two. With profiles, which are
-taken in turn, no text is damaged, and all claims are shown. Prints how many texts were accepted, and by which codes the others were refused.
+taken in turn, no text is damaged, and each is written by `--show bare`, `why` and `all`. Prints how many texts were accepted, and by which codes the others were refused.
 The texts that differ are written to the folder for temporary files.
 """
 import os
@@ -155,9 +155,11 @@ def texts(programs, count):
 
 
 def whole_texts(programs, count, profiles):
-    """The same of these profiles, undamaged."""
+    """The same of these profiles, undamaged, each text by each `--show`."""
     for seed in range(count):
-        yield ['--show', 'all'], programs.make(seed, profiles[seed % len(profiles)])[0]
+        text = programs.make(seed, profiles[seed % len(profiles)])[0]
+        for show in ('bare', 'why', 'all'):
+            yield ['--show', show], text
 
 
 def answer(binary, place, words, text):

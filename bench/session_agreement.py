@@ -5,7 +5,7 @@
 
 COUNT sessions of up to 30 commands, half of them with a base, which two or three of them use one after another; and COUNT uses of a base: a program, then the same one with
 a module changed, taken away, brought back or in another place, or with modules in another order, each with what `--show` and `--verify` give, now and then with a session between that
-makes some of the results. Nearly half of the runs find a base of version 1, of the program as it is, as it was before, or as a session left it. Modules change as in bench/changed_programs.py. Last COUNT lines of words, most of which are refused: options twice, with values behind `=` or without, `--`, words that are no
+makes some of the results. Nearly half of the runs find a base of version 1, or one in which each kind has the format number 1, of the program as it is, as it was before, or as a session left it. Modules change as in bench/changed_programs.py. Last COUNT lines of words, most of which are refused: options twice, with values behind `=` or without, `--`, words that are no
 UTF-8. Prints how the runs ended. A run that differs is written to the folder for temporary files. PARTs: sessions, bases, words; all of them unless some are named.
 """
 import random
