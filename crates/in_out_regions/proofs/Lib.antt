@@ -7,6 +7,7 @@ pub use Rattle.array_regions.proofs.CallEquations as CallEquations
 pub use Rattle.array_regions.proofs.RegionTranslation as RegionTranslation
 pub use Rattle.array_regions.proofs as ArrayRegions
 pub mod Steps
+pub mod FixedLaws
 pub mod StatementLaws
 pub mod CallLaws
 pub mod ModuleLaws

@@ -196,11 +196,11 @@ point_of ws r q p e x h = go (write_of r.variable ws) refl e
         record { exact = a.0; point = a.1; off = λ d. a.2 (subst (λ (o : Option Region). MatchOption o ⊥ (λ w. HoldsSome p w.pieces)) f d) }
 
 -- elements of a variable as they are, those of others all at one unit, which counts as accessed
-abbrev tagged : Bool → Option ℕ → Option ℕ
+abbrev pub tagged : Bool → Option ℕ → Option ℕ
 tagged false o = Some 0
 tagged true o = option_map suc o
 
-abbrev tagged_test : (ℕ → Bool) → ℕ → Bool
+abbrev pub tagged_test : (ℕ → Bool) → ℕ → Bool
 tagged_test all zero = true
 tagged_test all (suc u) = all u
 

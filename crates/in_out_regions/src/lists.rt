@@ -1,5 +1,5 @@
 //! IN of a list, from IN, READ and WRITE of its statements.
-ghost use Rattle.std.specs.Prelude.{◌≡◌, ◌++◌, map, option_to_list, option_copied, IfOk, IfSome, OnOk};
+ghost use Rattle.std.specs.Prelude.{◌≡◌, ◌++◌, true, map, option_to_list, option_copied, IfOk, IfSome, OnOk};
 ghost use Rattle.affine_systems.specs.Given.{Fits};
 ghost use Rattle.hull_projection.specs.Minus.{AllFit};
 ghost use Rattle.f77_ast.specs.PlainStmt.{stmt_trees};
@@ -8,6 +8,7 @@ ghost use Rattle.array_regions.specs.transformers.Given.{ResultsFit};
 ghost use Rattle.array_regions.specs.transformers.Lists.{transformer_at as transformer_at_is};
 ghost use Rattle.array_regions.specs.region_sets.Regions.{RegionFits};
 ghost use Rattle.array_regions.specs.region_sets.Sets.{SetFits};
+ghost use Rattle.array_regions.specs.region_sets.Settled.{IsFixed, AllFixed};
 ghost use Rattle.array_regions.specs.region_sets.Lists.{SetsFit, set_at as set_at_is};
 ghost use Rattle.in_out_regions.specs.Lists.{less_write as less_write_is, all_unwritten, unless_overlapped as unless_overlapped_is, all_unless_overlapped as all_unless_overlapped_is, before_rest as before_rest_is, ins_in_order, list_in as list_in_is};
 ghost use Rattle.in_out_regions.specs.Contexts.{ContextFits};
@@ -16,8 +17,8 @@ ghost use Rattle.in_out_regions.specs.ListClaims.{HasListIn, HasListInAlone};
 use crate::writes::{is_overlapped, write_of};
 use array_regions::push_maybe;
 use array_regions::region_sets::{
-    Region, RegionSet, all_sets, copy_region, in_any_order, numbers, push_composed, push_region,
-    push_regions, set_at, subtract, unite_owned, with_flag,
+    Region, RegionSet, all_sets, copy_region, in_any_order, numbers, push_region, push_regions,
+    push_settled, set_at, subtract_known, unite_settled, with_flag,
 };
 use array_regions::transformer_algebra::Transformer;
 use array_regions::transformers::{is_unstructured, list_at, transformer_at};
@@ -26,8 +27,14 @@ use f77_ast::{At, Results, Stmt, StmtId, Symbols};
 use fx_lists::List;
 use std::alloc::{AllocError as Memory, Global};
 
-/// What is left of a region after what is written of its variable.
-fn less_write(alloc: Global, write: Option<&Region>, r: &Region) -> Result<Option<Region>, Memory>
+/// What is left of a region after what is written of its variable. `known`: the region is one of a set.
+fn less_write(
+    alloc: Global,
+    known: bool,
+    write: Option<&Region>,
+    r: &Region,
+) -> Result<Option<Region>, Memory>
+    requires known { known ≡ true → IsFixed r.now }
     requires write { IfSome (option_copied write) RegionFits }
     requires region { RegionFits r.now }
     ensures defined { IfOk result (λ o. o ≡ less_write_is (option_copied write.entry) r.now) }
@@ -35,19 +42,21 @@ fn less_write(alloc: Global, write: Option<&Region>, r: &Region) -> Result<Optio
 {
     match write {
         None => Ok(Some(copy_region(alloc, r)?)),
-        Some(w) => subtract(alloc, r, w),
+        Some(w) => subtract_known(alloc, known, r, w),
     }
 }
 
-/// Appends what is left of regions after these WRITE regions.
+/// Appends what is left of regions after these WRITE regions. `known`: they are those of a set.
 #[tactic(auto, using(crate::proofs::Steps::regions))]
 pub fn push_unwritten(
     alloc: Global,
     out: &mut RegionSet,
+    known: bool,
     writes: &[Region],
     set: &[Region],
 ) -> Result<(), Memory>
     requires out { SetFits out.old }
+    requires known { known ≡ true → AllFixed set.now }
     requires writes { SetFits writes.now }
     requires set { SetFits set.now }
     ensures added { OnOk result (out.new ≡ out.old ++ all_unwritten writes.now set.now) }
@@ -55,7 +64,10 @@ pub fn push_unwritten(
 {
     let mut rest = set;
     while let [r, more @ ..] = rest {
-        push_maybe(out, less_write(alloc, write_of(&r.variable, writes), r)?)?;
+        push_maybe(
+            out,
+            less_write(alloc, known, write_of(&r.variable, writes), r)?,
+        )?;
         rest = more;
     }
     Ok(())
@@ -98,7 +110,8 @@ pub fn all_unless_overlapped(
 }
 
 /// The set where a statement begins, from that of what follows it. `ins` and `writes`: the IN and WRITE regions of the statement, which does what the
-/// transformer describes.
+/// transformer describes. `rest` is a set.
+#[tactic(auto, using(crate::proofs::FixedLaws::before))]
 pub fn before_rest(
     alloc: Global,
     symbols: &Symbols,
@@ -111,17 +124,21 @@ pub fn before_rest(
     requires writes { SetFits writes.now }
     requires transformer { Fits t.now.system }
     requires rest { SetFits rest.now }
+    requires fixed { AllFixed rest.now }
     ensures defined { IfOk result (λ qs. qs ≡ before_rest_is (map symbol_tree symbols.now) ins.now writes.now t.now rest.now) }
     ensures fits { IfOk result SetFits }
+    ensures fixed { IfOk result AllFixed }
 {
     let mut later = List::new(alloc);
-    push_composed(alloc, &mut later, t, rest)?;
-    let later = unite_owned(alloc, later)?;
-    let mut all = List::new(alloc);
-    push_regions(alloc, &mut all, ins)?;
-    push_unwritten(alloc, &mut all, writes, later.as_slice())?;
-    let set = unite_owned(alloc, all)?;
-    all_unless_overlapped(alloc, symbols, writes, set.as_slice())
+    push_settled(alloc, &mut later, t, rest)?;
+    let later = unite_settled(alloc, rest, List::new(alloc), later)?;
+    let mut first = List::new(alloc);
+    push_regions(alloc, &mut first, ins)?;
+    let mut second = List::new(alloc);
+    push_unwritten(alloc, &mut second, true, writes, later.as_slice())?;
+    let set = unite_settled(alloc, later.as_slice(), first, second)?;
+    let before = all_unless_overlapped(alloc, symbols, writes, set.as_slice())?;
+    Ok(before)
 }
 
 /// Results for the statements of a module.
@@ -143,8 +160,10 @@ fn with_rest(
 ) -> Result<RegionSet, Memory>
     requires given { ContextFits given.now }
     requires rest { SetFits rest.now }
+    requires fixed { AllFixed rest.now }
     ensures defined { IfOk result (λ qs. qs ≡ before_rest_is (map symbol_tree given.now.symbols.now) (set_at_is given.now.ins.now id) (set_at_is given.now.regions.now id) (transformer_at_is given.now.own.now id) rest.now) }
     ensures fits { IfOk result SetFits }
+    ensures fixed { IfOk result AllFixed }
 {
     let t = transformer_at(alloc, given.own, id)?;
     let ins = set_at(given.ins, id);

@@ -2,6 +2,7 @@
 ghost use Rattle.std.specs.Prelude.{◌≡◌, IfOk};
 ghost use Rattle.f77_ast.specs.Plain.{expr_tree, expr_trees};
 ghost use Rattle.array_regions.specs.call_translation.Scopes.{scope_tree};
+ghost use Rattle.array_regions.specs.region_sets.Settled.{AllFixed};
 ghost use Rattle.array_regions.specs.region_sets.Sets.{SetFits};
 ghost use Rattle.in_out_regions.specs.Simple.{item_in as item_in_is, item_written as item_written_is, with_item as with_item_is, reading as reading_is};
 
@@ -42,9 +43,11 @@ fn with_item(
     item: &Expr,
     rest: &[Region],
 ) -> Result<RegionSet, Memory>
-    requires { SetFits rest.now }
+    requires fits { SetFits rest.now }
+    requires fixed { AllFixed rest.now }
     ensures defined { IfOk result (λ rs. rs ≡ with_item_is (scope_tree scope.now.symbols.now scope.now.tracked.now) (expr_tree item.now) rest.now) }
     ensures fits { IfOk result SetFits }
+    ensures fixed { IfOk result AllFixed }
 {
     let ins = item_in(alloc, scope, item)?;
     let written = item_written(alloc, scope, item)?;

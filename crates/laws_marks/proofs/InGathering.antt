@@ -11,20 +11,12 @@ use Rattle.preconditions.specs.transformer_algebra.Laws.{In}
 use Rattle.in_out_regions.specs.region_sets.declared.region.Region.{Region}
 use Rattle.in_out_regions.specs.region_sets.Sets.{unite_all}
 use Rattle.in_out_regions.specs.region_sets.Claims.{Accessed, IsSharp, IsSharpSet, Places, AreByOrder}
+use Rattle.in_out_regions.proofs.ListLaws.{tagged, tagged_test}
 use Rattle.in_out_regions.proofs.RegionSets.SetLaws.{gathered_sharp}
 
 -- each of a list
 abbrev pub EachOne : (Region → Type 0) → List Region → Type 0
 EachOne P rs = (r : Region) → In r rs → P r
-
--- elements of the variable as they are, those of others all at one unit, which counts as accessed
-abbrev tagged : Bool → Option ℕ → Option ℕ
-tagged false o = Some 0
-tagged true o = option_map suc o
-
-abbrev tagged_test : (ℕ → Bool) → ℕ → Bool
-tagged_test c zero = true
-tagged_test c (suc u) = c u
 
 module _ (m : Scene) (at : Places) (by_order : AreByOrder at) (x : ℕ → ℤ) (c : ℕ → Bool) (v : Variable) where
   abbrev beside : Places

@@ -22,7 +22,7 @@ use Rattle.in_out_regions.specs.region_sets.Sets.{access_number, region_cmp, if_
 use Rattle.in_out_regions.specs.region_sets.Lists.{inexact, all_inexact}
 use Rattle.in_out_regions.specs.Kinds.{is_write}
 use Rattle.in_out_regions.specs.Writes.{is_write_of, write_of}
-use Rattle.in_out_regions.proofs.RegionSets.SetLaws.{with_any}
+use Rattle.in_out_regions.proofs.RegionSets.SetLaws.{alive, with_any}
 use Rattle.fx_lists.proofs.Orders.{then_nothing, no_equal_less}
 use Rattle.f77_ast.proofs.SameLaws.{cmp_if as same_order}
 use Rattle.in_out_regions.proofs.WriteLaws.{write_if}
@@ -99,22 +99,18 @@ put_ordered r (q ∷ qs) h = go (region_cmp r q) refl (put_ordered r qs h.1)
     go Equal e ih = (united_of (λ w. Ahead w qs) (λ w x ss k. k) q r h.0 (λ w i. region_total.congr r q w e ∙ h.0 w i), h.1)
     go Greater e ih = (put_ahead q r qs h.0 (reversed (region_cmp q r) (sym e ∙ region_total.antisymm r q)), ih)
 
--- a region with its pieces trimmed
-abbrev as_trimmed : Region → Region
-as_trimmed r = remade r (r.exact && (trim r.pieces).exact) (trim r.pieces).pieces
-
-maybe_of : (P : List Region → Type 0) (r : Region) (k : Region → List Region) (none : List Region) → P (k (as_trimmed r)) → P none → P (if_left r k none)
+maybe_of : (P : List Region → Type 0) (r : Region) (k : Region → List Region) (none : List Region) → P (k (alive r)) → P none → P (if_left r k none)
 maybe_of P r k none h n = with_any P r (r.exact && (trim r.pieces).exact) (trim r.pieces).pieces k none h n
 
 all_ordered : (rs qs : List Region) → Ordered qs → Ordered (with_regions qs rs)
 all_ordered [] qs h = h
-all_ordered (r ∷ rs) qs h = all_ordered rs (with_trimmed r qs) (maybe_of Ordered r (λ s. with_region s qs) qs (put_ordered (as_trimmed r) qs h) h)
+all_ordered (r ∷ rs) qs h = all_ordered rs (with_trimmed r qs) (maybe_of Ordered r (λ s. with_region s qs) qs (put_ordered (alive r) qs h) h)
 
 trimmed_ahead : (x : Region) (rs : List Region) → Ahead x rs → Ahead x (all_trimmed rs)
 trimmed_ahead x [] h = h
 trimmed_ahead x (r ∷ rs) h =
     let ih = trimmed_ahead x rs (λ w i. h w (there i)) in
-    maybe_of (Ahead x) r (λ s. s ∷ all_trimmed rs) (all_trimmed rs) (ahead_more x (as_trimmed r) (all_trimmed rs) (h r here) ih) ih
+    maybe_of (Ahead x) r (λ s. s ∷ all_trimmed rs) (all_trimmed rs) (ahead_more x (alive r) (all_trimmed rs) (h r here) ih) ih
 
 trimmed_ordered : (rs : List Region) → Ordered rs → Ordered (all_trimmed rs)
 trimmed_ordered [] h = tt

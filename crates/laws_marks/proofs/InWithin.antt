@@ -34,7 +34,7 @@ use Rattle.laws_marks.specs.InShown.{IsFree}
 use Rattle.laws_marks.specs.InUnits.{UnitsFit, SetFits}
 use Rattle.laws_marks.proofs.InFramed.{set_in}
 use Rattle.laws_marks.proofs.InFirsts.{not_so, lost_known}
-use Rattle.laws_analyses.proofs.Regions.ClaimLaws.{some_piece as some_point}
+use Rattle.in_out_regions.proofs.RegionSets.TrimLaws.{holds_in as some_point}
 
 -- a WRITE region of a variable that shares units with another
 pub overlapped_by : (ss : List SymbolTree) (ws : List Region) (v : Variable) (w : Region) → In w ws → w.kind ≡ Write → overlap ss w.variable v ≡ true → is_overlapped ss ws v ≡ true

@@ -3,6 +3,6 @@ pub mod StatementLaws
 pub mod RestLaws
 pub mod ModuleLaws
 pub mod BesideLaws
-pub mod AliveSteps
+pub mod SettledSteps
 pub mod AppliedSteps
 pub mod Fitting

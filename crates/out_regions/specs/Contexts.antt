@@ -4,6 +4,7 @@ use Rattle.in_out_regions.specs.transformers.Given.{ResultsFit}
 use Rattle.in_out_regions.specs.transformers.Lists.{transformer_at}
 use Rattle.in_out_regions.specs.region_sets.Lists.{SetsFit}
 use Rattle.in_out_regions.specs.region_sets.Sets.{SetFits}
+use Rattle.in_out_regions.specs.region_sets.Settled.{AllFixed}
 use Rattle.out_regions.specs.declared.context.OutContext.{OutContext}
 use Rattle.out_regions.specs.declared.rest.Rest.{Rest}
 use Rattle.out_regions.specs.Known.{KnownTree}
@@ -21,5 +22,6 @@ pub record KnownFits (k : OutContext) : Type 0 where
   pub regions : SetsFit k.regions.now
   pub ins : SetsFit k.ins.now
 
+-- its sets are those that statements hand on
 abbrev pub RestFits : Rest → Type 0
-RestFits r = SetFits r.ins × SetFits r.writes
+RestFits r = SetFits r.ins × (SetFits r.writes × (AllFixed r.ins × AllFixed r.writes))

@@ -1,4 +1,4 @@
-pub mod Alive
+pub mod Settled
 pub mod Used
 pub mod Leaving
 pub mod Known

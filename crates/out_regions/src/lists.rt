@@ -4,6 +4,7 @@ ghost use Rattle.affine_systems.specs.Given.{Fits};
 ghost use Rattle.f77_ast.specs.PlainStmt.{stmt_tree};
 ghost use Rattle.in_out_regions.specs.region_sets.Regions.{RegionFits};
 ghost use Rattle.in_out_regions.specs.region_sets.Sets.{SetFits};
+ghost use Rattle.in_out_regions.specs.region_sets.Settled.{AllSettled};
 ghost use Rattle.in_out_regions.specs.region_sets.Lists.{all_composed, all_accesses, all_forgetting, set_at as set_at_is};
 ghost use Rattle.out_regions.specs.Used.{all_out};
 ghost use Rattle.out_regions.specs.Contexts.{known_in, KnownFits, RestFits};
@@ -13,7 +14,7 @@ use crate::beside::beside;
 use crate::context::OutContext;
 use crate::leaving::stmt_leaves;
 use crate::rest::{Rest, writes_at};
-use crate::used::{push_out, used};
+use crate::used::{push_known, push_out, used};
 use f77_ast::{Stmt, StmtId};
 use fx_lists::List;
 use in_out_regions::push_unwritten;
@@ -103,13 +104,14 @@ fn all_applied(alloc: Global, t: &Transformer, set: &[Region]) -> Result<RegionS
     Ok(out)
 }
 
-/// OUT of a list, less what these regions certainly write; all of it where the list may be left.
+/// OUT of a list, less what these regions, which are trimmed, certainly write; all of it where the list may be left.
 fn left_over(
     alloc: Global,
     leaving: bool,
     writes: &[Region],
     out: &[Region],
 ) -> Result<RegionSet, Memory>
+    requires settled { AllSettled writes.now }
     requires writes { SetFits writes.now }
     requires out { SetFits out.now }
     ensures defined { IfOk result (λ rs. rs ≡ left_over_is leaving writes.now out.now) }
@@ -120,8 +122,8 @@ fn left_over(
         push_regions(alloc, &mut left, out)?;
         return Ok(left);
     }
-    let certain = trimmed_regions(alloc, writes)?;
-    push_unwritten(alloc, &mut left, certain.as_slice(), out)?;
+    let certain = trimmed_regions(alloc, true, writes)?;
+    push_unwritten(alloc, &mut left, false, certain.as_slice(), out)?;
     Ok(left)
 }
 
@@ -138,7 +140,7 @@ fn composed(alloc: Global, t: &Transformer, set: &[Region]) -> Result<RegionSet,
 }
 
 /// OUT of a list behind a statement, less what the rest certainly writes; nothing of nothing.
-#[tactic(auto, using(crate::proofs::BesideLaws::nothings))]
+#[tactic(auto, using(crate::proofs::BesideLaws::nothings, crate::proofs::SettledSteps::seen))]
 fn left_behind(
     alloc: Global,
     leaving: bool,
@@ -163,6 +165,7 @@ fn left_behind(
 
 /// What may be read behind a statement: by the rest, which has these IN and WRITE regions, or behind the list, which has this OUT. `leaving`: the
 /// statement or the rest may leave the list.
+#[tactic(auto, using(crate::proofs::SettledSteps::seen))]
 fn used_behind(
     alloc: Global,
     t: &Transformer,
@@ -181,7 +184,7 @@ fn used_behind(
     let read = composed(alloc, t, ins)?;
     let left = left_behind(alloc, leaving, t, writes, out)?;
     let mut later = List::new(alloc);
-    push_out(alloc, &mut later, read.as_slice())?;
+    push_known(alloc, &mut later, true, read.as_slice())?;
     push_out(alloc, &mut later, left.as_slice())?;
     Ok(later)
 }

@@ -4,6 +4,7 @@ ghost use Rattle.affine_systems.specs.Given.{Fits};
 ghost use Rattle.f77_ast.specs.PlainStmt.{stmt_trees};
 ghost use Rattle.f77_ast.specs.Trees as tree;
 ghost use Rattle.in_out_regions.specs.region_sets.Sets.{SetFits, unite_all as unite_all_is};
+ghost use Rattle.in_out_regions.specs.region_sets.Settled.{AllFixed};
 ghost use Rattle.in_out_regions.specs.region_sets.Lists.{all_composed, set_at as set_at_is};
 ghost use Rattle.in_out_regions.specs.Lists.{before_rest as before_rest_is};
 ghost use Rattle.out_regions.specs.Known.{KnownTree};
@@ -15,7 +16,7 @@ use crate::leaving::leaves;
 use f77_ast::{Stmt, StmtId};
 use fx_lists::List;
 use in_out_regions::region_sets::{
-    Region, RegionSet, copy_region, push_composed, push_region, set_at, unite_owned,
+    Region, RegionSet, copy_region, push_region, push_settled, set_at, unite_settled,
 };
 use in_out_regions::transformer_algebra::Transformer;
 use in_out_regions::transformers::transformer_at;
@@ -83,8 +84,10 @@ fn ins_with(
     requires known { KnownFits known.now }
     requires transformer { Fits t.now.system }
     requires rest { SetFits rest.now }
+    requires fixed { AllFixed rest.now }
     ensures defined { IfOk result (λ rs. rs ≡ before_rest_is (known_in known.now).scope.symbols (set_at_is known.now.ins.now id) (set_at_is known.now.regions.now id) t.now rest.now) }
     ensures fits { IfOk result SetFits }
+    ensures fixed { IfOk result AllFixed }
 {
     let ins = set_at(known.ins, id);
     let accesses = set_at(known.regions, id);
@@ -92,6 +95,7 @@ fn ins_with(
 }
 
 /// What a statement writes, and what the rest writes after it.
+#[tactic(auto, using(in_out_regions::proofs::FixedLaws::before))]
 fn writes_with(
     alloc: Global,
     known: &OutContext<'_>,
@@ -102,12 +106,16 @@ fn writes_with(
     requires known { KnownFits known.now }
     requires transformer { Fits t.now.system }
     requires rest { SetFits rest.now }
+    requires fixed { AllFixed rest.now }
     ensures defined { IfOk result (λ rs. rs ≡ unite_all_is (writes_at_is (known_in known.now) id ++ all_composed t.now rest.now)) }
     ensures fits { IfOk result SetFits }
+    ensures fixed { IfOk result AllFixed }
 {
-    let mut all = writes_at(alloc, known, id)?;
-    push_composed(alloc, &mut all, t, rest)?;
-    unite_owned(alloc, all)
+    let first = writes_at(alloc, known, id)?;
+    let mut second = List::new(alloc);
+    push_settled(alloc, &mut second, t, rest)?;
+    let all = unite_settled(alloc, rest, first, second)?;
+    Ok(all)
 }
 
 /// The rest from a statement on, from what follows it; `list` has the statement and all that follows.

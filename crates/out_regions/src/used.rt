@@ -1,13 +1,14 @@
 //! What of WRITE regions may be read later.
-ghost use Rattle.std.specs.Prelude.{◌≡◌, ◌++◌, map, IfOk, IfSome, OnOk};
+ghost use Rattle.std.specs.Prelude.{◌≡◌, ◌++◌, true, map, IfOk, IfSome, OnOk};
 ghost use Rattle.hull_projection.specs.Minus.{AllFit};
 ghost use Rattle.f77_ast.specs.Symbols.{symbol_tree};
 ghost use Rattle.affine_systems.specs.Given.{Fits};
 ghost use Rattle.affine_systems.specs.Calls.{meet as meet_is};
 ghost use Rattle.in_out_regions.specs.region_sets.Regions.{RegionFits};
 ghost use Rattle.in_out_regions.specs.region_sets.Sets.{SetFits};
+ghost use Rattle.in_out_regions.specs.region_sets.Settled.{AllSettled};
 ghost use Rattle.out_regions.specs.Used.{as_out as as_out_is, all_out, is_used_beside as is_used_beside_is, joined as joined_is, used_in as used_in_is, is_none as is_none_is, unless_empty, each_met as each_met_is, met_with, used_of, if_write, used as used_is};
-ghost use Rattle.out_regions.specs.Alive.{IsAliveFrom};
+ghost use Rattle.out_regions.specs.Settled.{IsSettledFrom};
 
 use affine_systems::{System, meet};
 use f77_ast::{Symbols, Variable, copy_variable, overlaps, same_variable};
@@ -34,21 +35,37 @@ fn as_out(alloc: Global, r: &Region) -> Result<Region, Memory>
     })
 }
 
-/// Appends regions as such of OUT, each trimmed, without those of which nothing is left.
+/// Appends regions as such of OUT, each trimmed, without those of which nothing is left. `known`: they are trimmed.
 #[tactic(auto, using(crate::proofs::Fitting::fitting))]
-pub fn push_out(alloc: Global, out: &mut RegionSet, set: &[Region]) -> Result<(), Memory>
+pub fn push_known(
+    alloc: Global,
+    out: &mut RegionSet,
+    known: bool,
+    set: &[Region],
+) -> Result<(), Memory>
+    requires known { known ≡ true → AllSettled set.now }
     requires out { SetFits out.old }
     requires set { SetFits set.now }
     ensures added { OnOk result (out.new ≡ out.old ++ all_out set.now) }
     ensures fits { OnOk result (SetFits out.new) }
 {
-    let trimmed = trimmed_regions(alloc, set)?;
+    let trimmed = trimmed_regions(alloc, known, set)?;
     let mut rest = trimmed.as_slice();
     while let [r, more @ ..] = rest {
         push_region(out, as_out(alloc, r)?)?;
         rest = more;
     }
     Ok(())
+}
+
+/// Appends regions as such of OUT, each trimmed, without those of which nothing is left.
+pub fn push_out(alloc: Global, out: &mut RegionSet, set: &[Region]) -> Result<(), Memory>
+    requires out { SetFits out.old }
+    requires set { SetFits set.now }
+    ensures added { OnOk result (out.new ≡ out.old ++ all_out set.now) }
+    ensures fits { OnOk result (SetFits out.new) }
+{
+    push_known(alloc, out, false, set)
 }
 
 /// Whether a variable is used that shares units with this one.
@@ -165,8 +182,7 @@ fn push_pieces(out: &mut RegionSet, w: &Region, pieces: List<System>) -> Result<
     )
 }
 
-/// Adds what a WRITE region has in common with what is used of its variable, if anything. No region from `since` on has one piece alone that is
-/// refuted.
+/// Adds what a WRITE region has in common with what is used of its variable, if anything. The regions from `since` on are trimmed.
 fn push_within(
     alloc: Global,
     out: &mut RegionSet,
@@ -175,7 +191,7 @@ fn push_within(
     later: &Region,
 ) -> Result<(), Memory>
     requires out { SetFits out.old }
-    requires alive { IsAliveFrom since out.old }
+    requires settled { IsSettledFrom since out.old }
     requires region { RegionFits w.now }
     requires later { RegionFits later.now }
     ensures added { OnOk result (out.new ≡ out.old ++ met_with w.now (Some later.now)) }
@@ -186,8 +202,8 @@ fn push_within(
     push_pieces(out, w, trimmed.pieces)
 }
 
-/// Adds what is used of a WRITE region. No region from `since` on has one piece alone that is refuted; what it returns is such a place, too.
-#[tactic(auto, using(crate::proofs::AliveSteps::alive_steps))]
+/// Adds what is used of a WRITE region. The regions from `since` on are trimmed; what it returns is such a place, too.
+#[tactic(auto, using(crate::proofs::SettledSteps::settled_steps))]
 fn push_used(
     alloc: Global,
     out: &mut RegionSet,
@@ -197,12 +213,12 @@ fn push_used(
     w: &Region,
 ) -> Result<usize, Memory>
     requires out { SetFits out.old }
-    requires alive { IsAliveFrom since out.old }
+    requires settled { IsSettledFrom since out.old }
     requires later { SetFits later.now }
     requires region { RegionFits w.now }
     ensures added { OnOk result (out.new ≡ out.old ++ used_of (map symbol_tree symbols.now) later.now w.now) }
     ensures fits { OnOk result (SetFits out.new) }
-    ensures alive { IfOk result (λ n. IsAliveFrom n out.new) }
+    ensures settled { IfOk result (λ n. IsSettledFrom n out.new) }
 {
     if is_used_beside(symbols, later, &w.variable) {
         push_region(out, as_out(alloc, w)?)?;
@@ -227,12 +243,12 @@ fn push_if_write(
     w: &Region,
 ) -> Result<usize, Memory>
     requires out { SetFits out.old }
-    requires alive { IsAliveFrom since out.old }
+    requires settled { IsSettledFrom since out.old }
     requires later { SetFits later.now }
     requires region { RegionFits w.now }
     ensures added { OnOk result (out.new ≡ out.old ++ if_write (map symbol_tree symbols.now) later.now w.now) }
     ensures fits { OnOk result (SetFits out.new) }
-    ensures alive { IfOk result (λ n. IsAliveFrom n out.new) }
+    ensures settled { IfOk result (λ n. IsSettledFrom n out.new) }
 {
     if is_write(w.kind) {
         push_used(alloc, out, since, symbols, later, w)
@@ -243,7 +259,7 @@ fn push_if_write(
 
 /// What of the WRITE regions of a set is used, where `later` has what may be read later: all of a variable where one is used that shares units with
 /// it, else what it has in common with what is used of it. Each region is compared with all of `later`.
-#[tactic(auto, using(crate::proofs::Fitting::fitting, crate::proofs::AliveSteps::alive_steps))]
+#[tactic(auto, using(crate::proofs::Fitting::fitting, crate::proofs::SettledSteps::settled_steps))]
 pub fn used(
     alloc: Global,
     symbols: &Symbols,

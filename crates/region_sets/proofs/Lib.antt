@@ -15,7 +15,7 @@ pub mod LoopLaws
 pub mod PieceLaws
 pub mod SetSteps
 pub mod LiveSteps
-pub mod AliveLaws
+pub mod SettledLaws
 pub mod SameSystems
 pub mod MoveSteps
 pub mod PutSteps

@@ -41,7 +41,7 @@ none_is_refuted rs r i = of_sets AreLive (λ ss l s j. (trim_front s ss j).0) (w
 
 -- ---- one to four
 
-few_left : (ss : List System) → length ss ≤ 4 → IsFew (or_infeasible ss)
+pub few_left : (ss : List System) → length ss ≤ 4 → IsFew (or_infeasible ss)
 few_left [] l = (omega arith, omega arith)
 few_left (s ∷ ss) l = (omega arith, l)
 

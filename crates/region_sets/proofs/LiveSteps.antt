@@ -13,6 +13,7 @@ use Rattle.region_sets.specs.Sets.{SetFits, ComeBefore, region_cmp, with_pieces,
 use Rattle.region_sets.proofs.Steps.{set-push}
 use Rattle.region_sets.proofs.SetSteps.{come_same, come_back, come_chain, come_none, trimmed_more, gather_fits}
 use Rattle.region_sets.proofs.TrimSteps.{trim_known}
+use Rattle.region_sets.proofs.SettledLaws.{less_settled, last_settled, reverse_settled}
 
 -- ---- regions with their pieces trimmed
 
@@ -70,7 +71,7 @@ pub reverse_fits : (rs : List Region) → SetFits rs → SetFits (reverse rs)
 reverse_fits [] h = tt
 reverse_fits (r ∷ rs) h = subst SetFits (sym (reverse-append (r ∷ []) rs)) (set-push (reverse rs) r (reverse_fits rs h.1) h.0)
 
-pub ruleset keeping = (trim_known, left_is, left_none, trimmed_back, trimmed_done, less_fits, last_fits, reverse_fits)
+pub ruleset keeping = (trim_known, left_is, left_none, trimmed_back, trimmed_done, less_fits, last_fits, reverse_fits, less_settled, last_settled)
 
 -- ---- a region put into a set with its pieces trimmed
 
@@ -139,7 +140,7 @@ gather_back left less set new goal r e n h =
 pub gather_done : (left set goal : List Region) → left ≡ [] → with_regions set (reverse left) ≡ goal → set ≡ goal
 gather_done left set goal e h = ap (λ (us : List Region). with_regions set (reverse us)) (sym e) ∙ h
 
-pub ruleset gathering = (start_of_last, next_before, first_before, gather_back, gather_done, less_fits, last_fits)
+pub ruleset gathering = (less_settled, last_settled, start_of_last, next_before, first_before, gather_back, gather_done, less_fits, last_fits)
 
 -- ---- copies, the last first
 
@@ -169,4 +170,4 @@ copied_end rs out n l h =
 pub twice : (rs : List Region) → reverse (reverse rs) ≡ rs
 twice rs = reverse-reverse rs
 
-pub ruleset copying = (copied_more, copied_begin, copied_end, set-push, gather_fits, reverse_fits, twice)
+pub ruleset copying = (reverse_settled, copied_more, copied_begin, copied_end, set-push, gather_fits, reverse_fits, twice)

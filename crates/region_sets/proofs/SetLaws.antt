@@ -28,7 +28,7 @@ none_in a i = elim i [ ]
 
 -- ---- regions with their pieces trimmed
 
-abbrev alive : Region → Region
+abbrev pub alive : Region → Region
 alive r = remade r (r.exact && (trim r.pieces).exact) (trim r.pieces).pieces
 
 lies_alive : (m : Scene) (at : Elements) (r : Region) (x : ℕ → ℤ) (u : ℕ) → LiesIn m at r x u → LiesIn m at (alive r) x u

@@ -19,7 +19,6 @@ use Rattle.transformers.proofs.TransformerAlgebra.Members.{in_left, in_right}
 use Rattle.region_sets.specs.Regions.{any_weak}
 use Rattle.region_sets.specs.Within.{gives_row, gives_rows, within_one, all_within}
 use Rattle.region_sets.specs.Trim.{live_pieces, sifted, hulls, limited, trim, or_infeasible}
-use Rattle.region_sets.specs.Alive.{IsAlive}
 use Rattle.region_sets.specs.Claims.{Describes, DescribedBy}
 use Rattle.region_sets.specs.Laws.{WithinOne}
 use Rattle.region_sets.proofs.DescribedLaws.{arrival}
@@ -221,14 +220,6 @@ trim_front q ss i = sifted_back q ss (limited_front q (sifted (reverse (live_pie
 
 pub trim_few : (ss : List System) → length (trim ss).pieces ≤ 4
 trim_few ss = limited_few (sifted (reverse (live_pieces ss)) [])
-
-alive_front : (ss : List System) → ((q : System) → In q (take 3 ss) → refuted q.rows ≡ false) → IsAlive ss
-alive_front [] f = tt
-alive_front (s ∷ []) f = f s here
-alive_front (s ∷ t ∷ ss) f = tt
-
-pub trim_alive : (ss : List System) → IsAlive (trim ss).pieces
-trim_alive ss = alive_front (trim ss).pieces (λ q i. (trim_front q ss i).0)
 
 one_left : (q : System) (ss : List System) → WithinOne q ss → WithinOne q (or_infeasible ss)
 one_left q [] w = elim w.is_one [ ]

@@ -12,7 +12,7 @@ use Rattle.region_sets.specs.declared.trimming.Trimmed.{Trimmed}
 use Rattle.region_sets.specs.Within.{within_one}
 use Rattle.region_sets.specs.Trim.{trimmed, live_pieces, sifted, hulls, limited, trim}
 use Rattle.region_sets.specs.Joining.{joined, three_and_hull, is_lone_refuted}
-use Rattle.region_sets.specs.Alive.{IsAlive}
+use Rattle.region_sets.specs.Settled.{may_change, AreSettled}
 use Rattle.region_sets.proofs.Steps.{fits-push}
 use Rattle.region_sets.proofs.TrimLaws.{trim_few}
 
@@ -201,10 +201,8 @@ trim_gone [] ts f e = absurd (cc)
 trim_gone (s ∷ []) ts f e = ap (λ (us : List System). trimmed us true) f ∙ sym (trim_one s true e)
 trim_gone (s ∷ t ∷ ss) ts f e = absurd (cc)
 
-pub trim_known : (ss : List System) → length ss < 2 → IsAlive ss → trimmed ss true ≡ trim ss
-trim_known [] l h = refl
-trim_known (s ∷ []) l h = sym (trim_one s false h)
-trim_known (s ∷ t ∷ ss) l h = absurd (omega (arith, l))
+pub trim_known : (e : Bool) (ss : List System) → AreSettled e ss → may_change e ss ≡ false → trimmed ss true ≡ trim ss
+trim_known e ss h m = h m
 
 pub few_of : (ss : List System) (t : Trimmed) → t ≡ trim ss → length t.pieces ≤ 4
 few_of ss t e = subst (λ (u : Trimmed). length u.pieces ≤ 4) (sym e) (trim_few ss)

@@ -1,8 +1,9 @@
 -- Rows that a system was asked for, and the order in which it is compared.
-use Rattle.std.proofs.Common.{◌≡◌, Bool, true, false, ◌||◌, List, [], ◌∷◌, ◌++◌, ◌<◌, ◌≤◌, ◌-◌, length, take, drop, get_or, take_all, reverse, refl, sym, ap, ap₂, subst, ◌∙◌, arith}
+use Rattle.std.proofs.Common.{◌≡◌, false, ◌||◌, List, [], ◌∷◌, ◌++◌, ◌<◌, ◌≤◌, ◌-◌, length, take, drop, get_or, take_all, reverse, refl, sym, ap, ap₂, subst, ◌∙◌, arith}
 use Rattle.std.proofs.lemmas.List.{reverse-append}
 use Rattle.affine_systems.specs.declared.row.Row.{Row}
 use Rattle.affine_systems.specs.declared.row.System.{System}
+use Rattle.fx_lists.proofs.Booleans.{or_assoc, or_swap, or_false}
 use Rattle.region_sets.specs.declared.within.Asked.{Asked}
 use Rattle.region_sets.specs.Within.{gives_row, gives_rows, within_one}
 use Rattle.region_sets.specs.Joining.{AreAnswers}
@@ -24,30 +25,17 @@ pub ruleset answers = (answers_push)
 
 -- ---- within one of those that are turned
 
-or_assoc : (a b c : Bool) → ((a || b) || c) ≡ (a || (b || c))
-or_assoc true b c = refl
-or_assoc false b c = refl
-
-or_comm : (a b : Bool) → (a || b) ≡ (b || a)
-or_comm true true = refl
-or_comm true false = refl
-or_comm false true = refl
-or_comm false false = refl
-
-or_none : (a : Bool) → (a || false) ≡ a
-or_none true = refl
-or_none false = refl
-
-within_both : (s : System) (ps qs : List System) → within_one (ps ++ qs) s ≡ (within_one ps s || within_one qs s)
+pub within_both : (s : System) (ps qs : List System) → within_one (ps ++ qs) s ≡ (within_one ps s || within_one qs s)
 within_both s [] qs = refl
-within_both s (p ∷ ps) qs = ap (λ b. gives_rows s.rows p.rows || b) (within_both s ps qs) ∙ sym (or_assoc (gives_rows s.rows p.rows) (within_one ps s) (within_one qs s))
+within_both s (p ∷ ps) qs = ap (λ b. gives_rows s.rows p.rows || b) (within_both s ps qs) ∙ or_assoc (gives_rows s.rows p.rows) (within_one ps s) (within_one qs s)
 
-within_reversed : (s : System) (ps : List System) → within_one (reverse ps) s ≡ within_one ps s
+pub within_reversed : (s : System) (ps : List System) → within_one (reverse ps) s ≡ within_one ps s
 within_reversed s [] = refl
 within_reversed s (p ∷ ps) =
     ap (λ (qs : List System). within_one qs s) (reverse-append (p ∷ []) ps)
     ∙ (within_both s (reverse ps) (p ∷ [])
-    ∙ (ap₂ (λ a b. a || b) (within_reversed s ps) (or_none (gives_rows s.rows p.rows)) ∙ or_comm (within_one ps s) (gives_rows s.rows p.rows)))
+    ∙ (ap (λ b. b || (gives_rows s.rows p.rows || false)) (within_reversed s ps)
+    ∙ (or_swap (within_one ps s) (gives_rows s.rows p.rows) false ∙ ap (λ b. gives_rows s.rows p.rows || b) (or_false (within_one ps s)))))
 
 pub within_either : (s : System) (ps qs : List System) → within_one (reverse ps ++ reverse qs) s ≡ (within_one ps s || within_one qs s)
 within_either s ps qs = within_both s (reverse ps) (reverse qs) ∙ ap₂ (λ a b. a || b) (within_reversed s ps) (within_reversed s qs)

@@ -10,7 +10,7 @@ pub mod Putting
 pub mod Compose
 pub mod Loops
 pub mod Sets
-pub mod Alive
+pub mod Settled
 pub mod Lists
 pub mod Written
 pub mod Claims

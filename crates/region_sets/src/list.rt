@@ -5,15 +5,15 @@ ghost use Rattle.hull_projection.specs.Minus.{AllFit};
 ghost use Rattle.f77_ast.specs.PlainStmt.{stmt_trees};
 ghost use Rattle.transformers.specs.Given.{ResultsFit};
 ghost use Rattle.transformers.specs.Lists.{transformer_at as transformer_at_is};
-ghost use Rattle.region_sets.specs.Alive.{AllAlive};
+ghost use Rattle.region_sets.specs.Settled.{AllFixed};
 ghost use Rattle.region_sets.specs.Laws.{HasList, HasListAlone};
 ghost use Rattle.region_sets.specs.Sets.{SetFits, unite_all as unite_all_is};
 ghost use Rattle.region_sets.specs.Lists.{SetsFit, is_access as is_access_is, accesses, accesses_at, all_composed, in_order as in_order_is, inexact as inexact_is, all_accesses as all_accesses_is, list_regions as list_regions_is};
 
 use crate::any_order::{in_any_order, numbers};
-use crate::moving::push_moved;
+use crate::moving::push_settled;
 use crate::region::copy_region;
-use crate::sets::{push_region, unite_owned};
+use crate::sets::{push_region, unite_settled};
 use crate::{Access, Region, RegionSet, compose};
 use call_graph::View;
 use f77_ast::{At, Results, Stmt, StmtId};
@@ -90,26 +90,29 @@ pub fn push_composed(
 }
 
 /// What a statement accesses, and what the rest of its list does after it.
+#[tactic(auto, using(crate::proofs::SettledLaws::handing))]
 fn with_rest(
     alloc: Global,
     id: StmtId,
     own: &List<At<Transformer>>,
     at: &List<At<RegionSet>>,
-    rest: RegionSet,
+    rest: &[Region],
 ) -> Result<RegionSet, Memory>
     requires own { ResultsFit own.now }
     requires at { SetsFit at.now }
-    requires rest { SetFits rest }
-    requires alive { AllAlive rest }
-    ensures defined { IfOk result (λ qs. qs ≡ unite_all_is (accesses_at at.now id ++ all_composed (transformer_at_is own.now id) rest)) }
+    requires rest { SetFits rest.now }
+    requires fixed { AllFixed rest.now }
+    ensures defined { IfOk result (λ qs. qs ≡ unite_all_is (accesses_at at.now id ++ all_composed (transformer_at_is own.now id) rest.now)) }
     ensures fits { IfOk result SetFits }
-    ensures alive { IfOk result AllAlive }
+    ensures fixed { IfOk result AllFixed }
 {
-    let mut all = List::from_vec(Vec::with_capacity(alloc, rest.len())?);
-    push_accesses_at(alloc, &mut all, at, id)?;
+    let mut first = List::new(alloc);
+    push_accesses_at(alloc, &mut first, at, id)?;
     let t = transformer_at(alloc, own, id)?;
-    push_moved(alloc, &mut all, &t, rest)?;
-    unite_owned(alloc, all)
+    let mut second = List::from_vec(Vec::with_capacity(alloc, rest.len())?);
+    push_settled(alloc, &mut second, &t, rest)?;
+    let set = unite_settled(alloc, rest, first, second)?;
+    Ok(set)
 }
 
 /// Of statements that are executed from the first to the last; from the last on.
@@ -129,7 +132,7 @@ fn in_order(
     let mut left = ids.len();
     while left > 0 {
         left -= 1;
-        set = with_rest(alloc, ids[left], own, at, set)?;
+        set = with_rest(alloc, ids[left], own, at, set.as_slice())?;
     }
     Ok(set)
 }

@@ -1,17 +1,18 @@
-//! Regions that are handed on, as they are before what a transformer describes.
-ghost use Rattle.std.specs.Prelude.{◌≡◌, ◌++◌, [], true, map, not, IfOk, OnOk};
+//! Regions of a set, as they are before what a transformer describes.
+ghost use Rattle.std.specs.Prelude.{◌≡◌, ◌<◌, ◌++◌, [], true, false, length, map, not, IfOk, OnOk};
 ghost use Rattle.affine_systems.specs.Given.{Fits};
 ghost use Rattle.affine_systems.specs.declared.row.System.{System as ASystem};
 ghost use Rattle.hull_projection.specs.Project.{shadow};
-ghost use Rattle.region_sets.specs.Alive.{IsAlive, AllAlive};
+ghost use Rattle.region_sets.specs.Settled.{may_change as may_change_is, IsFixed, AllFixed};
 ghost use Rattle.region_sets.specs.Compose.{compose as compose_is, compose_piece as compose_piece_is};
 ghost use Rattle.region_sets.specs.Lists.{all_composed};
 ghost use Rattle.region_sets.specs.Naming.{has_none as has_none_is, named_cells as named_cells_is};
 ghost use Rattle.region_sets.specs.Regions.{RegionFits};
 ghost use Rattle.region_sets.specs.Sets.{SetFits};
 
-use crate::living::stays_exact;
+use crate::living::{may_change, stays_exact};
 use crate::naming::in_rows;
+use crate::region::copy_region;
 use crate::sets::push_region;
 use crate::{Region, RegionSet, compose};
 use affine_systems::{System, Var};
@@ -47,16 +48,23 @@ fn all_pass(t: &Transformer, pieces: &[System]) -> bool
     true
 }
 
-/// The region that `compose` makes; a system without others is moved where it names no changed cell.
+/// Whether trimming leaves a region of a set as it is.
+fn stays(r: &Region) -> bool
+    ensures { result ≡ true → (0 < length r.now.pieces) × (may_change_is true r.now.pieces ≡ false) }
+{
+    !r.pieces.is_empty() && !may_change(true, r.pieces.as_slice())
+}
+
+/// The region that `compose` makes of one of a set, which is moved where it names no changed cell.
 #[tactic(auto, using(crate::proofs::MoveSteps::passing))]
 fn composed(alloc: Global, r: Region, t: &Transformer) -> Result<Region, Memory>
     requires region { RegionFits r }
-    requires alive { IsAlive r.pieces }
+    requires fixed { IsFixed r }
     requires transformer { Fits t.now.system }
     ensures defined { IfOk result (λ q. q ≡ compose_is r t.now) }
     ensures fits { IfOk result RegionFits }
 {
-    if r.pieces.len() != 1 || !all_pass(t, r.pieces.as_slice()) {
+    if !stays(&r) || !all_pass(t, r.pieces.as_slice()) {
         return compose(alloc, &r, t);
     }
     let Region {
@@ -74,25 +82,25 @@ fn composed(alloc: Global, r: Region, t: &Transformer) -> Result<Region, Memory>
     })
 }
 
-/// Appends regions that are handed on, as `push_composed` does.
-#[tactic(auto, using(crate::proofs::MoveSteps::moving))]
-pub fn push_moved(
+/// Appends regions of a set, as `push_composed` does.
+#[tactic(auto, using(crate::proofs::Steps::fitting))]
+pub fn push_settled(
     alloc: Global,
     out: &mut RegionSet,
     t: &Transformer,
-    set: RegionSet,
+    set: &[Region],
 ) -> Result<(), Memory>
     requires out { SetFits out.old }
     requires transformer { Fits t.now.system }
-    requires set { SetFits set }
-    requires alive { AllAlive set }
-    ensures added { OnOk result (out.new ≡ out.old ++ all_composed t.now set) }
+    requires set { SetFits set.now }
+    requires fixed { AllFixed set.now }
+    ensures added { OnOk result (out.new ≡ out.old ++ all_composed t.now set.now) }
     ensures fits { OnOk result (SetFits out.new) }
 {
-    let mut left = set.into_vec();
-    left.reverse();
-    while let Some(r) = left.pop() {
-        push_region(out, composed(alloc, r, t)?)?;
+    let mut rest = set;
+    while let [r, more @ ..] = rest {
+        push_region(out, composed(alloc, copy_region(alloc, r)?, t)?)?;
+        rest = more;
     }
     Ok(())
 }

@@ -1,7 +1,7 @@
 //! Sets of regions, in order.
 ghost use Rattle.std.specs.Prelude.{◌≡◌, ◌++◌, ◌∷◌, ◌-◌, [], length, reverse, take, slice_index_or, true, if◌then◌else◌, IfOk, OnOk};
 ghost use Rattle.region_sets.specs.Regions.{RegionFits};
-ghost use Rattle.region_sets.specs.Alive.{IsAlive, AllAlive};
+ghost use Rattle.region_sets.specs.Settled.{AreSettled, IsSettled, AllSettled, AllFixed};
 ghost use Rattle.region_sets.specs.Laws.{HasUnits, IsAsSharp};
 ghost use Rattle.std.specs.declared.cmp.Ordering.TheVariants.{Less};
 ghost use Rattle.region_sets.specs.declared.region.Region.{Region as ARegion};
@@ -110,9 +110,19 @@ fn with_region(alloc: Global, set: RegionSet, start: usize, r: Region) -> Result
     })
 }
 
-/// Puts a region into a set, with its pieces trimmed, unless none is left. All before `start` come before it.
+/// Puts a region into a set, with its pieces trimmed, unless none is left. All before `start` come before it. `known`: it is trimmed;
+/// `fixed`: a set of which it may be one.
 #[tactic(auto, using(crate::proofs::LiveSteps::put_steps))]
-fn with_trimmed(alloc: Global, set: RegionSet, start: usize, r: Region) -> Result<Placed, Memory>
+fn with_trimmed(
+    alloc: Global,
+    set: RegionSet,
+    start: usize,
+    known: bool,
+    fixed: &[Region],
+    r: Region,
+) -> Result<Placed, Memory>
+    requires fixed { AllFixed fixed.now }
+    requires known { known ≡ true → IsSettled r }
     requires set { SetFits set }
     requires r { RegionFits r }
     requires before { ComeBefore r (take start set) }
@@ -120,7 +130,7 @@ fn with_trimmed(alloc: Global, set: RegionSet, start: usize, r: Region) -> Resul
     ensures fits { IfOk result (λ p. SetFits p.set) }
     ensures before { IfOk result (λ p. ComeBefore r (take p.at p.set)) }
 {
-    match if_left(alloc, false, r)? {
+    match if_left(alloc, known, fixed, r)? {
         None => Ok(Placed { set, at: start }),
         Some(r) => {
             let placed = with_region(alloc, set, start, r)?;
@@ -146,30 +156,43 @@ pub fn same_pieces(a: &List<System>, b: &List<System>) -> bool
     a == b
 }
 
-/// Whether the last of some regions has these pieces; one without others is then not refuted.
-pub(crate) fn last_has(before: &[Region], pieces: &List<System>) -> bool
-    requires { AllAlive before.now }
-    ensures { result ≡ true → IsAlive pieces.now }
+/// Whether a region, which is trimmed, has these pieces, and is exact where `exact`.
+#[tactic(auto, using(crate::proofs::SettledLaws::settling))]
+fn last_pieces(r: &Region, exact: bool, pieces: &List<System>) -> bool
+    requires { IsSettled r.now }
+    ensures { result ≡ true → AreSettled exact pieces.now }
+{
+    if exact && !r.exact {
+        return false;
+    }
+    same_pieces(&r.pieces, pieces)
+}
+
+/// Whether the last of some regions, which are trimmed, has these pieces, and is exact where `exact`.
+pub(crate) fn last_has(before: &[Region], exact: bool, pieces: &List<System>) -> bool
+    requires { AllSettled before.now }
+    ensures { result ≡ true → AreSettled exact pieces.now }
 {
     match before {
         [] => false,
-        [.., last] => same_pieces(&last.pieces, pieces),
+        [.., last] => last_pieces(last, exact, pieces),
     }
 }
 
 /// Adds a region with its pieces trimmed, unless none is left.
-#[tactic(auto, using(crate::proofs::SetSteps::trimmed_loop, crate::proofs::AliveLaws::alive_steps))]
-fn push_left(alloc: Global, out: &mut RegionSet, r: &Region) -> Result<(), Memory>
+#[tactic(auto, using(crate::proofs::SetSteps::trimmed_loop, crate::proofs::SettledLaws::settling))]
+fn push_left(alloc: Global, out: &mut RegionSet, known: bool, r: &Region) -> Result<(), Memory>
     requires out { SetFits out.old }
-    requires alive { AllAlive out.old }
+    requires settled { AllSettled out.old }
+    requires known { known ≡ true → IsSettled r.now }
     requires r { RegionFits r.now }
     ensures added { OnOk result (out.new ≡ out.old ++ all_trimmed_is (r.now ∷ [])) }
     ensures fits { OnOk result (SetFits out.new) }
-    ensures alive { OnOk result (AllAlive out.new) }
+    ensures settled { OnOk result (AllSettled out.new) }
 {
-    let known = last_has(out.as_slice(), &r.pieces);
+    let known = known || last_has(out.as_slice(), r.exact, &r.pieces);
     let copy = copy_region(alloc, r)?;
-    match if_left(alloc, known, copy)? {
+    match if_left(alloc, known, &[], copy)? {
         None => Ok(()),
         Some(one) => push_region(out, one),
     }
@@ -177,15 +200,16 @@ fn push_left(alloc: Global, out: &mut RegionSet, r: &Region) -> Result<(), Memor
 
 /// The regions of a set with their pieces trimmed, without those of which none is left.
 #[tactic(auto, using(crate::proofs::SetSteps::trimmed_loop))]
-pub fn trimmed_regions(alloc: Global, regions: &[Region]) -> Result<RegionSet, Memory>
-    requires { SetFits regions.now }
+pub fn trimmed_regions(alloc: Global, known: bool, regions: &[Region]) -> Result<RegionSet, Memory>
+    requires known { known ≡ true → AllSettled regions.now }
+    requires fits { SetFits regions.now }
     ensures defined { IfOk result (λ qs. qs ≡ all_trimmed_is regions.now) }
     ensures fits { IfOk result SetFits }
 {
     let mut out = List::from_vec(Vec::with_capacity(alloc, regions.len())?);
     let mut rest = regions;
     while let [r, more @ ..] = rest {
-        push_left(alloc, &mut out, r)?;
+        push_left(alloc, &mut out, known, r)?;
         rest = more;
     }
     Ok(out)
@@ -198,24 +222,45 @@ fn start_at(rises: bool, at: usize) -> usize
     if rises { at } else { 0 }
 }
 
-/// Regions that are united from left to right; here the last is the first. Each is looked up among those before it, from the place of the one
-/// before it on where it comes after that.
+/// Puts regions into a set, the last of them first. Each is looked up among those before it, from the place of the one before it on where it comes after
+/// that. `known`: each is trimmed; `fixed`: a set that may have some of them.
 #[tactic(auto, using(crate::proofs::LiveSteps::gathering))]
-fn gathered(alloc: Global, mut left: Vec<Region>) -> Result<RegionSet, Memory>
-    requires { SetFits left.items }
-    ensures defined { IfOk result (λ qs. qs ≡ unite_all_is (reverse left.items)) }
+fn put_all(
+    alloc: Global,
+    known: bool,
+    fixed: &[Region],
+    set: RegionSet,
+    regions: Vec<Region>,
+) -> Result<RegionSet, Memory>
+    requires fixed { AllFixed fixed.now }
+    requires known { known ≡ true → AllSettled regions.items }
+    requires set { SetFits set }
+    requires regions { SetFits regions.items }
+    ensures defined { IfOk result (λ qs. qs ≡ with_regions set (reverse regions.items)) }
     ensures fits { IfOk result SetFits }
-    ensures alive { IfOk result AllAlive }
 {
-    let mut set = List::from_vec(Vec::with_capacity(alloc, left.len())?);
+    let mut left = regions;
+    let mut set = set;
     let mut start = 0;
     while let Some(r) = left.pop() {
         let rises = is_last_after(&r, left.as_slice());
-        let placed = with_trimmed(alloc, set, start, r)?;
+        let placed = with_trimmed(alloc, set, start, known, fixed, r)?;
         set = placed.set;
         start = start_at(rises, placed.at);
     }
-    all_trimmed(alloc, set)
+    Ok(set)
+}
+
+/// Regions that are united from left to right; here the last is the first.
+#[tactic(auto, using(crate::proofs::SettledLaws::gathered))]
+fn gathered(alloc: Global, left: Vec<Region>) -> Result<RegionSet, Memory>
+    requires { SetFits left.items }
+    ensures defined { IfOk result (λ qs. qs ≡ unite_all_is (reverse left.items)) }
+    ensures fits { IfOk result SetFits }
+{
+    let none = List::from_vec(Vec::with_capacity(alloc, left.len())?);
+    let set = put_all(alloc, false, &[], none, left)?;
+    all_trimmed(alloc, &[], set)
 }
 
 /// Copies of regions, the last first.
@@ -240,11 +285,53 @@ pub fn unite_owned(alloc: Global, regions: RegionSet) -> Result<RegionSet, Memor
     requires { SetFits regions }
     ensures defined { IfOk result (λ qs. qs ≡ unite_all_is regions) }
     ensures fits { IfOk result SetFits }
-    ensures alive { IfOk result AllAlive }
 {
     let mut left = regions.into_vec();
     left.reverse();
     gathered(alloc, left)
+}
+
+/// Puts regions that are handed on into a set, from the first on.
+#[tactic(auto, using(crate::proofs::LiveSteps::copying))]
+fn put_owned(
+    alloc: Global,
+    known: bool,
+    fixed: &[Region],
+    set: RegionSet,
+    regions: RegionSet,
+) -> Result<RegionSet, Memory>
+    requires fixed { AllFixed fixed.now }
+    requires known { known ≡ true → AllSettled regions }
+    requires set { SetFits set }
+    requires regions { SetFits regions }
+    ensures defined { IfOk result (λ qs. qs ≡ with_regions set regions) }
+    ensures fits { IfOk result SetFits }
+{
+    let mut left = regions.into_vec();
+    left.reverse();
+    put_all(alloc, known, fixed, set, left)
+}
+
+/// The set of regions that are handed on, as `unite_all` makes it, of which the second ones are trimmed. `fixed`: a set that has those of them that came from it
+/// as they were.
+#[tactic(auto, using(crate::proofs::SettledLaws::gathered))]
+pub fn unite_settled(
+    alloc: Global,
+    fixed: &[Region],
+    first: RegionSet,
+    second: RegionSet,
+) -> Result<RegionSet, Memory>
+    requires fixed { AllFixed fixed.now }
+    requires settled { AllSettled second }
+    requires first { SetFits first }
+    requires second { SetFits second }
+    ensures defined { IfOk result (λ qs. qs ≡ unite_all_is (first ++ second)) }
+    ensures fits { IfOk result SetFits }
+{
+    let none = List::from_vec(Vec::with_capacity(alloc, second.len())?);
+    let one = put_owned(alloc, false, &[], none, first)?;
+    let both = put_owned(alloc, true, fixed, one, second)?;
+    all_trimmed(alloc, fixed, both)
 }
 
 #[tactic(auto, using(crate::proofs::LiveSteps::copying))]

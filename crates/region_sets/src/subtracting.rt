@@ -1,14 +1,16 @@
 //! A region less another of the same variable.
-ghost use Rattle.std.specs.Prelude.{◌≡◌, ◌++◌, IfOk, IfSome};
+ghost use Rattle.std.specs.Prelude.{◌≡◌, ◌++◌, true, IfOk, IfSome};
 ghost use Rattle.affine_systems.specs.Given.{Fits};
 ghost use Rattle.hull_projection.specs.Minus.{AllFit};
 ghost use Rattle.region_sets.specs.Regions.{RegionFits};
 ghost use Rattle.region_sets.specs.Subtract.{is_place as is_place_is, are_place_terms as are_place_terms_is, are_place_rows as are_place_rows_is, are_places as are_places_is, less_piece, less_one as less_one_is, less_all as less_all_is, unless_empty as unless_empty_is, all_left as all_left_is, are_apart as are_apart_is, all_apart as all_apart_is, subtract as subtract_is};
+ghost use Rattle.region_sets.specs.Settled.{IsFixed};
 ghost use Rattle.region_sets.specs.Laws.{KeepsRest, HasRestAlone};
 
 use crate::Region;
+use crate::living::trim_unless;
 use crate::region::{copy_system, push_copies, push_system, remade, with_flag};
-use crate::trimming::trim;
+use crate::sets::same_pieces;
 use affine_systems::{Row, System, Term, Var, meet};
 use fx_lists::List;
 use hull_projection::{apart, refuted};
@@ -164,18 +166,32 @@ fn unless_empty(r: &Region, exact: bool, pieces: List<System>) -> Result<Option<
     Ok(Some(remade(r, exact, pieces)?))
 }
 
-/// A region of what is left, trimmed, unless nothing is.
-fn all_left(alloc: Global, r: &Region, pieces: List<System>) -> Result<Option<Region>, Memory>
-    requires { AllFit pieces }
+/// A region of what is left, trimmed, unless nothing is. `known`: the region is one of a set.
+fn all_left(
+    alloc: Global,
+    known: bool,
+    r: &Region,
+    pieces: List<System>,
+) -> Result<Option<Region>, Memory>
+    requires known { known ≡ true → IsFixed r.now }
+    requires pieces { AllFit pieces }
     ensures defined { IfOk result (λ o. o ≡ all_left_is r.now pieces) }
     ensures fits { IfOk result (λ o. IfSome o RegionFits) }
 {
-    let left = trim(alloc, pieces)?;
+    let same = known && same_pieces(&r.pieces, &pieces);
+    let left = trim_unless(alloc, same, true, pieces)?;
     let just = left.exact;
     unless_empty(r, r.exact && just, left.pieces)
 }
 
-fn difference_of(alloc: Global, a: &Region, b: &Region) -> Result<Option<Region>, Memory>
+/// The difference as `subtract` makes it. `known`: the first region is one of a set, and is not trimmed again where it stays as it is.
+pub fn subtract_known(
+    alloc: Global,
+    known: bool,
+    a: &Region,
+    b: &Region,
+) -> Result<Option<Region>, Memory>
+    requires known { known ≡ true → IsFixed a.now }
     requires first { RegionFits a.now }
     requires second { RegionFits b.now }
     ensures defined { IfOk result (λ o. o ≡ subtract_is a.now b.now) }
@@ -183,7 +199,7 @@ fn difference_of(alloc: Global, a: &Region, b: &Region) -> Result<Option<Region>
 {
     if b.exact && are_places(b.pieces.as_slice()) {
         let pieces = less_all(alloc, a.pieces.as_slice(), b.pieces.as_slice())?;
-        return all_left(alloc, a, pieces);
+        return all_left(alloc, known, a, pieces);
     }
     let apart = all_apart(alloc, a.pieces.as_slice(), b.pieces.as_slice())?;
     Ok(Some(with_flag(alloc, a, a.exact && apart)?))
@@ -200,5 +216,5 @@ pub fn subtract(alloc: Global, a: &Region, b: &Region) -> Result<Option<Region>,
     ensures sound { IfOk result (KeepsRest a.now b.now) }
     ensures exact { IfOk result (HasRestAlone a.now b.now) }
 {
-    difference_of(alloc, a, b)
+    subtract_known(alloc, false, a, b)
 }

@@ -20,7 +20,7 @@ pub struct Asked {
     pub given: bool,
 }
 
-fn has_no_terms(row: &Row) -> bool
+pub fn has_no_terms(row: &Row) -> bool
     ensures { result ≡ has_no_terms_is row.now.terms }
 {
     match row.terms.as_slice() {

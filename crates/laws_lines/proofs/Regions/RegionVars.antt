@@ -19,7 +19,6 @@ use Rattle.preconditions.specs.transformers.Lists.{value_at, list_at}
 use Rattle.in_out_regions.specs.region_sets.declared.range.Range.{Range}
 use Rattle.in_out_regions.specs.region_sets.declared.region.Region.{Region}
 use Rattle.in_out_regions.specs.region_sets.Regions.{remade, systems}
-use Rattle.in_out_regions.specs.region_sets.Live.{IsFew}
 use Rattle.in_out_regions.specs.region_sets.Trim.{trim, or_infeasible, trimmed_to}
 use Rattle.in_out_regions.specs.region_sets.Within.{all_within}
 use Rattle.in_out_regions.specs.region_sets.Unite.{unite}
@@ -27,6 +26,7 @@ use Rattle.in_out_regions.specs.region_sets.Sets.{region_cmp, with_pieces, if_le
 use Rattle.in_out_regions.specs.region_sets.Compose.{compose_piece, compose}
 use Rattle.in_out_regions.specs.region_sets.Loops.{loop_piece, over_loop}
 use Rattle.in_out_regions.specs.region_sets.Lists.{is_access, accesses, or_none, accesses_at, all_composed, in_order, forgetting, all_forgetting, all_accesses, inexact, in_any_order, numbers, list_regions}
+use Rattle.in_out_regions.proofs.RegionSets.LiveLaws.{few_left}
 use Rattle.in_out_regions.proofs.RegionSets.TrimLaws.{trim_few}
 use Rattle.in_out_regions.proofs.RegionSets.KeptLaws.{trim_are, trimmed_are}
 use Rattle.laws_lines.proofs.SystemVars.{IsNeat}
@@ -83,12 +83,8 @@ few_more P Q f ss h = (h.0, each_more P Q f ss h.1)
 pub trim_neat : (such : Var → Type 0) (ss : List System) → AllByRecursion (IsNeat such) ss → AllByRecursion (IsNeat such) (trim ss).pieces
 trim_neat such ss h = trim_are (IsNeat such) (hull_neat such) ss h
 
-few_or : (ss : List System) → length ss ≤ 4 → IsFew (or_infeasible ss)
-few_or [] h = (omega arith, omega arith)
-few_or (s ∷ ss) h = (omega arith, h)
-
 trimmed_few : (such : Var → Type 0) (ss : List System) → AllByRecursion (IsNeat such) ss → AreFew (IsNeat such) (or_infeasible (trim ss).pieces)
-trimmed_few such ss h = (few_or (trim ss).pieces (trim_few ss), trimmed_are (IsNeat such) (hull_neat such) (infeasible_neat such) ss h)
+trimmed_few such ss h = (few_left (trim ss).pieces (trim_few ss), trimmed_are (IsNeat such) (hull_neat such) (infeasible_neat such) ss h)
 
 -- ---- regions of such variables, each of one to four systems over such places
 

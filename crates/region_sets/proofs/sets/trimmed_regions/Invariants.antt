@@ -1,5 +1,5 @@
-use Rattle.std.proofs.Common.{◌≡◌, length, ◌++◌}
-use Rattle.region_sets.specs.Alive.{AllAlive}
+use Rattle.std.proofs.Common.{◌≡◌, length, ◌++◌, true}
+use Rattle.region_sets.specs.Settled.{AllSettled}
 use Rattle.region_sets.specs.Sets.{SetFits, all_trimmed}
 use Rattle.region_sets.proofs.sets.trimmed_regions.Given as goal
 
@@ -7,7 +7,8 @@ abbrev pub invariant-loop-rest : goal.invariant-loop-rest
 invariant-loop-rest l = record {
   same : l.out ++ all_trimmed l.rest ≡ all_trimmed l.fn.regions;
   fits : SetFits l.out;
-  alive : AllAlive l.out;
+  settled : AllSettled l.out;
+  known : l.fn.known ≡ true → AllSettled l.rest;
   each : SetFits l.rest;
 }
 

@@ -10,10 +10,10 @@ pub returns-clause-sound : goal.returns-clause-sound
 returns-clause-sound c =
     let a = c.args.a.now in
     let b = c.args.b.now in
-    IfOk-weaker c.difference_of.result (λ (r : Option Region). r ≡ subtract a b) (KeepsRest a b) (λ r e. subst (KeepsRest a b) (sym e) (subtract_keeps a b)) c.difference_of.ensures.defined
+    IfOk-weaker c.subtract_known.result (λ (r : Option Region). r ≡ subtract a b) (KeepsRest a b) (λ r e. subst (KeepsRest a b) (sym e) (subtract_keeps a b)) c.subtract_known.ensures.defined
 
 pub returns-clause-exact : goal.returns-clause-exact
 returns-clause-exact c =
     let a = c.args.a.now in
     let b = c.args.b.now in
-    IfOk-weaker c.difference_of.result (λ (r : Option Region). r ≡ subtract a b) (HasRestAlone a b) (λ r e. subst (HasRestAlone a b) (sym e) (subtract_exact a b)) c.difference_of.ensures.defined
+    IfOk-weaker c.subtract_known.result (λ (r : Option Region). r ≡ subtract a b) (HasRestAlone a b) (λ r e. subst (HasRestAlone a b) (sym e) (subtract_exact a b)) c.subtract_known.ensures.defined

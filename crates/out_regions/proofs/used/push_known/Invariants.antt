@@ -1,7 +1,7 @@
 use Rattle.std.proofs.Common.{◌≡◌, ◌++◌, length, map}
 use Rattle.in_out_regions.specs.region_sets.Sets.{SetFits}
 use Rattle.out_regions.specs.Used.{as_out, all_out}
-use Rattle.out_regions.proofs.used.push_out.Given as goal
+use Rattle.out_regions.proofs.used.push_known.Given as goal
 
 abbrev pub invariant-loop-rest : goal.invariant-loop-rest
 invariant-loop-rest l = record {
